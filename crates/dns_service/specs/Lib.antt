@@ -1,0 +1,4 @@
+pub mod Transport
+pub mod Req
+pub mod Given
+pub mod Answer

@@ -1,0 +1,16 @@
+//! Requests, services by poll, and the events and outputs of a server.
+#![tactic(auto)]
+
+mod event;
+mod message;
+mod served;
+mod service;
+
+pub use dns_name::{Octets, OutOfMemory};
+pub use event::{Event, EventKind, Output};
+pub use message::{NonUdpTransportContext, Request, TransportSpecificContext, UdpTransportContext};
+pub use served::{Plainly, Served};
+pub use service::{
+    CallResult, Polled, ReplyFuture, ReplyStream, Service, ServiceError, ServiceFeedback,
+    ServiceResult,
+};
