@@ -2,3 +2,4 @@ pub mod Transport
 pub mod Req
 pub mod Given
 pub mod Answer
+pub mod Errors

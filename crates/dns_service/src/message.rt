@@ -11,7 +11,7 @@ use std::marker::Model;
 use std::sync::Arc;
 
 /// What is known of a request that came in a datagram.
-#[derive(Debug, Drop, PartialEq, Eq)]
+#[derive(Clone, Debug, Drop, PartialEq, Eq)]
 pub struct UdpTransportContext {
     max_response_size_hint: Option<u16>,
 }
@@ -83,7 +83,7 @@ impl NonUdpTransportContext {
 }
 
 /// How a request came.
-#[derive(Debug, Drop, PartialEq, Eq)]
+#[derive(Clone, Debug, Drop, PartialEq, Eq)]
 pub enum TransportSpecificContext {
     Udp(UdpTransportContext),
     NonUdp(NonUdpTransportContext),
@@ -214,6 +214,25 @@ impl<Meta> Request<Meta> {
             num_reserved_bytes: self.num_reserved_bytes,
             metadata,
         }
+    }
+
+    /// A copy with other metadata. The message is shared.
+    pub fn try_clone<M>(&self, alloc: Global, metadata: M) -> Result<Request<M>, OutOfMemory>
+    where
+        M: Drop,
+        ensures { IfOk result (λ r. r ≡ with_metadata self.now metadata) }
+    {
+        let message = Arc::try_clone(&self.message)?;
+        let transport_ctx = self.transport_ctx.clone()?;
+        Ok(Request {
+            client_addr: self.client_addr,
+            received_at: self.received_at,
+            received_secs: self.received_secs,
+            message,
+            transport_ctx,
+            num_reserved_bytes: self.num_reserved_bytes,
+            metadata,
+        })
     }
 
     pub fn metadata(&self) -> &Meta

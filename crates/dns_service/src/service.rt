@@ -1,17 +1,20 @@
 //! Services, reply futures and reply streams by poll.
 
 ghost use Rattle.std.specs.Prelude.{◌≡◌, ℕ, IfOk, OnOk, Option, Some, None, suc};
+ghost use Rattle.std.specs.Option.{option_copied};
 ghost use Rattle.std.specs.Arc.{arc_value};
 ghost use Rattle.dns_base.specs.Built.{Built};
 ghost use Rattle.dns_service.specs.declared.message.Request.{Request};
 ghost use Rattle.dns_service.specs.Answer.{Answer, Item, IfPending, IfReady};
 ghost use Rattle.dns_service.specs.Transport.{hinted};
 ghost use Rattle.dns_service.specs.Given.{message_in};
+ghost use Rattle.dns_service.specs.Errors.{rcode_of, text_of};
 
 use crate::message::Request;
 use dns_base::AdditionalBuilder;
 use dns_name::{OutOfMemory, Rcode};
 use std::alloc::Global;
+use std::fmt;
 use std::marker::Model;
 use std::sync::Arc;
 
@@ -29,6 +32,33 @@ pub enum ServiceError {
     InternalError,
     NotImplemented,
     Refused,
+}
+
+impl ServiceError {
+    /// The response code of an error reply (RFC 1035, section 4.1.1).
+    pub fn rcode(self) -> Rcode
+        ensures { result ≡ rcode_of self }
+    {
+        match self {
+            ServiceError::FormatError => Rcode::FORMERR,
+            ServiceError::InternalError => Rcode::SERVFAIL,
+            ServiceError::NotImplemented => Rcode::NOTIMP,
+            ServiceError::Refused => Rcode::REFUSED,
+        }
+    }
+}
+
+impl fmt::Display for ServiceError {
+    ghost output = { λ e. Some (text_of e) };
+
+    fn fmt<W: fmt::Write>(&self, f: &mut fmt::Formatter<W>) -> fmt::Result {
+        match self {
+            ServiceError::FormatError => f.write_str("Format error"),
+            ServiceError::InternalError => f.write_str("Internal error"),
+            ServiceError::NotImplemented => f.write_str("Not implemented"),
+            ServiceError::Refused => f.write_str("Refused"),
+        }
+    }
 }
 
 /// What a service tells the connection of its request.
@@ -86,6 +116,14 @@ impl CallResult {
         }
     }
 
+    /// The reply.
+    pub fn response(&self) -> Option<&AdditionalBuilder>
+        ensures { message_in (option_copied result) ≡ self.now.response }
+    {
+        self.response.as_ref()
+    }
+
+    /// The feedback.
     pub fn feedback(&self) -> Option<ServiceFeedback>
         ensures { result ≡ self.now.feedback }
     {
@@ -99,6 +137,22 @@ impl CallResult {
     {
         let CallResult { response, feedback } = self;
         (response, feedback)
+    }
+}
+
+impl From<AdditionalBuilder> for CallResult {
+    ghost from_gives = { λ b c. c ≡ record { response = Some b.message; feedback = None } };
+
+    fn from(response: AdditionalBuilder) -> Self {
+        CallResult::new(response)
+    }
+}
+
+impl From<ServiceFeedback> for CallResult {
+    ghost from_gives = { λ f c. c ≡ record { response = None; feedback = Some f } };
+
+    fn from(feedback: ServiceFeedback) -> Self {
+        CallResult::feedback_only(feedback)
     }
 }
 
