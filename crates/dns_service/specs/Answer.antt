@@ -1,5 +1,5 @@
 -- What a poll answers: pending, an item, or the end. The answers of a polled state are a function of the poll's number.
-use Rattle.std.specs.Prelude.{ℕ, zero, suc, ◌+◌, Option, Some, None, Result}
+use Rattle.std.specs.Prelude.{ℕ, ◌+◌, Option, Some, None, Result}
 use Rattle.dns_service.specs.declared.service.Polled.{Polled}
 use Rattle.dns_service.specs.declared.service.Polled.TheVariants.{Pending, Ready}
 use Rattle.dns_service.specs.declared.service.ServiceError.{ServiceError}

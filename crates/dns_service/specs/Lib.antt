@@ -3,3 +3,4 @@ pub mod Req
 pub mod Given
 pub mod Answer
 pub mod Errors
+pub mod Config
