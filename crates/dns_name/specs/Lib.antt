@@ -2,3 +2,5 @@ pub mod Place
 pub mod Labels
 pub mod Names
 pub mod Grammar
+pub mod OptData
+pub mod OptErrors
