@@ -12,6 +12,7 @@ mod parsed;
 mod parser;
 mod piece;
 mod serial;
+mod ttl;
 #[cfg(test)]
 mod tests;
 
@@ -25,3 +26,4 @@ pub use octets::Octets;
 pub use parsed::ParsedName;
 pub use parser::Parser;
 pub use serial::Serial;
+pub use ttl::Ttl;
