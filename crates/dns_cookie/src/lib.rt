@@ -2,6 +2,14 @@
 //! server cookie (RFC 7873, RFC 9018).
 #![tactic(auto)]
 
+mod client_cookie;
+mod server_cookie;
 mod siphash;
+mod standard_server_cookie;
+mod timestamp;
 
+pub use client_cookie::ClientCookie;
+pub use server_cookie::ServerCookie;
 pub use siphash::siphash24;
+pub use standard_server_cookie::StandardServerCookie;
+pub use timestamp::timestamp_ok;
