@@ -1,8 +1,9 @@
 -- DNS cookies (RFC 7873, section 4) and the standard server cookie (RFC 9018, section 4).
-use Rattle.std.specs.Prelude.{◌≡◌, ℕ, ◌+◌, ◌-◌, ◌%◌, ◌^◌, ◌≤◌, List, [], ◌∷◌, ◌++◌, length, take, drop, slice_index, Option, Some, None, ◌==◌, if◌then◌else◌}
+use Rattle.std.specs.Prelude.{◌≡◌, ℕ, ◌+◌, ◌-◌, ◌%◌, ◌^◌, ◌≤◌, List, [], ◌∷◌, ◌++◌, length, take, drop, slice_index, Option, Some, None, Bool, false, IsTrue, ◌↔◌, ◌==◌, if◌then◌else◌}
 use Rattle.std.specs.Int.{w32, w64, from_be_bytes, to_be_bytes, to_le_bytes}
 use Rattle.dns_name.specs.declared.address.IpAddr.{IpAddr}
 use Rattle.dns_name.specs.declared.address.IpAddr.TheVariants.{V4, V6}
+use Rattle.dns_name.specs.declared.serial.Serial.{Serial}
 use Rattle.dns_cookie.specs.Sip.{sip}
 
 -- ---- timestamps (RFC 9018, section 4.3)
@@ -62,3 +63,34 @@ abbrev pub server_cookie : List ℕ → List ℕ → ℕ → IpAddr → List ℕ
 server_cookie secret client timestamp address =
     let before = octets_before 1 (0 ∷ 0 ∷ 0 ∷ []) timestamp in
     before ++ hash_octets secret client before address
+
+-- ---- a cookie: a client part, and a server part or none
+
+pub record Cookie : Type 0 where
+  pub client : List ℕ
+  pub server : Option (List ℕ)
+
+-- the standard server cookie in it
+abbrev pub standard_of : Option (List ℕ) → Option (List ℕ)
+standard_of None = None
+standard_of (Some s) = standard_part s
+
+-- the cookie of a response
+abbrev pub response : List ℕ → Cookie → ℕ → IpAddr → Cookie
+response secret c timestamp address =
+    record { client = c.client; server = Some (server_cookie secret c.client timestamp address) }
+
+-- a check of a standard server cookie asks the caller once whether its timestamp is accepted, and is
+-- true exactly where it is and the hash agrees
+pub record IsChecked (accepts : Serial → Bool → Type 0) (secret client : List ℕ) (address : IpAddr) (s : List ℕ) (result : Bool) : Type 0 where
+  pub accepted : Bool
+  pub asked : accepts (record { 0 = timestamp_of s }) accepted
+  pub verdict : IsTrue result ↔ (IsTrue accepted × HashAgrees secret client address s)
+
+abbrev pub ChecksStandard : (Serial → Bool → Type 0) → List ℕ → List ℕ → IpAddr → Option (List ℕ) → Bool → Type 0
+ChecksStandard accepts secret client address None result = result ≡ false
+ChecksStandard accepts secret client address (Some s) result = IsChecked accepts secret client address s result
+
+-- a check of a cookie (RFC 7873, section 5.2.3): false without a standard server cookie
+abbrev pub Checks : (Serial → Bool → Type 0) → List ℕ → IpAddr → Cookie → Bool → Type 0
+Checks accepts secret address c result = ChecksStandard accepts secret c.client address (standard_of c.server) result

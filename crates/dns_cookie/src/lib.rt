@@ -3,12 +3,16 @@
 #![tactic(auto)]
 
 mod client_cookie;
+mod cookie;
+mod laws;
 mod server_cookie;
 mod siphash;
 mod standard_server_cookie;
 mod timestamp;
 
 pub use client_cookie::ClientCookie;
+pub use cookie::Cookie;
+pub use laws::check_response;
 pub use server_cookie::ServerCookie;
 pub use siphash::siphash24;
 pub use standard_server_cookie::StandardServerCookie;

@@ -1,12 +1,20 @@
 //! Server cookies (RFC 7873, section 4.2).
 
-ghost use Rattle.std.specs.Prelude.{◌≡◌, ◌++◌, ◌≤◌, length, OnOk, OnErr};
+ghost use Rattle.std.specs.Prelude.{◌≡◌, ◌==◌, ◌++◌, ◌≤◌, length, OnOk, OnErr};
+ghost use Rattle.std.proofs.Common.{rules};
+ghost use Rattle.std.specs.Cmp.{partial_order_from_own_ties};
+ghost use Rattle.std.specs.Cmp.Lexicographic.{pointwise, slice_cmp};
+ghost use Rattle.std.specs.Cmp.Rules.{comparing, hashing};
+ghost use Rattle.std.specs.Hash as fed;
+ghost use Rattle.std.specs.Ordering.{nat_cmp, as_partial_cmp};
 ghost use Rattle.dns_cookie.specs.Cookies.{standard_part};
 
 use crate::standard_server_cookie::StandardServerCookie;
 use dns_name::OutOfMemory;
 use std::alloc::Global;
+use std::cmp::Ordering;
 use std::convert::AsSlice;
+use std::hash::{Hash, Hasher};
 use std::marker::Model;
 
 /// A server cookie: 8 to 32 octets that a server made of a client cookie.
@@ -99,5 +107,53 @@ impl From<StandardServerCookie> for ServerCookie {
 
     fn from(standard: StandardServerCookie) -> ServerCookie {
         ServerCookie::from_octets(&standard.into_octets())
+    }
+}
+
+impl PartialEq for ServerCookie {
+    ghost eq = { pointwise ◌==◌ };
+
+    ghost laws = { Prim.search (comparing, rules) };
+
+    fn eq(&self, other: &ServerCookie) -> bool {
+        self.as_slice() == other.as_slice()
+    }
+}
+
+impl Eq for ServerCookie {
+    ghost laws = { Prim.search (comparing, rules) };
+}
+
+impl PartialOrd for ServerCookie {
+    ghost partial_cmp = { as_partial_cmp (slice_cmp nat_cmp) };
+
+    ghost laws = { partial_order_from_own_ties (Prim.search (comparing, rules)) (Prim.search (comparing, rules)) };
+
+    fn partial_cmp(&self, other: &ServerCookie) -> Option<Ordering> {
+        Some(self.cmp(other))
+    }
+}
+
+impl Ord for ServerCookie {
+    ghost cmp = { slice_cmp nat_cmp };
+
+    ghost total = { Prim.search (comparing, rules) };
+
+    ghost matches_partial_cmp = { Prim.search (comparing, rules) };
+
+    ghost matches_eq = { Prim.search (comparing, rules) };
+
+    fn cmp(&self, other: &ServerCookie) -> Ordering {
+        self.as_slice().cmp(other.as_slice())
+    }
+}
+
+impl Hash for ServerCookie {
+    ghost hash_input = { fed.slice fed.u8 };
+
+    ghost respects_eq = { Prim.search (hashing, rules) };
+
+    fn hash<H: Hasher>(&self, state: &mut H) {
+        self.as_slice().hash(state);
     }
 }
