@@ -1,2 +1,3 @@
+pub mod HexText
 pub mod Padding
 pub mod Words

@@ -4,6 +4,7 @@ use Rattle.std.specs.Int.{w32, w64, from_be_bytes, to_be_bytes, to_le_bytes}
 use Rattle.dns_name.specs.declared.address.IpAddr.{IpAddr}
 use Rattle.dns_name.specs.declared.address.IpAddr.TheVariants.{V4, V6}
 use Rattle.dns_name.specs.declared.serial.Serial.{Serial}
+use Rattle.hex.specs.Hex.{encode_upper}
 use Rattle.dns_cookie.specs.Sip.{sip}
 
 -- ---- timestamps (RFC 9018, section 4.3)
@@ -69,6 +70,11 @@ server_cookie secret client timestamp address =
 pub record Cookie : Type 0 where
   pub client : List ℕ
   pub server : Option (List ℕ)
+
+-- its text: the hexadecimal digits of the client part and of the server part
+abbrev pub text_of : List ℕ → Option (List ℕ) → List ℕ
+text_of client None = encode_upper client
+text_of client (Some s) = encode_upper client ++ encode_upper s
 
 -- the standard server cookie in it
 abbrev pub standard_of : Option (List ℕ) → Option (List ℕ)

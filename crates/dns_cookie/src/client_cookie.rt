@@ -1,10 +1,13 @@
 //! Client cookies (RFC 7873, section 4.1).
 
-ghost use Rattle.std.specs.Prelude.{◌≡◌, ◌++◌, length, OnOk, OnErr};
+ghost use Rattle.std.specs.Prelude.{Some, ◌≡◌, ◌++◌, length, OnOk, OnErr};
+ghost use Rattle.hex.specs.Hex.{encode_upper};
 
+use crate::hex_text::write_hex;
 use dns_name::OutOfMemory;
 use std::alloc::Global;
 use std::convert::AsSlice;
+use std::fmt;
 use std::marker::Model;
 
 /// A client cookie: eight octets that a client chose for one server.
@@ -90,5 +93,14 @@ impl From<ClientCookie> for [u8; 8] {
 
     fn from(cookie: ClientCookie) -> [u8; 8] {
         cookie.into_octets()
+    }
+}
+
+impl fmt::Display for ClientCookie {
+    ghost output = { λ c. Some (encode_upper c) };
+
+    /// Writes the octets as upper-case hexadecimal digits.
+    fn fmt<W: fmt::Write>(&self, f: &mut fmt::Formatter<W>) -> fmt::Result {
+        write_hex(&self.octets, f)
     }
 }

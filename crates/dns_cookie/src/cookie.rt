@@ -2,12 +2,13 @@
 
 ghost use Rattle.std.specs.Prelude.{◌≡◌, Some};
 ghost use Rattle.std.specs.Option.{option_copied};
-ghost use Rattle.dns_cookie.specs.Cookies.{standard_of, response, Checks, IsChecked};
+ghost use Rattle.dns_cookie.specs.Cookies.{text_of, standard_of, response, Checks, IsChecked};
 
 use crate::client_cookie::ClientCookie;
 use crate::server_cookie::ServerCookie;
 use crate::standard_server_cookie::StandardServerCookie;
 use dns_name::{IpAddr, Serial};
+use std::fmt;
 use std::marker::Model;
 
 /// A client cookie, and the server cookie that a server made of it.
@@ -27,6 +28,21 @@ impl Model for Cookie {
     ghost view = { λ c. record { client = c.client; server = c.server } };
 
     ghost inverse = { λ c. record { client = c.client; server = c.server } };
+}
+
+impl fmt::Display for Cookie {
+    ghost output = { λ c. Some (text_of c.client c.server) };
+
+    /// Writes the octets as upper-case hexadecimal digits.
+    fn fmt<W: fmt::Write>(&self, f: &mut fmt::Formatter<W>) -> fmt::Result {
+        match &self.server {
+            Some(server) => {
+                let client = &self.client;
+                write!(f, "{client}{server}")
+            }
+            None => fmt::Display::fmt(&self.client, f),
+        }
+    }
 }
 
 impl Cookie {

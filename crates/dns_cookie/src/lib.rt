@@ -4,6 +4,7 @@
 
 mod client_cookie;
 mod cookie;
+mod hex_text;
 mod laws;
 mod server_cookie;
 mod siphash;

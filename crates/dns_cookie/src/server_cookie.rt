@@ -1,6 +1,6 @@
 //! Server cookies (RFC 7873, section 4.2).
 
-ghost use Rattle.std.specs.Prelude.{◌≡◌, ◌==◌, ◌++◌, ◌≤◌, length, OnOk, OnErr};
+ghost use Rattle.std.specs.Prelude.{Some, ◌≡◌, ◌==◌, ◌++◌, ◌≤◌, length, OnOk, OnErr};
 ghost use Rattle.std.proofs.Common.{rules};
 ghost use Rattle.std.specs.Cmp.{partial_order_from_own_ties};
 ghost use Rattle.std.specs.Cmp.Lexicographic.{pointwise, slice_cmp};
@@ -8,13 +8,16 @@ ghost use Rattle.std.specs.Cmp.Rules.{comparing, hashing};
 ghost use Rattle.std.specs.Hash as fed;
 ghost use Rattle.std.specs.Ordering.{nat_cmp, as_partial_cmp};
 ghost use Rattle.dns_cookie.specs.Cookies.{standard_part};
+ghost use Rattle.hex.specs.Hex.{encode_upper};
 
+use crate::hex_text::write_hex;
 use crate::standard_server_cookie::StandardServerCookie;
 use dns_name::OutOfMemory;
 use std::alloc::Global;
 use std::cmp::Ordering;
 use std::convert::AsSlice;
 use std::hash::{Hash, Hasher};
+use std::fmt;
 use std::marker::Model;
 
 /// A server cookie: 8 to 32 octets that a server made of a client cookie.
@@ -155,5 +158,14 @@ impl Hash for ServerCookie {
 
     fn hash<H: Hasher>(&self, state: &mut H) {
         self.as_slice().hash(state);
+    }
+}
+
+impl fmt::Display for ServerCookie {
+    ghost output = { λ c. Some (encode_upper c) };
+
+    /// Writes the octets as upper-case hexadecimal digits.
+    fn fmt<W: fmt::Write>(&self, f: &mut fmt::Formatter<W>) -> fmt::Result {
+        write_hex(self.as_slice(), f)
     }
 }

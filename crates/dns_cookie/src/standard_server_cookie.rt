@@ -1,12 +1,15 @@
 //! The standard server cookie (RFC 9018, section 4).
 
-ghost use Rattle.std.specs.Prelude.{◌≡◌, ◌≤◌, ◌+◌, ◌++◌, ◌↔◌, IsTrue, length, take};
+ghost use Rattle.std.specs.Prelude.{Some, ◌≡◌, ◌≤◌, ◌+◌, ◌++◌, ◌↔◌, IsTrue, length, take};
 ghost use Rattle.std.specs.Int.{w64, to_le_bytes};
 ghost use Rattle.dns_cookie.specs.Cookies.{octets_before, version_of, reserved_of, timestamp_of, hash_of, address_octets, hash_number, server_cookie, HashAgrees};
+ghost use Rattle.hex.specs.Hex.{encode_upper};
 
 use crate::client_cookie::ClientCookie;
+use crate::hex_text::write_hex;
 use crate::siphash::siphash24;
 use dns_name::{IpAddr, Serial};
+use std::fmt;
 use std::marker::Model;
 
 /// The server cookie that servers of one site share: a version, three reserved octets, a timestamp
@@ -147,5 +150,14 @@ fn octets_of(address: &IpAddr) -> &[u8]
     match address {
         IpAddr::V4(octets) => octets,
         IpAddr::V6(octets) => octets,
+    }
+}
+
+impl fmt::Display for StandardServerCookie {
+    ghost output = { λ c. Some (encode_upper c) };
+
+    /// Writes the octets as upper-case hexadecimal digits.
+    fn fmt<W: fmt::Write>(&self, f: &mut fmt::Formatter<W>) -> fmt::Result {
+        write_hex(&self.octets, f)
     }
 }
