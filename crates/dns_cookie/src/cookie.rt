@@ -71,7 +71,12 @@ impl Cookie {
     /// is a standard server cookie, `timestamp_ok` accepts its timestamp, and its hash agrees.
     ///
     /// Where it is false the request is as one without a server part (RFC 7873, section 5.2.3).
-    pub fn check_server_hash<F: FnOnce(Serial) -> bool>(&self, client_ip: IpAddr, secret: &[u8; 16], timestamp_ok: F) -> bool
+    pub fn check_server_hash<F: FnOnce(Serial) -> bool>(
+        &self,
+        client_ip: IpAddr,
+        secret: &[u8; 16],
+        timestamp_ok: F,
+    ) -> bool
         requires { F.IsAlwaysCallable timestamp_ok }
         ensures { Checks (F.post timestamp_ok) secret.now client_ip self.now result }
     {
@@ -101,7 +106,13 @@ impl Cookie {
 }
 
 /// Whether `timestamp_ok` accepts the timestamp and the hash agrees, which is computed only then.
-fn check_standard<F: FnOnce(Serial) -> bool>(standard: StandardServerCookie, client: ClientCookie, client_ip: IpAddr, secret: &[u8; 16], timestamp_ok: F) -> bool
+fn check_standard<F: FnOnce(Serial) -> bool>(
+    standard: StandardServerCookie,
+    client: ClientCookie,
+    client_ip: IpAddr,
+    secret: &[u8; 16],
+    timestamp_ok: F,
+) -> bool
     requires { F.IsAlwaysCallable timestamp_ok }
     ensures { IsChecked (F.post timestamp_ok) secret.now client client_ip standard result }
 {

@@ -16,8 +16,8 @@ use dns_name::OutOfMemory;
 use std::alloc::Global;
 use std::cmp::Ordering;
 use std::convert::AsSlice;
-use std::hash::{Hash, Hasher};
 use std::fmt;
+use std::hash::{Hash, Hasher};
 use std::marker::Model;
 
 /// A server cookie: 8 to 32 octets that a server made of a client cookie.

@@ -34,7 +34,12 @@ impl Model for StandardServerCookie {
 
 impl StandardServerCookie {
     /// The cookie of these parts.
-    pub fn new(version: u8, reserved: [u8; 3], timestamp: Serial, hash: [u8; 8]) -> StandardServerCookie
+    pub fn new(
+        version: u8,
+        reserved: [u8; 3],
+        timestamp: Serial,
+        hash: [u8; 8],
+    ) -> StandardServerCookie
         ensures { result ≡ octets_before version reserved timestamp.0 ++ hash }
     {
         let mut octets = [version; 16];
@@ -45,7 +50,12 @@ impl StandardServerCookie {
     }
 
     /// The cookie of version 1 for this client at this time, whose hash is made under `secret`.
-    pub fn calculate(client_cookie: ClientCookie, timestamp: Serial, client_ip: IpAddr, secret: &[u8; 16]) -> StandardServerCookie
+    pub fn calculate(
+        client_cookie: ClientCookie,
+        timestamp: Serial,
+        client_ip: IpAddr,
+        secret: &[u8; 16],
+    ) -> StandardServerCookie
         ensures { result ≡ server_cookie secret.now client_cookie timestamp.0 client_ip }
     {
         let mut cookie = StandardServerCookie::new(1, [0; 3], timestamp, [0; 8]);
@@ -108,14 +118,27 @@ impl StandardServerCookie {
     /// reserved octets and the timestamp as they came.
     ///
     /// All eight octets are compared at once, as one number. How long it takes is not proved.
-    pub fn check_hash(self, client_cookie: ClientCookie, client_ip: IpAddr, secret: &[u8; 16]) -> bool
+    pub fn check_hash(
+        self,
+        client_cookie: ClientCookie,
+        client_ip: IpAddr,
+        secret: &[u8; 16],
+    ) -> bool
         ensures { IsTrue result ↔ HashAgrees secret.now client_cookie client_ip self }
     {
-        is_number(&self.hash(), self.calculate_hash(client_cookie, client_ip, secret))
+        is_number(
+            &self.hash(),
+            self.calculate_hash(client_cookie, client_ip, secret),
+        )
     }
 
     /// The hash for this client as a number, which the cookie holds little-endian.
-    fn calculate_hash(self, client_cookie: ClientCookie, client_ip: IpAddr, secret: &[u8; 16]) -> u64
+    fn calculate_hash(
+        self,
+        client_cookie: ClientCookie,
+        client_ip: IpAddr,
+        secret: &[u8; 16],
+    ) -> u64
         ensures { result ≡ hash_number secret.now client_cookie (take 8 self) client_ip }
     {
         let address = octets_of(&client_ip);
