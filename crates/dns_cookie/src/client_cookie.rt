@@ -2,9 +2,12 @@
 
 ghost use Rattle.std.specs.Prelude.{Some, ◌≡◌, ◌++◌, length, OnOk, OnErr};
 ghost use Rattle.hex.specs.Hex.{encode_upper};
+ghost use Rattle.dns_name.specs.OptData.{ParsesData};
+ghost use Rattle.dns_name.specs.Place.{rest};
+ghost use Rattle.dns_cookie.specs.CookieData.{client_data};
 
 use crate::hex_text::write_hex;
-use dns_name::OutOfMemory;
+use dns_name::{OutOfMemory, ParseError, Parser};
 use std::alloc::Global;
 use std::convert::AsSlice;
 use std::fmt;
@@ -46,6 +49,15 @@ impl ClientCookie {
         self.octets
     }
 
+    /// Reads a client cookie. A refused call leaves the parser.
+    pub fn parse(parser: &mut Parser) -> Result<ClientCookie, ParseError>
+        ensures { ParsesData (client_data (rest parser.old)) parser.old parser.new result }
+    {
+        let mut octets = [0; 8];
+        parser.parse_buf(&mut octets)?;
+        Ok(ClientCookie { octets })
+    }
+
     /// The octets as a slice.
     pub fn as_slice(&self) -> &[u8]
         ensures value { result.now ≡ self.now }
@@ -60,6 +72,14 @@ impl ClientCookie {
         ensures len { length result.now ≡ 8 }
     {
         &mut self.octets
+    }
+
+    /// The number of octets, which is `COMPOSE_LEN`.
+    pub(crate) fn compose_len(&self) -> u16
+        ensures value { result ≡ length self.now }
+        ensures fixed { result ≡ 8 }
+    {
+        self.as_slice().len() as u16
     }
 
     /// Appends the octets to `target`, which is left as it was where memory is wanting.

@@ -2,12 +2,20 @@
 
 ghost use Rattle.std.specs.Prelude.{◌≡◌, Some};
 ghost use Rattle.std.specs.Option.{option_copied};
+ghost use Rattle.dns_name.specs.OptData.{ParsesData, for_code};
+ghost use Rattle.dns_name.specs.Place.{rest};
+ghost use Rattle.dns_cookie.specs.CookieData.{cookie_data, cookie_octets, is_cookie};
+ghost use Rattle.dns_cookie.specs.ReadBack.{cookie_again};
 ghost use Rattle.dns_cookie.specs.Cookies.{text_of, standard_of, response, Checks, IsChecked};
 
 use crate::client_cookie::ClientCookie;
 use crate::server_cookie::ServerCookie;
 use crate::standard_server_cookie::StandardServerCookie;
-use dns_name::{IpAddr, Serial};
+use dns_name::{
+    ComposeOptData, IpAddr, OptData, OptionCode, OutOfMemory, ParseError, ParseOptData, Parser, ReadBack,
+    Serial,
+};
+use std::alloc::Global;
 use std::fmt;
 use std::marker::Model;
 
@@ -51,6 +59,17 @@ impl Cookie {
         ensures { result ≡ record { client = client; server = server } }
     {
         Cookie { client, server }
+    }
+
+    /// Reads a cookie, which is all that is left. A refused call leaves the parser.
+    pub fn parse(parser: &mut Parser) -> Result<Cookie, ParseError>
+        ensures { ParsesData (cookie_data (rest parser.old)) parser.old parser.new result }
+    {
+        let mut parts = Parser::from_ref(parser.peek_all());
+        let client = ClientCookie::parse(&mut parts)?;
+        let server = ServerCookie::parse_opt(&mut parts)?;
+        parser.advance_to_end();
+        Ok(Cookie::new(client, server))
     }
 
     /// The client part.
@@ -103,6 +122,53 @@ impl Cookie {
         let standard = StandardServerCookie::calculate(self.client, timestamp, client_ip, secret);
         Cookie::new(self.client, Some(ServerCookie::from(standard)))
     }
+}
+
+impl OptData for Cookie {
+    ghost code_of = { λ _. 10 };
+
+    fn code(&self) -> OptionCode {
+        OptionCode::COOKIE
+    }
+}
+
+impl<'a> ParseOptData<'a> for Cookie {
+    ghost takes = { for_code 10 cookie_data };
+
+    fn parse_option(
+        code: OptionCode,
+        parser: &mut Parser<'a>,
+    ) -> Result<Option<Cookie>, ParseError> {
+        if code != OptionCode::COOKIE {
+            return Ok(None);
+        }
+        Ok(Some(Cookie::parse(parser)?))
+    }
+}
+
+impl ComposeOptData for Cookie {
+    ghost octets = { cookie_octets };
+
+    fn compose_len(&self) -> u16 {
+        match &self.server {
+            Some(server) => self.client.compose_len() + server.compose_len(),
+            None => self.client.compose_len(),
+        }
+    }
+
+    fn compose_option(&self, alloc: Global, target: &mut Vec<u8>) -> Result<(), OutOfMemory> {
+        self.client.compose(alloc, target)?;
+        if let Some(server) = &self.server {
+            server.compose(alloc, target)?;
+        }
+        Ok(())
+    }
+}
+
+impl<'a> ReadBack<'a> for Cookie {
+    ghost is_readable = { is_cookie };
+
+    ghost comes_back = { cookie_again };
 }
 
 /// Whether `timestamp_ok` accepts the timestamp and the hash agrees, which is computed only then.
