@@ -1,6 +1,6 @@
 //! Cookies as clients send them and servers answer them (RFC 7873, section 4).
 
-ghost use Rattle.std.specs.Prelude.{◌≡◌, Some};
+ghost use Rattle.std.specs.Prelude.{length, true, ◌≡◌, Some};
 ghost use Rattle.std.specs.Option.{option_copied};
 ghost use Rattle.dns_name.specs.OptData.{ParsesData, for_code};
 ghost use Rattle.dns_name.specs.Place.{rest};
@@ -12,8 +12,8 @@ use crate::client_cookie::ClientCookie;
 use crate::server_cookie::ServerCookie;
 use crate::standard_server_cookie::StandardServerCookie;
 use dns_name::{
-    ComposeOptData, IpAddr, OptData, OptionCode, OutOfMemory, ParseError, ParseOptData, Parser, ReadBack,
-    Serial,
+    ComposeOptData, IpAddr, OptData, OptionCode, OutOfMemory, ParseError, ParseOptData, Parser,
+    ReadBack, Serial,
 };
 use std::alloc::Global;
 use std::fmt;
@@ -149,7 +149,11 @@ impl<'a> ParseOptData<'a> for Cookie {
 impl ComposeOptData for Cookie {
     ghost octets = { cookie_octets };
 
-    fn compose_len(&self) -> u16 {
+    /// The number of octets: 8 without a server part, and at most 40.
+    fn compose_len(&self) -> u16
+        ensures value { result ≡ length (cookie_octets self.now) }
+        ensures readable { is_cookie self.now ≡ true }
+    {
         match &self.server {
             Some(server) => self.client.compose_len() + server.compose_len(),
             None => self.client.compose_len(),
