@@ -4,6 +4,7 @@ ghost use Rattle.std.specs.Prelude.{length, true, ◌≡◌, Some};
 ghost use Rattle.std.specs.Option.{option_copied};
 ghost use Rattle.dns_name.specs.OptData.{ParsesData, for_code};
 ghost use Rattle.dns_name.specs.Place.{rest};
+ghost use Rattle.dns_cookie.specs.ClientCookie.{client_octets};
 ghost use Rattle.dns_cookie.specs.CookieData.{cookie_data, cookie_octets, is_cookie};
 ghost use Rattle.dns_cookie.specs.ReadBack.{cookie_again};
 ghost use Rattle.dns_cookie.specs.Cookies.{text_of, standard_of, response, Checks, IsChecked};
@@ -33,9 +34,11 @@ impl Model for Cookie {
 
     ghost Value = { Parts };
 
-    ghost view = { λ c. record { client = c.client; server = c.server } };
+    ghost use Rattle.dns_cookie.specs.ClientCookie.{client_octets, client_of};
 
-    ghost inverse = { λ c. record { client = c.client; server = c.server } };
+    ghost view = { λ c. record { client = client_octets c.client; server = c.server } };
+
+    ghost inverse = { λ c. record { client = client_of c.client; server = c.server } };
 }
 
 impl fmt::Display for Cookie {
@@ -56,7 +59,7 @@ impl fmt::Display for Cookie {
 impl Cookie {
     /// The cookie of these parts.
     pub fn new(client: ClientCookie, server: Option<ServerCookie>) -> Cookie
-        ensures { result ≡ record { client = client; server = server } }
+        ensures { result ≡ record { client = client_octets client; server = server } }
     {
         Cookie { client, server }
     }
@@ -74,7 +77,7 @@ impl Cookie {
 
     /// The client part.
     pub fn client(&self) -> ClientCookie
-        ensures { result ≡ self.now.client }
+        ensures { client_octets result ≡ self.now.client }
     {
         self.client
     }
@@ -184,7 +187,7 @@ fn check_standard<F: FnOnce(Serial) -> bool>(
     timestamp_ok: F,
 ) -> bool
     requires { F.IsAlwaysCallable timestamp_ok }
-    ensures { IsChecked (F.post timestamp_ok) secret.now client client_ip standard result }
+    ensures { IsChecked (F.post timestamp_ok) secret.now (client_octets client) client_ip standard result }
 {
     timestamp_ok(standard.timestamp()) && standard.check_hash(client, client_ip, secret)
 }

@@ -2,6 +2,7 @@
 //! server cookie (RFC 7873, RFC 9018).
 #![tactic(auto)]
 
+mod cells;
 mod client_cookie;
 mod cookie;
 mod hex_text;
