@@ -1,6 +1,9 @@
 //! Sources and sinks over any reader and writer of std, as standard input and output. They tell no content.
 
-ghost use Rattle.std.specs.Prelude.{◌≡◌, []};
+ghost use Rattle.std.specs.Prelude.{◌≡◌, ◌≤◌, []};
+ghost use Rattle.dns_outside.specs.Causes.{Tells};
+ghost use Rattle.dns_outside.specs.Moves.{ReadMoves, ReadBound, ReadCause, WriteMoves, WriteBound, WriteCause};
+ghost use Rattle.dns_outside.specs.Standard.{ReadsOf, WritesTo};
 
 use crate::sink::{Sink, SinkWrite};
 use crate::source::{Source, SourceRead};
@@ -28,9 +31,15 @@ impl<R: Read + Drop> Source for Reading<R> {
 
     ghost faults = { λ s. s.faults };
 
-    fn read(&mut self, buf: &mut [u8]) -> SourceRead {
+    fn read(&mut self, buf: &mut [u8]) -> SourceRead
+        ensures moves { Tells ⊥ ⊥ (ReadMoves result buf.new [] []) }
+        ensures bound { ReadBound result buf.new }
+        ensures later { self.old.faults ≤ self.new.faults }
+        ensures cause { ReadCause result self.old.faults self.new.faults }
+        ensures std { ReadsOf result buf.new (R.remaining self.old.inner) (R.remaining self.new.inner) }
+    {
         match self.inner.read(buf) {
-            Ok(0) => SourceRead::End,
+            Ok(0) if !buf.is_empty() => SourceRead::End,
             Ok(count) => SourceRead::Got(count),
             Err(_) => {
                 self.faults = self.faults.saturating_add(1);
@@ -70,7 +79,13 @@ impl<W: Write + Drop> Sink for Writing<W> {
 
     ghost faults = { λ s. s.faults };
 
-    fn write(&mut self, piece: &[u8]) -> SinkWrite {
+    fn write(&mut self, piece: &[u8]) -> SinkWrite
+        ensures moves { Tells ⊥ ⊥ (WriteMoves result piece.now [] []) }
+        ensures bound { WriteBound result piece.now }
+        ensures later { self.old.faults ≤ self.new.faults }
+        ensures cause { WriteCause result self.old.faults self.new.faults }
+        ensures std { WritesTo result piece.now (W.contents self.old.inner) (W.contents self.new.inner) }
+    {
         match self.inner.write(piece) {
             Ok(0) if !piece.is_empty() => {
                 self.faults = self.faults.saturating_add(1);
