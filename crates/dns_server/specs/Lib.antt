@@ -1,5 +1,10 @@
+pub mod Command
+pub mod Line
 pub mod Plain
 pub mod Plan
 pub mod Rules
+pub mod Runs
 pub mod Script
 pub mod ScriptReads
+pub mod Status
+pub mod Writes
