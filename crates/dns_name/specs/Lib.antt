@@ -1,0 +1,6 @@
+pub mod Place
+pub mod Labels
+pub mod Names
+pub mod Grammar
+pub mod OptData
+pub mod OptErrors

@@ -4,11 +4,26 @@
 mod address;
 mod error;
 mod iana;
+mod labels;
+mod laws;
+mod name;
 mod octets;
+mod opt_data;
+mod opt_error;
+mod parsed;
+mod parser;
+mod piece;
 mod serial;
 
 pub use address::{Addrs, IpAddr, SocketAddr};
 pub use error::{FormReason, OutOfMemory, ParseError};
-pub use iana::{Class, Opcode, Rcode, Rtype};
+pub use iana::{Class, ExtendedErrorCode, Opcode, OptionCode, Rcode, Rtype, SecurityAlgorithm};
+pub use labels::Labels;
+pub use laws::names_are_the_grammar;
+pub use name::{Name, NameRef};
 pub use octets::Octets;
+pub use opt_data::{ComposeOptData, OptData, ParseOptData, ReadBack};
+pub use opt_error::{BuildDataError, LongOptData};
+pub use parsed::ParsedName;
+pub use parser::Parser;
 pub use serial::Serial;
