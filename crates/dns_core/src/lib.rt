@@ -5,7 +5,9 @@ mod clients;
 mod notify;
 mod server;
 mod settings;
+mod stamped;
 
 pub use dns_client::{ClientCore, PolledRequest};
 pub use notify::{Notifiable, NotifyError, VerdictFuture};
+pub use server::serve_events;
 pub use settings::Settings;

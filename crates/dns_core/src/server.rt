@@ -6,12 +6,18 @@ ghost use Rattle.dns_service.specs.Req.{Req};
 ghost use Rattle.dns_service.specs.Config.{Dgram};
 ghost use Rattle.dns_client.specs.PolledAt.{request_answer};
 ghost use Rattle.dns_core.specs.Out.{begins, out};
+ghost use Rattle.dns_core.specs.Replies.{replies};
+ghost use Rattle.dns_core.specs.Early.{IsEarly};
 
 use crate::clients::{append, step_at};
+use crate::notify::Notifiable;
 use crate::settings::Settings;
+use crate::stamped::Stamped;
 use dns_base::SocketAddr;
 use dns_client::ClientCore;
-use dns_service::{DgramConfig, Event, EventKind, OutOfMemory, Output, Served};
+use dns_service::{
+    DgramConfig, Event, EventKind, OutOfMemory, Output, Plainly, Served, Service,
+};
 use std::alloc::Global;
 use std::collections::{BTreeMap, BTreeSet};
 
@@ -119,4 +125,23 @@ pub fn serve<W: Served>(
         append(&mut outs, more)?;
     }
     Ok(outs)
+}
+
+/// What all clients are sent. The wrapped service gives the given one's replies, each with the identifier and the RD
+/// flag of its request and with QR.
+pub fn serve_events<S: Service<()>, N: Notifiable>(
+    alloc: Global,
+    settings: &Settings,
+    service: S,
+    _target: N,
+    events: &[Event],
+) -> Result<Vec<Output>, OutOfMemory>
+    requires can_call { S.can_call service }
+    requires early { IsEarly settings.now events.now }
+    ensures { IfOk result (λ outs. outs.items ≡ out (replies (S.answer service)) settings.now events.now) }
+{
+    let wrapped = Plainly {
+        service: Stamped { service },
+    };
+    serve(alloc, settings, &wrapped, events)
 }
