@@ -1,0 +1,5 @@
+//! The configurations of the servers.
+#![tactic(auto)]
+
+pub mod config;
+pub mod error;
