@@ -1,0 +1,58 @@
+//! Addresses of clients.
+
+ghost use Rattle.std.specs.Prelude.{◌≡◌};
+
+use std::marker::Model;
+
+/// An address in network order.
+#[derive(Clone, Copy, Debug, PartialEq, Eq, PartialOrd, Ord, Hash)]
+pub enum IpAddr {
+    V4([u8; 4]),
+    V6([u8; 16]),
+}
+
+/// An address and a port.
+#[derive(Clone, Copy, Debug, PartialEq, Eq, PartialOrd, Ord, Hash)]
+pub struct SocketAddr {
+    pub ip: IpAddr,
+    pub port: u16,
+}
+
+/// Addresses, owned, that contracts see as a list.
+#[derive(Debug, Drop)]
+pub struct Addrs {
+    addresses: Vec<IpAddr>,
+}
+
+impl Model for Addrs {
+    ghost use Rattle.std.specs.Prelude.{List};
+    ghost use Rattle.dns_name.specs.declared.address.IpAddr.{IpAddr};
+
+    ghost Value = { List IpAddr };
+
+    ghost view = { λ a. a.addresses.items };
+}
+
+impl Addrs {
+    /// The addresses of a vector, which is not copied.
+    pub fn from_vec(addresses: Vec<IpAddr>) -> Addrs
+        ensures { result ≡ addresses.items }
+    {
+        Addrs { addresses }
+    }
+
+    /// The addresses as a slice.
+    pub fn as_slice(&self) -> &[IpAddr]
+        ensures { result.now ≡ self.now }
+    {
+        self.addresses.as_slice()
+    }
+
+    /// Gives the vector back, which is not copied.
+    pub fn into_vec(self) -> Vec<IpAddr>
+        ensures { result.items ≡ self }
+    {
+        let Addrs { addresses } = self;
+        addresses
+    }
+}
