@@ -1,2 +1,6 @@
 pub mod Machine
 pub mod Causes
+pub mod History
+pub mod Seats
+pub mod Words
+pub mod Rule

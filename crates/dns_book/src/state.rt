@@ -130,6 +130,12 @@ impl BookState {
         }
     }
 
+    pub(crate) fn shown(&self) -> Look
+        ensures { result ≡ self.now }
+    {
+        self.shown
+    }
+
     pub(crate) fn of(shown: Look) -> Self
         ensures { result ≡ shown }
     {
