@@ -10,10 +10,11 @@ use Rattle.dns_book.specs.declared.look.Look.{Look as State}
 use Rattle.dns_book.specs.declared.history.Entry.{Entry}
 use Rattle.dns_book.specs.declared.rule.View.{View}
 use Rattle.dns_book.specs.Words.{state_of}
-use Rattle.dns_book.specs.History.{Name, states_after, calls_by, entries_in, Has}
-use Rattle.dns_book.specs.Rule.{Under, gone, Owns, Fits, Apart, OwnBelow, InOrder, Kept, first_view, second_view, both_of}
+use Rattle.dns_book.specs.History.{Name, Under, states_after, calls_by, entries_in, Has}
+use Rattle.dns_book.specs.Rule.{gone, Owns, Fits, Apart, OwnBelow, InOrder, Kept, first_view, second_view, both_of}
 use Rattle.dns_book.proofs.Names.{has_cases, begins_none}
 use Rattle.dns_book.proofs.Maps.{has-append, has-left, has-right, map-append, entries_in-left, entries_in-right, tails, heads}
+use Rattle.dns_book.proofs.Halves.{below_longer, new_below}
 use Rattle.dns_book.proofs.Turns.{set_at, only_kept}
 
 -- two seats at a and b, and others
@@ -147,12 +148,6 @@ hand_forks id v ready x views h at = go (only_kept x views id v ready at h)
     go (opening, log, st, o) = inr (opening, log, st, hand_order opening log views id v at o)
 
 -- names below a name
-below_longer : (p n : Name) (b : Bool) → Under (p ++ b ∷ []) n → Under p n
-below_longer p n b (c, rest, e) = (b, c ∷ rest, e ∙ append_assoc p (b ∷ []) (c ∷ rest))
-
-new_below : (p : Name) (b : Bool) → Under p (p ++ b ∷ [])
-new_below p b = (b, [], refl)
-
 not_below : (p : Name) (b c : Bool) → Under (p ++ b ∷ []) (p ++ c ∷ []) → ⊥
 not_below [] b c (d, rest, e) = let h : [] ≡ d ∷ rest = tails c b [] (d ∷ rest) e in cc
 not_below (x ∷ xs) b c (d, rest, e) = not_below xs b c (d, rest, tails x x (xs ++ c ∷ []) ((xs ++ b ∷ []) ++ d ∷ rest) e)

@@ -94,6 +94,13 @@ with-has k n e (s ∷ ss) h = ⊎_elim
     (λ (t : (n ≢ s.name) × (same n s.name ≡ false)). rw t.1 (⊎_elim (λ (a : k ≡ s.name). inl a) (λ r. inr (with-has k n e ss r)) h))
     (same_cases n s.name)
 
+pub has-here : (n : Name) (e : Entry) (m : List Share) → Has n (with_entry n e m)
+has-here n e [] = inl refl
+has-here n e (s ∷ ss) = ⊎_elim
+    (λ (t : (n ≡ s.name) × (same n s.name ≡ true)). rw t.1 (inl t.0))
+    (λ (t : (n ≢ s.name) × (same n s.name ≡ false)). rw t.1 (inr (has-here n e ss)))
+    (same_cases n s.name)
+
 -- what a map has nothing under has no entries in it
 pub has_cases : (n : Name) (m : List Share) → Has n m ⊎ ((¬ Has n m) × (entries_in n m ≡ []))
 has_cases n [] = inr ((λ f. f), refl)

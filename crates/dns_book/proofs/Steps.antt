@@ -9,8 +9,8 @@ use Rattle.dns_book.specs.declared.call.Call.TheVariants.{Look}
 use Rattle.dns_book.specs.declared.history.Entry.{Entry}
 use Rattle.dns_book.specs.declared.rule.View.{View}
 use Rattle.dns_book.specs.Words.{state_of}
-use Rattle.dns_book.specs.History.{Name, states_after, calls_by}
-use Rattle.dns_book.specs.Rule.{Under, newcomer, opened_as, Fits, OwnBelow, InOrder, Kept, IsOpen, Looks, Opens, Settles}
+use Rattle.dns_book.specs.History.{Name, Under, states_after, calls_by}
+use Rattle.dns_book.specs.Rule.{newcomer, opened_as, Fits, OwnBelow, InOrder, Kept, IsOpen, Looks, Opens, Settles}
 use Rattle.dns_book.proofs.Names.{begins_whole, begins_none}
 use Rattle.dns_book.proofs.Turns.{set_at, only_kept, Narrows, apart_set, own_set, known_set, sound_of, call_at}
 

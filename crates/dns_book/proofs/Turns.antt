@@ -14,9 +14,9 @@ use Rattle.dns_book.specs.declared.history.Entry.{Entry}
 use Rattle.dns_book.specs.declared.rule.View.{View}
 use Rattle.dns_book.specs.Machine.{state_after, reply_of}
 use Rattle.dns_book.specs.Words.{state_of}
-use Rattle.dns_book.specs.History.{Name, same, entry, states_after, IsLegal, calls_by, entries_in, Has, with_entry, but_last}
+use Rattle.dns_book.specs.History.{Name, Under, same, entry, states_after, IsLegal, calls_by, entries_in, Has, with_entry, but_last}
 use Rattle.dns_book.specs.Seats.{IsSound, Called}
-use Rattle.dns_book.specs.Rule.{Under, newcomer, Owns, Fits, Apart, OwnBelow, InOrder, Kept, IsOpen, Reads, Made, Tries}
+use Rattle.dns_book.specs.Rule.{newcomer, Owns, Fits, Apart, OwnBelow, InOrder, Kept, IsOpen, Reads, Made, Tries}
 use Rattle.dns_book.proofs.Names.{same_refl, same_cases, calls_by-own, calls_by-other, states_after-append, legal-append, begins_more, begins_whole, begins_none, entries_in-with_same, entries_in-with_other, has-with, with-has, but_last-snoc}
 use Rattle.dns_book.proofs.Maps.{map-with}
 
@@ -212,6 +212,7 @@ sound_of opening log views id v live at o all = let f = o.fits id v at in record
   map = f.map;
   exact = λ n has. ap (λ (l : List Entry). calls_by n l) all ∙ f.mine n (live, inr has);
   alone = λ is. all ∙ alone opening log views id v live at o is;
+  below = λ n has under. o.own id v at n (live, inr has) under;
 }
 
 pub call_at : (id : ℕ) (v : View) (c : Call) (x y : List ℕ) → IsOpen v → state_of y ≡ state_after (state_of x) c

@@ -11,6 +11,10 @@ use Rattle.dns_book.specs.Machine.{state_after, reply_of}
 abbrev pub Name : Type 0
 Name = List Bool
 
+-- n lies properly below p: a seat of that name comes from a split of one named p
+abbrev pub Under : Name → Name → Type 0
+Under p n = (b : Bool) × (rest : Name) × (n ≡ p ++ b ∷ rest)
+
 abbrev pub entry : Name → Call → Reply → Entry
 entry by call reply = record { by = by; call = call; reply = reply }
 

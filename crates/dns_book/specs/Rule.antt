@@ -1,5 +1,5 @@
 -- The rule that the cell and its passes keep, and what each step tells its pass. Callers need nothing of it.
-use Rattle.std.specs.Prelude.{◌≡◌, ◌≢◌, ℕ, true, false, List, [], ◌∷◌, ◌++◌, ◌⊎◌, Bool, Option, Some, None}
+use Rattle.std.specs.Prelude.{◌≡◌, ◌≢◌, ℕ, true, false, List, [], ◌∷◌, ◌++◌, ◌⊎◌, Option, Some, None}
 use mathlib.Core.Option.{some}
 use lib.ListN.{get_elem?}
 use Rattle.dns_book.specs.declared.look.Look.{Look as State}
@@ -11,12 +11,8 @@ use Rattle.dns_book.specs.declared.history.Known.{Known}
 use Rattle.dns_book.specs.declared.rule.View.{View}
 use Rattle.dns_book.specs.Machine.{reply_of}
 use Rattle.dns_book.specs.Words.{state_of}
-use Rattle.dns_book.specs.History.{Name, states_after, IsLegal, calls_by, entries_in, Has, IsMap, Begins}
+use Rattle.dns_book.specs.History.{Name, Under, states_after, IsLegal, calls_by, entries_in, Has, IsMap, Begins}
 use Rattle.dns_book.specs.Seats.{new_known, IsSound, Called, state_met, first_half, second_half}
-
--- n lies properly below p: a seat of that name comes from a split of one named p
-abbrev pub Under : Name → Name → Type 0
-Under p n = (b : Bool) × (rest : Name) × (n ≡ p ++ b ∷ rest)
 
 -- what a pass knows that knows nothing
 abbrev pub nothing : Known

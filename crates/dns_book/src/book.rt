@@ -140,7 +140,7 @@ impl Book {
         ensures book { (result.0.book ≡ seat.book) × (result.1.book ≡ seat.book) }
         ensures first { result.0.known ≡ first_half seat.known }
         ensures second { result.1.known ≡ second_half seat.known }
-        ensures sound { IsSound result.0.known × IsSound result.1.known }
+        ensures sound { IsSound seat.known × IsSound result.0.known × IsSound result.1.known }
     {
         let BookSeat { mut pass, pending } = seat;
         self.open(rt, &mut pass, pending);
@@ -176,6 +176,23 @@ impl Book {
         BookSeat {
             pass,
             pending: None,
+        }
+    }
+
+    /// Makes a call that is given as a value.
+    pub fn call<R: Wait>(&self, rt: &R, seat: &mut BookSeat, call: Call) -> Reply
+        requires { seat.old.book ≡ self.now }
+        ensures book { seat.new.book ≡ seat.old.book }
+        ensures called { Called seat.old.known call result seat.new.known }
+    {
+        match call {
+            Call::Admit => Reply::Admission(self.admit(rt, seat)),
+            Call::Release => Reply::Left(self.release(rt, seat)),
+            Call::Reconfigure { dgram, stream } => {
+                Reply::Version(self.reconfigure(rt, seat, dgram, stream))
+            }
+            Call::Shutdown => Reply::Look(self.shutdown(rt, seat)),
+            Call::Look => Reply::Look(self.look(rt, seat)),
         }
     }
 

@@ -3,6 +3,7 @@
 #![tactic(auto)]
 
 pub mod book;
+pub mod both;
 pub mod call;
 pub mod history;
 pub mod look;
@@ -11,6 +12,7 @@ pub mod state;
 mod words;
 
 pub use book::{Book, BookSeat};
+pub use both::call_both;
 pub use call::{Call, Reply};
 pub use history::{Entry, Known, Share};
 pub use look::{Admission, Look};
