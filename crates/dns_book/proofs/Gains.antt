@@ -1,5 +1,5 @@
 -- Lemmas for callers: several calls of one seat, and the calls of both halves of a seat.
-use Rattle.std.proofs.Common.{◌≡◌, ◌⊎◌, Bool, true, false, List, [], ◌∷◌, ◌++◌, refl, sym, ap, ◌∙◌, subst, inl, inr, ⊎_elim, append_assoc, append-nil}
+use Rattle.std.proofs.Common.{◌≡◌, Bool, false, List, [], ◌∷◌, ◌++◌, refl, sym, ap, ◌∙◌, subst, ⊎_elim, append_assoc, append-nil}
 use Rattle.dns_book.specs.declared.look.Look.{Look as State}
 use Rattle.dns_book.specs.declared.call.Call.{Call}
 use Rattle.dns_book.specs.declared.call.Reply.{Reply}

@@ -1,5 +1,5 @@
 -- The names of the halves of a seat.
-use Rattle.std.proofs.Common.{◌≡◌, Bool, true, false, List, [], ◌∷◌, ◌++◌, refl, ◌∙◌, append_assoc}
+use Rattle.std.proofs.Common.{◌≡◌, Bool, true, false, [], ◌∷◌, ◌++◌, refl, ◌∙◌, append_assoc}
 use Rattle.dns_book.specs.declared.history.Known.{Known}
 use Rattle.dns_book.specs.History.{Name, Under}
 use Rattle.dns_book.specs.Seats.{IsSound, first_half, second_half}

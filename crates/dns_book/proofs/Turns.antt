@@ -14,7 +14,7 @@ use Rattle.dns_book.specs.declared.history.Entry.{Entry}
 use Rattle.dns_book.specs.declared.rule.View.{View}
 use Rattle.dns_book.specs.Machine.{state_after, reply_of}
 use Rattle.dns_book.specs.Words.{state_of}
-use Rattle.dns_book.specs.History.{Name, Under, same, entry, states_after, IsLegal, calls_by, entries_in, Has, with_entry, but_last}
+use Rattle.dns_book.specs.History.{Name, Under, same, entry, states_after, IsLegal, calls_by, entries_in, Has, with_entry}
 use Rattle.dns_book.specs.Seats.{IsSound, Called}
 use Rattle.dns_book.specs.Rule.{newcomer, Owns, Fits, Apart, OwnBelow, InOrder, Kept, IsOpen, Reads, Made, Tries}
 use Rattle.dns_book.proofs.Names.{same_refl, same_cases, calls_by-own, calls_by-other, states_after-append, legal-append, begins_more, begins_whole, begins_none, entries_in-with_same, entries_in-with_other, has-with, with-has, but_last-snoc}

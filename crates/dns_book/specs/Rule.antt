@@ -5,7 +5,6 @@ use lib.ListN.{get_elem?}
 use Rattle.dns_book.specs.declared.look.Look.{Look as State}
 use Rattle.dns_book.specs.declared.call.Call.{Call}
 use Rattle.dns_book.specs.declared.call.Call.TheVariants.{Look}
-use Rattle.dns_book.specs.declared.call.Reply.TheVariants as reply
 use Rattle.dns_book.specs.declared.history.Entry.{Entry}
 use Rattle.dns_book.specs.declared.history.Known.{Known}
 use Rattle.dns_book.specs.declared.rule.View.{View}
