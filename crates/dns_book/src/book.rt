@@ -2,12 +2,11 @@
 ghost use Rattle.std.specs.Prelude.{◌≡◌, ◌-◌, true, MatchBool, IfOk};
 ghost use Rattle.atomic_table.specs.Seated.{TableId};
 ghost use Rattle.crossbeam_utils.specs.Seq.{cell_view, IsSamePass};
-ghost use Rattle.dns_book.specs.Machine.{state_after};
+ghost use Rattle.dns_book.specs.Machine.{state_after, reply_of};
 ghost use Rattle.dns_book.specs.Causes.{Admits, Reconfigures};
 ghost use Rattle.dns_book.specs.Seats.{IsSound, Called, Joined, new_known, state_met, first_half, second_half};
 ghost use Rattle.dns_book.specs.Words.{state_of};
-ghost use Rattle.dns_book.specs.Machine.{reply_of};
-ghost use Rattle.dns_book.specs.Rule.{IsOpen, Made, view_of, IsReady};
+ghost use Rattle.dns_book.specs.Rule.{IsOpen, Made, Settled, view_of, IsReady};
 
 use crate::call::{Call, Reply};
 use crate::look::{Admission, Look};
@@ -172,7 +171,7 @@ impl Book {
         self.open(rt, &mut other, pending);
         let all = self.cell.split_pass::<HandOver>(&mut other);
         self.cell.join_pass::<TakeIn>(&mut pass, all);
-        self.cell.load_as::<Settle, R>(rt, &mut pass);
+        self.settle(rt, &mut pass);
         BookSeat {
             pass,
             pending: None,
@@ -210,6 +209,16 @@ impl Book {
         }
     }
 
+    // The load after a join, by which the pass has seen the whole history.
+    fn settle<R: Wait>(&self, rt: &R, pass: &mut SeatPass)
+        requires book { pass.old.table_id ≡ self.now }
+        requires live { ((cell_view pass.old).opened ≡ true) × ((cell_view pass.old).live ≡ true) }
+        ensures pass { IsSamePass pass.old pass.new }
+        ensures settled { Settled (cell_view pass.old) (cell_view pass.new) × IsOpen (cell_view pass.new) }
+    {
+        self.cell.load_as::<Settle, R>(rt, pass);
+    }
+
     // Makes the call if the cell still has these words, and says whether it had.
     fn attempt<K: Asked, R: Wait>(
         &self,
@@ -243,7 +252,7 @@ impl Book {
             let words = self.cell.load_as::<Read, R>(rt, pass);
             let found = BookState::of(look_of(&words));
             let mut next = found;
-            next.make(&call);
+            next.call(&call);
             if self.attempt::<Brand, R>(rt, pass, &call, words, words_of(&next.shown())) {
                 return found;
             }

@@ -117,7 +117,7 @@ impl BookState {
     }
 
     /// Makes a call that is given as a value.
-    pub fn make(&mut self, call: &Call) -> Reply
+    pub fn call(&mut self, call: &Call) -> Reply
         ensures reply { result ≡ reply_of self.old call.now }
         ensures state { self.new ≡ state_after self.old call.now }
     {

@@ -95,13 +95,13 @@ fn fit_in_some_order(
     }
     if let Some(((call, reply), rest)) = first.split_first() {
         let mut next = state;
-        if next.make(call) == *reply && fit_in_some_order(next, rest, second, last) {
+        if next.call(call) == *reply && fit_in_some_order(next, rest, second, last) {
             return true;
         }
     }
     if let Some(((call, reply), rest)) = second.split_first() {
         let mut next = state;
-        return next.make(call) == *reply && fit_in_some_order(next, first, rest, last);
+        return next.call(call) == *reply && fit_in_some_order(next, first, rest, last);
     }
     false
 }
