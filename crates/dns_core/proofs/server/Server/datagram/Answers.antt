@@ -1,4 +1,4 @@
-use Rattle.std.proofs.Common.{◌≡◌, ap, sym, ◌∙◌, false, refl}
+use Rattle.std.proofs.Common.{◌≡◌, ap, sym}
 use Rattle.dns_client.specs.Slate.{Slate, Told, Unused}
 use Rattle.dns_client.specs.PolledAt.{request_answer}
 use Rattle.dns_core.specs.Out.{begins, is_unused}
