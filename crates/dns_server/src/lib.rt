@@ -18,3 +18,6 @@ pub use reader::read_script;
 pub use rule::{Rule, Rules, ScriptAnswer, ScriptAnswers};
 pub use script::{Script, ScriptError};
 pub use writing::{WriteError, write_outputs, write_refusal};
+
+#[cfg(test)]
+mod tests;
