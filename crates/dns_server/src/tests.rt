@@ -1,4 +1,4 @@
-use crate::{Status, is_plain_message, line, refusal, run};
+use crate::{Status, line, refusal, run};
 use dns_name::Octets;
 use dns_outside::{MemorySink, MemorySource};
 use dns_service::Output;
@@ -86,25 +86,6 @@ fn refused_lines(rt: HostRuntime) -> Result<(), Fail> {
         assert_eq!(rt; status, Status::Refused);
         let text = format!(in rt.alloc(); "refused {number} unbuilt\n")?;
         assert!(rt; sink.written() == text.as_bytes(), "{script}");
-    }
-    Ok(())
-}
-
-#[test]
-fn plain_messages(rt: HostRuntime) -> Result<(), Fail> {
-    let header = b"\x12\x34\x01\x00\x00\x01\x00\x00\x00\x00\x00\x00";
-    for (question, plain) in [
-        (b"\x00\x00\x01\x00\x01".as_slice(), true),
-        (b"\x01a\x00\x00\x01\x00\x01".as_slice(), true),
-        (b"\x01a\x00\x00\x01\x00".as_slice(), false),
-        (b"\x01a\x00\x00\x01\x00\x01\x00".as_slice(), false),
-        (b"\x01a\xc0\x0c\x00\x01\x00\x01".as_slice(), false),
-        (b"\x40a\x00\x00\x01\x00\x01".as_slice(), false),
-        (b"".as_slice(), false),
-    ] {
-        let mut message = Vec::from_slice(rt.alloc(), header.as_slice())?;
-        message.extend_from_slice(question)?;
-        assert_eq!(rt; is_plain_message(message.as_slice()), plain);
     }
     Ok(())
 }
