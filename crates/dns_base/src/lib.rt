@@ -12,6 +12,8 @@ mod question;
 mod read;
 mod record;
 mod stream;
+#[cfg(test)]
+mod tests;
 mod write;
 
 pub use builder::{

@@ -12,6 +12,8 @@ mod parsed;
 mod parser;
 mod piece;
 mod serial;
+#[cfg(test)]
+mod tests;
 
 pub use address::{Addrs, IpAddr, SocketAddr};
 pub use error::{FormReason, OutOfMemory, ParseError};
