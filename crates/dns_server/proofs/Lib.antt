@@ -1,3 +1,3 @@
 pub mod Batches
-pub mod Labels
+pub mod Queries
 pub mod Running

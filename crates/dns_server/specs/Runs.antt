@@ -1,11 +1,16 @@
 -- What a run answers, by what was read and written. In each, a and b are what is left of the source before and after the call,
 -- and c and d what the sink has taken before and after it.
-use Rattle.std.specs.Prelude.{◌≡◌, ℕ, ◌+◌, ◌≤◌, List, [], ◌++◌, length, Result, Ok, Err, IsOk, IsErr}
+use Rattle.std.specs.Prelude.{◌≡◌, ℕ, ◌+◌, ◌≤◌, List, [], ◌++◌, length, Result, Ok, Err, IsOk, IsErr, true, None}
 use Rattle.dns_outside.specs.Moves.{Read, ReadAtMost, Cut}
 use Rattle.dns_outside.specs.declared.source.TheConstants.{LIMIT}
 use Rattle.dns_service.specs.declared.event.Output.{Output}
 use Rattle.dns_trace.specs.declared.reason.Reason.{Reason}
+use Rattle.dns_service.specs.Config.{default_dgram}
+use Rattle.dns_core.specs.Out.{out}
+use Rattle.dns_core.specs.Replies.{replies}
+use Rattle.dns_core.specs.declared.settings.Settings.{Settings}
 use Rattle.dns_server.specs.Plan.{Plan}
+use Rattle.dns_server.specs.Played.{played}
 use Rattle.dns_server.specs.Script.{script}
 use Rattle.dns_server.specs.Line.{lines_of, refused_line}
 use Rattle.dns_server.specs.declared.command.Command.{Command}
@@ -13,9 +18,13 @@ use Rattle.dns_server.specs.declared.command.Command.TheVariants.{Replay}
 use Rattle.dns_server.specs.declared.program.Status.{Status}
 use Rattle.dns_server.specs.declared.program.Status.TheVariants.{Done, Usage, Refused, ReadFault, WriteFault, OutOfMemory, TooLong}
 
--- what the clients are sent
-abbrev pub outputs_of : Plan → List Output
-outputs_of p = []
+-- the settings of a script that sets nothing: strict, with EDNS, without cookies, nobody denied
+abbrev pub opening_settings : Settings
+opening_settings = record { strict = true; edns = true; cookies = None; denied = []; dgram = default_dgram }
+
+-- what the clients are sent: the outputs of the events, served by the rules
+unfoldable pub outputs_of : Plan → List Output
+outputs_of p = out (replies (played p.rules)) opening_settings p.events
 
 -- what is written for a script, or for the first bad line of a text that is none
 abbrev pub text_of : Result Plan (ℕ × Reason) → List ℕ

@@ -9,7 +9,10 @@ ghost use Rattle.dns_server.specs.Runs.{outputs_of, ReplayTo, RunTo, Completes};
 use crate::command::{Command, read_command};
 use crate::reader::read_script;
 use crate::script::{Script, ScriptError};
+use crate::script_service::ScriptService;
+use crate::script_target::ScriptTarget;
 use crate::writing::{WriteError, write_outputs, write_refusal};
+use dns_core::{Settings, serve_events};
 use dns_name::OutOfMemory;
 use dns_outside::{ReadError, Sink, Source, read_all};
 use dns_service::Output;
@@ -53,11 +56,13 @@ impl Status {
 }
 
 /// What the clients of a script are sent.
+#[tactic(auto, using(crate::proofs::Queries::all_queries), unfolding(crate::specs::Runs::outputs_of))]
 fn outputs(alloc: Global, script: Script) -> Result<Vec<Output>, OutOfMemory>
     ensures { IfOk result (λ v. v.items ≡ outputs_of script) }
 {
-    let _ = script;
-    Ok(Vec::new(alloc))
+    let settings = Settings::new(alloc);
+    let (rules, events) = script.into_parts();
+    serve_events(alloc, &settings, ScriptService::new(rules), ScriptTarget, &events)
 }
 
 /// Answers the script that a source holds.
