@@ -2,9 +2,8 @@
 use Rattle.std.proofs.Common.{◌≡◌, ℕ, List, Bool, true, false, refl, length, nat_lt}
 use Rattle.std.specs.Prelude.{IsTrue, All, if◌then◌else◌}
 use Rattle.std.proofs.lemmas.List.Elements.{All-weaker}
-use Rattle.dns_name.specs.Names.{uncompressed_at}
 use Rattle.dns_base.specs.Header.{header_of}
-use Rattle.dns_base.specs.Plain.{is_plain, is_query, one_question, ends_plain}
+use Rattle.dns_base.specs.Plain.{is_plain, is_query}
 use Rattle.dns_service.specs.declared.event.Event.{Event}
 use Rattle.dns_service.specs.declared.event.EventKind.{EventKind}
 use Rattle.dns_service.specs.declared.event.EventKind.TheVariants.{Datagram, Turn}

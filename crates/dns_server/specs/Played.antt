@@ -27,8 +27,8 @@ item_of o (Rcode code) = reply_of o code
 -- answers one by one, and then the end
 abbrev pub played_from : List ℕ → List ScriptAnswer → ℕ → Answer
 played_from o [] k = Ready None
-played_from o (a ∷ as) zero = Ready (Some (item_of o a))
-played_from o (a ∷ as) (suc k) = played_from o as k
+played_from o (a ∷ more) zero = Ready (Some (item_of o a))
+played_from o (a ∷ more) (suc k) = played_from o more k
 
 -- the answers of the rules to a request
 abbrev pub played : List Rule → Req (Unit {0}) → ℕ → Answer

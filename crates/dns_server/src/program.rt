@@ -62,7 +62,13 @@ fn outputs(alloc: Global, script: Script) -> Result<Vec<Output>, OutOfMemory>
 {
     let settings = Settings::new(alloc);
     let (rules, events) = script.into_parts();
-    serve_events(alloc, &settings, ScriptService::new(rules), ScriptTarget, &events)
+    serve_events(
+        alloc,
+        &settings,
+        ScriptService::new(rules),
+        ScriptTarget,
+        &events,
+    )
 }
 
 /// Answers the script that a source holds.

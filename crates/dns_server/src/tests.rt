@@ -6,7 +6,8 @@ use dns_trace::Reason;
 use std::alloc::Global;
 use std::test::Fail;
 
-const QUERY: &str = "rule * rcode:3\ndatagram 5 100 1 192.0.2.1 5353 1234010000010000000000000000010001\nturn 6 100 1 0\n";
+const QUERY: &str =
+    "rule * rcode:3\ndatagram 5 100 1 192.0.2.1 5353 1234010000010000000000000000010001\nturn 6 100 1 0\n";
 
 const REPLY: &str = "datagram 1 1234810300010000000000000000010001\n";
 
@@ -51,10 +52,34 @@ fn rows(rt: HostRuntime) -> Result<(), Fail> {
     for (word, script, faults, status, text) in [
         ("replay", QUERY, NONE, Status::Done, REPLY),
         ("replay", "", NONE, Status::Done, ""),
-        ("replay", "strict no", NONE, Status::Refused, "refused 1 unbuilt\n"),
+        (
+            "replay",
+            "strict no",
+            NONE,
+            Status::Refused,
+            "refused 1 unbuilt\n",
+        ),
         ("play", QUERY, NONE, Status::Usage, ""),
-        ("replay", QUERY, Faults { read: Some(1), write: None }, Status::ReadFault, ""),
-        ("replay", QUERY, Faults { read: None, write: Some(0) }, Status::WriteFault, ""),
+        (
+            "replay",
+            QUERY,
+            Faults {
+                read: Some(1),
+                write: None,
+            },
+            Status::ReadFault,
+            "",
+        ),
+        (
+            "replay",
+            QUERY,
+            Faults {
+                read: None,
+                write: Some(0),
+            },
+            Status::WriteFault,
+            "",
+        ),
     ] {
         let (ended, source, sink) = play(rt.alloc(), word, script, &faults)?;
         assert_eq!(rt; ended, status);
@@ -78,9 +103,18 @@ fn refused_lines(rt: HostRuntime) -> Result<(), Fail> {
         ("rule * rcode:3\nturn 6 100 1 0\n\n", "3"),
         ("rule * rcode:3\nturn 6 100 1\n", "2"),
         ("rule * rcode:3\ndatagram 5 100 1 192.0.2.1 5353 -\n", "2"),
-        ("rule * rcode:3\ndatagram 5 100 1 192.0.2.1 5353 1234810000010000000000000000010001\n", "2"),
-        ("rule * rcode:3\ndatagram 5 100 1 192.0.2.1 5353 123401000001000000000000000001000100\n", "2"),
-        ("rule * rcode:3\ndatagram 5 100 1 192.0.2.1 5353 1234010000010000000000000000010001\n.", "3"),
+        (
+            "rule * rcode:3\ndatagram 5 100 1 192.0.2.1 5353 1234810000010000000000000000010001\n",
+            "2",
+        ),
+        (
+            "rule * rcode:3\ndatagram 5 100 1 192.0.2.1 5353 123401000001000000000000000001000100\n",
+            "2",
+        ),
+        (
+            "rule * rcode:3\ndatagram 5 100 1 192.0.2.1 5353 1234010000010000000000000000010001\n.",
+            "3",
+        ),
     ] {
         let (status, _, sink) = play(rt.alloc(), "replay", script, &NONE)?;
         assert_eq!(rt; status, Status::Refused);
