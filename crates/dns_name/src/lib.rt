@@ -14,6 +14,7 @@ mod parsed;
 mod parser;
 mod piece;
 mod serial;
+mod ttl;
 #[cfg(test)]
 mod tests;
 
@@ -29,3 +30,4 @@ pub use opt_error::{BuildDataError, LongOptData};
 pub use parsed::ParsedName;
 pub use parser::Parser;
 pub use serial::Serial;
+pub use ttl::Ttl;
