@@ -134,6 +134,7 @@ impl Book {
     }
 
     /// Two seats of one, which have seen what it had seen. The first keeps its calls.
+    #[tactic(auto, using(crate::proofs::Halves::sound_first, crate::proofs::Halves::sound_second))]
     pub fn split<R: Wait>(&self, rt: &R, seat: BookSeat) -> (BookSeat, BookSeat)
         requires { seat.book ≡ self.now }
         ensures book { (result.0.book ≡ seat.book) × (result.1.book ≡ seat.book) }
