@@ -1,11 +1,22 @@
 //! Errors of the servers.
 
-use thiserror::Error as ErrorText;
+ghost use Rattle.std.specs.Prelude.{Some, codes};
 
-/// Errors raised by DNS servers.
-#[derive(Clone, Copy, Debug, PartialEq, Eq, ErrorText)]
+use std::fmt;
+
+/// Why a command to a server was refused.
+#[derive(Clone, Copy, Debug, PartialEq, Eq)]
 pub enum Error {
-    /// A command could not be sent to the server.
-    #[error("Command could not be sent")]
+    /// The command can't be sent to the server.
     CommandCouldNotBeSent,
 }
+
+impl fmt::Display for Error {
+    ghost output = { λ _. Some (codes "Command could not be sent") };
+
+    fn fmt<W: fmt::Write>(&self, f: &mut fmt::Formatter<W>) -> fmt::Result {
+        f.write_str("Command could not be sent")
+    }
+}
+
+impl std::error::Error for Error {}

@@ -1,0 +1,5 @@
+pub mod Header
+pub mod Msg
+pub mod Wire
+pub mod Built
+pub mod Bare

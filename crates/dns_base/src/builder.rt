@@ -1,0 +1,45 @@
+//! Builders (stand-in).
+
+ghost use Rattle.std.specs.Prelude.{◌≡◌, ◌≤◌, length, IfOk, [], ◌∷◌};
+ghost use Rattle.dns_base.specs.Wire.{wire};
+
+use crate::header::Header;
+use dns_name::OutOfMemory;
+use std::alloc::Global;
+use std::marker::Model;
+
+#[derive(Drop)]
+pub struct AdditionalBuilder {
+    octets: Vec<u8>,
+    header: Header,
+    limit: usize,
+}
+
+impl Model for AdditionalBuilder {
+    ghost use Rattle.std.specs.Prelude.{◌≤◌, ◌≡◌, length, [], ◌∷◌};
+    ghost use Rattle.dns_base.specs.Wire.{wire};
+    ghost use Rattle.dns_base.specs.Built.{Built};
+    ghost use Rattle.dns_base.specs.Bare.{bare};
+
+    ghost Value = { Built };
+
+    ghost view = { λ b. record { message = bare b.header; limit = b.limit } };
+
+    ghost invariant = { λ b. b.octets.items ≡ wire (bare b.header) };
+}
+
+impl AdditionalBuilder {
+    /// The header.
+    pub fn header(&self) -> Header
+        ensures { result ≡ self.now.message.header }
+    {
+        self.header
+    }
+
+    /// The message's octets.
+    pub fn as_slice(&self) -> &[u8]
+        ensures value { result.now ≡ wire self.now.message }
+    {
+        self.octets.as_slice()
+    }
+}
