@@ -105,6 +105,15 @@ ChecksStandard accepts secret client address (Some s) result = IsChecked accepts
 abbrev pub Checks : (Serial → Bool → Type 0) → List ℕ → IpAddr → Cookie → Bool → Type 0
 Checks accepts secret address c result = ChecksStandard accepts secret c.client address (standard_of c.server) result
 
+-- a standard server cookie that is timely and has the right hash
+abbrev pub IsGoodPart : List ℕ → List ℕ → IpAddr → ℕ → Option (List ℕ) → Type 0
+IsGoodPart secret client address now None = ⊥
+IsGoodPart secret client address now (Some s) = IsTimely (timestamp_of s) now × HashAgrees secret client address s
+
+-- a cookie that a server takes as its own at a moment (RFC 7873, section 5.2.4; RFC 9018, section 4.3)
+abbrev pub IsGood : List ℕ → IpAddr → ℕ → Cookie → Type 0
+IsGood secret address now c = IsGoodPart secret c.client address now (standard_of c.server)
+
 -- ---- order
 
 -- that of the client part first, and no server part is least
