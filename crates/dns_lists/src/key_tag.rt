@@ -69,9 +69,7 @@ impl<'a> KeyTagRef<'a> {
         requires { AreTags octets.now }
         ensures { result ≡ octets.now }
     {
-        KeyTagRef {
-            octets,
-        }
+        KeyTagRef { octets }
     }
 
     /// The tags that are left in a parser: all its octets.
@@ -236,7 +234,10 @@ fn write_more<W: fmt::Write>(tags: KeyTagIter<'_>, f: &mut fmt::Formatter<W>) ->
 }
 
 /// Writes tags in hexadecimal, joined by a comma and a space.
-pub(crate) fn write_tags<W: fmt::Write>(tags: KeyTagIter<'_>, f: &mut fmt::Formatter<W>) -> fmt::Result
+pub(crate) fn write_tags<W: fmt::Write>(
+    tags: KeyTagIter<'_>,
+    f: &mut fmt::Formatter<W>,
+) -> fmt::Result
     ensures { WritesOnOk W.write_str_gives f.old result (numbers_text tags.entry) f.new }
 {
     let mut left = tags;

@@ -42,9 +42,7 @@ impl KeyTag {
         requires { AreTags octets.items }
         ensures { result ≡ octets.items }
     {
-        KeyTag {
-            octets,
-        }
+        KeyTag { octets }
     }
 
     /// The tags of a vector, which is not copied.

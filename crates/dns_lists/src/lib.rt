@@ -11,7 +11,9 @@ mod unknown_owned;
 
 pub use key_tag::{KeyTagIter, KeyTagRef};
 pub use key_tag_owned::KeyTag;
-pub use octets_kind::{Nsid, NsidKind, NsidRef, OctetsKind, Padding, PaddingKind, PaddingRef, PlainRef};
+pub use octets_kind::{
+    Nsid, NsidKind, NsidRef, OctetsKind, Padding, PaddingKind, PaddingRef, PlainRef,
+};
 pub use octets_owned::Plain;
 pub use unknown::UnknownOptDataRef;
 pub use unknown_owned::UnknownOptData;

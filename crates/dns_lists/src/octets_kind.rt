@@ -15,8 +15,8 @@ ghost use Rattle.dns_lists.specs.Texts.{octets_text};
 use crate::octets_owned::Plain;
 use crate::texts::write_octets;
 use dns_name::{
-    ComposeOptData, LongOptData, OptData, OptionCode, OutOfMemory, ParseError, ParseOptData, Parser,
-    ReadBack,
+    ComposeOptData, LongOptData, OptData, OptionCode, OutOfMemory, ParseError, ParseOptData,
+    Parser, ReadBack,
 };
 use std::alloc::Global;
 use std::cmp::Ordering;

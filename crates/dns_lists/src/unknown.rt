@@ -9,9 +9,12 @@ ghost use Rattle.dns_lists.specs.Again.{unknown_again};
 ghost use Rattle.dns_lists.specs.Texts.{plain_text};
 ghost use Rattle.dns_lists.specs.Unknowns.{unknown, unknown_data};
 
-use crate::unknown_owned::UnknownOptData;
 use crate::texts::write_plain;
-use dns_name::{ComposeOptData, LongOptData, OptData, OptionCode, OutOfMemory, ParseError, ParseOptData, Parser, ReadBack};
+use crate::unknown_owned::UnknownOptData;
+use dns_name::{
+    ComposeOptData, LongOptData, OptData, OptionCode, OutOfMemory, ParseError, ParseOptData,
+    Parser, ReadBack,
+};
 use std::alloc::Global;
 use std::fmt;
 use std::hash::{Hash, Hasher};

@@ -10,8 +10,8 @@ ghost use Rattle.dns_lists.specs.Lending.{LendsData};
 ghost use Rattle.dns_lists.specs.Texts.{plain_text};
 ghost use Rattle.dns_lists.specs.Unknowns.{unknown};
 
-use crate::unknown::UnknownOptDataRef;
 use crate::texts::write_plain;
+use crate::unknown::UnknownOptDataRef;
 use dns_name::{ComposeOptData, LongOptData, OptData, OptionCode, OutOfMemory};
 use std::alloc::Global;
 use std::fmt;
@@ -117,7 +117,8 @@ impl PartialEq for UnknownOptData {
     ghost laws = { Prim.search (comparing, rules) };
 
     fn eq(&self, other: &UnknownOptData) -> bool {
-        self.code.to_int() == other.code.to_int() && self.octets.as_slice() == other.octets.as_slice()
+        self.code.to_int() == other.code.to_int()
+            && self.octets.as_slice() == other.octets.as_slice()
     }
 }
 
