@@ -3,3 +3,4 @@ pub mod Written
 pub mod Pushed
 pub mod Copied
 pub mod Plains
+pub mod OptionLaws

@@ -12,7 +12,8 @@ use Rattle.dns_base.specs.declared.question.Question.{Question}
 use Rattle.dns_base.specs.Header.{bit, low_bit, header_of, header_octets, IsHeader}
 use Rattle.dns_base.specs.Msg.{Msg, ResourceRecord, IsMessage, HasName, HasOwner}
 use Rattle.dns_base.specs.Wire.{question_octets, record_octets, counts, body, wire}
-use Rattle.dns_base.specs.Read.{two_at, four_at, octets_at, question_at, record_at}
+use Rattle.dns_base.specs.Read.{two_at, four_at, octets_at, question_at}
+use Rattle.dns_base.specs.Standing.{standing_at, record_at, data_at}
 use Rattle.dns_base.specs.Sections.{items_from, questions_of, answers_of, authority_of, additional_of, message_of}
 
 -- what lies behind octets at a place
@@ -54,7 +55,7 @@ question_written q o more at n h =
     rw (a, b, c) (ap (λ x. Ok (q, x)) e)
 
 pub record_written : (r : ResourceRecord) (o more : List ℕ) (at : ℕ) → IsName r.owner → drop at o ≡ record_octets r ++ more → record_at o at ≡ Ok (r, at + length (record_octets r))
-unfolding record_at
+unfolding record_at standing_at
 record_written r o more at n h =
     let s = spell r.owner in
     let d = r.rdata in

@@ -46,10 +46,6 @@ entries_in-right n (s ∷ ss) b h = ⊎_elim
     (same_cases n s.name)
 
 -- names under a name
-pub tail_of : Name → Name
-tail_of [] = []
-tail_of (x ∷ xs) = xs
-
 abbrev tl : Name → Name
 tl [] = []
 tl (x ∷ xs) = xs

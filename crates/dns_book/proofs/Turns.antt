@@ -46,9 +46,6 @@ pub record Narrows (v w : View) : Type 0 where
   pub name : w.known.name ≡ v.known.name
   pub owns : (n : Name) → Owns w n → Owns v n
 
-pub AllApart : List View → Type 0
-AllApart views = (i j : ℕ) (v u : View) → i ≢ j → get_elem? views i ≡ some v → get_elem? views j ≡ some u → Apart v u
-
 apart_left : (v w u : View) → Narrows v w → Apart v u → Apart w u
 apart_left v w u k a = record {
   names = λ n o p. a.names n (k.owns n o) p;

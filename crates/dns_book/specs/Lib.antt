@@ -1,6 +1,6 @@
 pub mod Machine
-pub mod Causes
 pub mod History
+pub mod Causes
 pub mod Seats
 pub mod Gains
 pub mod Words

@@ -1,9 +1,9 @@
 //! A book that any number of threads share, and the seats from which they call it.
-ghost use Rattle.std.specs.Prelude.{◌≡◌, ◌-◌, true, MatchBool, IfOk};
+ghost use Rattle.std.specs.Prelude.{◌≡◌, ◌-◌, ◌↔◌, true, MatchBool, IfOk};
 ghost use Rattle.atomic_table.specs.Seated.{TableId};
 ghost use Rattle.crossbeam_utils.specs.Seq.{cell_view, IsSamePass};
 ghost use Rattle.dns_book.specs.Machine.{state_after, reply_of};
-ghost use Rattle.dns_book.specs.Causes.{Admits, Reconfigures};
+ghost use Rattle.dns_book.specs.Causes.{Admits, Reconfigures, WasShutDown};
 ghost use Rattle.dns_book.specs.Seats.{IsSound, Called, Joined, new_known, state_met, first_half, second_half};
 ghost use Rattle.dns_book.specs.Words.{state_of};
 ghost use Rattle.dns_book.specs.Rule.{IsOpen, Made, Settled, view_of, IsReady};
@@ -16,9 +16,7 @@ use crate::rule::{
 use crate::state::BookState;
 use crate::words::{COUNT, Words, look_of, words_of};
 use crossbeam_utils::atomic::seq_cell::{Pass, RuledSeqCell};
-use dns_name::OutOfMemory;
-use dns_service::config::{DgramConfig, StreamConfig};
-use dns_service::error::Error;
+use dns_service::{DgramConfig, Error, OutOfMemory, StreamConfig};
 use std::alloc::Global;
 use std::marker::{Brand, Model};
 use std::sync::Wait;
@@ -74,11 +72,13 @@ impl Book {
     }
 
     /// Takes a slot, where the book is open and one is free.
+    #[tactic(auto, using(crate::proofs::Shutdowns::closed_exactly))]
     pub fn admit<R: Wait>(&self, rt: &R, seat: &mut BookSeat) -> Admission
         requires { seat.old.book ≡ self.now }
         ensures book { seat.new.book ≡ seat.old.book }
         ensures called { Called seat.old.known Call.Admit (Reply.Admission result) seat.new.known }
         ensures cause { Admits (state_met seat.new.known) result }
+        ensures closed { (result ≡ Admission.Closed) ↔ WasShutDown seat.new.known }
     {
         self.make(rt, seat, Call::Admit).admit()
     }
@@ -134,6 +134,7 @@ impl Book {
     }
 
     /// Two seats of one, which have seen what it had seen. The first keeps its calls.
+    #[tactic(auto, using(crate::proofs::Halves::sound_first, crate::proofs::Halves::sound_second))]
     pub fn split<R: Wait>(&self, rt: &R, seat: BookSeat) -> (BookSeat, BookSeat)
         requires { seat.book ≡ self.now }
         ensures book { (result.0.book ≡ seat.book) × (result.1.book ≡ seat.book) }

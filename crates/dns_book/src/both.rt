@@ -27,6 +27,7 @@ fn call_twice<R: Wait>(
 
 /// Makes the first two calls in one thread and the second two in another, each from a half of the
 /// seat, and joins the halves. The replies come in the order of the calls.
+#[tactic(auto, using(crate::proofs::Gains::two_each))]
 pub fn call_both<R: Threads + Wait + Sync>(
     rt: &R,
     book: &Book,

@@ -1,8 +1,7 @@
 //! The five calls of a book as values, and their replies.
 
 use crate::look::{Admission, Look};
-use dns_service::config::{DgramConfig, StreamConfig};
-use dns_service::error::Error;
+use dns_service::{DgramConfig, Error, StreamConfig};
 
 /// A call of a book.
 #[derive(Clone, Copy, Debug, PartialEq, Eq)]

@@ -1,6 +1,6 @@
 //! What a book shows, and what it answers to who wants a slot.
 
-use dns_service::config::{DgramConfig, StreamConfig};
+use dns_service::{DgramConfig, StreamConfig};
 
 /// All that a book holds at one moment.
 #[derive(Clone, Copy, Debug, PartialEq, Eq)]

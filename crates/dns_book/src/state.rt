@@ -5,8 +5,7 @@ ghost use Rattle.dns_book.specs.Causes.{Admits, Reconfigures};
 
 use crate::call::{Call, Reply};
 use crate::look::{Admission, Look};
-use dns_service::config::{DgramConfig, StreamConfig};
-use dns_service::error::Error;
+use dns_service::{DgramConfig, Error, StreamConfig};
 use std::marker::Model;
 
 /// A book for one thread. In clauses it is what a look at it shows.

@@ -1,9 +1,7 @@
 ghost use Rattle.std.specs.Prelude.{ℕ, ◌≡◌, ◌+◌, length};
 
 use crate::{Admission, Book, BookState, Call, Look, Reply, call_both};
-use dns_name::OutOfMemory;
-use dns_service::config::{DgramConfig, StreamConfig};
-use dns_service::error::Error;
+use dns_service::{DgramConfig, Error, OutOfMemory, StreamConfig};
 use std::alloc::Global;
 use std::sync::Wait;
 use std::thread::Threads;

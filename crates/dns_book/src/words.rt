@@ -3,7 +3,7 @@ ghost use Rattle.std.specs.Prelude.{◌≡◌};
 ghost use Rattle.dns_book.specs.Words.{state_of};
 
 use crate::look::Look;
-use dns_service::config::{ConnectionConfig, DgramConfig, StreamConfig};
+use dns_service::{ConnectionConfig, DgramConfig, StreamConfig};
 
 /// How many words there are.
 pub const COUNT: usize = 8;

@@ -12,8 +12,8 @@ ghost use Rattle.dns_client.specs.PolledAt.{request_answer};
 use crate::polling::{PolledRequest, poll_at};
 use dns_base::{Message, SocketAddr};
 use dns_service::{
-    DgramConfig, Event, EventKind, Octets, OutOfMemory, Output, Polled, 
-    Request, Served, ServiceResult, TransportSpecificContext, UdpTransportContext,
+    DgramConfig, Event, EventKind, Octets, OutOfMemory, Output, Polled, Request, Served,
+    ServiceResult, TransportSpecificContext, UdpTransportContext,
 };
 use std::alloc::Global;
 use std::collections::BTreeMap;
@@ -107,7 +107,8 @@ impl<W: Served> ClientCore<W> {
             return Ok(());
         }
         let future = service.call(alloc, &mut request)?;
-        self.unfinished.insert(self.count, PolledRequest::Called(future))?;
+        self.unfinished
+            .insert(self.count, PolledRequest::Called(future))?;
         self.count += 1;
         Ok(())
     }

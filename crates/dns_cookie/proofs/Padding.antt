@@ -1,5 +1,5 @@
 -- Octets and zeros that fill a buffer of 32.
-use Rattle.std.proofs.Common.{◌≡◌, ℕ, ◌-◌, ◌+◌, ◌≤◌, List, ◌++◌, length, take, drop, replicate, refl, arith, ap, sym, ◌∙◌, length-append, length-drop}
+use Rattle.std.proofs.Common.{ℕ, ◌≤◌, List, ◌++◌, length, drop, replicate, arith, ◌∙◌, length-append, length-drop}
 use Rattle.std.proofs.Math.Seq.{drop-append_seam}
 use Rattle.std.proofs.lemmas.List.{drop-replicate}
 use Rattle.dns_cookie.specs.Padded.{IsPadded}

@@ -1,5 +1,5 @@
 -- Words of octets: a block of eight is the first word, and fewer than eight are the last.
-use Rattle.std.proofs.Common.{◌≡◌, ℕ, zero, suc, ◌+◌, ◌-◌, ◌*◌, ◌/◌, ◌%◌, ◌≤◌, ◌<◌, ◌^◌, List, [], ◌∷◌, ◌++◌, length, take, drop, length-drop, refl, arith, ap, sym, ◌∙◌}
+use Rattle.std.proofs.Common.{◌≡◌, ℕ, suc, ◌+◌, ◌-◌, ◌*◌, ◌/◌, ◌%◌, ◌≤◌, ◌<◌, ◌^◌, List, [], ◌∷◌, ◌++◌, length, take, drop, length-drop, refl, arith, ap, sym, ◌∙◌}
 use Rattle.std.specs.Prelude.{slice_index, fold}
 use Rattle.std.proofs.lemmas.List.{drop-drop}
 use Rattle.dns_cookie.specs.declared.siphash.State.{State}

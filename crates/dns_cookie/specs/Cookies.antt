@@ -1,5 +1,9 @@
 -- DNS cookies (RFC 7873, section 4) and the standard server cookie (RFC 9018, section 4).
 use Rattle.std.specs.Prelude.{◌≡◌, ℕ, ◌+◌, ◌-◌, ◌%◌, ◌^◌, ◌≤◌, List, [], ◌∷◌, ◌++◌, length, take, drop, slice_index, Option, Some, None, Bool, false, IsTrue, ◌↔◌, ◌==◌, if◌then◌else◌}
+use Rattle.std.specs.declared.cmp.Ordering.{Ordering}
+use Rattle.std.specs.Cmp.Lexicographic.{slice_cmp}
+use Rattle.std.specs.Option.{option_cmp}
+use Rattle.std.specs.Ordering.{nat_cmp, ordering_then}
 use Rattle.std.specs.Int.{w32, w64, from_be_bytes, to_be_bytes, to_le_bytes}
 use Rattle.dns_name.specs.declared.address.IpAddr.{IpAddr}
 use Rattle.dns_name.specs.declared.address.IpAddr.TheVariants.{V4, V6}
@@ -100,3 +104,18 @@ ChecksStandard accepts secret client address (Some s) result = IsChecked accepts
 -- a check of a cookie (RFC 7873, section 5.2.3): false without a standard server cookie
 abbrev pub Checks : (Serial → Bool → Type 0) → List ℕ → IpAddr → Cookie → Bool → Type 0
 Checks accepts secret address c result = ChecksStandard accepts secret c.client address (standard_of c.server) result
+
+-- a standard server cookie that is timely and has the right hash
+abbrev pub IsGoodPart : List ℕ → List ℕ → IpAddr → ℕ → Option (List ℕ) → Type 0
+IsGoodPart secret client address now None = ⊥
+IsGoodPart secret client address now (Some s) = IsTimely (timestamp_of s) now × HashAgrees secret client address s
+
+-- a cookie that a server takes as its own at a moment (RFC 7873, section 5.2.4; RFC 9018, section 4.3)
+abbrev pub IsGood : List ℕ → IpAddr → ℕ → Cookie → Type 0
+IsGood secret address now c = IsGoodPart secret c.client address now (standard_of c.server)
+
+-- ---- order
+
+-- that of the client part first, and no server part is least
+abbrev pub cookie_cmp : Cookie → Cookie → Ordering
+cookie_cmp a b = ordering_then (slice_cmp nat_cmp a.client b.client) (option_cmp (slice_cmp nat_cmp) a.server b.server)

@@ -2,6 +2,7 @@
 //! server cookie (RFC 7873, RFC 9018).
 #![tactic(auto)]
 
+mod cells;
 mod client_cookie;
 mod cookie;
 mod hex_text;
@@ -13,7 +14,7 @@ mod timestamp;
 
 pub use client_cookie::ClientCookie;
 pub use cookie::Cookie;
-pub use laws::check_response;
+pub use laws::{check_at, check_response, order_is_that_of_octets};
 pub use server_cookie::ServerCookie;
 pub use siphash::siphash24;
 pub use standard_server_cookie::StandardServerCookie;

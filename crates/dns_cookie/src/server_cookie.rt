@@ -9,10 +9,13 @@ ghost use Rattle.std.specs.Hash as fed;
 ghost use Rattle.std.specs.Ordering.{nat_cmp, as_partial_cmp};
 ghost use Rattle.dns_cookie.specs.Cookies.{standard_part};
 ghost use Rattle.hex.specs.Hex.{encode_upper};
+ghost use Rattle.dns_name.specs.OptData.{ParsesData};
+ghost use Rattle.dns_name.specs.Place.{rest};
+ghost use Rattle.dns_cookie.specs.CookieData.{server_data, server_part};
 
 use crate::hex_text::write_hex;
 use crate::standard_server_cookie::StandardServerCookie;
-use dns_name::OutOfMemory;
+use dns_name::{FormReason, OutOfMemory, ParseError, Parser};
 use std::alloc::Global;
 use std::cmp::Ordering;
 use std::convert::AsSlice;
@@ -59,6 +62,31 @@ impl ServerCookie {
             octets,
             len: slice.len() as u8,
         }
+    }
+
+    /// Reads a server cookie, which is all that is left. A refused call leaves the parser.
+    pub fn parse(parser: &mut Parser) -> Result<ServerCookie, ParseError>
+        ensures { ParsesData (server_data (rest parser.old)) parser.old parser.new result }
+    {
+        let octets = parser.peek_all();
+        if octets.len() < 8 {
+            return Err(ParseError::Form(FormReason::ShortServerCookie));
+        }
+        if octets.len() > 32 {
+            return Err(ParseError::Form(FormReason::LongServerCookie));
+        }
+        parser.advance_to_end();
+        Ok(ServerCookie::from_octets(octets))
+    }
+
+    /// Reads a server cookie, or none where nothing is left. A refused call leaves the parser.
+    pub fn parse_opt(parser: &mut Parser) -> Result<Option<ServerCookie>, ParseError>
+        ensures { ParsesData (server_part (rest parser.old)) parser.old parser.new result }
+    {
+        if parser.remaining() == 0 {
+            return Ok(None);
+        }
+        Ok(Some(ServerCookie::parse(parser)?))
     }
 
     /// The standard server cookie that this is, where it has 16 octets (RFC 9018, section 4).

@@ -2,6 +2,7 @@
 
 ghost use Rattle.std.specs.Prelude.{Some, ◌≡◌, ◌≤◌, ◌+◌, ◌++◌, ◌↔◌, IsTrue, length, take};
 ghost use Rattle.std.specs.Int.{w64, to_le_bytes};
+ghost use Rattle.dns_cookie.specs.ClientCookie.{client_octets};
 ghost use Rattle.dns_cookie.specs.Cookies.{octets_before, version_of, reserved_of, timestamp_of, hash_of, address_octets, hash_number, server_cookie, HashAgrees};
 ghost use Rattle.hex.specs.Hex.{encode_upper};
 
@@ -56,7 +57,7 @@ impl StandardServerCookie {
         client_ip: IpAddr,
         secret: &[u8; 16],
     ) -> StandardServerCookie
-        ensures { result ≡ server_cookie secret.now client_cookie timestamp.0 client_ip }
+        ensures { result ≡ server_cookie secret.now (client_octets client_cookie) timestamp.0 client_ip }
     {
         let mut cookie = StandardServerCookie::new(1, [0; 3], timestamp, [0; 8]);
         let hash = cookie.calculate_hash(client_cookie, client_ip, secret);
@@ -124,7 +125,7 @@ impl StandardServerCookie {
         client_ip: IpAddr,
         secret: &[u8; 16],
     ) -> bool
-        ensures { IsTrue result ↔ HashAgrees secret.now client_cookie client_ip self }
+        ensures { IsTrue result ↔ HashAgrees secret.now (client_octets client_cookie) client_ip self }
     {
         is_number(
             &self.hash(),
@@ -139,7 +140,7 @@ impl StandardServerCookie {
         client_ip: IpAddr,
         secret: &[u8; 16],
     ) -> u64
-        ensures { result ≡ hash_number secret.now client_cookie (take 8 self) client_ip }
+        ensures { result ≡ hash_number secret.now (client_octets client_cookie) (take 8 self) client_ip }
     {
         let address = octets_of(&client_ip);
         let mut input = [0; 32];

@@ -4,7 +4,10 @@ use crate::{
     ClientCookie, Cookie, ServerCookie, StandardServerCookie, check_response, siphash24,
     timestamp_ok,
 };
-use dns_name::{IpAddr, OutOfMemory, Serial};
+use dns_name::{
+    ComposeOptData, FormReason, IpAddr, OptData, OptionCode, OutOfMemory, ParseError, ParseOptData,
+    Parser, Serial,
+};
 use hex::{FromHex, FromHexError};
 use std::alloc::Global;
 use std::test::Fail;
@@ -181,6 +184,44 @@ fn responses(rt: HostRuntime) -> Result<(), Fail> {
             "{text}"
         );
     }
+    Ok(())
+}
+
+#[test]
+fn readings(rt: HostRuntime) -> Result<(), Fail> {
+    let alloc = rt.alloc();
+    let octets = [7u8; 41];
+    for (len, refusal) in [
+        (7usize, Some(ParseError::ShortInput)),
+        (8, None),
+        (9, Some(ParseError::Form(FormReason::ShortServerCookie))),
+        (15, Some(ParseError::Form(FormReason::ShortServerCookie))),
+        (16, None),
+        (40, None),
+        (41, Some(ParseError::Form(FormReason::LongServerCookie))),
+    ] {
+        assert!(rt; len <= 41);
+        let mut parser = Parser::from_ref(&octets[..len]);
+        match Cookie::parse_option(OptionCode::COOKIE, &mut parser) {
+            Ok(cookie) => {
+                let cookie = cookie.ok_or("not read")?;
+                let mut written = Vec::new(alloc);
+                cookie.compose_option(alloc, &mut written)?;
+                assert_eq!(rt; written.as_slice(), &octets[..len]);
+                assert_eq!(rt; usize::from(cookie.compose_len()), len);
+                assert!(rt; cookie.code() == OptionCode::COOKIE);
+                assert_eq!(rt; parser.remaining(), 0);
+                assert!(rt; refusal.is_none(), "{len} octets were read");
+            }
+            Err(e) => {
+                assert!(rt; refusal == Some(e), "{len} octets were refused");
+                assert_eq!(rt; parser.remaining(), len);
+            }
+        }
+    }
+    let mut parser = Parser::from_ref(&octets[..8]);
+    assert!(rt; Cookie::parse_option(OptionCode::NSID, &mut parser)?.is_none());
+    assert_eq!(rt; parser.remaining(), 8);
     Ok(())
 }
 

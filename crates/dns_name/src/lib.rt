@@ -16,6 +16,7 @@ mod piece;
 mod serial;
 #[cfg(test)]
 mod tests;
+mod ttl;
 
 pub use address::{Addrs, IpAddr, SocketAddr};
 pub use error::{FormReason, OutOfMemory, ParseError};
@@ -29,3 +30,4 @@ pub use opt_error::{BuildDataError, LongOptData};
 pub use parsed::ParsedName;
 pub use parser::Parser;
 pub use serial::Serial;
+pub use ttl::Ttl;

@@ -3,9 +3,8 @@
 
 use dns_outside::{Reading, Writing};
 use dns_server::{Status, run};
-use std::env;
-use std::io;
 use std::process::ExitCode;
+use std::{env, io};
 
 const HELP: &str = "\
 Usage: nutscythe replay < SCRIPT
