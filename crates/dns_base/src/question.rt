@@ -177,11 +177,7 @@ impl<'a> Iterator for QuestionIter<'a> {
 
 /// The place behind so many questions from a place on.
 #[tactic(auto, using(crate::proofs::Coming::ending))]
-pub(crate) fn questions_end(
-    message: &[u8],
-    start: usize,
-    count: u16,
-) -> Result<usize, ParseError>
+pub(crate) fn questions_end(message: &[u8], start: usize, count: u16) -> Result<usize, ParseError>
     requires { start ≤ length message.now }
     ensures value { result ≡ ends_at (question_at message.now) count start }
     ensures within { IfOk result (λ end. end ≤ length message.now) }

@@ -56,9 +56,15 @@ pub enum RecordData {
         minimum: Ttl,
     },
     /// Two mailboxes (RFC 1035, section 3.3.7).
-    Minfo { first: Name, second: Name },
+    Minfo {
+        first: Name,
+        second: Name,
+    },
     /// A mail exchange (RFC 1035, section 3.3.9).
-    Mx { preference: u16, exchange: Name },
+    Mx {
+        preference: u16,
+        exchange: Name,
+    },
     /// A service's host (RFC 2782).
     Srv {
         priority: u16,
@@ -69,7 +75,10 @@ pub enum RecordData {
     /// An option list (RFC 6891, section 6.1.2).
     Opt(Octets),
     /// Octets of a type that has no shape here.
-    Unknown { rtype: Rtype, octets: Octets },
+    Unknown {
+        rtype: Rtype,
+        octets: Octets,
+    },
 }
 
 /// The shape of a type's data.

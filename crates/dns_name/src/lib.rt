@@ -12,9 +12,9 @@ mod parsed;
 mod parser;
 mod piece;
 mod serial;
-mod ttl;
 #[cfg(test)]
 mod tests;
+mod ttl;
 
 pub use address::{Addrs, IpAddr, SocketAddr};
 pub use error::{FormReason, OutOfMemory, ParseError};
