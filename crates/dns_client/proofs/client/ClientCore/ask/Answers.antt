@@ -1,0 +1,25 @@
+use Rattle.std.proofs.Common.{◌≡◌, ◌≢◌, ℕ, length, refl, ap, sym, ◌∙◌, arith, true, [], ◌∷◌, length-append, zero-add}
+use Rattle.std.specs.Prelude.{nat_lt}
+use Rattle.std.specs.Ordering.{nat_cmp}
+use Rattle.std.specs.BTreeMap.{get}
+use Rattle.std.proofs.lemmas.Bool.Decides.{nat_tests}
+use Rattle.std.proofs.lemmas.Grind.{common_steps}
+use Rattle.dns_client.specs.Datagrams.{asked, most_requests}
+use Rattle.dns_client.specs.PolledAt.{request_answer}
+use Rattle.dns_client.specs.declared.polling.PolledRequest.TheVariants.{Called}
+use Rattle.dns_client.proofs.Kept.{keeps_push}
+use Rattle.dns_client.proofs.client.ClientCore.ask.Goals as goal
+
+pub returns : goal.returns
+returns g c = record {
+  client = refl;
+  made = λ rs h.
+      let u = c.in_ok-insert.ensures.updates in
+      let few : nat_lt (length rs) most_requests ≡ true = grind (arith, nat_tests, h.0) in
+      let others : (q : ℕ) → q ≢ c.args.self.now.count → get nat_cmp c.insert.new.self q ≡ get nat_cmp c.args.self.now.unfinished q = λ q ne. grind (arith, common_steps, nat_tests, u.0 q) in
+      rw few (
+        omega (arith, h.0, length-append rs (asked c.args.request ∷ [])),
+        keeps_push (request_answer g.W.Future.ReplyFuture.answer g.W.Stream.ReplyStream.answer) (g.W.Served.answer c.args.service.now) c.args.self.now.unfinished c.insert.new.self rs c.args.self.now.count (asked c.args.request) (Called c.in_ok-future.future) h.0 h.1 others u.1
+            (refl, λ j. c.in_ok-future.ensures.answers j ∙ ap (g.W.Served.answer c.args.service.now c.args.request) (sym (zero-add j))),
+      );
+}

@@ -1,0 +1,6 @@
+pub mod Slate
+pub mod Datagrams
+pub mod Turns
+pub mod Rule
+pub mod PolledAt
+pub mod Stands

@@ -1,0 +1,60 @@
+-- One event more.
+use Rattle.std.proofs.Common.{◌≡◌, ℕ, List, [], ◌∷◌, ◌++◌, length, drop, true, false, cond, refl, ap, sym, ◌∙◌, append_assoc}
+use Rattle.std.proofs.lemmas.List.{append-nil, drop_at}
+use Rattle.dns_service.specs.Answer.{Answer}
+use Rattle.dns_service.specs.Req.{Req}
+use Rattle.dns_service.specs.declared.event.Event.{Event}
+use Rattle.dns_service.specs.declared.event.Output.{Output}
+use Rattle.dns_client.specs.Slate.{Slate, fresh}
+use Rattle.dns_client.specs.Rule.{rule}
+use Rattle.dns_core.specs.Settings.{opening}
+use Rattle.dns_core.specs.Own.{concerns, own}
+use Rattle.dns_core.specs.Sent.{slate_after, sent_after, sent, slate}
+use Rattle.dns_core.specs.Out.{gain, joined, members_after, members, gained, out_after}
+use Rattle.dns_core.specs.declared.settings.Settings.{Settings}
+
+own_some : (c : ℕ) (q : List Event) (e : Event) → concerns c e ≡ true → own c (q ++ e ∷ []) ≡ own c q ++ e ∷ []
+own_some c [] e h = rw h refl
+own_some c (x ∷ q) e h = (elim (concerns c x) as (λ b. cond b (x ∷ own c (q ++ e ∷ [])) (own c (q ++ e ∷ [])) ≡ cond b (x ∷ own c q) (own c q) ++ e ∷ []) [ true ↦ ap (λ es. x ∷ es) (own_some c q e h) | false ↦ own_some c q e h ])
+
+own_none : (c : ℕ) (q : List Event) (e : Event) → concerns c e ≡ false → own c (q ++ e ∷ []) ≡ own c q
+own_none c [] e h = rw h refl
+own_none c (x ∷ q) e h = (elim (concerns c x) as (λ b. cond b (x ∷ own c (q ++ e ∷ [])) (own c (q ++ e ∷ [])) ≡ cond b (x ∷ own c q) (own c q)) [ true ↦ ap (λ es. x ∷ es) (own_none c q e h) | false ↦ own_none c q e h ])
+
+module _ (answers : Req (Unit {0}) → ℕ → Answer) where
+  slate_after_snoc : (s : Slate) (q : List Event) (e : Event) → slate_after answers s (q ++ e ∷ []) ≡ (rule answers e (slate_after answers s q)).0
+  slate_after_snoc s [] e = refl
+  slate_after_snoc s (x ∷ q) e = slate_after_snoc (rule answers x s).0 q e
+
+  sent_after_snoc : (s : Slate) (q : List Event) (e : Event) → sent_after answers s (q ++ e ∷ []) ≡ sent_after answers s q ++ (rule answers e (slate_after answers s q)).1
+  sent_after_snoc s [] e = append-nil (rule answers e s).1
+  sent_after_snoc s (x ∷ q) e = ap (λ os. (rule answers x s).1 ++ os) (sent_after_snoc (rule answers x s).0 q e) ∙ sym (append_assoc (rule answers x s).1 (sent_after answers (rule answers x s).0 q) (rule answers e (slate_after answers (rule answers x s).0 q)).1)
+
+  module _ (settings : Settings) where
+    pub slate_some : (c : ℕ) (q : List Event) (e : Event) → concerns c e ≡ true → slate answers settings c (q ++ e ∷ []) ≡ (rule answers e (slate answers settings c q)).0
+    unfolding slate
+    slate_some c q e h = ap (slate_after answers (fresh (opening settings))) (own_some c q e h) ∙ slate_after_snoc (fresh (opening settings)) (own c q) e
+
+    pub slate_none : (c : ℕ) (q : List Event) (e : Event) → concerns c e ≡ false → slate answers settings c (q ++ e ∷ []) ≡ slate answers settings c q
+    unfolding slate
+    slate_none c q e h = ap (slate_after answers (fresh (opening settings))) (own_none c q e h)
+
+    pub gain_some : (c : ℕ) (q : List Event) (e : Event) → concerns c e ≡ true → gain answers settings c q e ≡ (rule answers e (slate answers settings c q)).1
+    unfolding gain sent slate
+    gain_some c q e h =
+        let s = fresh (opening settings) in
+        ap (λ es. drop (length (sent_after answers s (own c q))) (sent_after answers s es)) (own_some c q e h)
+        ∙ ap (drop (length (sent_after answers s (own c q)))) (sent_after_snoc s (own c q) e)
+        ∙ drop_at (sent_after answers s (own c q)) (rule answers e (slate_after answers s (own c q))).1 (length (sent_after answers s (own c q))) refl
+
+    members_after_snoc : (p : List Event) (ms : List ℕ) (q : List Event) (e : Event) → members_after answers settings p ms (q ++ e ∷ []) ≡ joined answers settings (p ++ q) (members_after answers settings p ms q) e
+    members_after_snoc p ms [] e = ap (λ x. joined answers settings x ms e) (sym (append-nil p))
+    members_after_snoc p ms (x ∷ q) e = members_after_snoc (p ++ x ∷ []) (joined answers settings p ms x) q e ∙ ap (λ y. joined answers settings y (members_after answers settings (p ++ x ∷ []) (joined answers settings p ms x) q) e) (append_assoc p (x ∷ []) q)
+
+    pub members_more : (q : List Event) (e : Event) → members answers settings (q ++ e ∷ []) ≡ joined answers settings q (members answers settings q) e
+    unfolding members
+    members_more q e = members_after_snoc [] [] q e
+
+    -- what was sent so far, with what is sent for one event more
+    pub told_more : (q rest : List Event) (e : Event) (outs more all : List Output) → outs ++ out_after answers settings q (e ∷ rest) ≡ all → more ≡ gained answers settings q e → (outs ++ more) ++ out_after answers settings (q ++ e ∷ []) rest ≡ all
+    told_more q rest e outs more all told says = append_assoc outs more (out_after answers settings (q ++ e ∷ []) rest) ∙ rw says told

@@ -1,0 +1,29 @@
+-- What one client is sent for its events, from the oldest to the newest, and the slate that it has after them.
+use Rattle.std.specs.Prelude.{ℕ, List, [], ◌∷◌, ◌++◌}
+use Rattle.dns_service.specs.Answer.{Answer}
+use Rattle.dns_service.specs.Req.{Req}
+use Rattle.dns_service.specs.declared.event.Event.{Event}
+use Rattle.dns_service.specs.declared.event.Output.{Output}
+use Rattle.dns_client.specs.Slate.{Slate, fresh}
+use Rattle.dns_client.specs.Rule.{rule}
+use Rattle.dns_core.specs.Settings.{opening}
+use Rattle.dns_core.specs.Own.{own}
+use Rattle.dns_core.specs.declared.settings.Settings.{Settings}
+
+-- the answers are those of the wrapped service, by request and poll
+module _ (answers : Req (Unit {0}) → ℕ → Answer) where
+  abbrev pub slate_after : Slate → List Event → Slate
+  slate_after s [] = s
+  slate_after s (e ∷ es) = slate_after (rule answers e s).0 es
+
+  abbrev pub sent_after : Slate → List Event → List Output
+  sent_after s [] = []
+  sent_after s (e ∷ es) = (rule answers e s).1 ++ sent_after (rule answers e s).0 es
+
+  module _ (settings : Settings) where
+    unfoldable pub sent : List Event → List Output
+    sent es = sent_after (fresh (opening settings)) es
+
+    -- the slate of a client after the events of all
+    unfoldable pub slate : ℕ → List Event → Slate
+    slate c q = slate_after (fresh (opening settings)) (own c q)

@@ -1,0 +1,26 @@
+-- What a server keeps after some events.
+use Rattle.std.specs.Prelude.{◌≡◌, ℕ, List, [], ◌∷◌, ◌++◌, not}
+use Rattle.std.specs.Ordering.{nat_cmp}
+use Rattle.std.specs.BTreeMap.{keys}
+use Rattle.std.specs.BTreeSet.{contains}
+use Rattle.dns_service.specs.Answer.{Answer}
+use Rattle.dns_service.specs.Req.{Req}
+use Rattle.dns_service.specs.declared.event.Event.{Event}
+use Rattle.dns_service.specs.declared.event.Output.{Output}
+use Rattle.dns_client.specs.declared.polling.PolledRequest.{PolledRequest}
+use Rattle.dns_core.specs.Sent.{slate}
+use Rattle.dns_core.specs.Out.{members, gained, is_unused}
+use Rattle.dns_core.specs.Serves.{StandAll}
+use Rattle.dns_core.specs.declared.settings.Settings.{Settings}
+use Rattle.dns_core.specs.declared.server.Server.{Server}
+
+module _ {W R F : Type 0} (answer : PolledRequest F R → ℕ → Answer) (answers : Req (Unit {0}) → ℕ → Answer) where
+  pub record Serves (settings : Settings) (q : List Event) (server : Server W R F) : Type 0 where
+    pub same_keys : keys server.clients ≡ members answers settings q
+    pub stand : StandAll answer answers server.clients (λ c. slate answers settings c q)
+    pub used : (c : ℕ) → contains nat_cmp server.used c ≡ not (is_unused (slate answers settings c q).phase)
+    pub dgram : server.dgram ≡ settings.dgram
+
+  -- whatever the settings and the events before, e is answered as it is to be
+  abbrev pub Goes : Server W R F → Server W R F → Event → List Output → Type 0
+  Goes old new e outs = (settings : Settings) (q : List Event) → Serves settings q old → (outs ≡ gained answers settings q e) × Serves settings (q ++ e ∷ []) new

@@ -1,0 +1,135 @@
+//! The server over a list of events.
+
+ghost use Rattle.std.specs.Prelude.{◌≡◌, ℕ, List, [], false, IfOk};
+ghost use Rattle.dns_service.specs.Answer.{Answer};
+ghost use Rattle.dns_service.specs.Req.{Req};
+ghost use Rattle.dns_service.specs.Config.{Dgram};
+ghost use Rattle.dns_client.specs.PolledAt.{request_answer};
+ghost use Rattle.dns_core.specs.Out.{begins, out};
+ghost use Rattle.dns_core.specs.Replies.{replies};
+ghost use Rattle.dns_core.specs.Early.{IsEarly};
+
+use crate::clients::{append, step_at};
+use crate::notify::Notifiable;
+use crate::settings::Settings;
+use crate::stamped::Stamped;
+use dns_base::SocketAddr;
+use dns_client::ClientCore;
+use dns_service::{DgramConfig, Event, EventKind, OutOfMemory, Output, Plainly, Served, Service};
+use std::alloc::Global;
+use std::collections::{BTreeMap, BTreeSet};
+
+/// The cores of all clients, and the numbers that were used.
+#[derive(Drop)]
+pub struct Server<W: Served> {
+    clients: BTreeMap<u64, ClientCore<W>>,
+    used: BTreeSet<u64>,
+    dgram: DgramConfig,
+}
+
+impl<W: Served> Server<W> {
+    ghost use Rattle.dns_core.specs.Server.{Serves, Goes};
+
+    fn new(alloc: Global, settings: &Settings) -> Self
+        ensures { (answers : Req (Unit {0}) → ℕ → Answer) → Serves (request_answer W.Future.answer W.Stream.answer) answers settings.now [] result }
+    {
+        Server {
+            clients: BTreeMap::new(alloc),
+            used: BTreeSet::new(alloc),
+            dgram: settings.dgram,
+        }
+    }
+
+    /// An event of a client that is there, or of none.
+    fn own(&mut self, alloc: Global, service: &W, event: &Event) -> Result<Vec<Output>, OutOfMemory>
+        requires can_call { W.can_call service.now }
+        requires begins { begins event.now.kind ≡ false }
+        ensures { IfOk result (λ outs. Goes (request_answer W.Future.answer W.Stream.answer) (W.answer service.now) self.old self.new event.now outs.items) }
+    {
+        let outs = step_at(alloc, service, &mut self.clients, event)?;
+        Ok(outs)
+    }
+
+    /// An exchange begins, unless its number is used.
+    fn datagram(
+        &mut self,
+        alloc: Global,
+        service: &W,
+        event: &Event,
+        addr: SocketAddr,
+        octets: &[u8],
+    ) -> Result<Vec<Output>, OutOfMemory>
+        requires can_call { W.can_call service.now }
+        requires kind { event.now.kind ≡ EventKind.Datagram addr octets.now }
+        ensures { IfOk result (λ outs. Goes (request_answer W.Future.answer W.Stream.answer) (W.answer service.now) self.old self.new event.now outs.items) }
+    {
+        let client = event.client;
+        if self.used.contains(&client) {
+            return Ok(Vec::new(alloc));
+        }
+        let (core, outs) = ClientCore::datagram(
+            alloc,
+            service,
+            client,
+            addr,
+            event.at,
+            event.secs,
+            octets,
+            &self.dgram,
+        )?;
+        self.clients.insert(client, core)?;
+        self.used.insert(client)?;
+        Ok(outs)
+    }
+
+    /// One event of any kind.
+    fn one(&mut self, alloc: Global, service: &W, event: &Event) -> Result<Vec<Output>, OutOfMemory>
+        requires { W.can_call service.now }
+        ensures { IfOk result (λ outs. Goes (request_answer W.Future.answer W.Stream.answer) (W.answer service.now) self.old self.new event.now outs.items) }
+    {
+        match &event.kind {
+            EventKind::Datagram { addr, octets } => {
+                self.datagram(alloc, service, event, *addr, octets.as_slice())
+            }
+            EventKind::Turn { .. } => self.own(alloc, service, event),
+        }
+    }
+}
+
+/// What all clients of a service are sent.
+pub fn serve<W: Served>(
+    alloc: Global,
+    settings: &Settings,
+    service: &W,
+    events: &[Event],
+) -> Result<Vec<Output>, OutOfMemory>
+    requires { W.can_call service.now }
+    ensures { IfOk result (λ outs. outs.items ≡ out (W.answer service.now) settings.now events.now) }
+{
+    let mut server = Server::new(alloc, settings);
+    let mut outs = Vec::new(alloc);
+    for event in events {
+        let more = server.one(alloc, service, event)?;
+        append(&mut outs, more)?;
+    }
+    Ok(outs)
+}
+
+/// What all clients are sent. The wrapped service gives the given one's replies, each with the identifier and the RD
+/// flag of its request and with QR.
+pub fn serve_events<S: Service<()>, N: Notifiable>(
+    alloc: Global,
+    settings: &Settings,
+    service: S,
+    _target: N,
+    events: &[Event],
+) -> Result<Vec<Output>, OutOfMemory>
+    requires can_call { S.can_call service }
+    requires early { IsEarly settings.now events.now }
+    ensures { IfOk result (λ outs. outs.items ≡ out (replies (S.answer service)) settings.now events.now) }
+{
+    let wrapped = Plainly {
+        service: Stamped { service },
+    };
+    serve(alloc, settings, &wrapped, events)
+}

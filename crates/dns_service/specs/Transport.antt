@@ -1,0 +1,14 @@
+-- The transport of a request: a datagram, with or without a hint of the largest response in octets, or a stream.
+use Rattle.std.specs.Prelude.{ℕ, Option, None}
+use Rattle.dns_service.specs.declared.message.TransportSpecificContext.{TransportSpecificContext}
+use Rattle.dns_service.specs.declared.message.TransportSpecificContext.TheVariants.{Udp, NonUdp}
+
+-- the hint of a request's transport: a stream has none
+abbrev pub hint_of : TransportSpecificContext → Option ℕ
+hint_of (Udp hint) = hint
+hint_of (NonUdp timeout) = None
+
+-- a transport with another hint: a stream has none
+abbrev pub hinted : Option ℕ → TransportSpecificContext → TransportSpecificContext
+hinted hint (Udp before) = Udp hint
+hinted hint (NonUdp timeout) = NonUdp timeout

@@ -1,0 +1,243 @@
+//! Requests and their transports.
+
+ghost use Rattle.std.specs.Prelude.{◌≡◌, ◌+◌, ◌<◌, ◌^◌, min, IfOk, true, false, IsTrue, ◌↔◌};
+ghost use Rattle.std.specs.Arc.{arc_value};
+ghost use Rattle.dns_service.specs.Req.{with_metadata};
+
+use dns_base::Message;
+use dns_name::{OutOfMemory, SocketAddr};
+use std::alloc::Global;
+use std::marker::Model;
+use std::sync::Arc;
+
+/// What is known of a request that came in a datagram.
+#[derive(Clone, Debug, Drop, PartialEq, Eq)]
+pub struct UdpTransportContext {
+    max_response_size_hint: Option<u16>,
+}
+
+impl Model for UdpTransportContext {
+    ghost use Rattle.std.specs.Prelude.{Option, ℕ};
+
+    ghost Value = { Option ℕ };
+
+    ghost view = { λ c. c.max_response_size_hint };
+
+    ghost inverse = { λ hint. record { max_response_size_hint = hint } };
+}
+
+impl UdpTransportContext {
+    /// A context with a hint of the largest response in octets, or with none.
+    pub fn new(max_response_size_hint: Option<u16>) -> Self
+        ensures { result ≡ max_response_size_hint }
+    {
+        UdpTransportContext {
+            max_response_size_hint,
+        }
+    }
+
+    /// The hint in octets.
+    pub fn max_response_size_hint(&self) -> Option<u16>
+        ensures { result ≡ self.now }
+    {
+        self.max_response_size_hint
+    }
+
+    pub fn set_max_response_size_hint(&mut self, max_response_size_hint: Option<u16>)
+        ensures { self.new ≡ max_response_size_hint }
+    {
+        self.max_response_size_hint = max_response_size_hint;
+    }
+}
+
+/// What is known of a request that came over a stream.
+#[derive(Clone, Copy, Debug, PartialEq, Eq)]
+pub struct NonUdpTransportContext {
+    idle_timeout: Option<u64>,
+}
+
+impl Model for NonUdpTransportContext {
+    ghost use Rattle.std.specs.Prelude.{Option, ℕ};
+
+    ghost Value = { Option ℕ };
+
+    ghost view = { λ c. c.idle_timeout };
+
+    ghost inverse = { λ timeout. record { idle_timeout = timeout } };
+}
+
+impl NonUdpTransportContext {
+    /// A context with the connection's idle timeout in ms, or with none.
+    pub fn new(idle_timeout: Option<u64>) -> Self
+        ensures { result ≡ idle_timeout }
+    {
+        NonUdpTransportContext { idle_timeout }
+    }
+
+    /// The idle timeout in ms (RFC 7828, section 3).
+    pub fn idle_timeout(&self) -> Option<u64>
+        ensures { result ≡ self.now }
+    {
+        self.idle_timeout
+    }
+}
+
+/// How a request came.
+#[derive(Clone, Debug, Drop, PartialEq, Eq)]
+pub enum TransportSpecificContext {
+    Udp(UdpTransportContext),
+    NonUdp(NonUdpTransportContext),
+}
+
+/// A message with its sender, its moment in ms, its seconds, its transport and metadata.
+#[derive(Drop)]
+pub struct Request<Meta> {
+    client_addr: SocketAddr,
+    received_at: u64,
+    received_secs: u64,
+    message: Arc<Message>,
+    transport_ctx: TransportSpecificContext,
+    num_reserved_bytes: u16,
+    metadata: Meta,
+}
+
+impl<Meta> Model for Request<Meta> {
+    ghost use Rattle.std.specs.Arc.{arc_value};
+    ghost use Rattle.dns_service.specs.Req.{Req};
+
+    ghost Value = { Req Meta };
+
+    ghost view = { λ r. record {
+      octets = arc_value r.message;
+      client_addr = r.client_addr;
+      received_at = r.received_at;
+      received_secs = r.received_secs;
+      transport = r.transport_ctx;
+      reserved = r.num_reserved_bytes;
+      metadata = r.metadata;
+    } };
+}
+
+impl<Meta> Request<Meta> {
+    /// A request with no reserved octets.
+    pub fn new(
+        alloc: Global,
+        client_addr: SocketAddr,
+        received_at: u64,
+        received_secs: u64,
+        message: Message,
+        transport_ctx: TransportSpecificContext,
+        metadata: Meta,
+    ) -> Result<Self, OutOfMemory>
+    where
+        Meta: Drop,
+        ensures { IfOk result (λ r. r ≡ record {
+          octets = message;
+          client_addr = client_addr;
+          received_at = received_at;
+          received_secs = received_secs;
+          transport = transport_ctx;
+          reserved = 0;
+          metadata = metadata;
+        }) }
+    {
+        let message = Arc::new(alloc, message)?;
+        Ok(Request {
+            client_addr,
+            received_at,
+            received_secs,
+            message,
+            transport_ctx,
+            num_reserved_bytes: 0,
+            metadata,
+        })
+    }
+
+    /// The moment in ms.
+    pub fn received_at(&self) -> u64
+        ensures { result ≡ self.now.received_at }
+    {
+        self.received_at
+    }
+
+    /// The seconds.
+    pub fn received_secs(&self) -> u64
+        ensures { result ≡ self.now.received_secs }
+    {
+        self.received_secs
+    }
+
+    pub fn transport_ctx(&self) -> &TransportSpecificContext
+        ensures { result.now ≡ self.now.transport }
+    {
+        &self.transport_ctx
+    }
+
+    pub fn client_addr(&self) -> SocketAddr
+        ensures { result ≡ self.now.client_addr }
+    {
+        self.client_addr
+    }
+
+    pub fn message(&self) -> &Arc<Message>
+        ensures { arc_value result.now ≡ self.now.octets }
+    {
+        &self.message
+    }
+
+    /// Keeps so many octets more of the response free, 65,535 at most.
+    pub fn reserve_bytes(&mut self, bytes: u16)
+        ensures { self.new ≡ record self.old { reserved = min (self.old.reserved + bytes) 65535 } }
+    {
+        self.num_reserved_bytes = self.num_reserved_bytes.saturating_add(bytes);
+    }
+
+    /// How many octets of the response are to be left free.
+    pub fn num_reserved_bytes(&self) -> u16
+        ensures { result ≡ self.now.reserved }
+    {
+        self.num_reserved_bytes
+    }
+
+    /// The same request with other metadata.
+    pub fn with_new_metadata<M>(self, metadata: M) -> Request<M>
+    where
+        Meta: Drop,
+        ensures { result ≡ with_metadata self metadata }
+    {
+        Request {
+            client_addr: self.client_addr,
+            received_at: self.received_at,
+            received_secs: self.received_secs,
+            message: self.message,
+            transport_ctx: self.transport_ctx,
+            num_reserved_bytes: self.num_reserved_bytes,
+            metadata,
+        }
+    }
+
+    /// A copy with other metadata. The message is shared.
+    pub fn try_clone<M>(&self, alloc: Global, metadata: M) -> Result<Request<M>, OutOfMemory>
+    where
+        M: Drop,
+        ensures { IfOk result (λ r. r ≡ with_metadata self.now metadata) }
+    {
+        let message = Arc::try_clone(&self.message)?;
+        let transport_ctx = self.transport_ctx.clone()?;
+        Ok(Request {
+            client_addr: self.client_addr,
+            received_at: self.received_at,
+            received_secs: self.received_secs,
+            message,
+            transport_ctx,
+            num_reserved_bytes: self.num_reserved_bytes,
+            metadata,
+        })
+    }
+
+    pub fn metadata(&self) -> &Meta
+        ensures { result.now ≡ self.now.metadata }
+    {
+        &self.metadata
+    }
+}
