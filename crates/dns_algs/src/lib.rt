@@ -11,3 +11,6 @@ pub use algsig::{
 };
 pub use iter::SecurityAlgorithmIter;
 pub use owned::Understood;
+
+#[cfg(test)]
+mod tests;

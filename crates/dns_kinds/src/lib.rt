@@ -16,3 +16,6 @@ pub use exterr::ExtendedErrorRef;
 pub use exterr_owned::ExtendedError;
 pub use keepalive::{FromDurationError, IdleTimeout, TcpKeepalive};
 pub use subnet::ClientSubnet;
+
+#[cfg(test)]
+mod tests;

@@ -17,3 +17,6 @@ pub use octets_kind::{
 pub use octets_owned::Plain;
 pub use unknown::UnknownOptDataRef;
 pub use unknown_owned::UnknownOptData;
+
+#[cfg(test)]
+mod tests;
