@@ -1,8 +1,8 @@
 -- Steps of the iterators.
-use Rattle.std.proofs.Common.{map, ◌≡◌, ℕ, zero, suc, ◌-◌, ◌<◌, List, [], ◌∷◌, Some, None, Result, Ok, Err, refl, ap, sym, arith, ◌∙◌}
+use Rattle.std.proofs.Common.{◌≡◌, ℕ, zero, suc, ◌-◌, ◌<◌, List, [], ◌∷◌, Some, None, Result, Ok, Err, refl, ap, sym, arith, ◌∙◌}
 use Rattle.dns_name.specs.declared.error.ParseError.{ParseError}
 use Rattle.dns_name.specs.Place.{Read}
-use Rattle.dns_base.specs.Sections.{Items, by_item, items_from, all_of, by_next, to_come, first_of, end_next, ends_at, items_behind, number_of, field, questions_of, answers_of, authority_of, additional_of, standing_answers, standing_authority, standing_additional}
+use Rattle.dns_base.specs.Sections.{Items, by_item, items_from, all_of, by_next, to_come, first_of, end_next, ends_at, items_behind, field, questions_of, answers_of, authority_of, additional_of, standing_answers, standing_authority, standing_additional, SameRecords}
 use Rattle.dns_base.specs.Msg.{ResourceRecord}
 use Rattle.dns_base.specs.Read.{◌>>=◌}
 use Rattle.dns_base.specs.Standing.{Standing, standing_at, record_at}
@@ -62,21 +62,18 @@ all_ended one (suc k) at = ended one k (one at) (all_ended one k)
 abbrev plainly : Read Standing → Read ResourceRecord
 plainly r = r >>= (λ s. Ok (s.0.resource, s.1))
 
-abbrev SameRecords : Items Standing → Items ResourceRecord → Type 0
-SameRecords i j = (map (λ (s : Standing). s.resource) i.0 ≡ j.0) × (i.1 ≡ j.1)
-
 same_item : (f : ℕ → Items Standing) (g : ℕ → Items ResourceRecord) (r : Read Standing) → ((at : ℕ) → SameRecords (f at) (g at)) → SameRecords (by_item f r) (by_item g (plainly r))
-same_item f g (Ok x) h = let i = h x.1 in (ap (λ t. x.0.resource ∷ t) i.0, i.1)
-same_item f g (Err e) h = (refl, refl)
+same_item f g (Ok x) h = let i = h x.1 in record { items = ap (λ t. x.0.resource ∷ t) i.items; end = i.end }
+same_item f g (Err e) h = record { items = refl; end = refl }
 
 same_items : (o : List ℕ) (k at : ℕ) → SameRecords (items_from (standing_at o) k at) (items_from (record_at o) k at)
 unfolding record_at
-same_items o zero at = (refl, refl)
+same_items o zero at = record { items = refl; end = refl }
 same_items o (suc k) at = same_item (items_from (standing_at o) k) (items_from (record_at o) k) (standing_at o at) (same_items o k)
 
 same_behind : (o : List ℕ) (n : ℕ) (end : Result ℕ ParseError) → SameRecords (items_behind (standing_at o) n end) (items_behind (record_at o) n end)
 same_behind o n (Ok at) = same_items o n at
-same_behind o n (Err e) = (refl, refl)
+same_behind o n (Err e) = record { items = refl; end = refl }
 
 pub same_answers : (o : List ℕ) → SameRecords (standing_answers o) (answers_of o)
 unfolding answers_of
@@ -92,4 +89,4 @@ same_additional o = same_behind o (field 10 o) (authority_of o).1
 
 -- where a section of records ends
 pub behind_ended : (o : List ℕ) (n at : ℕ) → ends_at (standing_at o) n at ≡ (items_from (record_at o) n at).1
-behind_ended o n at = all_ended (standing_at o) n at ∙ (same_items o n at).1
+behind_ended o n at = all_ended (standing_at o) n at ∙ (same_items o n at).end

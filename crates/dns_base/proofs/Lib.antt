@@ -4,3 +4,4 @@ pub mod Pushed
 pub mod Copied
 pub mod Plains
 pub mod OptionLaws
+pub mod Rewound

@@ -1,4 +1,5 @@
 pub mod Header
+pub mod PushErrors
 pub mod Msg
 pub mod Wire
 pub mod Read

@@ -1,5 +1,5 @@
 -- Option lists, the data of an OPT record (RFC 6891, section 6.1.2): code, length and data of each option, one behind another.
-use Rattle.std.specs.Prelude.{◌≡◌, ℕ, zero, suc, ◌+◌, ◌/◌, ◌%◌, true, List, [], ◌∷◌, length, take, drop, Option, Some, None, Result, Ok, Err, option_map, is_some, nat_lt, nat_le, if◌then◌else◌}
+use Rattle.std.specs.Prelude.{◌≡◌, ℕ, zero, suc, ◌/◌, ◌%◌, true, List, [], ◌∷◌, length, take, drop, Option, Some, None, Result, Ok, Err, option_map, is_some, nat_lt, nat_le, if◌then◌else◌}
 use Rattle.dns_name.specs.declared.error.ParseError.{ParseError}
 use Rattle.dns_name.specs.declared.error.ParseError.TheVariants.{ShortInput, Form}
 use Rattle.dns_name.specs.declared.error.FormReason.TheVariants.{LongList}

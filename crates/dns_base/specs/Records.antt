@@ -1,5 +1,5 @@
 -- Records whose data has the shape of its type (RFC 1035, section 3.3; RFC 3596, section 2.2; RFC 2782; RFC 6672; RFC 6891, section 6.1.2).
-use Rattle.std.specs.Prelude.{ℕ, ◌≡◌, ◌≤◌, ◌+◌, Bool, true, false, List, [], ◌∷◌, ◌++◌, length, nat_eq, nat_lt, if◌then◌else◌, Option, Some, None, is_some}
+use Rattle.std.specs.Prelude.{ℕ, ◌≡◌, ◌≤◌, Bool, true, false, List, ◌++◌, length, nat_eq, nat_lt, if◌then◌else◌, Option, Some, None, is_some}
 use Rattle.dns_name.specs.Place.{two, four}
 use Rattle.dns_name.specs.Labels.{spell}
 use Rattle.dns_base.specs.declared.rdata.Shape.{Shape}

@@ -1,5 +1,5 @@
 -- The four sections of a message (RFC 1035, section 4.1): the items of each up to the first unreadable one.
-use Rattle.std.specs.Prelude.{ℕ, zero, suc, List, [], ◌∷◌, ◌++◌, drop, map, Option, Some, None, Result, Ok, Err}
+use Rattle.std.specs.Prelude.{ℕ, ◌≡◌, zero, suc, List, [], ◌∷◌, ◌++◌, drop, map, Option, Some, None, Result, Ok, Err}
 use Rattle.dns_name.specs.declared.error.ParseError.{ParseError}
 use Rattle.dns_name.specs.Place.{Read, be16}
 use Rattle.dns_base.specs.declared.question.Question.{Question}
@@ -66,6 +66,11 @@ standing_additional o = items_behind (standing_at o) (field 10 o) (authority_of 
 -- the message that octets are, as far as it is readable
 unfoldable pub message_of : List ℕ → Msg
 message_of o = record { header = header_of o; questions = (questions_of o).0; answers = (answers_of o).0; authority = (authority_of o).0; additional = (additional_of o).0 }
+
+-- the same records, each as it stands or with its data as octets, and the same end
+pub record SameRecords (i : Items Standing) (j : Items ResourceRecord) : Type 0 where
+  pub items : map (λ (s : Standing). s.resource) i.0 ≡ j.0
+  pub end : i.1 ≡ j.1
 
 -- what an iterator over a section gives: its items, and then the refusal of the first unreadable one
 abbrev pub all_of : {A : Type 0} → Items A → List (Result A ParseError)

@@ -1,5 +1,5 @@
 -- A record as it stands in a message (RFC 1035, section 4.1.3), and its data read by the shape of its type, pointers followed.
-use Rattle.std.specs.Prelude.{ℕ, ◌≡◌, ◌+◌, ◌*◌, List, [], ◌∷◌, length, take, drop, nat_lt, if◌then◌else◌, Result, Ok, Err, is_some}
+use Rattle.std.specs.Prelude.{ℕ, ◌≡◌, List, take, drop, nat_lt, if◌then◌else◌, Result, Ok, Err, is_some}
 use Rattle.dns_name.specs.declared.error.ParseError.{ParseError}
 use Rattle.dns_name.specs.declared.error.ParseError.TheVariants.{ShortInput, Form, OutOfMemory as NoMemory}
 use Rattle.dns_name.specs.declared.error.FormReason.TheVariants.{Shape as OtherShape}

@@ -28,7 +28,7 @@ pub use dns_name::{
 };
 pub use error::PushError;
 pub use header::{Header, HeaderCounts};
-pub use laws::{messages_read_back, plain_queries_ask_once};
+pub use laws::{messages_read_back, plain_queries_ask_once, records_stand};
 pub use message::{Message, MessageRef};
 pub use option_list::{first_option, is_option_list};
 pub use plain::is_plain;

@@ -35,6 +35,7 @@ impl Record {
         requires { IsLawful self.now.rdata }
         ensures value { result ≡ length (record_octets (record_of self.now)) }
         ensures named { HasOwner (record_of self.now) }
+        ensures short { result ≤ 65800 }
     {
         self.owner.as_slice().len() + 10 + self.rdata.size()
     }

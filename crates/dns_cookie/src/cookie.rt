@@ -1,6 +1,6 @@
 //! Cookies as clients send them and servers answer them (RFC 7873, section 4).
 
-ghost use Rattle.std.specs.Prelude.{length, true, ◌≡◌, Some};
+ghost use Rattle.std.specs.Prelude.{length, true, OnOk, OnErr, ◌++◌, ◌≡◌, Some};
 ghost use Rattle.std.specs.Option.{option_copied};
 ghost use Rattle.dns_name.specs.OptData.{ParsesData, for_code};
 ghost use Rattle.dns_name.specs.Place.{rest};
@@ -163,10 +163,18 @@ impl ComposeOptData for Cookie {
         }
     }
 
-    fn compose_option(&self, alloc: Global, target: &mut Vec<u8>) -> Result<(), OutOfMemory> {
+    /// Appends the octets to `target`, which is left as it was where memory is wanting.
+    fn compose_option(&self, alloc: Global, target: &mut Vec<u8>) -> Result<(), OutOfMemory>
+        ensures ok { OnOk result (target.new.items ≡ target.old.items ++ cookie_octets self.now) }
+        ensures err { OnErr result (target.new.items ≡ target.old.items) }
+    {
+        let len = target.len();
         self.client.compose(alloc, target)?;
         if let Some(server) = &self.server {
-            server.compose(alloc, target)?;
+            if let Err(e) = server.compose(alloc, target) {
+                target.truncate(len);
+                return Err(e);
+            }
         }
         Ok(())
     }

@@ -43,6 +43,7 @@ impl StandardServerCookie {
     ) -> StandardServerCookie
         ensures { result ≡ octets_before version reserved timestamp.0 ++ hash }
     {
+        // the version stands first, and the other octets are written over
         let mut octets = [version; 16];
         put(&mut octets, 1, &reserved);
         put(&mut octets, 4, &timestamp.into_int().to_be_bytes());

@@ -1,4 +1,5 @@
 pub mod Place
+pub mod Serials
 pub mod Labels
 pub mod Names
 pub mod Grammar

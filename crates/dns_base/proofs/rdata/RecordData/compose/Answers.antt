@@ -1,5 +1,4 @@
 use Rattle.std.proofs.Common.{◌≡◌, ℕ, List, ◌++◌, ap, ◌∙◌, append_assoc}
-use Rattle.dns_base.specs.Records.{data_octets}
 use Rattle.dns_base.proofs.rdata.RecordData.compose.Goals as goal
 
 joined : (t u v w x y z : List ℕ) → u ≡ t ++ x → v ≡ u ++ y → w ≡ v ++ z → w ≡ t ++ (x ++ (y ++ z))
