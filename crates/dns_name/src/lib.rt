@@ -21,9 +21,7 @@ mod ttl;
 
 pub use address::{Addrs, IpAddr, SocketAddr};
 pub use error::{FormReason, OutOfMemory, ParseError};
-pub use iana::{
-    Class, ExtendedErrorCode, Opcode, OptRcode, OptionCode, Rcode, Rtype, SecurityAlgorithm,
-};
+pub use iana::{Class, ExtendedErrorCode, Opcode, OptionCode, Rcode, Rtype, SecurityAlgorithm};
 pub use labels::Labels;
 pub use laws::names_are_the_grammar;
 pub use name::{Name, NameRef};
