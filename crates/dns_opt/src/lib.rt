@@ -2,12 +2,20 @@
 #![tactic(auto)]
 
 mod all;
+mod build_opt;
+mod builder;
+mod builder_kinds;
 mod getters;
+mod header;
 mod iter;
 mod list;
+mod message_opt;
 mod opt;
+mod record;
 
 pub use all::AllOptData;
+pub use build_opt::BuildOpt;
+pub use builder::OptBuilder;
 pub use dns_algs::{
     Dau, DauRef, Dhu, DhuRef, N3u, N3uRef, SecurityAlgorithmIter, Understood, UnderstoodRef,
 };
@@ -21,6 +29,12 @@ pub use dns_lists::{
     UnknownOptDataRef,
 };
 pub use dns_name::{BuildDataError, ComposeOptData, LongOptData, OptData, ParseOptData, ReadBack};
+pub use header::{OptHeader, OptionHeader};
 pub use iter::OptIter;
 pub use list::OptRef;
+pub use message_opt::MessageOpt;
 pub use opt::Opt;
+pub use record::{OptRecord, OptRecordRef};
+
+#[cfg(test)]
+mod tests;

@@ -36,7 +36,7 @@ fn header(alloc: Global, code: u16, len: u16) -> Result<Vec<u8>, OutOfMemory>
 }
 
 /// What a writer writes to an empty vector.
-fn written_by<F: FnOnce(Global, &mut Vec<u8>) -> Result<(), OutOfMemory>>(
+pub(crate) fn written_by<F: FnOnce(Global, &mut Vec<u8>) -> Result<(), OutOfMemory>>(
     alloc: Global,
     write: F,
 ) -> Result<Vec<u8>, OutOfMemory>
