@@ -25,7 +25,7 @@ impl Model for AdditionalBuilder {
 
     ghost view = { λ b. record { message = bare b.header; limit = b.limit } };
 
-    ghost invariant = { λ b. b.octets.items ≡ wire (bare b.header) };
+    ghost invariant = { λ b. (b.octets.items ≡ wire (bare b.header)) × (length b.octets.items ≤ 65535) };
 }
 
 impl AdditionalBuilder {
@@ -39,6 +39,7 @@ impl AdditionalBuilder {
     /// The message's octets.
     pub fn as_slice(&self) -> &[u8]
         ensures value { result.now ≡ wire self.now.message }
+        ensures short { length result.now ≤ 65535 }
     {
         self.octets.as_slice()
     }
