@@ -1,5 +1,5 @@
--- The header of a message (RFC 1035, section 4.1.1): an identifier of 16 bits, and two octets of flags and codes.
-use Rattle.std.specs.Prelude.{ℕ, ◌+◌, ◌*◌, ◌/◌, ◌%◌, ◌<◌, ◌==◌, Bool, true, false, List, [], ◌∷◌, if◌then◌else◌}
+-- The header of a message (RFC 1035, section 4.1.1; RFC 4035, section 3.2, for AD and CD): an identifier of 16 bits, and two octets of flags and codes.
+use Rattle.std.specs.Prelude.{ℕ, ◌+◌, ◌*◌, ◌/◌, ◌%◌, ◌<◌, ◌==◌, Bool, List, [], ◌∷◌, if◌then◌else◌}
 use Rattle.dns_base.specs.declared.header.Header.{Header}
 
 -- a flag as a bit
@@ -12,11 +12,11 @@ low_bit n = n % 2 == 1
 
 -- QR, four bits of opcode, AA, TC, RD
 abbrev pub upper_flags : Header → ℕ
-upper_flags h = bit h.rd + 2 * (bit h.tc + 2 * (bit h.aa + 2 * (h.opcode + 16 * bit h.qr)))
+upper_flags h = 128 * bit h.qr + 8 * h.opcode + 4 * bit h.aa + 2 * bit h.tc + bit h.rd
 
 -- RA, Z, AD, CD, four bits of response code
 abbrev pub lower_flags : Header → ℕ
-lower_flags h = h.rcode + 16 * (bit h.cd + 2 * (bit h.ad + 2 * (bit h.z + 2 * bit h.ra)))
+lower_flags h = 128 * bit h.ra + 64 * bit h.z + 32 * bit h.ad + 16 * bit h.cd + h.rcode
 
 -- the four octets of a header
 abbrev pub header_octets : Header → List ℕ
@@ -26,14 +26,14 @@ header_octets h = h.id / 256 ∷ h.id % 256 ∷ upper_flags h ∷ lower_flags h 
 abbrev pub header_in : ℕ → ℕ → ℕ → ℕ → Header
 header_in a b c d = record {
   id = 256 * a + b;
-  qr = low_bit (c / 2 / 2 / 2 / 16);
-  opcode = c / 2 / 2 / 2 % 16;
-  aa = low_bit (c / 2 / 2);
+  qr = low_bit (c / 128);
+  opcode = c / 8 % 16;
+  aa = low_bit (c / 4);
   tc = low_bit (c / 2);
   rd = low_bit c;
-  ra = low_bit (d / 16 / 2 / 2 / 2);
-  z = low_bit (d / 16 / 2 / 2);
-  ad = low_bit (d / 16 / 2);
+  ra = low_bit (d / 128);
+  z = low_bit (d / 64);
+  ad = low_bit (d / 32);
   cd = low_bit (d / 16);
   rcode = d % 16;
 }

@@ -1,5 +1,9 @@
 pub mod Header
 pub mod Msg
 pub mod Wire
+pub mod Read
+pub mod Sections
 pub mod Built
-pub mod Bare
+pub mod Draft
+pub mod Replies
+pub mod Plain

@@ -1,20 +1,11 @@
 -- How a message is written (RFC 1035, section 4.1): header, counts, questions and records, names uncompressed.
-use Rattle.std.specs.Prelude.{ℕ, ◌+◌, ◌/◌, ◌%◌, List, [], ◌∷◌, ◌++◌, length}
+use Rattle.std.specs.Prelude.{ℕ, List, ◌++◌, length}
 use Rattle.std.specs.List.{flat_map}
+use Rattle.dns_name.specs.Place.{two, four}
+use Rattle.dns_name.specs.Labels.{spell}
 use Rattle.dns_base.specs.declared.question.Question.{Question}
 use Rattle.dns_base.specs.Header.{header_octets}
 use Rattle.dns_base.specs.Msg.{Msg, ResourceRecord}
-
-abbrev pub two : ℕ → List ℕ
-two n = n / 256 ∷ n % 256 ∷ []
-
-abbrev pub four : ℕ → List ℕ
-four n = two (n / 65536) ++ two (n % 65536)
-
--- a name as octets: each label behind its length, and the root (RFC 1035, section 3.1)
-abbrev pub spell : List (List ℕ) → List ℕ
-spell [] = 0 ∷ []
-spell (l ∷ ls) = length l ∷ (l ++ spell ls)
 
 abbrev pub question_octets : Question → List ℕ
 question_octets q = spell q.qname ++ (two q.qtype ++ two q.qclass)

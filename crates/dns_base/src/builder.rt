@@ -1,8 +1,12 @@
-//! Builders (stand-in).
+//! Builders of a message, one for each section that is built.
 
-ghost use Rattle.std.specs.Prelude.{◌≡◌, ◌≤◌, length, IfOk, [], ◌∷◌};
-ghost use Rattle.dns_base.specs.Wire.{wire};
+mod additional;
+mod answer;
+mod authority;
+mod message;
+mod question;
 
+<<<<<<< HEAD
 use crate::header::Header;
 use dns_name::OutOfMemory;
 use std::alloc::Global;
@@ -44,3 +48,10 @@ impl AdditionalBuilder {
         self.octets.as_slice()
     }
 }
+=======
+pub use additional::AdditionalBuilder;
+pub use answer::AnswerBuilder;
+pub use authority::AuthorityBuilder;
+pub use message::MessageBuilder;
+pub use question::QuestionBuilder;
+>>>>>>> main

@@ -1,11 +1,15 @@
 //! Messages as they come.
 
-ghost use Rattle.std.specs.Prelude.{◌≡◌, ◌≤◌, ◌<◌, length, MatchResult};
+ghost use Rattle.std.specs.Prelude.{◌≡◌, ◌≤◌, ◌<◌, length, IfOk, IsOk, MatchResult};
+ghost use Rattle.dns_base.specs.Header.{header_of};
+ghost use Rattle.dns_base.specs.Sections.{all_of, counts_of, first_of, questions_of, answers_of, authority_of, additional_of};
 
+use crate::header::{Header, HeaderCounts, header_in, number_at};
+use crate::question::{QuestionIter, QuestionRef};
 use dns_name::ParseError;
 use std::marker::Model;
 
-/// A message's octets, at least a header.
+/// A message's octets, owned: at least a header.
 #[derive(Debug, Drop)]
 pub struct Message {
     octets: Vec<u8>,
@@ -21,8 +25,24 @@ impl Model for Message {
     ghost invariant = { λ m. 12 ≤ length m.octets.items };
 }
 
+/// A message's octets, borrowed: at least a header.
+#[derive(Debug, Drop)]
+pub struct MessageRef<'a> {
+    octets: &'a [u8],
+}
+
+impl<'a> Model for MessageRef<'a> {
+    ghost use Rattle.std.specs.Prelude.{List, ℕ, ◌≤◌, length};
+
+    ghost Value = { List ℕ };
+
+    ghost view = { λ m. m.octets.now };
+
+    ghost invariant = { λ m. 12 ≤ length m.octets.now };
+}
+
 impl Message {
-    /// Refused exactly below 12 octets.
+    /// Refused exactly below 12 octets. The vector is not copied.
     pub fn from_octets(octets: Vec<u8>) -> Result<Message, ParseError>
         ensures { MatchResult result (λ m. (m ≡ octets.items) × (12 ≤ length octets.items)) (λ e. (e ≡ ParseError.ShortInput) × (length octets.items < 12)) }
     {
@@ -39,4 +59,116 @@ impl Message {
     {
         self.octets.as_slice()
     }
+
+    /// The message, borrowed.
+    pub fn for_ref(&self) -> MessageRef<'_>
+        ensures value { result ≡ self.now }
+        ensures header { 12 ≤ length self.now }
+    {
+        MessageRef {
+            octets: self.octets.as_slice(),
+        }
+    }
+
+    /// The header.
+    pub fn header(&self) -> Header
+        ensures { result ≡ header_of self.now }
+    {
+        self.for_ref().header()
+    }
+
+    /// The numbers of items that the header states.
+    pub fn header_counts(&self) -> HeaderCounts
+        ensures { result ≡ counts_of self.now }
+    {
+        self.for_ref().header_counts()
+    }
+
+    /// The questions up to the first unreadable one, and then its refusal.
+    pub fn question(&self) -> QuestionIter<'_>
+        ensures { result ≡ all_of (questions_of self.now) }
+    {
+        self.for_ref().question()
+    }
+
+    /// The first question, none where there is none or it is unreadable.
+    pub fn first_question(&self) -> Option<QuestionRef<'_>>
+        ensures { result ≡ first_of (questions_of self.now).0 }
+    {
+        self.for_ref().first_question()
+    }
+}
+
+impl<'a> MessageRef<'a> {
+    /// Refused exactly below 12 octets.
+    pub fn from_slice(octets: &'a [u8]) -> Result<MessageRef<'a>, ParseError>
+        ensures { MatchResult result (λ m. (m ≡ octets.now) × (12 ≤ length octets.now)) (λ e. (e ≡ ParseError.ShortInput) × (length octets.now < 12)) }
+    {
+        if octets.len() < 12 {
+            return Err(ParseError::ShortInput);
+        }
+        Ok(MessageRef { octets })
+    }
+
+    /// The message that octets are.
+    pub(crate) fn of(octets: &'a [u8]) -> MessageRef<'a>
+        requires { 12 ≤ length octets.now }
+        ensures { result ≡ octets.now }
+    {
+        MessageRef { octets }
+    }
+
+    /// The message's octets.
+    pub fn as_slice(&self) -> &'a [u8]
+        ensures value { result.now ≡ self.now }
+        ensures header { 12 ≤ length result.now }
+    {
+        self.octets
+    }
+
+    /// The header.
+    pub fn header(&self) -> Header
+        ensures { result ≡ header_of self.now }
+    {
+        header_in(self.octets)
+    }
+
+    /// The numbers of items that the header states.
+    pub fn header_counts(&self) -> HeaderCounts
+        ensures { result ≡ counts_of self.now }
+    {
+        HeaderCounts {
+            qdcount: number_at(self.octets, 4),
+            ancount: number_at(self.octets, 6),
+            nscount: number_at(self.octets, 8),
+            arcount: number_at(self.octets, 10),
+        }
+    }
+
+    /// The questions up to the first unreadable one, and then its refusal.
+    pub fn question(&self) -> QuestionIter<'a>
+        ensures { result ≡ all_of (questions_of self.now) }
+    {
+        questions(self.octets)
+    }
+
+    /// The first question, none where there is none or it is unreadable.
+    #[tactic(auto, using(crate::proofs::Coming::first_here, crate::proofs::Coming::first_refused, crate::proofs::Coming::first_none))]
+    pub fn first_question(&self) -> Option<QuestionRef<'a>>
+        ensures { result ≡ first_of (questions_of self.now).0 }
+    {
+        let mut questions = self.question();
+        match questions.next() {
+            Some(Ok(question)) => Some(question),
+            _ => None,
+        }
+    }
+}
+
+#[tactic(auto, using(crate::proofs::Coming::all_come), unfolding(crate::specs::Sections::questions_of))]
+pub(crate) fn questions(message: &[u8]) -> QuestionIter<'_>
+    requires { 12 ≤ length message.now }
+    ensures { result ≡ all_of (questions_of message.now) }
+{
+    QuestionIter::of(message, 12, number_at(message, 4))
 }

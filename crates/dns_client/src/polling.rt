@@ -23,10 +23,7 @@ where
     R: ReplyStream,
 {
     /// Takes the next answer. A future that is ready is followed by the first poll of its stream.
-    pub fn poll_next(
-        &mut self,
-        alloc: Global,
-    ) -> Result<Polled<Option<ServiceResult>>, OutOfMemory>
+    pub fn poll_next(&mut self, alloc: Global) -> Result<Polled<Option<ServiceResult>>, OutOfMemory>
         ensures now { IfOk result (λ p. p ≡ request_answer F.answer R.answer self.old 0) }
         ensures later { OnOk result ((k : ℕ) → request_answer F.answer R.answer self.new k ≡ request_answer F.answer R.answer self.old (suc k)) }
     {

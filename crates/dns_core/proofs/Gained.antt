@@ -1,17 +1,16 @@
 -- What is sent for one event more, and who are members then.
-use Rattle.std.proofs.Common.{◌≡◌, ◌≢◌, ℕ, List, [], ◌∷◌, ◌++◌, Bool, true, false, refl, ap, sym, ◌∙◌, ◌<◌, ◌≤◌, arith}
-use Rattle.std.specs.Prelude.{nat_eq, nat_lt, if◌then◌else◌, ◌&&◌, ◌||◌, ◌==◌}
+use Rattle.std.proofs.Common.{◌≡◌, ◌≢◌, ℕ, List, [], ◌∷◌, ◌++◌, Bool, true, false, refl, ap, sym, ◌∙◌}
+use Rattle.std.specs.Prelude.{nat_eq, nat_lt, if◌then◌else◌, ◌||◌}
 use Rattle.std.specs.List.{list_any}
 use Rattle.std.proofs.lemmas.Bool.{eq-eqb, ne_eqb}
 use Rattle.dns_service.specs.Answer.{Answer}
 use Rattle.dns_service.specs.Req.{Req}
 use Rattle.dns_service.specs.declared.event.Event.{Event}
-use Rattle.dns_service.specs.declared.event.Output.{Output}
 use Rattle.dns_client.specs.Slate.{Slate}
 use Rattle.dns_client.specs.Rule.{rule}
 use Rattle.dns_core.specs.Own.{concerns}
 use Rattle.dns_core.specs.Sent.{slate}
-use Rattle.dns_core.specs.Out.{is_unused, begins, gain, is_new, members, put, gained}
+use Rattle.dns_core.specs.Out.{is_unused, begins, is_new, members, put, gained}
 use Rattle.dns_core.specs.declared.settings.Settings.{Settings}
 use Rattle.dns_core.proofs.OutLemmas.{slate_some, slate_none, gain_some, members_more}
 use Rattle.dns_core.proofs.Plain.{unused_kept}

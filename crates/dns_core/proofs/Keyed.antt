@@ -1,6 +1,6 @@
 -- Maps and sets of numbers.
-use Rattle.std.proofs.Common.{◌≡◌, ◌≢◌, ℕ, List, [], ◌∷◌, Option, Some, None, Bool, true, false, cond, refl, ap, sym, ◌∙◌, arith}
-use Rattle.std.specs.Prelude.{nat_eq, nat_lt, if◌then◌else◌, is_some, ◌||◌}
+use Rattle.std.proofs.Common.{◌≡◌, ◌≢◌, ℕ, List, [], ◌∷◌, Some, Bool, true, false, cond, refl, ◌∙◌, arith}
+use Rattle.std.specs.Prelude.{nat_eq, if◌then◌else◌, is_some, ◌||◌}
 use Rattle.std.specs.List.{list_any}
 use Rattle.std.specs.Map.{keys_of}
 use Rattle.std.specs.Ordering.{nat_cmp}

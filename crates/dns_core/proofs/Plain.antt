@@ -1,5 +1,5 @@
 -- A slate has the configurations of the settings, and an unused one has nothing else.
-use Rattle.std.proofs.Common.{◌≡◌, ℕ, List, [], ◌∷◌, ◌++◌, Bool, true, false, cond, refl, ap, sym, ◌∙◌, subst}
+use Rattle.std.proofs.Common.{◌≡◌, ℕ, List, [], ◌∷◌, Bool, true, false, cond, refl, ap, sym, ◌∙◌, subst}
 use Rattle.std.specs.Prelude.{Option, Some, None, slice_get, if◌then◌else◌}
 use Rattle.dns_name.specs.declared.address.SocketAddr.{SocketAddr}
 use Rattle.dns_service.specs.Answer.{Answer}

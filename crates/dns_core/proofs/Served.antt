@@ -8,11 +8,10 @@ use Rattle.std.specs.BTreeMap.{BTreeMap, get, keys, insert_entry}
 use Rattle.std.specs.BTreeSet.{BTreeSet, contains}
 use Rattle.std.proofs.lemmas.Bool.{cases_eq, eq-eqb, ne_eqb}
 use Rattle.dns_service.specs.Answer.{Answer}
-use Rattle.dns_service.specs.Config.{Dgram}
 use Rattle.dns_service.specs.Req.{Req}
 use Rattle.dns_service.specs.declared.event.Event.{Event}
 use Rattle.dns_service.specs.declared.event.Output.{Output}
-use Rattle.dns_client.specs.Slate.{Slate, Told, Conf, Unused, Exchange, IsUnused, fresh}
+use Rattle.dns_client.specs.Slate.{Slate, Told, Conf, IsUnused, fresh}
 use Rattle.dns_client.specs.Rule.{rule}
 use Rattle.dns_client.specs.Stands.{Stands}
 use Rattle.dns_client.specs.declared.client.ClientCore.{ClientCore}

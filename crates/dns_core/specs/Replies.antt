@@ -1,6 +1,6 @@
 -- The answers of the wrapped service: those of the given one, where each reply takes the identifier and the RD flag of its
 -- request, and the QR flag (RFC 1035, section 4.1.1).
-use Rattle.std.specs.Prelude.{ℕ, true, Ok, Err, Option}
+use Rattle.std.specs.Prelude.{ℕ, true, Ok, Err}
 use Rattle.std.specs.Option.{option_map}
 use Rattle.dns_base.specs.Header.{header_of}
 use Rattle.dns_base.specs.Msg.{Msg}

@@ -8,6 +8,7 @@ mod settings;
 mod stamped;
 
 pub use dns_client::{ClientCore, PolledRequest};
+pub use dns_service::{Event, EventKind, Octets, Output};
 pub use notify::{Notifiable, NotifyError, VerdictFuture};
 pub use server::serve_events;
 pub use settings::Settings;

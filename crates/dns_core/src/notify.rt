@@ -2,7 +2,7 @@
 
 ghost use Rattle.std.specs.Prelude.{◌≡◌, ℕ, suc, IfOk, OnOk, Option, Result, List};
 ghost use Rattle.std.specs.Arc.{arc_value};
-ghost use Rattle.dns_base.specs.declared.question.Name.{Name};
+ghost use Rattle.dns_name.specs.declared.name.Name.{Name};
 ghost use Rattle.dns_name.specs.declared.address.IpAddr.{IpAddr};
 ghost use Rattle.dns_name.specs.declared.iana.Class.{Class};
 ghost use Rattle.dns_name.specs.declared.serial.Serial.{Serial};

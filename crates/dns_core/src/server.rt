@@ -15,9 +15,7 @@ use crate::settings::Settings;
 use crate::stamped::Stamped;
 use dns_base::SocketAddr;
 use dns_client::ClientCore;
-use dns_service::{
-    DgramConfig, Event, EventKind, OutOfMemory, Output, Plainly, Served, Service,
-};
+use dns_service::{DgramConfig, Event, EventKind, OutOfMemory, Output, Plainly, Served, Service};
 use std::alloc::Global;
 use std::collections::{BTreeMap, BTreeSet};
 
@@ -43,12 +41,7 @@ impl<W: Served> Server<W> {
     }
 
     /// An event of a client that is there, or of none.
-    fn own(
-        &mut self,
-        alloc: Global,
-        service: &W,
-        event: &Event,
-    ) -> Result<Vec<Output>, OutOfMemory>
+    fn own(&mut self, alloc: Global, service: &W, event: &Event) -> Result<Vec<Output>, OutOfMemory>
         requires can_call { W.can_call service.now }
         requires begins { begins event.now.kind ≡ false }
         ensures { IfOk result (λ outs. Goes (request_answer W.Future.answer W.Stream.answer) (W.answer service.now) self.old self.new event.now outs.items) }
@@ -90,12 +83,7 @@ impl<W: Served> Server<W> {
     }
 
     /// One event of any kind.
-    fn one(
-        &mut self,
-        alloc: Global,
-        service: &W,
-        event: &Event,
-    ) -> Result<Vec<Output>, OutOfMemory>
+    fn one(&mut self, alloc: Global, service: &W, event: &Event) -> Result<Vec<Output>, OutOfMemory>
         requires { W.can_call service.now }
         ensures { IfOk result (λ outs. Goes (request_answer W.Future.answer W.Stream.answer) (W.answer service.now) self.old self.new event.now outs.items) }
     {

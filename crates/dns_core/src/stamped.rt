@@ -34,10 +34,13 @@ pub struct StampedStream<R> {
 fn stamp(header: Header, mut reply: AdditionalBuilder) -> AdditionalBuilder
     ensures { result ≡ record reply { message = stamped header reply.message } }
 {
-    let mut own = reply.header();
-    own.id = header.id;
-    own.rd = header.rd;
-    own.qr = true;
+    let own = reply.header();
+    let own = Header {
+        id: header.id,
+        rd: header.rd,
+        qr: true,
+        ..own
+    };
     reply.set_header(own);
     reply
 }
@@ -71,9 +74,7 @@ impl<R: ReplyStream> ReplyStream for StampedStream<R> {
         match self.stream.poll_next(alloc)? {
             Polled::Pending => Ok(Polled::Pending),
             Polled::Ready(None) => Ok(Polled::Ready(None)),
-            Polled::Ready(Some(item)) => {
-                Ok(Polled::Ready(Some(stamp_item(self.header, item))))
-            }
+            Polled::Ready(Some(item)) => { Ok(Polled::Ready(Some(stamp_item(self.header, item)))) }
         }
     }
 

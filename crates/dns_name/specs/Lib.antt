@@ -1,0 +1,4 @@
+pub mod Place
+pub mod Labels
+pub mod Names
+pub mod Grammar

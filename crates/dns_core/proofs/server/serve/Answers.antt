@@ -1,4 +1,4 @@
-use Rattle.std.proofs.Common.{◌≡◌, ◌+◌, ap, sym, ◌∙◌, List, ◌∷◌, ◌++◌, [], take, drop, length, ◌<◌, arith, add-one, drop-cons}
+use Rattle.std.proofs.Common.{◌≡◌, ◌+◌, ap, sym, ◌∙◌, ◌∷◌, ◌++◌, [], take, drop, length, ◌<◌, add-one, drop-cons}
 use Rattle.std.proofs.lemmas.List.{take_more}
 use Rattle.dns_service.specs.declared.event.Event.{Event}
 use Rattle.dns_core.specs.Out.{out, out_after}

@@ -1,4 +1,4 @@
-use Rattle.std.proofs.Common.{◌≡◌, ap, sym, ◌∙◌, false, refl}
+use Rattle.std.proofs.Common.{◌≡◌, ap, sym}
 use Rattle.dns_client.specs.Slate.{Slate, Told, Unused}
 use Rattle.dns_client.specs.PolledAt.{request_answer}
 use Rattle.dns_core.specs.Out.{begins, is_unused}
@@ -22,7 +22,7 @@ returns g c = λ settings q h.
     let p : s.phase ≡ Unused = ap (λ (t : Slate). t.phase) n.unused in
     let opens = ap (λ (t : Told). is_unused t.0.phase) (begun b e s c.args.addr c.args.octets.now c.requires.kind p) in
     begin_goes a b settings c.args.self.now c.insert.new.self c.insert-2.new.self c.in_ok-core.core q e c.in_ok-core.outs.items n
-        (λ t u d. rw (begun b e t c.args.addr c.args.octets.now c.requires.kind (ap (λ (x : Slate). x.phase) u)) (c.in_ok-core.ensures t u d))
-        opens c.in_ok-insert.ensures.entries c.in_ok-insert.ensures.updates.1
-        (others_put c.args.self.now.clients c.insert.new.self e.client c.in_ok-core.core c.in_ok-insert.ensures.updates.0)
-        (used_put c.args.self.now.used c.insert-2.new.self e.client c.in_ok-insert-2.ensures.updates.0) h
+    (λ t u d. rw (begun b e t c.args.addr c.args.octets.now c.requires.kind (ap (λ (x : Slate). x.phase) u)) (c.in_ok-core.ensures t u d))
+    opens c.in_ok-insert.ensures.entries c.in_ok-insert.ensures.updates.1
+    (others_put c.args.self.now.clients c.insert.new.self e.client c.in_ok-core.core c.in_ok-insert.ensures.updates.0)
+    (used_put c.args.self.now.used c.insert-2.new.self e.client c.in_ok-insert-2.ensures.updates.0) h

@@ -1,0 +1,5 @@
+pub mod Coming
+pub mod Written
+pub mod Pushed
+pub mod Copied
+pub mod Plains

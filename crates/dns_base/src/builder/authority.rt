@@ -1,0 +1,118 @@
+//! Message whose authority records are being built.
+
+ghost use Rattle.std.specs.Prelude.{◌≡◌, ◌≤◌, length, min, IfOk};
+ghost use Rattle.dns_base.specs.Msg.{IsMessage, item_counts};
+ghost use Rattle.dns_base.specs.Wire.{wire};
+ghost use Rattle.dns_base.specs.Built.{with_header};
+
+use crate::builder::additional::AdditionalBuilder;
+use crate::draft::Draft;
+use crate::header::{Header, HeaderCounts};
+use crate::message::MessageRef;
+use crate::stream::StreamTarget;
+use dns_name::OutOfMemory;
+use std::alloc::Global;
+use std::marker::Model;
+
+/// A message whose authority records are being built.
+#[derive(Debug, Drop)]
+pub struct AuthorityBuilder {
+    pub(crate) draft: Draft,
+}
+
+impl Model for AuthorityBuilder {
+    ghost use Rattle.std.specs.Prelude.{◌≡◌, []};
+    ghost use Rattle.dns_base.specs.Built.{Built};
+
+    ghost Value = { Built };
+
+    ghost view = { λ b. b.draft };
+
+    ghost invariant = { λ b. b.draft.message.additional ≡ [] };
+}
+
+impl AuthorityBuilder {
+    /// The same message, at its additional records.
+    pub fn additional(self) -> AdditionalBuilder
+        ensures { result ≡ self }
+    {
+        AdditionalBuilder { draft: self.draft }
+    }
+
+    /// The header.
+    pub fn header(&self) -> Header
+        ensures { result ≡ self.now.message.header }
+    {
+        self.draft.header()
+    }
+
+    /// Sets the header.
+    pub fn set_header(&mut self, header: Header)
+        ensures { self.new ≡ with_header self.old header }
+    {
+        self.draft.set_header(header);
+    }
+
+    /// How many items each section has.
+    pub fn counts(&self) -> HeaderCounts
+        ensures { result ≡ item_counts self.now.message }
+    {
+        self.draft.counts()
+    }
+
+    /// How many octets the message may take; 65,535 where no limit is set.
+    pub fn push_limit(&self) -> usize
+        ensures value { result ≡ self.now.limit }
+        ensures limited { result ≤ 65535 }
+    {
+        self.draft.push_limit()
+    }
+
+    /// Lets the message take so many octets, at most 65,535.
+    pub fn set_push_limit(&mut self, limit: usize)
+        ensures { self.new ≡ record self.old { limit = min limit 65535 } }
+    {
+        self.draft.set_push_limit(limit);
+    }
+
+    /// Lets the message take 65,535 octets.
+    pub fn clear_push_limit(&mut self)
+        ensures { self.new ≡ record self.old { limit = 65535 } }
+    {
+        self.draft.set_push_limit(65535);
+    }
+
+    /// The message's octets.
+    pub fn as_slice(&self) -> &[u8]
+        ensures value { result.now ≡ wire self.now.message }
+        ensures lawful { IsMessage self.now.message }
+        ensures header { 12 ≤ length result.now }
+        ensures short { length result.now ≤ 65535 }
+    {
+        self.draft.as_slice()
+    }
+
+    /// The message, borrowed.
+    pub fn as_message(&self) -> MessageRef<'_>
+        ensures value { result ≡ wire self.now.message }
+        ensures lawful { IsMessage self.now.message }
+    {
+        self.draft.as_message()
+    }
+
+    /// A copy.
+    pub fn try_clone(&self, alloc: Global) -> Result<AuthorityBuilder, OutOfMemory>
+        ensures { IfOk result (λ b. b ≡ self.now) }
+    {
+        let draft = self.draft.try_clone(alloc)?;
+        Ok(AuthorityBuilder { draft })
+    }
+
+    /// The finished message.
+    pub fn finish(self) -> StreamTarget
+        ensures value { result ≡ wire self.message }
+        ensures lawful { IsMessage self.message }
+    {
+        self.draft.finish()
+    }
+}

@@ -1,0 +1,188 @@
+//! A message as it is being built.
+
+ghost use Rattle.std.specs.Prelude.{◌≡◌, ◌≤◌, ◌<◌, ◌+◌, ◌++◌, [], length, drop, min, IsTrue, IfOk, OnOk, OnErr, ◌↔◌};
+ghost use Rattle.dns_base.specs.Header.{header_octets, IsHeader};
+ghost use Rattle.dns_base.specs.Msg.{IsMessage, item_counts};
+ghost use Rattle.dns_base.specs.Wire.{wire};
+ghost use Rattle.dns_base.specs.Sections.{field, questions_of};
+ghost use Rattle.dns_base.specs.Built.{Built, NoRecords, Pushes, empty, with_header, with_question};
+ghost use Rattle.dns_base.specs.Draft.{counted};
+ghost use Rattle.dns_base.specs.Replies.{Copies, copied};
+
+use crate::error::PushError;
+use crate::header::{Header, HeaderCounts, lower_of, number_at, upper_of};
+use crate::message::{Message, MessageRef};
+use crate::question::Question;
+use crate::stream::StreamTarget;
+use dns_name::OutOfMemory;
+use std::alloc::Global;
+use std::marker::Model;
+
+/// A message behind two octets for its length, and the limit of its octets.
+#[derive(Debug, Drop)]
+pub(crate) struct Draft {
+    octets: Vec<u8>,
+    limit: usize,
+}
+
+impl Model for Draft {
+    ghost use Rattle.std.specs.Prelude.{drop};
+    ghost use Rattle.dns_base.specs.Sections.{message_of};
+    ghost use Rattle.dns_base.specs.Built.{Built};
+    ghost use Rattle.dns_base.specs.Draft.{IsDraft};
+
+    ghost Value = { Built };
+
+    ghost view = { λ b. record { message = message_of (drop 2 b.octets.items); limit = b.limit } };
+
+    ghost invariant = { λ b. IsDraft b.octets.items b.limit };
+}
+
+impl Draft {
+    /// The empty message with a zero header.
+    pub(crate) fn new(alloc: Global) -> Result<Draft, OutOfMemory>
+        ensures { IfOk result (λ b. b ≡ record { message = empty; limit = 65535 }) }
+    {
+        let octets = Vec::from_slice(alloc, &[0; 14])?;
+        Ok(Draft {
+            octets,
+            limit: 65535,
+        })
+    }
+
+    /// A copy.
+    pub(crate) fn try_clone(&self, alloc: Global) -> Result<Draft, OutOfMemory>
+        ensures { IfOk result (λ b. b ≡ self.now) }
+    {
+        let octets = Vec::from_slice(alloc, self.octets.as_slice())?;
+        Ok(Draft {
+            octets,
+            limit: self.limit,
+        })
+    }
+
+    /// The message's octets.
+    pub(crate) fn as_slice(&self) -> &[u8]
+        ensures value { result.now ≡ wire self.now.message }
+        ensures lawful { IsMessage self.now.message }
+        ensures header { 12 ≤ length result.now }
+        ensures short { length result.now ≤ 65535 }
+    {
+        &self.octets.as_slice()[2..]
+    }
+
+    /// The message, borrowed.
+    pub(crate) fn as_message(&self) -> MessageRef<'_>
+        ensures value { result ≡ wire self.now.message }
+        ensures lawful { IsMessage self.now.message }
+    {
+        MessageRef::of(self.as_slice())
+    }
+
+    /// The header.
+    pub(crate) fn header(&self) -> Header
+        ensures { result ≡ self.now.message.header }
+    {
+        self.as_message().header()
+    }
+
+    /// How many items each section has.
+    pub(crate) fn counts(&self) -> HeaderCounts
+        ensures { result ≡ item_counts self.now.message }
+    {
+        self.as_message().header_counts()
+    }
+
+    /// How many octets the message may take.
+    pub(crate) fn push_limit(&self) -> usize
+        ensures value { result ≡ self.now.limit }
+        ensures limited { result ≤ 65535 }
+    {
+        self.limit
+    }
+
+    /// Lets the message take so many octets, at most 65,535.
+    pub(crate) fn set_push_limit(&mut self, limit: usize)
+        ensures { self.new ≡ record self.old { limit = min limit 65535 } }
+    {
+        self.limit = limit.min(65535);
+    }
+
+    /// Sets the header.
+    pub(crate) fn set_header(&mut self, header: Header)
+        ensures { self.new ≡ with_header self.old header }
+    {
+        put_header(&mut self.octets, &header);
+    }
+
+    /// Adds a question.
+    pub(crate) fn push_question(
+        &mut self,
+        alloc: Global,
+        question: &Question,
+    ) -> Result<(), PushError>
+        requires { NoRecords self.old.message }
+        ensures { Pushes self.old self.new (with_question self.old question.now) result }
+    {
+        if self.octets.len() - 2 + question.size() > self.limit {
+            return Err(PushError::ShortBuf);
+        }
+        let piece = question.octets(alloc)?;
+        append(&mut self.octets, 4, piece.as_slice())?;
+        Ok(())
+    }
+
+    /// Adds the questions of a message up to its first unreadable one, as far as each has room.
+    pub(crate) fn copy_questions(
+        &mut self,
+        alloc: Global,
+        message: &Message,
+    ) -> Result<(), PushError>
+        requires { NoRecords self.old.message }
+        ensures { Copies (copied self.old (questions_of message.now).0) self.new result }
+    {
+        let mut questions = message.question();
+        'questions: while let Some(Ok(question)) = questions.next() {
+            let question = question.to_question(alloc)?;
+            self.push_question(alloc, &question)?;
+        }
+        Ok(())
+    }
+
+    /// The finished message.
+    pub(crate) fn finish(self) -> StreamTarget
+        ensures value { result ≡ wire self.message }
+        ensures lawful { IsMessage self.message }
+    {
+        let Draft { octets, .. } = self;
+        StreamTarget::of(octets)
+    }
+}
+
+/// Writes the header of a message that stands behind two octets.
+fn put_header(octets: &mut Vec<u8>, header: &Header)
+    requires { 6 ≤ length octets.old.items }
+    ensures header { drop 2 octets.new.items ≡ header_octets header.now ++ drop 6 octets.old.items }
+    ensures len { length octets.new.items ≡ length octets.old.items }
+    ensures lawful { IsHeader header.now }
+{
+    octets[2] = (header.id / 256) as u8;
+    octets[3] = (header.id % 256) as u8;
+    octets[4] = upper_of(header);
+    octets[5] = lower_of(header);
+}
+
+/// Appends an item to a message that stands behind two octets, and counts it at a place of the message.
+fn append(octets: &mut Vec<u8>, at: usize, piece: &[u8]) -> Result<(), OutOfMemory>
+    requires within { at + 3 < length octets.old.items }
+    requires few { field at (drop 2 octets.old.items) < 65535 }
+    ensures ok { OnOk result (drop 2 octets.new.items ≡ counted at (field at (drop 2 octets.old.items) + 1) (drop 2 octets.old.items ++ piece.now)) }
+    ensures err { OnErr result (octets.new.items ≡ octets.old.items) }
+    ensures len { OnOk result (length octets.new.items ≡ length octets.old.items + length piece.now) }
+{
+    let count = number_at(&octets.as_slice()[2..], at) + 1;
+    octets.extend_from_slice(piece)?;
+    octets[at + 2] = (count / 256) as u8;
+    octets[at + 3] = (count % 256) as u8;
+    Ok(())
+}

@@ -1,0 +1,19 @@
+//! Laws of messages.
+
+ghost use Rattle.std.specs.Prelude.{◌≡◌, [], ◌∷◌, ℕ, List, Ok, length, true};
+ghost use Rattle.dns_base.specs.declared.question.Question.{Question};
+ghost use Rattle.dns_base.specs.Msg.{IsMessage, Msg};
+ghost use Rattle.dns_base.specs.Plain.{is_plain};
+ghost use Rattle.dns_base.specs.Sections.{additional_of, message_of, questions_of};
+ghost use Rattle.dns_base.specs.Wire.{wire};
+
+/// A message that is written reads back as itself, and no octet of it is left.
+pub fn messages_read_back()
+    ensures same { (m : Msg) → IsMessage m → message_of (wire m) ≡ m }
+    ensures whole { (m : Msg) → IsMessage m → (additional_of (wire m)).1 ≡ Ok (length (wire m)) }
+{}
+
+/// The plainest query has one question, which is readable and ends its octets.
+pub fn plain_queries_ask_once()
+    ensures { (o : List ℕ) → is_plain o ≡ true → ((q : Question) × (questions_of o ≡ (q ∷ [], Ok (length o)))) }
+{}

@@ -1,0 +1,5 @@
+pub mod Walks
+pub mod Named
+pub mod Spelt
+pub mod Grammars
+pub mod Whole

@@ -1,0 +1,114 @@
+//! The labels of a name.
+
+ghost use Rattle.std.specs.Prelude.{◌≡◌, ◌≤◌, ◌+◌, ◌↔◌, length, IsTrue};
+ghost use Rattle.std.specs.Iterator.{YieldsFirstBy, item_count};
+ghost use Rattle.dns_name.specs.Labels.{IsName, EndsWith, folded};
+ghost use Rattle.dns_name.specs.Names.{CanGoOn, labels_of, name_by};
+
+use crate::piece::{Piece, Reach, piece_at};
+use std::marker::Model;
+
+/// The labels that are left of a name, from the first to the last, without the root's.
+#[derive(Drop)]
+pub struct Labels<'a> {
+    message: &'a [u8],
+    reach: Reach,
+    at: usize,
+    size: usize,
+    hops: usize,
+}
+
+impl<'a> Model for Labels<'a> {
+    ghost use Rattle.std.specs.Prelude.{List, ℕ};
+    ghost use Rattle.dns_name.specs.Names.{rest_of, labels_of, CanGoOn};
+
+    ghost Value = { List (List ℕ) };
+
+    ghost view = { λ l. labels_of (rest_of l.message.now l.reach l.at l.size l.hops) };
+
+    ghost invariant = { λ l. CanGoOn l.message.now l.reach l.at l.size l.hops };
+}
+
+impl<'a> Labels<'a> {
+    /// The labels of the name that is read so at a place.
+    #[tactic(auto, unfolding(crate::specs::Names::name_by))]
+    pub(crate) fn of(message: &'a [u8], reach: Reach, at: usize) -> Labels<'a>
+        requires { CanGoOn message.now reach at 0 0 }
+        ensures value { result ≡ labels_of (name_by message.now reach at) }
+        ensures named { IsName result }
+        ensures few { length result ≤ 127 }
+    {
+        Labels {
+            message,
+            reach,
+            at,
+            size: 0,
+            hops: 0,
+        }
+    }
+}
+
+impl<'a> Iterator for Labels<'a> {
+    type Item = &'a [u8];
+
+    ghost next_gives = { YieldsFirstBy (λ x. x.now) (λ l. l) };
+
+    ghost remaining = { item_count (λ l. l) };
+
+    fn next(&mut self) -> Option<&'a [u8]> {
+        'pieces: loop {
+            match piece_at(self.message, self.reach, self.hops, self.at) {
+                Ok(Piece::Text(n)) => {
+                    let start = self.at + 1;
+                    let label = &self.message[start..start + n];
+                    self.at = self.at + n + 1;
+                    self.size = self.size + n + 1;
+                    return Some(label);
+                }
+                Ok(Piece::Jump(target)) => {
+                    self.at = target;
+                    self.hops += 1;
+                }
+                Ok(Piece::End) => return None,
+                Err(_) => return None,
+            }
+        }
+    }
+}
+
+/// Whether the labels are the same up to ASCII case.
+pub(crate) fn same(mut labels: Labels<'_>, mut others: Labels<'_>) -> bool
+    ensures { IsTrue result ↔ (folded labels.entry ≡ folded others.entry) }
+{
+    'labels: loop {
+        let Some(label) = labels.next() else {
+            return others.next().is_none();
+        };
+        let Some(other) = others.next() else {
+            return false;
+        };
+        if !label.eq_ignore_ascii_case(other) {
+            return false;
+        }
+    }
+}
+
+/// Whether the labels, of which there are this many with the root's, end with the others.
+pub(crate) fn ends(
+    mut labels: Labels<'_>,
+    count: usize,
+    others: Labels<'_>,
+    other_count: usize,
+) -> bool
+    requires counted { count ≡ length labels + 1 }
+    requires others_counted { other_count ≡ length others + 1 }
+    ensures { IsTrue result ↔ EndsWith labels.entry others.entry }
+{
+    if count < other_count {
+        return false;
+    }
+    'skip: for _i in 0..count - other_count {
+        labels.next();
+    }
+    same(labels, others)
+}

@@ -1,0 +1,273 @@
+//! Names that stand alone, uncompressed.
+
+ghost use Rattle.std.specs.Prelude.{◌≡◌, ◌≤◌, ◌+◌, ◌++◌, ◌↔◌, ◌-◌, [], length, take, drop, IsTrue, IfOk, OnOk, OnErr};
+ghost use Rattle.dns_name.specs.Labels.{IsName, EndsWith, folded, spell};
+ghost use Rattle.dns_name.specs.Names.{uncompressed, uncompressed_at};
+ghost use Rattle.dns_name.specs.Place.{Parses};
+
+use crate::error::{FormReason, OutOfMemory, ParseError};
+use crate::labels::{Labels, ends, same};
+use crate::parsed::end_at;
+use crate::parser::Parser;
+use crate::piece::Reach;
+use std::alloc::Global;
+use std::marker::Model;
+
+/// A name, owned, that contracts see as its labels without the root's (RFC 1035, section 3.1).
+#[derive(Debug, Drop)]
+pub struct Name {
+    octets: Vec<u8>,
+}
+
+impl Model for Name {
+    ghost use Rattle.std.specs.Prelude.{List, ℕ};
+    ghost use Rattle.dns_name.specs.Names.{IsSpelt, labels_of, uncompressed_at};
+
+    ghost Value = { List (List ℕ) };
+
+    ghost view = { λ n. labels_of (uncompressed_at n.octets.items 0) };
+
+    ghost invariant = { λ n. IsSpelt n.octets.items };
+}
+
+/// A name, borrowed, that contracts see as its labels without the root's.
+#[derive(Debug, Drop)]
+pub struct NameRef<'a> {
+    octets: &'a [u8],
+}
+
+impl<'a> Model for NameRef<'a> {
+    ghost use Rattle.std.specs.Prelude.{List, ℕ};
+    ghost use Rattle.dns_name.specs.Names.{IsSpelt, labels_of, uncompressed_at};
+
+    ghost Value = { List (List ℕ) };
+
+    ghost view = { λ n. labels_of (uncompressed_at n.octets.now 0) };
+
+    ghost invariant = { λ n. IsSpelt n.octets.now };
+}
+
+impl<'a> NameRef<'a> {
+    /// The uncompressed name that octets are, and no more.
+    pub fn from_slice(octets: &'a [u8]) -> Result<NameRef<'a>, ParseError>
+        ensures { result ≡ uncompressed octets.now }
+    {
+        let reach = Reach {
+            limit: octets.len(),
+            pointers: false,
+        };
+        let end = end_at(octets, reach, 0)?;
+        if end < octets.len() {
+            return Err(ParseError::Form(FormReason::Trailing));
+        }
+        Ok(NameRef { octets })
+    }
+
+    /// The uncompressed name at a place, and the place behind it.
+    pub fn at(octets: &'a [u8], at: usize) -> Result<(NameRef<'a>, usize), ParseError>
+        requires { at ≤ length octets.now }
+        ensures value { result ≡ uncompressed_at octets.now at }
+        ensures within { IfOk result (λ r. r.1 ≤ length octets.now) }
+    {
+        let reach = Reach {
+            limit: octets.len(),
+            pointers: false,
+        };
+        let end = end_at(octets, reach, at)?;
+        let name = part(octets, at, end);
+        Ok((NameRef { octets: name }, end))
+    }
+
+    /// The uncompressed name at the parser's place.
+    pub fn parse(parser: &mut Parser<'a>) -> Result<NameRef<'a>, ParseError>
+        ensures { Parses result parser.old parser.new (uncompressed_at parser.old.octets parser.old.at) }
+    {
+        let (name, end) = NameRef::at(parser.as_slice(), parser.pos())?;
+        parser.go_to(end);
+        Ok(name)
+    }
+
+    /// The octets, uncompressed.
+    pub fn as_slice(&self) -> &'a [u8]
+        ensures value { result.now ≡ spell self.now }
+        ensures named { IsName self.now }
+    {
+        self.octets
+    }
+
+    /// How many octets the name takes, uncompressed.
+    pub fn compose_len(&self) -> u16
+        ensures { result ≡ length (spell self.now) }
+    {
+        self.as_slice().len() as u16
+    }
+
+    /// Appends the octets, uncompressed.
+    pub fn compose(&self, alloc: Global, target: &mut Vec<u8>) -> Result<(), OutOfMemory>
+        ensures ok { OnOk result (target.new.items ≡ target.old.items ++ spell self.now) }
+        ensures err { OnErr result (target.new.items ≡ target.old.items) }
+    {
+        target.extend_from_slice(self.as_slice())?;
+        Ok(())
+    }
+
+    /// The labels, from the first to the last, without the root's.
+    pub fn labels(&self) -> Labels<'a>
+        ensures value { result ≡ self.now }
+        ensures named { IsName self.now }
+        ensures few { length self.now ≤ 127 }
+    {
+        let reach = Reach {
+            limit: self.octets.len(),
+            pointers: false,
+        };
+        Labels::of(self.octets, reach, 0)
+    }
+
+    /// How many labels there are, the root's among them.
+    pub fn label_count(&self) -> usize
+        ensures { result ≡ length self.now + 1 }
+    {
+        self.labels().count() + 1
+    }
+
+    /// Whether the names are the same up to ASCII case.
+    pub fn name_eq(&self, other: &NameRef<'_>) -> bool
+        ensures { IsTrue result ↔ (folded self.now ≡ folded other.now) }
+    {
+        same(self.labels(), other.labels())
+    }
+
+    /// Whether the other name's labels are the last ones, up to ASCII case.
+    pub fn ends_with(&self, other: &NameRef<'_>) -> bool
+        ensures { IsTrue result ↔ EndsWith self.now other.now }
+    {
+        ends(
+            self.labels(),
+            self.label_count(),
+            other.labels(),
+            other.label_count(),
+        )
+    }
+
+    /// The same name, owned.
+    pub fn to_owned(&self, alloc: Global) -> Result<Name, OutOfMemory>
+        ensures { IfOk result (λ n. n ≡ self.now) }
+    {
+        let octets = Vec::from_slice(alloc, self.octets)?;
+        Ok(Name { octets })
+    }
+}
+
+impl Name {
+    /// The root's name.
+    pub fn root(alloc: Global) -> Result<Name, OutOfMemory>
+        ensures { IfOk result (λ n. n ≡ []) }
+    {
+        let octets = Vec::from_slice(alloc, &[0])?;
+        Ok(Name { octets })
+    }
+
+    /// The uncompressed name that octets are, and no more. The vector is not copied.
+    pub fn from_octets(octets: Vec<u8>) -> Result<Name, ParseError>
+        ensures { result ≡ uncompressed octets.items }
+    {
+        NameRef::from_slice(octets.as_slice())?;
+        Ok(Name { octets })
+    }
+
+    /// The name of these labels.
+    pub(crate) fn of(alloc: Global, labels: Labels<'_>) -> Result<Name, OutOfMemory>
+        requires { IsName labels }
+        ensures { IfOk result (λ n. n ≡ labels.entry) }
+    {
+        let octets = spelt(alloc, labels)?;
+        Ok(Name { octets })
+    }
+
+    /// The name, borrowed.
+    pub fn for_ref(&self) -> NameRef<'_>
+        ensures value { result ≡ self.now }
+        ensures named { IsName self.now }
+    {
+        NameRef {
+            octets: self.octets.as_slice(),
+        }
+    }
+
+    /// The octets, uncompressed.
+    pub fn as_slice(&self) -> &[u8]
+        ensures value { result.now ≡ spell self.now }
+        ensures named { IsName self.now }
+    {
+        self.octets.as_slice()
+    }
+
+    /// How many octets the name takes, uncompressed.
+    pub fn compose_len(&self) -> u16
+        ensures { result ≡ length (spell self.now) }
+    {
+        self.for_ref().compose_len()
+    }
+
+    /// Appends the octets, uncompressed.
+    pub fn compose(&self, alloc: Global, target: &mut Vec<u8>) -> Result<(), OutOfMemory>
+        ensures ok { OnOk result (target.new.items ≡ target.old.items ++ spell self.now) }
+        ensures err { OnErr result (target.new.items ≡ target.old.items) }
+    {
+        self.for_ref().compose(alloc, target)
+    }
+
+    /// The labels, from the first to the last, without the root's.
+    pub fn labels(&self) -> Labels<'_>
+        ensures value { result ≡ self.now }
+        ensures named { IsName self.now }
+        ensures few { length self.now ≤ 127 }
+    {
+        self.for_ref().labels()
+    }
+
+    /// How many labels there are, the root's among them.
+    pub fn label_count(&self) -> usize
+        ensures { result ≡ length self.now + 1 }
+    {
+        self.for_ref().label_count()
+    }
+
+    /// Whether the names are the same up to ASCII case.
+    pub fn name_eq(&self, other: &NameRef<'_>) -> bool
+        ensures { IsTrue result ↔ (folded self.now ≡ folded other.now) }
+    {
+        self.for_ref().name_eq(other)
+    }
+
+    /// Whether the other name's labels are the last ones, up to ASCII case.
+    pub fn ends_with(&self, other: &NameRef<'_>) -> bool
+        ensures { IsTrue result ↔ EndsWith self.now other.now }
+    {
+        self.for_ref().ends_with(other)
+    }
+}
+
+/// The octets between two places.
+fn part(octets: &[u8], start: usize, end: usize) -> &[u8]
+    requires order { start ≤ end }
+    requires within { end ≤ length octets.now }
+    ensures { result.now ≡ take (end - start) (drop start octets.now) }
+{
+    &octets[start..end]
+}
+
+/// The octets of labels.
+fn spelt(alloc: Global, mut labels: Labels<'_>) -> Result<Vec<u8>, OutOfMemory>
+    requires { IsName labels }
+    ensures { IfOk result (λ v. v.items ≡ spell labels.entry) }
+{
+    let mut octets = Vec::new(alloc);
+    'labels: while let Some(label) = labels.next() {
+        octets.push(label.len() as u8)?;
+        octets.extend_from_slice(label)?;
+    }
+    octets.push(0)?;
+    Ok(octets)
+}

@@ -1,0 +1,142 @@
+//! Names of a message, pointers followed.
+
+ghost use Rattle.std.specs.Prelude.{◌≡◌, ◌≤◌, ◌+◌, ◌↔◌, length, IsTrue, IfOk};
+ghost use Rattle.dns_name.specs.Labels.{IsName, EndsWith, folded};
+ghost use Rattle.dns_name.specs.Names.{end_of, name_at, name_by, name_within};
+ghost use Rattle.dns_name.specs.Place.{Parses};
+
+use crate::error::{FormReason, OutOfMemory, ParseError};
+use crate::labels::{Labels, ends, same};
+use crate::name::{Name, NameRef};
+use crate::parser::Parser;
+use crate::piece::{Piece, Reach, piece_at};
+use std::alloc::Global;
+use std::marker::Model;
+
+/// A name of a message, pointers followed (RFC 1035, section 4.1.4).
+#[derive(Drop)]
+pub struct ParsedName<'a> {
+    message: &'a [u8],
+    reach: Reach,
+    at: usize,
+}
+
+impl<'a> Model for ParsedName<'a> {
+    ghost use Rattle.std.specs.Prelude.{List, ℕ};
+    ghost use Rattle.dns_name.specs.Names.{CanGoOn, labels_of, name_by};
+
+    ghost Value = { List (List ℕ) };
+
+    ghost view = { λ n. labels_of (name_by n.message.now n.reach n.at) };
+
+    ghost invariant = { λ n. CanGoOn n.message.now n.reach n.at 0 0 };
+}
+
+/// The place behind the name that is read so at a place.
+pub(crate) fn end_at(message: &[u8], reach: Reach, start: usize) -> Result<usize, ParseError>
+    requires first { start ≤ reach.limit }
+    requires limited { reach.limit ≤ length message.now }
+    ensures value { result ≡ end_of (name_by message.now reach start) }
+    ensures within { IfOk result (λ end. end ≤ reach.limit) }
+{
+    let mut at = start;
+    let mut size = 0usize;
+    let mut hops = 0usize;
+    let mut end = None;
+    'pieces: loop {
+        match piece_at(message, reach, hops, at)? {
+            Piece::End => {
+                return Ok(end.unwrap_or(at + 1));
+            }
+            Piece::Text(n) => {
+                if size + n + 2 > 255 {
+                    return Err(ParseError::Form(FormReason::LongName));
+                }
+                at = at + n + 1;
+                size = size + n + 1;
+            }
+            Piece::Jump(target) => {
+                if hops > 254 {
+                    return Err(ParseError::Form(FormReason::Hops));
+                }
+                end = Some(end.unwrap_or(at + 2));
+                at = target;
+                hops += 1;
+            }
+        }
+    }
+}
+
+impl<'a> ParsedName<'a> {
+    /// The name at a place of a message and the place behind it, where the octets before the name's first
+    /// pointer lie before the limit.
+    pub fn at(
+        message: &'a [u8],
+        limit: usize,
+        at: usize,
+    ) -> Result<(ParsedName<'a>, usize), ParseError>
+        requires first { at ≤ limit }
+        requires limited { limit ≤ length message.now }
+        ensures value { result ≡ name_within message.now limit at }
+        ensures within { IfOk result (λ r. r.1 ≤ limit) }
+    {
+        let reach = Reach {
+            limit,
+            pointers: true,
+        };
+        let end = end_at(message, reach, at)?;
+        Ok((ParsedName { message, reach, at }, end))
+    }
+
+    /// The name at the parser's place, whose slice is the message.
+    pub fn parse(parser: &mut Parser<'a>) -> Result<ParsedName<'a>, ParseError>
+        ensures { Parses result parser.old parser.new (name_at parser.old.octets parser.old.at) }
+    {
+        let message = parser.as_slice();
+        let (name, end) = ParsedName::at(message, message.len(), parser.pos())?;
+        parser.go_to(end);
+        Ok(name)
+    }
+
+    /// The labels, from the first to the last, without the root's.
+    pub fn labels(&self) -> Labels<'a>
+        ensures value { result ≡ self.now }
+        ensures named { IsName self.now }
+        ensures few { length self.now ≤ 127 }
+    {
+        Labels::of(self.message, self.reach, self.at)
+    }
+
+    /// How many labels there are, the root's among them.
+    pub fn label_count(&self) -> usize
+        ensures { result ≡ length self.now + 1 }
+    {
+        self.labels().count() + 1
+    }
+
+    /// Whether the names are the same up to ASCII case.
+    pub fn name_eq(&self, other: &NameRef<'_>) -> bool
+        ensures { IsTrue result ↔ (folded self.now ≡ folded other.now) }
+    {
+        same(self.labels(), other.labels())
+    }
+
+    /// Whether the other name's labels are the last ones, up to ASCII case.
+    pub fn ends_with(&self, other: &NameRef<'_>) -> bool
+        ensures { IsTrue result ↔ EndsWith self.now other.now }
+    {
+        ends(
+            self.labels(),
+            self.label_count(),
+            other.labels(),
+            other.label_count(),
+        )
+    }
+
+    /// The same name, on its own.
+    pub fn to_name(&self, alloc: Global) -> Result<Name, OutOfMemory>
+        ensures { IfOk result (λ n. n ≡ self.now) }
+    {
+        Name::of(alloc, self.labels())
+    }
+}

@@ -1,0 +1,83 @@
+//! Worked rows of names and the parser.
+
+use super::*;
+
+/// Whether octets are read as an uncompressed name, or why not.
+fn refusal(octets: &[u8]) -> Option<ParseError> {
+    NameRef::from_slice(octets).err()
+}
+
+#[test]
+fn reads_uncompressed_names(rt: HostRuntime) {
+    let rows: [(&[u8], Option<ParseError>); 6] = [
+        (b"\x00", None),
+        (b"\x07example\x00", None),
+        (b"\x07exampl", Some(ParseError::ShortInput)),
+        (b"\x01a\x00b", Some(ParseError::Form(FormReason::Trailing))),
+        (b"\x01a\xc0\x00", Some(ParseError::Form(FormReason::Label))),
+        (b"\x40", Some(ParseError::Form(FormReason::Label))),
+    ];
+    for (octets, want) in rows {
+        assert!(&rt; refusal(octets) == want);
+    }
+}
+
+#[test]
+fn follows_pointers(rt: HostRuntime) {
+    let message = b"\x03www\x01a\x00\xc0\x04\x01W\xc0\x04\xc0\x0d";
+    let rows: [(usize, Option<usize>, &[u8]); 4] = [
+        (0, Some(3), b"\x03WWW\x01A\x00"),
+        (7, Some(2), b"\x01A\x00"),
+        (9, Some(3), b"\x01w\x01a\x00"),
+        (13, None, b"\x00"),
+    ];
+    for (at, count, like) in rows {
+        let mut parser = Parser::from_ref(message);
+        assert!(&rt; parser.advance(at).is_ok());
+        let read = ParsedName::parse(&mut parser);
+        let same = NameRef::from_slice(like);
+        match (read, same, count) {
+            (Ok(name), Ok(other), Some(count)) => {
+                assert_eq!(&rt; name.label_count(), count);
+                assert!(&rt; name.name_eq(&other));
+                assert!(&rt; name.ends_with(&other));
+            }
+            (Err(e), Ok(_), None) => {
+                assert!(&rt; e == ParseError::Form(FormReason::Pointer));
+                assert_eq!(&rt; parser.pos(), 13);
+            }
+            _ => panic!(&rt; "another answer"),
+        }
+    }
+}
+
+#[test]
+fn takes_memory(rt: HostRuntime) {
+    let Ok(root) = Name::root(rt.alloc()) else {
+        panic!(&rt; "no memory");
+    };
+    assert!(&rt; root.as_slice() == b"\x00".as_slice());
+    let mut target = Vec::new(rt.alloc());
+    assert!(&rt; root.compose(rt.alloc(), &mut target).is_ok());
+    assert_eq!(&rt; target.len(), 1);
+    let Ok(short) = NameRef::from_slice(b"\x01a\x00") else {
+        panic!(&rt; "no name");
+    };
+    let Ok(owned) = short.to_owned(rt.alloc()) else {
+        panic!(&rt; "no memory");
+    };
+    assert_eq!(&rt; owned.compose_len(), 3);
+    let mut parser = Parser::from_ref(b"\x01a\x00\xc0\x00");
+    assert!(&rt; parser.advance(3).is_ok());
+    let Ok(read) = ParsedName::parse(&mut parser) else {
+        panic!(&rt; "no name");
+    };
+    let Ok(name) = read.to_name(rt.alloc()) else {
+        panic!(&rt; "no memory");
+    };
+    assert!(&rt; name.as_slice() == b"\x01a\x00".as_slice());
+    let Ok(octets) = Octets::from_slice(rt.alloc(), b"ab") else {
+        panic!(&rt; "no memory");
+    };
+    assert_eq!(&rt; octets.as_slice().len(), 2);
+}
