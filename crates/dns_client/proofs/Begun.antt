@@ -1,5 +1,5 @@
 -- The core of a client that begins stands for its slate.
-use Rattle.std.proofs.Common.{◌≡◌, ℕ, ◌≤◌, ◌<◌, List, [], ◌∷◌, length, Option, Some, None, true, false, refl, ap, sym, ◌∙◌, subst, lt-ltb, lit≤}
+use Rattle.std.proofs.Common.{◌≡◌, ℕ, ◌≤◌, ◌<◌, List, [], length, None, true, false, ap, sym, ◌∙◌, subst, lt-ltb, lit≤}
 use Rattle.std.specs.Prelude.{nat_lt}
 use Rattle.std.specs.Map.{lookup}
 use Rattle.std.specs.Ordering.{nat_cmp}
@@ -10,13 +10,13 @@ use Rattle.dns_name.specs.declared.address.SocketAddr.{SocketAddr}
 use Rattle.dns_service.specs.Answer.{Answer}
 use Rattle.dns_service.specs.Config.{Dgram, Connection, Stream}
 use Rattle.dns_service.specs.Req.{Req}
+use Rattle.dns_client.specs.Frames.{frames}
 use Rattle.dns_client.specs.Slate.{Slate, Conf, Exchange, Open, IsUnused, fresh}
 use Rattle.dns_client.specs.Requests.{request_of_datagram, header_size}
 use Rattle.dns_client.specs.Datagrams.{exchange}
 use Rattle.dns_client.specs.Connections.{opened}
 use Rattle.dns_client.specs.Stands.{Stands, Asks, KeepsAll, IsBare, phase_of}
 use Rattle.dns_client.specs.declared.client.ClientCore.{ClientCore}
-use Rattle.dns_client.specs.declared.client.Status.{Status}
 use Rattle.dns_client.specs.declared.client.Status.TheVariants.{Exchange as Is_exchange, Open as Is_open}
 use Rattle.dns_client.specs.declared.polling.PolledRequest.{PolledRequest}
 
@@ -58,6 +58,7 @@ module _ {W R F : Type 0} (answer : PolledRequest F R → ℕ → Answer) (answe
   admitted_fresh : (core : ClientCore W R F) (client : ℕ) (addr : SocketAddr) (stream : Stream) (k : Conf)
       → IsBare client addr Is_open stream.connection_config stream.connection_config.max_queued_responses core → k.stream ≡ stream
       → Stands answer answers core (opened client addr (fresh k))
+  unfolding frames
   admitted_fresh core client addr stream k b e =
       let c : stream.connection_config ≡ k.stream.connection_config = ap (λ (x : Stream). x.connection_config) (sym e) in
       record {

@@ -1,8 +1,8 @@
 -- Frames are taken one at a time.
-use Rattle.std.proofs.Common.{◌≡◌, ℕ, ◌+◌, ◌<◌, ◌≤◌, List, [], ◌∷◌, ◌++◌, length, Some, None, Bool, true, false, refl, ap, sym, ◌∙◌, lt-ltb}
+use Rattle.std.proofs.Common.{◌≡◌, ℕ, ◌+◌, ◌<◌, ◌≤◌, List, [], ◌∷◌, ◌++◌, length, Some, None, Bool, true, false, refl, ap, sym, ◌∙◌, subst, lt-ltb}
 use Rattle.std.specs.Prelude.{nat_lt, if◌then◌else◌}
 use Rattle.std.proofs.lemmas.Bool.{le-ltb}
-use Rattle.circular_buffer.specs.Buffer.{Buffer, buffer}
+use Rattle.circular_buffer.specs.Buffer.{Buffer}
 use Rattle.dns_name.specs.declared.address.SocketAddr.{SocketAddr}
 use Rattle.dns_service.specs.Answer.{Answer}
 use Rattle.dns_service.specs.Config.{Connection}
@@ -11,7 +11,7 @@ use Rattle.dns_service.specs.declared.event.Output.{Output}
 use Rattle.dns_service.specs.declared.event.Output.TheVariants.{Closed as Closed_output}
 use Rattle.dns_service.specs.declared.event.Why.TheVariants.{Short}
 use Rattle.dns_client.specs.Frames.{first, frames}
-use Rattle.dns_client.specs.Slate.{Slate, Asked, Open, Closed}
+use Rattle.dns_client.specs.Slate.{Slate, Told, Phase, Open, Closed, in_phase}
 use Rattle.dns_client.specs.Requests.{header_size, most_requests, request_of_frame, asked}
 use Rattle.dns_client.specs.Connections.{take_frames, take_frame, piece}
 use Rattle.dns_client.specs.Stands.{Stands, Follows, Asks, Takes, KeepsAll, phase_of, is_closed}
@@ -19,6 +19,9 @@ use Rattle.dns_client.specs.declared.client.ClientCore.{ClientCore}
 use Rattle.dns_client.specs.declared.client.Status.TheVariants.{Open as Is_open, Closed as Is_closed}
 use Rattle.dns_client.specs.declared.polling.PolledRequest.{PolledRequest}
 use Rattle.dns_client.proofs.FramesLemmas.{first_shorter, frames_none, frames_some, past_next, within_next, past-append, within-append, new_frames_by_kept}
+
+in_open : (p : Phase) (a b c d : Told) → p ≡ Open → in_phase p a b c d ≡ c
+in_open p a b c d e = rw e refl
 
 module _ {W R F : Type 0} (answer : PolledRequest F R → ℕ → Answer) (answers : Req (Unit {0}) → ℕ → Answer) (at secs : ℕ) where
   pub none_left : (core : ClientCore W R F) (outs : List Output) → first core.framer ≡ None → outs ≡ [] → Follows answer answers core core outs (λ s. take_frames at secs (frames core.framer) s)
@@ -100,3 +103,11 @@ module _ {W R F : Type 0} (answer : PolledRequest F R → ℕ → Answer) (answe
           bound = o.bound;
         };
       }))
+
+  -- what an open connection does
+  pub when_open : (core new : ClientCore W R F) (outs : List Output) (after : Slate → Told) → core.status ≡ Is_open → Follows answer answers core new outs after
+      → Follows answer answers core new outs (λ s. in_phase s.phase (s, []) (s, []) (after s) (s, []))
+  when_open core new outs after st f s h =
+      let op : s.phase ≡ Open = sym h.phase ∙ ap phase_of st in
+      let P : Told → Type 0 = λ t. (outs ≡ t.1) × Stands answer answers new t.0 in
+      subst P (sym (in_open s.phase (s, []) (s, []) (after s) (s, []) op)) (f s h)

@@ -10,7 +10,7 @@ use Rattle.dns_service.specs.Answer.{Answer}
 use Rattle.dns_service.specs.Req.{Req}
 use Rattle.dns_service.specs.declared.event.Output.{Output}
 use Rattle.dns_client.specs.Frames.{framed}
-use Rattle.dns_client.specs.Slate.{Slate, Asked, Told, Open}
+use Rattle.dns_client.specs.Slate.{Slate, Asked, Open}
 use Rattle.dns_client.specs.Turns.{polled, exchange_turn, turn, sent_at_once, reply_in, with_request, queued}
 use Rattle.dns_client.specs.PolledAt.{PolledAt}
 use Rattle.dns_client.specs.Stands.{Keeps, Stands, Follows, phase_of, is_closed}

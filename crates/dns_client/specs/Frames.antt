@@ -1,6 +1,6 @@
 -- The frames of a stream of octets: each message stands behind its length in two octets (RFC 1035, section 4.2.2; RFC 7766,
 -- section 8).
-use Rattle.std.specs.Prelude.{ℕ, zero, suc, ◌+◌, ◌*◌, ◌/◌, ◌%◌, List, [], ◌∷◌, ◌++◌, length, take, drop, nat_le, if◌then◌else◌, Option, Some, None}
+use Rattle.std.specs.Prelude.{ℕ, zero, suc, ◌+◌, ◌*◌, ◌/◌, ◌%◌, List, [], ◌∷◌, length, take, drop, nat_le, if◌then◌else◌, Option, Some, None}
 use Rattle.std.specs.Option.{option_map_or}
 
 -- the first n octets, and what follows them

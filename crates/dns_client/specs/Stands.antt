@@ -9,8 +9,8 @@ use Rattle.dns_service.specs.Config.{Connection}
 use Rattle.dns_service.specs.Req.{Req}
 use Rattle.dns_service.specs.declared.event.Output.{Output}
 use Rattle.dns_client.specs.Frames.{frames, past}
-use Rattle.dns_client.specs.Slate.{Slate, Asked, Told, Phase, Unused, Exchange, Open, Closed}
-use Rattle.dns_client.specs.Requests.{asked, most_requests, request_of_frame}
+use Rattle.dns_client.specs.Slate.{Slate, Asked, Told, Phase, Exchange, Open, Closed}
+use Rattle.dns_client.specs.Requests.{asked, most_requests}
 use Rattle.dns_client.specs.Connections.{take_frames}
 use Rattle.dns_client.specs.declared.client.ClientCore.{ClientCore}
 use Rattle.dns_client.specs.declared.client.Status.{Status}
@@ -35,12 +35,12 @@ Keeps answer answers (Some q) None = ⊥
 Keeps answer answers (Some q) (Some r) = (r.done ≡ false) × ((k : ℕ) → answer q k ≡ answers r.request (r.polls + k))
 
 -- a core of no requests
-pub record IsBare {W R F : Type 0} (client : ℕ) (addr : SocketAddr) (status : Status) (connection : Connection) (bound : ℕ) (core : ClientCore W R F) : Type 0 where
-  pub client : core.client ≡ client
-  pub addr : core.addr ≡ addr
-  pub status : core.status ≡ status
+pub record IsBare {W R F : Type 0} (number : ℕ) (from : SocketAddr) (as_is : Status) (config : Connection) (bound : ℕ) (core : ClientCore W R F) : Type 0 where
+  pub client : core.client ≡ number
+  pub addr : core.addr ≡ from
+  pub status : core.status ≡ as_is
   pub freed : core.freed ≡ false
-  pub connection : core.connection ≡ connection
+  pub connection : core.connection ≡ config
   pub framer : core.framer ≡ []
   pub count : core.count ≡ 0
   pub unfinished : core.unfinished.entries ≡ []

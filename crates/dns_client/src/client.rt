@@ -315,7 +315,10 @@ impl<W: Served> ClientCore<W> {
                 self.turn(alloc, *request)?;
                 Ok(Vec::new(alloc))
             }
-            EventKind::Write { took } => self.write(alloc, *took),
+            EventKind::Write { took } => {
+                let outs = self.write(alloc, *took)?;
+                Ok(outs)
+            }
             EventKind::End => self.close(alloc, Why::Ended),
             EventKind::Datagram { .. } => Ok(Vec::new(alloc)),
             EventKind::Offer { .. } => Ok(Vec::new(alloc)),
