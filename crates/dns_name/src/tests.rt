@@ -112,3 +112,22 @@ fn compares_serials(rt: HostRuntime) {
         assert!(&rt; Serial(a).partial_cmp(&Serial(b)) == want);
     }
 }
+
+#[test]
+fn displays_names(rt: HostRuntime) {
+    let rows: [(&[u8], &str); 4] = [
+        (b"\x00", "."),
+        (b"\x07example\x03com\x00", "example.com"),
+        (b"\x03a.b\x02\\ \x00", "a\\.b.\\\\\\ "),
+        (b"\x02\x00\xff\x00", "\\000\\255"),
+    ];
+    for (octets, want) in rows {
+        let Ok(name) = NameRef::from_slice(octets) else {
+            panic!(&rt; "no name");
+        };
+        let Ok(text) = name.to_string(rt.alloc()) else {
+            panic!(&rt; "no memory");
+        };
+        assert!(&rt; text.as_str() == want);
+    }
+}
