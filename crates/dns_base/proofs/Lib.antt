@@ -3,3 +3,5 @@ pub mod Written
 pub mod Pushed
 pub mod Copied
 pub mod Plains
+pub mod OptionLaws
+pub mod Rewound

@@ -1,20 +1,23 @@
 -- An item at the end of a built message.
-use Rattle.std.proofs.Common.{◌≡◌, ℕ, ◌+◌, ◌-◌, ◌≤◌, ◌<◌, List, [], ◌∷◌, ◌++◌, length, drop, refl, ap, sym, subst, ◌∙◌, arith, Result, Err, length-append, length-drop, append-nil}
+use Rattle.std.proofs.Common.{◌≡◌, ℕ, ◌+◌, ◌-◌, ◌≤◌, ◌<◌, List, [], ◌∷◌, ◌++◌, length, drop, refl, ap, sym, subst, ◌∙◌, arith, Result, Err, length-append, length-drop, append_assoc, append-nil}
 use Rattle.std.specs.Prelude.{⊤}
 use Rattle.std.specs.List.{flat_map, AllByRecursion}
+use Rattle.std.proofs.lemmas.Grind.{common_steps}
 use Rattle.std.proofs.lemmas.List.Concat.{flat_map-append}
 use Rattle.dns_name.specs.Place.{two, four}
 use Rattle.dns_name.specs.Labels.{spell}
+use Rattle.dns_base.specs.declared.draft.Section.{Section}
+use Rattle.dns_base.specs.declared.draft.Section.TheVariants.{Answer, Authority, Additional}
 use Rattle.dns_base.specs.declared.error.PushError.{PushError}
 use Rattle.dns_base.specs.declared.error.PushError.TheVariants.{OutOfMemory as NoMemory}
 use Rattle.dns_base.specs.declared.header.Header.{Header}
 use Rattle.dns_base.specs.declared.question.Question.{Question}
 use Rattle.dns_base.specs.Header.{header_octets, IsHeader}
-use Rattle.dns_base.specs.Msg.{Msg, ResourceRecord, IsMessage, HasName, item_counts}
+use Rattle.dns_base.specs.Msg.{Msg, ResourceRecord, IsMessage, HasName, HasOwner, item_counts}
 use Rattle.dns_base.specs.Wire.{question_octets, record_octets, counts, body, wire}
 use Rattle.dns_base.specs.Sections.{field, counts_of, message_of}
-use Rattle.dns_base.specs.Built.{Built, IsBuilt, NoRecords, Pushes, empty, with_header, and_question, with_question}
-use Rattle.dns_base.specs.Draft.{IsDraft, counted}
+use Rattle.dns_base.specs.Built.{Built, IsBuilt, NoAuthority, NoRecords, IsLast, Pushes, empty, with_header, and_question, with_question, and_record, with_record}
+use Rattle.dns_base.specs.Draft.{IsDraft, count_place, counted}
 use Rattle.dns_base.proofs.Written.{read_back, halves}
 
 abbrev pub built : Msg → ℕ → Built
@@ -154,6 +157,87 @@ question_done o o' p limit b q d v n r hp h l s =
     let i = w.1 in
     let k = drafted o' (and_question m q) limit e (record { header = i.header; questions = all_more HasName m.questions q i.questions n; answers = i.answers; authority = i.authority; additional = i.additional }) (omega (arith, g.0, d.limited)) d.limited (omega (arith, d.framed)) in
     (k.0, k.1 ∙ ap (λ x. built (and_question m q) x) (sym w.3))
+
+-- ---- a record more
+
+body_answer : (m : Msg) (r : ResourceRecord) → NoAuthority m → body (and_record Answer m r) ≡ body m ++ record_octets r
+body_answer m r h =
+    let fq = flat_map question_octets m.questions in
+    let fa = flat_map record_octets m.answers in
+    rw (h.authority, h.additional, more_items record_octets m.answers r, append-nil (fa ++ record_octets r), append-nil fa)
+    (sym (append_assoc fq fa (record_octets r)))
+
+body_authority : (m : Msg) (r : ResourceRecord) → m.additional ≡ [] → body (and_record Authority m r) ≡ body m ++ record_octets r
+body_authority m r h =
+    let fq = flat_map question_octets m.questions in
+    let fa = flat_map record_octets m.answers in
+    let fn = flat_map record_octets m.authority in
+    rw (h, more_items record_octets m.authority r, append-nil (fn ++ record_octets r), append-nil fn)
+    (ap (λ t. fq ++ t) (sym (append_assoc fa fn (record_octets r))) ∙ sym (append_assoc fq (fa ++ fn) (record_octets r)))
+
+body_additional : (m : Msg) (r : ResourceRecord) → body (and_record Additional m r) ≡ body m ++ record_octets r
+body_additional m r =
+    let fq = flat_map question_octets m.questions in
+    let fa = flat_map record_octets m.answers in
+    let fn = flat_map record_octets m.authority in
+    let fr = flat_map record_octets m.additional in
+    let x = record_octets r in
+    rw (more_items record_octets m.additional r)
+    (ap (λ t. fq ++ (fa ++ t)) (sym (append_assoc fn fr x)) ∙ (ap (λ t. fq ++ t) (sym (append_assoc fa (fn ++ fr) x)) ∙ sym (append_assoc fq (fa ++ (fn ++ fr)) x)))
+
+wire_record : (s : Section) (m : Msg) (r : ResourceRecord) → IsLast s m → counted (count_place s) (field (count_place s) (wire m) + 1) (wire m ++ record_octets r) ≡ wire (and_record s m r)
+unfolding wire
+wire_record Answer m r h =
+    let x = body m ++ record_octets r in
+    ap (λ n. framed m.header (length m.questions) n (length m.authority) (length m.additional) x) (ap (λ n. n + 1) (halves (length m.answers)) ∙ sym (one_more m.answers r))
+    ∙ ap (λ t. framed m.header (length m.questions) (length (m.answers ++ r ∷ [])) (length m.authority) (length m.additional) t) (sym (body_answer m r h))
+wire_record Authority m r h =
+    let x = body m ++ record_octets r in
+    ap (λ n. framed m.header (length m.questions) (length m.answers) n (length m.additional) x) (ap (λ n. n + 1) (halves (length m.authority)) ∙ sym (one_more m.authority r))
+    ∙ ap (λ t. framed m.header (length m.questions) (length m.answers) (length (m.authority ++ r ∷ [])) (length m.additional) t) (sym (body_authority m r h))
+wire_record Additional m r h =
+    let x = body m ++ record_octets r in
+    ap (λ n. framed m.header (length m.questions) (length m.answers) (length m.authority) n x) (ap (λ n. n + 1) (halves (length m.additional)) ∙ sym (one_more m.additional r))
+    ∙ ap (λ t. framed m.header (length m.questions) (length m.answers) (length m.authority) (length (m.additional ++ r ∷ [])) t) (sym (body_additional m r))
+
+counted_length : (at n : ℕ) (o p : List ℕ) → length (counted at n (o ++ p)) ≡ length o + length p
+counted_length at n o p = grind (arith, common_steps)
+
+record_length : (s : Section) (m : Msg) (r : ResourceRecord) → IsLast s m → length (wire (and_record s m r)) ≡ length (wire m) + length (record_octets r)
+record_length s m r h = ap length (sym (wire_record s m r h)) ∙ counted_length (count_place s) (field (count_place s) (wire m) + 1) (wire m) (record_octets r)
+
+lawful_record : (s : Section) (m : Msg) (r : ResourceRecord) → IsMessage m → HasOwner r → IsMessage (and_record s m r)
+lawful_record Answer m r i n = record { header = i.header; questions = i.questions; answers = all_more HasOwner m.answers r i.answers n; authority = i.authority; additional = i.additional }
+lawful_record Authority m r i n = record { header = i.header; questions = i.questions; answers = i.answers; authority = all_more HasOwner m.authority r i.authority n; additional = i.additional }
+lawful_record Additional m r i n = record { header = i.header; questions = i.questions; answers = i.answers; authority = i.authority; additional = all_more HasOwner m.additional r i.additional n }
+
+-- the count of a section has room
+pub count_room : (o : List ℕ) (limit : ℕ) (s : Section) → IsDraft o limit → field (count_place s) (drop 2 o) < 65535
+count_room o limit Answer d = (room o limit d).2
+count_room o limit Authority d = (room o limit d).3
+count_room o limit Additional d = (room o limit d).4
+
+-- how long the message is with the record
+pub record_grows : (o : List ℕ) (limit : ℕ) (b : Built) (s : Section) (r : ResourceRecord) → IsDraft o limit → viewed o limit ≡ b → IsLast s b.message →
+    (length (wire (and_record s b.message r)) ≡ length o - 2 + length (record_octets r)) × (b.limit ≡ limit)
+record_grows o limit b s r d v h =
+    let w = draft_wire o limit b d v in
+    let l = ap length w.0 in
+    (omega (arith, record_length s b.message r h, l, length-drop 2 o), w.3)
+
+-- a push of a record
+pub record_done : (o o' p : List ℕ) (limit : ℕ) (b : Built) (s : Section) (r : ResourceRecord) → IsDraft o limit → viewed o limit ≡ b → HasOwner r → IsLast s b.message →
+    p ≡ record_octets r → drop 2 o' ≡ counted (count_place s) (field (count_place s) (drop 2 o) + 1) (drop 2 o ++ p) → length o' ≡ length o + length p → length o - 2 + length (record_octets r) ≤ limit →
+    IsDraft o' limit × (viewed o' limit ≡ with_record s b r)
+record_done o o' p limit b s r d v n h hp k l f =
+    let w = draft_wire o limit b d v in
+    let m = b.message in
+    let e : drop 2 o' ≡ wire (and_record s m r) =
+    k ∙ (ap (λ t. counted (count_place s) (field (count_place s) (drop 2 o) + 1) (drop 2 o ++ t)) hp
+    ∙ (ap (λ t. counted (count_place s) (field (count_place s) t + 1) (t ++ record_octets r)) w.0 ∙ wire_record s m r h)) in
+    let g = record_grows o limit b s r d v h in
+    let t = drafted o' (and_record s m r) limit e (lawful_record s m r w.1 n) (omega (arith, g.0, d.limited)) d.limited (omega (arith, d.framed)) in
+    (t.0, t.1 ∙ ap (λ x. built (and_record s m r) x) (sym w.3))
 
 -- ---- other changes
 

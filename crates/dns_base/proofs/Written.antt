@@ -12,7 +12,8 @@ use Rattle.dns_base.specs.declared.question.Question.{Question}
 use Rattle.dns_base.specs.Header.{bit, low_bit, header_of, header_octets, IsHeader}
 use Rattle.dns_base.specs.Msg.{Msg, ResourceRecord, IsMessage, HasName, HasOwner}
 use Rattle.dns_base.specs.Wire.{question_octets, record_octets, counts, body, wire}
-use Rattle.dns_base.specs.Read.{two_at, four_at, octets_at, question_at, record_at}
+use Rattle.dns_base.specs.Read.{two_at, four_at, octets_at, question_at}
+use Rattle.dns_base.specs.Standing.{standing_at, record_at}
 use Rattle.dns_base.specs.Sections.{items_from, questions_of, answers_of, authority_of, additional_of, message_of}
 
 -- what lies behind octets at a place
@@ -54,7 +55,7 @@ question_written q o more at n h =
     rw (a, b, c) (ap (λ x. Ok (q, x)) e)
 
 pub record_written : (r : ResourceRecord) (o more : List ℕ) (at : ℕ) → IsName r.owner → drop at o ≡ record_octets r ++ more → record_at o at ≡ Ok (r, at + length (record_octets r))
-unfolding record_at
+unfolding record_at standing_at
 record_written r o more at n h =
     let s = spell r.owner in
     let d = r.rdata in
@@ -127,14 +128,14 @@ header_back h o i =
     let l = lower_back h.ra h.z h.ad h.cd h.rcode i.rcode in
     rw (halves h.id, u.0, u.1, u.2, u.3, u.4, l.0, l.1, l.2, l.3, l.4) refl
 
-questions_written : (m : Msg) → IsMessage m → questions_of (wire m) ≡ (m.questions, Ok (12 + length (flat_map question_octets m.questions)))
+pub questions_written : (m : Msg) → IsMessage m → questions_of (wire m) ≡ (m.questions, Ok (12 + length (flat_map question_octets m.questions)))
 unfolding questions_of wire
 questions_written m n =
     rw (halves (length m.questions))
     (items_written (question_at (wire m)) question_octets HasName (wire m) (λ q more at p h. question_written q (wire m) more at p h)
     m.questions (flat_map record_octets m.answers ++ (flat_map record_octets m.authority ++ flat_map record_octets m.additional)) 12 n.questions refl)
 
-answers_written : (m : Msg) → IsMessage m → answers_of (wire m) ≡ (m.answers, Ok (12 + length (flat_map question_octets m.questions) + length (flat_map record_octets m.answers)))
+pub answers_written : (m : Msg) → IsMessage m → answers_of (wire m) ≡ (m.answers, Ok (12 + length (flat_map question_octets m.questions) + length (flat_map record_octets m.answers)))
 unfolding answers_of wire
 answers_written m n =
     let fq = flat_map question_octets m.questions in
@@ -144,7 +145,7 @@ answers_written m n =
     (items_written (record_at (wire m)) record_octets HasOwner (wire m) (λ r more at p h. record_written r (wire m) more at p h)
     m.answers rest (12 + length fq) n.answers h)
 
-authority_written : (m : Msg) → IsMessage m → authority_of (wire m) ≡ (m.authority, Ok (12 + length (flat_map question_octets m.questions) + length (flat_map record_octets m.answers) + length (flat_map record_octets m.authority)))
+pub authority_written : (m : Msg) → IsMessage m → authority_of (wire m) ≡ (m.authority, Ok (12 + length (flat_map question_octets m.questions) + length (flat_map record_octets m.answers) + length (flat_map record_octets m.authority)))
 unfolding authority_of wire
 authority_written m n =
     let fq = flat_map question_octets m.questions in
@@ -157,7 +158,7 @@ authority_written m n =
     (items_written (record_at (wire m)) record_octets HasOwner (wire m) (λ r more at p h. record_written r (wire m) more at p h)
     m.authority fr (12 + length fq + length fa) n.authority k)
 
-additional_written : (m : Msg) → IsMessage m → additional_of (wire m) ≡ (m.additional, Ok (12 + length (flat_map question_octets m.questions) + length (flat_map record_octets m.answers) + length (flat_map record_octets m.authority) + length (flat_map record_octets m.additional)))
+pub additional_written : (m : Msg) → IsMessage m → additional_of (wire m) ≡ (m.additional, Ok (12 + length (flat_map question_octets m.questions) + length (flat_map record_octets m.answers) + length (flat_map record_octets m.authority) + length (flat_map record_octets m.additional)))
 unfolding additional_of wire
 additional_written m n =
     let fq = flat_map question_octets m.questions in

@@ -1,5 +1,7 @@
 -- What a builder has built: a message, and the limit of its octets.
 use Rattle.std.specs.Prelude.{ℕ, ⊤, ◌≡◌, ◌≤◌, ◌<◌, false, List, [], ◌∷◌, ◌++◌, length, Result, Ok, Err}
+use Rattle.dns_base.specs.declared.draft.Section.{Section}
+use Rattle.dns_base.specs.declared.draft.Section.TheVariants.{Answer, Authority, Additional}
 use Rattle.dns_base.specs.declared.error.PushError.{PushError}
 use Rattle.dns_base.specs.declared.error.PushError.TheVariants.{ShortBuf, OutOfMemory as NoMemory}
 use Rattle.dns_base.specs.declared.header.Header.{Header}
@@ -26,26 +28,38 @@ with_header b h = record b { message = record b.message { header = h } }
 abbrev pub and_question : Msg → Question → Msg
 and_question m q = record m { questions = m.questions ++ q ∷ [] }
 
-abbrev pub and_answer : Msg → ResourceRecord → Msg
-and_answer m r = record m { answers = m.answers ++ r ∷ [] }
-
-abbrev pub and_authority : Msg → ResourceRecord → Msg
-and_authority m r = record m { authority = m.authority ++ r ∷ [] }
-
-abbrev pub and_additional : Msg → ResourceRecord → Msg
-and_additional m r = record m { additional = m.additional ++ r ∷ [] }
+abbrev pub and_record : Section → Msg → ResourceRecord → Msg
+and_record Answer m r = record m { answers = m.answers ++ r ∷ [] }
+and_record Authority m r = record m { authority = m.authority ++ r ∷ [] }
+and_record Additional m r = record m { additional = m.additional ++ r ∷ [] }
 
 abbrev pub with_question : Built → Question → Built
 with_question b q = record b { message = and_question b.message q }
 
+abbrev pub with_record : Section → Built → ResourceRecord → Built
+with_record s b r = record b { message = and_record s b.message r }
+
 abbrev pub with_answer : Built → ResourceRecord → Built
-with_answer b r = record b { message = and_answer b.message r }
+with_answer b r = with_record Answer b r
 
 abbrev pub with_authority : Built → ResourceRecord → Built
-with_authority b r = record b { message = and_authority b.message r }
+with_authority b r = with_record Authority b r
 
 abbrev pub with_additional : Built → ResourceRecord → Built
-with_additional b r = record b { message = and_additional b.message r }
+with_additional b r = with_record Additional b r
+
+-- the message without the records of a section
+abbrev pub less_records : Section → Msg → Msg
+less_records Answer m = record m { answers = [] }
+less_records Authority m = record m { authority = [] }
+less_records Additional m = record m { additional = [] }
+
+-- what is built, without the last section
+abbrev pub less_questions : Built → Built
+less_questions b = record b { message = record b.message { questions = [] } }
+
+abbrev pub less_section : Section → Built → Built
+less_section s b = record b { message = less_records s b.message }
 
 -- a message that passes the limit
 abbrev pub PassesLimit : Built → Type 0
@@ -73,6 +87,12 @@ pub record NoRecords (m : Msg) : Type 0 where
 pub record NoAuthority (m : Msg) : Type 0 where
   pub authority : m.authority ≡ []
   pub additional : m.additional ≡ []
+
+-- the sections behind a section of records are empty
+abbrev pub IsLast : Section → Msg → Type 0
+IsLast Answer m = NoAuthority m
+IsLast Authority m = m.additional ≡ []
+IsLast Additional m = Unit {0}
 
 pub record NoSections (m : Msg) : Type 0 where
   pub questions : m.questions ≡ []

@@ -1,11 +1,27 @@
 -- How a builder keeps its message: behind two octets for its length (RFC 1035, section 4.2.2).
-use Rattle.std.specs.Prelude.{ℕ, ◌≡◌, ◌+◌, ◌/◌, ◌%◌, ◌≤◌, List, ◌++◌, length, drop, slice_set}
+use Rattle.std.specs.Prelude.{ℕ, Result, ◌≡◌, ◌+◌, ◌/◌, ◌%◌, ◌≤◌, List, ◌++◌, length, drop, slice_set}
 use Rattle.dns_name.specs.Place.{two}
+use Rattle.dns_base.specs.declared.draft.Section.{Section}
+use Rattle.dns_base.specs.declared.draft.Section.TheVariants.{Answer, Authority, Additional}
+use Rattle.dns_name.specs.declared.error.ParseError.{ParseError}
+use Rattle.dns_base.specs.Sections.{questions_of, answers_of, authority_of}
 use Rattle.dns_base.specs.Built.{IsBuilt}
 
 -- octets with a number of two octets at a place
 abbrev pub counted : ℕ → ℕ → List ℕ → List ℕ
 counted at n o = slice_set (slice_set o at (n / 256)) (at + 1) (n % 256)
+
+-- where the count of a section of records stands
+abbrev pub count_place : Section → ℕ
+count_place Answer = 6
+count_place Authority = 8
+count_place Additional = 10
+
+-- where a section of records begins
+abbrev pub start_of : Section → List ℕ → Result ℕ ParseError
+start_of Answer o = (questions_of o).1
+start_of Authority o = (answers_of o).1
+start_of Additional o = (authority_of o).1
 
 -- octets and a limit that are a builder's
 pub record IsDraft (o : List ℕ) (limit : ℕ) : Type 0 where

@@ -1,7 +1,11 @@
 pub mod Header
+pub mod PushErrors
 pub mod Msg
 pub mod Wire
 pub mod Read
+pub mod Options
+pub mod Records
+pub mod Standing
 pub mod Sections
 pub mod Built
 pub mod Draft

@@ -1,4 +1,4 @@
--- Questions and records at a place of a message (RFC 1035, sections 4.1.2 and 4.1.3): each is read as a value and the place behind it.
+-- Numbers, octets and questions at a place of a message (RFC 1035, section 4.1.2): each is read as a value and the place behind it.
 use Rattle.std.specs.Prelude.{ℕ, ◌≡◌, ◌+◌, ◌*◌, List, [], ◌∷◌, length, take, drop, nat_lt, if◌then◌else◌, Result, Ok, Err}
 use Rattle.std.specs.Borrow.{Bor}
 use Rattle.dns_name.specs.declared.error.ParseError.{ParseError}
@@ -6,7 +6,6 @@ use Rattle.dns_name.specs.declared.error.ParseError.TheVariants.{ShortInput}
 use Rattle.dns_name.specs.Place.{Read, be16}
 use Rattle.dns_name.specs.Names.{name_at}
 use Rattle.dns_base.specs.declared.question.Question.{Question}
-use Rattle.dns_base.specs.Msg.{ResourceRecord}
 
 -- what is read behind what is read
 infixl 10 ◌>>=◌
@@ -41,17 +40,6 @@ question_at o at = do
   qtype ← two_at o qname.1
   qclass ← two_at o qtype.1
   Ok (record { qname = qname.0; qtype = qtype.0; qclass = qclass.0 }, qclass.1)
-
--- a record: name, type, class, TTL, the length of its data and the data, which is not looked into
-unfoldable pub record_at : List ℕ → ℕ → Read ResourceRecord
-record_at o at = do
-  owner ← name_at o at
-  rtype ← two_at o owner.1
-  class ← two_at o rtype.1
-  ttl ← four_at o class.1
-  size ← two_at o ttl.1
-  octets ← octets_at size.0 o size.1
-  Ok (record { owner = owner.0; rtype = rtype.0; class = class.0; ttl = ttl.0; rdata = octets.0 }, octets.1)
 
 -- octets that are lent are what is read
 abbrev pub Sees : Result (Bor (List ℕ) × ℕ) ParseError → Read (List ℕ) → Type 0

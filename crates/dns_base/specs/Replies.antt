@@ -45,3 +45,14 @@ abbrev pub Answers : Built → List ℕ → ℕ → Result Built PushError → T
 Answers b o rcode (Ok new) = (new ≡ answer_to b o rcode) × (have_room b o rcode ≡ true)
 Answers b o rcode (Err ShortBuf) = have_room b o rcode ≡ false
 Answers b o rcode (Err NoMemory) = Unit {0}
+
+abbrev pub with_rcode : Built → ℕ → Built
+with_rcode b rcode = with_header b (record b.message.header { rcode = rcode })
+
+abbrev pub error_by : Built × Bool → Built
+error_by (b, true) = b
+error_by (b, false) = with_rcode b 2
+
+-- what is built, as the error answer to a query's octets: the questions up to the first that has no room, for which RCODE becomes SERVFAIL
+abbrev pub error_to : Built → List ℕ → ℕ → Built
+error_to b o rcode = error_by (copied (with_header b (answer_header b.message.header (header_of o) rcode)) (questions_of o).0)

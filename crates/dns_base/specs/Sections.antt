@@ -1,12 +1,13 @@
 -- The four sections of a message (RFC 1035, section 4.1): the items of each up to the first unreadable one.
-use Rattle.std.specs.Prelude.{ℕ, zero, suc, List, [], ◌∷◌, ◌++◌, drop, map, Option, Some, None, Result, Ok, Err}
+use Rattle.std.specs.Prelude.{ℕ, ◌≡◌, zero, suc, List, [], ◌∷◌, ◌++◌, drop, map, Option, Some, None, Result, Ok, Err}
 use Rattle.dns_name.specs.declared.error.ParseError.{ParseError}
 use Rattle.dns_name.specs.Place.{Read, be16}
 use Rattle.dns_base.specs.declared.question.Question.{Question}
 use Rattle.dns_base.specs.declared.header.HeaderCounts.{HeaderCounts}
 use Rattle.dns_base.specs.Header.{header_of}
 use Rattle.dns_base.specs.Msg.{Msg, ResourceRecord}
-use Rattle.dns_base.specs.Read.{question_at, record_at}
+use Rattle.dns_base.specs.Read.{question_at}
+use Rattle.dns_base.specs.Standing.{Standing, standing_at, record_at}
 
 -- items, and the place behind them or the refusal of the item behind them
 abbrev pub Items : Type 0 → Type 0
@@ -52,14 +53,34 @@ authority_of o = items_behind (record_at o) (field 8 o) (answers_of o).1
 unfoldable pub additional_of : List ℕ → Items ResourceRecord
 additional_of o = items_behind (record_at o) (field 10 o) (authority_of o).1
 
+-- the same sections with each record as it stands in the message
+abbrev pub standing_answers : List ℕ → Items Standing
+standing_answers o = items_behind (standing_at o) (field 6 o) (questions_of o).1
+
+abbrev pub standing_authority : List ℕ → Items Standing
+standing_authority o = items_behind (standing_at o) (field 8 o) (answers_of o).1
+
+abbrev pub standing_additional : List ℕ → Items Standing
+standing_additional o = items_behind (standing_at o) (field 10 o) (authority_of o).1
+
 -- the message that octets are, as far as it is readable
 unfoldable pub message_of : List ℕ → Msg
 message_of o = record { header = header_of o; questions = (questions_of o).0; answers = (answers_of o).0; authority = (authority_of o).0; additional = (additional_of o).0 }
+
+-- the same records, each as it stands or with its data as octets, and the same end
+pub record SameRecords (i : Items Standing) (j : Items ResourceRecord) : Type 0 where
+  pub items : map (λ (s : Standing). s.resource) i.0 ≡ j.0
+  pub end : i.1 ≡ j.1
 
 -- what an iterator over a section gives: its items, and then the refusal of the first unreadable one
 abbrev pub all_of : {A : Type 0} → Items A → List (Result A ParseError)
 all_of (xs, Ok end) = map Ok xs
 all_of (xs, Err e) = map Ok xs ++ Err e ∷ []
+
+-- what a section gives where it is reached, else the refusal of the section before it
+abbrev pub reached : {A : Type 0} → Result ℕ ParseError → Items A → Result (List (Result A ParseError)) ParseError
+reached (Ok at) items = Ok (all_of items)
+reached (Err e) items = Err e
 
 -- the first item where there is a readable one
 abbrev pub first_of : {A : Type 0} → List A → Option A
@@ -74,3 +95,12 @@ by_next go (Err e) = Err e ∷ []
 abbrev pub to_come : {A : Type 0} → (ℕ → Read A) → ℕ → ℕ → List (Result A ParseError)
 to_come one zero at = []
 to_come one (suc k) at = by_next (to_come one k) (one at)
+
+-- where so many items end, item by item
+abbrev pub end_next : {A : Type 0} → (ℕ → Result ℕ ParseError) → Read A → Result ℕ ParseError
+end_next go (Ok (x, end)) = go end
+end_next go (Err e) = Err e
+
+abbrev pub ends_at : {A : Type 0} → (ℕ → Read A) → ℕ → ℕ → Result ℕ ParseError
+ends_at one zero at = Ok at
+ends_at one (suc k) at = end_next (ends_at one k) (one at)

@@ -1,22 +1,44 @@
 //! A message as it is being built.
 
-ghost use Rattle.std.specs.Prelude.{◌≡◌, ◌≤◌, ◌<◌, ◌+◌, ◌++◌, [], length, drop, min, IsTrue, IfOk, OnOk, OnErr, ◌↔◌};
+ghost use Rattle.std.specs.Prelude.{◌≡◌, ◌≤◌, ◌<◌, ◌+◌, ◌++◌, [], length, drop, take, min, IsTrue, IfOk, OnOk, OnErr, ◌↔◌};
 ghost use Rattle.dns_base.specs.Header.{header_octets, IsHeader};
 ghost use Rattle.dns_base.specs.Msg.{IsMessage, item_counts};
 ghost use Rattle.dns_base.specs.Wire.{wire};
 ghost use Rattle.dns_base.specs.Sections.{field, questions_of};
-ghost use Rattle.dns_base.specs.Built.{Built, NoRecords, Pushes, empty, with_header, with_question};
-ghost use Rattle.dns_base.specs.Draft.{counted};
+ghost use Rattle.dns_base.specs.Built.{Built, NoRecords, Pushes, empty, with_header, with_question, with_record, less_questions, less_section, IsLast};
+ghost use Rattle.dns_base.specs.Draft.{count_place, counted, start_of};
+ghost use Rattle.dns_base.specs.Records.{record_of, IsLawful};
 ghost use Rattle.dns_base.specs.Replies.{Copies, copied};
 
 use crate::error::PushError;
 use crate::header::{Header, HeaderCounts, lower_of, number_at, upper_of};
-use crate::message::{Message, MessageRef};
+use crate::message::{Message, MessageRef, end_of_answers, end_of_authority, end_of_questions};
 use crate::question::Question;
+use crate::record::Record;
 use crate::stream::StreamTarget;
-use dns_name::OutOfMemory;
+use dns_name::{OutOfMemory, ParseError};
 use std::alloc::Global;
 use std::marker::Model;
+
+/// A section of records.
+#[derive(Clone, Copy, Debug)]
+pub(crate) enum Section {
+    Answer,
+    Authority,
+    Additional,
+}
+
+/// Where the count of a section of records stands in a message.
+fn count_place(section: Section) -> usize
+    ensures value { result ≡ count_place section }
+    ensures within { result ≤ 10 }
+{
+    match section {
+        Section::Answer => 6,
+        Section::Authority => 8,
+        Section::Additional => 10,
+    }
+}
 
 /// A message behind two octets for its length, and the limit of its octets.
 #[derive(Debug, Drop)]
@@ -132,6 +154,25 @@ impl Draft {
         Ok(())
     }
 
+    /// Adds a record to the last section.
+    pub(crate) fn push_record(
+        &mut self,
+        alloc: Global,
+        section: Section,
+        record: &Record,
+    ) -> Result<(), PushError>
+        requires last { IsLast section self.old.message }
+        requires lawful { IsLawful record.now.rdata }
+        ensures { Pushes self.old self.new (with_record section self.old (record_of record.now)) result }
+    {
+        if self.octets.len() - 2 + record.size() > self.limit {
+            return Err(PushError::ShortBuf);
+        }
+        let piece = record.octets(alloc)?;
+        append(&mut self.octets, count_place(section), piece.as_slice())?;
+        Ok(())
+    }
+
     /// Adds the questions of a message up to its first unreadable one, as far as each has room.
     pub(crate) fn copy_questions(
         &mut self,
@@ -139,7 +180,8 @@ impl Draft {
         message: &Message,
     ) -> Result<(), PushError>
         requires { NoRecords self.old.message }
-        ensures { Copies (copied self.old (questions_of message.now).0) self.new result }
+        ensures value { Copies (copied self.old (questions_of message.now).0) self.new result }
+        ensures records { NoRecords self.new.message }
     {
         let mut questions = message.question();
         'questions: while let Some(Ok(question)) = questions.next() {
@@ -147,6 +189,25 @@ impl Draft {
             self.push_question(alloc, &question)?;
         }
         Ok(())
+    }
+
+    /// Drops the questions.
+    pub(crate) fn rewind_questions(&mut self)
+        requires { NoRecords self.old.message }
+        ensures { self.new ≡ less_questions self.old }
+    {
+        cut(&mut self.octets, 12, 4);
+    }
+
+    /// Drops the records of the last section.
+    pub(crate) fn rewind(&mut self, section: Section)
+        requires { IsLast section self.old.message }
+        ensures { self.new ≡ less_section section self.old }
+    {
+        let start = section_start(self.as_slice(), section);
+        if let Ok(start) = start {
+            cut(&mut self.octets, start, count_place(section));
+        }
     }
 
     /// The finished message.
@@ -185,4 +246,29 @@ fn append(octets: &mut Vec<u8>, at: usize, piece: &[u8]) -> Result<(), OutOfMemo
     octets[at + 2] = (count / 256) as u8;
     octets[at + 3] = (count % 256) as u8;
     Ok(())
+}
+
+/// Where a section of records begins in a message.
+fn section_start(message: &[u8], section: Section) -> Result<usize, ParseError>
+    requires { 12 ≤ length message.now }
+    ensures value { result ≡ start_of section message.now }
+    ensures within { IfOk result (λ at. at ≤ length message.now) }
+{
+    match section {
+        Section::Answer => end_of_questions(message),
+        Section::Authority => end_of_answers(message),
+        Section::Additional => end_of_authority(message),
+    }
+}
+
+/// Cuts a message that stands behind two octets, and sets the count at a place of it to 0.
+fn cut(octets: &mut Vec<u8>, start: usize, at: usize)
+    requires after { at + 1 < start }
+    requires within { start + 2 ≤ length octets.old.items }
+    ensures message { drop 2 octets.new.items ≡ counted at 0 (take start (drop 2 octets.old.items)) }
+    ensures len { length octets.new.items ≡ start + 2 }
+{
+    octets.truncate(start + 2);
+    octets[at + 2] = 0;
+    octets[at + 3] = 0;
 }

@@ -2,7 +2,7 @@
 
 ghost use Rattle.std.specs.Prelude.{◌≡◌};
 
-use dns_name::OutOfMemory;
+use dns_name::{BuildDataError, OutOfMemory};
 use std::alloc::AllocError;
 use thiserror::Error;
 
@@ -33,5 +33,18 @@ impl From<AllocError> for PushError {
 
     fn from(_error: AllocError) -> Self {
         PushError::OutOfMemory
+    }
+}
+
+impl From<PushError> for BuildDataError {
+    ghost use Rattle.dns_base.specs.PushErrors.{build_error};
+
+    ghost from_gives = { λ push e. e ≡ build_error push };
+
+    fn from(error: PushError) -> Self {
+        match error {
+            PushError::ShortBuf => BuildDataError::ShortBuf,
+            PushError::OutOfMemory => BuildDataError::OutOfMemory,
+        }
     }
 }

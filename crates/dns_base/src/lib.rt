@@ -7,8 +7,11 @@ mod error;
 mod header;
 mod laws;
 mod message;
+mod option_list;
 mod plain;
 mod question;
+mod rdata;
+mod rdata_read;
 mod read;
 mod record;
 mod stream;
@@ -21,13 +24,15 @@ pub use builder::{
 };
 pub use dns_name::{
     Addrs, Class, FormReason, IpAddr, Labels, Name, NameRef, Octets, Opcode, OutOfMemory,
-    ParseError, ParsedName, Parser, Rcode, Rtype, Serial, SocketAddr,
+    ParseError, ParsedName, Parser, Rcode, Rtype, Serial, SocketAddr, Ttl,
 };
 pub use error::PushError;
 pub use header::{Header, HeaderCounts};
-pub use laws::{messages_read_back, plain_queries_ask_once};
+pub use laws::{messages_read_back, plain_queries_ask_once, records_stand};
 pub use message::{Message, MessageRef};
+pub use option_list::{first_option, is_option_list};
 pub use plain::is_plain;
 pub use question::{Question, QuestionIter, QuestionRef};
-pub use record::{RecordIter, RecordRef};
+pub use rdata::RecordData;
+pub use record::{Record, RecordIter, RecordRef};
 pub use stream::StreamTarget;

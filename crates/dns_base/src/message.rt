@@ -2,10 +2,11 @@
 
 ghost use Rattle.std.specs.Prelude.{◌≡◌, ◌≤◌, ◌<◌, length, IfOk, IsOk, MatchResult};
 ghost use Rattle.dns_base.specs.Header.{header_of};
-ghost use Rattle.dns_base.specs.Sections.{all_of, counts_of, first_of, questions_of, answers_of, authority_of, additional_of};
+ghost use Rattle.dns_base.specs.Sections.{all_of, counts_of, first_of, questions_of, answers_of, authority_of, reached, standing_answers, standing_authority, standing_additional};
 
 use crate::header::{Header, HeaderCounts, header_in, number_at};
-use crate::question::{QuestionIter, QuestionRef};
+use crate::question::{QuestionIter, QuestionRef, questions_end};
+use crate::record::{RecordIter, records_end};
 use dns_name::ParseError;
 use std::marker::Model;
 
@@ -91,6 +92,27 @@ impl Message {
         self.for_ref().question()
     }
 
+    /// The answer records, refused where a question is unreadable.
+    pub fn answer(&self) -> Result<RecordIter<'_>, ParseError>
+        ensures { result ≡ reached (questions_of self.now).1 (standing_answers self.now) }
+    {
+        self.for_ref().answer()
+    }
+
+    /// The authority records, refused where an earlier section is unreadable.
+    pub fn authority(&self) -> Result<RecordIter<'_>, ParseError>
+        ensures { result ≡ reached (answers_of self.now).1 (standing_authority self.now) }
+    {
+        self.for_ref().authority()
+    }
+
+    /// The additional records, refused where an earlier section is unreadable.
+    pub fn additional(&self) -> Result<RecordIter<'_>, ParseError>
+        ensures { result ≡ reached (authority_of self.now).1 (standing_additional self.now) }
+    {
+        self.for_ref().additional()
+    }
+
     /// The first question, none where there is none or it is unreadable.
     pub fn first_question(&self) -> Option<QuestionRef<'_>>
         ensures { result ≡ first_of (questions_of self.now).0 }
@@ -152,6 +174,30 @@ impl<'a> MessageRef<'a> {
         questions(self.octets)
     }
 
+    /// The answer records up to the first unreadable one, and then its refusal; refused where a question is
+    /// unreadable.
+    pub fn answer(&self) -> Result<RecordIter<'a>, ParseError>
+        ensures { result ≡ reached (questions_of self.now).1 (standing_answers self.now) }
+    {
+        answers(self.octets)
+    }
+
+    /// The authority records up to the first unreadable one, and then its refusal; refused where an earlier
+    /// section is unreadable.
+    pub fn authority(&self) -> Result<RecordIter<'a>, ParseError>
+        ensures { result ≡ reached (answers_of self.now).1 (standing_authority self.now) }
+    {
+        authority(self.octets)
+    }
+
+    /// The additional records up to the first unreadable one, and then its refusal; refused where an earlier
+    /// section is unreadable.
+    pub fn additional(&self) -> Result<RecordIter<'a>, ParseError>
+        ensures { result ≡ reached (authority_of self.now).1 (standing_additional self.now) }
+    {
+        additional(self.octets)
+    }
+
     /// The first question, none where there is none or it is unreadable.
     #[tactic(auto, using(crate::proofs::Coming::first_here, crate::proofs::Coming::first_refused, crate::proofs::Coming::first_none))]
     pub fn first_question(&self) -> Option<QuestionRef<'a>>
@@ -171,4 +217,63 @@ pub(crate) fn questions(message: &[u8]) -> QuestionIter<'_>
     ensures { result ≡ all_of (questions_of message.now) }
 {
     QuestionIter::of(message, 12, number_at(message, 4))
+}
+
+/// The place behind the questions.
+#[tactic(auto, using(crate::proofs::Coming::all_ended), unfolding(crate::specs::Sections::questions_of))]
+pub(crate) fn end_of_questions(message: &[u8]) -> Result<usize, ParseError>
+    requires { 12 ≤ length message.now }
+    ensures value { result ≡ (questions_of message.now).1 }
+    ensures within { IfOk result (λ end. end ≤ length message.now) }
+{
+    questions_end(message, 12, number_at(message, 4))
+}
+
+#[tactic(auto, using(crate::proofs::Coming::all_come))]
+fn answers(message: &[u8]) -> Result<RecordIter<'_>, ParseError>
+    requires { 12 ≤ length message.now }
+    ensures { result ≡ reached (questions_of message.now).1 (standing_answers message.now) }
+{
+    let at = end_of_questions(message)?;
+    Ok(RecordIter::of(message, at, number_at(message, 6)))
+}
+
+/// The place behind the answer records.
+#[tactic(auto, using(crate::proofs::Coming::behind_ended), unfolding(crate::specs::Sections::answers_of))]
+pub(crate) fn end_of_answers(message: &[u8]) -> Result<usize, ParseError>
+    requires { 12 ≤ length message.now }
+    ensures value { result ≡ (answers_of message.now).1 }
+    ensures within { IfOk result (λ end. end ≤ length message.now) }
+{
+    let at = end_of_questions(message)?;
+    records_end(message, at, number_at(message, 6))
+}
+
+#[tactic(auto, using(crate::proofs::Coming::all_come))]
+fn authority(message: &[u8]) -> Result<RecordIter<'_>, ParseError>
+    requires { 12 ≤ length message.now }
+    ensures { result ≡ reached (answers_of message.now).1 (standing_authority message.now) }
+{
+    let at = end_of_answers(message)?;
+    Ok(RecordIter::of(message, at, number_at(message, 8)))
+}
+
+/// The place behind the authority records.
+#[tactic(auto, using(crate::proofs::Coming::behind_ended), unfolding(crate::specs::Sections::authority_of))]
+pub(crate) fn end_of_authority(message: &[u8]) -> Result<usize, ParseError>
+    requires { 12 ≤ length message.now }
+    ensures value { result ≡ (authority_of message.now).1 }
+    ensures within { IfOk result (λ end. end ≤ length message.now) }
+{
+    let at = end_of_answers(message)?;
+    records_end(message, at, number_at(message, 8))
+}
+
+#[tactic(auto, using(crate::proofs::Coming::all_come))]
+fn additional(message: &[u8]) -> Result<RecordIter<'_>, ParseError>
+    requires { 12 ≤ length message.now }
+    ensures { result ≡ reached (authority_of message.now).1 (standing_additional message.now) }
+{
+    let at = end_of_authority(message)?;
+    Ok(RecordIter::of(message, at, number_at(message, 10)))
 }

@@ -3,7 +3,7 @@
 ghost use Rattle.std.specs.Prelude.{◌≡◌, ◌≤◌, ◌<◌, ◌+◌, ◌++◌, length, IfOk, OnOk};
 ghost use Rattle.std.specs.Iterator.{YieldsFirst, item_count};
 ghost use Rattle.dns_base.specs.Read.{question_at};
-ghost use Rattle.dns_base.specs.Sections.{to_come};
+ghost use Rattle.dns_base.specs.Sections.{ends_at, to_come};
 ghost use Rattle.dns_base.specs.Wire.{question_octets};
 ghost use Rattle.dns_base.specs.Msg.{HasName};
 
@@ -173,4 +173,21 @@ impl<'a> Iterator for QuestionIter<'a> {
             }
         }
     }
+}
+
+/// The place behind so many questions from a place on.
+#[tactic(auto, using(crate::proofs::Coming::ending))]
+pub(crate) fn questions_end(message: &[u8], start: usize, count: u16) -> Result<usize, ParseError>
+    requires { start ≤ length message.now }
+    ensures value { result ≡ ends_at (question_at message.now) count start }
+    ensures within { IfOk result (λ end. end ≤ length message.now) }
+{
+    let mut at = start;
+    let mut left = count;
+    'items: while left > 0 {
+        let (_, end) = question_in(message, at)?;
+        at = end;
+        left -= 1;
+    }
+    Ok(at)
 }

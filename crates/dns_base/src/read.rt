@@ -45,6 +45,8 @@ pub(crate) fn octets_in(message: &[u8], n: usize, at: usize) -> Result<(&[u8], u
     requires { at ≤ length message.now }
     ensures value { Sees result (octets_at n message.now at) }
     ensures within { IfOk result (λ r. r.1 ≤ length message.now) }
+    ensures behind { IfOk result (λ r. r.1 ≡ at + n) }
+    ensures size { IfOk result (λ r. length r.0.now ≡ n) }
 {
     if message.len() - at < n {
         return Err(ParseError::ShortInput);

@@ -84,3 +84,82 @@ fn tells_plain_queries(rt: HostRuntime) {
         assert!(&rt; is_plain(octets) == want);
     }
 }
+
+/// The answer of a message whose one record this is.
+fn read_answer(rt: &HostRuntime, octets: &[u8]) -> Result<Record, ParseError> {
+    let message = MessageRef::from_slice(octets)?;
+    let mut answers = message.answer()?;
+    match answers.next() {
+        Some(answer) => answer?.to_record(rt.alloc()),
+        None => Err(ParseError::ShortInput),
+    }
+}
+
+#[test]
+fn reads_record_data(rt: HostRuntime) {
+    let rows: [(&[u8], Option<ParseError>); 5] = [
+        (
+            b"\x00\x00\x80\x00\x00\x00\x00\x01\x00\x00\x00\x00\x00\x00\x01\x00\x01\x00\x00\x00\x05\x00\x04\x01\x02\x03\x04",
+            None,
+        ),
+        (
+            b"\x00\x00\x80\x00\x00\x00\x00\x01\x00\x00\x00\x00\x00\x00\x01\x00\x01\x00\x00\x00\x05\x00\x03\x01\x02\x03",
+            Some(ParseError::ShortInput),
+        ),
+        (
+            b"\x00\x00\x80\x00\x00\x00\x00\x01\x00\x00\x00\x00\x00\x00\x01\x00\x01\x00\x00\x00\x05\x00\x05\x01\x02\x03\x04\x05",
+            Some(ParseError::Form(FormReason::Shape)),
+        ),
+        (
+            b"\x00\x00\x80\x00\x00\x00\x00\x01\x00\x00\x00\x00\x01a\x00\x00\x0f\x00\x01\x00\x00\x00\x05\x00\x04\x00\x0a\xc0\x0c",
+            None,
+        ),
+        (
+            b"\x00\x00\x80\x00\x00\x00\x00\x01\x00\x00\x00\x00\x00\x00\x29\x00\x00\x00\x00\x00\x00\x00\x03\x00\x03\x00",
+            Some(ParseError::ShortInput),
+        ),
+    ];
+    for (octets, want) in rows {
+        let read = read_answer(&rt, octets);
+        assert!(&rt; read.err() == want);
+    }
+}
+
+#[test]
+fn builds_records(rt: HostRuntime) {
+    let Ok(octets) = Vec::from_slice(rt.alloc(), QUERY) else {
+        panic!(&rt; "no memory");
+    };
+    let Ok(query) = Message::from_octets(octets) else {
+        panic!(&rt; "no message");
+    };
+    let Ok(mut builder) = MessageBuilder::new(rt.alloc()) else {
+        panic!(&rt; "no memory");
+    };
+    builder.set_push_limit(12);
+    let Ok(error) = builder.start_error(rt.alloc(), &query, Rcode::NOTIMP) else {
+        panic!(&rt; "no memory");
+    };
+    let short = b"\x12\x34\x81\x02\x00\x00\x00\x00\x00\x00\x00\x00";
+    assert!(&rt; error.as_slice() == short.as_slice());
+    let mut additional = error.additional();
+    additional.clear_push_limit();
+    let Ok(owner) = Name::root(rt.alloc()) else {
+        panic!(&rt; "no memory");
+    };
+    let Some(rdata) = RecordData::opt(Vec::new(rt.alloc())) else {
+        panic!(&rt; "no list");
+    };
+    let opt = Record {
+        owner,
+        class: Class::from_int(0),
+        ttl: Ttl::from_secs(0x0100_0000),
+        rdata,
+    };
+    assert!(&rt; additional.push(rt.alloc(), &opt) == Ok(()));
+    let whole =
+        b"\x12\x34\x81\x02\x00\x00\x00\x00\x00\x00\x00\x01\x00\x00\x29\x00\x00\x01\x00\x00\x00\x00\x00";
+    assert!(&rt; additional.as_slice() == whole.as_slice());
+    additional.rewind();
+    assert!(&rt; additional.as_slice() == short.as_slice());
+}

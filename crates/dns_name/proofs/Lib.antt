@@ -3,3 +3,4 @@ pub mod Named
 pub mod Spelt
 pub mod Grammars
 pub mod Whole
+pub mod Readings

@@ -1,4 +1,7 @@
 pub mod Place
+pub mod Serials
 pub mod Labels
 pub mod Names
 pub mod Grammar
+pub mod OptData
+pub mod OptErrors

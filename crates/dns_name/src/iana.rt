@@ -203,3 +203,144 @@ impl Rcode {
         self.number
     }
 }
+
+/// A code of an EDNS option (RFC 6891, section 6.1.2).
+#[derive(Clone, Copy, Debug, PartialEq, Eq, PartialOrd, Ord, Hash)]
+pub struct OptionCode {
+    number: u16,
+}
+
+impl Model for OptionCode {
+    ghost use Rattle.std.specs.Prelude.{ℕ};
+
+    ghost Value = { ℕ };
+
+    ghost view = { λ c. c.number };
+
+    ghost inverse = { λ n. record { number = n } };
+}
+
+impl OptionCode {
+    /// RFC 5001.
+    pub const NSID: OptionCode = OptionCode { number: 3 };
+
+    /// RFC 6975.
+    pub const DAU: OptionCode = OptionCode { number: 5 };
+
+    /// RFC 6975.
+    pub const DHU: OptionCode = OptionCode { number: 6 };
+
+    /// RFC 6975.
+    pub const N3U: OptionCode = OptionCode { number: 7 };
+
+    /// RFC 7871.
+    pub const CLIENT_SUBNET: OptionCode = OptionCode { number: 8 };
+
+    /// RFC 7314.
+    pub const EXPIRE: OptionCode = OptionCode { number: 9 };
+
+    /// RFC 7873.
+    pub const COOKIE: OptionCode = OptionCode { number: 10 };
+
+    /// RFC 7828.
+    pub const TCP_KEEPALIVE: OptionCode = OptionCode { number: 11 };
+
+    /// RFC 7830.
+    pub const PADDING: OptionCode = OptionCode { number: 12 };
+
+    /// RFC 7901.
+    pub const CHAIN: OptionCode = OptionCode { number: 13 };
+
+    /// RFC 8145.
+    pub const KEY_TAG: OptionCode = OptionCode { number: 14 };
+
+    /// RFC 8914.
+    pub const EXTENDED_ERROR: OptionCode = OptionCode { number: 15 };
+
+    /// The code of a number.
+    pub const fn from_int(number: u16) -> OptionCode
+        ensures { result ≡ number }
+    {
+        OptionCode { number }
+    }
+
+    /// The number.
+    pub const fn to_int(self) -> u16
+        ensures value { result ≡ self }
+        ensures fits { result < 65536 }
+    {
+        self.number
+    }
+}
+
+/// An extended error code (RFC 8914, section 4).
+#[derive(Clone, Copy, Debug, PartialEq, Eq, PartialOrd, Ord, Hash)]
+pub struct ExtendedErrorCode {
+    number: u16,
+}
+
+impl Model for ExtendedErrorCode {
+    ghost use Rattle.std.specs.Prelude.{ℕ};
+
+    ghost Value = { ℕ };
+
+    ghost view = { λ c. c.number };
+
+    ghost inverse = { λ n. record { number = n } };
+}
+
+impl ExtendedErrorCode {
+    pub const OTHER: ExtendedErrorCode = ExtendedErrorCode { number: 0 };
+
+    pub const STALE_ANSWER: ExtendedErrorCode = ExtendedErrorCode { number: 3 };
+
+    pub const DNSSEC_BOGUS: ExtendedErrorCode = ExtendedErrorCode { number: 6 };
+
+    /// The code of a number.
+    pub const fn from_int(number: u16) -> ExtendedErrorCode
+        ensures { result ≡ number }
+    {
+        ExtendedErrorCode { number }
+    }
+
+    /// The number.
+    pub const fn to_int(self) -> u16
+        ensures value { result ≡ self }
+        ensures fits { result < 65536 }
+    {
+        self.number
+    }
+}
+
+/// A number of a DNSSEC algorithm (RFC 4034, section A.1).
+#[derive(Clone, Copy, Debug, PartialEq, Eq, PartialOrd, Ord, Hash)]
+pub struct SecurityAlgorithm {
+    number: u8,
+}
+
+impl Model for SecurityAlgorithm {
+    ghost use Rattle.std.specs.Prelude.{ℕ};
+
+    ghost Value = { ℕ };
+
+    ghost view = { λ c. c.number };
+
+    ghost inverse = { λ n. record { number = n } };
+}
+
+impl SecurityAlgorithm {
+    /// The algorithm of a number.
+    pub const fn from_int(number: u8) -> SecurityAlgorithm
+        ensures { result ≡ number }
+    {
+        SecurityAlgorithm { number }
+    }
+
+    /// The number.
+    pub const fn to_int(self) -> u8
+        ensures value { result ≡ self }
+        ensures fits { result < 256 }
+    {
+        self.number
+    }
+}

@@ -1,5 +1,6 @@
 //! Serial numbers.
 
+ghost use Rattle.dns_name.specs.Serials.{serial_of};
 ghost use Rattle.std.specs.Prelude.{◌≡◌, ◌+◌, ◌<◌, ◌^◌, ◌%◌};
 
 /// A serial number of 32 bits (RFC 1982).
@@ -13,6 +14,16 @@ impl Serial {
         ensures { result.0 ≡ (self.0 + other) % 2 ^ 32 }
     {
         Serial(self.0.wrapping_add(other))
+    }
+
+    /// The serial that four octets are in network order.
+    pub fn from_be_bytes(octets: [u8; 4]) -> Serial
+        ensures { result.0 ≡ serial_of octets }
+    {
+        let [a, b, c, d] = octets;
+        let high = 256 * a as u32 + b as u32;
+        let low = 256 * c as u32 + d as u32;
+        Serial(65536 * high + low)
     }
 
     /// The number.

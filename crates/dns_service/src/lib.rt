@@ -7,6 +7,8 @@ mod event;
 mod message;
 mod served;
 mod service;
+#[cfg(test)]
+mod tests;
 
 pub use config::{ConnectionConfig, DgramConfig, StreamConfig};
 pub use dns_name::{Octets, OutOfMemory};

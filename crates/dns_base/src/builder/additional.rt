@@ -3,11 +3,14 @@
 ghost use Rattle.std.specs.Prelude.{◌≡◌, ◌≤◌, length, min, IfOk};
 ghost use Rattle.dns_base.specs.Msg.{IsMessage, item_counts};
 ghost use Rattle.dns_base.specs.Wire.{wire};
-ghost use Rattle.dns_base.specs.Built.{with_header};
+ghost use Rattle.dns_base.specs.Built.{with_additional, with_header, less_section, Pushes};
+ghost use Rattle.dns_base.specs.Records.{record_of, IsLawful};
 
-use crate::draft::Draft;
+use crate::draft::{Draft, Section};
+use crate::error::PushError;
 use crate::header::{Header, HeaderCounts};
 use crate::message::MessageRef;
+use crate::record::Record;
 use crate::stream::StreamTarget;
 use dns_name::OutOfMemory;
 use std::alloc::Global;
@@ -28,6 +31,21 @@ impl Model for AdditionalBuilder {
 }
 
 impl AdditionalBuilder {
+    /// Adds a record.
+    pub fn push(&mut self, alloc: Global, record: &Record) -> Result<(), PushError>
+        requires { IsLawful record.now.rdata }
+        ensures { Pushes self.old self.new (with_additional self.old (record_of record.now)) result }
+    {
+        self.draft.push_record(alloc, Section::Additional, record)
+    }
+
+    /// Drops the section's records.
+    pub fn rewind(&mut self)
+        ensures { self.new ≡ less_section Section.Additional self.old }
+    {
+        self.draft.rewind(Section::Additional);
+    }
+
     /// The header.
     pub fn header(&self) -> Header
         ensures { result ≡ self.now.message.header }

@@ -3,13 +3,16 @@
 ghost use Rattle.std.specs.Prelude.{◌≡◌, ◌≤◌, length, min, IfOk};
 ghost use Rattle.dns_base.specs.Msg.{IsMessage, item_counts};
 ghost use Rattle.dns_base.specs.Wire.{wire};
-ghost use Rattle.dns_base.specs.Built.{with_header};
+ghost use Rattle.dns_base.specs.Built.{with_answer, with_header, less_section, Pushes};
+ghost use Rattle.dns_base.specs.Records.{record_of, IsLawful};
 
 use crate::builder::additional::AdditionalBuilder;
 use crate::builder::authority::AuthorityBuilder;
-use crate::draft::Draft;
+use crate::draft::{Draft, Section};
+use crate::error::PushError;
 use crate::header::{Header, HeaderCounts};
 use crate::message::MessageRef;
+use crate::record::Record;
 use crate::stream::StreamTarget;
 use dns_name::OutOfMemory;
 use std::alloc::Global;
@@ -44,6 +47,21 @@ impl AnswerBuilder {
         ensures { result ≡ self }
     {
         AdditionalBuilder { draft: self.draft }
+    }
+
+    /// Adds a record.
+    pub fn push(&mut self, alloc: Global, record: &Record) -> Result<(), PushError>
+        requires { IsLawful record.now.rdata }
+        ensures { Pushes self.old self.new (with_answer self.old (record_of record.now)) result }
+    {
+        self.draft.push_record(alloc, Section::Answer, record)
+    }
+
+    /// Drops the section's records.
+    pub fn rewind(&mut self)
+        ensures { self.new ≡ less_section Section.Answer self.old }
+    {
+        self.draft.rewind(Section::Answer);
     }
 
     /// The header.

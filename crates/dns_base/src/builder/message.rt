@@ -4,7 +4,7 @@ ghost use Rattle.std.specs.Prelude.{◌≡◌, ◌≤◌, length, min, IfOk};
 ghost use Rattle.dns_base.specs.Msg.{IsMessage, item_counts};
 ghost use Rattle.dns_base.specs.Wire.{wire};
 ghost use Rattle.dns_base.specs.Built.{empty, with_header};
-ghost use Rattle.dns_base.specs.Replies.{Answers, answer_header};
+ghost use Rattle.dns_base.specs.Replies.{Answers, answer_header, error_to, with_rcode};
 
 use crate::builder::additional::AdditionalBuilder;
 use crate::builder::answer::AnswerBuilder;
@@ -58,6 +58,27 @@ impl MessageBuilder {
         let header = draft.header();
         draft.set_header(answered(header, message.header(), rcode));
         draft.copy_questions(alloc, message)?;
+        Ok(AnswerBuilder { draft })
+    }
+
+    /// Begins the error answer to a query, as `start_answer` does; at a question that has no room the response
+    /// code is set to SERVFAIL, and the questions before it stay.
+    pub fn start_error(
+        self,
+        alloc: Global,
+        message: &Message,
+        rcode: Rcode,
+    ) -> Result<AnswerBuilder, OutOfMemory>
+        ensures { IfOk result (λ b. b ≡ error_to self message.now rcode) }
+    {
+        let mut draft = self.draft;
+        let header = draft.header();
+        draft.set_header(answered(header, message.header(), rcode));
+        match draft.copy_questions(alloc, message) {
+            Ok(()) => {}
+            Err(PushError::ShortBuf) => fail(&mut draft),
+            Err(PushError::OutOfMemory) => return Err(OutOfMemory),
+        }
         Ok(AnswerBuilder { draft })
     }
 
@@ -165,6 +186,17 @@ impl MessageBuilder {
     {
         self.draft.finish()
     }
+}
+
+/// Sets the response code to SERVFAIL.
+fn fail(draft: &mut Draft)
+    ensures { draft.new ≡ with_rcode draft.old 2 }
+{
+    let header = Header {
+        rcode: Rcode::SERVFAIL,
+        ..draft.header()
+    };
+    draft.set_header(header);
 }
 
 /// A header as the answer to a query's.

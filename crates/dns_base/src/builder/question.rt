@@ -3,7 +3,7 @@
 ghost use Rattle.std.specs.Prelude.{◌≡◌, ◌≤◌, length, min, IfOk};
 ghost use Rattle.dns_base.specs.Msg.{IsMessage, item_counts};
 ghost use Rattle.dns_base.specs.Wire.{wire};
-ghost use Rattle.dns_base.specs.Built.{Pushes, with_header, with_question};
+ghost use Rattle.dns_base.specs.Built.{less_questions, Pushes, with_header, with_question};
 
 use crate::builder::additional::AdditionalBuilder;
 use crate::builder::answer::AnswerBuilder;
@@ -61,6 +61,13 @@ impl QuestionBuilder {
         ensures { Pushes self.old self.new (with_question self.old question.now) result }
     {
         self.draft.push_question(alloc, question)
+    }
+
+    /// Drops the questions.
+    pub fn rewind(&mut self)
+        ensures { self.new ≡ less_questions self.old }
+    {
+        self.draft.rewind_questions();
     }
 
     /// The header.

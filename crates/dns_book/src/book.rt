@@ -1,0 +1,275 @@
+//! A book that any number of threads share, and the seats from which they call it.
+ghost use Rattle.std.specs.Prelude.{◌≡◌, ◌-◌, ◌↔◌, true, MatchBool, IfOk};
+ghost use Rattle.atomic_table.specs.Seated.{TableId};
+ghost use Rattle.crossbeam_utils.specs.Seq.{cell_view, IsSamePass};
+ghost use Rattle.dns_book.specs.Machine.{state_after, reply_of};
+ghost use Rattle.dns_book.specs.Causes.{Admits, Reconfigures, WasShutDown};
+ghost use Rattle.dns_book.specs.Seats.{IsSound, Called, Joined, new_known, state_met, first_half, second_half};
+ghost use Rattle.dns_book.specs.Words.{state_of};
+ghost use Rattle.dns_book.specs.Rule.{IsOpen, Made, Settled, view_of, IsReady};
+
+use crate::call::{Call, Reply};
+use crate::look::{Admission, Look};
+use crate::rule::{
+    Asked, Halves, HandOver, Looked, OneHistory, Opened, Read, Settle, TakeIn, Try, View,
+};
+use crate::state::BookState;
+use crate::words::{COUNT, Words, look_of, words_of};
+use crossbeam_utils::atomic::seq_cell::{Pass, RuledSeqCell};
+use dns_service::{DgramConfig, Error, OutOfMemory, StreamConfig};
+use std::alloc::Global;
+use std::marker::{Brand, Model};
+use std::sync::Wait;
+
+type Cell = RuledSeqCell<Words, View, OneHistory, COUNT>;
+
+type SeatPass = Pass<Words, View>;
+
+/// A book for any number of threads. In clauses it is the number that tells it from other books.
+#[derive(Drop)]
+pub struct Book {
+    cell: Cell,
+}
+
+impl Model for Book {
+    ghost Value = { TableId };
+
+    ghost view = { λ b. b.cell.table.shared.table_id };
+}
+
+/// A seat of a book, from which one thread at a time calls it. In clauses it is the book and what
+/// the seat knows.
+#[derive(Drop)]
+pub struct BookSeat {
+    pass: Pass<Words, View>,
+    // Of the first seat, until it opens the book at its first call.
+    pending: Option<BookState>,
+}
+
+impl Model for BookSeat {
+    ghost use Rattle.crossbeam_utils.specs.Seq.{cell_view};
+    ghost use Rattle.dns_book.specs.Seats.{Standing};
+    ghost use Rattle.dns_book.specs.Rule.{view_of, IsReady};
+
+    ghost Value = { Standing };
+
+    ghost view = { λ s. record { book = s.pass.table_id; known = (view_of s.pending (cell_view s.pass)).known } };
+
+    ghost invariant = { λ s. IsReady s.pending (cell_view s.pass) };
+}
+
+impl Book {
+    /// A book in this state, and its first seat.
+    pub fn new(alloc: Global, state: BookState) -> Result<(Book, BookSeat), OutOfMemory>
+        ensures { IfOk result (λ r. (r.1.book ≡ r.0) × (r.1.known ≡ new_known state)) }
+    {
+        let (cell, pass): (Cell, SeatPass) = Cell::ruled(alloc, words_of(&state.shown()))?;
+        let seat = BookSeat {
+            pass,
+            pending: Some(state),
+        };
+        Ok((Book { cell }, seat))
+    }
+
+    /// Takes a slot, where the book is open and one is free.
+    #[tactic(auto, using(crate::proofs::Shutdowns::closed_exactly))]
+    pub fn admit<R: Wait>(&self, rt: &R, seat: &mut BookSeat) -> Admission
+        requires { seat.old.book ≡ self.now }
+        ensures book { seat.new.book ≡ seat.old.book }
+        ensures called { Called seat.old.known Call.Admit (Reply.Admission result) seat.new.known }
+        ensures cause { Admits (state_met seat.new.known) result }
+        ensures closed { (result ≡ Admission.Closed) ↔ WasShutDown seat.new.known }
+    {
+        self.make(rt, seat, Call::Admit).admit()
+    }
+
+    /// Gives a slot back, and says how many are taken now.
+    pub fn release<R: Wait>(&self, rt: &R, seat: &mut BookSeat) -> u64
+        requires { seat.old.book ≡ self.now }
+        ensures book { seat.new.book ≡ seat.old.book }
+        ensures called { Called seat.old.known Call.Release (Reply.Left result) seat.new.known }
+        ensures left { result ≡ (state_met seat.new.known).taken - 1 }
+    {
+        self.make(rt, seat, Call::Release).release()
+    }
+
+    /// Replaces both configurations, and says the version that is in force now.
+    pub fn reconfigure<R: Wait>(
+        &self,
+        rt: &R,
+        seat: &mut BookSeat,
+        dgram: DgramConfig,
+        stream: StreamConfig,
+    ) -> Result<u64, Error>
+        requires { seat.old.book ≡ self.now }
+        ensures book { seat.new.book ≡ seat.old.book }
+        ensures called { Called seat.old.known (Call.Reconfigure dgram stream) (Reply.Version result) seat.new.known }
+        ensures cause { Reconfigures (state_met seat.new.known) result }
+    {
+        self.make(rt, seat, Call::Reconfigure { dgram, stream })
+            .reconfigure(dgram, stream)
+    }
+
+    /// Closes the book for good.
+    pub fn shutdown<R: Wait>(&self, rt: &R, seat: &mut BookSeat) -> Look
+        requires { seat.old.book ≡ self.now }
+        ensures book { seat.new.book ≡ seat.old.book }
+        ensures called { Called seat.old.known Call.Shutdown (Reply.Look result) seat.new.known }
+        ensures closed { result ≡ record (state_met seat.new.known) { closed = true } }
+    {
+        self.make(rt, seat, Call::Shutdown).shutdown()
+    }
+
+    /// Shows the book, by one load.
+    pub fn look<R: Wait>(&self, rt: &R, seat: &mut BookSeat) -> Look
+        requires { seat.old.book ≡ self.now }
+        ensures book { seat.new.book ≡ seat.old.book }
+        ensures called { Called seat.old.known Call.Look (Reply.Look result) seat.new.known }
+        ensures shown { result ≡ state_met seat.new.known }
+    {
+        self.open(rt, &mut seat.pass, seat.pending);
+        seat.pending = None;
+        let now = self.cell.load_as::<Looked, R>(rt, &mut seat.pass);
+        look_of(&now)
+    }
+
+    /// Two seats of one, which have seen what it had seen. The first keeps its calls.
+    #[tactic(auto, using(crate::proofs::Halves::sound_first, crate::proofs::Halves::sound_second))]
+    pub fn split<R: Wait>(&self, rt: &R, seat: BookSeat) -> (BookSeat, BookSeat)
+        requires { seat.book ≡ self.now }
+        ensures book { (result.0.book ≡ seat.book) × (result.1.book ≡ seat.book) }
+        ensures first { result.0.known ≡ first_half seat.known }
+        ensures second { result.1.known ≡ second_half seat.known }
+        ensures sound { IsSound seat.known × IsSound result.0.known × IsSound result.1.known }
+    {
+        let BookSeat { mut pass, pending } = seat;
+        self.open(rt, &mut pass, pending);
+        let second = self.cell.split_pass::<Halves>(&mut pass);
+        let first = BookSeat {
+            pass,
+            pending: None,
+        };
+        let second = BookSeat {
+            pass: second,
+            pending: None,
+        };
+        (first, second)
+    }
+
+    /// One seat of two, which has seen what both had seen, and keeps the calls of both.
+    pub fn join<R: Wait>(&self, rt: &R, first: BookSeat, second: BookSeat) -> BookSeat
+        requires first { first.book ≡ self.now }
+        requires second { second.book ≡ self.now }
+        ensures book { result.book ≡ first.book }
+        ensures joined { Joined first.known second.known result.known }
+    {
+        let BookSeat { mut pass, pending } = first;
+        self.open(rt, &mut pass, pending);
+        let BookSeat {
+            pass: mut other,
+            pending,
+        } = second;
+        self.open(rt, &mut other, pending);
+        let all = self.cell.split_pass::<HandOver>(&mut other);
+        self.cell.join_pass::<TakeIn>(&mut pass, all);
+        self.settle(rt, &mut pass);
+        BookSeat {
+            pass,
+            pending: None,
+        }
+    }
+
+    /// Makes a call that is given as a value.
+    pub fn call<R: Wait>(&self, rt: &R, seat: &mut BookSeat, call: Call) -> Reply
+        requires { seat.old.book ≡ self.now }
+        ensures book { seat.new.book ≡ seat.old.book }
+        ensures called { Called seat.old.known call result seat.new.known }
+    {
+        match call {
+            Call::Admit => Reply::Admission(self.admit(rt, seat)),
+            Call::Release => Reply::Left(self.release(rt, seat)),
+            Call::Reconfigure { dgram, stream } => {
+                Reply::Version(self.reconfigure(rt, seat, dgram, stream))
+            }
+            Call::Shutdown => Reply::Look(self.shutdown(rt, seat)),
+            Call::Look => Reply::Look(self.look(rt, seat)),
+        }
+    }
+
+    // Opens the book, if it is not open.
+    fn open<R: Wait>(&self, rt: &R, pass: &mut SeatPass, pending: Option<BookState>)
+        requires book { pass.old.table_id ≡ self.now }
+        requires ready { IsReady pending (cell_view pass.old) }
+        ensures pass { IsSamePass pass.old pass.new }
+        ensures view { cell_view pass.new ≡ view_of pending (cell_view pass.old) }
+        ensures open { IsOpen (cell_view pass.new) × IsSound (cell_view pass.new).known }
+    {
+        if let Some(state) = pending {
+            self.cell
+                .swap_as::<Opened, R>(rt, pass, words_of(&state.shown()));
+        }
+    }
+
+    // The load after a join, by which the pass has seen the whole history.
+    fn settle<R: Wait>(&self, rt: &R, pass: &mut SeatPass)
+        requires book { pass.old.table_id ≡ self.now }
+        requires live { ((cell_view pass.old).opened ≡ true) × ((cell_view pass.old).live ≡ true) }
+        ensures pass { IsSamePass pass.old pass.new }
+        ensures settled { Settled (cell_view pass.old) (cell_view pass.new) × IsOpen (cell_view pass.new) }
+    {
+        self.cell.load_as::<Settle, R>(rt, pass);
+    }
+
+    // Makes the call if the cell still has these words, and says whether it had.
+    fn attempt<K: Asked, R: Wait>(
+        &self,
+        rt: &R,
+        pass: &mut SeatPass,
+        call: &Call,
+        current: Words,
+        next: Words,
+    ) -> bool
+        requires book { pass.old.table_id ≡ self.now }
+        requires open { IsOpen (cell_view pass.old) }
+        requires asked { (K.ask ≡ call.now) × (K.current ≡ current) }
+        requires step { state_of next ≡ state_after (state_of current) call.now }
+        ensures pass { IsSamePass pass.old pass.new }
+        ensures made { MatchBool result (Made call.now (state_of current) (cell_view pass.old) (cell_view pass.new)) (cell_view pass.new ≡ cell_view pass.old) }
+    {
+        self.cell
+            .compare_exchange_as::<Try<K>, R>(rt, pass, current, next)
+            .is_ok()
+    }
+
+    // One loop for the four calls: load, compute, exchange, and again where another seat came between.
+    // It answers the state in which the call was made.
+    fn make_at<R: Wait>(&self, rt: &R, pass: &mut SeatPass, call: Call) -> BookState
+        requires book { pass.old.table_id ≡ self.now }
+        requires open { IsOpen (cell_view pass.old) }
+        ensures pass { IsSamePass pass.old pass.new }
+        ensures made { Made call result (cell_view pass.old) (cell_view pass.new) }
+    {
+        for _ in rt.forever() {
+            let words = self.cell.load_as::<Read, R>(rt, pass);
+            let found = BookState::of(look_of(&words));
+            let mut next = found;
+            next.call(&call);
+            if self.attempt::<Brand, R>(rt, pass, &call, words, words_of(&next.shown())) {
+                return found;
+            }
+        }
+        unreachable!()
+    }
+
+    // The same for a seat.
+    fn make<R: Wait>(&self, rt: &R, seat: &mut BookSeat, call: Call) -> BookState
+        requires { seat.old.book ≡ self.now }
+        ensures book { seat.new.book ≡ seat.old.book }
+        ensures called { Called seat.old.known call (reply_of result call) seat.new.known }
+        ensures met { state_met seat.new.known ≡ result }
+    {
+        self.open(rt, &mut seat.pass, seat.pending);
+        seat.pending = None;
+        self.make_at(rt, &mut seat.pass, call)
+    }
+}

@@ -1,0 +1,28 @@
+//! What a seat knows of a book's history. These types stand in clauses alone: no value of them is
+//! made when the program runs.
+
+use crate::call::{Call, Reply};
+use crate::look::Look;
+use std::collections::LinkedList;
+
+/// One call in the history, with the name of the seat that made it. No value of it is made.
+pub struct Entry {
+    pub by: LinkedList<bool>,
+    pub call: Call,
+    pub reply: Reply,
+}
+
+/// The calls that were made under one name. No value of it is made.
+pub struct Share {
+    pub name: LinkedList<bool>,
+    pub calls: LinkedList<Entry>,
+}
+
+/// What a seat knows: the state that the book began with, the seat's name, the history as far as the
+/// seat has seen it, and the calls that it keeps, by name. No value of it is made.
+pub struct Known {
+    pub opening: Look,
+    pub name: LinkedList<bool>,
+    pub seen: LinkedList<Entry>,
+    pub mine: LinkedList<Share>,
+}

@@ -1,0 +1,22 @@
+//! The admission book: how many slots are taken, the configurations in force and whether the server
+//! was shut down. `BookState` is the machine, and `Book` shares one among any number of threads.
+#![tactic(auto)]
+
+pub mod book;
+pub mod both;
+pub mod call;
+pub mod history;
+pub mod look;
+mod rule;
+pub mod state;
+mod words;
+
+pub use book::{Book, BookSeat};
+pub use both::call_both;
+pub use call::{Call, Reply};
+pub use history::{Entry, Known, Share};
+pub use look::{Admission, Look};
+pub use state::BookState;
+
+#[cfg(test)]
+mod tests;

@@ -1,0 +1,73 @@
+//! A book's state as the words of the cell. Nothing else knows how they are packed.
+ghost use Rattle.std.specs.Prelude.{◌≡◌};
+ghost use Rattle.dns_book.specs.Words.{state_of};
+
+use crate::look::Look;
+use dns_service::{ConnectionConfig, DgramConfig, StreamConfig};
+
+/// How many words there are.
+pub const COUNT: usize = 8;
+
+/// Slots taken; version; flags and response size; datagram write timeout; idle timeout; stream write
+/// timeout; bound of a connection's queue; limit of connections.
+pub type Words = [u64; COUNT];
+
+/// Of the flags: bit 0 says closed, bit 1 that connections at the limit are accepted, bit 2 that there
+/// is a response size, which begins at bit 3.
+pub fn words_of(look: &Look) -> Words
+    ensures { state_of result ≡ look.now }
+{
+    let dgram = look.dgram;
+    let stream = look.stream;
+    let connection = stream.connection_config();
+    let closed: u64 = if look.closed { 1 } else { 0 };
+    let accepts: u64 = if stream.accept_connections_at_max() {
+        2
+    } else {
+        0
+    };
+    let size: u64 = match dgram.max_response_size() {
+        Some(size) => 4 + 8 * u64::from(size),
+        None => 0,
+    };
+    [
+        look.taken,
+        look.version,
+        closed + accepts + size,
+        dgram.write_timeout(),
+        connection.idle_timeout(),
+        connection.response_write_timeout(),
+        connection.max_queued_responses() as u64,
+        stream.max_concurrent_connections() as u64,
+    ]
+}
+
+/// What the words stand for.
+pub fn look_of(words: &Words) -> Look
+    ensures { result ≡ state_of words.now }
+{
+    let flags = words[2];
+    let size = if flags / 4 % 2 == 1 {
+        Some((flags / 8 % 65536) as u16)
+    } else {
+        None
+    };
+    let mut dgram = DgramConfig::new();
+    dgram.set_max_response_size(size);
+    dgram.set_write_timeout(words[3]);
+    let mut connection = ConnectionConfig::new();
+    connection.set_idle_timeout(words[4]);
+    connection.set_response_write_timeout(words[5]);
+    connection.set_max_queued_responses(words[6] as usize);
+    let mut stream = StreamConfig::new();
+    stream.set_accept_connections_at_max(flags / 2 % 2 == 1);
+    stream.set_max_concurrent_connections(words[7] as usize);
+    stream.set_connection_config(connection);
+    Look {
+        version: words[1],
+        closed: flags % 2 == 1,
+        taken: words[0],
+        dgram,
+        stream,
+    }
+}

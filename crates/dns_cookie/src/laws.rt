@@ -1,0 +1,47 @@
+//! Laws over several calls.
+
+ghost use Rattle.std.specs.Prelude.{◌≡◌, ◌↔◌, IsTrue, List, ℕ};
+ghost use Rattle.std.specs.Cmp.Lexicographic.{slice_cmp};
+ghost use Rattle.std.specs.Ordering.{nat_cmp};
+ghost use Rattle.dns_cookie.specs.ClientCookie.{client_octets};
+ghost use Rattle.dns_cookie.specs.declared.client_cookie.ClientCookie.{ClientCookie as Client};
+ghost use Rattle.dns_cookie.specs.Cookies.{Cookie as Parts, IsGood, cookie_cmp};
+
+use crate::client_cookie::ClientCookie;
+use crate::cookie::Cookie;
+use crate::server_cookie::ServerCookie;
+use crate::standard_server_cookie::StandardServerCookie;
+use crate::timestamp::timestamp_ok;
+use dns_name::{IpAddr, Serial};
+
+/// A cookie that `create_response` makes checks true from the same address under the same secret,
+/// exactly where the closure accepts its timestamp.
+pub fn check_response<F: FnOnce(Serial) -> bool>(
+    cookie: &Cookie,
+    timestamp: Serial,
+    client_ip: IpAddr,
+    secret: &[u8; 16],
+    timestamp_ok: F,
+) -> bool
+    requires { F.IsAlwaysCallable timestamp_ok }
+    ensures { F.post timestamp_ok timestamp result }
+{
+    let response = cookie.create_response(timestamp, client_ip, secret);
+    response.check_server_hash(client_ip, secret, timestamp_ok)
+}
+
+/// With `timestamp_ok` a check is true exactly where the server part is a standard server cookie that
+/// is timely at `now` and whose hash agrees.
+pub fn check_at(cookie: &Cookie, client_ip: IpAddr, secret: &[u8; 16], now: Serial) -> bool
+    ensures { IsTrue result ↔ IsGood secret.now client_ip now.0 cookie.now }
+{
+    cookie.check_server_hash(client_ip, secret, |timestamp| timestamp_ok(timestamp, now))
+}
+
+/// Cookies are ordered by their octets.
+pub fn order_is_that_of_octets()
+    ensures client { (a b : Client) → ⟦<ClientCookie as Ord>⟧.cmp a b ≡ slice_cmp nat_cmp (client_octets a) (client_octets b) }
+    ensures server { (a b : List ℕ) → ⟦<ServerCookie as Ord>⟧.cmp a b ≡ slice_cmp nat_cmp a b }
+    ensures standard { (a b : List ℕ) → ⟦<StandardServerCookie as Ord>⟧.cmp a b ≡ slice_cmp nat_cmp a b }
+    ensures cookie { (a b : Parts) → ⟦<Cookie as Ord>⟧.cmp a b ≡ cookie_cmp a b }
+{}

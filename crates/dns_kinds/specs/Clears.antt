@@ -1,0 +1,110 @@
+-- Subnets come back, and masking twice is masking once.
+use Rattle.std.proofs.Common.{◌≡◌, ℕ, zero, suc, ◌+◌, ◌-◌, ◌*◌, ◌/◌, ◌≤◌, ◌<◌, List, [], ◌∷◌, ◌++◌, length, take, drop, replicate, Bool, true, false, refl, sym, ap, ◌∙◌, arith, subst}
+use Rattle.std.proofs.lemmas.Bool.Decides.{nat_tests}
+use Rattle.std.specs.Prelude.{◌&&◌, nat_le, nat_lt, nat_eq, Some, Ok}
+use Rattle.std.specs.Cmp.Lexicographic.{pointwise}
+use Rattle.std.specs.List.{list_all}
+use Rattle.dns_name.specs.OptData.{kind, whole, for_code}
+use Rattle.dns_name.proofs.Readings.{same_number, taken_whole}
+use Rattle.dns_name.specs.declared.address.IpAddr.TheVariants.{V4, V6}
+use Rattle.dns_name.specs.declared.address.IpAddr.{IpAddr}
+use Rattle.dns_kinds.specs.Subnet.{Subnet, mask_octet, masked, octets_for, padded, address, with_address, subnet_data, subnet_octets, is_clear, is_clear_addr}
+
+-- the subnets that come back
+abbrev pub is_clear_subnet : Subnet → Bool
+is_clear_subnet k = is_clear_addr k.source k.addr
+
+both : (a b : Bool) → (a && b) ≡ true → (a ≡ true) × (b ≡ true)
+both true true h = (refl, refl)
+both true false h = absurd (cc)
+both false b h = absurd (cc)
+
+below : (k n : ℕ) → nat_lt k n ≡ true → k < n
+below k n h = grind (arith, nat_tests)
+
+at_most : (k n : ℕ) → nat_le k n ≡ true → k ≤ n
+at_most k n h = grind (arith, nat_tests)
+
+same : (k n : ℕ) → nat_eq k n ≡ true → k ≡ n
+same k n h = grind (arith, nat_tests)
+
+alike : (a b : List ℕ) → pointwise nat_eq a b ≡ true → a ≡ b
+alike [] [] h = refl
+alike [] (y ∷ b) h = absurd (cc)
+alike (x ∷ a) [] h = absurd (cc)
+alike (x ∷ a) (y ∷ b) h =
+    let parts = both (nat_eq x y) (pointwise nat_eq a b) h in
+    let e : x ≡ y = same x y parts.0 in
+    let f : a ≡ b = alike a b parts.1 in
+    cc
+
+-- an octet without any bit is 0
+no_bits : (x : ℕ) → x < 256 → mask_octet 0 x ≡ x → x ≡ 0
+unfolding mask_octet
+no_bits x h e = omega arith
+
+more_octets : (s : ℕ) → octets_for (suc s) ≡ suc (octets_for (suc s - 8))
+more_octets s = omega arith
+
+-- what stands past the bits is zeros
+pub padded_again : (s : ℕ) (a : List ℕ) → list_all (λ x. nat_lt x 256) a ≡ true → masked s a ≡ a → take (octets_for s) a ++ drop (octets_for s) (replicate (length a) 0) ≡ a
+padded_again zero [] small e = refl
+padded_again (suc s) [] small e = rw (more_octets s) refl
+padded_again zero (x ∷ a) small e =
+    let parts = both (nat_lt x 256) (list_all (λ x. nat_lt x 256) a) small in
+    let first : mask_octet 0 x ≡ x = cc in
+    let more : masked 0 a ≡ a = cc in
+    let none : x ≡ 0 = no_bits x (below x 256 parts.0) first in
+    let rest : replicate (length a) 0 ≡ a = padded_again zero a parts.1 more in
+    cc
+padded_again (suc s) (x ∷ a) small e =
+    let parts = both (nat_lt x 256) (list_all (λ x. nat_lt x 256) a) small in
+    let more : masked (suc s - 8) a ≡ a = cc in
+    rw (more_octets s) (ap (λ l. x ∷ l) (padded_again (suc s - 8) a parts.1 more))
+
+length_take : (n : ℕ) (a : List ℕ) → n ≤ length a → length (take n a) ≡ n
+length_take zero a h = refl
+length_take (suc n) [] h = absurd (omega arith)
+length_take (suc n) (x ∷ a) h = ap suc (length_take n a (omega arith))
+
+enough : (s w : ℕ) → s ≤ 8 * w → octets_for s ≤ w
+enough s w h = omega arith
+
+too_few : (w n : ℕ) → n ≤ w → nat_lt w n ≡ false
+too_few w n h = grind (arith, nat_tests)
+
+-- an address without bits past the prefix comes back
+pub address_again : (w s : ℕ) (a : List ℕ) → is_clear w s a ≡ true → (address w s (take (octets_for s) a) ≡ Ok a) × (length (take (octets_for s) a) ≡ octets_for s)
+unfolding address
+address_again w s a h =
+    let short = both (nat_le s (8 * w)) _ h in
+    let long = both (nat_eq (length a) w) _ short.1 in
+    let small = both (list_all (λ x. nat_lt x 256) a) _ long.1 in
+    let size : length a ≡ w = same (length a) w long.0 in
+    let room : octets_for s ≤ w = enough s w (at_most s (8 * w) short.0) in
+    let taken : length (take (octets_for s) a) ≡ octets_for s = length_take (octets_for s) a (omega arith) in
+    let back = padded_again s a small.0 (alike (masked s a) a small.1) in
+    let full : padded w (take (octets_for s) a) ≡ a = rw (taken, sym size) back in
+    (rw (too_few w (octets_for s) room, full, taken, same_number (octets_for s), small.1) refl, taken)
+
+v4_again : (s c : ℕ) (a : List ℕ) → is_clear 4 s a ≡ true → kind (for_code 8 subnet_data) 8 (0 ∷ 1 ∷ s ∷ c ∷ take (octets_for s) a) ≡ Some (Ok (record { source = s; scope = c; addr = V4 a }))
+v4_again s c a h =
+    let back = address_again 4 s a h in
+    let d : List ℕ = 0 ∷ 1 ∷ s ∷ c ∷ take (octets_for s) a in
+    let long : length (take (octets_for s) a) + 4 ≡ length d = omega arith in
+    ap (λ x. Some (whole d (with_address V4 s c (length (take (octets_for s) a) + 4) x))) back.0 ∙ ap (λ x. Some x) (taken_whole d (length (take (octets_for s) a) + 4) (record { source = s; scope = c; addr = V4 a }) long)
+
+v6_again : (s c : ℕ) (a : List ℕ) → is_clear 16 s a ≡ true → kind (for_code 8 subnet_data) 8 (0 ∷ 2 ∷ s ∷ c ∷ take (octets_for s) a) ≡ Some (Ok (record { source = s; scope = c; addr = V6 a }))
+v6_again s c a h =
+    let back = address_again 16 s a h in
+    let d : List ℕ = 0 ∷ 2 ∷ s ∷ c ∷ take (octets_for s) a in
+    let long : length (take (octets_for s) a) + 4 ≡ length d = omega arith in
+    ap (λ x. Some (whole d (with_address V6 s c (length (take (octets_for s) a) + 4) x))) back.0 ∙ ap (λ x. Some x) (taken_whole d (length (take (octets_for s) a) + 4) (record { source = s; scope = c; addr = V6 a }) long)
+
+by_address : (s c : ℕ) (x : IpAddr) → is_clear_addr s x ≡ true → kind (for_code 8 subnet_data) 8 (subnet_octets (record { source = s; scope = c; addr = x })) ≡ Some (Ok (record { source = s; scope = c; addr = x }))
+by_address s c (V4 a) h = v4_again s c a h
+by_address s c (V6 a) h = v6_again s c a h
+
+-- a subnet comes back
+pub subnet_again : (k : Subnet) → is_clear_subnet k ≡ true → kind (for_code 8 subnet_data) 8 (subnet_octets k) ≡ Some (Ok k)
+subnet_again k h = by_address k.source k.scope k.addr h

@@ -1,0 +1,99 @@
+-- CLIENT-SUBNET (RFC 7871, section 6).
+use Rattle.std.specs.Prelude.{◌≡◌, ℕ, ◌+◌, ◌-◌, ◌*◌, ◌/◌, ◌^◌, ◌≤◌, ◌<◌, Bool, true, false, ◌&&◌, List, [], ◌∷◌, ◌++◌, length, take, drop, replicate, Result, Ok, Err, nat_lt, nat_le, nat_eq, min, if◌then◌else◌}
+use Rattle.std.specs.Cmp.Lexicographic.{pointwise}
+use Rattle.std.specs.List.{list_all}
+use Rattle.dns_name.specs.declared.error.ParseError.{ParseError}
+use Rattle.dns_name.specs.declared.error.ParseError.TheVariants.{ShortInput, Form}
+use Rattle.dns_name.specs.declared.error.FormReason.TheVariants.{Family, AddressLength, AddressBits}
+use Rattle.dns_name.specs.declared.address.IpAddr.{IpAddr}
+use Rattle.dns_name.specs.declared.address.IpAddr.TheVariants.{V4, V6}
+use Rattle.dns_name.specs.OptData.{Taken}
+use Rattle.dns_name.specs.Place.{be16}
+
+-- an address, how many of its bits were sent, and how many an answer is for
+pub record Subnet : Type 0 where
+  pub source : ℕ
+  pub scope : ℕ
+  pub addr : IpAddr
+
+-- an octet with the bits past the first s cleared
+unfoldable pub mask_octet : ℕ → ℕ → ℕ
+mask_octet s x = if nat_le 8 s then x else x / 2 ^ (8 - s) * 2 ^ (8 - s)
+
+-- octets with the bits past the first s cleared
+abbrev pub masked : ℕ → List ℕ → List ℕ
+masked s [] = []
+masked s (x ∷ xs) = mask_octet s x ∷ masked (s - 8) xs
+
+-- how many octets so many bits take
+abbrev pub octets_for : ℕ → ℕ
+octets_for s = (s + 7) / 8
+
+-- octets with zeros behind them, w in all
+abbrev pub padded : ℕ → List ℕ → List ℕ
+padded w d = d ++ drop (length d) (replicate w 0)
+
+-- the address of w octets that octets stand for under s bits, or why they stand for none
+unfoldable pub address : ℕ → ℕ → List ℕ → Result (List ℕ) ParseError
+address w s d =
+    if nat_lt w (octets_for s) then Err (Form AddressLength)
+    else (if nat_eq (length d) (octets_for s) then (if pointwise nat_eq (masked s (padded w d)) (padded w d) then Ok (padded w d) else Err (Form AddressBits))
+    else Err (Form AddressLength))
+
+abbrev pub with_address : (List ℕ → IpAddr) → ℕ → ℕ → ℕ → Result (List ℕ) ParseError → Taken Subnet
+with_address make s c n (Ok a) = Ok (record { source = s; scope = c; addr = make a }, n)
+with_address make s c n (Err e) = Err e
+
+abbrev pub by_family : ℕ → ℕ → ℕ → List ℕ → Taken Subnet
+by_family f s c d =
+    if nat_eq f 1 then with_address V4 s c (length d + 4) (address 4 s d)
+    else (if nat_eq f 2 then with_address V6 s c (length d + 4) (address 16 s d) else Err (Form Family))
+
+abbrev pub subnet_data : List ℕ → Taken Subnet
+subnet_data [] = Err ShortInput
+subnet_data (a ∷ []) = Err ShortInput
+subnet_data (a ∷ b ∷ []) = Err ShortInput
+subnet_data (a ∷ b ∷ s ∷ []) = Err ShortInput
+subnet_data (a ∷ b ∷ s ∷ c ∷ d) = by_family (be16 a b) s c d
+
+-- the bits of an address
+abbrev pub width : IpAddr → ℕ
+width (V4 a) = 32
+width (V6 a) = 128
+
+abbrev pub family : IpAddr → ℕ
+family (V4 a) = 1
+family (V6 a) = 2
+
+abbrev pub octets_of : IpAddr → List ℕ
+octets_of (V4 a) = a
+octets_of (V6 a) = a
+
+abbrev pub masked_addr : ℕ → IpAddr → IpAddr
+masked_addr s (V4 a) = V4 (masked s a)
+masked_addr s (V6 a) = V6 (masked s a)
+
+-- both prefixes within the address, and the bits past the source prefix cleared
+abbrev pub limited : ℕ → ℕ → IpAddr → Subnet
+limited s c a = record { source = min s (width a); scope = min c (width a); addr = masked_addr (min s (width a)) a }
+
+abbrev pub subnet_octets : Subnet → List ℕ
+subnet_octets k = 0 ∷ family k.addr ∷ k.source ∷ k.scope ∷ take (octets_for k.source) (octets_of k.addr)
+
+-- the source prefix is within the address
+abbrev pub IsSubnet : ℕ → IpAddr → Type 0
+IsSubnet s (V4 a) = (s ≤ 32) × (length a ≡ 4)
+IsSubnet s (V6 a) = (s ≤ 128) × (length a ≡ 16)
+
+-- an address of w octets without a bit past the first s
+abbrev pub is_clear : ℕ → ℕ → List ℕ → Bool
+is_clear w s a = nat_le s (8 * w) && (nat_eq (length a) w && (list_all (λ x. nat_lt x 256) a && pointwise nat_eq (masked s a) a))
+
+abbrev pub is_clear_addr : ℕ → IpAddr → Bool
+is_clear_addr s (V4 a) = is_clear 4 s a
+is_clear_addr s (V6 a) = is_clear 16 s a
+
+-- octets are read whole, or refused
+abbrev pub IsWhole : List ℕ → Taken Subnet → Result Subnet ParseError → Type 0
+IsWhole d (Ok p) result = (result ≡ Ok p.0) × (p.1 ≡ length d)
+IsWhole d (Err e) result = result ≡ Err e

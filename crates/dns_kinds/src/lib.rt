@@ -1,0 +1,21 @@
+//! Options of few octets: EXPIRE (RFC 7314), TCP-KEEPALIVE (RFC 7828), CHAIN (RFC 7901), EXTENDED-ERROR (RFC 8914)
+//! and CLIENT-SUBNET (RFC 7871).
+#![tactic(auto)]
+
+mod chain;
+mod expire;
+mod exterr;
+mod exterr_owned;
+mod keepalive;
+mod mask;
+mod subnet;
+
+pub use chain::{Chain, ChainRef};
+pub use expire::Expire;
+pub use exterr::ExtendedErrorRef;
+pub use exterr_owned::ExtendedError;
+pub use keepalive::{FromDurationError, IdleTimeout, TcpKeepalive};
+pub use subnet::ClientSubnet;
+
+#[cfg(test)]
+mod tests;

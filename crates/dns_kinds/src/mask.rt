@@ -1,0 +1,87 @@
+//! Addresses without the bits past a prefix.
+
+ghost use Rattle.std.specs.Prelude.{◌≡◌, ◌≤◌, OnOk};
+ghost use Rattle.dns_kinds.specs.Subnet.{address, mask_octet, masked};
+
+use dns_name::{FormReason, ParseError};
+
+#[tactic(auto, unfolding(crate::specs::Subnet::mask_octet))]
+fn mask(s: u8, x: u8) -> u8
+    ensures { result ≡ mask_octet s x }
+{
+    match s {
+        0 => 0,
+        1 => x / 128 * 128,
+        2 => x / 64 * 64,
+        3 => x / 32 * 32,
+        4 => x / 16 * 16,
+        5 => x / 8 * 8,
+        6 => x / 4 * 4,
+        7 => x / 2 * 2,
+        _ => x,
+    }
+}
+
+/// Clears the bits past the first s.
+#[tactic(auto, using(crate::proofs::Masks::mask_step, crate::proofs::Masks::mask_end))]
+fn clear(s: u8, a: &mut [u8])
+    ensures { a.new ≡ masked s a.old }
+{
+    let mut left = s;
+    'walk: for i in 0..a.len() {
+        a[i] = mask(left, a[i]);
+        left = left.saturating_sub(8);
+    }
+}
+
+pub(crate) fn mask4(s: u8, a: [u8; 4]) -> [u8; 4]
+    ensures { result ≡ masked s a }
+{
+    let mut out = a;
+    clear(s, &mut out);
+    out
+}
+
+pub(crate) fn mask16(s: u8, a: [u8; 16]) -> [u8; 16]
+    ensures { result ≡ masked s a }
+{
+    let mut out = a;
+    clear(s, &mut out);
+    out
+}
+
+/// The address of 16 octets that octets stand for under s bits.
+#[tactic(auto, unfolding(crate::specs::Subnet::address))]
+pub(crate) fn address16(s: u8, octets: &[u8]) -> Result<[u8; 16], ParseError>
+    ensures value { result ≡ address 16 s octets.now }
+    ensures within { OnOk result (s ≤ 128) }
+{
+    let len = (s as usize + 7) / 8;
+    if len > 16 || octets.len() != len {
+        return Err(ParseError::Form(FormReason::AddressLength));
+    }
+    let mut out = [0u8; 16];
+    out[..len].copy_from_slice(octets);
+    if mask16(s, out) != out {
+        return Err(ParseError::Form(FormReason::AddressBits));
+    }
+    Ok(out)
+}
+
+/// The address of 4 octets that octets stand for under s bits.
+#[tactic(auto, unfolding(crate::specs::Subnet::address))]
+pub(crate) fn address4(s: u8, octets: &[u8]) -> Result<[u8; 4], ParseError>
+    ensures value { result ≡ address 4 s octets.now }
+    ensures within { OnOk result (s ≤ 32) }
+{
+    let len = (s as usize + 7) / 8;
+    if len > 4 || octets.len() != len {
+        return Err(ParseError::Form(FormReason::AddressLength));
+    }
+    let mut out = [0u8; 4];
+    out[..len].copy_from_slice(octets);
+    if mask4(s, out) != out {
+        return Err(ParseError::Form(FormReason::AddressBits));
+    }
+    Ok(out)
+}

@@ -1,0 +1,170 @@
+//! CLIENT-SUBNET: the network that a query comes from (RFC 7871).
+
+ghost use Rattle.std.specs.Prelude.{◌≡◌, ◌≤◌, length};
+ghost use Rattle.dns_name.specs.OptData.{ParsesData, for_code};
+ghost use Rattle.dns_name.specs.Place.{rest};
+ghost use Rattle.dns_kinds.specs.Clears.{is_clear_subnet, subnet_again};
+ghost use Rattle.dns_kinds.specs.Subnet.{IsWhole, limited, subnet_data, subnet_octets};
+
+use crate::mask::{address4, address16, mask4, mask16};
+use dns_name::{
+    ComposeOptData, FormReason, IpAddr, OptData, OptionCode, OutOfMemory, ParseError, ParseOptData,
+    Parser, ReadBack,
+};
+use std::alloc::Global;
+use std::marker::Model;
+
+/// An address of which so many bits were sent, and for how many an answer is.
+#[derive(Clone, Copy, Debug, PartialEq, Eq, PartialOrd, Ord, Hash)]
+pub struct ClientSubnet {
+    source: u8,
+    scope: u8,
+    addr: IpAddr,
+}
+
+impl Model for ClientSubnet {
+    ghost use Rattle.dns_kinds.specs.Subnet.{IsSubnet, Subnet};
+
+    ghost Value = { Subnet };
+
+    ghost view = { λ k. record { source = k.source; scope = k.scope; addr = k.addr } };
+
+    ghost inverse = { λ v. record { source = v.source; scope = v.scope; addr = v.addr } };
+
+    ghost invariant = { λ k. IsSubnet k.source k.addr };
+}
+
+impl ClientSubnet {
+    /// Limits both prefixes to the address, and clears its bits past the source prefix.
+    pub fn new(source_prefix_len: u8, scope_prefix_len: u8, addr: IpAddr) -> ClientSubnet
+        ensures { result ≡ limited source_prefix_len scope_prefix_len addr }
+    {
+        match addr {
+            IpAddr::V4(a) => {
+                let source = source_prefix_len.min(32);
+                ClientSubnet {
+                    source,
+                    scope: scope_prefix_len.min(32),
+                    addr: IpAddr::V4(mask4(source, a)),
+                }
+            }
+            IpAddr::V6(a) => {
+                let source = source_prefix_len.min(128);
+                ClientSubnet {
+                    source,
+                    scope: scope_prefix_len.min(128),
+                    addr: IpAddr::V6(mask16(source, a)),
+                }
+            }
+        }
+    }
+
+    /// How many bits of the address were sent.
+    pub fn source_prefix_len(&self) -> u8
+        ensures { result ≡ self.now.source }
+    {
+        self.source
+    }
+
+    /// For how many bits an answer is.
+    pub fn scope_prefix_len(&self) -> u8
+        ensures { result ≡ self.now.scope }
+    {
+        self.scope
+    }
+
+    /// The address.
+    pub fn addr(&self) -> IpAddr
+        ensures { result ≡ self.now.addr }
+    {
+        self.addr
+    }
+
+    /// Reads all that is left.
+    pub fn parse(parser: &mut Parser<'_>) -> Result<ClientSubnet, ParseError>
+        ensures { ParsesData (subnet_data (rest parser.old)) parser.old parser.new result }
+    {
+        let found = of_octets(parser.peek_all())?;
+        parser.advance_to_end();
+        Ok(found)
+    }
+}
+
+/// The subnet that octets are.
+fn of_octets(octets: &[u8]) -> Result<ClientSubnet, ParseError>
+    ensures { IsWhole octets.now (subnet_data octets.now) result }
+{
+    let [f, g, source, scope, address @ ..] = octets else {
+        return Err(ParseError::ShortInput);
+    };
+    let family = 256 * *f as u16 + *g as u16;
+    if family == 1 {
+        let found = address4(*source, address)?;
+        return Ok(ClientSubnet {
+            source: *source,
+            scope: *scope,
+            addr: IpAddr::V4(found),
+        });
+    }
+    if family == 2 {
+        let found = address16(*source, address)?;
+        return Ok(ClientSubnet {
+            source: *source,
+            scope: *scope,
+            addr: IpAddr::V6(found),
+        });
+    }
+    Err(ParseError::Form(FormReason::Family))
+}
+
+impl OptData for ClientSubnet {
+    ghost code_of = { λ _. 8 };
+
+    fn code(&self) -> OptionCode {
+        OptionCode::CLIENT_SUBNET
+    }
+}
+
+impl<'a> ParseOptData<'a> for ClientSubnet {
+    ghost takes = { for_code 8 subnet_data };
+
+    fn parse_option(
+        code: OptionCode,
+        parser: &mut Parser<'a>,
+    ) -> Result<Option<ClientSubnet>, ParseError> {
+        if code.to_int() != 8 {
+            return Ok(None);
+        }
+        let found = ClientSubnet::parse(parser)?;
+        Ok(Some(found))
+    }
+}
+
+impl ComposeOptData for ClientSubnet {
+    ghost octets = { subnet_octets };
+
+    fn compose_len(&self) -> u16 {
+        4 + (self.source as u16 + 7) / 8
+    }
+
+    fn compose_option(&self, alloc: Global, target: &mut Vec<u8>) -> Result<(), OutOfMemory> {
+        let len = (self.source as usize + 7) / 8;
+        match &self.addr {
+            IpAddr::V4(a) => {
+                target.extend_from_slice(&[0, 1, self.source, self.scope])?;
+                target.extend_from_slice(&a[..len])?;
+            }
+            IpAddr::V6(a) => {
+                target.extend_from_slice(&[0, 2, self.source, self.scope])?;
+                target.extend_from_slice(&a[..len])?;
+            }
+        }
+        Ok(())
+    }
+}
+
+impl<'a> ReadBack<'a> for ClientSubnet {
+    ghost is_readable = { is_clear_subnet };
+
+    ghost comes_back = { subnet_again };
+}

@@ -1,0 +1,12 @@
+use Rattle.std.proofs.Common.{◌≡◌, List, ℕ, ◌++◌, length}
+use Rattle.std.specs.Fmt.{HasWritten, IsPlainFormatter}
+use Rattle.dns_lists.specs.Texts.{plain_text}
+use Rattle.dns_lists.proofs.texts.write_plain.Given as goal
+
+abbrev pub invariant-each : goal.invariant-each
+invariant-each g l =
+    IsPlainFormatter l.fn.f
+    → (done : List ℕ) × HasWritten g.W.Write.write_str_gives l.fn.f done l.f × (done ++ plain_text l.left ≡ plain_text l.fn.octets)
+
+abbrev pub decreases-each : goal.decreases-each
+decreases-each g l = length l.left

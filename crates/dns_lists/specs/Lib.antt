@@ -1,0 +1,5 @@
+pub mod Tags
+pub mod Texts
+pub mod Unknowns
+pub mod Lending
+pub mod Again

@@ -1,0 +1,112 @@
+//! Sources and sinks in memory of which no call fails.
+
+ghost use Rattle.std.specs.Prelude.{◌≡◌, ◌≤◌, ◌↔◌, length, [], IsTrue, true, IfSome, IsSome};
+
+use crate::sink::{Sink, SinkWrite};
+use crate::source::{Source, SourceRead};
+use std::marker::Model;
+
+/// A source over a vector, which tells what is left. No call fails, so its count of faults is 0 for ever.
+#[derive(Drop)]
+pub struct SteadySource {
+    octets: Vec<u8>,
+    place: usize,
+}
+
+impl Model for SteadySource {
+    ghost use Rattle.std.specs.Prelude.{◌≤◌, ℕ, List, drop, length};
+
+    ghost Value = { List ℕ };
+
+    ghost view = { λ s. drop s.place s.octets.items };
+
+    ghost invariant = { λ s. s.place ≤ length s.octets.items };
+}
+
+impl SteadySource {
+    pub fn new(octets: Vec<u8>) -> SteadySource
+        ensures { result ≡ octets.items }
+    {
+        SteadySource { octets, place: 0 }
+    }
+
+    /// The octets left.
+    pub fn left(&self) -> &[u8]
+        ensures { result.now ≡ self.now }
+    {
+        &self.octets[self.place..]
+    }
+}
+
+impl Source for SteadySource {
+    ghost tells = { λ _. Unit {0} };
+
+    ghost left = { λ s. s };
+
+    ghost faults = { λ _. 0 };
+
+    fn read(&mut self, buf: &mut [u8]) -> SourceRead {
+        let left = self.octets.len() - self.place;
+        if left == 0 {
+            return SourceRead::End;
+        }
+        let count = left.min(buf.len());
+        buf[..count].copy_from_slice(&self.octets[self.place..self.place + count]);
+        self.place += count;
+        SourceRead::Got(count)
+    }
+}
+
+/// A sink over a vector. No call fails, so its count of faults is 0 for ever. It tells what was taken as long as there
+/// is memory for it: afterwards it takes octets, keeps none and tells nothing.
+#[derive(Drop)]
+pub struct SteadySink {
+    octets: Vec<u8>,
+    whole: bool,
+}
+
+impl Model for SteadySink {
+    ghost use Rattle.dns_outside.specs.Memory.{Kept};
+
+    ghost Value = { Kept };
+
+    ghost view = { λ s. record { taken = s.octets.items; whole = s.whole } };
+}
+
+impl SteadySink {
+    pub fn new(octets: Vec<u8>) -> SteadySink
+        ensures { result ≡ record { taken = octets.items; whole = true } }
+    {
+        SteadySink {
+            octets,
+            whole: true,
+        }
+    }
+
+    /// The octets taken, where all of them were kept.
+    pub fn written(&self) -> Option<&[u8]>
+        ensures whole { IsSome result ↔ IsTrue self.now.whole }
+        ensures value { IfSome result (λ t. t.now ≡ self.now.taken) }
+    {
+        if self.whole {
+            Some(self.octets.as_slice())
+        } else {
+            None
+        }
+    }
+}
+
+impl Sink for SteadySink {
+    ghost tells = { λ s. IsTrue s.whole };
+
+    ghost taken = { λ s. s.taken };
+
+    ghost faults = { λ _. 0 };
+
+    fn write(&mut self, piece: &[u8]) -> SinkWrite {
+        if self.whole && self.octets.extend_from_slice(piece).is_err() {
+            self.whole = false;
+        }
+        SinkWrite::Took(piece.len())
+    }
+}

@@ -1,0 +1,12 @@
+pub mod Command
+pub mod Line
+pub mod Plain
+pub mod Plan
+pub mod Played
+pub mod Rules
+pub mod Runs
+pub mod Script
+pub mod ScriptReads
+pub mod Status
+pub mod Streams
+pub mod Writes

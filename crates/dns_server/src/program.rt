@@ -1,0 +1,142 @@
+//! The program's top call.
+
+ghost use Rattle.std.specs.Prelude.{◌≡◌, ◌≢◌, ◌↔◌, map, string_bytes, IfSome, IfOk, None};
+ghost use Rattle.dns_outside.specs.Causes.{Tells, Rose};
+ghost use Rattle.dns_server.specs.Command.{command_of};
+ghost use Rattle.dns_server.specs.Status.{number_of, SourceFaults, SinkFaults};
+ghost use Rattle.dns_server.specs.Runs.{outputs_of, ReplayTo, RunTo, Completes};
+
+use crate::command::{Command, read_command};
+use crate::reader::read_script;
+use crate::script::{Script, ScriptError};
+use crate::script_service::ScriptService;
+use crate::script_target::ScriptTarget;
+use crate::writing::{WriteError, write_outputs, write_refusal};
+use dns_core::{Settings, serve_events};
+use dns_name::OutOfMemory;
+use dns_outside::{ReadError, Sink, Source, read_all};
+use dns_service::Output;
+use std::alloc::Global;
+
+/// How a run ended.
+#[derive(Clone, Copy, Debug, PartialEq, Eq)]
+pub enum Status {
+    /// The source was read to its end, and all lines were written.
+    Done,
+    /// The words are none of the forms.
+    Usage,
+    /// The source is no script. One line says where and why.
+    Refused,
+    /// A read failed.
+    ReadFault,
+    /// A write failed.
+    WriteFault,
+    OutOfMemory,
+    /// The source has more than 67,108,864 octets.
+    TooLong,
+}
+
+impl Status {
+    ghost use Rattle.dns_server.specs.Status.{number_of};
+
+    /// The exit status of the program.
+    pub fn number(self) -> u8
+        ensures { result ≡ number_of self }
+    {
+        match self {
+            Status::Done => 0,
+            Status::Usage => 2,
+            Status::Refused => 3,
+            Status::ReadFault => 4,
+            Status::WriteFault => 5,
+            Status::OutOfMemory => 6,
+            Status::TooLong => 7,
+        }
+    }
+}
+
+/// What the clients of a script are sent.
+#[tactic(auto, using(crate::proofs::Queries::all_queries), unfolding(crate::specs::Runs::outputs_of))]
+fn outputs(alloc: Global, script: Script) -> Result<Vec<Output>, OutOfMemory>
+    ensures { IfOk result (λ v. v.items ≡ outputs_of script) }
+{
+    let settings = Settings::new(alloc);
+    let (rules, events) = script.into_parts();
+    serve_events(
+        alloc,
+        &settings,
+        ScriptService::new(rules),
+        ScriptTarget,
+        &events,
+    )
+}
+
+/// Answers the script that a source holds.
+#[tactic(auto, using(crate::proofs::Running::nothing_written, crate::proofs::Running::read_whole))]
+fn replay<R: Source, W: Sink>(alloc: Global, source: &mut R, sink: &mut W) -> Status
+    ensures told { Tells (R.tells source.new × W.tells sink.new) (R.tells source.old × W.tells sink.old)
+        (ReplayTo result (R.left source.old) (R.left source.new) (W.taken sink.old) (W.taken sink.new)) }
+    ensures source_faults { SourceFaults result (R.faults source.old) (R.faults source.new) }
+    ensures sink_faults { SinkFaults result (W.faults sink.old) (W.faults sink.new) }
+    ensures too_long { result ≡ Status.TooLong → sink.new ≡ sink.old }
+    ensures unread { result ≡ Status.ReadFault → sink.new ≡ sink.old }
+    ensures other { result ≢ Status.Usage }
+{
+    let text = match read_all(alloc, source) {
+        Ok(text) => text,
+        Err(ReadError::OutOfMemory) => return Status::OutOfMemory,
+        Err(ReadError::Fault) => return Status::ReadFault,
+        Err(ReadError::TooLong) => return Status::TooLong,
+    };
+    match read_script(alloc, &text) {
+        Ok(script) => {
+            let Ok(all) = outputs(alloc, script) else {
+                return Status::OutOfMemory;
+            };
+            match write_outputs(alloc, sink, &all) {
+                Ok(()) => Status::Done,
+                Err(WriteError::OutOfMemory) => Status::OutOfMemory,
+                Err(WriteError::Fault) => Status::WriteFault,
+            }
+        }
+        Err(ScriptError::OutOfMemory) => Status::OutOfMemory,
+        Err(ScriptError::Refused { line, reason }) => {
+            match write_refusal(alloc, sink, line, reason) {
+                Ok(()) => Status::Refused,
+                Err(WriteError::OutOfMemory) => Status::OutOfMemory,
+                Err(WriteError::Fault) => Status::WriteFault,
+            }
+        }
+    }
+}
+
+/// Does what the words ask for. Nothing but the lines of outputs and the line of a refusal is written.
+#[tactic(auto, using(crate::proofs::Running::replay_completes))]
+pub fn run<R: Source, W: Sink>(
+    alloc: Global,
+    words: &[String],
+    source: &mut R,
+    sink: &mut W,
+) -> Status
+    // The words are none of the forms, and then nothing is read or written.
+    ensures usage { result ≡ Status.Usage ↔ command_of (map string_bytes words.now) ≡ None }
+    ensures untouched { result ≡ Status.Usage → (source.new ≡ source.old) × (sink.new ≡ sink.old) }
+    // The counts of faults rise with the two faults, and with no other status.
+    ensures source_faults { SourceFaults result (R.faults source.old) (R.faults source.new) }
+    ensures sink_faults { SinkFaults result (W.faults sink.old) (W.faults sink.new) }
+    // Where the source is too long or can't be read, nothing is written.
+    ensures too_long { result ≡ Status.TooLong → sink.new ≡ sink.old }
+    ensures unread { result ≡ Status.ReadFault → sink.new ≡ sink.old }
+    // What was read and written, by the status.
+    ensures told { Tells (R.tells source.new × W.tells sink.new) (R.tells source.old × W.tells sink.old)
+        (IfSome (command_of (map string_bytes words.now)) (λ k. RunTo k result (R.left source.old) (R.left source.new) (W.taken sink.old) (W.taken sink.new))) }
+    // Without a fault the words and the script decide.
+    ensures complete { Tells (R.tells source.new × W.tells sink.new) (R.tells source.old × W.tells sink.old)
+        ((Rose (R.faults source.old) (R.faults source.new) → ⊥) → (Rose (W.faults sink.old) (W.faults sink.new) → ⊥) →
+        IfSome (command_of (map string_bytes words.now)) (λ k. Completes k result (R.left source.old))) }
+{
+    match read_command(words) {
+        None => Status::Usage,
+        Some(Command::Replay) => replay(alloc, source, sink),
+    }
+}

@@ -1,0 +1,99 @@
+//! The service lines of a script.
+
+ghost use Rattle.std.specs.Prelude.{◌≡◌, ◌++◌, ◌∷◌, [], OnOk, OnErr, IfOk, List};
+
+use dns_name::{OutOfMemory, Rcode};
+use dns_service::ServiceError;
+use std::alloc::Global;
+use std::marker::Model;
+
+/// The answer of one poll.
+#[derive(Clone, Copy, Debug, PartialEq, Eq)]
+pub enum ScriptAnswer {
+    /// An error.
+    Error(ServiceError),
+    /// A reply with the request's questions and this response code.
+    Rcode(Rcode),
+}
+
+/// Poll answers, in order.
+#[derive(Debug, Drop)]
+pub struct ScriptAnswers {
+    answers: Vec<ScriptAnswer>,
+}
+
+impl Model for ScriptAnswers {
+    ghost use Rattle.std.specs.Prelude.{List};
+    ghost use Rattle.dns_server.specs.declared.rule.ScriptAnswer.{ScriptAnswer};
+
+    ghost Value = { List ScriptAnswer };
+
+    ghost view = { λ a. a.answers.items };
+}
+
+impl ScriptAnswers {
+    /// The answers of a vector, which is not copied.
+    pub fn from_vec(answers: Vec<ScriptAnswer>) -> ScriptAnswers
+        ensures { result ≡ answers.items }
+    {
+        ScriptAnswers { answers }
+    }
+
+    /// A copy of a slice.
+    pub fn from_slice(alloc: Global, answers: &[ScriptAnswer]) -> Result<ScriptAnswers, OutOfMemory>
+        ensures { IfOk result (λ a. a ≡ answers.now) }
+    {
+        Ok(ScriptAnswers::from_vec(Vec::from_slice(alloc, answers)?))
+    }
+
+    pub fn as_slice(&self) -> &[ScriptAnswer]
+        ensures { result.now ≡ self.now }
+    {
+        self.answers.as_slice()
+    }
+}
+
+/// A service line.
+#[derive(Debug, Drop)]
+pub struct Rule {
+    pub answers: ScriptAnswers,
+}
+
+/// The service lines of a script, in order.
+#[derive(Debug, Drop)]
+pub struct Rules {
+    rules: Vec<Rule>,
+}
+
+impl Model for Rules {
+    ghost use Rattle.std.specs.Prelude.{List};
+    ghost use Rattle.dns_server.specs.declared.rule.Rule.{Rule};
+
+    ghost Value = { List Rule };
+
+    ghost view = { λ r. r.rules.items };
+}
+
+impl Rules {
+    /// The rules of a vector, which is not copied.
+    pub fn from_vec(rules: Vec<Rule>) -> Rules
+        ensures { result ≡ rules.items }
+    {
+        Rules { rules }
+    }
+
+    pub fn as_slice(&self) -> &[Rule]
+        ensures { result.now ≡ self.now }
+    {
+        self.rules.as_slice()
+    }
+
+    /// One rule more.
+    pub fn push(&mut self, rule: Rule) -> Result<(), OutOfMemory>
+        ensures ok { OnOk result (self.new ≡ self.old ++ rule ∷ []) }
+        ensures err { OnErr result (self.new ≡ self.old) }
+    {
+        self.rules.push(rule)?;
+        Ok(())
+    }
+}

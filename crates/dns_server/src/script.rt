@@ -1,0 +1,88 @@
+//! What a script says.
+
+ghost use Rattle.std.specs.Prelude.{◌≡◌, IfOk, IsTrue, All};
+ghost use Rattle.dns_server.specs.Plan.{nothing};
+ghost use Rattle.dns_server.specs.Plain.{is_plain_kind};
+ghost use Rattle.dns_server.specs.Script.{with_rule, with_event};
+
+use crate::rule::{Rule, Rules};
+use dns_name::OutOfMemory;
+use dns_service::Event;
+use dns_trace::Reason;
+use std::alloc::Global;
+use std::marker::Model;
+
+/// Why a text is no script.
+#[derive(Clone, Copy, Debug, PartialEq, Eq)]
+pub enum ScriptError {
+    OutOfMemory,
+    /// The first bad line, counted from 1, and why it is refused.
+    Refused { line: u64, reason: Reason },
+}
+
+/// The rules of the service and the events, of which each message is plain.
+#[derive(Debug, Drop)]
+pub struct Script {
+    rules: Rules,
+    events: Vec<Event>,
+}
+
+impl Model for Script {
+    ghost use Rattle.std.specs.Prelude.{IsTrue, All};
+    ghost use Rattle.dns_server.specs.Plain.{is_plain_kind};
+    ghost use Rattle.dns_server.specs.Plan.{Plan};
+
+    ghost Value = { Plan };
+
+    ghost view = { λ s. record { rules = s.rules; events = s.events.items } };
+
+    ghost invariant = { λ s. All (λ e. IsTrue (is_plain_kind e.kind)) s.events.items };
+}
+
+impl Script {
+    /// A script that says nothing.
+    pub fn new(alloc: Global) -> Script
+        ensures { result ≡ nothing }
+    {
+        Script {
+            rules: Rules::from_vec(Vec::new(alloc)),
+            events: Vec::new(alloc),
+        }
+    }
+
+    /// One rule more.
+    pub fn with_rule(self, rule: Rule) -> Result<Script, OutOfMemory>
+        ensures { IfOk result (λ s. s ≡ with_rule self rule) }
+    {
+        let mut script = self;
+        script.rules.push(rule)?;
+        Ok(script)
+    }
+
+    /// One event more.
+    pub fn with_event(self, event: Event) -> Result<Script, OutOfMemory>
+        requires { IsTrue (is_plain_kind event.kind) }
+        ensures { IfOk result (λ s. s ≡ with_event self event) }
+    {
+        let mut script = self;
+        script.events.push(event)?;
+        Ok(script)
+    }
+
+    /// The rules of the service.
+    pub fn rules(&self) -> &[Rule]
+        ensures { result.now ≡ self.now.rules }
+    {
+        self.rules.as_slice()
+    }
+
+    /// The rules of the service and the events.
+    pub fn into_parts(self) -> (Rules, Vec<Event>)
+        ensures rules { result.0 ≡ self.rules }
+        ensures events { result.1.items ≡ self.events }
+        ensures plain { All (λ e. IsTrue (is_plain_kind e.kind)) self.events }
+    {
+        let Script { rules, events } = self;
+        (rules, events)
+    }
+}

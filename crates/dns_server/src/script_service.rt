@@ -1,0 +1,131 @@
+//! The service that plays the rules of a script.
+
+ghost use Rattle.std.specs.Prelude.{◌≡◌, IfOk, Some, length, ◌-◌};
+ghost use Rattle.dns_service.specs.Transport.{hint_of};
+ghost use Rattle.dns_server.specs.Rules.{answers_for};
+ghost use Rattle.dns_server.specs.Played.{item_of, played};
+ghost use Rattle.dns_server.specs.Streams.{left_of, answers_left};
+
+use crate::rule::{Rule, Rules, ScriptAnswer, ScriptAnswers};
+use dns_base::{Message, MessageBuilder, PushError};
+use dns_name::OutOfMemory;
+use dns_service::{
+    CallResult, Polled, ReplyFuture, ReplyStream, Request, Service, ServiceError, ServiceResult,
+};
+use std::alloc::Global;
+use std::sync::Arc;
+
+/// Answers each request by the first rule of a script: its answers, one poll each, and then the end.
+#[derive(Drop)]
+pub struct ScriptService {
+    rules: Rules,
+}
+
+impl ScriptService {
+    /// The service of these rules.
+    pub fn new(rules: Rules) -> Self
+        ensures { ⟦<ScriptService as Service<()>>⟧.answer result ≡ played rules }
+    {
+        ScriptService { rules }
+    }
+}
+
+impl Service<()> for ScriptService {
+    type Stream = ScriptStream;
+
+    type Future = ScriptFuture;
+
+    ghost answer = { λ s. played s.rules };
+
+    ghost hint = { λ _ r. hint_of r.transport };
+
+    fn call(&self, alloc: Global, request: &mut Request<()>) -> Result<ScriptFuture, OutOfMemory> {
+        let answers = answers_of(alloc, self.rules.as_slice())?;
+        let message = Arc::try_clone(request.message())?;
+        Ok(ScriptFuture {
+            stream: Some(ScriptStream {
+                message,
+                answers,
+                next: 0,
+            }),
+        })
+    }
+}
+
+/// The answers of the first rule, and a refusal where there is none.
+fn answers_of(alloc: Global, rules: &[Rule]) -> Result<ScriptAnswers, OutOfMemory>
+    ensures { IfOk result (λ a. a ≡ answers_for rules.now) }
+{
+    match rules {
+        [rule, ..] => ScriptAnswers::from_slice(alloc, rule.answers.as_slice()),
+        [] => ScriptAnswers::from_slice(alloc, &[ScriptAnswer::Error(ServiceError::Refused)]),
+    }
+}
+
+/// A future that is ready at once.
+#[derive(Drop)]
+pub struct ScriptFuture {
+    stream: Option<ScriptStream>,
+}
+
+impl ReplyFuture for ScriptFuture {
+    type Stream = ScriptStream;
+
+    ghost answer = { λ f. answers_left f.stream };
+
+    fn poll(&mut self, _alloc: Global) -> Result<Polled<ScriptStream>, OutOfMemory> {
+        match self.stream.take() {
+            Some(stream) => Ok(Polled::Ready(stream)),
+            None => Ok(Polled::Pending),
+        }
+    }
+}
+
+/// The answers that are left.
+#[derive(Drop)]
+pub struct ScriptStream {
+    message: Arc<Message>,
+    answers: ScriptAnswers,
+    next: usize,
+}
+
+impl ReplyStream for ScriptStream {
+    ghost answer = { left_of };
+
+    ghost size = { λ s. (length s.answers - s.next, Some (length s.answers - s.next)) };
+
+    fn poll_next(&mut self, alloc: Global) -> Result<Polled<Option<ServiceResult>>, OutOfMemory> {
+        let Some(answer) = self.answers.as_slice().get(self.next).copied() else {
+            return Ok(Polled::Ready(None));
+        };
+        self.next += 1;
+        let item = make_item(alloc, &self.message, answer)?;
+        Ok(Polled::Ready(Some(item)))
+    }
+
+    fn size_hint(&self) -> (usize, Option<usize>) {
+        let left = self.answers.as_slice().len().saturating_sub(self.next);
+        (left, Some(left))
+    }
+}
+
+/// One answer to a message.
+fn make_item(
+    alloc: Global,
+    message: &Message,
+    answer: ScriptAnswer,
+) -> Result<ServiceResult, OutOfMemory>
+    ensures { IfOk result (λ i. i ≡ item_of message.now answer) }
+{
+    match answer {
+        ScriptAnswer::Error(error) => Ok(Err(error)),
+        ScriptAnswer::Rcode(rcode) => {
+            let builder = MessageBuilder::new(alloc)?;
+            match builder.start_answer(alloc, message, rcode) {
+                Ok(reply) => Ok(Ok(CallResult::new(reply.additional()))),
+                Err(PushError::ShortBuf) => Ok(Err(ServiceError::InternalError)),
+                Err(PushError::OutOfMemory) => Err(OutOfMemory),
+            }
+        }
+    }
+}

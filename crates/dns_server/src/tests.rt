@@ -1,0 +1,146 @@
+use crate::{Status, line, refusal, run};
+use dns_name::Octets;
+use dns_outside::{MemorySink, MemorySource};
+use dns_service::Output;
+use dns_trace::Reason;
+use std::alloc::Global;
+use std::test::Fail;
+
+const QUERY: &str =
+    "rule * rcode:3\ndatagram 5 100 1 192.0.2.1 5353 1234010000010000000000000000010001\nturn 6 100 1 0\n";
+
+const REPLY: &str = "datagram 1 1234810300010000000000000000010001\n";
+
+/// The faults of a row: the number of the read that fails, and that of the write.
+#[derive(Clone, Copy)]
+struct Faults {
+    read: Option<u64>,
+    write: Option<u64>,
+}
+
+const NONE: Faults = Faults {
+    read: None,
+    write: None,
+};
+
+fn numbers(alloc: Global, number: Option<u64>) -> Result<Vec<u64>, Fail> {
+    let mut all: Vec<u64> = Vec::new(alloc);
+    if let Some(n) = number {
+        all.push(n)?;
+    }
+    Ok(all)
+}
+
+/// Runs one word over a script that comes in pieces of at most 40 octets.
+fn play(
+    alloc: Global,
+    word: &str,
+    script: &str,
+    faults: &Faults,
+) -> Result<(Status, MemorySource, MemorySink), Fail> {
+    let mut words: Vec<String> = Vec::new(alloc);
+    words.push(String::from_str(alloc, word)?)?;
+    let octets = Vec::from_slice(alloc, script.as_bytes())?;
+    let mut source = MemorySource::new(octets, numbers(alloc, faults.read)?, 40);
+    let mut sink = MemorySink::new(Vec::new(alloc), numbers(alloc, faults.write)?, 40);
+    let status = run(alloc, &words, &mut source, &mut sink);
+    Ok((status, source, sink))
+}
+
+#[test]
+fn rows(rt: HostRuntime) -> Result<(), Fail> {
+    for (word, script, faults, status, text) in [
+        ("replay", QUERY, NONE, Status::Done, REPLY),
+        ("replay", "", NONE, Status::Done, ""),
+        (
+            "replay",
+            "strict no",
+            NONE,
+            Status::Refused,
+            "refused 1 unbuilt\n",
+        ),
+        ("play", QUERY, NONE, Status::Usage, ""),
+        (
+            "replay",
+            QUERY,
+            Faults {
+                read: Some(1),
+                write: None,
+            },
+            Status::ReadFault,
+            "",
+        ),
+        (
+            "replay",
+            QUERY,
+            Faults {
+                read: None,
+                write: Some(0),
+            },
+            Status::WriteFault,
+            "",
+        ),
+    ] {
+        let (ended, source, sink) = play(rt.alloc(), word, script, &faults)?;
+        assert_eq!(rt; ended, status);
+        assert!(rt; sink.written() == text.as_bytes(), "{word} {script}");
+        let untouched = source.left().len() == script.len();
+        assert_eq!(rt; untouched, script.is_empty() || ended == Status::Usage);
+    }
+    Ok(())
+}
+
+#[test]
+fn refused_lines(rt: HostRuntime) -> Result<(), Fail> {
+    for (script, number) in [
+        ("\n", "1"),
+        ("# a comment\nrule * rcode:3\n", "1"),
+        ("rule * rcode:16\n", "1"),
+        ("rule * rcode:3 rcode:3\n", "1"),
+        ("rule . rcode:3\n", "1"),
+        ("rule * rcode:3\r\n", "1"),
+        ("rule * rcode:3\nrule * rcode:3\n", "2"),
+        ("rule * rcode:3\nturn 6 100 1 0\n\n", "3"),
+        ("rule * rcode:3\nturn 6 100 1\n", "2"),
+        ("rule * rcode:3\ndatagram 5 100 1 192.0.2.1 5353 -\n", "2"),
+        (
+            "rule * rcode:3\ndatagram 5 100 1 192.0.2.1 5353 1234810000010000000000000000010001\n",
+            "2",
+        ),
+        (
+            "rule * rcode:3\ndatagram 5 100 1 192.0.2.1 5353 123401000001000000000000000001000100\n",
+            "2",
+        ),
+        (
+            "rule * rcode:3\ndatagram 5 100 1 192.0.2.1 5353 1234010000010000000000000000010001\n.",
+            "3",
+        ),
+    ] {
+        let (status, _, sink) = play(rt.alloc(), "replay", script, &NONE)?;
+        assert_eq!(rt; status, Status::Refused);
+        let text = format!(in rt.alloc(); "refused {number} unbuilt\n")?;
+        assert!(rt; sink.written() == text.as_bytes(), "{script}");
+    }
+    Ok(())
+}
+
+#[test]
+fn lines_out(rt: HostRuntime) -> Result<(), Fail> {
+    let octets = Octets::from_slice(rt.alloc(), b"\x00\xaf".as_slice())?;
+    let output = Output::Datagram { client: 7, octets };
+    assert_eq!(rt; line(rt.alloc(), &output)?.as_str(), "datagram 7 00af\n");
+    let text = refusal(rt.alloc(), 12, Reason::Unbuilt)?;
+    assert_eq!(rt; text.as_str(), "refused 12 unbuilt\n");
+    for (status, number) in [
+        (Status::Done, 0),
+        (Status::Usage, 2),
+        (Status::Refused, 3),
+        (Status::ReadFault, 4),
+        (Status::WriteFault, 5),
+        (Status::OutOfMemory, 6),
+        (Status::TooLong, 7),
+    ] {
+        assert_eq!(rt; status.number(), number);
+    }
+    Ok(())
+}

@@ -1,0 +1,5 @@
+pub mod EventLines
+pub mod Lines
+pub mod Reading
+pub mod Values
+pub mod Words

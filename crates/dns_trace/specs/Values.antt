@@ -1,0 +1,61 @@
+-- Values that words spell.
+use Rattle.std.specs.Prelude.{ℕ, ◌+◌, ◌-◌, ◌*◌, ◌==◌, ◌&&◌, nat_lt, nat_le, if◌then◌else◌, List, [], ◌∷◌, length, Result, Ok, Err, codes}
+use Rattle.std.specs.List.{slice_split}
+use Rattle.std.specs.Str.{bytes_eq}
+use Rattle.hex.specs.Hex.{decode_of, decode_sized}
+use Rattle.hex.specs.declared.error.FromHexError.{FromHexError}
+use Rattle.dns_name.specs.declared.address.IpAddr.{IpAddr}
+use Rattle.dns_name.specs.declared.address.IpAddr.TheVariants.{V4, V6}
+use Rattle.dns_trace.specs.Words.{word}
+use Rattle.dns_trace.specs.Reading.{◌>>=◌, unless}
+use Rattle.dns_trace.specs.declared.reason.Reason.{Reason}
+use Rattle.dns_trace.specs.declared.reason.Reason.TheVariants.{Unbuilt}
+
+-- the number of decimal digits that follow the number n
+abbrev pub digits_after : ℕ → List ℕ → Result ℕ Reason
+digits_after n [] = Ok n
+digits_after n (c ∷ cs) = if nat_le 48 c && nat_le c 57 then digits_after (10 * n + (c - 48)) cs else Err Unbuilt
+
+-- 1 to `most` digits of a number below `top`
+unfoldable pub number : ℕ → ℕ → List ℕ → Result ℕ Reason
+number most top w = do
+  _ ← unless Unbuilt (nat_lt 0 (length w) && nat_le (length w) most)
+  n ← digits_after 0 w
+  _ ← unless Unbuilt (nat_lt n top)
+  Ok n
+
+abbrev pub num_of : List ℕ → Result ℕ Reason
+num_of w = number 20 18446744073709551616 w
+
+abbrev pub port_of : List ℕ → Result ℕ Reason
+port_of w = number 20 65536 w
+
+-- the refusals of hexadecimal digits are one
+abbrev pub from_hex : {A : Type 0} → Result A FromHexError → Result A Reason
+from_hex (Ok x) = Ok x
+from_hex (Err e) = Err Unbuilt
+
+-- an even number of hexadecimal digits, or `-` for no octet
+unfoldable pub octets_of : List ℕ → Result (List ℕ) Reason
+octets_of w = if bytes_eq w (codes "-") then Ok [] else from_hex (decode_of w)
+
+-- the four parts of a dotted quad
+unfoldable pub quad_of : List (List ℕ) → Result IpAddr Reason
+quad_of ps = do
+  _ ← unless Unbuilt (length ps == 4)
+  a ← number 3 256 (word ps 0)
+  b ← number 3 256 (word ps 1)
+  c ← number 3 256 (word ps 2)
+  d ← number 3 256 (word ps 3)
+  Ok (V4 (a ∷ b ∷ c ∷ d ∷ []))
+
+abbrev pub quad_word : List ℕ → Result IpAddr Reason
+quad_word w = quad_of (slice_split (λ b. b == 46) w)
+
+abbrev pub six : Result (List ℕ) Reason → Result IpAddr Reason
+six (Ok o) = Ok (V6 o)
+six (Err e) = Err e
+
+-- 32 hexadecimal digits, or a dotted quad
+unfoldable pub addr_of : List ℕ → Result IpAddr Reason
+addr_of w = if length w == 32 then six (from_hex (decode_sized w 16)) else quad_word w

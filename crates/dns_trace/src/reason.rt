@@ -1,0 +1,60 @@
+//! Why a line is refused.
+
+ghost use Rattle.std.specs.Prelude.{◌≡◌};
+
+use dns_name::OutOfMemory;
+use std::alloc::{AllocError, AllocFailed};
+
+/// Why a line of a script is refused.
+#[derive(Clone, Copy, Debug, PartialEq, Eq)]
+pub enum Reason {
+    /// The line is none of those that are built so far.
+    Unbuilt,
+}
+
+/// Why a line gave nothing.
+#[derive(Clone, Copy, Debug, PartialEq, Eq)]
+pub enum LineError {
+    OutOfMemory,
+    Refused(Reason),
+}
+
+impl From<Reason> for LineError {
+    ghost use Rattle.dns_trace.specs.declared.reason.LineError.TheVariants.{Refused};
+
+    ghost from_gives = { λ r e. e ≡ Refused r };
+
+    fn from(reason: Reason) -> Self {
+        LineError::Refused(reason)
+    }
+}
+
+impl From<OutOfMemory> for LineError {
+    ghost use Rattle.dns_trace.specs.declared.reason.LineError.TheVariants.{OutOfMemory as NoMemory};
+
+    ghost from_gives = { λ _ e. e ≡ NoMemory };
+
+    fn from(_error: OutOfMemory) -> Self {
+        LineError::OutOfMemory
+    }
+}
+
+impl From<AllocError> for LineError {
+    ghost use Rattle.dns_trace.specs.declared.reason.LineError.TheVariants.{OutOfMemory as NoMemory};
+
+    ghost from_gives = { λ _ e. e ≡ NoMemory };
+
+    fn from(_error: AllocError) -> Self {
+        LineError::OutOfMemory
+    }
+}
+
+impl<T: Drop> From<AllocFailed<T>> for LineError {
+    ghost use Rattle.dns_trace.specs.declared.reason.LineError.TheVariants.{OutOfMemory as NoMemory};
+
+    ghost from_gives = { λ _ e. e ≡ NoMemory };
+
+    fn from(_error: AllocFailed<T>) -> Self {
+        LineError::OutOfMemory
+    }
+}

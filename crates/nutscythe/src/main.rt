@@ -1,0 +1,69 @@
+//! The program: a script on standard input, its outputs on standard output.
+#![tactic(auto)]
+
+use dns_outside::{Reading, Writing};
+use dns_server::{Status, run};
+use std::process::ExitCode;
+use std::{env, io};
+
+const HELP: &str = "\
+Usage: nutscythe replay < SCRIPT
+       nutscythe --help | --version
+
+replay reads a script, serves its events by its rules, and writes one line for each output.
+
+A script is empty, or its first line is
+  rule * rcode:N                                  N below 16
+and each later line is one of
+  datagram AT SECS CLIENT ADDR PORT HEX           a query of one question came from an address
+  turn AT SECS CLIENT REQUEST                     a request is polled once
+with numbers in decimal, ADDR as a dotted quad and HEX as the message's octets.
+
+Exit status: 0 done, 2 faulty command line, 3 no script (a line says where and why), 4 a read failed,
+5 a write failed, 6 out of memory, 7 a script of more than 67108864 octets.
+";
+
+const VERSION: &str = "nutscythe 0.1.0\n";
+
+/// Prints a text, and says how that went.
+fn printed(rt: &impl Print, text: &str) -> ExitCode {
+    match rt.print(text) {
+        Ok(()) => ExitCode::SUCCESS,
+        Err(_) => ExitCode::from(Status::WriteFault.number()),
+    }
+}
+
+/// The words of the command line behind the program's name. A word that isn't UTF-8 is a faulty command line.
+fn read_words(rt: &HostRuntime) -> Result<Vec<String>, Status> {
+    let args = match env::args(rt) {
+        Ok(args) => args,
+        Err(error) if error.kind() == io::ErrorKind::OutOfMemory => {
+            return Err(Status::OutOfMemory);
+        }
+        Err(_) => return Err(Status::Usage),
+    };
+    let mut words = Vec::new(rt.alloc());
+    for word in args.skip(1) {
+        if words.push(word).is_err() {
+            return Err(Status::OutOfMemory);
+        }
+    }
+    Ok(words)
+}
+
+fn main(rt: HostRuntime) -> ExitCode {
+    let words = match read_words(&rt) {
+        Ok(words) => words,
+        Err(status) => return ExitCode::from(status.number()),
+    };
+    match words.first().map(|word| word.as_str()) {
+        Some("--help") => printed(&rt, HELP),
+        Some("--version") => printed(&rt, VERSION),
+        _ => {
+            let mut source = Reading::new(rt.stdin());
+            let mut sink = Writing::new(rt.stdout());
+            let status = run(rt.alloc(), &words, &mut source, &mut sink);
+            ExitCode::from(status.number())
+        }
+    }
+}
