@@ -9,5 +9,5 @@ mod requests;
 
 pub use client::{ClientCore, Status};
 pub use framer::Framer;
-pub use laws::pieces_may_be_cut;
+pub use laws::{frames_go_on, pieces_may_be_cut};
 pub use polling::PolledRequest;

@@ -8,12 +8,10 @@ use Rattle.dns_service.specs.Answer.{Answer}
 use Rattle.dns_service.specs.Req.{Req}
 use Rattle.dns_service.specs.declared.event.Event.{Event}
 use Rattle.dns_service.specs.declared.event.Output.{Output}
-use Rattle.dns_service.specs.declared.event.Output.TheVariants.{TurnedAway}
-use Rattle.dns_client.specs.Slate.{Slate, Told, fresh}
+use Rattle.dns_client.specs.Slate.{Slate, Told}
 use Rattle.dns_client.specs.Rule.{rule}
-use Rattle.dns_core.specs.Settings.{opening}
 use Rattle.dns_core.specs.Sent.{slate}
-use Rattle.dns_core.specs.Out.{is_unused, begins, is_datagram, holds_slot, is_new, taken, has_room, put, joined, members, gain, gained, out_after, out}
+use Rattle.dns_core.specs.Out.{is_unused, begins, is_datagram, holds_slot, is_new, taken, has_room, put, members, gained, out_after, out}
 use Rattle.dns_core.specs.declared.settings.Settings.{Settings}
 use Rattle.dns_core.proofs.OutLemmas.{gain_some, members_more}
 use Rattle.dns_core.proofs.Counted.{filter_same}

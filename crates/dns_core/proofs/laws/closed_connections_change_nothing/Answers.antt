@@ -1,5 +1,4 @@
 use Rattle.std.proofs.Common.{ap}
-use Rattle.dns_client.specs.Slate.{Phase}
 use Rattle.dns_core.specs.Out.{is_unused}
 use Rattle.dns_core.specs.Sent.{slate}
 use Rattle.dns_core.proofs.Plain.{closed_idle}
