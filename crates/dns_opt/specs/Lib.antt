@@ -1,0 +1,4 @@
+pub mod Items
+pub mod Pushes
+pub mod Writes
+pub mod All
