@@ -1,3 +1,6 @@
+pub mod FramesLemmas
 pub mod Kept
 pub mod Turns
-pub mod Exchanges
+pub mod Begun
+pub mod Taking
+pub mod Cutting

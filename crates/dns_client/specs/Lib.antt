@@ -1,6 +1,10 @@
+pub mod Frames
 pub mod Slate
+pub mod Requests
 pub mod Datagrams
+pub mod Connections
 pub mod Turns
 pub mod Rule
 pub mod PolledAt
 pub mod Stands
+pub mod Pieces

@@ -2,7 +2,12 @@
 #![tactic(auto)]
 
 mod client;
+mod framer;
+mod laws;
 mod polling;
+mod requests;
 
-pub use client::ClientCore;
+pub use client::{ClientCore, Status};
+pub use framer::Framer;
+pub use laws::{frames_go_on, pieces_may_be_cut};
 pub use polling::PolledRequest;
