@@ -1,3 +1,5 @@
+pub mod FramesLemmas
 pub mod Kept
 pub mod Turns
-pub mod Exchanges
+pub mod Begun
+pub mod Taking

@@ -1,5 +1,8 @@
+pub mod Frames
 pub mod Slate
+pub mod Requests
 pub mod Datagrams
+pub mod Connections
 pub mod Turns
 pub mod Rule
 pub mod PolledAt

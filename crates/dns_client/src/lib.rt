@@ -2,7 +2,10 @@
 #![tactic(auto)]
 
 mod client;
+mod framer;
 mod polling;
+mod requests;
 
-pub use client::ClientCore;
+pub use client::{ClientCore, Status};
+pub use framer::Framer;
 pub use polling::PolledRequest;

@@ -1,16 +1,42 @@
 -- What a run may be handed as long as there are no layers: queries alone, and no cookies.
-use Rattle.std.specs.Prelude.{◌≡◌, List, All, false, None}
+use Rattle.std.specs.Prelude.{◌≡◌, ℕ, ◌≤◌, List, [], length, All, false, None}
+use Rattle.std.specs.List.{flat_map}
 use Rattle.dns_base.specs.Header.{header_of}
 use Rattle.dns_service.specs.declared.event.Event.{Event}
 use Rattle.dns_service.specs.declared.event.EventKind.{EventKind}
-use Rattle.dns_service.specs.declared.event.EventKind.TheVariants.{Datagram, Turn}
+use Rattle.dns_service.specs.declared.event.EventKind.TheVariants.{Datagram, Turn, Offer, Piece, End, Write, Release}
+use Rattle.dns_client.specs.Frames.{frames}
+use Rattle.dns_client.specs.Requests.{header_size}
+use Rattle.dns_core.specs.Own.{own}
 use Rattle.dns_core.specs.declared.settings.Settings.{Settings}
 
--- no message of a datagram is itself a response
-abbrev pub IsQuery : EventKind → Type 0
-IsQuery (Datagram addr o) = (header_of o).qr ≡ false
-IsQuery (Turn k) = Unit {0}
+-- a message, if octets are one, isn't itself a response
+abbrev pub IsQuery : List ℕ → Type 0
+IsQuery o = header_size ≤ length o → (header_of o).qr ≡ false
+
+abbrev pub IsQueryAlone : EventKind → Type 0
+IsQueryAlone (Datagram addr o) = IsQuery o
+IsQueryAlone (Turn k) = Unit {0}
+IsQueryAlone (Offer addr) = Unit {0}
+IsQueryAlone (Piece o) = Unit {0}
+IsQueryAlone End = Unit {0}
+IsQueryAlone (Write took) = Unit {0}
+IsQueryAlone Release = Unit {0}
+
+abbrev pub piece_in : EventKind → List ℕ
+piece_in (Datagram addr o) = []
+piece_in (Turn k) = []
+piece_in (Offer addr) = []
+piece_in (Piece o) = o
+piece_in End = []
+piece_in (Write took) = []
+piece_in Release = []
+
+-- the octets of a client's stream
+abbrev pub stream_of : ℕ → List Event → List ℕ
+stream_of c es = flat_map (λ e. piece_in e.kind) (own c es)
 
 pub record IsEarly (settings : Settings) (events : List Event) : Type 0 where
-  pub queries : All (λ e. IsQuery e.kind) events
+  pub datagrams : All (λ e. IsQueryAlone e.kind) events
+  pub streams : (c : ℕ) → All IsQuery (frames (stream_of c events))
   pub cookies : settings.cookies ≡ None

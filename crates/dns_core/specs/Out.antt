@@ -1,13 +1,14 @@
 -- What all clients are sent. Lists of events go from the oldest to the newest; an event e comes after the events q.
-use Rattle.std.specs.Prelude.{ℕ, List, [], ◌∷◌, ◌++◌, length, drop, nat_lt, nat_eq, if◌then◌else◌, Bool, true, false, ◌&&◌}
+use Rattle.std.specs.Prelude.{ℕ, List, [], ◌∷◌, ◌++◌, length, drop, filter, nat_lt, nat_eq, if◌then◌else◌, Bool, true, false, not, ◌&&◌, ◌||◌}
 use Rattle.std.specs.List.{list_any}
 use Rattle.dns_service.specs.Answer.{Answer}
 use Rattle.dns_service.specs.Req.{Req}
 use Rattle.dns_service.specs.declared.event.Event.{Event}
 use Rattle.dns_service.specs.declared.event.EventKind.{EventKind}
-use Rattle.dns_service.specs.declared.event.EventKind.TheVariants.{Datagram, Turn}
+use Rattle.dns_service.specs.declared.event.EventKind.TheVariants.{Datagram, Turn, Offer, Piece, End, Write, Release}
 use Rattle.dns_service.specs.declared.event.Output.{Output}
-use Rattle.dns_client.specs.Slate.{Phase, Unused, Exchange}
+use Rattle.dns_service.specs.declared.event.Output.TheVariants.{TurnedAway}
+use Rattle.dns_client.specs.Slate.{Slate, Phase, Unused, Exchange, Open, Closed}
 use Rattle.dns_core.specs.Own.{own}
 use Rattle.dns_core.specs.Sent.{sent, slate}
 use Rattle.dns_core.specs.declared.settings.Settings.{Settings}
@@ -15,16 +16,51 @@ use Rattle.dns_core.specs.declared.settings.Settings.{Settings}
 abbrev pub is_unused : Phase → Bool
 is_unused Unused = true
 is_unused Exchange = false
+is_unused Open = false
+is_unused Closed = false
+
+abbrev pub is_connection : Phase → Bool
+is_connection Unused = false
+is_connection Exchange = false
+is_connection Open = true
+is_connection Closed = true
+
+abbrev pub is_datagram : EventKind → Bool
+is_datagram (Datagram addr o) = true
+is_datagram (Turn k) = false
+is_datagram (Offer addr) = false
+is_datagram (Piece o) = false
+is_datagram End = false
+is_datagram (Write took) = false
+is_datagram Release = false
 
 -- the kinds of event by which a client begins
 abbrev pub begins : EventKind → Bool
 begins (Datagram addr o) = true
 begins (Turn k) = false
+begins (Offer addr) = true
+begins (Piece o) = false
+begins End = false
+begins (Write took) = false
+begins Release = false
+
+abbrev pub is_release : EventKind → Bool
+is_release (Datagram addr o) = false
+is_release (Turn k) = false
+is_release (Offer addr) = false
+is_release (Piece o) = false
+is_release End = false
+is_release (Write took) = false
+is_release Release = true
 
 -- a number stands once in a rising list
 abbrev pub put : ℕ → List ℕ → List ℕ
 put c [] = c ∷ []
 put c (n ∷ ns) = if nat_lt c n then c ∷ n ∷ ns else n ∷ put c ns
+
+-- a connection holds a slot until a Release finds it closed
+abbrev pub holds_slot : Slate → Bool
+holds_slot s = is_connection s.phase && not s.freed
 
 module _ (answers : Req (Unit {0}) → ℕ → Answer) (settings : Settings) where
   -- what a client's sent has more with e
@@ -35,21 +71,31 @@ module _ (answers : Req (Unit {0}) → ℕ → Answer) (settings : Settings) whe
   unfoldable pub is_new : List Event → Event → Bool
   is_new q e = begins e.kind && is_unused (slate answers settings e.client q).phase
 
-  -- the exchanges after e
+  -- how many of the members hold a slot
+  unfoldable pub taken : List Event → List ℕ → ℕ
+  taken q ms = length (filter (λ c. holds_slot (slate answers settings c q)) ms)
+
+  unfoldable pub has_room : List Event → List ℕ → Bool
+  has_room q ms = nat_lt (taken q ms) settings.stream.max_concurrent_connections
+
+  -- the exchanges and connections after e: an offer needs room
   abbrev pub joined : List Event → List ℕ → Event → List ℕ
-  joined q ms e = if is_new q e then put e.client ms else ms
+  joined q ms e = if is_new q e && (is_datagram e.kind || has_room q ms) then put e.client ms else ms
 
   abbrev pub members_after : List Event → List ℕ → List Event → List ℕ
   members_after q ms [] = ms
   members_after q ms (e ∷ es) = members_after (q ++ e ∷ []) (joined q ms e) es
 
-  -- the exchanges of es, by rising number
+  -- the exchanges and connections of es, by rising number
   unfoldable pub members : List Event → List ℕ
   members es = members_after [] [] es
 
-  -- what is sent for e: the gain of its client, where that is an exchange
+  -- what is sent for e: the gain of its client, where that is an exchange or a connection, and else that it is turned away,
+  -- where e is its first offer
   abbrev pub gained : List Event → Event → List Output
-  gained q e = if list_any (nat_eq e.client) (members (q ++ e ∷ [])) then gain e.client q e else []
+  gained q e =
+      if list_any (nat_eq e.client) (members (q ++ e ∷ [])) then gain e.client q e
+      else (if is_new q e then TurnedAway e.client settings.stream.accept_connections_at_max ∷ [] else [])
 
   abbrev pub out_after : List Event → List Event → List Output
   out_after q [] = []

@@ -9,7 +9,7 @@ use Rattle.dns_service.specs.declared.event.Event.{Event}
 use Rattle.dns_service.specs.declared.event.Output.{Output}
 use Rattle.dns_client.specs.declared.polling.PolledRequest.{PolledRequest}
 use Rattle.dns_core.specs.Sent.{slate}
-use Rattle.dns_core.specs.Out.{members, gained, is_unused}
+use Rattle.dns_core.specs.Out.{members, taken, gained, is_unused}
 use Rattle.dns_core.specs.Serves.{StandAll}
 use Rattle.dns_core.specs.declared.settings.Settings.{Settings}
 use Rattle.dns_core.specs.declared.server.Server.{Server}
@@ -19,7 +19,9 @@ module _ {W R F : Type 0} (answer : PolledRequest F R → ℕ → Answer) (answe
     pub same_keys : keys server.clients ≡ members answers settings q
     pub stand : StandAll answer answers server.clients (λ c. slate answers settings c q)
     pub used : (c : ℕ) → contains nat_cmp server.used c ≡ not (is_unused (slate answers settings c q).phase)
+    pub slots : server.taken ≡ taken answers settings q (members answers settings q)
     pub dgram : server.dgram ≡ settings.dgram
+    pub stream : server.stream ≡ settings.stream
 
   -- whatever the settings and the events before, e is answered as it is to be
   abbrev pub Goes : Server W R F → Server W R F → Event → List Output → Type 0

@@ -1,5 +1,5 @@
 -- Cores that stand for slates, one for each client.
-use Rattle.std.specs.Prelude.{◌≡◌, ℕ, [], List, Option, Some, None}
+use Rattle.std.specs.Prelude.{◌≡◌, ℕ, [], List, Bool, false, Option, Some, None}
 use Rattle.std.specs.Ordering.{nat_cmp}
 use Rattle.std.specs.BTreeMap.{BTreeMap, get}
 use Rattle.dns_service.specs.Answer.{Answer}
@@ -11,6 +11,10 @@ use Rattle.dns_client.specs.Rule.{rule}
 use Rattle.dns_client.specs.Stands.{Stands, Follows}
 use Rattle.dns_client.specs.declared.client.ClientCore.{ClientCore}
 use Rattle.dns_client.specs.declared.polling.PolledRequest.{PolledRequest}
+
+abbrev pub freed_at : {W R F : Type 0} → Option (ClientCore W R F) → Bool
+freed_at None = false
+freed_at (Some core) = core.freed
 
 module _ {W R F : Type 0} (answer : PolledRequest F R → ℕ → Answer) (answers : Req (Unit {0}) → ℕ → Answer) where
   -- each core stands for its client's slate

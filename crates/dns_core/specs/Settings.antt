@@ -3,4 +3,4 @@ use Rattle.dns_client.specs.Slate.{Conf}
 use Rattle.dns_core.specs.declared.settings.Settings.{Settings}
 
 abbrev pub opening : Settings → Conf
-opening settings = record { dgram = settings.dgram }
+opening settings = record { dgram = settings.dgram; stream = settings.stream }

@@ -7,8 +7,8 @@ mod server;
 mod settings;
 mod stamped;
 
-pub use dns_client::{ClientCore, PolledRequest};
-pub use dns_service::{Event, EventKind, Octets, Output};
+pub use dns_client::{ClientCore, Framer, PolledRequest, Status};
+pub use dns_service::{Event, EventKind, Octets, Output, Why};
 pub use notify::{Notifiable, NotifyError, VerdictFuture};
 pub use server::serve_events;
 pub use settings::Settings;

@@ -1,21 +1,23 @@
 //! The server over a list of events.
 
-ghost use Rattle.std.specs.Prelude.{◌≡◌, ℕ, List, [], false, IfOk};
+ghost use Rattle.std.specs.Prelude.{◌≡◌, ◌-◌, ◌&&◌, not, if◌then◌else◌, ℕ, List, [], false, IfOk};
 ghost use Rattle.dns_service.specs.Answer.{Answer};
 ghost use Rattle.dns_service.specs.Req.{Req};
 ghost use Rattle.dns_service.specs.Config.{Dgram};
 ghost use Rattle.dns_client.specs.PolledAt.{request_answer};
-ghost use Rattle.dns_core.specs.Out.{begins, out};
+ghost use Rattle.dns_core.specs.Out.{begins, is_release, out};
 ghost use Rattle.dns_core.specs.Replies.{replies};
 ghost use Rattle.dns_core.specs.Early.{IsEarly};
 
-use crate::clients::{append, step_at};
+use crate::clients::{append, is_freed_at, step_at};
 use crate::notify::Notifiable;
 use crate::settings::Settings;
 use crate::stamped::Stamped;
 use dns_base::SocketAddr;
 use dns_client::ClientCore;
-use dns_service::{DgramConfig, Event, EventKind, OutOfMemory, Output, Plainly, Served, Service};
+use dns_service::{
+    DgramConfig, Event, EventKind, OutOfMemory, Output, Plainly, Served, Service, StreamConfig,
+};
 use std::alloc::Global;
 use std::collections::{BTreeMap, BTreeSet};
 
@@ -24,7 +26,9 @@ use std::collections::{BTreeMap, BTreeSet};
 pub struct Server<W: Served> {
     clients: BTreeMap<u64, ClientCore<W>>,
     used: BTreeSet<u64>,
+    taken: u64,
     dgram: DgramConfig,
+    stream: StreamConfig,
 }
 
 impl<W: Served> Server<W> {
@@ -36,7 +40,9 @@ impl<W: Served> Server<W> {
         Server {
             clients: BTreeMap::new(alloc),
             used: BTreeSet::new(alloc),
+            taken: 0,
             dgram: settings.dgram,
+            stream: settings.stream,
         }
     }
 
@@ -44,6 +50,7 @@ impl<W: Served> Server<W> {
     fn own(&mut self, alloc: Global, service: &W, event: &Event) -> Result<Vec<Output>, OutOfMemory>
         requires can_call { W.can_call service.now }
         requires begins { begins event.now.kind ≡ false }
+        requires release { is_release event.now.kind ≡ false }
         ensures { IfOk result (λ outs. Goes (request_answer W.Future.answer W.Stream.answer) (W.answer service.now) self.old self.new event.now outs.items) }
     {
         let outs = step_at(alloc, service, &mut self.clients, event)?;
@@ -63,22 +70,68 @@ impl<W: Served> Server<W> {
         requires kind { event.now.kind ≡ EventKind.Datagram addr octets.now }
         ensures { IfOk result (λ outs. Goes (request_answer W.Future.answer W.Stream.answer) (W.answer service.now) self.old self.new event.now outs.items) }
     {
-        let client = event.client;
-        if self.used.contains(&client) {
+        if self.used.contains(&event.client) {
             return Ok(Vec::new(alloc));
         }
         let (core, outs) = ClientCore::datagram(
             alloc,
             service,
-            client,
+            event.client,
             addr,
             event.at,
             event.secs,
             octets,
             &self.dgram,
         )?;
+        self.clients.insert(event.client, core)?;
+        self.used.insert(event.client)?;
+        Ok(outs)
+    }
+
+    /// A connection begins, where a slot is free, and else is turned away.
+    fn offer(
+        &mut self,
+        alloc: Global,
+        service: &W,
+        event: &Event,
+        addr: SocketAddr,
+    ) -> Result<Vec<Output>, OutOfMemory>
+        requires { event.now.kind ≡ EventKind.Offer addr }
+        ensures { IfOk result (λ outs. Goes (request_answer W.Future.answer W.Stream.answer) (W.answer service.now) self.old self.new event.now outs.items) }
+    {
+        let client = event.client;
+        if self.used.contains(&client) {
+            return Ok(Vec::new(alloc));
+        }
+        if self.taken >= self.stream.max_concurrent_connections() as u64 {
+            self.used.insert(client)?;
+            let accepted = self.stream.accept_connections_at_max();
+            let mut outs = Vec::new(alloc);
+            outs.push(Output::TurnedAway { client, accepted })?;
+            return Ok(outs);
+        }
+        let core = ClientCore::admit(alloc, client, addr, &self.stream)?;
         self.clients.insert(client, core)?;
         self.used.insert(client)?;
+        self.taken += 1;
+        Ok(Vec::new(alloc))
+    }
+
+    /// A connection that is closed gives its slot back, once.
+    fn release(
+        &mut self,
+        alloc: Global,
+        service: &W,
+        event: &Event,
+    ) -> Result<Vec<Output>, OutOfMemory>
+        requires can_call { W.can_call service.now }
+        requires kind { event.now.kind ≡ EventKind.Release }
+        ensures { IfOk result (λ outs. Goes (request_answer W.Future.answer W.Stream.answer) (W.answer service.now) self.old self.new event.now outs.items) }
+    {
+        let before = is_freed_at(&self.clients, event.client);
+        let outs = step_at(alloc, service, &mut self.clients, event)?;
+        let after = is_freed_at(&self.clients, event.client);
+        self.taken = slots_left(self.taken, before, after);
         Ok(outs)
     }
 
@@ -91,8 +144,24 @@ impl<W: Served> Server<W> {
             EventKind::Datagram { addr, octets } => {
                 self.datagram(alloc, service, event, *addr, octets.as_slice())
             }
+            EventKind::Offer { addr } => self.offer(alloc, service, event, *addr),
+            EventKind::Release => self.release(alloc, service, event),
             EventKind::Turn { .. } => self.own(alloc, service, event),
+            EventKind::Piece(_) => self.own(alloc, service, event),
+            EventKind::End => self.own(alloc, service, event),
+            EventKind::Write { .. } => self.own(alloc, service, event),
         }
+    }
+}
+
+/// A slot is given back where the client is freed now and wasn't before.
+fn slots_left(taken: u64, before: bool, after: bool) -> u64
+    ensures { result ≡ (if after && not before then taken - 1 else taken) }
+{
+    if after && !before {
+        taken.saturating_sub(1)
+    } else {
+        taken
     }
 }
 

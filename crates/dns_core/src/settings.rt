@@ -1,10 +1,10 @@
 //! The settings of a server.
 
 ghost use Rattle.std.specs.Prelude.{◌≡◌, true, None, []};
-ghost use Rattle.dns_service.specs.Config.{default_dgram};
+ghost use Rattle.dns_service.specs.Config.{default_dgram, default_stream};
 
 use dns_base::Addrs;
-use dns_service::DgramConfig;
+use dns_service::{DgramConfig, StreamConfig};
 use std::alloc::Global;
 
 /// The settings of a server. The secret of server cookies has 16 octets (RFC 9018, section 4).
@@ -19,12 +19,13 @@ pub struct Settings {
     /// The addresses that are denied service without a cookie.
     pub denied: Addrs,
     pub dgram: DgramConfig,
+    pub stream: StreamConfig,
 }
 
 impl Settings {
-    /// Strict, with EDNS and without cookies, nobody denied, and the default configuration.
+    /// Strict, with EDNS and without cookies, nobody denied, and the default configurations.
     pub fn new(alloc: Global) -> Settings
-        ensures { result ≡ record { strict = true; edns = true; cookies = None; denied = []; dgram = default_dgram } }
+        ensures { result ≡ record { strict = true; edns = true; cookies = None; denied = []; dgram = default_dgram; stream = default_stream } }
     {
         Settings {
             strict: true,
@@ -32,6 +33,7 @@ impl Settings {
             cookies: None,
             denied: Addrs::from_vec(Vec::new(alloc)),
             dgram: DgramConfig::new(),
+            stream: StreamConfig::new(),
         }
     }
 }

@@ -17,6 +17,27 @@ pub enum EventKind {
     Datagram { addr: SocketAddr, octets: Octets },
     /// The request of this number, counted from 0, is polled once.
     Turn { request: u64 },
+    /// A connection from an address is offered.
+    Offer { addr: SocketAddr },
+    /// Octets of the connection's stream came.
+    Piece(Octets),
+    /// The connection's stream ended.
+    End,
+    /// A queued frame is written. It waited and was written for so many ms.
+    Write { took: u64 },
+    /// The connection is gone, and gives its slot back.
+    Release,
+}
+
+/// Why a connection is closed.
+#[derive(Clone, Copy, Debug, PartialEq, Eq)]
+pub enum Why {
+    /// The stream ended.
+    Ended,
+    /// A frame was shorter than a header.
+    Short,
+    /// A write took too long.
+    WriteTimeout,
 }
 
 /// What a client is sent.
@@ -24,4 +45,10 @@ pub enum EventKind {
 pub enum Output {
     /// A datagram, whole.
     Datagram { client: u64, octets: Octets },
+    /// A message behind its length in two octets (RFC 1035, section 4.2.2).
+    Frame { client: u64, octets: Octets },
+    /// The connection is closed.
+    Closed { client: u64, why: Why },
+    /// The connection isn't taken, since every slot is: accepted and closed at once, or not accepted.
+    TurnedAway { client: u64, accepted: bool },
 }

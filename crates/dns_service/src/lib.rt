@@ -13,7 +13,7 @@ mod tests;
 pub use config::{ConnectionConfig, DgramConfig, StreamConfig};
 pub use dns_name::{Octets, OutOfMemory};
 pub use error::Error;
-pub use event::{Event, EventKind, Output};
+pub use event::{Event, EventKind, Output, Why};
 pub use message::{NonUdpTransportContext, Request, TransportSpecificContext, UdpTransportContext};
 pub use served::{Plainly, Served};
 pub use service::{

@@ -4,7 +4,7 @@ use Rattle.std.specs.Ordering.{nat_cmp}
 use Rattle.std.specs.BTreeMap.{get}
 use Rattle.std.proofs.lemmas.Bool.Decides.{nat_tests}
 use Rattle.std.proofs.lemmas.Grind.{common_steps}
-use Rattle.dns_client.specs.Datagrams.{asked, most_requests}
+use Rattle.dns_client.specs.Requests.{asked, most_requests}
 use Rattle.dns_client.specs.PolledAt.{request_answer}
 use Rattle.dns_client.specs.declared.polling.PolledRequest.TheVariants.{Called}
 use Rattle.dns_client.proofs.Kept.{keeps_push}
@@ -13,6 +13,12 @@ use Rattle.dns_client.proofs.client.ClientCore.ask.Goals as goal
 pub returns : goal.returns
 returns g c = record {
   client = refl;
+  addr = refl;
+  freed = refl;
+  status = refl;
+  connection = refl;
+  framer = refl;
+  queue = refl;
   made = λ rs h.
       let u = c.in_ok-insert.ensures.updates in
       let few : nat_lt (length rs) most_requests ≡ true = grind (arith, nat_tests, h.0) in

@@ -1,8 +1,9 @@
-use Rattle.std.proofs.Common.{◌≡◌, ap, sym}
+use Rattle.std.proofs.Common.{◌≡◌, ap, sym, ◌∙◌, false, [], ◌∷◌, ◌++◌}
 use Rattle.dns_client.specs.Slate.{Slate, Told, Unused}
 use Rattle.dns_client.specs.PolledAt.{request_answer}
-use Rattle.dns_core.specs.Out.{begins, is_unused}
+use Rattle.dns_core.specs.Out.{begins, is_datagram, is_unused, holds_slot, members}
 use Rattle.dns_core.specs.Sent.{slate}
+use Rattle.dns_core.proofs.Gained.{slate_same, members_datagram, taken_put_not}
 use Rattle.dns_core.proofs.Keyed.{used_put, others_put}
 use Rattle.dns_core.proofs.Plain.{begun}
 use Rattle.dns_core.proofs.Served.{idle_goes, new_from, begin_goes}
@@ -20,9 +21,12 @@ returns g c = λ settings q h.
     let n = new_from a b settings c.args.self.now q e (ap begins c.requires.kind) (sym c.if-contains.ensures) h in
     let s = slate b settings e.client q in
     let p : s.phase ≡ Unused = ap (λ (t : Slate). t.phase) n.unused in
-    let opens = ap (λ (t : Told). is_unused t.0.phase) (begun b e s c.args.addr c.args.octets.now c.requires.kind p) in
-    begin_goes a b settings c.args.self.now c.insert.new.self c.insert-2.new.self c.in_ok-core.core q e c.in_ok-core.outs.items n
-    (λ t u d. rw (begun b e t c.args.addr c.args.octets.now c.requires.kind (ap (λ (x : Slate). x.phase) u)) (c.in_ok-core.ensures t u d))
-    opens c.in_ok-insert.ensures.entries c.in_ok-insert.ensures.updates.1
-    (others_put c.args.self.now.clients c.insert.new.self e.client c.in_ok-core.core c.in_ok-insert.ensures.updates.0)
-    (used_put c.args.self.now.used c.insert-2.new.self e.client c.in_ok-insert-2.ensures.updates.0) h
+    let is = begun b e s c.args.addr c.args.octets.now c.requires.kind p in
+    let free : holds_slot (slate b settings e.client (q ++ e ∷ [])) ≡ false = ap holds_slot (slate_same b settings q e) ∙ ap (λ (t : Told). holds_slot t.0) is in
+    begin_goes a b settings c.args.self.now c.insert.new.self c.insert-2.new.self c.args.self.now.taken c.in_ok-core.core q e c.in_ok-core.outs.items n
+        (members_datagram b settings q e n.is_new (ap is_datagram c.requires.kind))
+        (h.slots ∙ sym (taken_put_not b settings q e (members b settings q) free n.no_member))
+        (rw is (c.in_ok-core.ensures s n.unused n.dgram))
+        (ap (λ (t : Told). is_unused t.0.phase) is) c.in_ok-insert.ensures.entries c.in_ok-insert.ensures.updates.1
+        (others_put c.args.self.now.clients c.insert.new.self e.client c.in_ok-core.core c.in_ok-insert.ensures.updates.0)
+        (used_put c.args.self.now.used c.insert-2.new.self e.client c.in_ok-insert-2.ensures.updates.0) h

@@ -1,0 +1,43 @@
+-- The requests that messages make.
+use Rattle.std.specs.Prelude.{ℕ, List, Some, false}
+use Rattle.dns_name.specs.declared.address.SocketAddr.{SocketAddr}
+use Rattle.dns_service.specs.Config.{Dgram, Connection}
+use Rattle.dns_service.specs.Req.{Req}
+use Rattle.dns_service.specs.declared.message.TransportSpecificContext.TheVariants.{Udp, NonUdp}
+use Rattle.dns_client.specs.Slate.{Asked}
+
+-- the octets of a header (RFC 1035, section 4.1.1): what is shorter is no message
+abbrev pub header_size : ℕ
+header_size = 12
+
+-- a client makes no more requests
+abbrev pub most_requests : ℕ
+most_requests = 18446744073709551615
+
+-- a datagram from an address at a moment and seconds; the hint is the configuration's largest response
+abbrev pub request_of_datagram : Dgram → SocketAddr → ℕ → ℕ → List ℕ → Req (Unit {0})
+request_of_datagram dgram addr at secs o = record {
+  octets = o;
+  client_addr = addr;
+  received_at = at;
+  received_secs = secs;
+  transport = Udp dgram.max_response_size;
+  reserved = 0;
+  metadata = tt;
+}
+
+-- a frame of a connection, with the idle timeout that the connection has now
+abbrev pub request_of_frame : Connection → SocketAddr → ℕ → ℕ → List ℕ → Req (Unit {0})
+request_of_frame connection addr at secs o = record {
+  octets = o;
+  client_addr = addr;
+  received_at = at;
+  received_secs = secs;
+  transport = NonUdp (Some connection.idle_timeout);
+  reserved = 0;
+  metadata = tt;
+}
+
+-- a request that was not polled yet
+abbrev pub asked : Req (Unit {0}) → Asked
+asked r = record { request = r; polls = 0; done = false }

@@ -1,0 +1,100 @@
+//! Requests of messages, and messages of replies.
+
+ghost use Rattle.std.specs.Prelude.{◌≡◌, ◌≤◌, IfOk, length};
+ghost use Rattle.dns_base.specs.Wire.{wire};
+ghost use Rattle.dns_service.specs.Given.{message_in};
+ghost use Rattle.dns_client.specs.Datagrams.{cut_datagram};
+ghost use Rattle.dns_client.specs.Frames.{framed};
+ghost use Rattle.dns_client.specs.Requests.{request_of_datagram, request_of_frame};
+ghost use Rattle.dns_client.specs.Turns.{reply_in};
+
+use dns_base::{AdditionalBuilder, Message, SocketAddr};
+use dns_service::{
+    ConnectionConfig, DgramConfig, NonUdpTransportContext, Octets, OutOfMemory, Polled, Request,
+    ServiceResult, TransportSpecificContext, UdpTransportContext,
+};
+use std::alloc::Global;
+
+/// How many octets of a datagram are read.
+const MOST_READ: usize = 1024;
+
+/// The octets of a datagram that are read.
+pub fn cut(alloc: Global, octets: &[u8]) -> Result<Vec<u8>, OutOfMemory>
+    ensures { IfOk result (λ v. v.items ≡ cut_datagram octets.now) }
+{
+    let read: Vec<u8> = octets.iter().take(MOST_READ).copied().collect(alloc)?;
+    Ok(read)
+}
+
+/// The request of a datagram.
+pub fn datagram_request(
+    alloc: Global,
+    config: &DgramConfig,
+    addr: SocketAddr,
+    at: u64,
+    secs: u64,
+    message: Message,
+) -> Result<Request<()>, OutOfMemory>
+    ensures { IfOk result (λ r. r ≡ request_of_datagram config.now addr at secs message) }
+{
+    let hint = UdpTransportContext::new(config.max_response_size());
+    let transport = TransportSpecificContext::Udp(hint);
+    let request = Request::new(alloc, addr, at, secs, message, transport, ())?;
+    Ok(request)
+}
+
+/// The request of a frame.
+pub fn frame_request(
+    alloc: Global,
+    config: &ConnectionConfig,
+    addr: SocketAddr,
+    at: u64,
+    secs: u64,
+    message: Message,
+) -> Result<Request<()>, OutOfMemory>
+    ensures { IfOk result (λ r. r ≡ request_of_frame config.now addr at secs message) }
+{
+    let context = NonUdpTransportContext::new(Some(config.idle_timeout()));
+    let transport = TransportSpecificContext::NonUdp(context);
+    let request = Request::new(alloc, addr, at, secs, message, transport, ())?;
+    Ok(request)
+}
+
+/// The reply of an answer.
+pub fn reply_of(answer: Polled<Option<ServiceResult>>) -> Option<AdditionalBuilder>
+    ensures { message_in result ≡ reply_in answer }
+{
+    let Polled::Ready(Some(Ok(given))) = answer else {
+        return None;
+    };
+    given.into_inner().0
+}
+
+/// A reply as a datagram.
+pub fn datagram_of(alloc: Global, reply: &AdditionalBuilder) -> Result<Octets, OutOfMemory>
+    ensures { IfOk result (λ o. o ≡ wire reply.now.message) }
+{
+    let octets = Octets::from_slice(alloc, reply.as_slice())?;
+    Ok(octets)
+}
+
+/// A reply as a frame.
+pub fn frame_of(alloc: Global, reply: &AdditionalBuilder) -> Result<Octets, OutOfMemory>
+    ensures { IfOk result (λ o. o ≡ framed (wire reply.now.message)) }
+{
+    let octets = behind_length(alloc, reply.as_slice())?;
+    Ok(Octets::from_vec(octets))
+}
+
+/// A message behind its length in two octets.
+fn behind_length(alloc: Global, message: &[u8]) -> Result<Vec<u8>, OutOfMemory>
+    requires { length message.now ≤ 65535 }
+    ensures { IfOk result (λ v. v.items ≡ framed message.now) }
+{
+    let size = message.len();
+    let mut octets = Vec::with_capacity(alloc, 2 + size)?;
+    octets.push((size / 256) as u8)?;
+    octets.push((size % 256) as u8)?;
+    octets.extend_from_slice(message)?;
+    Ok(octets)
+}
