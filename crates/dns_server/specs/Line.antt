@@ -1,14 +1,28 @@
 -- The one spelling of an output and of a refusal.
-use Rattle.std.specs.Prelude.{ℕ, List, ◌++◌, codes, decimal, flat_map}
+use Rattle.std.specs.Prelude.{ℕ, Bool, true, false, List, ◌++◌, codes, decimal, flat_map}
 use Rattle.hex.specs.Hex.{encode_lower}
 use Rattle.dns_service.specs.declared.event.Output.{Output}
-use Rattle.dns_service.specs.declared.event.Output.TheVariants.{Datagram}
+use Rattle.dns_service.specs.declared.event.Output.TheVariants.{Datagram, Frame, Closed, TurnedAway}
+use Rattle.dns_service.specs.declared.event.Why.{Why}
+use Rattle.dns_service.specs.declared.event.Why.TheVariants.{Ended, Short, WriteTimeout}
 use Rattle.dns_trace.specs.declared.reason.Reason.{Reason}
 use Rattle.dns_trace.specs.declared.reason.Reason.TheVariants.{Unbuilt}
 
--- datagram CLIENT HEX
+abbrev pub why_word : Why → List ℕ
+why_word Ended = codes "ended"
+why_word Short = codes "short"
+why_word WriteTimeout = codes "writetimeout"
+
+abbrev pub yes_no : Bool → List ℕ
+yes_no true = codes "yes"
+yes_no false = codes "no"
+
+-- datagram CLIENT HEX, frame CLIENT HEX (with the length in front), closed CLIENT WHY, turned CLIENT yes|no
 unfoldable pub line_of : Output → List ℕ
 line_of (Datagram client octets) = codes "datagram " ++ (decimal client ++ (codes " " ++ (encode_lower octets ++ codes "\n")))
+line_of (Frame client octets) = codes "frame " ++ (decimal client ++ (codes " " ++ (encode_lower octets ++ codes "\n")))
+line_of (Closed client why) = codes "closed " ++ (decimal client ++ (codes " " ++ (why_word why ++ codes "\n")))
+line_of (TurnedAway client accepted) = codes "turned " ++ (decimal client ++ (codes " " ++ (yes_no accepted ++ codes "\n")))
 
 abbrev pub lines_of : List Output → List ℕ
 lines_of os = flat_map line_of os

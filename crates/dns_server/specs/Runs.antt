@@ -5,7 +5,7 @@ use Rattle.dns_outside.specs.Moves.{Read, ReadAtMost, Cut}
 use Rattle.dns_outside.specs.declared.source.TheConstants.{LIMIT}
 use Rattle.dns_service.specs.declared.event.Output.{Output}
 use Rattle.dns_trace.specs.declared.reason.Reason.{Reason}
-use Rattle.dns_service.specs.Config.{default_dgram}
+use Rattle.dns_service.specs.Config.{default_dgram, default_stream}
 use Rattle.dns_core.specs.Out.{out}
 use Rattle.dns_core.specs.Replies.{replies}
 use Rattle.dns_core.specs.declared.settings.Settings.{Settings}
@@ -20,7 +20,7 @@ use Rattle.dns_server.specs.declared.program.Status.TheVariants.{Done, Usage, Re
 
 -- the settings of a script that sets nothing: strict, with EDNS, without cookies, nobody denied
 abbrev pub opening_settings : Settings
-opening_settings = record { strict = true; edns = true; cookies = None; denied = []; dgram = default_dgram }
+opening_settings = record { strict = true; edns = true; cookies = None; denied = []; dgram = default_dgram; stream = default_stream }
 
 -- what the clients are sent: the outputs of the events, served by the rules
 unfoldable pub outputs_of : Plan → List Output

@@ -13,5 +13,10 @@ pub fn is_plain_event(kind: &EventKind) -> bool
     match kind {
         EventKind::Datagram { octets, .. } => is_plain(octets.as_slice()),
         EventKind::Turn { .. } => true,
+        EventKind::Offer { .. } => true,
+        EventKind::Piece(_) => false,
+        EventKind::End => true,
+        EventKind::Write { .. } => true,
+        EventKind::Release => true,
     }
 }

@@ -56,7 +56,7 @@ impl Status {
 }
 
 /// What the clients of a script are sent.
-#[tactic(auto, using(crate::proofs::Queries::all_queries), unfolding(crate::specs::Runs::outputs_of))]
+#[tactic(auto, using(crate::proofs::Queries::all_queries, crate::proofs::Queries::all_streams), unfolding(crate::specs::Runs::outputs_of))]
 fn outputs(alloc: Global, script: Script) -> Result<Vec<Output>, OutOfMemory>
     ensures { IfOk result (λ v. v.items ≡ outputs_of script) }
 {
