@@ -9,6 +9,17 @@ use dns_name::{OptRcode, OptionCode, OutOfMemory};
 use std::alloc::Global;
 use std::test::Fail;
 
+/// How many options of any kind a list has that are read.
+fn readable(list: &OptRef<'_>) -> usize {
+    let mut many = 0usize;
+    for item in list.iter::<AllOptData>() {
+        if item.is_ok() {
+            many = many.saturating_add(1);
+        }
+    }
+    many
+}
+
 /// Writes two octets.
 fn write_two(octets: &mut Vec<u8>) -> Result<(), OutOfMemory> {
     octets.extend_from_slice(&[7, 9])?;
@@ -20,7 +31,7 @@ fn lists(rt: HostRuntime) -> Result<(), Fail> {
     let alloc = rt.alloc();
     let given = Opt::from_octets(Vec::from_slice(alloc, b"\x66\x6f\x00\x03foo")?)?;
     assert_eq!(rt; given.to_string(alloc)?.as_str(), "OPT ...");
-    assert_eq!(rt; given.iter::<AllOptData>().count(), 1);
+    assert_eq!(rt; readable(&given.for_slice_ref()), 1);
     let mut list = Opt::empty(alloc);
     list.push(alloc, &NsidRef::from_slice(b"example")?)?;
     assert_eq!(rt; list.as_slice(), b"\x00\x03\x00\x07example".as_slice());
@@ -88,6 +99,6 @@ fn records(rt: HostRuntime) -> Result<(), Fail> {
     assert_eq!(rt; found.rcode(read.header()).to_int(), 23);
     assert_eq!(rt; found.udp_payload_size(), 123);
     assert_eq!(rt; found.opt().len(), 254);
-    assert_eq!(rt; found.opt().iter::<AllOptData>().count(), 2);
+    assert_eq!(rt; readable(found.opt()), 2);
     Ok(())
 }
