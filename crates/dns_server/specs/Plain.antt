@@ -12,3 +12,13 @@ is_plain_kind (Piece octets) = false
 is_plain_kind End = true
 is_plain_kind (Write took) = true
 is_plain_kind Release = true
+
+-- events that may carry a message
+abbrev pub needs_rule : EventKind → Bool
+needs_rule (Datagram addr octets) = true
+needs_rule (Turn request) = false
+needs_rule (Offer addr) = false
+needs_rule (Piece octets) = true
+needs_rule End = false
+needs_rule (Write took) = false
+needs_rule Release = false

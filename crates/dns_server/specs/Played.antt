@@ -4,11 +4,11 @@ use Rattle.dns_base.specs.Built.{Built, empty}
 use Rattle.dns_base.specs.Replies.{answer_to, have_room}
 use Rattle.dns_service.specs.Answer.{Answer, Item}
 use Rattle.dns_service.specs.Req.{Req}
-use Rattle.dns_service.specs.declared.service.Polled.TheVariants.{Ready}
+use Rattle.dns_service.specs.declared.service.Polled.TheVariants.{Pending, Ready}
 use Rattle.dns_service.specs.declared.service.ServiceError.TheVariants.{InternalError}
 use Rattle.dns_server.specs.declared.rule.Rule.{Rule}
 use Rattle.dns_server.specs.declared.rule.ScriptAnswer.{ScriptAnswer}
-use Rattle.dns_server.specs.declared.rule.ScriptAnswer.TheVariants.{Error, Rcode}
+use Rattle.dns_server.specs.declared.rule.ScriptAnswer.TheVariants.{Pend, Error, Rcode}
 use Rattle.dns_server.specs.Rules.{answers_for}
 
 -- a new builder: the empty message, which may take 65,535 octets
@@ -20,14 +20,15 @@ abbrev pub reply_of : List ℕ → ℕ → Item
 reply_of o code = if have_room new_builder o code then Ok (record { response = Some (answer_to new_builder o code).message; feedback = None }) else Err InternalError
 
 -- one answer to a message of these octets
-abbrev pub item_of : List ℕ → ScriptAnswer → Item
-item_of o (Error e) = Err e
-item_of o (Rcode code) = reply_of o code
+abbrev pub given : List ℕ → ScriptAnswer → Answer
+given o Pend = Pending
+given o (Error e) = Ready (Some (Err e))
+given o (Rcode code) = Ready (Some (reply_of o code))
 
 -- answers one by one, and then the end
 abbrev pub played_from : List ℕ → List ScriptAnswer → ℕ → Answer
 played_from o [] k = Ready None
-played_from o (a ∷ more) zero = Ready (Some (item_of o a))
+played_from o (a ∷ more) zero = given o a
 played_from o (a ∷ more) (suc k) = played_from o more k
 
 -- the answers of the rules to a request

@@ -1,11 +1,11 @@
 -- What a run answers, by what was read and written. In each, a and b are what is left of the source before and after the call,
 -- and c and d what the sink has taken before and after it.
-use Rattle.std.specs.Prelude.{◌≡◌, ℕ, ◌+◌, ◌≤◌, List, [], ◌++◌, length, Result, Ok, Err, IsOk, IsErr, true, None}
+use Rattle.std.specs.Prelude.{◌≡◌, ℕ, ◌+◌, ◌≤◌, List, [], ◌++◌, length, Result, Ok, Err, IsOk, IsErr, true, Option, Some, None}
 use Rattle.dns_outside.specs.Moves.{Read, ReadAtMost, Cut}
 use Rattle.dns_outside.specs.declared.source.TheConstants.{LIMIT}
 use Rattle.dns_service.specs.declared.event.Output.{Output}
 use Rattle.dns_trace.specs.declared.reason.Reason.{Reason}
-use Rattle.dns_service.specs.Config.{default_dgram, default_stream}
+use Rattle.dns_service.specs.Config.{Stream, default_dgram, default_stream}
 use Rattle.dns_core.specs.Out.{out}
 use Rattle.dns_core.specs.Replies.{replies}
 use Rattle.dns_core.specs.declared.settings.Settings.{Settings}
@@ -22,9 +22,17 @@ use Rattle.dns_server.specs.declared.program.Status.TheVariants.{Done, Usage, Re
 abbrev pub opening_settings : Settings
 opening_settings = record { strict = true; edns = true; cookies = None; denied = []; dgram = default_dgram; stream = default_stream }
 
+abbrev pub stream_or_default : Option Stream → Stream
+stream_or_default None = default_stream
+stream_or_default (Some s) = s
+
+-- the settings of a script that sets at most the stream server's configuration
+abbrev pub settings_with : Option Stream → Settings
+settings_with stream = record opening_settings { stream = stream_or_default stream }
+
 -- what the clients are sent: the outputs of the events, served by the rules
 unfoldable pub outputs_of : Plan → List Output
-outputs_of p = out (replies (played p.rules)) opening_settings p.events
+outputs_of p = out (replies (played p.rules)) (settings_with p.stream) p.events
 
 -- what is written for a script, or for the first bad line of a text that is none
 abbrev pub text_of : Result Plan (ℕ × Reason) → List ℕ

@@ -1,7 +1,7 @@
 //! Events whose messages are plain.
 
 ghost use Rattle.std.specs.Prelude.{◌≡◌};
-ghost use Rattle.dns_server.specs.Plain.{is_plain_kind};
+ghost use Rattle.dns_server.specs.Plain.{is_plain_kind, needs_rule};
 
 use dns_base::is_plain;
 use dns_service::EventKind;
@@ -18,5 +18,20 @@ pub fn is_plain_event(kind: &EventKind) -> bool
         EventKind::End => true,
         EventKind::Write { .. } => true,
         EventKind::Release => true,
+    }
+}
+
+/// Whether an event may carry a message, so that a rule has to stand before it.
+pub fn needs_a_rule(kind: &EventKind) -> bool
+    ensures { result ≡ needs_rule kind.now }
+{
+    match kind {
+        EventKind::Datagram { .. } => true,
+        EventKind::Turn { .. } => false,
+        EventKind::Offer { .. } => false,
+        EventKind::Piece(_) => true,
+        EventKind::End => false,
+        EventKind::Write { .. } => false,
+        EventKind::Release => false,
     }
 }

@@ -4,7 +4,7 @@ ghost use Rattle.std.specs.Prelude.{◌≡◌, ◌≢◌, ◌↔◌, map, string
 ghost use Rattle.dns_outside.specs.Causes.{Tells, Rose};
 ghost use Rattle.dns_server.specs.Command.{command_of};
 ghost use Rattle.dns_server.specs.Status.{number_of, SourceFaults, SinkFaults};
-ghost use Rattle.dns_server.specs.Runs.{outputs_of, ReplayTo, RunTo, Completes};
+ghost use Rattle.dns_server.specs.Runs.{outputs_of, settings_with, ReplayTo, RunTo, Completes};
 
 use crate::command::{Command, read_command};
 use crate::reader::read_script;
@@ -15,7 +15,7 @@ use crate::writing::{WriteError, write_outputs, write_refusal};
 use dns_core::{Settings, serve_events};
 use dns_name::OutOfMemory;
 use dns_outside::{ReadError, Sink, Source, read_all};
-use dns_service::Output;
+use dns_service::{Output, StreamConfig};
 use std::alloc::Global;
 
 /// How a run ended.
@@ -55,12 +55,23 @@ impl Status {
     }
 }
 
+/// The settings of a script, which sets at most the configuration of the stream server.
+fn settings(alloc: Global, stream: Option<StreamConfig>) -> Settings
+    ensures { result ≡ settings_with stream }
+{
+    let mut settings = Settings::new(alloc);
+    if let Some(stream) = stream {
+        settings.stream = stream;
+    }
+    settings
+}
+
 /// What the clients of a script are sent.
 #[tactic(auto, using(crate::proofs::Queries::all_queries, crate::proofs::Queries::all_streams), unfolding(crate::specs::Runs::outputs_of))]
 fn outputs(alloc: Global, script: Script) -> Result<Vec<Output>, OutOfMemory>
     ensures { IfOk result (λ v. v.items ≡ outputs_of script) }
 {
-    let settings = Settings::new(alloc);
+    let settings = settings(alloc, script.stream());
     let (rules, events) = script.into_parts();
     serve_events(
         alloc,

@@ -1,24 +1,29 @@
 //! The reader of a script.
 
-ghost use Rattle.std.specs.Prelude.{◌≡◌, ◌<◌, ◌≤◌, ◌^◌, length, IsTrue, IfOk};
+ghost use Rattle.std.specs.Prelude.{◌≡◌, ◌<◌, ◌≤◌, ◌^◌, [], drop, length, IsTrue, IfOk};
+ghost use Rattle.dns_trace.specs.EventLines.{event_line};
 ghost use Rattle.dns_trace.specs.Reading.{Gives};
 ghost use Rattle.dns_server.specs.Plain.{is_plain_kind};
-ghost use Rattle.dns_server.specs.Script.{answer_of, rule_line, event_by_word, event_line, after_line, script};
+ghost use Rattle.dns_server.specs.Script.{answer_of, answers_after, rule_line, first_stream_line, next_event_line, after_line, script};
 ghost use Rattle.dns_server.specs.ScriptReads.{Reads};
 
-use crate::plain::is_plain_event;
+use crate::plain::{is_plain_event, needs_a_rule};
 use crate::rule::{Rule, ScriptAnswer, ScriptAnswers};
 use crate::script::{Script, ScriptError};
 use dns_name::Rcode;
-use dns_service::Event;
-use dns_trace::{LineError, Reason, Words, decimal, read_datagram, read_turn, split_line};
+use dns_trace::{
+    LineError, Reason, Words, decimal, read_event, read_stream, says_nothing, split_line,
+};
 use std::alloc::Global;
 
-/// An answer `rcode:N`.
+/// An answer `pend` or `rcode:N`.
 #[tactic(auto, unfolding(crate::specs::Script::answer_of))]
 fn answer(word: &[u8]) -> Result<ScriptAnswer, Reason>
     ensures { result ≡ answer_of word.now }
 {
+    if word == b"pend".as_slice() {
+        return Ok(ScriptAnswer::Pend);
+    }
     if word.len() < 6 || &word[..6] != b"rcode:".as_slice() {
         return Err(Reason::Unbuilt);
     }
@@ -29,66 +34,82 @@ fn answer(word: &[u8]) -> Result<ScriptAnswer, Reason>
     }
 }
 
-/// A line `rule * ANSWER`.
-#[tactic(auto, unfolding(crate::specs::Script::rule_line))]
-fn rule(alloc: Global, words: &Words) -> Result<Rule, LineError>
-    ensures { Gives (λ r. r) result (rule_line words.now) }
+/// The answers from the third word on.
+fn answers(alloc: Global, words: &Words) -> Result<ScriptAnswers, LineError>
+    ensures { Gives (λ a. a) result (answers_after [] (drop 2 words.now)) }
 {
-    if words.len() != 3 {
+    let mut answers = Vec::new(alloc);
+    for i in 2..words.len() {
+        let given = answer(words.word(i))?;
+        answers.push(given)?;
+    }
+    Ok(ScriptAnswers::from_vec(answers))
+}
+
+/// A line `rule * ANSWER ..`.
+#[tactic(auto, unfolding(crate::specs::Script::rule_line))]
+fn rule(alloc: Global, script: Script, words: &Words) -> Result<Script, LineError>
+    ensures { Gives (λ s. s) result (rule_line script words.now) }
+{
+    if !script.events().is_empty() {
         return Err(LineError::Refused(Reason::Unbuilt));
     }
-    if words.word(0) != b"rule".as_slice() {
+    if words.len() < 3 {
         return Err(LineError::Refused(Reason::Unbuilt));
     }
     if words.word(1) != b"*".as_slice() {
         return Err(LineError::Refused(Reason::Unbuilt));
     }
-    let given = answer(words.word(2))?;
-    let mut answers = Vec::new(alloc);
-    answers.push(given)?;
-    Ok(Rule {
-        answers: ScriptAnswers::from_vec(answers),
-    })
+    let answers = answers(alloc, words)?;
+    Ok(script.with_rule(Rule { answers })?)
 }
 
-/// The line of an event, by its first word.
-fn by_word(alloc: Global, words: &Words) -> Result<Event, LineError>
-    ensures { Gives (λ e. e) result (event_by_word words.now) }
+/// A line `stream IDLE WRITE QUEUE LIMIT yes|no`.
+#[tactic(auto, unfolding(crate::specs::Script::first_stream_line))]
+fn stream(script: Script, words: &Words) -> Result<Script, LineError>
+    ensures { Gives (λ s. s) result (first_stream_line script words.now) }
 {
-    if words.word(0) == b"datagram".as_slice() {
-        return read_datagram(alloc, words);
+    if !script.events().is_empty() {
+        return Err(LineError::Refused(Reason::Unbuilt));
     }
-    if words.word(0) == b"turn".as_slice() {
-        return read_turn(words);
+    if script.stream().is_some() {
+        return Err(LineError::Refused(Reason::Unbuilt));
     }
-    Err(LineError::Refused(Reason::Unbuilt))
+    let stream = read_stream(words)?;
+    Ok(script.with_stream(stream))
 }
 
-/// The line of an event whose message is plain.
-#[tactic(auto, unfolding(crate::specs::Script::event_line))]
-fn event(alloc: Global, words: &Words) -> Result<Event, LineError>
-    ensures value { Gives (λ e. e) result (event_line words.now) }
-    ensures plain { IfOk result (λ e. IsTrue (is_plain_kind e.kind)) }
+/// The line of an event, which has this number.
+#[tactic(auto, unfolding(crate::specs::Script::next_event_line))]
+fn event(alloc: Global, line: u64, script: Script, words: &Words) -> Result<Script, LineError>
+    ensures { Gives (λ s. s) result (next_event_line line script words.now) }
 {
-    let event = by_word(alloc, words)?;
+    let event = read_event(alloc, words)?;
     if !is_plain_event(&event.kind) {
         return Err(LineError::Refused(Reason::Unbuilt));
     }
-    Ok(event)
+    if needs_a_rule(&event.kind) && script.rules().is_empty() {
+        return Err(LineError::Refused(Reason::Unbuilt));
+    }
+    Ok(script.with_event(line, event)?)
 }
 
-/// What a script says with one line more.
+/// What a script says with one line more, which has this number.
 #[tactic(auto, unfolding(crate::specs::Script::after_line))]
-fn after(alloc: Global, script: Script, line: &[u8]) -> Result<Script, LineError>
-    ensures { Gives (λ s. s) result (after_line script line.now) }
+fn after(alloc: Global, number: u64, script: Script, line: &[u8]) -> Result<Script, LineError>
+    ensures { Gives (λ s. s) result (after_line number script line.now) }
 {
     let words = Words::of(alloc, line)?;
-    if script.rules().is_empty() {
-        let rule = rule(alloc, &words)?;
-        return Ok(script.with_rule(rule)?);
+    if says_nothing(&words) {
+        return Ok(script);
     }
-    let event = event(alloc, &words)?;
-    Ok(script.with_event(event)?)
+    if words.word(0) == b"rule".as_slice() {
+        return rule(alloc, script, &words);
+    }
+    if words.word(0) == b"stream".as_slice() {
+        return stream(script, &words);
+    }
+    event(alloc, number, script, &words)
 }
 
 /// What a text says, or its first bad line and the reason.
@@ -102,7 +123,7 @@ pub fn read_script(alloc: Global, text: &[u8]) -> Result<Script, ScriptError>
     let mut line = 1u64;
     while !rest.is_empty() {
         let (first, more) = split_line(rest);
-        match after(alloc, all, first) {
+        match after(alloc, line, all, first) {
             Ok(next) => all = next,
             Err(LineError::OutOfMemory) => return Err(ScriptError::OutOfMemory),
             Err(LineError::Refused(reason)) => return Err(ScriptError::Refused { line, reason }),

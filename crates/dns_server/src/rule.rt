@@ -10,6 +10,8 @@ use std::marker::Model;
 /// The answer of one poll.
 #[derive(Clone, Copy, Debug, PartialEq, Eq)]
 pub enum ScriptAnswer {
+    /// Nothing yet.
+    Pend,
     /// An error.
     Error(ServiceError),
     /// A reply with the request's questions and this response code.

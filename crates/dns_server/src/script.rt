@@ -3,11 +3,11 @@
 ghost use Rattle.std.specs.Prelude.{◌≡◌, IfOk, IsTrue, All};
 ghost use Rattle.dns_server.specs.Plan.{nothing};
 ghost use Rattle.dns_server.specs.Plain.{is_plain_kind};
-ghost use Rattle.dns_server.specs.Script.{with_rule, with_event};
+ghost use Rattle.dns_server.specs.Script.{with_rule, with_event, with_stream};
 
 use crate::rule::{Rule, Rules};
 use dns_name::OutOfMemory;
-use dns_service::Event;
+use dns_service::{Event, StreamConfig};
 use dns_trace::Reason;
 use std::alloc::Global;
 use std::marker::Model;
@@ -23,8 +23,10 @@ pub enum ScriptError {
 /// The rules of the service and the events, of which each message is plain.
 #[derive(Debug, Drop)]
 pub struct Script {
+    stream: Option<StreamConfig>,
     rules: Rules,
     events: Vec<Event>,
+    lines: Vec<u64>,
 }
 
 impl Model for Script {
@@ -34,7 +36,7 @@ impl Model for Script {
 
     ghost Value = { Plan };
 
-    ghost view = { λ s. record { rules = s.rules; events = s.events.items } };
+    ghost view = { λ s. record { stream = s.stream; rules = s.rules; events = s.events.items; lines = s.lines.items } };
 
     ghost invariant = { λ s. All (λ e. IsTrue (is_plain_kind e.kind)) s.events.items };
 }
@@ -45,8 +47,10 @@ impl Script {
         ensures { result ≡ nothing }
     {
         Script {
+            stream: None,
             rules: Rules::from_vec(Vec::new(alloc)),
             events: Vec::new(alloc),
+            lines: Vec::new(alloc),
         }
     }
 
@@ -59,14 +63,38 @@ impl Script {
         Ok(script)
     }
 
-    /// One event more.
-    pub fn with_event(self, event: Event) -> Result<Script, OutOfMemory>
+    /// One event more, of the line of this number.
+    pub fn with_event(self, line: u64, event: Event) -> Result<Script, OutOfMemory>
         requires { IsTrue (is_plain_kind event.kind) }
-        ensures { IfOk result (λ s. s ≡ with_event self event) }
+        ensures { IfOk result (λ s. s ≡ with_event self line event) }
     {
         let mut script = self;
+        script.lines.push(line)?;
         script.events.push(event)?;
         Ok(script)
+    }
+
+    /// The configuration of the stream server.
+    pub fn with_stream(self, stream: StreamConfig) -> Script
+        ensures { result ≡ with_stream self stream }
+    {
+        let mut script = self;
+        script.stream = Some(stream);
+        script
+    }
+
+    /// The configuration of the stream server, where it is set.
+    pub fn stream(&self) -> Option<StreamConfig>
+        ensures { result ≡ self.now.stream }
+    {
+        self.stream
+    }
+
+    /// The events.
+    pub fn events(&self) -> &[Event]
+        ensures { result.now ≡ self.now.events }
+    {
+        self.events.as_slice()
     }
 
     /// The rules of the service.
@@ -82,7 +110,7 @@ impl Script {
         ensures events { result.1.items ≡ self.events }
         ensures plain { All (λ e. IsTrue (is_plain_kind e.kind)) self.events }
     {
-        let Script { rules, events } = self;
+        let Script { rules, events, .. } = self;
         (rules, events)
     }
 }

@@ -3,12 +3,12 @@
 ghost use Rattle.std.specs.Prelude.{◌≡◌, IfOk, Some, length, ◌-◌};
 ghost use Rattle.dns_service.specs.Transport.{hint_of};
 ghost use Rattle.dns_server.specs.Rules.{answers_for};
-ghost use Rattle.dns_server.specs.Played.{item_of, played};
+ghost use Rattle.dns_server.specs.Played.{given, reply_of, played};
 ghost use Rattle.dns_server.specs.Streams.{left_of, answers_left};
 
 use crate::rule::{Rule, Rules, ScriptAnswer, ScriptAnswers};
 use dns_base::{Message, MessageBuilder, PushError};
-use dns_name::OutOfMemory;
+use dns_name::{OutOfMemory, Rcode};
 use dns_service::{
     CallResult, Polled, ReplyFuture, ReplyStream, Request, Service, ServiceError, ServiceResult,
 };
@@ -92,40 +92,48 @@ pub struct ScriptStream {
 impl ReplyStream for ScriptStream {
     ghost answer = { left_of };
 
-    ghost size = { λ s. (length s.answers - s.next, Some (length s.answers - s.next)) };
+    ghost size = { λ s. (0, Some (length s.answers - s.next)) };
 
     fn poll_next(&mut self, alloc: Global) -> Result<Polled<Option<ServiceResult>>, OutOfMemory> {
         let Some(answer) = self.answers.as_slice().get(self.next).copied() else {
             return Ok(Polled::Ready(None));
         };
         self.next += 1;
-        let item = make_item(alloc, &self.message, answer)?;
-        Ok(Polled::Ready(Some(item)))
+        make_answer(alloc, &self.message, answer)
     }
 
     fn size_hint(&self) -> (usize, Option<usize>) {
         let left = self.answers.as_slice().len().saturating_sub(self.next);
-        (left, Some(left))
+        (0, Some(left))
     }
 }
 
 /// One answer to a message.
-fn make_item(
+fn make_answer(
     alloc: Global,
     message: &Message,
     answer: ScriptAnswer,
-) -> Result<ServiceResult, OutOfMemory>
-    ensures { IfOk result (λ i. i ≡ item_of message.now answer) }
+) -> Result<Polled<Option<ServiceResult>>, OutOfMemory>
+    ensures { IfOk result (λ p. p ≡ given message.now answer) }
 {
     match answer {
-        ScriptAnswer::Error(error) => Ok(Err(error)),
+        ScriptAnswer::Pend => Ok(Polled::Pending),
+        ScriptAnswer::Error(error) => Ok(Polled::Ready(Some(Err(error)))),
         ScriptAnswer::Rcode(rcode) => {
-            let builder = MessageBuilder::new(alloc)?;
-            match builder.start_answer(alloc, message, rcode) {
-                Ok(reply) => Ok(Ok(CallResult::new(reply.additional()))),
-                Err(PushError::ShortBuf) => Ok(Err(ServiceError::InternalError)),
-                Err(PushError::OutOfMemory) => Err(OutOfMemory),
-            }
+            let item = make_reply(alloc, message, rcode)?;
+            Ok(Polled::Ready(Some(item)))
         }
+    }
+}
+
+/// A reply with this response code, or the error `servfail` where the questions have no room.
+fn make_reply(alloc: Global, message: &Message, rcode: Rcode) -> Result<ServiceResult, OutOfMemory>
+    ensures { IfOk result (λ i. i ≡ reply_of message.now rcode) }
+{
+    let builder = MessageBuilder::new(alloc)?;
+    match builder.start_answer(alloc, message, rcode) {
+        Ok(reply) => Ok(Ok(CallResult::new(reply.additional()))),
+        Err(PushError::ShortBuf) => Ok(Err(ServiceError::InternalError)),
+        Err(PushError::OutOfMemory) => Err(OutOfMemory),
     }
 }

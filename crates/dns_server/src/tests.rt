@@ -2,7 +2,7 @@ use crate::{ScriptTarget, Status, line, refusal, run};
 use dns_core::{Notifiable, NotifyError, VerdictFuture};
 use dns_name::{Class, IpAddr, Name, Octets};
 use dns_outside::{MemorySink, MemorySource};
-use dns_service::{Output, Polled};
+use dns_service::{Output, Polled, Why};
 use dns_trace::Reason;
 use std::alloc::Global;
 use std::test::Fail;
@@ -91,36 +91,60 @@ fn rows(rt: HostRuntime) -> Result<(), Fail> {
     Ok(())
 }
 
+/// Runs a script without a fault, and compares what it writes.
+fn wants(rt: &HostRuntime, script: &str, status: Status, text: &str) -> Result<bool, Fail> {
+    let (ended, _, sink) = play(rt.alloc(), "replay", script, &NONE)?;
+    Ok(ended == status && sink.written() == text.as_bytes())
+}
+
 #[test]
 fn refused_lines(rt: HostRuntime) -> Result<(), Fail> {
     for (script, number) in [
-        ("\n", "1"),
-        ("# a comment\nrule * rcode:3\n", "1"),
-        ("rule * rcode:16\n", "1"),
-        ("rule * rcode:3 rcode:3\n", "1"),
+        ("\n#\nrule * rcode:16\n", "3"),
+        ("rule *\n", "1"),
         ("rule . rcode:3\n", "1"),
-        ("rule * rcode:3\r\n", "1"),
-        ("rule * rcode:3\nrule * rcode:3\n", "2"),
-        ("rule * rcode:3\nturn 6 100 1 0\n\n", "3"),
-        ("rule * rcode:3\nturn 6 100 1\n", "2"),
+        ("rule * rcode:3\r", "1"),
+        ("end 1 1 1\nrule * rcode:3\n", "2"),
+        ("turn 6 100 1 0\nturn 6 100 1\n", "2"),
+        ("stream 1 1 1 1 yes\nstream 1 1 1 1 yes\n", "2"),
+        ("end 1 1 1\nstream 1 1 1 1 yes\n", "2"),
+        ("piece 1 1 1 -\n", "1"),
+        (
+            "datagram 5 100 1 192.0.2.1 5353 1234010000010000000000000000010001\n",
+            "1",
+        ),
         ("rule * rcode:3\ndatagram 5 100 1 192.0.2.1 5353 -\n", "2"),
         (
             "rule * rcode:3\ndatagram 5 100 1 192.0.2.1 5353 1234810000010000000000000000010001\n",
             "2",
         ),
+    ] {
+        let text = format!(in rt.alloc(); "refused {number} unbuilt\n")?;
+        assert!(rt;
+            wants(&rt, script, Status::Refused, text.as_str())?,
+            "{script}"
+        );
+    }
+    Ok(())
+}
+
+#[test]
+fn wider_scripts(rt: HostRuntime) -> Result<(), Fail> {
+    for (script, text) in [
         (
-            "rule * rcode:3\ndatagram 5 100 1 192.0.2.1 5353 123401000001000000000000000001000100\n",
-            "2",
+            "# a comment\r\n\nrule * pend rcode:3\nrule * rcode:0\ndatagram 5 100 1 20010db8000000000000000000000001 5353 1234010000010000000000000000010001\r\nturn 6 100 1 0\n",
+            "",
         ),
         (
-            "rule * rcode:3\ndatagram 5 100 1 192.0.2.1 5353 1234010000010000000000000000010001\n.",
-            "3",
+            "rule * pend rcode:3\ndatagram 5 100 1 192.0.2.1 5353 1234010000010000000000000000010001\nturn 6 100 1 0\nturn 7 100 1 0",
+            REPLY,
+        ),
+        (
+            "stream 30000 30000 10 1 yes\noffer 0 0 1 192.0.2.1 53\noffer 0 0 2 192.0.2.1 53\nend 0 0 1\noffer 0 0 3 192.0.2.1 53\nrelease 0 0 1\noffer 0 0 2 192.0.2.1 53\noffer 0 0 4 192.0.2.1 53\nend 0 0 4\n",
+            "turned 2 yes\nclosed 1 ended\nturned 3 yes\nclosed 4 ended\n",
         ),
     ] {
-        let (status, _, sink) = play(rt.alloc(), "replay", script, &NONE)?;
-        assert_eq!(rt; status, Status::Refused);
-        let text = format!(in rt.alloc(); "refused {number} unbuilt\n")?;
-        assert!(rt; sink.written() == text.as_bytes(), "{script}");
+        assert!(rt; wants(&rt, script, Status::Done, text)?, "{script}");
     }
     Ok(())
 }
@@ -130,6 +154,22 @@ fn lines_out(rt: HostRuntime) -> Result<(), Fail> {
     let octets = Octets::from_slice(rt.alloc(), b"\x00\xaf".as_slice())?;
     let output = Output::Datagram { client: 7, octets };
     assert_eq!(rt; line(rt.alloc(), &output)?.as_str(), "datagram 7 00af\n");
+    let octets = Octets::from_slice(rt.alloc(), b"\x00\x01\xaf".as_slice())?;
+    let output = Output::Frame { client: 7, octets };
+    assert_eq!(rt; line(rt.alloc(), &output)?.as_str(), "frame 7 0001af\n");
+    for (why, text) in [
+        (Why::Ended, "closed 7 ended\n"),
+        (Why::Short, "closed 7 short\n"),
+        (Why::WriteTimeout, "closed 7 writetimeout\n"),
+    ] {
+        let output = Output::Closed { client: 7, why };
+        assert_eq!(rt; line(rt.alloc(), &output)?.as_str(), text);
+    }
+    let output = Output::TurnedAway {
+        client: 7,
+        accepted: false,
+    };
+    assert_eq!(rt; line(rt.alloc(), &output)?.as_str(), "turned 7 no\n");
     let text = refusal(rt.alloc(), 12, Reason::Unbuilt)?;
     assert_eq!(rt; text.as_str(), "refused 12 unbuilt\n");
     for (status, number) in [

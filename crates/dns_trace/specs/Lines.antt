@@ -1,12 +1,8 @@
--- A text is cut into lines: each ends with LF, and the last may lack it.
-use Rattle.std.specs.Prelude.{ℕ, ◌==◌, List, [], ◌∷◌, length, if◌then◌else◌}
-use Rattle.std.specs.List.{slice_split}
+-- Which lines say nothing. The lines of a text are std's: each ends with LF, before which one CR is dropped, and the last may
+-- lack both.
+use Rattle.std.specs.Prelude.{ℕ, ◌==◌, ◌||◌, Bool, List, length, slice_index}
+use Rattle.dns_trace.specs.Words.{word}
 
--- the parts that LF ends, and the last part where it isn't empty
-abbrev pub ended : List (List ℕ) → List (List ℕ)
-ended [] = []
-ended (l ∷ []) = if length l == 0 then [] else l ∷ []
-ended (l ∷ m ∷ ls) = l ∷ ended (m ∷ ls)
-
-abbrev pub lines_of : List ℕ → List (List ℕ)
-lines_of t = ended (slice_split (λ b. b == 10) t)
+-- a line without words, or one whose first word begins with `#`
+abbrev pub is_skipped : List (List ℕ) → Bool
+is_skipped ws = (length ws == 0) || (slice_index (word ws 0) 0 == 35)

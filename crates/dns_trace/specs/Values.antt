@@ -1,5 +1,5 @@
 -- Values that words spell.
-use Rattle.std.specs.Prelude.{ℕ, ◌+◌, ◌-◌, ◌*◌, ◌==◌, ◌&&◌, nat_lt, nat_le, if◌then◌else◌, List, [], ◌∷◌, length, Result, Ok, Err, codes}
+use Rattle.std.specs.Prelude.{ℕ, Bool, true, false, ◌+◌, ◌-◌, ◌*◌, ◌==◌, ◌&&◌, nat_lt, nat_le, if◌then◌else◌, List, [], ◌∷◌, length, Result, Ok, Err, codes}
 use Rattle.std.specs.List.{slice_split}
 use Rattle.std.specs.Str.{bytes_eq}
 use Rattle.hex.specs.Hex.{decode_of, decode_sized}
@@ -38,6 +38,10 @@ from_hex (Err e) = Err Unbuilt
 -- an even number of hexadecimal digits, or `-` for no octet
 unfoldable pub octets_of : List ℕ → Result (List ℕ) Reason
 octets_of w = if bytes_eq w (codes "-") then Ok [] else from_hex (decode_of w)
+
+-- `yes` or `no`
+unfoldable pub yes_no_of : List ℕ → Result Bool Reason
+yes_no_of w = if bytes_eq w (codes "yes") then Ok true else if bytes_eq w (codes "no") then Ok false else Err Unbuilt
 
 -- the four parts of a dotted quad
 unfoldable pub quad_of : List (List ℕ) → Result IpAddr Reason

@@ -4,13 +4,15 @@
 mod event_lines;
 mod lines;
 mod reason;
+mod stream_line;
 mod values;
 mod words;
 
-pub use event_lines::{read_datagram, read_turn};
-pub use lines::split_line;
+pub use event_lines::read_event;
+pub use lines::{says_nothing, split_line};
 pub use reason::{LineError, Reason};
-pub use values::{addr, decimal, num, octets, port, quad};
+pub use stream_line::read_stream;
+pub use values::{addr, decimal, num, octets, port, quad, yes_no};
 pub use words::Words;
 
 #[cfg(test)]

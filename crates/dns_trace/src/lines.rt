@@ -1,7 +1,10 @@
 //! The lines of a text.
 
 ghost use Rattle.std.specs.Prelude.{◌≡◌, ℕ, ◌<◌, ◌≤◌, ◌∷◌, length, slice_index};
-ghost use Rattle.dns_trace.specs.Lines.{lines_of};
+ghost use Rattle.std.specs.Str.Lines.{lines, strip_carriage_return};
+ghost use Rattle.dns_trace.specs.Lines.{is_skipped};
+
+use crate::words::Words;
 
 /// The place of the first LF, or the length.
 fn line_end(text: &[u8]) -> usize
@@ -17,15 +20,38 @@ fn line_end(text: &[u8]) -> usize
     text.len()
 }
 
-/// The first line of a text, without its LF, and what follows it.
+/// A line without one CR at its end.
+fn without_cr(line: &[u8]) -> &[u8]
+    ensures { result.now ≡ strip_carriage_return line.now }
+{
+    if !line.is_empty() && line[line.len() - 1] == b'\r' {
+        return &line[..line.len() - 1];
+    }
+    line
+}
+
+/// The first line of a text, without its LF and one CR before that, and what follows it.
 pub fn split_line(text: &[u8]) -> (&[u8], &[u8])
     requires { 0 < length text.now }
-    ensures line { lines_of text.now ≡ result.0.now ∷ lines_of result.1.now }
+    ensures line { lines text.now ≡ result.0.now ∷ lines result.1.now }
     ensures shorter { length result.1.now < length text.now }
 {
     let end = line_end(text);
     if end == text.len() {
         return (text, &text[end..]);
     }
-    (&text[..end], &text[end + 1..])
+    (without_cr(&text[..end]), &text[end + 1..])
+}
+
+/// Whether the line of these words is empty or a comment.
+pub fn says_nothing(words: &Words) -> bool
+    ensures { result ≡ is_skipped words.now }
+{
+    if words.len() == 0 {
+        return true;
+    }
+    match words.word(0).first() {
+        Some(first) => *first == b'#',
+        None => false,
+    }
 }

@@ -1,12 +1,14 @@
-use crate::{Words, addr, num, octets, port, quad, read_datagram, read_turn, split_line};
+use crate::{
+    Words, addr, num, octets, port, quad, read_event, read_stream, says_nothing, split_line, yes_no,
+};
 use dns_name::IpAddr;
 use dns_service::EventKind;
 use std::test::Fail;
 
 #[test]
 fn lines_end_with_lf(rt: HostRuntime) -> Result<(), Fail> {
-    let mut rest = b"a b\r\n\n c".as_slice();
-    for line in [b"a b\r".as_slice(), b"".as_slice(), b" c".as_slice()] {
+    let mut rest = b"a b\r\n\n c\r".as_slice();
+    for line in [b"a b".as_slice(), b"".as_slice(), b" c\r".as_slice()] {
         assert!(rt; !rest.is_empty());
         if !rest.is_empty() {
             let (first, more) = split_line(rest);
@@ -71,10 +73,27 @@ fn hexadecimal(rt: HostRuntime) -> Result<(), Fail> {
 }
 
 #[test]
+fn skipped_lines(rt: HostRuntime) -> Result<(), Fail> {
+    for (line, skipped) in [
+        (b"".as_slice(), true),
+        (b"  ".as_slice(), true),
+        (b" #a b".as_slice(), true),
+        (b"a #".as_slice(), false),
+    ] {
+        let words = Words::of(rt.alloc(), line)?;
+        assert_eq!(rt; says_nothing(&words), skipped);
+    }
+    assert_eq!(rt; yes_no(b"yes".as_slice()).ok(), Some(true));
+    assert_eq!(rt; yes_no(b"no".as_slice()).ok(), Some(false));
+    assert!(rt; yes_no(b"Yes".as_slice()).is_err());
+    Ok(())
+}
+
+#[test]
 fn event_lines(rt: HostRuntime) -> Result<(), Fail> {
     let line = b" datagram  5 100 1 192.0.2.1 5353 12ff ".as_slice();
     let words = Words::of(rt.alloc(), line)?;
-    match read_datagram(rt.alloc(), &words) {
+    match read_event(rt.alloc(), &words) {
         Ok(event) => {
             assert_eq!(rt; (event.at, event.secs, event.client), (5, 100, 1));
             match event.kind {
@@ -88,10 +107,43 @@ fn event_lines(rt: HostRuntime) -> Result<(), Fail> {
         }
         Err(_) => assert!(rt; false),
     }
-    let words = Words::of(rt.alloc(), b"turn 6 100 1 0".as_slice())?;
-    let turn = read_turn(&words);
-    assert!(rt; turn.is_ok_and(|e| matches!(e.kind, EventKind::Turn { request: 0 })));
-    let words = Words::of(rt.alloc(), b"turn 6 100 1 0\r".as_slice())?;
-    assert!(rt; read_turn(&words).is_err());
+    for (line, reads) in [
+        (b"turn 6 100 1 0".as_slice(), true),
+        (b"turn 6 100 1".as_slice(), false),
+        (
+            b"offer 0 0 7 20010db8000000000000000000000001 53".as_slice(),
+            true,
+        ),
+        (b"offer 0 0 7 192.0.2.1 65536".as_slice(), false),
+        (b"piece 0 0 7 -".as_slice(), true),
+        (b"piece 0 0 7 0".as_slice(), false),
+        (b"write 0 0 7 30001".as_slice(), true),
+        (b"end 0 0 7".as_slice(), true),
+        (b"end 0 0 7 7".as_slice(), false),
+        (b"release 0 0 7".as_slice(), true),
+        (b"tick 0 0 7".as_slice(), false),
+    ] {
+        let words = Words::of(rt.alloc(), line)?;
+        assert_eq!(rt; read_event(rt.alloc(), &words).is_ok(), reads);
+    }
+    Ok(())
+}
+
+#[test]
+fn stream_lines(rt: HostRuntime) -> Result<(), Fail> {
+    let words = Words::of(rt.alloc(), b"stream 1 3600001 0 7 no".as_slice())?;
+    match read_stream(&words) {
+        Ok(stream) => {
+            assert!(rt; !stream.accept_connections_at_max());
+            assert_eq!(rt; stream.max_concurrent_connections(), 7);
+            let connection = stream.connection_config();
+            assert_eq!(rt; connection.idle_timeout(), 200);
+            assert_eq!(rt; connection.response_write_timeout(), 3_600_000);
+            assert_eq!(rt; connection.max_queued_responses(), 1);
+        }
+        Err(_) => assert!(rt; false),
+    }
+    let words = Words::of(rt.alloc(), b"stream 1 1 1 1".as_slice())?;
+    assert!(rt; read_stream(&words).is_err());
     Ok(())
 }

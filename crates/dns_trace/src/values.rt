@@ -2,7 +2,7 @@
 
 ghost use Rattle.std.specs.Prelude.{◌≡◌, ◌<◌, ◌≤◌, IfOk};
 ghost use Rattle.dns_trace.specs.Reading.{Gives};
-ghost use Rattle.dns_trace.specs.Values.{number, num_of, port_of, octets_of, quad_of, quad_word, addr_of};
+ghost use Rattle.dns_trace.specs.Values.{number, num_of, port_of, octets_of, quad_of, quad_word, addr_of, yes_no_of};
 
 use crate::reason::{LineError, Reason};
 use crate::words::Words;
@@ -70,6 +70,20 @@ pub fn octets(alloc: Global, word: &[u8]) -> Result<Octets, LineError>
         Err(FromHexError::OutOfMemory) => Err(LineError::OutOfMemory),
         Err(_) => Err(LineError::Refused(Reason::Unbuilt)),
     }
+}
+
+/// `yes` or `no`.
+#[tactic(auto, unfolding(crate::specs::Values::yes_no_of))]
+pub fn yes_no(word: &[u8]) -> Result<bool, Reason>
+    ensures { result ≡ yes_no_of word.now }
+{
+    if word == b"yes".as_slice() {
+        return Ok(true);
+    }
+    if word == b"no".as_slice() {
+        return Ok(false);
+    }
+    Err(Reason::Unbuilt)
 }
 
 #[tactic(auto, unfolding(crate::specs::Values::quad_of))]

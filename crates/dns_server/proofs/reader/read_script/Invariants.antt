@@ -1,11 +1,11 @@
 use Rattle.std.proofs.Common.{◌≡◌, ◌+◌, ◌≤◌, length}
-use Rattle.dns_trace.specs.Lines.{lines_of}
+use Rattle.std.specs.Str.Lines.{lines}
 use Rattle.dns_server.specs.Script.{script, after_lines}
 use Rattle.dns_server.proofs.reader.read_script.Given as goal
 
 abbrev pub invariant-loop-rest : goal.invariant-loop-rest
 invariant-loop-rest l = record {
-  told : after_lines l.line l.all (lines_of l.rest) ≡ script l.text;
+  told : after_lines l.line l.all (lines l.rest) ≡ script l.text;
   few : l.line + length l.rest ≤ length l.text + 1;
 }
 

@@ -9,4 +9,4 @@ returns-then-end-text-clause-line c =
 
 pub returns-clause-line : goal.returns-clause-line
 returns-clause-line c =
-    first_line_at c.args.text.now _ c.line_end-end.result c.line_end-end.ensures.before (omega arith) (c.line_end-end.ensures.found (omega arith)) (grind (arith))
+    first_line_at c.args.text.now c.without_cr.result.now c.line_end-end.result c.line_end-end.ensures.before (omega arith) (c.line_end-end.ensures.found (omega arith)) c.without_cr.ensures

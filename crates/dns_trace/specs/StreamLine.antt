@@ -1,0 +1,30 @@
+-- The line that configures the stream server: each number is limited to its range.
+use Rattle.std.specs.Prelude.{ℕ, Bool, ◌==◌, List, length, Result, Ok, Err}
+use Rattle.dns_service.specs.Config.{Stream, limited}
+use Rattle.dns_trace.specs.Words.{word}
+use Rattle.dns_trace.specs.Reading.{◌>>=◌, unless}
+use Rattle.dns_trace.specs.Values.{num_of, yes_no_of}
+use Rattle.dns_trace.specs.declared.reason.Reason.{Reason}
+use Rattle.dns_trace.specs.declared.reason.Reason.TheVariants.{Unbuilt}
+
+abbrev pub configured : ℕ → ℕ → ℕ → ℕ → Bool → Stream
+configured idle write queue limit accepts = record {
+  accept_connections_at_max = accepts;
+  max_concurrent_connections = limited 1 100000 limit;
+  connection_config = record {
+    idle_timeout = limited 200 2592000000 idle;
+    response_write_timeout = limited 1 3600000 write;
+    max_queued_responses = limited 1 1024 queue;
+  };
+}
+
+-- stream IDLE WRITE QUEUE LIMIT yes|no
+unfoldable pub stream_line : List (List ℕ) → Result Stream Reason
+stream_line ws = do
+  _ ← unless Unbuilt (length ws == 6)
+  idle ← num_of (word ws 1)
+  write ← num_of (word ws 2)
+  queue ← num_of (word ws 3)
+  limit ← num_of (word ws 4)
+  accepts ← yes_no_of (word ws 5)
+  Ok (configured idle write queue limit accepts)
