@@ -1,3 +1,4 @@
 pub mod Batches
 pub mod Queries
 pub mod Running
+pub mod Streamed

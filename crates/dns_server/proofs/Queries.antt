@@ -1,17 +1,18 @@
 -- The messages of a script are queries.
-use Rattle.std.proofs.Common.{◌≡◌, ℕ, List, [], ◌∷◌, Bool, true, false, refl, length, nat_lt}
-use Rattle.std.specs.Prelude.{IsTrue, All, if◌then◌else◌}
-use Rattle.std.specs.List.{flat_map}
-use Rattle.std.proofs.lemmas.List.Elements.{All-weaker, All-nil, All-head, All-tail, All-filter}
+use Rattle.std.proofs.Common.{◌≡◌, ℕ, List, [], ◌∷◌, Bool, true, false, refl, length, nat_lt, ◌≤◌, arith}
+use Rattle.std.specs.Prelude.{IsTrue, All, if◌then◌else◌, ◌&&◌, ◌||◌}
+use Rattle.std.specs.List.{list_all}
+use Rattle.std.proofs.lemmas.Bool.Decides.{nat_tests}
+use Rattle.std.proofs.lemmas.List.Elements.{All-weaker, All-nil, All-cons}
 use Rattle.dns_base.specs.Header.{header_of}
 use Rattle.dns_base.specs.Plain.{is_plain, is_query}
 use Rattle.dns_service.specs.declared.event.Event.{Event}
 use Rattle.dns_service.specs.declared.event.EventKind.{EventKind}
 use Rattle.dns_service.specs.declared.event.EventKind.TheVariants.{Datagram, Turn, Offer, Piece, End, Write, Release}
-use Rattle.dns_core.specs.Early.{IsQuery, IsQueryAlone, piece_in, stream_of}
+use Rattle.dns_core.specs.Early.{IsQuery, IsQueryAlone, stream_of}
 use Rattle.dns_client.specs.Frames.{frames}
-use Rattle.dns_core.specs.Own.{own, concerns}
 use Rattle.dns_server.specs.Plain.{is_plain_kind}
+use Rattle.dns_server.specs.PlainStreams.{is_plain_frame, is_plain_stream}
 
 -- a test that passes by its second branch, and one that passes by its first
 second : (b c : Bool) → (if b then false else c) ≡ true → (b ≡ false) × (c ≡ true)
@@ -21,6 +22,13 @@ second false c h = (refl, h)
 first : (b c : Bool) → (if b then c else false) ≡ true → b ≡ true
 first true c h = refl
 first false c h = let no : ⊥ = cc in absurd no
+
+both : (b c : Bool) → (b && c) ≡ true → (b ≡ true) × (c ≡ true)
+both true c h = (refl, h)
+both false c h = let no : ⊥ = cc in absurd no
+
+apart : (n : ℕ) → nat_lt n 12 ≡ true → 12 ≤ n → ⊥
+apart n h le = grind (arith, nat_tests)
 
 plain_is_query : (o : List ℕ) → is_plain o ≡ true → (header_of o).qr ≡ false
 unfolding is_plain
@@ -41,26 +49,16 @@ kind_is_query Release h = tt
 pub all_queries : (es : List Event) → All (λ e. IsTrue (is_plain_kind e.kind)) es → All (λ e. IsQueryAlone e.kind) es
 all_queries es h = All-weaker (λ (e : Event). IsTrue (is_plain_kind e.kind)) (λ (e : Event). IsQueryAlone e.kind) (λ e p. kind_is_query e.kind p) es h
 
-kind_has_no_piece : (k : EventKind) → IsTrue (is_plain_kind k) → piece_in k ≡ []
-kind_has_no_piece (Datagram addr o) h = refl
-kind_has_no_piece (Turn k) h = refl
-kind_has_no_piece (Offer addr) h = refl
-kind_has_no_piece (Piece o) h = let no : ⊥ = cc in absurd no
-kind_has_no_piece End h = refl
-kind_has_no_piece (Write took) h = refl
-kind_has_no_piece Release h = refl
+frame_is_query : (f : List ℕ) (b : Bool) → nat_lt (length f) 12 ≡ b → (b || is_plain f) ≡ true → IsQuery f
+frame_is_query f true short h = λ le. absurd (apart (length f) short le)
+frame_is_query f false short h = λ le. plain_is_query f h
 
--- the stream of each client is empty
-no_pieces : (c : ℕ) (es : List Event) → All (λ e. IsTrue (is_plain_kind e.kind)) es → flat_map (λ (e : Event). piece_in e.kind) es ≡ []
-no_pieces c [] h = refl
-no_pieces c (e ∷ es) h =
-    rw (kind_has_no_piece e.kind (All-head (λ (e : Event). IsTrue (is_plain_kind e.kind)) e es h))
-    (no_pieces c es (All-tail (λ (e : Event). IsTrue (is_plain_kind e.kind)) e es h))
+frames_are_queries : (fs : List (List ℕ)) → list_all is_plain_frame fs ≡ true → All IsQuery fs
+frames_are_queries [] h = All-nil IsQuery
+frames_are_queries (f ∷ fs) h =
+    let b = both (is_plain_frame f) (list_all is_plain_frame fs) h in
+    All-cons IsQuery f fs (frame_is_query f (nat_lt (length f) 12) refl b.0) (frames_are_queries fs b.1)
 
-no_frames : (c : ℕ) (es : List Event) → All (λ e. IsTrue (is_plain_kind e.kind)) es → frames (stream_of c es) ≡ []
-unfolding frames
-no_frames c es h = rw (no_pieces c (own c es) (All-filter (concerns c) (λ (e : Event). IsTrue (is_plain_kind e.kind)) es h)) refl
-
--- no message of a client's stream is a response
-pub all_streams : (es : List Event) → All (λ e. IsTrue (is_plain_kind e.kind)) es → (c : ℕ) → All IsQuery (frames (stream_of c es))
-all_streams es h c = rw (no_frames c es h) (All-nil IsQuery)
+-- no message of a plain stream is a response
+pub all_streams : (es : List Event) → ((c : ℕ) → is_plain_stream (stream_of c es) ≡ true) → (c : ℕ) → All IsQuery (frames (stream_of c es))
+all_streams es h c = frames_are_queries (frames (stream_of c es)) (h c)

@@ -1,6 +1,7 @@
 pub mod Command
 pub mod Line
 pub mod Plain
+pub mod PlainStreams
 pub mod Plan
 pub mod Played
 pub mod Rules

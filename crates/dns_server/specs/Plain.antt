@@ -1,4 +1,5 @@
--- Events whose message, where they have one, is a query with one question and nothing else.
+-- Events whose message, where they have one, is a query with one question and nothing else. A piece is judged by the stream of
+-- its client.
 use Rattle.std.specs.Prelude.{Bool, true, false}
 use Rattle.dns_base.specs.Plain.{is_plain}
 use Rattle.dns_service.specs.declared.event.EventKind.{EventKind}
@@ -8,7 +9,7 @@ abbrev pub is_plain_kind : EventKind → Bool
 is_plain_kind (Datagram addr octets) = is_plain octets
 is_plain_kind (Turn request) = true
 is_plain_kind (Offer addr) = true
-is_plain_kind (Piece octets) = false
+is_plain_kind (Piece octets) = true
 is_plain_kind End = true
 is_plain_kind (Write took) = true
 is_plain_kind Release = true

@@ -1,6 +1,7 @@
 -- The grammar of a script, line by line: the rules of the service and the configuration of the stream server stand before the
 -- first event.
 use Rattle.std.specs.Prelude.{ℕ, ◌+◌, ◌==◌, ◌||◌, nat_le, nat_lt, not, is_some, Some, List, [], ◌∷◌, ◌++◌, length, take, drop, Result, Ok, Err, codes, if◌then◌else◌}
+use Rattle.std.specs.Option.{option_map_or}
 use Rattle.std.specs.Str.{bytes_eq}
 use Rattle.std.specs.Str.Lines.{lines}
 use Rattle.dns_trace.specs.Lines.{is_skipped}
@@ -18,6 +19,7 @@ use Rattle.dns_server.specs.declared.rule.ScriptAnswer.{ScriptAnswer}
 use Rattle.dns_server.specs.declared.rule.ScriptAnswer.TheVariants.{Pend, Rcode}
 use Rattle.dns_server.specs.Plain.{is_plain_kind, needs_rule}
 use Rattle.dns_server.specs.Plan.{Plan, nothing}
+use Rattle.dns_server.specs.PlainStreams.{spoilt_line}
 
 abbrev pub with_rule : Plan → Rule → Plan
 with_rule p r = record p { rules = p.rules ++ r ∷ [] }
@@ -83,5 +85,9 @@ abbrev pub after_lines : ℕ → Plan → List (List ℕ) → Result Plan (ℕ �
 after_lines n p [] = Ok p
 after_lines n p (l ∷ ls) = numbered n (after_line n p l) >>= λ q. after_lines (n + 1) q ls
 
+-- each client's stream is plain, or the line of the first piece of one whose stream isn't
+unfoldable pub with_plain_streams : Plan → Result Plan (ℕ × Reason)
+with_plain_streams p = option_map_or (λ n. Err (n, Unbuilt)) (spoilt_line p) (Ok p)
+
 unfoldable pub script : List ℕ → Result Plan (ℕ × Reason)
-script t = after_lines 1 nothing (lines t)
+script t = after_lines 1 nothing (lines t) >>= with_plain_streams

@@ -4,6 +4,7 @@
 mod command;
 mod output_line;
 mod plain;
+mod plain_streams;
 mod program;
 mod reader;
 mod rule;
@@ -15,6 +16,7 @@ mod writing;
 pub use command::{Command, read_command};
 pub use output_line::{line, refusal};
 pub use plain::is_plain_event;
+pub use plain_streams::first_spoilt;
 pub use program::{Status, run};
 pub use reader::read_script;
 pub use rule::{Rule, Rules, ScriptAnswer, ScriptAnswers};

@@ -14,7 +14,7 @@ pub fn is_plain_event(kind: &EventKind) -> bool
         EventKind::Datagram { octets, .. } => is_plain(octets.as_slice()),
         EventKind::Turn { .. } => true,
         EventKind::Offer { .. } => true,
-        EventKind::Piece(_) => false,
+        EventKind::Piece(_) => true,
         EventKind::End => true,
         EventKind::Write { .. } => true,
         EventKind::Release => true,

@@ -1,7 +1,9 @@
 //! The program's top call.
 
-ghost use Rattle.std.specs.Prelude.{◌≡◌, ◌≢◌, ◌↔◌, map, string_bytes, IfSome, IfOk, None};
+ghost use Rattle.std.specs.Prelude.{◌≡◌, ◌≢◌, ◌↔◌, map, string_bytes, IfSome, IfOk, None, ℕ, true};
 ghost use Rattle.dns_outside.specs.Causes.{Tells, Rose};
+ghost use Rattle.dns_core.specs.Early.{stream_of};
+ghost use Rattle.dns_server.specs.PlainStreams.{is_plain_stream};
 ghost use Rattle.dns_server.specs.Command.{command_of};
 ghost use Rattle.dns_server.specs.Status.{number_of, SourceFaults, SinkFaults};
 ghost use Rattle.dns_server.specs.Runs.{outputs_of, settings_with, ReplayTo, RunTo, Completes};
@@ -69,6 +71,7 @@ fn settings(alloc: Global, stream: Option<StreamConfig>) -> Settings
 /// What the clients of a script are sent.
 #[tactic(auto, using(crate::proofs::Queries::all_queries, crate::proofs::Queries::all_streams), unfolding(crate::specs::Runs::outputs_of))]
 fn outputs(alloc: Global, script: Script) -> Result<Vec<Output>, OutOfMemory>
+    requires { (c : ℕ) → is_plain_stream (stream_of c script.events) ≡ true }
     ensures { IfOk result (λ v. v.items ≡ outputs_of script) }
 {
     let settings = settings(alloc, script.stream());

@@ -1,13 +1,16 @@
 //! The reader of a script.
 
-ghost use Rattle.std.specs.Prelude.{◌≡◌, ◌<◌, ◌≤◌, ◌^◌, [], drop, length, IsTrue, IfOk};
+ghost use Rattle.std.specs.Prelude.{◌≡◌, ℕ, true, ◌<◌, ◌≤◌, ◌^◌, [], drop, length, IsTrue, IfOk};
 ghost use Rattle.dns_trace.specs.EventLines.{event_line};
 ghost use Rattle.dns_trace.specs.Reading.{Gives};
 ghost use Rattle.dns_server.specs.Plain.{is_plain_kind};
-ghost use Rattle.dns_server.specs.Script.{answer_of, answers_after, rule_line, first_stream_line, next_event_line, after_line, script};
+ghost use Rattle.dns_server.specs.Script.{answer_of, answers_after, rule_line, first_stream_line, next_event_line, after_line, with_plain_streams, script};
+ghost use Rattle.dns_server.specs.PlainStreams.{is_plain_stream};
+ghost use Rattle.dns_core.specs.Early.{stream_of};
 ghost use Rattle.dns_server.specs.ScriptReads.{Reads};
 
 use crate::plain::{is_plain_event, needs_a_rule};
+use crate::plain_streams::first_spoilt;
 use crate::rule::{Rule, ScriptAnswer, ScriptAnswers};
 use crate::script::{Script, ScriptError};
 use dns_name::Rcode;
@@ -112,11 +115,28 @@ fn after(alloc: Global, number: u64, script: Script, line: &[u8]) -> Result<Scri
     event(alloc, number, script, &words)
 }
 
+/// A script, unless the stream of a client isn't plain.
+#[tactic(auto, using(crate::proofs::Streamed::none_spoilt), unfolding(crate::specs::Script::with_plain_streams, crate::specs::PlainStreams::spoilt_line))]
+fn with_plain_streams(alloc: Global, script: Script) -> Result<Script, ScriptError>
+    ensures value { Reads result (with_plain_streams script) }
+    ensures streams { IfOk result (λ s. (c : ℕ) → is_plain_stream (stream_of c s.events) ≡ true) }
+{
+    match first_spoilt(alloc, script.events()) {
+        Ok(None) => Ok(script),
+        Ok(Some(place)) => Err(ScriptError::Refused {
+            line: script.line(place),
+            reason: Reason::Unbuilt,
+        }),
+        Err(_) => Err(ScriptError::OutOfMemory),
+    }
+}
+
 /// What a text says, or its first bad line and the reason.
 #[tactic(auto, unfolding(crate::specs::Script::script))]
 pub fn read_script(alloc: Global, text: &[u8]) -> Result<Script, ScriptError>
     requires { length text.now < 2 ^ 40 }
-    ensures { Reads result (script text.now) }
+    ensures value { Reads result (script text.now) }
+    ensures streams { IfOk result (λ s. (c : ℕ) → is_plain_stream (stream_of c s.events) ≡ true) }
 {
     let mut all = Script::new(alloc);
     let mut rest = text;
@@ -131,5 +151,5 @@ pub fn read_script(alloc: Global, text: &[u8]) -> Result<Script, ScriptError>
         rest = more;
         line += 1;
     }
-    Ok(all)
+    with_plain_streams(alloc, all)
 }

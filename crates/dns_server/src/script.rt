@@ -1,6 +1,6 @@
 //! What a script says.
 
-ghost use Rattle.std.specs.Prelude.{◌≡◌, IfOk, IsTrue, All};
+ghost use Rattle.std.specs.Prelude.{◌≡◌, slice_index_or, IfOk, IsTrue, All};
 ghost use Rattle.dns_server.specs.Plan.{nothing};
 ghost use Rattle.dns_server.specs.Plain.{is_plain_kind};
 ghost use Rattle.dns_server.specs.Script.{with_rule, with_event, with_stream};
@@ -102,6 +102,16 @@ impl Script {
         ensures { result.now ≡ self.now.rules }
     {
         self.rules.as_slice()
+    }
+
+    /// The number of the line of the event at this place, or 0.
+    pub fn line(&self, place: usize) -> u64
+        ensures { result ≡ slice_index_or self.now.lines place 0 }
+    {
+        match self.lines.get(place) {
+            Some(line) => *line,
+            None => 0,
+        }
     }
 
     /// The rules of the service and the events.

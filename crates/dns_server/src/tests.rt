@@ -115,6 +115,14 @@ fn refused_lines(rt: HostRuntime) -> Result<(), Fail> {
         ),
         ("rule * rcode:3\ndatagram 5 100 1 192.0.2.1 5353 -\n", "2"),
         (
+            "rule * rcode:3\npiece 1 1 1 0003\npiece 1 1 2 000c12348100000100000000\npiece 1 1 1 123456\npiece 1 1 2 -\npiece 1 1 2 0000\n",
+            "3",
+        ),
+        (
+            "rule * rcode:3\npiece 1 1 1 000b1234810000010000000000\npiece 1 1 3 -\npiece 1 1 2 000c12348100000100000000\npiece 1 1 3 000c1234\npiece 1 1 3 8100000100000000\n",
+            "3",
+        ),
+        (
             "rule * rcode:3\ndatagram 5 100 1 192.0.2.1 5353 1234810000010000000000000000010001\n",
             "2",
         ),
@@ -138,6 +146,18 @@ fn wider_scripts(rt: HostRuntime) -> Result<(), Fail> {
         (
             "rule * pend rcode:3\ndatagram 5 100 1 192.0.2.1 5353 1234010000010000000000000000010001\nturn 6 100 1 0\nturn 7 100 1 0",
             REPLY,
+        ),
+        (
+            "rule * rcode:3\noffer 0 0 1 192.0.2.1 53\npiece 1 1 1 00\npiece 1 1 1 111234010000010000000000000000010001\nturn 2 1 1 0\nwrite 3 1 1 0\n",
+            "frame 1 00111234810300010000000000000000010001\n",
+        ),
+        (
+            "rule * rcode:3\noffer 0 0 1 192.0.2.1 53\npiece 1 1 1 00111234010000010000000000000000010001\nturn 2 1 1 0\nwrite 3 1 1 0\n",
+            "frame 1 00111234810300010000000000000000010001\n",
+        ),
+        (
+            "rule * rcode:3\noffer 0 0 1 192.0.2.1 53\npiece 1 1 1 00111234010000010000000000000000010001\nturn 2 1 1 0\npiece 3 1 1 00050102030405\nwrite 4 1 1 0\n",
+            "closed 1 short\n",
         ),
         (
             "stream 30000 30000 10 1 yes\noffer 0 0 1 192.0.2.1 53\noffer 0 0 2 192.0.2.1 53\nend 0 0 1\noffer 0 0 3 192.0.2.1 53\nrelease 0 0 1\noffer 0 0 2 192.0.2.1 53\noffer 0 0 4 192.0.2.1 53\nend 0 0 4\n",

@@ -96,7 +96,7 @@ fn event_lines(rt: HostRuntime) -> Result<(), Fail> {
     match read_event(rt.alloc(), &words) {
         Ok(event) => {
             assert_eq!(rt; (event.at, event.secs, event.client), (5, 100, 1));
-            match event.kind {
+            match &event.kind {
                 EventKind::Datagram { addr, octets } => {
                     assert!(rt; addr.ip == IpAddr::V4([192, 0, 2, 1]));
                     assert_eq!(rt; addr.port, 5353);
