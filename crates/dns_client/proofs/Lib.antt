@@ -3,3 +3,4 @@ pub mod Kept
 pub mod Turns
 pub mod Begun
 pub mod Taking
+pub mod Cutting

@@ -7,3 +7,4 @@ pub mod Turns
 pub mod Rule
 pub mod PolledAt
 pub mod Stands
+pub mod Pieces

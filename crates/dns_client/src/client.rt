@@ -150,7 +150,8 @@ impl<W: Served> ClientCore<W> {
             return Ok(());
         }
         let future = service.call(alloc, &mut request)?;
-        self.unfinished.insert(self.count, PolledRequest::Called(future))?;
+        self.unfinished
+            .insert(self.count, PolledRequest::Called(future))?;
         self.count += 1;
         Ok(())
     }

@@ -3,9 +3,11 @@
 
 mod client;
 mod framer;
+mod laws;
 mod polling;
 mod requests;
 
 pub use client::{ClientCore, Status};
 pub use framer::Framer;
+pub use laws::{frames_go_on, pieces_may_be_cut};
 pub use polling::PolledRequest;

@@ -17,7 +17,7 @@ use Rattle.dns_core.proofs.OutLemmas.{slate_some, slate_none, gain_some, members
 use Rattle.dns_core.proofs.Counted.{put_there, filter_same, absent_other, filter_put, filter_put_not}
 use Rattle.dns_core.proofs.Plain.{unused_kept, slot_kept}
 
-concerns_same : (e : Event) → concerns e.client e ≡ true
+pub concerns_same : (e : Event) → concerns e.client e ≡ true
 concerns_same e = eq-eqb e.client e.client refl
 
 concerns_other : (c : ℕ) (e : Event) → c ≢ e.client → concerns c e ≡ false

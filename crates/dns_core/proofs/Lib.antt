@@ -6,3 +6,5 @@ pub mod Keyed
 pub mod Served
 pub mod Offered
 pub mod Released
+pub mod Nothing
+pub mod Cut

@@ -20,6 +20,7 @@ use Rattle.dns_client.specs.Datagrams.{datagram}
 use Rattle.dns_client.specs.Connections.{opened, close, take_frame, take_frames, piece, write, enqueue, released}
 use Rattle.dns_client.specs.Turns.{exchange_turn, turn, polled, with_request, sent_at_once, reply_in, queued}
 use Rattle.dns_client.specs.Rule.{rule, by_kind}
+use Rattle.dns_core.specs.Finished.{IsFinished}
 use Rattle.dns_core.specs.Settings.{opening}
 use Rattle.dns_core.specs.Own.{own, concerns}
 use Rattle.dns_core.specs.Sent.{slate_after, slate}
@@ -143,7 +144,7 @@ module _ (answers : Req (Unit {0}) → ℕ → Answer) where
   kind_use e (Write took) s = weak s (by_kind answers e (Write took) s).0 (kind_on e (Write took) s refl refl)
   kind_use e Release s = release_use s.phase s
 
-  rule_use : (e : Event) (s : Slate) → KeepsUse s (rule answers e s).0
+  pub rule_use : (e : Event) (s : Slate) → KeepsUse s (rule answers e s).0
   rule_use e s = kind_use e e.kind s
 
   -- a client that didn't begin stays so
@@ -178,6 +179,39 @@ module _ (answers : Req (Unit {0}) → ℕ → Answer) where
 
   pub late : (e : Event) (s : Slate) → begins e.kind ≡ true → is_unused s.phase ≡ false → rule answers e s ≡ (s, [])
   late e s b u = late_kind e e.kind s b u
+
+  -- a request that is done, or none
+  exchange_done : (k : ℕ) (x : Option Asked) (s : Slate) → IsFinished x → exchange_turn answers k x s ≡ (s, [])
+  exchange_done k None s h = refl
+  exchange_done k (Some r) s h = rw h refl
+
+  turn_done : (k : ℕ) (x : Option Asked) (s : Slate) → IsFinished x → turn answers k x s ≡ s
+  turn_done k None s h = refl
+  turn_done k (Some r) s h = rw h refl
+
+  all_same : (p : Phase) (t : Told) → in_phase p t t t t ≡ t
+  all_same Unused t = refl
+  all_same Exchange t = refl
+  all_same Open t = refl
+  all_same Closed t = refl
+
+  done_kind : (e : Event) (kind : EventKind) (s : Slate) (k : ℕ) → kind ≡ Turn k → IsFinished (slice_get s.requests k) → by_kind answers e kind s ≡ (s, [])
+  done_kind e kind s k is h = rw (is, exchange_done k (slice_get s.requests k) s h, turn_done k (slice_get s.requests k) s h) (all_same s.phase (s, []))
+
+  pub done_idle : (e : Event) (s : Slate) (k : ℕ) → e.kind ≡ Turn k → IsFinished (slice_get s.requests k) → rule answers e s ≡ (s, [])
+  done_idle e s k is h = done_kind e e.kind s k is h
+
+  closed_kind : (e : Event) (k : EventKind) (s : Slate) → is_release k ≡ false → s.phase ≡ Closed → by_kind answers e k s ≡ (s, [])
+  closed_kind e (Datagram addr o) s n p = rw p refl
+  closed_kind e (Turn k) s n p = rw p refl
+  closed_kind e (Offer addr) s n p = rw p refl
+  closed_kind e (Piece o) s n p = rw p refl
+  closed_kind e End s n p = rw p refl
+  closed_kind e (Write took) s n p = rw p refl
+  closed_kind e Release s n p = cc
+
+  pub closed_idle : (e : Event) (s : Slate) → is_release e.kind ≡ false → s.phase ≡ Closed → rule answers e s ≡ (s, [])
+  closed_idle e s n p = closed_kind e e.kind s n p
 
   begun_kind : (e : Event) (k : EventKind) (s : Slate) (addr : SocketAddr) (o : List ℕ) → k ≡ Datagram addr o → s.phase ≡ Unused → by_kind answers e k s ≡ datagram e.client addr e.at e.secs o s
   begun_kind e k s addr o is p = rw (is, p) refl

@@ -6,3 +6,4 @@ pub mod Replies
 pub mod Early
 pub mod Serves
 pub mod Server
+pub mod Finished

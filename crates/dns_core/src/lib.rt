@@ -2,6 +2,7 @@
 #![tactic(auto)]
 
 mod clients;
+mod laws;
 mod notify;
 mod server;
 mod settings;
@@ -9,6 +10,10 @@ mod stamped;
 
 pub use dns_client::{ClientCore, Framer, PolledRequest, Status};
 pub use dns_service::{Event, EventKind, Octets, Output, Why};
+pub use laws::{
+    closed_connections_change_nothing, finished_requests_change_nothing, pieces_may_be_cut,
+    strangers_change_nothing, used_numbers_change_nothing,
+};
 pub use notify::{Notifiable, NotifyError, VerdictFuture};
 pub use server::serve_events;
 pub use settings::Settings;

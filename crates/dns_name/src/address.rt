@@ -2,6 +2,7 @@
 
 ghost use Rattle.std.specs.Prelude.{◌≡◌};
 
+use std::fmt;
 use std::marker::Model;
 
 /// An address in network order.
@@ -9,6 +10,28 @@ use std::marker::Model;
 pub enum IpAddr {
     V4([u8; 4]),
     V6([u8; 16]),
+}
+
+/// Dotted decimal, and eight groups of hexadecimal digits joined by colons.
+impl fmt::Display for IpAddr {
+    fn fmt<W: fmt::Write>(&self, f: &mut fmt::Formatter<W>) -> fmt::Result {
+        match self {
+            IpAddr::V4([a, b, c, d]) => write!(f, "{a}.{b}.{c}.{d}"),
+            IpAddr::V6(octets) => groups(octets, f),
+        }
+    }
+}
+
+/// The groups of an address of sixteen octets.
+fn groups<W: fmt::Write>(octets: &[u8; 16], f: &mut fmt::Formatter<W>) -> fmt::Result {
+    for i in 0..8usize {
+        if i > 0 {
+            f.write_str(":")?;
+        }
+        let group = 256 * octets[2 * i] as u16 + octets[2 * i + 1] as u16;
+        write!(f, "{group:x}")?;
+    }
+    Ok(())
 }
 
 /// An address and a port.

@@ -7,6 +7,7 @@ mod iana;
 mod labels;
 mod laws;
 mod name;
+mod name_text;
 mod octets;
 mod opt_data;
 mod opt_error;

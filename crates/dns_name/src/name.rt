@@ -1,16 +1,19 @@
 //! Names that stand alone, uncompressed.
 
-ghost use Rattle.std.specs.Prelude.{◌≡◌, ◌≤◌, ◌+◌, ◌++◌, ◌↔◌, ◌-◌, [], length, take, drop, IsTrue, IfOk, OnOk, OnErr};
+ghost use Rattle.std.specs.Prelude.{◌≡◌, ◌≤◌, ◌+◌, ◌++◌, ◌↔◌, ◌-◌, [], length, take, drop, Some, IsTrue, IfOk, OnOk, OnErr};
 ghost use Rattle.dns_name.specs.Labels.{IsName, EndsWith, folded, spell};
+ghost use Rattle.dns_name.specs.NameText.{name_text};
 ghost use Rattle.dns_name.specs.Names.{uncompressed, uncompressed_at};
 ghost use Rattle.dns_name.specs.Place.{Parses};
 
 use crate::error::{FormReason, OutOfMemory, ParseError};
 use crate::labels::{Labels, ends, same};
+use crate::name_text::LabelText;
 use crate::parsed::end_at;
 use crate::parser::Parser;
 use crate::piece::Reach;
 use std::alloc::Global;
+use std::fmt;
 use std::marker::Model;
 
 /// A name, owned, that contracts see as its labels without the root's (RFC 1035, section 3.1).
@@ -246,6 +249,34 @@ impl Name {
         ensures { IsTrue result ↔ EndsWith self.now other.now }
     {
         self.for_ref().ends_with(other)
+    }
+}
+
+/// The labels joined by dots, without a final dot; the root is a dot (RFC 1035, section 5.1).
+impl<'a> fmt::Display for NameRef<'a> {
+    ghost output = { λ n. Some (name_text n) };
+
+    fn fmt<W: fmt::Write>(&self, f: &mut fmt::Formatter<W>) -> fmt::Result {
+        let mut labels = self.labels();
+        let Some(first) = labels.next() else {
+            return f.write_str(".");
+        };
+        let first = LabelText(first);
+        write!(f, "{first}")?;
+        'labels: while let Some(label) = labels.next() {
+            let label = LabelText(label);
+            write!(f, ".{label}")?;
+        }
+        Ok(())
+    }
+}
+
+impl fmt::Display for Name {
+    ghost output = { λ n. Some (name_text n) };
+
+    fn fmt<W: fmt::Write>(&self, f: &mut fmt::Formatter<W>) -> fmt::Result {
+        let name = self.for_ref();
+        write!(f, "{name}")
     }
 }
 

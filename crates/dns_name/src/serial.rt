@@ -1,7 +1,9 @@
 //! Serial numbers.
 
-ghost use Rattle.dns_name.specs.Serials.{serial_of};
+ghost use Rattle.dns_name.specs.Serials.{serial_cmp, serial_of};
 ghost use Rattle.std.specs.Prelude.{◌≡◌, ◌+◌, ◌<◌, ◌^◌, ◌%◌};
+
+use std::cmp::Ordering;
 
 /// A serial number of 32 bits (RFC 1982).
 #[derive(Clone, Copy, Debug, PartialEq, Eq, Hash)]
@@ -14,6 +16,23 @@ impl Serial {
         ensures { result.0 ≡ (self.0 + other) % 2 ^ 32 }
     {
         Serial(self.0.wrapping_add(other))
+    }
+
+    /// How two serials compare (RFC 1982, section 3.2); none where they are 2^31 apart. This comparison is not
+    /// transitive, so it is no `PartialOrd`.
+    pub fn partial_cmp(&self, other: &Serial) -> Option<Ordering>
+        ensures { result ≡ serial_cmp self.now.0 other.now.0 }
+    {
+        let distance = self.0.wrapping_sub(other.0);
+        if distance == 0 {
+            Some(Ordering::Equal)
+        } else if distance < 0x8000_0000 {
+            Some(Ordering::Greater)
+        } else if distance == 0x8000_0000 {
+            None
+        } else {
+            Some(Ordering::Less)
+        }
     }
 
     /// The serial that four octets are in network order.

@@ -1,6 +1,7 @@
 //! Worked rows of names and the parser.
 
 use super::*;
+use std::cmp::Ordering;
 
 /// Whether octets are read as an uncompressed name, or why not.
 fn refusal(octets: &[u8]) -> Option<ParseError> {
@@ -80,4 +81,53 @@ fn takes_memory(rt: HostRuntime) {
         panic!(&rt; "no memory");
     };
     assert_eq!(&rt; octets.as_slice().len(), 2);
+}
+
+#[test]
+fn displays_addresses(rt: HostRuntime) {
+    let rows = [
+        (IpAddr::V4([192, 0, 2, 1]), "192.0.2.1"),
+        (
+            IpAddr::V6([0x20, 1, 0x0d, 0xb8, 0, 0, 0, 0, 0, 0, 0, 0, 0, 0, 0, 0xab]),
+            "2001:db8:0:0:0:0:0:ab",
+        ),
+    ];
+    for (address, want) in rows {
+        let Ok(text) = address.to_string(rt.alloc()) else {
+            panic!(&rt; "no memory");
+        };
+        assert!(&rt; text.as_str() == want);
+    }
+}
+
+#[test]
+fn compares_serials(rt: HostRuntime) {
+    let rows = [
+        (1u32, 1u32, Some(Ordering::Equal)),
+        (0, 0xffff_ffff, Some(Ordering::Greater)),
+        (0x8000_0000, 0, None),
+        (0, 0x7fff_ffff, Some(Ordering::Less)),
+    ];
+    for (a, b, want) in rows {
+        assert!(&rt; Serial(a).partial_cmp(&Serial(b)) == want);
+    }
+}
+
+#[test]
+fn displays_names(rt: HostRuntime) {
+    let rows: [(&[u8], &str); 4] = [
+        (b"\x00", "."),
+        (b"\x07example\x03com\x00", "example.com"),
+        (b"\x03a.b\x02\\ \x00", "a\\.b.\\\\\\ "),
+        (b"\x02\x00\xff\x00", "\\000\\255"),
+    ];
+    for (octets, want) in rows {
+        let Ok(name) = NameRef::from_slice(octets) else {
+            panic!(&rt; "no name");
+        };
+        let Ok(text) = name.to_string(rt.alloc()) else {
+            panic!(&rt; "no memory");
+        };
+        assert!(&rt; text.as_str() == want);
+    }
 }

@@ -1,7 +1,8 @@
-use crate::{Status, line, refusal, run};
-use dns_name::Octets;
+use crate::{ScriptTarget, Status, line, refusal, run};
+use dns_core::{Notifiable, NotifyError, VerdictFuture};
+use dns_name::{Class, IpAddr, Name, Octets};
 use dns_outside::{MemorySink, MemorySource};
-use dns_service::{Output, Why};
+use dns_service::{Output, Polled, Why};
 use dns_trace::Reason;
 use std::alloc::Global;
 use std::test::Fail;
@@ -201,6 +202,21 @@ fn lines_out(rt: HostRuntime) -> Result<(), Fail> {
         (Status::TooLong, 7),
     ] {
         assert_eq!(rt; status.number(), number);
+    }
+    Ok(())
+}
+
+#[test]
+fn no_zone_is_known(rt: HostRuntime) -> Result<(), Fail> {
+    let root = Name::root(rt.alloc())?;
+    let source = IpAddr::V4([192, 0, 2, 1]);
+    let verdict = ScriptTarget.notify_zone_changed(rt.alloc(), Class::IN, &root, None, source);
+    match verdict {
+        Ok(mut verdict) => {
+            let polled = verdict.poll(rt.alloc());
+            assert!(rt; matches!(polled, Ok(Polled::Ready(Err(NotifyError::NotAuthForZone)))));
+        }
+        Err(_) => assert!(rt; false),
     }
     Ok(())
 }

@@ -24,9 +24,9 @@ returns g c = λ settings q h.
     let is = begun b e s c.args.addr c.args.octets.now c.requires.kind p in
     let free : holds_slot (slate b settings e.client (q ++ e ∷ [])) ≡ false = ap holds_slot (slate_same b settings q e) ∙ ap (λ (t : Told). holds_slot t.0) is in
     begin_goes a b settings c.args.self.now c.insert.new.self c.insert-2.new.self c.args.self.now.taken c.in_ok-core.core q e c.in_ok-core.outs.items n
-        (members_datagram b settings q e n.is_new (ap is_datagram c.requires.kind))
-        (h.slots ∙ sym (taken_put_not b settings q e (members b settings q) free n.no_member))
-        (rw is (c.in_ok-core.ensures s n.unused n.dgram))
-        (ap (λ (t : Told). is_unused t.0.phase) is) c.in_ok-insert.ensures.entries c.in_ok-insert.ensures.updates.1
-        (others_put c.args.self.now.clients c.insert.new.self e.client c.in_ok-core.core c.in_ok-insert.ensures.updates.0)
-        (used_put c.args.self.now.used c.insert-2.new.self e.client c.in_ok-insert-2.ensures.updates.0) h
+    (members_datagram b settings q e n.is_new (ap is_datagram c.requires.kind))
+    (h.slots ∙ sym (taken_put_not b settings q e (members b settings q) free n.no_member))
+    (rw is (c.in_ok-core.ensures s n.unused n.dgram))
+    (ap (λ (t : Told). is_unused t.0.phase) is) c.in_ok-insert.ensures.entries c.in_ok-insert.ensures.updates.1
+    (others_put c.args.self.now.clients c.insert.new.self e.client c.in_ok-core.core c.in_ok-insert.ensures.updates.0)
+    (used_put c.args.self.now.used c.insert-2.new.self e.client c.in_ok-insert-2.ensures.updates.0) h

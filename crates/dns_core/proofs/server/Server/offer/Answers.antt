@@ -29,10 +29,10 @@ returns-then-self-max_concurrent_connections g c = λ settings q h.
     let is = offered b e s c.args.addr c.requires p in
     let full : c.args.self.now.stream.max_concurrent_connections ≤ c.args.self.now.taken = rw c.max_concurrent_connections.ensures.value at c.if-self-max_concurrent_connections.true in
     away_goes a b settings c.args.self.now c.insert.new.self q e c.push.new.self.items n (ap is_datagram c.requires)
-        (le-ltb c.args.self.now.taken c.args.self.now.stream.max_concurrent_connections full)
-        (ap (λ (t : Told). is_unused t.0.phase) is)
-        (used_put c.args.self.now.used c.insert.new.self e.client c.in_ok-insert.ensures.updates.0)
-        (c.in_ok-push.ensures.items ∙ ap (λ (os : List Output). os ++ TurnedAway e.client c.accept_connections_at_max-accepted.result ∷ []) c.new-outs.ensures.items ∙ ap (λ (x : Bool). TurnedAway e.client x ∷ []) c.accept_connections_at_max-accepted.ensures.value) h
+    (le-ltb c.args.self.now.taken c.args.self.now.stream.max_concurrent_connections full)
+    (ap (λ (t : Told). is_unused t.0.phase) is)
+    (used_put c.args.self.now.used c.insert.new.self e.client c.in_ok-insert.ensures.updates.0)
+    (c.in_ok-push.ensures.items ∙ ap (λ (os : List Output). os ++ TurnedAway e.client c.accept_connections_at_max-accepted.result ∷ []) c.new-outs.ensures.items ∙ ap (λ (x : Bool). TurnedAway e.client x ∷ []) c.accept_connections_at_max-accepted.ensures.value) h
 
 pub returns : goal.returns
 returns g c = λ settings q h.
@@ -46,9 +46,9 @@ returns g c = λ settings q h.
     let free : c.args.self.now.taken < c.args.self.now.stream.max_concurrent_connections = rw c.max_concurrent_connections.ensures.value at c.if-self-max_concurrent_connections.false in
     let held : holds_slot (slate b settings e.client (q ++ e ∷ [])) ≡ true = ap holds_slot (slate_same b settings q e) ∙ ap (λ (t : Told). holds_slot t.0) is ∙ ap (λ (x : Slate). not x.freed) n.unused in
     begin_goes a b settings c.args.self.now c.insert-2.new.self c.insert-3.new.self (c.args.self.now.taken + 1) c.in_ok-core.core q e c.new-2.result.items n
-        (members_offer b settings q e true n.is_new (ap is_datagram c.requires) (sym (room_is a b settings c.args.self.now q h) ∙ lt-ltb c.args.self.now.taken c.args.self.now.stream.max_concurrent_connections free))
-        (ap (λ (x : ℕ). x + 1) h.slots ∙ sym (taken_put b settings q e (members b settings q) held n.no_member))
-        (rw is (c.new-2.ensures.items, c.in_ok-core.ensures b s n.unused n.stream))
-        (ap (λ (t : Told). is_unused t.0.phase) is) c.in_ok-insert-2.ensures.entries c.in_ok-insert-2.ensures.updates.1
-        (others_put c.args.self.now.clients c.insert-2.new.self e.client c.in_ok-core.core c.in_ok-insert-2.ensures.updates.0)
-        (used_put c.args.self.now.used c.insert-3.new.self e.client c.in_ok-insert-3.ensures.updates.0) h
+    (members_offer b settings q e true n.is_new (ap is_datagram c.requires) (sym (room_is a b settings c.args.self.now q h) ∙ lt-ltb c.args.self.now.taken c.args.self.now.stream.max_concurrent_connections free))
+    (ap (λ (x : ℕ). x + 1) h.slots ∙ sym (taken_put b settings q e (members b settings q) held n.no_member))
+    (rw is (c.new-2.ensures.items, c.in_ok-core.ensures b s n.unused n.stream))
+    (ap (λ (t : Told). is_unused t.0.phase) is) c.in_ok-insert-2.ensures.entries c.in_ok-insert-2.ensures.updates.1
+    (others_put c.args.self.now.clients c.insert-2.new.self e.client c.in_ok-core.core c.in_ok-insert-2.ensures.updates.0)
+    (used_put c.args.self.now.used c.insert-3.new.self e.client c.in_ok-insert-3.ensures.updates.0) h

@@ -1,0 +1,108 @@
+-- A piece cut in two changes nothing.
+use Rattle.std.proofs.Common.{◌≡◌, ℕ, ◌+◌, ◌<◌, ◌≤◌, List, [], ◌∷◌, ◌++◌, length, drop, Bool, true, false, refl, ap, sym, ◌∙◌, arith, ◌⊎◌, inl, inr, ⊎_elim, append_assoc, append-nil, length-drop, add-zero}
+use Rattle.std.specs.Prelude.{nat_lt, if◌then◌else◌}
+use Rattle.std.proofs.lemmas.List.{drop_all, drop-append-le, drop_at}
+use Rattle.std.proofs.lemmas.Bool.{cases_lt}
+use Rattle.dns_service.specs.Answer.{Answer}
+use Rattle.dns_service.specs.Req.{Req}
+use Rattle.dns_service.specs.declared.event.Output.{Output}
+use Rattle.dns_client.specs.Frames.{frames, rest}
+use Rattle.dns_client.specs.Slate.{Slate, Told, Phase, Unused, Exchange, Open, Closed, in_phase}
+use Rattle.dns_client.specs.Requests.{header_size, most_requests, request_of_frame, asked}
+use Rattle.dns_client.specs.Connections.{take_frame, take_frames, piece}
+use Rattle.dns_client.specs.Pieces.{piece_of, IsCut}
+use Rattle.dns_client.proofs.FramesLemmas.{goes}
+
+abbrev with_received : List ℕ → Slate → Slate
+with_received x s = record s { received = x }
+
+-- the frames fs end at a short one, or more may follow
+record Ends (at secs : ℕ) (fs gs : List (List ℕ)) (s : Slate) (x : List ℕ) : Type 0 where
+  phase : (take_frames at secs fs s).0.phase ≡ Closed
+  all : take_frames at secs (fs ++ gs) (with_received x s) ≡ take_frames at secs fs s
+
+record Opens (at secs : ℕ) (fs gs : List (List ℕ)) (s : Slate) (x : List ℕ) : Type 0 where
+  phase : (take_frames at secs fs s).0.phase ≡ s.phase
+  none : (take_frames at secs fs s).1 ≡ []
+  received : (take_frames at secs fs s).0.received ≡ s.received
+  taken : (take_frames at secs fs s).0.taken ≡ s.taken + length fs
+  all : take_frames at secs (fs ++ gs) (with_received x s) ≡ take_frames at secs gs (with_received x (take_frames at secs fs s).0)
+
+asked_received : (at secs : ℕ) (f : List ℕ) (s : Slate) (x : List ℕ) → take_frame at secs f (with_received x s) ≡ with_received x (take_frame at secs f s)
+asked_received at secs f s x = (elim (nat_lt (length s.requests) most_requests) as (λ b. (if b then record (with_received x s) { taken = s.taken + 1; requests = s.requests ++ asked (request_of_frame s.connection s.addr at secs f) ∷ [] } else record (with_received x s) { taken = s.taken + 1 }) ≡ with_received x (if b then record s { taken = s.taken + 1; requests = s.requests ++ asked (request_of_frame s.connection s.addr at secs f) ∷ [] } else record s { taken = s.taken + 1 })) [ true ↦ refl | false ↦ refl ])
+
+record Same (s t : Slate) : Type 0 where
+  phase : t.phase ≡ s.phase
+  received : t.received ≡ s.received
+  taken : t.taken ≡ s.taken + 1
+
+asked_same : (at secs : ℕ) (f : List ℕ) (s : Slate) → Same s (take_frame at secs f s)
+asked_same at secs f s = (elim (nat_lt (length s.requests) most_requests) as (λ b. Same s (if b then record s { taken = s.taken + 1; requests = s.requests ++ asked (request_of_frame s.connection s.addr at secs f) ∷ [] } else record s { taken = s.taken + 1 })) [ true ↦ record { phase = refl; received = refl; taken = refl } | false ↦ record { phase = refl; received = refl; taken = refl } ])
+
+more_on : (at secs : ℕ) (f : List ℕ) (fs gs : List (List ℕ)) (s : Slate) (x : List ℕ) (b : Bool) → nat_lt (length f) header_size ≡ b → Ends at secs fs gs (take_frame at secs f s) x ⊎ Opens at secs fs gs (take_frame at secs f s) x → Ends at secs (f ∷ fs) gs s x ⊎ Opens at secs (f ∷ fs) gs s x
+more_on at secs f fs gs s x true h ih = inl (record { phase = rw h refl; all = rw h refl })
+more_on at secs f fs gs s x false h ih =
+    let a = asked_same at secs f s in
+    ⊎_elim
+    (λ (e : Ends at secs fs gs (take_frame at secs f s) x). inl (record { phase = rw h e.phase; all = rw (h, asked_received at secs f s x) e.all }))
+    (λ (o : Opens at secs fs gs (take_frame at secs f s) x). inr (record {
+      phase = rw h (o.phase ∙ a.phase);
+      none = rw h o.none;
+      received = rw h (o.received ∙ a.received);
+      taken = rw h (o.taken ∙ omega (arith, a.taken));
+      all = rw (h, asked_received at secs f s x) o.all;
+    }))
+    ih
+
+goes_on : (at secs : ℕ) (fs gs : List (List ℕ)) (s : Slate) (x : List ℕ) → Ends at secs fs gs s x ⊎ Opens at secs fs gs s x
+goes_on at secs [] gs s x = inr (record { phase = refl; none = refl; received = refl; taken = sym (add-zero s.taken); all = refl })
+goes_on at secs (f ∷ fs) gs s x = more_on at secs f fs gs s x (nat_lt (length f) header_size) refl (goes_on at secs fs gs (take_frame at secs f s) x)
+
+-- the new frames of both parts are those of the whole
+new_frames_join : (n : ℕ) (o a b : List ℕ) → drop n (frames (o ++ (a ++ b))) ≡ drop n (frames (o ++ a)) ++ drop (n + length (drop n (frames (o ++ a)))) (frames ((o ++ a) ++ b))
+new_frames_join n o a b =
+    let g = (goes (o ++ a) b).all in
+    let l = length-drop n (frames (o ++ a)) in
+    ⊎_elim
+    (λ (less : n < length (frames (o ++ a))).
+    let e : n + length (drop n (frames (o ++ a))) ≡ length (frames (o ++ a)) = omega (arith, l) in
+    rw (e, ← append_assoc, g) (drop-append-le n (frames (o ++ a)) (frames (rest (o ++ a) ++ b)) (omega arith) ∙ ap (λ fs. drop n (frames (o ++ a)) ++ fs) (sym (drop_at (frames (o ++ a)) (frames (rest (o ++ a) ++ b)) (length (frames (o ++ a))) refl))))
+    (λ (more : length (frames (o ++ a)) ≤ n).
+    let z : drop n (frames (o ++ a)) ≡ [] = drop_all n (frames (o ++ a)) more in
+    rw (z, add-zero n, ← append_assoc) refl)
+    (cases_lt n (length (frames (o ++ a))))
+
+module _ (answers : Req (Unit {0}) → ℕ → Answer) where
+  cut_open : (c at secs : ℕ) (a b : List ℕ) (s : Slate) → IsCut answers (piece_of c at secs (a ++ b)) (piece_of c at secs a) (piece_of c at secs b) (record s { phase = Open })
+  cut_open c at secs a b s =
+      let t = record s { phase = Open; received = s.received ++ a } in
+      let fs = drop s.taken (frames (s.received ++ a)) in
+      let gs = drop (s.taken + length fs) (frames ((s.received ++ a) ++ b)) in
+      let x = s.received ++ (a ++ b) in
+      let u = (take_frames at secs fs t).0 in
+      let whole = ap (λ (l : List (List ℕ)). take_frames at secs l (with_received x t)) (new_frames_join s.taken s.received a b) in
+      ⊎_elim
+      (λ (e : Ends at secs fs gs t x).
+      let second = ap (λ (p : Phase). in_phase {X = Told} p (u, []) (u, []) (piece at secs b u) (u, [])) e.phase in
+      record {
+        slate = ap (λ (r : Told). r.0) (whole ∙ e.all) ∙ sym (ap (λ (r : Told). r.0) second);
+        says = ap (λ (r : Told). r.1) (whole ∙ e.all) ∙ sym (append-nil (take_frames at secs fs t).1) ∙ sym (ap (λ (r : Told). (take_frames at secs fs t).1 ++ r.1) second);
+      })
+      (λ (o : Opens at secs fs gs t x).
+      let second = ap (λ (p : Phase). in_phase {X = Told} p (u, []) (u, []) (piece at secs b u) (u, [])) o.phase in
+      let rest : take_frames at secs gs (with_received x u) ≡ piece at secs b u =
+      ap (λ (y : List ℕ). take_frames at secs gs (with_received y u)) (sym (append_assoc s.received a b))
+      ∙ ap (λ (r : List ℕ). take_frames at secs (drop (s.taken + length fs) (frames (r ++ b))) (with_received (r ++ b) u)) (sym o.received)
+      ∙ ap (λ (n : ℕ). take_frames at secs (drop n (frames (u.received ++ b))) (with_received (u.received ++ b) u)) (sym o.taken) in
+      let all = whole ∙ o.all ∙ rest in
+      record {
+        slate = ap (λ (r : Told). r.0) all ∙ sym (ap (λ (r : Told). r.0) second);
+        says = ap (λ (r : Told). r.1) all ∙ sym (ap (λ (r : Told). r.1) second) ∙ sym (ap (λ (os : List Output). os ++ (in_phase {X = Told} u.phase (u, []) (u, []) (piece at secs b u) (u, [])).1) o.none);
+      })
+      (goes_on at secs fs gs t x)
+
+  pub cut_phase : (p : Phase) (c at secs : ℕ) (a b : List ℕ) (s : Slate) → IsCut answers (piece_of c at secs (a ++ b)) (piece_of c at secs a) (piece_of c at secs b) (record s { phase = p })
+  cut_phase Unused c at secs a b s = record { slate = refl; says = refl }
+  cut_phase Exchange c at secs a b s = record { slate = refl; says = refl }
+  cut_phase Open c at secs a b s = cut_open c at secs a b s
+  cut_phase Closed c at secs a b s = record { slate = refl; says = refl }

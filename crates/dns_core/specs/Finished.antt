@@ -1,0 +1,7 @@
+-- A request that is done, or none.
+use Rattle.std.specs.Prelude.{◌≡◌, true, Option, Some, None}
+use Rattle.dns_client.specs.Slate.{Asked}
+
+abbrev pub IsFinished : Option Asked → Type 0
+IsFinished None = Unit {0}
+IsFinished (Some r) = r.done ≡ true

@@ -1,0 +1,43 @@
+//! Names as text.
+
+ghost use Rattle.std.specs.Prelude.{Some};
+ghost use Rattle.dns_name.specs.NameText.{label_text, octet_text};
+
+use std::fmt;
+
+/// An octet of a label, as text (RFC 1035, section 5.1).
+#[derive(Clone, Copy)]
+struct OctetText(u8);
+
+impl fmt::Display for OctetText {
+    ghost output = { λ o. Some (octet_text o.0) };
+
+    fn fmt<W: fmt::Write>(&self, f: &mut fmt::Formatter<W>) -> fmt::Result {
+        let octet = self.0;
+        let shown = octet as char;
+        if octet == b'.' || octet == b'\\' || octet == b' ' {
+            write!(f, "\\{shown}")
+        } else if 32 < octet && octet < 127 {
+            write!(f, "{shown}")
+        } else {
+            let (hundreds, tens, ones) = (octet / 100, octet / 10 % 10, octet % 10);
+            write!(f, "\\{hundreds}{tens}{ones}")
+        }
+    }
+}
+
+/// A label, as text.
+#[derive(Drop)]
+pub(crate) struct LabelText<'a>(pub(crate) &'a [u8]);
+
+impl<'a> fmt::Display for LabelText<'a> {
+    ghost output = { λ l. Some (label_text l.0.now) };
+
+    fn fmt<W: fmt::Write>(&self, f: &mut fmt::Formatter<W>) -> fmt::Result {
+        for octet in self.0 {
+            let octet = OctetText(*octet);
+            write!(f, "{octet}")?;
+        }
+        Ok(())
+    }
+}

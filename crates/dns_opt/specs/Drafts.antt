@@ -1,0 +1,86 @@
+-- An OPT record that is built for a message.
+use Rattle.std.specs.Prelude.{◌≡◌, ◌≢◌, ℕ, ◌+◌, ◌-◌, ◌/◌, ◌%◌, ◌≤◌, ◌<◌, ⊤, Bool, true, false, List, [], ◌++◌, length, Result, Ok, Err, nat_le}
+use Rattle.dns_name.specs.declared.opt_error.BuildDataError.{BuildDataError}
+use Rattle.dns_name.specs.declared.opt_error.BuildDataError.TheVariants.{LongOptData, WrongLength, ShortBuf, OutOfMemory as NoMemory}
+use Rattle.dns_base.specs.Built.{Built, PassesLimit, with_additional, with_header}
+use Rattle.dns_base.specs.Options.{option_octets}
+use Rattle.dns_base.specs.Wire.{wire}
+use Rattle.dns_opt.specs.OptRecords.{OptHead, OptState, opt_record, opt_state, zero_head}
+use Rattle.dns_opt.specs.Pushes.{Fits, PushedRaw}
+
+-- the head and the options so far, the lower four bits of the response code, and how many octets the message may still take
+pub record Draft : Type 0 where
+  pub head : OptHead
+  pub low : ℕ
+  pub options : List ℕ
+  pub room : ℕ
+
+-- how many octets a message may still take
+abbrev pub room_of : Built → ℕ
+room_of b = b.limit - length (wire b.message)
+
+-- an OPT record without options
+abbrev pub opened : Built → Draft
+opened b = record { head = zero_head; low = b.message.header.rcode; options = []; room = room_of b }
+
+abbrev pub with_options : Draft → List ℕ → Draft
+with_options d o = record { head = d.head; low = d.low; options = o; room = d.room }
+
+-- an option is pushed: refused LongOptData as into any list, then ShortBuf exactly where the message would pass its limit
+abbrev pub PushedIn : ℕ → List ℕ → Draft → Draft → Result ⊤ BuildDataError → Type 0
+PushedIn code d old new (Ok _) = Fits old.options (length d) × (length old.options + 4 + length d + 11 ≤ old.room) × (new ≡ with_options old (old.options ++ option_octets code d))
+PushedIn code d old new (Err LongOptData) = (65535 < length old.options + 4 + length d) × (new ≡ old)
+PushedIn code d old new (Err ShortBuf) = Fits old.options (length d) × (old.room < length old.options + 4 + length d + 11) × (new ≡ old)
+PushedIn code d old new (Err NoMemory) = Fits old.options (length d) × (new ≡ old)
+PushedIn code d old new (Err (WrongLength s w)) = ⊥
+
+-- the message with one record more, the OPT, and the lower four bits in its header
+abbrev pub with_record : Draft → Built → Built
+with_record d b = with_additional b (opt_record (opt_state d.head d.options))
+
+abbrev pub with_opt : Draft → Built → Built
+with_opt d b = with_header (with_record d b) (record b.message.header { rcode = d.low })
+
+-- the record is appended; ShortBuf exactly where the message would pass its limit, and a refused call leaves the message
+abbrev pub Appended : Draft → Built → Built → Result ⊤ BuildDataError → Type 0
+Appended d old new (Ok _) = (new ≡ with_opt d old) × (length (wire (with_record d old).message) ≤ old.limit)
+Appended d old new (Err ShortBuf) = (new ≡ old) × PassesLimit (with_record d old)
+Appended d old new (Err NoMemory) = new ≡ old
+Appended d old new (Err LongOptData) = ⊥
+Appended d old new (Err (WrongLength s w)) = ⊥
+
+-- What comes of a message whose OPT record a closure built, where it gave an answer and left a draft.
+abbrev pub Ends : Result ⊤ BuildDataError → Draft → Built → Built → Result ⊤ BuildDataError → Type 0
+Ends (Err e) d old new result = (result ≡ Err e) × (new ≡ old)
+Ends (Ok _) d old new result = Appended d old new result
+
+-- calls x r y says that the closure, at x, may answer r and leave y there
+pub record IsBuiltOpt (calls : Draft → Result ⊤ BuildDataError → Draft → Type 0) (old new : Built) (result : Result ⊤ BuildDataError) : Type 0 where
+  pub answer : Result ⊤ BuildDataError
+  pub left : Draft
+  pub met : calls (opened old) answer left
+  pub ends : Ends answer left old new result
+
+abbrev pub BuiltFitting : Bool → (Draft → Result ⊤ BuildDataError → Draft → Type 0) → Built → Built → Result ⊤ BuildDataError → Type 0
+BuiltFitting false calls old new result = (result ≡ Err ShortBuf) × (new ≡ old)
+BuiltFitting true calls old new result = IsBuiltOpt calls old new result
+
+-- ShortBuf where not even an empty OPT record, of eleven octets, has room; else as the closure builds it
+abbrev pub BuiltOpt : (Draft → Result ⊤ BuildDataError → Draft → Type 0) → Built → Built → Result ⊤ BuildDataError → Type 0
+BuiltOpt calls old new result = BuiltFitting (nat_le 11 (room_of old)) calls old new result
+
+-- head and options are those of another record; ShortBuf exactly where the message would pass its limit
+abbrev pub Cloned : OptState → Draft → Draft → Result ⊤ BuildDataError → Type 0
+Cloned s old new (Ok _) = (length s.options + 11 ≤ old.room) × (new ≡ record { head = s.head; low = old.low; options = s.options; room = old.room })
+Cloned s old new (Err ShortBuf) = (old.room < length s.options + 11) × (new ≡ old)
+Cloned s old new (Err NoMemory) = (length s.options + 11 ≤ old.room) × (new ≡ old)
+Cloned s old new (Err LongOptData) = ⊥
+Cloned s old new (Err (WrongLength a b)) = ⊥
+
+-- the same of octets that a writer writes, n of them as was stated: WrongLength comes before ShortBuf
+abbrev pub PushedRawIn : (List ℕ → Type 0) → ℕ → ℕ → Draft → Draft → Result ⊤ BuildDataError → Type 0
+PushedRawIn writes code n old new (Ok _) = Fits old.options n × (length old.options + 4 + n + 11 ≤ old.room) × ((d : List ℕ) × writes d × (length d ≡ n) × (new ≡ with_options old (old.options ++ option_octets code d)))
+PushedRawIn writes code n old new (Err LongOptData) = (65535 < length old.options + 4 + n) × (new ≡ old)
+PushedRawIn writes code n old new (Err (WrongLength s w)) = Fits old.options n × ((d : List ℕ) × writes d × (s ≡ n) × (w ≡ length d) × (length d ≢ n)) × (new ≡ old)
+PushedRawIn writes code n old new (Err ShortBuf) = Fits old.options n × (old.room < length old.options + 4 + n + 11) × ((d : List ℕ) × writes d × (length d ≡ n)) × (new ≡ old)
+PushedRawIn writes code n old new (Err NoMemory) = Fits old.options n × (new ≡ old)

@@ -1,0 +1,107 @@
+//! OPT records under construction.
+
+ghost use Rattle.std.specs.Prelude.{◌≡◌, ◌/◌, ◌%◌};
+ghost use Rattle.dns_opt.specs.Drafts.{Draft, PushedIn, PushedRawIn};
+ghost use Rattle.dns_opt.specs.OptRecords.{with_do};
+ghost use Rattle.dns_opt.specs.Writes.{Writes};
+
+use crate::header::OptHeader;
+use crate::opt::{Opt, written_by};
+use dns_name::{BuildDataError, ComposeOptData, OptRcode, OptionCode, OutOfMemory, Rcode};
+use std::alloc::Global;
+use std::marker::Model;
+
+/// An OPT record that is built for a message.
+#[derive(Debug, Drop)]
+pub struct OptBuilder {
+    pub(crate) head: OptHeader,
+    pub(crate) low: Rcode,
+    pub(crate) options: Opt,
+    pub(crate) room: usize,
+}
+
+impl Model for OptBuilder {
+    ghost use Rattle.dns_opt.specs.Drafts.{Draft};
+
+    ghost Value = { Draft };
+
+    ghost view = { λ b. record { head = b.head; low = b.low; options = b.options; room = b.room } };
+}
+
+impl OptBuilder {
+    /// Sets the greatest payload over UDP, in octets.
+    pub fn set_udp_payload_size(&mut self, size: u16)
+        ensures { self.new ≡ record self.old { head = record self.old.head { size = size } } }
+    {
+        self.head.set_udp_payload_size(size);
+    }
+
+    /// Sets the response code: its upper eight bits here, its lower four in the message's header.
+    pub fn set_rcode(&mut self, rcode: OptRcode)
+        ensures { self.new ≡ record self.old { head = record self.old.head { ext = rcode / 16 }; low = rcode % 16 } }
+    {
+        self.head.set_rcode(rcode);
+        self.low = rcode.rcode();
+    }
+
+    /// Sets the version of EDNS.
+    pub fn set_version(&mut self, version: u8)
+        ensures { self.new ≡ record self.old { head = record self.old.head { version = version } } }
+    {
+        self.head.set_version(version);
+    }
+
+    /// Says whether DNSSEC records are wanted.
+    pub fn set_dnssec_ok(&mut self, value: bool)
+        ensures { self.new ≡ record self.old { head = record self.old.head { flags = with_do self.old.head.flags value } } }
+    {
+        self.head.set_dnssec_ok(value);
+    }
+
+    /// Appends an option. A refused push leaves the record.
+    pub fn push<D: ComposeOptData>(
+        &mut self,
+        alloc: Global,
+        value: &D,
+    ) -> Result<(), BuildDataError>
+        ensures { PushedIn (D.code_of value.now) (D.octets value.now) self.old self.new result }
+    {
+        let total = self.options.len() + 4 + value.compose_len() as usize;
+        if total > 65535 {
+            return Err(BuildDataError::LongOptData);
+        }
+        if self.room < total + 11 {
+            return Err(BuildDataError::ShortBuf);
+        }
+        self.options.push(alloc, value)
+    }
+
+    /// Appends an option whose data a closure writes to an empty vector, as many octets as are stated.
+    /// A refused push leaves the record.
+    pub fn push_raw_option<F: FnOnce(Global, &mut Vec<u8>) -> Result<(), OutOfMemory>>(
+        &mut self,
+        alloc: Global,
+        code: OptionCode,
+        len: u16,
+        write: F,
+    ) -> Result<(), BuildDataError>
+        requires { F.IsAlwaysCallable write }
+        ensures { PushedRawIn (Writes F.FnOnce write) code len self.old self.new result }
+    {
+        let total = self.options.len() + 4 + len as usize;
+        if total > 65535 {
+            return Err(BuildDataError::LongOptData);
+        }
+        if self.room >= total + 11 {
+            return self.options.push_raw_option(alloc, code, len, write);
+        }
+        let octets = written_by(alloc, write)?;
+        if octets.len() != len as usize {
+            return Err(BuildDataError::WrongLength {
+                stated: len,
+                written: octets.len(),
+            });
+        }
+        Err(BuildDataError::ShortBuf)
+    }
+}

@@ -1,0 +1,189 @@
+//! The head of an OPT record, and of an option.
+
+ghost use Rattle.std.specs.Prelude.{◌≡◌, ◌+◌, ◌*◌, ◌/◌, ◌++◌, IsTrue, ◌↔◌, OnOk};
+ghost use Rattle.dns_name.specs.OptData.{ParsesData};
+ghost use Rattle.dns_name.specs.Place.{rest};
+ghost use Rattle.dns_opt.specs.OptRecords.{head_octets, head_of, is_do, option_head, with_do, zero_head};
+
+use dns_base::Header;
+use dns_name::{OptRcode, OptionCode, OutOfMemory, ParseError, Parser};
+use std::alloc::Global;
+use std::marker::Model;
+
+/// The head of an OPT record: payload size, upper response code, version and flags.
+#[derive(Clone, Copy, Debug, PartialEq, Eq)]
+pub struct OptHeader {
+    pub(crate) size: u16,
+    pub(crate) ext: u8,
+    pub(crate) version: u8,
+    pub(crate) flags: u16,
+}
+
+impl Model for OptHeader {
+    ghost use Rattle.std.specs.Prelude.{◌<◌};
+    ghost use Rattle.dns_opt.specs.OptRecords.{OptHead};
+
+    ghost Value = { OptHead };
+
+    ghost view = { λ h. record { size = h.size; ext = h.ext; version = h.version; flags = h.flags } };
+
+    ghost inverse = { λ v. record { size = v.size; ext = v.ext; version = v.version; flags = v.flags } };
+
+    ghost invariant = { λ h. (h.size < 65536) × (h.ext < 256) × (h.version < 256) × (h.flags < 65536) };
+}
+
+impl Default for OptHeader {
+    ghost is_default = { λ h. h ≡ zero_head };
+
+    fn default() -> OptHeader {
+        OptHeader {
+            size: 0,
+            ext: 0,
+            version: 0,
+            flags: 0,
+        }
+    }
+}
+
+impl OptHeader {
+    /// The head of an OPT record's octets, from its name on, which takes one octet.
+    pub fn from_record_slice(octets: &[u8]) -> Result<OptHeader, ParseError>
+        ensures { result ≡ head_of octets.now }
+    {
+        if octets.len() < 9 {
+            return Err(ParseError::ShortInput);
+        }
+        Ok(OptHeader {
+            size: 256 * octets[3] as u16 + octets[4] as u16,
+            ext: octets[5],
+            version: octets[6],
+            flags: 256 * octets[7] as u16 + octets[8] as u16,
+        })
+    }
+
+    /// The greatest payload over UDP, in octets.
+    pub fn udp_payload_size(&self) -> u16
+        ensures { result ≡ self.now.size }
+    {
+        self.size
+    }
+
+    /// Sets the greatest payload over UDP.
+    pub fn set_udp_payload_size(&mut self, size: u16)
+        ensures { self.new ≡ record self.old { size = size } }
+    {
+        self.size = size;
+    }
+
+    /// The response code, with the lower four bits of the message's header.
+    pub fn rcode(&self, header: Header) -> OptRcode
+        ensures { result ≡ 16 * self.now.ext + header.rcode }
+    {
+        OptRcode::from_parts(header.rcode, self.ext)
+    }
+
+    /// Sets the upper eight bits of the response code.
+    pub fn set_rcode(&mut self, rcode: OptRcode)
+        ensures { self.new ≡ record self.old { ext = rcode / 16 } }
+    {
+        self.ext = rcode.ext();
+    }
+
+    /// The version of EDNS.
+    pub fn version(&self) -> u8
+        ensures { result ≡ self.now.version }
+    {
+        self.version
+    }
+
+    /// Sets the version of EDNS.
+    pub fn set_version(&mut self, version: u8)
+        ensures { self.new ≡ record self.old { version = version } }
+    {
+        self.version = version;
+    }
+
+    /// Whether DNSSEC records are wanted (RFC 3225, section 3).
+    pub fn dnssec_ok(&self) -> bool
+        ensures { result ≡ is_do self.now.flags }
+    {
+        self.flags >= 32768
+    }
+
+    /// Says whether DNSSEC records are wanted.
+    pub fn set_dnssec_ok(&mut self, value: bool)
+        ensures { self.new ≡ record self.old { flags = with_do self.old.flags value } }
+    {
+        let others = self.flags % 32768;
+        self.flags = if value { others + 32768 } else { others };
+    }
+
+    /// Appends the nine octets of an OPT record before the length of its options.
+    pub fn compose(&self, alloc: Global, target: &mut Vec<u8>) -> Result<(), OutOfMemory>
+        ensures { OnOk result (target.new.items ≡ target.old.items ++ head_octets self.now) }
+    {
+        let octets = [
+            0,
+            0,
+            41,
+            (self.size / 256) as u8,
+            (self.size % 256) as u8,
+            self.ext,
+            self.version,
+            (self.flags / 256) as u8,
+            (self.flags % 256) as u8,
+        ];
+        target.extend_from_slice(&octets)?;
+        Ok(())
+    }
+}
+
+/// The first four octets of an option.
+#[derive(Clone, Copy, Debug, PartialEq, Eq)]
+pub struct OptionHeader {
+    code: OptionCode,
+    size: u16,
+}
+
+impl Model for OptionHeader {
+    ghost use Rattle.dns_opt.specs.OptRecords.{OptionHead};
+
+    ghost Value = { OptionHead };
+
+    ghost view = { λ h. record { code = h.code; size = h.size } };
+
+    ghost inverse = { λ v. record { code = v.code; size = v.size } };
+}
+
+impl OptionHeader {
+    pub fn new(code: OptionCode, len: u16) -> OptionHeader
+        ensures { result ≡ record { code = code; size = len } }
+    {
+        OptionHeader { code, size: len }
+    }
+
+    /// The code of the option.
+    pub fn code(&self) -> OptionCode
+        ensures { result ≡ self.now.code }
+    {
+        self.code
+    }
+
+    /// How many octets of data follow.
+    pub fn len(&self) -> u16
+        ensures { result ≡ self.now.size }
+    {
+        self.size
+    }
+
+    /// Reads four octets.
+    pub fn parse(parser: &mut Parser<'_>) -> Result<OptionHeader, ParseError>
+        ensures { ParsesData (option_head (rest parser.old)) parser.old parser.new result }
+    {
+        let octets = parser.parse_octets(4)?;
+        Ok(OptionHeader {
+            code: OptionCode::from_int(256 * octets[0] as u16 + octets[1] as u16),
+            size: 256 * octets[2] as u16 + octets[3] as u16,
+        })
+    }
+}

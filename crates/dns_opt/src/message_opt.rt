@@ -1,0 +1,58 @@
+//! The OPT record of a message.
+
+ghost use Rattle.std.specs.Prelude.{◌≡◌, List, ℕ};
+ghost use Rattle.dns_opt.specs.OptRecords.{first_opt, opt_of};
+
+use crate::list::OptRef;
+use crate::record::{OptRecordRef, head_by};
+use dns_base::{Message, MessageRef, RecordIter};
+
+/// A message that may have an OPT record (RFC 6891, section 6.1.1).
+pub trait MessageOpt {
+    /// The message's octets.
+    ghost octets: { Self → List ℕ };
+
+    /// The first OPT record; none where it, or a record before it, is unreadable.
+    fn opt(&self) -> Option<OptRecordRef<'_>>
+        ensures { result ≡ opt_of (octets self.now) };
+}
+
+/// The first OPT record of a section.
+fn first_opt(records: RecordIter<'_>) -> Option<OptRecordRef<'_>>
+    ensures { result ≡ first_opt records.entry }
+{
+    let mut left = records;
+    'walk: while let Some(item) = left.next() {
+        let Ok(record) = item else {
+            return None;
+        };
+        if record.rtype().to_int() == 41 {
+            let options = OptRef::from_slice(record.rdata()).ok()?;
+            let head = head_by(record.class(), record.ttl());
+            return Some(OptRecordRef::of(head, options));
+        }
+    }
+    None
+}
+
+impl<'m> MessageOpt for MessageRef<'m> {
+    ghost octets = { λ m. m };
+
+    fn opt(&self) -> Option<OptRecordRef<'_>> {
+        match self.additional() {
+            Ok(records) => first_opt(records),
+            Err(_) => None,
+        }
+    }
+}
+
+impl MessageOpt for Message {
+    ghost octets = { λ m. m };
+
+    fn opt(&self) -> Option<OptRecordRef<'_>> {
+        match self.additional() {
+            Ok(records) => first_opt(records),
+            Err(_) => None,
+        }
+    }
+}

@@ -1,0 +1,274 @@
+//! OPT records.
+
+ghost use Rattle.std.specs.Prelude.{◌≡◌, ◌+◌, ◌*◌, ◌/◌, ◌%◌, [], IfOk};
+ghost use Rattle.dns_base.specs.Records.{IsLawful, record_of};
+ghost use Rattle.dns_opt.specs.OptRecords.{from_record, head_by, is_do, opt_record, opt_state, with_do, zero_head};
+ghost use Rattle.dns_opt.specs.Pushes.{Pushed, PushedRaw};
+ghost use Rattle.dns_opt.specs.Writes.{Writes};
+
+use crate::header::OptHeader;
+use crate::list::OptRef;
+use crate::opt::Opt;
+use dns_base::{Header, Record, RecordData};
+use dns_name::{
+    BuildDataError, Class, ComposeOptData, Name, OptRcode, OptionCode, OutOfMemory, Ttl,
+};
+use std::alloc::Global;
+use std::marker::Model;
+
+/// An OPT record, owned.
+#[derive(Debug, Drop)]
+pub struct OptRecord {
+    head: OptHeader,
+    options: Opt,
+}
+
+impl Model for OptRecord {
+    ghost use Rattle.dns_opt.specs.OptRecords.{OptState, opt_state};
+
+    ghost Value = { OptState };
+
+    ghost view = { λ r. opt_state r.head r.options };
+}
+
+/// An OPT record, borrowed.
+#[derive(Clone, Debug, Drop)]
+pub struct OptRecordRef<'a> {
+    head: OptHeader,
+    options: OptRef<'a>,
+}
+
+impl<'a> Model for OptRecordRef<'a> {
+    ghost use Rattle.dns_opt.specs.OptRecords.{OptState, opt_state};
+
+    ghost Value = { OptState };
+
+    ghost view = { λ r. opt_state r.head r.options };
+}
+
+/// The head that a record's class and TTL are.
+pub(crate) fn head_by(class: Class, ttl: Ttl) -> OptHeader
+    ensures { result ≡ head_by class ttl }
+{
+    let secs = ttl.as_secs();
+    OptHeader {
+        size: class.to_int(),
+        ext: (secs / 16777216) as u8,
+        version: (secs / 65536 % 256) as u8,
+        flags: (secs % 65536) as u16,
+    }
+}
+
+impl OptRecord {
+    /// A record whose numbers are all 0, without options.
+    pub fn default(alloc: Global) -> OptRecord
+        ensures { result ≡ opt_state zero_head [] }
+    {
+        OptRecord {
+            head: OptHeader::default(),
+            options: Opt::empty(alloc),
+        }
+    }
+
+    /// The OPT record that a record is; none where its type is another.
+    pub fn from_record(source: Record) -> Option<OptRecord>
+        requires { IsLawful source.rdata }
+        ensures { result ≡ from_record source }
+    {
+        let Record {
+            class,
+            ttl,
+            rdata,
+            ..
+        } = source;
+        let head = head_by(class, ttl);
+        match rdata {
+            RecordData::Opt(octets) => {
+                let options = Opt::of(octets.into_vec());
+                Some(OptRecord { head, options })
+            }
+            _ => None,
+        }
+    }
+
+    /// The greatest payload over UDP, in octets.
+    pub fn udp_payload_size(&self) -> u16
+        ensures { result ≡ self.now.head.size }
+    {
+        self.head.udp_payload_size()
+    }
+
+    /// Sets the greatest payload over UDP.
+    pub fn set_udp_payload_size(&mut self, size: u16)
+        ensures { self.new ≡ opt_state (record self.old.head { size = size }) self.old.options }
+    {
+        self.head.set_udp_payload_size(size);
+    }
+
+    /// The response code, with the lower four bits of the message's header.
+    pub fn rcode(&self, header: Header) -> OptRcode
+        ensures { result ≡ 16 * self.now.head.ext + header.rcode }
+    {
+        self.head.rcode(header)
+    }
+
+    /// The version of EDNS.
+    pub fn version(&self) -> u8
+        ensures { result ≡ self.now.head.version }
+    {
+        self.head.version()
+    }
+
+    /// Whether DNSSEC records are wanted.
+    pub fn dnssec_ok(&self) -> bool
+        ensures { result ≡ is_do self.now.head.flags }
+    {
+        self.head.dnssec_ok()
+    }
+
+    /// Says whether DNSSEC records are wanted.
+    pub fn set_dnssec_ok(&mut self, value: bool)
+        ensures { self.new ≡ opt_state (record self.old.head { flags = with_do self.old.head.flags value }) self.old.options }
+    {
+        self.head.set_dnssec_ok(value);
+    }
+
+    /// The options.
+    pub fn opt(&self) -> &Opt
+        ensures { result.now ≡ self.now.options }
+    {
+        &self.options
+    }
+
+    /// The same record, borrowed.
+    pub fn for_slice(&self) -> OptRecordRef<'_>
+        ensures { result ≡ self.now }
+    {
+        OptRecordRef {
+            head: self.head,
+            options: self.options.for_slice_ref(),
+        }
+    }
+
+    /// Appends an option. A refused push leaves the record.
+    pub fn push<D: ComposeOptData>(
+        &mut self,
+        alloc: Global,
+        value: &D,
+    ) -> Result<(), BuildDataError>
+        ensures options { Pushed (D.code_of value.now) (D.octets value.now) self.old.options self.new.options result }
+        ensures head { self.new.head ≡ self.old.head }
+    {
+        self.options.push(alloc, value)
+    }
+
+    /// Appends an option whose data a closure writes, as many octets as are stated. A refused push leaves the record.
+    pub fn push_raw_option<F: FnOnce(Global, &mut Vec<u8>) -> Result<(), OutOfMemory>>(
+        &mut self,
+        alloc: Global,
+        code: OptionCode,
+        len: u16,
+        write: F,
+    ) -> Result<(), BuildDataError>
+        requires { F.IsAlwaysCallable write }
+        ensures options { PushedRaw (Writes F.FnOnce write) code len self.old.options self.new.options result }
+        ensures head { self.new.head ≡ self.old.head }
+    {
+        self.options.push_raw_option(alloc, code, len, write)
+    }
+
+    /// The record as a message holds it.
+    pub fn as_record(&self, alloc: Global) -> Result<Record, OutOfMemory>
+        ensures value { IfOk result (λ r. record_of r ≡ opt_record self.now) }
+        ensures lawful { IfOk result (λ r. IsLawful r.rdata) }
+    {
+        record_by(alloc, self.head, self.options.as_slice())
+    }
+}
+
+/// A record of a head and options.
+pub(crate) fn record_by(
+    alloc: Global,
+    head: OptHeader,
+    options: &[u8],
+) -> Result<Record, OutOfMemory>
+    requires short { length options.now ≤ 65535 }
+    requires list { IsOptionList options.now }
+    ensures value { IfOk result (λ r. record_of r ≡ opt_record (opt_state head options.now)) }
+    ensures lawful { IfOk result (λ r. IsLawful r.rdata) }
+{
+    let owner = Name::root(alloc)?;
+    let octets = Octets::from_slice(alloc, options)?;
+    let secs = 16777216 * head.ext as u32 + 65536 * head.version as u32 + head.flags as u32;
+    Ok(Record {
+        owner,
+        class: Class::from_int(head.size),
+        ttl: Ttl::from_secs(secs),
+        rdata: RecordData::Opt(octets),
+    })
+}
+
+ghost use Rattle.std.specs.Prelude.{◌≤◌, length};
+ghost use Rattle.dns_base.specs.Options.{IsOptionList};
+
+use dns_name::Octets;
+
+impl<'a> OptRecordRef<'a> {
+    pub(crate) fn head(&self) -> OptHeader
+        ensures { result ≡ self.now.head }
+    {
+        self.head
+    }
+
+    pub(crate) fn of(head: OptHeader, options: OptRef<'a>) -> OptRecordRef<'a>
+        ensures { result ≡ opt_state head options.entry }
+    {
+        OptRecordRef { head, options }
+    }
+
+    /// The greatest payload over UDP, in octets.
+    pub fn udp_payload_size(&self) -> u16
+        ensures { result ≡ self.now.head.size }
+    {
+        self.head.udp_payload_size()
+    }
+
+    /// The response code, with the lower four bits of the message's header.
+    pub fn rcode(&self, header: Header) -> OptRcode
+        ensures { result ≡ 16 * self.now.head.ext + header.rcode }
+    {
+        self.head.rcode(header)
+    }
+
+    /// The version of EDNS.
+    pub fn version(&self) -> u8
+        ensures { result ≡ self.now.head.version }
+    {
+        self.head.version()
+    }
+
+    /// Whether DNSSEC records are wanted.
+    pub fn dnssec_ok(&self) -> bool
+        ensures { result ≡ is_do self.now.head.flags }
+    {
+        self.head.dnssec_ok()
+    }
+
+    /// The options.
+    pub fn opt(&self) -> &OptRef<'a>
+        ensures { result.now ≡ self.now.options }
+    {
+        &self.options
+    }
+
+    /// The same record, owned.
+    pub fn to_owned(&self, alloc: Global) -> Result<OptRecord, OutOfMemory>
+        ensures { IfOk result (λ r. r ≡ self.now) }
+    {
+        let options = self.options.to_owned(alloc)?;
+        Ok(OptRecord {
+            head: self.head,
+            options,
+        })
+    }
+}

@@ -1,0 +1,104 @@
+//! Option lists and OPT records, built and read.
+
+use crate::{
+    AllOptData, BuildDataError, BuildOpt, MessageOpt, NsidRef, Opt, OptBuilder, OptHeader,
+    OptRecord, OptRef,
+};
+use dns_base::MessageBuilder;
+use dns_name::{OptRcode, OptionCode, OutOfMemory};
+use std::alloc::Global;
+use std::test::Fail;
+
+/// How many options of any kind a list has that are read.
+fn readable(list: &OptRef<'_>) -> usize {
+    let mut many = 0usize;
+    for item in list.iter::<AllOptData>() {
+        if item.is_ok() {
+            many = many.saturating_add(1);
+        }
+    }
+    many
+}
+
+/// Writes two octets.
+fn write_two(octets: &mut Vec<u8>) -> Result<(), OutOfMemory> {
+    octets.extend_from_slice(&[7, 9])?;
+    Ok(())
+}
+
+#[test]
+fn lists(rt: HostRuntime) -> Result<(), Fail> {
+    let alloc = rt.alloc();
+    let given = Opt::from_octets(Vec::from_slice(alloc, b"\x66\x6f\x00\x03foo")?)?;
+    assert_eq!(rt; given.to_string(alloc)?.as_str(), "OPT ...");
+    assert_eq!(rt; readable(&given.for_slice_ref()), 1);
+    let mut list = Opt::empty(alloc);
+    list.push(alloc, &NsidRef::from_slice(b"example")?)?;
+    assert_eq!(rt; list.as_slice(), b"\x00\x03\x00\x07example".as_slice());
+    let short = list.push_raw_option(
+        alloc,
+        OptionCode::from_int(65001),
+        3,
+        |_alloc: Global, octets: &mut Vec<u8>| write_two(octets),
+    );
+    let wrong = BuildDataError::WrongLength {
+        stated: 3,
+        written: 2,
+    };
+    assert!(rt; short == Err(wrong));
+    assert_eq!(rt; list.len(), 11);
+    let owned = list.for_slice_ref().to_owned(alloc)?;
+    let Some(found) = owned.nsid() else {
+        return Err(Fail::new("no identifier"));
+    };
+    assert_eq!(rt; found.as_slice(), b"example".as_slice());
+    Ok(())
+}
+
+#[test]
+fn heads(rt: HostRuntime) -> Result<(), Fail> {
+    let alloc = rt.alloc();
+    let mut head = OptHeader::default();
+    head.set_udp_payload_size(0x1234);
+    head.set_rcode(OptRcode::BADVERS);
+    head.set_version(0xbd);
+    head.set_dnssec_ok(true);
+    let mut octets = Vec::new(alloc);
+    head.compose(alloc, &mut octets)?;
+    assert_eq!(rt;
+        octets.as_slice(),
+        b"\x00\x00\x29\x12\x34\x01\xbd\x80\x00".as_slice()
+    );
+    let record = OptRecord::default(alloc);
+    let Some(same) = OptRecord::from_record(record.as_record(alloc)?) else {
+        return Err(Fail::new("no record"));
+    };
+    assert!(rt; same.opt().is_empty());
+    assert!(rt; OptRef::from_slice(b"\x00").is_err());
+    Ok(())
+}
+
+/// Padding twice under an extended response code.
+fn pad(opt: &mut OptBuilder, alloc: Global) -> Result<(), BuildDataError> {
+    opt.set_rcode(OptRcode::BADCOOKIE);
+    opt.set_udp_payload_size(123);
+    opt.padding(alloc, 123)?;
+    opt.padding(alloc, 123)
+}
+
+#[test]
+fn records(rt: HostRuntime) -> Result<(), Fail> {
+    let alloc = rt.alloc();
+    let mut message = MessageBuilder::new(alloc)?.additional();
+    message.opt(alloc, |opt| pad(opt, alloc))?;
+    assert_eq!(rt; message.header().rcode.to_int(), 7);
+    let read = message.as_message();
+    let Some(found) = read.opt() else {
+        return Err(Fail::new("no record"));
+    };
+    assert_eq!(rt; found.rcode(read.header()).to_int(), 23);
+    assert_eq!(rt; found.udp_payload_size(), 123);
+    assert_eq!(rt; found.opt().len(), 254);
+    assert_eq!(rt; readable(found.opt()), 2);
+    Ok(())
+}
