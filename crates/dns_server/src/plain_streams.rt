@@ -105,10 +105,7 @@ fn gather(
 }
 
 /// The streams of all clients that have one.
-fn streams_of(
-    alloc: Global,
-    events: &[Event],
-) -> Result<BTreeMap<u64, Vec<u8>>, OutOfMemory>
+fn streams_of(alloc: Global, events: &[Event]) -> Result<BTreeMap<u64, Vec<u8>>, OutOfMemory>
     ensures { IfOk result (λ m. (c : ℕ) → octets_in (λ v. v.items) (get nat_cmp m c) ≡ stream_of c events.now) }
 {
     let mut streams = BTreeMap::new(alloc);

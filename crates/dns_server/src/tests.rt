@@ -119,7 +119,7 @@ fn refused_lines(rt: HostRuntime) -> Result<(), Fail> {
             "3",
         ),
         (
-            "rule * rcode:3\npiece 1 1 1 000b1234810000010000000000\npiece 1 1 3 -\npiece 1 1 2 000c12348100000100000000\npiece 1 1 3 000c1234\npiece 1 1 3 8100000100000000\n",
+            "rule * rcode:3\npiece 1 1 1 000b1234810000010000000000\npiece 1 1 3 -\npiece 1 1 2 000c12348100000100000000\npiece 1 1 3 000c1234\npiece 1 1 3 81000001000000000000\n",
             "3",
         ),
         (

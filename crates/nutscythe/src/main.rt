@@ -12,12 +12,22 @@ Usage: nutscythe replay < SCRIPT
 
 replay reads a script, serves its events by its rules, and writes one line for each output.
 
-A script is empty, or its first line is
-  rule * rcode:N                                  N below 16
-and each later line is one of
+The lines of a script, in which words are parted by spaces; an empty line and one that begins with # say nothing:
+  stream IDLE WRITE QUEUE LIMIT yes|no            the stream server: timeouts in ms, frames that may wait, connections,
+                                                  and whether more are accepted to be turned away; once
+  rule * ANSWER ..                                the answers to a request's polls, each pend or rcode:N, N below 16
   datagram AT SECS CLIENT ADDR PORT HEX           a query of one question came from an address
+  offer AT SECS CLIENT ADDR PORT                  a connection is offered
+  piece AT SECS CLIENT HEX                        octets of a connection's stream came, whose frames are such queries
   turn AT SECS CLIENT REQUEST                     a request is polled once
-with numbers in decimal, ADDR as a dotted quad and HEX as the message's octets.
+  write AT SECS CLIENT TOOK                       a frame that waits is written, in TOOK ms
+  end AT SECS CLIENT                              the connection's stream ended
+  release AT SECS CLIENT                          the connection gives its slot back
+with stream and rule before the others, a rule before datagram and piece, numbers in decimal, ADDR as a dotted quad
+or 32 hexadecimal digits, and HEX as an even number of hexadecimal digits, or - for none.
+
+It writes datagram CLIENT HEX, frame CLIENT HEX (with the length in front), closed CLIENT ended|short|writetimeout
+and turned CLIENT yes|no, or refused LINE REASON.
 
 Exit status: 0 done, 2 faulty command line, 3 no script (a line says where and why), 4 a read failed,
 5 a write failed, 6 out of memory, 7 a script of more than 67108864 octets.
