@@ -1,5 +1,5 @@
 use dns_core::Framer;
-use dns_outside::{MemorySink, Reading};
+use dns_outside::{MemorySink, MemorySource, Reading};
 use dns_server::{Status, run};
 use std::alloc::Global;
 use std::io;
@@ -47,5 +47,37 @@ fn a_script_that_is_too_long(rt: HostRuntime) -> Result<(), Fail> {
     let status = run(alloc, &words, &mut source, &mut sink);
     assert_eq!(rt; status, Status::TooLong);
     assert_eq!(rt; sink.written().len(), 0);
+    Ok(())
+}
+
+/// Two connections with a queue of one frame each, and a reply for each of them.
+const TWO_QUEUES: &str = "stream 30000 30000 1 10 yes
+rule * rcode:0
+offer 0 0 1 192.0.2.1 53
+offer 0 0 2 192.0.2.2 53
+piece 1 0 1 00111234010000010000000000000000010001
+piece 1 0 2 00115678000000010000000000000000010001
+turn 2 0 1 0
+turn 2 0 2 0
+write 3 0 2 0
+write 3 0 2 0
+write 3 0 1 0
+";
+
+const TWO_FRAMES: &str = "frame 2 00115678800000010000000000000000010001
+frame 1 00111234810000010000000000000000010001
+";
+
+#[test]
+fn a_queue_for_each_connection(rt: HostRuntime) -> Result<(), Fail> {
+    let alloc = rt.alloc();
+    let mut words: Vec<String> = Vec::new(alloc);
+    words.push(String::from_str(alloc, "replay")?)?;
+    let octets = Vec::from_slice(alloc, TWO_QUEUES.as_bytes())?;
+    let mut source = MemorySource::new(octets, Vec::new(alloc), 4096);
+    let mut sink = MemorySink::new(Vec::new(alloc), Vec::new(alloc), 4096);
+    let status = run(alloc, &words, &mut source, &mut sink);
+    assert_eq!(rt; status, Status::Done);
+    assert!(rt; sink.written() == TWO_FRAMES.as_bytes());
     Ok(())
 }
