@@ -4,3 +4,4 @@ pub mod Spelt
 pub mod Grammars
 pub mod Whole
 pub mod Readings
+pub mod Orders

@@ -1,5 +1,5 @@
 -- What is composed is read again.
-use Rattle.std.proofs.Common.{◌≡◌, ◌≤◌, ◌<◌, ℕ, List, length, true, false, arith, refl}
+use Rattle.std.proofs.Common.{◌≡◌, ℕ, List, length, true, false, arith, refl}
 use Rattle.std.proofs.lemmas.Bool.Decides.{nat_tests}
 use Rattle.std.specs.Prelude.{nat_le, nat_lt, nat_eq, Some, Ok}
 use Rattle.dns_name.specs.OptData.{kind, whole, for_code, list_data}

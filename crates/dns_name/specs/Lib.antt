@@ -1,6 +1,7 @@
 pub mod Place
 pub mod Serials
 pub mod Labels
+pub mod Canonical
 pub mod NameText
 pub mod Names
 pub mod Grammar

@@ -1,11 +1,13 @@
 //! The labels of a name.
 
-ghost use Rattle.std.specs.Prelude.{◌≡◌, ◌≤◌, ◌+◌, ◌↔◌, length, IsTrue};
+ghost use Rattle.std.specs.Prelude.{◌≡◌, ◌≤◌, ◌+◌, ◌↔◌, length, drop, IsTrue};
 ghost use Rattle.std.specs.Iterator.{YieldsFirstBy, item_count};
+ghost use Rattle.dns_name.specs.Canonical.{label_cmp, name_cmp};
 ghost use Rattle.dns_name.specs.Labels.{IsName, EndsWith, folded};
 ghost use Rattle.dns_name.specs.Names.{CanGoOn, labels_of, name_by};
 
 use crate::piece::{Piece, Reach, piece_at};
+use std::cmp::Ordering;
 use std::marker::Model;
 
 /// The labels that are left of a name, from the first to the last, without the root's.
@@ -94,12 +96,7 @@ pub(crate) fn same(mut labels: Labels<'_>, mut others: Labels<'_>) -> bool
 }
 
 /// Whether the labels, of which there are this many with the root's, end with the others.
-pub(crate) fn ends(
-    mut labels: Labels<'_>,
-    count: usize,
-    others: Labels<'_>,
-    other_count: usize,
-) -> bool
+pub(crate) fn ends(labels: Labels<'_>, count: usize, others: Labels<'_>, other_count: usize) -> bool
     requires counted { count ≡ length labels + 1 }
     requires others_counted { other_count ≡ length others + 1 }
     ensures { IsTrue result ↔ EndsWith labels.entry others.entry }
@@ -107,8 +104,56 @@ pub(crate) fn ends(
     if count < other_count {
         return false;
     }
-    'skip: for _i in 0..count - other_count {
+    same(behind(labels, count - other_count), others)
+}
+
+/// The labels behind so many.
+fn behind(mut labels: Labels<'_>, skipped: usize) -> Labels<'_>
+    ensures { result ≡ drop skipped labels.entry }
+{
+    'skip: for _i in 0..skipped {
         labels.next();
     }
-    same(labels, others)
+    labels
+}
+
+/// How the labels, of which there are this many with the root's, compare with the others in the canonical order
+/// (RFC 4034, section 6.1).
+#[tactic(auto, using(crate::proofs::Orders::by_last_and_count))]
+pub(crate) fn canonical(
+    labels: Labels<'_>,
+    count: usize,
+    others: Labels<'_>,
+    other_count: usize,
+) -> Ordering
+    requires counted { count ≡ length labels + 1 }
+    requires others_counted { other_count ≡ length others + 1 }
+    ensures { result ≡ name_cmp labels.entry others.entry }
+{
+    let left = behind(labels, count.saturating_sub(other_count));
+    let others_left = behind(others, other_count.saturating_sub(count));
+    by_last(left, others_left).then(count.cmp(&other_count))
+}
+
+/// How as many labels compare in the canonical order: a label decides where those behind it are the same.
+fn by_last(mut labels: Labels<'_>, mut others: Labels<'_>) -> Ordering
+    requires { length labels ≡ length others }
+    ensures { result ≡ name_cmp labels.entry others.entry }
+{
+    let mut found = Ordering::Equal;
+    'labels: while let Some(label) = labels.next() {
+        let Some(other) = others.next() else {
+            return found;
+        };
+        found = label_order(label, other).then(found);
+    }
+    found
+}
+
+/// How labels compare as octets with ASCII letters in lower case.
+fn label_order(label: &[u8], other: &[u8]) -> Ordering
+    ensures { result ≡ label_cmp label.now other.now }
+{
+    let folded = label.iter().map(u8::to_ascii_lowercase);
+    folded.cmp(other.iter().map(u8::to_ascii_lowercase))
 }

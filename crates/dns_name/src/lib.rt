@@ -24,7 +24,7 @@ pub use address::{Addrs, IpAddr, SocketAddr};
 pub use error::{FormReason, OutOfMemory, ParseError};
 pub use iana::{Class, ExtendedErrorCode, Opcode, OptionCode, Rcode, Rtype, SecurityAlgorithm};
 pub use labels::Labels;
-pub use laws::names_are_the_grammar;
+pub use laws::{names_are_ordered, names_are_the_grammar};
 pub use name::{Name, NameRef};
 pub use octets::Octets;
 pub use opt_data::{ComposeOptData, OptData, ParseOptData, ReadBack};

@@ -1,18 +1,20 @@
 //! Names that stand alone, uncompressed.
 
 ghost use Rattle.std.specs.Prelude.{◌≡◌, ◌≤◌, ◌+◌, ◌++◌, ◌↔◌, ◌-◌, [], length, take, drop, Some, IsTrue, IfOk, OnOk, OnErr};
+ghost use Rattle.dns_name.specs.Canonical.{name_cmp};
 ghost use Rattle.dns_name.specs.Labels.{IsName, EndsWith, folded, spell};
 ghost use Rattle.dns_name.specs.NameText.{name_text};
 ghost use Rattle.dns_name.specs.Names.{uncompressed, uncompressed_at};
 ghost use Rattle.dns_name.specs.Place.{Parses};
 
 use crate::error::{FormReason, OutOfMemory, ParseError};
-use crate::labels::{Labels, ends, same};
+use crate::labels::{Labels, canonical, ends, same};
 use crate::name_text::LabelText;
 use crate::parsed::end_at;
 use crate::parser::Parser;
 use crate::piece::Reach;
 use std::alloc::Global;
+use std::cmp::Ordering;
 use std::fmt;
 use std::marker::Model;
 
@@ -141,6 +143,18 @@ impl<'a> NameRef<'a> {
         same(self.labels(), other.labels())
     }
 
+    /// How the names compare in the canonical order (RFC 4034, section 6.1).
+    pub fn name_cmp(&self, other: &NameRef<'_>) -> Ordering
+        ensures { result ≡ name_cmp self.now other.now }
+    {
+        canonical(
+            self.labels(),
+            self.label_count(),
+            other.labels(),
+            other.label_count(),
+        )
+    }
+
     /// Whether the other name's labels are the last ones, up to ASCII case.
     pub fn ends_with(&self, other: &NameRef<'_>) -> bool
         ensures { IsTrue result ↔ EndsWith self.now other.now }
@@ -242,6 +256,13 @@ impl Name {
         ensures { IsTrue result ↔ (folded self.now ≡ folded other.now) }
     {
         self.for_ref().name_eq(other)
+    }
+
+    /// How the names compare in the canonical order (RFC 4034, section 6.1).
+    pub fn name_cmp(&self, other: &NameRef<'_>) -> Ordering
+        ensures { result ≡ name_cmp self.now other.now }
+    {
+        self.for_ref().name_cmp(other)
     }
 
     /// Whether the other name's labels are the last ones, up to ASCII case.

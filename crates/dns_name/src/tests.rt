@@ -131,3 +131,27 @@ fn displays_names(rt: HostRuntime) {
         assert!(&rt; text.as_str() == want);
     }
 }
+
+#[test]
+fn orders_names(rt: HostRuntime) {
+    let rising: [&[u8]; 9] = [
+        b"\x07example\x00",
+        b"\x01a\x07example\x00",
+        b"\x08yljkjljk\x01a\x07example\x00",
+        b"\x01Z\x01a\x07example\x00",
+        b"\x04zABC\x01a\x07EXAMPLE\x00",
+        b"\x01z\x07example\x00",
+        b"\x01\x01\x01z\x07example\x00",
+        b"\x01*\x01z\x07example\x00",
+        b"\x01\xc8\x01z\x07example\x00",
+    ];
+    for (i, octets) in rising.iter().enumerate() {
+        for (j, others) in rising.iter().enumerate() {
+            let (Ok(name), Ok(other)) = (NameRef::from_slice(octets), NameRef::from_slice(others))
+            else {
+                panic!(&rt; "no name");
+            };
+            assert!(&rt; name.name_cmp(&other) == i.cmp(&j));
+        }
+    }
+}
