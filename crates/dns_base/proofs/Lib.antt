@@ -5,3 +5,7 @@ pub mod Copied
 pub mod Plains
 pub mod OptionLaws
 pub mod Rewound
+pub mod TypedWritten
+pub mod TypedSections
+pub mod Sieved
+pub mod Replacing

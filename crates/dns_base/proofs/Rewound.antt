@@ -15,7 +15,7 @@ use Rattle.dns_base.specs.Draft.{IsDraft, count_place, counted, start_of}
 use Rattle.dns_base.proofs.Written.{questions_written, answers_written, authority_written}
 use Rattle.dns_base.proofs.Pushed.{built, viewed, drafted, draft_wire}
 
-abbrev framed : Header → ℕ → ℕ → ℕ → ℕ → List ℕ → List ℕ
+abbrev pub framed : Header → ℕ → ℕ → ℕ → ℕ → List ℕ → List ℕ
 framed h nq na nn nr t = header_octets h ++ ((two nq ++ (two na ++ (two nn ++ two nr))) ++ t)
 
 -- where the octets of all but the last section end

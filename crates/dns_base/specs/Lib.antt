@@ -8,6 +8,8 @@ pub mod Records
 pub mod Standing
 pub mod Sections
 pub mod Built
+pub mod Replaced
 pub mod Draft
 pub mod Replies
 pub mod Plain
+pub mod TypedData

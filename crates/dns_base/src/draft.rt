@@ -9,14 +9,16 @@ ghost use Rattle.dns_base.specs.Built.{Built, NoRecords, Pushes, empty, with_hea
 ghost use Rattle.dns_base.specs.Draft.{count_place, counted, start_of};
 ghost use Rattle.dns_base.specs.Records.{record_of, IsLawful};
 ghost use Rattle.dns_base.specs.Replies.{Copies, copied};
+ghost use Rattle.dns_base.specs.Replaced.{AreSpelt, less_type, other_than, records_at, spelling};
 
 use crate::error::PushError;
 use crate::header::{Header, HeaderCounts, lower_of, number_at, upper_of};
 use crate::message::{Message, MessageRef, end_of_answers, end_of_authority, end_of_questions};
 use crate::question::Question;
 use crate::record::Record;
+use crate::replace::{Others, count_others, replace, squeeze};
 use crate::stream::StreamTarget;
-use dns_name::{OutOfMemory, ParseError};
+use dns_name::{OutOfMemory, ParseError, Rtype};
 use std::alloc::Global;
 use std::marker::Model;
 
@@ -208,6 +210,75 @@ impl Draft {
         if let Ok(start) = start {
             cut(&mut self.octets, start, count_place(section));
         }
+    }
+
+    /// The place where the additional records begin.
+    fn additional_start(&self) -> usize
+        ensures value { start_of Section.Additional (wire self.now.message) ≡ Ok result }
+        ensures spelt { AreSpelt (wire self.now.message) (length self.now.message.additional) result }
+        ensures read { records_at (wire self.now.message) (length self.now.message.additional) result ≡ self.now.message.additional }
+    {
+        match end_of_authority(self.as_slice()) {
+            Ok(start) => start,
+            Err(_) => unreachable!(),
+        }
+    }
+
+    /// The additional records of other types than one.
+    fn others(&self, rtype: Rtype) -> Others
+        ensures start { start_of Section.Additional (wire self.now.message) ≡ Ok result.start }
+        ensures count { result.count ≡ length self.now.message.additional }
+        ensures kept { result.kept ≡ length (other_than rtype self.now.message.additional) }
+        ensures size { result.size ≡ length (spelling (other_than rtype self.now.message.additional)) }
+    {
+        let start = self.additional_start();
+        let count = self.counts().arcount;
+        count_others(self.as_slice(), start, count, rtype)
+    }
+
+    /// Drops the additional records of a type.
+    pub(crate) fn remove_type(&mut self, rtype: Rtype)
+        ensures { self.new ≡ less_type rtype self.old }
+    {
+        let others = self.others(rtype);
+        if others.kept == others.count {
+            return;
+        }
+        squeeze(&mut self.octets, others, rtype, others.kept);
+    }
+
+    /// How many octets the message takes without its additional records of a type.
+    pub(crate) fn len_without(&self, rtype: Rtype) -> usize
+        ensures { result ≡ length (wire (less_type rtype self.now).message) }
+    {
+        let _message = self.as_slice();
+        let others = self.others(rtype);
+        others.start + others.size
+    }
+
+    /// Puts a record in place of the additional records of a type.
+    pub(crate) fn replace_type(
+        &mut self,
+        alloc: Global,
+        rtype: Rtype,
+        record: &Record,
+    ) -> Result<(), PushError>
+        requires { IsLawful record.now.rdata }
+        ensures { Pushes self.old self.new (with_record Section.Additional (less_type rtype self.old) (record_of record.now)) result }
+    {
+        let others = self.others(rtype);
+        if others.start + others.size + record.size() > self.limit {
+            return Err(PushError::ShortBuf);
+        }
+        let piece = record.octets(alloc)?;
+        replace(
+            &mut self.octets,
+            others,
+            rtype,
+            others.kept + 1,
+            piece.as_slice(),
+        )?;
+        Ok(())
     }
 
     /// The finished message.

@@ -2,6 +2,9 @@
 #![tactic(auto)]
 
 mod builder;
+mod data_laws;
+#[cfg(test)]
+mod data_tests;
 mod draft;
 mod error;
 mod header;
@@ -14,6 +17,7 @@ mod rdata;
 mod rdata_read;
 mod read;
 mod record;
+mod replace;
 mod stream;
 #[cfg(test)]
 mod tests;
@@ -22,6 +26,7 @@ mod write;
 pub use builder::{
     AdditionalBuilder, AnswerBuilder, AuthorityBuilder, MessageBuilder, QuestionBuilder,
 };
+pub use data_laws::{data_has_names, typed_data_reads_back, typed_records_read_back};
 pub use dns_name::{
     Addrs, Class, FormReason, IpAddr, Labels, Name, NameRef, Octets, Opcode, OutOfMemory,
     ParseError, ParsedName, Parser, Rcode, Rtype, Serial, SocketAddr, Ttl,

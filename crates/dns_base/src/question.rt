@@ -37,7 +37,7 @@ impl Question {
     pub(crate) fn octets(&self, alloc: Global) -> Result<Vec<u8>, OutOfMemory>
         ensures { IfOk result (λ v. v.items ≡ question_octets self.now) }
     {
-        let mut target = Vec::new(alloc);
+        let mut target = Vec::with_capacity(alloc, self.size())?;
         self.qname.compose(alloc, &mut target)?;
         push_two(&mut target, self.qtype.to_int())?;
         push_two(&mut target, self.qclass.to_int())?;

@@ -45,7 +45,7 @@ impl Record {
         requires { IsLawful self.now.rdata }
         ensures { IfOk result (λ v. v.items ≡ record_octets (record_of self.now)) }
     {
-        let mut target = Vec::new(alloc);
+        let mut target = Vec::with_capacity(alloc, self.size())?;
         self.owner.compose(alloc, &mut target)?;
         push_two(&mut target, self.rdata.rtype().to_int())?;
         push_two(&mut target, self.class.to_int())?;

@@ -1,5 +1,8 @@
 //! Worked rows of messages.
 
+ghost use Rattle.std.specs.Prelude.{IfOk};
+ghost use Rattle.dns_base.specs.Records.{IsLawful};
+
 use super::*;
 
 /// The query for the root's address, with RD.
@@ -162,4 +165,77 @@ fn builds_records(rt: HostRuntime) {
     assert!(&rt; additional.as_slice() == whole.as_slice());
     additional.rewind();
     assert!(&rt; additional.as_slice() == short.as_slice());
+}
+
+/// The root's record with this data.
+fn of_root(rt: &HostRuntime, class: u16, ttl: u32, rdata: RecordData) -> Result<Record, OutOfMemory>
+    requires { IsLawful rdata }
+    ensures { IfOk result (λ r. IsLawful r.rdata) }
+{
+    let owner = Name::root(rt.alloc())?;
+    Ok(Record {
+        owner,
+        class: Class::from_int(class),
+        ttl: Ttl::from_secs(ttl),
+        rdata,
+    })
+}
+
+/// The root's OPT record with no options, of a client that takes this many octets (RFC 6891, section 6.1.2).
+fn opt_record(rt: &HostRuntime, octets: u16) -> Result<Record, OutOfMemory>
+    ensures { IfOk result (λ r. IsLawful r.rdata) }
+{
+    let Some(rdata) = RecordData::opt(Vec::new(rt.alloc())) else {
+        return Err(OutOfMemory);
+    };
+    of_root(rt, octets, 0, rdata)
+}
+
+/// A message whose additional records are an address, an OPT record and a text.
+fn with_three(rt: &HostRuntime) -> Result<AdditionalBuilder, PushError> {
+    let builder = MessageBuilder::new(rt.alloc())?;
+    let mut builder = builder.additional();
+    let address = of_root(rt, 1, 5, RecordData::A([192, 0, 2, 1]))?;
+    builder.push(rt.alloc(), &address)?;
+    let opt = opt_record(rt, 1232)?;
+    builder.push(rt.alloc(), &opt)?;
+    let text = Vec::from_slice(rt.alloc(), b"\x01a")?;
+    let Some(rdata) = RecordData::unknown(Rtype::from_int(16), text) else {
+        return Err(PushError::OutOfMemory);
+    };
+    let text = of_root(rt, 1, 5, rdata)?;
+    builder.push(rt.alloc(), &text)?;
+    Ok(builder)
+}
+
+#[test]
+fn replaces_records(rt: HostRuntime) {
+    let whole =
+        b"\x00\x00\x00\x00\x00\x00\x00\x00\x00\x00\x00\x03\x00\x00\x01\x00\x01\x00\x00\x00\x05\x00\x04\xc0\x00\x02\x01\x00\x00\x29\x04\xd0\x00\x00\x00\x00\x00\x00\x00\x00\x10\x00\x01\x00\x00\x00\x05\x00\x02\x01a";
+    let replaced =
+        b"\x00\x00\x00\x00\x00\x00\x00\x00\x00\x00\x00\x03\x00\x00\x01\x00\x01\x00\x00\x00\x05\x00\x04\xc0\x00\x02\x01\x00\x00\x10\x00\x01\x00\x00\x00\x05\x00\x02\x01a\x00\x00\x29\x02\x00\x00\x00\x00\x00\x00\x00";
+    let removed =
+        b"\x00\x00\x00\x00\x00\x00\x00\x00\x00\x00\x00\x02\x00\x00\x01\x00\x01\x00\x00\x00\x05\x00\x04\xc0\x00\x02\x01\x00\x00\x10\x00\x01\x00\x00\x00\x05\x00\x02\x01a";
+    let text =
+        b"\x00\x00\x00\x00\x00\x00\x00\x00\x00\x00\x00\x01\x00\x00\x10\x00\x01\x00\x00\x00\x05\x00\x02\x01a";
+    let Ok(mut builder) = with_three(&rt) else {
+        panic!(&rt; "no message");
+    };
+    let Ok(opt) = opt_record(&rt, 512) else {
+        panic!(&rt; "no memory");
+    };
+    let opt_type = Rtype::from_int(41);
+    builder.set_push_limit(16);
+    let refused = builder.replace_type(rt.alloc(), opt_type, &opt);
+    assert!(&rt; refused == Err(PushError::ShortBuf));
+    assert!(&rt; builder.as_slice() == whole.as_slice());
+    builder.set_push_limit(51);
+    assert!(&rt; builder.replace_type(rt.alloc(), opt_type, &opt) == Ok(()));
+    assert!(&rt; builder.as_slice() == replaced.as_slice());
+    builder.remove_type(opt_type);
+    assert!(&rt; builder.as_slice() == removed.as_slice());
+    builder.remove_type(opt_type);
+    assert!(&rt; builder.as_slice() == removed.as_slice());
+    builder.remove_type(Rtype::A);
+    assert!(&rt; builder.as_slice() == text.as_slice());
 }

@@ -5,6 +5,7 @@ ghost use Rattle.dns_base.specs.Msg.{IsMessage, item_counts};
 ghost use Rattle.dns_base.specs.Wire.{wire};
 ghost use Rattle.dns_base.specs.Built.{with_additional, with_header, less_section, Pushes};
 ghost use Rattle.dns_base.specs.Records.{record_of, IsLawful};
+ghost use Rattle.dns_base.specs.Replaced.{less_type};
 
 use crate::draft::{Draft, Section};
 use crate::error::PushError;
@@ -12,7 +13,7 @@ use crate::header::{Header, HeaderCounts};
 use crate::message::MessageRef;
 use crate::record::Record;
 use crate::stream::StreamTarget;
-use dns_name::OutOfMemory;
+use dns_name::{OutOfMemory, Rtype};
 use std::alloc::Global;
 use std::marker::Model;
 
@@ -37,6 +38,34 @@ impl AdditionalBuilder {
         ensures { Pushes self.old self.new (with_additional self.old (record_of record.now)) result }
     {
         self.draft.push_record(alloc, Section::Additional, record)
+    }
+
+    /// Drops the additional records of a type; the others stay, in order. Takes no memory.
+    pub fn remove_type(&mut self, rtype: Rtype)
+        ensures { self.new ≡ less_type rtype self.old }
+    {
+        self.draft.remove_type(rtype);
+    }
+
+    /// How many octets the message takes without its additional records of a type.
+    pub fn len_without(&self, rtype: Rtype) -> usize
+        ensures { result ≡ length (wire (less_type rtype self.now).message) }
+    {
+        self.draft.len_without(rtype)
+    }
+
+    /// Puts a record in place of the additional records of a type; it becomes the last. Refused `ShortBuf` exactly
+    /// where the message would then pass its limit; a refused call leaves the message.
+    pub fn replace_type(
+        &mut self,
+        alloc: Global,
+        rtype: Rtype,
+        record: &Record,
+    ) -> Result<(), PushError>
+        requires { IsLawful record.now.rdata }
+        ensures { Pushes self.old self.new (with_additional (less_type rtype self.old) (record_of record.now)) result }
+    {
+        self.draft.replace_type(alloc, rtype, record)
     }
 
     /// Drops the section's records.
