@@ -7,6 +7,7 @@ mod expire;
 mod exterr;
 mod exterr_owned;
 mod keepalive;
+mod laws;
 mod mask;
 mod subnet;
 
@@ -15,6 +16,7 @@ pub use expire::Expire;
 pub use exterr::ExtendedErrorRef;
 pub use exterr_owned::ExtendedError;
 pub use keepalive::{FromDurationError, IdleTimeout, TcpKeepalive};
+pub use laws::masking_twice_is_masking_once;
 pub use subnet::ClientSubnet;
 
 #[cfg(test)]

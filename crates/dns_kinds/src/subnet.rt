@@ -12,6 +12,7 @@ use dns_name::{
     Parser, ReadBack,
 };
 use std::alloc::Global;
+use std::fmt;
 use std::marker::Model;
 
 /// An address of which so many bits were sent, and for how many an answer is.
@@ -167,4 +168,20 @@ impl<'a> ReadBack<'a> for ClientSubnet {
     ghost is_readable = { is_clear_subnet };
 
     ghost comes_back = { subnet_again };
+}
+
+/// The address, the source prefix behind a slash, and the scope prefix behind another where it isn't 0.
+impl fmt::Display for ClientSubnet {
+    fn fmt<W: fmt::Write>(&self, f: &mut fmt::Formatter<W>) -> fmt::Result {
+        let ClientSubnet {
+            source,
+            scope,
+            addr,
+        } = *self;
+        write!(f, "{addr}/{source}")?;
+        if scope != 0 {
+            write!(f, "/{scope}")?;
+        }
+        Ok(())
+    }
 }

@@ -1,12 +1,15 @@
 //! Options of few octets, composed, read and shown.
 
 use crate::{
-    ChainRef, ClientSubnet, Expire, ExtendedError, ExtendedErrorRef, IdleTimeout, TcpKeepalive,
+    Chain, ChainRef, ClientSubnet, Expire, ExtendedError, ExtendedErrorRef, IdleTimeout,
+    TcpKeepalive,
 };
 use dns_name::{
     ComposeOptData, ExtendedErrorCode, FormReason, IpAddr, NameRef, OutOfMemory, ParseError, Parser,
 };
 use std::alloc::Global;
+use std::cmp::Ordering;
+use std::hash::{DefaultHasher, Hash, Hasher};
 use std::test::Fail;
 
 /// The data of an option.
@@ -31,11 +34,15 @@ fn extended_errors(rt: HostRuntime) -> Result<(), Fail> {
         assert_eq!(rt; composed(alloc, &owned)?.as_slice(), octets);
         assert_eq!(rt; owned.to_string(alloc)?.as_str(), text);
     }
-    let short = ExtendedError::new_with_str(alloc, ExtendedErrorCode::OTHER, "x")?;
-    assert_eq!(rt;
-        composed(alloc, &short)?.as_slice(),
-        b"\x00\x00x".as_slice()
-    );
+    let made: [(u16, &str, &[u8]); 2] = [
+        (0, "x", b"\x00\x00x"),
+        (3, "some text", b"\x00\x03some text"),
+    ];
+    for (code, text, octets) in made {
+        let code = ExtendedErrorCode::from_int(code);
+        let owned = ExtendedError::new_with_str(alloc, code, text)?;
+        assert_eq!(rt; composed(alloc, &owned)?.as_slice(), octets);
+    }
     assert!(rt; !ExtendedError::from(6u16).is_private());
     assert!(rt; ExtendedError::from(49152u16).is_private());
     Ok(())
@@ -68,6 +75,38 @@ fn chains(rt: HostRuntime) -> Result<(), Fail> {
         composed(alloc, &owned)?.as_slice(),
         b"\x01a\x00".as_slice()
     );
+    let shown = Chain::new(NameRef::from_slice(b"\x03a.B\x01c\x00")?.to_owned(alloc)?);
+    assert_eq!(rt; shown.to_string(alloc)?.as_str(), "a\\.B.c");
+    assert_eq!(rt; shown.for_slice().to_string(alloc)?.as_str(), "a\\.B.c");
+    Ok(())
+}
+
+/// What a name is hashed to.
+fn hashed<K: Hash>(kind: &K) -> u64 {
+    let mut state = DefaultHasher::new();
+    kind.hash(&mut state);
+    state.finish()
+}
+
+#[test]
+fn compares_chains(rt: HostRuntime) -> Result<(), Fail> {
+    let alloc = rt.alloc();
+    let rows: [(&[u8], &[u8], Ordering); 4] = [
+        (b"\x01a\x01Z\x00", b"\x01A\x01z\x00", Ordering::Equal),
+        (b"\x01z\x01a\x00", b"\x01a\x01z\x00", Ordering::Less),
+        (b"\x01a\x01b\x00", b"\x01b\x00", Ordering::Greater),
+        (b"\x01Z\x00", b"\x01a\x00", Ordering::Greater),
+    ];
+    for (octets, others, want) in rows {
+        let first = ChainRef::new(NameRef::from_slice(octets)?);
+        let second = ChainRef::new(NameRef::from_slice(others)?);
+        let (kept, other) = (first.to_owned(alloc)?, second.to_owned(alloc)?);
+        assert!(rt; first.cmp(&second) == want && kept.cmp(&other) == want);
+        let same = want == Ordering::Equal;
+        assert!(rt; (first == second) == same && (kept == other) == same);
+        assert!(rt; (hashed(&first) == hashed(&second)) == same);
+        assert_eq!(rt; hashed(&kept), hashed(&first));
+    }
     Ok(())
 }
 
@@ -87,9 +126,23 @@ fn subnets(rt: HostRuntime) -> Result<(), Fail> {
         assert!(rt; subnet.addr() == IpAddr::V4(kept), "under {source}");
         assert_eq!(rt; subnet.source_prefix_len(), sent);
     }
+    for (source, scope, text) in [
+        (24u8, 0u8, "192.0.2.0/24"),
+        (24, 16, "192.0.2.0/24/16"),
+        (0, 0, "0.0.0.0/0"),
+        (100, 100, "192.0.2.0/32/32"),
+    ] {
+        let subnet = ClientSubnet::new(source, scope, IpAddr::V4(net));
+        assert_eq!(rt; subnet.to_string(alloc)?.as_str(), text);
+    }
     let mut wide = [0u8; 16];
     wide[..4].copy_from_slice(&[0x20, 1, 0x0d, 0xb8]);
-    assert!(rt; ClientSubnet::new(32, 0, IpAddr::V6(wide)).addr() == IpAddr::V6(wide));
+    let wide_subnet = ClientSubnet::new(32, 48, IpAddr::V6(wide));
+    assert!(rt; wide_subnet.addr() == IpAddr::V6(wide));
+    assert_eq!(rt;
+        wide_subnet.to_string(alloc)?.as_str(),
+        "2001:db8:0:0:0:0:0:0/32/48"
+    );
     let local = ClientSubnet::new(4, 6, IpAddr::V4([127, 0, 0, 1]));
     assert!(rt; composed(alloc, &local)?.as_slice() == [0u8, 1, 4, 6, 0x70].as_slice());
     let mut parser = Parser::from_ref(&[0, 1, 22, 0, 192, 0, 2]);
