@@ -1,1 +1,3 @@
 mod ItemLaws
+pub mod Sizes
+pub mod Opts

@@ -41,18 +41,26 @@ with_record d b = with_additional b (opt_record (opt_state d.head d.options))
 abbrev pub with_opt : Draft → Built → Built
 with_opt d b = with_header (with_record d b) (record b.message.header { rcode = d.low })
 
--- the record is appended; ShortBuf exactly where the message would pass its limit, and a refused call leaves the message
+-- The record is put into a message that is bare of others; ShortBuf exactly where it would pass its limit, and a refused call
+-- leaves the message as it was before.
+abbrev pub PutInto : Draft → Built → Built → Built → Result ⊤ BuildDataError → Type 0
+PutInto d bare old new (Ok _) = (new ≡ with_opt d bare) × (length (wire (with_record d bare).message) ≤ bare.limit)
+PutInto d bare old new (Err ShortBuf) = (new ≡ old) × PassesLimit (with_record d bare)
+PutInto d bare old new (Err NoMemory) = new ≡ old
+PutInto d bare old new (Err LongOptData) = ⊥
+PutInto d bare old new (Err (WrongLength s w)) = ⊥
+
+-- the record is appended
 abbrev pub Appended : Draft → Built → Built → Result ⊤ BuildDataError → Type 0
-Appended d old new (Ok _) = (new ≡ with_opt d old) × (length (wire (with_record d old).message) ≤ old.limit)
-Appended d old new (Err ShortBuf) = (new ≡ old) × PassesLimit (with_record d old)
-Appended d old new (Err NoMemory) = new ≡ old
-Appended d old new (Err LongOptData) = ⊥
-Appended d old new (Err (WrongLength s w)) = ⊥
+Appended d old new result = PutInto d old old new result
 
 -- What comes of a message whose OPT record a closure built, where it gave an answer and left a draft.
+abbrev pub EndsIn : Result ⊤ BuildDataError → Draft → Built → Built → Built → Result ⊤ BuildDataError → Type 0
+EndsIn (Err e) d bare old new result = (result ≡ Err e) × (new ≡ old)
+EndsIn (Ok _) d bare old new result = PutInto d bare old new result
+
 abbrev pub Ends : Result ⊤ BuildDataError → Draft → Built → Built → Result ⊤ BuildDataError → Type 0
-Ends (Err e) d old new result = (result ≡ Err e) × (new ≡ old)
-Ends (Ok _) d old new result = Appended d old new result
+Ends answer d old new result = EndsIn answer d old old new result
 
 -- calls x r y says that the closure, at x, may answer r and leave y there
 pub record IsBuiltOpt (calls : Draft → Result ⊤ BuildDataError → Draft → Type 0) (old new : Built) (result : Result ⊤ BuildDataError) : Type 0 where

@@ -4,3 +4,4 @@ pub mod Writes
 pub mod All
 pub mod OptRecords
 pub mod Drafts
+pub mod Reopened

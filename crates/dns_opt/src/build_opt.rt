@@ -1,21 +1,34 @@
 //! Messages under construction that get an OPT record.
 
-ghost use Rattle.std.specs.Prelude.{◌≡◌, ◌≤◌};
+ghost use Rattle.std.specs.Prelude.{◌≡◌, ◌≤◌, IfOk};
 ghost use Rattle.std.specs.Fn.{FnOnceReturnsAtMut};
-ghost use Rattle.dns_opt.specs.Drafts.{Appended, BuiltOpt, Ends, IsBuiltOpt, opened, room_of};
+ghost use Rattle.dns_base.specs.Built.{with_header};
+ghost use Rattle.dns_opt.specs.Drafts.{Appended, BuiltOpt, Ends, EndsIn, IsBuiltOpt, PutInto, opened, room_of};
+ghost use Rattle.dns_opt.specs.Reopened.{Reopens, less_opts, old_opt, reopened};
 
 use crate::builder::OptBuilder;
 use crate::header::OptHeader;
+use crate::message_opt::MessageOpt;
 use crate::opt::Opt;
-use crate::record::record_by;
+use crate::record::{OptRecord, record_by};
 use dns_base::{AdditionalBuilder, PushError};
-use dns_name::BuildDataError;
+use dns_name::{BuildDataError, OutOfMemory, Rtype};
 use std::alloc::Global;
 
 /// A message under construction that can get an OPT record (RFC 6891, section 6.1.1).
 pub trait BuildOpt {
     /// Appends one OPT record as the closure builds it. Where anything is refused, the message is as before.
     fn opt<F: FnOnce(&mut OptBuilder) -> Result<(), BuildDataError>>(
+        &mut self,
+        alloc: Global,
+        build: F,
+    ) -> Result<(), BuildDataError>
+        requires { F.IsAlwaysCallable build };
+
+    /// Builds on the message's first OPT record, or on an empty one where there is none or its data is no option
+    /// list; what the closure leaves takes the place of the OPT records, as the last additional record. The options
+    /// have the room of the message without its OPT records. Where anything is refused, the message is as before.
+    fn reopen<F: FnOnce(&mut OptBuilder) -> Result<(), BuildDataError>>(
         &mut self,
         alloc: Global,
         build: F,
@@ -37,6 +50,47 @@ impl BuildOpt for AdditionalBuilder {
         }
         built(self, alloc, build)
     }
+
+    fn reopen<F: FnOnce(&mut OptBuilder) -> Result<(), BuildDataError>>(
+        &mut self,
+        alloc: Global,
+        build: F,
+    ) -> Result<(), BuildDataError>
+        requires { F.IsAlwaysCallable build }
+        ensures { Reopens (FnOnceReturnsAtMut F.FnOnce build) self.old self.new result }
+    {
+        let opt = reopened(self, alloc)?;
+        let (opt, answer) = called(opt, build);
+        ended_in_place(self, alloc, answer, &opt)
+    }
+}
+
+/// The first OPT record of a message, or an empty one.
+#[tactic(auto, using(crate::proofs::Opts::opt_back))]
+fn old_opt(message: &AdditionalBuilder, alloc: Global) -> Result<OptRecord, OutOfMemory>
+    ensures { IfOk result (λ r. r ≡ old_opt message.now.message) }
+{
+    let written = message.as_message();
+    match written.opt() {
+        Some(record) => record.to_owned(alloc),
+        None => Ok(OptRecord::default(alloc)),
+    }
+}
+
+/// The message's OPT record, as it is gone on with.
+fn reopened(message: &AdditionalBuilder, alloc: Global) -> Result<OptBuilder, OutOfMemory>
+    ensures { IfOk result (λ d. d ≡ reopened message.now) }
+{
+    let found = old_opt(message, alloc)?;
+    let (head, options) = found.into_parts();
+    Ok(OptBuilder {
+        head,
+        low: message.header().rcode,
+        options,
+        room: message
+            .push_limit()
+            .saturating_sub(message.len_without(Rtype::OPT)),
+    })
 }
 
 /// How many octets a message may still take.
@@ -100,6 +154,20 @@ fn ended(
     }
 }
 
+fn ended_in_place(
+    message: &mut AdditionalBuilder,
+    alloc: Global,
+    answer: Result<(), BuildDataError>,
+    opt: &OptBuilder,
+) -> Result<(), BuildDataError>
+    ensures { EndsIn answer opt.now (less_opts message.old) message.old message.new result }
+{
+    match answer {
+        Ok(()) => replaced(message, alloc, opt),
+        Err(error) => Err(error),
+    }
+}
+
 /// Appends the record, and sets the lower bits of the response code.
 fn appended(
     message: &mut AdditionalBuilder,
@@ -114,8 +182,33 @@ fn appended(
         Err(PushError::ShortBuf) => return Err(BuildDataError::ShortBuf),
         Err(PushError::OutOfMemory) => return Err(BuildDataError::OutOfMemory),
     }
+    set_low(message, opt);
+    Ok(())
+}
+
+/// Puts the record in place of the OPT records, and sets the lower bits of the response code.
+fn replaced(
+    message: &mut AdditionalBuilder,
+    alloc: Global,
+    opt: &OptBuilder,
+) -> Result<(), BuildDataError>
+    ensures { PutInto opt.now (less_opts message.old) message.old message.new result }
+{
+    let record = record_by(alloc, opt.head, opt.options.as_slice())?;
+    match message.replace_type(alloc, Rtype::OPT, &record) {
+        Ok(()) => {}
+        Err(PushError::ShortBuf) => return Err(BuildDataError::ShortBuf),
+        Err(PushError::OutOfMemory) => return Err(BuildDataError::OutOfMemory),
+    }
+    set_low(message, opt);
+    Ok(())
+}
+
+/// Sets the lower four bits of the response code in the header.
+fn set_low(message: &mut AdditionalBuilder, opt: &OptBuilder)
+    ensures { message.new ≡ with_header message.old (record message.old.message.header { rcode = opt.now.low }) }
+{
     let mut header = message.header();
     header.rcode = opt.low;
     message.set_header(header);
-    Ok(())
 }

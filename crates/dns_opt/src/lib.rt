@@ -8,6 +8,7 @@ mod builder_kinds;
 mod getters;
 mod header;
 mod iter;
+mod laws;
 mod list;
 mod message_opt;
 mod opt;
@@ -31,6 +32,7 @@ pub use dns_lists::{
 pub use dns_name::{BuildDataError, ComposeOptData, LongOptData, OptData, ParseOptData, ReadBack};
 pub use header::{OptHeader, OptionHeader};
 pub use iter::OptIter;
+pub use laws::opts_read_back;
 pub use list::OptRef;
 pub use message_opt::MessageOpt;
 pub use opt::Opt;

@@ -31,7 +31,8 @@ fn header(alloc: Global, code: u16, len: u16) -> Result<Vec<u8>, OutOfMemory>
         (len / 256) as u8,
         (len % 256) as u8,
     ];
-    let out = Vec::from_slice(alloc, &octets)?;
+    let mut out = Vec::with_capacity(alloc, 4 + len as usize)?;
+    out.extend_from_slice(&octets)?;
     Ok(out)
 }
 

@@ -177,6 +177,14 @@ impl OptRecord {
         self.options.push_raw_option(alloc, code, len, write)
     }
 
+    /// The head and the options.
+    pub(crate) fn into_parts(self) -> (OptHeader, Opt)
+        ensures { opt_state result.0 result.1 ≡ self }
+    {
+        let OptRecord { head, options } = self;
+        (head, options)
+    }
+
     /// The record as a message holds it.
     pub fn as_record(&self, alloc: Global) -> Result<Record, OutOfMemory>
         ensures value { IfOk result (λ r. record_of r ≡ opt_record self.now) }

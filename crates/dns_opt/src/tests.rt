@@ -2,9 +2,9 @@
 
 use crate::{
     AllOptData, BuildDataError, BuildOpt, MessageOpt, NsidRef, Opt, OptBuilder, OptHeader,
-    OptRecord, OptRef,
+    OptRecord, OptRecordRef, OptRef,
 };
-use dns_base::MessageBuilder;
+use dns_base::{AdditionalBuilder, MessageBuilder};
 use dns_name::{OptRcode, OptionCode, OutOfMemory};
 use std::alloc::Global;
 use std::test::Fail;
@@ -100,5 +100,42 @@ fn records(rt: HostRuntime) -> Result<(), Fail> {
     assert_eq!(rt; found.udp_payload_size(), 123);
     assert_eq!(rt; found.opt().len(), 254);
     assert_eq!(rt; readable(found.opt()), 2);
+    Ok(())
+}
+
+/// Gives a message an OPT record like another.
+fn take_over(
+    message: &mut AdditionalBuilder,
+    alloc: Global,
+    found: &OptRecordRef<'_>,
+) -> Result<(), BuildDataError> {
+    message.opt(alloc, |opt| opt.clone_from(alloc, found))
+}
+
+#[test]
+fn taken_up_again(rt: HostRuntime) -> Result<(), Fail> {
+    let alloc = rt.alloc();
+    let mut message = MessageBuilder::new(alloc)?.additional();
+    message.opt(alloc, |opt| pad(opt, alloc))?;
+    let mut copy = MessageBuilder::new(alloc)?.additional();
+    let read = message.as_message();
+    let Some(found) = read.opt() else {
+        return Err(Fail::new("no record"));
+    };
+    take_over(&mut copy, alloc, &found)?;
+    assert_eq!(rt; copy.as_slice().len(), 277);
+    let copied = copy.as_message();
+    let Some(same) = copied.opt() else {
+        return Err(Fail::new("no copy"));
+    };
+    assert!(rt; same.opt() == found.opt());
+    copy.set_push_limit(280);
+    let refused = copy.reopen(alloc, |opt| opt.client_nsid(alloc));
+    assert!(rt; refused == Err(BuildDataError::ShortBuf));
+    assert_eq!(rt; copy.as_slice().len(), 277);
+    copy.set_push_limit(281);
+    copy.reopen(alloc, |opt| opt.client_nsid(alloc))?;
+    assert_eq!(rt; copy.as_slice().len(), 281);
+    assert_eq!(rt; copy.counts().arcount, 1);
     Ok(())
 }

@@ -1,0 +1,5 @@
+use Rattle.dns_opt.proofs.Opts.{opt_back}
+use Rattle.dns_opt.proofs.laws.opts_read_back.Goals as goal
+
+pub returns : goal.returns
+returns c = opt_back
