@@ -3,4 +3,10 @@ pub mod Req
 pub mod Given
 pub mod Answer
 pub mod Errors
+pub mod ReplyErrors
+pub mod ErrorReply
+pub mod WithOption
+pub mod Lending
 pub mod Config
+pub mod Once
+pub mod ServiceFn

@@ -24,3 +24,7 @@ with_metadata r meta = record {
   reserved = r.reserved;
   metadata = meta;
 }
+
+-- a request that came otherwise
+abbrev pub with_transport : {A : Type 0} → Req A → TransportSpecificContext → Req A
+with_transport r transport = record r { transport = transport }

@@ -4,7 +4,14 @@
 mod config;
 mod error;
 mod event;
+mod function;
+#[cfg(test)]
+mod function_tests;
 mod message;
+mod once;
+mod options;
+mod reply;
+mod reply_error;
 mod served;
 mod service;
 #[cfg(test)]
@@ -14,7 +21,12 @@ pub use config::{ConnectionConfig, DgramConfig, StreamConfig};
 pub use dns_name::{Octets, OutOfMemory};
 pub use error::Error;
 pub use event::{Event, EventKind, Output, Why};
+pub use function::{Gives, ServiceFn, service_fn};
 pub use message::{NonUdpTransportContext, Request, TransportSpecificContext, UdpTransportContext};
+pub use once::{Now, Once};
+pub use options::{add_edns_option, add_edns_options, remove_edns_opt_record};
+pub use reply::{mk_builder_for_target, mk_error_response};
+pub use reply_error::ReplyError;
 pub use served::{Plainly, Served};
 pub use service::{
     CallResult, Polled, ReplyFuture, ReplyStream, Service, ServiceError, ServiceFeedback,

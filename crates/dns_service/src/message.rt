@@ -2,6 +2,7 @@
 
 ghost use Rattle.std.specs.Prelude.{◌≡◌, ◌+◌, ◌<◌, ◌^◌, min, IfOk, true, false, IsTrue, ◌↔◌};
 ghost use Rattle.std.specs.Arc.{arc_value};
+ghost use Rattle.std.specs.Borrow.{sem};
 ghost use Rattle.dns_service.specs.Req.{with_metadata};
 
 use dns_base::Message;
@@ -119,6 +120,8 @@ impl<Meta> Model for Request<Meta> {
 }
 
 impl<Meta> Request<Meta> {
+    ghost use Rattle.dns_service.specs.Lending.{LendsTransport};
+
     /// A request with no reserved octets.
     pub fn new(
         alloc: Global,
@@ -171,6 +174,14 @@ impl<Meta> Request<Meta> {
         ensures { result.now ≡ self.now.transport }
     {
         &self.transport_ctx
+    }
+
+    /// How the request came, for writing.
+    pub fn transport_ctx_mut(&mut self) -> &mut TransportSpecificContext
+        ensures* writes_back { sem 𝓛 (LendsTransport Meta.row self.entry result) }
+        ensures value { result.now ≡ self.old.transport }
+    {
+        &mut self.transport_ctx
     }
 
     pub fn client_addr(&self) -> SocketAddr

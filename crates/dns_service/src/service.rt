@@ -1,13 +1,15 @@
 //! Services, reply futures and reply streams by poll.
 
-ghost use Rattle.std.specs.Prelude.{◌≡◌, ℕ, IfOk, OnOk, Option, Some, None, suc};
+ghost use Rattle.std.specs.Prelude.{◌≡◌, ℕ, IfOk, OnOk, Option, Some, None, option_map, suc};
 ghost use Rattle.std.specs.Option.{option_copied};
 ghost use Rattle.std.specs.Arc.{arc_value};
+ghost use Rattle.std.specs.Borrow.{sem};
 ghost use Rattle.dns_base.specs.Built.{Built};
 ghost use Rattle.dns_service.specs.declared.message.Request.{Request};
 ghost use Rattle.dns_service.specs.Answer.{Answer, Item, IfPending, IfReady};
 ghost use Rattle.dns_service.specs.Transport.{hinted};
 ghost use Rattle.dns_service.specs.Given.{message_in};
+ghost use Rattle.dns_service.specs.Lending.{LendsReply};
 ghost use Rattle.dns_service.specs.Errors.{rcode_of, text_of};
 
 use crate::message::Request;
@@ -121,6 +123,14 @@ impl CallResult {
         ensures { message_in (option_copied result) ≡ self.now.response }
     {
         self.response.as_ref()
+    }
+
+    /// The reply, for writing.
+    pub fn response_mut(&mut self) -> Option<&mut AdditionalBuilder>
+        ensures* writes_back { sem 𝓛 (LendsReply self.entry result) }
+        ensures value { option_map (λ r. r.now.message) result ≡ self.old.response }
+    {
+        self.response.as_mut()
     }
 
     /// The feedback.

@@ -1,15 +1,21 @@
 //! Tests: each call that takes memory, with ample memory, and the texts.
 
-ghost use Rattle.std.specs.Prelude.{None, Some};
+ghost use Rattle.std.specs.Prelude.{IfSome, None, Some};
+ghost use Rattle.dns_base.specs.Records.{IsLawful};
 ghost use Rattle.dns_service.specs.declared.service.Polled.TheVariants.{Ready};
 ghost use Rattle.dns_service.specs.Transport.{hint_of};
 
 use crate::{
-    Error, OutOfMemory, Plainly, Polled, ReplyFuture, ReplyStream, Request, Served, Service,
-    ServiceError, ServiceResult, TransportSpecificContext, UdpTransportContext,
+    CallResult, Error, OutOfMemory, Plainly, Polled, ReplyError, ReplyFuture, ReplyStream, Request,
+    Served, Service, ServiceError, ServiceResult, TransportSpecificContext, UdpTransportContext,
+    add_edns_option, add_edns_options, mk_builder_for_target, mk_error_response,
+    remove_edns_opt_record,
 };
-use dns_base::Message;
-use dns_name::{IpAddr, SocketAddr};
+use dns_base::{AdditionalBuilder, Message, PushError, Record, RecordData};
+use dns_name::{
+    BuildDataError, Class, FormReason, IpAddr, Name, OptRcode, ParseError, SocketAddr, Ttl,
+};
+use dns_opt::{BuildOpt, MessageOpt, NsidRef, OptBuilder};
 use std::alloc::Global;
 use std::sync::Arc;
 use std::test::Fail;
@@ -128,5 +134,146 @@ fn texts(rt: HostRuntime) -> Result<(), Fail> {
     let error = Error::CommandCouldNotBeSent;
     let shown = format!(in rt.alloc(); "{error}")?;
     assert_eq!(rt; shown.as_str(), "Command could not be sent");
+    Ok(())
+}
+
+/// The query for the root's address.
+const QUERY: &[u8] = b"\x12\x34\x01\0\0\x01\0\0\0\0\0\0\0\0\x01\0\x01";
+
+/// The reply to that query with a code.
+fn error_reply(alloc: Global, rcode: OptRcode) -> Option<AdditionalBuilder> {
+    let octets = QUERY.to_vec(alloc).ok()?;
+    let query = Message::from_octets(octets).ok()?;
+    mk_error_response(alloc, &query, rcode).ok()
+}
+
+/// The root's address.
+fn address(alloc: Global) -> Option<Record>
+    ensures { IfSome result (λ r. IsLawful r.rdata) }
+{
+    Some(Record {
+        owner: Name::root(alloc).ok()?,
+        class: Class::IN,
+        ttl: Ttl::from_secs(5),
+        rdata: RecordData::A([192, 0, 2, 1]),
+    })
+}
+
+#[test]
+fn error_replies(rt: HostRuntime) -> Result<(), Fail> {
+    let alloc = rt.alloc();
+    let reply = error_reply(alloc, OptRcode::BADVERS).ok_or("no reply")?;
+    let expected = b"\x12\x34\x81\0\0\x01\0\0\0\0\0\x01\0\0\x01\0\x01\0\0\x29\0\0\x01\0\0\0\0\0";
+    assert_eq!(rt; reply.as_slice(), expected.as_slice());
+    assert_eq!(rt; reply.push_limit(), 65535);
+    let empty = mk_builder_for_target(alloc).ok().ok_or("no builder")?;
+    assert_eq!(rt; empty.as_slice(), [0u8; 12].as_slice());
+    Ok(())
+}
+
+#[test]
+fn options(rt: HostRuntime) -> Result<(), Fail> {
+    let alloc = rt.alloc();
+    let builder = mk_builder_for_target(alloc).ok().ok_or("no builder")?;
+    let mut reply = builder.additional();
+    reply.opt(alloc, |opt: &mut OptBuilder| {
+        opt.set_udp_payload_size(123);
+        opt.set_rcode(OptRcode::BADCOOKIE);
+        Ok(())
+    })?;
+    add_edns_options(alloc, &mut reply, |opt: &mut OptBuilder| {
+        opt.padding(alloc, 123)
+    })?;
+    add_edns_options(alloc, &mut reply, |opt: &mut OptBuilder| {
+        opt.padding(alloc, 123)
+    })?;
+    assert_eq!(rt; reply.header().rcode.to_int(), 7);
+    assert_eq!(rt; reply.counts().arcount, 1);
+    let written = reply.as_message();
+    let Some(opt) = written.opt() else {
+        return Err(Fail::new("no record"));
+    };
+    assert_eq!(rt; opt.rcode(reply.header()).to_int(), 23);
+    assert_eq!(rt; opt.udp_payload_size(), 123);
+    assert_eq!(rt; opt.opt().len(), 254);
+    assert!(rt; remove_edns_opt_record(alloc, &mut reply).is_ok());
+    assert_eq!(rt; reply.counts().arcount, 0);
+    Ok(())
+}
+
+#[test]
+fn padded_reply(rt: HostRuntime) -> Result<(), Fail> {
+    let alloc = rt.alloc();
+    let reply = error_reply(alloc, OptRcode::NOERROR).ok_or("no reply")?;
+    let mut result = CallResult::new(reply);
+    let Some(reply) = result.response_mut() else {
+        return Err(Fail::new("no reply"));
+    };
+    assert!(rt; remove_edns_opt_record(alloc, reply).is_ok());
+    reply.opt(alloc, |opt: &mut OptBuilder| opt.padding(alloc, 32))?;
+    assert_eq!(rt; reply.counts().arcount, 1);
+    assert!(rt; remove_edns_opt_record(alloc, reply).is_ok());
+    let kept = result.response().ok_or("no reply")?;
+    assert_eq!(rt; kept.counts().arcount, 0);
+    let written = kept.as_message();
+    assert!(rt; written.opt().is_none());
+    Ok(())
+}
+
+#[test]
+fn one_option(rt: HostRuntime) -> Result<(), Fail> {
+    let alloc = rt.alloc();
+    let builder = mk_builder_for_target(alloc).ok().ok_or("no builder")?;
+    let mut reply = builder.additional();
+    let record = address(alloc).ok_or("no record")?;
+    reply.opt(alloc, |_opt: &mut OptBuilder| Ok(()))?;
+    assert!(rt; reply.push(alloc, &record).is_ok());
+    let identifier = NsidRef::from_slice(b"ab")?;
+    reply.set_push_limit(43);
+    assert!(rt; add_edns_option(alloc, &mut reply, &identifier) == Err(BuildDataError::ShortBuf));
+    assert_eq!(rt; reply.as_slice().len(), 38);
+    reply.set_push_limit(44);
+    add_edns_option(alloc, &mut reply, &identifier)?;
+    let expected =
+        b"\0\0\0\0\0\0\0\0\0\0\0\x02\0\0\x01\0\x01\0\0\0\x05\0\x04\xc0\0\x02\x01\0\0\x29\0\0\0\0\0\0\0\x06\0\x03\0\x02ab";
+    assert_eq!(rt; reply.as_slice(), expected.as_slice());
+    Ok(())
+}
+
+#[test]
+fn reply_errors(rt: HostRuntime) {
+    let table = [
+        (
+            PushError::ShortBuf.into(),
+            ReplyError::Service(ServiceError::InternalError),
+        ),
+        (PushError::OutOfMemory.into(), ReplyError::OutOfMemory),
+        (
+            ParseError::ShortInput.into(),
+            ReplyError::Service(ServiceError::FormatError),
+        ),
+        (
+            ParseError::Form(FormReason::Shape).into(),
+            ReplyError::Service(ServiceError::FormatError),
+        ),
+        (ParseError::OutOfMemory.into(), ReplyError::OutOfMemory),
+        (OutOfMemory.into(), ReplyError::OutOfMemory),
+    ];
+    for (made, expected) in table {
+        let made: ReplyError = made;
+        assert!(&rt; made == expected);
+    }
+}
+
+#[test]
+fn transports(rt: HostRuntime) -> Result<(), Fail> {
+    let mut request = make_request(rt.alloc()).ok_or("no request")?;
+    if let TransportSpecificContext::Udp(udp) = request.transport_ctx_mut() {
+        udp.set_max_response_size_hint(Some(512));
+    }
+    let TransportSpecificContext::Udp(udp) = request.transport_ctx() else {
+        return Err(Fail::new("another transport"));
+    };
+    assert_eq!(rt; udp.max_response_size_hint(), Some(512));
     Ok(())
 }

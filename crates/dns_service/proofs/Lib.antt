@@ -1,0 +1,2 @@
+mod ErrorReplies
+mod AddedOptions
