@@ -1,0 +1,6 @@
+pub mod OptIn
+pub mod Cut
+pub mod Rewritten
+pub mod Mandatory
+pub mod OptItems
+pub mod Edns

@@ -1,0 +1,23 @@
+-- What the layers round a service share: replies of their own, and rewritten replies.
+use Rattle.std.specs.Prelude.{ℕ, Option, Some, None, option_map, Ok, Err}
+use Rattle.dns_base.specs.Msg.{Msg}
+use Rattle.dns_service.specs.Answer.{Item, Answer}
+use Rattle.dns_service.specs.Once.{once}
+use Rattle.dns_stream.specs.Streams.{each_mapped}
+
+-- an item that is a reply and nothing else
+abbrev pub reply : Msg → Item
+reply m = Ok (record { response = Some m; feedback = None })
+
+-- an item with its reply rewritten; a feedback and an error stay
+abbrev pub rewritten : (Msg → Msg) → Item → Item
+rewritten f (Ok given) = Ok (record given { response = option_map f given.response })
+rewritten f (Err error) = Err error
+
+-- a layer's own reply: the item at answer 0, the end from answer 1
+abbrev pub own : Msg → ℕ → Answer
+own m = once (reply m)
+
+-- answers whose replies are rewritten
+abbrev pub each_rewritten : (Msg → Msg) → (ℕ → Answer) → ℕ → Answer
+each_rewritten f answer = each_mapped (rewritten f) answer

@@ -1,0 +1,27 @@
+//! Layers round a service: each answers a request by itself, or rewrites the replies of the service inside.
+#![tactic(auto)]
+
+mod cutting;
+mod edns;
+mod edns_post;
+#[cfg(test)]
+mod fixtures;
+mod laws;
+mod layered;
+mod mandatory;
+#[cfg(test)]
+mod mandatory_tests;
+mod opt_in;
+mod opt_items;
+
+pub use cutting::cut;
+pub use edns::EdnsMiddlewareSvc;
+pub use edns_post::EdnsPost;
+pub use laws::{cut_fits, items_begin_with_opt, opt_stands};
+pub use layered::Layered;
+pub use mandatory::{
+    MINIMUM_RESPONSE_BYTE_LEN, MandatoryMiddlewareSvc, MandatoryPost, replies_fit,
+};
+
+#[cfg(test)]
+mod tests;
