@@ -1,0 +1,4 @@
+pub mod BuildLaws
+pub mod CopyLaws
+pub mod KeptLaws
+pub mod ReplyLaws

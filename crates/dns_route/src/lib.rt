@@ -1,0 +1,14 @@
+//! Replies and requests that are composed of other messages.
+#![tactic(auto)]
+
+mod builds;
+mod copied;
+mod kept;
+mod reply;
+pub mod request;
+#[cfg(test)]
+mod tests;
+
+pub use copied::CopiedMessage;
+pub use reply::{ComposeReply, ReplyMessage};
+pub use request::RequestMessage;

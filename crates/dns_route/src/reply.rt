@@ -1,0 +1,118 @@
+//! Replies that are composed of other messages.
+
+ghost use Rattle.std.specs.Prelude.{◌≡◌, ℕ, ⊤, IfOk, List, Result};
+ghost use Rattle.dns_name.specs.declared.error.ParseError.{ParseError};
+ghost use Rattle.dns_name.specs.declared.opt_error.BuildDataError.{BuildDataError};
+ghost use Rattle.dns_base.specs.Msg.{Msg};
+ghost use Rattle.dns_route.specs.ReplyMessage.{Adds, Begins, Composes, reply_message, reply_of};
+
+use crate::copied::CopiedMessage;
+use crate::kept::{Keeps, kept_opt};
+use dns_base::{AdditionalBuilder, Message, MessageRef};
+use dns_name::{BuildDataError, ComposeOptData, OutOfMemory};
+use dns_opt::{MessageOpt, OptRecord};
+use dns_service::ReplyError;
+use std::alloc::Global;
+use std::marker::Model;
+
+/// A reply that is composed of another message.
+pub trait ComposeReply: Sized {
+    /// The reply that a message's octets begin, or why an option of theirs is refused.
+    ghost begun: { List ℕ → Result Self ParseError };
+
+    /// What a call that adds an option, of a code and data, may leave and answer.
+    ghost adds: { ℕ → List ℕ → Self → Self → Result ⊤ BuildDataError → Type 0 };
+
+    /// The message that a reply is, or why it can't be read.
+    ghost composed: { Self → Result Msg ParseError };
+
+    /// Begins a reply with a message. FormatError where one of its options is unreadable.
+    fn from_message(alloc: Global, message: &MessageRef<'_>) -> Result<Self, ReplyError>
+        ensures { Begins (begun message.now) result };
+
+    /// Adds an option to the reply's OPT record.
+    fn add_opt<D: ComposeOptData>(&mut self, alloc: Global, opt: &D) -> Result<(), BuildDataError>
+        ensures { adds (D.code_of opt.now) (D.octets opt.now) self.old self.new result };
+
+    /// The reply, which may be added to. FormatError where a section or its data is unreadable, else InternalError where
+    /// something has no room in 65,535 octets.
+    fn additional_builder_stream_target(
+        &self,
+        alloc: Global,
+    ) -> Result<AdditionalBuilder, ReplyError>
+        ensures { Composes (composed self.now) result };
+}
+
+/// A message and the OPT record that it gets: in place of its own, if it has one.
+#[derive(Debug, Drop)]
+pub struct ReplyMessage {
+    message: Message,
+    opt: Option<OptRecord>,
+}
+
+impl Model for ReplyMessage {
+    ghost use Rattle.dns_route.specs.ReplyMessage.{ReplyState};
+
+    ghost Value = { ReplyState };
+
+    ghost view = { λ r. record { octets = r.message; opt = r.opt } };
+}
+
+impl ComposeReply for ReplyMessage {
+    ghost begun = { reply_of };
+
+    ghost adds = { Adds };
+
+    ghost composed = { reply_message };
+
+    /// Keeps the octets, and of a readable OPT record the size, the DO bit, the client subnets and the extended errors.
+    fn from_message(alloc: Global, message: &MessageRef<'_>) -> Result<Self, ReplyError> {
+        let opt = match message.opt() {
+            Some(found) => Some(kept_opt(
+                alloc,
+                found.udp_payload_size(),
+                Keeps::SubnetsAndErrors,
+                &found,
+            )?),
+            None => None,
+        };
+        let message = owned(alloc, message)?;
+        Ok(ReplyMessage { message, opt })
+    }
+
+    /// An OPT record whose numbers are all 0 is begun where there was none. Refused LongOptData exactly where its options
+    /// would pass 65,535 octets.
+    fn add_opt<D: ComposeOptData>(&mut self, alloc: Global, opt: &D) -> Result<(), BuildDataError> {
+        match &mut self.opt {
+            Some(kept) => kept.push(alloc, opt),
+            None => {
+                let mut begun = OptRecord::default(alloc);
+                begun.push(alloc, opt)?;
+                self.opt = Some(begun);
+                Ok(())
+            }
+        }
+    }
+
+    /// The message with names uncompressed, without its OPT records, and the kept one last. InternalError where that
+    /// passes 65,535 octets.
+    fn additional_builder_stream_target(
+        &self,
+        alloc: Global,
+    ) -> Result<AdditionalBuilder, ReplyError> {
+        let copied = CopiedMessage::read(alloc, &self.message.for_ref())?;
+        let built = copied.build(alloc, self.opt.as_ref())?;
+        Ok(built)
+    }
+}
+
+/// The same message, owned.
+fn owned(alloc: Global, message: &MessageRef<'_>) -> Result<Message, OutOfMemory>
+    ensures { IfOk result (λ m. m ≡ message.now) }
+{
+    let octets = Vec::from_slice(alloc, message.as_slice())?;
+    match Message::from_octets(octets) {
+        Ok(message) => Ok(message),
+        Err(_) => unreachable!(),
+    }
+}

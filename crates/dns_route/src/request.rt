@@ -1,0 +1,125 @@
+//! Requests that are asked again elsewhere.
+
+ghost use Rattle.std.specs.Prelude.{◌≡◌, ◌≤◌, IfOk, length};
+ghost use Rattle.std.specs.Option.{option_copied};
+ghost use Rattle.dns_route.specs.RequestMessage.{AddsTo, Reads, Sends, request_of, sent, sent_opt};
+
+use crate::copied::CopiedMessage;
+use crate::kept::{Keeps, kept_opt, plain};
+use dns_base::{Message, ParseError, PushError};
+use dns_name::{BuildDataError, ComposeOptData, OutOfMemory};
+use dns_opt::{MessageOpt, OptRecord};
+use dns_service::Request;
+use std::alloc::Global;
+use std::marker::Model;
+
+/// The greatest payload over UDP that a sent request asks for, in octets (RFC 6891, section 6.2.5).
+const SIZE: u16 = 1232;
+
+/// Why a request can't be asked again.
+#[derive(Clone, Copy, Debug, PartialEq, Eq, thiserror::Error)]
+pub enum Error {
+    /// A section, its data or an option of the first OPT record is unreadable.
+    #[error("unreadable request: {0}")]
+    Unreadable(ParseError),
+    #[error("out of memory")]
+    OutOfMemory,
+}
+
+impl From<ParseError> for Error {
+    ghost use Rattle.dns_route.specs.RequestMessage.{unreadable};
+
+    ghost from_gives = { λ parse e. e ≡ unreadable parse };
+
+    fn from(error: ParseError) -> Self {
+        match error {
+            ParseError::OutOfMemory => Error::OutOfMemory,
+            other => Error::Unreadable(other),
+        }
+    }
+}
+
+/// A request without its OPT record, and the one that is sent in its place.
+#[derive(Debug, Drop)]
+pub struct RequestMessage {
+    message: CopiedMessage,
+    opt: OptRecord,
+}
+
+impl Model for RequestMessage {
+    ghost use Rattle.std.specs.Prelude.{◌≡◌};
+    ghost use Rattle.dns_opt.specs.OptRecords.{is_do};
+    ghost use Rattle.dns_route.specs.Kept.{plain_head};
+    ghost use Rattle.dns_route.specs.RequestMessage.{RequestState};
+
+    ghost Value = { RequestState };
+
+    ghost view = { λ r. record { message = r.message; dnssec_ok = is_do r.opt.head.flags; options = r.opt.options } };
+
+    ghost invariant = { λ r. r.opt.head ≡ plain_head 1232 (is_do r.opt.head.flags) };
+}
+
+impl RequestMessage {
+    /// Keeps the message without OPT record, the DO bit and the client subnets. Sections and data are read first, then the
+    /// options of the first OPT record, each as its kind.
+    pub fn try_from(alloc: Global, request: &Request<()>) -> Result<RequestMessage, Error>
+        ensures { Reads (request_of request.now.octets) result }
+    {
+        let source = request.message();
+        let message = CopiedMessage::read(alloc, &source.for_ref())?;
+        let opt = match source.opt() {
+            Some(found) => kept_opt(alloc, SIZE, Keeps::Subnets, &found)?,
+            None => plain(OptRecord::default(alloc), SIZE, false),
+        };
+        Ok(RequestMessage { message, opt })
+    }
+
+    /// Says whether DNSSEC records are wanted.
+    pub fn set_dnssec_ok(&mut self, value: bool)
+        ensures { self.new ≡ record self.old { dnssec_ok = value } }
+    {
+        self.opt.set_dnssec_ok(value);
+    }
+
+    /// Whether DNSSEC records are wanted (RFC 3225).
+    pub fn dnssec_ok(&self) -> bool
+        ensures { result ≡ self.now.dnssec_ok }
+    {
+        self.opt.dnssec_ok()
+    }
+
+    /// Adds an option. Refused LongOptData exactly where the options would pass 65,535 octets; a refused call leaves the
+    /// request.
+    pub fn add_opt<D: ComposeOptData>(
+        &mut self,
+        alloc: Global,
+        opt: &D,
+    ) -> Result<(), BuildDataError>
+        ensures { AddsTo (D.code_of opt.now) (D.octets opt.now) self.old self.new result }
+    {
+        self.opt.push(alloc, opt)
+    }
+
+    /// The message that is sent: its names uncompressed, and last an OPT record of size 1,232 where DO is set or there are
+    /// options.
+    pub fn to_message(&self, alloc: Global) -> Result<Message, PushError>
+        ensures { Sends (sent self.now) result }
+    {
+        let built = self.message.build(alloc, self.sent_opt())?;
+        let octets = Vec::from_slice(alloc, built.as_slice())?;
+        match Message::from_octets(octets) {
+            Ok(message) => Ok(message),
+            Err(_) => unreachable!(),
+        }
+    }
+
+    /// The OPT record that is sent.
+    fn sent_opt(&self) -> Option<&OptRecord>
+        ensures { option_copied result ≡ sent_opt self.now.dnssec_ok self.now.options }
+    {
+        if self.opt.dnssec_ok() || !self.opt.opt().is_empty() {
+            return Some(&self.opt);
+        }
+        None
+    }
+}
