@@ -1,0 +1,177 @@
+//! A query to a service that answers at once, through the layers round it and without them.
+
+ghost use Rattle.std.specs.Prelude.{◌≡◌, ◌≤◌, None, Some, Ok, length};
+ghost use Rattle.std.specs.Result.{ForOk};
+
+use dns_base::{
+    AdditionalBuilder, Class, Message, MessageBuilder, Name, OutOfMemory, ParseError, PushError,
+    Record, RecordData, Ttl,
+};
+use dns_middleware::{EdnsMiddlewareSvc, MandatoryMiddlewareSvc};
+use dns_name::{IpAddr, Rcode, SocketAddr};
+use dns_service::{
+    CallResult, Gives, Polled, ReplyFuture, ReplyStream, Request, Service, ServiceResult,
+    TransportSpecificContext, UdpTransportContext, service_fn,
+};
+use std::alloc::Global;
+use thiserror::Error;
+
+/// The query for the root's address, with RD and an OPT record of size 1232.
+const QUERY: [u8; 28] =
+    *b"\x12\x34\x01\x00\x00\x01\x00\x00\x00\x00\x00\x01\x00\x00\x01\x00\x01\x00\x00\x29\x04\xd0\x00\x00\x00\x00\x00\x00";
+
+/// The same without the OPT record.
+const BARE_QUERY: [u8; 17] =
+    *b"\x12\x34\x01\x00\x00\x01\x00\x00\x00\x00\x00\x00\x00\x00\x01\x00\x01";
+
+/// Why a query got no reply.
+#[derive(Clone, Copy, Debug, PartialEq, Eq, Error)]
+pub enum QueryError {
+    #[error("the query is not read: {0}")]
+    Parse(ParseError),
+    #[error("the answer is not built: {0}")]
+    Push(PushError),
+    #[error("out of memory")]
+    OutOfMemory,
+    #[error("the service gives no reply, or more than one")]
+    Service,
+}
+
+impl From<ParseError> for QueryError {
+    fn from(error: ParseError) -> QueryError {
+        QueryError::Parse(error)
+    }
+}
+
+impl From<PushError> for QueryError {
+    fn from(error: PushError) -> QueryError {
+        QueryError::Push(error)
+    }
+}
+
+impl From<OutOfMemory> for QueryError {
+    fn from(_error: OutOfMemory) -> QueryError {
+        QueryError::OutOfMemory
+    }
+}
+
+/// The reply that stands beside the closure, to any request.
+struct Same {}
+
+impl Gives<AdditionalBuilder> for Same {
+    ghost item = { λ _ reply. Ok (record { response = Some reply.message; feedback = None }) };
+}
+
+/// What the closure gives.
+fn given(
+    alloc: Global,
+    _request: &Request<()>,
+    reply: &AdditionalBuilder,
+) -> Result<ServiceResult, OutOfMemory>
+    ensures { ForOk result (λ item. item ≡ Ok (record { response = Some reply.now.message; feedback = None })) }
+{
+    Ok(Ok(CallResult::new(reply.try_clone(alloc)?)))
+}
+
+/// The sum of the replies to so many queries of a service that answers at once.
+pub fn plain_replies(alloc: Global, count: u64) -> Result<u64, QueryError> {
+    let service = service_fn::<Same, _, AdditionalBuilder>(given, answer(alloc)?);
+    replies(alloc, &service, &mut QUERY, count)
+}
+
+/// The sum of the replies to so many queries of that service within the EDNS layer within the mandatory one.
+pub fn layered_replies(alloc: Global, count: u64) -> Result<u64, QueryError> {
+    through_layers(alloc, &mut QUERY, count)
+}
+
+/// The same for queries without an OPT record.
+pub fn bare_replies(alloc: Global, count: u64) -> Result<u64, QueryError> {
+    through_layers(alloc, &mut BARE_QUERY, count)
+}
+
+fn through_layers(alloc: Global, query: &mut [u8], count: u64) -> Result<u64, QueryError>
+    requires { 2 ≤ length query.old }
+{
+    let service = service_fn::<Same, _, AdditionalBuilder>(given, answer(alloc)?);
+    let service = MandatoryMiddlewareSvc::new(EdnsMiddlewareSvc::new(service));
+    replies(alloc, &service, query, count)
+}
+
+/// The answer of one address.
+fn answer(alloc: Global) -> Result<AdditionalBuilder, QueryError> {
+    let query = message(alloc, &QUERY)?;
+    let mut answer = MessageBuilder::new(alloc)?.start_answer(alloc, &query, Rcode::NOERROR)?;
+    let record = Record {
+        owner: Name::root(alloc)?,
+        class: Class::IN,
+        ttl: Ttl::from_secs(300),
+        rdata: RecordData::A([192, 0, 2, 1]),
+    };
+    answer.push(alloc, &record)?;
+    Ok(answer.additional())
+}
+
+/// The sum of the replies to so many queries, whose identifier is another each time.
+fn replies<S: Service<()>>(
+    alloc: Global,
+    service: &S,
+    query: &mut [u8],
+    count: u64,
+) -> Result<u64, QueryError>
+    requires can_call { S.can_call service.now }
+    requires identifier { 2 ≤ length query.old }
+{
+    let mut sum = 0u64;
+    for i in 0..count {
+        query[0] = (i / 256 % 256) as u8;
+        query[1] = (i % 256) as u8;
+        let mut request = request(alloc, query)?;
+        let reply = only_reply(alloc, service, &mut request)?;
+        sum = sum.wrapping_add(octet_sum(reply.as_slice()));
+    }
+    Ok(sum)
+}
+
+fn message(alloc: Global, octets: &[u8]) -> Result<Message, ParseError> {
+    Message::from_octets(Vec::from_slice(alloc, octets)?)
+}
+
+/// A query that came in a datagram, with the hint 1232.
+fn request(alloc: Global, octets: &[u8]) -> Result<Request<()>, ParseError> {
+    let sender = SocketAddr {
+        ip: IpAddr::V4([192, 0, 2, 1]),
+        port: 5353,
+    };
+    let transport = TransportSpecificContext::Udp(UdpTransportContext::new(Some(1232)));
+    let query = message(alloc, octets)?;
+    Ok(Request::new(alloc, sender, 5, 100, query, transport, ())?)
+}
+
+/// The one reply that a service gives at once.
+fn only_reply<S: Service<()>>(
+    alloc: Global,
+    service: &S,
+    request: &mut Request<()>,
+) -> Result<AdditionalBuilder, QueryError>
+    requires { S.can_call service.now }
+{
+    let mut future = service.call(alloc, request)?;
+    let Polled::Ready(mut stream) = future.poll(alloc)? else {
+        return Err(QueryError::Service);
+    };
+    let Polled::Ready(Some(Ok(item))) = stream.poll_next(alloc)? else {
+        return Err(QueryError::Service);
+    };
+    let (Some(reply), Polled::Ready(None)) = (item.into_inner().0, stream.poll_next(alloc)?) else {
+        return Err(QueryError::Service);
+    };
+    Ok(reply)
+}
+
+fn octet_sum(octets: &[u8]) -> u64 {
+    let mut sum = 0u64;
+    for octet in octets {
+        sum = sum.wrapping_add(u64::from(*octet));
+    }
+    sum
+}

@@ -1,0 +1,42 @@
+//! Does one piece of work many times over, so that `bench/calls` can time it beside the same work in C.
+#![tactic(auto)]
+
+mod build;
+mod hash;
+mod layers;
+mod read;
+mod response;
+mod work;
+
+use std::io;
+use std::process::ExitCode;
+use work::{Work, WorkError, done};
+
+const USAGE: &str = "Usage: bench_calls sip20|sip64|check|read|build|plain|layers|bare COUNT";
+
+/// The work that the words behind the program's name ask for, and how often.
+fn read_words(rt: &HostRuntime) -> io::Result<Option<(Work, u64)>> {
+    let mut words = std::env::args(rt)?.skip(1);
+    let (Some(work), Some(count), None) = (words.next(), words.next(), words.next()) else {
+        return Ok(None);
+    };
+    let Some(work) = Work::named(work.as_str()) else {
+        return Ok(None);
+    };
+    Ok(count.parse::<u64>().ok().map(|count| (work, count)))
+}
+
+fn main(rt: HostRuntime) -> io::Result<ExitCode> {
+    let Some((work, count)) = read_words(&rt)? else {
+        println!(rt; "{USAGE}")?;
+        return Ok(ExitCode::from(2));
+    };
+    match done(rt.alloc(), work, count) {
+        Ok(sum) => println!(rt; "{sum:016x}")?,
+        Err(error) => {
+            println!(rt; "{error}")?;
+            return Ok(ExitCode::from(1));
+        }
+    }
+    Ok(ExitCode::SUCCESS)
+}

@@ -1,0 +1,99 @@
+//! The pieces of work by name.
+
+use crate::build::{Parts, built};
+use crate::hash::{checks, hash_chain};
+use crate::layers::{QueryError, bare_replies, layered_replies, plain_replies};
+use crate::read::readings;
+use crate::response::RESPONSE;
+use dns_base::PushError;
+use dns_cookie::siphash24;
+use dns_name::{BuildDataError, LongOptData, OutOfMemory, ParseError};
+use std::alloc::{AllocError, AllocFailed, Global};
+use thiserror::Error;
+
+/// What is done many times over.
+#[derive(Clone, Copy, Debug, PartialEq, Eq)]
+pub enum Work {
+    /// A hash of 20 octets.
+    Sip20,
+    /// A hash of 64 octets.
+    Sip64,
+    /// A check of a server cookie's hash.
+    Check,
+    /// A reading of a response into borrowed views.
+    Read,
+    /// The building of that response.
+    Build,
+    /// A query to a service that answers at once.
+    Plain,
+    /// The same through the mandatory layer and the EDNS layer.
+    Layers,
+    /// The same for a query without an OPT record.
+    Bare,
+}
+
+impl Work {
+    /// The work of this name.
+    pub fn named(name: &str) -> Option<Work> {
+        match name {
+            "sip20" => Some(Work::Sip20),
+            "sip64" => Some(Work::Sip64),
+            "check" => Some(Work::Check),
+            "read" => Some(Work::Read),
+            "build" => Some(Work::Build),
+            "plain" => Some(Work::Plain),
+            "layers" => Some(Work::Layers),
+            "bare" => Some(Work::Bare),
+            _ => None,
+        }
+    }
+}
+
+/// Why work was not done.
+#[derive(Clone, Copy, Debug, PartialEq, Eq, Error)]
+pub enum WorkError {
+    #[error("the response is not read: {0}")]
+    Parse(ParseError),
+    #[error("the response is not built: {0}")]
+    Build(BuildDataError),
+    #[error("{0}")]
+    Query(QueryError),
+}
+
+impl From<ParseError> for WorkError {
+    fn from(error: ParseError) -> WorkError {
+        WorkError::Parse(error)
+    }
+}
+
+impl From<BuildDataError> for WorkError {
+    fn from(error: BuildDataError) -> WorkError {
+        WorkError::Build(error)
+    }
+}
+
+impl From<QueryError> for WorkError {
+    fn from(error: QueryError) -> WorkError {
+        WorkError::Query(error)
+    }
+}
+
+/// Does work so many times, and gives a number that tells on each of its results.
+pub fn done(alloc: Global, work: Work, count: u64) -> Result<u64, WorkError> {
+    match work {
+        Work::Sip20 => Ok(hash_chain(&mut [0; 20], count)),
+        Work::Sip64 => Ok(hash_chain(&mut [0; 64], count)),
+        Work::Check => Ok(checks(count)),
+        Work::Read => {
+            let mut octets = Vec::from_slice(alloc, RESPONSE).map_err(|_| ParseError::OutOfMemory)?;
+            Ok(readings(octets.as_mut_slice(), count)?)
+        }
+        Work::Build => {
+            let parts = Parts::of(alloc, RESPONSE)?;
+            Ok(built(alloc, &parts, count)?)
+        }
+        Work::Plain => Ok(plain_replies(alloc, count)?),
+        Work::Layers => Ok(layered_replies(alloc, count)?),
+        Work::Bare => Ok(bare_replies(alloc, count)?),
+    }
+}
