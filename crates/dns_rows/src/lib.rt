@@ -2,4 +2,6 @@
 #![tactic(auto)]
 
 #[cfg(test)]
+mod option_rows;
+#[cfg(test)]
 mod tests;
