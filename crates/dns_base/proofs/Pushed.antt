@@ -3,6 +3,7 @@ use Rattle.std.proofs.Common.{◌≡◌, ℕ, ◌+◌, ◌-◌, ◌≤◌, ◌<�
 use Rattle.std.specs.Prelude.{⊤}
 use Rattle.std.specs.List.{flat_map, AllByRecursion}
 use Rattle.std.proofs.lemmas.Grind.{common_steps}
+use Rattle.std.proofs.lemmas.List.{drop-append-le}
 use Rattle.std.proofs.lemmas.List.Concat.{flat_map-append}
 use Rattle.dns_name.specs.Place.{two, four}
 use Rattle.dns_name.specs.Labels.{spell}
@@ -45,6 +46,10 @@ draft_wire o limit b d v =
     let w : drop 2 o ≡ wire b.message = d.built.whole ∙ ap wire e in
     (w, subst IsMessage e d.built.lawful, omega (arith, ap length w, d.built.short), sym (ap (λ (x : Built). x.limit) v))
 
+-- the message with octets behind it
+pub longer : (o p x : List ℕ) (limit : ℕ) (b : Built) → IsDraft o limit → viewed o limit ≡ b → p ≡ o ++ x → drop 2 p ≡ wire b.message ++ x
+longer o p x limit b d v h = ap (drop 2) h ∙ (drop-append-le 2 o x d.framed ∙ ap (λ t. t ++ x) (draft_wire o limit b d v).0)
+
 -- ---- more of a list
 
 more_items : {A : Type 0} (f : A → List ℕ) (xs : List A) (x : A) → flat_map f (xs ++ x ∷ []) ≡ flat_map f xs ++ f x
@@ -69,6 +74,17 @@ fields m = (halves (length m.questions), halves (length m.answers), halves (leng
 
 pub counts_are : (m : Msg) (o : List ℕ) → o ≡ wire m → counts_of o ≡ item_counts m
 counts_are m o e = let f = fields m in rw (e, f.0, f.1, f.2, f.3) refl
+
+-- the counts with octets behind the message
+field_on : (s : Section) (m : Msg) (x : List ℕ) → field (count_place s) (wire m ++ x) ≡ field (count_place s) (wire m)
+unfolding wire
+field_on Answer m x = refl
+field_on Authority m x = refl
+field_on Additional m x = refl
+
+questions_on : (m : Msg) (x : List ℕ) → field 4 (wire m ++ x) ≡ field 4 (wire m)
+unfolding wire
+questions_on m x = refl
 
 few_questions : (qs : List Question) → length qs ≤ length (flat_map question_octets qs)
 few_questions [] = omega arith
@@ -112,6 +128,13 @@ room o limit d =
     let f10 : field 10 (drop 2 o) ≡ length m.additional = ap (field 10) b.whole ∙ f.3 in
     (omega (arith, s.0, length-drop 2 o), omega (arith, s.0), omega (arith, s.1), omega (arith, s.2), omega (arith, s.3))
 
+-- the count of questions has room, also with octets behind the message
+pub room_on : (o p x : List ℕ) (limit : ℕ) (b : Built) → IsDraft o limit → viewed o limit ≡ b → p ≡ o ++ x → (13 < length p) × (field 4 (drop 2 p) < 65535)
+room_on o p x limit b d v h =
+    let r = room o limit d in
+    let e : field 4 (drop 2 p) ≡ field 4 (drop 2 o) = ap (field 4) (longer o p x limit b d v h) ∙ (questions_on b.message x ∙ ap (field 4) (sym (draft_wire o limit b d v).0)) in
+    (omega (arith, r.0, ap length h, length-append o x), omega (arith, e, r.1))
+
 -- ---- a question more
 
 body_question : (m : Msg) (q : Question) → NoRecords m → body (and_question m q) ≡ body m ++ question_octets q
@@ -119,10 +142,10 @@ body_question m q h =
     let fq = flat_map question_octets m.questions in
     rw (h.answers, h.authority, h.additional, more_items question_octets m.questions q, append-nil (fq ++ question_octets q), append-nil fq) refl
 
-wire_question : (m : Msg) (q : Question) → NoRecords m → counted 4 (length m.questions + 1) (wire m ++ question_octets q) ≡ wire (and_question m q)
+wire_question : (m : Msg) (q : Question) → NoRecords m → counted 4 (field 4 (wire m ++ question_octets q) + 1) (wire m ++ question_octets q) ≡ wire (and_question m q)
 unfolding wire
 wire_question m q h =
-    ap (λ n. framed m.header n (length m.answers) (length m.authority) (length m.additional) (body m ++ question_octets q)) (sym (one_more m.questions q))
+    ap (λ n. framed m.header n (length m.answers) (length m.authority) (length m.additional) (body m ++ question_octets q)) (ap (λ n. n + 1) (halves (length m.questions)) ∙ sym (one_more m.questions q))
     ∙ ap (λ t. framed m.header (length (m.questions ++ q ∷ [])) (length m.answers) (length m.authority) (length m.additional) t) (sym (body_question m q h))
 
 question_length : (m : Msg) (q : Question) → length (wire (and_question m q)) ≡ length (wire m) + length (question_octets q)
@@ -144,18 +167,16 @@ question_grows o limit b q d v =
     (omega (arith, question_length b.message q, l, length-drop 2 o), w.3)
 
 -- a push of a question
-pub question_done : (o o' p : List ℕ) (limit : ℕ) (b : Built) (q : Question) → IsDraft o limit → viewed o limit ≡ b → HasName q → NoRecords b.message →
-    p ≡ question_octets q → drop 2 o' ≡ counted 4 (field 4 (drop 2 o) + 1) (drop 2 o ++ p) → length o' ≡ length o + length p → length o - 2 + length (question_octets q) ≤ limit →
+pub question_done : (o p o' : List ℕ) (limit : ℕ) (b : Built) (q : Question) → IsDraft o limit → viewed o limit ≡ b → HasName q → NoRecords b.message →
+    p ≡ o ++ question_octets q → drop 2 o' ≡ counted 4 (field 4 (drop 2 p) + 1) (drop 2 p) → length o' ≡ length p → length o - 2 + length (question_octets q) ≤ limit →
     IsDraft o' limit × (viewed o' limit ≡ with_question b q)
-question_done o o' p limit b q d v n r hp h l s =
+question_done o p o' limit b q d v n r hp h l s =
     let w = draft_wire o limit b d v in
     let m = b.message in
-    let f : field 4 (drop 2 o) ≡ length m.questions = ap (field 4) w.0 ∙ (fields m).0 in
-    let e : drop 2 o' ≡ wire (and_question m q) =
-    h ∙ (ap (λ t. counted 4 (field 4 (drop 2 o) + 1) (drop 2 o ++ t)) hp ∙ (ap (λ n. counted 4 (n + 1) (drop 2 o ++ question_octets q)) f ∙ (ap (λ t. counted 4 (length m.questions + 1) (t ++ question_octets q)) w.0 ∙ wire_question m q r))) in
+    let e : drop 2 o' ≡ wire (and_question m q) = h ∙ (ap (λ t. counted 4 (field 4 t + 1) t) (longer o p (question_octets q) limit b d v hp) ∙ wire_question m q r) in
     let g = question_grows o limit b q d v in
     let i = w.1 in
-    let k = drafted o' (and_question m q) limit e (record { header = i.header; questions = all_more HasName m.questions q i.questions n; answers = i.answers; authority = i.authority; additional = i.additional }) (omega (arith, g.0, d.limited)) d.limited (omega (arith, d.framed)) in
+    let k = drafted o' (and_question m q) limit e (record { header = i.header; questions = all_more HasName m.questions q i.questions n; answers = i.answers; authority = i.authority; additional = i.additional }) (omega (arith, g.0, d.limited)) d.limited (omega (arith, d.framed, ap length hp, length-append o (question_octets q))) in
     (k.0, k.1 ∙ ap (λ x. built (and_question m q) x) (sym w.3))
 
 -- ---- a record more
@@ -185,7 +206,7 @@ body_additional m r =
     rw (more_items record_octets m.additional r)
     (ap (λ t. fq ++ (fa ++ t)) (sym (append_assoc fn fr x)) ∙ (ap (λ t. fq ++ t) (sym (append_assoc fa (fn ++ fr) x)) ∙ sym (append_assoc fq (fa ++ (fn ++ fr)) x)))
 
-wire_record : (s : Section) (m : Msg) (r : ResourceRecord) → IsLast s m → counted (count_place s) (field (count_place s) (wire m) + 1) (wire m ++ record_octets r) ≡ wire (and_record s m r)
+wire_record : (s : Section) (m : Msg) (r : ResourceRecord) → IsLast s m → counted (count_place s) (field (count_place s) (wire m ++ record_octets r) + 1) (wire m ++ record_octets r) ≡ wire (and_record s m r)
 unfolding wire
 wire_record Answer m r h =
     let x = body m ++ record_octets r in
@@ -204,7 +225,7 @@ counted_length : (at n : ℕ) (o p : List ℕ) → length (counted at n (o ++ p)
 counted_length at n o p = grind (arith, common_steps)
 
 record_length : (s : Section) (m : Msg) (r : ResourceRecord) → IsLast s m → length (wire (and_record s m r)) ≡ length (wire m) + length (record_octets r)
-record_length s m r h = ap length (sym (wire_record s m r h)) ∙ counted_length (count_place s) (field (count_place s) (wire m) + 1) (wire m) (record_octets r)
+record_length s m r h = ap length (sym (wire_record s m r h)) ∙ counted_length (count_place s) (field (count_place s) (wire m ++ record_octets r) + 1) (wire m) (record_octets r)
 
 lawful_record : (s : Section) (m : Msg) (r : ResourceRecord) → IsMessage m → HasOwner r → IsMessage (and_record s m r)
 lawful_record Answer m r i n = record { header = i.header; questions = i.questions; answers = all_more HasOwner m.answers r i.answers n; authority = i.authority; additional = i.additional }
@@ -217,6 +238,13 @@ count_room o limit Answer d = (room o limit d).2
 count_room o limit Authority d = (room o limit d).3
 count_room o limit Additional d = (room o limit d).4
 
+-- also with octets behind it
+pub count_room_on : (o p x : List ℕ) (limit : ℕ) (b : Built) (s : Section) → IsDraft o limit → viewed o limit ≡ b → p ≡ o ++ x → field (count_place s) (drop 2 p) < 65535
+count_room_on o p x limit b s d v h =
+    let e : field (count_place s) (drop 2 p) ≡ field (count_place s) (drop 2 o) =
+    ap (field (count_place s)) (longer o p x limit b d v h) ∙ (field_on s b.message x ∙ ap (field (count_place s)) (sym (draft_wire o limit b d v).0)) in
+    omega (arith, e, count_room o limit s d)
+
 -- how long the message is with the record
 pub record_grows : (o : List ℕ) (limit : ℕ) (b : Built) (s : Section) (r : ResourceRecord) → IsDraft o limit → viewed o limit ≡ b → IsLast s b.message →
     (length (wire (and_record s b.message r)) ≡ length o - 2 + length (record_octets r)) × (b.limit ≡ limit)
@@ -226,17 +254,16 @@ record_grows o limit b s r d v h =
     (omega (arith, record_length s b.message r h, l, length-drop 2 o), w.3)
 
 -- a push of a record
-pub record_done : (o o' p : List ℕ) (limit : ℕ) (b : Built) (s : Section) (r : ResourceRecord) → IsDraft o limit → viewed o limit ≡ b → HasOwner r → IsLast s b.message →
-    p ≡ record_octets r → drop 2 o' ≡ counted (count_place s) (field (count_place s) (drop 2 o) + 1) (drop 2 o ++ p) → length o' ≡ length o + length p → length o - 2 + length (record_octets r) ≤ limit →
+pub record_done : (o p o' : List ℕ) (limit : ℕ) (b : Built) (s : Section) (r : ResourceRecord) → IsDraft o limit → viewed o limit ≡ b → HasOwner r → IsLast s b.message →
+    p ≡ o ++ record_octets r → drop 2 o' ≡ counted (count_place s) (field (count_place s) (drop 2 p) + 1) (drop 2 p) → length o' ≡ length p → length o - 2 + length (record_octets r) ≤ limit →
     IsDraft o' limit × (viewed o' limit ≡ with_record s b r)
-record_done o o' p limit b s r d v n h hp k l f =
+record_done o p o' limit b s r d v n h hp k l f =
     let w = draft_wire o limit b d v in
     let m = b.message in
     let e : drop 2 o' ≡ wire (and_record s m r) =
-    k ∙ (ap (λ t. counted (count_place s) (field (count_place s) (drop 2 o) + 1) (drop 2 o ++ t)) hp
-    ∙ (ap (λ t. counted (count_place s) (field (count_place s) t + 1) (t ++ record_octets r)) w.0 ∙ wire_record s m r h)) in
+    k ∙ (ap (λ t. counted (count_place s) (field (count_place s) t + 1) t) (longer o p (record_octets r) limit b d v hp) ∙ wire_record s m r h) in
     let g = record_grows o limit b s r d v h in
-    let t = drafted o' (and_record s m r) limit e (lawful_record s m r w.1 n) (omega (arith, g.0, d.limited)) d.limited (omega (arith, d.framed)) in
+    let t = drafted o' (and_record s m r) limit e (lawful_record s m r w.1 n) (omega (arith, g.0, d.limited)) d.limited (omega (arith, d.framed, ap length hp, length-append o (record_octets r))) in
     (t.0, t.1 ∙ ap (λ x. built (and_record s m r) x) (sym w.3))
 
 -- ---- other changes

@@ -14,7 +14,7 @@ use Rattle.dns_base.specs.Built.{Built, with_record}
 use Rattle.dns_base.specs.Draft.{IsDraft, counted, start_of}
 use Rattle.dns_base.specs.Replaced.{other_than, less_type, records_at, spelling, AreSpelt}
 use Rattle.dns_base.proofs.Written.{past, record_written, items_written}
-use Rattle.dns_base.proofs.Pushed.{built, viewed, drafted, draft_wire, fields, count_room}
+use Rattle.dns_base.proofs.Pushed.{built, viewed, drafted, draft_wire, longer, fields, count_room}
 use Rattle.dns_base.proofs.Rewound.{framed, kept, starts, start_known}
 use Rattle.dns_base.proofs.Sieved.{sieved, fewer}
 
@@ -155,10 +155,10 @@ replaced_length o limit b t start r d v h =
     let a = start_known Additional o start limit b d v h in
     (omega (arith, having_length m (rs ++ r ∷ []), ap length x, length-append (spelling rs) (record_octets r), a), (draft_wire o limit b d v).3)
 
-pub replaced : (o o' p : List ℕ) (limit : ℕ) (b : Built) (t start count n : ℕ) (r : ResourceRecord) → IsDraft o limit → viewed o limit ≡ b → start_of Additional (wire b.message) ≡ Ok start → count ≡ length b.message.additional → n ≡ length (other_than t b.message.additional) →
-    HasOwner r → p ≡ record_octets r → start + length (spelling (other_than t b.message.additional)) + length (record_octets r) ≤ limit →
-    drop 2 o' ≡ counted 10 (n + 1) (sieved (drop 2 o ++ p) t count start) → 14 ≤ length o' → IsDraft o' limit × (viewed o' limit ≡ with_record Additional (less_type t b) r)
-replaced o o' p limit b t start count n r d v h k l i j s e f =
+pub replaced : (o p o' : List ℕ) (limit : ℕ) (b : Built) (t start count n : ℕ) (r : ResourceRecord) → IsDraft o limit → viewed o limit ≡ b → start_of Additional (wire b.message) ≡ Ok start → count ≡ length b.message.additional → n ≡ length (other_than t b.message.additional) →
+    HasOwner r → p ≡ o ++ record_octets r → start + length (spelling (other_than t b.message.additional)) + length (record_octets r) ≤ limit →
+    drop 2 o' ≡ counted 10 (n + 1) (sieved (drop 2 p) t count start) → 14 ≤ length o' → IsDraft o' limit × (viewed o' limit ≡ with_record Additional (less_type t b) r)
+replaced o p o' limit b t start count n r d v h k l i j s e f =
     let w = draft_wire o limit b d v in
     let m = b.message in
     let rs = other_than t m.additional in
@@ -168,9 +168,9 @@ replaced o o' p limit b t start count n r d v h k l i j s e f =
     let x = record_octets r in
     let c : n + 1 ≡ length more = omega (arith, l, length-append rs (r ∷ [])) in
     let u : spelling rs ++ x ≡ spelling more = sym (flat_map-append record_octets rs (r ∷ []) ∙ ap (λ t. spelling rs ++ t) (append-nil x)) in
-    let z : drop 2 o ++ p ≡ wire m ++ x = ap (λ y. y ++ p) w.0 ∙ ap (λ y. wire m ++ y) j in
+    let z : drop 2 p ≡ wire m ++ x = longer o p x limit b d v j in
     let g : drop 2 o' ≡ wire (having m more) =
-    e ∙ (ap (λ x. counted 10 x (sieved (drop 2 o ++ p) t count start)) c
+    e ∙ (ap (λ x. counted 10 x (sieved (drop 2 p) t count start)) c
     ∙ (ap (λ y. counted 10 (length more) (sieved y t count start)) z
     ∙ (ap (λ y. counted 10 (length more) (sieved (wire m ++ x) t y start)) k
     ∙ (ap (λ y. counted 10 (length more) (sieved (wire m ++ x) t (length m.additional) y)) a

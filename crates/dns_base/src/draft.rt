@@ -1,6 +1,6 @@
 //! A message as it is being built.
 
-ghost use Rattle.std.specs.Prelude.{◌≡◌, ◌≤◌, ◌<◌, ◌+◌, ◌++◌, [], length, drop, take, min, IsTrue, IfOk, OnOk, OnErr, ◌↔◌};
+ghost use Rattle.std.specs.Prelude.{◌≡◌, ◌≤◌, ◌<◌, ◌+◌, ◌++◌, [], length, drop, take, min, IsTrue, IfOk, ◌↔◌};
 ghost use Rattle.dns_base.specs.Header.{header_octets, IsHeader};
 ghost use Rattle.dns_base.specs.Msg.{IsMessage, item_counts};
 ghost use Rattle.dns_base.specs.Wire.{wire};
@@ -16,7 +16,7 @@ use crate::header::{Header, HeaderCounts, lower_of, number_at, upper_of};
 use crate::message::{Message, MessageRef, end_of_answers, end_of_authority, end_of_questions};
 use crate::question::Question;
 use crate::record::Record;
-use crate::replace::{Others, count_others, replace, squeeze};
+use crate::replace::{Others, count_others, squeeze};
 use crate::stream::StreamTarget;
 use dns_name::{OutOfMemory, ParseError, Rtype};
 use std::alloc::Global;
@@ -151,8 +151,8 @@ impl Draft {
         if self.octets.len() - 2 + question.size() > self.limit {
             return Err(PushError::ShortBuf);
         }
-        let piece = question.octets(alloc)?;
-        append(&mut self.octets, 4, piece.as_slice())?;
+        question.compose(alloc, &mut self.octets)?;
+        count_more(&mut self.octets, 4);
         Ok(())
     }
 
@@ -170,8 +170,8 @@ impl Draft {
         if self.octets.len() - 2 + record.size() > self.limit {
             return Err(PushError::ShortBuf);
         }
-        let piece = record.octets(alloc)?;
-        append(&mut self.octets, count_place(section), piece.as_slice())?;
+        record.compose(alloc, &mut self.octets)?;
+        count_more(&mut self.octets, count_place(section));
         Ok(())
     }
 
@@ -270,14 +270,8 @@ impl Draft {
         if others.start + others.size + record.size() > self.limit {
             return Err(PushError::ShortBuf);
         }
-        let piece = record.octets(alloc)?;
-        replace(
-            &mut self.octets,
-            others,
-            rtype,
-            others.kept + 1,
-            piece.as_slice(),
-        )?;
+        record.compose(alloc, &mut self.octets)?;
+        squeeze(&mut self.octets, others, rtype, others.kept + 1);
         Ok(())
     }
 
@@ -304,19 +298,16 @@ fn put_header(octets: &mut Vec<u8>, header: &Header)
     octets[5] = lower_of(header);
 }
 
-/// Appends an item to a message that stands behind two octets, and counts it at a place of the message.
-fn append(octets: &mut Vec<u8>, at: usize, piece: &[u8]) -> Result<(), OutOfMemory>
+/// Counts one item more at a place of a message that stands behind two octets.
+fn count_more(octets: &mut Vec<u8>, at: usize)
     requires within { at + 3 < length octets.old.items }
     requires few { field at (drop 2 octets.old.items) < 65535 }
-    ensures ok { OnOk result (drop 2 octets.new.items ≡ counted at (field at (drop 2 octets.old.items) + 1) (drop 2 octets.old.items ++ piece.now)) }
-    ensures err { OnErr result (octets.new.items ≡ octets.old.items) }
-    ensures len { OnOk result (length octets.new.items ≡ length octets.old.items + length piece.now) }
+    ensures message { drop 2 octets.new.items ≡ counted at (field at (drop 2 octets.old.items) + 1) (drop 2 octets.old.items) }
+    ensures len { length octets.new.items ≡ length octets.old.items }
 {
     let count = number_at(&octets.as_slice()[2..], at) + 1;
-    octets.extend_from_slice(piece)?;
     octets[at + 2] = (count / 256) as u8;
     octets[at + 3] = (count % 256) as u8;
-    Ok(())
 }
 
 /// Where a section of records begins in a message.

@@ -1,6 +1,6 @@
 //! Questions.
 
-ghost use Rattle.std.specs.Prelude.{◌≡◌, ◌≤◌, ◌<◌, ◌+◌, ◌++◌, length, IfOk, OnOk};
+ghost use Rattle.std.specs.Prelude.{◌≡◌, ◌≤◌, ◌<◌, ◌+◌, ◌++◌, length, take, IfOk, OnOk, OnErr};
 ghost use Rattle.std.specs.Iterator.{YieldsFirst, item_count};
 ghost use Rattle.dns_base.specs.Read.{question_at};
 ghost use Rattle.dns_base.specs.Sections.{ends_at, to_come};
@@ -8,7 +8,7 @@ ghost use Rattle.dns_base.specs.Wire.{question_octets};
 ghost use Rattle.dns_base.specs.Msg.{HasName};
 
 use crate::read::two_in;
-use crate::write::push_two;
+use crate::write::{push_two, settle};
 use dns_name::{Class, Name, OutOfMemory, ParseError, ParsedName, Rtype};
 use std::alloc::Global;
 use std::marker::Model;
@@ -33,15 +33,24 @@ impl Question {
         self.qname.as_slice().len() + 4
     }
 
-    /// The octets of a question.
-    pub(crate) fn octets(&self, alloc: Global) -> Result<Vec<u8>, OutOfMemory>
-        ensures { IfOk result (λ v. v.items ≡ question_octets self.now) }
+    /// Appends the octets of a question, or nothing.
+    pub(crate) fn compose(&self, alloc: Global, target: &mut Vec<u8>) -> Result<(), OutOfMemory>
+        ensures ok { OnOk result (target.new.items ≡ target.old.items ++ question_octets self.now) }
+        ensures err { OnErr result (target.new.items ≡ target.old.items) }
     {
-        let mut target = Vec::with_capacity(alloc, self.size())?;
-        self.qname.compose(alloc, &mut target)?;
-        push_two(&mut target, self.qtype.to_int())?;
-        push_two(&mut target, self.qclass.to_int())?;
-        Ok(target)
+        let start = target.len();
+        let written = self.write(alloc, target);
+        settle(target, start, written)
+    }
+
+    /// Appends the octets of a question, or some of them.
+    fn write(&self, alloc: Global, target: &mut Vec<u8>) -> Result<(), OutOfMemory>
+        ensures ok { OnOk result (target.new.items ≡ target.old.items ++ question_octets self.now) }
+        ensures err { OnErr result (take (length target.old.items) target.new.items ≡ target.old.items) }
+    {
+        self.qname.compose(alloc, target)?;
+        push_two(target, self.qtype.to_int())?;
+        push_two(target, self.qclass.to_int())
     }
 }
 

@@ -1,11 +1,11 @@
 //! The data of records.
 
-ghost use Rattle.std.specs.Prelude.{◌≡◌, ◌≤◌, ◌<◌, ◌++◌, ◌^◌, length, IfSome, OnOk};
+ghost use Rattle.std.specs.Prelude.{◌≡◌, ◌≤◌, ◌<◌, ◌++◌, ◌^◌, length, take, IfSome, OnOk, OnErr};
 ghost use Rattle.dns_name.specs.Place.{four};
 ghost use Rattle.dns_base.specs.Records.{data_octets, data_type, opt_data, shape_of, unknown_data, IsLawful};
 
 use crate::option_list::is_option_list;
-use crate::write::{push_four, push_two};
+use crate::write::{push_four, push_octets, push_two, settle};
 use dns_name::{Name, Octets, OutOfMemory, Rtype, Serial, Ttl};
 use std::alloc::Global;
 
@@ -162,13 +162,24 @@ impl RecordData {
         }
     }
 
-    /// Appends the data's octets, names uncompressed.
+    /// Appends the data's octets, names uncompressed, or nothing.
     pub fn compose(&self, alloc: Global, target: &mut Vec<u8>) -> Result<(), OutOfMemory>
-        ensures { OnOk result (target.new.items ≡ target.old.items ++ data_octets self.now) }
+        ensures ok { OnOk result (target.new.items ≡ target.old.items ++ data_octets self.now) }
+        ensures err { OnErr result (target.new.items ≡ target.old.items) }
+    {
+        let start = target.len();
+        let written = self.write(alloc, target);
+        settle(target, start, written)
+    }
+
+    /// Appends the data's octets, or some of them.
+    fn write(&self, alloc: Global, target: &mut Vec<u8>) -> Result<(), OutOfMemory>
+        ensures ok { OnOk result (target.new.items ≡ target.old.items ++ data_octets self.now) }
+        ensures err { OnErr result (take (length target.old.items) target.new.items ≡ target.old.items) }
     {
         match self {
-            RecordData::A(octets) => append(target, octets),
-            RecordData::Aaaa(octets) => append(target, octets),
+            RecordData::A(octets) => push_octets(target, octets),
+            RecordData::Aaaa(octets) => push_octets(target, octets),
             RecordData::Named { name, .. } => name.compose(alloc, target),
             RecordData::Soa {
                 mname,
@@ -206,8 +217,8 @@ impl RecordData {
                 push_two(target, *port)?;
                 host.compose(alloc, target)
             }
-            RecordData::Opt(octets) => append(target, octets.as_slice()),
-            RecordData::Unknown { octets, .. } => append(target, octets.as_slice()),
+            RecordData::Opt(octets) => push_octets(target, octets.as_slice()),
+            RecordData::Unknown { octets, .. } => push_octets(target, octets.as_slice()),
         }
     }
 }
@@ -221,19 +232,12 @@ fn push_numbers(
     expire: Ttl,
     minimum: Ttl,
 ) -> Result<(), OutOfMemory>
-    ensures { OnOk result (target.new.items ≡ target.old.items ++ (four serial.0 ++ (four refresh ++ (four retry ++ (four expire ++ four minimum))))) }
+    ensures ok { OnOk result (target.new.items ≡ target.old.items ++ (four serial.0 ++ (four refresh ++ (four retry ++ (four expire ++ four minimum))))) }
+    ensures err { OnErr result (take (length target.old.items) target.new.items ≡ target.old.items) }
 {
     push_four(target, serial.into_int())?;
     push_four(target, refresh.as_secs())?;
     push_four(target, retry.as_secs())?;
     push_four(target, expire.as_secs())?;
     push_four(target, minimum.as_secs())
-}
-
-/// Appends octets.
-fn append(target: &mut Vec<u8>, octets: &[u8]) -> Result<(), OutOfMemory>
-    ensures { OnOk result (target.new.items ≡ target.old.items ++ octets.now) }
-{
-    target.extend_from_slice(octets)?;
-    Ok(())
 }

@@ -1,6 +1,6 @@
 //! Records.
 
-ghost use Rattle.std.specs.Prelude.{◌≡◌, ◌≤◌, ◌<◌, ◌+◌, length, IfOk, OnOk};
+ghost use Rattle.std.specs.Prelude.{◌≡◌, ◌≤◌, ◌<◌, ◌+◌, ◌++◌, length, take, IfOk, OnOk, OnErr};
 ghost use Rattle.std.specs.Iterator.{YieldsFirst, item_count};
 ghost use Rattle.dns_base.specs.Msg.{HasOwner};
 ghost use Rattle.dns_base.specs.Records.{IsLawful, record_of};
@@ -11,7 +11,7 @@ ghost use Rattle.dns_base.specs.Wire.{record_octets};
 use crate::rdata::RecordData;
 use crate::rdata_read::data_in;
 use crate::read::{four_in, octets_in, two_in};
-use crate::write::{push_four, push_two};
+use crate::write::{push_four, push_two, settle};
 use dns_name::{Class, Name, OutOfMemory, ParseError, ParsedName, Rtype, Ttl};
 use std::alloc::Global;
 use std::marker::Model;
@@ -40,19 +40,29 @@ impl Record {
         self.owner.as_slice().len() + 10 + self.rdata.size()
     }
 
-    /// The octets of a record.
-    pub(crate) fn octets(&self, alloc: Global) -> Result<Vec<u8>, OutOfMemory>
+    /// Appends the octets of a record, or nothing.
+    pub(crate) fn compose(&self, alloc: Global, target: &mut Vec<u8>) -> Result<(), OutOfMemory>
         requires { IsLawful self.now.rdata }
-        ensures { IfOk result (λ v. v.items ≡ record_octets (record_of self.now)) }
+        ensures ok { OnOk result (target.new.items ≡ target.old.items ++ record_octets (record_of self.now)) }
+        ensures err { OnErr result (target.new.items ≡ target.old.items) }
     {
-        let mut target = Vec::with_capacity(alloc, self.size())?;
-        self.owner.compose(alloc, &mut target)?;
-        push_two(&mut target, self.rdata.rtype().to_int())?;
-        push_two(&mut target, self.class.to_int())?;
-        push_four(&mut target, self.ttl.as_secs())?;
-        push_two(&mut target, self.rdata.size() as u16)?;
-        self.rdata.compose(alloc, &mut target)?;
-        Ok(target)
+        let start = target.len();
+        let written = self.write(alloc, target);
+        settle(target, start, written)
+    }
+
+    /// Appends the octets of a record, or some of them.
+    fn write(&self, alloc: Global, target: &mut Vec<u8>) -> Result<(), OutOfMemory>
+        requires { IsLawful self.now.rdata }
+        ensures ok { OnOk result (target.new.items ≡ target.old.items ++ record_octets (record_of self.now)) }
+        ensures err { OnErr result (take (length target.old.items) target.new.items ≡ target.old.items) }
+    {
+        self.owner.compose(alloc, target)?;
+        push_two(target, self.rdata.rtype().to_int())?;
+        push_two(target, self.class.to_int())?;
+        push_four(target, self.ttl.as_secs())?;
+        push_two(target, self.rdata.size() as u16)?;
+        self.rdata.compose(alloc, target)
     }
 }
 

@@ -1,12 +1,12 @@
 //! Records of a type among those that stand in a built message.
 
-ghost use Rattle.std.specs.Prelude.{◌≡◌, ◌≤◌, ◌<◌, ◌+◌, ◌-◌, ◌++◌, length, take, drop, OnOk, OnErr};
+ghost use Rattle.std.specs.Prelude.{◌≡◌, ◌≤◌, ◌<◌, ◌+◌, ◌-◌, ◌++◌, length, take, drop};
 ghost use Rattle.dns_base.specs.Draft.{counted};
 ghost use Rattle.dns_base.specs.Replaced.{AreSpelt, behind_records, kept_of, kept_part, other_than, records_at, spelling};
 ghost use Rattle.dns_base.specs.Standing.{record_at};
 
 use crate::record::record_in;
-use dns_name::{OutOfMemory, Rtype};
+use dns_name::Rtype;
 
 /// The records of other types than one, among so many from a place of a message on.
 #[derive(Clone, Copy)]
@@ -91,26 +91,6 @@ pub(crate) fn count_others(message: &[u8], start: usize, count: u16, rtype: Rtyp
         kept,
         size,
     }
-}
-
-/// Drops the records of a type, and puts octets behind the others; what was behind the records stays before these octets.
-pub(crate) fn replace(
-    octets: &mut Vec<u8>,
-    others: Others,
-    rtype: Rtype,
-    count: u16,
-    piece: &[u8],
-) -> Result<(), OutOfMemory>
-    requires header { 14 ≤ length octets.old.items }
-    requires spelt { AreSpelt (drop 2 octets.old.items ++ piece.now) others.count others.start }
-    requires behind { 12 ≤ others.start }
-    ensures ok { OnOk result (drop 2 octets.new.items ≡ counted 10 count (take others.start (drop 2 octets.old.items ++ piece.now) ++ (spelling (other_than rtype (records_at (drop 2 octets.old.items ++ piece.now) others.count others.start)) ++ behind_records (drop 2 octets.old.items ++ piece.now) others.count others.start))) }
-    ensures framed { 14 ≤ length octets.new.items }
-    ensures err { OnErr result (octets.new.items ≡ octets.old.items) }
-{
-    octets.extend_from_slice(piece)?;
-    squeeze(octets, others, rtype, count);
-    Ok(())
 }
 
 /// Drops the records of a type in a message that stands behind two octets, and sets the count at its place 10.
