@@ -13,8 +13,8 @@ use Rattle.dns_base.specs.Standing.{Standing, data_at, standing_at, typed, typed
 use Rattle.dns_base.specs.Sections.{all_of, items_from, to_come, reached, questions_of, answers_of, authority_of, standing_answers, standing_authority, standing_additional}
 use Rattle.dns_base.specs.TypedData.{IsTyped, StandsFor, IsReadAs, ReadsBack}
 use Rattle.dns_base.proofs.Coming.{all_come}
-use Rattle.dns_base.proofs.Written.{past, halves, questions_written, answers_written, authority_written}
-use Rattle.dns_base.proofs.TypedWritten.{two_here, four_here, octets_here, data_written}
+use Rattle.dns_base.proofs.Written.{past, halves, two_written, four_written, octets_written, questions_written, answers_written, authority_written}
+use Rattle.dns_base.proofs.TypedWritten.{data_written}
 
 -- a record whose data stands at a place
 abbrev standing_by : ResourceRecord → List ℕ → ℕ → Standing
@@ -40,16 +40,16 @@ standing_written x o more at n h =
     let h0 : drop at o ≡ s ++ t1 = h ∙ append_assoc s (two x.rtype ++ (two x.class ++ (four x.ttl ++ (two (length d) ++ d)))) more in
     let a = name_spelt x.owner o t1 at h0 n in
     let h1 = past o s t1 at h0 in
-    let b = two_here o t2 (at + length s) x.rtype h1 in
+    let b = two_written o t2 (at + length s) x.rtype h1 in
     let h2 = past o (two x.rtype) t2 (at + length s) h1 in
-    let c = two_here o t3 (at + length s + 2) x.class h2 in
+    let c = two_written o t3 (at + length s + 2) x.class h2 in
     let h3 = past o (two x.class) t3 (at + length s + 2) h2 in
-    let f = four_here o t4 (at + length s + 2 + 2) x.ttl h3 in
+    let f = four_written o t4 (at + length s + 2 + 2) x.ttl h3 in
     let h4 = past o (four x.ttl) t4 (at + length s + 2 + 2) h3 in
-    let g = two_here o t5 (at + length s + 2 + 2 + 4) (length d) h4 in
+    let g = two_written o t5 (at + length s + 2 + 2 + 4) (length d) h4 in
     let h5 = past o (two (length d)) t5 (at + length s + 2 + 2 + 4) h4 in
     let p = at + length s + 2 + 2 + 4 + 2 in
-    let i = octets_here o more d p h5 in
+    let i = octets_written o more d p h5 in
     let k : p ≤ length o = omega (arith, ap length h4, length-drop (at + length s + 2 + 2 + 4) o) in
     let e : p + length d ≡ at + length (record_octets x) = omega (arith, length-append s (two x.rtype ++ (two x.class ++ (four x.ttl ++ (two (length d) ++ d))))) in
     (standing_by x o p, rw (a, b, c, f, g, i) (ap (λ y. Ok (standing_by x o p, y)) e), (refl, stands_by x o more p h5 k))

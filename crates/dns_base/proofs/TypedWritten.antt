@@ -15,27 +15,7 @@ use Rattle.dns_base.specs.Records.{data_octets, data_type, IsLawful}
 use Rattle.dns_base.specs.Standing.{address_at, data_at, filled, long_address_at, minfo_at, mx_at, one_name_at, opt_read, soa_at, srv_at}
 use Rattle.dns_base.specs.TypedData.{HasNames, IsTyped}
 use Rattle.dns_base.specs.Read.{two_at, four_at, octets_at}
-use Rattle.dns_base.proofs.Written.{past, halves}
-
--- numbers and octets that stand at a place
-pub two_here : (o more : List ℕ) (at n : ℕ) → drop at o ≡ two n ++ more → two_at o at ≡ Ok (n, at + 2)
-unfolding two_at
-two_here o more at n h = rw (h, halves n) refl
-
-pub four_here : (o more : List ℕ) (at n : ℕ) → drop at o ≡ four n ++ more → four_at o at ≡ Ok (n, at + 4)
-unfolding four_at
-four_here o more at n h =
-    let a = two_here o (two (n % 65536) ++ more) at (n / 65536) h in
-    let b = two_here o more (at + 2) (n % 65536) (past o (two (n / 65536)) (two (n % 65536) ++ more) at h) in
-    let e : 65536 * (n / 65536) + n % 65536 ≡ n = omega arith in
-    let k : at + 2 + 2 ≡ at + 4 = omega arith in
-    rw (a, b, e, k) refl
-
-pub octets_here : (o more d : List ℕ) (at : ℕ) → drop at o ≡ d ++ more → octets_at (length d) o at ≡ Ok (d, at + length d)
-unfolding octets_at
-octets_here o more d at h =
-    let e : nat_lt (length (d ++ more)) (length d) ≡ false = grind (arith, nat_tests, length-append {A = ℕ}) in
-    rw (h, e, take-append_seam) refl
+use Rattle.dns_base.proofs.Written.{past, two_written, four_written, octets_written}
 
 -- what follows octets that end a list
 alone : (o a : List ℕ) (at : ℕ) → drop at o ≡ a → drop at o ≡ a ++ []
@@ -49,13 +29,13 @@ name_written ls o more limit at n h = rest_spelt ls (record { limit = limit; poi
 address_written : (a o : List ℕ) (limit at : ℕ) → length a ≡ 4 → drop at (take limit o) ≡ a → address_at o limit at ≡ Ok (A a, at + length a)
 unfolding address_at
 address_written a o limit at l h =
-    let b = octets_here (take limit o) [] a at (alone (take limit o) a at h) in
+    let b = octets_written (take limit o) [] a at (alone (take limit o) a at h) in
     rw (rw l at b) (ap (λ n. Ok (A a, at + n)) (sym l))
 
 long_address_written : (a o : List ℕ) (limit at : ℕ) → length a ≡ 16 → drop at (take limit o) ≡ a → long_address_at o limit at ≡ Ok (Aaaa a, at + length a)
 unfolding long_address_at
 long_address_written a o limit at l h =
-    let b = octets_here (take limit o) [] a at (alone (take limit o) a at h) in
+    let b = octets_written (take limit o) [] a at (alone (take limit o) a at h) in
     rw (rw l at b) (ap (λ n. Ok (Aaaa a, at + n)) (sym l))
 
 one_name_written : (t : ℕ) (n : List (List ℕ)) (o : List ℕ) (limit at : ℕ) → IsName n → drop at (take limit o) ≡ spell n → one_name_at t o limit at ≡ Ok (Named t n, at + length (spell n))
@@ -76,7 +56,7 @@ mx_written : (p : ℕ) (n : List (List ℕ)) (o : List ℕ) (limit at : ℕ) →
 unfolding mx_at
 mx_written p n o limit at i h =
     let v = take limit o in
-    let x = two_here v (spell n) at p h in
+    let x = two_written v (spell n) at p h in
     let g = past v (two p) (spell n) at h in
     let y = name_written n o [] limit (at + 2) i (alone v (spell n) (at + 2) g) in
     let e : at + 2 + length (spell n) ≡ at + length (two p ++ spell n) = omega arith in
@@ -87,11 +67,11 @@ srv_written : (p w q : ℕ) (n : List (List ℕ)) (o : List ℕ) (limit at : ℕ
 unfolding srv_at
 srv_written p w q n o limit at i h =
     let v = take limit o in
-    let x = two_here v (two w ++ (two q ++ spell n)) at p h in
+    let x = two_written v (two w ++ (two q ++ spell n)) at p h in
     let h1 = past v (two p) (two w ++ (two q ++ spell n)) at h in
-    let y = two_here v (two q ++ spell n) (at + 2) w h1 in
+    let y = two_written v (two q ++ spell n) (at + 2) w h1 in
     let h2 = past v (two w) (two q ++ spell n) (at + 2) h1 in
-    let z = two_here v (spell n) (at + 2 + 2) q h2 in
+    let z = two_written v (spell n) (at + 2 + 2) q h2 in
     let h3 = past v (two q) (spell n) (at + 2 + 2) h2 in
     let u = name_written n o [] limit (at + 2 + 2 + 2) i (alone v (spell n) (at + 2 + 2 + 2) h3) in
     let e : at + 2 + 2 + 2 + length (spell n) ≡ at + length (two p ++ (two w ++ (two q ++ spell n))) = omega arith in
@@ -113,15 +93,15 @@ soa_written m r s f t e n o limit at i j h =
     let h1 = past v (spell m) (spell r ++ t1) at h in
     let y = name_written r o t1 limit p1 j h1 in
     let h2 = past v (spell r) t1 p1 h1 in
-    let a = four_here v t2 p2 s.0 h2 in
+    let a = four_written v t2 p2 s.0 h2 in
     let h3 = past v (four s.0) t2 p2 h2 in
-    let b = four_here v t3 (p2 + 4) f h3 in
+    let b = four_written v t3 (p2 + 4) f h3 in
     let h4 = past v (four f) t3 (p2 + 4) h3 in
-    let c = four_here v t4 (p2 + 4 + 4) t h4 in
+    let c = four_written v t4 (p2 + 4 + 4) t h4 in
     let h5 = past v (four t) t4 (p2 + 4 + 4) h4 in
-    let d = four_here v t5 (p2 + 4 + 4 + 4) e h5 in
+    let d = four_written v t5 (p2 + 4 + 4 + 4) e h5 in
     let h6 = past v (four e) t5 (p2 + 4 + 4 + 4) h5 in
-    let g = four_here v [] (p2 + 4 + 4 + 4 + 4) n h6 in
+    let g = four_written v [] (p2 + 4 + 4 + 4 + 4) n h6 in
     let k : p2 + 4 + 4 + 4 + 4 + 4 ≡ at + length (spell m ++ (spell r ++ t1)) = omega (arith, length-append (spell m) (spell r ++ t1), length-append (spell r) t1) in
     rw (x, y, a, b, c, d, g) (ap (λ z. Ok (Soa m r s f t e n, z)) k)
 

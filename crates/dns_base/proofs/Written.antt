@@ -20,13 +20,13 @@ use Rattle.dns_base.specs.Sections.{items_from, questions_of, answers_of, author
 pub past : (o a more : List ℕ) (at : ℕ) → drop at o ≡ a ++ more → drop (at + length a) o ≡ more
 past o a more at h = sym (drop-drop (length a) at o) ∙ (ap (drop (length a)) h ∙ drop-append_seam a more)
 
-two_written : (o more : List ℕ) (at n : ℕ) → drop at o ≡ two n ++ more → two_at o at ≡ Ok (n, at + 2)
+pub two_written : (o more : List ℕ) (at n : ℕ) → drop at o ≡ two n ++ more → two_at o at ≡ Ok (n, at + 2)
 unfolding two_at
 two_written o more at n h =
     let e : 256 * (n / 256) + n % 256 ≡ n = omega arith in
     rw h (ap (λ x. Ok (x, at + 2)) e)
 
-four_written : (o more : List ℕ) (at n : ℕ) → drop at o ≡ four n ++ more → four_at o at ≡ Ok (n, at + 4)
+pub four_written : (o more : List ℕ) (at n : ℕ) → drop at o ≡ four n ++ more → four_at o at ≡ Ok (n, at + 4)
 unfolding four_at
 four_written o more at n h =
     let e : 65536 * (n / 65536) + n % 65536 ≡ n = omega arith in
@@ -35,7 +35,7 @@ four_written o more at n h =
     let b = two_written o more (at + 2) (n % 65536) (past o (two (n / 65536)) (two (n % 65536) ++ more) at h) in
     rw (a, b, e, k) refl
 
-octets_written : (o more d : List ℕ) (at : ℕ) → drop at o ≡ d ++ more → octets_at (length d) o at ≡ Ok (d, at + length d)
+pub octets_written : (o more d : List ℕ) (at : ℕ) → drop at o ≡ d ++ more → octets_at (length d) o at ≡ Ok (d, at + length d)
 unfolding octets_at
 octets_written o more d at h =
     let e : nat_lt (length (d ++ more)) (length d) ≡ false = grind (arith, nat_tests, length-append {A = ℕ}) in

@@ -14,7 +14,7 @@ ghost use Rattle.dns_base.specs.Replaced.{AreSpelt, less_type, other_than, recor
 use crate::error::PushError;
 use crate::header::{Header, HeaderCounts, lower_of, number_at, upper_of};
 use crate::message::{Message, MessageRef, end_of_answers, end_of_authority, end_of_questions};
-use crate::question::Question;
+use crate::question::Asked;
 use crate::record::Record;
 use crate::replace::{Others, count_others, squeeze};
 use crate::stream::StreamTarget;
@@ -140,13 +140,13 @@ impl Draft {
     }
 
     /// Adds a question.
-    pub(crate) fn push_question(
+    pub(crate) fn push_question<Q: Asked>(
         &mut self,
         alloc: Global,
-        question: &Question,
+        question: &Q,
     ) -> Result<(), PushError>
         requires { NoRecords self.old.message }
-        ensures { Pushes self.old self.new (with_question self.old question.now) result }
+        ensures { Pushes self.old self.new (with_question self.old (Q.asked question.now)) result }
     {
         if self.octets.len() - 2 + question.size() > self.limit {
             return Err(PushError::ShortBuf);
@@ -187,7 +187,6 @@ impl Draft {
     {
         let mut questions = message.question();
         'questions: while let Some(Ok(question)) = questions.next() {
-            let question = question.to_question(alloc)?;
             self.push_question(alloc, &question)?;
         }
         Ok(())

@@ -2,13 +2,14 @@
 
 ghost use Rattle.std.specs.Prelude.{◌≡◌, ◌≤◌, ◌<◌, ◌+◌, ◌++◌, length, take, IfOk, OnOk, OnErr};
 ghost use Rattle.std.specs.Iterator.{YieldsFirst, item_count};
+ghost use Rattle.dns_base.specs.declared.question.Question.{Question};
 ghost use Rattle.dns_base.specs.Read.{question_at};
 ghost use Rattle.dns_base.specs.Sections.{ends_at, to_come};
 ghost use Rattle.dns_base.specs.Wire.{question_octets};
 ghost use Rattle.dns_base.specs.Msg.{HasName};
 
 use crate::read::two_in;
-use crate::write::{push_two, settle};
+use crate::write::{labels_size, push_labels, push_two, settle};
 use dns_name::{Class, Name, OutOfMemory, ParseError, ParsedName, Rtype};
 use std::alloc::Global;
 use std::marker::Model;
@@ -24,25 +25,36 @@ pub struct Question {
     pub qclass: Class,
 }
 
-impl Question {
-    /// How many octets a question takes.
-    pub(crate) fn size(&self) -> usize
-        ensures value { result ≡ length (question_octets self.now) }
-        ensures named { HasName self.now }
-    {
+/// What is asked: a question on its own, or as it stands in a message.
+pub(crate) trait Asked {
+    ghost asked: { Self → Question };
+
+    /// How many octets the question takes.
+    fn size(&self) -> usize
+        ensures value { result ≡ length (question_octets (asked self.now)) }
+        ensures named { HasName (asked self.now) };
+
+    /// Appends the question's octets, or nothing.
+    fn compose(&self, alloc: Global, target: &mut Vec<u8>) -> Result<(), OutOfMemory>
+        ensures ok { OnOk result (target.new.items ≡ target.old.items ++ question_octets (asked self.now)) }
+        ensures err { OnErr result (target.new.items ≡ target.old.items) };
+}
+
+impl Asked for Question {
+    ghost asked = { λ q. q };
+
+    fn size(&self) -> usize {
         self.qname.as_slice().len() + 4
     }
 
-    /// Appends the octets of a question, or nothing.
-    pub(crate) fn compose(&self, alloc: Global, target: &mut Vec<u8>) -> Result<(), OutOfMemory>
-        ensures ok { OnOk result (target.new.items ≡ target.old.items ++ question_octets self.now) }
-        ensures err { OnErr result (target.new.items ≡ target.old.items) }
-    {
+    fn compose(&self, alloc: Global, target: &mut Vec<u8>) -> Result<(), OutOfMemory> {
         let start = target.len();
         let written = self.write(alloc, target);
         settle(target, start, written)
     }
+}
 
+impl Question {
     /// Appends the octets of a question, or some of them.
     fn write(&self, alloc: Global, target: &mut Vec<u8>) -> Result<(), OutOfMemory>
         ensures ok { OnOk result (target.new.items ≡ target.old.items ++ question_octets self.now) }
@@ -102,6 +114,30 @@ impl<'a> QuestionRef<'a> {
             qtype: self.qtype,
             qclass: self.qclass,
         })
+    }
+
+    /// Appends the octets of a question, or some of them.
+    fn write(&self, target: &mut Vec<u8>) -> Result<(), OutOfMemory>
+        ensures ok { OnOk result (target.new.items ≡ target.old.items ++ question_octets self.now) }
+        ensures err { OnErr result (take (length target.old.items) target.new.items ≡ target.old.items) }
+    {
+        push_labels(target, self.qname.labels())?;
+        push_two(target, self.qtype.to_int())?;
+        push_two(target, self.qclass.to_int())
+    }
+}
+
+impl<'a> Asked for QuestionRef<'a> {
+    ghost asked = { λ q. q };
+
+    fn size(&self) -> usize {
+        labels_size(self.qname.labels()) + 4
+    }
+
+    fn compose(&self, _alloc: Global, target: &mut Vec<u8>) -> Result<(), OutOfMemory> {
+        let start = target.len();
+        let written = self.write(target);
+        settle(target, start, written)
     }
 }
 
