@@ -1,5 +1,5 @@
 -- Typed data that is written is read again.
-use Rattle.std.proofs.Common.{◌≡◌, ℕ, ◌+◌, ◌*◌, ◌/◌, ◌%◌, ◌≤◌, List, [], ◌++◌, length, take, drop, Ok, refl, ap, sym, ◌∙◌, arith, true, false, nat_lt, length-append, length-drop, length-take, append-nil}
+use Rattle.std.proofs.Common.{◌≡◌, ℕ, ◌+◌, ◌≤◌, List, [], ◌++◌, length, take, drop, Ok, refl, ap, sym, ◌∙◌, arith, true, false, nat_lt, length-append, length-drop, length-take, append-nil}
 use Rattle.std.proofs.lemmas.List.{drop-take}
 use Rattle.std.proofs.Math.Seq.{take-append_seam, drop-append_seam}
 use Rattle.std.proofs.lemmas.Bool.Decides.{nat_tests}
@@ -14,7 +14,6 @@ use Rattle.dns_base.specs.Options.{IsOptionList}
 use Rattle.dns_base.specs.Records.{data_octets, data_type, IsLawful}
 use Rattle.dns_base.specs.Standing.{address_at, data_at, filled, long_address_at, minfo_at, mx_at, one_name_at, opt_read, soa_at, srv_at}
 use Rattle.dns_base.specs.TypedData.{HasNames, IsTyped}
-use Rattle.dns_base.specs.Read.{two_at, four_at, octets_at}
 use Rattle.dns_base.proofs.Written.{past, two_written, four_written, octets_written}
 
 -- what follows octets that end a list

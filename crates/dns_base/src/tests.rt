@@ -62,6 +62,29 @@ fn answers_a_query(rt: HostRuntime) {
     assert!(&rt; answer.as_slice() == reply.as_slice());
 }
 
+/// A query for two types of one name, the second of them by a pointer to the first (RFC 1035, section 4.1.4).
+const TWICE: &[u8] =
+    b"\x12\x34\x00\x00\x00\x02\x00\x00\x00\x00\x00\x00\x01a\x02bc\x00\x00\x01\x00\x01\xc0\x0c\x00\x1c\x00\x01";
+
+#[test]
+fn copies_questions_uncompressed(rt: HostRuntime) {
+    let Ok(octets) = Vec::from_slice(rt.alloc(), TWICE) else {
+        panic!(&rt; "no memory");
+    };
+    let Ok(query) = Message::from_octets(octets) else {
+        panic!(&rt; "no message");
+    };
+    let Ok(builder) = MessageBuilder::new(rt.alloc()) else {
+        panic!(&rt; "no memory");
+    };
+    let Ok(answer) = builder.start_answer(rt.alloc(), &query, Rcode::NOERROR) else {
+        panic!(&rt; "no answer");
+    };
+    let reply =
+        b"\x12\x34\x80\x00\x00\x02\x00\x00\x00\x00\x00\x00\x01a\x02bc\x00\x00\x01\x00\x01\x01a\x02bc\x00\x00\x1c\x00\x01";
+    assert!(&rt; answer.as_slice() == reply.as_slice());
+}
+
 #[test]
 fn tells_plain_queries(rt: HostRuntime) {
     let rows: [(&[u8], bool); 5] = [
