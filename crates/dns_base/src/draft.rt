@@ -12,12 +12,12 @@ ghost use Rattle.dns_base.specs.Replies.{Copies, copied};
 ghost use Rattle.dns_base.specs.Replaced.{AreSpelt, less_type, other_than, records_at, spelling};
 
 use crate::error::PushError;
-use crate::header::{Header, HeaderCounts, lower_of, number_at, upper_of};
-use crate::message::{Message, MessageRef, end_of_answers, end_of_authority, end_of_questions};
-use crate::question::Question;
-use crate::record::Record;
 use crate::replace::{Others, count_others, replace, squeeze};
 use crate::stream::StreamTarget;
+use dns_message::{
+    Header, HeaderCounts, Message, MessageRef, Question, Record, end_of_answers, end_of_authority,
+    end_of_questions, number_at,
+};
 use dns_name::{OutOfMemory, ParseError, Rtype};
 use std::alloc::Global;
 use std::marker::Model;
@@ -298,10 +298,11 @@ fn put_header(octets: &mut Vec<u8>, header: &Header)
     ensures len { length octets.new.items ≡ length octets.old.items }
     ensures lawful { IsHeader header.now }
 {
-    octets[2] = (header.id / 256) as u8;
-    octets[3] = (header.id % 256) as u8;
-    octets[4] = upper_of(header);
-    octets[5] = lower_of(header);
+    let [a, b, c, d] = header.octets();
+    octets[2] = a;
+    octets[3] = b;
+    octets[4] = c;
+    octets[5] = d;
 }
 
 /// Appends an item to a message that stands behind two octets, and counts it at a place of the message.
