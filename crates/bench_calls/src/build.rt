@@ -20,7 +20,7 @@ struct Held {
 }
 
 impl Model for Held {
-    ghost use Rattle.dns_base.specs.declared.record.Record.{Record};
+    ghost use Rattle.dns_message.specs.declared.record.Record.{Record};
     ghost use Rattle.dns_base.specs.Records.{IsLawful};
 
     ghost Value = { Record };

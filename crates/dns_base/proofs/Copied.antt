@@ -2,7 +2,7 @@
 use Rattle.std.proofs.Common.{◌≡◌, ℕ, ◌≤◌, ◌<◌, Bool, true, false, List, [], ◌∷◌, ◌++◌, map, length, nat_le, if◌then◌else◌, Result, Ok, Err, refl, ap, sym, ◌∙◌, arith, append_assoc, append-nil}
 use Rattle.std.proofs.lemmas.Bool.Decides.{nat_tests}
 use Rattle.dns_name.specs.declared.error.ParseError.{ParseError}
-use Rattle.dns_base.specs.declared.question.Question.{Question}
+use Rattle.dns_message.specs.declared.question.Question.{Question}
 use Rattle.dns_base.specs.Header.{header_of}
 use Rattle.dns_base.specs.Wire.{wire}
 use Rattle.dns_base.specs.Sections.{Items, all_of, questions_of}

@@ -1,11 +1,5 @@
-pub mod Coming
-pub mod Written
 pub mod Pushed
 pub mod Copied
-pub mod Plains
-pub mod OptionLaws
 pub mod Rewound
-pub mod TypedWritten
-pub mod TypedSections
 pub mod Sieved
 pub mod Replacing

@@ -11,15 +11,15 @@ use Rattle.dns_base.specs.declared.draft.Section.{Section}
 use Rattle.dns_base.specs.declared.draft.Section.TheVariants.{Answer, Authority, Additional}
 use Rattle.dns_base.specs.declared.error.PushError.{PushError}
 use Rattle.dns_base.specs.declared.error.PushError.TheVariants.{OutOfMemory as NoMemory}
-use Rattle.dns_base.specs.declared.header.Header.{Header}
-use Rattle.dns_base.specs.declared.question.Question.{Question}
+use Rattle.dns_message.specs.declared.header.Header.{Header}
+use Rattle.dns_message.specs.declared.question.Question.{Question}
 use Rattle.dns_base.specs.Header.{header_octets, IsHeader}
 use Rattle.dns_base.specs.Msg.{Msg, ResourceRecord, IsMessage, HasName, HasOwner, item_counts}
 use Rattle.dns_base.specs.Wire.{question_octets, record_octets, counts, body, wire}
 use Rattle.dns_base.specs.Sections.{field, counts_of, message_of}
 use Rattle.dns_base.specs.Built.{Built, IsBuilt, NoAuthority, NoRecords, IsLast, Pushes, empty, with_header, and_question, with_question, and_record, with_record}
 use Rattle.dns_base.specs.Draft.{IsDraft, count_place, counted}
-use Rattle.dns_base.proofs.Written.{read_back, halves}
+use Rattle.dns_message.proofs.Written.{read_back, halves}
 
 abbrev pub built : Msg → ℕ → Built
 built m limit = record { message = m; limit = limit }

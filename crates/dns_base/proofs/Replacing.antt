@@ -13,7 +13,7 @@ use Rattle.dns_base.specs.Standing.{record_at}
 use Rattle.dns_base.specs.Built.{Built, with_record}
 use Rattle.dns_base.specs.Draft.{IsDraft, counted, start_of}
 use Rattle.dns_base.specs.Replaced.{other_than, less_type, records_at, spelling, AreSpelt}
-use Rattle.dns_base.proofs.Written.{past, record_written, items_written}
+use Rattle.dns_message.proofs.Written.{past, record_written, items_written}
 use Rattle.dns_base.proofs.Pushed.{built, viewed, drafted, draft_wire, longer, fields, count_room}
 use Rattle.dns_base.proofs.Rewound.{framed, kept, starts, start_known}
 use Rattle.dns_base.proofs.Sieved.{sieved, fewer}

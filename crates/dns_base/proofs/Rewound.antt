@@ -6,13 +6,13 @@ use Rattle.dns_name.specs.declared.error.ParseError.{ParseError}
 use Rattle.dns_name.specs.Place.{two}
 use Rattle.dns_base.specs.declared.draft.Section.{Section}
 use Rattle.dns_base.specs.declared.draft.Section.TheVariants.{Answer, Authority, Additional}
-use Rattle.dns_base.specs.declared.header.Header.{Header}
+use Rattle.dns_message.specs.declared.header.Header.{Header}
 use Rattle.dns_base.specs.Header.{header_octets}
 use Rattle.dns_base.specs.Msg.{Msg, IsMessage}
 use Rattle.dns_base.specs.Wire.{question_octets, record_octets, counts, body, wire}
 use Rattle.dns_base.specs.Built.{Built, NoRecords, IsLast, less_records, less_questions, less_section}
 use Rattle.dns_base.specs.Draft.{IsDraft, count_place, counted, start_of}
-use Rattle.dns_base.proofs.Written.{questions_written, answers_written, authority_written}
+use Rattle.dns_message.proofs.Written.{questions_written, answers_written, authority_written}
 use Rattle.dns_base.proofs.Pushed.{built, viewed, drafted, draft_wire}
 
 abbrev pub framed : Header → ℕ → ℕ → ℕ → ℕ → List ℕ → List ℕ

@@ -8,7 +8,7 @@ use Rattle.dns_base.specs.Wire.{record_octets}
 use Rattle.dns_base.specs.Standing.{record_at}
 use Rattle.dns_base.specs.Draft.{counted}
 use Rattle.dns_base.specs.Replaced.{other_than, kept_part, kept_of, records_at, spelling, behind_records, AreSpelt}
-use Rattle.dns_base.proofs.Written.{past, record_written}
+use Rattle.dns_message.proofs.Written.{past, record_written}
 
 -- so many records that are still to be gone over, and what is behind them
 pub record Ahead (o : List ℕ) (at left : ℕ) (tail : List ℕ) (rest : List ResourceRecord) : Type 0 where

@@ -4,8 +4,8 @@ use Rattle.dns_base.specs.declared.draft.Section.{Section}
 use Rattle.dns_base.specs.declared.draft.Section.TheVariants.{Answer, Authority, Additional}
 use Rattle.dns_base.specs.declared.error.PushError.{PushError}
 use Rattle.dns_base.specs.declared.error.PushError.TheVariants.{ShortBuf, OutOfMemory as NoMemory}
-use Rattle.dns_base.specs.declared.header.Header.{Header}
-use Rattle.dns_base.specs.declared.question.Question.{Question}
+use Rattle.dns_message.specs.declared.header.Header.{Header}
+use Rattle.dns_message.specs.declared.question.Question.{Question}
 use Rattle.dns_base.specs.Msg.{Msg, ResourceRecord, IsMessage}
 use Rattle.dns_base.specs.Wire.{wire}
 use Rattle.dns_base.specs.Sections.{message_of}

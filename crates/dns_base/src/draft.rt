@@ -12,12 +12,12 @@ ghost use Rattle.dns_base.specs.Replies.{Copies, copied};
 ghost use Rattle.dns_base.specs.Replaced.{AreSpelt, less_type, other_than, records_at, spelling};
 
 use crate::error::PushError;
-use crate::header::{Header, HeaderCounts, lower_of, number_at, upper_of};
-use crate::message::{Message, MessageRef, end_of_answers, end_of_authority, end_of_questions};
-use crate::question::Asked;
-use crate::record::Record;
 use crate::replace::{Others, count_others, squeeze};
 use crate::stream::StreamTarget;
+use dns_message::{
+    ComposeQuestion, Header, HeaderCounts, Message, MessageRef, Record, end_of_answers,
+    end_of_authority, end_of_questions, number_at,
+};
 use dns_name::{OutOfMemory, ParseError, Rtype};
 use std::alloc::Global;
 use std::marker::Model;
@@ -140,7 +140,7 @@ impl Draft {
     }
 
     /// Adds a question.
-    pub(crate) fn push_question<Q: Asked>(
+    pub(crate) fn push_question<Q: ComposeQuestion>(
         &mut self,
         alloc: Global,
         question: &Q,
@@ -148,10 +148,10 @@ impl Draft {
         requires { NoRecords self.old.message }
         ensures { Pushes self.old self.new (with_question self.old (Q.asked question.now)) result }
     {
-        if self.octets.len() - 2 + question.size() > self.limit {
+        if self.octets.len() - 2 + question.compose_len() > self.limit {
             return Err(PushError::ShortBuf);
         }
-        question.compose(alloc, &mut self.octets)?;
+        question.compose_question(alloc, &mut self.octets)?;
         count_more(&mut self.octets, 4);
         Ok(())
     }
@@ -167,7 +167,7 @@ impl Draft {
         requires lawful { IsLawful record.now.rdata }
         ensures { Pushes self.old self.new (with_record section self.old (record_of record.now)) result }
     {
-        if self.octets.len() - 2 + record.size() > self.limit {
+        if self.octets.len() - 2 + record.compose_len() > self.limit {
             return Err(PushError::ShortBuf);
         }
         record.compose(alloc, &mut self.octets)?;
@@ -266,7 +266,7 @@ impl Draft {
         ensures { Pushes self.old self.new (with_record Section.Additional (less_type rtype self.old) (record_of record.now)) result }
     {
         let others = self.others(rtype);
-        if others.start + others.size + record.size() > self.limit {
+        if others.start + others.size + record.compose_len() > self.limit {
             return Err(PushError::ShortBuf);
         }
         record.compose(alloc, &mut self.octets)?;
@@ -291,10 +291,11 @@ fn put_header(octets: &mut Vec<u8>, header: &Header)
     ensures len { length octets.new.items ≡ length octets.old.items }
     ensures lawful { IsHeader header.now }
 {
-    octets[2] = (header.id / 256) as u8;
-    octets[3] = (header.id % 256) as u8;
-    octets[4] = upper_of(header);
-    octets[5] = lower_of(header);
+    let [a, b, c, d] = header.octets();
+    octets[2] = a;
+    octets[3] = b;
+    octets[4] = c;
+    octets[5] = d;
 }
 
 /// Counts one item more at a place of a message that stands behind two octets.

@@ -5,7 +5,7 @@ ghost use Rattle.dns_base.specs.Draft.{counted};
 ghost use Rattle.dns_base.specs.Replaced.{AreSpelt, behind_records, kept_of, kept_part, other_than, records_at, spelling};
 ghost use Rattle.dns_base.specs.Standing.{record_at};
 
-use crate::record::record_in;
+use dns_message::record_in;
 use dns_name::Rtype;
 
 /// The records of other types than one, among so many from a place of a message on.
@@ -33,7 +33,7 @@ struct Kept {
 }
 
 /// What is kept of the record at a place where records of a type are dropped.
-#[tactic(auto, unfolding(crate::specs::Standing::record_at))]
+#[tactic(auto, unfolding(dns_message::specs::Standing::record_at))]
 fn kept_at(message: &[u8], at: usize, rtype: Rtype) -> Kept
     requires { at ≤ length message.now }
     ensures { (result.many, result.size, result.end) ≡ kept_of rtype at (record_at message.now at) }

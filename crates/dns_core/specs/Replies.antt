@@ -4,7 +4,7 @@ use Rattle.std.specs.Prelude.{ℕ, true, Ok, Err}
 use Rattle.std.specs.Option.{option_map}
 use Rattle.dns_base.specs.Header.{header_of}
 use Rattle.dns_base.specs.Msg.{Msg}
-use Rattle.dns_base.specs.declared.header.Header.{Header}
+use Rattle.dns_message.specs.declared.header.Header.{Header}
 use Rattle.dns_service.specs.Answer.{Answer, Item, mapped}
 use Rattle.dns_service.specs.Req.{Req}
 

@@ -5,7 +5,7 @@ use Rattle.std.proofs.Common.{inl, inr, ◌≡◌, ℕ, ◌+◌, ◌≤◌, ◌<
 use Rattle.std.specs.List.{flat_map, AllByRecursion}
 use Rattle.std.proofs.lemmas.Bool.Decides.{nat_tests}
 use Rattle.std.proofs.lemmas.List.Concat.{flat_map-append}
-use Rattle.dns_base.specs.declared.question.Question.{Question}
+use Rattle.dns_message.specs.declared.question.Question.{Question}
 use Rattle.dns_base.specs.Header.{header_octets}
 use Rattle.dns_name.specs.declared.error.ParseError.{ParseError}
 use Rattle.dns_base.specs.Msg.{Msg, ResourceRecord, IsMessage, HasName, HasOwner}
@@ -15,7 +15,7 @@ use Rattle.dns_base.specs.Built.{Built, with_additional}
 use Rattle.dns_base.specs.Replies.{copied}
 use Rattle.dns_base.specs.Sections.{Items, all_of, questions_of}
 use Rattle.dns_base.proofs.Copied.{copied_on, copied_off, readable_all}
-use Rattle.dns_base.proofs.Written.{questions_written}
+use Rattle.dns_message.proofs.Written.{questions_written}
 use Rattle.dns_middleware.specs.Cut.{fits, truncated, first_fitting, shortened, cut, built_fitting, or_else, Added}
 use Rattle.dns_middleware.specs.OptIn.{minimal, where_list, listed, opt_among, opt_record_in, readable}
 

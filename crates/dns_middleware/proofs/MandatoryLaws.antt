@@ -1,6 +1,6 @@
 -- The mandatory layer rewrites by the request as the inner service left it, and the rule speaks of the request at the call.
 use Rattle.std.proofs.Common.{◌≡◌, ℕ, ◌≤◌, List, Option, Some, None, length, refl, ap, sym, subst, ◌∙◌, arith}
-use Rattle.dns_base.specs.declared.header.Header.{Header}
+use Rattle.dns_message.specs.declared.header.Header.{Header}
 use Rattle.dns_base.specs.Header.{header_of}
 use Rattle.dns_base.specs.Msg.{Msg}
 use Rattle.dns_base.specs.Wire.{wire}

@@ -10,8 +10,8 @@ use Rattle.dns_base.specs.Sections.{Items, all_of, authority_of, additional_of, 
 use Rattle.dns_base.specs.Standing.{Standing}
 use Rattle.dns_base.specs.Wire.{wire}
 use Rattle.dns_base.proofs.Copied.{readable_all}
-use Rattle.dns_base.proofs.Coming.{same_additional}
-use Rattle.dns_base.proofs.Written.{authority_written, additional_written, all_readable}
+use Rattle.dns_message.proofs.Coming.{same_additional}
+use Rattle.dns_message.proofs.Written.{authority_written, additional_written, all_readable}
 use Rattle.dns_opt.specs.OptRecords.{OptState, head_by, ok_state, first_opt, opt_in, opt_of, readable as readable_opt}
 use Rattle.dns_middleware.specs.OptIn.{where_list, listed, opt_among, opt_record_in, opt_in_message, state_of, readable, resources}
 

@@ -1,6 +1,6 @@
 -- Truncation (RFC 1035, section 4.1.1, for TC; RFC 2181, section 9; RFC 6891, section 7, for the OPT record that stays).
 use Rattle.std.specs.Prelude.{◌≡◌, ℕ, ◌≤◌, Bool, true, false, List, [], ◌∷◌, length, Option, Some, None, nat_le, if◌then◌else◌}
-use Rattle.dns_base.specs.declared.question.Question.{Question}
+use Rattle.dns_message.specs.declared.question.Question.{Question}
 use Rattle.dns_base.specs.Msg.{Msg, ResourceRecord}
 use Rattle.dns_base.specs.Wire.{wire}
 use Rattle.dns_base.specs.Built.{Built, PassesLimit}

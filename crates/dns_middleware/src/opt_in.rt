@@ -57,7 +57,7 @@ fn listed(alloc: Global, record: &RecordRef<'_>) -> Result<Option<Record>, OutOf
 }
 
 /// No options.
-#[tactic(auto, using(dns_base::proofs::OptionLaws::empty_is_list))]
+#[tactic(auto, using(dns_message::proofs::OptionLaws::empty_is_list))]
 fn no_options(alloc: Global) -> RecordData
     ensures value { result ≡ RecordData.Opt [] }
     ensures lawful { IsLawful result }

@@ -6,8 +6,8 @@ use Rattle.dns_base.specs.Msg.{Msg, ResourceRecord, IsMessage}
 use Rattle.dns_base.specs.Standing.{Standing}
 use Rattle.dns_base.specs.Wire.{wire}
 use Rattle.dns_base.specs.Sections.{Items, SameRecords, all_of, authority_of, reached, standing_additional}
-use Rattle.dns_base.proofs.Coming.{same_additional}
-use Rattle.dns_base.proofs.Written.{authority_written, additional_written}
+use Rattle.dns_message.proofs.Coming.{same_additional}
+use Rattle.dns_message.proofs.Written.{authority_written, additional_written}
 use Rattle.dns_opt.specs.OptRecords.{OptState, first_opt, opt_in, opt_of, readable}
 use Rattle.dns_opt.specs.Reopened.{opt_among}
 

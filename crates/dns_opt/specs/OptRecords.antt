@@ -4,9 +4,9 @@ use Rattle.dns_name.specs.declared.error.ParseError.{ParseError}
 use Rattle.dns_name.specs.declared.error.ParseError.TheVariants.{ShortInput}
 use Rattle.dns_name.specs.OptData.{Taken}
 use Rattle.dns_name.specs.Place.{be16, two}
-use Rattle.dns_base.specs.declared.rdata.RecordData.{RecordData}
-use Rattle.dns_base.specs.declared.rdata.RecordData.TheVariants.{Opt as OptList}
-use Rattle.dns_base.specs.declared.record.Record.{Record}
+use Rattle.dns_message.specs.declared.rdata.RecordData.{RecordData}
+use Rattle.dns_message.specs.declared.rdata.RecordData.TheVariants.{Opt as OptList}
+use Rattle.dns_message.specs.declared.record.Record.{Record}
 use Rattle.dns_base.specs.Msg.{ResourceRecord}
 use Rattle.dns_base.specs.Options.{option_list}
 use Rattle.dns_base.specs.Sections.{authority_of, reached, standing_additional}

@@ -29,7 +29,7 @@ where
 }
 
 /// The next option that is read, and what follows it.
-#[tactic(auto, using(dns_base::proofs::OptionLaws::list_step, dns_base::proofs::OptionLaws::empty_is_list, crate::proofs::ItemLaws::items_some, crate::proofs::ItemLaws::items_none))]
+#[tactic(auto, using(dns_message::proofs::OptionLaws::list_step, dns_message::proofs::OptionLaws::empty_is_list, crate::proofs::ItemLaws::items_some, crate::proofs::ItemLaws::items_none))]
 fn next_of<'a, D: ParseOptData<'a>>(octets: &'a [u8]) -> (Option<Result<D, ParseError>>, &'a [u8])
 where
     D: Drop,

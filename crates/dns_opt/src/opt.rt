@@ -68,7 +68,7 @@ impl Model for Opt {
 
 impl Opt {
     /// No options.
-    #[tactic(auto, using(dns_base::proofs::OptionLaws::empty_is_list))]
+    #[tactic(auto, using(dns_message::proofs::OptionLaws::empty_is_list))]
     pub fn empty(alloc: Global) -> Opt
         ensures { result ≡ [] }
     {
@@ -154,7 +154,7 @@ impl Opt {
     }
 
     /// Appends an option. A refused push leaves the list.
-    #[tactic(auto, using(dns_base::proofs::OptionLaws::list_append))]
+    #[tactic(auto, using(dns_message::proofs::OptionLaws::list_append))]
     pub fn push<D: ComposeOptData>(
         &mut self,
         alloc: Global,
@@ -174,7 +174,7 @@ impl Opt {
 
     /// Appends an option whose data a closure writes to an empty vector, as many octets as are stated.
     /// A refused push leaves the list.
-    #[tactic(auto, using(dns_base::proofs::OptionLaws::list_append))]
+    #[tactic(auto, using(dns_message::proofs::OptionLaws::list_append))]
     pub fn push_raw_option<F: FnOnce(Global, &mut Vec<u8>) -> Result<(), OutOfMemory>>(
         &mut self,
         alloc: Global,

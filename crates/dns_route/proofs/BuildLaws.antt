@@ -4,14 +4,14 @@ use Rattle.std.specs.List.{flat_map}
 use Rattle.std.proofs.lemmas.Grind.{flat_map-append}
 use Rattle.dns_base.specs.declared.error.PushError.{PushError}
 use Rattle.dns_base.specs.declared.error.PushError.TheVariants.{ShortBuf, OutOfMemory as NoMemory}
-use Rattle.dns_base.specs.declared.question.Question.{Question}
+use Rattle.dns_message.specs.declared.question.Question.{Question}
 use Rattle.dns_base.specs.Built.{Built, Pushes, with_question}
 use Rattle.dns_base.specs.Msg.{Msg, ResourceRecord}
 use Rattle.dns_base.specs.Replies.{with_questions}
 use Rattle.dns_base.specs.Wire.{question_octets, record_octets, wire}
 use Rattle.dns_route.specs.Builds.{Becomes, Builds, Part, in_answers, in_authority, in_additional, and_opt, unlimited, with_records}
 use Rattle.dns_opt.specs.OptRecords.{OptState, opt_record}
-use Rattle.dns_base.specs.declared.header.Header.{Header}
+use Rattle.dns_message.specs.declared.header.Header.{Header}
 use Rattle.std.proofs.Math.Seq.{drop-cons}
 
 -- how many octets questions and records take

@@ -4,8 +4,8 @@ use Rattle.std.specs.Prelude.{filter, not, true, false}
 use Rattle.dns_name.specs.declared.error.ParseError.{ParseError}
 use Rattle.dns_name.specs.declared.error.ParseError.TheVariants.{ShortInput, Form, OutOfMemory as NoMemory}
 use Rattle.dns_name.specs.Place.{Read}
-use Rattle.dns_base.specs.declared.header.Header.{Header}
-use Rattle.dns_base.specs.declared.question.Question.{Question}
+use Rattle.dns_message.specs.declared.header.Header.{Header}
+use Rattle.dns_message.specs.declared.question.Question.{Question}
 use Rattle.dns_base.specs.Msg.{ResourceRecord}
 use Rattle.dns_base.specs.Replaced.{other_than}
 use Rattle.dns_base.specs.Sections.{all_of, items_behind, reached}

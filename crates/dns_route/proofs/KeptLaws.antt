@@ -5,7 +5,7 @@ use Rattle.std.proofs.lemmas.Option.{cond_some}
 use Rattle.std.proofs.lemmas.Bool.{leb-true}
 use Rattle.dns_name.specs.Place.{be16}
 use Rattle.dns_base.specs.Options.{split_at, first_option, options, option_octets, IsOptionList}
-use Rattle.dns_base.proofs.OptionLaws.{options_some, options_empty, list_step, none_empty}
+use Rattle.dns_message.proofs.OptionLaws.{options_some, options_empty, list_step, none_empty}
 use Rattle.dns_route.specs.declared.kept.Keeps.{Keeps}
 use Rattle.dns_route.specs.Kept.{keeps, kept_options, kept_of}
 

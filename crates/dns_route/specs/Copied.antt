@@ -5,9 +5,9 @@ use Rattle.std.specs.declared.vec.Vec.{Vec}
 use Rattle.std.specs.declared.alloc.Global.{Global}
 use Rattle.dns_name.specs.declared.error.ParseError.{ParseError}
 use Rattle.dns_name.specs.declared.error.ParseError.TheVariants.{ShortInput, Form, OutOfMemory as NoMemory}
-use Rattle.dns_base.specs.declared.header.Header.{Header}
-use Rattle.dns_base.specs.declared.question.Question.{Question}
-use Rattle.dns_base.specs.declared.record.Record.{Record}
+use Rattle.dns_message.specs.declared.header.Header.{Header}
+use Rattle.dns_message.specs.declared.question.Question.{Question}
+use Rattle.dns_message.specs.declared.record.Record.{Record}
 use Rattle.dns_base.specs.Header.{header_of}
 use Rattle.dns_base.specs.Msg.{Msg, ResourceRecord}
 use Rattle.dns_base.specs.Records.{record_of}

@@ -4,7 +4,7 @@ use Rattle.std.proofs.lemmas.Bool.Decides.{nat_tests}
 use Rattle.std.specs.Prelude.{⊤, Result, Ok, Err}
 use Rattle.dns_name.specs.declared.opt_error.BuildDataError.{BuildDataError}
 use Rattle.dns_name.specs.declared.opt_error.BuildDataError.TheVariants.{ShortBuf}
-use Rattle.dns_base.specs.declared.question.Question.{Question}
+use Rattle.dns_message.specs.declared.question.Question.{Question}
 use Rattle.dns_base.specs.Msg.{Msg}
 use Rattle.dns_base.specs.Built.{Built, PassesLimit, with_question}
 use Rattle.dns_base.specs.Replies.{copied, error_by, error_to, within_limit}

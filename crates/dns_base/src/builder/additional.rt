@@ -9,10 +9,8 @@ ghost use Rattle.dns_base.specs.Replaced.{less_type};
 
 use crate::draft::{Draft, Section};
 use crate::error::PushError;
-use crate::header::{Header, HeaderCounts};
-use crate::message::MessageRef;
-use crate::record::Record;
 use crate::stream::StreamTarget;
+use dns_message::{Header, HeaderCounts, MessageRef, Record};
 use dns_name::{OutOfMemory, Rtype};
 use std::alloc::Global;
 use std::marker::Model;

@@ -1,5 +1,5 @@
 use Rattle.std.proofs.Common.{◌≡◌, ◌++◌, [], true, sym, ap, ◌∙◌, append-nil}
-use Rattle.dns_base.proofs.OptionLaws.{list_step}
+use Rattle.dns_message.proofs.OptionLaws.{list_step}
 use Rattle.dns_opt.specs.OptRecords.{opt_state}
 use Rattle.dns_route.specs.Kept.{keeps, kept_of}
 use Rattle.dns_route.proofs.KeptLaws.{kept_more, kept_none, more_size}

@@ -1,6 +1,6 @@
 use Rattle.std.proofs.Common.{◌∙◌, ap}
 use Rattle.dns_base.specs.Header.{header_of}
-use Rattle.dns_base.proofs.Written.{header_written}
+use Rattle.dns_message.proofs.Written.{header_written}
 use Rattle.dns_base.proofs.draft.Draft.header.Goals as goal
 
 pub returns : goal.returns

@@ -1,5 +1,0 @@
-use Rattle.dns_base.proofs.TypedWritten.{data_between}
-use Rattle.dns_base.proofs.data_laws.typed_data_reads_back.Goals as goal
-
-pub returns : goal.returns
-returns c = data_between

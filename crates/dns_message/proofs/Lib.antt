@@ -1,0 +1,6 @@
+pub mod Coming
+pub mod Written
+pub mod Plains
+pub mod OptionLaws
+pub mod TypedWritten
+pub mod TypedSections

@@ -1,0 +1,10 @@
+pub mod Header
+pub mod Msg
+pub mod Wire
+pub mod Read
+pub mod Options
+pub mod Records
+pub mod Standing
+pub mod Sections
+pub mod Plain
+pub mod TypedData

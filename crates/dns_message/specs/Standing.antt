@@ -1,0 +1,133 @@
+-- A record as it stands in a message (RFC 1035, section 4.1.3), and its data read by the shape of its type, pointers followed.
+use Rattle.std.specs.Prelude.{ℕ, ◌≡◌, List, take, drop, nat_lt, if◌then◌else◌, Result, Ok, Err, is_some}
+use Rattle.dns_name.specs.declared.error.ParseError.{ParseError}
+use Rattle.dns_name.specs.declared.error.ParseError.TheVariants.{ShortInput, Form, OutOfMemory as NoMemory}
+use Rattle.dns_name.specs.declared.error.FormReason.TheVariants.{Shape as OtherShape}
+use Rattle.dns_name.specs.Place.{Read}
+use Rattle.dns_name.specs.Names.{name_at, name_within}
+use Rattle.dns_message.specs.declared.rdata.Shape.{Shape}
+use Rattle.dns_message.specs.declared.rdata.Shape.TheVariants.{Address, LongAddress, OneName, Authority, TwoNames, Exchange, Service, Options, Other}
+use Rattle.dns_message.specs.declared.rdata.RecordData.{RecordData}
+use Rattle.dns_message.specs.declared.rdata.RecordData.TheVariants.{A, Aaaa, Named, Soa, Minfo, Mx, Srv, Opt, Unknown}
+use Rattle.dns_message.specs.declared.record.Record.{Record}
+use Rattle.dns_message.specs.Msg.{ResourceRecord}
+use Rattle.dns_message.specs.Options.{options}
+use Rattle.dns_message.specs.Records.{shape_of}
+use Rattle.dns_message.specs.Read.{◌>>=◌, two_at, four_at, octets_at}
+
+-- A number lies before the limit, and so do a name's octets before its first pointer.
+abbrev pub two_before : List ℕ → ℕ → ℕ → Read ℕ
+two_before o limit at = two_at (take limit o) at
+
+abbrev pub four_before : List ℕ → ℕ → ℕ → Read ℕ
+four_before o limit at = four_at (take limit o) at
+
+abbrev pub octets_before : ℕ → List ℕ → ℕ → ℕ → Read (List ℕ)
+octets_before n o limit at = octets_at n (take limit o) at
+
+unfoldable pub soa_at : List ℕ → ℕ → ℕ → Read RecordData
+soa_at o limit at = do
+  mname ← name_within o limit at
+  rname ← name_within o limit mname.1
+  serial ← four_before o limit rname.1
+  refresh ← four_before o limit serial.1
+  retry ← four_before o limit refresh.1
+  expire ← four_before o limit retry.1
+  minimum ← four_before o limit expire.1
+  Ok (Soa mname.0 rname.0 (record { 0 = serial.0 }) refresh.0 retry.0 expire.0 minimum.0, minimum.1)
+
+unfoldable pub minfo_at : List ℕ → ℕ → ℕ → Read RecordData
+minfo_at o limit at = do
+  first ← name_within o limit at
+  second ← name_within o limit first.1
+  Ok (Minfo first.0 second.0, second.1)
+
+unfoldable pub mx_at : List ℕ → ℕ → ℕ → Read RecordData
+mx_at o limit at = do
+  preference ← two_before o limit at
+  exchange ← name_within o limit preference.1
+  Ok (Mx preference.0 exchange.0, exchange.1)
+
+unfoldable pub srv_at : List ℕ → ℕ → ℕ → Read RecordData
+srv_at o limit at = do
+  priority ← two_before o limit at
+  weight ← two_before o limit priority.1
+  port ← two_before o limit weight.1
+  target ← name_within o limit port.1
+  Ok (Srv priority.0 weight.0 port.0 target.0, target.1)
+
+unfoldable pub one_name_at : ℕ → List ℕ → ℕ → ℕ → Read RecordData
+one_name_at t o limit at = do
+  name ← name_within o limit at
+  Ok (Named t name.0, name.1)
+
+unfoldable pub address_at : List ℕ → ℕ → ℕ → Read RecordData
+address_at o limit at = do
+  octets ← octets_before 4 o limit at
+  Ok (A octets.0, octets.1)
+
+unfoldable pub long_address_at : List ℕ → ℕ → ℕ → Read RecordData
+long_address_at o limit at = do
+  octets ← octets_before 16 o limit at
+  Ok (Aaaa octets.0, octets.1)
+
+-- an option list, which is the data whole
+abbrev pub opt_read : List ℕ → ℕ → Read RecordData
+opt_read d limit = if is_some (options d) then Ok (Opt d, limit) else Err ShortInput
+
+-- the data of a type, by its shape, from a place up to the limit
+abbrev pub data_by : Shape → ℕ → List ℕ → ℕ → ℕ → Read RecordData
+data_by Address t o limit at = address_at o limit at
+data_by LongAddress t o limit at = long_address_at o limit at
+data_by OneName t o limit at = one_name_at t o limit at
+data_by Authority t o limit at = soa_at o limit at
+data_by TwoNames t o limit at = minfo_at o limit at
+data_by Exchange t o limit at = mx_at o limit at
+data_by Service t o limit at = srv_at o limit at
+data_by Options t o limit at = opt_read (drop at (take limit o)) limit
+data_by Other t o limit at = Ok (Unknown t (drop at (take limit o)), limit)
+
+-- data goes up to its limit
+abbrev pub filled : ℕ → Read RecordData → Result RecordData ParseError
+filled limit (Ok (d, end)) = if nat_lt end limit then Err (Form OtherShape) else Ok d
+filled limit (Err e) = Err e
+
+unfoldable pub data_at : ℕ → List ℕ → ℕ → ℕ → Result RecordData ParseError
+data_at t o limit at = filled limit (data_by (shape_of t) t o limit at)
+
+-- a record as it stands: its data as octets, and what they are by their type's shape
+pub record Standing : Type 0 where
+  pub resource : ResourceRecord
+  pub content : Result RecordData ParseError
+
+-- name, type, class, TTL, the length of the data and the data
+unfoldable pub standing_at : List ℕ → ℕ → Read Standing
+standing_at o at = do
+  owner ← name_at o at
+  rtype ← two_at o owner.1
+  class ← two_at o rtype.1
+  ttl ← four_at o class.1
+  size ← two_at o ttl.1
+  octets ← octets_at size.0 o size.1
+  Ok (record { resource = record { owner = owner.0; rtype = rtype.0; class = class.0; ttl = ttl.0; rdata = octets.0 }; content = data_at rtype.0 o octets.1 size.1 }, octets.1)
+
+-- a record, its data not looked into
+unfoldable pub record_at : List ℕ → ℕ → Read ResourceRecord
+record_at o at = do
+  standing ← standing_at o at
+  Ok (standing.0.resource, standing.1)
+
+-- the record with its data, or why the data is not of its type's shape
+abbrev pub typed_by : ResourceRecord → Result RecordData ParseError → Result Record ParseError
+typed_by r (Ok d) = Ok (record { owner = r.owner; class = r.class; ttl = r.ttl; rdata = d })
+typed_by r (Err e) = Err e
+
+abbrev pub typed : Standing → Result Record ParseError
+typed s = typed_by s.resource s.content
+
+-- what is read is given, unless memory runs out
+abbrev pub Gives : {A : Type 0} → Result A ParseError → Result A ParseError → Type 0
+Gives (Ok x) read = read ≡ Ok x
+Gives (Err NoMemory) read = Unit {0}
+Gives (Err ShortInput) read = read ≡ Err ShortInput
+Gives (Err (Form f)) read = read ≡ Err (Form f)

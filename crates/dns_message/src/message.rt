@@ -1,0 +1,282 @@
+//! Messages as they come.
+
+ghost use Rattle.std.specs.Prelude.{◌≡◌, ◌≤◌, ◌<◌, length, IfOk, IsOk, MatchResult};
+ghost use Rattle.dns_message.specs.Header.{header_of};
+ghost use Rattle.dns_message.specs.Sections.{all_of, counts_of, first_of, questions_of, answers_of, authority_of, reached, standing_answers, standing_authority, standing_additional};
+
+use crate::header::{Header, HeaderCounts, header_in, number_at};
+use crate::question::{QuestionIter, QuestionRef, questions_end};
+use crate::record::{RecordIter, records_end};
+use dns_name::ParseError;
+use std::marker::Model;
+
+/// A message's octets, owned: at least a header.
+#[derive(Debug, Drop)]
+pub struct Message {
+    octets: Vec<u8>,
+}
+
+impl Model for Message {
+    ghost use Rattle.std.specs.Prelude.{List, ℕ, ◌≤◌, length};
+
+    ghost Value = { List ℕ };
+
+    ghost view = { λ m. m.octets.items };
+
+    ghost invariant = { λ m. 12 ≤ length m.octets.items };
+}
+
+/// A message's octets, borrowed: at least a header.
+#[derive(Debug, Drop)]
+pub struct MessageRef<'a> {
+    octets: &'a [u8],
+}
+
+impl<'a> Model for MessageRef<'a> {
+    ghost use Rattle.std.specs.Prelude.{List, ℕ, ◌≤◌, length};
+
+    ghost Value = { List ℕ };
+
+    ghost view = { λ m. m.octets.now };
+
+    ghost invariant = { λ m. 12 ≤ length m.octets.now };
+}
+
+impl Message {
+    /// Refused exactly below 12 octets. The vector is not copied.
+    pub fn from_octets(octets: Vec<u8>) -> Result<Message, ParseError>
+        ensures { MatchResult result (λ m. (m ≡ octets.items) × (12 ≤ length octets.items)) (λ e. (e ≡ ParseError.ShortInput) × (length octets.items < 12)) }
+    {
+        if octets.len() < 12 {
+            return Err(ParseError::ShortInput);
+        }
+        Ok(Message { octets })
+    }
+
+    /// The message's octets.
+    pub fn as_slice(&self) -> &[u8]
+        ensures value { result.now ≡ self.now }
+        ensures header { 12 ≤ length result.now }
+    {
+        self.octets.as_slice()
+    }
+
+    /// The message, borrowed.
+    pub fn for_ref(&self) -> MessageRef<'_>
+        ensures value { result ≡ self.now }
+        ensures header { 12 ≤ length self.now }
+    {
+        MessageRef {
+            octets: self.octets.as_slice(),
+        }
+    }
+
+    /// The header.
+    pub fn header(&self) -> Header
+        ensures { result ≡ header_of self.now }
+    {
+        self.for_ref().header()
+    }
+
+    /// The numbers of items that the header states.
+    pub fn header_counts(&self) -> HeaderCounts
+        ensures { result ≡ counts_of self.now }
+    {
+        self.for_ref().header_counts()
+    }
+
+    /// The questions up to the first unreadable one, and then its refusal.
+    pub fn question(&self) -> QuestionIter<'_>
+        ensures { result ≡ all_of (questions_of self.now) }
+    {
+        self.for_ref().question()
+    }
+
+    /// The answer records, refused where a question is unreadable.
+    pub fn answer(&self) -> Result<RecordIter<'_>, ParseError>
+        ensures { result ≡ reached (questions_of self.now).1 (standing_answers self.now) }
+    {
+        self.for_ref().answer()
+    }
+
+    /// The authority records, refused where an earlier section is unreadable.
+    pub fn authority(&self) -> Result<RecordIter<'_>, ParseError>
+        ensures { result ≡ reached (answers_of self.now).1 (standing_authority self.now) }
+    {
+        self.for_ref().authority()
+    }
+
+    /// The additional records, refused where an earlier section is unreadable.
+    pub fn additional(&self) -> Result<RecordIter<'_>, ParseError>
+        ensures { result ≡ reached (authority_of self.now).1 (standing_additional self.now) }
+    {
+        self.for_ref().additional()
+    }
+
+    /// The first question, none where there is none or it is unreadable.
+    pub fn first_question(&self) -> Option<QuestionRef<'_>>
+        ensures { result ≡ first_of (questions_of self.now).0 }
+    {
+        self.for_ref().first_question()
+    }
+}
+
+impl<'a> MessageRef<'a> {
+    /// Refused exactly below 12 octets.
+    pub fn from_slice(octets: &'a [u8]) -> Result<MessageRef<'a>, ParseError>
+        ensures { MatchResult result (λ m. (m ≡ octets.now) × (12 ≤ length octets.now)) (λ e. (e ≡ ParseError.ShortInput) × (length octets.now < 12)) }
+    {
+        if octets.len() < 12 {
+            return Err(ParseError::ShortInput);
+        }
+        Ok(MessageRef { octets })
+    }
+
+    /// The message that octets are, at least the 12 of a header.
+    pub fn of(octets: &'a [u8]) -> MessageRef<'a>
+        requires { 12 ≤ length octets.now }
+        ensures { result ≡ octets.now }
+    {
+        MessageRef { octets }
+    }
+
+    /// The message's octets.
+    pub fn as_slice(&self) -> &'a [u8]
+        ensures value { result.now ≡ self.now }
+        ensures header { 12 ≤ length result.now }
+    {
+        self.octets
+    }
+
+    /// The header.
+    pub fn header(&self) -> Header
+        ensures { result ≡ header_of self.now }
+    {
+        header_in(self.octets)
+    }
+
+    /// The numbers of items that the header states.
+    pub fn header_counts(&self) -> HeaderCounts
+        ensures { result ≡ counts_of self.now }
+    {
+        HeaderCounts {
+            qdcount: number_at(self.octets, 4),
+            ancount: number_at(self.octets, 6),
+            nscount: number_at(self.octets, 8),
+            arcount: number_at(self.octets, 10),
+        }
+    }
+
+    /// The questions up to the first unreadable one, and then its refusal.
+    pub fn question(&self) -> QuestionIter<'a>
+        ensures { result ≡ all_of (questions_of self.now) }
+    {
+        questions(self.octets)
+    }
+
+    /// The answer records up to the first unreadable one, and then its refusal; refused where a question is
+    /// unreadable.
+    pub fn answer(&self) -> Result<RecordIter<'a>, ParseError>
+        ensures { result ≡ reached (questions_of self.now).1 (standing_answers self.now) }
+    {
+        answers(self.octets)
+    }
+
+    /// The authority records up to the first unreadable one, and then its refusal; refused where an earlier
+    /// section is unreadable.
+    pub fn authority(&self) -> Result<RecordIter<'a>, ParseError>
+        ensures { result ≡ reached (answers_of self.now).1 (standing_authority self.now) }
+    {
+        authority(self.octets)
+    }
+
+    /// The additional records up to the first unreadable one, and then its refusal; refused where an earlier
+    /// section is unreadable.
+    pub fn additional(&self) -> Result<RecordIter<'a>, ParseError>
+        ensures { result ≡ reached (authority_of self.now).1 (standing_additional self.now) }
+    {
+        additional(self.octets)
+    }
+
+    /// The first question, none where there is none or it is unreadable.
+    #[tactic(auto, using(crate::proofs::Coming::first_here, crate::proofs::Coming::first_refused, crate::proofs::Coming::first_none))]
+    pub fn first_question(&self) -> Option<QuestionRef<'a>>
+        ensures { result ≡ first_of (questions_of self.now).0 }
+    {
+        let mut questions = self.question();
+        match questions.next() {
+            Some(Ok(question)) => Some(question),
+            _ => None,
+        }
+    }
+}
+
+#[tactic(auto, using(crate::proofs::Coming::all_come), unfolding(crate::specs::Sections::questions_of))]
+pub(crate) fn questions(message: &[u8]) -> QuestionIter<'_>
+    requires { 12 ≤ length message.now }
+    ensures { result ≡ all_of (questions_of message.now) }
+{
+    QuestionIter::of(message, 12, number_at(message, 4))
+}
+
+/// The place behind the questions, in octets from the message's start (RFC 1035, section 4.1.2), or the refusal of
+/// the first unreadable one.
+#[tactic(auto, using(crate::proofs::Coming::all_ended), unfolding(crate::specs::Sections::questions_of))]
+pub fn end_of_questions(message: &[u8]) -> Result<usize, ParseError>
+    requires { 12 ≤ length message.now }
+    ensures value { result ≡ (questions_of message.now).1 }
+    ensures within { IfOk result (λ end. end ≤ length message.now) }
+{
+    questions_end(message, 12, number_at(message, 4))
+}
+
+#[tactic(auto, using(crate::proofs::Coming::all_come))]
+fn answers(message: &[u8]) -> Result<RecordIter<'_>, ParseError>
+    requires { 12 ≤ length message.now }
+    ensures { result ≡ reached (questions_of message.now).1 (standing_answers message.now) }
+{
+    let at = end_of_questions(message)?;
+    Ok(RecordIter::of(message, at, number_at(message, 6)))
+}
+
+/// The place behind the answer records, in octets from the message's start (RFC 1035, section 4.1.3), or the
+/// refusal of the first unreadable question or record before it.
+#[tactic(auto, using(crate::proofs::Coming::behind_ended), unfolding(crate::specs::Sections::answers_of))]
+pub fn end_of_answers(message: &[u8]) -> Result<usize, ParseError>
+    requires { 12 ≤ length message.now }
+    ensures value { result ≡ (answers_of message.now).1 }
+    ensures within { IfOk result (λ end. end ≤ length message.now) }
+{
+    let at = end_of_questions(message)?;
+    records_end(message, at, number_at(message, 6))
+}
+
+#[tactic(auto, using(crate::proofs::Coming::all_come))]
+fn authority(message: &[u8]) -> Result<RecordIter<'_>, ParseError>
+    requires { 12 ≤ length message.now }
+    ensures { result ≡ reached (answers_of message.now).1 (standing_authority message.now) }
+{
+    let at = end_of_answers(message)?;
+    Ok(RecordIter::of(message, at, number_at(message, 8)))
+}
+
+/// The place behind the authority records, in octets from the message's start (RFC 1035, section 4.1.3), or the
+/// refusal of the first unreadable question or record before it.
+#[tactic(auto, using(crate::proofs::Coming::behind_ended), unfolding(crate::specs::Sections::authority_of))]
+pub fn end_of_authority(message: &[u8]) -> Result<usize, ParseError>
+    requires { 12 ≤ length message.now }
+    ensures value { result ≡ (authority_of message.now).1 }
+    ensures within { IfOk result (λ end. end ≤ length message.now) }
+{
+    let at = end_of_answers(message)?;
+    records_end(message, at, number_at(message, 8))
+}
+
+#[tactic(auto, using(crate::proofs::Coming::all_come))]
+fn additional(message: &[u8]) -> Result<RecordIter<'_>, ParseError>
+    requires { 12 ≤ length message.now }
+    ensures { result ≡ reached (authority_of message.now).1 (standing_additional message.now) }
+{
+    let at = end_of_authority(message)?;
+    Ok(RecordIter::of(message, at, number_at(message, 10)))
+}
