@@ -4,35 +4,35 @@ use Rattle.dns_base.specs.Built.{with_question}
 use Rattle.dns_base.proofs.Pushed.{viewed, room_on, question_grows, question_done, no_memory}
 use Rattle.dns_base.proofs.draft.Draft.push_question.Goals as goal
 
-pub returns-then-len-size : goal.returns-then-len-size
-returns-then-len-size g c =
-    let k = question_grows c.self.inside.octets.items c.self.inside.limit c.args.self.now (g.Q.Asked.asked c.args.question.now) c.self.invariant c.self.view_is in
-    (refl, omega (arith, k.0, k.1, c.len.ensures, c.size.ensures.value))
+pub returns-then-len-compose_len : goal.returns-then-len-compose_len
+returns-then-len-compose_len g c =
+    let k = question_grows c.self.inside.octets.items c.self.inside.limit c.args.self.now (g.Q.ComposeQuestion.asked c.args.question.now) c.self.invariant c.self.view_is in
+    (refl, omega (arith, k.0, k.1, c.len.ensures, c.compose_len.ensures.value))
 
-pub returns-in_err-compose : goal.returns-in_err-compose
-returns-in_err-compose g c =
-    let k = question_grows c.self.inside.octets.items c.self.inside.limit c.args.self.now (g.Q.Asked.asked c.args.question.now) c.self.invariant c.self.view_is in
+pub returns-in_err-compose_question : goal.returns-in_err-compose_question
+returns-in_err-compose_question g c =
+    let k = question_grows c.self.inside.octets.items c.self.inside.limit c.args.self.now (g.Q.ComposeQuestion.asked c.args.question.now) c.self.invariant c.self.view_is in
     let p = err_from_is_err_and c.from_residual.result c.from_residual.ensures.1 in
-    no_memory _ _ (with_question c.args.self.now (g.Q.Asked.asked c.args.question.now)) c.from_residual.result p.0 p.1 p.2
-    (ap (λ o. viewed o c.self.inside.limit) c.in_err-compose.ensures.err ∙ c.self.view_is) (omega (arith, k.0, k.1, c.len.ensures, c.size.ensures.value))
+    no_memory _ _ (with_question c.args.self.now (g.Q.ComposeQuestion.asked c.args.question.now)) c.from_residual.result p.0 p.1 p.2
+    (ap (λ o. viewed o c.self.inside.limit) c.in_err-compose_question.ensures.err ∙ c.self.view_is) (omega (arith, k.0, k.1, c.len.ensures, c.compose_len.ensures.value))
 
 pub count_more-requires-clause-within : goal.count_more-requires-clause-within
-count_more-requires-clause-within g c = let r = room_on c.self.inside.octets.items _ _ c.self.inside.limit c.args.self.now c.self.invariant c.self.view_is c.in_ok-compose.ensures.ok in omega (arith, r.0)
+count_more-requires-clause-within g c = let r = room_on c.self.inside.octets.items _ _ c.self.inside.limit c.args.self.now c.self.invariant c.self.view_is c.in_ok-compose_question.ensures.ok in omega (arith, r.0)
 
 pub count_more-requires-clause-few : goal.count_more-requires-clause-few
-count_more-requires-clause-few g c = (room_on c.self.inside.octets.items _ _ c.self.inside.limit c.args.self.now c.self.invariant c.self.view_is c.in_ok-compose.ensures.ok).1
+count_more-requires-clause-few g c = (room_on c.self.inside.octets.items _ _ c.self.inside.limit c.args.self.now c.self.invariant c.self.view_is c.in_ok-compose_question.ensures.ok).1
 
 pub invariant_of-self-2 : goal.invariant_of-self-2
 invariant_of-self-2 g c =
     let i = c.self.inside in
-    (question_done i.octets.items c.compose.new.target.items c.count_more.new.octets.items i.limit c.args.self.now (g.Q.Asked.asked c.args.question.now) c.self.invariant c.self.view_is c.size.ensures.named c.requires
-    c.in_ok-compose.ensures.ok c.count_more.ensures.message c.count_more.ensures.len (omega (arith, c.len.ensures, c.size.ensures.value))).0
+    (question_done i.octets.items c.compose_question.new.target.items c.count_more.new.octets.items i.limit c.args.self.now (g.Q.ComposeQuestion.asked c.args.question.now) c.self.invariant c.self.view_is c.compose_len.ensures.named c.requires
+    c.in_ok-compose_question.ensures.ok c.count_more.ensures.message c.count_more.ensures.len (omega (arith, c.len.ensures, c.compose_len.ensures.value))).0
 
 pub returns : goal.returns
 returns g c =
     let i = c.self.inside in
-    let k = question_grows i.octets.items i.limit c.args.self.now (g.Q.Asked.asked c.args.question.now) c.self.invariant c.self.view_is in (
-      (question_done i.octets.items c.compose.new.target.items c.count_more.new.octets.items i.limit c.args.self.now (g.Q.Asked.asked c.args.question.now) c.self.invariant c.self.view_is c.size.ensures.named c.requires
-          c.in_ok-compose.ensures.ok c.count_more.ensures.message c.count_more.ensures.len (omega (arith, c.len.ensures, c.size.ensures.value))).1,
-      omega (arith, k.0, k.1, c.len.ensures, c.size.ensures.value),
+    let k = question_grows i.octets.items i.limit c.args.self.now (g.Q.ComposeQuestion.asked c.args.question.now) c.self.invariant c.self.view_is in (
+      (question_done i.octets.items c.compose_question.new.target.items c.count_more.new.octets.items i.limit c.args.self.now (g.Q.ComposeQuestion.asked c.args.question.now) c.self.invariant c.self.view_is c.compose_len.ensures.named c.requires
+          c.in_ok-compose_question.ensures.ok c.count_more.ensures.message c.count_more.ensures.len (omega (arith, c.len.ensures, c.compose_len.ensures.value))).1,
+      omega (arith, k.0, k.1, c.len.ensures, c.compose_len.ensures.value),
     )

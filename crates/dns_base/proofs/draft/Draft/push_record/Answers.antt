@@ -7,17 +7,17 @@ use Rattle.dns_base.specs.Records.{record_of}
 use Rattle.dns_base.proofs.Pushed.{viewed, room_on, count_room_on, record_grows, record_done, no_memory}
 use Rattle.dns_base.proofs.draft.Draft.push_record.Goals as goal
 
-pub returns-then-len-size : goal.returns-then-len-size
-returns-then-len-size c =
+pub returns-then-len-compose_len : goal.returns-then-len-compose_len
+returns-then-len-compose_len c =
     let g = record_grows c.self.inside.octets.items c.self.inside.limit c.args.self.now c.args.section (record_of c.args.record.now) c.self.invariant c.self.view_is c.requires.last in
-    (refl, omega (arith, g.0, g.1, c.len.ensures, c.size.ensures.value))
+    (refl, omega (arith, g.0, g.1, c.len.ensures, c.compose_len.ensures.value))
 
 pub returns-in_err-compose : goal.returns-in_err-compose
 returns-in_err-compose c =
     let g = record_grows c.self.inside.octets.items c.self.inside.limit c.args.self.now c.args.section (record_of c.args.record.now) c.self.invariant c.self.view_is c.requires.last in
     let p = err_from_is_err_and c.from_residual.result c.from_residual.ensures.1 in
     no_memory _ _ (with_record c.args.section c.args.self.now (record_of c.args.record.now)) c.from_residual.result p.0 p.1 p.2
-    (ap (λ o. viewed o c.self.inside.limit) c.in_err-compose.ensures.err ∙ c.self.view_is) (omega (arith, g.0, g.1, c.len.ensures, c.size.ensures.value))
+    (ap (λ o. viewed o c.self.inside.limit) c.in_err-compose.ensures.err ∙ c.self.view_is) (omega (arith, g.0, g.1, c.len.ensures, c.compose_len.ensures.value))
 
 pub count_more-requires-clause-within : goal.count_more-requires-clause-within
 count_more-requires-clause-within c =
@@ -31,14 +31,14 @@ count_more-requires-clause-few c =
 pub invariant_of-self-2 : goal.invariant_of-self-2
 invariant_of-self-2 c =
     let i = c.self.inside in
-    (record_done i.octets.items c.compose.new.target.items c.count_more.new.octets.items i.limit c.args.self.now c.args.section (record_of c.args.record.now) c.self.invariant c.self.view_is c.size.ensures.named c.requires.last
-    c.in_ok-compose.ensures.ok (subst (λ (x : ℕ). drop 2 c.count_more.new.octets.items ≡ counted x (field x (drop 2 c.compose.new.target.items) + 1) (drop 2 c.compose.new.target.items)) c.count_place.ensures.value c.count_more.ensures.message) c.count_more.ensures.len (omega (arith, c.len.ensures, c.size.ensures.value))).0
+    (record_done i.octets.items c.compose.new.target.items c.count_more.new.octets.items i.limit c.args.self.now c.args.section (record_of c.args.record.now) c.self.invariant c.self.view_is c.compose_len.ensures.named c.requires.last
+    c.in_ok-compose.ensures.ok (subst (λ (x : ℕ). drop 2 c.count_more.new.octets.items ≡ counted x (field x (drop 2 c.compose.new.target.items) + 1) (drop 2 c.compose.new.target.items)) c.count_place.ensures.value c.count_more.ensures.message) c.count_more.ensures.len (omega (arith, c.len.ensures, c.compose_len.ensures.value))).0
 
 pub returns : goal.returns
 returns c =
     let i = c.self.inside in
     let g = record_grows i.octets.items i.limit c.args.self.now c.args.section (record_of c.args.record.now) c.self.invariant c.self.view_is c.requires.last in (
-      (record_done i.octets.items c.compose.new.target.items c.count_more.new.octets.items i.limit c.args.self.now c.args.section (record_of c.args.record.now) c.self.invariant c.self.view_is c.size.ensures.named c.requires.last
-          c.in_ok-compose.ensures.ok (subst (λ (x : ℕ). drop 2 c.count_more.new.octets.items ≡ counted x (field x (drop 2 c.compose.new.target.items) + 1) (drop 2 c.compose.new.target.items)) c.count_place.ensures.value c.count_more.ensures.message) c.count_more.ensures.len (omega (arith, c.len.ensures, c.size.ensures.value))).1,
-      omega (arith, g.0, g.1, c.len.ensures, c.size.ensures.value),
+      (record_done i.octets.items c.compose.new.target.items c.count_more.new.octets.items i.limit c.args.self.now c.args.section (record_of c.args.record.now) c.self.invariant c.self.view_is c.compose_len.ensures.named c.requires.last
+          c.in_ok-compose.ensures.ok (subst (λ (x : ℕ). drop 2 c.count_more.new.octets.items ≡ counted x (field x (drop 2 c.compose.new.target.items) + 1) (drop 2 c.compose.new.target.items)) c.count_place.ensures.value c.count_more.ensures.message) c.count_more.ensures.len (omega (arith, c.len.ensures, c.compose_len.ensures.value))).1,
+      omega (arith, g.0, g.1, c.len.ensures, c.compose_len.ensures.value),
     )

@@ -17,17 +17,17 @@ overflow_add-others c =
 pub overflow_add-others-2 : goal.overflow_add-others-2
 overflow_add-others-2 c =
     let f = others_fit c.self.inside.octets.items c.self.inside.limit c.args.self.now c.args.rtype c.others-others.result.start c.self.invariant c.self.view_is c.others-others.ensures.start in
-    search (rules, f.0, c.others-others.ensures.size, c.size.ensures.short)
+    search (rules, f.0, c.others-others.ensures.size, c.compose_len.ensures.short)
 
 pub overflow_add-others-3 : goal.overflow_add-others-3
 overflow_add-others-3 c =
     let f = others_fit c.self.inside.octets.items c.self.inside.limit c.args.self.now c.args.rtype c.others-others.result.start c.self.invariant c.self.view_is c.others-others.ensures.start in
     search (rules, f.1, c.others-others.ensures.kept)
 
-pub returns-then-others-size : goal.returns-then-others-size
-returns-then-others-size c =
+pub returns-then-others-compose_len : goal.returns-then-others-compose_len
+returns-then-others-compose_len c =
     let g = replaced_length c.self.inside.octets.items c.self.inside.limit c.args.self.now c.args.rtype c.others-others.result.start (record_of c.args.record.now) c.self.invariant c.self.view_is c.others-others.ensures.start in
-    (refl, omega (arith, g.0, g.1, c.others-others.ensures.size, c.size.ensures.value, c.if-others-size.true))
+    (refl, omega (arith, g.0, g.1, c.others-others.ensures.size, c.compose_len.ensures.value, c.if-others-compose_len.true))
 
 pub squeeze-requires-clause-header : goal.squeeze-requires-clause-header
 squeeze-requires-clause-header c =
@@ -50,7 +50,7 @@ returns-in_err-compose c =
     let g = replaced_length c.self.inside.octets.items c.self.inside.limit c.args.self.now c.args.rtype c.others-others.result.start (record_of c.args.record.now) c.self.invariant c.self.view_is c.others-others.ensures.start in
     let p = err_from_is_err_and c.from_residual.result c.from_residual.ensures.1 in
     no_memory _ _ (with_record Additional (less_type c.args.rtype c.args.self.now) (record_of c.args.record.now)) c.from_residual.result p.0 p.1 p.2
-    (ap (λ o. viewed o c.self.inside.limit) c.in_err-compose.ensures.err ∙ c.self.view_is) (omega (arith, g.0, g.1, c.others-others.ensures.size, c.size.ensures.value, c.if-others-size.false))
+    (ap (λ o. viewed o c.self.inside.limit) c.in_err-compose.ensures.err ∙ c.self.view_is) (omega (arith, g.0, g.1, c.others-others.ensures.size, c.compose_len.ensures.value, c.if-others-compose_len.false))
 
 pub invariant_of-self-2 : goal.invariant_of-self-2
 invariant_of-self-2 c =
@@ -58,7 +58,7 @@ invariant_of-self-2 c =
     let e = c.others-others.ensures in
     let r = c.others-others.result in
     (replaced i.octets.items c.compose.new.target.items c.squeeze.new.octets.items i.limit c.args.self.now c.args.rtype r.start r.count r.kept (record_of c.args.record.now) c.self.invariant c.self.view_is e.start e.count e.kept
-    c.size.ensures.named c.in_ok-compose.ensures.ok (omega (arith, e.size, c.size.ensures.value, c.if-others-size.false)) c.squeeze.ensures.message c.squeeze.ensures.framed).0
+    c.compose_len.ensures.named c.in_ok-compose.ensures.ok (omega (arith, e.size, c.compose_len.ensures.value, c.if-others-compose_len.false)) c.squeeze.ensures.message c.squeeze.ensures.framed).0
 
 pub returns : goal.returns
 returns c =
@@ -67,6 +67,6 @@ returns c =
     let r = c.others-others.result in
     let g = replaced_length i.octets.items i.limit c.args.self.now c.args.rtype r.start (record_of c.args.record.now) c.self.invariant c.self.view_is e.start in (
       (replaced i.octets.items c.compose.new.target.items c.squeeze.new.octets.items i.limit c.args.self.now c.args.rtype r.start r.count r.kept (record_of c.args.record.now) c.self.invariant c.self.view_is e.start e.count e.kept
-          c.size.ensures.named c.in_ok-compose.ensures.ok (omega (arith, e.size, c.size.ensures.value, c.if-others-size.false)) c.squeeze.ensures.message c.squeeze.ensures.framed).1,
-      omega (arith, g.0, g.1, e.size, c.size.ensures.value, c.if-others-size.false),
+          c.compose_len.ensures.named c.in_ok-compose.ensures.ok (omega (arith, e.size, c.compose_len.ensures.value, c.if-others-compose_len.false)) c.squeeze.ensures.message c.squeeze.ensures.framed).1,
+      omega (arith, g.0, g.1, e.size, c.compose_len.ensures.value, c.if-others-compose_len.false),
     )
