@@ -1,3 +1,4 @@
 mod ItemLaws
+mod Lists
 pub mod Sizes
 pub mod Opts

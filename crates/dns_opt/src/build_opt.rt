@@ -2,7 +2,7 @@
 
 ghost use Rattle.std.specs.Prelude.{◌≡◌, ◌≤◌, IfOk};
 ghost use Rattle.std.specs.Fn.{FnOnceReturnsAtMut};
-ghost use Rattle.dns_base.specs.Built.{with_header};
+ghost use Rattle.dns_base.specs.Built.{Built, with_header};
 ghost use Rattle.dns_opt.specs.Drafts.{Appended, BuiltOpt, Ends, EndsIn, IsBuiltOpt, PutInto, opened, room_of};
 ghost use Rattle.dns_opt.specs.Reopened.{Reopens, less_opts, old_opt, reopened};
 
@@ -12,18 +12,22 @@ use crate::message_opt::MessageOpt;
 use crate::opt::Opt;
 use crate::record::{OptRecord, record_by};
 use dns_base::{AdditionalBuilder, PushError};
-use dns_name::{BuildDataError, OutOfMemory, Rtype};
+use dns_name::{BuildDataError, OutOfMemory, Rcode, Rtype};
 use std::alloc::Global;
 
 /// A message under construction that can get an OPT record (RFC 6891, section 6.1.1).
 pub trait BuildOpt {
+    /// The message that is under construction, and its limit.
+    ghost built: { Self → Built };
+
     /// Appends one OPT record as the closure builds it. Where anything is refused, the message is as before.
     fn opt<F: FnOnce(&mut OptBuilder) -> Result<(), BuildDataError>>(
         &mut self,
         alloc: Global,
         build: F,
     ) -> Result<(), BuildDataError>
-        requires { F.IsAlwaysCallable build };
+        requires { F.IsAlwaysCallable build }
+        ensures { BuiltOpt (FnOnceReturnsAtMut F.FnOnce build) (built self.old) (built self.new) result };
 
     /// Builds on the message's first OPT record, or on an empty one where there is none or its data is no option
     /// list; what the closure leaves takes the place of the OPT records, as the last additional record. The options
@@ -33,18 +37,18 @@ pub trait BuildOpt {
         alloc: Global,
         build: F,
     ) -> Result<(), BuildDataError>
-        requires { F.IsAlwaysCallable build };
+        requires { F.IsAlwaysCallable build }
+        ensures { Reopens (FnOnceReturnsAtMut F.FnOnce build) (built self.old) (built self.new) result };
 }
 
 impl BuildOpt for AdditionalBuilder {
+    ghost built = { λ b. b };
+
     fn opt<F: FnOnce(&mut OptBuilder) -> Result<(), BuildDataError>>(
         &mut self,
         alloc: Global,
         build: F,
-    ) -> Result<(), BuildDataError>
-        requires { F.IsAlwaysCallable build }
-        ensures { BuiltOpt (FnOnceReturnsAtMut F.FnOnce build) self.old self.new result }
-    {
+    ) -> Result<(), BuildDataError> {
         if room(self) < 11 {
             return Err(BuildDataError::ShortBuf);
         }
@@ -55,13 +59,10 @@ impl BuildOpt for AdditionalBuilder {
         &mut self,
         alloc: Global,
         build: F,
-    ) -> Result<(), BuildDataError>
-        requires { F.IsAlwaysCallable build }
-        ensures { Reopens (FnOnceReturnsAtMut F.FnOnce build) self.old self.new result }
-    {
+    ) -> Result<(), BuildDataError> {
         let opt = reopened(self, alloc)?;
         let (opt, answer) = called(opt, build);
-        ended_in_place(self, alloc, answer, &opt)
+        ended_in_place(self, alloc, answer, opt)
     }
 }
 
@@ -137,16 +138,16 @@ fn built<F: FnOnce(&mut OptBuilder) -> Result<(), BuildDataError>>(
 {
     let opt = open(message, alloc);
     let (opt, answer) = called(opt, build);
-    ended(message, alloc, answer, &opt)
+    ended(message, alloc, answer, opt)
 }
 
 fn ended(
     message: &mut AdditionalBuilder,
     alloc: Global,
     answer: Result<(), BuildDataError>,
-    opt: &OptBuilder,
+    opt: OptBuilder,
 ) -> Result<(), BuildDataError>
-    ensures { Ends answer opt.now message.old message.new result }
+    ensures { Ends answer opt message.old message.new result }
 {
     match answer {
         Ok(()) => appended(message, alloc, opt),
@@ -158,9 +159,9 @@ fn ended_in_place(
     message: &mut AdditionalBuilder,
     alloc: Global,
     answer: Result<(), BuildDataError>,
-    opt: &OptBuilder,
+    opt: OptBuilder,
 ) -> Result<(), BuildDataError>
-    ensures { EndsIn answer opt.now (less_opts message.old) message.old message.new result }
+    ensures { EndsIn answer opt (less_opts message.old) message.old message.new result }
 {
     match answer {
         Ok(()) => replaced(message, alloc, opt),
@@ -172,17 +173,23 @@ fn ended_in_place(
 fn appended(
     message: &mut AdditionalBuilder,
     alloc: Global,
-    opt: &OptBuilder,
+    opt: OptBuilder,
 ) -> Result<(), BuildDataError>
-    ensures { Appended opt.now message.old message.new result }
+    ensures { Appended opt message.old message.new result }
 {
-    let record = record_by(alloc, opt.head, opt.options.as_slice())?;
+    let OptBuilder {
+        head,
+        low,
+        options,
+        ..
+    } = opt;
+    let record = record_by(alloc, head, options)?;
     match message.push(alloc, &record) {
         Ok(()) => {}
         Err(PushError::ShortBuf) => return Err(BuildDataError::ShortBuf),
         Err(PushError::OutOfMemory) => return Err(BuildDataError::OutOfMemory),
     }
-    set_low(message, opt);
+    set_low(message, low);
     Ok(())
 }
 
@@ -190,25 +197,31 @@ fn appended(
 fn replaced(
     message: &mut AdditionalBuilder,
     alloc: Global,
-    opt: &OptBuilder,
+    opt: OptBuilder,
 ) -> Result<(), BuildDataError>
-    ensures { PutInto opt.now (less_opts message.old) message.old message.new result }
+    ensures { PutInto opt (less_opts message.old) message.old message.new result }
 {
-    let record = record_by(alloc, opt.head, opt.options.as_slice())?;
+    let OptBuilder {
+        head,
+        low,
+        options,
+        ..
+    } = opt;
+    let record = record_by(alloc, head, options)?;
     match message.replace_type(alloc, Rtype::OPT, &record) {
         Ok(()) => {}
         Err(PushError::ShortBuf) => return Err(BuildDataError::ShortBuf),
         Err(PushError::OutOfMemory) => return Err(BuildDataError::OutOfMemory),
     }
-    set_low(message, opt);
+    set_low(message, low);
     Ok(())
 }
 
 /// Sets the lower four bits of the response code in the header.
-fn set_low(message: &mut AdditionalBuilder, opt: &OptBuilder)
-    ensures { message.new ≡ with_header message.old (record message.old.message.header { rcode = opt.now.low }) }
+fn set_low(message: &mut AdditionalBuilder, low: Rcode)
+    ensures { message.new ≡ with_header message.old (record message.old.message.header { rcode = low }) }
 {
     let mut header = message.header();
-    header.rcode = opt.low;
+    header.rcode = low;
     message.set_header(header);
 }

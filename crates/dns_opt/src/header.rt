@@ -1,6 +1,6 @@
 //! The head of an OPT record, and of an option.
 
-ghost use Rattle.std.specs.Prelude.{◌≡◌, ◌+◌, ◌*◌, ◌/◌, ◌++◌, IsTrue, ◌↔◌, OnOk};
+ghost use Rattle.std.specs.Prelude.{◌≡◌, ◌+◌, ◌*◌, ◌/◌, ◌++◌, IsTrue, ◌↔◌, OnErr, OnOk};
 ghost use Rattle.dns_name.specs.OptData.{ParsesData};
 ghost use Rattle.dns_name.specs.Place.{rest};
 ghost use Rattle.dns_opt.specs.OptRecords.{head_octets, head_of, is_do, option_head, with_do, zero_head};
@@ -118,9 +118,10 @@ impl OptHeader {
         self.flags = if value { others + 32768 } else { others };
     }
 
-    /// Appends the nine octets of an OPT record before the length of its options.
+    /// Appends the nine octets of an OPT record before the length of its options. A refused call leaves the target.
     pub fn compose(&self, alloc: Global, target: &mut Vec<u8>) -> Result<(), OutOfMemory>
-        ensures { OnOk result (target.new.items ≡ target.old.items ++ head_octets self.now) }
+        ensures ok { OnOk result (target.new.items ≡ target.old.items ++ head_octets self.now) }
+        ensures err { OnErr result (target.new.items ≡ target.old.items) }
     {
         let octets = [
             0,

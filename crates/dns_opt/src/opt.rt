@@ -1,13 +1,13 @@
 //! Option lists, owned.
 
-ghost use Rattle.std.specs.Prelude.{◌≡◌, ◌≤◌, ◌<◌, ◌/◌, ◌%◌, ◌==◌, ◌↔◌, [], ◌∷◌, ◌++◌, ℕ, length, IsTrue, IfOk, Ok, Some, codes};
+ghost use Rattle.std.specs.Prelude.{◌≡◌, ◌≤◌, ◌<◌, ◌/◌, ◌%◌, ◌==◌, ◌↔◌, [], ◌∷◌, ◌++◌, ℕ, length, IsTrue, IfOk, Ok, Some, is_ok, if◌then◌else◌, codes};
 ghost use Rattle.std.specs.Cmp.{partial_order_from_own_ties};
 ghost use Rattle.std.specs.Cmp.Rules.{comparing, hashing};
 ghost use Rattle.std.specs.Cmp.Lexicographic.{pointwise, slice_cmp};
 ghost use Rattle.std.specs.Hash as fed;
 ghost use Rattle.std.specs.Ordering.{nat_cmp, as_partial_cmp};
 ghost use Rattle.std.proofs.Common.{rules};
-ghost use Rattle.dns_base.specs.Options.{IsOptionList, option_list};
+ghost use Rattle.dns_base.specs.Options.{IsOptionList, option_list, option_octets};
 ghost use Rattle.dns_opt.specs.Items.{first_ok, items_of};
 ghost use Rattle.dns_opt.specs.Pushes.{Pushed, PushedRaw};
 ghost use Rattle.dns_opt.specs.Writes.{Writes};
@@ -21,19 +21,45 @@ use std::fmt;
 use std::hash::{Hash, Hasher};
 use std::marker::Model;
 
-/// The first four octets of an option.
-fn header(alloc: Global, code: u16, len: u16) -> Result<Vec<u8>, OutOfMemory>
-    ensures { IfOk result (λ v. v.items ≡ code / 256 ∷ code % 256 ∷ len / 256 ∷ len % 256 ∷ []) }
+/// The first four octets of an option: its code and how many octets of data follow.
+fn header(code: u16, len: u16) -> [u8; 4]
+    ensures { result ≡ code / 256 ∷ code % 256 ∷ len / 256 ∷ len % 256 ∷ [] }
 {
-    let octets = [
+    [
         (code / 256) as u8,
         (code % 256) as u8,
         (len / 256) as u8,
         (len % 256) as u8,
-    ];
-    let mut out = Vec::with_capacity(alloc, 4 + len as usize)?;
-    out.extend_from_slice(&octets)?;
-    Ok(out)
+    ]
+}
+
+/// A list and an option behind it, in a vector of its own with room for so many octets more.
+fn with_option<D: ComposeOptData>(
+    alloc: Global,
+    more: usize,
+    list: &[u8],
+    value: &D,
+) -> Result<Vec<u8>, OutOfMemory>
+    ensures { IfOk result (λ v. v.items ≡ list.now ++ option_octets (D.code_of value.now) (D.octets value.now)) }
+{
+    let len = value.compose_len();
+    let needed = list.len().saturating_add(4 + len as usize);
+    let mut octets = Vec::with_capacity(alloc, needed.saturating_add(more))?;
+    octets.extend_from_slice(list)?;
+    octets.extend_from_slice(&header(value.code().to_int(), len))?;
+    value.compose_option(alloc, &mut octets)?;
+    Ok(octets)
+}
+
+/// Appends an option's code and length and its data. Where want of memory refuses it, the vector is as before.
+fn append_option(octets: &mut Vec<u8>, code: u16, added: &[u8]) -> Result<(), OutOfMemory>
+    requires { length added.now ≤ 65535 }
+    ensures { octets.new.items ≡ (if is_ok result then octets.old.items ++ option_octets code added.now else octets.old.items) }
+{
+    octets.reserve(4 + added.len())?;
+    octets.extend_from_slice(&header(code, added.len() as u16))?;
+    octets.extend_from_slice(added)?;
+    Ok(())
 }
 
 /// What a writer writes to an empty vector.
@@ -162,13 +188,17 @@ impl Opt {
     ) -> Result<(), BuildDataError>
         ensures { Pushed (D.code_of value.now) (D.octets value.now) self.old self.new result }
     {
-        let len = value.compose_len();
-        if self.octets.len() + 4 + len as usize > 65535 {
+        let len = self.octets.len();
+        let longer = len + 4 + value.compose_len() as usize;
+        if longer > 65535 {
             return Err(BuildDataError::LongOptData);
         }
-        let mut option = header(alloc, value.code().to_int(), len)?;
-        value.compose_option(alloc, &mut option)?;
-        self.octets.extend_from_slice(&option)?;
+        if longer > self.octets.capacity() {
+            self.octets = with_option(alloc, len, self.octets.as_slice(), value)?;
+        } else {
+            let option = with_option(alloc, 0, &[], value)?;
+            self.octets.extend_from_slice(&option)?;
+        }
         Ok(())
     }
 
@@ -195,9 +225,7 @@ impl Opt {
                 written: octets.len(),
             });
         }
-        let mut option = header(alloc, code.to_int(), len)?;
-        option.extend_from_slice(&octets)?;
-        self.octets.extend_from_slice(&option)?;
+        append_option(&mut self.octets, code.to_int(), octets.as_slice())?;
         Ok(())
     }
 }

@@ -11,7 +11,7 @@ use crate::list::OptRef;
 use crate::opt::Opt;
 use dns_base::{Header, Record, RecordData};
 use dns_name::{
-    BuildDataError, Class, ComposeOptData, Name, OptRcode, OptionCode, OutOfMemory, Ttl,
+    BuildDataError, Class, ComposeOptData, Name, Octets, OptRcode, OptionCode, OutOfMemory, Ttl,
 };
 use std::alloc::Global;
 use std::marker::Model;
@@ -190,23 +190,18 @@ impl OptRecord {
         ensures value { IfOk result (λ r. record_of r ≡ opt_record self.now) }
         ensures lawful { IfOk result (λ r. IsLawful r.rdata) }
     {
-        record_by(alloc, self.head, self.options.as_slice())
+        let options = self.options.for_slice_ref().to_owned(alloc)?;
+        record_by(alloc, self.head, options)
     }
 }
 
-/// A record of a head and options.
-pub(crate) fn record_by(
-    alloc: Global,
-    head: OptHeader,
-    options: &[u8],
-) -> Result<Record, OutOfMemory>
-    requires short { length options.now ≤ 65535 }
-    requires list { IsOptionList options.now }
-    ensures value { IfOk result (λ r. record_of r ≡ opt_record (opt_state head options.now)) }
+/// A record of a head and options, which aren't copied.
+pub(crate) fn record_by(alloc: Global, head: OptHeader, options: Opt) -> Result<Record, OutOfMemory>
+    ensures value { IfOk result (λ r. record_of r ≡ opt_record (opt_state head options)) }
     ensures lawful { IfOk result (λ r. IsLawful r.rdata) }
 {
     let owner = Name::root(alloc)?;
-    let octets = Octets::from_slice(alloc, options)?;
+    let octets = Octets::from_vec(options.into_octets());
     let secs = 16777216 * head.ext as u32 + 65536 * head.version as u32 + head.flags as u32;
     Ok(Record {
         owner,
@@ -215,11 +210,6 @@ pub(crate) fn record_by(
         rdata: RecordData::Opt(octets),
     })
 }
-
-ghost use Rattle.std.specs.Prelude.{◌≤◌, length};
-ghost use Rattle.dns_base.specs.Options.{IsOptionList};
-
-use dns_name::Octets;
 
 impl<'a> OptRecordRef<'a> {
     pub(crate) fn head(&self) -> OptHeader

@@ -1,5 +1,7 @@
 //! Option lists and OPT records, built and read.
 
+ghost use Rattle.std.specs.Prelude.{◌≡◌, OnErr};
+
 use crate::{
     AllOptData, BuildDataError, BuildOpt, MessageOpt, NsidRef, Opt, OptBuilder, OptHeader,
     OptRecord, OptRecordRef, OptRef,
@@ -35,6 +37,12 @@ fn lists(rt: HostRuntime) -> Result<(), Fail> {
     let mut list = Opt::empty(alloc);
     list.push(alloc, &NsidRef::from_slice(b"example")?)?;
     assert_eq!(rt; list.as_slice(), b"\x00\x03\x00\x07example".as_slice());
+    list.push(alloc, &NsidRef::from_slice(b"a")?)?;
+    list.push(alloc, &NsidRef::from_slice(b"")?)?;
+    assert_eq!(rt;
+        list.as_slice(),
+        b"\x00\x03\x00\x07example\x00\x03\x00\x01a\x00\x03\x00\x00".as_slice()
+    );
     let short = list.push_raw_option(
         alloc,
         OptionCode::from_int(65001),
@@ -46,7 +54,7 @@ fn lists(rt: HostRuntime) -> Result<(), Fail> {
         written: 2,
     };
     assert!(rt; short == Err(wrong));
-    assert_eq!(rt; list.len(), 11);
+    assert_eq!(rt; list.len(), 20);
     let owned = list.for_slice_ref().to_owned(alloc)?;
     let Some(found) = owned.nsid() else {
         return Err(Fail::new("no identifier"));
@@ -110,6 +118,35 @@ fn take_over(
     found: &OptRecordRef<'_>,
 ) -> Result<(), BuildDataError> {
     message.opt(alloc, |opt| opt.clone_from(alloc, found))
+}
+
+/// Gives any message under construction a padded OPT record.
+fn begin<B: BuildOpt>(message: &mut B, alloc: Global) -> Result<(), BuildDataError>
+    ensures { OnErr result (B.built message.new ≡ B.built message.old) }
+{
+    message.opt(alloc, |opt: &mut OptBuilder| pad(opt, alloc))
+}
+
+/// Asks for the server's identifier in the OPT record of any message under construction.
+fn ask<B: BuildOpt>(message: &mut B, alloc: Global) -> Result<(), BuildDataError>
+    ensures { OnErr result (B.built message.new ≡ B.built message.old) }
+{
+    message.reopen(alloc, |opt: &mut OptBuilder| opt.client_nsid(alloc))
+}
+
+#[test]
+fn any_message(rt: HostRuntime) -> Result<(), Fail> {
+    let alloc = rt.alloc();
+    let mut message = MessageBuilder::new(alloc)?.additional();
+    begin(&mut message, alloc)?;
+    assert_eq!(rt; message.as_slice().len(), 277);
+    ask(&mut message, alloc)?;
+    assert_eq!(rt; message.as_slice().len(), 281);
+    assert_eq!(rt; message.counts().arcount, 1);
+    message.set_push_limit(284);
+    assert!(rt; ask(&mut message, alloc) == Err(BuildDataError::ShortBuf));
+    assert_eq!(rt; message.as_slice().len(), 281);
+    Ok(())
 }
 
 #[test]
