@@ -12,6 +12,8 @@ mod once;
 mod options;
 mod reply;
 mod reply_error;
+#[cfg(test)]
+mod reply_tests;
 mod served;
 mod service;
 #[cfg(test)]

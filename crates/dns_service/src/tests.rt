@@ -15,7 +15,7 @@ use dns_base::{AdditionalBuilder, Message, PushError, Record, RecordData};
 use dns_name::{
     BuildDataError, Class, FormReason, IpAddr, Name, OptRcode, ParseError, SocketAddr, Ttl,
 };
-use dns_opt::{BuildOpt, MessageOpt, NsidRef, OptBuilder};
+use dns_opt::{AllOptData, BuildOpt, MessageOpt, NsidRef, OptBuilder, OptRef};
 use std::alloc::Global;
 use std::sync::Arc;
 use std::test::Fail;
@@ -171,6 +171,17 @@ fn error_replies(rt: HostRuntime) -> Result<(), Fail> {
     Ok(())
 }
 
+/// How many options of any kind a list has that are read.
+fn readable(list: &OptRef<'_>) -> usize {
+    let mut many = 0usize;
+    for item in list.iter::<AllOptData>() {
+        if item.is_ok() {
+            many = many.saturating_add(1);
+        }
+    }
+    many
+}
+
 #[test]
 fn options(rt: HostRuntime) -> Result<(), Fail> {
     let alloc = rt.alloc();
@@ -196,6 +207,7 @@ fn options(rt: HostRuntime) -> Result<(), Fail> {
     assert_eq!(rt; opt.rcode(reply.header()).to_int(), 23);
     assert_eq!(rt; opt.udp_payload_size(), 123);
     assert_eq!(rt; opt.opt().len(), 254);
+    assert_eq!(rt; readable(opt.opt()), 2);
     assert!(rt; remove_edns_opt_record(alloc, &mut reply).is_ok());
     assert_eq!(rt; reply.counts().arcount, 0);
     Ok(())
