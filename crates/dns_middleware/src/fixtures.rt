@@ -1,13 +1,16 @@
 //! What the tests of the layers share: requests, replies, and what a service gives to one.
 
+ghost use Rattle.std.specs.Prelude.{◌≡◌, Some, None, Ok};
+ghost use Rattle.std.specs.Result.{ForOk};
+
 use dns_base::{
     AdditionalBuilder, Class, Message, MessageBuilder, Name, Question, Record, RecordData, Rtype,
     Ttl,
 };
-use dns_name::{IpAddr, Rcode, SocketAddr};
+use dns_name::{IpAddr, OutOfMemory, Rcode, SocketAddr};
 use dns_service::{
-    Polled, ReplyFuture, ReplyStream, Request, Service, ServiceResult, TransportSpecificContext,
-    UdpTransportContext,
+    CallResult, Gives, Polled, ReplyFuture, ReplyStream, Request, Service, ServiceResult,
+    TransportSpecificContext, UdpTransportContext,
 };
 use std::alloc::Global;
 use std::test::Fail;
@@ -15,6 +18,24 @@ use std::test::Fail;
 /// The query for the root's address, with RD.
 pub(crate) const QUERY: &[u8] =
     b"\x12\x34\x01\x00\x00\x01\x00\x00\x00\x00\x00\x00\x00\x00\x01\x00\x01";
+
+/// The reply that the metadata hold, to any request.
+pub(crate) struct Same {}
+
+impl Gives<AdditionalBuilder> for Same {
+    ghost item = { λ _ reply. Ok (record { response = Some reply.message; feedback = None }) };
+}
+
+/// Answers with a copy of the reply.
+pub(crate) fn copied(
+    alloc: Global,
+    _request: &Request<()>,
+    reply: &AdditionalBuilder,
+) -> Result<ServiceResult, OutOfMemory>
+    ensures { ForOk result (λ item. item ≡ Ok (record { response = Some reply.now.message; feedback = None })) }
+{
+    Ok(Ok(CallResult::new(reply.try_clone(alloc)?)))
+}
 
 /// Over UDP, with a hint or none.
 pub(crate) fn udp(hint: Option<u16>) -> TransportSpecificContext {
@@ -35,6 +56,13 @@ pub(crate) fn make_request(
         Ok(request) => Ok(request),
         Err(_) => Err(Fail::new("no request")),
     }
+}
+
+/// The answer to a query without records.
+pub(crate) fn answer(alloc: Global, query: &[u8], rcode: Rcode) -> Result<AdditionalBuilder, Fail> {
+    let query = Message::from_octets(Vec::from_slice(alloc, query)?)?;
+    let reply = MessageBuilder::new(alloc)?.start_answer(alloc, &query, rcode)?;
+    Ok(reply.additional())
 }
 
 /// A reply to the query, with an answer of so many zero octets.
@@ -93,4 +121,21 @@ pub(crate) fn only_item<S: Service<()>>(
         Ok(Polled::Ready(None)) => Ok(item),
         _ => Err(Fail::new("not the end")),
     }
+}
+
+/// The octets of the only reply that a service gives.
+pub(crate) fn only_reply<S: Service<()>>(
+    alloc: Global,
+    service: &S,
+    request: &mut Request<()>,
+) -> Result<Vec<u8>, Fail>
+    requires { S.can_call service.now }
+{
+    let Ok(given) = only_item(alloc, service, request)? else {
+        return Err(Fail::new("an error"));
+    };
+    let Some(reply) = given.into_inner().0 else {
+        return Err(Fail::new("no reply"));
+    };
+    Ok(Vec::from_slice(alloc, reply.as_slice())?)
 }

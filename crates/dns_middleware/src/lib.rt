@@ -5,9 +5,13 @@ mod cutting;
 mod edns;
 mod edns_post;
 #[cfg(test)]
+mod edns_tests;
+#[cfg(test)]
 mod fixtures;
 mod laws;
 mod layered;
+#[cfg(test)]
+mod layered_tests;
 mod mandatory;
 #[cfg(test)]
 mod mandatory_tests;

@@ -1,10 +1,9 @@
 //! Replies that are cut.
 
 use crate::cut;
-use crate::fixtures::{QUERY, filled, long_question};
-use dns_base::{AdditionalBuilder, Message, MessageBuilder, Rcode};
+use crate::fixtures::{QUERY, answer, filled, long_question};
+use dns_base::{MessageBuilder, Rcode};
 use dns_opt::{BuildOpt, OptBuilder};
-use std::alloc::Global;
 use std::test::Fail;
 
 /// The answer to the query, cut to its question.
@@ -13,13 +12,6 @@ const QUESTION: &[u8] = b"\x12\x34\x83\x00\x00\x01\x00\x00\x00\x00\x00\x00\x00\x
 /// The same with a minimal OPT record.
 const WITH_OPT: &[u8] =
     b"\x12\x34\x83\x00\x00\x01\x00\x00\x00\x00\x00\x01\x00\x00\x01\x00\x01\x00\x00\x29\x00\x00\x00\x00\x00\x00\x00\x00";
-
-/// A reply to the query without records.
-fn answer_to_query(alloc: Global) -> Result<AdditionalBuilder, Fail> {
-    let query = Message::from_octets(Vec::from_slice(alloc, QUERY)?)?;
-    let reply = MessageBuilder::new(alloc)?.start_answer(alloc, &query, Rcode::NOERROR)?;
-    Ok(reply.additional())
-}
 
 #[test]
 fn cuts_answers(rt: HostRuntime) -> Result<(), Fail> {
@@ -41,7 +33,7 @@ fn cuts_answers(rt: HostRuntime) -> Result<(), Fail> {
 #[test]
 fn cuts_options(rt: HostRuntime) -> Result<(), Fail> {
     let alloc = rt.alloc();
-    let mut reply = answer_to_query(alloc)?;
+    let mut reply = answer(alloc, QUERY, Rcode::NOERROR)?;
     reply.opt(alloc, |opt: &mut OptBuilder| opt.padding(alloc, 600))?;
     cut(alloc, &mut reply, 512)?;
     assert_eq!(rt; reply.as_slice(), WITH_OPT);

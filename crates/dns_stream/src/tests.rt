@@ -1,8 +1,9 @@
 //! Tests: each stream at types that wait, give one item and end, with ample memory.
 
-ghost use Rattle.std.specs.Prelude.{None, Some};
+ghost use Rattle.std.specs.Prelude.{◌-◌, Err, None, Some, nat_lt, if◌then◌else◌};
+ghost use Rattle.dns_service.specs.declared.service.Polled.TheVariants.{Pending};
+ghost use Rattle.dns_service.specs.declared.service.ServiceError.TheVariants.{NotImplemented};
 ghost use Rattle.dns_service.specs.Once.{once_of, items_left, now_of};
-ghost use Rattle.dns_stream.specs.Waiting.{waiting, next_item};
 
 use crate::{MiddlewareStream, Once, OutOfMemory, Postprocess, PostprocessingStream};
 use dns_base::Message;
@@ -22,7 +23,7 @@ struct Slow {
 }
 
 impl ReplyStream for Slow {
-    ghost answer = { λ s. waiting s.waits (once_of s.item) };
+    ghost answer = { λ s k. if nat_lt k s.waits then Pending else once_of s.item (k - s.waits) };
 
     ghost size = { λ s. (items_left s.item, None) };
 
@@ -54,7 +55,7 @@ struct Later<S> {
 impl<S: ReplyStream> ReplyFuture for Later<S> {
     type Stream = S;
 
-    ghost answer = { λ s. waiting s.waits (now_of S.answer s.stream) };
+    ghost answer = { λ s k. if nat_lt k s.waits then Pending else now_of S.answer s.stream (k - s.waits) };
 
     fn poll(&mut self, _alloc: Global) -> Result<Polled<S>, OutOfMemory> {
         match self.waits.checked_sub(1) {
@@ -70,36 +71,27 @@ impl<S: ReplyStream> ReplyFuture for Later<S> {
     }
 }
 
-/// Makes each error the next one.
+/// Makes each item the same error.
 #[derive(Drop)]
-struct Next {}
+struct SameError {}
 
-impl Postprocess<()> for Next {
-    ghost post = { λ _ _. next_item };
+impl Postprocess<()> for SameError {
+    ghost post = { λ _ _ _. Err NotImplemented };
 
     fn map(
         &self,
         _alloc: Global,
         _request: &Request<()>,
-        item: ServiceResult,
+        _item: ServiceResult,
     ) -> Result<ServiceResult, OutOfMemory> {
-        let error = match item {
-            Ok(reply) => return Ok(Ok(reply)),
-            Err(error) => error,
-        };
-        let next = match error {
-            ServiceError::FormatError => ServiceError::InternalError,
-            ServiceError::InternalError => ServiceError::NotImplemented,
-            ServiceError::NotImplemented | ServiceError::Refused => ServiceError::Refused,
-        };
-        Ok(Err(next))
+        Ok(Err(ServiceError::NotImplemented))
     }
 }
 
 type Layered = MiddlewareStream<
     Later<Slow>,
     Slow,
-    PostprocessingStream<Later<Slow>, (), Next>,
+    PostprocessingStream<Later<Slow>, (), SameError>,
     Once,
 >;
 
@@ -175,7 +167,7 @@ fn middleware_streams(rt: HostRuntime) -> Result<(), Fail> {
     let mapped = PostprocessingStream::new(
         make_later(Err(ServiceError::FormatError)),
         request,
-        Next {},
+        SameError {},
     );
     let feedback = CallResult::feedback_only(ServiceFeedback::EndTransaction);
     let table: [(Layered, &str, (usize, Option<usize>)); 4] = [
@@ -185,7 +177,7 @@ fn middleware_streams(rt: HostRuntime) -> Result<(), Fail> {
             (0, None),
         ),
         (MiddlewareStream::IdentityStream(stream), "pFee", (1, None)),
-        (MiddlewareStream::Map(mapped), "pppIee", (0, None)),
+        (MiddlewareStream::Map(mapped), "pppNee", (0, None)),
         (
             MiddlewareStream::Result(Once::new(Ok(feedback))),
             "oee",
@@ -208,7 +200,7 @@ fn sizes_move_on(rt: HostRuntime) -> Result<(), Fail> {
     let mut mapped = PostprocessingStream::new(
         make_later(Err(ServiceError::Refused)),
         request,
-        Next {},
+        SameError {},
     );
     let mut plain: Layered = MiddlewareStream::IdentityFuture(make_later(Err(
         ServiceError::Refused,
