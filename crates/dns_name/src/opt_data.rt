@@ -1,6 +1,6 @@
 //! What every kind of option can do.
 
-ghost use Rattle.std.specs.Prelude.{◌≡◌, ◌++◌, Bool, true, List, ℕ, length, Option, Some, Ok, OnOk};
+ghost use Rattle.std.specs.Prelude.{◌≡◌, ◌++◌, Bool, true, List, ℕ, length, Option, Some, Ok, OnOk, OnErr};
 ghost use Rattle.dns_name.specs.OptData.{ParsesOption, Taken, kind};
 ghost use Rattle.dns_name.specs.Place.{rest};
 
@@ -41,9 +41,10 @@ pub trait ComposeOptData: OptData {
     fn compose_len(&self) -> u16
         ensures { result ≡ length (octets self.now) };
 
-    /// Appends the data's octets. Where memory wants, some of them may have been appended.
+    /// Appends the data's octets; nothing where there is no memory.
     fn compose_option(&self, alloc: Global, target: &mut Vec<u8>) -> Result<(), OutOfMemory>
-        ensures { OnOk result (target.new.items ≡ target.old.items ++ octets self.now) };
+        ensures ok { OnOk result (target.new.items ≡ target.old.items ++ octets self.now) }
+        ensures err { OnErr result (target.new.items ≡ target.old.items) };
 }
 
 /// Option data that comes back where it is written and read again.

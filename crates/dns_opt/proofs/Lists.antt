@@ -1,7 +1,7 @@
 -- An option list with one option more.
 use Rattle.std.proofs.Common.{◌≡◌, ◌≤◌, ◌+◌, ℕ, List, ◌++◌, length, ap, arith, length-append}
 use Rattle.dns_base.specs.Options.{IsOptionList, option_octets}
-use Rattle.dns_base.proofs.OptionLaws.{list_append}
+use Rattle.dns_message.proofs.OptionLaws.{list_append}
 
 -- what follows a list within 65,535 octets makes a list again
 pub longer_list : (o : List ℕ) (c : ℕ) (d new : List ℕ) → new ≡ o ++ option_octets c d → IsOptionList o → length o + 4 + length d ≤ 65535 → (length new ≤ 65535) × IsOptionList new

@@ -1,11 +1,11 @@
 -- The OPT record of a written message.
-use Rattle.std.proofs.Common.{◌≡◌, ℕ, Bool, true, false, List, [], ◌∷◌, Option, Result, Ok, Err, nat_eq, if◌then◌else◌, refl, ap, sym, subst, ◌∙◌}
+use Rattle.std.proofs.Common.{◌≡◌, ℕ, List, [], ◌∷◌, Option, Result, Ok, Err, nat_eq, if◌then◌else◌, refl, ap, ◌∙◌}
 use Rattle.std.specs.Prelude.{map}
 use Rattle.dns_name.specs.declared.error.ParseError.{ParseError}
 use Rattle.dns_base.specs.Msg.{Msg, ResourceRecord, IsMessage}
 use Rattle.dns_base.specs.Standing.{Standing}
 use Rattle.dns_base.specs.Wire.{wire}
-use Rattle.dns_base.specs.Sections.{Items, SameRecords, all_of, authority_of, reached, standing_additional}
+use Rattle.dns_base.specs.Sections.{Items, authority_of, reached, standing_additional}
 use Rattle.dns_message.proofs.Coming.{same_additional}
 use Rattle.dns_message.proofs.Written.{authority_written, additional_written}
 use Rattle.dns_opt.specs.OptRecords.{OptState, first_opt, opt_in, opt_of, readable}

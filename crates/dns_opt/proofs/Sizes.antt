@@ -1,8 +1,8 @@
 -- How long a message is with an OPT record more.
-use Rattle.std.proofs.Common.{◌≡◌, ℕ, ◌+◌, List, [], ◌∷◌, ◌++◌, length, refl, ap, ◌∙◌, arith, length-append, append-nil}
+use Rattle.std.proofs.Common.{◌≡◌, ℕ, ◌+◌, List, [], ◌∷◌, ◌++◌, length, ap, ◌∙◌, arith, length-append, append-nil}
 use Rattle.std.specs.List.{flat_map}
 use Rattle.std.proofs.lemmas.List.Concat.{flat_map-append}
-use Rattle.dns_base.specs.Msg.{Msg, ResourceRecord}
+use Rattle.dns_base.specs.Msg.{ResourceRecord}
 use Rattle.dns_base.specs.Wire.{question_octets, record_octets, wire}
 use Rattle.dns_base.specs.Built.{Built, with_additional}
 use Rattle.dns_opt.specs.OptRecords.{OptHead, opt_record, opt_state}

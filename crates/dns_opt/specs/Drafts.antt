@@ -1,12 +1,12 @@
 -- An OPT record that is built for a message.
-use Rattle.std.specs.Prelude.{◌≡◌, ◌≢◌, ℕ, ◌+◌, ◌-◌, ◌/◌, ◌%◌, ◌≤◌, ◌<◌, ⊤, Bool, true, false, List, [], ◌++◌, length, Result, Ok, Err, nat_le}
+use Rattle.std.specs.Prelude.{◌≡◌, ◌≢◌, ℕ, ◌+◌, ◌-◌, ◌≤◌, ◌<◌, ⊤, Bool, true, false, List, [], ◌++◌, length, Result, Ok, Err, nat_le}
 use Rattle.dns_name.specs.declared.opt_error.BuildDataError.{BuildDataError}
 use Rattle.dns_name.specs.declared.opt_error.BuildDataError.TheVariants.{LongOptData, WrongLength, ShortBuf, OutOfMemory as NoMemory}
 use Rattle.dns_base.specs.Built.{Built, PassesLimit, with_additional, with_header}
 use Rattle.dns_base.specs.Options.{option_octets}
 use Rattle.dns_base.specs.Wire.{wire}
 use Rattle.dns_opt.specs.OptRecords.{OptHead, OptState, opt_record, opt_state, zero_head}
-use Rattle.dns_opt.specs.Pushes.{Fits, PushedRaw}
+use Rattle.dns_opt.specs.Pushes.{Fits}
 
 -- the head and the options so far, the lower four bits of the response code, and how many octets the message may still take
 pub record Draft : Type 0 where

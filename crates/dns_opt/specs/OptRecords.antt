@@ -1,9 +1,9 @@
 -- OPT records (RFC 6891, sections 6.1.2 and 6.1.3).
-use Rattle.std.specs.Prelude.{◌≡◌, ℕ, ◌+◌, ◌*◌, ◌/◌, ◌%◌, Bool, List, [], ◌∷◌, ◌++◌, length, Option, Some, None, Result, Ok, Err, nat_lt, nat_le, nat_eq, slice_index, option_map, if◌then◌else◌}
+use Rattle.std.specs.Prelude.{ℕ, ◌+◌, ◌*◌, ◌/◌, ◌%◌, Bool, List, [], ◌∷◌, length, Option, Some, None, Result, Ok, Err, nat_lt, nat_le, nat_eq, slice_index, if◌then◌else◌}
 use Rattle.dns_name.specs.declared.error.ParseError.{ParseError}
 use Rattle.dns_name.specs.declared.error.ParseError.TheVariants.{ShortInput}
 use Rattle.dns_name.specs.OptData.{Taken}
-use Rattle.dns_name.specs.Place.{be16, two}
+use Rattle.dns_name.specs.Place.{be16}
 use Rattle.dns_message.specs.declared.rdata.RecordData.{RecordData}
 use Rattle.dns_message.specs.declared.rdata.RecordData.TheVariants.{Opt as OptList}
 use Rattle.dns_message.specs.declared.record.Record.{Record}

@@ -1,5 +1,5 @@
 -- The OPT record of a message under construction, taken up again: a message has at most one (RFC 6891, section 6.1.1).
-use Rattle.std.specs.Prelude.{◌≡◌, ℕ, ⊤, List, [], ◌∷◌, Option, None, Result, Ok, Err, nat_eq, unwrap_or, if◌then◌else◌}
+use Rattle.std.specs.Prelude.{◌≡◌, ⊤, List, [], ◌∷◌, Option, None, Result, Ok, Err, nat_eq, unwrap_or, if◌then◌else◌}
 use Rattle.dns_name.specs.declared.opt_error.BuildDataError.{BuildDataError}
 use Rattle.dns_name.specs.declared.opt_error.BuildDataError.TheVariants.{LongOptData, WrongLength, ShortBuf, OutOfMemory as NoMemory}
 use Rattle.dns_base.specs.Msg.{Msg, ResourceRecord}

@@ -33,22 +33,21 @@ fn header(code: u16, len: u16) -> [u8; 4]
     ]
 }
 
-/// A list and an option behind it, in a vector of its own with room for so many octets more.
-fn with_option<D: ComposeOptData>(
+/// Appends an option. Where want of memory refuses it, the vector is as before.
+fn append_value<D: ComposeOptData>(
     alloc: Global,
-    more: usize,
-    list: &[u8],
+    octets: &mut Vec<u8>,
     value: &D,
-) -> Result<Vec<u8>, OutOfMemory>
-    ensures { IfOk result (λ v. v.items ≡ list.now ++ option_octets (D.code_of value.now) (D.octets value.now)) }
+) -> Result<(), OutOfMemory>
+    ensures { octets.new.items ≡ (if is_ok result then octets.old.items ++ option_octets (D.code_of value.now) (D.octets value.now) else octets.old.items) }
 {
-    let len = value.compose_len();
-    let needed = list.len().saturating_add(4 + len as usize);
-    let mut octets = Vec::with_capacity(alloc, needed.saturating_add(more))?;
-    octets.extend_from_slice(list)?;
-    octets.extend_from_slice(&header(value.code().to_int(), len))?;
-    value.compose_option(alloc, &mut octets)?;
-    Ok(octets)
+    let start = octets.len();
+    octets.extend_from_slice(&header(value.code().to_int(), value.compose_len()))?;
+    if let Err(error) = value.compose_option(alloc, octets) {
+        octets.truncate(start);
+        return Err(error);
+    }
+    Ok(())
 }
 
 /// Appends an option's code and length and its data. Where want of memory refuses it, the vector is as before.
@@ -188,17 +187,10 @@ impl Opt {
     ) -> Result<(), BuildDataError>
         ensures { Pushed (D.code_of value.now) (D.octets value.now) self.old self.new result }
     {
-        let len = self.octets.len();
-        let longer = len + 4 + value.compose_len() as usize;
-        if longer > 65535 {
+        if self.octets.len() + 4 + value.compose_len() as usize > 65535 {
             return Err(BuildDataError::LongOptData);
         }
-        if longer > self.octets.capacity() {
-            self.octets = with_option(alloc, len, self.octets.as_slice(), value)?;
-        } else {
-            let option = with_option(alloc, 0, &[], value)?;
-            self.octets.extend_from_slice(&option)?;
-        }
+        append_value(alloc, &mut self.octets, value)?;
         Ok(())
     }
 

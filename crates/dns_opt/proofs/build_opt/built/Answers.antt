@@ -1,4 +1,3 @@
-use Rattle.dns_opt.specs.Drafts.{IsBuiltOpt}
 use Rattle.dns_opt.proofs.build_opt.built.Goals as goal
 
 pub returns : goal.returns

@@ -1,5 +1,4 @@
 use Rattle.std.proofs.Common.{refl}
-use Rattle.dns_opt.specs.Writes.{Writes}
 use Rattle.dns_opt.proofs.opt.written_by.Goals as goal
 
 pub returns : goal.returns
