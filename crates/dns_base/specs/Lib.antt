@@ -1,3 +1,4 @@
+pub use Rattle.dns_name.specs.Place
 pub use Rattle.dns_message.specs.Header
 pub use Rattle.dns_message.specs.Msg
 pub use Rattle.dns_message.specs.Wire

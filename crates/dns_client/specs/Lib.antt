@@ -1,3 +1,7 @@
+pub use Rattle.dns_message.specs.Wire
+pub use Rattle.dns_service.specs.Answer
+pub use Rattle.dns_service.specs.Given
+pub use Rattle.dns_service.specs.Req
 pub mod Frames
 pub mod Slate
 pub mod Requests

@@ -1,3 +1,9 @@
+pub use Rattle.dns_client.specs.Pieces
+pub use Rattle.dns_client.specs.PolledAt
+pub use Rattle.dns_client.specs.Slate
+pub use Rattle.dns_service.specs.Answer
+pub use Rattle.dns_service.specs.Config
+pub use Rattle.dns_service.specs.Req
 pub mod Settings
 pub mod Own
 pub mod Sent

@@ -1,3 +1,8 @@
+pub use Rattle.dns_name.specs.Canonical
+pub use Rattle.dns_name.specs.Labels
+pub use Rattle.dns_name.specs.NameText
+pub use Rattle.dns_name.specs.OptData
+pub use Rattle.dns_name.specs.Place
 pub mod Timers
 pub mod Extended
 pub mod Subnet

@@ -1,3 +1,6 @@
+pub use Rattle.dns_name.specs.Labels
+pub use Rattle.dns_name.specs.Names
+pub use Rattle.dns_name.specs.Place
 pub mod Header
 pub mod Msg
 pub mod Wire

@@ -1,3 +1,13 @@
+pub use Rattle.dns_base.specs.Built
+pub use Rattle.dns_base.specs.Replies
+pub use Rattle.dns_message.specs.Msg
+pub use Rattle.dns_message.specs.Records
+pub use Rattle.dns_message.specs.Wire
+pub use Rattle.dns_opt.specs.OptRecords
+pub use Rattle.dns_service.specs.ErrorReply
+pub use Rattle.dns_service.specs.Req
+pub use Rattle.dns_service.specs.Transport
+pub use Rattle.dns_stream.specs.Streams
 pub mod OptIn
 pub mod Cut
 pub mod Rewritten

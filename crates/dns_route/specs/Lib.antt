@@ -1,3 +1,14 @@
+pub use Rattle.dns_base.specs.Built
+pub use Rattle.dns_base.specs.Replaced
+pub use Rattle.dns_base.specs.Replies
+pub use Rattle.dns_message.specs.Header
+pub use Rattle.dns_message.specs.Msg
+pub use Rattle.dns_message.specs.Options
+pub use Rattle.dns_message.specs.Records
+pub use Rattle.dns_message.specs.Sections
+pub use Rattle.dns_message.specs.Standing
+pub use Rattle.dns_opt.specs.OptRecords
+pub use Rattle.dns_opt.specs.Pushes
 pub mod Copied
 pub mod Builds
 pub mod Kept

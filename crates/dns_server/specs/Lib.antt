@@ -1,3 +1,9 @@
+pub use Rattle.dns_core.specs.Early
+pub use Rattle.dns_outside.specs.Causes
+pub use Rattle.dns_outside.specs.Moves
+pub use Rattle.dns_service.specs.Transport
+pub use Rattle.dns_trace.specs.EventLines
+pub use Rattle.dns_trace.specs.Reading
 pub mod Command
 pub mod Line
 pub mod Plain

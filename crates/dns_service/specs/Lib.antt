@@ -1,3 +1,7 @@
+pub use Rattle.dns_base.specs.Built
+pub use Rattle.dns_base.specs.Replaced
+pub use Rattle.dns_opt.specs.Drafts
+pub use Rattle.dns_opt.specs.Reopened
 pub mod Transport
 pub mod Req
 pub mod Given
