@@ -1,4 +1,4 @@
-pub use Rattle.dns_message.specs.Wire
+pub use Rattle.dns_base.specs.Wire
 pub use Rattle.dns_service.specs.Answer
 pub use Rattle.dns_service.specs.Given
 pub use Rattle.dns_service.specs.Req
