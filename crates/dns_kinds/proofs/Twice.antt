@@ -1,11 +1,11 @@
 -- Clearing the bits past a prefix twice.
-use Rattle.std.proofs.Common.{◌≡◌, ℕ, zero, suc, ◌+◌, ◌-◌, ◌*◌, ◌/◌, ◌^◌, ◌≤◌, ◌<◌, List, [], ◌∷◌, Bool, true, false, refl, sym, ap, ◌∙◌, arith}
+use Rattle.std.proofs.Common.{◌≡◌, ℕ, ◌-◌, ◌*◌, ◌/◌, ◌^◌, ◌<◌, List, [], ◌∷◌, Bool, true, false, refl, ap}
 use Rattle.std.specs.Prelude.{min, nat_le, if◌then◌else◌}
 use Rattle.std.proofs.Math.Nat.{mul-div_cancel}
 use Rattle.std.proofs.lemmas.Nat.{pow_pos}
 use Rattle.dns_name.specs.declared.address.IpAddr.TheVariants.{V4, V6}
 use Rattle.dns_name.specs.declared.address.IpAddr.{IpAddr}
-use Rattle.dns_kinds.specs.Subnet.{Subnet, limited, masked, masked_addr, mask_octet}
+use Rattle.dns_kinds.specs.Subnet.{limited, masked, masked_addr, mask_octet}
 
 by_bits : (whole : Bool) (p x : ℕ) → 0 < p → (if whole then (if whole then x else x / p * p) else (if whole then x else x / p * p) / p * p) ≡ (if whole then x else x / p * p)
 by_bits true p x h = refl

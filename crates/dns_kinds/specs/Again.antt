@@ -1,7 +1,7 @@
 -- What is composed is read again.
-use Rattle.std.proofs.Common.{◌≡◌, ℕ, zero, suc, ◌+◌, ◌-◌, ◌*◌, ◌/◌, ◌%◌, ◌≤◌, ◌<◌, List, [], ◌∷◌, ◌++◌, length, take, drop, replicate, Bool, true, false, refl, sym, ap, ◌∙◌, arith}
+use Rattle.std.proofs.Common.{◌≡◌, ℕ, ◌+◌, ◌*◌, ◌/◌, ◌%◌, ◌≤◌, ◌<◌, List, [], ◌∷◌, length, Bool, true, false, refl, sym, ap, ◌∙◌, arith}
 use Rattle.std.proofs.lemmas.Bool.Decides.{nat_tests}
-use Rattle.std.specs.Prelude.{◌&&◌, nat_le, nat_lt, nat_eq, Some, None, Ok, Option}
+use Rattle.std.specs.Prelude.{◌&&◌, nat_le, nat_lt, Some, None, Ok, Option}
 use Rattle.dns_name.specs.Labels.{spell, AreLabels, IsName}
 use Rattle.dns_name.specs.OptData.{kind, whole, for_code}
 use Rattle.dns_name.proofs.Readings.{not_below, taken_whole}

@@ -1,5 +1,5 @@
 -- CHAIN (RFC 7901, section 4).
-use Rattle.std.specs.Prelude.{ℕ, ◌≤◌, ◌<◌, Bool, true, ◌&&◌, List, [], ◌∷◌, length, nat_lt, nat_le}
+use Rattle.std.specs.Prelude.{ℕ, Bool, true, ◌&&◌, List, [], ◌∷◌, length, nat_lt, nat_le}
 use Rattle.std.specs.Cmp.{IsPartialOrder, partial_order_from_own_ties, partial_order_from_total}
 use Rattle.std.specs.Hash as fed
 use Rattle.std.specs.Ordering.{as_partial_cmp}

@@ -1,5 +1,5 @@
 -- When two extended errors are the same.
-use Rattle.std.specs.Prelude.{ℕ, List, Bool, nat_eq}
+use Rattle.std.specs.Prelude.{Bool, nat_eq}
 use Rattle.std.specs.Cmp.{IsEquivalence, and_equiv, on_equiv, nat_eq_equiv}
 use Rattle.std.specs.Cmp.Lexicographic.{pointwise, options_equiv, nat_list_eq_equiv}
 use Rattle.std.specs.Option.{option_eq}
