@@ -8,6 +8,8 @@ mod builder_kinds;
 mod getters;
 mod header;
 mod iter;
+#[cfg(test)]
+mod kind_tests;
 mod laws;
 mod list;
 mod message_opt;
