@@ -82,6 +82,18 @@ abbrev pub reached : {A : Type 0} → Result ℕ ParseError → Items A → Resu
 reached (Ok at) items = Ok (all_of items)
 reached (Err e) items = Err e
 
+-- what is given of the questions and of the answer, authority and additional records
+abbrev pub FourSections : Type 0
+FourSections = List (Result Question ParseError) × List (Result Standing ParseError) × List (Result Standing ParseError) × List (Result Standing ParseError)
+
+-- the four sections where the last one is reached, else the refusal of the section before it
+abbrev pub sections_by : List ℕ → Result ℕ ParseError → Result FourSections ParseError
+sections_by o (Ok at) = Ok (all_of (questions_of o), all_of (standing_answers o), all_of (standing_authority o), all_of (standing_additional o))
+sections_by o (Err e) = Err e
+
+abbrev pub sections_of : List ℕ → Result FourSections ParseError
+sections_of o = sections_by o (authority_of o).1
+
 -- the first item where there is a readable one
 abbrev pub first_of : {A : Type 0} → List A → Option A
 first_of [] = None

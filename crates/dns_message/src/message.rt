@@ -2,13 +2,21 @@
 
 ghost use Rattle.std.specs.Prelude.{◌≡◌, ◌≤◌, ◌<◌, length, IfOk, IsOk, MatchResult};
 ghost use Rattle.dns_message.specs.Header.{header_of};
-ghost use Rattle.dns_message.specs.Sections.{all_of, counts_of, first_of, questions_of, answers_of, authority_of, reached, standing_answers, standing_authority, standing_additional};
+ghost use Rattle.dns_message.specs.Sections.{all_of, counts_of, first_of, questions_of, answers_of, authority_of, reached, sections_of, standing_answers, standing_authority, standing_additional};
 
 use crate::header::{Header, HeaderCounts, header_in, number_at};
 use crate::question::{QuestionIter, QuestionRef, questions_end};
 use crate::record::{RecordIter, records_end};
 use dns_name::ParseError;
 use std::marker::Model;
+
+/// The questions of a message and its answer, authority and additional records.
+pub type Sections<'a> = (
+    QuestionIter<'a>,
+    RecordIter<'a>,
+    RecordIter<'a>,
+    RecordIter<'a>,
+);
 
 /// A message's octets, owned: at least a header.
 #[derive(Debug, Drop)]
@@ -113,6 +121,13 @@ impl Message {
         self.for_ref().additional()
     }
 
+    /// All four sections at once, refused where a section before the last is unreadable.
+    pub fn sections(&self) -> Result<Sections<'_>, ParseError>
+        ensures { result ≡ sections_of self.now }
+    {
+        self.for_ref().sections()
+    }
+
     /// The first question, none where there is none or it is unreadable.
     pub fn first_question(&self) -> Option<QuestionRef<'_>>
         ensures { result ≡ first_of (questions_of self.now).0 }
@@ -179,7 +194,8 @@ impl<'a> MessageRef<'a> {
     pub fn answer(&self) -> Result<RecordIter<'a>, ParseError>
         ensures { result ≡ reached (questions_of self.now).1 (standing_answers self.now) }
     {
-        answers(self.octets)
+        let at = end_of_questions(self.octets)?;
+        Ok(answers_from(self.octets, at))
     }
 
     /// The authority records up to the first unreadable one, and then its refusal; refused where an earlier
@@ -187,7 +203,8 @@ impl<'a> MessageRef<'a> {
     pub fn authority(&self) -> Result<RecordIter<'a>, ParseError>
         ensures { result ≡ reached (answers_of self.now).1 (standing_authority self.now) }
     {
-        authority(self.octets)
+        let at = end_of_answers(self.octets)?;
+        Ok(authority_from(self.octets, at))
     }
 
     /// The additional records up to the first unreadable one, and then its refusal; refused where an earlier
@@ -195,7 +212,26 @@ impl<'a> MessageRef<'a> {
     pub fn additional(&self) -> Result<RecordIter<'a>, ParseError>
         ensures { result ≡ reached (authority_of self.now).1 (standing_additional self.now) }
     {
-        additional(self.octets)
+        let at = end_of_authority(self.octets)?;
+        Ok(additional_from(self.octets, at))
+    }
+
+    /// All four sections, as `question`, `answer`, `authority` and `additional` give them; refused where a section
+    /// before the last is unreadable. The first three are passed over once, to find where the next begins (RFC 1035,
+    /// section 4.1).
+    #[tactic(auto, unfolding(crate::specs::Sections::answers_of, crate::specs::Sections::authority_of))]
+    pub fn sections(&self) -> Result<Sections<'a>, ParseError>
+        ensures { result ≡ sections_of self.now }
+    {
+        let answers = end_of_questions(self.octets)?;
+        let authority = behind_answers(self.octets, answers)?;
+        let additional = behind_authority(self.octets, authority)?;
+        Ok((
+            questions(self.octets),
+            answers_from(self.octets, answers),
+            authority_from(self.octets, authority),
+            additional_from(self.octets, additional),
+        ))
     }
 
     /// The first question, none where there is none or it is unreadable.
@@ -230,53 +266,83 @@ pub fn end_of_questions(message: &[u8]) -> Result<usize, ParseError>
     questions_end(message, 12, number_at(message, 4))
 }
 
+/// The answer records, which begin at a place.
 #[tactic(auto, using(crate::proofs::Coming::all_come))]
-fn answers(message: &[u8]) -> Result<RecordIter<'_>, ParseError>
-    requires { 12 ≤ length message.now }
-    ensures { result ≡ reached (questions_of message.now).1 (standing_answers message.now) }
+fn answers_from(message: &[u8], at: usize) -> RecordIter<'_>
+    requires header { 12 ≤ length message.now }
+    requires within { at ≤ length message.now }
+    requires here { (questions_of message.now).1 ≡ Ok at }
+    ensures { result ≡ all_of (standing_answers message.now) }
 {
-    let at = end_of_questions(message)?;
-    Ok(RecordIter::of(message, at, number_at(message, 6)))
+    RecordIter::of(message, at, number_at(message, 6))
+}
+
+/// The place behind the answer records, which begin at a place.
+#[tactic(auto, using(crate::proofs::Coming::behind_ended), unfolding(crate::specs::Sections::answers_of))]
+fn behind_answers(message: &[u8], at: usize) -> Result<usize, ParseError>
+    requires header { 12 ≤ length message.now }
+    requires within { at ≤ length message.now }
+    requires here { (questions_of message.now).1 ≡ Ok at }
+    ensures value { result ≡ (answers_of message.now).1 }
+    ensures within { IfOk result (λ end. end ≤ length message.now) }
+{
+    records_end(message, at, number_at(message, 6))
 }
 
 /// The place behind the answer records, in octets from the message's start (RFC 1035, section 4.1.3), or the
 /// refusal of the first unreadable question or record before it.
-#[tactic(auto, using(crate::proofs::Coming::behind_ended), unfolding(crate::specs::Sections::answers_of))]
+#[tactic(auto, unfolding(crate::specs::Sections::answers_of))]
 pub fn end_of_answers(message: &[u8]) -> Result<usize, ParseError>
     requires { 12 ≤ length message.now }
     ensures value { result ≡ (answers_of message.now).1 }
     ensures within { IfOk result (λ end. end ≤ length message.now) }
 {
     let at = end_of_questions(message)?;
-    records_end(message, at, number_at(message, 6))
+    behind_answers(message, at)
 }
 
+/// The authority records, which begin at a place.
 #[tactic(auto, using(crate::proofs::Coming::all_come))]
-fn authority(message: &[u8]) -> Result<RecordIter<'_>, ParseError>
-    requires { 12 ≤ length message.now }
-    ensures { result ≡ reached (answers_of message.now).1 (standing_authority message.now) }
+fn authority_from(message: &[u8], at: usize) -> RecordIter<'_>
+    requires header { 12 ≤ length message.now }
+    requires within { at ≤ length message.now }
+    requires here { (answers_of message.now).1 ≡ Ok at }
+    ensures { result ≡ all_of (standing_authority message.now) }
 {
-    let at = end_of_answers(message)?;
-    Ok(RecordIter::of(message, at, number_at(message, 8)))
+    RecordIter::of(message, at, number_at(message, 8))
+}
+
+/// The place behind the authority records, which begin at a place.
+#[tactic(auto, using(crate::proofs::Coming::behind_ended), unfolding(crate::specs::Sections::authority_of))]
+fn behind_authority(message: &[u8], at: usize) -> Result<usize, ParseError>
+    requires header { 12 ≤ length message.now }
+    requires within { at ≤ length message.now }
+    requires here { (answers_of message.now).1 ≡ Ok at }
+    ensures value { result ≡ (authority_of message.now).1 }
+    ensures within { IfOk result (λ end. end ≤ length message.now) }
+{
+    records_end(message, at, number_at(message, 8))
 }
 
 /// The place behind the authority records, in octets from the message's start (RFC 1035, section 4.1.3), or the
 /// refusal of the first unreadable question or record before it.
-#[tactic(auto, using(crate::proofs::Coming::behind_ended), unfolding(crate::specs::Sections::authority_of))]
+#[tactic(auto, unfolding(crate::specs::Sections::authority_of))]
 pub fn end_of_authority(message: &[u8]) -> Result<usize, ParseError>
     requires { 12 ≤ length message.now }
     ensures value { result ≡ (authority_of message.now).1 }
     ensures within { IfOk result (λ end. end ≤ length message.now) }
 {
     let at = end_of_answers(message)?;
-    records_end(message, at, number_at(message, 8))
+    behind_authority(message, at)
 }
 
+/// The additional records, which begin at a place.
 #[tactic(auto, using(crate::proofs::Coming::all_come))]
-fn additional(message: &[u8]) -> Result<RecordIter<'_>, ParseError>
-    requires { 12 ≤ length message.now }
-    ensures { result ≡ reached (authority_of message.now).1 (standing_additional message.now) }
+fn additional_from(message: &[u8], at: usize) -> RecordIter<'_>
+    requires header { 12 ≤ length message.now }
+    requires within { at ≤ length message.now }
+    requires here { (authority_of message.now).1 ≡ Ok at }
+    ensures { result ≡ all_of (standing_additional message.now) }
 {
-    let at = end_of_authority(message)?;
-    Ok(RecordIter::of(message, at, number_at(message, 10)))
+    RecordIter::of(message, at, number_at(message, 10))
 }

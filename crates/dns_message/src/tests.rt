@@ -1,7 +1,7 @@
 //! Worked rows of messages that are read.
 
 use super::*;
-use dns_name::{FormReason, ParseError};
+use dns_name::{FormReason, ParseError, Rtype};
 
 /// The query for the root's address, with RD.
 const QUERY: &[u8] = b"\x12\x34\x01\x00\x00\x01\x00\x00\x00\x00\x00\x00\x00\x00\x01\x00\x01";
@@ -94,4 +94,54 @@ fn reads_record_data(rt: HostRuntime) {
         let read = read_answer(&rt, octets);
         assert!(&rt; read.err() == want);
     }
+}
+
+/// A response with one item in each section: a question for the root, and records of the types A, NS and OPT.
+const RESPONSE: &[u8] =
+    b"\x12\x34\x84\x00\x00\x01\x00\x01\x00\x01\x00\x01\x00\x00\x01\x00\x01\x00\x00\x01\x00\x01\x00\x00\x00\x05\x00\x04\x01\x02\x03\x04\x00\x00\x02\x00\x01\x00\x00\x00\x05\x00\x01\x00\x00\x00\x29\x10\x00\x00\x00\x00\x00\x00\x00";
+
+/// The same, cut off within the authority record.
+const CUT: &[u8] =
+    b"\x12\x34\x84\x00\x00\x01\x00\x01\x00\x01\x00\x01\x00\x00\x01\x00\x01\x00\x00\x01\x00\x01\x00\x00\x00\x05\x00\x04\x01\x02\x03\x04\x00\x00\x02\x00\x01\x00\x00";
+
+/// Whether a section is one record of this type.
+fn is_one(mut records: RecordIter<'_>, rtype: Rtype) -> bool {
+    let first = match records.next() {
+        Some(Ok(record)) => record.rtype() == rtype,
+        _ => false,
+    };
+    first && records.next().is_none()
+}
+
+#[test]
+fn gives_all_sections(rt: HostRuntime) {
+    let Ok(octets) = Vec::from_slice(rt.alloc(), RESPONSE) else {
+        panic!(&rt; "no memory");
+    };
+    let Ok(message) = Message::from_octets(octets) else {
+        panic!(&rt; "no message");
+    };
+    let Ok((mut questions, answer, authority, additional)) = message.sections() else {
+        panic!(&rt; "no sections");
+    };
+    let Some(Ok(question)) = questions.next() else {
+        panic!(&rt; "no question");
+    };
+    assert!(&rt; question.qtype() == Rtype::A);
+    assert!(&rt; questions.next().is_none());
+    assert!(&rt; is_one(answer, Rtype::A));
+    assert!(&rt; is_one(authority, Rtype::NS));
+    assert!(&rt; is_one(additional, Rtype::OPT));
+}
+
+#[test]
+fn refuses_sections_behind_an_unreadable_one(rt: HostRuntime) {
+    let Ok(message) = MessageRef::from_slice(CUT) else {
+        panic!(&rt; "no message");
+    };
+    assert!(&rt; message.sections().err() == Some(ParseError::ShortInput));
+    let Ok(answer) = message.answer() else {
+        panic!(&rt; "no answer");
+    };
+    assert!(&rt; is_one(answer, Rtype::A));
 }
