@@ -1,9 +1,8 @@
 -- A message whose additional records of a type are dropped, and one that gets a record in their place.
-use Rattle.std.proofs.Common.{◌≡◌, ℕ, suc, ◌+◌, ◌≤◌, List, [], ◌∷◌, ◌++◌, length, drop, take, nat_eq, true, false, if◌then◌else◌, Ok, Err, refl, ap, sym, subst, ◌∙◌, arith, length-append, append_assoc, append-nil}
+use Rattle.std.proofs.Common.{◌≡◌, ℕ, suc, ◌+◌, ◌≤◌, List, [], ◌∷◌, ◌++◌, length, drop, take, nat_eq, true, false, if◌then◌else◌, Ok, refl, ap, sym, subst, ◌∙◌, arith, length-append, append_assoc, append-nil}
 use Rattle.std.specs.List.{flat_map, AllByRecursion}
 use Rattle.std.proofs.lemmas.List.Concat.{flat_map-append}
 use Rattle.std.proofs.Math.Seq.{take-append_seam, drop-append_seam}
-use Rattle.dns_name.specs.declared.error.ParseError.{ParseError}
 use Rattle.dns_base.specs.Sections.{field}
 use Rattle.dns_base.specs.declared.draft.Section.TheVariants.{Additional}
 use Rattle.dns_base.specs.Header.{header_octets}
@@ -193,9 +192,6 @@ start_late o limit b start d v h = omega (arith, start_known Additional o start 
 
 pub start_here : (m : Msg) (n : ℕ) → IsMessage m → start_of Additional (wire m) ≡ Ok n → n ≡ 12 + length (kept Additional m)
 start_here m n i h = let k = starts Additional m i in cc
-
-pub start_sure : (m : Msg) (e : ParseError) → IsMessage m → start_of Additional (wire m) ≡ Err e → ⊥
-start_sure m e i h = let z : Err e ≡ Ok (12 + length (kept Additional m)) = sym h ∙ starts Additional m i in cc
 
 pub spelt_message : (m : Msg) (n : ℕ) → IsMessage m → start_of Additional (wire m) ≡ Ok n → AreSpelt (wire m) (length m.additional) n
 spelt_message m n i h =

@@ -1,5 +1,5 @@
 -- A message without its last section.
-use Rattle.std.proofs.Common.{◌≡◌, ℕ, suc, ◌+◌, ◌≤◌, List, [], ◌∷◌, ◌++◌, length, drop, take, Result, Ok, Err, refl, ap, sym, ◌∙◌, arith, length-append, length-drop, append_assoc, append-nil}
+use Rattle.std.proofs.Common.{◌≡◌, ℕ, suc, ◌+◌, ◌≤◌, List, [], ◌∷◌, ◌++◌, length, drop, take, Result, Ok, refl, ap, sym, ◌∙◌, arith, length-append, length-drop, append_assoc, append-nil}
 use Rattle.std.specs.List.{flat_map}
 use Rattle.std.proofs.Math.Seq.{take-append_seam}
 use Rattle.dns_name.specs.declared.error.ParseError.{ParseError}
@@ -94,9 +94,6 @@ same_place r n k h g = cc
 -- the place where the last section begins
 pub start_known : (s : Section) (o : List ℕ) (n : ℕ) (limit : ℕ) (b : Built) → IsDraft o limit → viewed o limit ≡ b → start_of s (wire b.message) ≡ Ok n → n ≡ 12 + length (kept s b.message)
 start_known s o n limit b d v h = same_place _ n _ h (starts s b.message (draft_wire o limit b d v).1)
-
-pub start_there : (s : Section) (o : List ℕ) (e : ParseError) (limit : ℕ) (b : Built) → IsDraft o limit → viewed o limit ≡ b → start_of s (wire b.message) ≡ Err e → ⊥
-start_there s o e limit b d v h = let k = starts s b.message (draft_wire o limit b d v).1 in let z : Err e ≡ Ok (12 + length (kept s b.message)) = sym h ∙ k in cc
 
 -- the last section begins in the octets
 kept_short : (s : Section) (m : Msg) → 12 + length (kept s m) ≤ length (wire m)

@@ -1,8 +1,9 @@
 -- How a builder keeps its message: behind two octets for its length (RFC 1035, section 4.2.2).
-use Rattle.std.specs.Prelude.{ℕ, Result, ◌≡◌, ◌+◌, ◌/◌, ◌%◌, ◌≤◌, List, ◌++◌, length, drop, slice_set}
+use Rattle.std.specs.Prelude.{ℕ, Result, Ok, ◌≡◌, ◌+◌, ◌/◌, ◌%◌, ◌≤◌, List, ◌++◌, length, drop, slice_set}
 use Rattle.dns_name.specs.Place.{two}
 use Rattle.dns_base.specs.declared.draft.Section.{Section}
 use Rattle.dns_base.specs.declared.draft.Section.TheVariants.{Answer, Authority, Additional}
+use Rattle.dns_base.specs.declared.draft.Starts.{Starts}
 use Rattle.dns_name.specs.declared.error.ParseError.{ParseError}
 use Rattle.dns_base.specs.Sections.{questions_of, answers_of, authority_of}
 use Rattle.dns_base.specs.Built.{IsBuilt}
@@ -22,6 +23,26 @@ abbrev pub start_of : Section → List ℕ → Result ℕ ParseError
 start_of Answer o = (questions_of o).1
 start_of Authority o = (answers_of o).1
 start_of Additional o = (authority_of o).1
+
+-- where a builder keeps that a section begins
+abbrev pub start_in : Starts → Section → ℕ
+start_in s Answer = s.answer
+start_in s Authority = s.authority
+start_in s Additional = s.additional
+
+-- all sections of records at one place
+abbrev pub all_at : ℕ → Starts
+all_at n = record { answer = n; authority = n; additional = n }
+
+-- the sections behind one at a place
+abbrev pub moved_behind : Starts → Section → ℕ → Starts
+moved_behind s Answer n = record s { authority = n; additional = n }
+moved_behind s Authority n = record s { additional = n }
+moved_behind s Additional n = s
+
+-- places at which the sections of records begin in octets
+abbrev pub AreStarts : Starts → List ℕ → Type 0
+AreStarts s o = (section : Section) → start_of section o ≡ Ok (start_in s section)
 
 -- octets and a limit that are a builder's
 pub record IsDraft (o : List ℕ) (limit : ℕ) : Type 0 where

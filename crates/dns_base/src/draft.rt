@@ -6,7 +6,7 @@ ghost use Rattle.dns_base.specs.Msg.{IsMessage, item_counts};
 ghost use Rattle.dns_base.specs.Wire.{wire};
 ghost use Rattle.dns_base.specs.Sections.{field, questions_of};
 ghost use Rattle.dns_base.specs.Built.{Built, NoRecords, Pushes, empty, with_header, with_question, with_record, less_questions, less_section, IsLast};
-ghost use Rattle.dns_base.specs.Draft.{count_place, counted, start_of};
+ghost use Rattle.dns_base.specs.Draft.{all_at, count_place, counted, moved_behind, start_in, start_of};
 ghost use Rattle.dns_base.specs.Records.{record_of, IsLawful};
 ghost use Rattle.dns_base.specs.Replies.{Copies, copied};
 ghost use Rattle.dns_base.specs.Replaced.{AreSpelt, less_type, other_than, records_at, spelling};
@@ -14,11 +14,8 @@ ghost use Rattle.dns_base.specs.Replaced.{AreSpelt, less_type, other_than, recor
 use crate::error::PushError;
 use crate::replace::{Others, count_others, squeeze};
 use crate::stream::StreamTarget;
-use dns_message::{
-    ComposeQuestion, Header, HeaderCounts, Message, MessageRef, Record, end_of_answers,
-    end_of_authority, end_of_questions, number_at,
-};
-use dns_name::{OutOfMemory, ParseError, Rtype};
+use dns_message::{ComposeQuestion, Header, HeaderCounts, Message, MessageRef, Record, number_at};
+use dns_name::{OutOfMemory, Rtype};
 use std::alloc::Global;
 use std::marker::Model;
 
@@ -42,10 +39,61 @@ fn count_place(section: Section) -> usize
     }
 }
 
-/// A message behind two octets for its length, and the limit of its octets.
+/// Where the sections of records begin in a message, in octets from its start.
+#[derive(Clone, Copy, Debug)]
+struct Starts {
+    answer: usize,
+    authority: usize,
+    additional: usize,
+}
+
+impl Starts {
+    /// All at one place.
+    fn all(place: usize) -> Starts
+        ensures { result ≡ all_at place }
+    {
+        Starts {
+            answer: place,
+            authority: place,
+            additional: place,
+        }
+    }
+
+    /// Where a section begins.
+    fn of(self, section: Section) -> usize
+        ensures { result ≡ start_in self section }
+    {
+        match section {
+            Section::Answer => self.answer,
+            Section::Authority => self.authority,
+            Section::Additional => self.additional,
+        }
+    }
+
+    /// The same, but for the sections behind one, which begin at a place.
+    fn behind(self, section: Section, place: usize) -> Starts
+        ensures { result ≡ moved_behind self section place }
+    {
+        match section {
+            Section::Answer => Starts {
+                authority: place,
+                additional: place,
+                ..self
+            },
+            Section::Authority => Starts {
+                additional: place,
+                ..self
+            },
+            Section::Additional => self,
+        }
+    }
+}
+
+/// A message behind two octets for its length, where its sections begin, and the limit of its octets.
 #[derive(Debug, Drop)]
 pub(crate) struct Draft {
     octets: Vec<u8>,
+    starts: Starts,
     limit: usize,
 }
 
@@ -53,13 +101,13 @@ impl Model for Draft {
     ghost use Rattle.std.specs.Prelude.{drop};
     ghost use Rattle.dns_base.specs.Sections.{message_of};
     ghost use Rattle.dns_base.specs.Built.{Built};
-    ghost use Rattle.dns_base.specs.Draft.{IsDraft};
+    ghost use Rattle.dns_base.specs.Draft.{AreStarts, IsDraft};
 
     ghost Value = { Built };
 
     ghost view = { λ b. record { message = message_of (drop 2 b.octets.items); limit = b.limit } };
 
-    ghost invariant = { λ b. IsDraft b.octets.items b.limit };
+    ghost invariant = { λ b. IsDraft b.octets.items b.limit × AreStarts b.starts (drop 2 b.octets.items) };
 }
 
 impl Draft {
@@ -70,6 +118,7 @@ impl Draft {
         let octets = Vec::from_slice(alloc, &[0; 14])?;
         Ok(Draft {
             octets,
+            starts: Starts::all(12),
             limit: 65535,
         })
     }
@@ -81,6 +130,7 @@ impl Draft {
         let octets = Vec::from_slice(alloc, self.octets.as_slice())?;
         Ok(Draft {
             octets,
+            starts: self.starts,
             limit: self.limit,
         })
     }
@@ -153,6 +203,7 @@ impl Draft {
         }
         question.compose_question(alloc, &mut self.octets)?;
         count_more(&mut self.octets, 4);
+        self.starts = Starts::all(self.octets.len() - 2);
         Ok(())
     }
 
@@ -172,6 +223,8 @@ impl Draft {
         }
         record.compose(alloc, &mut self.octets)?;
         count_more(&mut self.octets, count_place(section));
+        let end = self.octets.len() - 2;
+        self.starts = self.starts.behind(section, end);
         Ok(())
     }
 
@@ -198,6 +251,7 @@ impl Draft {
         ensures { self.new ≡ less_questions self.old }
     {
         cut(&mut self.octets, 12, 4);
+        self.starts = Starts::all(12);
     }
 
     /// Drops the records of the last section.
@@ -205,10 +259,9 @@ impl Draft {
         requires { IsLast section self.old.message }
         ensures { self.new ≡ less_section section self.old }
     {
-        let start = section_start(self.as_slice(), section);
-        if let Ok(start) = start {
-            cut(&mut self.octets, start, count_place(section));
-        }
+        let start = self.starts.of(section);
+        cut(&mut self.octets, start, count_place(section));
+        self.starts = self.starts.behind(section, start);
     }
 
     /// The place where the additional records begin.
@@ -217,10 +270,7 @@ impl Draft {
         ensures spelt { AreSpelt (wire self.now.message) (length self.now.message.additional) result }
         ensures read { records_at (wire self.now.message) (length self.now.message.additional) result ≡ self.now.message.additional }
     {
-        match end_of_authority(self.as_slice()) {
-            Ok(start) => start,
-            Err(_) => unreachable!(),
-        }
+        self.starts.additional
     }
 
     /// The additional records of other types than one.
@@ -308,19 +358,6 @@ fn count_more(octets: &mut Vec<u8>, at: usize)
     let count = number_at(&octets.as_slice()[2..], at) + 1;
     octets[at + 2] = (count / 256) as u8;
     octets[at + 3] = (count % 256) as u8;
-}
-
-/// Where a section of records begins in a message.
-fn section_start(message: &[u8], section: Section) -> Result<usize, ParseError>
-    requires { 12 ≤ length message.now }
-    ensures value { result ≡ start_of section message.now }
-    ensures within { IfOk result (λ at. at ≤ length message.now) }
-{
-    match section {
-        Section::Answer => end_of_questions(message),
-        Section::Authority => end_of_answers(message),
-        Section::Additional => end_of_authority(message),
-    }
 }
 
 /// Cuts a message that stands behind two octets, and sets the count at a place of it to 0.

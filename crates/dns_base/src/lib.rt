@@ -16,10 +16,9 @@ pub use builder::{
 };
 pub use dns_message::{
     ComposeQuestion, Header, HeaderCounts, Message, MessageRef, Question, QuestionIter,
-    QuestionRef, Record, RecordData, RecordIter, RecordRef, Sections, data_has_names,
-    end_of_answers, end_of_authority, end_of_questions, first_option, is_option_list, is_plain,
-    messages_read_back, number_at, plain_queries_ask_once, record_in, records_stand,
-    typed_data_reads_back, typed_records_read_back,
+    QuestionRef, Record, RecordData, RecordIter, RecordRef, Sections, data_has_names, first_option,
+    is_option_list, is_plain, messages_read_back, number_at, plain_queries_ask_once, record_in,
+    records_stand, typed_data_reads_back, typed_records_read_back,
 };
 pub use dns_name::{
     Addrs, Class, FormReason, IpAddr, Labels, Name, NameRef, Octets, Opcode, OutOfMemory,

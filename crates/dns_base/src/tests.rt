@@ -196,3 +196,74 @@ fn replaces_records(rt: HostRuntime) {
     builder.remove_type(Rtype::A);
     assert!(&rt; builder.as_slice() == text.as_slice());
 }
+
+/// The root's address record, with an address that ends so.
+fn address(rt: &HostRuntime, last: u8) -> Result<Record, OutOfMemory>
+    ensures { IfOk result (λ r. IsLawful r.rdata) }
+{
+    of_root(rt, 1, 5, RecordData::A([192, 0, 2, last]))
+}
+
+/// A question, pushed once more after a rewind.
+fn with_question(rt: &HostRuntime) -> Result<QuestionBuilder, PushError> {
+    let question = Question {
+        qname: Name::root(rt.alloc())?,
+        qtype: Rtype::A,
+        qclass: Class::IN,
+    };
+    let mut builder = MessageBuilder::new(rt.alloc())?.question();
+    builder.push(rt.alloc(), &question)?;
+    builder.rewind();
+    builder.push(rt.alloc(), &question)?;
+    Ok(builder)
+}
+
+/// An answer behind the question, pushed once more after a rewind.
+fn with_answer(rt: &HostRuntime) -> Result<AnswerBuilder, PushError> {
+    let record = address(rt, 1)?;
+    let mut builder = with_question(rt)?.answer();
+    builder.push(rt.alloc(), &record)?;
+    builder.rewind();
+    builder.push(rt.alloc(), &record)?;
+    Ok(builder)
+}
+
+/// An authority record behind the answer.
+fn with_authority(rt: &HostRuntime) -> Result<AuthorityBuilder, PushError> {
+    let record = address(rt, 2)?;
+    let mut builder = with_answer(rt)?.authority();
+    builder.push(rt.alloc(), &record)?;
+    Ok(builder)
+}
+
+#[test]
+fn rewinds_to_where_sections_begin(rt: HostRuntime) {
+    let whole =
+        b"\x00\x00\x00\x00\x00\x01\x00\x01\x00\x01\x00\x01\x00\x00\x01\x00\x01\x00\x00\x01\x00\x01\x00\x00\x00\x05\x00\x04\xc0\x00\x02\x01\x00\x00\x01\x00\x01\x00\x00\x00\x05\x00\x04\xc0\x00\x02\x02\x00\x00\x01\x00\x01\x00\x00\x00\x05\x00\x04\xc0\x00\x02\x03";
+    let back =
+        b"\x00\x00\x00\x00\x00\x01\x00\x01\x00\x00\x00\x00\x00\x00\x01\x00\x01\x00\x00\x01\x00\x01\x00\x00\x00\x05\x00\x04\xc0\x00\x02\x01";
+    let last =
+        b"\x00\x00\x00\x00\x00\x01\x00\x01\x00\x00\x00\x01\x00\x00\x01\x00\x01\x00\x00\x01\x00\x01\x00\x00\x00\x05\x00\x04\xc0\x00\x02\x01\x00\x00\x01\x00\x01\x00\x00\x00\x05\x00\x04\xc0\x00\x02\x03";
+    let Ok(mut authority) = with_authority(&rt) else {
+        panic!(&rt; "no message");
+    };
+    let Ok(more) = address(&rt, 3) else {
+        panic!(&rt; "no memory");
+    };
+    let Ok(copy) = authority.try_clone(rt.alloc()) else {
+        panic!(&rt; "no memory");
+    };
+    let mut additional = copy.additional();
+    assert!(&rt; additional.push(rt.alloc(), &more) == Ok(()));
+    assert!(&rt; additional.push(rt.alloc(), &more) == Ok(()));
+    additional.rewind();
+    assert!(&rt; additional.push(rt.alloc(), &more) == Ok(()));
+    assert!(&rt; additional.as_slice() == whole.as_slice());
+    authority.rewind();
+    assert!(&rt; authority.as_slice() == back.as_slice());
+    let mut additional = authority.additional();
+    assert!(&rt; additional.push(rt.alloc(), &more) == Ok(()));
+    assert!(&rt; additional.as_slice() == last.as_slice());
+    additional.rewind();
+    assert!(&rt; additional.as_slice() == back.as_slice());
+}
