@@ -19,9 +19,7 @@ mod write;
 pub use data_laws::{data_has_names, typed_data_reads_back, typed_records_read_back};
 pub use header::{Header, HeaderCounts, number_at};
 pub use laws::{messages_read_back, plain_queries_ask_once, records_stand};
-pub use message::{
-    Message, MessageRef, Sections, end_of_answers, end_of_authority, end_of_questions,
-};
+pub use message::{Message, MessageRef, Sections};
 pub use option_list::{first_option, is_option_list};
 pub use plain::is_plain;
 pub use question::{ComposeQuestion, Question, QuestionIter, QuestionRef};

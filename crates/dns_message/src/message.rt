@@ -258,7 +258,7 @@ pub(crate) fn questions(message: &[u8]) -> QuestionIter<'_>
 /// The place behind the questions, in octets from the message's start (RFC 1035, section 4.1.2), or the refusal of
 /// the first unreadable one.
 #[tactic(auto, using(crate::proofs::Coming::all_ended), unfolding(crate::specs::Sections::questions_of))]
-pub fn end_of_questions(message: &[u8]) -> Result<usize, ParseError>
+fn end_of_questions(message: &[u8]) -> Result<usize, ParseError>
     requires { 12 ≤ length message.now }
     ensures value { result ≡ (questions_of message.now).1 }
     ensures within { IfOk result (λ end. end ≤ length message.now) }
@@ -292,7 +292,7 @@ fn behind_answers(message: &[u8], at: usize) -> Result<usize, ParseError>
 /// The place behind the answer records, in octets from the message's start (RFC 1035, section 4.1.3), or the
 /// refusal of the first unreadable question or record before it.
 #[tactic(auto, unfolding(crate::specs::Sections::answers_of))]
-pub fn end_of_answers(message: &[u8]) -> Result<usize, ParseError>
+fn end_of_answers(message: &[u8]) -> Result<usize, ParseError>
     requires { 12 ≤ length message.now }
     ensures value { result ≡ (answers_of message.now).1 }
     ensures within { IfOk result (λ end. end ≤ length message.now) }
@@ -327,7 +327,7 @@ fn behind_authority(message: &[u8], at: usize) -> Result<usize, ParseError>
 /// The place behind the authority records, in octets from the message's start (RFC 1035, section 4.1.3), or the
 /// refusal of the first unreadable question or record before it.
 #[tactic(auto, unfolding(crate::specs::Sections::authority_of))]
-pub fn end_of_authority(message: &[u8]) -> Result<usize, ParseError>
+fn end_of_authority(message: &[u8]) -> Result<usize, ParseError>
     requires { 12 ≤ length message.now }
     ensures value { result ≡ (authority_of message.now).1 }
     ensures within { IfOk result (λ end. end ≤ length message.now) }
