@@ -5,3 +5,5 @@
 mod option_rows;
 #[cfg(test)]
 mod tests;
+#[cfg(test)]
+mod usage;
