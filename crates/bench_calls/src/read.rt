@@ -23,14 +23,15 @@ fn reading(octets: &[u8]) -> Result<u64, ParseError> {
     let message = MessageRef::from_slice(octets)?;
     let header = message.header();
     let mut sum = u64::from(header.id) + u64::from(header.rcode.to_int());
-    for question in message.question() {
+    let (questions, answer, authority, additional) = message.sections()?;
+    for question in questions {
         let question = question?;
         sum = sum.wrapping_add(u64::from(question.qtype().to_int()));
         sum = sum.wrapping_add(u64::from(question.qclass().to_int()));
     }
-    sum = sum.wrapping_add(records(message.answer()?)?);
-    sum = sum.wrapping_add(records(message.authority()?)?);
-    Ok(sum.wrapping_add(records(message.additional()?)?))
+    sum = sum.wrapping_add(records(answer)?);
+    sum = sum.wrapping_add(records(authority)?);
+    Ok(sum.wrapping_add(records(additional)?))
 }
 
 /// The sum of the numbers of a section's records, and of the options of an OPT record.
