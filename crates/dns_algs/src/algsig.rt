@@ -191,7 +191,7 @@ impl<'a, K: Variant> ParseOptData<'a> for UnderstoodRef<'a, K> {
         code: OptionCode,
         parser: &mut Parser<'a>,
     ) -> Result<Option<UnderstoodRef<'a, K>>, ParseError> {
-        if code.to_int() != K::code().to_int() {
+        if code != K::code() {
             return Ok(None);
         }
         let found = UnderstoodRef::parse(parser)?;

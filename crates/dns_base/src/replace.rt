@@ -52,7 +52,7 @@ fn kept_at(message: &[u8], at: usize, rtype: Rtype) -> Kept
 fn part_of(kind: Rtype, at: usize, end: usize, rtype: Rtype) -> Kept
     ensures { (result.many, result.size, result.end) ≡ kept_part kind rtype at end }
 {
-    if kind.to_int() == rtype.to_int() {
+    if kind == rtype {
         return Kept {
             many: 0,
             size: 0,

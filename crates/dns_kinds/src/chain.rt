@@ -144,7 +144,7 @@ impl<'a> ParseOptData<'a> for ChainRef<'a> {
         code: OptionCode,
         parser: &mut Parser<'a>,
     ) -> Result<Option<ChainRef<'a>>, ParseError> {
-        if code.to_int() != 13 {
+        if code != OptionCode::CHAIN {
             return Ok(None);
         }
         let found = ChainRef::parse(parser)?;

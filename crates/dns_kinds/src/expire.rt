@@ -80,7 +80,7 @@ impl<'a> ParseOptData<'a> for Expire {
         code: OptionCode,
         parser: &mut Parser<'a>,
     ) -> Result<Option<Expire>, ParseError> {
-        if code.to_int() != 9 {
+        if code != OptionCode::EXPIRE {
             return Ok(None);
         }
         let found = Expire::parse(parser)?;

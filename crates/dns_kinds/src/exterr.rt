@@ -153,7 +153,7 @@ impl<'a> PartialEq for ExtendedErrorRef<'a> {
     ghost laws = { partial_equiv_from_equiv same_extended_equiv };
 
     fn eq(&self, other: &ExtendedErrorRef<'a>) -> bool {
-        self.code.to_int() == other.code.to_int() && self.text_slice() == other.text_slice()
+        self.code == other.code && self.text_slice() == other.text_slice()
     }
 }
 
@@ -179,7 +179,7 @@ impl<'a> ParseOptData<'a> for ExtendedErrorRef<'a> {
         code: OptionCode,
         parser: &mut Parser<'a>,
     ) -> Result<Option<ExtendedErrorRef<'a>>, ParseError> {
-        if code.to_int() != 15 {
+        if code != OptionCode::EXTENDED_ERROR {
             return Ok(None);
         }
         let found = ExtendedErrorRef::parse(parser)?;

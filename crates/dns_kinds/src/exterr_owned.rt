@@ -170,7 +170,7 @@ impl PartialEq for ExtendedError {
     ghost laws = { partial_equiv_from_equiv same_extended_equiv };
 
     fn eq(&self, other: &ExtendedError) -> bool {
-        self.code.to_int() == other.code.to_int() && self.text_slice() == other.text_slice()
+        self.code == other.code && self.text_slice() == other.text_slice()
     }
 }
 

@@ -151,7 +151,7 @@ impl<'a> ParseOptData<'a> for TcpKeepalive {
         code: OptionCode,
         parser: &mut Parser<'a>,
     ) -> Result<Option<TcpKeepalive>, ParseError> {
-        if code.to_int() != 11 {
+        if code != OptionCode::TCP_KEEPALIVE {
             return Ok(None);
         }
         let found = TcpKeepalive::parse(parser)?;

@@ -133,7 +133,7 @@ impl<'a> ParseOptData<'a> for ClientSubnet {
         code: OptionCode,
         parser: &mut Parser<'a>,
     ) -> Result<Option<ClientSubnet>, ParseError> {
-        if code.to_int() != 8 {
+        if code != OptionCode::CLIENT_SUBNET {
             return Ok(None);
         }
         let found = ClientSubnet::parse(parser)?;

@@ -147,7 +147,7 @@ impl<'a> ParseOptData<'a> for KeyTagRef<'a> {
         code: OptionCode,
         parser: &mut Parser<'a>,
     ) -> Result<Option<KeyTagRef<'a>>, ParseError> {
-        if code.to_int() != 14 {
+        if code != OptionCode::KEY_TAG {
             return Ok(None);
         }
         let found = KeyTagRef::parse(parser)?;

@@ -158,7 +158,7 @@ impl<'a, K: OctetsKind> ParseOptData<'a> for PlainRef<'a, K> {
         code: OptionCode,
         parser: &mut Parser<'a>,
     ) -> Result<Option<PlainRef<'a, K>>, ParseError> {
-        if code.to_int() != K::code().to_int() {
+        if code != K::code() {
             return Ok(None);
         }
         let found = PlainRef::parse(parser)?;

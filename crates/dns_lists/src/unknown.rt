@@ -131,7 +131,7 @@ impl<'a> PartialEq for UnknownOptDataRef<'a> {
     ghost laws = { Prim.search (comparing, rules) };
 
     fn eq(&self, other: &UnknownOptDataRef<'a>) -> bool {
-        self.code.to_int() == other.code.to_int() && self.octets == other.octets
+        self.code == other.code && self.octets == other.octets
     }
 }
 

@@ -117,8 +117,7 @@ impl PartialEq for UnknownOptData {
     ghost laws = { Prim.search (comparing, rules) };
 
     fn eq(&self, other: &UnknownOptData) -> bool {
-        self.code.to_int() == other.code.to_int()
-            && self.octets.as_slice() == other.octets.as_slice()
+        self.code == other.code && self.octets.as_slice() == other.octets.as_slice()
     }
 }
 
