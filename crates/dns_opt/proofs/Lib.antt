@@ -1,4 +1,3 @@
-mod ItemLaws
-mod Lists
+mod RawPushes
 pub mod Sizes
 pub mod Opts

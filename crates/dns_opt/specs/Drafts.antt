@@ -6,7 +6,7 @@ use Rattle.dns_base.specs.Built.{Built, PassesLimit, with_additional, with_heade
 use Rattle.dns_base.specs.Options.{option_octets}
 use Rattle.dns_base.specs.Wire.{wire}
 use Rattle.dns_opt.specs.OptRecords.{OptHead, OptState, opt_record, opt_state, zero_head}
-use Rattle.dns_opt.specs.Pushes.{Fits}
+use Rattle.dns_options.specs.Pushes.{Fits}
 
 -- the head and the options so far, the lower four bits of the response code, and how many octets the message may still take
 pub record Draft : Type 0 where

@@ -13,10 +13,11 @@ pub use Rattle.dns_message.specs.Wire
 pub use Rattle.dns_name.specs.Labels
 pub use Rattle.dns_name.specs.OptData
 pub use Rattle.dns_name.specs.Place
-pub mod Items
-pub mod Pushes
-pub mod Writes
-pub mod All
+pub use Rattle.dns_options.specs.All
+pub use Rattle.dns_options.specs.Items
+pub use Rattle.dns_options.specs.OptionHeads
+pub use Rattle.dns_options.specs.Pushes
+pub use Rattle.dns_options.specs.Writes
 pub mod OptRecords
 pub mod Drafts
 pub mod Reopened

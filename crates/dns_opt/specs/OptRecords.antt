@@ -2,7 +2,6 @@
 use Rattle.std.specs.Prelude.{ℕ, ◌+◌, ◌*◌, ◌/◌, ◌%◌, Bool, List, [], ◌∷◌, length, Option, Some, None, Result, Ok, Err, nat_lt, nat_le, nat_eq, slice_index, if◌then◌else◌}
 use Rattle.dns_name.specs.declared.error.ParseError.{ParseError}
 use Rattle.dns_name.specs.declared.error.ParseError.TheVariants.{ShortInput}
-use Rattle.dns_name.specs.OptData.{Taken}
 use Rattle.dns_name.specs.Place.{be16}
 use Rattle.dns_message.specs.declared.rdata.RecordData.{RecordData}
 use Rattle.dns_message.specs.declared.rdata.RecordData.TheVariants.{Opt as OptList}
@@ -39,17 +38,6 @@ head_in d = record { size = be16 (slice_index d 3) (slice_index d 4); ext = slic
 -- the head that stands behind one octet of name and two of type
 abbrev pub head_of : List ℕ → Result OptHead ParseError
 head_of d = if nat_lt (length d) 9 then Err ShortInput else Ok (head_in d)
-
--- the first four octets of an option: its code and how many octets of data follow
-pub record OptionHead : Type 0 where
-  pub code : ℕ
-  pub size : ℕ
-
-abbrev pub option_head_in : List ℕ → OptionHead
-option_head_in d = record { code = be16 (slice_index d 0) (slice_index d 1); size = be16 (slice_index d 2) (slice_index d 3) }
-
-abbrev pub option_head : List ℕ → Taken OptionHead
-option_head d = if nat_lt (length d) 4 then Err ShortInput else Ok (option_head_in d, 4)
 
 -- an OPT record: its head and its options
 pub record OptState : Type 0 where

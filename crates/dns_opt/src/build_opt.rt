@@ -9,10 +9,10 @@ ghost use Rattle.dns_opt.specs.Reopened.{Reopens, less_opts, old_opt, reopened};
 use crate::builder::OptBuilder;
 use crate::header::OptHeader;
 use crate::message_opt::MessageOpt;
-use crate::opt::Opt;
 use crate::record::{OptRecord, record_by};
 use dns_base::{AdditionalBuilder, PushError};
 use dns_name::{BuildDataError, OutOfMemory, Rcode, Rtype};
+use dns_options::Opt;
 use std::alloc::Global;
 
 /// A message under construction that can get an OPT record (RFC 6891, section 6.1.1).

@@ -3,11 +3,11 @@
 ghost use Rattle.std.specs.Prelude.{◌≡◌, ◌/◌, ◌%◌};
 ghost use Rattle.dns_opt.specs.Drafts.{Draft, PushedIn, PushedRawIn};
 ghost use Rattle.dns_opt.specs.OptRecords.{with_do};
-ghost use Rattle.dns_opt.specs.Writes.{Writes};
+ghost use Rattle.dns_options.specs.Writes.{Writes};
 
 use crate::header::OptHeader;
-use crate::opt::{Opt, written_by};
 use dns_name::{BuildDataError, ComposeOptData, OptRcode, OptionCode, OutOfMemory, Rcode};
+use dns_options::{Opt, written_by};
 use std::alloc::Global;
 use std::marker::Model;
 

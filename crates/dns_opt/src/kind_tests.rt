@@ -1,7 +1,7 @@
-//! An option of each kind, built for a message, and a list that is filled.
+//! An option of each kind, built for a message.
 
 use crate::{
-    BuildDataError, BuildOpt, Cookie, IdleTimeout, KeyTagRef, MessageOpt, NsidRef, Opt, OptBuilder,
+    BuildDataError, BuildOpt, Cookie, IdleTimeout, KeyTagRef, MessageOpt, NsidRef, OptBuilder,
     OptRecord,
 };
 use dns_base::MessageBuilder;
@@ -119,27 +119,5 @@ fn records_take_options(rt: HostRuntime) -> Result<(), Fail> {
     let same = kept.for_slice().to_owned(alloc)?;
     let want = b"\x00\x03\x00\x02ex\xfd\xe9\x00\x02\x07\x09".as_slice();
     assert_eq!(rt; same.opt().as_slice(), want);
-    Ok(())
-}
-
-/// A list of one option whose data are so many zeros.
-fn list_of(alloc: Global, size: usize) -> Result<Opt, Fail> {
-    let octets = vec![in alloc; 0u8; size]?;
-    let mut list = Opt::empty(alloc);
-    list.push(alloc, &NsidRef::from_slice(octets.as_slice())?)?;
-    Ok(list)
-}
-
-#[test]
-fn fills_a_list(rt: HostRuntime) -> Result<(), Fail> {
-    let alloc = rt.alloc();
-    let empty = NsidRef::from_slice(b"")?;
-    let mut list = list_of(alloc, 65527)?;
-    assert_eq!(rt; list.len(), 65531);
-    list.push(alloc, &empty)?;
-    assert_eq!(rt; list.len(), 65535);
-    let mut longer = list_of(alloc, 65528)?;
-    assert!(rt; longer.push(alloc, &empty) == Err(BuildDataError::LongOptData));
-    assert_eq!(rt; longer.len(), 65532);
     Ok(())
 }

@@ -3,9 +3,9 @@
 ghost use Rattle.std.specs.Prelude.{◌≡◌, List, ℕ};
 ghost use Rattle.dns_opt.specs.OptRecords.{first_opt, opt_of};
 
-use crate::list::OptRef;
 use crate::record::{OptRecordRef, head_by};
 use dns_base::{Message, MessageRef, RecordIter};
+use dns_options::OptRef;
 
 /// A message that may have an OPT record (RFC 6891, section 6.1.1).
 pub trait MessageOpt {

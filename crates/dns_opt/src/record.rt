@@ -3,16 +3,15 @@
 ghost use Rattle.std.specs.Prelude.{◌≡◌, ◌+◌, ◌*◌, ◌/◌, ◌%◌, [], IfOk};
 ghost use Rattle.dns_base.specs.Records.{IsLawful, record_of};
 ghost use Rattle.dns_opt.specs.OptRecords.{from_record, head_by, is_do, opt_record, opt_state, with_do, zero_head};
-ghost use Rattle.dns_opt.specs.Pushes.{Pushed, PushedRaw};
-ghost use Rattle.dns_opt.specs.Writes.{Writes};
+ghost use Rattle.dns_options.specs.Pushes.{Pushed, PushedRaw};
+ghost use Rattle.dns_options.specs.Writes.{Writes};
 
 use crate::header::OptHeader;
-use crate::list::OptRef;
-use crate::opt::Opt;
 use dns_base::{Header, Record, RecordData};
 use dns_name::{
     BuildDataError, Class, ComposeOptData, Name, Octets, OptRcode, OptionCode, OutOfMemory, Ttl,
 };
+use dns_options::{Opt, OptRef};
 use std::alloc::Global;
 use std::marker::Model;
 
@@ -84,7 +83,7 @@ impl OptRecord {
         let head = head_by(class, ttl);
         match rdata {
             RecordData::Opt(octets) => {
-                let options = Opt::of(octets.into_vec());
+                let options = Opt::from_octets(octets.into_vec()).ok()?;
                 Some(OptRecord { head, options })
             }
             _ => None,

@@ -1,5 +1,0 @@
-use Rattle.std.proofs.Common.{refl}
-use Rattle.dns_opt.proofs.opt.written_by.Goals as goal
-
-pub returns : goal.returns
-returns g c = record { memory = _; shown = _; empty = c.new-octets.ensures.items; left = _; met = c.in_ok-write.ensures; leaves = refl }

@@ -1,0 +1,63 @@
+-- Every kind of option as one.
+use Rattle.std.specs.Prelude.{ℕ, List, Option, Some, nat_eq, if◌then◌else◌}
+use Rattle.dns_name.specs.Labels.{spell}
+use Rattle.dns_name.specs.OptData.{Taken, mapped, list_data}
+use Rattle.dns_lists.specs.Tags.{tag_data}
+use Rattle.dns_lists.specs.Unknowns.{unknown}
+use Rattle.dns_kinds.specs.Chains.{chain_data}
+use Rattle.dns_kinds.specs.Extended.{extended_data, extended_octets}
+use Rattle.dns_kinds.specs.Subnet.{subnet_data, subnet_octets}
+use Rattle.dns_kinds.specs.Timers.{expire_data, expire_octets, keepalive_data, keepalive_octets}
+use Rattle.dns_cookie.specs.CookieData.{cookie_data, cookie_octets}
+use Rattle.dns_options.specs.declared.all.AllOptData.{AllOptData}
+use Rattle.dns_options.specs.declared.all.AllOptData.TheVariants.{Dau, Dhu, N3u, Chain, Cookie, Expire, ExtendedError, TcpKeepalive, KeyTag, Nsid, Padding, ClientSubnet, Other}
+
+-- the kind of each code that has one, else the data under its code
+abbrev pub all_data : ℕ → List ℕ → Taken AllOptData
+all_data code d =
+    if nat_eq code 5 then mapped Dau (list_data d)
+    else (if nat_eq code 6 then mapped Dhu (list_data d)
+    else (if nat_eq code 7 then mapped N3u (list_data d)
+    else (if nat_eq code 13 then mapped Chain (chain_data d)
+    else (if nat_eq code 10 then mapped Cookie (cookie_data d)
+    else (if nat_eq code 9 then mapped Expire (expire_data d)
+    else (if nat_eq code 15 then mapped ExtendedError (extended_data d)
+    else (if nat_eq code 11 then mapped TcpKeepalive (keepalive_data d)
+    else (if nat_eq code 14 then mapped KeyTag (tag_data d)
+    else (if nat_eq code 3 then mapped Nsid (list_data d)
+    else (if nat_eq code 12 then mapped Padding (list_data d)
+    else (if nat_eq code 8 then mapped ClientSubnet (subnet_data d)
+    else mapped (λ o. Other (unknown code o)) (list_data d))))))))))))
+
+abbrev pub all_takes : ℕ → List ℕ → Option (Taken AllOptData)
+all_takes code d = Some (all_data code d)
+
+abbrev pub code_of : AllOptData → ℕ
+code_of (Dau k) = 5
+code_of (Dhu k) = 6
+code_of (N3u k) = 7
+code_of (Chain k) = 13
+code_of (Cookie k) = 10
+code_of (Expire k) = 9
+code_of (ExtendedError k) = 15
+code_of (TcpKeepalive k) = 11
+code_of (KeyTag k) = 14
+code_of (Nsid k) = 3
+code_of (Padding k) = 12
+code_of (ClientSubnet k) = 8
+code_of (Other k) = k.code
+
+abbrev pub octets_of : AllOptData → List ℕ
+octets_of (Dau k) = k
+octets_of (Dhu k) = k
+octets_of (N3u k) = k
+octets_of (Chain k) = spell k
+octets_of (Cookie k) = cookie_octets k
+octets_of (Expire k) = expire_octets k
+octets_of (ExtendedError k) = extended_octets k
+octets_of (TcpKeepalive k) = keepalive_octets k
+octets_of (KeyTag k) = k
+octets_of (Nsid k) = k
+octets_of (Padding k) = k
+octets_of (ClientSubnet k) = subnet_octets k
+octets_of (Other k) = k.octets

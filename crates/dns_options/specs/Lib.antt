@@ -1,0 +1,16 @@
+pub use Rattle.dns_cookie.specs.CookieData
+pub use Rattle.dns_kinds.specs.Chains
+pub use Rattle.dns_kinds.specs.Extended
+pub use Rattle.dns_kinds.specs.Subnet
+pub use Rattle.dns_kinds.specs.Timers
+pub use Rattle.dns_lists.specs.Tags
+pub use Rattle.dns_lists.specs.Unknowns
+pub use Rattle.dns_message.specs.Options
+pub use Rattle.dns_name.specs.Labels
+pub use Rattle.dns_name.specs.OptData
+pub use Rattle.dns_name.specs.Place
+pub mod OptionHeads
+pub mod Items
+pub mod Pushes
+pub mod Writes
+pub mod All

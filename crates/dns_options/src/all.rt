@@ -1,0 +1,262 @@
+//! Every kind of option as one.
+
+ghost use Rattle.std.specs.Prelude.{◌≡◌};
+ghost use Rattle.dns_options.specs.All.{all_takes, code_of, octets_of};
+
+use dns_algs::{DauRef, DhuRef, N3uRef};
+use dns_cookie::Cookie;
+use dns_kinds::{ChainRef, ClientSubnet, Expire, ExtendedErrorRef, TcpKeepalive};
+use dns_lists::{KeyTagRef, NsidRef, PaddingRef, UnknownOptDataRef};
+use dns_name::{
+    ComposeOptData, OptData, OptionCode, OutOfMemory, ParseError, ParseOptData, Parser,
+};
+use std::alloc::Global;
+
+/// The data of any option.
+#[derive(Debug, Drop)]
+pub enum AllOptData<'a> {
+    Dau(DauRef<'a>),
+    Dhu(DhuRef<'a>),
+    N3u(N3uRef<'a>),
+    Chain(ChainRef<'a>),
+    Cookie(Cookie),
+    Expire(Expire),
+    ExtendedError(ExtendedErrorRef<'a>),
+    TcpKeepalive(TcpKeepalive),
+    KeyTag(KeyTagRef<'a>),
+    Nsid(NsidRef<'a>),
+    Padding(PaddingRef<'a>),
+    ClientSubnet(ClientSubnet),
+    /// Of a code that has no kind.
+    Other(UnknownOptDataRef<'a>),
+}
+
+impl<'a> OptData for AllOptData<'a> {
+    ghost code_of = { code_of };
+
+    fn code(&self) -> OptionCode {
+        match self {
+            AllOptData::Dau(_) => OptionCode::DAU,
+            AllOptData::Dhu(_) => OptionCode::DHU,
+            AllOptData::N3u(_) => OptionCode::N3U,
+            AllOptData::Chain(_) => OptionCode::CHAIN,
+            AllOptData::Cookie(_) => OptionCode::COOKIE,
+            AllOptData::Expire(_) => OptionCode::EXPIRE,
+            AllOptData::ExtendedError(_) => OptionCode::EXTENDED_ERROR,
+            AllOptData::TcpKeepalive(_) => OptionCode::TCP_KEEPALIVE,
+            AllOptData::KeyTag(_) => OptionCode::KEY_TAG,
+            AllOptData::Nsid(_) => OptionCode::NSID,
+            AllOptData::Padding(_) => OptionCode::PADDING,
+            AllOptData::ClientSubnet(_) => OptionCode::CLIENT_SUBNET,
+            AllOptData::Other(value) => value.code(),
+        }
+    }
+}
+
+impl<'a> ParseOptData<'a> for AllOptData<'a> {
+    ghost takes = { all_takes };
+
+    fn parse_option(
+        code: OptionCode,
+        parser: &mut Parser<'a>,
+    ) -> Result<Option<AllOptData<'a>>, ParseError> {
+        match code.to_int() {
+            5 => Ok(Some(AllOptData::Dau(DauRef::parse(parser)?))),
+            6 => Ok(Some(AllOptData::Dhu(DhuRef::parse(parser)?))),
+            7 => Ok(Some(AllOptData::N3u(N3uRef::parse(parser)?))),
+            13 => Ok(Some(AllOptData::Chain(ChainRef::parse(parser)?))),
+            10 => Ok(Some(AllOptData::Cookie(Cookie::parse(parser)?))),
+            9 => Ok(Some(AllOptData::Expire(Expire::parse(parser)?))),
+            15 => Ok(Some(AllOptData::ExtendedError(ExtendedErrorRef::parse(parser)?))),
+            11 => Ok(Some(AllOptData::TcpKeepalive(TcpKeepalive::parse(parser)?))),
+            14 => Ok(Some(AllOptData::KeyTag(KeyTagRef::parse(parser)?))),
+            3 => Ok(Some(AllOptData::Nsid(NsidRef::parse(parser)?))),
+            12 => Ok(Some(AllOptData::Padding(PaddingRef::parse(parser)?))),
+            8 => Ok(Some(AllOptData::ClientSubnet(ClientSubnet::parse(parser)?))),
+            _ => Ok(Some(AllOptData::Other(other(code, parser)?))),
+        }
+    }
+}
+
+/// All that is left, under a code.
+fn other<'a>(code: OptionCode, parser: &mut Parser<'a>) -> Result<UnknownOptDataRef<'a>, ParseError>
+    ensures { ParsesData (mapped (unknown code) (list_data (rest parser.old))) parser.old parser.new result }
+{
+    let value = UnknownOptDataRef::new(code, parser.peek_all())?;
+    parser.advance_to_end();
+    Ok(value)
+}
+
+ghost use Rattle.dns_name.specs.OptData.{ParsesData, mapped, list_data};
+ghost use Rattle.dns_name.specs.Place.{rest};
+ghost use Rattle.dns_lists.specs.Unknowns.{unknown};
+
+impl<'a> ComposeOptData for AllOptData<'a> {
+    ghost octets = { octets_of };
+
+    fn compose_len(&self) -> u16 {
+        match self {
+            AllOptData::Dau(value) => value.compose_len(),
+            AllOptData::Dhu(value) => value.compose_len(),
+            AllOptData::N3u(value) => value.compose_len(),
+            AllOptData::Chain(value) => value.compose_len(),
+            AllOptData::Cookie(value) => value.compose_len(),
+            AllOptData::Expire(value) => value.compose_len(),
+            AllOptData::ExtendedError(value) => value.compose_len(),
+            AllOptData::TcpKeepalive(value) => value.compose_len(),
+            AllOptData::KeyTag(value) => value.compose_len(),
+            AllOptData::Nsid(value) => value.compose_len(),
+            AllOptData::Padding(value) => value.compose_len(),
+            AllOptData::ClientSubnet(value) => value.compose_len(),
+            AllOptData::Other(value) => value.compose_len(),
+        }
+    }
+
+    fn compose_option(&self, alloc: Global, target: &mut Vec<u8>) -> Result<(), OutOfMemory> {
+        match self {
+            AllOptData::Dau(value) => value.compose_option(alloc, target),
+            AllOptData::Dhu(value) => value.compose_option(alloc, target),
+            AllOptData::N3u(value) => value.compose_option(alloc, target),
+            AllOptData::Chain(value) => value.compose_option(alloc, target),
+            AllOptData::Cookie(value) => value.compose_option(alloc, target),
+            AllOptData::Expire(value) => value.compose_option(alloc, target),
+            AllOptData::ExtendedError(value) => value.compose_option(alloc, target),
+            AllOptData::TcpKeepalive(value) => value.compose_option(alloc, target),
+            AllOptData::KeyTag(value) => value.compose_option(alloc, target),
+            AllOptData::Nsid(value) => value.compose_option(alloc, target),
+            AllOptData::Padding(value) => value.compose_option(alloc, target),
+            AllOptData::ClientSubnet(value) => value.compose_option(alloc, target),
+            AllOptData::Other(value) => value.compose_option(alloc, target),
+        }
+    }
+}
+
+impl<'a> From<DauRef<'a>> for AllOptData<'a> {
+    ghost use Rattle.dns_options.specs.declared.all.AllOptData.TheVariants.{Dau};
+
+    ghost from_gives = { λ k a. a ≡ Dau k };
+
+    fn from(value: DauRef<'a>) -> Self {
+        AllOptData::Dau(value)
+    }
+}
+
+impl<'a> From<DhuRef<'a>> for AllOptData<'a> {
+    ghost use Rattle.dns_options.specs.declared.all.AllOptData.TheVariants.{Dhu};
+
+    ghost from_gives = { λ k a. a ≡ Dhu k };
+
+    fn from(value: DhuRef<'a>) -> Self {
+        AllOptData::Dhu(value)
+    }
+}
+
+impl<'a> From<N3uRef<'a>> for AllOptData<'a> {
+    ghost use Rattle.dns_options.specs.declared.all.AllOptData.TheVariants.{N3u};
+
+    ghost from_gives = { λ k a. a ≡ N3u k };
+
+    fn from(value: N3uRef<'a>) -> Self {
+        AllOptData::N3u(value)
+    }
+}
+
+impl<'a> From<ChainRef<'a>> for AllOptData<'a> {
+    ghost use Rattle.dns_options.specs.declared.all.AllOptData.TheVariants.{Chain};
+
+    ghost from_gives = { λ k a. a ≡ Chain k };
+
+    fn from(value: ChainRef<'a>) -> Self {
+        AllOptData::Chain(value)
+    }
+}
+
+impl<'a> From<Cookie> for AllOptData<'a> {
+    ghost use Rattle.dns_options.specs.declared.all.AllOptData.TheVariants.{Cookie};
+
+    ghost from_gives = { λ k a. a ≡ Cookie k };
+
+    fn from(value: Cookie) -> Self {
+        AllOptData::Cookie(value)
+    }
+}
+
+impl<'a> From<Expire> for AllOptData<'a> {
+    ghost use Rattle.dns_options.specs.declared.all.AllOptData.TheVariants.{Expire};
+
+    ghost from_gives = { λ k a. a ≡ Expire k };
+
+    fn from(value: Expire) -> Self {
+        AllOptData::Expire(value)
+    }
+}
+
+impl<'a> From<ExtendedErrorRef<'a>> for AllOptData<'a> {
+    ghost use Rattle.dns_options.specs.declared.all.AllOptData.TheVariants.{ExtendedError};
+
+    ghost from_gives = { λ k a. a ≡ ExtendedError k };
+
+    fn from(value: ExtendedErrorRef<'a>) -> Self {
+        AllOptData::ExtendedError(value)
+    }
+}
+
+impl<'a> From<TcpKeepalive> for AllOptData<'a> {
+    ghost use Rattle.dns_options.specs.declared.all.AllOptData.TheVariants.{TcpKeepalive};
+
+    ghost from_gives = { λ k a. a ≡ TcpKeepalive k };
+
+    fn from(value: TcpKeepalive) -> Self {
+        AllOptData::TcpKeepalive(value)
+    }
+}
+
+impl<'a> From<KeyTagRef<'a>> for AllOptData<'a> {
+    ghost use Rattle.dns_options.specs.declared.all.AllOptData.TheVariants.{KeyTag};
+
+    ghost from_gives = { λ k a. a ≡ KeyTag k };
+
+    fn from(value: KeyTagRef<'a>) -> Self {
+        AllOptData::KeyTag(value)
+    }
+}
+
+impl<'a> From<NsidRef<'a>> for AllOptData<'a> {
+    ghost use Rattle.dns_options.specs.declared.all.AllOptData.TheVariants.{Nsid};
+
+    ghost from_gives = { λ k a. a ≡ Nsid k };
+
+    fn from(value: NsidRef<'a>) -> Self {
+        AllOptData::Nsid(value)
+    }
+}
+
+impl<'a> From<PaddingRef<'a>> for AllOptData<'a> {
+    ghost use Rattle.dns_options.specs.declared.all.AllOptData.TheVariants.{Padding};
+
+    ghost from_gives = { λ k a. a ≡ Padding k };
+
+    fn from(value: PaddingRef<'a>) -> Self {
+        AllOptData::Padding(value)
+    }
+}
+
+impl<'a> From<ClientSubnet> for AllOptData<'a> {
+    ghost use Rattle.dns_options.specs.declared.all.AllOptData.TheVariants.{ClientSubnet};
+
+    ghost from_gives = { λ k a. a ≡ ClientSubnet k };
+
+    fn from(value: ClientSubnet) -> Self {
+        AllOptData::ClientSubnet(value)
+    }
+}
+
+impl<'a> From<UnknownOptDataRef<'a>> for AllOptData<'a> {
+    ghost use Rattle.dns_options.specs.declared.all.AllOptData.TheVariants.{Other};
+
+    ghost from_gives = { λ k a. a ≡ Other k };
+
+    fn from(value: UnknownOptDataRef<'a>) -> Self {
+        AllOptData::Other(value)
+    }
+}
