@@ -2,7 +2,8 @@
 
 ghost use Rattle.std.specs.Prelude.{◌≡◌, [], IfOk, IfSome, option_map};
 ghost use Rattle.dns_base.specs.Records.{record_of, IsLawful};
-ghost use Rattle.dns_middleware.specs.OptIn.{listed, minimal, opt_among, opt_record_in, resources};
+ghost use Rattle.dns_opt.specs.OptRecords.{listed, opt_record_among};
+ghost use Rattle.dns_middleware.specs.OptIn.{minimal, opt_record_in, resources};
 
 use dns_base::{AdditionalBuilder, Name, Octets, Record, RecordData, RecordIter, RecordRef, Ttl};
 use dns_name::OutOfMemory;
@@ -18,14 +19,14 @@ pub(crate) fn opt_record_in(
     ensures lawful { IfOk result (λ o. IfSome o (λ r. IsLawful r.rdata)) }
 {
     match message.as_message().additional() {
-        Ok(records) => opt_among(alloc, records),
+        Ok(records) => opt_record_among(alloc, records),
         Err(_) => Ok(None),
     }
 }
 
 /// The first record of type OPT, where its data is an option list.
-fn opt_among(alloc: Global, records: RecordIter<'_>) -> Result<Option<Record>, OutOfMemory>
-    ensures value { IfOk result (λ o. option_map record_of o ≡ opt_among (resources records.entry)) }
+fn opt_record_among(alloc: Global, records: RecordIter<'_>) -> Result<Option<Record>, OutOfMemory>
+    ensures value { IfOk result (λ o. option_map record_of o ≡ opt_record_among (resources records.entry)) }
     ensures lawful { IfOk result (λ o. IfSome o (λ r. IsLawful r.rdata)) }
 {
     let mut left = records;
