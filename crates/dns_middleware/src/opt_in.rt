@@ -5,7 +5,9 @@ ghost use Rattle.dns_base.specs.Records.{record_of, IsLawful};
 ghost use Rattle.dns_opt.specs.OptRecords.{listed, opt_record_among};
 ghost use Rattle.dns_middleware.specs.OptIn.{minimal, opt_record_in, resources};
 
-use dns_base::{AdditionalBuilder, Name, Octets, Record, RecordData, RecordIter, RecordRef, Ttl};
+use dns_base::{
+    AdditionalBuilder, Name, Octets, Record, RecordData, RecordIter, RecordRef, Rtype, Ttl,
+};
 use dns_name::OutOfMemory;
 use std::alloc::Global;
 
@@ -31,7 +33,7 @@ fn opt_record_among(alloc: Global, records: RecordIter<'_>) -> Result<Option<Rec
 {
     let mut left = records;
     'walk: while let Some(Ok(record)) = left.next() {
-        if record.rtype().to_int() == 41 {
+        if record.rtype() == Rtype::OPT {
             return listed(alloc, &record);
         }
     }
@@ -66,6 +68,9 @@ fn no_options(alloc: Global) -> RecordData
     RecordData::Opt(Octets::from_vec(Vec::new(alloc)))
 }
 
+/// How many values the flags have, which are the lower sixteen bits of an OPT record's TTL.
+const FLAG_VALUES: u32 = 65536;
+
 /// An OPT record with the same size, extended code and version, no flags and no options.
 pub(crate) fn minimal(alloc: Global, opt: &Record) -> Result<Record, OutOfMemory>
     ensures value { IfOk result (λ r. record_of r ≡ minimal (record_of opt.now)) }
@@ -76,7 +81,7 @@ pub(crate) fn minimal(alloc: Global, opt: &Record) -> Result<Record, OutOfMemory
     Ok(Record {
         owner,
         class: opt.class,
-        ttl: Ttl::from_secs(16777216 * (secs / 16777216) + 65536 * (secs / 65536 % 256)),
+        ttl: Ttl::from_secs(secs / FLAG_VALUES * FLAG_VALUES),
         rdata: no_options(alloc),
     })
 }
