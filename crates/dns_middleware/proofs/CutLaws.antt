@@ -1,23 +1,23 @@
 -- What a truncated message takes.
-use Rattle.std.specs.Prelude.{◌⊎◌, IfSome, nat_eq, Result, Ok, Err}
+use Rattle.std.specs.Prelude.{IfSome, nat_eq, Result, Ok, Err}
 use Rattle.std.proofs.lemmas.Bool.{cases_lt}
-use Rattle.std.proofs.Common.{inl, inr, ◌≡◌, ℕ, ◌+◌, ◌≤◌, ◌<◌, Bool, true, false, List, [], ◌∷◌, ◌++◌, length, nat_le, if◌then◌else◌, Option, Some, None, refl, ap, sym, subst, ◌∙◌, arith, length-append, append_assoc, append-nil}
+use Rattle.std.proofs.Common.{inl, inr, ◌≡◌, ℕ, ◌+◌, ◌≤◌, ◌<◌, Bool, true, false, List, [], ◌∷◌, ◌++◌, length, nat_le, if◌then◌else◌, Option, Some, None, ap, sym, subst, ◌∙◌, arith, length-append, append_assoc, append-nil}
 use Rattle.std.specs.List.{flat_map, AllByRecursion}
 use Rattle.std.proofs.lemmas.Bool.Decides.{nat_tests}
 use Rattle.std.proofs.lemmas.List.Concat.{flat_map-append}
 use Rattle.dns_message.specs.declared.question.Question.{Question}
-use Rattle.dns_base.specs.Header.{header_octets}
 use Rattle.dns_name.specs.declared.error.ParseError.{ParseError}
 use Rattle.dns_base.specs.Msg.{Msg, ResourceRecord, IsMessage, HasName, HasOwner}
 use Rattle.dns_base.specs.Options.{option_list}
-use Rattle.dns_base.specs.Wire.{question_octets, record_octets, counts, body, wire}
+use Rattle.dns_base.specs.Wire.{question_octets, record_octets, wire}
 use Rattle.dns_base.specs.Built.{Built, with_additional}
 use Rattle.dns_base.specs.Replies.{copied}
 use Rattle.dns_base.specs.Sections.{Items, all_of, questions_of}
 use Rattle.dns_base.proofs.Copied.{copied_on, copied_off, readable_all}
 use Rattle.dns_message.proofs.Written.{questions_written}
 use Rattle.dns_middleware.specs.Cut.{fits, truncated, first_fitting, shortened, cut, built_fitting, or_else, Added}
-use Rattle.dns_middleware.specs.OptIn.{minimal, where_list, listed, opt_among, opt_record_in, readable}
+use Rattle.dns_opt.specs.OptRecords.{where_list, listed, opt_record_among}
+use Rattle.dns_middleware.specs.OptIn.{minimal, opt_record_in, readable}
 
 -- the octets of questions and of records
 abbrev pub asking : List Question → ℕ
@@ -180,9 +180,9 @@ among_owned_by : (b : Bool) (x y : Option ResourceRecord) → IfSome x HasOwner 
 among_owned_by true x y h g = h
 among_owned_by false x y h g = g
 
-among_owned : (rs : List ResourceRecord) → AllByRecursion HasOwner rs → IfSome (opt_among rs) HasOwner
+among_owned : (rs : List ResourceRecord) → AllByRecursion HasOwner rs → IfSome (opt_record_among rs) HasOwner
 among_owned [] h = tt
-among_owned (r ∷ rs) h = among_owned_by (nat_eq r.rtype 41) (listed r) (opt_among rs) (listed_owned r (option_list r.rdata) h.0) (among_owned rs h.1)
+among_owned (r ∷ rs) h = among_owned_by (nat_eq r.rtype 41) (listed r) (opt_record_among rs) (listed_owned r (option_list r.rdata) h.0) (among_owned rs h.1)
 
 shortened_lawful : (n : ℕ) (m : Msg) (o : Option ResourceRecord) → IfSome o HasOwner → IsMessage m → IsMessage (shortened n m o)
 shortened_lawful n m None h i = chosen_has IsMessage (fits n (truncated m m.questions [])) _ _ (truncated_lawful m m.questions [] i i.questions tt) (truncated_lawful m [] [] i tt tt)

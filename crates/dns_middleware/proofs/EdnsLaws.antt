@@ -1,6 +1,5 @@
 -- The hint of a request that a service inside was called with.
 use Rattle.std.proofs.Common.{◌≡◌, ℕ, Bool, false, Option, Some, None, refl, ap, sym, ◌∙◌}
-use Rattle.dns_base.specs.Msg.{Msg}
 use Rattle.dns_opt.specs.OptRecords.{OptState, opt_of}
 use Rattle.dns_service.specs.declared.message.TransportSpecificContext.{TransportSpecificContext}
 use Rattle.dns_service.specs.declared.message.TransportSpecificContext.TheVariants.{Udp, NonUdp}

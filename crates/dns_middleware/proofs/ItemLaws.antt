@@ -4,9 +4,8 @@ use Rattle.dns_name.specs.declared.error.ParseError.{ParseError}
 use Rattle.dns_base.specs.Sections.{authority_of, reached, standing_additional}
 use Rattle.dns_base.specs.Standing.{Standing}
 use Rattle.dns_opt.specs.OptRecords.{OptState, first_opt, opt_in, opt_of, readable}
-use Rattle.dns_middleware.specs.declared.opt_items.OptItems.{OptItems}
 use Rattle.dns_middleware.specs.declared.opt_items.OptItems.TheVariants.{NoItem, BadFirst, OneRecord, Several}
-use Rattle.dns_middleware.specs.OptItems.{items_among, items_reached, opt_items, first_item, behind_record, behind_item, kind_of}
+use Rattle.dns_middleware.specs.OptItems.{items_among, items_reached, opt_items, first_item, kind_of}
 use Rattle.dns_middleware.specs.Edns.{record_refusal, items_refusal}
 
 first_by : (opt : Bool) (x : Option OptState) (more : Option OptState) (items : List (Option OptState)) → more ≡ first_item items →

@@ -1,5 +1,5 @@
 -- The EDNS layer (RFC 6891, sections 6.1, 6.2 and 7; RFC 7828, section 3, for keepalives).
-use Rattle.std.specs.Prelude.{◌≡◌, ℕ, ◌+◌, ◌/◌, ◌≤◌, min, max, Bool, true, false, List, [], ◌∷◌, ◌++◌, length, Option, Some, None, is_some, nat_eq, nat_lt, nat_le, if◌then◌else◌}
+use Rattle.std.specs.Prelude.{ℕ, ◌+◌, ◌/◌, min, max, Bool, true, false, List, [], ◌∷◌, ◌++◌, length, Option, Some, None, is_some, nat_eq, nat_lt, nat_le, if◌then◌else◌}
 use Rattle.dns_name.specs.OptData.{for_code}
 use Rattle.dns_name.specs.Place.{two}
 use Rattle.dns_base.specs.Msg.{Msg, ResourceRecord}

@@ -1,5 +1,5 @@
 -- What the layers round a service share: replies of their own, and rewritten replies.
-use Rattle.std.specs.Prelude.{ℕ, Option, Some, None, option_map, Ok, Err}
+use Rattle.std.specs.Prelude.{ℕ, Some, None, option_map, Ok, Err}
 use Rattle.dns_base.specs.Msg.{Msg}
 use Rattle.dns_service.specs.Answer.{Item, Answer}
 use Rattle.dns_service.specs.Once.{once}

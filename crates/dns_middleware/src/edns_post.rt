@@ -9,7 +9,7 @@ ghost use Rattle.dns_middleware.specs.Rewritten.{rewritten};
 use crate::cutting::added;
 use crate::layered::{Rewrite, rewrite_item};
 use crate::opt_items::{OptItems, opt_items};
-use dns_base::{AdditionalBuilder, RecordIter};
+use dns_base::{AdditionalBuilder, RecordIter, Rtype};
 use dns_name::{BuildDataError, OutOfMemory};
 use dns_opt::{IdleTimeout, MessageOpt, OptRecord, TcpKeepalive};
 use dns_service::{
@@ -149,7 +149,7 @@ fn any_opt(records: RecordIter<'_>) -> bool
 {
     let mut left = records;
     'walk: while let Some(Ok(record)) = left.next() {
-        if record.rtype().to_int() == 41 {
+        if record.rtype() == Rtype::OPT {
             return true;
         }
     }

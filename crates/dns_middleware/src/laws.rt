@@ -5,18 +5,12 @@ ghost use Rattle.dns_base.specs.Msg.{IsMessage, Msg};
 ghost use Rattle.dns_base.specs.Wire.{wire};
 ghost use Rattle.dns_opt.specs.OptRecords.{opt_of};
 ghost use Rattle.dns_middleware.specs.Cut.{cut};
-ghost use Rattle.dns_middleware.specs.OptIn.{opt_in_message};
 ghost use Rattle.dns_middleware.specs.OptItems.{first_item, opt_items};
 
 /// A message that is cut fits, for each limit from 512 (RFC 1035, section 4.2.1), and can be written and read again.
 pub fn cut_fits()
     ensures fits { (n : ℕ) (m : Msg) → 512 ≤ n → length (wire (cut n m)) ≤ n }
     ensures lawful { (n : ℕ) (m : Msg) → IsMessage m → IsMessage (cut n m) }
-{}
-
-/// The OPT record of a message is that of its octets.
-pub fn opt_stands()
-    ensures { (m : Msg) → IsMessage m → opt_of (wire m) ≡ opt_in_message m }
 {}
 
 /// The OPT record of octets is the first of their OPT items, where that is a record.

@@ -21,7 +21,7 @@ mod opt_items;
 pub use cutting::cut;
 pub use edns::EdnsMiddlewareSvc;
 pub use edns_post::EdnsPost;
-pub use laws::{cut_fits, items_begin_with_opt, opt_stands};
+pub use laws::{cut_fits, items_begin_with_opt};
 pub use layered::Layered;
 pub use mandatory::{
     MINIMUM_RESPONSE_BYTE_LEN, MandatoryMiddlewareSvc, MandatoryPost, replies_fit,

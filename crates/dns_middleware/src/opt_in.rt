@@ -2,9 +2,12 @@
 
 ghost use Rattle.std.specs.Prelude.{◌≡◌, [], IfOk, IfSome, option_map};
 ghost use Rattle.dns_base.specs.Records.{record_of, IsLawful};
-ghost use Rattle.dns_middleware.specs.OptIn.{listed, minimal, opt_among, opt_record_in, resources};
+ghost use Rattle.dns_opt.specs.OptRecords.{listed, opt_record_among};
+ghost use Rattle.dns_middleware.specs.OptIn.{minimal, opt_record_in, resources};
 
-use dns_base::{AdditionalBuilder, Name, Octets, Record, RecordData, RecordIter, RecordRef, Ttl};
+use dns_base::{
+    AdditionalBuilder, Name, Octets, Record, RecordData, RecordIter, RecordRef, Rtype, Ttl,
+};
 use dns_name::OutOfMemory;
 use std::alloc::Global;
 
@@ -18,19 +21,19 @@ pub(crate) fn opt_record_in(
     ensures lawful { IfOk result (λ o. IfSome o (λ r. IsLawful r.rdata)) }
 {
     match message.as_message().additional() {
-        Ok(records) => opt_among(alloc, records),
+        Ok(records) => opt_record_among(alloc, records),
         Err(_) => Ok(None),
     }
 }
 
 /// The first record of type OPT, where its data is an option list.
-fn opt_among(alloc: Global, records: RecordIter<'_>) -> Result<Option<Record>, OutOfMemory>
-    ensures value { IfOk result (λ o. option_map record_of o ≡ opt_among (resources records.entry)) }
+fn opt_record_among(alloc: Global, records: RecordIter<'_>) -> Result<Option<Record>, OutOfMemory>
+    ensures value { IfOk result (λ o. option_map record_of o ≡ opt_record_among (resources records.entry)) }
     ensures lawful { IfOk result (λ o. IfSome o (λ r. IsLawful r.rdata)) }
 {
     let mut left = records;
     'walk: while let Some(Ok(record)) = left.next() {
-        if record.rtype().to_int() == 41 {
+        if record.rtype() == Rtype::OPT {
             return listed(alloc, &record);
         }
     }
@@ -65,6 +68,9 @@ fn no_options(alloc: Global) -> RecordData
     RecordData::Opt(Octets::from_vec(Vec::new(alloc)))
 }
 
+/// How many values the flags have, which are the lower sixteen bits of an OPT record's TTL.
+const FLAG_VALUES: u32 = 65536;
+
 /// An OPT record with the same size, extended code and version, no flags and no options.
 pub(crate) fn minimal(alloc: Global, opt: &Record) -> Result<Record, OutOfMemory>
     ensures value { IfOk result (λ r. record_of r ≡ minimal (record_of opt.now)) }
@@ -75,7 +81,7 @@ pub(crate) fn minimal(alloc: Global, opt: &Record) -> Result<Record, OutOfMemory
     Ok(Record {
         owner,
         class: opt.class,
-        ttl: Ttl::from_secs(16777216 * (secs / 16777216) + 65536 * (secs / 65536 % 256)),
+        ttl: Ttl::from_secs(secs / FLAG_VALUES * FLAG_VALUES),
         rdata: no_options(alloc),
     })
 }

@@ -3,7 +3,7 @@
 ghost use Rattle.std.specs.Prelude.{◌≡◌, []};
 ghost use Rattle.dns_middleware.specs.OptItems.{behind_record, items_among, kind_of, opt_items};
 
-use dns_base::{Message, RecordIter};
+use dns_base::{Message, RecordIter, Rtype};
 use dns_opt::OptRef;
 
 /// What a request has for an OPT record.
@@ -38,7 +38,7 @@ fn first_among(records: RecordIter<'_>) -> OptItems
         let Ok(record) = item else {
             return OptItems::BadFirst;
         };
-        if record.rtype().to_int() == 41 {
+        if record.rtype() == Rtype::OPT {
             return match OptRef::from_slice(record.rdata()) {
                 Ok(_) => more_among(left),
                 Err(_) => OptItems::BadFirst,
@@ -57,7 +57,7 @@ fn more_among(records: RecordIter<'_>) -> OptItems
         let Ok(record) = item else {
             return OptItems::Several;
         };
-        if record.rtype().to_int() == 41 {
+        if record.rtype() == Rtype::OPT {
             return OptItems::Several;
         }
     }

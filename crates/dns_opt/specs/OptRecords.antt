@@ -68,7 +68,7 @@ abbrev pub ok_state : OptHead → Result (List ℕ) ParseError → Option OptSta
 ok_state h (Ok o) = Some (opt_state h o)
 ok_state h (Err e) = None
 
--- a record as it stands, none where its data is no option list
+-- the head and the options of a record, none where its data is no option list
 abbrev pub readable : ResourceRecord → Option OptState
 readable r = ok_state (head_by r.class r.ttl) (option_list r.rdata)
 
@@ -85,3 +85,23 @@ opt_in (Err e) = None
 -- the OPT record of octets that are a message; none where its additional section can't be reached
 abbrev pub opt_of : List ℕ → Option OptState
 opt_of o = opt_in (reached (authority_of o).1 (standing_additional o))
+
+-- ---- the OPT record among records
+
+-- the record, where octets are an option list
+abbrev pub where_list : ResourceRecord → Result (List ℕ) ParseError → Option ResourceRecord
+where_list r (Ok o) = Some r
+where_list r (Err e) = None
+
+-- the record, where its data is an option list
+abbrev pub listed : ResourceRecord → Option ResourceRecord
+listed r = where_list r (option_list r.rdata)
+
+-- the first record of type OPT, as it stands; none where its data is no option list
+abbrev pub opt_record_among : List ResourceRecord → Option ResourceRecord
+opt_record_among [] = None
+opt_record_among (r ∷ rs) = if nat_eq r.rtype 41 then listed r else opt_record_among rs
+
+-- the head and the options that a record of type OPT is
+abbrev pub state_of : ResourceRecord → OptState
+state_of r = opt_state (head_by r.class r.ttl) r.rdata

@@ -1,17 +1,16 @@
 -- The OPT record of a message under construction, taken up again: a message has at most one (RFC 6891, section 6.1.1).
-use Rattle.std.specs.Prelude.{◌≡◌, ⊤, List, [], ◌∷◌, Option, None, Result, Ok, Err, nat_eq, unwrap_or, if◌then◌else◌}
+use Rattle.std.specs.Prelude.{◌≡◌, ⊤, List, [], Option, Result, Ok, Err, option_map, unwrap_or}
 use Rattle.dns_name.specs.declared.opt_error.BuildDataError.{BuildDataError}
 use Rattle.dns_name.specs.declared.opt_error.BuildDataError.TheVariants.{LongOptData, WrongLength, ShortBuf, OutOfMemory as NoMemory}
 use Rattle.dns_base.specs.Msg.{Msg, ResourceRecord}
 use Rattle.dns_base.specs.Built.{Built}
 use Rattle.dns_base.specs.Replaced.{less_type}
 use Rattle.dns_opt.specs.Drafts.{Draft, EndsIn, room_of}
-use Rattle.dns_opt.specs.OptRecords.{OptState, opt_state, readable, zero_head}
+use Rattle.dns_opt.specs.OptRecords.{OptState, opt_record_among, opt_state, state_of, zero_head}
 
 -- the first record of type OPT; none where its data is no option list
 abbrev pub opt_among : List ResourceRecord → Option OptState
-opt_among [] = None
-opt_among (r ∷ rs) = if nat_eq r.rtype 41 then readable r else opt_among rs
+opt_among rs = option_map state_of (opt_record_among rs)
 
 -- a record, or one with zeros and no options where there is none
 abbrev pub opt_or_empty : Option OptState → OptState

@@ -4,7 +4,7 @@ ghost use Rattle.std.specs.Prelude.{◌≡◌, List, ℕ};
 ghost use Rattle.dns_opt.specs.OptRecords.{first_opt, opt_of};
 
 use crate::record::{OptRecordRef, head_by};
-use dns_base::{Message, MessageRef, RecordIter};
+use dns_base::{Message, MessageRef, RecordIter, Rtype};
 use dns_options::OptRef;
 
 /// A message that may have an OPT record (RFC 6891, section 6.1.1).
@@ -26,7 +26,7 @@ fn first_opt(records: RecordIter<'_>) -> Option<OptRecordRef<'_>>
         let Ok(record) = item else {
             return None;
         };
-        if record.rtype().to_int() == 41 {
+        if record.rtype() == Rtype::OPT {
             let options = OptRef::from_slice(record.rdata()).ok()?;
             let head = head_by(record.class(), record.ttl());
             return Some(OptRecordRef::of(head, options));
