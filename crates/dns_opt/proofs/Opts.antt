@@ -1,28 +1,19 @@
 -- The OPT record of a written message.
-use Rattle.std.proofs.Common.{◌≡◌, ℕ, List, [], ◌∷◌, Bool, true, false, Option, Result, Ok, Err, length, nat_eq, nat_lt, if◌then◌else◌, refl, ap, ◌∙◌}
-use Rattle.std.specs.Prelude.{is_some, map, option_map}
+use Rattle.std.proofs.Common.{◌≡◌, ℕ, List, [], ◌∷◌, Bool, true, false, Option, Result, Ok, Err, nat_eq, if◌then◌else◌, refl, ap, ◌∙◌}
+use Rattle.std.specs.Prelude.{map, option_map}
 use Rattle.dns_name.specs.declared.error.ParseError.{ParseError}
-use Rattle.dns_name.specs.declared.error.ParseError.TheVariants.{ShortInput, Form}
-use Rattle.dns_name.specs.declared.error.FormReason.TheVariants.{LongList}
 use Rattle.dns_base.specs.Msg.{Msg, ResourceRecord, IsMessage}
-use Rattle.dns_base.specs.Options.{options}
 use Rattle.dns_base.specs.Standing.{Standing}
 use Rattle.dns_base.specs.Wire.{wire}
 use Rattle.dns_base.specs.Sections.{Items, authority_of, reached, standing_additional}
 use Rattle.dns_message.proofs.Coming.{same_additional}
 use Rattle.dns_message.proofs.Written.{authority_written, additional_written}
-use Rattle.dns_opt.specs.OptRecords.{OptState, first_opt, head_by, listed, ok_state, opt_in, opt_of, opt_record_among, readable, state_of, where_list}
+use Rattle.dns_opt.specs.OptRecords.{OptState, first_opt, listed, opt_in, opt_of, opt_record_among, readable, state_of}
 use Rattle.dns_opt.specs.Reopened.{opt_among}
-
-listed_by : (r : ResourceRecord) (long some : Bool) →
-    ok_state (head_by r.class r.ttl) (if long then Err (Form LongList) else (if some then Ok r.rdata else Err ShortInput)) ≡ option_map state_of (where_list r (if long then Err (Form LongList) else (if some then Ok r.rdata else Err ShortInput)))
-listed_by r true some = refl
-listed_by r false true = refl
-listed_by r false false = refl
 
 found_by : (r : ResourceRecord) (opt : Bool) (more : Option OptState) (rest : Option ResourceRecord) → more ≡ option_map state_of rest →
     (if opt then readable r else more) ≡ option_map state_of (if opt then listed r else rest)
-found_by r true more rest h = listed_by r (nat_lt 65535 (length r.rdata)) (is_some (options r.rdata))
+found_by r true more rest h = refl
 found_by r false more rest h = h
 
 -- the first OPT record of what an iterator gives, and of the same records

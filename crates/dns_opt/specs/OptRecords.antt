@@ -1,5 +1,5 @@
 -- OPT records (RFC 6891, sections 6.1.2 and 6.1.3).
-use Rattle.std.specs.Prelude.{ℕ, ◌+◌, ◌*◌, ◌/◌, ◌%◌, Bool, List, [], ◌∷◌, length, Option, Some, None, Result, Ok, Err, nat_lt, nat_le, nat_eq, slice_index, if◌then◌else◌}
+use Rattle.std.specs.Prelude.{ℕ, ◌+◌, ◌*◌, ◌/◌, ◌%◌, Bool, List, [], ◌∷◌, length, Option, Some, None, Result, Ok, Err, nat_lt, nat_le, nat_eq, option_map, slice_index, if◌then◌else◌}
 use Rattle.dns_name.specs.declared.error.ParseError.{ParseError}
 use Rattle.dns_name.specs.declared.error.ParseError.TheVariants.{ShortInput}
 use Rattle.dns_name.specs.Place.{be16}
@@ -64,13 +64,22 @@ from_record r = from_data (head_by r.class r.ttl) r.rdata
 
 -- ---- the OPT record of a message
 
-abbrev pub ok_state : OptHead → Result (List ℕ) ParseError → Option OptState
-ok_state h (Ok o) = Some (opt_state h o)
-ok_state h (Err e) = None
+-- the record, where octets are an option list
+abbrev pub where_list : ResourceRecord → Result (List ℕ) ParseError → Option ResourceRecord
+where_list r (Ok o) = Some r
+where_list r (Err e) = None
+
+-- the record, where its data is an option list
+abbrev pub listed : ResourceRecord → Option ResourceRecord
+listed r = where_list r (option_list r.rdata)
+
+-- the head and the options that a record of type OPT is
+abbrev pub state_of : ResourceRecord → OptState
+state_of r = opt_state (head_by r.class r.ttl) r.rdata
 
 -- the head and the options of a record, none where its data is no option list
 abbrev pub readable : ResourceRecord → Option OptState
-readable r = ok_state (head_by r.class r.ttl) (option_list r.rdata)
+readable r = option_map state_of (listed r)
 
 -- the first record of type OPT, none where it, or a record before it, is unreadable
 abbrev pub first_opt : List (Result Standing ParseError) → Option OptState
@@ -88,20 +97,7 @@ opt_of o = opt_in (reached (authority_of o).1 (standing_additional o))
 
 -- ---- the OPT record among records
 
--- the record, where octets are an option list
-abbrev pub where_list : ResourceRecord → Result (List ℕ) ParseError → Option ResourceRecord
-where_list r (Ok o) = Some r
-where_list r (Err e) = None
-
--- the record, where its data is an option list
-abbrev pub listed : ResourceRecord → Option ResourceRecord
-listed r = where_list r (option_list r.rdata)
-
 -- the first record of type OPT, as it stands; none where its data is no option list
 abbrev pub opt_record_among : List ResourceRecord → Option ResourceRecord
 opt_record_among [] = None
 opt_record_among (r ∷ rs) = if nat_eq r.rtype 41 then listed r else opt_record_among rs
-
--- the head and the options that a record of type OPT is
-abbrev pub state_of : ResourceRecord → OptState
-state_of r = opt_state (head_by r.class r.ttl) r.rdata

@@ -8,10 +8,10 @@ use Rattle.dns_base.specs.Msg.{Msg}
 use Rattle.dns_base.specs.Built.{Built}
 use Rattle.dns_base.specs.Options.{option_octets}
 use Rattle.dns_base.specs.Wire.{wire}
-use Rattle.dns_opt.specs.Drafts.{Draft, EndsIn, PushedIn, PutInto, with_options}
+use Rattle.dns_opt.specs.Drafts.{Draft, EndsIn, PushedIn, PutInto}
 use Rattle.dns_opt.specs.Reopened.{IsReopened, Reopens, less_opts, old_opt, reopened}
 use Rattle.dns_opt.proofs.Sizes.{opt_grows}
-use Rattle.dns_service.specs.WithOption.{AddsOption, and_option, optioned, with_option}
+use Rattle.dns_service.specs.WithOption.{AddsOption, optioned, with_option}
 
 -- how long the message is with the option
 optioned_length : (b : Built) (code : ℕ) (d : List ℕ) → length (wire (optioned b.message code d)) ≡ length (wire (less_opts b).message) + (length (old_opt b.message).options + (4 + length d)) + 11

@@ -1,14 +1,13 @@
 -- Error replies: an OPT record that holds the code, and the limit.
 use Rattle.std.proofs.Common.{◌≡◌, ℕ, ◌+◌, ◌≤◌, ◌<◌, Bool, true, false, List, [], ◌∷◌, nat_le, if◌then◌else◌, refl, ap, sym, subst, ◌∙◌, arith}
 use Rattle.std.proofs.lemmas.Bool.Decides.{nat_tests}
-use Rattle.std.specs.Prelude.{⊤, Result, Ok, Err}
+use Rattle.std.specs.Prelude.{⊤, Result, Ok}
 use Rattle.dns_name.specs.declared.opt_error.BuildDataError.{BuildDataError}
-use Rattle.dns_name.specs.declared.opt_error.BuildDataError.TheVariants.{ShortBuf}
 use Rattle.dns_message.specs.declared.question.Question.{Question}
 use Rattle.dns_base.specs.Msg.{Msg}
 use Rattle.dns_base.specs.Built.{Built, PassesLimit, with_question}
-use Rattle.dns_base.specs.Replies.{copied, error_by, error_to, within_limit}
-use Rattle.dns_opt.specs.Drafts.{Appended, BuiltFitting, BuiltOpt, Draft, Ends, IsBuiltOpt, opened, room_of, with_opt, with_record}
+use Rattle.dns_base.specs.Replies.{copied, error_by, within_limit}
+use Rattle.dns_opt.specs.Drafts.{Appended, BuiltFitting, BuiltOpt, Draft, Ends, opened, room_of, with_opt, with_record}
 use Rattle.dns_opt.proofs.Sizes.{opt_grows}
 use Rattle.dns_service.specs.ErrorReply.{code_draft, error_begun, error_reply, with_code}
 

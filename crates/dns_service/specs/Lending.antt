@@ -4,7 +4,7 @@ use Rattle.std.specs.Borrow.{Lends, LendsIf, MutBor, Fml, RattleType}
 use Rattle.dns_base.specs.Built.{Built}
 use Rattle.dns_base.specs.contracts.builder.additional.AdditionalBuilder as builder
 use Rattle.dns_service.specs.Given.{Given}
-use Rattle.dns_service.specs.Req.{Req, with_transport}
+use Rattle.dns_service.specs.Req.{with_transport}
 use Rattle.dns_service.specs.declared.message.TransportSpecificContext.{TransportSpecificContext}
 use Rattle.dns_service.specs.contracts.message.Request as request
 use Rattle.dns_service.specs.contracts.message.TransportSpecificContext as transport

@@ -1,5 +1,5 @@
 -- The line that configures the stream server: each number is limited to its range.
-use Rattle.std.specs.Prelude.{ℕ, Bool, ◌==◌, List, length, Result, Ok, Err}
+use Rattle.std.specs.Prelude.{ℕ, Bool, ◌==◌, List, length, Result, Ok}
 use Rattle.dns_service.specs.Config.{Stream, limited}
 use Rattle.dns_trace.specs.Words.{word}
 use Rattle.dns_trace.specs.Reading.{◌>>=◌, unless}
