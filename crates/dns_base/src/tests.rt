@@ -148,21 +148,43 @@ fn opt_record(rt: &HostRuntime, octets: u16) -> Result<Record, OutOfMemory>
     of_root(rt, octets, 0, rdata)
 }
 
-/// A message whose additional records are an address, an OPT record and a text.
-fn with_three(rt: &HostRuntime) -> Result<AdditionalBuilder, PushError> {
-    let builder = MessageBuilder::new(rt.alloc())?;
-    let mut builder = builder.additional();
-    let address = of_root(rt, 1, 5, RecordData::A([192, 0, 2, 1]))?;
-    builder.push(rt.alloc(), &address)?;
-    let opt = opt_record(rt, 1232)?;
-    builder.push(rt.alloc(), &opt)?;
+/// The root's address record, with an address that ends so.
+fn address(rt: &HostRuntime, last: u8) -> Result<Record, OutOfMemory>
+    ensures { IfOk result (λ r. IsLawful r.rdata) }
+{
+    of_root(rt, 1, 5, RecordData::A([192, 0, 2, last]))
+}
+
+/// The root's text record (type 16), a text of one octet.
+fn text_record(rt: &HostRuntime) -> Result<Record, OutOfMemory>
+    ensures { IfOk result (λ r. IsLawful r.rdata) }
+{
     let text = Vec::from_slice(rt.alloc(), b"\x01a")?;
     let Some(rdata) = RecordData::unknown(Rtype::from_int(16), text) else {
-        return Err(PushError::OutOfMemory);
+        return Err(OutOfMemory);
     };
-    let text = of_root(rt, 1, 5, rdata)?;
-    builder.push(rt.alloc(), &text)?;
+    of_root(rt, 1, 5, rdata)
+}
+
+/// Appends a record.
+fn and_record(
+    rt: &HostRuntime,
+    builder: AdditionalBuilder,
+    item: &Record,
+) -> Result<AdditionalBuilder, PushError>
+    requires { IsLawful item.now.rdata }
+{
+    let mut builder = builder;
+    builder.push(rt.alloc(), item)?;
     Ok(builder)
+}
+
+/// A message whose additional records are an address, an OPT record and a text.
+fn with_three(rt: &HostRuntime) -> Result<AdditionalBuilder, PushError> {
+    let builder = MessageBuilder::new(rt.alloc())?.additional();
+    let builder = and_record(rt, builder, &address(rt, 1)?)?;
+    let builder = and_record(rt, builder, &opt_record(rt, 1232)?)?;
+    and_record(rt, builder, &text_record(rt)?)
 }
 
 #[test]
@@ -181,27 +203,19 @@ fn replaces_records(rt: HostRuntime) {
     let Ok(opt) = opt_record(&rt, 512) else {
         panic!(&rt; "no memory");
     };
-    let opt_type = Rtype::from_int(41);
     builder.set_push_limit(16);
-    let refused = builder.replace_type(rt.alloc(), opt_type, &opt);
+    let refused = builder.replace_type(rt.alloc(), Rtype::OPT, &opt);
     assert!(&rt; refused == Err(PushError::ShortBuf));
     assert!(&rt; builder.as_slice() == whole.as_slice());
     builder.set_push_limit(51);
-    assert!(&rt; builder.replace_type(rt.alloc(), opt_type, &opt) == Ok(()));
+    assert!(&rt; builder.replace_type(rt.alloc(), Rtype::OPT, &opt) == Ok(()));
     assert!(&rt; builder.as_slice() == replaced.as_slice());
-    builder.remove_type(opt_type);
+    builder.remove_type(Rtype::OPT);
     assert!(&rt; builder.as_slice() == removed.as_slice());
-    builder.remove_type(opt_type);
+    builder.remove_type(Rtype::OPT);
     assert!(&rt; builder.as_slice() == removed.as_slice());
     builder.remove_type(Rtype::A);
     assert!(&rt; builder.as_slice() == text.as_slice());
-}
-
-/// The root's address record, with an address that ends so.
-fn address(rt: &HostRuntime, last: u8) -> Result<Record, OutOfMemory>
-    ensures { IfOk result (λ r. IsLawful r.rdata) }
-{
-    of_root(rt, 1, 5, RecordData::A([192, 0, 2, last]))
 }
 
 /// A question, pushed once more after a rewind.
