@@ -13,14 +13,14 @@ use Rattle.dns_core.specs.Own.{concerns}
 use Rattle.dns_core.specs.Sent.{slate}
 use Rattle.dns_core.specs.Out.{is_unused, begins, is_datagram, is_release, holds_slot, is_new, taken, has_room, members, put, gained}
 use Rattle.dns_core.specs.declared.settings.Settings.{Settings}
-use Rattle.dns_core.proofs.OutLemmas.{slate_some, slate_none, gain_some, members_more}
+use Rattle.dns_core.proofs.OutLemmas.{slate_some, slate_none, members_more}
 use Rattle.dns_core.proofs.Counted.{put_there, filter_same, absent_other, filter_put, filter_put_not}
 use Rattle.dns_core.proofs.Plain.{unused_kept, slot_kept}
 
 pub concerns_same : (e : Event) → concerns e.client e ≡ true
 concerns_same e = eq-eqb e.client e.client refl
 
-concerns_other : (c : ℕ) (e : Event) → c ≢ e.client → concerns c e ≡ false
+pub concerns_other : (c : ℕ) (e : Event) → c ≢ e.client → concerns c e ≡ false
 concerns_other c e ne = ne_eqb e.client c (λ h. ne (sym h))
 
 module _ (answers : Req (Unit {0}) → ℕ → Answer) (settings : Settings) where
@@ -48,10 +48,10 @@ module _ (answers : Req (Unit {0}) → ℕ → Answer) (settings : Settings) whe
   members_offer q e b n d r = members_more answers settings q e ∙ rw (n, d, r) refl
 
   pub gained_own : (q : List Event) (e : Event) → is_new answers settings q e ≡ false → gained answers settings q e ≡ (if list_any (nat_eq e.client) (members answers settings q) then (rule answers e (slate answers settings e.client q)).1 else [])
-  gained_own q e n = rw (members_kept q e n, n, gain_some answers settings e.client q e (concerns_same e)) refl
+  gained_own q e n = rw (members_kept q e n, n) refl
 
   pub gained_new : (q : List Event) (e : Event) → members answers settings (q ++ e ∷ []) ≡ put e.client (members answers settings q) → gained answers settings q e ≡ (rule answers e (slate answers settings e.client q)).1
-  gained_new q e m = rw (m, put_there e.client (members answers settings q), gain_some answers settings e.client q e (concerns_same e)) refl
+  gained_new q e m = rw (m, put_there e.client (members answers settings q)) refl
 
   pub gained_away : (q : List Event) (e : Event) → is_new answers settings q e ≡ true → members answers settings (q ++ e ∷ []) ≡ members answers settings q → list_any (nat_eq e.client) (members answers settings q) ≡ false → gained answers settings q e ≡ TurnedAway e.client settings.stream.accept_connections_at_max ∷ []
   gained_away q e n m absent = rw (m, absent, n) refl

@@ -7,4 +7,7 @@ pub mod Served
 pub mod Offered
 pub mod Released
 pub mod Nothing
+pub mod Settled
+pub mod Named
+pub mod ByClient
 pub mod Cut

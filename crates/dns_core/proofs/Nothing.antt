@@ -1,6 +1,7 @@
 -- Events that change nothing for anybody.
 use Rattle.std.proofs.Common.{◌≡◌, ◌≢◌, ℕ, List, [], ◌∷◌, ◌++◌, length, Bool, true, false, refl, ap, sym, ◌∙◌, append_assoc, ⊎_elim}
 use Rattle.std.proofs.lemmas.List.{append-nil}
+use Rattle.std.proofs.Math.Seq.{take-append_seam}
 use Rattle.std.proofs.lemmas.Bool.{cases_eq, ne_eqb}
 use Rattle.std.specs.Prelude.{nat_eq, nat_lt, filter, if◌then◌else◌, ◌&&◌, ◌||◌}
 use Rattle.std.specs.List.{list_any}
@@ -12,11 +13,12 @@ use Rattle.dns_client.specs.Slate.{Slate, Told}
 use Rattle.dns_client.specs.Rule.{rule}
 use Rattle.dns_core.specs.Sent.{slate}
 use Rattle.dns_core.specs.Out.{is_unused, begins, is_datagram, holds_slot, is_new, taken, has_room, put, members, gained, out_after, out}
+use Rattle.dns_core.specs.ByClient.{IsPrefix}
 use Rattle.dns_core.specs.declared.settings.Settings.{Settings}
-use Rattle.dns_core.proofs.OutLemmas.{gain_some, members_more}
+use Rattle.dns_core.proofs.OutLemmas.{members_more}
 use Rattle.dns_core.proofs.Counted.{filter_same}
 use Rattle.dns_core.proofs.Plain.{plain, rule_use, late}
-use Rattle.dns_core.proofs.Gained.{slate_same, slate_other, members_kept, gained_own, unused_same, new_is, concerns_same}
+use Rattle.dns_core.proofs.Gained.{slate_same, slate_other, members_kept, gained_own, unused_same, new_is}
 
 put_other : (c x : ℕ) (ms : List ℕ) → c ≢ x → list_any (nat_eq c) (put x ms) ≡ list_any (nat_eq c) ms
 put_other c x [] apart = rw (ne_eqb c x apart) refl
@@ -44,7 +46,7 @@ module _ (answers : Req (Unit {0}) → ℕ → Answer) (settings : Settings) whe
   members_alike : (q p : List Event) (x : Event) → Alike q p → members answers settings (q ++ x ∷ []) ≡ members answers settings (p ++ x ∷ [])
   members_alike q p x h = members_more answers settings q x ∙ rw (new_alike q p x h, room_alike q p h, h.same_members) refl ∙ sym (members_more answers settings p x)
 
-  member_other : (q : List Event) (x : Event) (c : ℕ) → c ≢ x.client → list_any (nat_eq c) (members answers settings (q ++ x ∷ [])) ≡ list_any (nat_eq c) (members answers settings q)
+  pub member_other : (q : List Event) (x : Event) (c : ℕ) → c ≢ x.client → list_any (nat_eq c) (members answers settings (q ++ x ∷ [])) ≡ list_any (nat_eq c) (members answers settings q)
   member_other q x c apart =
       ap (list_any (nat_eq c)) (members_more answers settings q x)
       ∙ (elim (is_new answers settings q x && (is_datagram x.kind || has_room answers settings q (members answers settings q))) as (λ b. list_any (nat_eq c) (if b then put x.client (members answers settings q) else members answers settings q) ≡ list_any (nat_eq c) (members answers settings q)) [ true ↦ put_other c x.client (members answers settings q) apart | false ↦ refl ])
@@ -90,7 +92,7 @@ module _ (answers : Req (Unit {0}) → ℕ → Answer) (settings : Settings) whe
   gained_case q p x true h there =
       let e = here_alike q p x (is_unused (slate answers settings x.client q).phase) h refl there in
       let there' : list_any (nat_eq x.client) (members answers settings (p ++ x ∷ [])) ≡ true = ap (list_any (nat_eq x.client)) (sym (members_alike q p x h)) ∙ there in
-      rw (there, there', gain_some answers settings x.client q x (concerns_same x), gain_some answers settings x.client p x (concerns_same x)) (ap (λ (s : Slate). (rule answers x s).1) e)
+      rw (there, there') (ap (λ (s : Slate). (rule answers x s).1) e)
   gained_case q p x false h there =
       let there' : list_any (nat_eq x.client) (members answers settings (p ++ x ∷ [])) ≡ false = ap (list_any (nat_eq x.client)) (sym (members_alike q p x h)) ∙ there in
       rw (there, there', new_alike q p x h) refl
@@ -103,7 +105,7 @@ module _ (answers : Req (Unit {0}) → ℕ → Answer) (settings : Settings) whe
   out_split p [] r = ap (λ (x : List Event). out_after answers settings x r) (sym (append-nil p))
   out_split p (x ∷ q) r = ap (λ (os : List Output). gained answers settings p x ++ os) (out_split (p ++ x ∷ []) q r ∙ ap (λ (y : List Event). out_after answers settings (p ++ x ∷ []) q ++ out_after answers settings y r) (append_assoc p (x ∷ []) q)) ∙ sym (append_assoc (gained answers settings p x) (out_after answers settings (p ++ x ∷ []) q) (out_after answers settings (p ++ x ∷ q) r))
 
-  unused_alike : (q : List Event) (e : Event) (b : Bool) → begins e.kind ≡ b → is_new answers settings q e ≡ false → (c : ℕ) → is_unused (slate answers settings c (q ++ e ∷ [])).phase ≡ is_unused (slate answers settings c q).phase
+  pub unused_alike : (q : List Event) (e : Event) (b : Bool) → begins e.kind ≡ b → is_new answers settings q e ≡ false → (c : ℕ) → is_unused (slate answers settings c (q ++ e ∷ [])).phase ≡ is_unused (slate answers settings c q).phase
   unused_alike q e false be n c = unused_same answers settings c q e be
   unused_alike q e true be n c =
       let u : is_unused (slate answers settings e.client q).phase ≡ false = sym (new_is answers settings q e be) ∙ n in
@@ -135,3 +137,8 @@ module _ (answers : Req (Unit {0}) → ℕ → Answer) (settings : Settings) whe
         unused = unused_alike q e (begins e.kind) refl n;
       } in
       out_split [] q (e ∷ r) ∙ ap (λ (os : List Output). out_after answers settings [] q ++ os) (rw none (out_alike r (q ++ e ∷ []) q alike)) ∙ sym (out_split [] q r)
+
+  -- what all are sent for the first of some events is the front of what they are sent for all
+  pub out_front : (p r : List Event) → IsPrefix (out answers settings p) (out answers settings (p ++ r))
+  unfolding out
+  out_front p r = rw (out_split [] p r) (take-append_seam (out_after answers settings [] p) (out_after answers settings p r))

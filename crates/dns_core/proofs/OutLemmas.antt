@@ -1,6 +1,7 @@
 -- One event more.
-use Rattle.std.proofs.Common.{◌≡◌, ℕ, List, [], ◌∷◌, ◌++◌, length, drop, true, false, cond, refl, ap, sym, ◌∙◌, append_assoc}
-use Rattle.std.proofs.lemmas.List.{append-nil, drop_at}
+use Rattle.std.proofs.Common.{◌≡◌, ℕ, List, [], ◌∷◌, ◌++◌, true, false, cond, refl, ap, sym, ◌∙◌, append_assoc}
+use Rattle.std.proofs.lemmas.List.{append-nil}
+use Rattle.std.proofs.Math.Seq.{take-append_seam}
 use Rattle.dns_service.specs.Answer.{Answer}
 use Rattle.dns_service.specs.Req.{Req}
 use Rattle.dns_service.specs.declared.event.Event.{Event}
@@ -10,7 +11,8 @@ use Rattle.dns_client.specs.Rule.{rule}
 use Rattle.dns_core.specs.Settings.{opening}
 use Rattle.dns_core.specs.Own.{concerns, own}
 use Rattle.dns_core.specs.Sent.{slate_after, sent_after, sent, slate}
-use Rattle.dns_core.specs.Out.{gain, joined, members_after, members, gained, out_after}
+use Rattle.dns_core.specs.Out.{joined, members_after, members, gained, out_after}
+use Rattle.dns_core.specs.ByClient.{IsPrefix}
 use Rattle.dns_core.specs.declared.settings.Settings.{Settings}
 
 own_some : (c : ℕ) (q : List Event) (e : Event) → concerns c e ≡ true → own c (q ++ e ∷ []) ≡ own c q ++ e ∷ []
@@ -30,7 +32,18 @@ module _ (answers : Req (Unit {0}) → ℕ → Answer) where
   sent_after_snoc s [] e = append-nil (rule answers e s).1
   sent_after_snoc s (x ∷ q) e = ap (λ os. (rule answers x s).1 ++ os) (sent_after_snoc (rule answers x s).0 q e) ∙ sym (append_assoc (rule answers x s).1 (sent_after answers (rule answers x s).0 q) (rule answers e (slate_after answers (rule answers x s).0 q)).1)
 
+  sent_after_append : (s : Slate) (p r : List Event) → sent_after answers s (p ++ r) ≡ sent_after answers s p ++ sent_after answers (slate_after answers s p) r
+  sent_after_append s [] r = refl
+  sent_after_append s (x ∷ p) r = ap (λ os. (rule answers x s).1 ++ os) (sent_after_append (rule answers x s).0 p r) ∙ sym (append_assoc (rule answers x s).1 (sent_after answers (rule answers x s).0 p) (sent_after answers (slate_after answers (rule answers x s).0 p) r))
+
   module _ (settings : Settings) where
+    -- what is sent for the first of some events is the front of what is sent for all
+    pub sent_front : (p r : List Event) → IsPrefix (sent answers settings p) (sent answers settings (p ++ r))
+    unfolding sent
+    sent_front p r =
+        let s = fresh (opening settings) in
+        rw (sent_after_append s p r) (take-append_seam (sent_after answers s p) (sent_after answers (slate_after answers s p) r))
+
     pub slate_some : (c : ℕ) (q : List Event) (e : Event) → concerns c e ≡ true → slate answers settings c (q ++ e ∷ []) ≡ (rule answers e (slate answers settings c q)).0
     unfolding slate
     slate_some c q e h = ap (slate_after answers (fresh (opening settings))) (own_some c q e h) ∙ slate_after_snoc (fresh (opening settings)) (own c q) e
@@ -39,13 +52,16 @@ module _ (answers : Req (Unit {0}) → ℕ → Answer) where
     unfolding slate
     slate_none c q e h = ap (slate_after answers (fresh (opening settings))) (own_none c q e h)
 
-    pub gain_some : (c : ℕ) (q : List Event) (e : Event) → concerns c e ≡ true → gain answers settings c q e ≡ (rule answers e (slate answers settings c q)).1
-    unfolding gain sent slate
-    gain_some c q e h =
+    -- what a client's sent has more with one event more of its own
+    pub sent_more : (c : ℕ) (q : List Event) (e : Event) → concerns c e ≡ true → sent answers settings (own c (q ++ e ∷ [])) ≡ sent answers settings (own c q) ++ (rule answers e (slate answers settings c q)).1
+    unfolding sent slate
+    sent_more c q e h =
         let s = fresh (opening settings) in
-        ap (λ es. drop (length (sent_after answers s (own c q))) (sent_after answers s es)) (own_some c q e h)
-        ∙ ap (drop (length (sent_after answers s (own c q)))) (sent_after_snoc s (own c q) e)
-        ∙ drop_at (sent_after answers s (own c q)) (rule answers e (slate_after answers s (own c q))).1 (length (sent_after answers s (own c q))) refl
+        ap (sent_after answers s) (own_some c q e h) ∙ sent_after_snoc s (own c q) e
+
+    -- and what it has with one of another client
+    pub sent_still : (c : ℕ) (q : List Event) (e : Event) → concerns c e ≡ false → sent answers settings (own c (q ++ e ∷ [])) ≡ sent answers settings (own c q)
+    sent_still c q e h = ap (sent answers settings) (own_none c q e h)
 
     members_after_snoc : (p : List Event) (ms : List ℕ) (q : List Event) (e : Event) → members_after answers settings p ms (q ++ e ∷ []) ≡ joined answers settings (p ++ q) (members_after answers settings p ms q) e
     members_after_snoc p ms [] e = ap (λ x. joined answers settings x ms e) (sym (append-nil p))

@@ -189,7 +189,7 @@ module _ (answers : Req (Unit {0}) → ℕ → Answer) where
   turn_done k None s h = refl
   turn_done k (Some r) s h = rw h refl
 
-  all_same : (p : Phase) (t : Told) → in_phase p t t t t ≡ t
+  pub all_same : (p : Phase) (t : Told) → in_phase p t t t t ≡ t
   all_same Unused t = refl
   all_same Exchange t = refl
   all_same Open t = refl

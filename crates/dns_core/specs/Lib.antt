@@ -8,6 +8,7 @@ pub mod Settings
 pub mod Own
 pub mod Sent
 pub mod Out
+pub mod ByClient
 pub mod Replies
 pub mod Early
 pub mod Serves

@@ -1,5 +1,5 @@
 -- What all clients are sent. Lists of events go from the oldest to the newest; an event e comes after the events q.
-use Rattle.std.specs.Prelude.{ℕ, List, [], ◌∷◌, ◌++◌, length, drop, filter, nat_lt, nat_eq, if◌then◌else◌, Bool, true, false, not, ◌&&◌, ◌||◌}
+use Rattle.std.specs.Prelude.{ℕ, List, [], ◌∷◌, ◌++◌, length, filter, nat_lt, nat_eq, if◌then◌else◌, Bool, true, false, not, ◌&&◌, ◌||◌}
 use Rattle.std.specs.List.{list_any}
 use Rattle.dns_service.specs.Answer.{Answer}
 use Rattle.dns_service.specs.Req.{Req}
@@ -9,8 +9,8 @@ use Rattle.dns_service.specs.declared.event.EventKind.TheVariants.{Datagram, Tur
 use Rattle.dns_service.specs.declared.event.Output.{Output}
 use Rattle.dns_service.specs.declared.event.Output.TheVariants.{TurnedAway}
 use Rattle.dns_client.specs.Slate.{Slate, Phase, Unused, Exchange, Open, Closed}
-use Rattle.dns_core.specs.Own.{own}
-use Rattle.dns_core.specs.Sent.{sent, slate}
+use Rattle.dns_client.specs.Rule.{rule}
+use Rattle.dns_core.specs.Sent.{slate}
 use Rattle.dns_core.specs.declared.settings.Settings.{Settings}
 
 abbrev pub is_unused : Phase → Bool
@@ -63,9 +63,9 @@ abbrev pub holds_slot : Slate → Bool
 holds_slot s = is_connection s.phase && not s.freed
 
 module _ (answers : Req (Unit {0}) → ℕ → Answer) (settings : Settings) where
-  -- what a client's sent has more with e
-  unfoldable pub gain : ℕ → List Event → Event → List Output
-  gain c q e = drop (length (sent answers settings (own c q))) (sent answers settings (own c (q ++ e ∷ [])))
+  -- what a client is sent for its own event e, by the rule at its slate
+  abbrev pub gain : ℕ → List Event → Event → List Output
+  gain c q e = (rule answers e (slate answers settings c q)).1
 
   -- a client begins under a number that isn't used
   unfoldable pub is_new : List Event → Event → Bool

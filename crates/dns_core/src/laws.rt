@@ -1,6 +1,6 @@
 //! Laws of what is sent.
 
-ghost use Rattle.std.specs.Prelude.{◌≡◌, ℕ, List, [], ◌∷◌, ◌++◌, true, false, Option, Some, None, slice_get, nat_eq};
+ghost use Rattle.std.specs.Prelude.{◌≡◌, ℕ, List, [], ◌∷◌, ◌++◌, true, false, Option, Some, None, slice_get, nat_eq, filter};
 ghost use Rattle.std.specs.List.{list_any};
 ghost use Rattle.dns_service.specs.Answer.{Answer};
 ghost use Rattle.dns_service.specs.Req.{Req};
@@ -8,10 +8,46 @@ ghost use Rattle.dns_service.specs.declared.event.Event.{Event};
 ghost use Rattle.dns_service.specs.declared.event.EventKind.{EventKind};
 ghost use Rattle.dns_client.specs.Pieces.{piece_of};
 ghost use Rattle.dns_client.specs.Slate.{Closed};
+ghost use Rattle.dns_service.specs.declared.event.Output.{Output};
+ghost use Rattle.dns_core.specs.Own.{own};
 ghost use Rattle.dns_core.specs.Sent.{sent, slate};
-ghost use Rattle.dns_core.specs.Out.{begins, is_release, is_unused, members, out};
+ghost use Rattle.dns_core.specs.Out.{begins, gain, is_release, is_unused, members, out};
+ghost use Rattle.dns_core.specs.ByClient.{IsPrefix, is_for, is_member, was_turned_away};
 ghost use Rattle.dns_core.specs.Finished.{IsFinished};
 ghost use Rattle.dns_core.specs.declared.settings.Settings.{Settings};
+
+/// The headline, read by client. Of all that is sent, what is for an exchange or a connection is what the rules for it
+/// alone send for its own events; to a client that was turned away it is told so, once; and nothing is for any other.
+pub fn clients_are_sent_their_own()
+    ensures own { (answers : Req (Unit {0}) → ℕ → Answer) (settings : Settings) (c : ℕ) (es : List Event)
+        → is_member answers settings c es ≡ true
+        → filter (is_for c) (out answers settings es) ≡ sent answers settings (own c es) }
+    ensures away { (answers : Req (Unit {0}) → ℕ → Answer) (settings : Settings) (c : ℕ) (es : List Event)
+        → was_turned_away answers settings c es ≡ true
+        → filter (is_for c) (out answers settings es) ≡ Output.TurnedAway c settings.stream.accept_connections_at_max ∷ [] }
+    ensures stranger { (answers : Req (Unit {0}) → ℕ → Answer) (settings : Settings) (c : ℕ) (es : List Event)
+        → is_member answers settings c es ≡ false → was_turned_away answers settings c es ≡ false
+        → filter (is_for c) (out answers settings es) ≡ [] }
+{}
+
+/// Whatever the others do: two lists of events with the same events of a client, in neither of which it was turned away,
+/// send it the same.
+pub fn others_change_nothing()
+    ensures { (answers : Req (Unit {0}) → ℕ → Answer) (settings : Settings) (c : ℕ) (es fs : List Event)
+        → own c es ≡ own c fs → was_turned_away answers settings c es ≡ false → was_turned_away answers settings c fs ≡ false
+        → filter (is_for c) (out answers settings es) ≡ filter (is_for c) (out answers settings fs) }
+{}
+
+/// What is sent for the first of some events is the front of what is sent for all of them, to one client and to all. What
+/// one event more of a client adds to what it is sent is the gain.
+pub fn more_events_send_more()
+    ensures one { (answers : Req (Unit {0}) → ℕ → Answer) (settings : Settings) (p r : List Event)
+        → IsPrefix (sent answers settings p) (sent answers settings (p ++ r)) }
+    ensures all { (answers : Req (Unit {0}) → ℕ → Answer) (settings : Settings) (p r : List Event)
+        → IsPrefix (out answers settings p) (out answers settings (p ++ r)) }
+    ensures more { (answers : Req (Unit {0}) → ℕ → Answer) (settings : Settings) (q : List Event) (e : Event)
+        → sent answers settings (own e.client (q ++ e ∷ [])) ≡ sent answers settings (own e.client q) ++ gain answers settings e.client q e }
+{}
 
 /// A piece cut in two, both parts at its moment and seconds and next to each other, changes nothing, wherever it is cut.
 pub fn pieces_may_be_cut()
@@ -46,5 +82,19 @@ pub fn finished_requests_change_nothing()
 pub fn used_numbers_change_nothing()
     ensures { (answers : Req (Unit {0}) → ℕ → Answer) (settings : Settings) (q r : List Event) (e : Event)
         → begins e.kind ≡ true → is_unused (slate answers settings e.client q).phase ≡ false
+        → out answers settings (q ++ e ∷ r) ≡ out answers settings (q ++ r) }
+{}
+
+/// A second release of a connection changes nothing for anybody.
+pub fn second_releases_change_nothing()
+    ensures { (answers : Req (Unit {0}) → ℕ → Answer) (settings : Settings) (q r : List Event) (e : Event)
+        → e.kind ≡ EventKind.Release → (slate answers settings e.client q).freed ≡ true
+        → out answers settings (q ++ e ∷ r) ≡ out answers settings (q ++ r) }
+{}
+
+/// A piece of no octets changes nothing for anybody.
+pub fn empty_pieces_change_nothing()
+    ensures { (answers : Req (Unit {0}) → ℕ → Answer) (settings : Settings) (q r : List Event) (e : Event)
+        → e.kind ≡ EventKind.Piece []
         → out answers settings (q ++ e ∷ r) ≡ out answers settings (q ++ r) }
 {}

@@ -11,8 +11,10 @@ mod stamped;
 pub use dns_client::{ClientCore, Framer, PolledRequest, Status};
 pub use dns_service::{Event, EventKind, Octets, Output, Why};
 pub use laws::{
-    closed_connections_change_nothing, finished_requests_change_nothing, pieces_may_be_cut,
-    strangers_change_nothing, used_numbers_change_nothing,
+    clients_are_sent_their_own, closed_connections_change_nothing, empty_pieces_change_nothing,
+    finished_requests_change_nothing, more_events_send_more, others_change_nothing,
+    pieces_may_be_cut, second_releases_change_nothing, strangers_change_nothing,
+    used_numbers_change_nothing,
 };
 pub use notify::{Notifiable, NotifyError, VerdictFuture};
 pub use server::serve_events;
