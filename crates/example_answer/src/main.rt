@@ -70,10 +70,17 @@ impl From<AllocError> for NoReply {
 fn main(rt: HostRuntime) -> anyhow::Result<()> {
     let service = service_fn::<Refusal, _, _>(refuse, OptRcode::NXDOMAIN);
     let service = MandatoryMiddlewareSvc::new(EdnsMiddlewareSvc::new(service));
-    let mut request = received(rt.alloc(), QUERY)?;
-    let reply = first_reply(rt.alloc(), &service, &mut request)?;
+    let reply = reply_to(rt.alloc(), &service, QUERY)?;
     println!(rt; "{}", hex::encode(rt.alloc(), reply.as_slice())?)?;
     Ok(())
+}
+
+/// The octets of the first reply to a query that came in a datagram.
+fn reply_to<S: Service<()>>(alloc: Global, service: &S, query: &[u8]) -> Result<Vec<u8>, NoReply>
+    requires { S.can_call service.now }
+{
+    let mut request = received(alloc, query)?;
+    first_reply(alloc, service, &mut request)
 }
 
 /// The request that a datagram of these octets makes.
