@@ -1,6 +1,8 @@
+//! A book that threads share.
+
 ghost use Rattle.std.specs.Prelude.{ℕ, ◌≡◌, ◌+◌, length};
 
-use crate::{Admission, Book, BookState, Call, Look, Reply, call_both};
+use dns_book::{Admission, Book, BookState, Call, Look, Reply, call_both};
 use dns_service::{DgramConfig, Error, OutOfMemory, StreamConfig};
 use std::alloc::Global;
 use std::sync::Wait;
@@ -8,19 +10,18 @@ use std::thread::Threads;
 
 const LAST: u64 = 18446744073709551615;
 
-// Configurations with this limit of connections.
+/// Configurations with this limit of connections.
 fn with_limit(limit: usize) -> (DgramConfig, StreamConfig) {
     let mut stream = StreamConfig::new();
     stream.set_max_concurrent_connections(limit);
     (DgramConfig::new(), stream)
 }
 
-// At the last version no configuration is replaced, and all stays. A closed book says its version.
+/// At the last version no configuration is replaced, and all stays. A closed book says its version.
 #[test]
 fn the_last_version(rt: HostRuntime) -> Result<(), OutOfMemory> {
     let (dgram, stream) = with_limit(2);
     let (_, other) = with_limit(7);
-    let refused = Err(Error::CommandCouldNotBeSent);
     let closed = Look {
         version: LAST,
         closed: true,
@@ -28,22 +29,16 @@ fn the_last_version(rt: HostRuntime) -> Result<(), OutOfMemory> {
         dgram,
         stream,
     };
-
-    let mut state = BookState::resume(dgram, stream, LAST);
-    assert!(&rt; state.reconfigure(dgram, other) == refused);
-    assert!(&rt; state.shutdown() == closed);
-    assert!(&rt; state.reconfigure(dgram, other) == Ok(LAST));
-    assert!(&rt; state.look() == closed);
-
     let (book, mut seat) = Book::new(rt.alloc(), BookState::resume(dgram, stream, LAST))?;
-    assert!(&rt; book.reconfigure(&rt, &mut seat, dgram, other) == refused);
+    let refused = book.reconfigure(&rt, &mut seat, dgram, other);
+    assert!(&rt; refused == Err(Error::CommandCouldNotBeSent));
     assert!(&rt; book.shutdown(&rt, &mut seat) == closed);
     assert!(&rt; book.reconfigure(&rt, &mut seat, dgram, other) == Ok(LAST));
     assert!(&rt; book.look(&rt, &mut seat) == closed);
     Ok(())
 }
 
-// With a limit of one the second admit finds no slot, until the first is given back.
+/// With a limit of one the second admit finds no slot.
 #[test]
 fn one_slot(rt: HostRuntime) -> Result<(), OutOfMemory> {
     let (dgram, stream) = with_limit(1);
@@ -59,11 +54,6 @@ fn one_slot(rt: HostRuntime) -> Result<(), OutOfMemory> {
         limit: 1,
         accepted: true,
     };
-
-    let mut state = BookState::new(dgram, stream);
-    assert!(&rt; state.admit() == taken && state.admit() == full);
-    assert!(&rt; state.release() == 0 && state.release() == 0 && state.admit() == taken);
-
     let (book, mut seat) = Book::new(rt.alloc(), BookState::new(dgram, stream))?;
     assert!(&rt; book.admit(&rt, &mut seat) == taken && book.admit(&rt, &mut seat) == full);
     assert!(&rt; book.release(&rt, &mut seat) == 0 && book.release(&rt, &mut seat) == 0);
@@ -72,15 +62,8 @@ fn one_slot(rt: HostRuntime) -> Result<(), OutOfMemory> {
     Ok(())
 }
 
-#[test]
-fn a_command_that_was_not_sent(rt: HostRuntime) -> Result<(), OutOfMemory> {
-    let text = format!(in rt.alloc(); "{}", Error::CommandCouldNotBeSent)?;
-    assert!(&rt; text.as_str() == "Command could not be sent");
-    Ok(())
-}
-
-// Whether the machine gives these replies in some order of the calls in which each of the two lists
-// keeps its own, and then shows `last`.
+/// Whether the machine gives these replies in some order of the calls in which each of the two lists keeps its own, and
+/// then shows `last`.
 fn fit_in_some_order(
     state: BookState,
     first: &[(Call, Reply)],
@@ -104,11 +87,12 @@ fn fit_in_some_order(
     false
 }
 
+/// Two calls with their replies.
 fn with_replies(calls: &(Call, Call), replies: &(Reply, Reply)) -> [(Call, Reply); 2] {
     [(calls.0, replies.0), (calls.1, replies.1)]
 }
 
-// Whether two threads at a book in this state get replies that one thread could get.
+/// Whether two threads at a book in this state get replies that one thread could get.
 fn threads_agree<R: Threads + Wait + Sync>(
     rt: &R,
     alloc: Global,
