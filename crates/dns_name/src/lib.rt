@@ -22,7 +22,10 @@ mod ttl;
 
 pub use address::{Addrs, IpAddr, SocketAddr};
 pub use error::{FormReason, OutOfMemory, ParseError};
-pub use iana::{Class, ExtendedErrorCode, Opcode, OptionCode, Rcode, Rtype, SecurityAlgorithm};
+pub use iana::{
+    Class, Classes, Code, ExtendedErrorCode, ExtendedErrorCodes, HeaderCode, Opcode, Opcodes,
+    OptionCode, OptionCodes, Rcode, Rcodes, Rtype, Rtypes, SecurityAlgorithm,
+};
 pub use labels::Labels;
 pub use laws::{names_are_ordered, names_are_the_grammar};
 pub use name::{Name, NameRef};
