@@ -1,5 +1,5 @@
 use Rattle.std.proofs.Common.{◌≡◌, ◌≤◌, length}
-use Rattle.dns_algs.proofs.owned.collected.Given as goal
+use Rattle.dns_algs.proofs.collect.collected.Given as goal
 
 abbrev pub invariant-loop-algorithm : goal.invariant-loop-algorithm
 invariant-loop-algorithm g l = record {

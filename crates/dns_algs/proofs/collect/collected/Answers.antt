@@ -1,7 +1,7 @@
 use Rattle.std.proofs.Common.{rules, ◌≡◌, ◌++◌, ◌∷◌, [], length, arith, ap}
 use Rattle.std.proofs.lemmas.List.{length-append}
 use Rattle.std.proofs.iter.Next.{Yields-more}
-use Rattle.dns_algs.proofs.owned.collected.Goals as goal
+use Rattle.dns_algs.proofs.collect.collected.Goals as goal
 
 pub returns-then-len-eq65535 : goal.returns-then-len-eq65535
 returns-then-len-eq65535 g c =
