@@ -1,25 +1,21 @@
-//! Lists of algorithms, borrowed.
+//! Lists of algorithms, owned or borrowed.
 
-ghost use Rattle.std.specs.Prelude.{◌≡◌, ◌≤◌, ◌<◌, ◌++◌, ◌==◌, ℕ, List, length, nat_le, Some, Ok, IfOk, OnOk, MatchResult};
-ghost use Rattle.std.specs.Cmp.Rules.{comparing, hashing};
-ghost use Rattle.std.specs.Cmp.Lexicographic.{pointwise};
+ghost use Rattle.std.specs.Prelude.{◌≡◌, ◌≤◌, ◌<◌, ◌++◌, ℕ, List, length, nat_le, Some, Ok, IfOk, OnOk, MatchResult};
 ghost use Rattle.std.specs.Fmt.{WritesOnOk};
-ghost use Rattle.std.specs.Hash as fed;
-ghost use Rattle.std.proofs.Common.{rules};
+ghost use Rattle.std.specs.Iterator.{IsFinite};
 ghost use Rattle.dns_name.specs.OptData.{ParsesData, for_code, list_data};
 ghost use Rattle.dns_name.specs.Place.{rest};
 ghost use Rattle.dns_name.proofs.Readings.{list_again};
-ghost use Rattle.dns_algs.specs.Algorithms.{more_text, numbers_text};
+ghost use Rattle.dns_algs.specs.Algorithms.{CollectedFrom, more_text, numbers_text};
 
+use crate::collect::collected;
 use crate::iter::SecurityAlgorithmIter;
-use crate::owned::Understood;
 use dns_name::{
-    ComposeOptData, LongOptData, OptData, OptionCode, OutOfMemory, ParseError, ParseOptData,
-    Parser, ReadBack, SecurityAlgorithm,
+    BuildDataError, ComposeOptData, Held, HoldsOctets, LongOptData, OptData, OptionCode,
+    OutOfMemory, ParseError, ParseOptData, Parser, ReadBack, SecurityAlgorithm,
 };
 use std::alloc::Global;
 use std::fmt;
-use std::hash::{Hash, Hasher};
 use std::marker::{Model, PhantomData};
 
 /// Which list of algorithms it is.
@@ -68,6 +64,12 @@ impl Variant for N3uVariant {
     }
 }
 
+/// Algorithms, one octet each, owned.
+pub type Understood<K> = HeldUnderstood<Vec<u8>, K>;
+
+/// Algorithms, one octet each, borrowed.
+pub type UnderstoodRef<'a, K> = HeldUnderstood<&'a [u8], K>;
+
 pub type Dau = Understood<DauVariant>;
 
 pub type Dhu = Understood<DhuVariant>;
@@ -80,40 +82,61 @@ pub type DhuRef<'a> = UnderstoodRef<'a, DhuVariant>;
 
 pub type N3uRef<'a> = UnderstoodRef<'a, N3uVariant>;
 
-/// Algorithms, one octet each, borrowed.
-#[derive(Clone, Debug, Drop)]
-pub struct UnderstoodRef<'a, K> {
-    octets: &'a [u8],
+/// Algorithms, one octet each, in S.
+#[derive(Drop)]
+#[derive_where(Debug, PartialEq, Eq, Hash)]
+#[derive_where(Clone; S: Copy)]
+pub struct HeldUnderstood<S: HoldsOctets, K> {
+    octets: Held<S>,
+    #[derive_where(skip)]
     of: PhantomData<K>,
 }
 
-impl<'a, K> Model for UnderstoodRef<'a, K> {
+impl<S: HoldsOctets, K> Model for HeldUnderstood<S, K> {
     ghost use Rattle.std.specs.Prelude.{List, ℕ, length, ◌≤◌};
 
     ghost Value = { List ℕ };
 
-    ghost view = { λ k. k.octets.now };
+    ghost view = { λ k. k.octets };
 
-    ghost invariant = { λ k. length k.octets.now ≤ 65535 };
+    ghost inverse = { λ l. record { octets = l; of = record {} } };
+
+    ghost invariant = { λ k. length k.octets ≤ 65535 };
 }
 
-impl<'a, K: Variant> UnderstoodRef<'a, K> {
+impl<S: HoldsOctets, K: Variant> HeldUnderstood<S, K> {
+    fn of(octets: S) -> HeldUnderstood<S, K>
+        requires { length (S.octets octets) ≤ 65535 }
+        ensures { result ≡ S.octets octets }
+    {
+        HeldUnderstood {
+            octets: Held::of(octets),
+            of: PhantomData,
+        }
+    }
+
+    fn checked(octets: S) -> Result<HeldUnderstood<S, K>, LongOptData>
+        ensures { MatchResult result (λ k. (length (S.octets octets) ≤ 65535) × (k ≡ S.octets octets)) (λ _. 65535 < length (S.octets octets)) }
+    {
+        LongOptData::check_len(octets.as_octets().len())?;
+        Ok(HeldUnderstood::of(octets))
+    }
+
+    /// Gives the octets back, which are not copied.
+    pub fn into_octets(self) -> S
+        ensures { S.octets result ≡ self }
+    {
+        let HeldUnderstood { octets, .. } = self;
+        octets.into_inner()
+    }
+}
+
+impl<'a, K: Variant> HeldUnderstood<&'a [u8], K> {
     /// The algorithms of a slice.
     pub fn from_slice(octets: &'a [u8]) -> Result<UnderstoodRef<'a, K>, LongOptData>
         ensures { MatchResult result (λ k. (length octets.now ≤ 65535) × (k ≡ octets.now)) (λ _. 65535 < length octets.now) }
     {
-        LongOptData::check_len(octets.len())?;
-        Ok(UnderstoodRef::within(octets))
-    }
-
-    pub(crate) fn within(octets: &'a [u8]) -> UnderstoodRef<'a, K>
-        requires { length octets.now ≤ 65535 }
-        ensures { result ≡ octets.now }
-    {
-        UnderstoodRef {
-            octets,
-            of: PhantomData,
-        }
+        HeldUnderstood::checked(octets)
     }
 
     /// The algorithms that are left in a parser: all its octets.
@@ -130,14 +153,7 @@ impl<'a, K: Variant> UnderstoodRef<'a, K> {
         ensures value { result.now ≡ self.now }
         ensures short { length self.now ≤ 65535 }
     {
-        self.octets
-    }
-
-    /// The octets.
-    pub fn into_octets(self) -> &'a [u8]
-        ensures { result.now ≡ self.entry }
-    {
-        self.octets
+        self.octets.lent()
     }
 
     /// The octets.
@@ -145,26 +161,77 @@ impl<'a, K: Variant> UnderstoodRef<'a, K> {
         ensures value { result.now ≡ self.now }
         ensures short { length self.now ≤ 65535 }
     {
-        self.octets
+        self.octets.lent()
     }
 
     /// The algorithms, in order.
     pub fn iter(&self) -> SecurityAlgorithmIter<'a>
         ensures { result ≡ self.now }
     {
-        SecurityAlgorithmIter::of(self.octets)
+        SecurityAlgorithmIter::of(self.octets.lent())
     }
 
     /// The same list, owned.
     pub fn to_owned(&self, alloc: Global) -> Result<Understood<K>, OutOfMemory>
         ensures { IfOk result (λ k. k ≡ self.now) }
     {
-        let octets = Vec::from_slice(alloc, self.octets)?;
-        Ok(Understood::of(octets))
+        let octets = Vec::from_slice(alloc, self.octets.lent())?;
+        Ok(HeldUnderstood::of(octets))
     }
 }
 
-impl<'a, K: Variant> IntoIterator for UnderstoodRef<'a, K> {
+impl<K: Variant> HeldUnderstood<Vec<u8>, K> {
+    /// The algorithms of a vector, which is not copied.
+    pub fn from_octets(octets: Vec<u8>) -> Result<Understood<K>, LongOptData>
+        ensures { MatchResult result (λ k. (length octets.items ≤ 65535) × (k ≡ octets.items)) (λ _. 65535 < length octets.items) }
+    {
+        HeldUnderstood::checked(octets)
+    }
+
+    /// The algorithms that an iterator gives.
+    pub fn from_sec_algs<A: IntoIterator<Item = SecurityAlgorithm>>(
+        alloc: Global,
+        algorithms: A,
+    ) -> Result<Understood<K>, BuildDataError>
+        requires ends { (s : A.IntoIter) → A.into_iter_gives algorithms s → A.IntoIter.can_next s × IsFinite (A.IntoIter.remaining s) }
+        ensures { CollectedFrom A.into_iter_gives A.IntoIter.next_gives algorithms result }
+    {
+        let iterator = algorithms.into_iter();
+        let octets = collected(alloc, iterator)?;
+        Ok(HeldUnderstood::of(octets))
+    }
+
+    /// The octets.
+    pub fn as_octets(&self) -> &Vec<u8>
+        ensures { result.now.items ≡ self.now }
+    {
+        self.octets.as_vec()
+    }
+
+    /// The octets.
+    pub fn as_slice(&self) -> &[u8]
+        ensures value { result.now ≡ self.now }
+        ensures short { length self.now ≤ 65535 }
+    {
+        self.octets.as_slice()
+    }
+
+    /// The same list, borrowed.
+    pub fn for_slice(&self) -> UnderstoodRef<'_, K>
+        ensures { result ≡ self.now }
+    {
+        HeldUnderstood::of(self.octets.as_slice())
+    }
+
+    /// The algorithms, in order.
+    pub fn iter(&self) -> SecurityAlgorithmIter<'_>
+        ensures { result ≡ self.now }
+    {
+        SecurityAlgorithmIter::of(self.octets.as_slice())
+    }
+}
+
+impl<'a, K: Variant> IntoIterator for HeldUnderstood<&'a [u8], K> {
     type Item = SecurityAlgorithm;
 
     type IntoIter = SecurityAlgorithmIter<'a>;
@@ -176,7 +243,19 @@ impl<'a, K: Variant> IntoIterator for UnderstoodRef<'a, K> {
     }
 }
 
-impl<'a, K: Variant> OptData for UnderstoodRef<'a, K> {
+impl<'a, K: Variant> IntoIterator for &'a HeldUnderstood<Vec<u8>, K> {
+    type Item = SecurityAlgorithm;
+
+    type IntoIter = SecurityAlgorithmIter<'a>;
+
+    ghost into_iter_gives = { λ s r. r ≡ s.now };
+
+    fn into_iter(self) -> SecurityAlgorithmIter<'a> {
+        self.iter()
+    }
+}
+
+impl<S: HoldsOctets, K: Variant> OptData for HeldUnderstood<S, K> {
     ghost code_of = { λ _. K.number };
 
     fn code(&self) -> OptionCode {
@@ -184,7 +263,7 @@ impl<'a, K: Variant> OptData for UnderstoodRef<'a, K> {
     }
 }
 
-impl<'a, K: Variant> ParseOptData<'a> for UnderstoodRef<'a, K> {
+impl<'a, K: Variant> ParseOptData<'a> for HeldUnderstood<&'a [u8], K> {
     ghost takes = { for_code K.number list_data };
 
     fn parse_option(
@@ -199,47 +278,23 @@ impl<'a, K: Variant> ParseOptData<'a> for UnderstoodRef<'a, K> {
     }
 }
 
-impl<'a, K: Variant> ComposeOptData for UnderstoodRef<'a, K> {
+impl<S: HoldsOctets, K: Variant> ComposeOptData for HeldUnderstood<S, K> {
     ghost octets = { λ k. k };
 
     fn compose_len(&self) -> u16 {
-        self.octets.len() as u16
+        self.octets.as_slice().len() as u16
     }
 
     fn compose_option(&self, alloc: Global, target: &mut Vec<u8>) -> Result<(), OutOfMemory> {
-        target.extend_from_slice(self.octets)?;
+        target.extend_from_slice(self.octets.as_slice())?;
         Ok(())
     }
 }
 
-impl<'a, K: Variant> ReadBack<'a> for UnderstoodRef<'a, K> {
+impl<'a, K: Variant> ReadBack<'a> for HeldUnderstood<&'a [u8], K> {
     ghost is_readable = { λ k. nat_le (length k) 65535 };
 
     ghost comes_back = { list_again K.number };
-}
-
-impl<'a, K: Variant> PartialEq for UnderstoodRef<'a, K> {
-    ghost eq = { pointwise ◌==◌ };
-
-    ghost laws = { Prim.search (comparing, rules) };
-
-    fn eq(&self, other: &UnderstoodRef<'a, K>) -> bool {
-        self.octets == other.octets
-    }
-}
-
-impl<'a, K: Variant> Eq for UnderstoodRef<'a, K> {
-    ghost laws = { Prim.search (comparing, rules) };
-}
-
-impl<'a, K: Variant> Hash for UnderstoodRef<'a, K> {
-    ghost hash_input = { fed.slice fed.u8 };
-
-    ghost respects_eq = { Prim.search (hashing, rules) };
-
-    fn hash<H: Hasher>(&self, state: &mut H) {
-        self.octets.hash(state);
-    }
 }
 
 /// Writes numbers in decimal, each behind a comma and a space.
@@ -254,11 +309,11 @@ fn write_more<W: fmt::Write>(octets: &[u8], f: &mut fmt::Formatter<W>) -> fmt::R
     Ok(())
 }
 
-impl<'a, K: Variant> fmt::Display for UnderstoodRef<'a, K> {
+impl<S: HoldsOctets, K: Variant> fmt::Display for HeldUnderstood<S, K> {
     ghost output = { λ k. Some (numbers_text k) };
 
     fn fmt<W: fmt::Write>(&self, f: &mut fmt::Formatter<W>) -> fmt::Result {
-        let Some((number, more)) = self.octets.split_first() else {
+        let Some((number, more)) = self.octets.as_slice().split_first() else {
             return Ok(());
         };
         write!(f, "{number}")?;

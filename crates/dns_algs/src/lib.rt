@@ -2,15 +2,14 @@
 #![tactic(auto)]
 
 mod algsig;
+mod collect;
 mod iter;
-mod owned;
 
 pub use algsig::{
-    Dau, DauRef, DauVariant, Dhu, DhuRef, DhuVariant, N3u, N3uRef, N3uVariant, UnderstoodRef,
-    Variant,
+    Dau, DauRef, DauVariant, Dhu, DhuRef, DhuVariant, HeldUnderstood, N3u, N3uRef, N3uVariant,
+    Understood, UnderstoodRef, Variant,
 };
 pub use iter::SecurityAlgorithmIter;
-pub use owned::Understood;
 
 #[cfg(test)]
 mod tests;

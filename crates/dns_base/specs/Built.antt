@@ -97,3 +97,15 @@ IsLast Additional m = Unit {0}
 pub record NoSections (m : Msg) : Type 0 where
   pub questions : m.questions ≡ []
   pub records : NoRecords m
+
+-- how far a message reaches
+pub data Extent : Type 0 where
+  to_header : Extent
+  to_questions : Extent
+  to_records : Section → Extent
+
+-- what is behind that is empty
+abbrev pub IsWithin : Extent → Msg → Type 0
+IsWithin to_header m = NoSections m
+IsWithin to_questions m = NoRecords m
+IsWithin (to_records s) m = IsLast s m

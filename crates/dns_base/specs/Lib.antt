@@ -14,3 +14,4 @@ pub mod Built
 pub mod Replaced
 pub mod Draft
 pub mod Replies
+pub mod Rows

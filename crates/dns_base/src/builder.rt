@@ -1,13 +1,184 @@
-//! Builders of a message, one for each section that is built.
+//! Builders of a message, one for each stage.
+
+ghost use Rattle.std.specs.Prelude.{◌≡◌, ◌≤◌, length, min, IfOk};
+ghost use Rattle.dns_base.specs.Msg.{IsMessage, item_counts};
+ghost use Rattle.dns_base.specs.Wire.{wire};
+ghost use Rattle.dns_base.specs.Built.{with_header};
 
 mod additional;
-mod answer;
-mod authority;
 mod message;
 mod question;
+mod record;
+mod stage;
 
-pub use additional::AdditionalBuilder;
-pub use answer::AnswerBuilder;
-pub use authority::AuthorityBuilder;
-pub use message::MessageBuilder;
-pub use question::QuestionBuilder;
+use crate::draft::Draft;
+use crate::stream::StreamTarget;
+use dns_message::{Header, HeaderCounts, MessageRef};
+use dns_name::OutOfMemory;
+use stage::{
+    AdditionalStage, AnswerStage, AuthorityStage, Before, HeaderStage, QuestionStage, Stage,
+};
+use std::alloc::Global;
+use std::marker::{Model, PhantomData};
+
+/// A message that is being built, at a stage: what is behind that is empty.
+#[derive(Debug, Drop)]
+pub struct Builder<S: Stage> {
+    draft: Draft,
+    stage: PhantomData<S>,
+}
+
+impl<S: Stage> Model for Builder<S> {
+    ghost use Rattle.dns_base.specs.Built.{Built, IsWithin};
+
+    ghost Value = { Built };
+
+    ghost view = { λ b. b.draft };
+
+    ghost invariant = { λ b. IsWithin S.extent b.draft.message };
+}
+
+/// A message that nothing but a header was built of yet.
+pub type MessageBuilder = Builder<HeaderStage>;
+
+/// A message whose questions are being built.
+pub type QuestionBuilder = Builder<QuestionStage>;
+
+/// A message whose answer records are being built.
+pub type AnswerBuilder = Builder<AnswerStage>;
+
+/// A message whose authority records are being built.
+pub type AuthorityBuilder = Builder<AuthorityStage>;
+
+/// A message whose additional records are being built.
+pub type AdditionalBuilder = Builder<AdditionalStage>;
+
+impl<S: Before<QuestionStage>> Builder<S> {
+    /// The same message, at its questions.
+    pub fn question(self) -> QuestionBuilder
+        ensures { result ≡ self }
+    {
+        self.at()
+    }
+}
+
+impl<S: Before<AnswerStage>> Builder<S> {
+    /// The same message, at its answers.
+    pub fn answer(self) -> AnswerBuilder
+        ensures { result ≡ self }
+    {
+        self.at()
+    }
+}
+
+impl<S: Before<AuthorityStage>> Builder<S> {
+    /// The same message, at its authority records.
+    pub fn authority(self) -> AuthorityBuilder
+        ensures { result ≡ self }
+    {
+        self.at()
+    }
+}
+
+impl<S: Before<AdditionalStage>> Builder<S> {
+    /// The same message, at its additional records.
+    pub fn additional(self) -> AdditionalBuilder
+        ensures { result ≡ self }
+    {
+        self.at()
+    }
+}
+
+impl<S: Stage> Builder<S> {
+    /// The same message, at a later stage.
+    fn at<Later: Stage>(self) -> Builder<Later>
+    where
+        S: Before<Later>,
+        ensures { result ≡ self }
+    {
+        Builder {
+            draft: self.draft,
+            stage: PhantomData,
+        }
+    }
+
+    /// The header.
+    pub fn header(&self) -> Header
+        ensures { result ≡ self.now.message.header }
+    {
+        self.draft.header()
+    }
+
+    /// Sets the header.
+    pub fn set_header(&mut self, header: Header)
+        ensures { self.new ≡ with_header self.old header }
+    {
+        self.draft.set_header(header);
+    }
+
+    /// How many items each section has.
+    pub fn counts(&self) -> HeaderCounts
+        ensures { result ≡ item_counts self.now.message }
+    {
+        self.draft.counts()
+    }
+
+    /// How many octets the message may take; 65,535 where no limit is set.
+    pub fn push_limit(&self) -> usize
+        ensures value { result ≡ self.now.limit }
+        ensures limited { result ≤ 65535 }
+    {
+        self.draft.push_limit()
+    }
+
+    /// Lets the message take so many octets, at most 65,535.
+    pub fn set_push_limit(&mut self, limit: usize)
+        ensures { self.new ≡ record self.old { limit = min limit 65535 } }
+    {
+        self.draft.set_push_limit(limit);
+    }
+
+    /// Lets the message take 65,535 octets.
+    pub fn clear_push_limit(&mut self)
+        ensures { self.new ≡ record self.old { limit = 65535 } }
+    {
+        self.draft.set_push_limit(65535);
+    }
+
+    /// The message's octets.
+    pub fn as_slice(&self) -> &[u8]
+        ensures value { result.now ≡ wire self.now.message }
+        ensures lawful { IsMessage self.now.message }
+        ensures header { 12 ≤ length result.now }
+        ensures short { length result.now ≤ 65535 }
+    {
+        self.draft.as_slice()
+    }
+
+    /// The message, borrowed.
+    pub fn as_message(&self) -> MessageRef<'_>
+        ensures value { result ≡ wire self.now.message }
+        ensures lawful { IsMessage self.now.message }
+    {
+        self.draft.as_message()
+    }
+
+    /// A copy.
+    pub fn try_clone(&self, alloc: Global) -> Result<Builder<S>, OutOfMemory>
+        ensures { IfOk result (λ b. b ≡ self.now) }
+    {
+        let draft = self.draft.try_clone(alloc)?;
+        Ok(Builder {
+            draft,
+            stage: PhantomData,
+        })
+    }
+
+    /// The finished message.
+    pub fn finish(self) -> StreamTarget
+        ensures value { result ≡ wire self.message }
+        ensures lawful { IsMessage self.message }
+    {
+        self.draft.finish()
+    }
+}

@@ -21,7 +21,7 @@ use std::marker::Model;
 
 /// A section of records.
 #[derive(Clone, Copy, Debug)]
-pub(crate) enum Section {
+pub enum Section {
     Answer,
     Authority,
     Additional,

@@ -17,6 +17,3 @@ pub use call::{Call, Reply};
 pub use history::{Entry, Known, Share};
 pub use look::{Admission, Look};
 pub use state::BookState;
-
-#[cfg(test)]
-mod tests;

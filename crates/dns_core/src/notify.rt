@@ -4,7 +4,6 @@ ghost use Rattle.std.specs.Prelude.{◌≡◌, ℕ, suc, IfOk, OnOk, Option, Res
 ghost use Rattle.std.specs.Arc.{arc_value};
 ghost use Rattle.dns_name.specs.declared.name.Name.{Name};
 ghost use Rattle.dns_name.specs.declared.address.IpAddr.{IpAddr};
-ghost use Rattle.dns_name.specs.declared.iana.Class.{Class};
 ghost use Rattle.dns_name.specs.declared.serial.Serial.{Serial};
 ghost use Rattle.dns_service.specs.Answer.{IfPending};
 ghost use Rattle.dns_service.specs.declared.service.Polled.{Polled};
@@ -38,7 +37,7 @@ pub trait Notifiable: Drop {
     type Future: VerdictFuture;
 
     /// The verdict at poll k, by class, name of the zone, serial where there is one, and sender.
-    ghost verdict: { Self → Class → Name → Option Serial → IpAddr → ℕ → Polled (Result (Unit {0}) NotifyError) };
+    ghost verdict: { Self → ℕ → Name → Option Serial → IpAddr → ℕ → Polled (Result (Unit {0}) NotifyError) };
 
     fn notify_zone_changed(
         &self,

@@ -1,9 +1,7 @@
 -- EXTENDED-ERROR (RFC 8914, section 2).
-use Rattle.std.specs.Prelude.{◌≡◌, ℕ, ◌+◌, ◌<◌, ◌≤◌, List, [], ◌∷◌, ◌++◌, length, Option, Some, None, Result, Ok, Err, nat_lt, encode_utf8_all, option_map, if◌then◌else◌}
+use Rattle.std.specs.Prelude.{◌≡◌, ℕ, ◌+◌, ◌<◌, ◌≤◌, List, [], ◌∷◌, ◌++◌, length, Option, Some, None, Result, Ok, Err, nat_lt, encode_utf8_all, if◌then◌else◌}
 use Rattle.std.specs.Borrow.{Bor}
 use Rattle.std.specs.Fmt.{decimal}
-use Rattle.std.specs.declared.vec.Vec.{Vec}
-use Rattle.std.specs.declared.alloc.Global.{Global}
 use Rattle.std.specs.Str.{IsUtf8}
 use Rattle.bstr.specs.Utf8.{lossy_chars}
 use Rattle.dns_name.specs.declared.error.ParseError.{ParseError}
@@ -76,10 +74,6 @@ text_shown (Some t) = 32 ∷ encode_utf8_all (lossy_chars t)
 -- the code in decimal, and the text
 abbrev pub extended_text : Extended → List ℕ
 extended_text k = decimal k.code ++ text_shown k.text
-
--- the octets of a vector, where there is one
-abbrev pub vec_text : Option (Vec ℕ Global) → Option (List ℕ)
-vec_text t = option_map (λ v. v.items) t
 
 -- octets are read whole, or refused
 abbrev pub IsRead : List ℕ → Taken Extended → Result Extended ParseError → Type 0

@@ -9,4 +9,3 @@ pub mod Subnet
 pub mod Chains
 pub mod Again
 pub mod Clears
-pub mod Same

@@ -12,8 +12,8 @@ ghost use Rattle.dns_kinds.specs.Again.{chain_again};
 ghost use Rattle.dns_kinds.specs.Chains.{chain_data, hashed_name, is_name, name_order, same_hashed};
 
 use dns_name::{
-    ComposeOptData, Name, NameRef, OptData, OptionCode, OutOfMemory, ParseError, ParseOptData,
-    Parser, ReadBack,
+    ComposeOptData, HoldsName, Name, NameRef, OptData, OptionCode, OutOfMemory, ParseError,
+    ParseOptData, Parser, ReadBack,
 };
 use std::alloc::Global;
 use std::cmp::Ordering;
@@ -22,62 +22,56 @@ use std::hash::{Hash, Hasher};
 use std::marker::Model;
 
 /// The name, owned, that contracts see as its labels.
-#[derive(Debug, Drop)]
-pub struct Chain {
-    start: Name,
-}
-
-impl Model for Chain {
-    ghost use Rattle.std.specs.Prelude.{List, ℕ};
-
-    ghost Value = { List (List ℕ) };
-
-    ghost view = { λ k. k.start };
-}
+pub type Chain = HeldChain<Name>;
 
 /// The name, borrowed, that contracts see as its labels.
+pub type ChainRef<'a> = HeldChain<NameRef<'a>>;
+
+/// The name in N, that contracts see as its labels.
 #[derive(Debug, Drop)]
-pub struct ChainRef<'a> {
-    start: NameRef<'a>,
+pub struct HeldChain<N: HoldsName> {
+    start: N,
 }
 
-impl<'a> Model for ChainRef<'a> {
+impl<N: HoldsName> Model for HeldChain<N> {
     ghost use Rattle.std.specs.Prelude.{List, ℕ};
 
     ghost Value = { List (List ℕ) };
 
-    ghost view = { λ k. k.start };
+    ghost view = { λ k. N.labels k.start };
 }
 
-impl<'a> ChainRef<'a> {
-    pub fn new(start: NameRef<'a>) -> ChainRef<'a>
-        ensures { result ≡ start.entry }
+impl<N: HoldsName> HeldChain<N> {
+    pub fn new(start: N) -> HeldChain<N>
+        ensures { result ≡ N.labels start }
     {
-        ChainRef { start }
+        HeldChain { start }
     }
 
     /// The name.
-    pub fn start(&self) -> &NameRef<'a>
-        ensures { result.now ≡ self.now }
+    pub fn start(&self) -> &N
+        ensures { N.labels result.now ≡ self.now }
     {
         &self.start
     }
 
     /// The name.
-    pub fn into_start(self) -> NameRef<'a>
-        ensures { result ≡ self.entry }
+    pub fn into_start(self) -> N
+        ensures { N.labels result ≡ self }
     {
-        let ChainRef { start } = self;
+        let HeldChain { start } = self;
         start
     }
+}
 
+impl<'a> HeldChain<NameRef<'a>> {
     /// Reads one uncompressed name.
     pub fn parse(parser: &mut Parser<'a>) -> Result<ChainRef<'a>, ParseError>
         ensures { ParsesData (chain_data (rest parser.old)) parser.old parser.new result }
     {
         let (start, taken) = NameRef::at(parser.peek_all(), 0)?;
         parser.advance(taken)?;
-        Ok(ChainRef { start })
+        Ok(HeldChain { start })
     }
 
     /// The same name, owned.
@@ -85,43 +79,22 @@ impl<'a> ChainRef<'a> {
         ensures { IfOk result (λ k. k ≡ self.now) }
     {
         let start = self.start.to_owned(alloc)?;
-        Ok(Chain { start })
+        Ok(HeldChain { start })
     }
 }
 
-impl Chain {
-    pub fn new(start: Name) -> Chain
-        ensures { result ≡ start }
-    {
-        Chain { start }
-    }
-
-    /// The name.
-    pub fn start(&self) -> &Name
-        ensures { result.now ≡ self.now }
-    {
-        &self.start
-    }
-
-    /// The name.
-    pub fn into_start(self) -> Name
-        ensures { result ≡ self }
-    {
-        let Chain { start } = self;
-        start
-    }
-
+impl HeldChain<Name> {
     /// The same name, borrowed.
     pub fn for_slice(&self) -> ChainRef<'_>
         ensures { result ≡ self.now }
     {
-        ChainRef {
+        HeldChain {
             start: self.start.for_ref(),
         }
     }
 }
 
-impl<'a> OptData for ChainRef<'a> {
+impl<N: HoldsName> OptData for HeldChain<N> {
     ghost code_of = { λ _. 13 };
 
     fn code(&self) -> OptionCode {
@@ -129,15 +102,7 @@ impl<'a> OptData for ChainRef<'a> {
     }
 }
 
-impl OptData for Chain {
-    ghost code_of = { λ _. 13 };
-
-    fn code(&self) -> OptionCode {
-        OptionCode::CHAIN
-    }
-}
-
-impl<'a> ParseOptData<'a> for ChainRef<'a> {
+impl<'a> ParseOptData<'a> for HeldChain<NameRef<'a>> {
     ghost takes = { for_code 13 chain_data };
 
     fn parse_option(
@@ -152,61 +117,49 @@ impl<'a> ParseOptData<'a> for ChainRef<'a> {
     }
 }
 
-impl<'a> ComposeOptData for ChainRef<'a> {
+impl<N: HoldsName> ComposeOptData for HeldChain<N> {
     ghost octets = { spell };
 
     fn compose_len(&self) -> u16 {
-        self.start.compose_len()
+        self.start.as_name().compose_len()
     }
 
     fn compose_option(&self, alloc: Global, target: &mut Vec<u8>) -> Result<(), OutOfMemory> {
-        self.start.compose(alloc, target)
+        self.start.as_name().compose(alloc, target)
     }
 }
 
-impl ComposeOptData for Chain {
-    ghost octets = { spell };
-
-    fn compose_len(&self) -> u16 {
-        self.start.compose_len()
-    }
-
-    fn compose_option(&self, alloc: Global, target: &mut Vec<u8>) -> Result<(), OutOfMemory> {
-        self.start.compose(alloc, target)
-    }
-}
-
-impl<'a> ReadBack<'a> for ChainRef<'a> {
+impl<'a> ReadBack<'a> for HeldChain<NameRef<'a>> {
     ghost is_readable = { is_name };
 
     ghost comes_back = { chain_again };
 }
 
-impl<'a> PartialEq for ChainRef<'a> {
+impl<N: HoldsName> PartialEq for HeldChain<N> {
     ghost eq = { same_name };
 
     ghost laws = { partial_equiv_from_equiv same_name_equiv };
 
-    fn eq(&self, other: &ChainRef<'a>) -> bool {
-        same(&self.start, &other.start)
+    fn eq(&self, other: &HeldChain<N>) -> bool {
+        same(&self.start.as_name(), &other.start.as_name())
     }
 }
 
-impl<'a> Eq for ChainRef<'a> {
+impl<N: HoldsName> Eq for HeldChain<N> {
     ghost laws = { same_name_equiv };
 }
 
-impl<'a> Hash for ChainRef<'a> {
+impl<N: HoldsName> Hash for HeldChain<N> {
     ghost hash_input = { hashed_name };
 
     ghost respects_eq = { same_hashed };
 
     fn hash<H: Hasher>(&self, state: &mut H) {
-        hash_name(&self.start, state);
+        hash_name(&self.start.as_name(), state);
     }
 }
 
-impl<'a> Ord for ChainRef<'a> {
+impl<N: HoldsName> Ord for HeldChain<N> {
     ghost cmp = { name_cmp };
 
     ghost total = { name_cmp_total };
@@ -215,83 +168,26 @@ impl<'a> Ord for ChainRef<'a> {
 
     ghost matches_eq = { same_name_ties };
 
-    fn cmp(&self, other: &ChainRef<'a>) -> Ordering {
-        self.start.name_cmp(&other.start)
+    fn cmp(&self, other: &HeldChain<N>) -> Ordering {
+        self.start.as_name().name_cmp(&other.start.as_name())
     }
 }
 
-impl<'a> PartialOrd for ChainRef<'a> {
+impl<N: HoldsName> PartialOrd for HeldChain<N> {
     ghost partial_cmp = { as_partial_cmp name_cmp };
 
     ghost laws = { name_order };
 
-    fn partial_cmp(&self, other: &ChainRef<'a>) -> Option<Ordering> {
+    fn partial_cmp(&self, other: &HeldChain<N>) -> Option<Ordering> {
         Some(self.cmp(other))
     }
 }
 
-impl<'a> fmt::Display for ChainRef<'a> {
+impl<N: HoldsName> fmt::Display for HeldChain<N> {
     ghost output = { λ k. Some (name_text k) };
 
     fn fmt<W: fmt::Write>(&self, f: &mut fmt::Formatter<W>) -> fmt::Result {
-        let start = &self.start;
-        write!(f, "{start}")
-    }
-}
-
-impl PartialEq for Chain {
-    ghost eq = { same_name };
-
-    ghost laws = { partial_equiv_from_equiv same_name_equiv };
-
-    fn eq(&self, other: &Chain) -> bool {
-        same(&self.start.for_ref(), &other.start.for_ref())
-    }
-}
-
-impl Eq for Chain {
-    ghost laws = { same_name_equiv };
-}
-
-impl Hash for Chain {
-    ghost hash_input = { hashed_name };
-
-    ghost respects_eq = { same_hashed };
-
-    fn hash<H: Hasher>(&self, state: &mut H) {
-        hash_name(&self.start.for_ref(), state);
-    }
-}
-
-impl Ord for Chain {
-    ghost cmp = { name_cmp };
-
-    ghost total = { name_cmp_total };
-
-    ghost matches_partial_cmp = { λ a b. refl };
-
-    ghost matches_eq = { same_name_ties };
-
-    fn cmp(&self, other: &Chain) -> Ordering {
-        self.start.name_cmp(&other.start.for_ref())
-    }
-}
-
-impl PartialOrd for Chain {
-    ghost partial_cmp = { as_partial_cmp name_cmp };
-
-    ghost laws = { name_order };
-
-    fn partial_cmp(&self, other: &Chain) -> Option<Ordering> {
-        Some(self.cmp(other))
-    }
-}
-
-impl fmt::Display for Chain {
-    ghost output = { λ k. Some (name_text k) };
-
-    fn fmt<W: fmt::Write>(&self, f: &mut fmt::Formatter<W>) -> fmt::Result {
-        let start = &self.start;
+        let start = self.start.as_name();
         write!(f, "{start}")
     }
 }

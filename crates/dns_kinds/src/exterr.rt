@@ -1,69 +1,67 @@
-//! EXTENDED-ERROR: why an answer is as it is (RFC 8914), borrowed.
+//! EXTENDED-ERROR: why an answer is as it is (RFC 8914), owned or borrowed.
 
 ghost use Rattle.std.specs.Prelude.{◌≡◌, ◌≤◌, ◌<◌, ◌+◌, ◌++◌, ◌↔◌, length, Some, None, IsTrue, IfOk, MatchResult, option_map};
-ghost use Rattle.std.specs.Cmp.{partial_equiv_from_equiv};
-ghost use Rattle.std.specs.Cmp.Rules.{hashing};
-ghost use Rattle.std.specs.Hash as fed;
 ghost use Rattle.std.specs.Option.{option_copied};
-ghost use Rattle.std.proofs.Common.{rules};
 ghost use Rattle.dns_name.specs.OptData.{ParsesData, for_code};
 ghost use Rattle.dns_name.specs.Place.{rest};
 ghost use Rattle.dns_kinds.specs.Again.{extended_again, is_extended};
-ghost use Rattle.dns_kinds.specs.Extended.{Fits, IsRead, Made, ReadsText, extended, extended_data, extended_octets, extended_text, text_octets, text_shown};
-ghost use Rattle.dns_kinds.specs.Same.{same_extended, same_extended_equiv};
+ghost use Rattle.dns_kinds.specs.Extended.{Copied, Fits, IsRead, Made, ReadsText, extended, extended_data, extended_octets, extended_text, text_octets, text_shown};
 
-use crate::exterr_owned::ExtendedError;
 use bstr::BStr;
 use dns_name::{
-    ComposeOptData, ExtendedErrorCode, FormReason, LongOptData, OptData, OptionCode, OutOfMemory,
-    ParseError, ParseOptData, Parser, ReadBack,
+    BuildDataError, ComposeOptData, ExtendedErrorCode, FormReason, Held, HoldsOctets, LongOptData,
+    OptData, OptionCode, OutOfMemory, ParseError, ParseOptData, Parser, ReadBack,
 };
 use std::alloc::Global;
 use std::fmt;
-use std::hash::{Hash, Hasher};
 use std::marker::Model;
 
+/// A code and a text, owned.
+pub type ExtendedError = HeldExtendedError<Vec<u8>>;
+
 /// A code and a text, borrowed.
-#[derive(Clone, Debug, Drop)]
-pub struct ExtendedErrorRef<'a> {
+pub type ExtendedErrorRef<'a> = HeldExtendedError<&'a [u8]>;
+
+/// A code and a text in S.
+#[derive(Drop)]
+#[derive_where(Debug, PartialEq, Eq, Hash)]
+#[derive_where(Clone; S: Copy)]
+pub struct HeldExtendedError<S: HoldsOctets> {
     code: ExtendedErrorCode,
-    text: Option<&'a [u8]>,
+    text: Option<Held<S>>,
 }
 
-impl<'a> Model for ExtendedErrorRef<'a> {
-    ghost use Rattle.std.specs.Option.{option_copied};
+impl<S: HoldsOctets> Model for HeldExtendedError<S> {
     ghost use Rattle.dns_kinds.specs.Extended.{Extended, Fits, extended};
 
     ghost Value = { Extended };
 
-    ghost view = { λ k. extended k.code (option_copied k.text) };
+    ghost view = { λ k. extended k.code k.text };
 
-    ghost invariant = { λ k. Fits (option_copied k.text) };
+    ghost inverse = { λ e. record { code = e.code; text = e.text } };
+
+    ghost invariant = { λ k. Fits k.text };
 }
 
-impl<'a> ExtendedErrorRef<'a> {
-    /// A code and a text of any octets.
+impl<S: HoldsOctets> HeldExtendedError<S> {
+    /// A code and a text of any octets, which are not copied.
     pub fn new(
         code: ExtendedErrorCode,
-        text: Option<&'a [u8]>,
-    ) -> Result<ExtendedErrorRef<'a>, LongOptData>
-        ensures { Made code (option_copied text.entry) result }
+        text: Option<S>,
+    ) -> Result<HeldExtendedError<S>, LongOptData>
+        ensures { Made code (option_map S.octets text) result }
     {
-        let len = match text {
-            Some(octets) => octets.len(),
-            None => 0,
+        let Some(text) = text else {
+            return Ok(HeldExtendedError { code, text: None });
         };
-        if len > 65533 {
+        let text = Held::of(text);
+        if text.as_slice().len() > 65533 {
             return Err(LongOptData);
         }
-        Ok(ExtendedErrorRef { code, text })
-    }
-
-    pub(crate) fn within(code: ExtendedErrorCode, text: Option<&'a [u8]>) -> ExtendedErrorRef<'a>
-        requires { Fits (option_copied text) }
-        ensures { result ≡ extended code (option_copied text.entry) }
-    {
-        ExtendedErrorRef { code, text }
+        Ok(HeldExtendedError {
+            code,
+            text: Some(text),
+        })
     }
 
     /// The code.
@@ -73,11 +71,20 @@ impl<'a> ExtendedErrorRef<'a> {
         self.code
     }
 
+    /// Whether the code is one for private use (RFC 8914, section 5.2).
+    pub fn is_private(&self) -> bool
+        ensures { IsTrue result ↔ (49152 ≤ self.now.code) }
+    {
+        self.code.to_int() >= 49152
+    }
+}
+
+impl<'a> HeldExtendedError<&'a [u8]> {
     /// The text, or the octets where they are no UTF-8.
     pub fn text(&self) -> Option<Result<&'a str, &'a [u8]>>
         ensures { ReadsText self.now.text result }
     {
-        let octets = self.text?;
+        let octets = self.text_slice()?;
         match str::from_utf8(octets) {
             Ok(text) => Some(Ok(text)),
             Err(_) => Some(Err(octets)),
@@ -88,14 +95,10 @@ impl<'a> ExtendedErrorRef<'a> {
     pub fn text_slice(&self) -> Option<&'a [u8]>
         ensures { option_copied result ≡ self.now.text }
     {
-        self.text
-    }
-
-    /// Whether the code is one for private use (RFC 8914, section 5.2).
-    pub fn is_private(&self) -> bool
-        ensures { IsTrue result ↔ (49152 ≤ self.now.code) }
-    {
-        self.code.to_int() >= 49152
+        match &self.text {
+            Some(text) => Some(text.lent()),
+            None => None,
+        }
     }
 
     /// Reads a code and all that is left as its text.
@@ -111,11 +114,15 @@ impl<'a> ExtendedErrorRef<'a> {
     pub fn to_owned(&self, alloc: Global) -> Result<ExtendedError, OutOfMemory>
         ensures { IfOk result (λ k. k ≡ self.now) }
     {
-        let Some(octets) = self.text else {
-            return Ok(ExtendedError::within(self.code, None));
+        let code = self.code;
+        let Some(text) = self.text_slice() else {
+            return Ok(HeldExtendedError { code, text: None });
         };
-        let octets = Vec::from_slice(alloc, octets)?;
-        Ok(ExtendedError::within(self.code, Some(octets)))
+        let text = Vec::from_slice(alloc, text)?;
+        Ok(HeldExtendedError {
+            code,
+            text: Some(Held::of(text)),
+        })
     }
 }
 
@@ -131,15 +138,107 @@ fn of_octets(octets: &[u8]) -> Result<ExtendedErrorRef<'_>, ParseError>
     };
     let code = ExtendedErrorCode::from_int(256 * *high as u16 + *low as u16);
     if text.is_empty() {
-        return Ok(ExtendedErrorRef { code, text: None });
+        return Ok(HeldExtendedError { code, text: None });
     }
-    Ok(ExtendedErrorRef {
+    Ok(HeldExtendedError {
         code,
-        text: Some(text),
+        text: Some(Held::of(text)),
     })
 }
 
-impl<'a> OptData for ExtendedErrorRef<'a> {
+impl HeldExtendedError<Vec<u8>> {
+    /// A code and a text, which is copied.
+    pub fn new_with_str(
+        alloc: Global,
+        code: ExtendedErrorCode,
+        text: &str,
+    ) -> Result<ExtendedError, BuildDataError>
+        ensures { Copied code text.now result }
+    {
+        if text.len() > 65533 {
+            return Err(BuildDataError::LongOptData);
+        }
+        let octets = Vec::from_slice(alloc, text.as_bytes())?;
+        Ok(HeldExtendedError {
+            code,
+            text: Some(Held::of(octets)),
+        })
+    }
+
+    /// The text, or the octets where they are no UTF-8.
+    pub fn text(&self) -> Option<Result<&str, &[u8]>>
+        ensures { ReadsText self.now.text result }
+    {
+        self.for_slice().text()
+    }
+
+    /// The text's octets.
+    pub fn text_slice(&self) -> Option<&[u8]>
+        ensures { option_copied result ≡ self.now.text }
+    {
+        match &self.text {
+            Some(text) => Some(text.as_slice()),
+            None => None,
+        }
+    }
+
+    /// Sets the text, which is not copied. A refused call leaves the value.
+    pub fn set_text(&mut self, text: Vec<u8>) -> Result<(), LongOptData>
+        ensures { MatchResult result (λ _. (length text.items ≤ 65533) × (self.new ≡ extended self.old.code (Some text.items))) (λ _. (65533 < length text.items) × (self.new ≡ self.old)) }
+    {
+        if text.len() > 65533 {
+            return Err(LongOptData);
+        }
+        self.text = Some(Held::of(text));
+        Ok(())
+    }
+
+    /// The same value, borrowed.
+    pub fn for_slice(&self) -> ExtendedErrorRef<'_>
+        ensures { result ≡ self.now }
+    {
+        let code = self.code;
+        match self.text_slice() {
+            None => HeldExtendedError { code, text: None },
+            Some(text) => HeldExtendedError {
+                code,
+                text: Some(Held::of(text)),
+            },
+        }
+    }
+}
+
+impl From<ExtendedErrorCode> for HeldExtendedError<Vec<u8>> {
+    ghost from_gives = { λ c k. k ≡ extended c None };
+
+    fn from(code: ExtendedErrorCode) -> Self {
+        HeldExtendedError { code, text: None }
+    }
+}
+
+impl From<u16> for HeldExtendedError<Vec<u8>> {
+    ghost from_gives = { λ c k. k ≡ extended c None };
+
+    fn from(code: u16) -> Self {
+        HeldExtendedError {
+            code: ExtendedErrorCode::from_int(code),
+            text: None,
+        }
+    }
+}
+
+impl TryFrom<(ExtendedErrorCode, Vec<u8>)> for HeldExtendedError<Vec<u8>> {
+    type Error = LongOptData;
+
+    ghost try_from_gives = { λ p result. Made p.0 (Some p.1.items) result };
+
+    fn try_from(parts: (ExtendedErrorCode, Vec<u8>)) -> Result<ExtendedError, LongOptData> {
+        let (code, text) = parts;
+        ExtendedError::new(code, Some(text))
+    }
+}
+
+impl<S: HoldsOctets> OptData for HeldExtendedError<S> {
     ghost code_of = { λ _. 15 };
 
     fn code(&self) -> OptionCode {
@@ -147,32 +246,7 @@ impl<'a> OptData for ExtendedErrorRef<'a> {
     }
 }
 
-impl<'a> PartialEq for ExtendedErrorRef<'a> {
-    ghost eq = { same_extended };
-
-    ghost laws = { partial_equiv_from_equiv same_extended_equiv };
-
-    fn eq(&self, other: &ExtendedErrorRef<'a>) -> bool {
-        self.code == other.code && self.text_slice() == other.text_slice()
-    }
-}
-
-impl<'a> Eq for ExtendedErrorRef<'a> {
-    ghost laws = { same_extended_equiv };
-}
-
-impl<'a> Hash for ExtendedErrorRef<'a> {
-    ghost hash_input = { λ k. fed.u16 k.code ++ fed.option (fed.slice fed.u8) k.text };
-
-    ghost respects_eq = { Prim.search (hashing, rules) };
-
-    fn hash<H: Hasher>(&self, state: &mut H) {
-        self.code.to_int().hash(state);
-        self.text_slice().hash(state);
-    }
-}
-
-impl<'a> ParseOptData<'a> for ExtendedErrorRef<'a> {
+impl<'a> ParseOptData<'a> for HeldExtendedError<&'a [u8]> {
     ghost takes = { for_code 15 extended_data };
 
     fn parse_option(
@@ -187,13 +261,13 @@ impl<'a> ParseOptData<'a> for ExtendedErrorRef<'a> {
     }
 }
 
-impl<'a> ComposeOptData for ExtendedErrorRef<'a> {
+impl<S: HoldsOctets> ComposeOptData for HeldExtendedError<S> {
     ghost octets = { extended_octets };
 
     fn compose_len(&self) -> u16 {
-        match self.text {
+        match &self.text {
             None => 2,
-            Some(octets) => octets.len() as u16 + 2,
+            Some(text) => text.as_slice().len() as u16 + 2,
         }
     }
 
@@ -201,29 +275,29 @@ impl<'a> ComposeOptData for ExtendedErrorRef<'a> {
         let code = self.code.to_int();
         target.reserve(self.compose_len() as usize)?;
         target.extend_from_slice(&[(code / 256) as u8, (code % 256) as u8])?;
-        let Some(octets) = self.text else {
+        let Some(text) = &self.text else {
             return Ok(());
         };
-        target.extend_from_slice(octets)?;
+        target.extend_from_slice(text.as_slice())?;
         Ok(())
     }
 }
 
-impl<'a> ReadBack<'a> for ExtendedErrorRef<'a> {
+impl<'a> ReadBack<'a> for HeldExtendedError<&'a [u8]> {
     ghost is_readable = { is_extended };
 
     ghost comes_back = { extended_again };
 }
 
-impl<'a> fmt::Display for ExtendedErrorRef<'a> {
+impl<S: HoldsOctets> fmt::Display for HeldExtendedError<S> {
     ghost output = { λ k. Some (extended_text k) };
 
     fn fmt<W: fmt::Write>(&self, f: &mut fmt::Formatter<W>) -> fmt::Result {
         let code = self.code.to_int();
-        match self.text {
+        match &self.text {
             None => write!(f, "{code}"),
-            Some(octets) => {
-                let text = BStr::new(octets);
+            Some(text) => {
+                let text = BStr::new(text.as_slice());
                 write!(f, "{code} {text}")
             }
         }

@@ -5,16 +5,14 @@
 mod chain;
 mod expire;
 mod exterr;
-mod exterr_owned;
 mod keepalive;
 mod laws;
 mod mask;
 mod subnet;
 
-pub use chain::{Chain, ChainRef};
+pub use chain::{Chain, ChainRef, HeldChain};
 pub use expire::Expire;
-pub use exterr::ExtendedErrorRef;
-pub use exterr_owned::ExtendedError;
+pub use exterr::{ExtendedError, ExtendedErrorRef, HeldExtendedError};
 pub use keepalive::{FromDurationError, IdleTimeout, TcpKeepalive};
 pub use laws::masking_twice_is_masking_once;
 pub use subnet::ClientSubnet;

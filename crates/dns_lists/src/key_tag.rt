@@ -1,33 +1,24 @@
-//! Key tags, borrowed.
+//! Key tags, owned or borrowed.
 
-ghost use Rattle.std.specs.Prelude.{◌≡◌, ◌≤◌, ◌<◌, ◌%◌, ◌++◌, ◌==◌, ◌&&◌, ℕ, List, length, nat_le, nat_eq, Some, Ok, Err, IfOk, OnOk, MatchResult};
-ghost use Rattle.std.specs.Cmp.{partial_order_from_own_ties};
-ghost use Rattle.std.specs.Cmp.Rules.{comparing, hashing};
-ghost use Rattle.std.specs.Cmp.Lexicographic.{pointwise, slice_cmp};
+ghost use Rattle.std.specs.Prelude.{◌≡◌, ◌≤◌, ◌<◌, ◌%◌, ◌++◌, ◌&&◌, ℕ, List, length, nat_le, nat_eq, Some, Ok, Err, IfOk, OnOk, MatchResult};
 ghost use Rattle.std.specs.Fmt.{WritesOnOk};
-ghost use Rattle.std.specs.Hash as fed;
 ghost use Rattle.std.specs.Iterator.{YieldsFirst, item_count};
-ghost use Rattle.std.specs.Ordering.{nat_cmp, as_partial_cmp};
-ghost use Rattle.std.proofs.Common.{rules};
 ghost use Rattle.dns_name.specs.OptData.{ParsesData, for_code};
 ghost use Rattle.dns_name.specs.Place.{rest};
 ghost use Rattle.dns_lists.specs.Again.{tags_again};
 ghost use Rattle.dns_lists.specs.Tags.{AreTags, tag_data, tag_octets, tags};
 ghost use Rattle.dns_lists.specs.Texts.{more_text, numbers_text};
 
-use crate::key_tag_owned::KeyTag;
 use dns_name::{
-    ComposeOptData, FormReason, OptData, OptionCode, OutOfMemory, ParseError, ParseOptData, Parser,
-    ReadBack,
+    ComposeOptData, FormReason, Held, HoldsOctets, OptData, OptionCode, OutOfMemory, ParseError,
+    ParseOptData, Parser, ReadBack,
 };
 use std::alloc::Global;
-use std::cmp::Ordering;
 use std::fmt;
-use std::hash::{Hash, Hasher};
 use std::marker::Model;
 
 /// Whether octets are tags.
-pub(crate) fn check(octets: &[u8]) -> Result<(), ParseError>
+fn check(octets: &[u8]) -> Result<(), ParseError>
     ensures { MatchResult result (λ _. AreTags octets.now × (tag_octets octets.now ≡ Ok octets.now)) (λ e. tag_octets octets.now ≡ Err e) }
 {
     if octets.len() > 65535 {
@@ -39,37 +30,59 @@ pub(crate) fn check(octets: &[u8]) -> Result<(), ParseError>
     Ok(())
 }
 
+/// Key tags of two octets each, owned.
+pub type KeyTag = HeldKeyTag<Vec<u8>>;
+
 /// Key tags of two octets each, borrowed.
-#[derive(Clone, Debug, Drop)]
-pub struct KeyTagRef<'a> {
-    octets: &'a [u8],
+pub type KeyTagRef<'a> = HeldKeyTag<&'a [u8]>;
+
+/// Key tags of two octets each in S.
+#[derive(Drop)]
+#[derive_where(Debug, PartialEq, Eq, PartialOrd, Ord, Hash)]
+#[derive_where(Clone; S: Copy)]
+pub struct HeldKeyTag<S: HoldsOctets> {
+    octets: Held<S>,
 }
 
-impl<'a> Model for KeyTagRef<'a> {
+impl<S: HoldsOctets> Model for HeldKeyTag<S> {
     ghost use Rattle.std.specs.Prelude.{List, ℕ};
     ghost use Rattle.dns_lists.specs.Tags.{AreTags};
 
     ghost Value = { List ℕ };
 
-    ghost view = { λ k. k.octets.now };
+    ghost view = { λ k. k.octets };
 
-    ghost invariant = { λ k. AreTags k.octets.now };
+    ghost inverse = { λ l. record { octets = l } };
+
+    ghost invariant = { λ k. AreTags k.octets };
 }
 
-impl<'a> KeyTagRef<'a> {
+impl<S: HoldsOctets> HeldKeyTag<S> {
+    fn of(octets: S) -> HeldKeyTag<S>
+        requires { AreTags (S.octets octets) }
+        ensures { result ≡ S.octets octets }
+    {
+        HeldKeyTag {
+            octets: Held::of(octets),
+        }
+    }
+
+    /// Gives the octets back, which are not copied.
+    pub fn into_octets(self) -> S
+        ensures { S.octets result ≡ self }
+    {
+        let HeldKeyTag { octets } = self;
+        octets.into_inner()
+    }
+}
+
+impl<'a> HeldKeyTag<&'a [u8]> {
     /// The tags of a slice.
     pub fn from_slice(octets: &'a [u8]) -> Result<KeyTagRef<'a>, ParseError>
         ensures { result ≡ tag_octets octets.now }
     {
         check(octets)?;
-        Ok(KeyTagRef::within(octets))
-    }
-
-    pub(crate) fn within(octets: &'a [u8]) -> KeyTagRef<'a>
-        requires { AreTags octets.now }
-        ensures { result ≡ octets.now }
-    {
-        KeyTagRef { octets }
+        Ok(HeldKeyTag::of(octets))
     }
 
     /// The tags that are left in a parser: all its octets.
@@ -86,14 +99,7 @@ impl<'a> KeyTagRef<'a> {
         ensures value { result.now ≡ self.now }
         ensures tags { AreTags self.now }
     {
-        self.octets
-    }
-
-    /// The octets.
-    pub fn into_octets(self) -> &'a [u8]
-        ensures { result.now ≡ self.entry }
-    {
-        self.octets
+        self.octets.lent()
     }
 
     /// The octets.
@@ -101,26 +107,76 @@ impl<'a> KeyTagRef<'a> {
         ensures value { result.now ≡ self.now }
         ensures tags { AreTags self.now }
     {
-        self.octets
+        self.octets.lent()
     }
 
     /// The tags, in order.
     pub fn iter(&self) -> KeyTagIter<'a>
         ensures { result ≡ tags self.now }
     {
-        KeyTagIter::of(self.octets)
+        KeyTagIter::of(self.octets.lent())
     }
 
     /// The same tags, owned.
     pub fn to_owned(&self, alloc: Global) -> Result<KeyTag, OutOfMemory>
         ensures { IfOk result (λ k. k ≡ self.now) }
     {
-        let octets = Vec::from_slice(alloc, self.octets)?;
-        Ok(KeyTag::of(octets))
+        let octets = Vec::from_slice(alloc, self.octets.lent())?;
+        Ok(HeldKeyTag::of(octets))
     }
 }
 
-impl<'a> IntoIterator for KeyTagRef<'a> {
+impl HeldKeyTag<Vec<u8>> {
+    ghost use Rattle.std.specs.Borrow.{sem};
+    ghost use Rattle.dns_lists.specs.Lending.{LendsTags};
+
+    /// The tags of a vector, which is not copied.
+    pub fn from_octets(octets: Vec<u8>) -> Result<KeyTag, ParseError>
+        ensures { result ≡ tag_octets octets.items }
+    {
+        check(octets.as_slice())?;
+        Ok(HeldKeyTag::of(octets))
+    }
+
+    /// The octets.
+    pub fn as_octets(&self) -> &Vec<u8>
+        ensures { result.now.items ≡ self.now }
+    {
+        self.octets.as_vec()
+    }
+
+    /// The octets.
+    pub fn as_slice(&self) -> &[u8]
+        ensures value { result.now ≡ self.now }
+        ensures tags { AreTags self.now }
+    {
+        self.octets.as_slice()
+    }
+
+    /// The same tags, borrowed.
+    pub fn for_slice(&self) -> KeyTagRef<'_>
+        ensures { result ≡ self.now }
+    {
+        HeldKeyTag::of(self.octets.as_slice())
+    }
+
+    /// The octets, for writing.
+    pub fn as_slice_mut(&mut self) -> &mut [u8]
+        ensures* writes_back { sem 𝓛 (LendsTags self.entry result) }
+        ensures value { result.now ≡ self.old }
+    {
+        self.octets.as_mut_slice()
+    }
+
+    /// The tags, in order.
+    pub fn iter(&self) -> KeyTagIter<'_>
+        ensures { result ≡ tags self.now }
+    {
+        KeyTagIter::of(self.octets.as_slice())
+    }
+}
+
+impl<'a> IntoIterator for HeldKeyTag<&'a [u8]> {
     type Item = u16;
 
     type IntoIter = KeyTagIter<'a>;
@@ -132,7 +188,19 @@ impl<'a> IntoIterator for KeyTagRef<'a> {
     }
 }
 
-impl<'a> OptData for KeyTagRef<'a> {
+impl<'a> IntoIterator for &'a HeldKeyTag<Vec<u8>> {
+    type Item = u16;
+
+    type IntoIter = KeyTagIter<'a>;
+
+    ghost into_iter_gives = { λ s r. r ≡ tags s.now };
+
+    fn into_iter(self) -> KeyTagIter<'a> {
+        self.iter()
+    }
+}
+
+impl<S: HoldsOctets> OptData for HeldKeyTag<S> {
     ghost code_of = { λ _. 14 };
 
     fn code(&self) -> OptionCode {
@@ -140,7 +208,7 @@ impl<'a> OptData for KeyTagRef<'a> {
     }
 }
 
-impl<'a> ParseOptData<'a> for KeyTagRef<'a> {
+impl<'a> ParseOptData<'a> for HeldKeyTag<&'a [u8]> {
     ghost takes = { for_code 14 tag_data };
 
     fn parse_option(
@@ -155,71 +223,23 @@ impl<'a> ParseOptData<'a> for KeyTagRef<'a> {
     }
 }
 
-impl<'a> ComposeOptData for KeyTagRef<'a> {
+impl<S: HoldsOctets> ComposeOptData for HeldKeyTag<S> {
     ghost octets = { λ k. k };
 
     fn compose_len(&self) -> u16 {
-        self.octets.len() as u16
+        self.octets.as_slice().len() as u16
     }
 
     fn compose_option(&self, alloc: Global, target: &mut Vec<u8>) -> Result<(), OutOfMemory> {
-        target.extend_from_slice(self.octets)?;
+        target.extend_from_slice(self.octets.as_slice())?;
         Ok(())
     }
 }
 
-impl<'a> ReadBack<'a> for KeyTagRef<'a> {
+impl<'a> ReadBack<'a> for HeldKeyTag<&'a [u8]> {
     ghost is_readable = { λ k. nat_le (length k) 65535 && nat_eq (length k % 2) 0 };
 
     ghost comes_back = { tags_again };
-}
-
-impl<'a> PartialEq for KeyTagRef<'a> {
-    ghost eq = { pointwise ◌==◌ };
-
-    ghost laws = { Prim.search (comparing, rules) };
-
-    fn eq(&self, other: &KeyTagRef<'a>) -> bool {
-        self.octets == other.octets
-    }
-}
-
-impl<'a> Eq for KeyTagRef<'a> {
-    ghost laws = { Prim.search (comparing, rules) };
-}
-
-impl<'a> Hash for KeyTagRef<'a> {
-    ghost hash_input = { fed.slice fed.u8 };
-
-    ghost respects_eq = { Prim.search (hashing, rules) };
-
-    fn hash<H: Hasher>(&self, state: &mut H) {
-        self.octets.hash(state);
-    }
-}
-
-impl<'a> Ord for KeyTagRef<'a> {
-    ghost cmp = { slice_cmp nat_cmp };
-
-    ghost total = { Prim.search (comparing, rules) };
-
-    ghost matches_partial_cmp = { Prim.search (comparing, rules) };
-
-    ghost matches_eq = { Prim.search (comparing, rules) };
-
-    fn cmp(&self, other: &KeyTagRef<'a>) -> Ordering {
-        self.octets.cmp(other.octets)
-    }
-}
-
-impl<'a> PartialOrd for KeyTagRef<'a> {
-    ghost partial_cmp = { as_partial_cmp (slice_cmp nat_cmp) };
-
-    ghost laws = { partial_order_from_own_ties (Prim.search (comparing, rules)) (Prim.search (comparing, rules)) };
-
-    fn partial_cmp(&self, other: &KeyTagRef<'a>) -> Option<Ordering> {
-        Some(self.cmp(other))
-    }
 }
 
 /// Writes tags in hexadecimal, each behind a comma and a space.
@@ -234,10 +254,7 @@ fn write_more<W: fmt::Write>(tags: KeyTagIter<'_>, f: &mut fmt::Formatter<W>) ->
 }
 
 /// Writes tags in hexadecimal, joined by a comma and a space.
-pub(crate) fn write_tags<W: fmt::Write>(
-    tags: KeyTagIter<'_>,
-    f: &mut fmt::Formatter<W>,
-) -> fmt::Result
+fn write_tags<W: fmt::Write>(tags: KeyTagIter<'_>, f: &mut fmt::Formatter<W>) -> fmt::Result
     ensures { WritesOnOk W.write_str_gives f.old result (numbers_text tags.entry) f.new }
 {
     let mut left = tags;
@@ -248,11 +265,11 @@ pub(crate) fn write_tags<W: fmt::Write>(
     write_more(left, f)
 }
 
-impl<'a> fmt::Display for KeyTagRef<'a> {
+impl<S: HoldsOctets> fmt::Display for HeldKeyTag<S> {
     ghost output = { λ k. Some (numbers_text (tags k)) };
 
     fn fmt<W: fmt::Write>(&self, f: &mut fmt::Formatter<W>) -> fmt::Result {
-        write_tags(self.iter(), f)
+        write_tags(KeyTagIter::of(self.octets.as_slice()), f)
     }
 }
 

@@ -2,21 +2,16 @@
 #![tactic(auto)]
 
 mod key_tag;
-mod key_tag_owned;
 mod octets_kind;
-mod octets_owned;
 mod texts;
 mod unknown;
-mod unknown_owned;
 
-pub use key_tag::{KeyTagIter, KeyTagRef};
-pub use key_tag_owned::KeyTag;
+pub use key_tag::{HeldKeyTag, KeyTag, KeyTagIter, KeyTagRef};
 pub use octets_kind::{
-    Nsid, NsidKind, NsidRef, OctetsKind, Padding, PaddingKind, PaddingRef, PlainRef,
+    HeldPlain, Nsid, NsidKind, NsidRef, OctetsKind, Padding, PaddingKind, PaddingRef, Plain,
+    PlainRef,
 };
-pub use octets_owned::Plain;
-pub use unknown::UnknownOptDataRef;
-pub use unknown_owned::UnknownOptData;
+pub use unknown::{HeldUnknown, UnknownOptData, UnknownOptDataRef};
 
 #[cfg(test)]
 mod tests;

@@ -1,27 +1,18 @@
-//! Any octets, borrowed: NSID and PADDING.
+//! Any octets, owned or borrowed: NSID and PADDING.
 
-ghost use Rattle.std.specs.Prelude.{◌≡◌, ◌≤◌, ◌<◌, ◌++◌, ◌==◌, ℕ, List, length, nat_le, Some, Ok, IfOk, OnOk, MatchResult};
-ghost use Rattle.std.specs.Cmp.{partial_order_from_own_ties};
-ghost use Rattle.std.specs.Cmp.Rules.{comparing, hashing};
-ghost use Rattle.std.specs.Cmp.Lexicographic.{pointwise, slice_cmp};
-ghost use Rattle.std.specs.Hash as fed;
-ghost use Rattle.std.specs.Ordering.{nat_cmp, as_partial_cmp};
-ghost use Rattle.std.proofs.Common.{rules};
+ghost use Rattle.std.specs.Prelude.{◌≡◌, ◌≤◌, ◌<◌, ◌++◌, [], ℕ, List, length, nat_le, Some, Ok, IfOk, OnOk, MatchResult};
 ghost use Rattle.dns_name.specs.OptData.{ParsesData, for_code, list_data};
 ghost use Rattle.dns_name.specs.Place.{rest};
 ghost use Rattle.dns_name.proofs.Readings.{list_again};
 ghost use Rattle.dns_lists.specs.Texts.{octets_text};
 
-use crate::octets_owned::Plain;
 use crate::texts::write_octets;
 use dns_name::{
-    ComposeOptData, LongOptData, OptData, OptionCode, OutOfMemory, ParseError, ParseOptData,
-    Parser, ReadBack,
+    ComposeOptData, Held, HoldsOctets, LongOptData, OptData, OptionCode, OutOfMemory, ParseError,
+    ParseOptData, Parser, ReadBack,
 };
 use std::alloc::Global;
-use std::cmp::Ordering;
 use std::fmt;
-use std::hash::{Hash, Hasher};
 use std::marker::{Model, PhantomData};
 
 /// Which option of plain octets it is.
@@ -58,6 +49,12 @@ impl OctetsKind for PaddingKind {
     }
 }
 
+/// Any octets, owned.
+pub type Plain<K> = HeldPlain<Vec<u8>, K>;
+
+/// Any octets, borrowed.
+pub type PlainRef<'a, K> = HeldPlain<&'a [u8], K>;
+
 pub type Nsid = Plain<NsidKind>;
 
 pub type Padding = Plain<PaddingKind>;
@@ -66,40 +63,55 @@ pub type NsidRef<'a> = PlainRef<'a, NsidKind>;
 
 pub type PaddingRef<'a> = PlainRef<'a, PaddingKind>;
 
-/// Any octets, borrowed.
-#[derive(Clone, Debug, Drop)]
-pub struct PlainRef<'a, K> {
-    octets: &'a [u8],
+/// Any octets in S.
+#[derive(Drop)]
+#[derive_where(Debug, PartialEq, Eq, PartialOrd, Ord, Hash)]
+#[derive_where(Clone; S: Copy)]
+pub struct HeldPlain<S: HoldsOctets, K> {
+    octets: Held<S>,
+    #[derive_where(skip)]
     of: PhantomData<K>,
 }
 
-impl<'a, K> Model for PlainRef<'a, K> {
+impl<S: HoldsOctets, K> Model for HeldPlain<S, K> {
     ghost use Rattle.std.specs.Prelude.{List, ℕ, length, ◌≤◌};
 
     ghost Value = { List ℕ };
 
-    ghost view = { λ k. k.octets.now };
+    ghost view = { λ k. k.octets };
 
-    ghost invariant = { λ k. length k.octets.now ≤ 65535 };
+    ghost inverse = { λ l. record { octets = l; of = record {} } };
+
+    ghost invariant = { λ k. length k.octets ≤ 65535 };
 }
 
-impl<'a, K: OctetsKind> PlainRef<'a, K> {
+impl<S: HoldsOctets, K: OctetsKind> HeldPlain<S, K> {
+    pub(crate) fn of(octets: S) -> HeldPlain<S, K>
+        requires { length (S.octets octets) ≤ 65535 }
+        ensures { result ≡ S.octets octets }
+    {
+        HeldPlain {
+            octets: Held::of(octets),
+            of: PhantomData,
+        }
+    }
+
+    /// Gives the octets back, which are not copied.
+    pub fn into_octets(self) -> S
+        ensures { S.octets result ≡ self }
+    {
+        let HeldPlain { octets, .. } = self;
+        octets.into_inner()
+    }
+}
+
+impl<'a, K: OctetsKind> HeldPlain<&'a [u8], K> {
     /// The octets of a slice.
     pub fn from_slice(octets: &'a [u8]) -> Result<PlainRef<'a, K>, LongOptData>
         ensures { MatchResult result (λ k. (length octets.now ≤ 65535) × (k ≡ octets.now)) (λ _. 65535 < length octets.now) }
     {
         LongOptData::check_len(octets.len())?;
-        Ok(PlainRef::within(octets))
-    }
-
-    pub(crate) fn within(octets: &'a [u8]) -> PlainRef<'a, K>
-        requires { length octets.now ≤ 65535 }
-        ensures { result ≡ octets.now }
-    {
-        PlainRef {
-            octets,
-            of: PhantomData,
-        }
+        Ok(HeldPlain::of(octets))
     }
 
     /// All that is left in a parser.
@@ -116,14 +128,7 @@ impl<'a, K: OctetsKind> PlainRef<'a, K> {
         ensures value { result.now ≡ self.now }
         ensures short { length self.now ≤ 65535 }
     {
-        self.octets
-    }
-
-    /// The octets.
-    pub fn into_octets(self) -> &'a [u8]
-        ensures { result.now ≡ self.entry }
-    {
-        self.octets
+        self.octets.lent()
     }
 
     /// The octets.
@@ -131,19 +136,65 @@ impl<'a, K: OctetsKind> PlainRef<'a, K> {
         ensures value { result.now ≡ self.now }
         ensures short { length self.now ≤ 65535 }
     {
-        self.octets
+        self.octets.lent()
     }
 
     /// The same octets, owned.
     pub fn to_owned(&self, alloc: Global) -> Result<Plain<K>, OutOfMemory>
         ensures { IfOk result (λ k. k ≡ self.now) }
     {
-        let octets = Vec::from_slice(alloc, self.octets)?;
-        Ok(Plain::of(octets))
+        let octets = Vec::from_slice(alloc, self.octets.lent())?;
+        Ok(HeldPlain::of(octets))
     }
 }
 
-impl<'a, K: OctetsKind> OptData for PlainRef<'a, K> {
+impl<K: OctetsKind> HeldPlain<Vec<u8>, K> {
+    /// The octets of a vector, which is not copied.
+    pub fn from_octets(octets: Vec<u8>) -> Result<Plain<K>, LongOptData>
+        ensures { MatchResult result (λ k. (length octets.items ≤ 65535) × (k ≡ octets.items)) (λ _. 65535 < length octets.items) }
+    {
+        LongOptData::check_len(octets.len())?;
+        Ok(HeldPlain::of(octets))
+    }
+
+    /// The octets.
+    pub fn as_octets(&self) -> &Vec<u8>
+        ensures { result.now.items ≡ self.now }
+    {
+        self.octets.as_vec()
+    }
+
+    /// The octets.
+    pub fn as_slice(&self) -> &[u8]
+        ensures value { result.now ≡ self.now }
+        ensures short { length self.now ≤ 65535 }
+    {
+        self.octets.as_slice()
+    }
+
+    /// The same octets, borrowed.
+    pub fn for_slice(&self) -> PlainRef<'_, K>
+        ensures { result ≡ self.now }
+    {
+        HeldPlain::of(self.octets.as_slice())
+    }
+}
+
+impl HeldPlain<Vec<u8>, NsidKind> {
+    /// No octets: a client's request for the identifier.
+    pub fn empty(alloc: Global) -> Nsid
+        ensures { result ≡ [] }
+    {
+        HeldPlain::of(Vec::new(alloc))
+    }
+}
+
+impl HeldPlain<Vec<u8>, PaddingKind> {
+    /// The code of the option.
+    pub const CODE: OptionCode = OptionCode::PADDING;
+}
+
+impl<S: HoldsOctets, K: OctetsKind> OptData for HeldPlain<S, K> {
     ghost code_of = { λ _. K.number };
 
     fn code(&self) -> OptionCode {
@@ -151,7 +202,7 @@ impl<'a, K: OctetsKind> OptData for PlainRef<'a, K> {
     }
 }
 
-impl<'a, K: OctetsKind> ParseOptData<'a> for PlainRef<'a, K> {
+impl<'a, K: OctetsKind> ParseOptData<'a> for HeldPlain<&'a [u8], K> {
     ghost takes = { for_code K.number list_data };
 
     fn parse_option(
@@ -166,77 +217,29 @@ impl<'a, K: OctetsKind> ParseOptData<'a> for PlainRef<'a, K> {
     }
 }
 
-impl<'a, K: OctetsKind> ComposeOptData for PlainRef<'a, K> {
+impl<S: HoldsOctets, K: OctetsKind> ComposeOptData for HeldPlain<S, K> {
     ghost octets = { λ k. k };
 
     fn compose_len(&self) -> u16 {
-        self.octets.len() as u16
+        self.octets.as_slice().len() as u16
     }
 
     fn compose_option(&self, alloc: Global, target: &mut Vec<u8>) -> Result<(), OutOfMemory> {
-        target.extend_from_slice(self.octets)?;
+        target.extend_from_slice(self.octets.as_slice())?;
         Ok(())
     }
 }
 
-impl<'a, K: OctetsKind> ReadBack<'a> for PlainRef<'a, K> {
+impl<'a, K: OctetsKind> ReadBack<'a> for HeldPlain<&'a [u8], K> {
     ghost is_readable = { λ k. nat_le (length k) 65535 };
 
     ghost comes_back = { list_again K.number };
 }
 
-impl<'a, K: OctetsKind> PartialEq for PlainRef<'a, K> {
-    ghost eq = { pointwise ◌==◌ };
-
-    ghost laws = { Prim.search (comparing, rules) };
-
-    fn eq(&self, other: &PlainRef<'a, K>) -> bool {
-        self.octets == other.octets
-    }
-}
-
-impl<'a, K: OctetsKind> Eq for PlainRef<'a, K> {
-    ghost laws = { Prim.search (comparing, rules) };
-}
-
-impl<'a, K: OctetsKind> Hash for PlainRef<'a, K> {
-    ghost hash_input = { fed.slice fed.u8 };
-
-    ghost respects_eq = { Prim.search (hashing, rules) };
-
-    fn hash<H: Hasher>(&self, state: &mut H) {
-        self.octets.hash(state);
-    }
-}
-
-impl<'a, K: OctetsKind> Ord for PlainRef<'a, K> {
-    ghost cmp = { slice_cmp nat_cmp };
-
-    ghost total = { Prim.search (comparing, rules) };
-
-    ghost matches_partial_cmp = { Prim.search (comparing, rules) };
-
-    ghost matches_eq = { Prim.search (comparing, rules) };
-
-    fn cmp(&self, other: &PlainRef<'a, K>) -> Ordering {
-        self.octets.cmp(other.octets)
-    }
-}
-
-impl<'a, K: OctetsKind> PartialOrd for PlainRef<'a, K> {
-    ghost partial_cmp = { as_partial_cmp (slice_cmp nat_cmp) };
-
-    ghost laws = { partial_order_from_own_ties (Prim.search (comparing, rules)) (Prim.search (comparing, rules)) };
-
-    fn partial_cmp(&self, other: &PlainRef<'a, K>) -> Option<Ordering> {
-        Some(self.cmp(other))
-    }
-}
-
-impl<'a, K: OctetsKind> fmt::Display for PlainRef<'a, K> {
+impl<S: HoldsOctets, K: OctetsKind> fmt::Display for HeldPlain<S, K> {
     ghost output = { λ k. Some (octets_text k) };
 
     fn fmt<W: fmt::Write>(&self, f: &mut fmt::Formatter<W>) -> fmt::Result {
-        write_octets(self.octets, f)
+        write_octets(self.octets.as_slice(), f)
     }
 }

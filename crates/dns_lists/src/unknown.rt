@@ -1,57 +1,64 @@
-//! Options of any code, borrowed.
+//! Options of any code, owned or borrowed.
 
-ghost use Rattle.std.specs.Prelude.{◌≡◌, ◌≤◌, ◌<◌, ◌++◌, ◌==◌, ◌&&◌, ℕ, List, length, nat_le, Some, Ok, IfOk, OnOk, MatchResult};
-ghost use Rattle.std.specs.Cmp.Rules.{comparing, hashing};
-ghost use Rattle.std.specs.Cmp.Lexicographic.{pointwise};
-ghost use Rattle.std.specs.Hash as fed;
-ghost use Rattle.std.proofs.Common.{rules};
+ghost use Rattle.std.specs.Prelude.{◌≡◌, ◌≤◌, ◌<◌, ◌++◌, ℕ, List, length, nat_le, Some, Ok, IfOk, OnOk, MatchResult};
 ghost use Rattle.dns_lists.specs.Again.{unknown_again};
 ghost use Rattle.dns_lists.specs.Texts.{plain_text};
 ghost use Rattle.dns_lists.specs.Unknowns.{unknown, unknown_data};
 
 use crate::texts::write_plain;
-use crate::unknown_owned::UnknownOptData;
 use dns_name::{
-    ComposeOptData, LongOptData, OptData, OptionCode, OutOfMemory, ParseError, ParseOptData,
-    Parser, ReadBack,
+    ComposeOptData, Held, HoldsOctets, LongOptData, OptData, OptionCode, OutOfMemory, ParseError,
+    ParseOptData, Parser, ReadBack,
 };
 use std::alloc::Global;
 use std::fmt;
-use std::hash::{Hash, Hasher};
 use std::marker::Model;
 
+/// Data under any code, owned.
+pub type UnknownOptData = HeldUnknown<Vec<u8>>;
+
 /// Data under any code, borrowed.
-#[derive(Clone, Debug, Drop)]
-pub struct UnknownOptDataRef<'a> {
+pub type UnknownOptDataRef<'a> = HeldUnknown<&'a [u8]>;
+
+/// Data under any code in S.
+#[derive(Drop)]
+#[derive_where(Debug, PartialEq, Eq, Hash)]
+#[derive_where(Clone; S: Copy)]
+pub struct HeldUnknown<S: HoldsOctets> {
     code: OptionCode,
-    octets: &'a [u8],
+    octets: Held<S>,
 }
 
-impl<'a> Model for UnknownOptDataRef<'a> {
+impl<S: HoldsOctets> Model for HeldUnknown<S> {
     ghost use Rattle.std.specs.Prelude.{length, ◌≤◌};
     ghost use Rattle.dns_lists.specs.Unknowns.{Unknown, unknown};
 
     ghost Value = { Unknown };
 
-    ghost view = { λ k. unknown k.code k.octets.now };
+    ghost view = { λ k. unknown k.code k.octets };
 
-    ghost invariant = { λ k. length k.octets.now ≤ 65535 };
+    ghost inverse = { λ u. record { code = u.code; octets = u.octets } };
+
+    ghost invariant = { λ k. length k.octets ≤ 65535 };
 }
 
-impl<'a> UnknownOptDataRef<'a> {
-    /// The data of a code.
-    pub fn new(code: OptionCode, octets: &'a [u8]) -> Result<UnknownOptDataRef<'a>, LongOptData>
-        ensures { MatchResult result (λ k. (length octets.now ≤ 65535) × (k ≡ unknown code octets.now)) (λ _. 65535 < length octets.now) }
+impl<S: HoldsOctets> HeldUnknown<S> {
+    fn of(code: OptionCode, octets: S) -> HeldUnknown<S>
+        requires { length (S.octets octets) ≤ 65535 }
+        ensures { result ≡ unknown code (S.octets octets) }
     {
-        LongOptData::check_len(octets.len())?;
-        Ok(UnknownOptDataRef { code, octets })
+        HeldUnknown {
+            code,
+            octets: Held::of(octets),
+        }
     }
 
-    pub(crate) fn within(code: OptionCode, octets: &'a [u8]) -> UnknownOptDataRef<'a>
-        requires { length octets.now ≤ 65535 }
-        ensures { result ≡ unknown code octets.now }
+    /// The data of a code.
+    pub fn new(code: OptionCode, octets: S) -> Result<HeldUnknown<S>, LongOptData>
+        ensures { MatchResult result (λ k. (length (S.octets octets) ≤ 65535) × (k ≡ unknown code (S.octets octets))) (λ _. 65535 < length (S.octets octets)) }
     {
-        UnknownOptDataRef { code, octets }
+        LongOptData::check_len(octets.as_octets().len())?;
+        Ok(HeldUnknown::of(code, octets))
     }
 
     /// The code.
@@ -60,12 +67,14 @@ impl<'a> UnknownOptDataRef<'a> {
     {
         self.code
     }
+}
 
+impl<'a> HeldUnknown<&'a [u8]> {
     /// The octets.
     pub fn data(&self) -> &'a [u8]
         ensures { result.now ≡ self.now.octets }
     {
-        self.octets
+        self.octets.lent()
     }
 
     /// The octets.
@@ -73,19 +82,54 @@ impl<'a> UnknownOptDataRef<'a> {
         ensures value { result.now ≡ self.now.octets }
         ensures short { length self.now.octets ≤ 65535 }
     {
-        self.octets
+        self.octets.lent()
     }
 
     /// The same data, owned.
     pub fn to_owned(&self, alloc: Global) -> Result<UnknownOptData, OutOfMemory>
         ensures { IfOk result (λ k. k ≡ self.now) }
     {
-        let octets = Vec::from_slice(alloc, self.octets)?;
-        Ok(UnknownOptData::of(self.code, octets))
+        let octets = Vec::from_slice(alloc, self.octets.lent())?;
+        Ok(HeldUnknown::of(self.code, octets))
     }
 }
 
-impl<'a> OptData for UnknownOptDataRef<'a> {
+impl HeldUnknown<Vec<u8>> {
+    ghost use Rattle.std.specs.Borrow.{sem};
+    ghost use Rattle.dns_lists.specs.Lending.{LendsData};
+
+    /// The octets.
+    pub fn data(&self) -> &Vec<u8>
+        ensures { result.now.items ≡ self.now.octets }
+    {
+        self.octets.as_vec()
+    }
+
+    /// The octets.
+    pub fn as_slice(&self) -> &[u8]
+        ensures value { result.now ≡ self.now.octets }
+        ensures short { length self.now.octets ≤ 65535 }
+    {
+        self.octets.as_slice()
+    }
+
+    /// The octets, for writing.
+    pub fn as_slice_mut(&mut self) -> &mut [u8]
+        ensures* writes_back { sem 𝓛 (LendsData self.entry result) }
+        ensures value { result.now ≡ self.old.octets }
+    {
+        self.octets.as_mut_slice()
+    }
+
+    /// The same data, borrowed.
+    pub fn for_slice(&self) -> UnknownOptDataRef<'_>
+        ensures { result ≡ self.now }
+    {
+        HeldUnknown::of(self.code, self.octets.as_slice())
+    }
+}
+
+impl<S: HoldsOctets> OptData for HeldUnknown<S> {
     ghost code_of = { λ k. k.code };
 
     fn code(&self) -> OptionCode {
@@ -93,7 +137,7 @@ impl<'a> OptData for UnknownOptDataRef<'a> {
     }
 }
 
-impl<'a> ParseOptData<'a> for UnknownOptDataRef<'a> {
+impl<'a> ParseOptData<'a> for HeldUnknown<&'a [u8]> {
     ghost takes = { unknown_data };
 
     fn parse_option(
@@ -106,54 +150,29 @@ impl<'a> ParseOptData<'a> for UnknownOptDataRef<'a> {
     }
 }
 
-impl<'a> ReadBack<'a> for UnknownOptDataRef<'a> {
+impl<'a> ReadBack<'a> for HeldUnknown<&'a [u8]> {
     ghost is_readable = { λ k. nat_le (length k.octets) 65535 };
 
     ghost comes_back = { unknown_again };
 }
 
-impl<'a> ComposeOptData for UnknownOptDataRef<'a> {
+impl<S: HoldsOctets> ComposeOptData for HeldUnknown<S> {
     ghost octets = { λ k. k.octets };
 
     fn compose_len(&self) -> u16 {
-        self.octets.len() as u16
+        self.octets.as_slice().len() as u16
     }
 
     fn compose_option(&self, alloc: Global, target: &mut Vec<u8>) -> Result<(), OutOfMemory> {
-        target.extend_from_slice(self.octets)?;
+        target.extend_from_slice(self.octets.as_slice())?;
         Ok(())
     }
 }
 
-impl<'a> PartialEq for UnknownOptDataRef<'a> {
-    ghost eq = { λ a b. (a.code == b.code) && pointwise ◌==◌ a.octets b.octets };
-
-    ghost laws = { Prim.search (comparing, rules) };
-
-    fn eq(&self, other: &UnknownOptDataRef<'a>) -> bool {
-        self.code == other.code && self.octets == other.octets
-    }
-}
-
-impl<'a> Eq for UnknownOptDataRef<'a> {
-    ghost laws = { Prim.search (comparing, rules) };
-}
-
-impl<'a> Hash for UnknownOptDataRef<'a> {
-    ghost hash_input = { λ k. fed.u16 k.code ++ fed.slice fed.u8 k.octets };
-
-    ghost respects_eq = { Prim.search (hashing, rules) };
-
-    fn hash<H: Hasher>(&self, state: &mut H) {
-        self.code.to_int().hash(state);
-        self.octets.hash(state);
-    }
-}
-
-impl<'a> fmt::Display for UnknownOptDataRef<'a> {
+impl<S: HoldsOctets> fmt::Display for HeldUnknown<S> {
     ghost output = { λ k. Some (plain_text k.octets) };
 
     fn fmt<W: fmt::Write>(&self, f: &mut fmt::Formatter<W>) -> fmt::Result {
-        write_plain(self.octets, f)
+        write_plain(self.octets.as_slice(), f)
     }
 }

@@ -4,17 +4,9 @@
 mod cutting;
 mod edns;
 mod edns_post;
-#[cfg(test)]
-mod edns_tests;
-#[cfg(test)]
-mod fixtures;
 mod laws;
 mod layered;
-#[cfg(test)]
-mod layered_tests;
 mod mandatory;
-#[cfg(test)]
-mod mandatory_tests;
 mod opt_in;
 mod opt_items;
 
@@ -26,6 +18,3 @@ pub use layered::Layered;
 pub use mandatory::{
     MINIMUM_RESPONSE_BYTE_LEN, MandatoryMiddlewareSvc, MandatoryPost, replies_fit,
 };
-
-#[cfg(test)]
-mod tests;

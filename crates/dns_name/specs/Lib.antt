@@ -7,3 +7,4 @@ pub mod Names
 pub mod Grammar
 pub mod OptData
 pub mod OptErrors
+pub mod Lending

@@ -62,10 +62,9 @@ pub enum ParseError {
 }
 
 ghost use Rattle.std.specs.Prelude.{◌≡◌};
+ghost use Rattle.dns_name.specs.declared.error.ParseError.TheVariants.{OutOfMemory as NoMemory};
 
 impl From<OutOfMemory> for ParseError {
-    ghost use Rattle.dns_name.specs.declared.error.ParseError.TheVariants.{OutOfMemory as NoMemory};
-
     ghost from_gives = { λ _ e. e ≡ NoMemory };
 
     fn from(_error: OutOfMemory) -> Self {
@@ -74,8 +73,6 @@ impl From<OutOfMemory> for ParseError {
 }
 
 impl From<AllocError> for ParseError {
-    ghost use Rattle.dns_name.specs.declared.error.ParseError.TheVariants.{OutOfMemory as NoMemory};
-
     ghost from_gives = { λ _ e. e ≡ NoMemory };
 
     fn from(_error: AllocError) -> Self {
@@ -84,8 +81,6 @@ impl From<AllocError> for ParseError {
 }
 
 impl<T: Drop> From<AllocFailed<T>> for ParseError {
-    ghost use Rattle.dns_name.specs.declared.error.ParseError.TheVariants.{OutOfMemory as NoMemory};
-
     ghost from_gives = { λ _ e. e ≡ NoMemory };
 
     fn from(_error: AllocFailed<T>) -> Self {

@@ -1,6 +1,6 @@
 //! Names that stand alone, uncompressed.
 
-ghost use Rattle.std.specs.Prelude.{◌≡◌, ◌≤◌, ◌+◌, ◌++◌, ◌↔◌, ◌-◌, [], length, take, drop, Some, IsTrue, IfOk, OnOk, OnErr};
+ghost use Rattle.std.specs.Prelude.{◌≡◌, ◌≤◌, ◌+◌, ◌++◌, ◌↔◌, ◌-◌, [], ℕ, List, length, take, drop, Some, IsTrue, IfOk, OnOk, OnErr};
 ghost use Rattle.dns_name.specs.Canonical.{name_cmp};
 ghost use Rattle.dns_name.specs.Labels.{IsName, EndsWith, folded, spell};
 ghost use Rattle.dns_name.specs.NameText.{name_text};
@@ -270,6 +270,34 @@ impl Name {
         ensures { IsTrue result ↔ EndsWith self.now other.now }
     {
         self.for_ref().ends_with(other)
+    }
+}
+
+/// What holds a name.
+pub trait HoldsName: Drop {
+    /// The name's labels.
+    ghost labels: { Self → List (List ℕ) };
+
+    /// The name, borrowed.
+    fn as_name(&self) -> NameRef<'_>
+        ensures { result ≡ labels self.now };
+}
+
+impl HoldsName for Name {
+    ghost labels = { λ n. n };
+
+    fn as_name(&self) -> NameRef<'_> {
+        self.for_ref()
+    }
+}
+
+impl<'a> HoldsName for NameRef<'a> {
+    ghost labels = { λ n. n };
+
+    fn as_name(&self) -> NameRef<'_> {
+        NameRef {
+            octets: self.octets,
+        }
     }
 }
 

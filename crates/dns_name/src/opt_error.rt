@@ -2,6 +2,7 @@
 
 ghost use Rattle.std.specs.Prelude.{◌≡◌, ◌<◌, ◌≤◌, Some, Ok, Err, codes, MatchResult};
 ghost use Rattle.dns_name.specs.OptErrors.{IsUnlimited, build_text};
+ghost use Rattle.dns_name.specs.declared.opt_error.BuildDataError.TheVariants.{LongOptData as TooLong, OutOfMemory as NoMemory};
 
 use crate::error::{FormReason, OutOfMemory, ParseError};
 use std::alloc::{AllocError, AllocFailed};
@@ -91,8 +92,6 @@ impl fmt::Display for BuildDataError {
 impl std::error::Error for BuildDataError {}
 
 impl From<LongOptData> for BuildDataError {
-    ghost use Rattle.dns_name.specs.declared.opt_error.BuildDataError.TheVariants.{LongOptData as TooLong};
-
     ghost from_gives = { λ _ e. e ≡ TooLong };
 
     fn from(_error: LongOptData) -> Self {
@@ -101,8 +100,6 @@ impl From<LongOptData> for BuildDataError {
 }
 
 impl From<OutOfMemory> for BuildDataError {
-    ghost use Rattle.dns_name.specs.declared.opt_error.BuildDataError.TheVariants.{OutOfMemory as NoMemory};
-
     ghost from_gives = { λ _ e. e ≡ NoMemory };
 
     fn from(_error: OutOfMemory) -> Self {
@@ -111,8 +108,6 @@ impl From<OutOfMemory> for BuildDataError {
 }
 
 impl From<AllocError> for BuildDataError {
-    ghost use Rattle.dns_name.specs.declared.opt_error.BuildDataError.TheVariants.{OutOfMemory as NoMemory};
-
     ghost from_gives = { λ _ e. e ≡ NoMemory };
 
     fn from(_error: AllocError) -> Self {
@@ -121,8 +116,6 @@ impl From<AllocError> for BuildDataError {
 }
 
 impl<T: Drop> From<AllocFailed<T>> for BuildDataError {
-    ghost use Rattle.dns_name.specs.declared.opt_error.BuildDataError.TheVariants.{OutOfMemory as NoMemory};
-
     ghost from_gives = { λ _ e. e ≡ NoMemory };
 
     fn from(_error: AllocFailed<T>) -> Self {

@@ -13,6 +13,3 @@ pub use sink::{Sink, SinkWrite, WriteFault, write_all};
 pub use source::{LIMIT, ReadError, Source, SourceRead, read_all};
 pub use standard::{Reading, Writing};
 pub use steady::{SteadySink, SteadySource};
-
-#[cfg(test)]
-mod tests;

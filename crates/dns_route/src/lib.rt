@@ -6,8 +6,6 @@ mod copied;
 mod kept;
 mod reply;
 pub mod request;
-#[cfg(test)]
-mod tests;
 
 pub use copied::CopiedMessage;
 pub use reply::{ComposeReply, ReplyMessage};

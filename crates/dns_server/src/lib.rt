@@ -24,6 +24,3 @@ pub use script::{Script, ScriptError};
 pub use script_service::{ScriptFuture, ScriptService, ScriptStream};
 pub use script_target::{ScriptTarget, ScriptVerdict};
 pub use writing::{WriteError, write_outputs, write_refusal};
-
-#[cfg(test)]
-mod tests;

@@ -5,19 +5,13 @@ mod config;
 mod error;
 mod event;
 mod function;
-#[cfg(test)]
-mod function_tests;
 mod message;
 mod once;
 mod options;
 mod reply;
 mod reply_error;
-#[cfg(test)]
-mod reply_tests;
 mod served;
 mod service;
-#[cfg(test)]
-mod tests;
 
 pub use config::{ConnectionConfig, DgramConfig, StreamConfig};
 pub use dns_name::{Octets, OutOfMemory};

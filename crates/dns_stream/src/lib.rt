@@ -3,8 +3,6 @@
 
 mod middleware;
 mod postprocess;
-#[cfg(test)]
-mod tests;
 
 pub use dns_service::{Now, Once, OutOfMemory};
 pub use middleware::MiddlewareStream;

@@ -14,6 +14,3 @@ pub use reason::{LineError, Reason};
 pub use stream_line::read_stream;
 pub use values::{addr, decimal, num, octets, port, quad, yes_no};
 pub use words::Words;
-
-#[cfg(test)]
-mod tests;

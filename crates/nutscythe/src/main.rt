@@ -7,33 +7,34 @@ use std::process::ExitCode;
 use std::{env, io};
 
 const HELP: &str = "\
-Usage: nutscythe replay < SCRIPT
-       nutscythe --help | --version
+Usage: nutscythe replay < SCRIPT    (or --help, or --version)
+Reads a script, serves its events by its rules, writes a line for each output.
 
-replay reads a script, serves its events by its rules, and writes one line for each output.
+stream IDLE WRITE QUEUE LIMIT yes|no   the stream server, once: timeouts in ms,
+                                       frames that may wait, connections, and
+                                       whether one more is taken and closed
+rule * ANSWER ..                       a request's polls: pend or rcode:0 to 15
+datagram AT SECS CLIENT ADDR PORT HEX  a query came from an address
+offer AT SECS CLIENT ADDR PORT         a connection is offered
+piece AT SECS CLIENT HEX               octets of its stream came
+turn AT SECS CLIENT REQUEST            a request, from number 0, is polled once
+write AT SECS CLIENT TOOK              its front frame is written, in TOOK ms
+end AT SECS CLIENT                     its stream ended
+release AT SECS CLIENT                 its slot is free again
+stream and rule stand first, and a rule before datagram and piece. Numbers are
+decimal, ADDR a dotted quad or 32 hex digits, HEX pairs of digits or -, and a
+line that begins with # says nothing. docs/scripts.md explains each line.
 
-The lines of a script, in which words are parted by spaces; an empty line and one that begins with # say nothing:
-  stream IDLE WRITE QUEUE LIMIT yes|no            the stream server: timeouts in ms, frames that may wait, connections,
-                                                  and whether more are accepted to be turned away; once
-  rule * ANSWER ..                                the answers to a request's polls, each pend or rcode:N, N below 16
-  datagram AT SECS CLIENT ADDR PORT HEX           a query of one question came from an address
-  offer AT SECS CLIENT ADDR PORT                  a connection is offered
-  piece AT SECS CLIENT HEX                        octets of a connection's stream came, whose frames are such queries
-  turn AT SECS CLIENT REQUEST                     a request is polled once
-  write AT SECS CLIENT TOOK                       a frame that waits is written, in TOOK ms
-  end AT SECS CLIENT                              the connection's stream ended
-  release AT SECS CLIENT                          the connection gives its slot back
-with stream and rule before the others, a rule before datagram and piece, numbers in decimal, ADDR as a dotted quad
-or 32 hexadecimal digits, and HEX as an even number of hexadecimal digits, or - for none.
-
-It writes datagram CLIENT HEX, frame CLIENT HEX (with the length in front), closed CLIENT ended|short|writetimeout
-and turned CLIENT yes|no, or refused LINE REASON.
-
-Exit status: 0 done, 2 faulty command line, 3 no script (a line says where and why), 4 a read failed,
-5 a write failed, 6 out of memory, 7 a script of more than 67108864 octets.
+Written are datagram CLIENT HEX, frame CLIENT HEX (with its length in front),
+closed CLIENT ended|short|writetimeout and turned CLIENT yes|no, or for what is
+no script the one line refused LINE REASON. Exit status: 0 done, 2 faulty
+command line, 3 refused, 4 a read failed, 5 a write failed, 6 out of memory,
+7 a script of more than 67108864 octets.
 ";
 
 const VERSION: &str = "nutscythe 0.1.0\n";
+
+const USAGE: &str = "usage: nutscythe replay < SCRIPT, or nutscythe --help or --version";
 
 /// Prints a text, and says how that went.
 fn printed(rt: &impl Print, text: &str) -> ExitCode {
@@ -61,10 +62,19 @@ fn read_words(rt: &HostRuntime) -> Result<Vec<String>, Status> {
     Ok(words)
 }
 
+/// Ends with a status, and says on standard error what a faulty command line is to look like. That this can't be said
+/// changes no status.
+fn ended(rt: &impl Eprint, status: Status) -> ExitCode {
+    if status == Status::Usage {
+        let _said = rt.eprintln(USAGE);
+    }
+    ExitCode::from(status.number())
+}
+
 fn main(rt: HostRuntime) -> ExitCode {
     let words = match read_words(&rt) {
         Ok(words) => words,
-        Err(status) => return ExitCode::from(status.number()),
+        Err(status) => return ended(&rt, status),
     };
     match words.first().map(|word| word.as_str()) {
         Some("--help") => printed(&rt, HELP),
@@ -72,8 +82,7 @@ fn main(rt: HostRuntime) -> ExitCode {
         _ => {
             let mut source = Reading::new(rt.stdin());
             let mut sink = Writing::new(rt.stdout());
-            let status = run(rt.alloc(), &words, &mut source, &mut sink);
-            ExitCode::from(status.number())
+            ended(&rt, run(rt.alloc(), &words, &mut source, &mut sink))
         }
     }
 }

@@ -1,43 +1,18 @@
 //! Message whose additional records are being built.
 
-ghost use Rattle.std.specs.Prelude.{◌≡◌, ◌≤◌, length, min, IfOk};
-ghost use Rattle.dns_base.specs.Msg.{IsMessage, item_counts};
+ghost use Rattle.std.specs.Prelude.{◌≡◌, length};
 ghost use Rattle.dns_base.specs.Wire.{wire};
-ghost use Rattle.dns_base.specs.Built.{with_additional, with_header, less_section, Pushes};
-ghost use Rattle.dns_base.specs.Records.{record_of, IsLawful};
+ghost use Rattle.dns_base.specs.Built.{Pushes, with_additional};
+ghost use Rattle.dns_base.specs.Records.{IsLawful, record_of};
 ghost use Rattle.dns_base.specs.Replaced.{less_type};
 
-use crate::draft::{Draft, Section};
+use crate::builder::AdditionalBuilder;
 use crate::error::PushError;
-use crate::stream::StreamTarget;
-use dns_message::{Header, HeaderCounts, MessageRef, Record};
-use dns_name::{OutOfMemory, Rtype};
+use dns_message::Record;
+use dns_name::Rtype;
 use std::alloc::Global;
-use std::marker::Model;
-
-/// A message whose additional records are being built.
-#[derive(Debug, Drop)]
-pub struct AdditionalBuilder {
-    pub(crate) draft: Draft,
-}
-
-impl Model for AdditionalBuilder {
-    ghost use Rattle.dns_base.specs.Built.{Built};
-
-    ghost Value = { Built };
-
-    ghost view = { λ b. b.draft };
-}
 
 impl AdditionalBuilder {
-    /// Adds a record.
-    pub fn push(&mut self, alloc: Global, record: &Record) -> Result<(), PushError>
-        requires { IsLawful record.now.rdata }
-        ensures { Pushes self.old self.new (with_additional self.old (record_of record.now)) result }
-    {
-        self.draft.push_record(alloc, Section::Additional, record)
-    }
-
     /// Drops the additional records of a type; the others stay, in order. Takes no memory.
     pub fn remove_type(&mut self, rtype: Rtype)
         ensures { self.new ≡ less_type rtype self.old }
@@ -64,89 +39,5 @@ impl AdditionalBuilder {
         ensures { Pushes self.old self.new (with_additional (less_type rtype self.old) (record_of record.now)) result }
     {
         self.draft.replace_type(alloc, rtype, record)
-    }
-
-    /// Drops the section's records.
-    pub fn rewind(&mut self)
-        ensures { self.new ≡ less_section Section.Additional self.old }
-    {
-        self.draft.rewind(Section::Additional);
-    }
-
-    /// The header.
-    pub fn header(&self) -> Header
-        ensures { result ≡ self.now.message.header }
-    {
-        self.draft.header()
-    }
-
-    /// Sets the header.
-    pub fn set_header(&mut self, header: Header)
-        ensures { self.new ≡ with_header self.old header }
-    {
-        self.draft.set_header(header);
-    }
-
-    /// How many items each section has.
-    pub fn counts(&self) -> HeaderCounts
-        ensures { result ≡ item_counts self.now.message }
-    {
-        self.draft.counts()
-    }
-
-    /// How many octets the message may take; 65,535 where no limit is set.
-    pub fn push_limit(&self) -> usize
-        ensures value { result ≡ self.now.limit }
-        ensures limited { result ≤ 65535 }
-    {
-        self.draft.push_limit()
-    }
-
-    /// Lets the message take so many octets, at most 65,535.
-    pub fn set_push_limit(&mut self, limit: usize)
-        ensures { self.new ≡ record self.old { limit = min limit 65535 } }
-    {
-        self.draft.set_push_limit(limit);
-    }
-
-    /// Lets the message take 65,535 octets.
-    pub fn clear_push_limit(&mut self)
-        ensures { self.new ≡ record self.old { limit = 65535 } }
-    {
-        self.draft.set_push_limit(65535);
-    }
-
-    /// The message's octets.
-    pub fn as_slice(&self) -> &[u8]
-        ensures value { result.now ≡ wire self.now.message }
-        ensures lawful { IsMessage self.now.message }
-        ensures header { 12 ≤ length result.now }
-        ensures short { length result.now ≤ 65535 }
-    {
-        self.draft.as_slice()
-    }
-
-    /// The message, borrowed.
-    pub fn as_message(&self) -> MessageRef<'_>
-        ensures value { result ≡ wire self.now.message }
-        ensures lawful { IsMessage self.now.message }
-    {
-        self.draft.as_message()
-    }
-
-    /// A copy.
-    pub fn try_clone(&self, alloc: Global) -> Result<AdditionalBuilder, OutOfMemory>
-        ensures { IfOk result (λ b. b ≡ self.now) }
-    {
-        let draft = self.draft.try_clone(alloc)?;
-        Ok(AdditionalBuilder { draft })
-    }
-
-    /// The finished message.
-    pub fn finish(self) -> StreamTarget
-        ensures value { result ≡ wire self.message }
-        ensures lawful { IsMessage self.message }
-    {
-        self.draft.finish()
     }
 }

@@ -1,0 +1,28 @@
+//! Message whose records of a section are being built.
+
+ghost use Rattle.dns_base.specs.Built.{Pushes, less_section, with_record};
+ghost use Rattle.dns_base.specs.Records.{IsLawful, record_of};
+ghost use Rattle.std.specs.Prelude.{◌≡◌};
+
+use crate::builder::Builder;
+use crate::builder::stage::RecordStage;
+use crate::error::PushError;
+use dns_message::Record;
+use std::alloc::Global;
+
+impl<S: RecordStage> Builder<S> {
+    /// Adds a record.
+    pub fn push(&mut self, alloc: Global, record: &Record) -> Result<(), PushError>
+        requires { IsLawful record.now.rdata }
+        ensures { Pushes self.old self.new (with_record S.section self.old (record_of record.now)) result }
+    {
+        self.draft.push_record(alloc, S::section(), record)
+    }
+
+    /// Drops the section's records.
+    pub fn rewind(&mut self)
+        ensures { self.new ≡ less_section S.section self.old }
+    {
+        self.draft.rewind(S::section());
+    }
+}

@@ -1,9 +1,0 @@
-//! Worked rows over the public calls of the crates below. It has tests alone.
-#![tactic(auto)]
-
-#[cfg(test)]
-mod option_rows;
-#[cfg(test)]
-mod tests;
-#[cfg(test)]
-mod usage;

@@ -1,0 +1,116 @@
+//! A service behind the mandatory and the EDNS layer answers one query, and the octets of its reply are printed.
+#![tactic(auto)]
+
+ghost use Rattle.std.specs.Prelude.{◌≡◌, Some, None, Ok};
+ghost use Rattle.std.specs.Result.{ForOk};
+ghost use Rattle.dns_service.specs.ErrorReply.{error_reply};
+
+use dns_base::{Message, OutOfMemory, ParseError};
+use dns_middleware::{EdnsMiddlewareSvc, MandatoryMiddlewareSvc};
+use dns_name::{IpAddr, OptRcode, SocketAddr};
+use dns_service::{
+    CallResult, Gives, Polled, ReplyFuture, ReplyStream, Request, Service, ServiceResult,
+    TransportSpecificContext, UdpTransportContext, mk_error_response, service_fn,
+};
+use std::alloc::{AllocError, Global};
+use thiserror::Error;
+
+/// A query for the root's address, with RD and an OPT record.
+const QUERY: &[u8] =
+    b"\x12\x34\x01\x00\x00\x01\x00\x00\x00\x00\x00\x01\x00\x00\x01\x00\x01\x00\x00\x29\x04\xd0\x00\x00\x00\x00\x00\x00";
+
+/// What the service gives: the error reply to the request, with the response code that stands beside it.
+struct Refusal {}
+
+impl Gives<OptRcode> for Refusal {
+    ghost item = { λ request rcode. Ok (record { response = Some (error_reply request.octets rcode); feedback = None }) };
+}
+
+/// Answers a request with an error reply. The layers' clauses then speak of exactly this reply.
+fn refuse(
+    alloc: Global,
+    request: &Request<()>,
+    rcode: &OptRcode,
+) -> Result<ServiceResult, OutOfMemory>
+    ensures { ForOk result (λ item. item ≡ Ok (record { response = Some (error_reply request.now.octets rcode.now); feedback = None })) }
+{
+    let reply = mk_error_response(alloc, request.message(), *rcode)?;
+    Ok(Ok(CallResult::new(reply)))
+}
+
+/// Why no reply is printed.
+#[derive(Clone, Copy, Debug, PartialEq, Eq, Error)]
+enum NoReply {
+    #[error("the query is not read: {0}")]
+    Unreadable(ParseError),
+    #[error("out of memory")]
+    OutOfMemory,
+    #[error("the service gives no reply at once")]
+    NotAtOnce,
+}
+
+impl From<ParseError> for NoReply {
+    fn from(error: ParseError) -> NoReply {
+        NoReply::Unreadable(error)
+    }
+}
+
+impl From<OutOfMemory> for NoReply {
+    fn from(_error: OutOfMemory) -> NoReply {
+        NoReply::OutOfMemory
+    }
+}
+
+impl From<AllocError> for NoReply {
+    fn from(_error: AllocError) -> NoReply {
+        NoReply::OutOfMemory
+    }
+}
+
+fn main(rt: HostRuntime) -> anyhow::Result<()> {
+    let service = service_fn::<Refusal, _, _>(refuse, OptRcode::NXDOMAIN);
+    let service = MandatoryMiddlewareSvc::new(EdnsMiddlewareSvc::new(service));
+    let reply = reply_to(rt.alloc(), &service, QUERY)?;
+    println!(rt; "{}", hex::encode(rt.alloc(), reply.as_slice())?)?;
+    Ok(())
+}
+
+/// The octets of the first reply to a query that came in a datagram.
+fn reply_to<S: Service<()>>(alloc: Global, service: &S, query: &[u8]) -> Result<Vec<u8>, NoReply>
+    requires { S.can_call service.now }
+{
+    let mut request = received(alloc, query)?;
+    first_reply(alloc, service, &mut request)
+}
+
+/// The request that a datagram of these octets makes.
+fn received(alloc: Global, octets: &[u8]) -> Result<Request<()>, NoReply> {
+    let sender = SocketAddr {
+        ip: IpAddr::V4([192, 0, 2, 1]),
+        port: 5353,
+    };
+    let transport = TransportSpecificContext::Udp(UdpTransportContext::new(Some(1232)));
+    let query = Message::from_octets(Vec::from_slice(alloc, octets)?)?;
+    Ok(Request::new(alloc, sender, 0, 0, query, transport, ())?)
+}
+
+/// The octets of the first reply to a request, where it comes at once.
+fn first_reply<S: Service<()>>(
+    alloc: Global,
+    service: &S,
+    request: &mut Request<()>,
+) -> Result<Vec<u8>, NoReply>
+    requires { S.can_call service.now }
+{
+    let mut future = service.call(alloc, request)?;
+    let Polled::Ready(mut stream) = future.poll(alloc)? else {
+        return Err(NoReply::NotAtOnce);
+    };
+    let Polled::Ready(Some(Ok(given))) = stream.poll_next(alloc)? else {
+        return Err(NoReply::NotAtOnce);
+    };
+    let (Some(reply), _) = given.into_inner() else {
+        return Err(NoReply::NotAtOnce);
+    };
+    Ok(Vec::from_slice(alloc, reply.as_slice())?)
+}
