@@ -1,6 +1,7 @@
 //! The arguments of a row, one word after the other.
 
 use crate::RowError;
+use hex::FromHex;
 use std::alloc::Global;
 use std::str::FromStr;
 
@@ -43,6 +44,29 @@ impl<'a> Arguments<'a> {
         }
     }
 
+    /// So many octets of the next word in hexadecimal.
+    pub fn array<const N: usize>(&mut self) -> Result<[u8; N], RowError> {
+        match <[u8; N] as FromHex>::from_hex(self.word()?) {
+            Ok(octets) => Ok(octets),
+            Err(_) => Err(RowError::OutOfForm),
+        }
+    }
+
+    /// The text between two quotation marks.
+    pub fn text(&mut self) -> Result<&'a str, RowError> {
+        let quoted = self.rest.strip_prefix('"').ok_or(RowError::Missing)?;
+        let (text, rest) = quoted.split_once('"').ok_or(RowError::OutOfForm)?;
+        self.rest = rest.trim();
+        Ok(text)
+    }
+
+    /// All words that are left, to be parted by a space each.
+    pub fn all_words(&mut self) -> &'a str {
+        let words = self.rest;
+        self.rest = "";
+        words
+    }
+
     /// The number that the next word is in decimal.
     pub fn number<N: FromStr>(&mut self) -> Result<N, RowError>
     where
@@ -76,6 +100,11 @@ impl<'a> Arguments<'a> {
             Some(_) => Err(RowError::TooMany),
         }
     }
+}
+
+/// What a row says of a truth.
+pub fn yes_no(holds: bool) -> &'static str {
+    if holds { "yes" } else { "no" }
 }
 
 /// Octets in hexadecimal, `-` for none.

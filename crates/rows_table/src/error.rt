@@ -1,6 +1,6 @@
 //! Why a row says nothing that could hold.
 
-use std::alloc::AllocError;
+use std::alloc::{AllocError, AllocFailed};
 use thiserror::Error;
 
 /// Why a row can't be judged.
@@ -24,6 +24,12 @@ pub enum RowError {
 
 impl From<AllocError> for RowError {
     fn from(_error: AllocError) -> RowError {
+        RowError::OutOfMemory
+    }
+}
+
+impl<T: Drop> From<AllocFailed<T>> for RowError {
+    fn from(_error: AllocFailed<T>) -> RowError {
         RowError::OutOfMemory
     }
 }

@@ -6,6 +6,6 @@ mod error;
 mod repeats;
 mod table;
 
-pub use arguments::{Arguments, hexadecimal};
+pub use arguments::{Arguments, hexadecimal, yes_no};
 pub use error::RowError;
 pub use table::{Calls, run};
