@@ -11,6 +11,3 @@ pub use algsig::{
 };
 pub use iter::SecurityAlgorithmIter;
 pub use owned::Understood;
-
-#[cfg(test)]
-mod tests;

@@ -18,6 +18,3 @@ pub use exterr_owned::ExtendedError;
 pub use keepalive::{FromDurationError, IdleTimeout, TcpKeepalive};
 pub use laws::masking_twice_is_masking_once;
 pub use subnet::ClientSubnet;
-
-#[cfg(test)]
-mod tests;

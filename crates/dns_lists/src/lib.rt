@@ -17,6 +17,3 @@ pub use octets_kind::{
 pub use octets_owned::Plain;
 pub use unknown::UnknownOptDataRef;
 pub use unknown_owned::UnknownOptData;
-
-#[cfg(test)]
-mod tests;

@@ -2,8 +2,6 @@
 #![tactic(auto)]
 
 #[cfg(test)]
-mod option_rows;
-#[cfg(test)]
 mod tests;
 #[cfg(test)]
 mod usage;

@@ -1,4 +1,4 @@
-//! How the libraries are used: a query with an option is built and read, and a service answers it behind two layers.
+//! How the libraries are used: a query with an option is built, and a service answers it behind two layers.
 
 ghost use Rattle.std.specs.Prelude.{◌≡◌, Some, None, Ok};
 ghost use Rattle.std.specs.Result.{ForOk};
@@ -7,7 +7,7 @@ ghost use Rattle.dns_service.specs.ErrorReply.{error_reply};
 use dns_base::{Message, MessageBuilder, Name, OutOfMemory, Question, Rtype};
 use dns_middleware::{EdnsMiddlewareSvc, MandatoryMiddlewareSvc};
 use dns_name::{Class, IpAddr, OptRcode, SocketAddr};
-use dns_opt::{BuildOpt, MessageOpt};
+use dns_opt::BuildOpt;
 use dns_service::{
     CallResult, Gives, Polled, ReplyFuture, ReplyStream, Request, Service, ServiceResult,
     TransportSpecificContext, UdpTransportContext, mk_error_response, service_fn,
@@ -35,18 +35,6 @@ fn query(alloc: Global, name: Name) -> Result<Message, Fail> {
         opt.client_nsid(alloc)
     })?;
     Ok(Message::from_octets(Vec::from_slice(alloc, builder.as_slice())?)?)
-}
-
-#[test]
-fn a_query_with_an_option(rt: HostRuntime) -> Result<(), Fail> {
-    let query = query(rt.alloc(), Name::root(rt.alloc())?)?;
-    let question = query.first_question().ok_or("no question")?;
-    assert!(rt; question.qtype() == Rtype::A);
-    let opt = query.opt().ok_or("no OPT record")?;
-    assert_eq!(rt; opt.udp_payload_size(), 1232);
-    let identifier = opt.opt().nsid().ok_or("no option")?;
-    assert!(rt; identifier.as_slice().is_empty());
-    Ok(())
 }
 
 /// What the service below gives: an error reply with the response code that stands beside it.
