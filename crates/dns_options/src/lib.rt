@@ -26,6 +26,3 @@ pub use iter::OptIter;
 pub use list::OptRef;
 pub use opt::{Opt, written_by};
 pub use option_header::OptionHeader;
-
-#[cfg(test)]
-mod tests;
