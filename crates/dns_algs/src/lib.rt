@@ -10,6 +10,3 @@ pub use algsig::{
     Understood, UnderstoodRef, Variant,
 };
 pub use iter::SecurityAlgorithmIter;
-
-#[cfg(test)]
-mod tests;

@@ -2,14 +2,10 @@
 #![tactic(auto)]
 
 mod builder;
-#[cfg(test)]
-mod data_tests;
 mod draft;
 mod error;
 mod replace;
 mod stream;
-#[cfg(test)]
-mod tests;
 
 pub use builder::{
     AdditionalBuilder, AnswerBuilder, AuthorityBuilder, MessageBuilder, QuestionBuilder,

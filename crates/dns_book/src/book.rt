@@ -1,12 +1,14 @@
 //! A book that any number of threads share, and the seats from which they call it.
-ghost use Rattle.std.specs.Prelude.{◌≡◌, ◌-◌, ◌↔◌, true, MatchBool, IfOk};
+ghost use Rattle.std.specs.Prelude.{◌≡◌, ◌-◌, ◌↔◌, true, false, nat_eq, [], if◌then◌else◌, MatchBool, MatchOption, MatchResult, IfOk};
+ghost use lib.Pointwise.{pointwise};
 ghost use Rattle.atomic_table.specs.Seated.{TableId};
 ghost use Rattle.crossbeam_utils.specs.Seq.{cell_view, IsSamePass};
 ghost use Rattle.dns_book.specs.Machine.{state_after, reply_of};
 ghost use Rattle.dns_book.specs.Causes.{Admits, Reconfigures, WasShutDown};
 ghost use Rattle.dns_book.specs.Seats.{IsSound, Called, Joined, new_known, state_met, first_half, second_half};
 ghost use Rattle.dns_book.specs.Words.{state_of};
-ghost use Rattle.dns_book.specs.Rule.{IsOpen, Made, Settled, view_of, IsReady};
+ghost use Rattle.crossbeam_utils.specs.Register.{Turns, Forks, Merges};
+ghost use Rattle.dns_book.specs.Rule.{Kept, IsOpen, Made, Settled, view_of, IsReady};
 
 use crate::call::{Call, Reply};
 use crate::look::{Admission, Look};
@@ -14,8 +16,10 @@ use crate::rule::{
     Asked, Halves, HandOver, Looked, OneHistory, Opened, Read, Settle, TakeIn, Try, View,
 };
 use crate::state::BookState;
-use crate::words::{COUNT, Words, look_of, words_of};
+use crate::words::{COUNT, Words, look_of, words_after, words_of};
+use atomic_table::{Join, Split};
 use crossbeam_utils::atomic::seq_cell::{Pass, RuledSeqCell};
+use crossbeam_utils::rule::Outcome;
 use dns_service::{DgramConfig, Error, OutOfMemory, StreamConfig};
 use std::alloc::Global;
 use std::marker::{Brand, Model};
@@ -129,7 +133,7 @@ impl Book {
     {
         self.open(rt, &mut seat.pass, seat.pending);
         seat.pending = None;
-        let now = self.cell.load_as::<Looked, R>(rt, &mut seat.pass);
+        let now = self.load::<Looked, R>(rt, &mut seat.pass);
         look_of(&now)
     }
 
@@ -144,7 +148,7 @@ impl Book {
     {
         let BookSeat { mut pass, pending } = seat;
         self.open(rt, &mut pass, pending);
-        let second = self.cell.split_pass::<Halves>(&mut pass);
+        let second = self.cut::<Halves>(&mut pass);
         let first = BookSeat {
             pass,
             pending: None,
@@ -170,8 +174,8 @@ impl Book {
             pending,
         } = second;
         self.open(rt, &mut other, pending);
-        let all = self.cell.split_pass::<HandOver>(&mut other);
-        self.cell.join_pass::<TakeIn>(&mut pass, all);
+        let all = self.cut::<HandOver>(&mut other);
+        self.merge::<TakeIn>(&mut pass, all);
         self.settle(rt, &mut pass);
         BookSeat {
             pass,
@@ -205,8 +209,7 @@ impl Book {
         ensures open { IsOpen (cell_view pass.new) × IsSound (cell_view pass.new).known }
     {
         if let Some(state) = pending {
-            self.cell
-                .swap_as::<Opened, R>(rt, pass, words_of(&state.shown()));
+            self.swap::<Opened, R>(rt, pass, words_of(&state.shown()));
         }
     }
 
@@ -217,7 +220,7 @@ impl Book {
         ensures pass { IsSamePass pass.old pass.new }
         ensures settled { Settled (cell_view pass.old) (cell_view pass.new) × IsOpen (cell_view pass.new) }
     {
-        self.cell.load_as::<Settle, R>(rt, pass);
+        self.load::<Settle, R>(rt, pass);
     }
 
     // Makes the call if the cell still has these words, and says whether it had.
@@ -236,9 +239,7 @@ impl Book {
         ensures pass { IsSamePass pass.old pass.new }
         ensures made { MatchBool result (Made call.now (state_of current) (cell_view pass.old) (cell_view pass.new)) (cell_view pass.new ≡ cell_view pass.old) }
     {
-        self.cell
-            .compare_exchange_as::<Try<K>, R>(rt, pass, current, next)
-            .is_ok()
+        self.exchange::<Try<K>, R>(rt, pass, current, next).is_ok()
     }
 
     // One loop for the four calls: load, compute, exchange, and again where another seat came between.
@@ -250,15 +251,87 @@ impl Book {
         ensures made { Made call result (cell_view pass.old) (cell_view pass.new) }
     {
         for _ in rt.forever() {
-            let words = self.cell.load_as::<Read, R>(rt, pass);
-            let found = BookState::of(look_of(&words));
-            let mut next = found;
-            next.call(&call);
-            if self.attempt::<Brand, R>(rt, pass, &call, words, words_of(&next.shown())) {
+            if let Some(found) = self.try_once(rt, pass, &call) {
                 return found;
             }
         }
         unreachable!()
+    }
+
+    // One turn of it: none where another seat came between.
+    fn try_once<R: Wait>(&self, rt: &R, pass: &mut SeatPass, call: &Call) -> Option<BookState>
+        requires book { pass.old.table_id ≡ self.now }
+        requires open { IsOpen (cell_view pass.old) }
+        ensures pass { IsSamePass pass.old pass.new }
+        ensures made { MatchOption result (cell_view pass.new ≡ cell_view pass.old) (λ found. Made call.now found (cell_view pass.old) (cell_view pass.new)) }
+    {
+        let words = self.load::<Read, R>(rt, pass);
+        if self.attempt::<Brand, R>(rt, pass, call, words, words_after(&words, call)) {
+            Some(BookState::of(look_of(&words)))
+        } else {
+            None
+        }
+    }
+
+    // One load, after which the pass has what the outcome says.
+    fn load<M: Outcome<Words, View>, R: Wait>(&self, rt: &R, pass: &mut SeatPass) -> Words
+        requires book { pass.old.table_id ≡ self.now }
+        requires rule { Turns Kept pass.old.id (cell_view pass.old) (λ x. x) M.then }
+        ensures pass { IsSamePass pass.old pass.new }
+        ensures told { M.then (cell_view pass.old) result result (cell_view pass.new) }
+    {
+        self.cell.load_as::<M, R>(rt, pass)
+    }
+
+    // The same, where the words are replaced. It answers those that stood there.
+    fn swap<M: Outcome<Words, View>, R: Wait>(
+        &self,
+        rt: &R,
+        pass: &mut SeatPass,
+        words: Words,
+    ) -> Words
+        requires book { pass.old.table_id ≡ self.now }
+        requires rule { Turns Kept pass.old.id (cell_view pass.old) (λ _. words) M.then }
+        ensures pass { IsSamePass pass.old pass.new }
+        ensures told { M.then (cell_view pass.old) result words (cell_view pass.new) }
+    {
+        self.cell.swap_as::<M, R>(rt, pass, words)
+    }
+
+    // The same, where the words that stand there are the expected ones.
+    fn exchange<M: Outcome<Words, View>, R: Wait>(
+        &self,
+        rt: &R,
+        pass: &mut SeatPass,
+        current: Words,
+        next: Words,
+    ) -> Result<Words, Words>
+        requires book { pass.old.table_id ≡ self.now }
+        requires rule { Turns Kept pass.old.id (cell_view pass.old) (λ x. if pointwise nat_eq x current then next else x) M.then }
+        ensures pass { IsSamePass pass.old pass.new }
+        ensures told { MatchResult result (λ x. (pointwise nat_eq x current ≡ true) × M.then (cell_view pass.old) x next (cell_view pass.new)) (λ x. (pointwise nat_eq x current ≡ false) × M.then (cell_view pass.old) x x (cell_view pass.new)) }
+    {
+        self.cell
+            .compare_exchange_as::<M, R>(rt, pass, current, next)
+    }
+
+    // Two passes of one.
+    fn cut<M: Split<View>>(&self, pass: &mut SeatPass) -> SeatPass
+        requires book { pass.old.table_id ≡ self.now }
+        requires rule { Forks Kept pass.old.id (cell_view pass.old) (M.left (cell_view pass.old)) (M.right (cell_view pass.old)) }
+        ensures kept { IsSamePass pass.old pass.new × (cell_view pass.new ≡ M.left (cell_view pass.old)) }
+        ensures given { (result.table_id ≡ pass.old.table_id) × (cell_view result ≡ M.right (cell_view pass.old)) × (result.me.1 ≡ []) }
+    {
+        self.cell.split_pass::<M>(pass)
+    }
+
+    // One pass of two.
+    fn merge<M: Join<View>>(&self, pass: &mut SeatPass, other: SeatPass)
+        requires book { (pass.old.table_id ≡ self.now) × (other.table_id ≡ pass.old.table_id) × (other.me.1 ≡ []) }
+        requires rule { Merges Kept pass.old.id (cell_view pass.old) other.id (cell_view other) (M.both (cell_view pass.old) (cell_view other)) M.spent }
+        ensures { IsSamePass pass.old pass.new × (cell_view pass.new ≡ M.both (cell_view pass.old) (cell_view other)) }
+    {
+        self.cell.join_pass::<M>(pass, other);
     }
 
     // The same for a seat.

@@ -1,8 +1,11 @@
 //! A book's state as the words of the cell. Nothing else knows how they are packed.
 ghost use Rattle.std.specs.Prelude.{◌≡◌};
+ghost use Rattle.dns_book.specs.Machine.{state_after};
 ghost use Rattle.dns_book.specs.Words.{state_of};
 
+use crate::call::Call;
 use crate::look::Look;
+use crate::state::BookState;
 use dns_service::{ConnectionConfig, DgramConfig, StreamConfig};
 
 /// How many words there are.
@@ -70,4 +73,13 @@ pub fn look_of(words: &Words) -> Look
         dgram,
         stream,
     }
+}
+
+/// The words for the state that a call leaves.
+pub fn words_after(words: &Words, call: &Call) -> Words
+    ensures { state_of result ≡ state_after (state_of words.now) call.now }
+{
+    let mut state = BookState::of(look_of(words));
+    state.call(call);
+    words_of(&state.shown())
 }

@@ -19,6 +19,3 @@ pub use server_cookie::ServerCookie;
 pub use siphash::siphash24;
 pub use standard_server_cookie::StandardServerCookie;
 pub use timestamp::timestamp_ok;
-
-#[cfg(test)]
-mod tests;

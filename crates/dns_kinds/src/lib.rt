@@ -16,6 +16,3 @@ pub use exterr::{ExtendedError, ExtendedErrorRef, HeldExtendedError};
 pub use keepalive::{FromDurationError, IdleTimeout, TcpKeepalive};
 pub use laws::masking_twice_is_masking_once;
 pub use subnet::ClientSubnet;
-
-#[cfg(test)]
-mod tests;

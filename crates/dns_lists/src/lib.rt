@@ -12,6 +12,3 @@ pub use octets_kind::{
     PlainRef,
 };
 pub use unknown::{HeldUnknown, UnknownOptData, UnknownOptDataRef};
-
-#[cfg(test)]
-mod tests;

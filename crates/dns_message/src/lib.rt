@@ -12,8 +12,6 @@ mod rdata;
 mod rdata_read;
 mod read;
 mod record;
-#[cfg(test)]
-mod tests;
 mod write;
 
 pub use data_laws::{data_has_names, typed_data_reads_back, typed_records_read_back};

@@ -17,8 +17,6 @@ mod parsed;
 mod parser;
 mod piece;
 mod serial;
-#[cfg(test)]
-mod tests;
 mod ttl;
 
 pub use address::{Addrs, IpAddr, SocketAddr};

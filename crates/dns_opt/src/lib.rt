@@ -5,8 +5,6 @@ mod build_opt;
 mod builder;
 mod builder_kinds;
 mod header;
-#[cfg(test)]
-mod kind_tests;
 mod laws;
 mod message_opt;
 mod record;
@@ -24,6 +22,3 @@ pub use header::OptHeader;
 pub use laws::opts_read_back;
 pub use message_opt::MessageOpt;
 pub use record::{OptRecord, OptRecordRef};
-
-#[cfg(test)]
-mod tests;

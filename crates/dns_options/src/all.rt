@@ -31,25 +31,32 @@ pub enum AllOptData<'a> {
     Other(UnknownOptDataRef<'a>),
 }
 
+/// What is said of the value in any option.
+macro_rules! each {
+    ($option:expr, $value:ident => $said:expr) => {
+        match $option {
+            AllOptData::Dau($value) => $said,
+            AllOptData::Dhu($value) => $said,
+            AllOptData::N3u($value) => $said,
+            AllOptData::Chain($value) => $said,
+            AllOptData::Cookie($value) => $said,
+            AllOptData::Expire($value) => $said,
+            AllOptData::ExtendedError($value) => $said,
+            AllOptData::TcpKeepalive($value) => $said,
+            AllOptData::KeyTag($value) => $said,
+            AllOptData::Nsid($value) => $said,
+            AllOptData::Padding($value) => $said,
+            AllOptData::ClientSubnet($value) => $said,
+            AllOptData::Other($value) => $said,
+        }
+    };
+}
+
 impl<'a> OptData for AllOptData<'a> {
     ghost code_of = { code_of };
 
     fn code(&self) -> OptionCode {
-        match self {
-            AllOptData::Dau(_) => OptionCode::DAU,
-            AllOptData::Dhu(_) => OptionCode::DHU,
-            AllOptData::N3u(_) => OptionCode::N3U,
-            AllOptData::Chain(_) => OptionCode::CHAIN,
-            AllOptData::Cookie(_) => OptionCode::COOKIE,
-            AllOptData::Expire(_) => OptionCode::EXPIRE,
-            AllOptData::ExtendedError(_) => OptionCode::EXTENDED_ERROR,
-            AllOptData::TcpKeepalive(_) => OptionCode::TCP_KEEPALIVE,
-            AllOptData::KeyTag(_) => OptionCode::KEY_TAG,
-            AllOptData::Nsid(_) => OptionCode::NSID,
-            AllOptData::Padding(_) => OptionCode::PADDING,
-            AllOptData::ClientSubnet(_) => OptionCode::CLIENT_SUBNET,
-            AllOptData::Other(value) => value.code(),
-        }
+        each!(self, value => OptData::code(value))
     }
 }
 
@@ -95,39 +102,11 @@ impl<'a> ComposeOptData for AllOptData<'a> {
     ghost octets = { octets_of };
 
     fn compose_len(&self) -> u16 {
-        match self {
-            AllOptData::Dau(value) => value.compose_len(),
-            AllOptData::Dhu(value) => value.compose_len(),
-            AllOptData::N3u(value) => value.compose_len(),
-            AllOptData::Chain(value) => value.compose_len(),
-            AllOptData::Cookie(value) => value.compose_len(),
-            AllOptData::Expire(value) => value.compose_len(),
-            AllOptData::ExtendedError(value) => value.compose_len(),
-            AllOptData::TcpKeepalive(value) => value.compose_len(),
-            AllOptData::KeyTag(value) => value.compose_len(),
-            AllOptData::Nsid(value) => value.compose_len(),
-            AllOptData::Padding(value) => value.compose_len(),
-            AllOptData::ClientSubnet(value) => value.compose_len(),
-            AllOptData::Other(value) => value.compose_len(),
-        }
+        each!(self, value => value.compose_len())
     }
 
     fn compose_option(&self, alloc: Global, target: &mut Vec<u8>) -> Result<(), OutOfMemory> {
-        match self {
-            AllOptData::Dau(value) => value.compose_option(alloc, target),
-            AllOptData::Dhu(value) => value.compose_option(alloc, target),
-            AllOptData::N3u(value) => value.compose_option(alloc, target),
-            AllOptData::Chain(value) => value.compose_option(alloc, target),
-            AllOptData::Cookie(value) => value.compose_option(alloc, target),
-            AllOptData::Expire(value) => value.compose_option(alloc, target),
-            AllOptData::ExtendedError(value) => value.compose_option(alloc, target),
-            AllOptData::TcpKeepalive(value) => value.compose_option(alloc, target),
-            AllOptData::KeyTag(value) => value.compose_option(alloc, target),
-            AllOptData::Nsid(value) => value.compose_option(alloc, target),
-            AllOptData::Padding(value) => value.compose_option(alloc, target),
-            AllOptData::ClientSubnet(value) => value.compose_option(alloc, target),
-            AllOptData::Other(value) => value.compose_option(alloc, target),
-        }
+        each!(self, value => value.compose_option(alloc, target))
     }
 }
 

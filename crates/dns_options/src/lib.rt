@@ -23,9 +23,6 @@ pub use dns_lists::{
 };
 pub use dns_name::{BuildDataError, ComposeOptData, LongOptData, OptData, ParseOptData, ReadBack};
 pub use iter::OptIter;
-pub use list::OptRef;
+pub use list::{HeldOpt, OptRef};
 pub use opt::{Opt, written_by};
 pub use option_header::OptionHeader;
-
-#[cfg(test)]
-mod tests;

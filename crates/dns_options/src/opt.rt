@@ -1,25 +1,18 @@
 //! Option lists, owned.
 
-ghost use Rattle.std.specs.Prelude.{◌≡◌, ◌≤◌, ◌<◌, ◌/◌, ◌%◌, ◌==◌, ◌↔◌, [], ◌∷◌, ◌++◌, ℕ, length, IsTrue, IfOk, Ok, Some, is_ok, if◌then◌else◌, codes};
-ghost use Rattle.std.specs.Cmp.{partial_order_from_own_ties};
-ghost use Rattle.std.specs.Cmp.Rules.{comparing, hashing};
-ghost use Rattle.std.specs.Cmp.Lexicographic.{pointwise, slice_cmp};
-ghost use Rattle.std.specs.Hash as fed;
-ghost use Rattle.std.specs.Ordering.{nat_cmp, as_partial_cmp};
-ghost use Rattle.std.proofs.Common.{rules};
+ghost use Rattle.std.specs.Prelude.{◌≡◌, ◌≤◌, ◌<◌, ◌/◌, ◌%◌, [], ◌∷◌, ◌++◌, ℕ, length, IfOk, Ok, is_ok, if◌then◌else◌};
+ghost use Rattle.std.specs.Cmp.Lexicographic.{slice_cmp};
+ghost use Rattle.std.specs.Ordering.{nat_cmp};
 ghost use Rattle.dns_message.specs.Options.{IsOptionList, option_list, option_octets};
 ghost use Rattle.dns_options.specs.Items.{first_ok, items_of};
 ghost use Rattle.dns_options.specs.Pushes.{Pushed, PushedRaw};
 ghost use Rattle.dns_options.specs.Writes.{Writes};
 
 use crate::iter::OptIter;
-use crate::list::OptRef;
+use crate::list::{HeldOpt, OptRef};
 use dns_name::{BuildDataError, ComposeOptData, OptionCode, OutOfMemory, ParseError, ParseOptData};
 use std::alloc::Global;
 use std::cmp::Ordering;
-use std::fmt;
-use std::hash::{Hash, Hasher};
-use std::marker::Model;
 
 /// The first four octets of an option: its code and how many octets of data follow.
 fn header(code: u16, len: u16) -> [u8; 4]
@@ -76,31 +69,15 @@ pub fn written_by<F: FnOnce(Global, &mut Vec<u8>) -> Result<(), OutOfMemory>>(
 }
 
 /// An option list, owned, that contracts see as its octets.
-#[derive(Debug, Drop)]
-pub struct Opt {
-    octets: Vec<u8>,
-}
+pub type Opt = HeldOpt<Vec<u8>>;
 
-impl Model for Opt {
-    ghost use Rattle.std.specs.Prelude.{List, ℕ, length, ◌≤◌};
-    ghost use Rattle.dns_message.specs.Options.{IsOptionList};
-
-    ghost Value = { List ℕ };
-
-    ghost view = { λ k. k.octets.items };
-
-    ghost invariant = { λ k. (length k.octets.items ≤ 65535) × IsOptionList k.octets.items };
-}
-
-impl Opt {
+impl HeldOpt<Vec<u8>> {
     /// No options.
     #[tactic(auto, using(dns_message::proofs::OptionLaws::empty_is_list))]
     pub fn empty(alloc: Global) -> Opt
         ensures { result ≡ [] }
     {
-        Opt {
-            octets: Vec::new(alloc),
-        }
+        HeldOpt::of(Vec::new(alloc))
     }
 
     /// The option list that octets are. The vector is not copied.
@@ -108,22 +85,14 @@ impl Opt {
         ensures { result ≡ option_list octets.items }
     {
         OptRef::from_slice(octets.as_slice())?;
-        Ok(Opt { octets })
-    }
-
-    pub(crate) fn of(octets: Vec<u8>) -> Opt
-        requires short { length octets.items ≤ 65535 }
-        requires list { IsOptionList octets.items }
-        ensures { result ≡ octets.items }
-    {
-        Opt { octets }
+        Ok(HeldOpt::of(octets))
     }
 
     /// The same list, borrowed.
     pub fn for_slice_ref(&self) -> OptRef<'_>
         ensures { result ≡ self.now }
     {
-        OptRef::within(self.octets.as_slice())
+        HeldOpt::of(self.octets.as_slice())
     }
 
     /// The octets.
@@ -139,23 +108,8 @@ impl Opt {
     pub fn into_octets(self) -> Vec<u8>
         ensures { result.items ≡ self }
     {
-        let Opt { octets } = self;
-        octets
-    }
-
-    /// How many octets there are.
-    pub fn len(&self) -> usize
-        ensures value { result ≡ length self.now }
-        ensures short { result ≤ 65535 }
-    {
-        self.octets.len()
-    }
-
-    /// Whether there are no options.
-    pub fn is_empty(&self) -> bool
-        ensures { IsTrue result ↔ (self.now ≡ []) }
-    {
-        self.octets.is_empty()
+        let HeldOpt { octets } = self;
+        octets.into_inner()
     }
 
     /// The options that the type D reads, in order.
@@ -188,10 +142,10 @@ impl Opt {
     ) -> Result<(), BuildDataError>
         ensures { Pushed (D.code_of value.now) (D.octets value.now) self.old self.new result }
     {
-        if self.octets.len() + 4 + value.compose_len() as usize > 65535 {
+        if self.len() + 4 + value.compose_len() as usize > 65535 {
             return Err(BuildDataError::LongOptData);
         }
-        append_value(alloc, &mut self.octets, value)?;
+        append_value(alloc, self.octets.as_mut_vec(), value)?;
         Ok(())
     }
 
@@ -208,7 +162,7 @@ impl Opt {
         requires { F.IsAlwaysCallable write }
         ensures { PushedRaw (Writes F.FnOnce write) code len self.old self.new result }
     {
-        if self.octets.len() + 4 + len as usize > 65535 {
+        if self.len() + 4 + len as usize > 65535 {
             return Err(BuildDataError::LongOptData);
         }
         let octets = written_by(alloc, write)?;
@@ -218,63 +172,7 @@ impl Opt {
                 written: octets.len(),
             });
         }
-        append_option(&mut self.octets, code.to_int(), octets.as_slice())?;
+        append_option(self.octets.as_mut_vec(), code.to_int(), octets.as_slice())?;
         Ok(())
-    }
-}
-
-impl PartialEq for Opt {
-    ghost eq = { pointwise ◌==◌ };
-
-    ghost laws = { Prim.search (comparing, rules) };
-
-    fn eq(&self, other: &Opt) -> bool {
-        self.octets.as_slice() == other.octets.as_slice()
-    }
-}
-
-impl Eq for Opt {
-    ghost laws = { Prim.search (comparing, rules) };
-}
-
-impl Ord for Opt {
-    ghost cmp = { slice_cmp nat_cmp };
-
-    ghost total = { Prim.search (comparing, rules) };
-
-    ghost matches_partial_cmp = { Prim.search (comparing, rules) };
-
-    ghost matches_eq = { Prim.search (comparing, rules) };
-
-    fn cmp(&self, other: &Opt) -> Ordering {
-        self.octets.as_slice().cmp(other.octets.as_slice())
-    }
-}
-
-impl PartialOrd for Opt {
-    ghost partial_cmp = { as_partial_cmp (slice_cmp nat_cmp) };
-
-    ghost laws = { partial_order_from_own_ties (Prim.search (comparing, rules)) (Prim.search (comparing, rules)) };
-
-    fn partial_cmp(&self, other: &Opt) -> Option<Ordering> {
-        Some(self.cmp(other))
-    }
-}
-
-impl Hash for Opt {
-    ghost hash_input = { fed.slice fed.u8 };
-
-    ghost respects_eq = { Prim.search (hashing, rules) };
-
-    fn hash<H: Hasher>(&self, state: &mut H) {
-        self.octets.as_slice().hash(state);
-    }
-}
-
-impl fmt::Display for Opt {
-    ghost output = { λ _. Some (codes "OPT ...") };
-
-    fn fmt<W: fmt::Write>(&self, f: &mut fmt::Formatter<W>) -> fmt::Result {
-        f.write_str("OPT ...")
     }
 }

@@ -5,6 +5,3 @@ use Rattle.dns_book.proofs.book.Book.make_at.Given as goal
 abbrev pub invariant-loop : goal.invariant-loop
 invariant-loop g l =
     (goal.iterator-loop g).can_next l.iterator' × (goal.iterator-loop g).is_finite l.iterator' × IsSamePass l.initial.pass l.pass × (cell_view l.pass ≡ cell_view l.initial.pass)
-
-abbrev pub ghosts-attempt : goal.ghosts-attempt
-ghosts-attempt g a = record { ask = a.call.now; current = a.current }
