@@ -160,13 +160,13 @@ module _ (answers : Req (Unit {0}) → ℕ → Answer) (settings : Settings) whe
   told_away c es is = away_case c es (is_member answers settings c es) (is_unused (slate answers settings c es).phase) is
 
   stranger_case : (c : ℕ) (es : List Event) (m u : Bool) → m ≡ false → (not u && not m) ≡ false → of_own m u c es ≡ []
-  stranger_case c es true u no h = cc
-  stranger_case c es false true no h = refl
-  stranger_case c es false false no h = cc
+  stranger_case c es true u absent h = cc
+  stranger_case c es false true absent h = refl
+  stranger_case c es false false absent h = cc
 
   pub told_stranger : (c : ℕ) (es : List Event) → is_member answers settings c es ≡ false → was_turned_away answers settings c es ≡ false → told c es ≡ []
   unfolding told
-  told_stranger c es no is = stranger_case c es (is_member answers settings c es) (is_unused (slate answers settings c es).phase) no is
+  told_stranger c es absent is = stranger_case c es (is_member answers settings c es) (is_unused (slate answers settings c es).phase) absent is
 
   -- a client that wasn't turned away is sent what its own events alone give
   not_away : (c : ℕ) (es : List Event) (u m : Bool) → is_unused (slate answers settings c es).phase ≡ u → is_member answers settings c es ≡ m → (not u && not m) ≡ false → told c es ≡ (if u then [] else sent answers settings (own c es))

@@ -164,15 +164,15 @@ module _ (answers : Req (Unit {0}) → ℕ → Answer) where
   kind_of_client e (Write took) s h = phase_of_client e.client s.phase s (s, []) (s, []) (write took s.queue s) (s, []) refl h h refl (write_client took s.queue s) refl
   kind_of_client e Release s h = phase_of_client e.client s.phase s (s, []) (s, []) (s, []) (released s, []) refl h h refl refl refl
 
+  of_client_case : (c : ℕ) (x : Event) (q : List Event) (s : Slate) → ((t : Slate) → IsOf c t → IsOf c (slate_after answers t (own c q))) → IsOf c s → (b : Bool) → concerns c x ≡ b → IsOf c (slate_after answers s (cond b (x ∷ own c q) (own c q)))
+  of_client_case c x q s more h true is =
+      let same : x.client ≡ c = eqb-true x.client c is in
+      more (rule answers x s).0 (subst (λ (d : ℕ). IsOf d (rule answers x s).0) same (kind_of_client x x.kind s (subst (λ (d : ℕ). IsOf d s) (sym same) h)))
+  of_client_case c x q s more h false is = more s h
+
   of_client_after : (c : ℕ) (q : List Event) (s : Slate) → IsOf c s → IsOf c (slate_after answers s (own c q))
   of_client_after c [] s h = h
-  of_client_after c (x ∷ q) s h = of_client_case (concerns c x) refl
-    where
-      of_client_case : (b : Bool) → concerns c x ≡ b → IsOf c (slate_after answers s (cond b (x ∷ own c q) (own c q)))
-      of_client_case true is =
-          let same : x.client ≡ c = eqb-true x.client c is in
-          of_client_after c q (rule answers x s).0 (subst (λ (d : ℕ). IsOf d (rule answers x s).0) same (kind_of_client x x.kind s (subst (λ (d : ℕ). IsOf d s) (sym same) h)))
-      of_client_case false is = of_client_after c q s h
+  of_client_after c (x ∷ q) s h = of_client_case c x q s (of_client_after c q) h (concerns c x) refl
 
   pub of_client : (settings : Settings) (c : ℕ) (q : List Event) → IsOf c (slate answers settings c q)
   unfolding slate
@@ -182,15 +182,15 @@ module _ (answers : Req (Unit {0}) → ℕ → Answer) where
   still_used [] s u = u
   still_used (x ∷ es) s u = still_used es (rule answers x s).0 ((rule_use answers x s).used u)
 
-  -- nothing was sent to a client that didn't begin
+  silent_case : (x : Event) (es : List Event) (s : Slate) → ((t : Slate) → is_unused t.phase ≡ true → is_unused (slate_after answers t es).phase ≡ true → sent_after answers t es ≡ []) → is_unused s.phase ≡ true → is_unused (slate_after answers (rule answers x s).0 es).phase ≡ true → (b : Bool) → is_unused (rule answers x s).0.phase ≡ b → (rule answers x s).1 ++ sent_after answers (rule answers x s).0 es ≡ []
+  silent_case x es s more u v true is = rw (quiet x s (unused_is s.phase u), more (rule answers x s).0 is v) refl
+  silent_case x es s more u v false is = let used = still_used es (rule answers x s).0 is in cc
+
   silent_after : (es : List Event) (s : Slate) → is_unused s.phase ≡ true → is_unused (slate_after answers s es).phase ≡ true → sent_after answers s es ≡ []
   silent_after [] s u v = refl
-  silent_after (x ∷ es) s u v = silent_case (is_unused (rule answers x s).0.phase) refl
-    where
-      silent_case : (b : Bool) → is_unused (rule answers x s).0.phase ≡ b → (rule answers x s).1 ++ sent_after answers (rule answers x s).0 es ≡ []
-      silent_case true is = rw (quiet x s (unused_is s.phase u), silent_after es (rule answers x s).0 is v) refl
-      silent_case false is = let used = still_used es (rule answers x s).0 is in cc
+  silent_after (x ∷ es) s u v = silent_case x es s (silent_after es) u v (is_unused (rule answers x s).0.phase) refl
 
+  -- nothing was sent to a client that didn't begin
   pub silent : (settings : Settings) (c : ℕ) (q : List Event) → is_unused (slate answers settings c q).phase ≡ true → sent answers settings (own c q) ≡ []
   unfolding slate sent
   silent settings c q u = silent_after (own c q) (fresh (opening settings)) refl u

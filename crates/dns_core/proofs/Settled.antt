@@ -119,7 +119,7 @@ module _ (answers : Req (Unit {0}) → ℕ → Answer) where
       rw (append-nil s.received, drop_all s.taken (frames s.received) h) refl
 
   empty_kind : (e : Event) (k : EventKind) (s : Slate) → k ≡ Piece [] → Settled s → by_kind answers e k s ≡ (s, [])
-  empty_kind e k s is h = rw (is, nothing_more e.at e.secs s h) (all_same s.phase (s, []))
+  empty_kind e k s is h = rw (is, nothing_more e.at e.secs s h) (all_same answers s.phase (s, []))
 
   -- an empty piece changes nothing
   pub empty_idle : (e : Event) (s : Slate) → e.kind ≡ Piece [] → Settled s → rule answers e s ≡ (s, [])
@@ -129,7 +129,7 @@ module _ (answers : Req (Unit {0}) → ℕ → Answer) where
   released_again s h = ap (λ (b : Bool). record s { freed = b }) (sym h)
 
   again_kind : (e : Event) (k : EventKind) (s : Slate) → k ≡ Release → s.freed ≡ true → by_kind answers e k s ≡ (s, [])
-  again_kind e k s is h = rw (is, released_again s h) (all_same s.phase (s, []))
+  again_kind e k s is h = rw (is, released_again s h) (all_same answers s.phase (s, []))
 
   -- nor does a release of a connection that was released
   pub again_idle : (e : Event) (s : Slate) → e.kind ≡ Release → s.freed ≡ true → rule answers e s ≡ (s, [])

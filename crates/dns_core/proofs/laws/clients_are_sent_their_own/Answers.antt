@@ -6,5 +6,5 @@ pub returns : goal.returns
 returns c = record {
   own = λ answers settings c es is. by_client answers settings c es ∙ told_member answers settings c es is;
   away = λ answers settings c es is. by_client answers settings c es ∙ told_away answers settings c es is;
-  stranger = λ answers settings c es no not. by_client answers settings c es ∙ told_stranger answers settings c es no not;
+  stranger = λ answers settings c es absent kept. by_client answers settings c es ∙ told_stranger answers settings c es absent kept;
 }
