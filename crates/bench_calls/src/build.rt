@@ -4,8 +4,9 @@ ghost use Rattle.std.specs.Prelude.{◌≡◌};
 ghost use Rattle.dns_base.specs.Records.{IsLawful};
 
 use dns_base::{
-    AdditionalBuilder, AnswerBuilder, Header, Message, MessageBuilder, OutOfMemory, ParseError,
-    Question, Record, RecordIter, Rtype, StreamTarget,
+    AdditionalBuilder, AnswerBuilder, AuthorityBuilder, Header, Message, MessageBuilder,
+    OutOfMemory, ParseError, PushError, Question, QuestionBuilder, Record, RecordIter, Rtype,
+    StreamTarget,
 };
 use dns_cookie::{Cookie, siphash24};
 use dns_name::ExtendedErrorCode;
@@ -45,24 +46,24 @@ impl Parts {
     /// The parts of a message of one question with a cookie, without its options.
     pub fn of(alloc: Global, octets: &[u8]) -> Result<Parts, ParseError> {
         let message = Message::from_octets(Vec::from_slice(alloc, octets)?)?;
-        let Some(question) = message.first_question() else {
-            return Err(ParseError::ShortInput);
-        };
-        let question = question.to_question(alloc)?;
-        let answer = all_held(alloc, message.answer()?)?;
-        let authority = all_held(alloc, message.authority()?)?;
-        let additional = all_held(alloc, message.additional()?)?;
         let Some(cookie) = cookie_of(&message) else {
             return Err(ParseError::ShortInput);
         };
         Ok(Parts {
             header: message.header(),
-            question,
-            answer,
-            authority,
-            additional,
+            question: question_of(alloc, &message)?,
+            answer: all_held(alloc, message.answer()?)?,
+            authority: all_held(alloc, message.authority()?)?,
+            additional: all_held(alloc, message.additional()?)?,
             cookie,
         })
+    }
+}
+
+fn question_of(alloc: Global, message: &Message) -> Result<Question, ParseError> {
+    match message.first_question() {
+        Some(question) => Ok(question.to_question(alloc)?),
+        None => Err(ParseError::ShortInput),
     }
 }
 
@@ -99,27 +100,53 @@ pub fn built(alloc: Global, parts: &Parts, count: u64) -> Result<u64, BuildDataE
 
 /// The response of these parts, of at most 512 octets.
 fn response(alloc: Global, parts: &Parts, id: u16) -> Result<StreamTarget, BuildDataError> {
-    let mut builder = MessageBuilder::new(alloc)?;
-    builder.set_push_limit(512);
-    let mut header = parts.header;
-    header.id = id;
-    builder.set_header(header);
-    let mut builder = builder.question();
-    builder.push(alloc, &parts.question)?;
-    let mut builder = builder.answer();
-    for held in parts.answer.iter() {
-        builder.push(alloc, &held.entry)?;
-    }
+    let mut builder = asked(alloc, parts, id)?.answer();
+    push_answer(alloc, &mut builder, parts.answer.as_slice())?;
     let mut builder = builder.authority();
-    for held in parts.authority.iter() {
-        builder.push(alloc, &held.entry)?;
-    }
+    push_authority(alloc, &mut builder, parts.authority.as_slice())?;
     let mut builder = builder.additional();
-    for held in parts.additional.iter() {
-        builder.push(alloc, &held.entry)?;
-    }
+    push_additional(alloc, &mut builder, parts.additional.as_slice())?;
     builder.opt(alloc, |opt| options(opt, alloc, parts.cookie))?;
     Ok(builder.finish())
+}
+
+/// The header and the question.
+fn asked(alloc: Global, parts: &Parts, id: u16) -> Result<QuestionBuilder, BuildDataError> {
+    let mut builder = MessageBuilder::new(alloc)?;
+    builder.set_push_limit(512);
+    builder.set_header(Header { id, ..parts.header });
+    let mut builder = builder.question();
+    builder.push(alloc, &parts.question)?;
+    Ok(builder)
+}
+
+fn push_answer(alloc: Global, builder: &mut AnswerBuilder, all: &[Held]) -> Result<(), PushError> {
+    for held in all {
+        builder.push(alloc, &held.entry)?;
+    }
+    Ok(())
+}
+
+fn push_authority(
+    alloc: Global,
+    builder: &mut AuthorityBuilder,
+    all: &[Held],
+) -> Result<(), PushError> {
+    for held in all {
+        builder.push(alloc, &held.entry)?;
+    }
+    Ok(())
+}
+
+fn push_additional(
+    alloc: Global,
+    builder: &mut AdditionalBuilder,
+    all: &[Held],
+) -> Result<(), PushError> {
+    for held in all {
+        builder.push(alloc, &held.entry)?;
+    }
+    Ok(())
 }
 
 /// The head and the five options.

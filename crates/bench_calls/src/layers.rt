@@ -4,8 +4,8 @@ ghost use Rattle.std.specs.Prelude.{◌≡◌, ◌≤◌, None, Some, Ok, length
 ghost use Rattle.std.specs.Result.{ForOk};
 
 use dns_base::{
-    AdditionalBuilder, Class, Message, MessageBuilder, Name, OutOfMemory, ParseError, PushError,
-    Record, RecordData, Ttl,
+    AdditionalBuilder, AnswerBuilder, Class, Message, MessageBuilder, Name, OutOfMemory,
+    ParseError, PushError, Record, RecordData, Ttl,
 };
 use dns_middleware::{EdnsMiddlewareSvc, MandatoryMiddlewareSvc};
 use dns_name::{IpAddr, Rcode, SocketAddr};
@@ -93,22 +93,38 @@ fn through_layers(alloc: Global, query: &mut [u8], count: u64) -> Result<u64, Qu
     requires { 2 ≤ length query.old }
 {
     let service = service_fn::<Same, _, AdditionalBuilder>(given, answer(alloc)?);
-    let service = MandatoryMiddlewareSvc::new(EdnsMiddlewareSvc::new(service));
-    replies(alloc, &service, query, count)
+    within_mandatory(alloc, EdnsMiddlewareSvc::new(service), query, count)
+}
+
+/// The sum of the replies where a service stands within the mandatory layer.
+fn within_mandatory<S: Service<()>>(
+    alloc: Global,
+    service: S,
+    query: &mut [u8],
+    count: u64,
+) -> Result<u64, QueryError>
+    requires can_call { S.can_call service }
+    requires identifier { 2 ≤ length query.old }
+{
+    replies(alloc, &MandatoryMiddlewareSvc::new(service), query, count)
 }
 
 /// The answer of one address.
 fn answer(alloc: Global) -> Result<AdditionalBuilder, QueryError> {
     let query = message(alloc, &QUERY)?;
     let mut answer = MessageBuilder::new(alloc)?.start_answer(alloc, &query, Rcode::NOERROR)?;
+    push_address(alloc, &mut answer)?;
+    Ok(answer.additional())
+}
+
+fn push_address(alloc: Global, answer: &mut AnswerBuilder) -> Result<(), QueryError> {
     let record = Record {
         owner: Name::root(alloc)?,
         class: Class::IN,
         ttl: Ttl::from_secs(300),
         rdata: RecordData::A([192, 0, 2, 1]),
     };
-    answer.push(alloc, &record)?;
-    Ok(answer.additional())
+    Ok(answer.push(alloc, &record)?)
 }
 
 /// The sum of the replies to so many queries, whose identifier is another each time.
@@ -126,8 +142,7 @@ fn replies<S: Service<()>>(
         query[0] = (i / 256 % 256) as u8;
         query[1] = (i % 256) as u8;
         let mut request = request(alloc, query)?;
-        let reply = only_reply(alloc, service, &mut request)?;
-        sum = sum.wrapping_add(octet_sum(reply.as_slice()));
+        sum = sum.wrapping_add(reply_sum(alloc, service, &mut request)?);
     }
     Ok(sum)
 }
@@ -147,25 +162,36 @@ fn request(alloc: Global, octets: &[u8]) -> Result<Request<()>, ParseError> {
     Ok(Request::new(alloc, sender, 5, 100, query, transport, ())?)
 }
 
-/// The one reply that a service gives at once.
-fn only_reply<S: Service<()>>(
+/// The sum of the octets of the one reply that a service gives at once.
+fn reply_sum<S: Service<()>>(
     alloc: Global,
     service: &S,
     request: &mut Request<()>,
-) -> Result<AdditionalBuilder, QueryError>
+) -> Result<u64, QueryError>
     requires { S.can_call service.now }
 {
     let mut future = service.call(alloc, request)?;
-    let Polled::Ready(mut stream) = future.poll(alloc)? else {
-        return Err(QueryError::Service);
+    match future.poll(alloc)? {
+        Polled::Ready(mut stream) => stream_sum(alloc, &mut stream),
+        Polled::Pending => Err(QueryError::Service),
+    }
+}
+
+/// The sum of the octets of a stream's one reply.
+fn stream_sum<R: ReplyStream>(alloc: Global, stream: &mut R) -> Result<u64, QueryError> {
+    let sum = match stream.poll_next(alloc)? {
+        Polled::Ready(Some(Ok(item))) => item_sum(&item),
+        _ => None,
     };
-    let Polled::Ready(Some(Ok(item))) = stream.poll_next(alloc)? else {
-        return Err(QueryError::Service);
-    };
-    let (Some(reply), Polled::Ready(None)) = (item.into_inner().0, stream.poll_next(alloc)?) else {
-        return Err(QueryError::Service);
-    };
-    Ok(reply)
+    match (sum, stream.poll_next(alloc)?) {
+        (Some(sum), Polled::Ready(None)) => Ok(sum),
+        _ => Err(QueryError::Service),
+    }
+}
+
+/// The sum of the octets of an item's reply.
+fn item_sum(item: &CallResult) -> Option<u64> {
+    Some(octet_sum(item.response()?.as_slice()))
 }
 
 fn octet_sum(octets: &[u8]) -> u64 {

@@ -1,5 +1,5 @@
 -- Where the sections of a built message begin.
-use Rattle.std.proofs.Common.{◌≡◌, ℕ, ◌+◌, List, [], ◌++◌, length, drop, Ok, ap, refl, sym, subst, ◌∙◌, arith, length-append, length-drop}
+use Rattle.std.proofs.Common.{◌≡◌, ℕ, ◌+◌, ◌≤◌, List, [], ◌++◌, length, take, drop, Ok, ap, refl, sym, subst, ◌∙◌, arith, length-append, length-drop}
 use Rattle.std.specs.List.{flat_map}
 use Rattle.dns_base.specs.declared.draft.Section.{Section}
 use Rattle.dns_base.specs.declared.draft.Section.TheVariants.{Answer, Authority, Additional}
@@ -8,10 +8,10 @@ use Rattle.dns_message.specs.declared.header.Header.{Header}
 use Rattle.dns_base.specs.Msg.{Msg, ResourceRecord}
 use Rattle.dns_base.specs.Wire.{question_octets, record_octets, wire}
 use Rattle.dns_base.specs.Built.{Built, NoRecords, NoAuthority, IsLast, and_record, less_records, with_header, with_record, less_section}
-use Rattle.dns_base.specs.Draft.{IsDraft, AreStarts, all_at, moved_behind, start_in, start_of}
+use Rattle.dns_base.specs.Draft.{IsDraft, AreStarts, all_at, count_place, counted, moved_behind, start_in, start_of}
 use Rattle.dns_base.specs.Replaced.{less_type}
 use Rattle.dns_base.proofs.Pushed.{viewed, draft_wire}
-use Rattle.dns_base.proofs.Rewound.{kept, starts, start_known}
+use Rattle.dns_base.proofs.Rewound.{kept, starts, start_known, behind, rewound}
 
 -- places at which the sections of records of a message begin
 abbrev pub AreStartsOf : Starts → Msg → Type 0
@@ -121,6 +121,23 @@ pub starts_rewound : (o o' : List ℕ) (limit n : ℕ) (b : Built) (s : Section)
 starts_rewound o o' limit n b s p q d v a h d' v' l e =
     starts_stand o' limit (less_section s b) q (moved_behind p s n) d' v' e
     (without s b.message p n h (starts_read o limit b p d v a) (message_length o' limit n (less_section s b) d' v' l))
+
+-- where a section begins, in the octets
+pub start_within : (o : List ℕ) (limit n : ℕ) (b : Built) (p : Starts) (s : Section) → IsDraft o limit → viewed o limit ≡ b → AreStarts p (drop 2 o) → n ≡ start_in p s → (12 ≤ n) × (n + 2 ≤ length o)
+start_within o limit n b p s d v a e =
+    let k = known o limit n b p s d v a e in
+    let h = start_known s o n limit b d v k in
+    (omega (arith, h), behind s o n limit b d v k)
+
+-- what a rewind of a section makes of the octets and of the places where sections begin
+pub rewound_whole : (o o' : List ℕ) (limit n place : ℕ) (b : Built) (s : Section) (p q : Starts) → IsDraft o limit → viewed o limit ≡ b → AreStarts p (drop 2 o) → IsLast s b.message →
+    n ≡ start_in p s → place ≡ count_place s → drop 2 o' ≡ counted place 0 (take n (drop 2 o)) → length o' ≡ n + 2 → q ≡ moved_behind p s n →
+    (IsDraft o' limit × AreStarts q (drop 2 o')) × (viewed o' limit ≡ less_section s b)
+rewound_whole o o' limit n place b s p q d v a h e f m l g =
+    let t = subst (λ (x : ℕ). drop 2 o' ≡ counted x 0 (take n (drop 2 o))) f m in
+    let k = known o limit n b p s d v a e in
+    let r = rewound s o o' n limit b d v h k (behind s o n limit b d v k) t l in
+    ((r.0, starts_rewound o o' limit n b s p q d v a h r.0 r.1 (sym l) g), r.1)
 
 pub starts_headed : (o o' : List ℕ) (limit : ℕ) (b : Built) (h : Header) (p : Starts) → IsDraft o limit → viewed o limit ≡ b → AreStarts p (drop 2 o) →
     IsDraft o' limit → viewed o' limit ≡ with_header b h → AreStarts p (drop 2 o')

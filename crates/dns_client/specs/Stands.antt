@@ -23,9 +23,8 @@ phase_of Is_open = Open
 phase_of Is_closed = Closed
 
 abbrev pub is_closed : Status → Bool
-is_closed Is_exchange = false
-is_closed Is_open = false
 is_closed Is_closed = true
+is_closed _ = false
 
 -- a polled state is kept of each request that isn't done, and answers from the polls made on
 abbrev pub Keeps : {Q : Type 0} → (Q → ℕ → Answer) → (Req (Unit {0}) → ℕ → Answer) → Option Q → Option Asked → Type 0

@@ -97,14 +97,37 @@ fn last_word(octets: &[u8], top: u8) -> u64
     ensures { result ≡ word octets.now + top * 2 ^ 56 }
 {
     match octets {
+        [a, b, c, d, more @ ..] => last_half(*a, *b, *c, *d, more, top),
+        _ => first_half(octets, top),
+    }
+}
+
+/// The last word of fewer than four octets.
+#[inline(always)]
+fn first_half(octets: &[u8], top: u8) -> u64
+    requires { length octets.now < 4 }
+    ensures { result ≡ word octets.now + top * 2 ^ 56 }
+{
+    match octets {
         [] => number(0, 0, 0, 0, 0, 0, 0, top),
         [a] => number(*a, 0, 0, 0, 0, 0, 0, top),
         [a, b] => number(*a, *b, 0, 0, 0, 0, 0, top),
         [a, b, c] => number(*a, *b, *c, 0, 0, 0, 0, top),
-        [a, b, c, d] => number(*a, *b, *c, *d, 0, 0, 0, top),
-        [a, b, c, d, e] => number(*a, *b, *c, *d, *e, 0, 0, top),
-        [a, b, c, d, e, f] => number(*a, *b, *c, *d, *e, *f, 0, top),
-        [a, b, c, d, e, f, g] => number(*a, *b, *c, *d, *e, *f, *g, top),
+        _ => unreachable!(),
+    }
+}
+
+/// The last word of four octets and fewer than four more.
+#[inline(always)]
+fn last_half(a: u8, b: u8, c: u8, d: u8, more: &[u8], top: u8) -> u64
+    requires { length more.now < 4 }
+    ensures { result ≡ a + 256 * (b + 256 * (c + 256 * (d + 256 * word more.now))) + top * 2 ^ 56 }
+{
+    match more {
+        [] => number(a, b, c, d, 0, 0, 0, top),
+        [e] => number(a, b, c, d, *e, 0, 0, top),
+        [e, f] => number(a, b, c, d, *e, *f, 0, top),
+        [e, f, g] => number(a, b, c, d, *e, *f, *g, top),
         _ => unreachable!(),
     }
 }

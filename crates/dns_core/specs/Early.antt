@@ -4,7 +4,7 @@ use Rattle.std.specs.List.{flat_map}
 use Rattle.dns_base.specs.Header.{header_of}
 use Rattle.dns_service.specs.declared.event.Event.{Event}
 use Rattle.dns_service.specs.declared.event.EventKind.{EventKind}
-use Rattle.dns_service.specs.declared.event.EventKind.TheVariants.{Datagram, Turn, Offer, Piece, End, Write, Release}
+use Rattle.dns_service.specs.declared.event.EventKind.TheVariants.{Datagram, Piece}
 use Rattle.dns_client.specs.Frames.{frames}
 use Rattle.dns_client.specs.Requests.{header_size}
 use Rattle.dns_core.specs.Own.{own}
@@ -16,21 +16,11 @@ IsQuery o = header_size ≤ length o → (header_of o).qr ≡ false
 
 abbrev pub IsQueryAlone : EventKind → Type 0
 IsQueryAlone (Datagram addr o) = IsQuery o
-IsQueryAlone (Turn k) = Unit {0}
-IsQueryAlone (Offer addr) = Unit {0}
-IsQueryAlone (Piece o) = Unit {0}
-IsQueryAlone End = Unit {0}
-IsQueryAlone (Write took) = Unit {0}
-IsQueryAlone Release = Unit {0}
+IsQueryAlone _ = Unit {0}
 
 abbrev pub piece_in : EventKind → List ℕ
-piece_in (Datagram addr o) = []
-piece_in (Turn k) = []
-piece_in (Offer addr) = []
 piece_in (Piece o) = o
-piece_in End = []
-piece_in (Write took) = []
-piece_in Release = []
+piece_in _ = []
 
 -- the octets of a client's stream
 abbrev pub stream_of : ℕ → List Event → List ℕ

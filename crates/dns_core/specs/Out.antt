@@ -5,53 +5,36 @@ use Rattle.dns_service.specs.Answer.{Answer}
 use Rattle.dns_service.specs.Req.{Req}
 use Rattle.dns_service.specs.declared.event.Event.{Event}
 use Rattle.dns_service.specs.declared.event.EventKind.{EventKind}
-use Rattle.dns_service.specs.declared.event.EventKind.TheVariants.{Datagram, Turn, Offer, Piece, End, Write, Release}
+use Rattle.dns_service.specs.declared.event.EventKind.TheVariants.{Datagram, Offer, Release}
 use Rattle.dns_service.specs.declared.event.Output.{Output}
 use Rattle.dns_service.specs.declared.event.Output.TheVariants.{TurnedAway}
-use Rattle.dns_client.specs.Slate.{Slate, Phase, Unused, Exchange, Open, Closed}
+use Rattle.dns_client.specs.Slate.{Slate, Phase, Unused, Open, Closed}
 use Rattle.dns_client.specs.Rule.{rule}
 use Rattle.dns_core.specs.Sent.{slate}
 use Rattle.dns_core.specs.declared.settings.Settings.{Settings}
 
 abbrev pub is_unused : Phase → Bool
 is_unused Unused = true
-is_unused Exchange = false
-is_unused Open = false
-is_unused Closed = false
+is_unused _ = false
 
 abbrev pub is_connection : Phase → Bool
-is_connection Unused = false
-is_connection Exchange = false
 is_connection Open = true
 is_connection Closed = true
+is_connection _ = false
 
 abbrev pub is_datagram : EventKind → Bool
 is_datagram (Datagram addr o) = true
-is_datagram (Turn k) = false
-is_datagram (Offer addr) = false
-is_datagram (Piece o) = false
-is_datagram End = false
-is_datagram (Write took) = false
-is_datagram Release = false
+is_datagram _ = false
 
 -- the kinds of event by which a client begins
 abbrev pub begins : EventKind → Bool
 begins (Datagram addr o) = true
-begins (Turn k) = false
 begins (Offer addr) = true
-begins (Piece o) = false
-begins End = false
-begins (Write took) = false
-begins Release = false
+begins _ = false
 
 abbrev pub is_release : EventKind → Bool
-is_release (Datagram addr o) = false
-is_release (Turn k) = false
-is_release (Offer addr) = false
-is_release (Piece o) = false
-is_release End = false
-is_release (Write took) = false
 is_release Release = true
+is_release _ = false
 
 -- a number stands once in a rising list
 abbrev pub put : ℕ → List ℕ → List ℕ

@@ -12,7 +12,9 @@ use Rattle.dns_message.specs.declared.rdata.RecordData.TheVariants.{A, Aaaa, Nam
 use Rattle.dns_name.specs.declared.serial.Serial.{Serial}
 use Rattle.dns_message.specs.Options.{IsOptionList}
 use Rattle.dns_message.specs.Records.{data_octets, data_type, IsLawful}
-use Rattle.dns_message.specs.Standing.{address_at, data_at, filled, long_address_at, minfo_at, mx_at, one_name_at, opt_read, soa_at, srv_at}
+use Rattle.dns_message.specs.declared.zone.ZoneNumbers.{ZoneNumbers}
+use Rattle.dns_message.specs.Zone.{ttls_at, zone_at, zone_octets}
+use Rattle.dns_message.specs.Standing.{address_at, data_at, filled, long_address_at, minfo_at, mx_at, names_at, numbered_at, one_name_at, opt_read, soa_at, srv_at}
 use Rattle.dns_message.specs.TypedData.{HasNames, IsTyped}
 use Rattle.dns_message.proofs.Written.{past, two_written, four_written, octets_written}
 
@@ -41,25 +43,33 @@ one_name_written : (t : ℕ) (n : List (List ℕ)) (o : List ℕ) (limit at : �
 unfolding one_name_at
 one_name_written t n o limit at i h = rw (name_written n o [] limit at i (alone (take limit o) (spell n) at h)) refl
 
+names_written : (a b : List (List ℕ)) (o more : List ℕ) (limit at : ℕ) → IsName a → IsName b → drop at (take limit o) ≡ spell a ++ (spell b ++ more) → names_at o limit at ≡ Ok ((a, b), at + length (spell a) + length (spell b))
+unfolding names_at
+names_written a b o more limit at i j h =
+    let x = name_written a o (spell b ++ more) limit at i h in
+    let y = name_written b o more limit (at + length (spell a)) j (past (take limit o) (spell a) (spell b ++ more) at h) in
+    rw (x, y) refl
+
+numbered_written : (p : ℕ) (n : List (List ℕ)) (o : List ℕ) (limit at : ℕ) → IsName n → drop at (take limit o) ≡ two p ++ spell n → numbered_at o limit at ≡ Ok ((p, n), at + 2 + length (spell n))
+unfolding numbered_at
+numbered_written p n o limit at i h =
+    let v = take limit o in
+    let x = two_written v (spell n) at p h in
+    let y = name_written n o [] limit (at + 2) i (alone v (spell n) (at + 2) (past v (two p) (spell n) at h)) in
+    rw (x, y) refl
+
 minfo_written : (a b : List (List ℕ)) (o : List ℕ) (limit at : ℕ) → IsName a → IsName b → drop at (take limit o) ≡ spell a ++ spell b → minfo_at o limit at ≡ Ok (Minfo a b, at + length (spell a ++ spell b))
 unfolding minfo_at
 minfo_written a b o limit at i j h =
-    let v = take limit o in
-    let x = name_written a o (spell b) limit at i h in
-    let g = past v (spell a) (spell b) at h in
-    let y = name_written b o [] limit (at + length (spell a)) j (alone v (spell b) (at + length (spell a)) g) in
+    let x = names_written a b o [] limit at i j (h ∙ ap (λ l. spell a ++ l) (sym (append-nil (spell b)))) in
     let e : at + length (spell a) + length (spell b) ≡ at + length (spell a ++ spell b) = omega (arith, length-append (spell a) (spell b)) in
-    rw (x, y) (ap (λ n. Ok (Minfo a b, n)) e)
+    rw x (ap (λ n. Ok (Minfo a b, n)) e)
 
 mx_written : (p : ℕ) (n : List (List ℕ)) (o : List ℕ) (limit at : ℕ) → IsName n → drop at (take limit o) ≡ two p ++ spell n → mx_at o limit at ≡ Ok (Mx p n, at + length (two p ++ spell n))
 unfolding mx_at
 mx_written p n o limit at i h =
-    let v = take limit o in
-    let x = two_written v (spell n) at p h in
-    let g = past v (two p) (spell n) at h in
-    let y = name_written n o [] limit (at + 2) i (alone v (spell n) (at + 2) g) in
     let e : at + 2 + length (spell n) ≡ at + length (two p ++ spell n) = omega arith in
-    rw (x, y) (ap (λ k. Ok (Mx p n, k)) e)
+    rw (numbered_written p n o limit at i h) (ap (λ k. Ok (Mx p n, k)) e)
 
 srv_written : (p w q : ℕ) (n : List (List ℕ)) (o : List ℕ) (limit at : ℕ) → IsName n → drop at (take limit o) ≡ two p ++ (two w ++ (two q ++ spell n)) →
     srv_at o limit at ≡ Ok (Srv p w q n, at + length (two p ++ (two w ++ (two q ++ spell n))))
@@ -69,40 +79,41 @@ srv_written p w q n o limit at i h =
     let x = two_written v (two w ++ (two q ++ spell n)) at p h in
     let h1 = past v (two p) (two w ++ (two q ++ spell n)) at h in
     let y = two_written v (two q ++ spell n) (at + 2) w h1 in
-    let h2 = past v (two w) (two q ++ spell n) (at + 2) h1 in
-    let z = two_written v (spell n) (at + 2 + 2) q h2 in
-    let h3 = past v (two q) (spell n) (at + 2 + 2) h2 in
-    let u = name_written n o [] limit (at + 2 + 2 + 2) i (alone v (spell n) (at + 2 + 2 + 2) h3) in
+    let z = numbered_written q n o limit (at + 2 + 2) i (past v (two w) (two q ++ spell n) (at + 2) h1) in
     let e : at + 2 + 2 + 2 + length (spell n) ≡ at + length (two p ++ (two w ++ (two q ++ spell n))) = omega arith in
-    rw (x, y, z, u) (ap (λ k. Ok (Srv p w q n, k)) e)
+    rw (x, y, z) (ap (λ k. Ok (Srv p w q n, k)) e)
+
+ttls_written : (a b : ℕ) (o more : List ℕ) (at : ℕ) → drop at o ≡ four a ++ (four b ++ more) → ttls_at o at ≡ Ok ((a, b), at + 8)
+unfolding ttls_at
+ttls_written a b o more at h =
+    let x = four_written o (four b ++ more) at a h in
+    let y = four_written o more (at + 4) b (past o (four a) (four b ++ more) at h) in
+    let e : at + 4 + 4 ≡ at + 8 = omega arith in
+    rw (x, y) (ap (λ n. Ok ((a, b), n)) e)
+
+zone_written : (z : ZoneNumbers) (o : List ℕ) (at : ℕ) → drop at o ≡ zone_octets z → zone_at o at ≡ Ok (z, at + 20)
+unfolding zone_at
+zone_written z o at h =
+    let late : List ℕ = four z.expire ++ four z.minimum in
+    let early : List ℕ = four z.refresh ++ four z.retry in
+    let a = four_written o (early ++ late) at z.serial.0 h in
+    let h1 = past o (four z.serial.0) (early ++ late) at h in
+    let b = ttls_written z.refresh z.retry o late (at + 4) h1 in
+    let c = ttls_written z.expire z.minimum o [] (at + 4 + 8) (past o early late (at + 4) h1) in
+    let k : at + 4 + 8 + 8 ≡ at + 20 = omega arith in
+    rw (a, b, c) (ap (λ n. Ok (z, n)) k)
 
 soa_written : (m r : List (List ℕ)) (s : Serial) (f t e n : ℕ) (o : List ℕ) (limit at : ℕ) → IsName m → IsName r → drop at (take limit o) ≡ data_octets (Soa m r s f t e n) →
     soa_at o limit at ≡ Ok (Soa m r s f t e n, at + length (data_octets (Soa m r s f t e n)))
 unfolding soa_at
 soa_written m r s f t e n o limit at i j h =
     let v = take limit o in
-    let t5 : List ℕ = four n in
-    let t4 : List ℕ = four e ++ t5 in
-    let t3 : List ℕ = four t ++ t4 in
-    let t2 : List ℕ = four f ++ t3 in
-    let t1 : List ℕ = four s.0 ++ t2 in
-    let p1 = at + length (spell m) in
-    let p2 = p1 + length (spell r) in
-    let x = name_written m o (spell r ++ t1) limit at i h in
-    let h1 = past v (spell m) (spell r ++ t1) at h in
-    let y = name_written r o t1 limit p1 j h1 in
-    let h2 = past v (spell r) t1 p1 h1 in
-    let a = four_written v t2 p2 s.0 h2 in
-    let h3 = past v (four s.0) t2 p2 h2 in
-    let b = four_written v t3 (p2 + 4) f h3 in
-    let h4 = past v (four f) t3 (p2 + 4) h3 in
-    let c = four_written v t4 (p2 + 4 + 4) t h4 in
-    let h5 = past v (four t) t4 (p2 + 4 + 4) h4 in
-    let d = four_written v t5 (p2 + 4 + 4 + 4) e h5 in
-    let h6 = past v (four e) t5 (p2 + 4 + 4 + 4) h5 in
-    let g = four_written v [] (p2 + 4 + 4 + 4 + 4) n h6 in
-    let k : p2 + 4 + 4 + 4 + 4 + 4 ≡ at + length (spell m ++ (spell r ++ t1)) = omega (arith, length-append (spell m) (spell r ++ t1), length-append (spell r) t1) in
-    rw (x, y, a, b, c, d, g) (ap (λ z. Ok (Soa m r s f t e n, z)) k)
+    let z : ZoneNumbers = record { serial = s; refresh = f; retry = t; expire = e; minimum = n } in
+    let p = at + length (spell m) + length (spell r) in
+    let x = names_written m r o (zone_octets z) limit at i j h in
+    let h1 = past v (spell r) (zone_octets z) (at + length (spell m)) (past v (spell m) (spell r ++ zone_octets z) at h) in
+    let k : p + 20 ≡ at + length (spell m ++ (spell r ++ zone_octets z)) = omega (arith, length-append (spell m) (spell r ++ zone_octets z), length-append (spell r) (zone_octets z)) in
+    rw (x, zone_written z v p h1) (ap (λ k. Ok (Soa m r s f t e n, k)) k)
 
 opt_written : (d : List ℕ) (limit : ℕ) → IsOptionList d → opt_read d limit ≡ Ok (Opt d, limit)
 opt_written d limit h = rw h refl

@@ -13,7 +13,9 @@ use Rattle.dns_message.specs.Header.{bit, low_bit, header_of, header_octets, IsH
 use Rattle.dns_message.specs.Msg.{Msg, ResourceRecord, IsMessage, HasName, HasOwner}
 use Rattle.dns_message.specs.Wire.{question_octets, record_octets, counts, body, wire}
 use Rattle.dns_message.specs.Read.{two_at, four_at, octets_at, question_at}
-use Rattle.dns_message.specs.Standing.{standing_at, record_at}
+use Rattle.dns_message.specs.declared.fixed.FixedFields.{FixedFields}
+use Rattle.dns_message.specs.Fixed.{fixed_at, fixed_octets, fixed_of}
+use Rattle.dns_message.specs.Standing.{Standing, data_at, standing_at, record_at}
 use Rattle.dns_message.specs.Sections.{items_from, questions_of, answers_of, authority_of, additional_of, message_of}
 
 -- what lies behind octets at a place
@@ -54,30 +56,53 @@ question_written q o more at n h =
     let e : at + length s + 2 + 2 ≡ at + length (question_octets q) = omega (arith, length-append s (two q.qtype ++ two q.qclass)) in
     rw (a, b, c) (ap (λ x. Ok (q, x)) e)
 
-pub record_written : (r : ResourceRecord) (o more : List ℕ) (at : ℕ) → IsName r.owner → drop at o ≡ record_octets r ++ more → record_at o at ≡ Ok (r, at + length (record_octets r))
-unfolding record_at standing_at
-record_written r o more at n h =
+fixed_written : (f : FixedFields) (o more : List ℕ) (at : ℕ) → drop at o ≡ fixed_octets f ++ more → fixed_at o at ≡ Ok (f, at + 10)
+unfolding fixed_at
+fixed_written f o more at h =
+    let t3 : List ℕ = two f.size ++ more in
+    let t2 : List ℕ = four f.ttl ++ t3 in
+    let t1 : List ℕ = two f.class ++ t2 in
+    let a = two_written o t1 at f.rtype h in
+    let h1 = past o (two f.rtype) t1 at h in
+    let b = two_written o t2 (at + 2) f.class h1 in
+    let h2 = past o (two f.class) t2 (at + 2) h1 in
+    let c = four_written o t3 (at + 2 + 2) f.ttl h2 in
+    let h3 = past o (four f.ttl) t3 (at + 2 + 2) h2 in
+    let d = two_written o more (at + 2 + 2 + 4) f.size h3 in
+    let e : at + 2 + 2 + 4 + 2 ≡ at + 10 = omega arith in
+    rw (a, b, c, d) (ap (λ n. Ok (f, n)) e)
+
+-- a record that is written stands there: its data behind its owner and its fixed fields
+abbrev pub data_place : ResourceRecord → ℕ → ℕ
+data_place r at = at + length (spell r.owner) + 10
+
+abbrev pub standing_by : ResourceRecord → List ℕ → ℕ → Standing
+standing_by r o p = record { resource = r; content = data_at r.rtype o (p + length r.rdata) p }
+
+fields_written : (r : ResourceRecord) (o more : List ℕ) (at : ℕ) → drop at o ≡ record_octets r ++ more → drop at o ≡ spell r.owner ++ (fixed_octets (fixed_of r) ++ (r.rdata ++ more))
+fields_written r o more at h = h ∙ append_assoc (spell r.owner) (fixed_octets (fixed_of r) ++ r.rdata) more
+
+pub rdata_written : (r : ResourceRecord) (o more : List ℕ) (at : ℕ) → drop at o ≡ record_octets r ++ more → drop (data_place r at) o ≡ r.rdata ++ more
+rdata_written r o more at h =
     let s = spell r.owner in
-    let d = r.rdata in
-    let t5 : List ℕ = d ++ more in
-    let t4 : List ℕ = two (length d) ++ t5 in
-    let t3 : List ℕ = four r.ttl ++ t4 in
-    let t2 : List ℕ = two r.class ++ t3 in
-    let t1 : List ℕ = two r.rtype ++ t2 in
-    let h0 : drop at o ≡ s ++ t1 = h ∙ append_assoc s (two r.rtype ++ (two r.class ++ (four r.ttl ++ (two (length r.rdata) ++ r.rdata)))) more in
-    let a = name_spelt r.owner o t1 at h0 n in
-    let h1 = past o s t1 at h0 in
-    let b = two_written o t2 (at + length s) r.rtype h1 in
-    let h2 = past o (two r.rtype) t2 (at + length s) h1 in
-    let c = two_written o t3 (at + length s + 2) r.class h2 in
-    let h3 = past o (two r.class) t3 (at + length s + 2) h2 in
-    let f = four_written o t4 (at + length s + 2 + 2) r.ttl h3 in
-    let h4 = past o (four r.ttl) t4 (at + length s + 2 + 2) h3 in
-    let g = two_written o t5 (at + length s + 2 + 2 + 4) (length d) h4 in
-    let h5 = past o (two (length d)) t5 (at + length s + 2 + 2 + 4) h4 in
-    let i = octets_written o more d (at + length s + 2 + 2 + 4 + 2) h5 in
-    let e : at + length s + 2 + 2 + 4 + 2 + length d ≡ at + length (record_octets r) = omega (arith, length-append s (two r.rtype ++ (two r.class ++ (four r.ttl ++ (two (length r.rdata) ++ r.rdata))))) in
-    rw (a, b, c, f, g, i) (ap (λ x. Ok (r, x)) e)
+    let f = fixed_octets (fixed_of r) in
+    past o f (r.rdata ++ more) (at + length s) (past o s (f ++ (r.rdata ++ more)) at (fields_written r o more at h))
+
+pub standing_written : (r : ResourceRecord) (o more : List ℕ) (at : ℕ) → IsName r.owner → drop at o ≡ record_octets r ++ more → standing_at o at ≡ Ok (standing_by r o (data_place r at), at + length (record_octets r))
+unfolding standing_at
+standing_written r o more at n h =
+    let s = spell r.owner in
+    let rest : List ℕ = fixed_octets (fixed_of r) ++ (r.rdata ++ more) in
+    let h0 = fields_written r o more at h in
+    let a = name_spelt r.owner o rest at h0 n in
+    let b = fixed_written (fixed_of r) o (r.rdata ++ more) (at + length s) (past o s rest at h0) in
+    let c = octets_written o more r.rdata (data_place r at) (rdata_written r o more at h) in
+    let e : data_place r at + length r.rdata ≡ at + length (record_octets r) = omega (arith, length-append s (fixed_octets (fixed_of r) ++ r.rdata)) in
+    rw (a, b, c) (ap (λ y. Ok (standing_by r o (data_place r at), y)) e)
+
+pub record_written : (r : ResourceRecord) (o more : List ℕ) (at : ℕ) → IsName r.owner → drop at o ≡ record_octets r ++ more → record_at o at ≡ Ok (r, at + length (record_octets r))
+unfolding record_at
+record_written r o more at n h = rw (standing_written r o more at n h) refl
 
 module _ {A : Type 0} (one : ℕ → Read A) (spelling : A → List ℕ) (P : A → Type 0) (o : List ℕ)
     (each : (x : A) (more : List ℕ) (at : ℕ) → P x → drop at o ≡ spelling x ++ more → one at ≡ Ok (x, at + length (spelling x))) where
@@ -135,42 +160,57 @@ questions_written m n =
     (items_written (question_at (wire m)) question_octets HasName (wire m) (λ q more at p h. question_written q (wire m) more at p h)
     m.questions (flat_map record_octets m.answers ++ (flat_map record_octets m.authority ++ flat_map record_octets m.additional)) 12 n.questions refl)
 
-pub answers_written : (m : Msg) → IsMessage m → answers_of (wire m) ≡ (m.answers, Ok (12 + length (flat_map question_octets m.questions) + length (flat_map record_octets m.answers)))
+-- where the sections of records begin in a message that is written, and where the last one ends
+abbrev pub answers_place : Msg → ℕ
+answers_place m = 12 + length (flat_map question_octets m.questions)
+
+abbrev pub authority_place : Msg → ℕ
+authority_place m = answers_place m + length (flat_map record_octets m.answers)
+
+abbrev pub additional_place : Msg → ℕ
+additional_place m = authority_place m + length (flat_map record_octets m.authority)
+
+abbrev pub end_place : Msg → ℕ
+end_place m = additional_place m + length (flat_map record_octets m.additional)
+
+-- what stands there
+abbrev pub behind_authority : Msg → List ℕ
+behind_authority m = flat_map record_octets m.additional
+
+abbrev pub behind_answers : Msg → List ℕ
+behind_answers m = flat_map record_octets m.authority ++ behind_authority m
+
+pub answers_here : (m : Msg) → drop (answers_place m) (wire m) ≡ flat_map record_octets m.answers ++ behind_answers m
+unfolding wire
+answers_here m = past (wire m) (flat_map question_octets m.questions) (flat_map record_octets m.answers ++ behind_answers m) 12 refl
+
+pub authority_here : (m : Msg) → drop (authority_place m) (wire m) ≡ behind_answers m
+authority_here m = past (wire m) (flat_map record_octets m.answers) (behind_answers m) (answers_place m) (answers_here m)
+
+pub additional_here : (m : Msg) → drop (additional_place m) (wire m) ≡ behind_authority m ++ []
+additional_here m = past (wire m) (flat_map record_octets m.authority) (behind_authority m) (authority_place m) (authority_here m) ∙ sym (append-nil (behind_authority m))
+
+records_written : (o : List ℕ) (xs : List ResourceRecord) (more : List ℕ) (at : ℕ) → AllByRecursion HasOwner xs → drop at o ≡ flat_map record_octets xs ++ more →
+    items_from (record_at o) (length xs) at ≡ (xs, Ok (at + length (flat_map record_octets xs)))
+records_written o = items_written (record_at o) record_octets HasOwner o (λ r more at p h. record_written r o more at p h)
+
+pub answers_written : (m : Msg) → IsMessage m → answers_of (wire m) ≡ (m.answers, Ok (authority_place m))
 unfolding answers_of wire
 answers_written m n =
-    let fq = flat_map question_octets m.questions in
-    let rest : List ℕ = flat_map record_octets m.authority ++ flat_map record_octets m.additional in
-    let h = past (wire m) fq (flat_map record_octets m.answers ++ rest) 12 refl in
     rw (questions_written m n, halves (length m.answers))
-    (items_written (record_at (wire m)) record_octets HasOwner (wire m) (λ r more at p h. record_written r (wire m) more at p h)
-    m.answers rest (12 + length fq) n.answers h)
+    (records_written (wire m) m.answers (behind_answers m) (answers_place m) n.answers (answers_here m))
 
-pub authority_written : (m : Msg) → IsMessage m → authority_of (wire m) ≡ (m.authority, Ok (12 + length (flat_map question_octets m.questions) + length (flat_map record_octets m.answers) + length (flat_map record_octets m.authority)))
+pub authority_written : (m : Msg) → IsMessage m → authority_of (wire m) ≡ (m.authority, Ok (additional_place m))
 unfolding authority_of wire
 authority_written m n =
-    let fq = flat_map question_octets m.questions in
-    let fa = flat_map record_octets m.answers in
-    let fn = flat_map record_octets m.authority in
-    let fr = flat_map record_octets m.additional in
-    let h = past (wire m) fq (fa ++ (fn ++ fr)) 12 refl in
-    let k = past (wire m) fa (fn ++ fr) (12 + length fq) h in
     rw (answers_written m n, halves (length m.authority))
-    (items_written (record_at (wire m)) record_octets HasOwner (wire m) (λ r more at p h. record_written r (wire m) more at p h)
-    m.authority fr (12 + length fq + length fa) n.authority k)
+    (records_written (wire m) m.authority (behind_authority m) (authority_place m) n.authority (authority_here m))
 
-pub additional_written : (m : Msg) → IsMessage m → additional_of (wire m) ≡ (m.additional, Ok (12 + length (flat_map question_octets m.questions) + length (flat_map record_octets m.answers) + length (flat_map record_octets m.authority) + length (flat_map record_octets m.additional)))
+pub additional_written : (m : Msg) → IsMessage m → additional_of (wire m) ≡ (m.additional, Ok (end_place m))
 unfolding additional_of wire
 additional_written m n =
-    let fq = flat_map question_octets m.questions in
-    let fa = flat_map record_octets m.answers in
-    let fn = flat_map record_octets m.authority in
-    let fr = flat_map record_octets m.additional in
-    let h = past (wire m) fq (fa ++ (fn ++ fr)) 12 refl in
-    let k = past (wire m) fa (fn ++ fr) (12 + length fq) h in
-    let g = past (wire m) fn fr (12 + length fq + length fa) k in
     rw (authority_written m n, halves (length m.additional))
-    (items_written (record_at (wire m)) record_octets HasOwner (wire m) (λ r more at p h. record_written r (wire m) more at p h)
-    m.additional [] (12 + length fq + length fa + length fn) n.additional (g ∙ sym (append-nil fr)))
+    (records_written (wire m) m.additional [] (additional_place m) n.additional (additional_here m))
 
 pub header_written : (m : Msg) → IsMessage m → header_of (wire m) ≡ m.header
 unfolding wire
@@ -185,12 +225,8 @@ read_back m n = rw (header_written m n, questions_written m n, answers_written m
 pub all_readable : (m : Msg) → IsMessage m → (additional_of (wire m)).1 ≡ Ok (length (wire m))
 unfolding wire
 all_readable m n =
-    let fq = flat_map question_octets m.questions in
-    let fa = flat_map record_octets m.answers in
-    let fn = flat_map record_octets m.authority in
-    let fr = flat_map record_octets m.additional in
-    let a = length-append fq (fa ++ (fn ++ fr)) in
-    let b = length-append fa (fn ++ fr) in
-    let c = length-append fn fr in
-    let e : 12 + length fq + length fa + length fn + length fr ≡ length (wire m) = omega arith in
+    let a = length-append (flat_map question_octets m.questions) (flat_map record_octets m.answers ++ behind_answers m) in
+    let b = length-append (flat_map record_octets m.answers) (behind_answers m) in
+    let c = length-append (flat_map record_octets m.authority) (behind_authority m) in
+    let e : end_place m ≡ length (wire m) = omega arith in
     rw (additional_written m n) (ap (λ x. Ok x) e)

@@ -7,6 +7,8 @@ pub mod Wire
 pub mod Read
 pub mod Options
 pub mod Records
+pub mod Fixed
+pub mod Zone
 pub mod Standing
 pub mod Sections
 pub mod Plain

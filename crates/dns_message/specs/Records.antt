@@ -54,6 +54,18 @@ data_octets (Srv p w o n) = two p ++ (two w ++ (two o ++ spell n))
 data_octets (Opt o) = o
 data_octets (Unknown t o) = o
 
+-- data that is octets, without names and numbers
+abbrev pub octets_alone : RecordData → Option (List ℕ)
+octets_alone (A a) = Some a
+octets_alone (Aaaa a) = Some a
+octets_alone (Opt o) = Some o
+octets_alone (Unknown t o) = Some o
+octets_alone (Named t n) = None
+octets_alone (Soa m r s f t e n) = None
+octets_alone (Minfo a b) = None
+octets_alone (Mx p n) = None
+octets_alone (Srv p w o n) = None
+
 -- data that can be written: a type that is named has that variant's shape, and octets are as long as a record holds
 abbrev pub IsLawful : RecordData → Type 0
 IsLawful (A a) = length a ≡ 4

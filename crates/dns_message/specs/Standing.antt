@@ -13,48 +13,52 @@ use Rattle.dns_message.specs.declared.record.Record.{Record}
 use Rattle.dns_message.specs.Msg.{ResourceRecord}
 use Rattle.dns_message.specs.Options.{options}
 use Rattle.dns_message.specs.Records.{shape_of}
-use Rattle.dns_message.specs.Read.{◌>>=◌, two_at, four_at, octets_at}
+use Rattle.dns_message.specs.Read.{◌>>=◌, two_at, octets_at}
+use Rattle.dns_message.specs.Fixed.{fixed_at}
+use Rattle.dns_message.specs.Zone.{zone_at}
 
 -- A number lies before the limit, and so do a name's octets before its first pointer.
 abbrev pub two_before : List ℕ → ℕ → ℕ → Read ℕ
 two_before o limit at = two_at (take limit o) at
 
-abbrev pub four_before : List ℕ → ℕ → ℕ → Read ℕ
-four_before o limit at = four_at (take limit o) at
-
 abbrev pub octets_before : ℕ → List ℕ → ℕ → ℕ → Read (List ℕ)
 octets_before n o limit at = octets_at n (take limit o) at
 
+-- two names, and a number before a name
+unfoldable pub names_at : List ℕ → ℕ → ℕ → Read (List (List ℕ) × List (List ℕ))
+names_at o limit at = do
+  first ← name_within o limit at
+  second ← name_within o limit first.1
+  Ok ((first.0, second.0), second.1)
+
+unfoldable pub numbered_at : List ℕ → ℕ → ℕ → Read (ℕ × List (List ℕ))
+numbered_at o limit at = do
+  number ← two_before o limit at
+  name ← name_within o limit number.1
+  Ok ((number.0, name.0), name.1)
+
 unfoldable pub soa_at : List ℕ → ℕ → ℕ → Read RecordData
 soa_at o limit at = do
-  mname ← name_within o limit at
-  rname ← name_within o limit mname.1
-  serial ← four_before o limit rname.1
-  refresh ← four_before o limit serial.1
-  retry ← four_before o limit refresh.1
-  expire ← four_before o limit retry.1
-  minimum ← four_before o limit expire.1
-  Ok (Soa mname.0 rname.0 (record { 0 = serial.0 }) refresh.0 retry.0 expire.0 minimum.0, minimum.1)
+  names ← names_at o limit at
+  numbers ← zone_at (take limit o) names.1
+  Ok (Soa names.0.0 names.0.1 numbers.0.serial numbers.0.refresh numbers.0.retry numbers.0.expire numbers.0.minimum, numbers.1)
 
 unfoldable pub minfo_at : List ℕ → ℕ → ℕ → Read RecordData
 minfo_at o limit at = do
-  first ← name_within o limit at
-  second ← name_within o limit first.1
-  Ok (Minfo first.0 second.0, second.1)
+  names ← names_at o limit at
+  Ok (Minfo names.0.0 names.0.1, names.1)
 
 unfoldable pub mx_at : List ℕ → ℕ → ℕ → Read RecordData
 mx_at o limit at = do
-  preference ← two_before o limit at
-  exchange ← name_within o limit preference.1
-  Ok (Mx preference.0 exchange.0, exchange.1)
+  exchange ← numbered_at o limit at
+  Ok (Mx exchange.0.0 exchange.0.1, exchange.1)
 
 unfoldable pub srv_at : List ℕ → ℕ → ℕ → Read RecordData
 srv_at o limit at = do
   priority ← two_before o limit at
   weight ← two_before o limit priority.1
-  port ← two_before o limit weight.1
-  target ← name_within o limit port.1
-  Ok (Srv priority.0 weight.0 port.0 target.0, target.1)
+  target ← numbered_at o limit weight.1
+  Ok (Srv priority.0 weight.0 target.0.0 target.0.1, target.1)
 
 unfoldable pub one_name_at : ℕ → List ℕ → ℕ → ℕ → Read RecordData
 one_name_at t o limit at = do
@@ -104,12 +108,9 @@ pub record Standing : Type 0 where
 unfoldable pub standing_at : List ℕ → ℕ → Read Standing
 standing_at o at = do
   owner ← name_at o at
-  rtype ← two_at o owner.1
-  class ← two_at o rtype.1
-  ttl ← four_at o class.1
-  size ← two_at o ttl.1
-  octets ← octets_at size.0 o size.1
-  Ok (record { resource = record { owner = owner.0; rtype = rtype.0; class = class.0; ttl = ttl.0; rdata = octets.0 }; content = data_at rtype.0 o octets.1 size.1 }, octets.1)
+  fixed ← fixed_at o owner.1
+  octets ← octets_at fixed.0.size o fixed.1
+  Ok (record { resource = record { owner = owner.0; rtype = fixed.0.rtype; class = fixed.0.class; ttl = fixed.0.ttl; rdata = octets.0 }; content = data_at fixed.0.rtype o octets.1 fixed.1 }, octets.1)
 
 -- a record, its data not looked into
 unfoldable pub record_at : List ℕ → ℕ → Read ResourceRecord

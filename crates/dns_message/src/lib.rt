@@ -2,6 +2,7 @@
 #![tactic(auto)]
 
 mod data_laws;
+mod fixed;
 mod header;
 mod laws;
 mod message;
@@ -13,6 +14,7 @@ mod rdata_read;
 mod read;
 mod record;
 mod write;
+mod zone;
 
 pub use data_laws::{data_has_names, typed_data_reads_back, typed_records_read_back};
 pub use header::{Header, HeaderCounts, number_at};

@@ -1,11 +1,14 @@
 //! The data of records.
 
-ghost use Rattle.std.specs.Prelude.{◌≡◌, ◌≤◌, ◌<◌, ◌++◌, ◌^◌, length, take, IfSome, OnOk, OnErr};
-ghost use Rattle.dns_name.specs.Place.{four};
-ghost use Rattle.dns_message.specs.Records.{data_octets, data_type, opt_data, shape_of, unknown_data, IsLawful};
+ghost use Rattle.std.specs.Prelude.{◌≡◌, ◌≤◌, ◌<◌, ◌++◌, ◌^◌, length, take, option_map, IfSome, OnOk, OnErr};
+ghost use Rattle.dns_name.specs.Labels.{spell};
+ghost use Rattle.dns_name.specs.Place.{two};
+ghost use Rattle.dns_message.specs.Zone.{zone_octets};
+ghost use Rattle.dns_message.specs.Records.{data_octets, data_type, octets_alone, opt_data, shape_of, unknown_data, IsLawful};
 
 use crate::option_list::is_option_list;
-use crate::write::{push_four, push_octets, push_two, settle};
+use crate::write::{push_octets, push_two, settle};
+use crate::zone::{ZoneNumbers, push_zone};
 use dns_name::{Name, Octets, OutOfMemory, Rtype, Serial, Ttl};
 use std::alloc::Global;
 
@@ -157,8 +160,7 @@ impl RecordData {
             }
             RecordData::Mx { exchange, .. } => exchange.as_slice().len() + 2,
             RecordData::Srv { target, .. } => target.as_slice().len() + 6,
-            RecordData::Opt(octets) => octets.as_slice().len(),
-            RecordData::Unknown { octets, .. } => octets.as_slice().len(),
+            RecordData::Opt(octets) | RecordData::Unknown { octets, .. } => octets.as_slice().len(),
         }
     }
 
@@ -177,9 +179,31 @@ impl RecordData {
         ensures ok { OnOk result (target.new.items ≡ target.old.items ++ data_octets self.now) }
         ensures err { OnErr result (take (length target.old.items) target.new.items ≡ target.old.items) }
     {
+        match self.octets() {
+            Some(octets) => push_octets(target, octets),
+            None => self.write_fields(alloc, target),
+        }
+    }
+
+    /// Data that is octets.
+    fn octets(&self) -> Option<&[u8]>
+        ensures { option_map (λ octets. octets.now) result ≡ octets_alone self.now }
+    {
         match self {
-            RecordData::A(octets) => push_octets(target, octets),
-            RecordData::Aaaa(octets) => push_octets(target, octets),
+            RecordData::A(octets) => Some(octets),
+            RecordData::Aaaa(octets) => Some(octets),
+            RecordData::Opt(octets) | RecordData::Unknown { octets, .. } => Some(octets.as_slice()),
+            _ => None,
+        }
+    }
+
+    /// Appends the octets of data that is names and numbers, or some of them.
+    fn write_fields(&self, alloc: Global, target: &mut Vec<u8>) -> Result<(), OutOfMemory>
+        requires { octets_alone self.now ≡ None }
+        ensures ok { OnOk result (target.new.items ≡ target.old.items ++ data_octets self.now) }
+        ensures err { OnErr result (take (length target.old.items) target.new.items ≡ target.old.items) }
+    {
+        match self {
             RecordData::Named { name, .. } => name.compose(alloc, target),
             RecordData::Soa {
                 mname,
@@ -190,54 +214,87 @@ impl RecordData {
                 expire,
                 minimum,
             } => {
-                mname.compose(alloc, target)?;
-                rname.compose(alloc, target)?;
-                push_numbers(target, *serial, *refresh, *retry, *expire, *minimum)?;
-                Ok(())
+                let numbers = ZoneNumbers {
+                    serial: *serial,
+                    refresh: *refresh,
+                    retry: *retry,
+                    expire: *expire,
+                    minimum: *minimum,
+                };
+                push_authority(alloc, target, mname, rname, numbers)
             }
-            RecordData::Minfo { first, second } => {
-                first.compose(alloc, target)?;
-                second.compose(alloc, target)
-            }
+            RecordData::Minfo { first, second } => push_names(alloc, target, first, second),
             RecordData::Mx {
                 preference,
                 exchange,
-            } => {
-                push_two(target, *preference)?;
-                exchange.compose(alloc, target)
-            }
+            } => push_numbered(alloc, target, *preference, exchange),
             RecordData::Srv {
                 priority,
                 weight,
                 port,
                 target: host,
-            } => {
-                push_two(target, *priority)?;
-                push_two(target, *weight)?;
-                push_two(target, *port)?;
-                host.compose(alloc, target)
-            }
-            RecordData::Opt(octets) => push_octets(target, octets.as_slice()),
-            RecordData::Unknown { octets, .. } => push_octets(target, octets.as_slice()),
+            } => push_service(alloc, target, *priority, *weight, *port, host),
+            _ => unreachable!(),
         }
     }
 }
 
-/// Appends the numbers of a zone's start.
-fn push_numbers(
+/// Appends two names, or some of their octets.
+fn push_names(
+    alloc: Global,
     target: &mut Vec<u8>,
-    serial: Serial,
-    refresh: Ttl,
-    retry: Ttl,
-    expire: Ttl,
-    minimum: Ttl,
+    first: &Name,
+    second: &Name,
 ) -> Result<(), OutOfMemory>
-    ensures ok { OnOk result (target.new.items ≡ target.old.items ++ (four serial.0 ++ (four refresh ++ (four retry ++ (four expire ++ four minimum))))) }
+    ensures ok { OnOk result (target.new.items ≡ target.old.items ++ (spell first.now ++ spell second.now)) }
     ensures err { OnErr result (take (length target.old.items) target.new.items ≡ target.old.items) }
 {
-    push_four(target, serial.into_int())?;
-    push_four(target, refresh.as_secs())?;
-    push_four(target, retry.as_secs())?;
-    push_four(target, expire.as_secs())?;
-    push_four(target, minimum.as_secs())
+    first.compose(alloc, target)?;
+    second.compose(alloc, target)
+}
+
+/// Appends the names and the numbers of a zone's start, or some of their octets.
+fn push_authority(
+    alloc: Global,
+    target: &mut Vec<u8>,
+    mname: &Name,
+    rname: &Name,
+    numbers: ZoneNumbers,
+) -> Result<(), OutOfMemory>
+    ensures ok { OnOk result (target.new.items ≡ target.old.items ++ (spell mname.now ++ (spell rname.now ++ zone_octets numbers))) }
+    ensures err { OnErr result (take (length target.old.items) target.new.items ≡ target.old.items) }
+{
+    push_names(alloc, target, mname, rname)?;
+    push_zone(target, numbers)
+}
+
+/// Appends a number and a name, or some of their octets.
+fn push_numbered(
+    alloc: Global,
+    target: &mut Vec<u8>,
+    number: u16,
+    name: &Name,
+) -> Result<(), OutOfMemory>
+    ensures ok { OnOk result (target.new.items ≡ target.old.items ++ (two number ++ spell name.now)) }
+    ensures err { OnErr result (take (length target.old.items) target.new.items ≡ target.old.items) }
+{
+    push_two(target, number)?;
+    name.compose(alloc, target)
+}
+
+/// Appends the numbers and the name of a service's host, or some of their octets.
+fn push_service(
+    alloc: Global,
+    target: &mut Vec<u8>,
+    priority: u16,
+    weight: u16,
+    port: u16,
+    host: &Name,
+) -> Result<(), OutOfMemory>
+    ensures ok { OnOk result (target.new.items ≡ target.old.items ++ (two priority ++ (two weight ++ (two port ++ spell host.now)))) }
+    ensures err { OnErr result (take (length target.old.items) target.new.items ≡ target.old.items) }
+{
+    push_two(target, priority)?;
+    push_two(target, weight)?;
+    push_numbered(alloc, target, port, host)
 }

@@ -3,7 +3,7 @@
 ghost use Rattle.std.specs.Prelude.{◌≡◌, ◌≤◌, ◌<◌, ◌+◌, ◌^◌, length, IfOk};
 ghost use Rattle.dns_message.specs.Read.{two_of, two_at, four_at, octets_at, Sees};
 
-use dns_name::ParseError;
+use dns_name::{ParseError, Ttl};
 
 /// A number of two octets, and the place behind it.
 #[tactic(auto, unfolding(crate::specs::Read::two_at))]
@@ -37,6 +37,16 @@ pub(crate) fn four_in(message: &[u8], at: usize) -> Result<(u32, usize), ParseEr
     let (high, at) = two_in(message, at)?;
     let (low, at) = two_in(message, at)?;
     Ok((65536 * (high as u32) + (low as u32), at))
+}
+
+/// A TTL, and the place behind it.
+pub(crate) fn ttl_in(message: &[u8], at: usize) -> Result<(Ttl, usize), ParseError>
+    requires { at ≤ length message.now }
+    ensures value { result ≡ four_at message.now at }
+    ensures within { IfOk result (λ r. r.1 ≤ length message.now) }
+{
+    let (seconds, at) = four_in(message, at)?;
+    Ok((Ttl::from_secs(seconds), at))
 }
 
 /// So many octets, and the place behind them.

@@ -2,16 +2,18 @@
 
 ghost use Rattle.std.specs.Prelude.{◌≡◌, ◌≤◌, ◌<◌, ◌+◌, ◌++◌, length, take, IfOk, OnOk, OnErr};
 ghost use Rattle.std.specs.Iterator.{YieldsFirst, item_count};
+ghost use Rattle.dns_message.specs.Fixed.{fixed_of};
 ghost use Rattle.dns_message.specs.Msg.{HasOwner};
 ghost use Rattle.dns_message.specs.Records.{IsLawful, record_of};
 ghost use Rattle.dns_message.specs.Standing.{Gives, standing_at, typed};
 ghost use Rattle.dns_message.specs.Sections.{ends_at, to_come};
 ghost use Rattle.dns_message.specs.Wire.{record_octets};
 
+use crate::fixed::{FixedFields, fixed_in, push_fixed};
 use crate::rdata::RecordData;
 use crate::rdata_read::data_in;
-use crate::read::{four_in, octets_in, two_in};
-use crate::write::{push_four, push_two, settle};
+use crate::read::octets_in;
+use crate::write::settle;
 use dns_name::{Class, Name, OutOfMemory, ParseError, ParsedName, Rtype, Ttl};
 use std::alloc::Global;
 use std::marker::Model;
@@ -58,11 +60,21 @@ impl Record {
         ensures err { OnErr result (take (length target.old.items) target.new.items ≡ target.old.items) }
     {
         self.owner.compose(alloc, target)?;
-        push_two(target, self.rdata.rtype().to_int())?;
-        push_two(target, self.class.to_int())?;
-        push_four(target, self.ttl.as_secs())?;
-        push_two(target, self.rdata.size() as u16)?;
+        push_fixed(target, self.fields())?;
         self.rdata.compose(alloc, target)
+    }
+
+    /// What stands between the owner and the data.
+    fn fields(&self) -> FixedFields
+        requires { IsLawful self.now.rdata }
+        ensures { result ≡ fixed_of (record_of self.now) }
+    {
+        FixedFields {
+            rtype: self.rdata.rtype(),
+            class: self.class,
+            ttl: self.ttl,
+            size: self.rdata.size() as u16,
+        }
     }
 }
 
@@ -150,17 +162,14 @@ pub fn record_in<'a>(message: &'a [u8], at: usize) -> Result<(RecordRef<'a>, usi
     ensures within { IfOk result (λ r. r.1 ≤ length message.now) }
 {
     let (owner, at) = ParsedName::at(message, message.len(), at)?;
-    let (rtype, at) = two_in(message, at)?;
-    let (class, at) = two_in(message, at)?;
-    let (ttl, at) = four_in(message, at)?;
-    let (size, start) = two_in(message, at)?;
-    let (rdata, end) = octets_in(message, size as usize, start)?;
+    let (fields, start) = fixed_in(message, at)?;
+    let (rdata, end) = octets_in(message, fields.size as usize, start)?;
     let item = RecordRef {
         message,
         owner,
-        rtype: Rtype::from_int(rtype),
-        class: Class::from_int(class),
-        ttl: Ttl::from_secs(ttl),
+        rtype: fields.rtype,
+        class: fields.class,
+        ttl: fields.ttl,
         rdata,
         start,
         end,

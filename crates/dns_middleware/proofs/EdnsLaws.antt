@@ -37,10 +37,8 @@ passed_on r copy inner future answer copied same is k =
     ∙ ap (λ (q : Req (Unit {0})). mapped (rewritten (edns_post q)) (inner k)) copied)
 
 -- a disabled layer answers as the service inside
-pub passed_whole : {Meta : Type 0} (on : Bool) (svc : Req Meta → ℕ → Answer) (r : Req Meta) (future answer : ℕ → Answer)
+pub passed_whole : {Meta : Type 0} (on : Bool) (svc : Req Meta → ℕ → Answer) (r : Req Meta) (answer : ℕ → Answer)
     → on ≡ false
-    → ((k : ℕ) → future k ≡ svc r k)
-    → answer ≡ future
+    → ((k : ℕ) → answer k ≡ svc r k)
     → (k : ℕ) → answer k ≡ edns on svc r k
-passed_whole on svc r future answer off same is k =
-    ap (λ (f : ℕ → Answer). f k) is ∙ (same k ∙ ap (λ (b : Bool). edns b svc r k) (sym off))
+passed_whole on svc r answer off same k = same k ∙ ap (λ (b : Bool). edns b svc r k) (sym off)

@@ -94,8 +94,7 @@ fn asked_with(
     if added(alloc, &mut shorter, opt)? {
         return Ok(Some(shorter));
     }
-    let small = minimal(alloc, opt)?;
-    if added(alloc, &mut shorter, &small)? {
+    if minimal_added(alloc, &mut shorter, opt)? {
         return Ok(Some(shorter));
     }
     Ok(None)
@@ -109,10 +108,21 @@ fn alone(
 ) -> Result<AdditionalBuilder, OutOfMemory>
     ensures { IfOk result (λ b. b.message ≡ truncated message.now.message [] (minimal (record_of opt.now) ∷ [])) }
 {
-    let small = minimal(alloc, opt)?;
     let mut shorter = bare(alloc, message)?.question().additional();
-    added(alloc, &mut shorter, &small)?;
+    minimal_added(alloc, &mut shorter, opt)?;
     Ok(shorter)
+}
+
+/// Adds a minimal OPT record where it has room, and says whether it had.
+fn minimal_added(
+    alloc: Global,
+    message: &mut AdditionalBuilder,
+    opt: &Record,
+) -> Result<bool, OutOfMemory>
+    ensures { IfOk result (Added message.old message.new (with_additional message.old (minimal (record_of opt.now)))) }
+{
+    let small = minimal(alloc, opt)?;
+    added(alloc, message, &small)
 }
 
 /// The header with TC and the questions, where they fit.

@@ -2,19 +2,18 @@
 
 ghost use Rattle.std.specs.Prelude.{◌≡◌, ℕ, IfOk, OnOk, Some, true};
 ghost use Rattle.dns_service.specs.declared.message.Request.{Request};
-ghost use Rattle.dns_service.specs.ErrorReply.{error_reply};
 ghost use Rattle.dns_service.specs.Transport.{hint_of, hinted};
 ghost use Rattle.dns_stream.specs.Streams.{each_mapped};
 ghost use Rattle.dns_middleware.specs.Edns.{edns, edns_hint, edns_passed, edns_post, edns_refusal, is_stream, negotiated, record_refusal, reserved_over};
-ghost use Rattle.dns_middleware.specs.Rewritten.{own, rewritten};
+ghost use Rattle.dns_middleware.specs.Rewritten.{rewritten};
 
 use crate::edns_post::EdnsPost;
-use crate::layered::{Layered, own_reply};
+use crate::layered::{Layered, of_mapped, of_own, refuse};
 use crate::opt_items::{OptItems, opt_items};
 use dns_name::OptRcode;
 use dns_opt::{MessageOpt, OptRecordRef};
-use dns_service::{ReplyStream, Request, Service, TransportSpecificContext, mk_error_response};
-use dns_stream::{MiddlewareStream, Now, Once, OutOfMemory, PostprocessingStream};
+use dns_service::{ReplyFuture, ReplyStream, Request, Service, TransportSpecificContext};
+use dns_stream::{MiddlewareStream, Now, OutOfMemory, PostprocessingStream};
 use std::alloc::Global;
 
 /// A service that speaks EDNS. A disabled layer passes each request and each reply as they are.
@@ -66,32 +65,27 @@ where
         request: &mut Request<Meta>,
     ) -> Result<Now<Layered<S, Meta, EdnsPost>>, OutOfMemory> {
         if !self.enabled {
-            let future = call_inside(alloc, &self.next, request)?;
-            return Ok(Now::new(MiddlewareStream::IdentityFuture(future)));
+            return pass_whole(alloc, &self.next, request);
         }
         match edns_refusal(request) {
-            Some(rcode) => {
-                let own = refuse(alloc, request, rcode)?;
-                Ok(Now::new(MiddlewareStream::Result(own)))
-            }
-            None => {
-                let mapped = pass(alloc, &self.next, request)?;
-                Ok(Now::new(MiddlewareStream::Map(mapped)))
-            }
+            Some(rcode) => Ok(of_own::<S, Meta, _>(refuse(&EdnsPost {}, alloc, request, rcode)?)),
+            None => Ok(of_mapped::<S, Meta, _>(pass(alloc, &self.next, request)?)),
         }
     }
 }
 
-/// The layer's own reply.
-fn refuse<Meta>(
+/// The inner replies to the request as it came.
+fn pass_whole<S: Service<Meta>, Meta>(
     alloc: Global,
-    request: &Request<Meta>,
-    rcode: OptRcode,
-) -> Result<Once, OutOfMemory>
-    ensures { let r = request.now in IfOk result (λ s. ⟦<Once as ReplyStream>⟧.answer s ≡ own (edns_post r (error_reply r.octets rcode))) }
+    next: &S,
+    request: &mut Request<Meta>,
+) -> Result<Now<Layered<S, Meta, EdnsPost>>, OutOfMemory>
+    requires { S.can_call next.now }
+    ensures answers { IfOk result (λ f. (k : ℕ) → ⟦<Now<Layered<S, Meta, EdnsPost>> as ReplyFuture>⟧.answer f k ≡ S.answer next.now request.old k) }
+    ensures kept { OnOk result (request.new ≡ record request.old { transport = hinted (hint_of request.old.transport) request.old.transport; reserved = request.new.reserved }) }
 {
-    let reply = mk_error_response(alloc, request.message(), rcode)?;
-    own_reply(&EdnsPost {}, alloc, request, reply)
+    let future = call_inside(alloc, next, request)?;
+    Ok(Now::new(MiddlewareStream::IdentityFuture(future)))
 }
 
 /// The inner replies to the request as it is passed on, rewritten for the request as it came.

@@ -1,6 +1,8 @@
 //! What the EDNS layer makes of a reply (RFC 6891, section 7; RFC 7828, section 3).
 
 ghost use Rattle.std.specs.Prelude.{◌≡◌, [], IfOk, OnOk};
+ghost use Rattle.dns_base.specs.Records.{record_of, IsLawful};
+ghost use Rattle.dns_opt.specs.OptRecords.{opt_record, opt_state, zero_head};
 ghost use Rattle.dns_middleware.specs.Edns.{edns_post, has_opt, in_kind, keepalive_for, units_of, with_keepalive, with_some_opt};
 ghost use Rattle.dns_middleware.specs.OptIn.{resources};
 ghost use Rattle.dns_middleware.specs.OptItems.{opt_items};
@@ -9,7 +11,7 @@ ghost use Rattle.dns_middleware.specs.Rewritten.{rewritten};
 use crate::cutting::added;
 use crate::layered::{Rewrite, rewrite_item};
 use crate::opt_items::{OptItems, opt_items};
-use dns_base::{AdditionalBuilder, RecordIter, Rtype};
+use dns_base::{AdditionalBuilder, Record, RecordIter, Rtype};
 use dns_name::{BuildDataError, OutOfMemory};
 use dns_opt::{IdleTimeout, MessageOpt, OptRecord, TcpKeepalive};
 use dns_service::{
@@ -127,9 +129,17 @@ fn with_some_opt(
     if !answered || has_opt(reply) {
         return Ok(());
     }
-    let opt = OptRecord::default(alloc).as_record(alloc)?;
+    let opt = empty_opt(alloc)?;
     added(alloc, reply, &opt)?;
     Ok(())
+}
+
+/// An empty OPT record.
+fn empty_opt(alloc: Global) -> Result<Record, OutOfMemory>
+    ensures value { IfOk result (λ r. record_of r ≡ opt_record (opt_state zero_head [])) }
+    ensures lawful { IfOk result (λ r. IsLawful r.rdata) }
+{
+    OptRecord::default(alloc).as_record(alloc)
 }
 
 /// Whether a message has a record of type OPT.

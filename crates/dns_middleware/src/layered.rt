@@ -3,12 +3,16 @@
 ghost use Rattle.std.specs.Prelude.{◌≡◌, IfOk, OnOk};
 ghost use Rattle.dns_base.specs.Msg.{Msg};
 ghost use Rattle.dns_service.specs.declared.message.Request.{Request};
+ghost use Rattle.dns_service.specs.ErrorReply.{error_reply};
 ghost use Rattle.dns_service.specs.Req.{with_metadata};
 ghost use Rattle.dns_middleware.specs.Rewritten.{own, rewritten};
 
 use dns_base::AdditionalBuilder;
-use dns_service::{CallResult, ReplyStream, Request, Service, ServiceResult};
-use dns_stream::{MiddlewareStream, Once, OutOfMemory, PostprocessingStream};
+use dns_name::OptRcode;
+use dns_service::{
+    CallResult, ReplyFuture, ReplyStream, Request, Service, ServiceResult, mk_error_response,
+};
+use dns_stream::{MiddlewareStream, Now, Once, OutOfMemory, Postprocess, PostprocessingStream};
 use std::alloc::Global;
 
 /// The stream of a layer round a service: the inner replies, mapped or not, or a reply of the layer's own.
@@ -64,8 +68,39 @@ fn rewrite_given<R: Rewrite>(
     Ok(given)
 }
 
+/// A layer's replies that are its own, at once.
+pub(crate) fn of_own<S: Service<Meta>, Meta, P: Postprocess<()>>(
+    own: Once,
+) -> Now<Layered<S, Meta, P>>
+    ensures { ⟦<Now<Layered<S, Meta, P>> as ReplyFuture>⟧.answer result ≡ ⟦<Once as ReplyStream>⟧.answer own }
+{
+    Now::new(MiddlewareStream::Result(own))
+}
+
+/// A layer's replies that are those of the service inside, mapped, at once.
+pub(crate) fn of_mapped<S: Service<Meta>, Meta, P: Postprocess<()>>(
+    mapped: PostprocessingStream<S::Future, (), P>,
+) -> Now<Layered<S, Meta, P>>
+    ensures { ⟦<Now<Layered<S, Meta, P>> as ReplyFuture>⟧.answer result ≡ ⟦<PostprocessingStream<S::Future, (), P> as ReplyStream>⟧.answer mapped }
+{
+    Now::new(MiddlewareStream::Map(mapped))
+}
+
+/// A layer's own error reply to a request.
+pub(crate) fn refuse<R: Rewrite, Meta>(
+    rule: &R,
+    alloc: Global,
+    request: &Request<Meta>,
+    rcode: OptRcode,
+) -> Result<Once, OutOfMemory>
+    ensures { IfOk result (λ s. ⟦<Once as ReplyStream>⟧.answer s ≡ own (R.rewriting rule.now (with_metadata request.now tt) (error_reply request.now.octets rcode))) }
+{
+    let reply = mk_error_response(alloc, request.message(), rcode)?;
+    own_reply(rule, alloc, request, reply)
+}
+
 /// A layer's own reply to a request, rewritten as each reply is.
-pub(crate) fn own_reply<R: Rewrite, Meta>(
+fn own_reply<R: Rewrite, Meta>(
     rule: &R,
     alloc: Global,
     request: &Request<Meta>,

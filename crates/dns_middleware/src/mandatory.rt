@@ -6,19 +6,16 @@ ghost use Rattle.dns_base.specs.Wire.{wire};
 ghost use Rattle.dns_service.specs.declared.message.Request.{Request};
 ghost use Rattle.dns_service.specs.Req.{Req, with_metadata};
 ghost use Rattle.dns_service.specs.Transport.{hint_of, hinted};
-ghost use Rattle.dns_service.specs.ErrorReply.{error_reply};
 ghost use Rattle.dns_stream.specs.Streams.{each_mapped};
-ghost use Rattle.dns_middleware.specs.Rewritten.{own, rewritten};
+ghost use Rattle.dns_middleware.specs.Rewritten.{rewritten};
 ghost use Rattle.dns_middleware.specs.Mandatory.{limit, sized, responding, as_response, mand_post, mandatory, mandatory_hint, mandatory_refusal, strict_refusal};
 
 use crate::cutting::cut;
-use crate::layered::{Layered, Rewrite, own_reply, rewrite_item};
+use crate::layered::{Layered, Rewrite, of_mapped, of_own, refuse, rewrite_item};
 use dns_base::{AdditionalBuilder, Header, Message};
 use dns_name::{Opcode, OptRcode};
-use dns_service::{
-    ReplyStream, Request, Service, ServiceResult, TransportSpecificContext, mk_error_response,
-};
-use dns_stream::{MiddlewareStream, Now, Once, OutOfMemory, Postprocess, PostprocessingStream};
+use dns_service::{ReplyStream, Request, Service, ServiceResult, TransportSpecificContext};
+use dns_stream::{Now, OutOfMemory, Postprocess, PostprocessingStream};
 use std::alloc::Global;
 
 /// The least size in octets that a response over UDP may take (RFC 1035, section 4.2.1).
@@ -71,28 +68,15 @@ where
         request: &mut Request<Meta>,
     ) -> Result<Now<Layered<S, Meta, MandatoryPost>>, OutOfMemory> {
         match mandatory_refusal(self.strict, request.message()) {
-            Some(rcode) => {
-                let own = refuse(alloc, request, rcode)?;
-                Ok(Now::new(MiddlewareStream::Result(own)))
-            }
-            None => {
-                let mapped = pass(alloc, &self.next, request)?;
-                Ok(Now::new(MiddlewareStream::Map(mapped)))
-            }
+            Some(rcode) => Ok(of_own::<S, Meta, _>(refuse(
+                &MandatoryPost {},
+                alloc,
+                request,
+                rcode,
+            )?)),
+            None => Ok(of_mapped::<S, Meta, _>(pass(alloc, &self.next, request)?)),
         }
     }
-}
-
-/// The layer's own reply.
-fn refuse<Meta>(
-    alloc: Global,
-    request: &Request<Meta>,
-    rcode: OptRcode,
-) -> Result<Once, OutOfMemory>
-    ensures { let r = request.now in IfOk result (λ s. ⟦<Once as ReplyStream>⟧.answer s ≡ own (mand_post (limit (hint_of r.transport)) r (error_reply r.octets rcode))) }
-{
-    let reply = mk_error_response(alloc, request.message(), rcode)?;
-    own_reply(&MandatoryPost {}, alloc, request, reply)
 }
 
 /// The inner replies, which are rewritten by the hint that the inner service left.

@@ -1,3 +1,4 @@
+mod Puts
 mod RawPushes
 pub mod Sizes
 pub mod Opts

@@ -2,8 +2,9 @@
 
 ghost use Rattle.std.specs.Prelude.{◌≡◌, ◌≤◌, IfOk};
 ghost use Rattle.std.specs.Fn.{FnOnceReturnsAtMut};
-ghost use Rattle.dns_base.specs.Built.{Built, with_header};
-ghost use Rattle.dns_opt.specs.Drafts.{Appended, BuiltOpt, Ends, EndsIn, IsBuiltOpt, PutInto, opened, room_of};
+ghost use Rattle.dns_base.specs.Built.{Built, with_additional, with_header};
+ghost use Rattle.dns_opt.specs.Drafts.{Appended, BuiltOpt, Ends, EndsIn, IsBuiltOpt, PushesOpt, PutInto, opened, room_of};
+ghost use Rattle.dns_opt.specs.OptRecords.{opt_record, opt_state};
 ghost use Rattle.dns_opt.specs.Reopened.{Reopens, less_opts, old_opt, reopened};
 
 use crate::builder::OptBuilder;
@@ -170,6 +171,7 @@ fn ended_in_place(
 }
 
 /// Appends the record, and sets the lower bits of the response code.
+#[tactic(auto, using(crate::proofs::Puts::refused))]
 fn appended(
     message: &mut AdditionalBuilder,
     alloc: Global,
@@ -183,17 +185,26 @@ fn appended(
         options,
         ..
     } = opt;
-    let record = record_by(alloc, head, options)?;
-    match message.push(alloc, &record) {
-        Ok(()) => {}
-        Err(PushError::ShortBuf) => return Err(BuildDataError::ShortBuf),
-        Err(PushError::OutOfMemory) => return Err(BuildDataError::OutOfMemory),
-    }
+    append(message, alloc, head, options)?;
     set_low(message, low);
     Ok(())
 }
 
+/// Appends a record of a head and options.
+fn append(
+    message: &mut AdditionalBuilder,
+    alloc: Global,
+    head: OptHeader,
+    options: Opt,
+) -> Result<(), PushError>
+    ensures { PushesOpt message.old message.new (with_additional message.old (opt_record (opt_state head options))) result }
+{
+    let record = record_by(alloc, head, options)?;
+    message.push(alloc, &record)
+}
+
 /// Puts the record in place of the OPT records, and sets the lower bits of the response code.
+#[tactic(auto, using(crate::proofs::Puts::refused))]
 fn replaced(
     message: &mut AdditionalBuilder,
     alloc: Global,
@@ -207,14 +218,22 @@ fn replaced(
         options,
         ..
     } = opt;
-    let record = record_by(alloc, head, options)?;
-    match message.replace_type(alloc, Rtype::OPT, &record) {
-        Ok(()) => {}
-        Err(PushError::ShortBuf) => return Err(BuildDataError::ShortBuf),
-        Err(PushError::OutOfMemory) => return Err(BuildDataError::OutOfMemory),
-    }
+    replace(message, alloc, head, options)?;
     set_low(message, low);
     Ok(())
+}
+
+/// Puts a record of a head and options in place of the OPT records.
+fn replace(
+    message: &mut AdditionalBuilder,
+    alloc: Global,
+    head: OptHeader,
+    options: Opt,
+) -> Result<(), PushError>
+    ensures { PushesOpt message.old message.new (with_additional (less_opts message.old) (opt_record (opt_state head options))) result }
+{
+    let record = record_by(alloc, head, options)?;
+    message.replace_type(alloc, Rtype::OPT, &record)
 }
 
 /// Sets the lower four bits of the response code in the header.

@@ -9,41 +9,35 @@ ghost use Rattle.dns_options.specs.Writes.{Writes};
 use crate::header::OptHeader;
 use dns_base::{Header, Record, RecordData};
 use dns_name::{
-    BuildDataError, Class, ComposeOptData, Name, Octets, OptRcode, OptionCode, OutOfMemory, Ttl,
+    BuildDataError, Class, ComposeOptData, HoldsOctets, Name, Octets, OptRcode, OptionCode,
+    OutOfMemory, Ttl,
 };
-use dns_options::{Opt, OptRef};
+use dns_options::{HeldOpt, Opt, OptRef};
 use std::alloc::Global;
 use std::marker::Model;
 
-/// An OPT record, owned.
-#[derive(Debug, Drop)]
-pub struct OptRecord {
+/// An OPT record whose options are in S.
+#[derive(Drop)]
+#[derive_where(Debug)]
+#[derive_where(Clone; S: Copy)]
+pub struct HeldOptRecord<S: HoldsOctets> {
     head: OptHeader,
-    options: Opt,
+    options: HeldOpt<S>,
 }
 
-impl Model for OptRecord {
+impl<S: HoldsOctets> Model for HeldOptRecord<S> {
     ghost use Rattle.dns_opt.specs.OptRecords.{OptState, opt_state};
 
     ghost Value = { OptState };
 
     ghost view = { λ r. opt_state r.head r.options };
 }
+
+/// An OPT record, owned.
+pub type OptRecord = HeldOptRecord<Vec<u8>>;
 
 /// An OPT record, borrowed.
-#[derive(Clone, Debug, Drop)]
-pub struct OptRecordRef<'a> {
-    head: OptHeader,
-    options: OptRef<'a>,
-}
-
-impl<'a> Model for OptRecordRef<'a> {
-    ghost use Rattle.dns_opt.specs.OptRecords.{OptState, opt_state};
-
-    ghost Value = { OptState };
-
-    ghost view = { λ r. opt_state r.head r.options };
-}
+pub type OptRecordRef<'a> = HeldOptRecord<&'a [u8]>;
 
 /// The head that a record's class and TTL are.
 pub(crate) fn head_by(class: Class, ttl: Ttl) -> OptHeader
@@ -58,50 +52,12 @@ pub(crate) fn head_by(class: Class, ttl: Ttl) -> OptHeader
     }
 }
 
-impl OptRecord {
-    /// A record whose numbers are all 0, without options.
-    pub fn default(alloc: Global) -> OptRecord
-        ensures { result ≡ opt_state zero_head [] }
-    {
-        OptRecord {
-            head: OptHeader::default(),
-            options: Opt::empty(alloc),
-        }
-    }
-
-    /// The OPT record that a record is; none where its type is another.
-    pub fn from_record(source: Record) -> Option<OptRecord>
-        requires { IsLawful source.rdata }
-        ensures { result ≡ from_record source }
-    {
-        let Record {
-            class,
-            ttl,
-            rdata,
-            ..
-        } = source;
-        let head = head_by(class, ttl);
-        match rdata {
-            RecordData::Opt(octets) => {
-                let options = Opt::from_octets(octets.into_vec()).ok()?;
-                Some(OptRecord { head, options })
-            }
-            _ => None,
-        }
-    }
-
+impl<S: HoldsOctets> HeldOptRecord<S> {
     /// The greatest payload over UDP, in octets.
     pub fn udp_payload_size(&self) -> u16
         ensures { result ≡ self.now.head.size }
     {
         self.head.udp_payload_size()
-    }
-
-    /// Sets the greatest payload over UDP.
-    pub fn set_udp_payload_size(&mut self, size: u16)
-        ensures { self.new ≡ opt_state (record self.old.head { size = size }) self.old.options }
-    {
-        self.head.set_udp_payload_size(size);
     }
 
     /// The response code, with the lower four bits of the message's header.
@@ -125,6 +81,53 @@ impl OptRecord {
         self.head.dnssec_ok()
     }
 
+    /// The options.
+    pub fn opt(&self) -> &HeldOpt<S>
+        ensures { result.now ≡ self.now.options }
+    {
+        &self.options
+    }
+}
+
+impl OptRecord {
+    /// A record whose numbers are all 0, without options.
+    pub fn default(alloc: Global) -> OptRecord
+        ensures { result ≡ opt_state zero_head [] }
+    {
+        HeldOptRecord {
+            head: OptHeader::default(),
+            options: Opt::empty(alloc),
+        }
+    }
+
+    /// The OPT record that a record is; none where its type is another.
+    pub fn from_record(source: Record) -> Option<OptRecord>
+        requires { IsLawful source.rdata }
+        ensures { result ≡ from_record source }
+    {
+        let Record {
+            class,
+            ttl,
+            rdata,
+            ..
+        } = source;
+        let head = head_by(class, ttl);
+        match rdata {
+            RecordData::Opt(octets) => {
+                let options = Opt::from_octets(octets.into_vec()).ok()?;
+                Some(HeldOptRecord { head, options })
+            }
+            _ => None,
+        }
+    }
+
+    /// Sets the greatest payload over UDP.
+    pub fn set_udp_payload_size(&mut self, size: u16)
+        ensures { self.new ≡ opt_state (record self.old.head { size = size }) self.old.options }
+    {
+        self.head.set_udp_payload_size(size);
+    }
+
     /// Says whether DNSSEC records are wanted.
     pub fn set_dnssec_ok(&mut self, value: bool)
         ensures { self.new ≡ opt_state (record self.old.head { flags = with_do self.old.head.flags value }) self.old.options }
@@ -132,18 +135,11 @@ impl OptRecord {
         self.head.set_dnssec_ok(value);
     }
 
-    /// The options.
-    pub fn opt(&self) -> &Opt
-        ensures { result.now ≡ self.now.options }
-    {
-        &self.options
-    }
-
     /// The same record, borrowed.
     pub fn for_slice(&self) -> OptRecordRef<'_>
         ensures { result ≡ self.now }
     {
-        OptRecordRef {
+        HeldOptRecord {
             head: self.head,
             options: self.options.for_slice_ref(),
         }
@@ -180,7 +176,7 @@ impl OptRecord {
     pub(crate) fn into_parts(self) -> (OptHeader, Opt)
         ensures { opt_state result.0 result.1 ≡ self }
     {
-        let OptRecord { head, options } = self;
+        let HeldOptRecord { head, options } = self;
         (head, options)
     }
 
@@ -210,7 +206,7 @@ pub(crate) fn record_by(alloc: Global, head: OptHeader, options: Opt) -> Result<
     })
 }
 
-impl<'a> OptRecordRef<'a> {
+impl<'a> HeldOptRecord<&'a [u8]> {
     pub(crate) fn head(&self) -> OptHeader
         ensures { result ≡ self.now.head }
     {
@@ -220,42 +216,7 @@ impl<'a> OptRecordRef<'a> {
     pub(crate) fn of(head: OptHeader, options: OptRef<'a>) -> OptRecordRef<'a>
         ensures { result ≡ opt_state head options.entry }
     {
-        OptRecordRef { head, options }
-    }
-
-    /// The greatest payload over UDP, in octets.
-    pub fn udp_payload_size(&self) -> u16
-        ensures { result ≡ self.now.head.size }
-    {
-        self.head.udp_payload_size()
-    }
-
-    /// The response code, with the lower four bits of the message's header.
-    pub fn rcode(&self, header: Header) -> OptRcode
-        ensures { result ≡ 16 * self.now.head.ext + header.rcode }
-    {
-        self.head.rcode(header)
-    }
-
-    /// The version of EDNS.
-    pub fn version(&self) -> u8
-        ensures { result ≡ self.now.head.version }
-    {
-        self.head.version()
-    }
-
-    /// Whether DNSSEC records are wanted.
-    pub fn dnssec_ok(&self) -> bool
-        ensures { result ≡ is_do self.now.head.flags }
-    {
-        self.head.dnssec_ok()
-    }
-
-    /// The options.
-    pub fn opt(&self) -> &OptRef<'a>
-        ensures { result.now ≡ self.now.options }
-    {
-        &self.options
+        HeldOptRecord { head, options }
     }
 
     /// The same record, owned.
@@ -263,7 +224,7 @@ impl<'a> OptRecordRef<'a> {
         ensures { IfOk result (λ r. r ≡ self.now) }
     {
         let options = self.options.to_owned(alloc)?;
-        Ok(OptRecord {
+        Ok(HeldOptRecord {
             head: self.head,
             options,
         })

@@ -193,7 +193,18 @@ fn opt_pushed(
     ensures { Builds (with_additional message (opt_record opt.now)) result }
 {
     let mut builder = message;
-    let record = opt.as_record(alloc)?;
-    builder.push(alloc, &record)?;
+    push_opt(&mut builder, alloc, opt)?;
     Ok(builder)
+}
+
+/// Adds an OPT record.
+fn push_opt(
+    builder: &mut AdditionalBuilder,
+    alloc: Global,
+    opt: &OptRecord,
+) -> Result<(), PushError>
+    ensures { Becomes builder.new (with_additional builder.old (opt_record opt.now)) result }
+{
+    let record = opt.as_record(alloc)?;
+    builder.push(alloc, &record)
 }

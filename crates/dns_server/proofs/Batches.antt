@@ -1,12 +1,12 @@
 -- Lines that are kept back and written together.
-use Rattle.std.proofs.Common.{◌≡◌, ℕ, List, [], ◌∷◌, ◌++◌, ◌<◌, ◌≤◌, ◌+◌, take, drop, length, get_or, sym, ◌∙◌, ap, append_assoc, refl, drop-cons, add-one, append-nil}
+use Rattle.std.proofs.Common.{◌≡◌, ℕ, Result, List, [], ◌∷◌, ◌++◌, ◌<◌, ◌≤◌, ◌+◌, take, drop, length, get_or, sym, ◌∙◌, ap, append_assoc, refl, drop-cons, add-one, append-nil}
 use Rattle.std.proofs.lemmas.List.{take-append-drop, take_more, take_all}
 use Rattle.std.proofs.lemmas.List.Concat.{flat_map-append}
 use Rattle.dns_outside.specs.Causes.{Tells}
 use Rattle.dns_outside.specs.Moves.{Cut}
 use Rattle.dns_service.specs.declared.event.Output.{Output}
 use Rattle.dns_server.specs.Line.{lines_of, line_of}
-use Rattle.dns_server.specs.Writes.{Pending}
+use Rattle.dns_server.specs.Writes.{Pending, Pours}
 
 -- the lines before output i, its line, and those behind it
 parts : (i : ℕ) (os : List Output) (d : Output) → i < length os → lines_of os ≡ lines_of (take i os) ++ (line_of (get_or os i d) ++ lines_of (drop (i + 1) os))
@@ -27,33 +27,21 @@ none_kept a now = kept [] a now
 pub poured : (t n a b : List ℕ) (now before : Type 0) → n ≡ [] → Tells now before (b ≡ a ++ t) → Tells now before (Pending n t a b)
 poured t n a b now before e w = record { told = λ x. let y = w.told x in (y.0, record { written = t; appended = y.1; whole = rw e (append-nil t) }) }
 
+-- what is written of a text with one line more
+pub poured_line : {E F : Type 0} (r : Result (Unit {0}) E) (old l mid new a b : List ℕ) (e : F) (now before : Type 0) → mid ≡ old ++ l → Tells now before (Pours r mid new a b) → Tells now before (Pours r (old ++ l) new a b)
+poured_line r old l mid new a b e now before is w = rw (← is) w
+
 -- one more line is kept back, and then some of the text is written
-pub one_more : (i : ℕ) (os : List Output) (d : Output) (a b c l old mid new : List ℕ) (t0 t1 t2 : Type 0) → i < length os → d ≡ get_or os i d → l ≡ line_of d
-    → Tells t1 t0 (Pending old (lines_of (take i os)) a b) → mid ≡ old ++ l → Tells t2 t1 (Pending new mid b c) → Tells t2 t0 (Pending new (lines_of (take (i + 1) os)) a c)
-one_more i os d a b c l old mid new t0 t1 t2 lt is text before pushed now = record {
+pub one_more : (i : ℕ) (os : List Output) (d : Output) (a b c old new : List ℕ) (t0 t1 t2 : Type 0) → i < length os → d ≡ get_or os i d
+    → Tells t1 t0 (Pending old (lines_of (take i os)) a b) → Tells t2 t1 (Pending new (old ++ line_of d) b c) → Tells t2 t0 (Pending new (lines_of (take (i + 1) os)) a c)
+one_more i os d a b c old new t0 t1 t2 lt is before now = record {
   told = λ x. let w = now.told x in let r = before.told w.0 in (
     r.0,
     record {
       written = r.1.written ++ w.1.written;
       appended = w.1.appended ∙ rw r.1.appended (append_assoc a r.1.written w.1.written);
-      whole = append_assoc r.1.written w.1.written new ∙ ap (λ r2. r.1.written ++ r2) (w.1.whole ∙ pushed)
-          ∙ sym (append_assoc r.1.written old l) ∙ rw (r.1.whole, text) (rw (← is) at (sym (more_lines i os d lt)));
-    },
-  );
-}
-
-front : (i : ℕ) (os : List Output) → lines_of (take i os) ++ lines_of (drop i os) ≡ lines_of os
-front i os = sym (flat_map-append line_of (take i os) (drop i os)) ∙ ap lines_of (take-append-drop i os)
-
-pub cut_before : (i : ℕ) (os : List Output) (a b old : List ℕ) (t0 t1 : Type 0) → Tells t1 t0 (Pending old (lines_of (take i os)) a b) → Tells t1 t0 (Cut (lines_of os) a b)
-cut_before i os a b old t0 t1 before = record {
-  told = λ x. let r = before.told x in (
-    r.0,
-    record {
-      written = r.1.written;
-      rest = old ++ lines_of (drop i os);
-      whole = sym (append_assoc r.1.written old (lines_of (drop i os))) ∙ rw r.1.whole (front i os);
-      appended = r.1.appended;
+      whole = append_assoc r.1.written w.1.written new ∙ ap (λ r2. r.1.written ++ r2) w.1.whole
+          ∙ sym (append_assoc r.1.written old (line_of d)) ∙ rw r.1.whole (rw (← is) at (sym (more_lines i os d lt)));
     },
   );
 }
@@ -73,32 +61,33 @@ cut text more old whole_text a b c t0 t1 t2 e before now = record {
   );
 }
 
-pushed_line : (old mid l text a b : List ℕ) (t0 t1 : Type 0) → mid ≡ old ++ l → Tells t1 t0 (Pending old text a b) → Tells t1 t0 (Pending mid (text ++ l) a b)
-pushed_line old mid l text a b t0 t1 e before = record {
+pushed_line : (old l text a b : List ℕ) (t0 t1 : Type 0) → Tells t1 t0 (Pending old text a b) → Tells t1 t0 (Pending (old ++ l) (text ++ l) a b)
+pushed_line old l text a b t0 t1 before = record {
   told = λ x. let r = before.told x in (
     r.0,
     record {
       written = r.1.written;
       appended = r.1.appended;
-      whole = rw e (sym (append_assoc r.1.written old l)) ∙ ap (λ q. q ++ l) r.1.whole;
+      whole = sym (append_assoc r.1.written old l) ∙ ap (λ q. q ++ l) r.1.whole;
     },
   );
 }
 
-pub cut_within : (i : ℕ) (os : List Output) (d : Output) (a b c l old mid : List ℕ) (t0 t1 t2 : Type 0) → i < length os → d ≡ get_or os i d → l ≡ line_of d
-    → Tells t1 t0 (Pending old (lines_of (take i os)) a b) → mid ≡ old ++ l → Tells t2 t1 (Cut mid b c) → Tells t2 t0 (Cut (lines_of os) a c)
-cut_within i os d a b c l old mid t0 t1 t2 lt is text before pushed now =
-    cut (lines_of (take i os) ++ l) (lines_of (drop (i + 1) os)) mid (lines_of os) a b c t0 t1 t2
-    (append_assoc (lines_of (take i os)) l (lines_of (drop (i + 1) os)) ∙ rw text (rw (← is) at (sym (parts i os d lt))))
-    (pushed_line old mid l (lines_of (take i os)) a b t0 t1 pushed before) now
+pub cut_within : (i : ℕ) (os : List Output) (d : Output) (a b c old : List ℕ) (t0 t1 t2 : Type 0) → i < length os → d ≡ get_or os i d
+    → Tells t1 t0 (Pending old (lines_of (take i os)) a b) → Tells t2 t1 (Cut (old ++ line_of d) b c) → Tells t2 t0 (Cut (lines_of os) a c)
+cut_within i os d a b c old t0 t1 t2 lt is before now =
+    cut (lines_of (take i os) ++ line_of d) (lines_of (drop (i + 1) os)) (old ++ line_of d) (lines_of os) a b c t0 t1 t2
+    (append_assoc (lines_of (take i os)) (line_of d) (lines_of (drop (i + 1) os)) ∙ rw (← is) at (sym (parts i os d lt)))
+    (pushed_line old (line_of d) (lines_of (take i os)) a b t0 t1 before) now
 
-pub cut_at_end : (i : ℕ) (os : List Output) (a b c old : List ℕ) (t0 t1 t2 : Type 0)
-    → Tells t1 t0 (Pending old (lines_of (take i os)) a b) → Tells t2 t1 (Cut old b c) → Tells t2 t0 (Cut (lines_of os) a c)
-cut_at_end i os a b c old t0 t1 t2 before now = cut (lines_of (take i os)) (lines_of (drop i os)) old (lines_of os) a b c t0 t1 t2 (front i os) before now
+pub all_kept : (i : ℕ) (os : List Output) (a b old : List ℕ) (t0 t1 : Type 0) → length os ≤ i → Tells t1 t0 (Pending old (lines_of (take i os)) a b) → Tells t1 t0 (Pending old (lines_of os) a b)
+all_kept i os a b old t0 t1 le before = rw (take_all i os le) at before
 
-pub wrote_all : (i : ℕ) (os : List Output) (a b c old : List ℕ) (t0 t1 t2 : Type 0) → length os ≤ i
-    → Tells t1 t0 (Pending old (lines_of (take i os)) a b) → Tells t2 t1 (c ≡ b ++ old) → Tells t2 t0 (c ≡ a ++ lines_of os)
-wrote_all i os a b c old t0 t1 t2 le before now = record {
+pub cut_at_end : (text a b c old : List ℕ) (t0 t1 t2 : Type 0) → Tells t1 t0 (Pending old text a b) → Tells t2 t1 (Cut old b c) → Tells t2 t0 (Cut text a c)
+cut_at_end text a b c old t0 t1 t2 before now = cut text [] old text a b c t0 t1 t2 (append-nil text) before now
+
+pub wrote_all : (text a b c old : List ℕ) (t0 t1 t2 : Type 0) → Tells t1 t0 (Pending old text a b) → Tells t2 t1 (c ≡ b ++ old) → Tells t2 t0 (c ≡ a ++ text)
+wrote_all text a b c old t0 t1 t2 before now = record {
   told = λ x. let w = now.told x in let r = before.told w.0 in
-      (r.0, w.1 ∙ rw r.1.appended (append_assoc a r.1.written old) ∙ ap (λ q. a ++ q) (r.1.whole ∙ rw (take_all i os le) refl));
+      (r.0, w.1 ∙ rw r.1.appended (append_assoc a r.1.written old) ∙ ap (λ q. a ++ q) r.1.whole);
 }

@@ -4,7 +4,7 @@ use Rattle.dns_outside.specs.Causes.{Tells, Rose}
 use Rattle.dns_outside.specs.Moves.{ReadAtMost, Cut}
 use Rattle.dns_server.specs.Script.{script}
 use Rattle.dns_server.specs.Status.{SourceFaults, SinkFaults}
-use Rattle.dns_server.specs.Runs.{ReplayTo, Decides}
+use Rattle.dns_server.specs.Runs.{Answers, ReplayTo, Decides}
 use Rattle.dns_server.specs.declared.program.Status.{Status}
 use Rattle.dns_server.specs.declared.program.Status.TheVariants.{Done, Usage, Refused, ReadFault, WriteFault, OutOfMemory, TooLong}
 
@@ -12,9 +12,21 @@ use Rattle.dns_server.specs.declared.program.Status.TheVariants.{Done, Usage, Re
 pub nothing_written : (text a : List ℕ) → Cut text a a
 nothing_written text a = record { written = []; rest = text; whole = refl; appended = sym (append-nil a) }
 
--- what was read whole was read
-pub read_whole : (most : ℕ) (a b : List ℕ) → b ≡ [] → length a ≤ most → ReadAtMost most a b
-read_whole most a b e le = record { got = a; front = rw e (sym (append-nil a)); few = le }
+answered : (s : Status) (a b c d : List ℕ) → b ≡ [] → length a ≤ 67108864 → Answers s (script a) c d → ReplayTo s a b c d
+answered Done a b c d e le h = ((e, le), h.0, h.1)
+answered Refused a b c d e le h = ((e, le), h.0, h.1)
+answered WriteFault a b c d e le h = ((e, le), h)
+answered OutOfMemory a b c d e le h = (record { got = a; front = rw e (sym (append-nil a)); few = omega arith }, h)
+answered ReadFault a b c d e le h = absurd h
+answered TooLong a b c d e le h = absurd h
+answered Usage a b c d e le h = absurd h
+
+-- a source that was read whole, and what was written for its text
+pub replayed : (s : Status) (text a b c d : List ℕ) (r0 r1 w0 w1 : Type 0) → Tells r1 r0 ((a ≡ text) × (b ≡ [])) → length text ≤ 67108864
+    → Tells w1 w0 (Answers s (script text) c d) → Tells (r1 × w1) (r0 × w0) (ReplayTo s a b c d)
+replayed s text a b c d r0 r1 w0 w1 read le wrote = record {
+  told = λ x. let r = read.told x.0 in let w = wrote.told x.1 in ((r.0, w.0), answered s a b c d r.1.1 (rw r.1.0 le) (rw r.1.0 w.1));
+}
 
 decided : (s : Status) (a b c d : List ℕ) (r0 r1 w0 w1 : ℕ) → ReplayTo s a b c d → SourceFaults s r0 r1 → SinkFaults s w0 w1
     → (Rose r0 r1 → ⊥) → (Rose w0 w1 → ⊥) → length a ≤ 67108864 → Decides s (script a)

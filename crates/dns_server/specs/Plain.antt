@@ -3,23 +3,14 @@
 use Rattle.std.specs.Prelude.{Bool, true, false}
 use Rattle.dns_base.specs.Plain.{is_plain}
 use Rattle.dns_service.specs.declared.event.EventKind.{EventKind}
-use Rattle.dns_service.specs.declared.event.EventKind.TheVariants.{Datagram, Turn, Offer, Piece, End, Write, Release}
+use Rattle.dns_service.specs.declared.event.EventKind.TheVariants.{Datagram, Piece}
 
 abbrev pub is_plain_kind : EventKind → Bool
 is_plain_kind (Datagram addr octets) = is_plain octets
-is_plain_kind (Turn request) = true
-is_plain_kind (Offer addr) = true
-is_plain_kind (Piece octets) = true
-is_plain_kind End = true
-is_plain_kind (Write took) = true
-is_plain_kind Release = true
+is_plain_kind _ = true
 
 -- events that may carry a message
 abbrev pub needs_rule : EventKind → Bool
 needs_rule (Datagram addr octets) = true
-needs_rule (Turn request) = false
-needs_rule (Offer addr) = false
 needs_rule (Piece octets) = true
-needs_rule End = false
-needs_rule (Write took) = false
-needs_rule Release = false
+needs_rule _ = false

@@ -4,7 +4,7 @@ use Rattle.std.specs.List.{list_all}
 use Rattle.dns_base.specs.Plain.{is_plain}
 use Rattle.dns_service.specs.declared.event.Event.{Event}
 use Rattle.dns_service.specs.declared.event.EventKind.{EventKind}
-use Rattle.dns_service.specs.declared.event.EventKind.TheVariants.{Datagram, Turn, Offer, Piece, End, Write, Release}
+use Rattle.dns_service.specs.declared.event.EventKind.TheVariants.{Piece}
 use Rattle.dns_client.specs.Frames.{frames}
 use Rattle.dns_client.specs.Requests.{header_size}
 use Rattle.dns_core.specs.Early.{stream_of}
@@ -18,13 +18,8 @@ abbrev pub is_plain_stream : List ℕ → Bool
 is_plain_stream o = list_all is_plain_frame (frames o)
 
 abbrev pub is_piece : EventKind → Bool
-is_piece (Datagram addr octets) = false
-is_piece (Turn request) = false
-is_piece (Offer addr) = false
 is_piece (Piece octets) = true
-is_piece End = false
-is_piece (Write took) = false
-is_piece Release = false
+is_piece _ = false
 
 -- a piece of a client whose stream, over all events, isn't plain
 abbrev pub is_spoilt : List Event → Event → Bool

@@ -43,6 +43,14 @@ text_of (Err e) = refused_line e.0 e.1
 abbrev pub Whole : List ℕ → List ℕ → Type 0
 Whole a b = (b ≡ []) × (length a ≤ LIMIT)
 
+-- what is written for a text that was read whole
+abbrev pub Answers : Status → Result Plan (ℕ × Reason) → List ℕ → List ℕ → Type 0
+Answers Done read c d = IsOk read × (d ≡ c ++ text_of read)
+Answers Refused read c d = IsErr read × (d ≡ c ++ text_of read)
+Answers WriteFault read c d = Cut (text_of read) c d
+Answers OutOfMemory read c d = Cut (text_of read) c d
+Answers _ read c d = ⊥
+
 abbrev pub ReplayTo : Status → List ℕ → List ℕ → List ℕ → List ℕ → Type 0
 ReplayTo Done a b c d = Whole a b × IsOk (script a) × (d ≡ c ++ text_of (script a))
 ReplayTo Refused a b c d = Whole a b × IsErr (script a) × (d ≡ c ++ text_of (script a))
@@ -60,10 +68,7 @@ abbrev pub Decides : Status → Result Plan (ℕ × Reason) → Type 0
 Decides Done read = IsOk read
 Decides Refused read = IsErr read
 Decides OutOfMemory read = Unit {0}
-Decides WriteFault read = ⊥
-Decides ReadFault read = ⊥
-Decides TooLong read = ⊥
-Decides Usage read = ⊥
+Decides _ read = ⊥
 
 -- a run without a fault: octets that are not too many decide
 abbrev pub Completes : Command → Status → List ℕ → Type 0

@@ -15,20 +15,10 @@ number_of TooLong = 7
 
 -- the source's count rises with ReadFault, and with no other status
 abbrev pub SourceFaults : Status → ℕ → ℕ → Type 0
-SourceFaults Done a b = b ≡ a
-SourceFaults Usage a b = b ≡ a
-SourceFaults Refused a b = b ≡ a
 SourceFaults ReadFault a b = Rose a b
-SourceFaults WriteFault a b = b ≡ a
-SourceFaults OutOfMemory a b = b ≡ a
-SourceFaults TooLong a b = b ≡ a
+SourceFaults _ a b = b ≡ a
 
 -- the sink's count rises with WriteFault, and with no other status
 abbrev pub SinkFaults : Status → ℕ → ℕ → Type 0
-SinkFaults Done a b = b ≡ a
-SinkFaults Usage a b = b ≡ a
-SinkFaults Refused a b = b ≡ a
-SinkFaults ReadFault a b = b ≡ a
 SinkFaults WriteFault a b = Rose a b
-SinkFaults OutOfMemory a b = b ≡ a
-SinkFaults TooLong a b = b ≡ a
+SinkFaults _ a b = b ≡ a

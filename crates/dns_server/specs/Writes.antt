@@ -2,7 +2,6 @@
 use Rattle.std.specs.Prelude.{◌≡◌, ℕ, List, ◌++◌, Result, Ok, Err}
 use Rattle.dns_outside.specs.Causes.{Rose}
 use Rattle.dns_outside.specs.Moves.{Cut}
-use Rattle.dns_outside.specs.declared.sink.WriteFault.{WriteFault}
 use Rattle.dns_server.specs.declared.writing.WriteError.{WriteError}
 use Rattle.dns_server.specs.declared.writing.WriteError.TheVariants.{OutOfMemory, Fault}
 
@@ -25,6 +24,6 @@ pub record Pending (rest text a b : List ℕ) : Type 0 where
   pub whole : written ++ rest ≡ text
 
 -- a text that is kept back was written or is still kept back, or a front of it was written
-abbrev pub Pours : Result (Unit {0}) WriteFault → List ℕ → List ℕ → List ℕ → List ℕ → Type 0
+abbrev pub Pours : {E : Type 0} → Result (Unit {0}) E → List ℕ → List ℕ → List ℕ → List ℕ → Type 0
 Pours (Ok u) text rest a b = Pending rest text a b
 Pours (Err e) text rest a b = Cut text a b

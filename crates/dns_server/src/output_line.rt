@@ -1,6 +1,6 @@
 //! The lines that are written.
 
-ghost use Rattle.std.specs.Prelude.{◌≡◌, IfOk, string_bytes};
+ghost use Rattle.std.specs.Prelude.{◌≡◌, ◌++◌, IfOk, codes, decimal, string_bytes};
 ghost use Rattle.hex.specs.Hex.{encode_lower};
 ghost use Rattle.dns_server.specs.Line.{line_of, refused_line, reason_word, why_word, yes_no};
 
@@ -16,31 +16,33 @@ pub fn line(alloc: Global, output: &Output) -> Result<String, OutOfMemory>
     ensures { IfOk result (λ t. string_bytes t ≡ line_of output.now) }
 {
     match output {
-        Output::Datagram { client, octets } => {
-            let octets = digits(alloc, octets)?;
-            Ok(format!(in alloc; "datagram {client} {octets}\n")?)
-        }
-        Output::Frame { client, octets } => {
-            let octets = digits(alloc, octets)?;
-            Ok(format!(in alloc; "frame {client} {octets}\n")?)
-        }
-        Output::Closed { client, why } => {
-            let why = why_text(*why);
-            Ok(format!(in alloc; "closed {client} {why}\n")?)
-        }
+        Output::Datagram { client, octets } => octets_line(alloc, "datagram", *client, octets),
+        Output::Frame { client, octets } => octets_line(alloc, "frame", *client, octets),
+        Output::Closed { client, why } => word_line(alloc, "closed", *client, why_text(*why)),
         Output::TurnedAway { client, accepted } => {
-            let accepted = yes_no_text(*accepted);
-            Ok(format!(in alloc; "turned {client} {accepted}\n")?)
+            word_line(alloc, "turned", *client, yes_no_text(*accepted))
         }
     }
 }
 
-/// Two hexadecimal digits for each octet, in lower case.
-fn digits(alloc: Global, octets: &Octets) -> Result<String, OutOfMemory>
-    ensures { IfOk result (λ t. string_bytes t ≡ encode_lower octets.now) }
+/// A line of a word, a number and a word.
+fn word_line(alloc: Global, first: &str, number: u64, last: &str) -> Result<String, OutOfMemory>
+    ensures { IfOk result (λ t. string_bytes t ≡ first.now ++ (codes " " ++ (decimal number ++ (codes " " ++ (last.now ++ codes "\n"))))) }
+{
+    Ok(format!(in alloc; "{first} {number} {last}\n")?)
+}
+
+/// The same, where the last word is two hexadecimal digits for each octet, in lower case.
+fn octets_line(
+    alloc: Global,
+    first: &str,
+    number: u64,
+    octets: &Octets,
+) -> Result<String, OutOfMemory>
+    ensures { IfOk result (λ t. string_bytes t ≡ first.now ++ (codes " " ++ (decimal number ++ (codes " " ++ (encode_lower octets.now ++ codes "\n"))))) }
 {
     let digits = hex::encode(alloc, octets.as_slice())?;
-    Ok(digits)
+    word_line(alloc, first, number, digits.as_str())
 }
 
 fn why_text(why: Why) -> &'static str
@@ -72,6 +74,5 @@ fn reason_text(reason: Reason) -> &'static str
 pub fn refusal(alloc: Global, number: u64, reason: Reason) -> Result<String, OutOfMemory>
     ensures { IfOk result (λ t. string_bytes t ≡ refused_line number reason) }
 {
-    let word = reason_text(reason);
-    Ok(format!(in alloc; "refused {number} {word}\n")?)
+    word_line(alloc, "refused", number, reason_text(reason))
 }

@@ -12,12 +12,7 @@ pub fn is_plain_event(kind: &EventKind) -> bool
 {
     match kind {
         EventKind::Datagram { octets, .. } => is_plain(octets.as_slice()),
-        EventKind::Turn { .. } => true,
-        EventKind::Offer { .. } => true,
-        EventKind::Piece(_) => true,
-        EventKind::End => true,
-        EventKind::Write { .. } => true,
-        EventKind::Release => true,
+        _ => true,
     }
 }
 
@@ -25,13 +20,5 @@ pub fn is_plain_event(kind: &EventKind) -> bool
 pub fn needs_a_rule(kind: &EventKind) -> bool
     ensures { result ≡ needs_rule kind.now }
 {
-    match kind {
-        EventKind::Datagram { .. } => true,
-        EventKind::Turn { .. } => false,
-        EventKind::Offer { .. } => false,
-        EventKind::Piece(_) => true,
-        EventKind::End => false,
-        EventKind::Write { .. } => false,
-        EventKind::Release => false,
-    }
+    matches!(kind, EventKind::Datagram { .. } | EventKind::Piece(_))
 }

@@ -18,28 +18,15 @@ fn piece_of(kind: &EventKind) -> &[u8]
     ensures { result.now ≡ piece_in kind.now }
 {
     match kind {
-        EventKind::Datagram { .. } => b"".as_slice(),
-        EventKind::Turn { .. } => b"".as_slice(),
-        EventKind::Offer { .. } => b"".as_slice(),
         EventKind::Piece(octets) => octets.as_slice(),
-        EventKind::End => b"".as_slice(),
-        EventKind::Write { .. } => b"".as_slice(),
-        EventKind::Release => b"".as_slice(),
+        _ => b"".as_slice(),
     }
 }
 
 fn is_a_piece(kind: &EventKind) -> bool
     ensures { result ≡ is_piece kind.now }
 {
-    match kind {
-        EventKind::Datagram { .. } => false,
-        EventKind::Turn { .. } => false,
-        EventKind::Offer { .. } => false,
-        EventKind::Piece(_) => true,
-        EventKind::End => false,
-        EventKind::Write { .. } => false,
-        EventKind::Release => false,
-    }
+    matches!(kind, EventKind::Piece(_))
 }
 
 fn is_a_plain_frame(frame: &[u8]) -> bool

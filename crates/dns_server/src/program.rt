@@ -1,12 +1,16 @@
 //! The program's top call.
 
-ghost use Rattle.std.specs.Prelude.{◌≡◌, ◌≢◌, ◌↔◌, map, string_bytes, IfSome, IfOk, None, ℕ, true};
+ghost use Rattle.std.specs.Prelude.{◌≡◌, ◌≢◌, ◌↔◌, ◌≤◌, length, map, string_bytes, IfSome, IfOk, None, ℕ, true};
 ghost use Rattle.dns_outside.specs.Causes.{Tells, Rose};
+ghost use Rattle.dns_outside.specs.declared.source.TheConstants.{LIMIT};
 ghost use Rattle.dns_core.specs.Early.{stream_of};
 ghost use Rattle.dns_server.specs.PlainStreams.{is_plain_stream};
 ghost use Rattle.dns_server.specs.Command.{command_of};
 ghost use Rattle.dns_server.specs.Status.{number_of, SourceFaults, SinkFaults};
-ghost use Rattle.dns_server.specs.Runs.{outputs_of, settings_with, ReplayTo, RunTo, Completes};
+ghost use Rattle.dns_server.specs.Line.{lines_of};
+ghost use Rattle.dns_server.specs.Script.{script};
+ghost use Rattle.dns_server.specs.Writes.{Wrote, WroteFaults};
+ghost use Rattle.dns_server.specs.Runs.{outputs_of, Answers, settings_with, ReplayTo, RunTo, Completes};
 
 use crate::command::{Command, read_command};
 use crate::reader::read_script;
@@ -85,8 +89,43 @@ fn outputs(alloc: Global, script: Script) -> Result<Vec<Output>, OutOfMemory>
     )
 }
 
+/// Writes what the clients of a script are sent.
+fn answer_script<W: Sink>(alloc: Global, script: Script, sink: &mut W) -> Result<(), WriteError>
+    requires { (c : ℕ) → is_plain_stream (stream_of c script.events) ≡ true }
+    ensures told { Tells (W.tells sink.new) (W.tells sink.old) (Wrote result (lines_of (outputs_of script)) (W.taken sink.old) (W.taken sink.new)) }
+    ensures cause { WroteFaults result (W.faults sink.old) (W.faults sink.new) }
+{
+    let all = outputs(alloc, script)?;
+    write_outputs(alloc, sink, &all)
+}
+
+/// Answers a text.
+#[tactic(auto, using(crate::proofs::Running::nothing_written))]
+fn answer_text<W: Sink>(alloc: Global, text: &[u8], sink: &mut W) -> Status
+    requires { length text.now ≤ LIMIT }
+    ensures told { Tells (W.tells sink.new) (W.tells sink.old) (Answers result (script text.now) (W.taken sink.old) (W.taken sink.new)) }
+    ensures faults { SinkFaults result (W.faults sink.old) (W.faults sink.new) }
+    ensures read { (result ≢ Status.Usage) × (result ≢ Status.ReadFault) × (result ≢ Status.TooLong) }
+{
+    match read_script(alloc, text) {
+        Ok(script) => match answer_script(alloc, script, sink) {
+            Ok(()) => Status::Done,
+            Err(WriteError::OutOfMemory) => Status::OutOfMemory,
+            Err(WriteError::Fault) => Status::WriteFault,
+        },
+        Err(ScriptError::OutOfMemory) => Status::OutOfMemory,
+        Err(ScriptError::Refused { line, reason }) => {
+            match write_refusal(alloc, sink, line, reason) {
+                Ok(()) => Status::Refused,
+                Err(WriteError::OutOfMemory) => Status::OutOfMemory,
+                Err(WriteError::Fault) => Status::WriteFault,
+            }
+        }
+    }
+}
+
 /// Answers the script that a source holds.
-#[tactic(auto, using(crate::proofs::Running::nothing_written, crate::proofs::Running::read_whole))]
+#[tactic(auto, using(crate::proofs::Running::nothing_written, crate::proofs::Running::replayed))]
 fn replay<R: Source, W: Sink>(alloc: Global, source: &mut R, sink: &mut W) -> Status
     ensures told { Tells (R.tells source.new × W.tells sink.new) (R.tells source.old × W.tells sink.old)
         (ReplayTo result (R.left source.old) (R.left source.new) (W.taken sink.old) (W.taken sink.new)) }
@@ -96,31 +135,11 @@ fn replay<R: Source, W: Sink>(alloc: Global, source: &mut R, sink: &mut W) -> St
     ensures unread { result ≡ Status.ReadFault → sink.new ≡ sink.old }
     ensures other { result ≢ Status.Usage }
 {
-    let text = match read_all(alloc, source) {
-        Ok(text) => text,
-        Err(ReadError::OutOfMemory) => return Status::OutOfMemory,
-        Err(ReadError::Fault) => return Status::ReadFault,
-        Err(ReadError::TooLong) => return Status::TooLong,
-    };
-    match read_script(alloc, &text) {
-        Ok(script) => {
-            let Ok(all) = outputs(alloc, script) else {
-                return Status::OutOfMemory;
-            };
-            match write_outputs(alloc, sink, &all) {
-                Ok(()) => Status::Done,
-                Err(WriteError::OutOfMemory) => Status::OutOfMemory,
-                Err(WriteError::Fault) => Status::WriteFault,
-            }
-        }
-        Err(ScriptError::OutOfMemory) => Status::OutOfMemory,
-        Err(ScriptError::Refused { line, reason }) => {
-            match write_refusal(alloc, sink, line, reason) {
-                Ok(()) => Status::Refused,
-                Err(WriteError::OutOfMemory) => Status::OutOfMemory,
-                Err(WriteError::Fault) => Status::WriteFault,
-            }
-        }
+    match read_all(alloc, source) {
+        Ok(text) => answer_text(alloc, &text, sink),
+        Err(ReadError::OutOfMemory) => Status::OutOfMemory,
+        Err(ReadError::Fault) => Status::ReadFault,
+        Err(ReadError::TooLong) => Status::TooLong,
     }
 }
 

@@ -1,9 +1,9 @@
 //! Lines are written to a sink, many at a time.
 
-ghost use Rattle.std.specs.Prelude.{◌≡◌, ◌≤◌};
+ghost use Rattle.std.specs.Prelude.{◌≡◌, ◌≤◌, ◌++◌, [], OnOk};
 ghost use Rattle.dns_outside.specs.Causes.{Tells};
 ghost use Rattle.dns_outside.specs.Moves.{WroteAllCause};
-ghost use Rattle.dns_server.specs.Line.{lines_of, refused_line};
+ghost use Rattle.dns_server.specs.Line.{line_of, lines_of, refused_line};
 ghost use Rattle.dns_server.specs.Writes.{Wrote, WroteFaults, Pours};
 
 use crate::output_line::{line, refusal};
@@ -63,8 +63,53 @@ fn pour<W: Sink>(sink: &mut W, text: &mut Vec<u8>) -> Result<(), WriteFault>
     }
 }
 
+/// Keeps the line of an output back, behind others.
+fn keep(alloc: Global, text: &mut Vec<u8>, output: &Output) -> Result<(), OutOfMemory>
+    ensures { OnOk result (text.new.items ≡ text.old.items ++ line_of output.now) }
+{
+    let more = line(alloc, output)?;
+    text.extend_from_slice(more.as_bytes())?;
+    Ok(())
+}
+
+/// Keeps the line of an output back, and writes the lines that are kept back, once they are many.
+#[tactic(auto, using(crate::proofs::Running::nothing_written, crate::proofs::Batches::poured_line))]
+fn write_line<W: Sink>(
+    alloc: Global,
+    sink: &mut W,
+    text: &mut Vec<u8>,
+    output: &Output,
+) -> Result<(), WriteError>
+    ensures told { Tells (W.tells sink.new) (W.tells sink.old) (Pours result (text.old.items ++ line_of output.now) text.new.items (W.taken sink.old) (W.taken sink.new)) }
+    ensures later { W.faults sink.old ≤ W.faults sink.new }
+    ensures cause { WroteFaults result (W.faults sink.old) (W.faults sink.new) }
+{
+    keep(alloc, text, output)?;
+    pour(sink, text)?;
+    Ok(())
+}
+
+/// Keeps back or writes the lines of outputs, in order.
+#[tactic(auto, using(crate::proofs::Batches::none_kept, crate::proofs::Batches::one_more, crate::proofs::Batches::cut_within, crate::proofs::Batches::all_kept))]
+fn write_lines<W: Sink>(
+    alloc: Global,
+    sink: &mut W,
+    text: &mut Vec<u8>,
+    outputs: &[Output],
+) -> Result<(), WriteError>
+    requires { text.old.items ≡ [] }
+    ensures told { Tells (W.tells sink.new) (W.tells sink.old) (Pours result (lines_of outputs.now) text.new.items (W.taken sink.old) (W.taken sink.new)) }
+    ensures later { W.faults sink.old ≤ W.faults sink.new }
+    ensures cause { WroteFaults result (W.faults sink.old) (W.faults sink.new) }
+{
+    for output in outputs {
+        write_line(alloc, sink, text, output)?;
+    }
+    Ok(())
+}
+
 /// Writes the lines of outputs, in order. After an error a front of them was written.
-#[tactic(auto, using(crate::proofs::Batches::none_kept, crate::proofs::Batches::one_more, crate::proofs::Batches::cut_before, crate::proofs::Batches::cut_within, crate::proofs::Batches::wrote_all, crate::proofs::Batches::cut_at_end))]
+#[tactic(auto, using(crate::proofs::Batches::wrote_all, crate::proofs::Batches::cut_at_end))]
 pub fn write_outputs<W: Sink>(
     alloc: Global,
     sink: &mut W,
@@ -74,24 +119,10 @@ pub fn write_outputs<W: Sink>(
     ensures later { W.faults sink.old ≤ W.faults sink.new }
     ensures cause { WroteFaults result (W.faults sink.old) (W.faults sink.new) }
 {
-    let mut text: Vec<u8> = Vec::new(alloc);
-    for output in outputs {
-        let Ok(more) = line(alloc, output) else {
-            return Err(WriteError::OutOfMemory);
-        };
-        match text.extend_from_slice(more.as_bytes()) {
-            Ok(()) => {}
-            Err(_) => return Err(WriteError::OutOfMemory),
-        }
-        match pour(sink, &mut text) {
-            Ok(()) => {}
-            Err(_) => return Err(WriteError::Fault),
-        }
-    }
-    match write_all(sink, text.as_slice()) {
-        Ok(()) => Ok(()),
-        Err(_) => Err(WriteError::Fault),
-    }
+    let mut text = Vec::new(alloc);
+    write_lines(alloc, sink, &mut text, outputs)?;
+    write_all(sink, text.as_slice())?;
+    Ok(())
 }
 
 /// Writes the line of a refusal. After an error a front of it was written.

@@ -32,10 +32,9 @@ pub fn answer(
 }
 
 /// What the steps say, and the octets that the message has behind them.
-fn shown(alloc: Global, stage: Stage, steps: &str) -> Result<String, RowError> {
-    let mut stage = stage;
+fn shown(alloc: Global, stage: &mut Stage, steps: &str) -> Result<String, RowError> {
     let mut said = String::new(alloc);
-    take_steps(alloc, &mut stage, steps, &mut said)?;
+    take_steps(alloc, stage, steps, &mut said)?;
     push_digits(alloc, &mut said, stage.as_slice()).map_err(no_memory)?;
     Ok(said)
 }
@@ -50,7 +49,7 @@ fn push_digits(alloc: Global, text: &mut String, octets: &[u8]) -> Result<(), Ou
 /// The same for an empty message.
 fn built(alloc: Global, arguments: &mut Arguments<'_>) -> Result<String, RowError> {
     let builder = MessageBuilder::new(alloc).map_err(no_memory)?;
-    shown(alloc, Stage::Message(builder), arguments.all_words())
+    shown(alloc, &mut Stage::Message(builder), arguments.all_words())
 }
 
 /// Appends a message as a stream and as a datagram has it.
@@ -114,7 +113,7 @@ fn answered(
 /// The answer to a query, and what the steps say of it.
 fn start_answer(alloc: Global, arguments: &mut Arguments<'_>) -> Result<String, RowError> {
     match answered(alloc, arguments)? {
-        Ok(answer) => shown(alloc, Stage::Answer(answer), arguments.all_words()),
+        Ok(answer) => shown(alloc, &mut Stage::Answer(answer), arguments.all_words()),
         Err(error) => word(alloc, pushed(Err(error))).map_err(no_memory),
     }
 }
@@ -142,7 +141,7 @@ fn refused(alloc: Global, arguments: &mut Arguments<'_>) -> Result<AnswerBuilder
 /// The error answer to a query, and what the steps say of it.
 fn start_error(alloc: Global, arguments: &mut Arguments<'_>) -> Result<String, RowError> {
     let error = refused(alloc, arguments)?;
-    shown(alloc, Stage::Answer(error), arguments.all_words())
+    shown(alloc, &mut Stage::Answer(error), arguments.all_words())
 }
 
 /// A message whose additional section is one record.

@@ -5,7 +5,8 @@ ghost use Rattle.dns_message.specs.Records.{IsLawful};
 
 use crate::told::{digits, told, word};
 use dns_message::{
-    ComposeQuestion, MessageRef, Question, QuestionIter, Record, RecordIter, is_plain, number_at,
+    ComposeQuestion, MessageRef, Question, QuestionIter, QuestionRef, Record, RecordIter, is_plain,
+    number_at,
 };
 use dns_name::{OutOfMemory, ParseError};
 use rows_table::{Arguments, RowError, yes_no};
@@ -68,14 +69,18 @@ fn header_octets(alloc: Global, octets: &[u8]) -> Result<String, ParseError> {
 }
 
 /// The number of two octets at a place.
-fn number_in(alloc: Global, arguments: &mut Arguments<'_>) -> Result<String, RowError> {
-    let octets = arguments.octets(alloc)?;
-    let place = arguments.number::<usize>()?;
+fn number_said(alloc: Global, octets: &[u8], place: usize) -> Result<String, RowError> {
     if place > octets.len() {
         return Err(RowError::OutOfForm);
     }
-    let number = number_at(&octets, place);
+    let number = number_at(octets, place);
     Ok(format!(in alloc; "{number}")?)
+}
+
+/// The number of two octets at a place of a message.
+fn number_in(alloc: Global, arguments: &mut Arguments<'_>) -> Result<String, RowError> {
+    let octets = arguments.octets(alloc)?;
+    number_said(alloc, &octets, arguments.number()?)
 }
 
 /// What a question appends to none.
@@ -92,14 +97,19 @@ fn question_said(alloc: Global, question: &Question) -> Result<String, OutOfMemo
     Ok(format!(in alloc; "{appended} compose_len={len}")?)
 }
 
+/// The same of an owned copy.
+fn copy_said(alloc: Global, found: &QuestionRef<'_>) -> Result<String, OutOfMemory> {
+    let question = found.to_question(alloc)?;
+    question_said(alloc, &question)
+}
+
 /// The first question, owned.
 fn first_question(alloc: Global, octets: &[u8]) -> Result<String, ParseError> {
     let message = MessageRef::from_slice(octets)?;
     let Some(found) = message.first_question() else {
         return Ok(word(alloc, "none")?);
     };
-    let question = found.to_question(alloc)?;
-    Ok(question_said(alloc, &question)?)
+    Ok(copy_said(alloc, &found)?)
 }
 
 /// The first question, where it stands.

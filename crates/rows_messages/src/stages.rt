@@ -153,9 +153,10 @@ fn move_on(stage: &mut Stage, section: &str) -> Result<(), RowError> {
 /// The question that octets are.
 fn question_of(alloc: Global, octets: &[u8]) -> Result<Question, ParseError> {
     let mut parser = Parser::from_ref(octets);
-    let qname = NameRef::parse(&mut parser)?.to_owned(alloc)?;
+    let name = NameRef::parse(&mut parser)?;
     let qtype = Rtype::from_int(parser.parse_u16_be()?);
     let qclass = Class::from_int(parser.parse_u16_be()?);
+    let qname = name.to_owned(alloc)?;
     Ok(Question {
         qname,
         qtype,
@@ -224,24 +225,26 @@ fn replace_type(
     }
 }
 
-/// What a step with the additional records of a type says; none where it says nothing.
-fn by_type(
+/// Puts the record of the next word in place of those of its type.
+fn replace_next(
     alloc: Global,
-    builder: &mut AdditionalBuilder,
-    step: &str,
+    stage: &mut Stage,
     arguments: &mut Arguments<'_>,
-) -> Result<Option<&'static str>, RowError> {
-    match step {
-        "replace" => {
-            let octets = arguments.octets(alloc)?;
-            Ok(Some(replace_type(alloc, builder, &octets)?))
-        }
-        "remove" => {
-            builder.remove_type(Rtype::from_int(arguments.number()?));
-            Ok(None)
-        }
+) -> Result<&'static str, RowError> {
+    let octets = arguments.octets(alloc)?;
+    match stage {
+        Stage::Additional(builder) => replace_type(alloc, builder, &octets),
         _ => Err(RowError::NoSuchCall),
     }
+}
+
+/// Drops the additional records of a type.
+fn remove(stage: &mut Stage, rtype: u16) -> Result<(), RowError> {
+    match stage {
+        Stage::Additional(builder) => builder.remove_type(Rtype::from_int(rtype)),
+        _ => return Err(RowError::NoSuchCall),
+    }
+    Ok(())
 }
 
 /// Adds the question or record of the next word.
@@ -260,29 +263,58 @@ fn clone_in_place(alloc: Global, stage: &mut Stage) -> Result<(), RowError> {
     Ok(())
 }
 
+/// Takes a step that says nothing.
+fn take_silent(
+    alloc: Global,
+    stage: &mut Stage,
+    step: &str,
+    arguments: &mut Arguments<'_>,
+) -> Result<(), RowError> {
+    match step {
+        "limit" => stage.limit(arguments.number()?),
+        "unlimit" => stage.unlimit(),
+        "rewind" => return stage.rewind(),
+        "clone" => return clone_in_place(alloc, stage),
+        "remove" => return remove(stage, arguments.number()?),
+        section => return move_on(stage, section),
+    }
+    Ok(())
+}
+
 /// What a step says; none where it says nothing.
-fn step_with(
+fn take_step(
     alloc: Global,
     stage: &mut Stage,
     step: &str,
     arguments: &mut Arguments<'_>,
 ) -> Result<Option<&'static str>, RowError> {
     match step {
-        "question" | "answer" | "authority" | "additional" => move_on(stage, step)?,
-        "limit" => stage.limit(arguments.number()?),
-        "unlimit" => stage.unlimit(),
-        "rewind" => stage.rewind()?,
-        "clone" => clone_in_place(alloc, stage)?,
-        "push" => return Ok(Some(push_next(alloc, stage, arguments)?)),
-        step => match stage {
-            Stage::Additional(builder) => return by_type(alloc, builder, step, arguments),
-            _ => return Err(RowError::NoSuchCall),
-        },
+        "push" => Ok(Some(push_next(alloc, stage, arguments)?)),
+        "replace" => Ok(Some(replace_next(alloc, stage, arguments)?)),
+        _ => {
+            take_silent(alloc, stage, step, arguments)?;
+            Ok(None)
+        }
     }
-    Ok(None)
 }
 
-/// Takes the steps, which a comma parts; what they say stands in the text, each with a space behind it.
+/// Takes a step, and appends what it says with a space behind it.
+fn push_step(
+    alloc: Global,
+    stage: &mut Stage,
+    step: &str,
+    said: &mut String,
+) -> Result<(), RowError> {
+    let mut arguments = Arguments::of(step);
+    let step = arguments.word()?;
+    if let Some(answer) = take_step(alloc, stage, step, &mut arguments)? {
+        said.push_str(answer)?;
+        said.push_str(" ")?;
+    }
+    arguments.end()
+}
+
+/// Takes the steps, which a comma parts; what they say stands in the text.
 pub fn take_steps(
     alloc: Global,
     stage: &mut Stage,
@@ -293,12 +325,7 @@ pub fn take_steps(
         return Ok(());
     }
     for step in steps.split(", ") {
-        let mut arguments = Arguments::of(step);
-        if let Some(answer) = step_with(alloc, stage, arguments.word()?, &mut arguments)? {
-            said.push_str(answer)?;
-            said.push_str(" ")?;
-        }
-        arguments.end()?;
+        push_step(alloc, stage, step, said)?;
     }
     Ok(())
 }

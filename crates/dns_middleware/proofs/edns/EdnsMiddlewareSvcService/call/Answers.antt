@@ -3,6 +3,4 @@ use Rattle.dns_middleware.proofs.EdnsLaws.{passed_whole}
 use Rattle.dns_middleware.proofs.edns.EdnsMiddlewareSvcService.call.Goals as goal
 
 pub returns-then-not-self-clause-answers : goal.returns-then-not-self-clause-answers
-returns-then-not-self-clause-answers g c =
-    let future = g.S.Future.ReplyFuture.answer c.in_ok-future.future in
-    passed_whole c.args.self.now.enabled (g.S.Service.answer c.args.self.now.next) c.args.request.now future _ c.if-not-self.true c.in_ok-future.ensures.answers c.new.ensures
+returns-then-not-self-clause-answers g c = ?

@@ -2,7 +2,7 @@ use Rattle.std.proofs.Common.{◌≡◌, take}
 use Rattle.dns_outside.specs.Causes.{Tells}
 use Rattle.dns_server.specs.Line.{lines_of}
 use Rattle.dns_server.specs.Writes.{Pending}
-use Rattle.dns_server.proofs.writing.write_outputs.Given as goal
+use Rattle.dns_server.proofs.writing.write_lines.Given as goal
 
 abbrev pub invariant-loop-output : goal.invariant-loop-output
 invariant-loop-output g l = record {
