@@ -65,7 +65,8 @@ where
         request: &mut Request<Meta>,
     ) -> Result<Now<Layered<S, Meta, EdnsPost>>, OutOfMemory> {
         if !self.enabled {
-            return pass_whole(alloc, &self.next, request);
+            let whole = pass_whole(alloc, &self.next, request)?;
+            return Ok(whole);
         }
         match edns_refusal(request) {
             Some(rcode) => Ok(of_own::<S, Meta, _>(refuse(&EdnsPost {}, alloc, request, rcode)?)),

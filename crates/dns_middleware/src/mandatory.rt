@@ -91,11 +91,19 @@ fn pass<S: Service<Meta>, Meta>(
     ensures kept { OnOk result (request.new ≡ record request.old { transport = hinted (S.hint next.now request.old) request.old.transport; reserved = request.new.reserved }) }
     ensures refused { OnErr result (request.new ≡ request.old) }
 {
-    let mut original = request.try_clone(alloc, ())?;
+    let original = request.try_clone(alloc, ())?;
     let future = next.call(alloc, request)?;
     let hint = hint_of(request.transport_ctx());
-    set_hint(original.transport_ctx_mut(), hint);
+    let original = with_hint(original, hint);
     Ok(PostprocessingStream::new(future, original, MandatoryPost {}))
+}
+
+/// A request with another hint.
+fn with_hint(mut request: Request<()>, hint: Option<u16>) -> Request<()>
+    ensures { result ≡ record request { transport = hinted hint request.transport } }
+{
+    set_hint(request.transport_ctx_mut(), hint);
+    request
 }
 
 /// The response code with which the layer refuses a request by itself.
