@@ -43,25 +43,37 @@ text_of (Err e) = refused_line e.0 e.1
 abbrev pub Whole : List ℕ → List ℕ → Type 0
 Whole a b = (b ≡ []) × (length a ≤ LIMIT)
 
--- what is written for a text that was read whole
-abbrev pub Answers : Status → Result Plan (ℕ × Reason) → List ℕ → List ℕ → Type 0
-Answers Done read c d = IsOk read × (d ≡ c ++ text_of read)
-Answers Refused read c d = IsErr read × (d ≡ c ++ text_of read)
-Answers WriteFault read c d = Cut (text_of read) c d
-Answers OutOfMemory read c d = Cut (text_of read) c d
-Answers _ read c d = ⊥
+-- the status of a text that was read whole
+abbrev pub Judges : Status → Result Plan (ℕ × Reason) → Type 0
+Judges Done read = IsOk read
+Judges Refused read = IsErr read
+Judges WriteFault read = Unit {0}
+Judges OutOfMemory read = Unit {0}
+Judges _ read = ⊥
 
-abbrev pub ReplayTo : Status → List ℕ → List ℕ → List ℕ → List ℕ → Type 0
-ReplayTo Done a b c d = Whole a b × IsOk (script a) × (d ≡ c ++ text_of (script a))
-ReplayTo Refused a b c d = Whole a b × IsErr (script a) × (d ≡ c ++ text_of (script a))
-ReplayTo WriteFault a b c d = Whole a b × Cut (text_of (script a)) c d
-ReplayTo OutOfMemory a b c d = ReadAtMost (LIMIT + 1) a b × Cut (text_of (script a)) c d
-ReplayTo ReadFault a b c d = ReadAtMost LIMIT a b × (d ≡ c)
-ReplayTo TooLong a b c d = Read (LIMIT + 1) a b × (d ≡ c)
-ReplayTo Usage a b c d = ⊥
+-- what was read, by the status
+abbrev pub ReplayReads : Status → List ℕ → List ℕ → Type 0
+ReplayReads Done a b = Whole a b × IsOk (script a)
+ReplayReads Refused a b = Whole a b × IsErr (script a)
+ReplayReads WriteFault a b = Whole a b
+ReplayReads OutOfMemory a b = ReadAtMost (LIMIT + 1) a b
+ReplayReads ReadFault a b = ReadAtMost LIMIT a b
+ReplayReads TooLong a b = Read (LIMIT + 1) a b
+ReplayReads Usage a b = ⊥
 
-abbrev pub RunTo : Command → Status → List ℕ → List ℕ → List ℕ → List ℕ → Type 0
-RunTo Replay s a b c d = ReplayTo s a b c d
+-- what was written, by the status: a text, a front of it, or nothing
+abbrev pub ReplayWrites : Status → List ℕ → List ℕ → List ℕ → Type 0
+ReplayWrites Done text c d = d ≡ c ++ text
+ReplayWrites Refused text c d = d ≡ c ++ text
+ReplayWrites WriteFault text c d = Cut text c d
+ReplayWrites OutOfMemory text c d = Cut text c d
+ReplayWrites _ text c d = d ≡ c
+
+abbrev pub RunReads : Command → Status → List ℕ → List ℕ → Type 0
+RunReads Replay s a b = ReplayReads s a b
+
+abbrev pub RunWrites : Command → Status → List ℕ → List ℕ → List ℕ → Type 0
+RunWrites Replay s a c d = ReplayWrites s (text_of (script a)) c d
 
 -- a script gives Done, and another text Refused, save for want of memory
 abbrev pub Decides : Status → Result Plan (ℕ × Reason) → Type 0

@@ -10,7 +10,7 @@ ghost use Rattle.dns_server.specs.Status.{number_of, SourceFaults, SinkFaults};
 ghost use Rattle.dns_server.specs.Line.{lines_of};
 ghost use Rattle.dns_server.specs.Script.{script};
 ghost use Rattle.dns_server.specs.Writes.{Wrote, WroteFaults};
-ghost use Rattle.dns_server.specs.Runs.{outputs_of, Answers, settings_with, ReplayTo, RunTo, Completes};
+ghost use Rattle.dns_server.specs.Runs.{outputs_of, text_of, settings_with, Judges, ReplayReads, ReplayWrites, RunReads, RunWrites, Completes};
 
 use crate::command::{Command, read_command};
 use crate::reader::read_script;
@@ -103,7 +103,8 @@ fn answer_script<W: Sink>(alloc: Global, script: Script, sink: &mut W) -> Result
 #[tactic(auto, using(crate::proofs::Running::nothing_written))]
 fn answer_text<W: Sink>(alloc: Global, text: &[u8], sink: &mut W) -> Status
     requires { length text.now ≤ LIMIT }
-    ensures told { Tells (W.tells sink.new) (W.tells sink.old) (Answers result (script text.now) (W.taken sink.old) (W.taken sink.new)) }
+    ensures judged { Judges result (script text.now) }
+    ensures told { Tells (W.tells sink.new) (W.tells sink.old) (ReplayWrites result (text_of (script text.now)) (W.taken sink.old) (W.taken sink.new)) }
     ensures faults { SinkFaults result (W.faults sink.old) (W.faults sink.new) }
     ensures read { (result ≢ Status.Usage) × (result ≢ Status.ReadFault) × (result ≢ Status.TooLong) }
 {
@@ -125,10 +126,11 @@ fn answer_text<W: Sink>(alloc: Global, text: &[u8], sink: &mut W) -> Status
 }
 
 /// Answers the script that a source holds.
-#[tactic(auto, using(crate::proofs::Running::nothing_written, crate::proofs::Running::replayed))]
+#[tactic(auto, using(crate::proofs::Running::nothing_written, crate::proofs::Running::whole_read, crate::proofs::Running::whole_answered))]
 fn replay<R: Source, W: Sink>(alloc: Global, source: &mut R, sink: &mut W) -> Status
-    ensures told { Tells (R.tells source.new × W.tells sink.new) (R.tells source.old × W.tells sink.old)
-        (ReplayTo result (R.left source.old) (R.left source.new) (W.taken sink.old) (W.taken sink.new)) }
+    ensures read { Tells (R.tells source.new) (R.tells source.old) (ReplayReads result (R.left source.old) (R.left source.new)) }
+    ensures written { Tells (R.tells source.new × W.tells sink.new) (R.tells source.old × W.tells sink.old)
+        (ReplayWrites result (text_of (script (R.left source.old))) (W.taken sink.old) (W.taken sink.new)) }
     ensures source_faults { SourceFaults result (R.faults source.old) (R.faults source.new) }
     ensures sink_faults { SinkFaults result (W.faults sink.old) (W.faults sink.new) }
     ensures too_long { result ≡ Status.TooLong → sink.new ≡ sink.old }
@@ -160,11 +162,14 @@ pub fn run<R: Source, W: Sink>(
     // Where the source is too long or can't be read, nothing is written.
     ensures too_long { result ≡ Status.TooLong → sink.new ≡ sink.old }
     ensures unread { result ≡ Status.ReadFault → sink.new ≡ sink.old }
-    // What was read and written, by the status.
-    ensures told { Tells (R.tells source.new × W.tells sink.new) (R.tells source.old × W.tells sink.old)
-        (IfSome (command_of (map string_bytes words.now)) (λ k. RunTo k result (R.left source.old) (R.left source.new) (W.taken sink.old) (W.taken sink.new))) }
+    // What was read, by the status, where the source tells.
+    ensures read { Tells (R.tells source.new) (R.tells source.old)
+        (IfSome (command_of (map string_bytes words.now)) (λ k. RunReads k result (R.left source.old) (R.left source.new))) }
+    // What was written for it, where the sink tells too.
+    ensures written { Tells (R.tells source.new × W.tells sink.new) (R.tells source.old × W.tells sink.old)
+        (IfSome (command_of (map string_bytes words.now)) (λ k. RunWrites k result (R.left source.old) (W.taken sink.old) (W.taken sink.new))) }
     // Without a fault the words and the script decide.
-    ensures complete { Tells (R.tells source.new × W.tells sink.new) (R.tells source.old × W.tells sink.old)
+    ensures complete { Tells (R.tells source.new) (R.tells source.old)
         ((Rose (R.faults source.old) (R.faults source.new) → ⊥) → (Rose (W.faults sink.old) (W.faults sink.new) → ⊥) →
         IfSome (command_of (map string_bytes words.now)) (λ k. Completes k result (R.left source.old))) }
 {

@@ -46,7 +46,7 @@ fn answers(alloc: Global, words: &Words) -> Result<ScriptAnswers, LineError>
         let given = answer(words.word(i))?;
         answers.push(given)?;
     }
-    Ok(ScriptAnswers::from_vec(answers))
+    Ok(ScriptAnswers::from_vec(alloc, answers)?)
 }
 
 /// A line `rule * ANSWER ..`.

@@ -6,6 +6,7 @@ use dns_name::{OutOfMemory, Rcode};
 use dns_service::ServiceError;
 use std::alloc::Global;
 use std::marker::Model;
+use std::sync::Arc;
 
 /// The answer of one poll.
 #[derive(Clone, Copy, Debug, PartialEq, Eq)]
@@ -18,34 +19,44 @@ pub enum ScriptAnswer {
     Rcode(Rcode),
 }
 
-/// Poll answers, in order.
+/// Poll answers, in order, which all requests that play them share.
 #[derive(Debug, Drop)]
 pub struct ScriptAnswers {
-    answers: Vec<ScriptAnswer>,
+    answers: Arc<Vec<ScriptAnswer>>,
 }
 
 impl Model for ScriptAnswers {
     ghost use Rattle.std.specs.Prelude.{List};
+    ghost use Rattle.std.specs.Arc.{arc_value};
     ghost use Rattle.dns_server.specs.declared.rule.ScriptAnswer.{ScriptAnswer};
 
     ghost Value = { List ScriptAnswer };
 
-    ghost view = { λ a. a.answers.items };
+    ghost view = { λ a. (arc_value a.answers).items };
 }
 
 impl ScriptAnswers {
     /// The answers of a vector, which is not copied.
-    pub fn from_vec(answers: Vec<ScriptAnswer>) -> ScriptAnswers
-        ensures { result ≡ answers.items }
+    pub fn from_vec(alloc: Global, answers: Vec<ScriptAnswer>) -> Result<ScriptAnswers, OutOfMemory>
+        ensures { IfOk result (λ a. a ≡ answers.items) }
     {
-        ScriptAnswers { answers }
+        let answers = Arc::new(alloc, answers)?;
+        Ok(ScriptAnswers { answers })
     }
 
     /// A copy of a slice.
     pub fn from_slice(alloc: Global, answers: &[ScriptAnswer]) -> Result<ScriptAnswers, OutOfMemory>
         ensures { IfOk result (λ a. a ≡ answers.now) }
     {
-        Ok(ScriptAnswers::from_vec(Vec::from_slice(alloc, answers)?))
+        ScriptAnswers::from_vec(alloc, Vec::from_slice(alloc, answers)?)
+    }
+
+    /// The same answers, shared and not copied.
+    pub fn try_clone(&self) -> Result<ScriptAnswers, OutOfMemory>
+        ensures { IfOk result (λ a. a ≡ self.now) }
+    {
+        let answers = Arc::try_clone(&self.answers)?;
+        Ok(ScriptAnswers { answers })
     }
 
     pub fn as_slice(&self) -> &[ScriptAnswer]

@@ -57,7 +57,7 @@ fn answers_of(alloc: Global, rules: &[Rule]) -> Result<ScriptAnswers, OutOfMemor
     ensures { IfOk result (λ a. a ≡ answers_for rules.now) }
 {
     match rules {
-        [rule, ..] => ScriptAnswers::from_slice(alloc, rule.answers.as_slice()),
+        [rule, ..] => rule.answers.try_clone(),
         [] => ScriptAnswers::from_slice(alloc, &[ScriptAnswer::Error(ServiceError::Refused)]),
     }
 }
