@@ -324,6 +324,18 @@ impl Draft {
         Ok(())
     }
 
+    /// The message, whose octets are moved to the front.
+    pub(crate) fn into_message(self) -> Message
+        ensures value { result ≡ wire self.message }
+        ensures lawful { IsMessage self.message }
+    {
+        let Draft { mut octets, .. } = self;
+        let size = octets.len() - 2;
+        octets.copy_within(2.., 0);
+        octets.truncate(size);
+        Message::of(octets)
+    }
+
     /// The finished message.
     pub(crate) fn finish(self) -> StreamTarget
         ensures value { result ≡ wire self.message }
