@@ -330,9 +330,7 @@ impl Draft {
         ensures lawful { IsMessage self.message }
     {
         let Draft { mut octets, .. } = self;
-        let size = octets.len() - 2;
-        octets.copy_within(2.., 0);
-        octets.truncate(size);
+        drop_length(&mut octets);
         Message::of(octets)
     }
 
@@ -344,6 +342,16 @@ impl Draft {
         let Draft { octets, .. } = self;
         StreamTarget::of(octets)
     }
+}
+
+/// Drops the two octets in front of a message.
+fn drop_length(octets: &mut Vec<u8>)
+    requires { 2 ≤ length octets.old.items }
+    ensures { octets.new.items ≡ drop 2 octets.old.items }
+{
+    let len = octets.len();
+    octets.as_mut_slice().copy_within(2..len, 0);
+    octets.truncate(len - 2);
 }
 
 /// Writes the header of a message that stands behind two octets.
