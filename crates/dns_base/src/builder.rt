@@ -13,7 +13,7 @@ mod stage;
 
 use crate::draft::Draft;
 use crate::stream::StreamTarget;
-use dns_message::{Header, HeaderCounts, MessageRef};
+use dns_message::{Header, HeaderCounts, Message, MessageRef};
 use dns_name::OutOfMemory;
 use stage::{
     AdditionalStage, AnswerStage, AuthorityStage, Before, HeaderStage, QuestionStage, Stage,
@@ -172,6 +172,14 @@ impl<S: Stage> Builder<S> {
             draft,
             stage: PhantomData,
         })
+    }
+
+    /// The message. Its octets are moved by two places within their own memory, and not copied.
+    pub fn into_message(self) -> Message
+        ensures value { result ≡ wire self.message }
+        ensures lawful { IsMessage self.message }
+    {
+        self.draft.into_message()
     }
 
     /// The finished message.

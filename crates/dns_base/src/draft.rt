@@ -324,6 +324,16 @@ impl Draft {
         Ok(())
     }
 
+    /// The message, whose octets are moved to the front.
+    pub(crate) fn into_message(self) -> Message
+        ensures value { result ≡ wire self.message }
+        ensures lawful { IsMessage self.message }
+    {
+        let Draft { mut octets, .. } = self;
+        drop_length(&mut octets);
+        Message::of(octets)
+    }
+
     /// The finished message.
     pub(crate) fn finish(self) -> StreamTarget
         ensures value { result ≡ wire self.message }
@@ -332,6 +342,16 @@ impl Draft {
         let Draft { octets, .. } = self;
         StreamTarget::of(octets)
     }
+}
+
+/// Drops the two octets in front of a message.
+fn drop_length(octets: &mut Vec<u8>)
+    requires { 2 ≤ length octets.old.items }
+    ensures { octets.new.items ≡ drop 2 octets.old.items }
+{
+    let len = octets.len();
+    octets.as_mut_slice().copy_within(2..len, 0);
+    octets.truncate(len - 2);
 }
 
 /// Writes the header of a message that stands behind two octets.

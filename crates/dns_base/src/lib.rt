@@ -17,8 +17,12 @@ pub use dns_message::{
     records_stand, typed_data_reads_back, typed_records_read_back,
 };
 pub use dns_name::{
-    Addrs, Class, FormReason, IpAddr, Labels, Name, NameRef, Octets, Opcode, OutOfMemory,
-    ParseError, ParsedName, Parser, Rcode, Rtype, Serial, SocketAddr, Ttl,
+    Addrs, BuildDataError, Class, Classes, Code, ComposeOptData, ExtendedErrorCode,
+    ExtendedErrorCodes, FormReason, HeaderCode, Held, HoldsName, HoldsOctets, IpAddr, Labels,
+    LongOptData, Name, NameRef, Octets, Opcode, Opcodes, OptData, OptRcode, OptionCode,
+    OptionCodes, OutOfMemory, ParseError, ParseOptData, ParsedName, Parser, Rcode, Rcodes,
+    ReadBack, Rtype, Rtypes, SecurityAlgorithm, Serial, SocketAddr, Ttl, names_are_ordered,
+    names_are_the_grammar,
 };
 pub use error::PushError;
 pub use stream::StreamTarget;

@@ -43,6 +43,15 @@ impl StreamTarget {
         &self.octets.as_slice()[2..]
     }
 
+    /// Gives what `as_stream_slice` shows, which is not copied.
+    pub fn into_octets(self) -> Vec<u8>
+        ensures value { result.items ≡ two (length self) ++ self }
+        ensures short { length self ≤ 65535 }
+    {
+        let StreamTarget { octets } = self;
+        octets
+    }
+
     /// The message's octets behind their number in two octets.
     pub fn as_stream_slice(&self) -> &[u8]
         ensures value { result.now ≡ two (length self.now) ++ self.now }

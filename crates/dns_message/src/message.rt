@@ -1,6 +1,6 @@
 //! Messages as they come.
 
-ghost use Rattle.std.specs.Prelude.{◌≡◌, ◌≤◌, ◌<◌, length, IfOk, IsOk, MatchResult};
+ghost use Rattle.std.specs.Prelude.{◌≡◌, ◌≤◌, ◌<◌, length, IfOk, IsOk, MatchResult, ⊤};
 ghost use Rattle.dns_message.specs.Header.{header_of};
 ghost use Rattle.dns_message.specs.Sections.{all_of, counts_of, first_of, questions_of, answers_of, authority_of, reached, sections_of, standing_answers, standing_authority, standing_additional};
 
@@ -8,6 +8,7 @@ use crate::header::{Header, HeaderCounts, header_in, number_at};
 use crate::question::{QuestionIter, QuestionRef, questions_end};
 use crate::record::{RecordIter, records_end};
 use dns_name::ParseError;
+use std::alloc::AllocError;
 use std::marker::Model;
 
 /// The questions of a message and its answer, authority and additional records.
@@ -59,6 +60,23 @@ impl Message {
             return Err(ParseError::ShortInput);
         }
         Ok(Message { octets })
+    }
+
+    /// The message that octets are, at least the 12 of a header. The vector is not copied.
+    pub fn of(octets: Vec<u8>) -> Message
+        requires { 12 ≤ length octets.items }
+        ensures { result ≡ octets.items }
+    {
+        Message { octets }
+    }
+
+    /// Gives the message's octets back, which are not copied.
+    pub fn into_octets(self) -> Vec<u8>
+        ensures value { result.items ≡ self }
+        ensures header { 12 ≤ length result.items }
+    {
+        let Message { octets } = self;
+        octets
     }
 
     /// The message's octets.
@@ -133,6 +151,18 @@ impl Message {
         ensures { result ≡ first_of (questions_of self.now).0 }
     {
         self.for_ref().first_question()
+    }
+}
+
+impl<'a> Clone for MessageRef<'a> {
+    ghost is_clone = { λ message copy. copy ≡ message };
+
+    ghost is_infallible = { λ _. ⊤ };
+
+    fn clone(&self) -> Result<MessageRef<'a>, AllocError> {
+        Ok(MessageRef {
+            octets: self.octets,
+        })
     }
 }
 

@@ -1,6 +1,6 @@
 //! Questions.
 
-ghost use Rattle.std.specs.Prelude.{◌≡◌, ◌≤◌, ◌<◌, ◌+◌, ◌++◌, length, take, IfOk, OnOk, OnErr};
+ghost use Rattle.std.specs.Prelude.{◌≡◌, ◌≤◌, ◌<◌, ◌+◌, ◌++◌, length, take, IfOk, OnOk, OnErr, ⊤};
 ghost use Rattle.std.specs.Iterator.{YieldsFirst, item_count};
 ghost use Rattle.dns_message.specs.declared.question.Question.{Question};
 ghost use Rattle.dns_message.specs.Read.{question_at};
@@ -11,7 +11,7 @@ ghost use Rattle.dns_message.specs.Msg.{HasName};
 use crate::read::two_in;
 use crate::write::{labels_size, push_labels, push_two, settle};
 use dns_name::{Class, Name, OutOfMemory, ParseError, ParsedName, Rtype};
-use std::alloc::Global;
+use std::alloc::{AllocError, Global};
 use std::marker::Model;
 
 /// A question (RFC 1035, section 4.1.2).
@@ -83,12 +83,26 @@ impl<'a> Model for QuestionRef<'a> {
     ghost view = { λ q. record { qname = q.qname; qtype = q.qtype; qclass = q.qclass } };
 }
 
+impl<'a> Clone for QuestionRef<'a> {
+    ghost is_clone = { λ question copy. copy ≡ question };
+
+    ghost is_infallible = { λ _. ⊤ };
+
+    fn clone(&self) -> Result<QuestionRef<'a>, AllocError> {
+        Ok(QuestionRef {
+            qname: self.qname.clone()?,
+            qtype: self.qtype,
+            qclass: self.qclass,
+        })
+    }
+}
+
 impl<'a> QuestionRef<'a> {
     /// The name that is asked for.
-    pub fn qname(&self) -> &ParsedName<'a>
-        ensures { result.now ≡ self.now.qname }
+    pub fn qname(&self) -> ParsedName<'a>
+        ensures { result ≡ self.now.qname }
     {
-        &self.qname
+        self.qname.clone().unwrap()
     }
 
     /// The type of the records that are asked for.
@@ -183,6 +197,20 @@ impl<'a> Model for QuestionIter<'a> {
     ghost view = { λ i. to_come (question_at i.message.now) i.left i.at };
 
     ghost invariant = { λ i. i.at ≤ length i.message.now };
+}
+
+impl<'a> Clone for QuestionIter<'a> {
+    ghost is_clone = { λ questions copy. copy ≡ questions };
+
+    ghost is_infallible = { λ _. ⊤ };
+
+    fn clone(&self) -> Result<QuestionIter<'a>, AllocError> {
+        Ok(QuestionIter {
+            message: self.message,
+            at: self.at,
+            left: self.left,
+        })
+    }
 }
 
 impl<'a> QuestionIter<'a> {

@@ -1,6 +1,6 @@
 //! Records.
 
-ghost use Rattle.std.specs.Prelude.{◌≡◌, ◌≤◌, ◌<◌, ◌+◌, ◌++◌, length, take, IfOk, OnOk, OnErr};
+ghost use Rattle.std.specs.Prelude.{◌≡◌, ◌≤◌, ◌<◌, ◌+◌, ◌++◌, length, take, IfOk, OnOk, OnErr, ⊤};
 ghost use Rattle.std.specs.Iterator.{YieldsFirst, item_count};
 ghost use Rattle.dns_message.specs.Fixed.{fixed_of};
 ghost use Rattle.dns_message.specs.Msg.{HasOwner};
@@ -15,7 +15,7 @@ use crate::rdata_read::data_in;
 use crate::read::octets_in;
 use crate::write::settle;
 use dns_name::{Class, Name, OutOfMemory, ParseError, ParsedName, Rtype, Ttl};
-use std::alloc::Global;
+use std::alloc::{AllocError, Global};
 use std::marker::Model;
 
 /// A record (RFC 1035, section 3.2.1), whose type is that of its data.
@@ -102,12 +102,31 @@ impl<'a> Model for RecordRef<'a> {
     ghost invariant = { λ r. (r.start ≤ r.end) × (r.end ≤ length r.message.now) × (r.end ≤ r.start + 65535) };
 }
 
+impl<'a> Clone for RecordRef<'a> {
+    ghost is_clone = { λ item copy. copy ≡ item };
+
+    ghost is_infallible = { λ _. ⊤ };
+
+    fn clone(&self) -> Result<RecordRef<'a>, AllocError> {
+        Ok(RecordRef {
+            message: self.message,
+            owner: self.owner.clone()?,
+            rtype: self.rtype,
+            class: self.class,
+            ttl: self.ttl,
+            rdata: self.rdata,
+            start: self.start,
+            end: self.end,
+        })
+    }
+}
+
 impl<'a> RecordRef<'a> {
     /// The name that owns the record.
-    pub fn owner(&self) -> &ParsedName<'a>
-        ensures { result.now ≡ self.now.resource.owner }
+    pub fn owner(&self) -> ParsedName<'a>
+        ensures { result ≡ self.now.resource.owner }
     {
-        &self.owner
+        self.owner.clone().unwrap()
     }
 
     /// The type.
@@ -196,6 +215,20 @@ impl<'a> Model for RecordIter<'a> {
     ghost view = { λ i. to_come (standing_at i.message.now) i.left i.at };
 
     ghost invariant = { λ i. i.at ≤ length i.message.now };
+}
+
+impl<'a> Clone for RecordIter<'a> {
+    ghost is_clone = { λ items copy. copy ≡ items };
+
+    ghost is_infallible = { λ _. ⊤ };
+
+    fn clone(&self) -> Result<RecordIter<'a>, AllocError> {
+        Ok(RecordIter {
+            message: self.message,
+            at: self.at,
+            left: self.left,
+        })
+    }
 }
 
 impl<'a> RecordIter<'a> {

@@ -7,4 +7,5 @@ pub mod Names
 pub mod Grammar
 pub mod OptData
 pub mod OptErrors
+pub mod ErrorTexts
 pub mod Lending

@@ -1,11 +1,25 @@
 //! The refusals of readers.
 
+ghost use Rattle.std.specs.Prelude.{◌≡◌, Some, codes};
+ghost use Rattle.dns_name.specs.ErrorTexts.{parse_text, form_text};
+ghost use Rattle.dns_name.specs.declared.error.ParseError.TheVariants.{OutOfMemory as NoMemory};
+
 use std::alloc::{AllocError, AllocFailed};
-use thiserror::Error;
+use std::fmt;
 
 /// Want of memory, where nothing else can be refused.
 #[derive(Clone, Copy, Debug, PartialEq, Eq)]
 pub struct OutOfMemory;
+
+impl fmt::Display for OutOfMemory {
+    ghost output = { λ _. Some (codes "out of memory") };
+
+    fn fmt<W: fmt::Write>(&self, f: &mut fmt::Formatter<W>) -> fmt::Result {
+        f.write_str("out of memory")
+    }
+}
+
+impl std::error::Error for OutOfMemory {}
 
 impl From<AllocError> for OutOfMemory {
     fn from(_error: AllocError) -> Self {
@@ -50,19 +64,58 @@ pub enum FormReason {
     OddLength,
 }
 
+impl FormReason {
+    /// The text of the reason.
+    fn as_str(self) -> &'static str
+        ensures { result.now ≡ form_text self }
+    {
+        match self {
+            FormReason::Label => "bad label head",
+            FormReason::Pointer => "pointer to no earlier place",
+            FormReason::Hops => "too many pointers",
+            FormReason::LongName => "name too long",
+            FormReason::Shape => "record data too long",
+            FormReason::LongList => "option list too long",
+            FormReason::Trailing => "trailing octets",
+            FormReason::Family => "unknown address family",
+            FormReason::AddressLength => "wrong address length",
+            FormReason::AddressBits => "address bit past the prefix",
+            FormReason::ShortServerCookie => "server cookie too short",
+            FormReason::LongServerCookie => "server cookie too long",
+            FormReason::OddLength => "odd length",
+        }
+    }
+}
+
+impl fmt::Display for FormReason {
+    ghost output = { λ r. Some (form_text r) };
+
+    fn fmt<W: fmt::Write>(&self, f: &mut fmt::Formatter<W>) -> fmt::Result {
+        f.write_str(self.as_str())
+    }
+}
+
 /// A refused reading.
-#[derive(Clone, Copy, Debug, PartialEq, Eq, Error)]
+#[derive(Clone, Copy, Debug, PartialEq, Eq)]
 pub enum ParseError {
-    #[error("unexpected end of input")]
     ShortInput,
-    #[error("form error")]
     Form(FormReason),
-    #[error("out of memory")]
     OutOfMemory,
 }
 
-ghost use Rattle.std.specs.Prelude.{◌≡◌};
-ghost use Rattle.dns_name.specs.declared.error.ParseError.TheVariants.{OutOfMemory as NoMemory};
+impl fmt::Display for ParseError {
+    ghost output = { λ e. Some (parse_text e) };
+
+    fn fmt<W: fmt::Write>(&self, f: &mut fmt::Formatter<W>) -> fmt::Result {
+        match self {
+            ParseError::ShortInput => f.write_str("unexpected end of input"),
+            ParseError::Form(reason) => write!(f, "form error: {reason}"),
+            ParseError::OutOfMemory => f.write_str("out of memory"),
+        }
+    }
+}
+
+impl std::error::Error for ParseError {}
 
 impl From<OutOfMemory> for ParseError {
     ghost from_gives = { λ _ e. e ≡ NoMemory };

@@ -113,6 +113,16 @@ pub type Class = Code<Classes>;
 
 impl Code<Classes> {
     pub const IN: Class = code!(1);
+
+    pub const CH: Class = code!(3);
+
+    pub const HS: Class = code!(4);
+
+    /// No class, in an update (RFC 2136, section 2.4).
+    pub const NONE: Class = code!(254);
+
+    /// Each class, in a question (RFC 1035, section 3.2.5).
+    pub const ANY: Class = code!(255);
 }
 
 /// The registry of record types.
@@ -146,13 +156,52 @@ impl Code<Rtypes> {
 
     pub const MX: Rtype = code!(15);
 
+    pub const TXT: Rtype = code!(16);
+
+    /// RFC 3596.
     pub const AAAA: Rtype = code!(28);
 
+    /// RFC 2782.
     pub const SRV: Rtype = code!(33);
 
+    /// RFC 6672.
     pub const DNAME: Rtype = code!(39);
 
+    /// RFC 6891.
     pub const OPT: Rtype = code!(41);
+
+    /// RFC 4034.
+    pub const DS: Rtype = code!(43);
+
+    /// RFC 4034.
+    pub const RRSIG: Rtype = code!(46);
+
+    /// RFC 4034.
+    pub const NSEC: Rtype = code!(47);
+
+    /// RFC 4034.
+    pub const DNSKEY: Rtype = code!(48);
+
+    /// RFC 5155.
+    pub const NSEC3: Rtype = code!(50);
+
+    /// RFC 9460.
+    pub const SVCB: Rtype = code!(64);
+
+    /// RFC 9460.
+    pub const HTTPS: Rtype = code!(65);
+
+    /// A transfer of what changed in a zone (RFC 1995).
+    pub const IXFR: Rtype = code!(251);
+
+    /// A transfer of a zone (RFC 1035, section 3.2.3).
+    pub const AXFR: Rtype = code!(252);
+
+    /// Each type, in a question (RFC 1035, section 3.2.3).
+    pub const ANY: Rtype = code!(255);
+
+    /// RFC 8659.
+    pub const CAA: Rtype = code!(257);
 }
 
 /// The registry of codes of EDNS options.
@@ -208,9 +257,53 @@ pub type ExtendedErrorCode = Code<ExtendedErrorCodes>;
 impl Code<ExtendedErrorCodes> {
     pub const OTHER: ExtendedErrorCode = code!(0);
 
+    pub const UNSUPPORTED_DNSKEY_ALGORITHM: ExtendedErrorCode = code!(1);
+
+    pub const UNSUPPORTED_DS_DIGEST_TYPE: ExtendedErrorCode = code!(2);
+
     pub const STALE_ANSWER: ExtendedErrorCode = code!(3);
 
+    pub const FORGED_ANSWER: ExtendedErrorCode = code!(4);
+
+    pub const DNSSEC_INDETERMINATE: ExtendedErrorCode = code!(5);
+
     pub const DNSSEC_BOGUS: ExtendedErrorCode = code!(6);
+
+    pub const SIGNATURE_EXPIRED: ExtendedErrorCode = code!(7);
+
+    pub const SIGNATURE_NOT_YET_VALID: ExtendedErrorCode = code!(8);
+
+    pub const DNSKEY_MISSING: ExtendedErrorCode = code!(9);
+
+    pub const RRSIGS_MISSING: ExtendedErrorCode = code!(10);
+
+    pub const NO_ZONE_KEY_BIT_SET: ExtendedErrorCode = code!(11);
+
+    pub const NSEC_MISSING: ExtendedErrorCode = code!(12);
+
+    pub const CACHED_ERROR: ExtendedErrorCode = code!(13);
+
+    pub const NOT_READY: ExtendedErrorCode = code!(14);
+
+    pub const BLOCKED: ExtendedErrorCode = code!(15);
+
+    pub const CENSORED: ExtendedErrorCode = code!(16);
+
+    pub const FILTERED: ExtendedErrorCode = code!(17);
+
+    pub const PROHIBITED: ExtendedErrorCode = code!(18);
+
+    pub const STALE_NXDOMAIN_ANSWER: ExtendedErrorCode = code!(19);
+
+    pub const NOT_AUTHORITATIVE: ExtendedErrorCode = code!(20);
+
+    pub const NOT_SUPPORTED: ExtendedErrorCode = code!(21);
+
+    pub const NO_REACHABLE_AUTHORITY: ExtendedErrorCode = code!(22);
+
+    pub const NETWORK_ERROR: ExtendedErrorCode = code!(23);
+
+    pub const INVALID_DATA: ExtendedErrorCode = code!(24);
 }
 
 /// The registry of operation codes.
@@ -229,6 +322,9 @@ impl HeaderCode<Opcodes> {
     pub const NOTIFY: Opcode = header_code!(4);
 
     pub const UPDATE: Opcode = header_code!(5);
+
+    /// RFC 8490.
+    pub const DSO: Opcode = header_code!(6);
 }
 
 /// The registry of response codes.
@@ -250,7 +346,18 @@ impl HeaderCode<Rcodes> {
 
     pub const REFUSED: Rcode = header_code!(5);
 
+    pub const YXDOMAIN: Rcode = header_code!(6);
+
+    pub const YXRRSET: Rcode = header_code!(7);
+
+    pub const NXRRSET: Rcode = header_code!(8);
+
     pub const NOTAUTH: Rcode = header_code!(9);
+
+    pub const NOTZONE: Rcode = header_code!(10);
+
+    /// RFC 8490.
+    pub const DSOTYPENI: Rcode = header_code!(11);
 }
 
 /// A number of a DNSSEC algorithm (RFC 4034, section A.1).

@@ -1,6 +1,6 @@
 //! Names that stand alone, uncompressed.
 
-ghost use Rattle.std.specs.Prelude.{◌≡◌, ◌≤◌, ◌+◌, ◌++◌, ◌↔◌, ◌-◌, [], ℕ, List, length, take, drop, Some, IsTrue, IfOk, OnOk, OnErr};
+ghost use Rattle.std.specs.Prelude.{◌≡◌, ◌≤◌, ◌+◌, ◌++◌, ◌↔◌, ◌-◌, [], ℕ, List, length, take, drop, Some, IsTrue, IfOk, OnOk, OnErr, ⊤};
 ghost use Rattle.dns_name.specs.Canonical.{name_cmp};
 ghost use Rattle.dns_name.specs.Labels.{IsName, EndsWith, folded, spell};
 ghost use Rattle.dns_name.specs.NameText.{name_text};
@@ -9,11 +9,11 @@ ghost use Rattle.dns_name.specs.Place.{Parses};
 
 use crate::error::{FormReason, OutOfMemory, ParseError};
 use crate::labels::{Labels, canonical, ends, same};
-use crate::name_text::LabelText;
+use crate::name_text::write_name;
 use crate::parsed::end_at;
 use crate::parser::Parser;
 use crate::piece::Reach;
-use std::alloc::Global;
+use std::alloc::{AllocError, Global};
 use std::cmp::Ordering;
 use std::fmt;
 use std::marker::Model;
@@ -50,6 +50,18 @@ impl<'a> Model for NameRef<'a> {
     ghost view = { λ n. labels_of (uncompressed_at n.octets.now 0) };
 
     ghost invariant = { λ n. IsSpelt n.octets.now };
+}
+
+impl<'a> Clone for NameRef<'a> {
+    ghost is_clone = { λ name copy. copy ≡ name };
+
+    ghost is_infallible = { λ _. ⊤ };
+
+    fn clone(&self) -> Result<NameRef<'a>, AllocError> {
+        Ok(NameRef {
+            octets: self.octets,
+        })
+    }
 }
 
 impl<'a> NameRef<'a> {
@@ -301,22 +313,11 @@ impl<'a> HoldsName for NameRef<'a> {
     }
 }
 
-/// The labels joined by dots, without a final dot; the root is a dot (RFC 1035, section 5.1).
 impl<'a> fmt::Display for NameRef<'a> {
     ghost output = { λ n. Some (name_text n) };
 
     fn fmt<W: fmt::Write>(&self, f: &mut fmt::Formatter<W>) -> fmt::Result {
-        let mut labels = self.labels();
-        let Some(first) = labels.next() else {
-            return f.write_str(".");
-        };
-        let first = LabelText(first);
-        write!(f, "{first}")?;
-        'labels: while let Some(label) = labels.next() {
-            let label = LabelText(label);
-            write!(f, ".{label}")?;
-        }
-        Ok(())
+        write_name(self.labels(), f)
     }
 }
 

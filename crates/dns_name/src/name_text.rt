@@ -1,8 +1,10 @@
 //! Names as text.
 
 ghost use Rattle.std.specs.Prelude.{Some};
-ghost use Rattle.dns_name.specs.NameText.{label_text, octet_text};
+ghost use Rattle.std.specs.Fmt.{WritesOnOk};
+ghost use Rattle.dns_name.specs.NameText.{label_text, name_text, octet_text};
 
+use crate::labels::Labels;
 use std::fmt;
 
 /// An octet of a label, as text (RFC 1035, section 5.1).
@@ -28,7 +30,7 @@ impl fmt::Display for OctetText {
 
 /// A label, as text.
 #[derive(Drop)]
-pub(crate) struct LabelText<'a>(pub(crate) &'a [u8]);
+struct LabelText<'a>(&'a [u8]);
 
 impl<'a> fmt::Display for LabelText<'a> {
     ghost output = { λ l. Some (label_text l.0.now) };
@@ -40,4 +42,23 @@ impl<'a> fmt::Display for LabelText<'a> {
         }
         Ok(())
     }
+}
+
+/// Writes the labels of a name joined by dots, without a final dot; the root is a dot (RFC 1035, section 5.1).
+pub(crate) fn write_name<W: fmt::Write>(
+    mut labels: Labels<'_>,
+    f: &mut fmt::Formatter<W>,
+) -> fmt::Result
+    ensures { WritesOnOk W.write_str_gives f.old result (name_text labels.entry) f.new }
+{
+    let Some(first) = labels.next() else {
+        return f.write_str(".");
+    };
+    let first = LabelText(first);
+    write!(f, "{first}")?;
+    'labels: while let Some(label) = labels.next() {
+        let label = LabelText(label);
+        write!(f, ".{label}")?;
+    }
+    Ok(())
 }

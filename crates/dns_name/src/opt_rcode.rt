@@ -37,10 +37,49 @@ impl OptRcode {
 
     pub const REFUSED: OptRcode = OptRcode { number: 5 };
 
+    /// RFC 2136.
+    pub const YXDOMAIN: OptRcode = OptRcode { number: 6 };
+
+    /// RFC 2136.
+    pub const YXRRSET: OptRcode = OptRcode { number: 7 };
+
+    /// RFC 2136.
+    pub const NXRRSET: OptRcode = OptRcode { number: 8 };
+
+    /// RFC 2136.
     pub const NOTAUTH: OptRcode = OptRcode { number: 9 };
 
+    /// RFC 2136.
+    pub const NOTZONE: OptRcode = OptRcode { number: 10 };
+
+    /// RFC 8490.
+    pub const DSOTYPENI: OptRcode = OptRcode { number: 11 };
+
+    /// RFC 6891.
     pub const BADVERS: OptRcode = OptRcode { number: 16 };
 
+    /// The number of BADVERS, where a TSIG record holds it (RFC 8945).
+    pub const BADSIG: OptRcode = OptRcode { number: 16 };
+
+    /// RFC 8945.
+    pub const BADKEY: OptRcode = OptRcode { number: 17 };
+
+    /// RFC 8945.
+    pub const BADTIME: OptRcode = OptRcode { number: 18 };
+
+    /// RFC 2930.
+    pub const BADMODE: OptRcode = OptRcode { number: 19 };
+
+    /// RFC 2930.
+    pub const BADNAME: OptRcode = OptRcode { number: 20 };
+
+    /// RFC 2930.
+    pub const BADALG: OptRcode = OptRcode { number: 21 };
+
+    /// RFC 8945.
+    pub const BADTRUNC: OptRcode = OptRcode { number: 22 };
+
+    /// RFC 7873.
     pub const BADCOOKIE: OptRcode = OptRcode { number: 23 };
 
     /// The code of a header's four bits and an OPT record's eight.

@@ -1,16 +1,19 @@
 //! Names of a message, pointers followed.
 
-ghost use Rattle.std.specs.Prelude.{◌≡◌, ◌≤◌, ◌+◌, ◌↔◌, length, IsTrue, IfOk};
+ghost use Rattle.std.specs.Prelude.{◌≡◌, ◌≤◌, ◌+◌, ◌↔◌, length, IsTrue, IfOk, Some, ⊤};
 ghost use Rattle.dns_name.specs.Labels.{IsName, EndsWith, folded};
+ghost use Rattle.dns_name.specs.NameText.{name_text};
 ghost use Rattle.dns_name.specs.Names.{end_of, name_at, name_by, name_within};
 ghost use Rattle.dns_name.specs.Place.{Parses};
 
 use crate::error::{FormReason, OutOfMemory, ParseError};
 use crate::labels::{Labels, ends, same};
 use crate::name::{Name, NameRef};
+use crate::name_text::write_name;
 use crate::parser::Parser;
 use crate::piece::{Piece, Reach, piece_at};
-use std::alloc::Global;
+use std::alloc::{AllocError, Global};
+use std::fmt;
 use std::marker::Model;
 
 /// A name of a message, pointers followed (RFC 1035, section 4.1.4).
@@ -30,6 +33,36 @@ impl<'a> Model for ParsedName<'a> {
     ghost view = { λ n. labels_of (name_by n.message.now n.reach n.at) };
 
     ghost invariant = { λ n. CanGoOn n.message.now n.reach n.at 0 0 };
+}
+
+impl<'a> Clone for ParsedName<'a> {
+    ghost is_clone = { λ name copy. copy ≡ name };
+
+    ghost is_infallible = { λ _. ⊤ };
+
+    fn clone(&self) -> Result<ParsedName<'a>, AllocError> {
+        Ok(ParsedName {
+            message: self.message,
+            reach: self.reach,
+            at: self.at,
+        })
+    }
+}
+
+impl<'a> fmt::Display for ParsedName<'a> {
+    ghost output = { λ n. Some (name_text n) };
+
+    fn fmt<W: fmt::Write>(&self, f: &mut fmt::Formatter<W>) -> fmt::Result {
+        write_name(self.labels(), f)
+    }
+}
+
+impl<'a> fmt::Debug for ParsedName<'a> {
+    ghost debug_output = { λ n. Some (name_text n) };
+
+    fn fmt<W: fmt::Write>(&self, f: &mut fmt::Formatter<W>) -> fmt::Result {
+        write_name(self.labels(), f)
+    }
 }
 
 /// The place behind the name that is read so at a place.

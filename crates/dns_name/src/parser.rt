@@ -1,9 +1,10 @@
 //! A place in a slice.
 
-ghost use Rattle.std.specs.Prelude.{◌≡◌, ◌+◌, ◌≤◌, length, take, slice_index, is_ok, IfOk, IfErr, OnOk, OnErr};
+ghost use Rattle.std.specs.Prelude.{◌≡◌, ◌+◌, ◌≤◌, length, take, slice_index, is_ok, IfOk, IfErr, OnOk, OnErr, ⊤};
 ghost use Rattle.dns_name.specs.Place.{Place, Takes, be16, moved, rest};
 
 use crate::error::ParseError;
+use std::alloc::AllocError;
 use std::marker::Model;
 
 /// A place in a slice, from which octets are read.
@@ -22,6 +23,19 @@ impl<'a> Model for Parser<'a> {
     ghost view = { λ p. record { octets = p.octets.now; at = p.at } };
 
     ghost invariant = { λ p. p.at ≤ length p.octets.now };
+}
+
+impl<'a> Clone for Parser<'a> {
+    ghost is_clone = { λ parser copy. copy ≡ parser };
+
+    ghost is_infallible = { λ _. ⊤ };
+
+    fn clone(&self) -> Result<Parser<'a>, AllocError> {
+        Ok(Parser {
+            octets: self.octets,
+            at: self.at,
+        })
+    }
 }
 
 impl<'a> Parser<'a> {

@@ -11,6 +11,7 @@ mod record;
 
 pub use build_opt::BuildOpt;
 pub use builder::OptBuilder;
+pub use dns_cookie::{ClientCookie, ServerCookie};
 pub use dns_options::{
     AllOptData, BuildDataError, Chain, ChainRef, ClientSubnet, ComposeOptData, Cookie, Dau, DauRef,
     Dhu, DhuRef, Expire, ExtendedError, ExtendedErrorRef, FromDurationError, IdleTimeout, KeyTag,

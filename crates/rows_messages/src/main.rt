@@ -2,6 +2,7 @@
 #![tactic(auto)]
 
 mod builders;
+mod codes;
 mod data;
 mod messages;
 mod names;
@@ -23,6 +24,9 @@ impl Calls for MessageCalls {
         call: &str,
         arguments: &mut Arguments<'_>,
     ) -> Result<String, RowError> {
+        if let Some(said) = codes::answer(alloc, call, arguments) {
+            return said;
+        }
         if let Some(said) = names::answer(alloc, call, arguments) {
             return said;
         }

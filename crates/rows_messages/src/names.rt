@@ -12,7 +12,12 @@ use std::cmp::Ordering;
 fn takes_octets(call: &str) -> bool {
     matches!(
         call,
-        "name_from_slice" | "name_compose" | "name_to_owned" | "name_text" | "octets_from_slice"
+        "name_from_slice"
+            | "name_compose"
+            | "name_to_owned"
+            | "name_text"
+            | "refusal_text"
+            | "octets_from_slice"
     )
 }
 
@@ -28,6 +33,7 @@ pub fn answer(
     let said = match call {
         "parsed_name" => parsed_name(alloc, arguments),
         "parsed_to_name" => parsed_to_name(alloc, arguments),
+        "parsed_text" => parsed_text(alloc, arguments),
         "name_root" => root(alloc).map_err(no_memory),
         "name_cmp" => name_cmp(alloc, arguments),
         "names_rise" => names_rise(alloc, arguments.all_words()),
@@ -51,6 +57,7 @@ fn by_octets(alloc: Global, call: &str, octets: &[u8]) -> Result<String, ParseEr
         "name_compose" => composed(alloc, octets),
         "name_to_owned" => owned(alloc, octets),
         "name_text" => name_text(alloc, octets),
+        "refusal_text" => refusal_text(alloc, octets),
         _ => copied(alloc, octets),
     }
 }
@@ -115,6 +122,29 @@ fn name_at(alloc: Global, message: &[u8], place: usize) -> Result<String, ParseE
     parser.advance(place)?;
     let name = ParsedName::parse(&mut parser)?.to_name(alloc)?;
     Ok(digits(alloc, name.as_slice())?)
+}
+
+/// The name at a place of a message as text, in quotation marks.
+fn parsed_text(alloc: Global, arguments: &mut Arguments<'_>) -> Result<String, RowError> {
+    let message = arguments.octets(alloc)?;
+    let place = arguments.number::<usize>()?;
+    told(alloc, text_at(alloc, &message, place))
+}
+
+/// The text of the name at a place, for users and for programmers.
+fn text_at(alloc: Global, message: &[u8], place: usize) -> Result<String, ParseError> {
+    let mut parser = Parser::from_ref(message);
+    parser.advance(place)?;
+    let name = ParsedName::parse(&mut parser)?;
+    Ok(format!(in alloc; "\"{name}\" \"{name:?}\"")?)
+}
+
+/// The text of the refusal of octets that are no name.
+fn refusal_text(alloc: Global, octets: &[u8]) -> Result<String, ParseError> {
+    match NameRef::from_slice(octets) {
+        Ok(_) => Ok(word(alloc, "none")?),
+        Err(error) => Ok(format!(in alloc; "{error}")?),
+    }
 }
 
 /// The root's octets, and those that it appends to none.

@@ -2,7 +2,7 @@ use Rattle.std.proofs.Common.{◌≡◌, ◌++◌, ◌∷◌, [], List, ℕ, rul
 use Rattle.std.specs.Fmt.{HasWritten}
 use Rattle.std.proofs.Output.{has_written_append}
 use Rattle.dns_name.specs.NameText.{label_text, more_text, name_text}
-use Rattle.dns_name.proofs.name.NameRefDisplay.fmt.Goals as goal
+use Rattle.dns_name.proofs.name_text.write_name.Goals as goal
 
 -- one label more
 further : (bs l : List ℕ) (ls rest init : List (List ℕ)) → ls ≡ l ∷ rest → bs ++ more_text ls ≡ more_text init → (bs ++ (46 ∷ label_text l)) ++ more_text rest ≡ more_text init
@@ -20,9 +20,9 @@ labels-preserved g c = λ p.
       further i.0 c.in-Some-next.label.now c.labels.labels c.next-in-labels.new.self c.next.new.self c.in-Some-next.ensures.steps i.2,
     )
 
-pub returns-clause-writes : goal.returns-clause-writes
-returns-clause-writes g c = λ p q.
+pub returns : goal.returns
+returns g c = λ p q.
     let w = c.in_ok-write.ensures.writes p q in
     let i = c.labels.invariant w.plain in
-    let e = whole i.0 c.in-Some.first.now c.next.new.self c.labels.labels c.args.self.now (sym c.labels-labels.ensures.value ∙ c.in-Some.ensures.steps) c.in_default-next.ensures.steps.0 i.2 in
+    let e = whole i.0 c.in-Some.first.now c.next.new.self c.labels.labels c.args.labels c.in-Some.ensures.steps c.in_default-next.ensures.steps.0 i.2 in
     subst (λ (t : List ℕ). HasWritten g.W.Write.write_str_gives c.args.f.now t c.labels.f) e (has_written_append _ _ _ _ _ _ w i.1)

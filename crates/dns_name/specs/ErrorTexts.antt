@@ -1,0 +1,28 @@
+-- The texts of the refusals of readers.
+use Rattle.std.specs.Prelude.{ℕ, List, ◌++◌, codes}
+use Rattle.dns_name.specs.declared.error.FormReason.{FormReason}
+use Rattle.dns_name.specs.declared.error.FormReason.TheVariants.{Label, Pointer, Hops, LongName, Shape, LongList, Trailing, Family, AddressLength, AddressBits, ShortServerCookie, LongServerCookie, OddLength}
+use Rattle.dns_name.specs.declared.error.ParseError.{ParseError}
+use Rattle.dns_name.specs.declared.error.ParseError.TheVariants.{ShortInput, Form, OutOfMemory as NoMemory}
+
+-- why octets have not the form that is read
+abbrev pub form_text : FormReason → List ℕ
+form_text Label = codes "bad label head"
+form_text Pointer = codes "pointer to no earlier place"
+form_text Hops = codes "too many pointers"
+form_text LongName = codes "name too long"
+form_text Shape = codes "record data too long"
+form_text LongList = codes "option list too long"
+form_text Trailing = codes "trailing octets"
+form_text Family = codes "unknown address family"
+form_text AddressLength = codes "wrong address length"
+form_text AddressBits = codes "address bit past the prefix"
+form_text ShortServerCookie = codes "server cookie too short"
+form_text LongServerCookie = codes "server cookie too long"
+form_text OddLength = codes "odd length"
+
+-- why a reading is refused
+abbrev pub parse_text : ParseError → List ℕ
+parse_text ShortInput = codes "unexpected end of input"
+parse_text (Form reason) = codes "form error: " ++ form_text reason
+parse_text NoMemory = codes "out of memory"
