@@ -7,6 +7,7 @@ ghost use Rattle.dns_name.specs.FromText.{Appends, IsRefusal, Spells, ends_label
 ghost use Rattle.dns_name.specs.declared.from_text.FromTextError.TheVariants.{OutOfMemory as NoMemory};
 
 use crate::error::OutOfMemory;
+use crate::labels::push_spelt;
 use std::alloc::{AllocError, AllocFailed, Global};
 use std::fmt;
 
@@ -120,8 +121,7 @@ fn push_label<'a>(
     if octets.len() + label.len() + 2 > 255 {
         return Err(FromTextError::LongName);
     }
-    octets.push(label.len() as u8)?;
-    octets.extend_from_slice(label.as_slice())?;
+    push_spelt(label.as_slice(), octets)?;
     Ok(rest)
 }
 

@@ -10,7 +10,7 @@ ghost use Rattle.dns_name.specs.Place.{Parses};
 
 use crate::error::{FormReason, OutOfMemory, ParseError};
 use crate::from_text::{FromTextError, name_in};
-use crate::labels::{Labels, canonical, ends, same};
+use crate::labels::{Labels, canonical, ends, push_spelt, same};
 use crate::name_text::write_name;
 use crate::parsed::end_at;
 use crate::parser::Parser;
@@ -356,8 +356,7 @@ fn spelt(alloc: Global, mut labels: Labels<'_>) -> Result<Vec<u8>, OutOfMemory>
 {
     let mut octets = Vec::new(alloc);
     'labels: while let Some(label) = labels.next() {
-        octets.push(label.len() as u8)?;
-        octets.extend_from_slice(label)?;
+        push_spelt(label, &mut octets)?;
     }
     octets.push(0)?;
     Ok(octets)
