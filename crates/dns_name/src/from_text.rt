@@ -94,9 +94,10 @@ fn labels_in(alloc: Global, text: &[u8]) -> Result<Vec<u8>, FromTextError>
     ensures { MatchResult result (λ octets. Spells (text_labels text.now) (octets.items ++ (0 ∷ []))) (λ e. IsRefusal e (text_labels text.now)) }
 {
     let mut octets = Vec::new(alloc);
+    let mut label = Vec::new(alloc);
     let mut rest = text;
     'labels: loop {
-        let behind = push_label(alloc, rest, &mut octets)?;
+        let behind = push_label(rest, &mut label, &mut octets)?;
         if behind.len() < 2 {
             return Ok(octets);
         }
@@ -104,17 +105,18 @@ fn labels_in(alloc: Global, text: &[u8]) -> Result<Vec<u8>, FromTextError>
     }
 }
 
-/// Appends the label that a text begins with, behind its length, and gives the text behind it.
+/// Appends the label that a text begins with, behind its length, and gives the text behind it. The label's octets
+/// take the place of what is in the first vector.
 fn push_label<'a>(
-    alloc: Global,
     text: &'a [u8],
+    label: &mut Vec<u8>,
     octets: &mut Vec<u8>,
 ) -> Result<&'a [u8], FromTextError>
     requires { length octets.old.items < 255 }
     ensures { MatchResult result (λ rest. Appends (first_label (length octets.old.items) text.now) octets.old.items octets.new.items rest.now) (λ e. IsRefusal e (first_label (length octets.old.items) text.now)) }
 {
-    let mut label = Vec::new(alloc);
-    let rest = fill_label(text, &mut label)?;
+    label.clear();
+    let rest = fill_label(text, label)?;
     if label.is_empty() {
         return Err(FromTextError::EmptyLabel);
     }
