@@ -5,3 +5,6 @@ pub mod Grammars
 pub mod Whole
 pub mod Readings
 pub mod Orders
+pub mod FromTexts
+pub mod FromNames
+pub mod TextsBack

@@ -1,9 +1,20 @@
--- The texts of the refusals of readers.
+-- The texts of refusals.
 use Rattle.std.specs.Prelude.{ℕ, List, ◌++◌, codes}
+use Rattle.dns_name.specs.declared.from_text.FromTextError.{FromTextError}
+use Rattle.dns_name.specs.declared.from_text.FromTextError.TheVariants.{EmptyLabel, LongLabel, LongName as TooLong, BadEscape, BadCharacter, OutOfMemory as Wanting}
 use Rattle.dns_name.specs.declared.error.FormReason.{FormReason}
 use Rattle.dns_name.specs.declared.error.FormReason.TheVariants.{Label, Pointer, Hops, LongName, Shape, LongList, Trailing, Family, AddressLength, AddressBits, ShortServerCookie, LongServerCookie, OddLength}
 use Rattle.dns_name.specs.declared.error.ParseError.{ParseError}
 use Rattle.dns_name.specs.declared.error.ParseError.TheVariants.{ShortInput, Form, OutOfMemory as NoMemory}
+
+-- why a text is no name
+abbrev pub from_text_text : FromTextError → List ℕ
+from_text_text EmptyLabel = codes "empty label"
+from_text_text LongLabel = codes "label too long"
+from_text_text TooLong = codes "name too long"
+from_text_text BadEscape = codes "bad escape"
+from_text_text BadCharacter = codes "character that has to be escaped"
+from_text_text Wanting = codes "out of memory"
 
 -- why octets have not the form that is read
 abbrev pub form_text : FormReason → List ℕ

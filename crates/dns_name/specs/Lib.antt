@@ -3,6 +3,7 @@ pub mod Serials
 pub mod Labels
 pub mod Canonical
 pub mod NameText
+pub mod FromText
 pub mod Names
 pub mod Grammar
 pub mod OptData

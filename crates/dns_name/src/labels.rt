@@ -1,11 +1,12 @@
 //! The labels of a name.
 
-ghost use Rattle.std.specs.Prelude.{◌≡◌, ◌≤◌, ◌+◌, ◌↔◌, length, drop, IsTrue};
+ghost use Rattle.std.specs.Prelude.{◌≡◌, ◌≤◌, ◌<◌, ◌+◌, ◌++◌, ◌∷◌, ◌↔◌, length, drop, IsTrue, OnOk};
 ghost use Rattle.std.specs.Iterator.{YieldsFirstBy, item_count};
 ghost use Rattle.dns_name.specs.Canonical.{label_cmp, name_cmp};
 ghost use Rattle.dns_name.specs.Labels.{IsName, EndsWith, folded};
 ghost use Rattle.dns_name.specs.Names.{CanGoOn, labels_of, name_by};
 
+use crate::error::OutOfMemory;
 use crate::piece::{Piece, Reach, piece_at};
 use std::cmp::Ordering;
 use std::marker::Model;
@@ -76,6 +77,16 @@ impl<'a> Iterator for Labels<'a> {
             }
         }
     }
+}
+
+/// Appends a label behind its length.
+pub(crate) fn push_spelt(label: &[u8], octets: &mut Vec<u8>) -> Result<(), OutOfMemory>
+    requires { length label.now < 256 }
+    ensures { OnOk result (octets.new.items ≡ octets.old.items ++ (length label.now ∷ label.now)) }
+{
+    octets.push(label.len() as u8)?;
+    octets.extend_from_slice(label)?;
+    Ok(())
 }
 
 /// Whether the labels are the same up to ASCII case.

@@ -4,9 +4,13 @@ ghost use Rattle.std.specs.Prelude.{◌≡◌, ◌+◌, ℕ, List, Ok, ◌↔◌
 ghost use Rattle.std.specs.Cmp.{IsTotalOrder};
 ghost use Rattle.std.specs.declared.cmp.Ordering.TheVariants.{Equal};
 ghost use Rattle.dns_name.specs.Canonical.{name_cmp, same_name};
-ghost use Rattle.dns_name.specs.Labels.{folded};
+ghost use Rattle.dns_name.specs.FromText.{text_name};
+ghost use Rattle.dns_name.specs.Labels.{IsName, folded, spell};
+ghost use Rattle.dns_name.specs.NameText.{name_text};
 ghost use Rattle.dns_name.specs.Names.{name_within, uncompressed_at};
 ghost use Rattle.dns_name.specs.Grammar.{Found, StandsPlain};
+
+use crate::name::NameRef;
 
 /// A name is read at a place exactly where the grammar has one.
 pub fn names_are_the_grammar()
@@ -20,4 +24,16 @@ pub fn names_are_ordered()
     ensures total { IsTotalOrder name_cmp }
     ensures ties { (a b : List (List ℕ)) → (name_cmp a b ≡ Equal) ↔ (folded a ≡ folded b) }
     ensures same { (a b : List (List ℕ)) → IsTrue (same_name a b) ↔ (folded a ≡ folded b) }
+{}
+
+/// The text that Display writes of a name reads as that name (RFC 1035, section 5.1).
+pub fn names_read_back(name: &NameRef<'_>)
+    ensures { text_name (name_text name.now) ≡ Ok name.now }
+{
+    octets_read_back(name.as_slice());
+}
+
+/// The same of the name that octets are.
+fn octets_read_back(octets: &[u8])
+    ensures { (ls : List (List ℕ)) → octets.now ≡ spell ls → IsName ls → text_name (name_text ls) ≡ Ok ls }
 {}

@@ -3,6 +3,7 @@
 
 mod address;
 mod error;
+mod from_text;
 mod held;
 mod iana;
 mod labels;
@@ -21,13 +22,14 @@ mod ttl;
 
 pub use address::{Addrs, IpAddr, SocketAddr};
 pub use error::{FormReason, OutOfMemory, ParseError};
+pub use from_text::FromTextError;
 pub use held::{Held, HoldsOctets};
 pub use iana::{
     Class, Classes, Code, ExtendedErrorCode, ExtendedErrorCodes, HeaderCode, Opcode, Opcodes,
     OptionCode, OptionCodes, Rcode, Rcodes, Rtype, Rtypes, SecurityAlgorithm,
 };
 pub use labels::Labels;
-pub use laws::{names_are_ordered, names_are_the_grammar};
+pub use laws::{names_are_ordered, names_are_the_grammar, names_read_back};
 pub use name::{HoldsName, Name, NameRef};
 pub use octets::Octets;
 pub use opt_data::{ComposeOptData, OptData, ParseOptData, ReadBack};

@@ -2,13 +2,15 @@
 
 ghost use Rattle.std.specs.Prelude.{◌≡◌, ◌≤◌, ◌+◌, ◌++◌, ◌↔◌, ◌-◌, [], ℕ, List, length, take, drop, Some, IsTrue, IfOk, OnOk, OnErr, ⊤};
 ghost use Rattle.dns_name.specs.Canonical.{name_cmp};
+ghost use Rattle.dns_name.specs.FromText.{Gives, text_name};
 ghost use Rattle.dns_name.specs.Labels.{IsName, EndsWith, folded, spell};
 ghost use Rattle.dns_name.specs.NameText.{name_text};
 ghost use Rattle.dns_name.specs.Names.{uncompressed, uncompressed_at};
 ghost use Rattle.dns_name.specs.Place.{Parses};
 
 use crate::error::{FormReason, OutOfMemory, ParseError};
-use crate::labels::{Labels, canonical, ends, same};
+use crate::from_text::{FromTextError, name_in};
+use crate::labels::{Labels, canonical, ends, push_spelt, same};
 use crate::name_text::write_name;
 use crate::parsed::end_at;
 use crate::parser::Parser;
@@ -197,6 +199,14 @@ impl Name {
         Ok(Name { octets })
     }
 
+    /// The name that a text is (RFC 1035, section 5.1), absolute with a final dot or without; the root's is a dot.
+    pub fn from_text(alloc: Global, text: &str) -> Result<Name, FromTextError>
+        ensures { Gives result (text_name text.now) }
+    {
+        let octets = name_in(alloc, text.as_bytes())?;
+        Ok(Name { octets })
+    }
+
     /// The uncompressed name that octets are, and no more. The vector is not copied.
     pub fn from_octets(octets: Vec<u8>) -> Result<Name, ParseError>
         ensures { result ≡ uncompressed octets.items }
@@ -346,8 +356,7 @@ fn spelt(alloc: Global, mut labels: Labels<'_>) -> Result<Vec<u8>, OutOfMemory>
 {
     let mut octets = Vec::new(alloc);
     'labels: while let Some(label) = labels.next() {
-        octets.push(label.len() as u8)?;
-        octets.extend_from_slice(label)?;
+        push_spelt(label, &mut octets)?;
     }
     octets.push(0)?;
     Ok(octets)

@@ -2,7 +2,7 @@
 
 ghost use Rattle.std.specs.Prelude.{Some};
 ghost use Rattle.std.specs.Fmt.{WritesOnOk};
-ghost use Rattle.dns_name.specs.NameText.{label_text, name_text, octet_text};
+ghost use Rattle.dns_name.specs.NameText.{label_text, more_text, name_text, octet_text};
 
 use crate::labels::Labels;
 use std::fmt;
@@ -56,6 +56,13 @@ pub(crate) fn write_name<W: fmt::Write>(
     };
     let first = LabelText(first);
     write!(f, "{first}")?;
+    write_more(labels, f)
+}
+
+/// Writes labels, each behind a dot.
+fn write_more<W: fmt::Write>(mut labels: Labels<'_>, f: &mut fmt::Formatter<W>) -> fmt::Result
+    ensures { WritesOnOk W.write_str_gives f.old result (more_text labels.entry) f.new }
+{
     'labels: while let Some(label) = labels.next() {
         let label = LabelText(label);
         write!(f, ".{label}")?;

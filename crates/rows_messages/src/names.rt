@@ -2,7 +2,8 @@
 
 use crate::told::{digits, no_memory, told, word};
 use dns_name::{
-    IpAddr, Name, NameRef, Octets, OutOfMemory, ParseError, ParsedName, Parser, Serial,
+    FromTextError, IpAddr, Name, NameRef, Octets, OutOfMemory, ParseError, ParsedName, Parser,
+    Serial,
 };
 use rows_table::{Arguments, RowError, yes_no};
 use std::alloc::Global;
@@ -34,6 +35,7 @@ pub fn answer(
         "parsed_name" => parsed_name(alloc, arguments),
         "parsed_to_name" => parsed_to_name(alloc, arguments),
         "parsed_text" => parsed_text(alloc, arguments),
+        "name_from_text" => from_text(alloc, arguments),
         "name_root" => root(alloc).map_err(no_memory),
         "name_cmp" => name_cmp(alloc, arguments),
         "names_rise" => names_rise(alloc, arguments.all_words()),
@@ -144,6 +146,15 @@ fn refusal_text(alloc: Global, octets: &[u8]) -> Result<String, ParseError> {
     match NameRef::from_slice(octets) {
         Ok(_) => Ok(word(alloc, "none")?),
         Err(error) => Ok(format!(in alloc; "{error}")?),
+    }
+}
+
+/// The octets of the name that a text in quotation marks is, or its refusal.
+fn from_text(alloc: Global, arguments: &mut Arguments<'_>) -> Result<String, RowError> {
+    match Name::from_text(alloc, arguments.text()?) {
+        Ok(name) => digits(alloc, name.as_slice()).map_err(no_memory),
+        Err(FromTextError::OutOfMemory) => Err(RowError::OutOfMemory),
+        Err(error) => Ok(format!(in alloc; "{error:?}")?),
     }
 }
 

@@ -1,7 +1,7 @@
 use Rattle.std.proofs.Common.{◌≡◌, ◌++◌, List, ℕ, length}
 use Rattle.std.specs.Fmt.{HasWritten, IsPlainFormatter}
 use Rattle.dns_name.specs.NameText.{more_text}
-use Rattle.dns_name.proofs.name_text.write_name.Given as goal
+use Rattle.dns_name.proofs.name_text.write_more.Given as goal
 
 abbrev pub invariant-labels : goal.invariant-labels
 invariant-labels g l =
