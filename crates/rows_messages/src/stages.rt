@@ -3,13 +3,12 @@
 ghost use Rattle.std.specs.Prelude.{IfOk};
 ghost use Rattle.dns_base.specs.Records.{IsLawful};
 
-use crate::told::{no_memory, pushed};
 use dns_base::{
     AdditionalBuilder, AnswerBuilder, AuthorityBuilder, MessageBuilder, PushError, Question,
     QuestionBuilder, Record, StreamTarget, record_in,
 };
 use dns_name::{Class, NameRef, OutOfMemory, ParseError, Parser, Rtype};
-use rows_table::{Arguments, RowError};
+use rows_table::{Row, RowError, Steps};
 use std::alloc::Global;
 use std::mem::replace;
 
@@ -77,12 +76,26 @@ impl Stage {
     /// Drops the section's items.
     fn rewind(&mut self) -> Result<(), RowError> {
         match self {
-            Stage::Gone | Stage::Message(_) => return Err(RowError::NoSuchCall),
+            Stage::Gone | Stage::Message(_) => return Err(RowError::NoSuchStep),
             Stage::Question(builder) => builder.rewind(),
             Stage::Answer(builder) => builder.rewind(),
             Stage::Authority(builder) => builder.rewind(),
             Stage::Additional(builder) => builder.rewind(),
         }
+        Ok(())
+    }
+
+    /// The message at its additional records.
+    fn additional(&mut self) -> Result<&mut AdditionalBuilder, RowError> {
+        match self {
+            Stage::Additional(builder) => Ok(builder),
+            _ => Err(RowError::NoSuchStep),
+        }
+    }
+
+    /// Goes on with a copy.
+    fn clone_in_place(&mut self, alloc: Global) -> Result<(), RowError> {
+        *self = self.try_clone(alloc)?;
         Ok(())
     }
 
@@ -107,7 +120,7 @@ fn from_header(builder: MessageBuilder, section: &str) -> Result<Stage, RowError
         "answer" => Ok(Stage::Answer(builder.answer())),
         "authority" => Ok(Stage::Authority(builder.authority())),
         "additional" => Ok(Stage::Additional(builder.additional())),
-        _ => Err(RowError::NoSuchCall),
+        _ => Err(RowError::NoSuchStep),
     }
 }
 
@@ -117,7 +130,7 @@ fn from_questions(builder: QuestionBuilder, section: &str) -> Result<Stage, RowE
         "answer" => Ok(Stage::Answer(builder.answer())),
         "authority" => Ok(Stage::Authority(builder.authority())),
         "additional" => Ok(Stage::Additional(builder.additional())),
-        _ => Err(RowError::NoSuchCall),
+        _ => Err(RowError::NoSuchStep),
     }
 }
 
@@ -126,7 +139,7 @@ fn from_answers(builder: AnswerBuilder, section: &str) -> Result<Stage, RowError
     match section {
         "authority" => Ok(Stage::Authority(builder.authority())),
         "additional" => Ok(Stage::Additional(builder.additional())),
-        _ => Err(RowError::NoSuchCall),
+        _ => Err(RowError::NoSuchStep),
     }
 }
 
@@ -139,7 +152,7 @@ fn moved(stage: Stage, section: &str) -> Result<Stage, RowError> {
         Stage::Authority(builder) if section == "additional" => {
             Ok(Stage::Additional(builder.additional()))
         }
-        _ => Err(RowError::NoSuchCall),
+        _ => Err(RowError::NoSuchStep),
     }
 }
 
@@ -172,160 +185,54 @@ fn record_of(alloc: Global, octets: &[u8]) -> Result<Record, ParseError>
     found.to_record(alloc)
 }
 
-/// Adds a question.
-fn push_question(
-    alloc: Global,
-    builder: &mut QuestionBuilder,
-    octets: &[u8],
-) -> Result<Result<(), PushError>, ParseError> {
-    let question = question_of(alloc, octets)?;
-    Ok(builder.push(alloc, &question))
-}
-
-/// Adds a record.
-fn push_record(
+/// Adds the question or record that octets are, which have to be one.
+fn push(
     alloc: Global,
     stage: &mut Stage,
     octets: &[u8],
-) -> Result<Result<(), PushError>, ParseError> {
-    let item = record_of(alloc, octets)?;
-    let done = match stage {
-        Stage::Answer(builder) => builder.push(alloc, &item),
-        Stage::Authority(builder) => builder.push(alloc, &item),
-        Stage::Additional(builder) => builder.push(alloc, &item),
-        _ => return Err(ParseError::ShortInput),
-    };
-    Ok(done)
-}
-
-/// Adds the question or record that octets are.
-fn push(alloc: Global, stage: &mut Stage, octets: &[u8]) -> Result<&'static str, RowError> {
-    let done = match stage {
-        Stage::Gone | Stage::Message(_) => return Err(RowError::NoSuchCall),
-        Stage::Question(builder) => push_question(alloc, builder, octets),
-        Stage::Answer(_) | Stage::Authority(_) | Stage::Additional(_) => {
-            push_record(alloc, stage, octets)
-        }
-    };
-    match done {
-        Ok(done) => Ok(pushed(done)),
-        Err(_) => Err(RowError::OutOfForm),
-    }
-}
-
-/// Puts a record in place of those of its type.
-fn replace_type(
-    alloc: Global,
-    builder: &mut AdditionalBuilder,
-    octets: &[u8],
-) -> Result<&'static str, RowError> {
-    match record_of(alloc, octets) {
-        Ok(item) => Ok(pushed(builder.replace_type(alloc, item.rdata.rtype(), &item))),
-        Err(_) => Err(RowError::OutOfForm),
-    }
-}
-
-/// Puts the record of the next word in place of those of its type.
-fn replace_next(
-    alloc: Global,
-    stage: &mut Stage,
-    arguments: &mut Arguments<'_>,
-) -> Result<&'static str, RowError> {
-    let octets = arguments.octets(alloc)?;
+) -> Result<Result<(), PushError>, RowError> {
     match stage {
-        Stage::Additional(builder) => replace_type(alloc, builder, &octets),
-        _ => Err(RowError::NoSuchCall),
+        Stage::Gone | Stage::Message(_) => Err(RowError::NoSuchStep),
+        Stage::Question(builder) => Ok(builder.push(alloc, &question_of(alloc, octets)?)),
+        Stage::Answer(builder) => Ok(builder.push(alloc, &record_of(alloc, octets)?)),
+        Stage::Authority(builder) => Ok(builder.push(alloc, &record_of(alloc, octets)?)),
+        Stage::Additional(builder) => Ok(builder.push(alloc, &record_of(alloc, octets)?)),
     }
 }
 
-/// Drops the additional records of a type.
-fn remove(stage: &mut Stage, rtype: u16) -> Result<(), RowError> {
-    match stage {
-        Stage::Additional(builder) => builder.remove_type(Rtype::from_int(rtype)),
-        _ => return Err(RowError::NoSuchCall),
-    }
+/// Adds the question or record of the next word, and says what that answers.
+fn push_next(stage: &mut Stage, row: &mut Row<'_>) -> Result<(), RowError> {
+    let octets = row.octets()?;
+    let done = push(row.alloc(), stage, &octets)?;
+    row.outcome(done)
+}
+
+/// Puts the record of the next word in place of those of its type, and says what that answers.
+fn replace_next(builder: &mut AdditionalBuilder, row: &mut Row<'_>) -> Result<(), RowError> {
+    let octets = row.octets()?;
+    let item = record_of(row.alloc(), &octets)?;
+    let done = builder.replace_type(row.alloc(), item.rdata.rtype(), &item);
+    row.outcome(done)
+}
+
+/// Drops the additional records of the type of the next word.
+fn remove_next(builder: &mut AdditionalBuilder, row: &mut Row<'_>) -> Result<(), RowError> {
+    builder.remove_type(Rtype::from_int(row.number()?));
     Ok(())
 }
 
-/// Adds the question or record of the next word.
-fn push_next(
-    alloc: Global,
-    stage: &mut Stage,
-    arguments: &mut Arguments<'_>,
-) -> Result<&'static str, RowError> {
-    let octets = arguments.octets(alloc)?;
-    push(alloc, stage, &octets)
-}
-
-/// Goes on with a copy.
-fn clone_in_place(alloc: Global, stage: &mut Stage) -> Result<(), RowError> {
-    *stage = stage.try_clone(alloc).map_err(no_memory)?;
-    Ok(())
-}
-
-/// Takes a step that says nothing.
-fn take_silent(
-    alloc: Global,
-    stage: &mut Stage,
-    step: &str,
-    arguments: &mut Arguments<'_>,
-) -> Result<(), RowError> {
-    match step {
-        "limit" => stage.limit(arguments.number()?),
-        "unlimit" => stage.unlimit(),
-        "rewind" => return stage.rewind(),
-        "clone" => return clone_in_place(alloc, stage),
-        "remove" => return remove(stage, arguments.number()?),
-        section => return move_on(stage, section),
-    }
-    Ok(())
-}
-
-/// What a step says; none where it says nothing.
-fn take_step(
-    alloc: Global,
-    stage: &mut Stage,
-    step: &str,
-    arguments: &mut Arguments<'_>,
-) -> Result<Option<&'static str>, RowError> {
-    match step {
-        "push" => Ok(Some(push_next(alloc, stage, arguments)?)),
-        "replace" => Ok(Some(replace_next(alloc, stage, arguments)?)),
-        _ => {
-            take_silent(alloc, stage, step, arguments)?;
-            Ok(None)
+impl Steps for Stage {
+    fn take_step(&mut self, step: &str, row: &mut Row<'_>) -> Result<(), RowError> {
+        match step {
+            "push" => push_next(self, row)?,
+            "replace" => replace_next(self.additional()?, row)?,
+            "remove" => remove_next(self.additional()?, row)?,
+            "limit" => self.limit(row.number()?),
+            "unlimit" => self.unlimit(),
+            "rewind" => self.rewind()?,
+            "clone" => self.clone_in_place(row.alloc())?,
+            section => move_on(self, section)?,
         }
+        Ok(())
     }
-}
-
-/// Takes a step, and appends what it says with a space behind it.
-fn push_step(
-    alloc: Global,
-    stage: &mut Stage,
-    step: &str,
-    said: &mut String,
-) -> Result<(), RowError> {
-    let mut arguments = Arguments::of(step);
-    let step = arguments.word()?;
-    if let Some(answer) = take_step(alloc, stage, step, &mut arguments)? {
-        said.push_str(answer)?;
-        said.push_str(" ")?;
-    }
-    arguments.end()
-}
-
-/// Takes the steps, which a comma parts; what they say stands in the text.
-pub fn take_steps(
-    alloc: Global,
-    stage: &mut Stage,
-    steps: &str,
-    said: &mut String,
-) -> Result<(), RowError> {
-    if steps.is_empty() {
-        return Ok(());
-    }
-    for step in steps.split(", ") {
-        push_step(alloc, stage, step, said)?;
-    }
-    Ok(())
 }
