@@ -1,16 +1,7 @@
-//! Lines within a row: `;` stands for LF, `^` for CR and `_` for a space. Failed calls as errors of a row.
+//! Lines within a row: `;` stands for LF, `^` for CR and `_` for a space.
 
-use dns_service::OutOfMemory;
-use rows_table::RowError;
+use rows_table::{Row, RowError};
 use std::alloc::Global;
-
-/// What a call gave, or that memory was short.
-pub(crate) fn given<T>(answer: Result<T, OutOfMemory>) -> Result<T, RowError> {
-    match answer {
-        Ok(value) => Ok(value),
-        Err(OutOfMemory) => Err(RowError::OutOfMemory),
-    }
-}
 
 /// The octets that a text of a row stands for.
 pub(crate) fn octets_of(alloc: Global, text: &str) -> Result<Vec<u8>, RowError> {
@@ -26,6 +17,11 @@ pub(crate) fn octets_of(alloc: Global, text: &str) -> Result<Vec<u8>, RowError> 
     Ok(octets)
 }
 
+/// The octets that all words which are left stand for.
+pub(crate) fn next_text(row: &mut Row<'_>) -> Result<Vec<u8>, RowError> {
+    octets_of(row.alloc(), row.all_words())
+}
+
 /// Octets as a row writes them: spaces stay.
 pub(crate) fn text_of(alloc: Global, octets: &[u8]) -> Result<String, RowError> {
     let mut text = String::new(alloc);
@@ -37,4 +33,18 @@ pub(crate) fn text_of(alloc: Global, octets: &[u8]) -> Result<String, RowError> 
         })?;
     }
     Ok(text)
+}
+
+/// Says octets as lines.
+pub(crate) fn say_text(row: &mut Row<'_>, octets: &[u8]) -> Result<(), RowError> {
+    let text = text_of(row.alloc(), octets)?;
+    row.say(text.as_str())
+}
+
+/// Says octets as lines, in brackets.
+pub(crate) fn say_in_brackets(row: &mut Row<'_>, octets: &[u8]) -> Result<(), RowError> {
+    let text = text_of(row.alloc(), octets)?;
+    row.close("(")?;
+    row.close(text.as_str())?;
+    row.close(")")
 }

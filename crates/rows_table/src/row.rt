@@ -18,7 +18,7 @@ pub struct Row<'a> {
 /// What is read of a row.
 impl<'a> Row<'a> {
     /// A row of the words of a text, which spaces part.
-    pub(crate) fn of(alloc: Global, text: &'a str) -> Row<'a> {
+    pub fn of(alloc: Global, text: &'a str) -> Row<'a> {
         Row {
             alloc,
             words: text.trim(),
@@ -122,7 +122,7 @@ impl<'a> Row<'a> {
 /// What is written of a row's call. A space parts what is said by one call of these from what is said by the next.
 impl Row<'_> {
     /// What the call says so far.
-    pub(crate) fn said(&self) -> &str {
+    pub fn said(&self) -> &str {
         self.said.as_str()
     }
 
