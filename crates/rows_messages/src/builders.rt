@@ -10,7 +10,7 @@ use dns_base::{
     AdditionalBuilder, AnswerBuilder, Message, MessageBuilder, PushError, Record, StreamTarget,
     data_has_names, typed_records_read_back,
 };
-use dns_name::{ParseError, Rcode};
+use dns_name::{OutOfMemory, ParseError, Rcode};
 use rows_table::{Calls, Row, RowError};
 use std::alloc::Global;
 
@@ -31,45 +31,52 @@ impl Calls for Builders {
 }
 
 /// What the steps say, and the octets that the message has behind them.
-fn shown(row: &mut Row<'_>, stage: &mut Stage) -> Result<(), RowError> {
-    row.take_steps(", ", stage)?;
+fn shown(row: &mut Row<'_>, stage: &mut Stage) {
+    row.take_steps(", ", stage);
     row.hexadecimal(stage.as_slice())
 }
 
 /// The same for an empty message.
 fn built(row: &mut Row<'_>) -> Result<(), RowError> {
     let builder = MessageBuilder::new(row.alloc())?;
-    shown(row, &mut Stage::Message(builder))
+    shown(row, &mut Stage::Message(builder));
+    Ok(())
 }
 
 /// The finished message that the steps build.
 fn finished(row: &mut Row<'_>) -> Result<StreamTarget, RowError> {
     let mut stage = Stage::Message(MessageBuilder::new(row.alloc())?);
-    row.take_steps(", ", &mut stage)?;
+    row.take_steps(", ", &mut stage);
     stage.finish().ok_or(RowError::NoSuchStep)
 }
 
 /// What the steps say, and the finished message as a stream and as a datagram has it.
 fn framed(row: &mut Row<'_>) -> Result<(), RowError> {
     let frame = finished(row)?;
-    row.hexadecimal(frame.as_stream_slice())?;
-    row.hexadecimal(frame.as_dgram_slice())
+    row.hexadecimal(frame.as_stream_slice());
+    row.hexadecimal(frame.as_dgram_slice());
+    Ok(())
 }
 
-/// An empty message of so many octets as the next word says, and the response code and the query of the words behind it.
-fn asked(row: &mut Row<'_>) -> Result<(MessageBuilder, Rcode, Message), RowError> {
-    let limit = row.number()?;
-    let rcode = Rcode::checked_from_int(row.number()?).ok_or(RowError::OutOfForm)?;
-    let query = Message::from_octets(row.octets()?)?;
-    let mut builder = MessageBuilder::new(row.alloc())?;
+/// The limit, the response code and the query of the next words.
+fn asked(row: &mut Row<'_>) -> Result<(usize, Rcode, Message), RowError> {
+    let limit = row.number();
+    let rcode = Rcode::checked_from_int(row.number()).ok_or(RowError::OutOfForm)?;
+    let query = Message::from_octets(row.octets()).or(Err(RowError::OutOfForm))?;
+    Ok((limit, rcode, query))
+}
+
+/// An empty message of at most so many octets.
+fn within(alloc: Global, limit: usize) -> Result<MessageBuilder, OutOfMemory> {
+    let mut builder = MessageBuilder::new(alloc)?;
     builder.set_push_limit(limit);
-    Ok((builder, rcode, query))
+    Ok(builder)
 }
 
 /// The answer to a query.
 fn answered(row: &mut Row<'_>) -> Result<Result<AnswerBuilder, PushError>, RowError> {
-    let (builder, rcode, query) = asked(row)?;
-    Ok(builder.start_answer(row.alloc(), &query, rcode))
+    let (limit, rcode, query) = asked(row)?;
+    Ok(within(row.alloc(), limit)?.start_answer(row.alloc(), &query, rcode))
 }
 
 /// The answer to a query, and what the steps say of it.
@@ -78,18 +85,20 @@ fn start_answer(row: &mut Row<'_>) -> Result<(), RowError> {
         Ok(answer) => shown(row, &mut Stage::Answer(answer)),
         Err(error) => row.debug(&error),
     }
+    Ok(())
 }
 
 /// The error answer to a query.
 fn refused(row: &mut Row<'_>) -> Result<AnswerBuilder, RowError> {
-    let (builder, rcode, query) = asked(row)?;
-    Ok(builder.start_error(row.alloc(), &query, rcode)?)
+    let (limit, rcode, query) = asked(row)?;
+    Ok(within(row.alloc(), limit)?.start_error(row.alloc(), &query, rcode)?)
 }
 
 /// The error answer to a query, and what the steps say of it.
 fn start_error(row: &mut Row<'_>) -> Result<(), RowError> {
     let error = refused(row)?;
-    shown(row, &mut Stage::Answer(error))
+    shown(row, &mut Stage::Answer(error));
+    Ok(())
 }
 
 /// A message whose additional section is one record.
@@ -108,8 +117,9 @@ fn with_record(alloc: Global, item: &Record) -> Result<AdditionalBuilder, ParseE
 fn data_octets(row: &mut Row<'_>, builder: &AdditionalBuilder) -> Result<(), RowError> {
     match builder.as_message().additional()?.next() {
         Some(found) => row.hexadecimal(found?.rdata()),
-        None => Err(RowError::Missing),
+        None => row.fail(RowError::Missing),
     }
+    Ok(())
 }
 
 /// The first additional record of what is built, which was pushed to an empty section.
@@ -155,7 +165,8 @@ fn pushed_and_read(row: &mut Row<'_>, item: &Record) -> Result<(), RowError>
     let builder = with_record(row.alloc(), item)?;
     data_octets(row, &builder)?;
     let back = reads_back(row.alloc(), &builder, item)?;
-    row.tell_whether("reads_back", back)
+    row.tell_whether("reads_back", back);
+    Ok(())
 }
 
 /// The same for a record whose data stands in words.

@@ -10,16 +10,16 @@ use std::alloc::Global;
 
 /// The name of the next word.
 fn name(row: &mut Row<'_>) -> Result<Name, RowError> {
-    Ok(Name::from_octets(row.octets()?)?)
+    Ok(Name::from_octets(row.octets())?)
 }
 
 /// The numbers of a zone's start.
-fn numbers(row: &mut Row<'_>) -> Result<[u32; 5], RowError> {
-    let serial = row.number()?;
-    let refresh = row.number()?;
-    let retry = row.number()?;
-    let expire = row.number()?;
-    Ok([serial, refresh, retry, expire, row.number()?])
+fn numbers(row: &mut Row<'_>) -> [u32; 5] {
+    let serial = row.number();
+    let refresh = row.number();
+    let retry = row.number();
+    let expire = row.number();
+    [serial, refresh, retry, expire, row.number()]
 }
 
 /// A zone's start, in the order of its octets (RFC 1035, section 3.3.13).
@@ -28,7 +28,7 @@ fn soa(row: &mut Row<'_>) -> Result<RecordData, RowError>
 {
     let mname = name(row)?;
     let rname = name(row)?;
-    let [serial, refresh, retry, expire, minimum] = numbers(row)?;
+    let [serial, refresh, retry, expire, minimum] = numbers(row);
     Ok(RecordData::Soa {
         mname,
         rname,
@@ -55,7 +55,7 @@ fn mx(row: &mut Row<'_>) -> Result<RecordData, RowError>
     ensures { IfOk result IsLawful }
 {
     Ok(RecordData::Mx {
-        preference: row.number()?,
+        preference: row.number(),
         exchange: name(row)?,
     })
 }
@@ -65,9 +65,9 @@ fn srv(row: &mut Row<'_>) -> Result<RecordData, RowError>
     ensures { IfOk result IsLawful }
 {
     Ok(RecordData::Srv {
-        priority: row.number()?,
-        weight: row.number()?,
-        port: row.number()?,
+        priority: row.number(),
+        weight: row.number(),
+        port: row.number(),
         target: name(row)?,
     })
 }
@@ -86,16 +86,16 @@ fn dname(row: &mut Row<'_>) -> Result<RecordData, RowError>
 fn data(row: &mut Row<'_>) -> Result<RecordData, RowError>
     ensures { IfOk result IsLawful }
 {
-    match row.word()? {
-        "A" => Ok(RecordData::A(row.array()?)),
-        "AAAA" => Ok(RecordData::Aaaa(row.array()?)),
+    match row.word() {
+        "A" => Ok(RecordData::A(row.array())),
+        "AAAA" => Ok(RecordData::Aaaa(row.array())),
         "DNAME" => dname(row),
         "SOA" => soa(row),
         "MINFO" => minfo(row),
         "MX" => mx(row),
         "SRV" => srv(row),
-        "OPT" => RecordData::opt(row.octets()?).ok_or(RowError::OutOfForm),
-        "TXT" => RecordData::unknown(Rtype::from_int(16), row.octets()?).ok_or(RowError::OutOfForm),
+        "OPT" => RecordData::opt(row.octets()).ok_or(RowError::OutOfForm),
+        "TXT" => RecordData::unknown(Rtype::from_int(16), row.octets()).ok_or(RowError::OutOfForm),
         _ => Err(RowError::OutOfForm),
     }
 }

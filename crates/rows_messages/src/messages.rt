@@ -32,52 +32,58 @@ impl Calls for Messages {
 
 /// The first four octets of a message's header.
 fn header_octets(row: &mut Row<'_>) -> Result<(), RowError> {
-    let octets = row.octets()?;
+    let octets = row.octets();
     let header = MessageRef::from_slice(&octets)?.header();
-    row.hexadecimal(&header.octets())
+    row.hexadecimal(&header.octets());
+    Ok(())
 }
 
 /// Whether a message is a plain query.
 fn plain(row: &mut Row<'_>) -> Result<(), RowError> {
-    let octets = row.octets()?;
-    row.whether(is_plain(&octets))
+    let octets = row.octets();
+    row.whether(is_plain(&octets));
+    Ok(())
 }
 
 /// The number of two octets at a place of a message.
 fn number_in(row: &mut Row<'_>) -> Result<(), RowError> {
-    let octets = row.octets()?;
-    let place = row.number::<usize>()?;
+    let octets = row.octets();
+    let place = row.number::<usize>();
     if place > octets.len() {
         return Err(RowError::OutOfForm);
     }
-    row.show(&number_at(&octets, place))
+    row.show(&number_at(&octets, place));
+    Ok(())
 }
 
 /// What a question appends to none.
-fn composed<Q: ComposeQuestion>(row: &mut Row<'_>, question: &Q) -> Result<(), RowError> {
+fn composed<Q: ComposeQuestion>(row: &mut Row<'_>, question: &Q) {
     let mut target = Vec::new(row.alloc());
-    question.compose_question(row.alloc(), &mut target)?;
+    row.keep(question.compose_question(row.alloc(), &mut target));
     row.hexadecimal(&target)
 }
 
 /// The first question, owned, and how many octets it says that it takes.
 fn first_question(row: &mut Row<'_>) -> Result<(), RowError> {
-    let octets = row.octets()?;
+    let octets = row.octets();
     let Some(found) = MessageRef::from_slice(&octets)?.first_question() else {
-        return row.say("none");
+        row.say("none");
+        return Ok(());
     };
     let question = found.to_question(row.alloc())?;
-    composed(row, &question)?;
-    row.tell("compose_len", &question.compose_len())
+    composed(row, &question);
+    row.tell("compose_len", &question.compose_len());
+    Ok(())
 }
 
 /// The first question, where it stands.
 fn compose_question(row: &mut Row<'_>) -> Result<(), RowError> {
-    let octets = row.octets()?;
+    let octets = row.octets();
     match MessageRef::from_slice(&octets)?.first_question() {
         Some(found) => composed(row, &found),
         None => row.say("none"),
     }
+    Ok(())
 }
 
 /// The first answer record, owned; where there is none, octets are missing.
@@ -92,43 +98,45 @@ fn answer_in(alloc: Global, octets: &[u8]) -> Result<Record, ParseError>
 
 /// The octets of the first answer record, names uncompressed.
 fn first_answer(row: &mut Row<'_>) -> Result<(), RowError> {
-    let octets = row.octets()?;
+    let octets = row.octets();
     let item = answer_in(row.alloc(), &octets)?;
     let mut target = Vec::new(row.alloc());
     item.compose(row.alloc(), &mut target)?;
-    row.hexadecimal(&target)
+    row.hexadecimal(&target);
+    Ok(())
 }
 
 /// The octets of the first answer record's data, names uncompressed.
 fn answer_data(row: &mut Row<'_>) -> Result<(), RowError> {
-    let octets = row.octets()?;
+    let octets = row.octets();
     let item = answer_in(row.alloc(), &octets)?;
     let mut target = Vec::new(row.alloc());
     item.rdata.compose(row.alloc(), &mut target)?;
-    row.hexadecimal(&target)
+    row.hexadecimal(&target);
+    Ok(())
 }
 
 /// Says the types of records behind the name of their section.
 fn types(row: &mut Row<'_>, section: &str, records: RecordIter<'_>) -> Result<(), RowError> {
-    row.say(section)?;
+    row.say(section);
     for found in records {
-        row.show(&found?.rtype().to_int())?;
+        row.show(&found?.rtype().to_int());
     }
     Ok(())
 }
 
 /// Says the types that are asked for.
 fn asked(row: &mut Row<'_>, questions: QuestionIter<'_>) -> Result<(), RowError> {
-    row.say("question")?;
+    row.say("question");
     for found in questions {
-        row.show(&found?.qtype().to_int())?;
+        row.show(&found?.qtype().to_int());
     }
     Ok(())
 }
 
 /// The types of all four sections.
 fn sections(row: &mut Row<'_>) -> Result<(), RowError> {
-    let octets = row.octets()?;
+    let octets = row.octets();
     let (questions, answer, authority, additional) = MessageRef::from_slice(&octets)?.sections()?;
     asked(row, questions)?;
     types(row, "answer", answer)?;
@@ -138,6 +146,6 @@ fn sections(row: &mut Row<'_>) -> Result<(), RowError> {
 
 /// The types of the answer records.
 fn answer_types(row: &mut Row<'_>) -> Result<(), RowError> {
-    let octets = row.octets()?;
+    let octets = row.octets();
     types(row, "answer", MessageRef::from_slice(&octets)?.answer()?)
 }

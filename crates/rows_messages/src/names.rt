@@ -30,16 +30,17 @@ impl Calls for Names {
 
 /// The octets of an uncompressed name.
 fn from_slice(row: &mut Row<'_>) -> Result<(), RowError> {
-    let octets = row.octets()?;
-    row.hexadecimal(NameRef::from_slice(&octets)?.as_slice())
+    let octets = row.octets();
+    row.hexadecimal(NameRef::from_slice(&octets)?.as_slice());
+    Ok(())
 }
 
 /// The name at a place of a message, beside another name.
 fn parsed_name(row: &mut Row<'_>) -> Result<(), RowError> {
-    let message = row.octets()?;
-    let place = row.number::<usize>()?;
-    let like = row.octets()?;
-    parsed_beside(row, &message, place, &like)
+    let message = row.octets();
+    let place = row.number::<usize>();
+    let like = row.octets();
+    parsed_beside(row, &message, place, NameRef::from_slice(&like)?)
 }
 
 /// The name at a place, or its refusal and the place where the parser then is.
@@ -47,31 +48,31 @@ fn parsed_beside(
     row: &mut Row<'_>,
     message: &[u8],
     place: usize,
-    like: &[u8],
+    like: NameRef<'_>,
 ) -> Result<(), RowError> {
     let mut parser = Parser::from_ref(message);
     parser.advance(place)?;
     match ParsedName::parse(&mut parser) {
-        Ok(name) => beside(row, &name, like),
+        Ok(name) => beside(row, &name, &like),
         Err(error) => {
-            row.debug(&error)?;
-            row.tell("pos", &parser.pos())
+            row.debug(&error);
+            row.tell("pos", &parser.pos());
         }
     }
+    Ok(())
 }
 
 /// How many labels a name has, and how it stands to another.
-fn beside(row: &mut Row<'_>, name: &ParsedName<'_>, like: &[u8]) -> Result<(), RowError> {
-    let other = NameRef::from_slice(like)?;
-    row.tell("labels", &name.label_count())?;
-    row.tell_whether("name_eq", name.name_eq(&other))?;
-    row.tell_whether("ends_with", name.ends_with(&other))
+fn beside(row: &mut Row<'_>, name: &ParsedName<'_>, other: &NameRef<'_>) {
+    row.tell("labels", &name.label_count());
+    row.tell_whether("name_eq", name.name_eq(other));
+    row.tell_whether("ends_with", name.ends_with(other))
 }
 
 /// The name at a place of a message, owned.
 fn parsed_to_name(row: &mut Row<'_>) -> Result<(), RowError> {
-    let message = row.octets()?;
-    let place = row.number::<usize>()?;
+    let message = row.octets();
+    let place = row.number::<usize>();
     name_at(row, &message, place)
 }
 
@@ -80,49 +81,55 @@ fn name_at(row: &mut Row<'_>, message: &[u8], place: usize) -> Result<(), RowErr
     let mut parser = Parser::from_ref(message);
     parser.advance(place)?;
     let name = ParsedName::parse(&mut parser)?.to_name(row.alloc())?;
-    row.hexadecimal(name.as_slice())
+    row.hexadecimal(name.as_slice());
+    Ok(())
 }
 
 /// The root's octets, and those that it appends to none.
 fn root(row: &mut Row<'_>) -> Result<(), RowError> {
     let name = Name::root(row.alloc())?;
-    row.hexadecimal(name.as_slice())?;
-    appended(row, &name)
+    row.hexadecimal(name.as_slice());
+    appended(row, &name);
+    Ok(())
 }
 
 /// What an owned name appends to none.
-fn appended(row: &mut Row<'_>, name: &Name) -> Result<(), RowError> {
+fn appended(row: &mut Row<'_>, name: &Name) {
     let mut target = Vec::new(row.alloc());
-    name.compose(row.alloc(), &mut target)?;
+    row.keep(name.compose(row.alloc(), &mut target));
     row.tell_octets("composed", &target)
 }
 
 /// What a borrowed name appends to none.
 fn composed(row: &mut Row<'_>) -> Result<(), RowError> {
-    let octets = row.octets()?;
+    let octets = row.octets();
     let mut target = Vec::new(row.alloc());
     NameRef::from_slice(&octets)?.compose(row.alloc(), &mut target)?;
-    row.hexadecimal(&target)
+    row.hexadecimal(&target);
+    Ok(())
 }
 
 /// The octets of an owned copy of a name, and how many it says that it takes.
 fn owned(row: &mut Row<'_>) -> Result<(), RowError> {
-    let octets = row.octets()?;
+    let octets = row.octets();
     let name = NameRef::from_slice(&octets)?.to_owned(row.alloc())?;
-    row.hexadecimal(name.as_slice())?;
-    row.tell("compose_len", &name.compose_len())
+    row.hexadecimal(name.as_slice());
+    row.tell("compose_len", &name.compose_len());
+    Ok(())
 }
 
 /// A name as text, in quotation marks.
 fn name_text(row: &mut Row<'_>) -> Result<(), RowError> {
-    let octets = row.octets()?;
-    row.quote(&NameRef::from_slice(&octets)?)
+    let octets = row.octets();
+    row.quote(&NameRef::from_slice(&octets)?);
+    Ok(())
 }
 
 /// The octets of a copy.
 fn copied(row: &mut Row<'_>) -> Result<(), RowError> {
-    let octets = row.octets()?;
-    row.hexadecimal(Octets::from_slice(row.alloc(), &octets)?.as_slice())
+    let octets = row.octets();
+    row.hexadecimal(Octets::from_slice(row.alloc(), &octets)?.as_slice());
+    Ok(())
 }
 
 /// The canonical order of the names that two words are.
@@ -135,8 +142,9 @@ fn order_of(alloc: Global, word: &str, other: &str) -> Result<Ordering, RowError
 
 /// The canonical order of two names.
 fn name_cmp(row: &mut Row<'_>) -> Result<(), RowError> {
-    let order = order_of(row.alloc(), row.word()?, row.word()?)?;
-    row.debug(&order)
+    let order = order_of(row.alloc(), row.word(), row.word())?;
+    row.debug(&order);
+    Ok(())
 }
 
 /// The place of a name among these that a name compares with otherwise than by their places.
@@ -159,25 +167,29 @@ fn names_rise(row: &mut Row<'_>) -> Result<(), RowError> {
     let names = row.all_words();
     for (place, name) in names.split(' ').enumerate() {
         if let Some(other) = misplaced(row.alloc(), names, place, name)? {
-            row.tell("not", &place)?;
-            return row.tell("and", &other);
+            row.tell("not", &place);
+            row.tell("and", &other);
+            return Ok(());
         }
     }
-    row.say("yes")
+    row.say("yes");
+    Ok(())
 }
 
 /// The text of an address.
 fn address_text(row: &mut Row<'_>) -> Result<(), RowError> {
-    let address = row.address()?;
-    row.show(&address)
+    let address = row.address();
+    row.show(&address);
+    Ok(())
 }
 
 /// The order of two serial numbers.
 fn serial_cmp(row: &mut Row<'_>) -> Result<(), RowError> {
-    let serial = Serial(row.number()?);
-    let other = Serial(row.number()?);
+    let serial = Serial(row.number());
+    let other = Serial(row.number());
     match serial.partial_cmp(&other) {
         Some(order) => row.debug(&order),
         None => row.say("none"),
     }
+    Ok(())
 }

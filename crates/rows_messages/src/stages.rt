@@ -4,8 +4,8 @@ ghost use Rattle.std.specs.Prelude.{IfOk};
 ghost use Rattle.dns_base.specs.Records.{IsLawful};
 
 use dns_base::{
-    AdditionalBuilder, AnswerBuilder, AuthorityBuilder, MessageBuilder, PushError, Question,
-    QuestionBuilder, Record, StreamTarget, record_in,
+    AdditionalBuilder, AnswerBuilder, AuthorityBuilder, MessageBuilder, Question, QuestionBuilder,
+    Record, StreamTarget, record_in,
 };
 use dns_name::{Class, NameRef, OutOfMemory, ParseError, Parser, Rtype};
 use rows_table::{Row, RowError, Steps};
@@ -50,7 +50,7 @@ impl Stage {
     }
 
     /// Lets the message take so many octets.
-    fn limit(&mut self, limit: usize) {
+    fn limit(&mut self, limit: usize) -> Result<(), RowError> {
         match self {
             Stage::Gone => {}
             Stage::Message(builder) => builder.set_push_limit(limit),
@@ -59,10 +59,11 @@ impl Stage {
             Stage::Authority(builder) => builder.set_push_limit(limit),
             Stage::Additional(builder) => builder.set_push_limit(limit),
         }
+        Ok(())
     }
 
     /// Lets the message take as many octets as any.
-    fn unlimit(&mut self) {
+    fn unlimit(&mut self) -> Result<(), RowError> {
         match self {
             Stage::Gone => {}
             Stage::Message(builder) => builder.clear_push_limit(),
@@ -71,6 +72,7 @@ impl Stage {
             Stage::Authority(builder) => builder.clear_push_limit(),
             Stage::Additional(builder) => builder.clear_push_limit(),
         }
+        Ok(())
     }
 
     /// Drops the section's items.
@@ -177,62 +179,72 @@ fn question_of(alloc: Global, octets: &[u8]) -> Result<Question, ParseError> {
     })
 }
 
-/// The record that octets are.
-fn record_of(alloc: Global, octets: &[u8]) -> Result<Record, ParseError>
+/// The record that the octets of the next word are.
+fn next_record(row: &mut Row<'_>) -> Result<Record, RowError>
     ensures { IfOk result (λ r. IsLawful r.rdata) }
 {
-    let (found, _) = record_in(octets, 0)?;
-    found.to_record(alloc)
+    let octets = row.octets();
+    let (found, _) = record_in(&octets, 0)?;
+    Ok(found.to_record(row.alloc())?)
 }
 
-/// Adds the question or record that octets are, which have to be one.
-fn push(
-    alloc: Global,
-    stage: &mut Stage,
-    octets: &[u8],
-) -> Result<Result<(), PushError>, RowError> {
+/// Adds the question of the next word.
+fn push_question(builder: &mut QuestionBuilder, row: &mut Row<'_>) -> Result<(), RowError> {
+    let octets = row.octets();
+    let question = question_of(row.alloc(), &octets)?;
+    row.outcome(builder.push(row.alloc(), &question));
+    Ok(())
+}
+
+/// Adds a record to the section, and says what that answers.
+fn push_record(stage: &mut Stage, row: &mut Row<'_>, item: &Record)
+    requires { IsLawful item.now.rdata }
+{
     match stage {
-        Stage::Gone | Stage::Message(_) => Err(RowError::NoSuchStep),
-        Stage::Question(builder) => Ok(builder.push(alloc, &question_of(alloc, octets)?)),
-        Stage::Answer(builder) => Ok(builder.push(alloc, &record_of(alloc, octets)?)),
-        Stage::Authority(builder) => Ok(builder.push(alloc, &record_of(alloc, octets)?)),
-        Stage::Additional(builder) => Ok(builder.push(alloc, &record_of(alloc, octets)?)),
+        Stage::Answer(builder) => row.outcome(builder.push(row.alloc(), item)),
+        Stage::Authority(builder) => row.outcome(builder.push(row.alloc(), item)),
+        Stage::Additional(builder) => row.outcome(builder.push(row.alloc(), item)),
+        _ => row.fail(RowError::NoSuchStep),
     }
 }
 
 /// Adds the question or record of the next word, and says what that answers.
 fn push_next(stage: &mut Stage, row: &mut Row<'_>) -> Result<(), RowError> {
-    let octets = row.octets()?;
-    let done = push(row.alloc(), stage, &octets)?;
-    row.outcome(done)
+    if let Stage::Question(builder) = stage {
+        return push_question(builder, row);
+    }
+    let item = next_record(row)?;
+    push_record(stage, row, &item);
+    Ok(())
 }
 
 /// Puts the record of the next word in place of those of its type, and says what that answers.
-fn replace_next(builder: &mut AdditionalBuilder, row: &mut Row<'_>) -> Result<(), RowError> {
-    let octets = row.octets()?;
-    let item = record_of(row.alloc(), &octets)?;
-    let done = builder.replace_type(row.alloc(), item.rdata.rtype(), &item);
-    row.outcome(done)
+fn replace_next(stage: &mut Stage, row: &mut Row<'_>) -> Result<(), RowError> {
+    let builder = stage.additional()?;
+    let item = next_record(row)?;
+    row.outcome(builder.replace_type(row.alloc(), item.rdata.rtype(), &item));
+    Ok(())
 }
 
 /// Drops the additional records of the type of the next word.
-fn remove_next(builder: &mut AdditionalBuilder, row: &mut Row<'_>) -> Result<(), RowError> {
-    builder.remove_type(Rtype::from_int(row.number()?));
+fn remove_next(stage: &mut Stage, row: &mut Row<'_>) -> Result<(), RowError> {
+    stage
+        .additional()?
+        .remove_type(Rtype::from_int(row.number()));
     Ok(())
 }
 
 impl Steps for Stage {
     fn take_step(&mut self, step: &str, row: &mut Row<'_>) -> Result<(), RowError> {
         match step {
-            "push" => push_next(self, row)?,
-            "replace" => replace_next(self.additional()?, row)?,
-            "remove" => remove_next(self.additional()?, row)?,
-            "limit" => self.limit(row.number()?),
+            "push" => push_next(self, row),
+            "replace" => replace_next(self, row),
+            "remove" => remove_next(self, row),
+            "limit" => self.limit(row.number()),
             "unlimit" => self.unlimit(),
-            "rewind" => self.rewind()?,
-            "clone" => self.clone_in_place(row.alloc())?,
-            section => move_on(self, section)?,
+            "rewind" => self.rewind(),
+            "clone" => self.clone_in_place(row.alloc()),
+            section => move_on(self, section),
         }
-        Ok(())
     }
 }

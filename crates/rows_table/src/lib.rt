@@ -4,6 +4,7 @@
 mod error;
 mod repeats;
 mod row;
+mod said;
 mod table;
 mod words;
 

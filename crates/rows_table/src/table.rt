@@ -29,26 +29,22 @@ pub trait Steps {
     fn take_step(&mut self, step: &str, row: &mut Row<'_>) -> Result<(), RowError>;
 }
 
-/// Has a row say what its call says, or why that refuses its octets.
-fn say<C: Calls>(calls: &C, row: &mut Row<'_>) -> Result<(), RowError> {
-    let call = row.word()?;
-    match calls.answer(call, row) {
-        Err(RowError::Refused(error)) => row.refuse(error)?,
-        said => said?,
-    }
-    row.end()
-}
-
-/// What a call says in place of what a row wants of it, or none where the row holds.
+/// What a call says in place of what a row wants of it, or none where the row holds. A refusal of octets is what it says.
 fn unwanted<C: Calls>(alloc: Global, calls: &C, text: &str) -> Result<Option<String>, RowError> {
     let text = written_out(alloc, text)?;
     let Some((asked, wanted)) = text.as_str().split_once(" = ") else {
         return Err(RowError::NothingWanted);
     };
     let mut row = Row::of(alloc, asked);
-    say(calls, &mut row)?;
-    Ok((row.said() != wanted.trim()).then_some(row.into_said()))
+    match calls.answer(row.word(), &mut row) {
+        Err(RowError::Refused(error)) => row.refuse(error),
+        said => said?,
+    }
+    row.end();
+    let said = row.into_said()?;
+    Ok((said.as_str() != wanted.trim()).then_some(said))
 }
+
 /// Whether a row holds; where it doesn't, a line says why.
 fn holds<R: Print, C: Calls>(
     rt: &R,
