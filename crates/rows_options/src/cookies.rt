@@ -34,43 +34,47 @@ impl Calls for Cookies {
 
 /// The hash of octets under a key.
 fn hash(row: &mut Row<'_>) -> Result<(), RowError> {
-    let key = row.array::<16>()?;
-    let hash = siphash24(&key, &row.octets()?);
-    row.hexadecimal(&hash.to_be_bytes())
+    let key = row.array::<16>();
+    let hash = siphash24(&key, &row.octets());
+    row.hexadecimal(&hash.to_be_bytes());
+    Ok(())
 }
 
 /// Whether a timestamp is timely.
 fn timely(row: &mut Row<'_>) -> Result<(), RowError> {
-    let timestamp = Serial(row.number()?);
-    let now = Serial(row.number()?);
-    row.whether(timestamp_ok(timestamp, now))
+    let timestamp = Serial(row.number());
+    let now = Serial(row.number());
+    row.whether(timestamp_ok(timestamp, now));
+    Ok(())
 }
 
 /// The cookie of the next word.
 fn next_cookie(row: &mut Row<'_>) -> Result<Cookie, RowError> {
-    let octets = row.octets()?;
+    let octets = row.octets();
     Cookie::parse(&mut Parser::from_ref(&octets)).or(Err(RowError::OutOfForm))
 }
 
 /// Whether a cookie checks for an address under a secret, where only one timestamp is accepted.
 fn check_server_hash(row: &mut Row<'_>) -> Result<(), RowError> {
     let cookie = next_cookie(row)?;
-    let client_ip = row.address()?;
-    let secret = row.array::<16>()?;
-    let timestamp = row.number::<u32>()?;
+    let client_ip = row.address();
+    let secret = row.array::<16>();
+    let timestamp = row.number::<u32>();
     let checks = cookie.check_server_hash(client_ip, &secret, |at: Serial| {
         at.into_int() == timestamp
     });
-    row.whether(checks)
+    row.whether(checks);
+    Ok(())
 }
 
 /// Whether the hash of a cookie's standard server part is that of an address under a secret.
 fn check_hash(row: &mut Row<'_>) -> Result<(), RowError> {
     let cookie = next_cookie(row)?;
-    let client_ip = row.address()?;
-    let secret = row.array::<16>()?;
+    let client_ip = row.address();
+    let secret = row.array::<16>();
     let standard = standard_part(&cookie).ok_or(RowError::OutOfForm)?;
-    row.whether(standard.check_hash(cookie.client(), client_ip, &secret))
+    row.whether(standard.check_hash(cookie.client(), client_ip, &secret));
+    Ok(())
 }
 
 /// The standard server cookie of a cookie.
@@ -79,70 +83,73 @@ fn standard_part(cookie: &Cookie) -> Option<StandardServerCookie> {
 }
 
 /// A client's cookie alone, a timestamp, an address and a secret.
-fn client_words(row: &mut Row<'_>) -> Result<(Cookie, Serial, IpAddr, [u8; 16]), RowError> {
-    let client = ClientCookie::from(row.array::<8>()?);
-    let timestamp = Serial(row.number()?);
-    let client_ip = row.address()?;
-    let secret = row.array::<16>()?;
-    Ok((Cookie::new(client, None), timestamp, client_ip, secret))
+fn client_words(row: &mut Row<'_>) -> (Cookie, Serial, IpAddr, [u8; 16]) {
+    let client = ClientCookie::from(row.array::<8>());
+    let timestamp = Serial(row.number());
+    let client_ip = row.address();
+    let secret = row.array::<16>();
+    (Cookie::new(client, None), timestamp, client_ip, secret)
 }
 
 /// The cookie that a response has: the octets of both parts, one behind the other.
 fn create_response(row: &mut Row<'_>) -> Result<(), RowError> {
-    let (cookie, timestamp, client_ip, secret) = client_words(row)?;
+    let (cookie, timestamp, client_ip, secret) = client_words(row);
     let response = cookie.create_response(timestamp, client_ip, &secret);
     let mut octets = Vec::new(row.alloc());
     response.client().compose(row.alloc(), &mut octets)?;
     if let Some(server) = response.server() {
         server.compose(row.alloc(), &mut octets)?;
     }
-    row.hexadecimal(&octets)
+    row.hexadecimal(&octets);
+    Ok(())
 }
 
 /// Whether the cookie that a response has checks, where every timestamp is accepted.
 fn check_created(row: &mut Row<'_>) -> Result<(), RowError> {
-    let (cookie, timestamp, client_ip, secret) = client_words(row)?;
-    row.whether(check_response(&cookie, timestamp, client_ip, &secret, |_| true))
+    let (cookie, timestamp, client_ip, secret) = client_words(row);
+    row.whether(check_response(&cookie, timestamp, client_ip, &secret, |_| true));
+    Ok(())
 }
 
 /// The option that octets are under a code, how many octets it says that it takes, and how many are left.
 fn cookie(row: &mut Row<'_>) -> Result<(), RowError> {
-    let code = OptionCode::from_int(row.number()?);
-    let octets = row.octets()?;
+    let code = OptionCode::from_int(row.number());
+    let octets = row.octets();
     let mut parser = Parser::from_ref(&octets);
     match Cookie::parse_option(code, &mut parser) {
         Ok(Some(cookie)) => {
-            shown(row, &cookie)?;
-            row.tell("compose_len", &cookie.compose_len())?;
+            shown(row, &cookie);
+            row.tell("compose_len", &cookie.compose_len());
         }
-        Ok(None) => row.say("none")?,
-        Err(error) => row.debug(&error)?,
+        Ok(None) => row.say("none"),
+        Err(error) => row.debug(&error),
     }
-    row.tell("left", &parser.remaining())
+    row.tell("left", &parser.remaining());
+    Ok(())
 }
 
 /// The parts of a standard server cookie.
-fn standard_said(row: &mut Row<'_>, standard: StandardServerCookie) -> Result<(), RowError> {
-    row.quote(&standard)?;
-    row.tell("version", &standard.version())?;
-    row.tell_octets("reserved", &standard.reserved())?;
-    row.tell("timestamp", &standard.timestamp().into_int())?;
+fn standard_said(row: &mut Row<'_>, standard: StandardServerCookie) {
+    row.quote(&standard);
+    row.tell("version", &standard.version());
+    row.tell_octets("reserved", &standard.reserved());
+    row.tell("timestamp", &standard.timestamp().into_int());
     row.tell_octets("hash", &standard.hash())
 }
 
 /// What a server cookie appends to none.
-fn server_octets(row: &mut Row<'_>, server: &ServerCookie) -> Result<(), RowError> {
+fn server_octets(row: &mut Row<'_>, server: &ServerCookie) {
     let mut octets = Vec::new(row.alloc());
-    server.compose(row.alloc(), &mut octets)?;
+    row.keep(server.compose(row.alloc(), &mut octets));
     row.hexadecimal(&octets)
 }
 
 /// A server cookie's octets, their number, its text, and the standard server cookie that it is.
-fn server_said(row: &mut Row<'_>, server: &ServerCookie) -> Result<(), RowError> {
-    server_octets(row, server)?;
-    row.tell("compose_len", &server.compose_len())?;
-    row.quote(server)?;
-    row.say("standard")?;
+fn server_said(row: &mut Row<'_>, server: &ServerCookie) {
+    server_octets(row, server);
+    row.tell("compose_len", &server.compose_len());
+    row.quote(server);
+    row.say("standard");
     match server.try_to_standard() {
         Some(standard) => standard_said(row, standard),
         None => row.say("none"),
@@ -151,17 +158,18 @@ fn server_said(row: &mut Row<'_>, server: &ServerCookie) -> Result<(), RowError>
 
 /// The server cookie of a version, three octets, a timestamp and a hash that is set afterwards.
 fn standard_server_cookie(row: &mut Row<'_>) -> Result<(), RowError> {
-    let version = row.number()?;
-    let reserved = row.array::<3>()?;
-    let timestamp = Serial(row.number()?);
+    let version = row.number();
+    let reserved = row.array::<3>();
+    let timestamp = Serial(row.number());
     let mut standard = StandardServerCookie::new(version, reserved, timestamp, [0; 8]);
-    standard.set_hash(row.array::<8>()?);
-    server_said(row, &ServerCookie::from(standard))
+    standard.set_hash(row.array::<8>());
+    server_said(row, &ServerCookie::from(standard));
+    Ok(())
 }
 
 /// The server cookie of the next word.
 fn next_server(row: &mut Row<'_>) -> Result<ServerCookie, RowError> {
-    let octets = row.octets()?;
+    let octets = row.octets();
     if octets.len() < 8 || octets.len() > 32 {
         return Err(RowError::OutOfForm);
     }
@@ -171,34 +179,39 @@ fn next_server(row: &mut Row<'_>) -> Result<ServerCookie, RowError> {
 /// The server cookie of octets.
 fn server_cookie(row: &mut Row<'_>) -> Result<(), RowError> {
     let server = next_server(row)?;
-    server_said(row, &server)
+    server_said(row, &server);
+    Ok(())
 }
 
 /// The octets of a client cookie to which those of another were copied.
 fn client_copied(row: &mut Row<'_>) -> Result<(), RowError> {
-    let mut client = ClientCookie::from_octets(row.array()?);
-    let other = ClientCookie::from(row.array::<8>()?);
+    let mut client = ClientCookie::from_octets(row.array());
+    let other = ClientCookie::from(row.array::<8>());
     client.as_slice_mut().copy_from_slice(other.as_slice());
-    row.hexadecimal(&<[u8; 8]>::from(client))
+    row.hexadecimal(&<[u8; 8]>::from(client));
+    Ok(())
 }
 
 /// How two client cookies compare.
 fn client_cmp(row: &mut Row<'_>) -> Result<(), RowError> {
-    let client = ClientCookie::from_octets(row.array()?);
-    let other = ClientCookie::from_octets(row.array()?);
-    row.debug(&client.cmp(&other))
+    let client = ClientCookie::from_octets(row.array());
+    let other = ClientCookie::from_octets(row.array());
+    row.debug(&client.cmp(&other));
+    Ok(())
 }
 
 /// How two server cookies compare.
 fn server_cmp(row: &mut Row<'_>) -> Result<(), RowError> {
     let server = next_server(row)?;
     let other = next_server(row)?;
-    row.debug(&server.cmp(&other))
+    row.debug(&server.cmp(&other));
+    Ok(())
 }
 
 /// How two cookies compare.
 fn cookie_cmp(row: &mut Row<'_>) -> Result<(), RowError> {
     let cookie = next_cookie(row)?;
     let other = next_cookie(row)?;
-    row.debug(&cookie.cmp(&other))
+    row.debug(&cookie.cmp(&other));
+    Ok(())
 }

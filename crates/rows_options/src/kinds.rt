@@ -33,61 +33,69 @@ impl Calls for Kinds {
 
 /// An extended error that is read, borrowed and owned.
 fn extended_error(row: &mut Row<'_>) -> Result<(), RowError> {
-    let octets = row.octets()?;
+    let octets = row.octets();
     let found = ExtendedErrorRef::parse(&mut Parser::from_ref(&octets))?;
     let owned = found.to_owned(row.alloc())?;
-    both_shown(row, &found, &owned)
+    both_shown(row, &found, &owned);
+    Ok(())
 }
 
 /// An extended error of a code and a text.
 fn extended_error_new(row: &mut Row<'_>) -> Result<(), RowError> {
-    let code = ExtendedErrorCode::from_int(row.number()?);
-    match ExtendedError::new_with_str(row.alloc(), code, row.text()?) {
+    let code = ExtendedErrorCode::from_int(row.number());
+    match ExtendedError::new_with_str(row.alloc(), code, row.text()) {
         Ok(error) => shown(row, &error),
         Err(error) => row.debug(&error),
     }
+    Ok(())
 }
 
 /// Whether a code is for private use.
 fn extended_error_private(row: &mut Row<'_>) -> Result<(), RowError> {
-    let error = ExtendedError::from(row.number::<u16>()?);
-    row.whether(error.is_private())
+    let error = ExtendedError::from(row.number::<u16>());
+    row.whether(error.is_private());
+    Ok(())
 }
 
 /// A time of so many seconds, or none.
 fn expire(row: &mut Row<'_>) -> Result<(), RowError> {
-    let expire = Expire::new(row.optional()?);
-    shown(row, &expire)
+    let expire = Expire::new(row.optional());
+    shown(row, &expire);
+    Ok(())
 }
 
 /// A timeout of so many milliseconds.
 fn keepalive_millis(row: &mut Row<'_>) -> Result<(), RowError> {
-    match IdleTimeout::try_from_millis(row.number()?) {
+    match IdleTimeout::try_from_millis(row.number()) {
         Ok(timeout) => shown(row, &TcpKeepalive::new(Some(timeout))),
         Err(error) => row.debug(&error),
     }
+    Ok(())
 }
 
 /// A timeout that is read.
 fn keepalive_parse(row: &mut Row<'_>) -> Result<(), RowError> {
-    let octets = row.octets()?;
+    let octets = row.octets();
     let keepalive = TcpKeepalive::parse(&mut Parser::from_ref(&octets))?;
-    shown(row, &keepalive)
+    shown(row, &keepalive);
+    Ok(())
 }
 
 /// A chain from a name that is borrowed.
 fn chain(row: &mut Row<'_>) -> Result<(), RowError> {
-    let octets = row.octets()?;
+    let octets = row.octets();
     let given = ChainRef::new(NameRef::from_slice(&octets)?);
     let owned = given.to_owned(row.alloc())?;
-    both_shown(row, &given, &owned)
+    both_shown(row, &given, &owned);
+    Ok(())
 }
 
 /// A chain from a name that is owned.
 fn chain_new(row: &mut Row<'_>) -> Result<(), RowError> {
-    let octets = row.octets()?;
+    let octets = row.octets();
     let owned = Chain::new(NameRef::from_slice(&octets)?.to_owned(row.alloc())?);
-    both_shown(row, &owned.for_slice(), &owned)
+    both_shown(row, &owned.for_slice(), &owned);
+    Ok(())
 }
 
 /// What a value is hashed to.
@@ -98,9 +106,9 @@ fn hashed<K: Hash>(value: &K) -> u64 {
 }
 
 /// How two values compare, and whether they are equal and hashed alike.
-fn compared<K: Ord + Hash>(row: &mut Row<'_>, first: &K, second: &K) -> Result<(), RowError> {
-    row.debug(&first.cmp(second))?;
-    row.tell_whether("eq", first == second)?;
+fn compared<K: Ord + Hash>(row: &mut Row<'_>, first: &K, second: &K) {
+    row.debug(&first.cmp(second));
+    row.tell_whether("eq", first == second);
     row.tell_whether("hash", hashed(first) == hashed(second))
 }
 
@@ -112,40 +120,43 @@ fn owned_compared(
 ) -> Result<(), RowError> {
     let kept = first.to_owned(row.alloc())?;
     let other = second.to_owned(row.alloc())?;
-    compared(row, &kept, &other)?;
-    row.close(", both")?;
-    row.tell_whether("hash", hashed(first) == hashed(&kept))
+    compared(row, &kept, &other);
+    row.close(", both");
+    row.tell_whether("hash", hashed(first) == hashed(&kept));
+    Ok(())
 }
 
 /// How the chains from the names of two words compare, both as they are borrowed and as they are owned.
 fn chain_cmp(row: &mut Row<'_>) -> Result<(), RowError> {
-    let octets = row.octets()?;
-    let others = row.octets()?;
+    let octets = row.octets();
+    let others = row.octets();
     let first = ChainRef::new(NameRef::from_slice(&octets)?);
     let second = ChainRef::new(NameRef::from_slice(&others)?);
-    compared(row, &first, &second)?;
-    row.close(", owned")?;
+    compared(row, &first, &second);
+    row.close(", owned");
     owned_compared(row, &first, &second)
 }
 
 /// A subnet's address and source prefix, and its option.
-fn subnet_said(row: &mut Row<'_>, subnet: &ClientSubnet) -> Result<(), RowError> {
-    row.show(&subnet.addr())?;
-    row.show(&subnet.source_prefix_len())?;
+fn subnet_said(row: &mut Row<'_>, subnet: &ClientSubnet) {
+    row.show(&subnet.addr());
+    row.show(&subnet.source_prefix_len());
     shown(row, subnet)
 }
 
 /// A subnet of two prefixes and an address.
 fn subnet(row: &mut Row<'_>) -> Result<(), RowError> {
-    let source = row.number()?;
-    let scope = row.number()?;
-    let subnet = ClientSubnet::new(source, scope, row.address()?);
-    subnet_said(row, &subnet)
+    let source = row.number();
+    let scope = row.number();
+    let subnet = ClientSubnet::new(source, scope, row.address());
+    subnet_said(row, &subnet);
+    Ok(())
 }
 
 /// A subnet that is read.
 fn subnet_parse(row: &mut Row<'_>) -> Result<(), RowError> {
-    let octets = row.octets()?;
+    let octets = row.octets();
     let subnet = ClientSubnet::parse(&mut Parser::from_ref(&octets))?;
-    subnet_said(row, &subnet)
+    subnet_said(row, &subnet);
+    Ok(())
 }

@@ -14,7 +14,10 @@ impl Calls for Lists {
         match call {
             "nsid" => plain::<NsidKind>(row),
             "padding" => plain::<PaddingKind>(row),
-            "nsid_empty" => shown(row, &Nsid::empty(row.alloc())),
+            "nsid_empty" => {
+                shown(row, &Nsid::empty(row.alloc()));
+                Ok(())
+            }
             "key_tag" => key_tag(row),
             "unknown" => unknown(row),
             "dau" => understood::<DauVariant>(row),
@@ -28,58 +31,64 @@ impl Calls for Lists {
 
 /// An option of plain octets: given, and owned as it is read.
 fn plain<K: OctetsKind>(row: &mut Row<'_>) -> Result<(), RowError> {
-    let octets = row.octets()?;
+    let octets = row.octets();
     let given = PlainRef::<K>::from_slice(&octets).or(Err(RowError::OutOfForm))?;
     let mut parser = Parser::from_ref(&octets);
     let owned = PlainRef::<K>::parse(&mut parser)?.to_owned(row.alloc())?;
-    both_shown(row, &given, &owned)
+    both_shown(row, &given, &owned);
+    Ok(())
 }
 
 /// Key tags, and how many octets may be written.
 fn key_tag(row: &mut Row<'_>) -> Result<(), RowError> {
-    let octets = row.octets()?;
+    let octets = row.octets();
     let given = KeyTagRef::from_slice(&octets)?;
     let mut owned = given.to_owned(row.alloc())?;
     let len = owned.as_slice_mut().len();
-    both_shown(row, &given, &owned)?;
-    row.tell("mut", &len)
+    both_shown(row, &given, &owned);
+    row.tell("mut", &len);
+    Ok(())
 }
 
 /// An option of no kind, of a code and data, and how many octets may be written.
 fn unknown(row: &mut Row<'_>) -> Result<(), RowError> {
-    let code = OptionCode::from_int(row.number()?);
-    let octets = row.octets()?;
+    let code = OptionCode::from_int(row.number());
+    let octets = row.octets();
     let mut parser = Parser::from_ref(&octets);
     let Some(found) = UnknownOptDataRef::parse_option(code, &mut parser)? else {
-        return row.say("none");
+        row.say("none");
+        return Ok(());
     };
     let mut owned = found.to_owned(row.alloc())?;
     let len = owned.as_slice_mut().len();
-    both_shown(row, &found, &owned)?;
-    row.tell("mut", &len)
+    both_shown(row, &found, &owned);
+    row.tell("mut", &len);
+    Ok(())
 }
 
 /// A list of algorithms, and how many octets reading leaves.
 fn understood<K: Variant>(row: &mut Row<'_>) -> Result<(), RowError> {
-    let octets = row.octets()?;
+    let octets = row.octets();
     let mut parser = Parser::from_ref(&octets);
     let found = UnderstoodRef::<K>::parse(&mut parser)?;
     let owned = found.to_owned(row.alloc())?;
-    both_shown(row, &found, &owned)?;
-    row.tell("left", &parser.remaining())
+    both_shown(row, &found, &owned);
+    row.tell("left", &parser.remaining());
+    Ok(())
 }
 
 /// The list of the algorithms of these numbers, and how many its iterator gives; or why there is none.
 fn from_sec_algs(row: &mut Row<'_>) -> Result<(), RowError> {
-    let numbers = row.octets()?;
+    let numbers = row.octets();
     let algorithms = numbers
         .iter()
         .map(|number| SecurityAlgorithm::from_int(*number));
     match Dau::from_sec_algs(row.alloc(), algorithms) {
         Ok(list) => {
-            shown(row, &list)?;
-            row.tell("count", &list.iter().count())
+            shown(row, &list);
+            row.tell("count", &list.iter().count());
         }
         Err(error) => row.debug(&error),
     }
+    Ok(())
 }

@@ -8,29 +8,13 @@ use rows_table::{Row, RowError, Steps};
 use std::alloc::Global;
 
 /// Appends an OPT record, built by the steps of a row.
-pub fn opened<B: BuildOpt>(
-    message: &mut B,
-    row: &mut Row<'_>,
-) -> Result<Result<(), BuildDataError>, RowError> {
-    let mut kept = Ok(());
-    let done = message.opt(row.alloc(), |opt: &mut OptBuilder| {
-        build(opt, row, &mut kept)
-    });
-    kept?;
-    Ok(done)
+pub fn opened<B: BuildOpt>(message: &mut B, row: &mut Row<'_>) -> Result<(), BuildDataError> {
+    message.opt(row.alloc(), |opt: &mut OptBuilder| build(opt, row))
 }
 
 /// Goes on with the OPT record by the steps of a row.
-fn reopened<B: BuildOpt>(
-    message: &mut B,
-    row: &mut Row<'_>,
-) -> Result<Result<(), BuildDataError>, RowError> {
-    let mut kept = Ok(());
-    let done = message.reopen(row.alloc(), |opt: &mut OptBuilder| {
-        build(opt, row, &mut kept)
-    });
-    kept?;
-    Ok(done)
+fn reopened<B: BuildOpt>(message: &mut B, row: &mut Row<'_>) -> Result<(), BuildDataError> {
+    message.reopen(row.alloc(), |opt: &mut OptBuilder| build(opt, row))
 }
 
 /// Gives a message an OPT record like another.
@@ -61,36 +45,36 @@ struct Built {
 
 impl Steps for Built {
     fn take_step(&mut self, step: &str, row: &mut Row<'_>) -> Result<(), RowError> {
-        let done = match step {
-            "limit" => {
-                self.message.set_push_limit(row.number()?);
-                return Ok(());
+        match step {
+            "limit" => self.message.set_push_limit(row.number()),
+            "copy" => self.message = copied(&self.message, row.alloc())?,
+            "opt" => {
+                let done = opened(&mut self.message, row);
+                built(row, done);
             }
-            "copy" => {
-                self.message = copied(&self.message, row.alloc())?;
-                return Ok(());
+            "reopen" => {
+                let done = reopened(&mut self.message, row);
+                built(row, done);
             }
-            "opt" => opened(&mut self.message, row)?,
-            "reopen" => reopened(&mut self.message, row)?,
             _ => return Err(RowError::NoSuchStep),
-        };
-        built(row, done)
+        }
+        Ok(())
     }
 }
 
 /// A message's length, the response code of its header, its number of additional records and its OPT record: the
 /// response code with that of the header, the size and the options.
-fn message_said(row: &mut Row<'_>, message: &AdditionalBuilder) -> Result<(), RowError> {
+fn message_said(row: &mut Row<'_>, message: &AdditionalBuilder) {
     let header = message.header();
-    row.tell("len", &message.as_slice().len())?;
-    row.tell("header", &header.rcode.to_int())?;
-    row.tell("arcount", &message.counts().arcount)?;
+    row.tell("len", &message.as_slice().len());
+    row.tell("header", &header.rcode.to_int());
+    row.tell("arcount", &message.counts().arcount);
     let read = message.as_message();
     let Some(found) = read.opt() else {
         return row.say("none");
     };
-    row.tell("rcode", &found.rcode(header).to_int())?;
-    row.tell("udp_payload_size", &found.udp_payload_size())?;
+    row.tell("rcode", &found.rcode(header).to_int());
+    row.tell("udp_payload_size", &found.udp_payload_size());
     row.tell_octets("options", found.opt().as_slice())
 }
 
@@ -98,6 +82,7 @@ fn message_said(row: &mut Row<'_>, message: &AdditionalBuilder) -> Result<(), Ro
 pub fn opt_message(row: &mut Row<'_>) -> Result<(), RowError> {
     let message = MessageBuilder::new(row.alloc())?.additional();
     let mut built = Built { message };
-    row.take_steps(" / ", &mut built)?;
-    message_said(row, &built.message)
+    row.take_steps(" / ", &mut built);
+    message_said(row, &built.message);
+    Ok(())
 }

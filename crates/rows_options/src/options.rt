@@ -27,29 +27,32 @@ impl Calls for Options {
 }
 
 /// The list that pushes to an empty one make, which say what they answer.
-fn filled(row: &mut Row<'_>) -> Result<Opt, RowError> {
+fn filled(row: &mut Row<'_>) -> Opt {
     let mut list = Opt::empty(row.alloc());
-    row.take_steps(", ", &mut Target::List(&mut list))?;
-    Ok(list)
+    row.take_steps(", ", &mut Target::List(&mut list));
+    list
 }
 
 /// What pushes to an empty list answer, and the list's octets.
 fn list(row: &mut Row<'_>) -> Result<(), RowError> {
-    let list = filled(row)?;
-    row.hexadecimal(list.as_slice())
+    let list = filled(row);
+    row.hexadecimal(list.as_slice());
+    Ok(())
 }
 
 /// What pushes to an empty list answer, and the number of the list's octets.
 fn list_len(row: &mut Row<'_>) -> Result<(), RowError> {
-    let list = filled(row)?;
-    row.show(&list.len())
+    let list = filled(row);
+    row.show(&list.len());
+    Ok(())
 }
 
 /// The text of a list that owns its octets, and how many of its options are read.
 fn from_octets(row: &mut Row<'_>) -> Result<(), RowError> {
-    let list = Opt::from_octets(row.octets()?)?;
-    row.quote(&list)?;
-    row.tell("readable", &readable(&list.for_slice_ref()))
+    let list = Opt::from_octets(row.octets())?;
+    row.quote(&list);
+    row.tell("readable", &readable(&list.for_slice_ref()));
+    Ok(())
 }
 
 /// How many options of any kind a list has that are read.
@@ -61,47 +64,40 @@ fn readable(list: &OptRef<'_>) -> usize {
 
 /// The octets of an owned copy of a list.
 fn from_slice(row: &mut Row<'_>) -> Result<(), RowError> {
-    let octets = row.octets()?;
+    let octets = row.octets();
     let list = OptRef::from_slice(&octets)?.to_owned(row.alloc())?;
-    row.hexadecimal(list.as_slice())
+    row.hexadecimal(list.as_slice());
+    Ok(())
 }
 
 /// The options of any kind that a list has, each with its code and its data.
 fn all_options(row: &mut Row<'_>) -> Result<(), RowError> {
-    let octets = row.octets()?;
+    let octets = row.octets();
     for item in OptRef::from_slice(&octets)?.iter::<AllOptData>() {
         if !row.said().is_empty() {
-            row.close(",")?;
+            row.close(",");
         }
-        code_and_data(row, &item?)?;
+        code_and_data(row, &item?);
     }
     Ok(())
 }
 
 /// The data of the first option of a kind in a list.
 fn first(row: &mut Row<'_>) -> Result<(), RowError> {
-    let kind = row.word()?;
-    let octets = row.octets()?;
+    let kind = row.word();
+    let octets = row.octets();
     let list = OptRef::from_slice(&octets)?;
     match kind {
         "nsid" => first_said(row, list.first::<NsidRef>()),
         "padding" => first_said(row, list.first::<PaddingRef>()),
         "cookie" => first_said(row, list.first::<Cookie>()),
-        _ => owned_nsid(row, &list),
+        _ => first_said(row, list.to_owned(row.alloc())?.nsid()),
     }
-}
-
-/// The data of the first identifier in an owned copy of a list.
-fn owned_nsid(row: &mut Row<'_>, list: &OptRef<'_>) -> Result<(), RowError> {
-    let owned = list.to_owned(row.alloc())?;
-    first_said(row, owned.nsid())
+    Ok(())
 }
 
 /// The data of an option, or `none`.
-fn first_said<D: ComposeOptData + Drop>(
-    row: &mut Row<'_>,
-    found: Option<D>,
-) -> Result<(), RowError> {
+fn first_said<D: ComposeOptData + Drop>(row: &mut Row<'_>, found: Option<D>) {
     match found {
         Some(option) => composed(row, &option),
         None => row.say("none"),
@@ -110,19 +106,21 @@ fn first_said<D: ComposeOptData + Drop>(
 
 /// The head of an option, and how many octets are left behind it.
 fn option_header(row: &mut Row<'_>) -> Result<(), RowError> {
-    let octets = row.octets()?;
+    let octets = row.octets();
     let mut parser = Parser::from_ref(&octets);
     let head = OptionHeader::parse(&mut parser)?;
-    row.tell("code", &head.code().to_int())?;
-    row.tell("len", &head.len())?;
-    row.tell("left", &parser.remaining())
+    row.tell("code", &head.code().to_int());
+    row.tell("len", &head.len());
+    row.tell("left", &parser.remaining());
+    Ok(())
 }
 
 /// What a closure writes to an empty vector.
 fn written(row: &mut Row<'_>) -> Result<(), RowError> {
-    let octets = row.octets()?;
+    let octets = row.octets();
     let written = written_by(row.alloc(), |_alloc: Global, target: &mut Vec<u8>| {
         write(target, &octets)
     })?;
-    row.hexadecimal(&written)
+    row.hexadecimal(&written);
+    Ok(())
 }

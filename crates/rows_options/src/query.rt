@@ -35,12 +35,12 @@ fn asking(alloc: Global) -> Result<AdditionalBuilder, PushError> {
 }
 
 /// The type that a query asks for, and the size and the identifier's data of its OPT record.
-fn query_said(row: &mut Row<'_>, query: &Message) -> Result<(), RowError> {
+fn query_said(row: &mut Row<'_>, query: &Message) {
     let (Some(question), Some(opt)) = (query.first_question(), query.opt()) else {
         return row.say("none");
     };
-    row.tell("qtype", &question.qtype().to_int())?;
-    row.tell("udp_payload_size", &opt.udp_payload_size())?;
+    row.tell("qtype", &question.qtype().to_int());
+    row.tell("udp_payload_size", &opt.udp_payload_size());
     match opt.opt().nsid() {
         Some(identifier) => row.tell_octets("nsid", identifier.as_slice()),
         None => row.say("nsid=none"),
@@ -50,8 +50,9 @@ fn query_said(row: &mut Row<'_>, query: &Message) -> Result<(), RowError> {
 /// A query's octets, and what is read of it.
 fn read(row: &mut Row<'_>, octets: &[u8]) -> Result<(), RowError> {
     let query = Message::from_octets(Vec::from_slice(row.alloc(), octets)?)?;
-    row.hexadecimal(query.as_slice())?;
-    query_said(row, &query)
+    row.hexadecimal(query.as_slice());
+    query_said(row, &query);
+    Ok(())
 }
 
 /// The query with an OPT record that the steps build, and what is read of it.
@@ -59,8 +60,11 @@ pub fn query(row: &mut Row<'_>) -> Result<(), RowError> {
     let Ok(mut builder) = asking(row.alloc()) else {
         return Err(RowError::OutOfMemory);
     };
-    match opened(&mut builder, row)? {
+    match opened(&mut builder, row) {
         Ok(()) => read(row, builder.as_slice()),
-        Err(refusal) => row.debug(&refusal),
+        Err(refusal) => {
+            row.debug(&refusal);
+            Ok(())
+        }
     }
 }

@@ -30,21 +30,22 @@ impl Calls for Records {
 /// The octets of a head with a size, both parts of a response code and a version, that wants DNSSEC records.
 fn opt_header(row: &mut Row<'_>) -> Result<(), RowError> {
     let mut head = OptHeader::default();
-    head.set_udp_payload_size(row.number()?);
-    head.set_rcode(rcode(row)?);
-    head.set_version(row.number()?);
+    head.set_udp_payload_size(row.number());
+    head.set_rcode(rcode(row));
+    head.set_version(row.number());
     head.set_dnssec_ok(true);
     let mut octets = Vec::new(row.alloc());
     head.compose(row.alloc(), &mut octets)?;
-    row.hexadecimal(&octets)
+    row.hexadecimal(&octets);
+    Ok(())
 }
 
 /// What a record appends to none.
-fn record_octets(row: &mut Row<'_>, item: &Record) -> Result<(), RowError>
+fn record_octets(row: &mut Row<'_>, item: &Record)
     requires { IsLawful item.now.rdata }
 {
     let mut octets = Vec::new(row.alloc());
-    item.compose(row.alloc(), &mut octets)?;
+    row.keep(item.compose(row.alloc(), &mut octets));
     row.hexadecimal(&octets)
 }
 
@@ -57,7 +58,7 @@ fn as_record(alloc: Global, given: &OptRecord) -> Result<Record, OutOfMemory>
 }
 
 /// The options of the OPT record that a record is.
-fn options_of(row: &mut Row<'_>, item: Record) -> Result<(), RowError>
+fn options_of(row: &mut Row<'_>, item: Record)
     requires { IsLawful item.rdata }
 {
     match OptRecord::from_record(item) {
@@ -69,13 +70,14 @@ fn options_of(row: &mut Row<'_>, item: Record) -> Result<(), RowError>
 /// The octets of an OPT record as a message holds it, and the options of the record that is made of that.
 fn record_said(row: &mut Row<'_>, given: &OptRecord) -> Result<(), RowError> {
     let item = as_record(row.alloc(), given)?;
-    record_octets(row, &item)?;
-    options_of(row, item)
+    record_octets(row, &item);
+    options_of(row, item);
+    Ok(())
 }
 
 /// What pushes to an empty OPT record answer, and the record.
 fn opt_record(row: &mut Row<'_>) -> Result<(), RowError> {
     let mut given = OptRecord::default(row.alloc());
-    row.take_steps(", ", &mut Target::Record(&mut given))?;
+    row.take_steps(", ", &mut Target::Record(&mut given));
     record_said(row, &given)
 }

@@ -12,8 +12,14 @@ use dns_opt::{
 use rows_table::{Row, RowError, Steps};
 use std::alloc::Global;
 
-/// What a step answers: whether the option was pushed, where the row has the step in form.
-type Stepped = Result<Result<(), BuildDataError>, RowError>;
+/// What a step answers: whether the option was pushed.
+type Stepped = Result<(), BuildDataError>;
+
+/// What a step answers that is out of form, which the row doesn't hold with.
+fn out_of_form(row: &mut Row<'_>) -> Stepped {
+    row.fail(RowError::OutOfForm);
+    Ok(())
+}
 
 /// What options are pushed to.
 #[derive(Drop)]
@@ -56,105 +62,106 @@ impl Target<'_> {
     }
 
     /// Pushes an identifier.
-    fn nsid(&mut self, alloc: Global, octets: &[u8]) -> Stepped {
+    fn nsid(&mut self, row: &mut Row<'_>, octets: &[u8]) -> Stepped {
         match NsidRef::from_slice(octets) {
-            Ok(option) => Ok(self.push(alloc, &option)),
-            Err(_) => Err(RowError::OutOfForm),
+            Ok(option) => self.push(row.alloc(), &option),
+            Err(_) => out_of_form(row),
         }
     }
 
     /// Pushes an option of a code, a stated length and octets.
     fn raw(&mut self, row: &mut Row<'_>) -> Stepped {
-        let code = OptionCode::from_int(row.number()?);
-        let stated = row.number()?;
-        let octets = row.octets()?;
-        Ok(self.push_raw(row.alloc(), code, stated, &octets))
+        let code = OptionCode::from_int(row.number());
+        let stated = row.number();
+        let octets = row.octets();
+        self.push_raw(row.alloc(), code, stated, &octets)
     }
 
     /// Pushes an option as it is, or one of no kind.
     fn step(&mut self, step: &str, row: &mut Row<'_>) -> Stepped {
         match step {
-            "push_nsid" => self.nsid(row.alloc(), &row.octets()?),
-            "push_zeros" => self.nsid(row.alloc(), &vec![in row.alloc(); 0u8; row.number()?]?),
-            "push_cookie" => Ok(self.push(row.alloc(), &client_alone(row)?)),
+            "push_nsid" => {
+                let octets = row.octets();
+                self.nsid(row, &octets)
+            }
+            "push_zeros" => {
+                let zeros = vec![in row.alloc(); 0u8; row.number()]?;
+                self.nsid(row, &zeros)
+            }
+            "push_cookie" => self.push(row.alloc(), &client_alone(row)),
             "raw" => self.raw(row),
-            _ => Err(RowError::NoSuchStep),
+            _ => out_of_form(row),
         }
     }
 }
 
 impl Steps for Target<'_> {
     fn take_step(&mut self, step: &str, row: &mut Row<'_>) -> Result<(), RowError> {
-        let done = self.step(step, row)?;
-        built(row, done)
+        let done = self.step(step, row);
+        built(row, done);
+        Ok(())
     }
 }
 
 /// A client's cookie alone.
-fn client_alone(row: &mut Row<'_>) -> Result<Cookie, RowError> {
-    Ok(Cookie::new(ClientCookie::from_octets(row.array()?), None))
+fn client_alone(row: &mut Row<'_>) -> Cookie {
+    Cookie::new(ClientCookie::from_octets(row.array()), None)
 }
 
-/// The algorithms of the next word's octets.
-fn algorithms(row: &mut Row<'_>) -> Result<Vec<SecurityAlgorithm>, RowError> {
-    let numbers = row.octets()?;
-    let listed = numbers
+/// Pushes the algorithms of the next word's octets, which a client understands.
+fn understood(opt: &mut OptBuilder, step: &str, row: &mut Row<'_>) -> Stepped {
+    let numbers = row.octets();
+    let listed: Vec<SecurityAlgorithm> = numbers
         .iter()
         .map(|number| SecurityAlgorithm::from_int(*number))
         .collect(row.alloc())?;
-    Ok(listed)
+    match step {
+        "dau" => opt.dau(row.alloc(), &listed),
+        "dhu" => opt.dhu(row.alloc(), &listed),
+        _ => opt.n3u(row.alloc(), &listed),
+    }
 }
 
 /// Pushes the name from which a chain is wanted.
 fn chain(opt: &mut OptBuilder, row: &mut Row<'_>) -> Stepped {
-    match Name::from_octets(row.octets()?) {
-        Ok(start) => Ok(opt.chain(row.alloc(), &start)),
-        Err(_) => Err(RowError::OutOfForm),
+    match Name::from_octets(row.octets()) {
+        Ok(start) => opt.chain(row.alloc(), &start),
+        Err(_) => out_of_form(row),
     }
 }
 
 /// Pushes key tags.
 fn key_tag(opt: &mut OptBuilder, row: &mut Row<'_>) -> Stepped {
-    let octets = row.octets()?;
+    let octets = row.octets();
     match KeyTagRef::from_slice(&octets) {
-        Ok(tags) => Ok(opt.key_tag(row.alloc(), &tags)),
-        Err(_) => Err(RowError::OutOfForm),
+        Ok(tags) => opt.key_tag(row.alloc(), &tags),
+        Err(_) => out_of_form(row),
     }
 }
 
 /// Pushes a subnet of two prefixes and an address.
 fn client_subnet(opt: &mut OptBuilder, row: &mut Row<'_>) -> Stepped {
-    let source = row.number()?;
-    let scope = row.number()?;
-    Ok(opt.client_subnet(row.alloc(), source, scope, row.address()?))
+    let source = row.number();
+    let scope = row.number();
+    opt.client_subnet(row.alloc(), source, scope, row.address())
 }
 
 /// Pushes an extended error of a code and a text.
 fn extended_error(opt: &mut OptBuilder, row: &mut Row<'_>) -> Stepped {
-    let code = ExtendedErrorCode::from_int(row.number()?);
-    Ok(opt.extended_error(row.alloc(), code, Some(row.text()?)))
+    let code = ExtendedErrorCode::from_int(row.number());
+    opt.extended_error(row.alloc(), code, Some(row.text()))
 }
 
 /// Pushes a timeout in units of 100 ms.
 fn tcp_keepalive(opt: &mut OptBuilder, row: &mut Row<'_>) -> Stepped {
-    let timeout = row.optional::<u16>()?.map(IdleTimeout::from);
-    Ok(opt.tcp_keepalive(row.alloc(), timeout))
-}
-
-/// Pushes the algorithms that a client understands.
-fn understood(opt: &mut OptBuilder, step: &str, row: &mut Row<'_>) -> Stepped {
-    let listed = algorithms(row)?;
-    Ok(match step {
-        "dau" => opt.dau(row.alloc(), &listed),
-        "dhu" => opt.dhu(row.alloc(), &listed),
-        _ => opt.n3u(row.alloc(), &listed),
-    })
+    let timeout = row.optional::<u16>().map(IdleTimeout::from);
+    opt.tcp_keepalive(row.alloc(), timeout)
 }
 
 /// Pushes an identifier by the call of its name.
 fn nsid(opt: &mut OptBuilder, row: &mut Row<'_>) -> Stepped {
-    let octets = row.octets()?;
-    Ok(opt.nsid(row.alloc(), &octets))
+    let octets = row.octets();
+    opt.nsid(row.alloc(), &octets)
 }
 
 /// Pushes an option of one kind by the call of its name.
@@ -162,24 +169,29 @@ fn push_kind(opt: &mut OptBuilder, step: &str, row: &mut Row<'_>) -> Stepped {
     match step {
         "dau" | "dhu" | "n3u" => understood(opt, step, row),
         "chain" => chain(opt, row),
-        "cookie" => Ok(opt.cookie(row.alloc(), client_alone(row)?)),
-        "expire" => Ok(opt.expire(row.alloc(), row.optional()?)),
+        "cookie" => opt.cookie(row.alloc(), client_alone(row)),
+        "expire" => opt.expire(row.alloc(), row.optional()),
         "extended_error" => extended_error(opt, row),
         "tcp_keepalive" => tcp_keepalive(opt, row),
         "key_tag" => key_tag(opt, row),
         "nsid" => nsid(opt, row),
-        "client_nsid" => Ok(opt.client_nsid(row.alloc())),
+        "client_nsid" => opt.client_nsid(row.alloc()),
         "client_subnet" => client_subnet(opt, row),
-        "padding" => Ok(opt.padding(row.alloc(), row.number()?)),
+        "padding" => opt.padding(row.alloc(), row.number()),
         _ => Target::Built(opt).step(step, row),
     }
 }
 
 /// The response code of a number below 4096 whose upper eight bits are the first word, and its lower four the second.
-pub fn rcode(row: &mut Row<'_>) -> Result<OptRcode, RowError> {
-    let upper = row.number()?;
-    let lower = Rcode::checked_from_int(row.number()?).ok_or(RowError::OutOfForm)?;
-    Ok(OptRcode::from_parts(lower, upper))
+pub fn rcode(row: &mut Row<'_>) -> OptRcode {
+    let upper = row.number();
+    match Rcode::checked_from_int(row.number()) {
+        Some(lower) => OptRcode::from_parts(lower, upper),
+        None => {
+            row.fail(RowError::OutOfForm);
+            OptRcode::NOERROR
+        }
+    }
 }
 
 /// A record under construction, and whether a step was refused: then no further one is taken.
@@ -196,23 +208,19 @@ impl Steps for Building<'_> {
             return Ok(());
         }
         match step {
-            "udp_payload_size" => self.opt.set_udp_payload_size(row.number()?),
-            "rcode" => self.opt.set_rcode(rcode(row)?),
-            "version" => self.opt.set_version(row.number()?),
+            "udp_payload_size" => self.opt.set_udp_payload_size(row.number()),
+            "rcode" => self.opt.set_rcode(rcode(row)),
+            "version" => self.opt.set_version(row.number()),
             "dnssec_ok" => self.opt.set_dnssec_ok(true),
-            _ => self.done = push_kind(self.opt, step, row)?,
+            _ => self.done = push_kind(self.opt, step, row),
         }
         Ok(())
     }
 }
 
-/// Builds a record by the steps of a row; whether they are in form is kept, and if they aren't, all is well.
-pub fn build(
-    opt: &mut OptBuilder,
-    row: &mut Row<'_>,
-    kept: &mut Result<(), RowError>,
-) -> Result<(), BuildDataError> {
+/// Builds a record by the steps of a row.
+pub fn build(opt: &mut OptBuilder, row: &mut Row<'_>) -> Result<(), BuildDataError> {
     let mut building = Building { opt, done: Ok(()) };
-    *kept = row.take_steps(", ", &mut building);
+    row.take_steps(", ", &mut building);
     building.done
 }
