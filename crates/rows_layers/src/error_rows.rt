@@ -14,11 +14,13 @@ impl Calls for ErrorRows {
         match call {
             "rcode" => {
                 let error = next_error(row)?;
-                row.show(&error.rcode().to_int())
+                row.show(&error.rcode().to_int());
+                Ok(())
             }
             "service_error" => {
                 let error = next_error(row)?;
-                row.show(&error)
+                row.show(&error);
+                Ok(())
             }
             "error" => text(row),
             "reply_error" => reply_error(row),
@@ -29,19 +31,20 @@ impl Calls for ErrorRows {
 
 /// The error of a service that the next word names.
 pub(crate) fn next_error(row: &mut Row<'_>) -> Result<ServiceError, RowError> {
-    service_error(row.word()?).ok_or(RowError::OutOfForm)
+    service_error(row.word()).ok_or(RowError::OutOfForm)
 }
 
 fn text(row: &mut Row<'_>) -> Result<(), RowError> {
-    match row.word()? {
+    match row.word() {
         "CommandCouldNotBeSent" => row.show(&Error::CommandCouldNotBeSent),
-        _ => Err(RowError::OutOfForm),
+        _ => row.fail(RowError::OutOfForm),
     }
+    Ok(())
 }
 
 /// The error that a reply is refused with, where a push or a reading was, or memory was short.
 fn reply_error(row: &mut Row<'_>) -> Result<(), RowError> {
-    let error: ReplyError = match (row.word()?, row.word()?) {
+    let error: ReplyError = match (row.word(), row.word()) {
         ("push", "ShortBuf") => PushError::ShortBuf.into(),
         ("push", "OutOfMemory") => PushError::OutOfMemory.into(),
         ("parse", "ShortInput") => ParseError::ShortInput.into(),
@@ -50,5 +53,6 @@ fn reply_error(row: &mut Row<'_>) -> Result<(), RowError> {
         ("memory", "OutOfMemory") => OutOfMemory.into(),
         _ => return Err(RowError::OutOfForm),
     };
-    row.debug(&error)
+    row.debug(&error);
+    Ok(())
 }

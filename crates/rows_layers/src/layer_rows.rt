@@ -9,7 +9,7 @@ use dns_service::{
     CallResult, Polled, ReplyFuture, ReplyStream, Request, Service, ServiceResult,
     mk_error_response, service_fn,
 };
-use rows_table::{Calls, Row, RowError, number_of, octets_of};
+use rows_table::{Calls, Row, RowError};
 
 /// The layers.
 pub(crate) struct LayerRows;
@@ -25,10 +25,11 @@ impl Calls for LayerRows {
 
 /// A reply is cut to so many octets: its limit and its octets.
 fn cut_reply(row: &mut Row<'_>) -> Result<(), RowError> {
-    let mut message = reply(row.alloc(), row.octets()?)?;
-    cut(row.alloc(), &mut message, row.number()?)?;
-    row.show(&message.push_limit())?;
-    row.hexadecimal(message.as_slice())
+    let mut message = reply(row.alloc(), row.octets())?;
+    cut(row.alloc(), &mut message, row.number())?;
+    row.show(&message.push_limit());
+    row.hexadecimal(message.as_slice());
+    Ok(())
 }
 
 /// A request through layers to a service that answers with the item behind it.
@@ -45,7 +46,7 @@ fn layered(call: &str, row: &mut Row<'_>) -> Result<(), RowError> {
 
 /// The item of the next word: an error by its name, the error reply to the request with a response code, or octets.
 fn item(row: &mut Row<'_>, request: &Request<()>) -> Result<ServiceResult, RowError> {
-    let word = row.word()?;
+    let word = row.word();
     if let Some(error) = service_error(word) {
         return Ok(Err(error));
     }
@@ -54,10 +55,10 @@ fn item(row: &mut Row<'_>, request: &Request<()>) -> Result<ServiceResult, RowEr
             mk_error_response(
                 row.alloc(),
                 request.message(),
-                opt_rcode(number_of(number)?)?,
+                opt_rcode(row.number_of(number))?,
             )?
         }
-        None => reply(row.alloc(), octets_of(row.alloc(), word)?)?,
+        None => reply(row.alloc(), row.octets_of(word))?,
     };
     Ok(Ok(CallResult::new(reply)))
 }
@@ -108,7 +109,8 @@ fn hint_after<S: Service<()>>(
     requires { S.can_call service.now }
 {
     service.call(row.alloc(), request)?;
-    hint_said(row, request.transport_ctx())
+    hint_said(row, request.transport_ctx());
+    Ok(())
 }
 
 /// The item that a service gives at the first poll, where the second poll gives the end.
@@ -121,18 +123,21 @@ fn only_item<S: Service<()>>(
 {
     let mut future = service.call(row.alloc(), request)?;
     match future.poll(row.alloc())? {
-        Polled::Ready(mut stream) => only_answer(row, &mut stream),
+        Polled::Ready(mut stream) => only_answer(row, &mut stream)?,
         Polled::Pending => row.say("no stream"),
     }
+    Ok(())
 }
 
 fn only_answer<S: ReplyStream>(row: &mut Row<'_>, stream: &mut S) -> Result<(), RowError> {
     let Polled::Ready(Some(item)) = stream.poll_next(row.alloc())? else {
-        return row.say("no item");
+        row.say("no item");
+        return Ok(());
     };
-    item_said(row, item)?;
+    item_said(row, item);
     match stream.poll_next(row.alloc())? {
-        Polled::Ready(None) => Ok(()),
+        Polled::Ready(None) => {}
         _ => row.say("no end"),
     }
+    Ok(())
 }

@@ -11,7 +11,7 @@ use dns_service::{
     CallResult, add_edns_option, add_edns_options, mk_builder_for_target, mk_error_response,
     remove_edns_opt_record,
 };
-use rows_table::{Calls, Row, RowError, number_of, octets_of};
+use rows_table::{Calls, Row, RowError};
 use std::alloc::Global;
 
 /// Replies.
@@ -32,47 +32,51 @@ impl Calls for ReplyRows {
 
 fn empty(row: &mut Row<'_>) -> Result<(), RowError> {
     let builder = mk_builder_for_target(row.alloc())?;
-    row.hexadecimal(builder.as_slice())
+    row.hexadecimal(builder.as_slice());
+    Ok(())
 }
 
 /// The error reply to a message with a response code.
 fn error_reply(row: &mut Row<'_>) -> Result<AdditionalBuilder, RowError> {
-    let query = message(row.octets()?)?;
-    let rcode = opt_rcode(row.number()?)?;
+    let query = message(row.octets())?;
+    let rcode = opt_rcode(row.number())?;
     Ok(mk_error_response(row.alloc(), &query, rcode)?)
 }
 
 /// Its push limit and its octets.
 fn error_response(row: &mut Row<'_>) -> Result<(), RowError> {
     let reply = error_reply(row)?;
-    row.show(&reply.push_limit())?;
-    row.hexadecimal(reply.as_slice())
+    row.show(&reply.push_limit());
+    row.hexadecimal(reply.as_slice());
+    Ok(())
 }
 
 /// The error reply as a call's result holds it after steps: its octets.
 fn response_mut(row: &mut Row<'_>) -> Result<(), RowError> {
     let mut result = CallResult::new(error_reply(row)?);
     match result.response_mut() {
-        Some(reply) => take_steps(row, reply)?,
-        None => return Err(RowError::Missing),
+        Some(reply) => steps_taken(row, reply),
+        None => row.fail(RowError::Missing),
     }
     match result.response() {
         Some(reply) => row.hexadecimal(reply.as_slice()),
-        None => Err(RowError::Missing),
+        None => row.fail(RowError::Missing),
     }
+    Ok(())
 }
 
 /// The empty message after steps.
 fn stepped(row: &mut Row<'_>) -> Result<AdditionalBuilder, RowError> {
     let mut reply = mk_builder_for_target(row.alloc())?.additional();
-    take_steps(row, &mut reply)?;
+    steps_taken(row, &mut reply);
     Ok(reply)
 }
 
 /// The refusals of the steps, and the message's octets.
 fn reply(row: &mut Row<'_>) -> Result<(), RowError> {
     let reply = stepped(row)?;
-    row.hexadecimal(reply.as_slice())
+    row.hexadecimal(reply.as_slice());
+    Ok(())
 }
 
 /// What the message's OPT record says after steps: how many additional records there are, the header's response code,
@@ -84,19 +88,16 @@ fn reply_opt(row: &mut Row<'_>) -> Result<(), RowError> {
         Some(opt) => opt_said(row, &reply, &opt),
         None => row.say("none"),
     }
+    Ok(())
 }
 
-fn opt_said(
-    row: &mut Row<'_>,
-    reply: &AdditionalBuilder,
-    opt: &OptRecordRef<'_>,
-) -> Result<(), RowError> {
+fn opt_said(row: &mut Row<'_>, reply: &AdditionalBuilder, opt: &OptRecordRef<'_>) {
     let header = reply.header();
-    row.show(&reply.counts().arcount)?;
-    row.show(&header.rcode.to_int())?;
-    row.show(&opt.rcode(header).to_int())?;
-    row.show(&opt.udp_payload_size())?;
-    row.show(&opt.opt().len())?;
+    row.show(&reply.counts().arcount);
+    row.show(&header.rcode.to_int());
+    row.show(&opt.rcode(header).to_int());
+    row.show(&opt.udp_payload_size());
+    row.show(&opt.opt().len());
     row.show(&readable(opt))
 }
 
@@ -112,51 +113,55 @@ fn readable(opt: &OptRecordRef<'_>) -> usize {
 }
 
 /// Takes the steps of the next word, which commas part, and says the refusals.
-fn take_steps(row: &mut Row<'_>, reply: &mut AdditionalBuilder) -> Result<(), RowError> {
-    for step in row.word()?.split(',') {
-        if let Err(error) = step_taken(row.alloc(), reply, step)? {
-            row.debug(&error)?;
+fn steps_taken(row: &mut Row<'_>, reply: &mut AdditionalBuilder) {
+    for step in row.word().split(',') {
+        let (name, argument) = step.split_once(':').unwrap_or((step, "0"));
+        if let Err(error) = step_taken(row, reply, name, argument) {
+            row.debug(&error);
         }
     }
-    Ok(())
 }
 
-/// One step: its name and, behind a colon, its number or octets.
+/// A step: an NSID or an address that is added, the OPT record that is removed, or one with a number.
 fn step_taken(
-    alloc: Global,
+    row: &mut Row<'_>,
     reply: &mut AdditionalBuilder,
-    step: &str,
-) -> Result<Result<(), BuildDataError>, RowError> {
-    let (name, argument) = step.split_once(':').unwrap_or((step, "0"));
+    name: &str,
+    argument: &str,
+) -> Result<(), BuildDataError> {
     match name {
-        "nsid" => option_added(alloc, reply, argument),
-        "address" => Ok(address_pushed(alloc, reply)),
-        "remove" => {
-            remove_edns_opt_record(alloc, reply)?;
-            Ok(Ok(()))
+        "nsid" => option_added(row, reply, argument),
+        "address" => address_pushed(row.alloc(), reply),
+        "remove" => Ok(remove_edns_opt_record(row.alloc(), reply)?),
+        _ => {
+            let number = row.number_of(argument);
+            number_step(row, reply, name, number)
         }
-        _ => number_step(alloc, reply, name, number_of(argument)?),
     }
 }
 
 /// A step with a number: an OPT record of this size and with the code BADCOOKIE, an OPT record with padding, padding
 /// that is added, or a push limit.
 fn number_step(
-    alloc: Global,
+    row: &mut Row<'_>,
     reply: &mut AdditionalBuilder,
     name: &str,
     number: u16,
-) -> Result<Result<(), BuildDataError>, RowError> {
+) -> Result<(), BuildDataError> {
+    let alloc = row.alloc();
     let padding = |opt: &mut OptBuilder| opt.padding(alloc, number);
     match name {
-        "opt" => Ok(reply.opt(alloc, |opt: &mut OptBuilder| sized(opt, number))),
-        "padding" => Ok(reply.opt(alloc, padding)),
-        "add_padding" => Ok(add_edns_options(alloc, reply, padding)),
+        "opt" => reply.opt(alloc, |opt: &mut OptBuilder| sized(opt, number)),
+        "padding" => reply.opt(alloc, padding),
+        "add_padding" => add_edns_options(alloc, reply, padding),
         "limit" => {
             reply.set_push_limit(usize::from(number));
-            Ok(Ok(()))
+            Ok(())
         }
-        _ => Err(RowError::OutOfForm),
+        _ => {
+            row.fail(RowError::NoSuchStep);
+            Ok(())
+        }
     }
 }
 
@@ -170,13 +175,12 @@ fn sized(opt: &mut OptBuilder, size: u16) -> Result<(), BuildDataError> {
 }
 
 fn option_added(
-    alloc: Global,
+    row: &mut Row<'_>,
     reply: &mut AdditionalBuilder,
     octets: &str,
-) -> Result<Result<(), BuildDataError>, RowError> {
-    let octets = octets_of(alloc, octets)?;
-    let identifier = NsidRef::from_slice(&octets).or(Err(RowError::OutOfForm))?;
-    Ok(add_edns_option(alloc, reply, &identifier))
+) -> Result<(), BuildDataError> {
+    let octets = row.octets_of(octets);
+    add_edns_option(row.alloc(), reply, &NsidRef::from_slice(&octets)?)
 }
 
 /// Pushes the root's address.

@@ -25,17 +25,17 @@ impl Calls for RequestRows {
 /// `stream` with an idle timeout in ms, and its message.
 pub(crate) fn request(row: &mut Row<'_>) -> Result<Request<()>, RowError> {
     let transport = transport(row)?;
-    let message = message(row.octets()?)?;
+    let message = message(row.octets())?;
     let ip = IpAddr::V4([192, 0, 2, 1]);
     let sender = SocketAddr { ip, port: 5353 };
     Ok(Request::new(row.alloc(), sender, 5, 100, message, transport, ())?)
 }
 
 fn transport(row: &mut Row<'_>) -> Result<TransportSpecificContext, RowError> {
-    match row.word()? {
-        "udp" => Ok(TransportSpecificContext::Udp(UdpTransportContext::new(row.optional()?))),
+    match row.word() {
+        "udp" => Ok(TransportSpecificContext::Udp(UdpTransportContext::new(row.optional()))),
         "stream" => Ok(TransportSpecificContext::NonUdp(NonUdpTransportContext::new(
-            row.optional()?,
+            row.optional(),
         ))),
         _ => Err(RowError::OutOfForm),
     }
@@ -45,51 +45,53 @@ fn transport(row: &mut Row<'_>) -> Result<TransportSpecificContext, RowError> {
 fn parts(row: &mut Row<'_>) -> Result<(), RowError> {
     let request = request(row)?;
     let sender = request.client_addr();
-    row.show(&sender.ip)?;
-    row.show(&sender.port)?;
-    row.show(&request.received_at())?;
-    row.show(&request.received_secs())?;
-    row.hexadecimal(request.message().as_slice())?;
-    row.show(&request.num_reserved_bytes())
+    row.show(&sender.ip);
+    row.show(&sender.port);
+    row.show(&request.received_at());
+    row.show(&request.received_secs());
+    row.hexadecimal(request.message().as_slice());
+    row.show(&request.num_reserved_bytes());
+    Ok(())
 }
 
 /// Octets are reserved, and the copy gets other metadata: these, the copy's octets and how many it has reserved.
 fn copy(row: &mut Row<'_>) -> Result<(), RowError> {
     let mut request = request(row)?;
-    request.reserve_bytes(row.number()?);
-    let copy = request.try_clone(row.alloc(), row.number::<u8>()?)?;
-    row.show(copy.metadata())?;
-    row.hexadecimal(copy.message().as_slice())?;
-    row.show(&copy.num_reserved_bytes())
+    request.reserve_bytes(row.number());
+    let copy = request.try_clone(row.alloc(), row.number::<u8>())?;
+    row.show(copy.metadata());
+    row.hexadecimal(copy.message().as_slice());
+    row.show(&copy.num_reserved_bytes());
+    Ok(())
 }
 
 fn other_metadata(row: &mut Row<'_>) -> Result<(), RowError> {
     let request = request(row)?;
-    let metadata = row.number::<u8>()?;
-    row.show(request.with_new_metadata(metadata).metadata())
+    let metadata = row.number::<u8>();
+    row.show(request.with_new_metadata(metadata).metadata());
+    Ok(())
 }
 
 /// How many octets are reserved in the end.
 fn reserve(row: &mut Row<'_>) -> Result<(), RowError> {
     let mut request = request(row)?;
-    request.reserve_bytes(row.number()?);
-    request.reserve_bytes(row.number()?);
-    row.show(&request.num_reserved_bytes())
+    request.reserve_bytes(row.number());
+    request.reserve_bytes(row.number());
+    row.show(&request.num_reserved_bytes());
+    Ok(())
 }
 
 fn other_hint(row: &mut Row<'_>) -> Result<(), RowError> {
     let mut request = request(row)?;
     if let TransportSpecificContext::Udp(udp) = request.transport_ctx_mut() {
-        udp.set_max_response_size_hint(row.optional()?);
+        udp.set_max_response_size_hint(row.optional());
     }
-    hint_said(row, request.transport_ctx())
+    hint_said(row, request.transport_ctx());
+    Ok(())
 }
 
 /// The hint of a transport, or `none`.
-pub(crate) fn hint_said(
-    row: &mut Row<'_>,
-    transport: &TransportSpecificContext,
-) -> Result<(), RowError> {
+pub(crate) fn hint_said(row: &mut Row<'_>, transport: &TransportSpecificContext) {
     let hint = match transport {
         TransportSpecificContext::Udp(udp) => udp.max_response_size_hint(),
         TransportSpecificContext::NonUdp(_) => None,

@@ -4,8 +4,7 @@ use crate::request_rows::request;
 use crate::words::message;
 use dns_opt::NsidRef;
 use dns_route::{ComposeReply, CopiedMessage, ReplyMessage, RequestMessage};
-use rows_table::{Calls, Row, RowError, octets_of};
-use std::alloc::Global;
+use rows_table::{Calls, Row, RowError};
 
 /// Messages for routers.
 pub(crate) struct RouteRows;
@@ -24,53 +23,52 @@ impl Calls for RouteRows {
 /// A request that is asked again after steps: whether DNSSEC records are wanted, and the octets that are sent.
 fn request_message(row: &mut Row<'_>) -> Result<(), RowError> {
     let request = request(row)?;
-    let steps = row.word()?;
+    let steps = row.word();
     match RequestMessage::try_from(row.alloc(), &request) {
         Ok(asked) => sent(row, asked, steps),
         Err(error) => row.debug(&error),
     }
+    Ok(())
 }
 
-fn sent(row: &mut Row<'_>, asked: RequestMessage, steps: &str) -> Result<(), RowError> {
+fn sent(row: &mut Row<'_>, asked: RequestMessage, steps: &str) {
     let mut asked = asked;
     for step in steps.split(',') {
-        request_step(row.alloc(), &mut asked, step)?;
+        request_step(row, &mut asked, step);
     }
     match asked.to_message(row.alloc()) {
         Ok(sent) => {
-            row.show(&asked.dnssec_ok())?;
-            row.hexadecimal(sent.as_slice())
+            row.show(&asked.dnssec_ok());
+            row.hexadecimal(sent.as_slice());
         }
         Err(error) => row.debug(&error),
     }
 }
 
 /// One step: `-` for none, `dnssec_ok:false`, or an NSID that is added.
-fn request_step(alloc: Global, asked: &mut RequestMessage, step: &str) -> Result<(), RowError> {
+fn request_step(row: &mut Row<'_>, asked: &mut RequestMessage, step: &str) {
     match step.split_once(':') {
-        None => Ok(()),
-        Some(("dnssec_ok", value)) => {
-            asked.set_dnssec_ok(value == "true");
-            Ok(())
-        }
+        None => {}
+        Some(("dnssec_ok", value)) => asked.set_dnssec_ok(value == "true"),
         Some((_, octets)) => {
-            let octets = octets_of(alloc, octets)?;
-            let identifier = NsidRef::from_slice(&octets).or(Err(RowError::OutOfForm))?;
-            asked
-                .add_opt(alloc, &identifier)
-                .or(Err(RowError::OutOfForm))
+            let octets = row.octets_of(octets);
+            match NsidRef::from_slice(&octets) {
+                Ok(identifier) => row.keep(asked.add_opt(row.alloc(), &identifier)),
+                Err(_) => row.fail(RowError::OutOfForm),
+            }
         }
     }
 }
 
 /// A reply that is composed of a message, with an NSID that is added or `-` for none.
 fn reply_message(row: &mut Row<'_>) -> Result<(), RowError> {
-    let source = message(row.octets()?)?;
-    let identifier = row.octets()?;
+    let source = message(row.octets())?;
+    let identifier = row.octets();
     match ReplyMessage::from_message(row.alloc(), &source.for_ref()) {
-        Ok(reply) => composed(row, reply, &identifier),
+        Ok(reply) => composed(row, reply, &identifier)?,
         Err(error) => row.debug(&error),
     }
+    Ok(())
 }
 
 fn composed(row: &mut Row<'_>, reply: ReplyMessage, added: &[u8]) -> Result<(), RowError> {
@@ -85,11 +83,12 @@ fn composed(row: &mut Row<'_>, reply: ReplyMessage, added: &[u8]) -> Result<(), 
         Ok(built) => row.hexadecimal(built.as_slice()),
         Err(error) => row.debug(&error),
     }
+    Ok(())
 }
 
 /// The copy of a message with QR set, built.
 fn copied_message(row: &mut Row<'_>) -> Result<(), RowError> {
-    let source = message(row.octets()?)?;
+    let source = message(row.octets())?;
     let copied = CopiedMessage::read(row.alloc(), &source.for_ref());
     let mut copied = copied.or(Err(RowError::OutOfForm))?;
     let mut header = copied.header();
@@ -99,4 +98,5 @@ fn copied_message(row: &mut Row<'_>) -> Result<(), RowError> {
         Ok(built) => row.hexadecimal(built.as_slice()),
         Err(error) => row.debug(&error),
     }
+    Ok(())
 }

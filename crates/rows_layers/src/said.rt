@@ -7,23 +7,30 @@ use rows_table::{Row, RowError};
 pub(crate) fn poll_said(
     row: &mut Row<'_>,
     answer: Result<Polled<Option<ServiceResult>>, OutOfMemory>,
-) -> Result<(), RowError> {
-    match answer? {
-        Polled::Ready(Some(item)) => item_said(row, item),
-        Polled::Ready(None) => row.say("end"),
-        Polled::Pending => row.say("pending"),
+) {
+    match answer {
+        Ok(Polled::Ready(item)) => end_said(row, item),
+        Ok(Polled::Pending) => row.say("pending"),
+        Err(OutOfMemory) => row.fail(RowError::OutOfMemory),
+    }
+}
+
+fn end_said(row: &mut Row<'_>, item: Option<ServiceResult>) {
+    match item {
+        Some(item) => item_said(row, item),
+        None => row.say("end"),
     }
 }
 
 /// The octets of the reply, the feedback or the error of an item.
-pub(crate) fn item_said(row: &mut Row<'_>, item: ServiceResult) -> Result<(), RowError> {
+pub(crate) fn item_said(row: &mut Row<'_>, item: ServiceResult) {
     match item {
         Ok(given) => given_said(row, &given),
         Err(error) => row.debug(&error),
     }
 }
 
-fn given_said(row: &mut Row<'_>, given: &CallResult) -> Result<(), RowError> {
+fn given_said(row: &mut Row<'_>, given: &CallResult) {
     if let Some(reply) = given.response() {
         return row.hexadecimal(reply.as_slice());
     }
@@ -34,10 +41,14 @@ fn given_said(row: &mut Row<'_>, given: &CallResult) -> Result<(), RowError> {
 }
 
 /// How many items are left, at least and at most: `1..2`, or `1..` where the most isn't known.
-pub(crate) fn size_said(row: &mut Row<'_>, size: (usize, Option<usize>)) -> Result<(), RowError> {
-    let said = match size {
-        (least, Some(most)) => format!(in row.alloc(); "{least}..{most}")?,
-        (least, None) => format!(in row.alloc(); "{least}..")?,
+pub(crate) fn size_said(row: &mut Row<'_>, size: (usize, Option<usize>)) {
+    let (least, most) = size;
+    let said = match most {
+        Some(most) => format!(in row.alloc(); "{least}..{most}"),
+        None => format!(in row.alloc(); "{least}.."),
     };
-    row.say(said.as_str())
+    match said {
+        Ok(said) => row.say(said.as_str()),
+        Err(_) => row.fail(RowError::OutOfMemory),
+    }
 }

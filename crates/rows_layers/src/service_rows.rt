@@ -102,13 +102,14 @@ fn of_closure(row: &mut Row<'_>) -> Result<(), RowError> {
     let service = service_fn::<AsPlanned, _, _>(planned, Err(error));
     let mut future = service.call(row.alloc(), &mut request)?;
     future_said(row, &mut future)?;
-    row.close(", reserved")?;
-    row.show(&request.num_reserved_bytes())
+    row.close(", reserved");
+    row.show(&request.num_reserved_bytes());
+    Ok(())
 }
 
 /// What a future gives that is ready with an item that comes once.
 fn once(row: &mut Row<'_>) -> Result<(), RowError> {
-    if row.word()? != "BeginTransaction" {
+    if row.word() != "BeginTransaction" {
         return Err(RowError::OutOfForm);
     }
     let item = CallResult::feedback_only(ServiceFeedback::BeginTransaction);
@@ -118,19 +119,19 @@ fn once(row: &mut Row<'_>) -> Result<(), RowError> {
 /// What a future's stream gives at three polls, its sizes in front of each, and what the future is afterwards.
 fn future_said<F: ReplyFuture>(row: &mut Row<'_>, future: &mut F) -> Result<(), RowError> {
     match future.poll(row.alloc())? {
-        Polled::Ready(mut stream) => stream_said(row, &mut stream)?,
-        Polled::Pending => row.say("pending")?,
+        Polled::Ready(mut stream) => stream_said(row, &mut stream),
+        Polled::Pending => row.say("pending"),
     }
     match future.poll(row.alloc())? {
         Polled::Ready(_) => row.close(", then ready"),
         Polled::Pending => row.close(", then pending"),
     }
+    Ok(())
 }
 
-fn stream_said<S: ReplyStream>(row: &mut Row<'_>, stream: &mut S) -> Result<(), RowError> {
+fn stream_said<S: ReplyStream>(row: &mut Row<'_>, stream: &mut S) {
     for _ in 0..3 {
-        size_said(row, stream.size_hint())?;
-        poll_said(row, stream.poll_next(row.alloc()))?;
+        size_said(row, stream.size_hint());
+        poll_said(row, stream.poll_next(row.alloc()));
     }
-    Ok(())
 }

@@ -25,21 +25,22 @@ impl Calls for StreamRows {
         match call {
             "polls" => {
                 let (mut stream, polls) = stream_and_polls(row)?;
-                polled(row, &mut stream, polls)
+                polled(row, &mut stream, polls);
             }
             "sizes" => {
                 let (mut stream, polls) = stream_and_polls(row)?;
-                sizes(row, &mut stream, polls)
+                sizes(row, &mut stream, polls)?;
             }
-            _ => Err(RowError::NoSuchCall),
+            _ => return Err(RowError::NoSuchCall),
         }
+        Ok(())
     }
 }
 
 fn stream_and_polls(row: &mut Row<'_>) -> Result<(Layered, u8), RowError> {
-    let kind = row.word()?;
+    let kind = row.word();
     let error = next_error(row)?;
-    let polls = row.number::<u8>()?;
+    let polls = row.number::<u8>();
     Ok((stream(row.alloc(), kind, error)?, polls))
 }
 
@@ -81,19 +82,18 @@ fn feedback() -> Once {
 }
 
 /// What so many polls give.
-fn polled<S: ReplyStream>(row: &mut Row<'_>, stream: &mut S, polls: u8) -> Result<(), RowError> {
+fn polled<S: ReplyStream>(row: &mut Row<'_>, stream: &mut S, polls: u8) {
     for _ in 0..polls {
-        poll_said(row, stream.poll_next(row.alloc()))?;
+        poll_said(row, stream.poll_next(row.alloc()));
     }
-    Ok(())
 }
 
 /// The size at first, and after each of so many polls.
 fn sizes<S: ReplyStream>(row: &mut Row<'_>, stream: &mut S, polls: u8) -> Result<(), RowError> {
-    size_said(row, stream.size_hint())?;
+    size_said(row, stream.size_hint());
     for _ in 0..polls {
         stream.poll_next(row.alloc())?;
-        size_said(row, stream.size_hint())?;
+        size_said(row, stream.size_hint());
     }
     Ok(())
 }

@@ -18,13 +18,13 @@ impl Calls for BookRows {
 
 /// The replies of an open book with this limit and version to calls, which commas part.
 fn replies(row: &mut Row<'_>) -> Result<(), RowError> {
-    let stream = with_limit(row.number()?);
-    let mut state = BookState::resume(DgramConfig::new(), stream, row.number()?);
-    for name in row.word()?.split(',') {
+    let stream = with_limit(row.number());
+    let mut state = BookState::resume(DgramConfig::new(), stream, row.number());
+    for name in row.word().split(',') {
         if !row.said().is_empty() {
-            row.close(",")?;
+            row.close(",");
         }
-        reply_said(row, &state.call(&call_named(name)?))?;
+        reply_said(row, &state.call(&call_named(name)?));
     }
     Ok(())
 }
@@ -53,7 +53,7 @@ fn call_named(name: &str) -> Result<Call, RowError> {
     }
 }
 
-fn reply_said(row: &mut Row<'_>, reply: &Reply) -> Result<(), RowError> {
+fn reply_said(row: &mut Row<'_>, reply: &Reply) {
     match reply {
         Reply::Admission(admission) => admission_said(row, admission),
         Reply::Left(left) => row.show(left),
@@ -63,10 +63,10 @@ fn reply_said(row: &mut Row<'_>, reply: &Reply) -> Result<(), RowError> {
     }
 }
 
-fn admission_said(row: &mut Row<'_>, admission: &Admission) -> Result<(), RowError> {
+fn admission_said(row: &mut Row<'_>, admission: &Admission) {
     match admission {
         Admission::Admitted(look) => {
-            row.say("admitted")?;
+            row.say("admitted");
             look_said(row, look)
         }
         Admission::Full {
@@ -74,10 +74,10 @@ fn admission_said(row: &mut Row<'_>, admission: &Admission) -> Result<(), RowErr
             limit,
             accepted,
         } => {
-            row.say("full")?;
-            row.show(taken)?;
-            row.say("of")?;
-            row.show(limit)?;
+            row.say("full");
+            row.show(taken);
+            row.say("of");
+            row.show(limit);
             row.show(accepted)
         }
         Admission::Closed => row.say("closed"),
@@ -85,14 +85,14 @@ fn admission_said(row: &mut Row<'_>, admission: &Admission) -> Result<(), RowErr
 }
 
 /// The version, whether the book is closed, and how many slots are taken of how many. Nothing else may be configured.
-fn look_said(row: &mut Row<'_>, look: &Look) -> Result<(), RowError> {
+fn look_said(row: &mut Row<'_>, look: &Look) {
     let limit = look.stream.max_concurrent_connections();
     if look.dgram != DgramConfig::new() || look.stream != with_limit(limit) {
         return row.say("another configuration");
     }
-    row.show(&look.version)?;
-    row.say(if look.closed { "closed" } else { "open" })?;
-    row.show(&look.taken)?;
-    row.say("of")?;
+    row.show(&look.version);
+    row.say(if look.closed { "closed" } else { "open" });
+    row.show(&look.taken);
+    row.say("of");
     row.show(&limit)
 }

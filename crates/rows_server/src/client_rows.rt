@@ -6,7 +6,7 @@ use crate::service_rows::rules;
 use dns_core::{ClientCore, Event, EventKind, Framer, Settings};
 use dns_server::ScriptService;
 use dns_service::{DgramConfig, Plainly, StreamConfig};
-use rows_table::{Calls, Row, RowError, octets_of};
+use rows_table::{Calls, Row, RowError};
 use std::alloc::Global;
 
 /// Frames, one client, and settings.
@@ -27,7 +27,7 @@ impl Calls for ClientRows {
 fn frames(row: &mut Row<'_>) -> Result<(), RowError> {
     let mut framer = Framer::new(row.alloc());
     for piece in row.all_words().split(' ') {
-        let octets = octets_of(row.alloc(), piece)?;
+        let octets = row.octets_of(piece);
         framer.feed(row.alloc(), &octets)?;
         say_next(row, &mut framer)?;
     }
@@ -39,6 +39,7 @@ fn say_next(row: &mut Row<'_>, framer: &mut Framer) -> Result<(), RowError> {
         Some(message) => row.hexadecimal(&message),
         None => row.say("none"),
     }
+    Ok(())
 }
 
 /// What one client is sent for its events, whose service answers each request with NXDOMAIN at its second poll.
@@ -62,7 +63,7 @@ fn served(
     let mut core = core_of(row.alloc(), service, first)?;
     for event in rest {
         let outputs = core.step(row.alloc(), service, event)?;
-        say_lines(row, &outputs)?;
+        say_lines(row, &outputs);
     }
     Ok(())
 }
@@ -101,9 +102,10 @@ fn core_of(
 /// of connections.
 fn settings(row: &mut Row<'_>) -> Result<(), RowError> {
     let settings = Settings::new(row.alloc());
-    row.show(&settings.strict)?;
-    row.show(&settings.edns)?;
-    row.show(&settings.cookies.is_some())?;
-    row.show(&settings.denied.as_slice().len())?;
-    row.show(&settings.stream.max_concurrent_connections())
+    row.show(&settings.strict);
+    row.show(&settings.edns);
+    row.show(&settings.cookies.is_some());
+    row.show(&settings.denied.as_slice().len());
+    row.show(&settings.stream.max_concurrent_connections());
+    Ok(())
 }

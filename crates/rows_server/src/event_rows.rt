@@ -23,47 +23,48 @@ impl Calls for EventRows {
 }
 
 /// Says that a line is refused, or ends where memory was short.
-pub(crate) fn refused(row: &mut Row<'_>, error: LineError) -> Result<(), RowError> {
+pub(crate) fn refused(row: &mut Row<'_>, error: LineError) {
     match error {
         LineError::Refused(_) => row.say("refused"),
-        LineError::OutOfMemory => Err(RowError::OutOfMemory),
+        LineError::OutOfMemory => row.fail(RowError::OutOfMemory),
     }
 }
 
 fn event(row: &mut Row<'_>) -> Result<(), RowError> {
-    let line = next_text(row)?;
+    let line = next_text(row);
     let words = Words::of(row.alloc(), &line)?;
     match read_event(row.alloc(), &words) {
         Ok(event) => event_said(row, &event),
         Err(error) => refused(row, error),
     }
+    Ok(())
 }
 
 /// The moment, the seconds, the client and what happens.
-fn event_said(row: &mut Row<'_>, event: &Event) -> Result<(), RowError> {
-    row.show(&event.at)?;
-    row.show(&event.secs)?;
-    row.show(&event.client)?;
+fn event_said(row: &mut Row<'_>, event: &Event) {
+    row.show(&event.at);
+    row.show(&event.secs);
+    row.show(&event.client);
     kind_said(row, &event.kind)
 }
 
-fn kind_said(row: &mut Row<'_>, kind: &EventKind) -> Result<(), RowError> {
+fn kind_said(row: &mut Row<'_>, kind: &EventKind) {
     match kind {
         EventKind::Datagram { addr, octets } => {
-            address_said(row, "datagram", *addr)?;
+            address_said(row, "datagram", *addr);
             row.hexadecimal(octets.as_slice())
         }
         EventKind::Offer { addr } => address_said(row, "offer", *addr),
         EventKind::Piece(octets) => {
-            row.say("piece")?;
+            row.say("piece");
             row.hexadecimal(octets.as_slice())
         }
         EventKind::Turn { request } => {
-            row.say("turn")?;
+            row.say("turn");
             row.show(request)
         }
         EventKind::Write { took } => {
-            row.say("write")?;
+            row.say("write");
             row.show(took)
         }
         EventKind::End => row.say("end"),
@@ -71,28 +72,29 @@ fn kind_said(row: &mut Row<'_>, kind: &EventKind) -> Result<(), RowError> {
     }
 }
 
-fn address_said(row: &mut Row<'_>, kind: &str, addr: SocketAddr) -> Result<(), RowError> {
-    row.say(kind)?;
-    row.show(&addr.ip)?;
+fn address_said(row: &mut Row<'_>, kind: &str, addr: SocketAddr) {
+    row.say(kind);
+    row.show(&addr.ip);
     row.show(&addr.port)
 }
 
 fn stream(row: &mut Row<'_>) -> Result<(), RowError> {
-    let line = next_text(row)?;
+    let line = next_text(row);
     let words = Words::of(row.alloc(), &line)?;
     match read_stream(&words) {
         Ok(stream) => stream_said(row, &stream),
         Err(_) => row.say("refused"),
     }
+    Ok(())
 }
 
 /// Both timeouts, the queue's bound, the limit of connections and whether more are accepted.
-fn stream_said(row: &mut Row<'_>, stream: &StreamConfig) -> Result<(), RowError> {
+fn stream_said(row: &mut Row<'_>, stream: &StreamConfig) {
     let connection = stream.connection_config();
-    row.show(&connection.idle_timeout())?;
-    row.show(&connection.response_write_timeout())?;
-    row.show(&connection.max_queued_responses())?;
-    row.show(&stream.max_concurrent_connections())?;
+    row.show(&connection.idle_timeout());
+    row.show(&connection.response_write_timeout());
+    row.show(&connection.max_queued_responses());
+    row.show(&stream.max_concurrent_connections());
     row.show(&stream.accept_connections_at_max())
 }
 
@@ -103,6 +105,7 @@ fn spoilt(row: &mut Row<'_>) -> Result<(), RowError> {
         Some(place) => row.show(&place),
         None => row.say("none"),
     }
+    Ok(())
 }
 
 /// The events of lines.

@@ -1,7 +1,7 @@
 //! Rows of the lines that are written, and of how a run ends.
 
-use crate::texts::{say_text, text_of};
-use dns_name::Octets;
+use crate::texts::{close_text, say_text};
+use dns_name::{Octets, OutOfMemory};
 use dns_outside::MemorySink;
 use dns_server::{Status, WriteError, line, refusal, write_outputs, write_refusal};
 use dns_service::{Output, Why};
@@ -27,8 +27,8 @@ impl Calls for LineRows {
 
 /// An output: its kind, its client, and what it says.
 fn output(row: &mut Row<'_>) -> Result<Output, RowError> {
-    let kind = row.word()?;
-    let client = row.number()?;
+    let kind = row.word();
+    let client = row.number();
     Ok(match kind {
         "datagram" => Output::Datagram {
             client,
@@ -40,17 +40,17 @@ fn output(row: &mut Row<'_>) -> Result<Output, RowError> {
         },
         "closed" => Output::Closed {
             client,
-            why: why(row.word()?)?,
+            why: why(row.word())?,
         },
         _ => Output::TurnedAway {
             client,
-            accepted: row.word()? == "true",
+            accepted: row.word() == "true",
         },
     })
 }
 
 fn octets(row: &mut Row<'_>) -> Result<Octets, RowError> {
-    let octets = row.octets()?;
+    let octets = row.octets();
     Ok(Octets::from_slice(row.alloc(), &octets)?)
 }
 
@@ -65,27 +65,29 @@ fn why(name: &str) -> Result<Why, RowError> {
 
 fn output_line(row: &mut Row<'_>) -> Result<(), RowError> {
     let output = output(row)?;
-    say_line(row, &output)
+    say_line(row, &output);
+    Ok(())
 }
 
 fn refusal_line(row: &mut Row<'_>) -> Result<(), RowError> {
-    let line = refusal(row.alloc(), row.number()?, Reason::Unbuilt)?;
-    say_text(row, line.as_bytes())
+    let line = refusal(row.alloc(), row.number(), Reason::Unbuilt)?;
+    say_text(row, line.as_bytes());
+    Ok(())
 }
 
 /// Says the line of an output, behind other ones with no space between.
-fn say_line(row: &mut Row<'_>, output: &Output) -> Result<(), RowError> {
-    let line = line(row.alloc(), output)?;
-    let text = text_of(row.alloc(), line.as_bytes())?;
-    row.close(text.as_str())
+fn say_line(row: &mut Row<'_>, output: &Output) {
+    match line(row.alloc(), output) {
+        Ok(line) => close_text(row, line.as_bytes()),
+        Err(OutOfMemory) => row.fail(RowError::OutOfMemory),
+    }
 }
 
 /// Says the lines of outputs.
-pub(crate) fn say_lines(row: &mut Row<'_>, outputs: &[Output]) -> Result<(), RowError> {
+pub(crate) fn say_lines(row: &mut Row<'_>, outputs: &[Output]) {
     for output in outputs {
-        say_line(row, output)?;
+        say_line(row, output);
     }
-    Ok(())
 }
 
 fn empty_sink(alloc: Global) -> MemorySink {
@@ -93,12 +95,8 @@ fn empty_sink(alloc: Global) -> MemorySink {
 }
 
 /// How the writing ended, and what stands in the sink.
-fn sink_said(
-    row: &mut Row<'_>,
-    ended: Result<(), WriteError>,
-    sink: &MemorySink,
-) -> Result<(), RowError> {
-    row.debug(&ended)?;
+fn sink_said(row: &mut Row<'_>, ended: Result<(), WriteError>, sink: &MemorySink) {
+    row.debug(&ended);
     say_text(row, sink.written())
 }
 
@@ -106,18 +104,20 @@ fn written_output(row: &mut Row<'_>) -> Result<(), RowError> {
     let outputs = [output(row)?];
     let mut sink = empty_sink(row.alloc());
     let ended = write_outputs(row.alloc(), &mut sink, &outputs);
-    sink_said(row, ended, &sink)
+    sink_said(row, ended, &sink);
+    Ok(())
 }
 
 fn written_refusal(row: &mut Row<'_>) -> Result<(), RowError> {
     let mut sink = empty_sink(row.alloc());
-    let ended = write_refusal(row.alloc(), &mut sink, row.number()?, Reason::Unbuilt);
-    sink_said(row, ended, &sink)
+    let ended = write_refusal(row.alloc(), &mut sink, row.number(), Reason::Unbuilt);
+    sink_said(row, ended, &sink);
+    Ok(())
 }
 
 /// The exit status.
 fn number(row: &mut Row<'_>) -> Result<(), RowError> {
-    let status = match row.word()? {
+    let status = match row.word() {
         "Done" => Status::Done,
         "Usage" => Status::Usage,
         "Refused" => Status::Refused,
@@ -127,5 +127,6 @@ fn number(row: &mut Row<'_>) -> Result<(), RowError> {
         "TooLong" => Status::TooLong,
         _ => return Err(RowError::OutOfForm),
     };
-    row.show(&status.number())
+    row.show(&status.number());
+    Ok(())
 }

@@ -26,21 +26,21 @@ impl Calls for OutsideRows {
 
 /// What three reads of two octets give of a slice.
 fn reading(row: &mut Row<'_>) -> Result<(), RowError> {
-    let octets = row.octets()?;
+    let octets = row.octets();
     let mut source = Reading::new(octets.as_slice());
     for _ in 0..3 {
-        one_read(row, &mut source)?;
+        one_read(row, &mut source);
     }
     Ok(())
 }
 
 /// What one read of two octets gives.
-fn one_read<S: Source>(row: &mut Row<'_>, source: &mut S) -> Result<(), RowError> {
+fn one_read<S: Source>(row: &mut Row<'_>, source: &mut S) {
     let mut buf = [0u8; 2];
     match source.read(&mut buf) {
         SourceRead::Got(count) => match buf.as_slice().split_at_checked(count) {
             Some((got, _)) => row.hexadecimal(got),
-            None => Err(RowError::OutOfForm),
+            None => row.fail(RowError::OutOfForm),
         },
         SourceRead::End => row.say("End"),
         SourceRead::Failed => row.say("Failed"),
@@ -49,16 +49,17 @@ fn one_read<S: Source>(row: &mut Row<'_>, source: &mut S) -> Result<(), RowError
 
 /// A piece is written by one call and another one whole: what the first call takes, and what stands in the vector.
 fn writing(row: &mut Row<'_>) -> Result<(), RowError> {
-    let first = row.octets()?;
-    let second = row.octets()?;
+    let first = row.octets();
+    let second = row.octets();
     let mut sink = Writing::new(Vec::new(row.alloc()));
-    row.debug(&sink.write(&first))?;
-    row.debug(&write_all(&mut sink, &second))?;
-    row.hexadecimal(&sink.into_inner())
+    row.debug(&sink.write(&first));
+    row.debug(&write_all(&mut sink, &second));
+    row.hexadecimal(&sink.into_inner());
+    Ok(())
 }
 
 /// Says all that is left of a source, or why it isn't read.
-fn say_whole<S: Source>(row: &mut Row<'_>, source: &mut S) -> Result<(), RowError> {
+fn say_whole<S: Source>(row: &mut Row<'_>, source: &mut S) {
     match read_all(row.alloc(), source) {
         Ok(octets) => row.hexadecimal(&octets),
         Err(error) => row.debug(&error),
@@ -73,41 +74,45 @@ pub(crate) fn failing(alloc: Global, number: Option<u64>) -> Result<Vec<u64>, Ro
 /// A source of which one call fails and which gives so many octets a call is read whole twice: what the first gives, what
 /// is left then, and what the second gives.
 fn memory_source(row: &mut Row<'_>) -> Result<(), RowError> {
-    let failing = failing(row.alloc(), Some(row.number()?))?;
-    let most = row.number()?;
-    let mut source = MemorySource::new(row.octets()?, failing, most);
-    say_whole(row, &mut source)?;
-    row.hexadecimal(source.left())?;
-    say_whole(row, &mut source)
+    let failing = failing(row.alloc(), Some(row.number()))?;
+    let most = row.number();
+    let mut source = MemorySource::new(row.octets(), failing, most);
+    say_whole(row, &mut source);
+    row.hexadecimal(source.left());
+    say_whole(row, &mut source);
+    Ok(())
 }
 
 /// What writing the piece of the next word whole gives, and what the sink has then.
-fn say_written(row: &mut Row<'_>, sink: &mut MemorySink) -> Result<(), RowError> {
-    let piece = row.octets()?;
-    row.debug(&write_all(sink, &piece))?;
+fn say_written(row: &mut Row<'_>, sink: &mut MemorySink) {
+    let piece = row.octets();
+    row.debug(&write_all(sink, &piece));
     row.hexadecimal(sink.written())
 }
 
 /// Two pieces are written whole to a sink of which one call fails and which takes so many octets a call.
 fn memory_sink(row: &mut Row<'_>) -> Result<(), RowError> {
-    let failing = failing(row.alloc(), Some(row.number()?))?;
-    let mut sink = MemorySink::new(Vec::new(row.alloc()), failing, row.number()?);
-    say_written(row, &mut sink)?;
-    say_written(row, &mut sink)
+    let failing = failing(row.alloc(), Some(row.number()))?;
+    let mut sink = MemorySink::new(Vec::new(row.alloc()), failing, row.number());
+    say_written(row, &mut sink);
+    say_written(row, &mut sink);
+    Ok(())
 }
 
 fn steady_source(row: &mut Row<'_>) -> Result<(), RowError> {
-    let mut source = SteadySource::new(row.octets()?);
-    say_whole(row, &mut source)?;
-    row.hexadecimal(source.left())
+    let mut source = SteadySource::new(row.octets());
+    say_whole(row, &mut source);
+    row.hexadecimal(source.left());
+    Ok(())
 }
 
 fn steady_sink(row: &mut Row<'_>) -> Result<(), RowError> {
-    let octets = row.octets()?;
+    let octets = row.octets();
     let mut sink = SteadySink::new(Vec::new(row.alloc()));
-    row.debug(&write_all(&mut sink, &octets))?;
+    row.debug(&write_all(&mut sink, &octets));
     match sink.written() {
         Some(octets) => row.hexadecimal(octets),
         None => row.say("lost"),
     }
+    Ok(())
 }

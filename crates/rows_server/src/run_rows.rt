@@ -37,53 +37,57 @@ fn sink(alloc: Global, number: Option<u64>) -> Result<MemorySink, RowError> {
 
 /// How the run of a script ends, and what it writes.
 fn replay(row: &mut Row<'_>) -> Result<(), RowError> {
-    let mut source = MemorySource::new(next_text(row)?, Vec::new(row.alloc()), 40);
+    let mut source = MemorySource::new(next_text(row), Vec::new(row.alloc()), 40);
     let mut sink = sink(row.alloc(), None)?;
     let words = words(row.alloc(), "replay")?;
-    row.debug(&run(row.alloc(), &words, &mut source, &mut sink))?;
-    say_text(row, sink.written())
+    row.debug(&run(row.alloc(), &words, &mut source, &mut sink));
+    say_text(row, sink.written());
+    Ok(())
 }
 
 /// How the run of a word ends where one read and one write fail, or none, whether anything was read, and what it writes.
 fn with_faults(row: &mut Row<'_>) -> Result<(), RowError> {
-    let words = words(row.alloc(), row.word()?)?;
-    let read = failing(row.alloc(), row.optional()?)?;
-    let mut sink = sink(row.alloc(), row.optional()?)?;
-    let mut source = MemorySource::new(next_text(row)?, read, 40);
+    let words = words(row.alloc(), row.word())?;
+    let read = failing(row.alloc(), row.optional())?;
+    let mut sink = sink(row.alloc(), row.optional())?;
+    let mut source = MemorySource::new(next_text(row), read, 40);
     let size = source.left().len();
-    row.debug(&run(row.alloc(), &words, &mut source, &mut sink))?;
+    row.debug(&run(row.alloc(), &words, &mut source, &mut sink));
     row.say(if source.left().len() == size {
         "untouched"
     } else {
         "read"
-    })?;
-    say_text(row, sink.written())
+    });
+    say_text(row, sink.written());
+    Ok(())
 }
 
 /// How the run of a word ends over octets without an end, and what it writes.
 fn endless(row: &mut Row<'_>) -> Result<(), RowError> {
-    let words = words(row.alloc(), row.word()?)?;
+    let words = words(row.alloc(), row.word())?;
     let mut source = Reading::new(io::repeat(0));
     let mut sink = sink(row.alloc(), None)?;
-    row.debug(&run(row.alloc(), &words, &mut source, &mut sink))?;
-    say_text(row, sink.written())
+    row.debug(&run(row.alloc(), &words, &mut source, &mut sink));
+    say_text(row, sink.written());
+    Ok(())
 }
 
 /// How many rules and events a script has, or its first bad line.
 fn read_text(row: &mut Row<'_>) -> Result<(), RowError> {
-    let script = next_text(row)?;
+    let script = next_text(row);
     if script.len() >= 67_108_864 {
         return Err(RowError::OutOfForm);
     }
     match read_script(row.alloc(), &script) {
         Ok(script) => {
-            row.show(&script.rules().len())?;
-            row.show(&script.events().len())
+            row.show(&script.rules().len());
+            row.show(&script.events().len());
         }
         Err(ScriptError::Refused { line, .. }) => {
-            row.say("refused")?;
-            row.show(&line)
+            row.say("refused");
+            row.show(&line);
         }
-        Err(ScriptError::OutOfMemory) => Err(RowError::OutOfMemory),
+        Err(ScriptError::OutOfMemory) => row.fail(RowError::OutOfMemory),
     }
+    Ok(())
 }

@@ -39,12 +39,12 @@ pub(crate) fn rules(alloc: Global, rcode: u8) -> Result<Rules, RowError> {
 
 /// A service of one rule, with the response code of the next word.
 fn service(row: &mut Row<'_>) -> Result<ScriptService, RowError> {
-    Ok(ScriptService::new(rules(row.alloc(), row.number()?)?))
+    Ok(ScriptService::new(rules(row.alloc(), row.number())?))
 }
 
 /// A request in a datagram, with the message of the next word.
 fn request(row: &mut Row<'_>) -> Result<Request<()>, RowError> {
-    let message = Message::from_octets(row.octets()?).or(Err(RowError::OutOfForm))?;
+    let message = Message::from_octets(row.octets()).or(Err(RowError::OutOfForm))?;
     let transport = TransportSpecificContext::Udp(UdpTransportContext::new(None));
     let ip = IpAddr::V4([192, 0, 2, 1]);
     let sender = SocketAddr { ip, port: 5353 };
@@ -58,8 +58,9 @@ fn played(row: &mut Row<'_>) -> Result<(), RowError> {
     let mut future = service.call(row.alloc(), &mut request)?;
     match future.poll(row.alloc())? {
         Polled::Ready(mut stream) => three_polls(row, &mut stream),
-        Polled::Pending => Err(RowError::Missing),
+        Polled::Pending => row.fail(RowError::Missing),
     }
+    Ok(())
 }
 
 /// What the same request gives at three polls, as a client's core keeps it.
@@ -68,32 +69,41 @@ fn polled(row: &mut Row<'_>) -> Result<(), RowError> {
     let mut request = request(row)?;
     let mut polled = PolledRequest::Called(service.call(row.alloc(), &mut request)?);
     for _ in 0..3 {
-        poll_said(row, polled.poll_next(row.alloc()))?;
+        poll_said(row, polled.poll_next(row.alloc()));
     }
     Ok(())
 }
 
-fn three_polls<S: ReplyStream>(row: &mut Row<'_>, stream: &mut S) -> Result<(), RowError> {
+fn three_polls<S: ReplyStream>(row: &mut Row<'_>, stream: &mut S) {
     for _ in 0..3 {
-        poll_said(row, stream.poll_next(row.alloc()))?;
+        poll_said(row, stream.poll_next(row.alloc()));
     }
-    Ok(())
 }
 
 /// `pending`, the reply or the error of an item, or `end`.
-fn poll_said(
-    row: &mut Row<'_>,
-    answer: Result<Polled<Option<ServiceResult>>, OutOfMemory>,
-) -> Result<(), RowError> {
-    match answer? {
-        Polled::Ready(None) => row.say("end"),
-        Polled::Pending => row.say("pending"),
-        Polled::Ready(Some(Ok(given))) => reply_said(row, &given),
-        Polled::Ready(Some(Err(error))) => row.debug(&error),
+fn poll_said(row: &mut Row<'_>, answer: Result<Polled<Option<ServiceResult>>, OutOfMemory>) {
+    match answer {
+        Ok(Polled::Ready(item)) => end_said(row, item),
+        Ok(Polled::Pending) => row.say("pending"),
+        Err(OutOfMemory) => row.fail(RowError::OutOfMemory),
     }
 }
 
-fn reply_said(row: &mut Row<'_>, given: &CallResult) -> Result<(), RowError> {
+fn end_said(row: &mut Row<'_>, item: Option<ServiceResult>) {
+    match item {
+        Some(item) => item_said(row, item),
+        None => row.say("end"),
+    }
+}
+
+fn item_said(row: &mut Row<'_>, item: ServiceResult) {
+    match item {
+        Ok(given) => reply_said(row, &given),
+        Err(error) => row.debug(&error),
+    }
+}
+
+fn reply_said(row: &mut Row<'_>, given: &CallResult) {
     match given.response() {
         Some(reply) => row.hexadecimal(reply.as_slice()),
         None => row.say("nothing"),
@@ -114,4 +124,5 @@ fn verdict<N: Notifiable>(row: &mut Row<'_>, target: &N) -> Result<(), RowError>
         Polled::Ready(verdict) => row.debug(&verdict),
         Polled::Pending => row.say("pending"),
     }
+    Ok(())
 }

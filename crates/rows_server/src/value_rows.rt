@@ -13,10 +13,10 @@ pub(crate) struct ValueRows;
 
 impl Calls for ValueRows {
     fn answer(&self, call: &str, row: &mut Row<'_>) -> Result<(), RowError> {
-        let text = next_text(row)?;
+        let text = next_text(row);
         match call {
             "split_line" => line_and_rest(row, &text),
-            "says_nothing" => skipped(row, &text),
+            "says_nothing" => skipped(row, &text)?,
             "words" => words_said(row, &Words::of(row.alloc(), &text)?),
             "parts" => words_said(row, &Words::parts(row.alloc(), &text, b'.')?),
             "octets" => octets_said(row, &text),
@@ -25,53 +25,51 @@ impl Calls for ValueRows {
             "num" => value(row, num(&text)),
             "port" => value(row, port(&text)),
             "yes_no" => value(row, yes_no(&text)),
-            _ => Err(RowError::NoSuchCall),
+            _ => return Err(RowError::NoSuchCall),
         }
+        Ok(())
     }
 }
 
 /// The first line and the rest, each in brackets.
-fn line_and_rest(row: &mut Row<'_>, text: &[u8]) -> Result<(), RowError> {
+fn line_and_rest(row: &mut Row<'_>, text: &[u8]) {
     if text.is_empty() {
-        return Err(RowError::Missing);
+        return row.fail(RowError::Missing);
     }
     let (line, rest) = split_line(text);
-    say_in_brackets(row, line)?;
-    row.close(" ")?;
-    say_in_brackets(row, rest)
+    say_in_brackets(row, line);
+    row.close(" ");
+    say_in_brackets(row, rest);
 }
 
 fn skipped(row: &mut Row<'_>, text: &[u8]) -> Result<(), RowError> {
     let words = Words::of(row.alloc(), text)?;
-    row.show(&says_nothing(&words))
-}
-
-/// The words, each in brackets.
-fn words_said(row: &mut Row<'_>, words: &Words<'_>) -> Result<(), RowError> {
-    for number in 0..words.len() {
-        say_in_brackets(row, words.word(number))?;
-    }
+    row.show(&says_nothing(&words));
     Ok(())
 }
 
-fn value<T: Display + Drop>(row: &mut Row<'_>, value: Result<T, Reason>) -> Result<(), RowError> {
+/// The words, each in brackets.
+fn words_said(row: &mut Row<'_>, words: &Words<'_>) {
+    for number in 0..words.len() {
+        say_in_brackets(row, words.word(number));
+    }
+}
+
+fn value<T: Display + Drop>(row: &mut Row<'_>, value: Result<T, Reason>) {
     match value {
         Ok(value) => row.show(&value),
         Err(_) => row.say("refused"),
     }
 }
 
-fn line_value<T: Display + Drop>(
-    row: &mut Row<'_>,
-    value: Result<T, LineError>,
-) -> Result<(), RowError> {
+fn line_value<T: Display + Drop>(row: &mut Row<'_>, value: Result<T, LineError>) {
     match value {
         Ok(value) => row.show(&value),
         Err(error) => refused(row, error),
     }
 }
 
-fn octets_said(row: &mut Row<'_>, word: &[u8]) -> Result<(), RowError> {
+fn octets_said(row: &mut Row<'_>, word: &[u8]) {
     match octets(row.alloc(), word) {
         Ok(octets) => row.hexadecimal(octets.as_slice()),
         Err(error) => refused(row, error),
