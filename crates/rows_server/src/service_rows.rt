@@ -83,16 +83,16 @@ fn three_polls<S: ReplyStream>(row: &mut Row<'_>, stream: &mut S) {
 /// `pending`, the reply or the error of an item, or `end`.
 fn poll_said(row: &mut Row<'_>, answer: Result<Polled<Option<ServiceResult>>, OutOfMemory>) {
     match answer {
-        Ok(Polled::Ready(item)) => end_said(row, item),
-        Ok(Polled::Pending) => row.say("pending"),
+        Ok(polled) => polled_said(row, polled),
         Err(OutOfMemory) => row.fail(RowError::OutOfMemory),
     }
 }
 
-fn end_said(row: &mut Row<'_>, item: Option<ServiceResult>) {
-    match item {
-        Some(item) => item_said(row, item),
-        None => row.say("end"),
+fn polled_said(row: &mut Row<'_>, polled: Polled<Option<ServiceResult>>) {
+    match polled {
+        Polled::Ready(Some(item)) => item_said(row, item),
+        Polled::Ready(None) => row.say("end"),
+        Polled::Pending => row.say("pending"),
     }
 }
 
