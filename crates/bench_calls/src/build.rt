@@ -4,9 +4,8 @@ ghost use Rattle.std.specs.Prelude.{◌≡◌};
 ghost use Rattle.dns_base.specs.Records.{IsLawful};
 
 use dns_base::{
-    AdditionalBuilder, AnswerBuilder, AuthorityBuilder, Header, Message, MessageBuilder,
-    OutOfMemory, ParseError, PushError, Question, QuestionBuilder, Record, RecordIter, Rtype,
-    StreamTarget,
+    AnswerBuilder, AuthorityBuilder, Header, Message, MessageBuilder, ParseError, Question,
+    QuestionBuilder, Record, RecordIter, Rtype, StreamTarget,
 };
 use dns_cookie::{Cookie, siphash24};
 use dns_name::ExtendedErrorCode;
@@ -31,14 +30,20 @@ impl Model for Held {
     ghost invariant = { λ h. IsLawful h.entry.rdata };
 }
 
+/// The records of the three sections, but for an OPT record.
+#[derive(Drop)]
+struct Records {
+    answer: Vec<Held>,
+    authority: Vec<Held>,
+    additional: Vec<Held>,
+}
+
 /// What the response is built of.
 #[derive(Drop)]
 pub struct Parts {
     header: Header,
     question: Question,
-    answer: Vec<Held>,
-    authority: Vec<Held>,
-    additional: Vec<Held>,
+    records: Records,
     cookie: Cookie,
 }
 
@@ -46,18 +51,23 @@ impl Parts {
     /// The parts of a message of one question with a cookie, without its options.
     pub fn of(alloc: Global, octets: &[u8]) -> Result<Parts, ParseError> {
         let message = Message::from_octets(Vec::from_slice(alloc, octets)?)?;
-        let Some(cookie) = cookie_of(&message) else {
-            return Err(ParseError::ShortInput);
-        };
+        let cookie = cookie_of(&message).ok_or(ParseError::ShortInput)?;
+        let question = question_of(alloc, &message)?;
         Ok(Parts {
             header: message.header(),
-            question: question_of(alloc, &message)?,
-            answer: all_held(alloc, message.answer()?)?,
-            authority: all_held(alloc, message.authority()?)?,
-            additional: all_held(alloc, message.additional()?)?,
+            question,
+            records: records_of(alloc, &message)?,
             cookie,
         })
     }
+}
+
+fn records_of(alloc: Global, message: &Message) -> Result<Records, ParseError> {
+    Ok(Records {
+        answer: all_held(alloc, message.answer()?)?,
+        authority: all_held(alloc, message.authority()?)?,
+        additional: all_held(alloc, message.additional()?)?,
+    })
 }
 
 fn question_of(alloc: Global, message: &Message) -> Result<Question, ParseError> {
@@ -100,14 +110,34 @@ pub fn built(alloc: Global, parts: &Parts, count: u64) -> Result<u64, BuildDataE
 
 /// The response of these parts, of at most 512 octets.
 fn response(alloc: Global, parts: &Parts, id: u16) -> Result<StreamTarget, BuildDataError> {
-    let mut builder = asked(alloc, parts, id)?.answer();
-    push_answer(alloc, &mut builder, parts.answer.as_slice())?;
-    let mut builder = builder.authority();
-    push_authority(alloc, &mut builder, parts.authority.as_slice())?;
-    let mut builder = builder.additional();
-    push_additional(alloc, &mut builder, parts.additional.as_slice())?;
+    let mut builder = up_to_authority(alloc, parts, id)?.additional();
+    for held in &parts.records.additional {
+        builder.push(alloc, &held.entry)?;
+    }
     builder.opt(alloc, |opt| options(opt, alloc, parts.cookie))?;
     Ok(builder.finish())
+}
+
+/// The response up to its authority records.
+fn up_to_authority(
+    alloc: Global,
+    parts: &Parts,
+    id: u16,
+) -> Result<AuthorityBuilder, BuildDataError> {
+    let mut builder = up_to_answer(alloc, parts, id)?.authority();
+    for held in &parts.records.authority {
+        builder.push(alloc, &held.entry)?;
+    }
+    Ok(builder)
+}
+
+/// The response up to its answer records.
+fn up_to_answer(alloc: Global, parts: &Parts, id: u16) -> Result<AnswerBuilder, BuildDataError> {
+    let mut builder = asked(alloc, parts, id)?.answer();
+    for held in &parts.records.answer {
+        builder.push(alloc, &held.entry)?;
+    }
+    Ok(builder)
 }
 
 /// The header and the question.
@@ -118,35 +148,6 @@ fn asked(alloc: Global, parts: &Parts, id: u16) -> Result<QuestionBuilder, Build
     let mut builder = builder.question();
     builder.push(alloc, &parts.question)?;
     Ok(builder)
-}
-
-fn push_answer(alloc: Global, builder: &mut AnswerBuilder, all: &[Held]) -> Result<(), PushError> {
-    for held in all {
-        builder.push(alloc, &held.entry)?;
-    }
-    Ok(())
-}
-
-fn push_authority(
-    alloc: Global,
-    builder: &mut AuthorityBuilder,
-    all: &[Held],
-) -> Result<(), PushError> {
-    for held in all {
-        builder.push(alloc, &held.entry)?;
-    }
-    Ok(())
-}
-
-fn push_additional(
-    alloc: Global,
-    builder: &mut AdditionalBuilder,
-    all: &[Held],
-) -> Result<(), PushError> {
-    for held in all {
-        builder.push(alloc, &held.entry)?;
-    }
-    Ok(())
 }
 
 /// The head and the five options.

@@ -3,9 +3,10 @@
 ghost use Rattle.std.specs.Prelude.{◌≡◌, ◌≤◌, None, Some, Ok, length};
 ghost use Rattle.std.specs.Result.{ForOk};
 
+use crate::work::WorkError;
 use dns_base::{
     AdditionalBuilder, AnswerBuilder, Class, Message, MessageBuilder, Name, OutOfMemory,
-    ParseError, PushError, Record, RecordData, Ttl,
+    ParseError, Record, RecordData, Ttl,
 };
 use dns_middleware::{EdnsMiddlewareSvc, MandatoryMiddlewareSvc};
 use dns_name::{IpAddr, Rcode, SocketAddr};
@@ -14,7 +15,6 @@ use dns_service::{
     TransportSpecificContext, UdpTransportContext, service_fn,
 };
 use std::alloc::Global;
-use thiserror::Error;
 
 /// The query for the root's address, with RD and an OPT record of size 1232.
 const QUERY: [u8; 28] =
@@ -23,37 +23,6 @@ const QUERY: [u8; 28] =
 /// The same without the OPT record.
 const BARE_QUERY: [u8; 17] =
     *b"\x12\x34\x01\x00\x00\x01\x00\x00\x00\x00\x00\x00\x00\x00\x01\x00\x01";
-
-/// Why a query got no reply.
-#[derive(Clone, Copy, Debug, PartialEq, Eq, Error)]
-pub enum QueryError {
-    #[error("the query is not read: {0}")]
-    Parse(ParseError),
-    #[error("the answer is not built: {0}")]
-    Push(PushError),
-    #[error("out of memory")]
-    OutOfMemory,
-    #[error("the service gives no reply, or more than one")]
-    Service,
-}
-
-impl From<ParseError> for QueryError {
-    fn from(error: ParseError) -> QueryError {
-        QueryError::Parse(error)
-    }
-}
-
-impl From<PushError> for QueryError {
-    fn from(error: PushError) -> QueryError {
-        QueryError::Push(error)
-    }
-}
-
-impl From<OutOfMemory> for QueryError {
-    fn from(_error: OutOfMemory) -> QueryError {
-        QueryError::OutOfMemory
-    }
-}
 
 /// The reply that stands beside the closure, to any request.
 struct Same {}
@@ -74,22 +43,22 @@ fn given(
 }
 
 /// The sum of the replies to so many queries of a service that answers at once.
-pub fn plain_replies(alloc: Global, count: u64) -> Result<u64, QueryError> {
+pub fn plain_replies(alloc: Global, count: u64) -> Result<u64, WorkError> {
     let service = service_fn::<Same, _, AdditionalBuilder>(given, answer(alloc)?);
     replies(alloc, &service, &mut QUERY, count)
 }
 
 /// The sum of the replies to so many queries of that service within the EDNS layer within the mandatory one.
-pub fn layered_replies(alloc: Global, count: u64) -> Result<u64, QueryError> {
+pub fn layered_replies(alloc: Global, count: u64) -> Result<u64, WorkError> {
     through_layers(alloc, &mut QUERY, count)
 }
 
 /// The same for queries without an OPT record.
-pub fn bare_replies(alloc: Global, count: u64) -> Result<u64, QueryError> {
+pub fn bare_replies(alloc: Global, count: u64) -> Result<u64, WorkError> {
     through_layers(alloc, &mut BARE_QUERY, count)
 }
 
-fn through_layers(alloc: Global, query: &mut [u8], count: u64) -> Result<u64, QueryError>
+fn through_layers(alloc: Global, query: &mut [u8], count: u64) -> Result<u64, WorkError>
     requires { 2 ≤ length query.old }
 {
     let service = service_fn::<Same, _, AdditionalBuilder>(given, answer(alloc)?);
@@ -102,22 +71,27 @@ fn within_mandatory<S: Service<()>>(
     service: S,
     query: &mut [u8],
     count: u64,
-) -> Result<u64, QueryError>
+) -> Result<u64, WorkError>
     requires can_call { S.can_call service }
     requires identifier { 2 ≤ length query.old }
 {
     replies(alloc, &MandatoryMiddlewareSvc::new(service), query, count)
 }
 
-/// The answer of one address.
-fn answer(alloc: Global) -> Result<AdditionalBuilder, QueryError> {
+/// The answer without a record.
+fn started(alloc: Global) -> Result<AnswerBuilder, WorkError> {
     let query = message(alloc, &QUERY)?;
-    let mut answer = MessageBuilder::new(alloc)?.start_answer(alloc, &query, Rcode::NOERROR)?;
+    Ok(MessageBuilder::new(alloc)?.start_answer(alloc, &query, Rcode::NOERROR)?)
+}
+
+/// The answer of one address.
+fn answer(alloc: Global) -> Result<AdditionalBuilder, WorkError> {
+    let mut answer = started(alloc)?;
     push_address(alloc, &mut answer)?;
     Ok(answer.additional())
 }
 
-fn push_address(alloc: Global, answer: &mut AnswerBuilder) -> Result<(), QueryError> {
+fn push_address(alloc: Global, answer: &mut AnswerBuilder) -> Result<(), WorkError> {
     let record = Record {
         owner: Name::root(alloc)?,
         class: Class::IN,
@@ -133,7 +107,7 @@ fn replies<S: Service<()>>(
     service: &S,
     query: &mut [u8],
     count: u64,
-) -> Result<u64, QueryError>
+) -> Result<u64, WorkError>
     requires can_call { S.can_call service.now }
     requires identifier { 2 ≤ length query.old }
 {
@@ -167,25 +141,25 @@ fn reply_sum<S: Service<()>>(
     alloc: Global,
     service: &S,
     request: &mut Request<()>,
-) -> Result<u64, QueryError>
+) -> Result<u64, WorkError>
     requires { S.can_call service.now }
 {
     let mut future = service.call(alloc, request)?;
     match future.poll(alloc)? {
         Polled::Ready(mut stream) => stream_sum(alloc, &mut stream),
-        Polled::Pending => Err(QueryError::Service),
+        Polled::Pending => Err(WorkError::Service),
     }
 }
 
 /// The sum of the octets of a stream's one reply.
-fn stream_sum<R: ReplyStream>(alloc: Global, stream: &mut R) -> Result<u64, QueryError> {
+fn stream_sum<R: ReplyStream>(alloc: Global, stream: &mut R) -> Result<u64, WorkError> {
     let sum = match stream.poll_next(alloc)? {
         Polled::Ready(Some(Ok(item))) => item_sum(&item),
         _ => None,
     };
     match (sum, stream.poll_next(alloc)?) {
         (Some(sum), Polled::Ready(None)) => Ok(sum),
-        _ => Err(QueryError::Service),
+        _ => Err(WorkError::Service),
     }
 }
 

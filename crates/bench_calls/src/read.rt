@@ -2,7 +2,7 @@
 
 ghost use Rattle.std.specs.Prelude.{◌≤◌, length};
 
-use dns_base::{MessageRef, ParseError, RecordIter, Rtype};
+use dns_base::{MessageRef, ParseError, QuestionIter, RecordIter, Rtype};
 use dns_opt::{AllOptData, ComposeOptData, OptData, OptRef};
 
 /// The sum of so many readings of a message, whose identifier is another each time.
@@ -24,14 +24,21 @@ fn reading(octets: &[u8]) -> Result<u64, ParseError> {
     let header = message.header();
     let mut sum = u64::from(header.id) + u64::from(header.rcode.to_int());
     let (questions, answer, authority, additional) = message.sections()?;
+    sum = sum.wrapping_add(asked(questions)?);
+    sum = sum.wrapping_add(records(answer)?);
+    sum = sum.wrapping_add(records(authority)?);
+    Ok(sum.wrapping_add(records(additional)?))
+}
+
+/// The sum of the numbers of a message's questions.
+fn asked(questions: QuestionIter<'_>) -> Result<u64, ParseError> {
+    let mut sum = 0u64;
     for question in questions {
         let question = question?;
         sum = sum.wrapping_add(u64::from(question.qtype().to_int()));
         sum = sum.wrapping_add(u64::from(question.qclass().to_int()));
     }
-    sum = sum.wrapping_add(records(answer)?);
-    sum = sum.wrapping_add(records(authority)?);
-    Ok(sum.wrapping_add(records(additional)?))
+    Ok(sum)
 }
 
 /// The sum of the numbers of a section's records, and of the options of an OPT record.

@@ -2,17 +2,16 @@
 
 use crate::build::{Parts, built};
 use crate::hash::{checks, hash_chain};
-use crate::layers::{QueryError, bare_replies, layered_replies, plain_replies};
+use crate::layers::{bare_replies, layered_replies, plain_replies};
 use crate::read::readings;
 use crate::response::RESPONSE;
 use dns_base::PushError;
-use dns_cookie::siphash24;
-use dns_name::{BuildDataError, LongOptData, OutOfMemory, ParseError};
-use std::alloc::{AllocError, AllocFailed, Global};
+use dns_name::{BuildDataError, OutOfMemory, ParseError};
+use std::alloc::Global;
 use thiserror::Error;
 
 /// What is done many times over.
-#[derive(Clone, Copy, Debug, PartialEq, Eq)]
+#[derive(Clone, Copy)]
 pub enum Work {
     /// A hash of 20 octets.
     Sip20,
@@ -50,14 +49,14 @@ impl Work {
 }
 
 /// Why work was not done.
-#[derive(Clone, Copy, Debug, PartialEq, Eq, Error)]
+#[derive(Clone, Copy, Debug, Error)]
 pub enum WorkError {
-    #[error("the response is not read: {0}")]
+    #[error("a message is not read: {0}")]
     Parse(ParseError),
-    #[error("the response is not built: {0}")]
+    #[error("a message is not built: {0}")]
     Build(BuildDataError),
-    #[error("{0}")]
-    Query(QueryError),
+    #[error("the service gives no reply, or more than one")]
+    Service,
 }
 
 impl From<ParseError> for WorkError {
@@ -72,9 +71,15 @@ impl From<BuildDataError> for WorkError {
     }
 }
 
-impl From<QueryError> for WorkError {
-    fn from(error: QueryError) -> WorkError {
-        WorkError::Query(error)
+impl From<PushError> for WorkError {
+    fn from(error: PushError) -> WorkError {
+        WorkError::Build(error.into())
+    }
+}
+
+impl From<OutOfMemory> for WorkError {
+    fn from(error: OutOfMemory) -> WorkError {
+        WorkError::Build(error.into())
     }
 }
 
@@ -84,16 +89,22 @@ pub fn done(alloc: Global, work: Work, count: u64) -> Result<u64, WorkError> {
         Work::Sip20 => Ok(hash_chain(&mut [0; 20], count)),
         Work::Sip64 => Ok(hash_chain(&mut [0; 64], count)),
         Work::Check => Ok(checks(count)),
-        Work::Read => {
-            let mut octets = Vec::from_slice(alloc, RESPONSE).map_err(|_| ParseError::OutOfMemory)?;
-            Ok(readings(octets.as_mut_slice(), count)?)
-        }
-        Work::Build => {
-            let parts = Parts::of(alloc, RESPONSE)?;
-            Ok(built(alloc, &parts, count)?)
-        }
-        Work::Plain => Ok(plain_replies(alloc, count)?),
-        Work::Layers => Ok(layered_replies(alloc, count)?),
-        Work::Bare => Ok(bare_replies(alloc, count)?),
+        Work::Read => read_often(alloc, count),
+        Work::Build => build_often(alloc, count),
+        Work::Plain => plain_replies(alloc, count),
+        Work::Layers => layered_replies(alloc, count),
+        Work::Bare => bare_replies(alloc, count),
     }
+}
+
+/// Reads the response so many times.
+fn read_often(alloc: Global, count: u64) -> Result<u64, WorkError> {
+    let mut octets = Vec::from_slice(alloc, RESPONSE).map_err(|_| ParseError::OutOfMemory)?;
+    Ok(readings(octets.as_mut_slice(), count)?)
+}
+
+/// Builds the response so many times.
+fn build_often(alloc: Global, count: u64) -> Result<u64, WorkError> {
+    let parts = Parts::of(alloc, RESPONSE)?;
+    Ok(built(alloc, &parts, count)?)
 }

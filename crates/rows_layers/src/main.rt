@@ -13,47 +13,23 @@ mod slow;
 mod stream_rows;
 mod words;
 
-use rows_table::{Arguments, Calls, RowError};
-use std::alloc::Global;
+use error_rows::ErrorRows;
+use layer_rows::LayerRows;
+use reply_rows::ReplyRows;
+use request_rows::RequestRows;
+use route_rows::RouteRows;
+use rows_table::run;
+use service_rows::ServiceRows;
 use std::io;
 use std::process::ExitCode;
-
-/// The calls of dns_service, dns_stream, dns_middleware and dns_route.
-struct Layers;
-
-impl Calls for Layers {
-    fn answer(
-        &self,
-        alloc: Global,
-        call: &str,
-        arguments: &mut Arguments<'_>,
-    ) -> Result<String, RowError> {
-        match call {
-            "request"
-            | "try_clone"
-            | "with_new_metadata"
-            | "reserve_bytes"
-            | "set_max_response_size_hint" => request_rows::answer(alloc, call, arguments),
-            "rcode" | "service_error" | "error" | "reply_error" => {
-                error_rows::answer(alloc, call, arguments)
-            }
-            "mk_builder_for_target"
-            | "mk_error_response"
-            | "reply"
-            | "reply_opt"
-            | "response_mut" => reply_rows::answer(alloc, call, arguments),
-            "served" | "arc" | "service_fn" | "once" => service_rows::answer(
-                alloc, call, arguments,
-            ),
-            "polls" | "sizes" => stream_rows::answer(alloc, call, arguments),
-            "request_message" | "reply_message" | "copied_message" => {
-                route_rows::answer(alloc, call, arguments)
-            }
-            _ => layer_rows::answer(alloc, call, arguments),
-        }
-    }
-}
+use stream_rows::StreamRows;
 
 fn main(rt: HostRuntime) -> io::Result<ExitCode> {
-    rows_table::run(&rt, &Layers)
+    run(
+        &rt,
+        &(
+            ((RequestRows, ServiceRows), (ErrorRows, ReplyRows)),
+            ((StreamRows, RouteRows), LayerRows),
+        ),
+    )
 }

@@ -3,7 +3,7 @@
 ghost use Rattle.std.specs.Prelude.{IfSome};
 ghost use Rattle.dns_base.specs.Records.{IsLawful};
 
-use crate::words::{given, message, opt_rcode, reply_text};
+use crate::words::{message, opt_rcode};
 use dns_base::{AdditionalBuilder, Record, RecordData};
 use dns_name::{BuildDataError, Class, Name, OptRcode, Ttl};
 use dns_opt::{AllOptData, BuildOpt, MessageOpt, NsidRef, OptBuilder, OptRecordRef};
@@ -11,132 +11,157 @@ use dns_service::{
     CallResult, add_edns_option, add_edns_options, mk_builder_for_target, mk_error_response,
     remove_edns_opt_record,
 };
-use rows_table::{Arguments, RowError, hexadecimal};
+use rows_table::{Calls, Row, RowError};
 use std::alloc::Global;
 
-/// Says what a call of this name gives.
-pub(crate) fn answer(
-    alloc: Global,
-    call: &str,
-    arguments: &mut Arguments<'_>,
-) -> Result<String, RowError> {
-    match call {
-        "mk_builder_for_target" => empty(alloc),
-        "mk_error_response" => error_response(alloc, arguments),
-        "response_mut" => response_mut(alloc, arguments),
-        _ => stepped(alloc, call, arguments.word()?),
+/// Replies.
+pub(crate) struct ReplyRows;
+
+impl Calls for ReplyRows {
+    fn answer(&self, call: &str, row: &mut Row<'_>) -> Result<(), RowError> {
+        match call {
+            "mk_builder_for_target" => empty(row),
+            "mk_error_response" => error_response(row),
+            "response_mut" => response_mut(row),
+            "reply" => reply(row),
+            "reply_opt" => reply_opt(row),
+            _ => Err(RowError::NoSuchCall),
+        }
     }
 }
 
-fn empty(alloc: Global) -> Result<String, RowError> {
-    let builder = given(mk_builder_for_target(alloc))?;
-    hexadecimal(alloc, builder.as_slice())
+fn empty(row: &mut Row<'_>) -> Result<(), RowError> {
+    let builder = mk_builder_for_target(row.alloc())?;
+    row.hexadecimal(builder.as_slice());
+    Ok(())
 }
 
 /// The error reply to a message with a response code.
-fn error_reply(
-    alloc: Global,
-    arguments: &mut Arguments<'_>,
-) -> Result<AdditionalBuilder, RowError> {
-    let query = message(arguments.octets(alloc)?)?;
-    let rcode = opt_rcode(arguments.number()?)?;
-    given(mk_error_response(alloc, &query, rcode))
+fn error_reply(row: &mut Row<'_>) -> Result<AdditionalBuilder, RowError> {
+    let query = message(row.octets())?;
+    let rcode = opt_rcode(row.number())?;
+    Ok(mk_error_response(row.alloc(), &query, rcode)?)
 }
 
 /// Its push limit and its octets.
-fn error_response(alloc: Global, arguments: &mut Arguments<'_>) -> Result<String, RowError> {
-    let reply = error_reply(alloc, arguments)?;
-    let octets = reply_text(alloc, &reply)?;
-    Ok(format!(in alloc; "{} {octets}", reply.push_limit())?)
+fn error_response(row: &mut Row<'_>) -> Result<(), RowError> {
+    let reply = error_reply(row)?;
+    row.show(&reply.push_limit());
+    row.hexadecimal(reply.as_slice());
+    Ok(())
 }
 
 /// The error reply as a call's result holds it after steps: its octets.
-fn response_mut(alloc: Global, arguments: &mut Arguments<'_>) -> Result<String, RowError> {
-    let mut result = CallResult::new(error_reply(alloc, arguments)?);
-    let steps = arguments.word()?;
-    let refusals = match result.response_mut() {
-        Some(reply) => after_steps(alloc, reply, steps)?,
-        None => return Err(RowError::Missing),
-    };
+fn response_mut(row: &mut Row<'_>) -> Result<(), RowError> {
+    let mut result = CallResult::new(error_reply(row)?);
+    match result.response_mut() {
+        Some(reply) => steps_taken(row, reply),
+        None => row.fail(RowError::Missing),
+    }
     match result.response() {
-        Some(reply) => with_octets(alloc, &refusals, reply),
-        None => Err(RowError::Missing),
+        Some(reply) => row.hexadecimal(reply.as_slice()),
+        None => row.fail(RowError::Missing),
     }
+    Ok(())
 }
 
-/// The empty message after steps: the refusals of these and its octets, or what its OPT record says.
-fn stepped(alloc: Global, call: &str, steps: &str) -> Result<String, RowError> {
-    let mut reply = given(mk_builder_for_target(alloc))?.additional();
-    let refusals = after_steps(alloc, &mut reply, steps)?;
-    match call {
-        "reply" => with_octets(alloc, &refusals, &reply),
-        _ => opt_text(alloc, &reply),
+/// The empty message after steps.
+fn stepped(row: &mut Row<'_>) -> Result<AdditionalBuilder, RowError> {
+    let mut reply = mk_builder_for_target(row.alloc())?.additional();
+    steps_taken(row, &mut reply);
+    Ok(reply)
+}
+
+/// The refusals of the steps, and the message's octets.
+fn reply(row: &mut Row<'_>) -> Result<(), RowError> {
+    let reply = stepped(row)?;
+    row.hexadecimal(reply.as_slice());
+    Ok(())
+}
+
+/// What the message's OPT record says after steps: how many additional records there are, the header's response code,
+/// the whole response code, the size, how many octets of options there are, and how many options are read.
+fn reply_opt(row: &mut Row<'_>) -> Result<(), RowError> {
+    let reply = stepped(row)?;
+    let written = reply.as_message();
+    match written.opt() {
+        Some(opt) => opt_said(row, &reply, &opt),
+        None => row.say("none"),
     }
+    Ok(())
 }
 
-fn with_octets(
-    alloc: Global,
-    refusals: &str,
-    reply: &AdditionalBuilder,
-) -> Result<String, RowError> {
-    let octets = reply_text(alloc, reply)?;
-    Ok(format!(in alloc; "{refusals}{octets}")?)
+fn opt_said(row: &mut Row<'_>, reply: &AdditionalBuilder, opt: &OptRecordRef<'_>) {
+    let header = reply.header();
+    row.show(&reply.counts().arcount);
+    row.show(&header.rcode.to_int());
+    row.show(&opt.rcode(header).to_int());
+    row.show(&opt.udp_payload_size());
+    row.show(&opt.opt().len());
+    row.show(&readable(opt))
 }
 
-/// Takes steps, which commas part, and gives the refusals, each with a space behind it.
-fn after_steps(
-    alloc: Global,
-    reply: &mut AdditionalBuilder,
-    steps: &str,
-) -> Result<String, RowError> {
-    let mut refusals = String::new(alloc);
-    for step in steps.split(',') {
-        if let Err(error) = step_taken(alloc, reply, step)? {
-            refusals.push_str(format!(in alloc; "{error:?} ")?.as_str())?;
+/// How many options of any kind a record has that are read.
+fn readable(opt: &OptRecordRef<'_>) -> usize {
+    let mut many = 0usize;
+    for item in opt.opt().iter::<AllOptData>() {
+        if item.is_ok() {
+            many = many.saturating_add(1);
         }
     }
-    Ok(refusals)
+    many
 }
 
-/// One step: its name and, behind a colon, its number or octets.
+/// Takes the steps of the next word, which commas part, and says the refusals.
+fn steps_taken(row: &mut Row<'_>, reply: &mut AdditionalBuilder) {
+    for step in row.word().split(',') {
+        let (name, argument) = step.split_once(':').unwrap_or((step, "0"));
+        if let Err(error) = step_taken(row, reply, name, argument) {
+            row.debug(&error);
+        }
+    }
+}
+
+/// A step: an NSID or an address that is added, the OPT record that is removed, or one with a number.
 fn step_taken(
-    alloc: Global,
+    row: &mut Row<'_>,
     reply: &mut AdditionalBuilder,
-    step: &str,
-) -> Result<Result<(), BuildDataError>, RowError> {
-    let (name, argument) = step.split_once(':').unwrap_or((step, "0"));
+    name: &str,
+    argument: &str,
+) -> Result<(), BuildDataError> {
     match name {
-        "nsid" => option_added(alloc, reply, argument),
-        "address" => Ok(address_pushed(alloc, reply)),
-        "remove" => removed(alloc, reply),
-        _ => match argument.parse::<u16>() {
-            Ok(number) => number_step(alloc, reply, name, number),
-            Err(_) => Err(RowError::OutOfForm),
-        },
+        "nsid" => option_added(row, reply, argument),
+        "address" => address_pushed(row.alloc(), reply),
+        "remove" => Ok(remove_edns_opt_record(row.alloc(), reply)?),
+        _ => {
+            let number = row.number_of(argument);
+            number_step(row, reply, name, number)
+        }
     }
 }
 
 /// A step with a number: an OPT record of this size and with the code BADCOOKIE, an OPT record with padding, padding
 /// that is added, or a push limit.
 fn number_step(
-    alloc: Global,
+    row: &mut Row<'_>,
     reply: &mut AdditionalBuilder,
     name: &str,
     number: u16,
-) -> Result<Result<(), BuildDataError>, RowError> {
+) -> Result<(), BuildDataError> {
+    let alloc = row.alloc();
+    let padding = |opt: &mut OptBuilder| opt.padding(alloc, number);
     match name {
-        "opt" => Ok(reply.opt(alloc, |opt: &mut OptBuilder| sized(opt, number))),
-        "padding" => Ok(reply.opt(alloc, |opt: &mut OptBuilder| opt.padding(alloc, number))),
-        "add_padding" => Ok(add_edns_options(
-            alloc,
-            reply,
-            |opt: &mut OptBuilder| opt.padding(alloc, number),
-        )),
+        "opt" => reply.opt(alloc, |opt: &mut OptBuilder| sized(opt, number)),
+        "padding" => reply.opt(alloc, padding),
+        "add_padding" => add_edns_options(alloc, reply, padding),
         "limit" => {
             reply.set_push_limit(usize::from(number));
-            Ok(Ok(()))
+            Ok(())
         }
-        _ => Err(RowError::OutOfForm),
+        _ => {
+            row.fail(RowError::NoSuchStep);
+            Ok(())
+        }
     }
 }
 
@@ -150,23 +175,12 @@ fn sized(opt: &mut OptBuilder, size: u16) -> Result<(), BuildDataError> {
 }
 
 fn option_added(
-    alloc: Global,
+    row: &mut Row<'_>,
     reply: &mut AdditionalBuilder,
     octets: &str,
-) -> Result<Result<(), BuildDataError>, RowError> {
-    let octets = Arguments::of(octets).octets(alloc)?;
-    match NsidRef::from_slice(octets.as_slice()) {
-        Ok(identifier) => Ok(add_edns_option(alloc, reply, &identifier)),
-        Err(_) => Err(RowError::OutOfForm),
-    }
-}
-
-fn removed(
-    alloc: Global,
-    reply: &mut AdditionalBuilder,
-) -> Result<Result<(), BuildDataError>, RowError> {
-    given(remove_edns_opt_record(alloc, reply))?;
-    Ok(Ok(()))
+) -> Result<(), BuildDataError> {
+    let octets = row.octets_of(octets);
+    add_edns_option(row.alloc(), reply, &NsidRef::from_slice(&octets)?)
 }
 
 /// Pushes the root's address.
@@ -186,41 +200,4 @@ fn address(alloc: Global) -> Option<Record>
         ttl: Ttl::from_secs(5),
         rdata: RecordData::A([192, 0, 2, 1]),
     })
-}
-
-/// How many additional records a reply has, its header's response code and what its OPT record says.
-fn opt_text(alloc: Global, reply: &AdditionalBuilder) -> Result<String, RowError> {
-    let written = reply.as_message();
-    match written.opt() {
-        Some(opt) => record_text(alloc, reply, &opt),
-        None => Ok(String::from_str(alloc, "none")?),
-    }
-}
-
-fn record_text(
-    alloc: Global,
-    reply: &AdditionalBuilder,
-    opt: &OptRecordRef<'_>,
-) -> Result<String, RowError> {
-    let header = reply.header();
-    let records = reply.counts().arcount;
-    Ok(format!(in alloc;
-        "{records} {} {} {} {} {}",
-        header.rcode.to_int(),
-        opt.rcode(header).to_int(),
-        opt.udp_payload_size(),
-        opt.opt().len(),
-        readable(opt)
-    )?)
-}
-
-/// How many options of any kind a record has that are read.
-fn readable(opt: &OptRecordRef<'_>) -> usize {
-    let mut many = 0usize;
-    for item in opt.opt().iter::<AllOptData>() {
-        if item.is_ok() {
-            many = many.saturating_add(1);
-        }
-    }
-    many
 }

@@ -1,118 +1,103 @@
 //! Rows of requests.
 
-use crate::words::{given, message};
+use crate::words::message;
 use dns_name::{IpAddr, SocketAddr};
 use dns_service::{NonUdpTransportContext, Request, TransportSpecificContext, UdpTransportContext};
-use rows_table::{Arguments, RowError, hexadecimal};
-use std::alloc::Global;
+use rows_table::{Calls, Row, RowError};
 
-/// Says what a call of this name gives: a transport, a message and what the call takes.
-pub(crate) fn answer(
-    alloc: Global,
-    call: &str,
-    arguments: &mut Arguments<'_>,
-) -> Result<String, RowError> {
-    let mut request = request(alloc, arguments)?;
-    match call {
-        "request" => parts(alloc, &request),
-        "try_clone" => copy(alloc, &mut request, arguments),
-        "with_new_metadata" => other_metadata(alloc, request, arguments.number()?),
-        "reserve_bytes" => reserve(alloc, &mut request, arguments),
-        _ => other_hint(alloc, &mut request, arguments),
+/// Requests: a transport, a message and what the call takes.
+pub(crate) struct RequestRows;
+
+impl Calls for RequestRows {
+    fn answer(&self, call: &str, row: &mut Row<'_>) -> Result<(), RowError> {
+        match call {
+            "request" => parts(row),
+            "try_clone" => copy(row),
+            "with_new_metadata" => other_metadata(row),
+            "reserve_bytes" => reserve(row),
+            "set_max_response_size_hint" => other_hint(row),
+            _ => Err(RowError::NoSuchCall),
+        }
     }
 }
 
 /// A request from 192.0.2.1 and port 5353, at moment 5 and second 100: its transport, `udp` with a hint in octets or
 /// `stream` with an idle timeout in ms, and its message.
-pub(crate) fn request(
-    alloc: Global,
-    arguments: &mut Arguments<'_>,
-) -> Result<Request<()>, RowError> {
-    let transport = transport(arguments)?;
-    let message = message(arguments.octets(alloc)?)?;
-    let sender = SocketAddr {
-        ip: IpAddr::V4([192, 0, 2, 1]),
-        port: 5353,
-    };
-    given(Request::new(alloc, sender, 5, 100, message, transport, ()))
+pub(crate) fn request(row: &mut Row<'_>) -> Result<Request<()>, RowError> {
+    let transport = transport(row)?;
+    let message = message(row.octets())?;
+    let ip = IpAddr::V4([192, 0, 2, 1]);
+    let sender = SocketAddr { ip, port: 5353 };
+    Ok(Request::new(row.alloc(), sender, 5, 100, message, transport, ())?)
 }
 
-fn transport(arguments: &mut Arguments<'_>) -> Result<TransportSpecificContext, RowError> {
-    match arguments.word()? {
-        "udp" => Ok(TransportSpecificContext::Udp(UdpTransportContext::new(arguments.optional()?))),
+fn transport(row: &mut Row<'_>) -> Result<TransportSpecificContext, RowError> {
+    match row.word() {
+        "udp" => Ok(TransportSpecificContext::Udp(UdpTransportContext::new(row.optional()))),
         "stream" => Ok(TransportSpecificContext::NonUdp(NonUdpTransportContext::new(
-            arguments.optional()?,
+            row.optional(),
         ))),
         _ => Err(RowError::OutOfForm),
     }
 }
 
-/// The port, the moment, the second, the octets of the message and how many octets are reserved.
-fn parts(alloc: Global, request: &Request<()>) -> Result<String, RowError> {
-    let octets = hexadecimal(alloc, request.message().as_slice())?;
+/// The address, the port, the moment, the second, the octets of the message and how many octets are reserved.
+fn parts(row: &mut Row<'_>) -> Result<(), RowError> {
+    let request = request(row)?;
     let sender = request.client_addr();
-    Ok(format!(in alloc;
-        "{} {} {} {} {octets} {}",
-        sender.ip,
-        sender.port,
-        request.received_at(),
-        request.received_secs(),
-        request.num_reserved_bytes()
-    )?)
+    row.show(&sender.ip);
+    row.show(&sender.port);
+    row.show(&request.received_at());
+    row.show(&request.received_secs());
+    row.hexadecimal(request.message().as_slice());
+    row.show(&request.num_reserved_bytes());
+    Ok(())
 }
 
 /// Octets are reserved, and the copy gets other metadata: these, the copy's octets and how many it has reserved.
-fn copy(
-    alloc: Global,
-    request: &mut Request<()>,
-    arguments: &mut Arguments<'_>,
-) -> Result<String, RowError> {
-    request.reserve_bytes(arguments.number()?);
-    let copy = given(request.try_clone(alloc, arguments.number::<u8>()?))?;
-    let octets = hexadecimal(alloc, copy.message().as_slice())?;
-    let metadata = *copy.metadata();
-    Ok(format!(in alloc; "{metadata} {octets} {}", copy.num_reserved_bytes())?)
+fn copy(row: &mut Row<'_>) -> Result<(), RowError> {
+    let mut request = request(row)?;
+    request.reserve_bytes(row.number());
+    let copy = request.try_clone(row.alloc(), row.number::<u8>())?;
+    row.show(copy.metadata());
+    row.hexadecimal(copy.message().as_slice());
+    row.show(&copy.num_reserved_bytes());
+    Ok(())
 }
 
-fn other_metadata(alloc: Global, request: Request<()>, metadata: u8) -> Result<String, RowError> {
-    let request = request.with_new_metadata(metadata);
-    let metadata = *request.metadata();
-    Ok(format!(in alloc; "{metadata}")?)
+fn other_metadata(row: &mut Row<'_>) -> Result<(), RowError> {
+    let request = request(row)?;
+    let metadata = row.number::<u8>();
+    row.show(request.with_new_metadata(metadata).metadata());
+    Ok(())
 }
 
 /// How many octets are reserved in the end.
-fn reserve(
-    alloc: Global,
-    request: &mut Request<()>,
-    arguments: &mut Arguments<'_>,
-) -> Result<String, RowError> {
-    request.reserve_bytes(arguments.number()?);
-    request.reserve_bytes(arguments.number()?);
-    Ok(format!(in alloc; "{}", request.num_reserved_bytes())?)
+fn reserve(row: &mut Row<'_>) -> Result<(), RowError> {
+    let mut request = request(row)?;
+    request.reserve_bytes(row.number());
+    request.reserve_bytes(row.number());
+    row.show(&request.num_reserved_bytes());
+    Ok(())
 }
 
-fn other_hint(
-    alloc: Global,
-    request: &mut Request<()>,
-    arguments: &mut Arguments<'_>,
-) -> Result<String, RowError> {
+fn other_hint(row: &mut Row<'_>) -> Result<(), RowError> {
+    let mut request = request(row)?;
     if let TransportSpecificContext::Udp(udp) = request.transport_ctx_mut() {
-        udp.set_max_response_size_hint(arguments.optional()?);
+        udp.set_max_response_size_hint(row.optional());
     }
-    hint_text(alloc, request.transport_ctx())
+    hint_said(row, request.transport_ctx());
+    Ok(())
 }
 
 /// The hint of a transport, or `none`.
-pub(crate) fn hint_text(
-    alloc: Global,
-    transport: &TransportSpecificContext,
-) -> Result<String, RowError> {
+pub(crate) fn hint_said(row: &mut Row<'_>, transport: &TransportSpecificContext) {
     let hint = match transport {
         TransportSpecificContext::Udp(udp) => udp.max_response_size_hint(),
         TransportSpecificContext::NonUdp(_) => None,
     };
     match hint {
-        Some(hint) => Ok(format!(in alloc; "{hint}")?),
-        None => Ok(String::from_str(alloc, "none")?),
+        Some(hint) => row.show(&hint),
+        None => row.say("none"),
     }
 }

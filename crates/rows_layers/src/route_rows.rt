@@ -1,113 +1,102 @@
 //! Rows of messages that are composed of other ones.
 
 use crate::request_rows::request;
-use crate::words::{given, message, reply_text};
-use dns_base::{Message, MessageRef, PushError};
+use crate::words::message;
 use dns_opt::NsidRef;
 use dns_route::{ComposeReply, CopiedMessage, ReplyMessage, RequestMessage};
-use dns_service::ReplyError;
-use rows_table::{Arguments, RowError, hexadecimal};
-use std::alloc::Global;
+use rows_table::{Calls, Row, RowError};
 
-/// Says what a call of this name gives.
-pub(crate) fn answer(
-    alloc: Global,
-    call: &str,
-    arguments: &mut Arguments<'_>,
-) -> Result<String, RowError> {
-    match call {
-        "request_message" => request_message(alloc, arguments),
-        "reply_message" => reply_message(alloc, arguments),
-        _ => copied_message(alloc, &message(arguments.octets(alloc)?)?),
+/// Messages for routers.
+pub(crate) struct RouteRows;
+
+impl Calls for RouteRows {
+    fn answer(&self, call: &str, row: &mut Row<'_>) -> Result<(), RowError> {
+        match call {
+            "request_message" => request_message(row),
+            "reply_message" => reply_message(row),
+            "copied_message" => copied_message(row),
+            _ => Err(RowError::NoSuchCall),
+        }
     }
 }
 
 /// A request that is asked again after steps: whether DNSSEC records are wanted, and the octets that are sent.
-fn request_message(alloc: Global, arguments: &mut Arguments<'_>) -> Result<String, RowError> {
-    let request = request(alloc, arguments)?;
-    let steps = arguments.word()?;
-    match RequestMessage::try_from(alloc, &request) {
-        Ok(asked) => sent_text(alloc, asked, steps),
-        Err(error) => Ok(format!(in alloc; "{error:?}")?),
+fn request_message(row: &mut Row<'_>) -> Result<(), RowError> {
+    let request = request(row)?;
+    let steps = row.word();
+    match RequestMessage::try_from(row.alloc(), &request) {
+        Ok(asked) => sent(row, asked, steps),
+        Err(error) => row.debug(&error),
     }
+    Ok(())
 }
 
-fn sent_text(alloc: Global, asked: RequestMessage, steps: &str) -> Result<String, RowError> {
+fn sent(row: &mut Row<'_>, asked: RequestMessage, steps: &str) {
     let mut asked = asked;
     for step in steps.split(',') {
-        request_step(alloc, &mut asked, step)?;
+        request_step(row, &mut asked, step);
     }
-    match asked.to_message(alloc) {
-        Ok(sent) => with_flag(alloc, asked.dnssec_ok(), &sent),
-        Err(error) => Ok(format!(in alloc; "{error:?}")?),
+    match asked.to_message(row.alloc()) {
+        Ok(sent) => {
+            row.show(&asked.dnssec_ok());
+            row.hexadecimal(sent.as_slice());
+        }
+        Err(error) => row.debug(&error),
     }
-}
-
-fn with_flag(alloc: Global, dnssec_ok: bool, sent: &Message) -> Result<String, RowError> {
-    let octets = hexadecimal(alloc, sent.as_slice())?;
-    Ok(format!(in alloc; "{dnssec_ok} {octets}")?)
 }
 
 /// One step: `-` for none, `dnssec_ok:false`, or an NSID that is added.
-fn request_step(alloc: Global, asked: &mut RequestMessage, step: &str) -> Result<(), RowError> {
+fn request_step(row: &mut Row<'_>, asked: &mut RequestMessage, step: &str) {
     match step.split_once(':') {
-        None => Ok(()),
-        Some(("dnssec_ok", value)) => {
-            asked.set_dnssec_ok(value == "true");
-            Ok(())
-        }
+        None => {}
+        Some(("dnssec_ok", value)) => asked.set_dnssec_ok(value == "true"),
         Some((_, octets)) => {
-            let octets = Arguments::of(octets).octets(alloc)?;
-            let identifier = identifier(octets.as_slice())?;
-            asked
-                .add_opt(alloc, &identifier)
-                .or(Err(RowError::OutOfForm))
+            let octets = row.octets_of(octets);
+            match NsidRef::from_slice(&octets) {
+                Ok(identifier) => row.keep(asked.add_opt(row.alloc(), &identifier)),
+                Err(_) => row.fail(RowError::OutOfForm),
+            }
         }
-    }
-}
-
-fn identifier(octets: &[u8]) -> Result<NsidRef<'_>, RowError> {
-    match NsidRef::from_slice(octets) {
-        Ok(identifier) => Ok(identifier),
-        Err(_) => Err(RowError::OutOfForm),
     }
 }
 
 /// A reply that is composed of a message, with an NSID that is added or `-` for none.
-fn reply_message(alloc: Global, arguments: &mut Arguments<'_>) -> Result<String, RowError> {
-    let source = message(arguments.octets(alloc)?)?;
-    let identifier = arguments.word()?;
-    match ReplyMessage::from_message(alloc, &source.for_ref()) {
-        Ok(reply) => composed_text(alloc, reply, identifier),
-        Err(error) => Ok(format!(in alloc; "{error:?}")?),
+fn reply_message(row: &mut Row<'_>) -> Result<(), RowError> {
+    let source = message(row.octets())?;
+    let identifier = row.octets();
+    match ReplyMessage::from_message(row.alloc(), &source.for_ref()) {
+        Ok(reply) => composed(row, reply, &identifier)?,
+        Err(error) => row.debug(&error),
     }
+    Ok(())
 }
 
-fn composed_text(alloc: Global, reply: ReplyMessage, added: &str) -> Result<String, RowError> {
+fn composed(row: &mut Row<'_>, reply: ReplyMessage, added: &[u8]) -> Result<(), RowError> {
     let mut reply = reply;
-    if added != "-" {
-        let octets = Arguments::of(added).octets(alloc)?;
-        let identifier = identifier(octets.as_slice())?;
+    if !added.is_empty() {
+        let identifier = NsidRef::from_slice(added).or(Err(RowError::OutOfForm))?;
         reply
-            .add_opt(alloc, &identifier)
+            .add_opt(row.alloc(), &identifier)
             .or(Err(RowError::OutOfForm))?;
     }
-    match reply.additional_builder_stream_target(alloc) {
-        Ok(built) => reply_text(alloc, &built),
-        Err(error) => Ok(format!(in alloc; "{error:?}")?),
+    match reply.additional_builder_stream_target(row.alloc()) {
+        Ok(built) => row.hexadecimal(built.as_slice()),
+        Err(error) => row.debug(&error),
     }
+    Ok(())
 }
 
 /// The copy of a message with QR set, built.
-fn copied_message(alloc: Global, source: &Message) -> Result<String, RowError> {
-    let Ok(mut copied) = CopiedMessage::read(alloc, &source.for_ref()) else {
-        return Err(RowError::OutOfForm);
-    };
+fn copied_message(row: &mut Row<'_>) -> Result<(), RowError> {
+    let source = message(row.octets())?;
+    let copied = CopiedMessage::read(row.alloc(), &source.for_ref());
+    let mut copied = copied.or(Err(RowError::OutOfForm))?;
     let mut header = copied.header();
     header.set_qr(true);
     copied.set_header(header);
-    match copied.build(alloc, None) {
-        Ok(built) => reply_text(alloc, &built),
-        Err(error) => Ok(format!(in alloc; "{error:?}")?),
+    match copied.build(row.alloc(), None) {
+        Ok(built) => row.hexadecimal(built.as_slice()),
+        Err(error) => row.debug(&error),
     }
+    Ok(())
 }

@@ -1,56 +1,54 @@
-//! What a poll gave, as a row writes it.
+//! What a poll gave, as a row says it.
 
-use crate::words::reply_text;
 use dns_service::{CallResult, OutOfMemory, Polled, ServiceResult};
-use rows_table::RowError;
-use std::alloc::Global;
+use rows_table::{Row, RowError};
 
 /// What a stream gave at one poll: `pending`, the item or `end`.
-pub(crate) fn poll_text(
-    alloc: Global,
+pub(crate) fn poll_said(
+    row: &mut Row<'_>,
     answer: Result<Polled<Option<ServiceResult>>, OutOfMemory>,
-) -> Result<String, RowError> {
+) {
     match answer {
-        Ok(Polled::Ready(item)) => end_text(alloc, item),
-        Ok(Polled::Pending) => Ok(String::from_str(alloc, "pending")?),
-        Err(OutOfMemory) => Err(RowError::OutOfMemory),
+        Ok(Polled::Ready(item)) => end_said(row, item),
+        Ok(Polled::Pending) => row.say("pending"),
+        Err(OutOfMemory) => row.fail(RowError::OutOfMemory),
     }
 }
 
-fn end_text(alloc: Global, item: Option<ServiceResult>) -> Result<String, RowError> {
+fn end_said(row: &mut Row<'_>, item: Option<ServiceResult>) {
     match item {
-        Some(item) => item_text(alloc, item),
-        None => Ok(String::from_str(alloc, "end")?),
+        Some(item) => item_said(row, item),
+        None => row.say("end"),
     }
 }
 
 /// The octets of the reply, the feedback or the error of an item.
-pub(crate) fn item_text(alloc: Global, item: ServiceResult) -> Result<String, RowError> {
+pub(crate) fn item_said(row: &mut Row<'_>, item: ServiceResult) {
     match item {
-        Ok(given) => given_text(alloc, &given),
-        Err(error) => Ok(format!(in alloc; "{error:?}")?),
+        Ok(given) => given_said(row, &given),
+        Err(error) => row.debug(&error),
     }
 }
 
-fn given_text(alloc: Global, given: &CallResult) -> Result<String, RowError> {
-    match given.response() {
-        Some(reply) => reply_text(alloc, reply),
-        None => feedback_text(alloc, given),
+fn given_said(row: &mut Row<'_>, given: &CallResult) {
+    if let Some(reply) = given.response() {
+        return row.hexadecimal(reply.as_slice());
     }
-}
-
-fn feedback_text(alloc: Global, given: &CallResult) -> Result<String, RowError> {
     match given.feedback() {
-        Some(feedback) => Ok(format!(in alloc; "{feedback:?}")?),
-        None => Ok(String::from_str(alloc, "nothing")?),
+        Some(feedback) => row.debug(&feedback),
+        None => row.say("nothing"),
     }
 }
 
 /// How many items are left, at least and at most: `1..2`, or `1..` where the most isn't known.
-pub(crate) fn size_text(alloc: Global, size: (usize, Option<usize>)) -> Result<String, RowError> {
+pub(crate) fn size_said(row: &mut Row<'_>, size: (usize, Option<usize>)) {
     let (least, most) = size;
-    match most {
-        Some(most) => Ok(format!(in alloc; "{least}..{most}")?),
-        None => Ok(format!(in alloc; "{least}..")?),
+    let said = match most {
+        Some(most) => format!(in row.alloc(); "{least}..{most}"),
+        None => format!(in row.alloc(); "{least}.."),
+    };
+    match said {
+        Ok(said) => row.say(said.as_str()),
+        Err(_) => row.fail(RowError::OutOfMemory),
     }
 }

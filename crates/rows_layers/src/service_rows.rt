@@ -4,15 +4,15 @@ ghost use Rattle.std.specs.Prelude.{None, Some};
 ghost use Rattle.dns_service.specs.declared.service.Polled.TheVariants.{Ready};
 ghost use Rattle.dns_service.specs.Transport.{hint_of};
 
-use crate::inner::{Fails, failed};
+use crate::error_rows::next_error;
+use crate::inner::{AsPlanned, planned};
 use crate::request_rows::request;
-use crate::said::{poll_text, size_text};
-use crate::words::{given, service_error};
+use crate::said::{poll_said, size_said};
 use dns_service::{
     CallResult, Now, Once, OutOfMemory, Plainly, Polled, ReplyFuture, ReplyStream, Request, Served,
     Service, ServiceFeedback, ServiceResult, service_fn,
 };
-use rows_table::{Arguments, RowError};
+use rows_table::{Calls, Row, RowError};
 use std::alloc::Global;
 use std::sync::Arc;
 
@@ -64,80 +64,74 @@ impl Service<()> for Silent {
     }
 }
 
-/// Says what a call of this name gives.
-pub(crate) fn answer(
-    alloc: Global,
-    call: &str,
-    arguments: &mut Arguments<'_>,
-) -> Result<String, RowError> {
-    match call {
-        "served" => served(alloc, &mut request(alloc, arguments)?),
-        "arc" => of_arc(alloc, &mut request(alloc, arguments)?),
-        "once" => once(alloc, arguments.word()?),
-        _ => of_closure(alloc, arguments),
+/// Services that stand by themselves.
+pub(crate) struct ServiceRows;
+
+impl Calls for ServiceRows {
+    fn answer(&self, call: &str, row: &mut Row<'_>) -> Result<(), RowError> {
+        match call {
+            "served" => served(row),
+            "arc" => of_arc(row),
+            "service_fn" => of_closure(row),
+            "once" => once(row),
+            _ => Err(RowError::NoSuchCall),
+        }
     }
 }
 
 /// What the silent service gives as a shared one.
-fn served(alloc: Global, request: &mut Request<()>) -> Result<String, RowError> {
-    let shared = shared(alloc, Plainly { service: Silent {} })?;
-    let mut future = given(Served::call(&shared, alloc, request))?;
-    future_text(alloc, &mut future)
+fn served(row: &mut Row<'_>) -> Result<(), RowError> {
+    let mut request = request(row)?;
+    let shared = Arc::new(row.alloc(), Plainly { service: Silent {} })?;
+    let mut future = Served::call(&shared, row.alloc(), &mut request)?;
+    future_said(row, &mut future)
 }
 
 /// What the silent service gives as a service behind a shared reference.
-fn of_arc(alloc: Global, request: &mut Request<()>) -> Result<String, RowError> {
-    let shared = shared(alloc, Silent {})?;
-    let mut future = given(Service::call(&shared, alloc, request))?;
-    future_text(alloc, &mut future)
-}
-
-fn shared<T: Drop>(alloc: Global, value: T) -> Result<Arc<T>, RowError> {
-    match Arc::new(alloc, value) {
-        Ok(shared) => Ok(shared),
-        Err(_) => Err(RowError::OutOfMemory),
-    }
+fn of_arc(row: &mut Row<'_>) -> Result<(), RowError> {
+    let mut request = request(row)?;
+    let shared = Arc::new(row.alloc(), Silent {})?;
+    let mut future = Service::call(&shared, row.alloc(), &mut request)?;
+    future_said(row, &mut future)
 }
 
 /// What a service of a closure gives that answers with this error.
-fn of_closure(alloc: Global, arguments: &mut Arguments<'_>) -> Result<String, RowError> {
-    let error = service_error(arguments.word()?).ok_or(RowError::OutOfForm)?;
-    let mut request = request(alloc, arguments)?;
-    let service = service_fn::<Fails, _, _>(failed, error);
-    let mut future = given(service.call(alloc, &mut request))?;
-    let said = future_text(alloc, &mut future)?;
-    Ok(format!(in alloc; "{said}, reserved {}", request.num_reserved_bytes())?)
+fn of_closure(row: &mut Row<'_>) -> Result<(), RowError> {
+    let error = next_error(row)?;
+    let mut request = request(row)?;
+    let service = service_fn::<AsPlanned, _, _>(planned, Err(error));
+    let mut future = service.call(row.alloc(), &mut request)?;
+    future_said(row, &mut future)?;
+    row.close(", reserved");
+    row.show(&request.num_reserved_bytes());
+    Ok(())
 }
 
 /// What a future gives that is ready with an item that comes once.
-fn once(alloc: Global, feedback: &str) -> Result<String, RowError> {
-    if feedback != "BeginTransaction" {
+fn once(row: &mut Row<'_>) -> Result<(), RowError> {
+    if row.word() != "BeginTransaction" {
         return Err(RowError::OutOfForm);
     }
     let item = CallResult::feedback_only(ServiceFeedback::BeginTransaction);
-    let mut future = Now::new(Once::new(Ok(item)));
-    future_text(alloc, &mut future)
+    future_said(row, &mut Now::new(Once::new(Ok(item))))
 }
 
 /// What a future's stream gives at three polls, its sizes in front of each, and what the future is afterwards.
-fn future_text<F: ReplyFuture>(alloc: Global, future: &mut F) -> Result<String, RowError> {
-    let said = match given(future.poll(alloc))? {
-        Polled::Ready(mut stream) => stream_text(alloc, &mut stream)?,
-        Polled::Pending => String::from_str(alloc, "pending")?,
-    };
-    match given(future.poll(alloc))? {
-        Polled::Ready(_) => Ok(format!(in alloc; "{said}, then ready")?),
-        Polled::Pending => Ok(format!(in alloc; "{said}, then pending")?),
+fn future_said<F: ReplyFuture>(row: &mut Row<'_>, future: &mut F) -> Result<(), RowError> {
+    match future.poll(row.alloc())? {
+        Polled::Ready(mut stream) => stream_said(row, &mut stream),
+        Polled::Pending => row.say("pending"),
     }
+    match future.poll(row.alloc())? {
+        Polled::Ready(_) => row.close(", then ready"),
+        Polled::Pending => row.close(", then pending"),
+    }
+    Ok(())
 }
 
-fn stream_text<S: ReplyStream>(alloc: Global, stream: &mut S) -> Result<String, RowError> {
-    let mut said = String::new(alloc);
+fn stream_said<S: ReplyStream>(row: &mut Row<'_>, stream: &mut S) {
     for _ in 0..3 {
-        said.push_str(size_text(alloc, stream.size_hint())?.as_str())?;
-        said.push(' ')?;
-        said.push_str(poll_text(alloc, stream.poll_next(alloc))?.as_str())?;
-        said.push(' ')?;
+        size_said(row, stream.size_hint());
+        poll_said(row, stream.poll_next(row.alloc()));
     }
-    Ok(String::from_str(alloc, said.as_str().trim())?)
 }

@@ -1,12 +1,12 @@
 //! Rows of the streams of a layer: each kind round a future that is pending twice, and its stream, which is pending once.
 
+use crate::error_rows::next_error;
 use crate::request_rows::request;
-use crate::said::{poll_text, size_text};
+use crate::said::{poll_said, size_said};
 use crate::slow::{Later, SameError, Slow};
-use crate::words::service_error;
 use dns_service::{CallResult, ReplyStream, ServiceError, ServiceFeedback};
 use dns_stream::{MiddlewareStream, Once, PostprocessingStream};
-use rows_table::{Arguments, RowError};
+use rows_table::{Calls, Row, RowError};
 use std::alloc::Global;
 
 type Layered = MiddlewareStream<
@@ -16,21 +16,32 @@ type Layered = MiddlewareStream<
     Once,
 >;
 
-/// Says what a stream of this kind, round an item of this error, gives at so many polls, or its sizes before and after
-/// each poll.
-pub(crate) fn answer(
-    alloc: Global,
-    call: &str,
-    arguments: &mut Arguments<'_>,
-) -> Result<String, RowError> {
-    let kind = arguments.word()?;
-    let error = service_error(arguments.word()?).ok_or(RowError::OutOfForm)?;
-    let polls = arguments.number::<u8>()?;
-    let mut stream = stream(alloc, kind, error)?;
-    match call {
-        "polls" => polled(alloc, &mut stream, polls),
-        _ => sizes(alloc, &mut stream, polls),
+/// Streams of layers.
+pub(crate) struct StreamRows;
+
+/// A stream of a kind, round an item of an error, is polled so many times.
+impl Calls for StreamRows {
+    fn answer(&self, call: &str, row: &mut Row<'_>) -> Result<(), RowError> {
+        match call {
+            "polls" => {
+                let (mut stream, polls) = stream_and_polls(row)?;
+                polled(row, &mut stream, polls);
+            }
+            "sizes" => {
+                let (mut stream, polls) = stream_and_polls(row)?;
+                sizes(row, &mut stream, polls)?;
+            }
+            _ => return Err(RowError::NoSuchCall),
+        }
+        Ok(())
     }
+}
+
+fn stream_and_polls(row: &mut Row<'_>) -> Result<(Layered, u8), RowError> {
+    let kind = row.word();
+    let error = next_error(row)?;
+    let polls = row.number::<u8>();
+    Ok((stream(row.alloc(), kind, error)?, polls))
 }
 
 fn stream(alloc: Global, kind: &str, error: ServiceError) -> Result<Layered, RowError> {
@@ -61,10 +72,7 @@ fn mapped(
     alloc: Global,
     error: ServiceError,
 ) -> Result<PostprocessingStream<Later<Slow>, (), SameError>, RowError> {
-    let request = request(
-        alloc,
-        &mut Arguments::of("udp none 123401000000000000000000"),
-    )?;
+    let request = request(&mut Row::of(alloc, "udp none 123401000000000000000000"))?;
     Ok(PostprocessingStream::new(later(error), request, SameError {}))
 }
 
@@ -74,27 +82,18 @@ fn feedback() -> Once {
 }
 
 /// What so many polls give.
-pub(crate) fn polled<S: ReplyStream>(
-    alloc: Global,
-    stream: &mut S,
-    polls: u8,
-) -> Result<String, RowError> {
-    let mut answers = String::new(alloc);
+fn polled<S: ReplyStream>(row: &mut Row<'_>, stream: &mut S, polls: u8) {
     for _ in 0..polls {
-        let answer = poll_text(alloc, stream.poll_next(alloc))?;
-        answers.push_str(answer.as_str())?;
-        answers.push(' ')?;
+        poll_said(row, stream.poll_next(row.alloc()));
     }
-    Ok(String::from_str(alloc, answers.as_str().trim())?)
 }
 
 /// The size at first, and after each of so many polls.
-fn sizes<S: ReplyStream>(alloc: Global, stream: &mut S, polls: u8) -> Result<String, RowError> {
-    let mut sizes = size_text(alloc, stream.size_hint())?;
+fn sizes<S: ReplyStream>(row: &mut Row<'_>, stream: &mut S, polls: u8) -> Result<(), RowError> {
+    size_said(row, stream.size_hint());
     for _ in 0..polls {
-        poll_text(alloc, stream.poll_next(alloc))?;
-        sizes.push(' ')?;
-        sizes.push_str(size_text(alloc, stream.size_hint())?.as_str())?;
+        stream.poll_next(row.alloc())?;
+        size_said(row, stream.size_hint());
     }
-    Ok(sizes)
+    Ok(())
 }

@@ -4,144 +4,101 @@ ghost use Rattle.std.specs.Prelude.{◌≡◌, [], ◌∷◌, IfOk, Ok};
 ghost use Rattle.dns_base.specs.Records.{IsLawful, record_of};
 ghost use Rattle.dns_base.specs.Standing.{Gives};
 
-use crate::data::{fields, record_in_words};
-use crate::stages::{Stage, take_steps};
-use crate::told::{digits, no_memory, pushed, told, word};
+use crate::data::record_in_words;
+use crate::stages::Stage;
 use dns_base::{
     AdditionalBuilder, AnswerBuilder, Message, MessageBuilder, PushError, Record, StreamTarget,
     data_has_names, typed_records_read_back,
 };
 use dns_name::{OutOfMemory, ParseError, Rcode};
-use rows_table::{Arguments, RowError, yes_no};
+use rows_table::{Calls, Row, RowError};
 use std::alloc::Global;
 
-/// What a call of dns_base says.
-pub fn answer(
-    alloc: Global,
-    call: &str,
-    arguments: &mut Arguments<'_>,
-) -> Result<String, RowError> {
-    match call {
-        "built" => built(alloc, arguments),
-        "framed" => framed(alloc, arguments),
-        "start_answer" => start_answer(alloc, arguments),
-        "start_error" => start_error(alloc, arguments),
-        "typed" => typed(alloc, arguments),
-        _ => Err(RowError::NoSuchCall),
+/// The calls of dns_base.
+pub struct Builders;
+
+impl Calls for Builders {
+    fn answer(&self, call: &str, row: &mut Row<'_>) -> Result<(), RowError> {
+        match call {
+            "built" => built(row),
+            "framed" => framed(row),
+            "start_answer" => start_answer(row),
+            "start_error" => start_error(row),
+            "typed" => typed(row),
+            _ => Err(RowError::NoSuchCall),
+        }
     }
 }
 
 /// What the steps say, and the octets that the message has behind them.
-fn shown(alloc: Global, stage: &mut Stage, steps: &str) -> Result<String, RowError> {
-    let mut said = String::new(alloc);
-    take_steps(alloc, stage, steps, &mut said)?;
-    push_digits(alloc, &mut said, stage.as_slice()).map_err(no_memory)?;
-    Ok(said)
-}
-
-/// Appends octets in hexadecimal.
-fn push_digits(alloc: Global, text: &mut String, octets: &[u8]) -> Result<(), OutOfMemory> {
-    let octets = digits(alloc, octets)?;
-    text.push_str(octets.as_str())?;
-    Ok(())
+fn shown(row: &mut Row<'_>, stage: &mut Stage) {
+    row.take_steps(", ", stage);
+    row.hexadecimal(stage.as_slice())
 }
 
 /// The same for an empty message.
-fn built(alloc: Global, arguments: &mut Arguments<'_>) -> Result<String, RowError> {
-    let builder = MessageBuilder::new(alloc).map_err(no_memory)?;
-    shown(alloc, &mut Stage::Message(builder), arguments.all_words())
-}
-
-/// Appends a message as a stream and as a datagram has it.
-fn push_frame(alloc: Global, text: &mut String, frame: &StreamTarget) -> Result<(), OutOfMemory> {
-    push_digits(alloc, text, frame.as_stream_slice())?;
-    text.push_str(" ")?;
-    push_digits(alloc, text, frame.as_dgram_slice())
+fn built(row: &mut Row<'_>) -> Result<(), RowError> {
+    let builder = MessageBuilder::new(row.alloc())?;
+    shown(row, &mut Stage::Message(builder));
+    Ok(())
 }
 
 /// The finished message that the steps build.
-fn finished(alloc: Global, steps: &str, said: &mut String) -> Result<StreamTarget, RowError> {
-    let mut stage = Stage::Message(MessageBuilder::new(alloc).map_err(no_memory)?);
-    take_steps(alloc, &mut stage, steps, said)?;
-    stage.finish().ok_or(RowError::NoSuchCall)
+fn finished(row: &mut Row<'_>) -> Result<StreamTarget, RowError> {
+    let mut stage = Stage::Message(MessageBuilder::new(row.alloc())?);
+    row.take_steps(", ", &mut stage);
+    stage.finish().ok_or(RowError::NoSuchStep)
 }
 
-/// What the steps say, and the finished message.
-fn framed(alloc: Global, arguments: &mut Arguments<'_>) -> Result<String, RowError> {
-    let mut said = String::new(alloc);
-    let frame = finished(alloc, arguments.all_words(), &mut said)?;
-    push_frame(alloc, &mut said, &frame).map_err(no_memory)?;
-    Ok(said)
+/// What the steps say, and the finished message as a stream and as a datagram has it.
+fn framed(row: &mut Row<'_>) -> Result<(), RowError> {
+    let frame = finished(row)?;
+    row.hexadecimal(frame.as_stream_slice());
+    row.hexadecimal(frame.as_dgram_slice());
+    Ok(())
 }
 
-/// The message of the next word.
-fn message(alloc: Global, arguments: &mut Arguments<'_>) -> Result<Message, RowError> {
-    match Message::from_octets(arguments.octets(alloc)?) {
-        Ok(message) => Ok(message),
-        Err(_) => Err(RowError::OutOfForm),
-    }
+/// The limit, the response code and the query of the next words.
+fn asked(row: &mut Row<'_>) -> Result<(usize, Rcode, Message), RowError> {
+    let limit = row.number();
+    let rcode = Rcode::checked_from_int(row.number()).ok_or(RowError::OutOfForm)?;
+    let query = Message::from_octets(row.octets()).or(Err(RowError::OutOfForm))?;
+    Ok((limit, rcode, query))
 }
 
-/// The response code of the next word.
-fn rcode(arguments: &mut Arguments<'_>) -> Result<Rcode, RowError> {
-    Rcode::checked_from_int(arguments.number()?).ok_or(RowError::OutOfForm)
-}
-
-/// The answer to a query within a limit.
-fn answer_to(
-    alloc: Global,
-    limit: usize,
-    rcode: Rcode,
-    query: &Message,
-) -> Result<AnswerBuilder, PushError> {
+/// An empty message of at most so many octets.
+fn within(alloc: Global, limit: usize) -> Result<MessageBuilder, OutOfMemory> {
     let mut builder = MessageBuilder::new(alloc)?;
     builder.set_push_limit(limit);
-    builder.start_answer(alloc, query, rcode)
+    Ok(builder)
 }
 
-/// The answer to the query of a row.
-fn answered(
-    alloc: Global,
-    arguments: &mut Arguments<'_>,
-) -> Result<Result<AnswerBuilder, PushError>, RowError> {
-    let limit = arguments.number()?;
-    let rcode = rcode(arguments)?;
-    let query = message(alloc, arguments)?;
-    Ok(answer_to(alloc, limit, rcode, &query))
+/// The answer to a query.
+fn answered(row: &mut Row<'_>) -> Result<Result<AnswerBuilder, PushError>, RowError> {
+    let (limit, rcode, query) = asked(row)?;
+    Ok(within(row.alloc(), limit)?.start_answer(row.alloc(), &query, rcode))
 }
 
 /// The answer to a query, and what the steps say of it.
-fn start_answer(alloc: Global, arguments: &mut Arguments<'_>) -> Result<String, RowError> {
-    match answered(alloc, arguments)? {
-        Ok(answer) => shown(alloc, &mut Stage::Answer(answer), arguments.all_words()),
-        Err(error) => word(alloc, pushed(Err(error))).map_err(no_memory),
+fn start_answer(row: &mut Row<'_>) -> Result<(), RowError> {
+    match answered(row)? {
+        Ok(answer) => shown(row, &mut Stage::Answer(answer)),
+        Err(error) => row.debug(&error),
     }
+    Ok(())
 }
 
-/// The error answer to a query within a limit.
-fn error_to(
-    alloc: Global,
-    limit: usize,
-    rcode: Rcode,
-    query: &Message,
-) -> Result<AnswerBuilder, OutOfMemory> {
-    let mut builder = MessageBuilder::new(alloc)?;
-    builder.set_push_limit(limit);
-    builder.start_error(alloc, query, rcode)
-}
-
-/// The error answer to the query of a row.
-fn refused(alloc: Global, arguments: &mut Arguments<'_>) -> Result<AnswerBuilder, RowError> {
-    let limit = arguments.number()?;
-    let rcode = rcode(arguments)?;
-    let query = message(alloc, arguments)?;
-    error_to(alloc, limit, rcode, &query).map_err(no_memory)
+/// The error answer to a query.
+fn refused(row: &mut Row<'_>) -> Result<AnswerBuilder, RowError> {
+    let (limit, rcode, query) = asked(row)?;
+    Ok(within(row.alloc(), limit)?.start_error(row.alloc(), &query, rcode)?)
 }
 
 /// The error answer to a query, and what the steps say of it.
-fn start_error(alloc: Global, arguments: &mut Arguments<'_>) -> Result<String, RowError> {
-    let error = refused(alloc, arguments)?;
-    shown(alloc, &mut Stage::Answer(error), arguments.all_words())
+fn start_error(row: &mut Row<'_>) -> Result<(), RowError> {
+    let error = refused(row)?;
+    shown(row, &mut Stage::Answer(error));
+    Ok(())
 }
 
 /// A message whose additional section is one record.
@@ -156,14 +113,13 @@ fn with_record(alloc: Global, item: &Record) -> Result<AdditionalBuilder, ParseE
     }
 }
 
-/// The octets of the first additional record's data.
-fn data_octets(alloc: Global, builder: &AdditionalBuilder) -> Result<String, ParseError> {
-    let message = builder.as_message();
-    let mut records = message.additional()?;
-    match records.next() {
-        Some(found) => Ok(digits(alloc, found?.rdata())?),
-        None => Err(ParseError::ShortInput),
+/// Says the octets of the first additional record's data.
+fn data_octets(row: &mut Row<'_>, builder: &AdditionalBuilder) -> Result<(), RowError> {
+    match builder.as_message().additional()?.next() {
+        Some(found) => row.hexadecimal(found?.rdata()),
+        None => row.fail(RowError::Missing),
     }
+    Ok(())
 }
 
 /// The first additional record of what is built, which was pushed to an empty section.
@@ -186,41 +142,35 @@ fn first_read(
     }
 }
 
-/// All fields of what is read of a record that was pushed, and its data's octets.
-fn read_back(alloc: Global, item: &Record) -> Result<(String, String), ParseError>
-    requires { IsLawful item.now.rdata }
-{
-    let builder = with_record(alloc, item)?;
-    let octets = data_octets(alloc, &builder)?;
-    let read = first_fields(alloc, &builder, item)?;
-    Ok((read, octets))
+/// Whether two records have the same fields.
+fn alike(alloc: Global, item: &Record, read: &Record) -> Result<bool, RowError> {
+    let given = format!(in alloc; "{item:?}")?;
+    let back = format!(in alloc; "{read:?}")?;
+    Ok(given.as_str() == back.as_str())
 }
 
-/// All fields of the first additional record of what is built.
-fn first_fields(
-    alloc: Global,
-    builder: &AdditionalBuilder,
-    item: &Record,
-) -> Result<String, ParseError>
+/// Whether all fields of the first additional record of what is built are those of the record that was pushed.
+fn reads_back(alloc: Global, builder: &AdditionalBuilder, item: &Record) -> Result<bool, RowError>
     requires pushed { builder.now.message.additional ≡ record_of item.now ∷ [] }
     requires lawful { IsLawful item.now.rdata }
 {
     let read = first_read(alloc, builder, item)?;
-    Ok(fields(alloc, &read)?)
+    alike(alloc, item, &read)
 }
 
-/// The data's octets of a record that was pushed, and whether all fields come back when they are read.
-fn pushed_and_read(alloc: Global, item: &Record) -> Result<String, ParseError>
+/// The data's octets of a record that is pushed, and whether all fields come back when they are read.
+fn pushed_and_read(row: &mut Row<'_>, item: &Record) -> Result<(), RowError>
     requires { IsLawful item.now.rdata }
 {
-    let (read, octets) = read_back(alloc, item)?;
-    let given = fields(alloc, item)?;
-    let back = yes_no(read.as_str() == given.as_str());
-    Ok(format!(in alloc; "{octets} reads_back={back}")?)
+    let builder = with_record(row.alloc(), item)?;
+    data_octets(row, &builder)?;
+    let back = reads_back(row.alloc(), &builder, item)?;
+    row.tell_whether("reads_back", back);
+    Ok(())
 }
 
 /// The same for a record whose data stands in words.
-fn typed(alloc: Global, arguments: &mut Arguments<'_>) -> Result<String, RowError> {
-    let item = record_in_words(alloc, arguments)?;
-    told(alloc, pushed_and_read(alloc, &item))
+fn typed(row: &mut Row<'_>) -> Result<(), RowError> {
+    let item = record_in_words(row)?;
+    pushed_and_read(row, &item)
 }

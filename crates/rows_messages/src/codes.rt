@@ -1,204 +1,208 @@
 //! The numbers that constants of dns_name have.
 
 use dns_name::{Class, ExtendedErrorCode, Opcode, OptRcode, OptionCode, Rcode, Rtype};
-use rows_table::{Arguments, RowError};
-use std::alloc::Global;
+use rows_table::{Calls, Row, RowError};
 
-/// Whether a call names a registry of dns_name.
-fn is_registry(call: &str) -> bool {
-    matches!(
-        call,
-        "class" | "rtype" | "option_code" | "extended_error_code" | "opcode" | "rcode" | "opt_rcode"
-    )
-}
+/// The registries of dns_name.
+pub struct Codes;
 
-/// The number of a constant; none where the call names no registry.
-pub fn answer(
-    alloc: Global,
-    call: &str,
-    arguments: &mut Arguments<'_>,
-) -> Option<Result<String, RowError>> {
-    is_registry(call).then(|| number_said(alloc, call, arguments))
-}
-
-/// The number of the constant that the next word names in a registry.
-fn number_said(
-    alloc: Global,
-    registry: &str,
-    arguments: &mut Arguments<'_>,
-) -> Result<String, RowError> {
-    let name = arguments.word()?;
-    let number = number(registry, name).ok_or(RowError::OutOfForm)?;
-    Ok(format!(in alloc; "{number}")?)
-}
-
-/// The number of a registry's constant.
-fn number(registry: &str, name: &str) -> Option<u16> {
-    match registry {
-        "class" => class(name).map(Class::to_int),
-        "rtype" => rtype(name).map(Rtype::to_int),
-        "option_code" => option_code(name).map(OptionCode::to_int),
-        "extended_error_code" => extended_error_code(name).map(ExtendedErrorCode::to_int),
-        "opcode" => Some(u16::from(opcode(name)?.to_int())),
-        "rcode" => Some(u16::from(rcode(name)?.to_int())),
-        _ => opt_rcode(name).map(OptRcode::to_int),
+impl Calls for Codes {
+    fn answer(&self, call: &str, row: &mut Row<'_>) -> Result<(), RowError> {
+        match call {
+            "classes" => classes(row),
+            "rtypes" => rtypes(row),
+            "more_rtypes" => more_rtypes(row),
+            "option_codes" => option_codes(row),
+            "extended_error_codes" => extended_error_codes(row),
+            "more_extended_error_codes" => more_extended_error_codes(row),
+            "opcodes" => opcodes(row),
+            "rcodes" => rcodes(row),
+            "opt_rcodes" => opt_rcodes(row),
+            "more_opt_rcodes" => more_opt_rcodes(row),
+            _ => return Err(RowError::NoSuchCall),
+        }
+        Ok(())
     }
 }
 
-/// A class by the name of its constant.
-fn class(name: &str) -> Option<Class> {
-    match name {
-        "IN" => Some(Class::IN),
-        "CH" => Some(Class::CH),
-        "HS" => Some(Class::HS),
-        "NONE" => Some(Class::NONE),
-        "ANY" => Some(Class::ANY),
-        _ => None,
-    }
+/// The classes.
+fn classes(row: &mut Row<'_>) {
+    row.tell("IN", &Class::IN.to_int());
+    row.tell("CH", &Class::CH.to_int());
+    row.tell("HS", &Class::HS.to_int());
+    row.tell("NONE", &Class::NONE.to_int());
+    row.tell("ANY", &Class::ANY.to_int());
 }
 
-/// A record type by the name of its constant.
-fn rtype(name: &str) -> Option<Rtype> {
-    match name {
-        "A" => Some(Rtype::A),
-        "NS" => Some(Rtype::NS),
-        "MD" => Some(Rtype::MD),
-        "MF" => Some(Rtype::MF),
-        "CNAME" => Some(Rtype::CNAME),
-        "SOA" => Some(Rtype::SOA),
-        "MB" => Some(Rtype::MB),
-        "MG" => Some(Rtype::MG),
-        "MR" => Some(Rtype::MR),
-        "PTR" => Some(Rtype::PTR),
-        "MINFO" => Some(Rtype::MINFO),
-        "MX" => Some(Rtype::MX),
-        "TXT" => Some(Rtype::TXT),
-        "AAAA" => Some(Rtype::AAAA),
-        "SRV" => Some(Rtype::SRV),
-        "DNAME" => Some(Rtype::DNAME),
-        "OPT" => Some(Rtype::OPT),
-        "DS" => Some(Rtype::DS),
-        "RRSIG" => Some(Rtype::RRSIG),
-        "NSEC" => Some(Rtype::NSEC),
-        "DNSKEY" => Some(Rtype::DNSKEY),
-        "NSEC3" => Some(Rtype::NSEC3),
-        "SVCB" => Some(Rtype::SVCB),
-        "HTTPS" => Some(Rtype::HTTPS),
-        "IXFR" => Some(Rtype::IXFR),
-        "AXFR" => Some(Rtype::AXFR),
-        "ANY" => Some(Rtype::ANY),
-        "CAA" => Some(Rtype::CAA),
-        _ => None,
-    }
+/// The record types.
+fn rtypes(row: &mut Row<'_>) {
+    row.tell("A", &Rtype::A.to_int());
+    row.tell("NS", &Rtype::NS.to_int());
+    row.tell("MD", &Rtype::MD.to_int());
+    row.tell("MF", &Rtype::MF.to_int());
+    row.tell("CNAME", &Rtype::CNAME.to_int());
+    row.tell("SOA", &Rtype::SOA.to_int());
+    row.tell("MB", &Rtype::MB.to_int());
+    row.tell("MG", &Rtype::MG.to_int());
+    row.tell("MR", &Rtype::MR.to_int());
+    row.tell("PTR", &Rtype::PTR.to_int());
+    row.tell("MINFO", &Rtype::MINFO.to_int());
+    row.tell("MX", &Rtype::MX.to_int());
+    row.tell("TXT", &Rtype::TXT.to_int());
+    row.tell("AAAA", &Rtype::AAAA.to_int());
 }
 
-/// A code of EDNS options by the name of its constant.
-fn option_code(name: &str) -> Option<OptionCode> {
-    match name {
-        "NSID" => Some(OptionCode::NSID),
-        "DAU" => Some(OptionCode::DAU),
-        "DHU" => Some(OptionCode::DHU),
-        "N3U" => Some(OptionCode::N3U),
-        "CLIENT_SUBNET" => Some(OptionCode::CLIENT_SUBNET),
-        "EXPIRE" => Some(OptionCode::EXPIRE),
-        "COOKIE" => Some(OptionCode::COOKIE),
-        "TCP_KEEPALIVE" => Some(OptionCode::TCP_KEEPALIVE),
-        "PADDING" => Some(OptionCode::PADDING),
-        "CHAIN" => Some(OptionCode::CHAIN),
-        "KEY_TAG" => Some(OptionCode::KEY_TAG),
-        "EXTENDED_ERROR" => Some(OptionCode::EXTENDED_ERROR),
-        _ => None,
-    }
+/// The other record types.
+fn more_rtypes(row: &mut Row<'_>) {
+    row.tell("SRV", &Rtype::SRV.to_int());
+    row.tell("DNAME", &Rtype::DNAME.to_int());
+    row.tell("OPT", &Rtype::OPT.to_int());
+    row.tell("DS", &Rtype::DS.to_int());
+    row.tell("RRSIG", &Rtype::RRSIG.to_int());
+    row.tell("NSEC", &Rtype::NSEC.to_int());
+    row.tell("DNSKEY", &Rtype::DNSKEY.to_int());
+    row.tell("NSEC3", &Rtype::NSEC3.to_int());
+    row.tell("SVCB", &Rtype::SVCB.to_int());
+    row.tell("HTTPS", &Rtype::HTTPS.to_int());
+    row.tell("IXFR", &Rtype::IXFR.to_int());
+    row.tell("AXFR", &Rtype::AXFR.to_int());
+    row.tell("ANY", &Rtype::ANY.to_int());
+    row.tell("CAA", &Rtype::CAA.to_int());
 }
 
-/// An extended error code by the name of its constant.
-fn extended_error_code(name: &str) -> Option<ExtendedErrorCode> {
-    match name {
-        "OTHER" => Some(ExtendedErrorCode::OTHER),
-        "UNSUPPORTED_DNSKEY_ALGORITHM" => Some(ExtendedErrorCode::UNSUPPORTED_DNSKEY_ALGORITHM),
-        "UNSUPPORTED_DS_DIGEST_TYPE" => Some(ExtendedErrorCode::UNSUPPORTED_DS_DIGEST_TYPE),
-        "STALE_ANSWER" => Some(ExtendedErrorCode::STALE_ANSWER),
-        "FORGED_ANSWER" => Some(ExtendedErrorCode::FORGED_ANSWER),
-        "DNSSEC_INDETERMINATE" => Some(ExtendedErrorCode::DNSSEC_INDETERMINATE),
-        "DNSSEC_BOGUS" => Some(ExtendedErrorCode::DNSSEC_BOGUS),
-        "SIGNATURE_EXPIRED" => Some(ExtendedErrorCode::SIGNATURE_EXPIRED),
-        "SIGNATURE_NOT_YET_VALID" => Some(ExtendedErrorCode::SIGNATURE_NOT_YET_VALID),
-        "DNSKEY_MISSING" => Some(ExtendedErrorCode::DNSKEY_MISSING),
-        "RRSIGS_MISSING" => Some(ExtendedErrorCode::RRSIGS_MISSING),
-        "NO_ZONE_KEY_BIT_SET" => Some(ExtendedErrorCode::NO_ZONE_KEY_BIT_SET),
-        "NSEC_MISSING" => Some(ExtendedErrorCode::NSEC_MISSING),
-        "CACHED_ERROR" => Some(ExtendedErrorCode::CACHED_ERROR),
-        "NOT_READY" => Some(ExtendedErrorCode::NOT_READY),
-        "BLOCKED" => Some(ExtendedErrorCode::BLOCKED),
-        "CENSORED" => Some(ExtendedErrorCode::CENSORED),
-        "FILTERED" => Some(ExtendedErrorCode::FILTERED),
-        "PROHIBITED" => Some(ExtendedErrorCode::PROHIBITED),
-        "STALE_NXDOMAIN_ANSWER" => Some(ExtendedErrorCode::STALE_NXDOMAIN_ANSWER),
-        "NOT_AUTHORITATIVE" => Some(ExtendedErrorCode::NOT_AUTHORITATIVE),
-        "NOT_SUPPORTED" => Some(ExtendedErrorCode::NOT_SUPPORTED),
-        "NO_REACHABLE_AUTHORITY" => Some(ExtendedErrorCode::NO_REACHABLE_AUTHORITY),
-        "NETWORK_ERROR" => Some(ExtendedErrorCode::NETWORK_ERROR),
-        "INVALID_DATA" => Some(ExtendedErrorCode::INVALID_DATA),
-        _ => None,
-    }
+/// The option codes.
+fn option_codes(row: &mut Row<'_>) {
+    row.tell("NSID", &OptionCode::NSID.to_int());
+    row.tell("DAU", &OptionCode::DAU.to_int());
+    row.tell("DHU", &OptionCode::DHU.to_int());
+    row.tell("N3U", &OptionCode::N3U.to_int());
+    row.tell("CLIENT_SUBNET", &OptionCode::CLIENT_SUBNET.to_int());
+    row.tell("EXPIRE", &OptionCode::EXPIRE.to_int());
+    row.tell("COOKIE", &OptionCode::COOKIE.to_int());
+    row.tell("TCP_KEEPALIVE", &OptionCode::TCP_KEEPALIVE.to_int());
+    row.tell("PADDING", &OptionCode::PADDING.to_int());
+    row.tell("CHAIN", &OptionCode::CHAIN.to_int());
+    row.tell("KEY_TAG", &OptionCode::KEY_TAG.to_int());
+    row.tell("EXTENDED_ERROR", &OptionCode::EXTENDED_ERROR.to_int());
 }
 
-/// An operation code by the name of its constant.
-fn opcode(name: &str) -> Option<Opcode> {
-    match name {
-        "QUERY" => Some(Opcode::QUERY),
-        "IQUERY" => Some(Opcode::IQUERY),
-        "STATUS" => Some(Opcode::STATUS),
-        "NOTIFY" => Some(Opcode::NOTIFY),
-        "UPDATE" => Some(Opcode::UPDATE),
-        "DSO" => Some(Opcode::DSO),
-        _ => None,
-    }
+/// The extended error codes.
+fn extended_error_codes(row: &mut Row<'_>) {
+    row.tell("OTHER", &ExtendedErrorCode::OTHER.to_int());
+    row.tell(
+        "UNSUPPORTED_DNSKEY_ALGORITHM",
+        &ExtendedErrorCode::UNSUPPORTED_DNSKEY_ALGORITHM.to_int(),
+    );
+    row.tell(
+        "UNSUPPORTED_DS_DIGEST_TYPE",
+        &ExtendedErrorCode::UNSUPPORTED_DS_DIGEST_TYPE.to_int(),
+    );
+    row.tell("STALE_ANSWER", &ExtendedErrorCode::STALE_ANSWER.to_int());
+    row.tell("FORGED_ANSWER", &ExtendedErrorCode::FORGED_ANSWER.to_int());
+    row.tell(
+        "DNSSEC_INDETERMINATE",
+        &ExtendedErrorCode::DNSSEC_INDETERMINATE.to_int(),
+    );
+    row.tell("DNSSEC_BOGUS", &ExtendedErrorCode::DNSSEC_BOGUS.to_int());
+    row.tell(
+        "SIGNATURE_EXPIRED",
+        &ExtendedErrorCode::SIGNATURE_EXPIRED.to_int(),
+    );
+    row.tell(
+        "SIGNATURE_NOT_YET_VALID",
+        &ExtendedErrorCode::SIGNATURE_NOT_YET_VALID.to_int(),
+    );
+    row.tell(
+        "DNSKEY_MISSING",
+        &ExtendedErrorCode::DNSKEY_MISSING.to_int(),
+    );
+    row.tell(
+        "RRSIGS_MISSING",
+        &ExtendedErrorCode::RRSIGS_MISSING.to_int(),
+    );
+    row.tell(
+        "NO_ZONE_KEY_BIT_SET",
+        &ExtendedErrorCode::NO_ZONE_KEY_BIT_SET.to_int(),
+    );
+    row.tell("NSEC_MISSING", &ExtendedErrorCode::NSEC_MISSING.to_int());
 }
 
-/// A response code of a header by the name of its constant.
-fn rcode(name: &str) -> Option<Rcode> {
-    match name {
-        "NOERROR" => Some(Rcode::NOERROR),
-        "FORMERR" => Some(Rcode::FORMERR),
-        "SERVFAIL" => Some(Rcode::SERVFAIL),
-        "NXDOMAIN" => Some(Rcode::NXDOMAIN),
-        "NOTIMP" => Some(Rcode::NOTIMP),
-        "REFUSED" => Some(Rcode::REFUSED),
-        "YXDOMAIN" => Some(Rcode::YXDOMAIN),
-        "YXRRSET" => Some(Rcode::YXRRSET),
-        "NXRRSET" => Some(Rcode::NXRRSET),
-        "NOTAUTH" => Some(Rcode::NOTAUTH),
-        "NOTZONE" => Some(Rcode::NOTZONE),
-        "DSOTYPENI" => Some(Rcode::DSOTYPENI),
-        _ => None,
-    }
+/// The other extended error codes.
+fn more_extended_error_codes(row: &mut Row<'_>) {
+    row.tell("CACHED_ERROR", &ExtendedErrorCode::CACHED_ERROR.to_int());
+    row.tell("NOT_READY", &ExtendedErrorCode::NOT_READY.to_int());
+    row.tell("BLOCKED", &ExtendedErrorCode::BLOCKED.to_int());
+    row.tell("CENSORED", &ExtendedErrorCode::CENSORED.to_int());
+    row.tell("FILTERED", &ExtendedErrorCode::FILTERED.to_int());
+    row.tell("PROHIBITED", &ExtendedErrorCode::PROHIBITED.to_int());
+    row.tell(
+        "STALE_NXDOMAIN_ANSWER",
+        &ExtendedErrorCode::STALE_NXDOMAIN_ANSWER.to_int(),
+    );
+    row.tell(
+        "NOT_AUTHORITATIVE",
+        &ExtendedErrorCode::NOT_AUTHORITATIVE.to_int(),
+    );
+    row.tell("NOT_SUPPORTED", &ExtendedErrorCode::NOT_SUPPORTED.to_int());
+    row.tell(
+        "NO_REACHABLE_AUTHORITY",
+        &ExtendedErrorCode::NO_REACHABLE_AUTHORITY.to_int(),
+    );
+    row.tell("NETWORK_ERROR", &ExtendedErrorCode::NETWORK_ERROR.to_int());
+    row.tell("INVALID_DATA", &ExtendedErrorCode::INVALID_DATA.to_int());
 }
 
-/// A response code with an OPT record's bits by the name of its constant.
-fn opt_rcode(name: &str) -> Option<OptRcode> {
-    match name {
-        "NOERROR" => Some(OptRcode::NOERROR),
-        "FORMERR" => Some(OptRcode::FORMERR),
-        "SERVFAIL" => Some(OptRcode::SERVFAIL),
-        "NXDOMAIN" => Some(OptRcode::NXDOMAIN),
-        "NOTIMP" => Some(OptRcode::NOTIMP),
-        "REFUSED" => Some(OptRcode::REFUSED),
-        "YXDOMAIN" => Some(OptRcode::YXDOMAIN),
-        "YXRRSET" => Some(OptRcode::YXRRSET),
-        "NXRRSET" => Some(OptRcode::NXRRSET),
-        "NOTAUTH" => Some(OptRcode::NOTAUTH),
-        "NOTZONE" => Some(OptRcode::NOTZONE),
-        "DSOTYPENI" => Some(OptRcode::DSOTYPENI),
-        "BADVERS" => Some(OptRcode::BADVERS),
-        "BADSIG" => Some(OptRcode::BADSIG),
-        "BADKEY" => Some(OptRcode::BADKEY),
-        "BADTIME" => Some(OptRcode::BADTIME),
-        "BADMODE" => Some(OptRcode::BADMODE),
-        "BADNAME" => Some(OptRcode::BADNAME),
-        "BADALG" => Some(OptRcode::BADALG),
-        "BADTRUNC" => Some(OptRcode::BADTRUNC),
-        "BADCOOKIE" => Some(OptRcode::BADCOOKIE),
-        _ => None,
-    }
+/// The operation codes.
+fn opcodes(row: &mut Row<'_>) {
+    row.tell("QUERY", &Opcode::QUERY.to_int());
+    row.tell("IQUERY", &Opcode::IQUERY.to_int());
+    row.tell("STATUS", &Opcode::STATUS.to_int());
+    row.tell("NOTIFY", &Opcode::NOTIFY.to_int());
+    row.tell("UPDATE", &Opcode::UPDATE.to_int());
+    row.tell("DSO", &Opcode::DSO.to_int());
+}
+
+/// The response codes of a header.
+fn rcodes(row: &mut Row<'_>) {
+    row.tell("NOERROR", &Rcode::NOERROR.to_int());
+    row.tell("FORMERR", &Rcode::FORMERR.to_int());
+    row.tell("SERVFAIL", &Rcode::SERVFAIL.to_int());
+    row.tell("NXDOMAIN", &Rcode::NXDOMAIN.to_int());
+    row.tell("NOTIMP", &Rcode::NOTIMP.to_int());
+    row.tell("REFUSED", &Rcode::REFUSED.to_int());
+    row.tell("YXDOMAIN", &Rcode::YXDOMAIN.to_int());
+    row.tell("YXRRSET", &Rcode::YXRRSET.to_int());
+    row.tell("NXRRSET", &Rcode::NXRRSET.to_int());
+    row.tell("NOTAUTH", &Rcode::NOTAUTH.to_int());
+    row.tell("NOTZONE", &Rcode::NOTZONE.to_int());
+    row.tell("DSOTYPENI", &Rcode::DSOTYPENI.to_int());
+}
+
+/// The response codes with the bits of an OPT record.
+fn opt_rcodes(row: &mut Row<'_>) {
+    row.tell("NOERROR", &OptRcode::NOERROR.to_int());
+    row.tell("FORMERR", &OptRcode::FORMERR.to_int());
+    row.tell("SERVFAIL", &OptRcode::SERVFAIL.to_int());
+    row.tell("NXDOMAIN", &OptRcode::NXDOMAIN.to_int());
+    row.tell("NOTIMP", &OptRcode::NOTIMP.to_int());
+    row.tell("REFUSED", &OptRcode::REFUSED.to_int());
+    row.tell("YXDOMAIN", &OptRcode::YXDOMAIN.to_int());
+    row.tell("YXRRSET", &OptRcode::YXRRSET.to_int());
+    row.tell("NXRRSET", &OptRcode::NXRRSET.to_int());
+    row.tell("NOTAUTH", &OptRcode::NOTAUTH.to_int());
+    row.tell("NOTZONE", &OptRcode::NOTZONE.to_int());
+    row.tell("DSOTYPENI", &OptRcode::DSOTYPENI.to_int());
+    row.tell("BADVERS", &OptRcode::BADVERS.to_int());
+    row.tell("BADSIG", &OptRcode::BADSIG.to_int());
+}
+
+/// The other response codes with the bits of an OPT record.
+fn more_opt_rcodes(row: &mut Row<'_>) {
+    row.tell("BADKEY", &OptRcode::BADKEY.to_int());
+    row.tell("BADTIME", &OptRcode::BADTIME.to_int());
+    row.tell("BADMODE", &OptRcode::BADMODE.to_int());
+    row.tell("BADNAME", &OptRcode::BADNAME.to_int());
+    row.tell("BADALG", &OptRcode::BADALG.to_int());
+    row.tell("BADTRUNC", &OptRcode::BADTRUNC.to_int());
+    row.tell("BADCOOKIE", &OptRcode::BADCOOKIE.to_int());
 }

@@ -3,42 +3,32 @@
 ghost use Rattle.std.specs.Prelude.{IfOk};
 ghost use Rattle.dns_base.specs.Records.{IsLawful};
 
-use crate::told::no_memory;
 use dns_base::{Record, RecordData};
-use dns_name::{Class, Name, NameRef, OutOfMemory, Rtype, Serial, Ttl};
-use rows_table::{Arguments, RowError};
+use dns_name::{Class, Name, NameRef, Rtype, Serial, Ttl};
+use rows_table::{Row, RowError};
 use std::alloc::Global;
 
-/// All fields of a record.
-pub fn fields(alloc: Global, item: &Record) -> Result<String, OutOfMemory> {
-    let text = format!(in alloc; "{item:?}")?;
-    Ok(text)
-}
-
 /// The name of the next word.
-fn name(alloc: Global, arguments: &mut Arguments<'_>) -> Result<Name, RowError> {
-    match Name::from_octets(arguments.octets(alloc)?) {
-        Ok(name) => Ok(name),
-        Err(_) => Err(RowError::OutOfForm),
-    }
+fn name(row: &mut Row<'_>) -> Result<Name, RowError> {
+    Ok(Name::from_octets(row.octets())?)
 }
 
 /// The numbers of a zone's start.
-fn numbers(arguments: &mut Arguments<'_>) -> Result<[u32; 5], RowError> {
-    let serial = arguments.number()?;
-    let refresh = arguments.number()?;
-    let retry = arguments.number()?;
-    let expire = arguments.number()?;
-    Ok([serial, refresh, retry, expire, arguments.number()?])
+fn numbers(row: &mut Row<'_>) -> [u32; 5] {
+    let serial = row.number();
+    let refresh = row.number();
+    let retry = row.number();
+    let expire = row.number();
+    [serial, refresh, retry, expire, row.number()]
 }
 
 /// A zone's start, in the order of its octets (RFC 1035, section 3.3.13).
-fn soa(alloc: Global, arguments: &mut Arguments<'_>) -> Result<RecordData, RowError>
+fn soa(row: &mut Row<'_>) -> Result<RecordData, RowError>
     ensures { IfOk result IsLawful }
 {
-    let mname = name(alloc, arguments)?;
-    let rname = name(alloc, arguments)?;
-    let [serial, refresh, retry, expire, minimum] = numbers(arguments)?;
+    let mname = name(row)?;
+    let rname = name(row)?;
+    let [serial, refresh, retry, expire, minimum] = numbers(row);
     Ok(RecordData::Soa {
         mname,
         rname,
@@ -51,81 +41,76 @@ fn soa(alloc: Global, arguments: &mut Arguments<'_>) -> Result<RecordData, RowEr
 }
 
 /// Two mailboxes.
-fn minfo(alloc: Global, arguments: &mut Arguments<'_>) -> Result<RecordData, RowError>
+fn minfo(row: &mut Row<'_>) -> Result<RecordData, RowError>
     ensures { IfOk result IsLawful }
 {
     Ok(RecordData::Minfo {
-        first: name(alloc, arguments)?,
-        second: name(alloc, arguments)?,
+        first: name(row)?,
+        second: name(row)?,
     })
 }
 
 /// A mail exchange.
-fn mx(alloc: Global, arguments: &mut Arguments<'_>) -> Result<RecordData, RowError>
+fn mx(row: &mut Row<'_>) -> Result<RecordData, RowError>
     ensures { IfOk result IsLawful }
 {
     Ok(RecordData::Mx {
-        preference: arguments.number()?,
-        exchange: name(alloc, arguments)?,
+        preference: row.number(),
+        exchange: name(row)?,
     })
 }
 
 /// A service's host.
-fn srv(alloc: Global, arguments: &mut Arguments<'_>) -> Result<RecordData, RowError>
+fn srv(row: &mut Row<'_>) -> Result<RecordData, RowError>
     ensures { IfOk result IsLawful }
 {
     Ok(RecordData::Srv {
-        priority: arguments.number()?,
-        weight: arguments.number()?,
-        port: arguments.number()?,
-        target: name(alloc, arguments)?,
+        priority: row.number(),
+        weight: row.number(),
+        port: row.number(),
+        target: name(row)?,
     })
 }
 
 /// Another name of the owner's.
-fn dname(alloc: Global, arguments: &mut Arguments<'_>) -> Result<RecordData, RowError>
+fn dname(row: &mut Row<'_>) -> Result<RecordData, RowError>
     ensures { IfOk result IsLawful }
 {
     Ok(RecordData::Named {
         rtype: Rtype::DNAME,
-        name: name(alloc, arguments)?,
+        name: name(row)?,
     })
 }
 
 /// Data by its type, whose fields are the words behind it.
-fn data(alloc: Global, arguments: &mut Arguments<'_>) -> Result<RecordData, RowError>
+fn data(row: &mut Row<'_>) -> Result<RecordData, RowError>
     ensures { IfOk result IsLawful }
 {
-    match arguments.word()? {
-        "A" => Ok(RecordData::A(arguments.array()?)),
-        "AAAA" => Ok(RecordData::Aaaa(arguments.array()?)),
-        "DNAME" => dname(alloc, arguments),
-        "SOA" => soa(alloc, arguments),
-        "MINFO" => minfo(alloc, arguments),
-        "MX" => mx(alloc, arguments),
-        "SRV" => srv(alloc, arguments),
-        "OPT" => RecordData::opt(arguments.octets(alloc)?).ok_or(RowError::OutOfForm),
-        "TXT" => RecordData::unknown(Rtype::from_int(16), arguments.octets(alloc)?).ok_or(
-            RowError::OutOfForm,
-        ),
+    match row.word() {
+        "A" => Ok(RecordData::A(row.array())),
+        "AAAA" => Ok(RecordData::Aaaa(row.array())),
+        "DNAME" => dname(row),
+        "SOA" => soa(row),
+        "MINFO" => minfo(row),
+        "MX" => mx(row),
+        "SRV" => srv(row),
+        "OPT" => RecordData::opt(row.octets()).ok_or(RowError::OutOfForm),
+        "TXT" => RecordData::unknown(Rtype::from_int(16), row.octets()).ok_or(RowError::OutOfForm),
         _ => Err(RowError::OutOfForm),
     }
 }
 
 /// The name `owner`.
 fn owner(alloc: Global) -> Result<Name, RowError> {
-    match NameRef::from_slice(b"\x05owner\x00") {
-        Ok(owner) => owner.to_owned(alloc).map_err(no_memory),
-        Err(_) => Err(RowError::OutOfForm),
-    }
+    Ok(NameRef::from_slice(b"\x05owner\x00")?.to_owned(alloc)?)
 }
 
 /// The record of the name `owner` with such data.
-pub fn record_in_words(alloc: Global, arguments: &mut Arguments<'_>) -> Result<Record, RowError>
+pub fn record_in_words(row: &mut Row<'_>) -> Result<Record, RowError>
     ensures { IfOk result (λ r. IsLawful r.rdata) }
 {
-    let owner = owner(alloc)?;
-    let rdata = data(alloc, arguments)?;
+    let owner = owner(row.alloc())?;
+    let rdata = data(row)?;
     Ok(Record {
         owner,
         class: Class::IN,

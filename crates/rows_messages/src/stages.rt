@@ -3,13 +3,12 @@
 ghost use Rattle.std.specs.Prelude.{IfOk};
 ghost use Rattle.dns_base.specs.Records.{IsLawful};
 
-use crate::told::{no_memory, pushed};
 use dns_base::{
-    AdditionalBuilder, AnswerBuilder, AuthorityBuilder, MessageBuilder, PushError, Question,
-    QuestionBuilder, Record, StreamTarget, record_in,
+    AdditionalBuilder, AnswerBuilder, AuthorityBuilder, MessageBuilder, Question, QuestionBuilder,
+    Record, StreamTarget, record_in,
 };
 use dns_name::{Class, NameRef, OutOfMemory, ParseError, Parser, Rtype};
-use rows_table::{Arguments, RowError};
+use rows_table::{Row, RowError, Steps};
 use std::alloc::Global;
 use std::mem::replace;
 
@@ -51,7 +50,7 @@ impl Stage {
     }
 
     /// Lets the message take so many octets.
-    fn limit(&mut self, limit: usize) {
+    fn limit(&mut self, limit: usize) -> Result<(), RowError> {
         match self {
             Stage::Gone => {}
             Stage::Message(builder) => builder.set_push_limit(limit),
@@ -60,10 +59,11 @@ impl Stage {
             Stage::Authority(builder) => builder.set_push_limit(limit),
             Stage::Additional(builder) => builder.set_push_limit(limit),
         }
+        Ok(())
     }
 
     /// Lets the message take as many octets as any.
-    fn unlimit(&mut self) {
+    fn unlimit(&mut self) -> Result<(), RowError> {
         match self {
             Stage::Gone => {}
             Stage::Message(builder) => builder.clear_push_limit(),
@@ -72,17 +72,32 @@ impl Stage {
             Stage::Authority(builder) => builder.clear_push_limit(),
             Stage::Additional(builder) => builder.clear_push_limit(),
         }
+        Ok(())
     }
 
     /// Drops the section's items.
     fn rewind(&mut self) -> Result<(), RowError> {
         match self {
-            Stage::Gone | Stage::Message(_) => return Err(RowError::NoSuchCall),
+            Stage::Gone | Stage::Message(_) => return Err(RowError::NoSuchStep),
             Stage::Question(builder) => builder.rewind(),
             Stage::Answer(builder) => builder.rewind(),
             Stage::Authority(builder) => builder.rewind(),
             Stage::Additional(builder) => builder.rewind(),
         }
+        Ok(())
+    }
+
+    /// The message at its additional records.
+    fn additional(&mut self) -> Result<&mut AdditionalBuilder, RowError> {
+        match self {
+            Stage::Additional(builder) => Ok(builder),
+            _ => Err(RowError::NoSuchStep),
+        }
+    }
+
+    /// Goes on with a copy.
+    fn clone_in_place(&mut self, alloc: Global) -> Result<(), RowError> {
+        *self = self.try_clone(alloc)?;
         Ok(())
     }
 
@@ -107,7 +122,7 @@ fn from_header(builder: MessageBuilder, section: &str) -> Result<Stage, RowError
         "answer" => Ok(Stage::Answer(builder.answer())),
         "authority" => Ok(Stage::Authority(builder.authority())),
         "additional" => Ok(Stage::Additional(builder.additional())),
-        _ => Err(RowError::NoSuchCall),
+        _ => Err(RowError::NoSuchStep),
     }
 }
 
@@ -117,7 +132,7 @@ fn from_questions(builder: QuestionBuilder, section: &str) -> Result<Stage, RowE
         "answer" => Ok(Stage::Answer(builder.answer())),
         "authority" => Ok(Stage::Authority(builder.authority())),
         "additional" => Ok(Stage::Additional(builder.additional())),
-        _ => Err(RowError::NoSuchCall),
+        _ => Err(RowError::NoSuchStep),
     }
 }
 
@@ -126,7 +141,7 @@ fn from_answers(builder: AnswerBuilder, section: &str) -> Result<Stage, RowError
     match section {
         "authority" => Ok(Stage::Authority(builder.authority())),
         "additional" => Ok(Stage::Additional(builder.additional())),
-        _ => Err(RowError::NoSuchCall),
+        _ => Err(RowError::NoSuchStep),
     }
 }
 
@@ -139,7 +154,7 @@ fn moved(stage: Stage, section: &str) -> Result<Stage, RowError> {
         Stage::Authority(builder) if section == "additional" => {
             Ok(Stage::Additional(builder.additional()))
         }
-        _ => Err(RowError::NoSuchCall),
+        _ => Err(RowError::NoSuchStep),
     }
 }
 
@@ -164,168 +179,72 @@ fn question_of(alloc: Global, octets: &[u8]) -> Result<Question, ParseError> {
     })
 }
 
-/// The record that octets are.
-fn record_of(alloc: Global, octets: &[u8]) -> Result<Record, ParseError>
+/// The record that the octets of the next word are.
+fn next_record(row: &mut Row<'_>) -> Result<Record, RowError>
     ensures { IfOk result (λ r. IsLawful r.rdata) }
 {
-    let (found, _) = record_in(octets, 0)?;
-    found.to_record(alloc)
+    let octets = row.octets();
+    let (found, _) = record_in(&octets, 0)?;
+    Ok(found.to_record(row.alloc())?)
 }
 
-/// Adds a question.
-fn push_question(
-    alloc: Global,
-    builder: &mut QuestionBuilder,
-    octets: &[u8],
-) -> Result<Result<(), PushError>, ParseError> {
-    let question = question_of(alloc, octets)?;
-    Ok(builder.push(alloc, &question))
+/// Adds the question of the next word.
+fn push_question(builder: &mut QuestionBuilder, row: &mut Row<'_>) -> Result<(), RowError> {
+    let octets = row.octets();
+    let question = question_of(row.alloc(), &octets)?;
+    row.outcome(builder.push(row.alloc(), &question));
+    Ok(())
 }
 
-/// Adds a record.
-fn push_record(
-    alloc: Global,
-    stage: &mut Stage,
-    octets: &[u8],
-) -> Result<Result<(), PushError>, ParseError> {
-    let item = record_of(alloc, octets)?;
-    let done = match stage {
-        Stage::Answer(builder) => builder.push(alloc, &item),
-        Stage::Authority(builder) => builder.push(alloc, &item),
-        Stage::Additional(builder) => builder.push(alloc, &item),
-        _ => return Err(ParseError::ShortInput),
-    };
-    Ok(done)
-}
-
-/// Adds the question or record that octets are.
-fn push(alloc: Global, stage: &mut Stage, octets: &[u8]) -> Result<&'static str, RowError> {
-    let done = match stage {
-        Stage::Gone | Stage::Message(_) => return Err(RowError::NoSuchCall),
-        Stage::Question(builder) => push_question(alloc, builder, octets),
-        Stage::Answer(_) | Stage::Authority(_) | Stage::Additional(_) => {
-            push_record(alloc, stage, octets)
-        }
-    };
-    match done {
-        Ok(done) => Ok(pushed(done)),
-        Err(_) => Err(RowError::OutOfForm),
-    }
-}
-
-/// Puts a record in place of those of its type.
-fn replace_type(
-    alloc: Global,
-    builder: &mut AdditionalBuilder,
-    octets: &[u8],
-) -> Result<&'static str, RowError> {
-    match record_of(alloc, octets) {
-        Ok(item) => Ok(pushed(builder.replace_type(alloc, item.rdata.rtype(), &item))),
-        Err(_) => Err(RowError::OutOfForm),
-    }
-}
-
-/// Puts the record of the next word in place of those of its type.
-fn replace_next(
-    alloc: Global,
-    stage: &mut Stage,
-    arguments: &mut Arguments<'_>,
-) -> Result<&'static str, RowError> {
-    let octets = arguments.octets(alloc)?;
+/// Adds a record to the section, and says what that answers.
+fn push_record(stage: &mut Stage, row: &mut Row<'_>, item: &Record)
+    requires { IsLawful item.now.rdata }
+{
     match stage {
-        Stage::Additional(builder) => replace_type(alloc, builder, &octets),
-        _ => Err(RowError::NoSuchCall),
+        Stage::Answer(builder) => row.outcome(builder.push(row.alloc(), item)),
+        Stage::Authority(builder) => row.outcome(builder.push(row.alloc(), item)),
+        Stage::Additional(builder) => row.outcome(builder.push(row.alloc(), item)),
+        _ => row.fail(RowError::NoSuchStep),
     }
 }
 
-/// Drops the additional records of a type.
-fn remove(stage: &mut Stage, rtype: u16) -> Result<(), RowError> {
-    match stage {
-        Stage::Additional(builder) => builder.remove_type(Rtype::from_int(rtype)),
-        _ => return Err(RowError::NoSuchCall),
+/// Adds the question or record of the next word, and says what that answers.
+fn push_next(stage: &mut Stage, row: &mut Row<'_>) -> Result<(), RowError> {
+    if let Stage::Question(builder) = stage {
+        return push_question(builder, row);
     }
+    let item = next_record(row)?;
+    push_record(stage, row, &item);
     Ok(())
 }
 
-/// Adds the question or record of the next word.
-fn push_next(
-    alloc: Global,
-    stage: &mut Stage,
-    arguments: &mut Arguments<'_>,
-) -> Result<&'static str, RowError> {
-    let octets = arguments.octets(alloc)?;
-    push(alloc, stage, &octets)
-}
-
-/// Goes on with a copy.
-fn clone_in_place(alloc: Global, stage: &mut Stage) -> Result<(), RowError> {
-    *stage = stage.try_clone(alloc).map_err(no_memory)?;
+/// Puts the record of the next word in place of those of its type, and says what that answers.
+fn replace_next(stage: &mut Stage, row: &mut Row<'_>) -> Result<(), RowError> {
+    let builder = stage.additional()?;
+    let item = next_record(row)?;
+    row.outcome(builder.replace_type(row.alloc(), item.rdata.rtype(), &item));
     Ok(())
 }
 
-/// Takes a step that says nothing.
-fn take_silent(
-    alloc: Global,
-    stage: &mut Stage,
-    step: &str,
-    arguments: &mut Arguments<'_>,
-) -> Result<(), RowError> {
-    match step {
-        "limit" => stage.limit(arguments.number()?),
-        "unlimit" => stage.unlimit(),
-        "rewind" => return stage.rewind(),
-        "clone" => return clone_in_place(alloc, stage),
-        "remove" => return remove(stage, arguments.number()?),
-        section => return move_on(stage, section),
-    }
+/// Drops the additional records of the type of the next word.
+fn remove_next(stage: &mut Stage, row: &mut Row<'_>) -> Result<(), RowError> {
+    stage
+        .additional()?
+        .remove_type(Rtype::from_int(row.number()));
     Ok(())
 }
 
-/// What a step says; none where it says nothing.
-fn take_step(
-    alloc: Global,
-    stage: &mut Stage,
-    step: &str,
-    arguments: &mut Arguments<'_>,
-) -> Result<Option<&'static str>, RowError> {
-    match step {
-        "push" => Ok(Some(push_next(alloc, stage, arguments)?)),
-        "replace" => Ok(Some(replace_next(alloc, stage, arguments)?)),
-        _ => {
-            take_silent(alloc, stage, step, arguments)?;
-            Ok(None)
+impl Steps for Stage {
+    fn take_step(&mut self, step: &str, row: &mut Row<'_>) -> Result<(), RowError> {
+        match step {
+            "push" => push_next(self, row),
+            "replace" => replace_next(self, row),
+            "remove" => remove_next(self, row),
+            "limit" => self.limit(row.number()),
+            "unlimit" => self.unlimit(),
+            "rewind" => self.rewind(),
+            "clone" => self.clone_in_place(row.alloc()),
+            section => move_on(self, section),
         }
     }
-}
-
-/// Takes a step, and appends what it says with a space behind it.
-fn push_step(
-    alloc: Global,
-    stage: &mut Stage,
-    step: &str,
-    said: &mut String,
-) -> Result<(), RowError> {
-    let mut arguments = Arguments::of(step);
-    let step = arguments.word()?;
-    if let Some(answer) = take_step(alloc, stage, step, &mut arguments)? {
-        said.push_str(answer)?;
-        said.push_str(" ")?;
-    }
-    arguments.end()
-}
-
-/// Takes the steps, which a comma parts; what they say stands in the text.
-pub fn take_steps(
-    alloc: Global,
-    stage: &mut Stage,
-    steps: &str,
-    said: &mut String,
-) -> Result<(), RowError> {
-    if steps.is_empty() {
-        return Ok(());
-    }
-    for step in steps.split(", ") {
-        push_step(alloc, stage, step, said)?;
-    }
-    Ok(())
 }

@@ -1,86 +1,80 @@
 //! The calls of dns_cookie.
 
-use crate::told::{address, digits, no_memory, shown, told, word};
+use crate::said::shown;
 use dns_cookie::{
     ClientCookie, Cookie, ServerCookie, StandardServerCookie, check_response, siphash24,
     timestamp_ok,
 };
-use dns_name::{
-    ComposeOptData, IpAddr, OptData, OptionCode, OutOfMemory, ParseError, ParseOptData, Parser,
-    Serial,
-};
-use rows_table::{Arguments, RowError, yes_no};
-use std::alloc::Global;
+use dns_name::{ComposeOptData, IpAddr, OptionCode, ParseOptData, Parser, Serial};
+use rows_table::{Calls, Row, RowError};
 
-/// What a call of dns_cookie says; none where the call is none of them.
-pub fn answer(
-    alloc: Global,
-    call: &str,
-    arguments: &mut Arguments<'_>,
-) -> Option<Result<String, RowError>> {
-    let said = match call {
-        "siphash24" => hash(alloc, arguments),
-        "timestamp_ok" => timely(alloc, arguments),
-        "check_server_hash" => check_server_hash(alloc, arguments),
-        "check_hash" => check_hash(alloc, arguments),
-        "create_response" => create_response(alloc, arguments),
-        "check_response" => check_created(alloc, arguments),
-        "cookie" => cookie(alloc, arguments),
-        "standard_server_cookie" => standard_server_cookie(alloc, arguments),
-        "server_cookie" => server_cookie(alloc, arguments),
-        "client_copied" => client_copied(alloc, arguments),
-        "client_cmp" => client_cmp(alloc, arguments),
-        "server_cmp" => server_cmp(alloc, arguments),
-        "cookie_cmp" => cookie_cmp(alloc, arguments),
-        _ => return None,
-    };
-    Some(said)
-}
+/// The calls of dns_cookie.
+pub struct Cookies;
 
-/// The hash of octets under a key.
-fn hash(alloc: Global, arguments: &mut Arguments<'_>) -> Result<String, RowError> {
-    let key = arguments.array::<16>()?;
-    let hash = siphash24(&key, &arguments.octets(alloc)?);
-    Ok(format!(in alloc; "{hash:016x}")?)
-}
-
-/// Whether a timestamp is timely.
-fn timely(alloc: Global, arguments: &mut Arguments<'_>) -> Result<String, RowError> {
-    let timestamp = Serial(arguments.number()?);
-    let now = Serial(arguments.number()?);
-    word(alloc, yes_no(timestamp_ok(timestamp, now))).map_err(no_memory)
-}
-
-/// The cookie of the next word.
-fn next_cookie(alloc: Global, arguments: &mut Arguments<'_>) -> Result<Cookie, RowError> {
-    let octets = arguments.octets(alloc)?;
-    let mut parser = Parser::from_ref(&octets);
-    match Cookie::parse(&mut parser) {
-        Ok(cookie) => Ok(cookie),
-        Err(_) => Err(RowError::OutOfForm),
+impl Calls for Cookies {
+    fn answer(&self, call: &str, row: &mut Row<'_>) -> Result<(), RowError> {
+        match call {
+            "siphash24" => hash(row),
+            "timestamp_ok" => timely(row),
+            "check_server_hash" => check_server_hash(row),
+            "check_hash" => check_hash(row),
+            "create_response" => create_response(row),
+            "check_response" => check_created(row),
+            "cookie" => cookie(row),
+            "standard_server_cookie" => standard_server_cookie(row),
+            "server_cookie" => server_cookie(row),
+            "client_copied" => client_copied(row),
+            "client_cmp" => client_cmp(row),
+            "server_cmp" => server_cmp(row),
+            "cookie_cmp" => cookie_cmp(row),
+            _ => Err(RowError::NoSuchCall),
+        }
     }
 }
 
+/// The hash of octets under a key.
+fn hash(row: &mut Row<'_>) -> Result<(), RowError> {
+    let key = row.array::<16>();
+    let hash = siphash24(&key, &row.octets());
+    row.hexadecimal(&hash.to_be_bytes());
+    Ok(())
+}
+
+/// Whether a timestamp is timely.
+fn timely(row: &mut Row<'_>) -> Result<(), RowError> {
+    let timestamp = Serial(row.number());
+    let now = Serial(row.number());
+    row.whether(timestamp_ok(timestamp, now));
+    Ok(())
+}
+
+/// The cookie of the next word.
+fn next_cookie(row: &mut Row<'_>) -> Result<Cookie, RowError> {
+    let octets = row.octets();
+    Cookie::parse(&mut Parser::from_ref(&octets)).or(Err(RowError::OutOfForm))
+}
+
 /// Whether a cookie checks for an address under a secret, where only one timestamp is accepted.
-fn check_server_hash(alloc: Global, arguments: &mut Arguments<'_>) -> Result<String, RowError> {
-    let cookie = next_cookie(alloc, arguments)?;
-    let client_ip = address(arguments)?;
-    let secret = arguments.array::<16>()?;
-    let timestamp = arguments.number::<u32>()?;
+fn check_server_hash(row: &mut Row<'_>) -> Result<(), RowError> {
+    let cookie = next_cookie(row)?;
+    let client_ip = row.address();
+    let secret = row.array::<16>();
+    let timestamp = row.number::<u32>();
     let checks = cookie.check_server_hash(client_ip, &secret, |at: Serial| {
         at.into_int() == timestamp
     });
-    word(alloc, yes_no(checks)).map_err(no_memory)
+    row.whether(checks);
+    Ok(())
 }
 
 /// Whether the hash of a cookie's standard server part is that of an address under a secret.
-fn check_hash(alloc: Global, arguments: &mut Arguments<'_>) -> Result<String, RowError> {
-    let cookie = next_cookie(alloc, arguments)?;
-    let client_ip = address(arguments)?;
-    let secret = arguments.array::<16>()?;
+fn check_hash(row: &mut Row<'_>) -> Result<(), RowError> {
+    let cookie = next_cookie(row)?;
+    let client_ip = row.address();
+    let secret = row.array::<16>();
     let standard = standard_part(&cookie).ok_or(RowError::OutOfForm)?;
-    let checks = standard.check_hash(cookie.client(), client_ip, &secret);
-    word(alloc, yes_no(checks)).map_err(no_memory)
+    row.whether(standard.check_hash(cookie.client(), client_ip, &secret));
+    Ok(())
 }
 
 /// The standard server cookie of a cookie.
@@ -89,114 +83,93 @@ fn standard_part(cookie: &Cookie) -> Option<StandardServerCookie> {
 }
 
 /// A client's cookie alone, a timestamp, an address and a secret.
-fn client_words(
-    arguments: &mut Arguments<'_>,
-) -> Result<(Cookie, Serial, IpAddr, [u8; 16]), RowError> {
-    let client = ClientCookie::from(arguments.array::<8>()?);
-    let timestamp = Serial(arguments.number()?);
-    let client_ip = address(arguments)?;
-    let secret = arguments.array::<16>()?;
-    Ok((Cookie::new(client, None), timestamp, client_ip, secret))
+fn client_words(row: &mut Row<'_>) -> (Cookie, Serial, IpAddr, [u8; 16]) {
+    let client = ClientCookie::from(row.array::<8>());
+    let timestamp = Serial(row.number());
+    let client_ip = row.address();
+    let secret = row.array::<16>();
+    (Cookie::new(client, None), timestamp, client_ip, secret)
 }
 
-/// The octets of both parts of a cookie, one behind the other.
-fn parts_of(alloc: Global, cookie: &Cookie) -> Result<String, OutOfMemory> {
-    let mut octets = Vec::new(alloc);
-    cookie.client().compose(alloc, &mut octets)?;
-    if let Some(server) = cookie.server() {
-        server.compose(alloc, &mut octets)?;
-    }
-    digits(alloc, &octets)
-}
-
-/// The cookie that a response has.
-fn create_response(alloc: Global, arguments: &mut Arguments<'_>) -> Result<String, RowError> {
-    let (cookie, timestamp, client_ip, secret) = client_words(arguments)?;
+/// The cookie that a response has: the octets of both parts, one behind the other.
+fn create_response(row: &mut Row<'_>) -> Result<(), RowError> {
+    let (cookie, timestamp, client_ip, secret) = client_words(row);
     let response = cookie.create_response(timestamp, client_ip, &secret);
-    parts_of(alloc, &response).map_err(no_memory)
+    let mut octets = Vec::new(row.alloc());
+    response.client().compose(row.alloc(), &mut octets)?;
+    if let Some(server) = response.server() {
+        server.compose(row.alloc(), &mut octets)?;
+    }
+    row.hexadecimal(&octets);
+    Ok(())
 }
 
 /// Whether the cookie that a response has checks, where every timestamp is accepted.
-fn check_created(alloc: Global, arguments: &mut Arguments<'_>) -> Result<String, RowError> {
-    let (cookie, timestamp, client_ip, secret) = client_words(arguments)?;
-    let checks = check_response(&cookie, timestamp, client_ip, &secret, |_| true);
-    word(alloc, yes_no(checks)).map_err(no_memory)
+fn check_created(row: &mut Row<'_>) -> Result<(), RowError> {
+    let (cookie, timestamp, client_ip, secret) = client_words(row);
+    row.whether(check_response(&cookie, timestamp, client_ip, &secret, |_| true));
+    Ok(())
 }
 
-/// The option that octets are under a code, and how many octets are left.
-fn cookie(alloc: Global, arguments: &mut Arguments<'_>) -> Result<String, RowError> {
-    let code = OptionCode::from_int(arguments.number()?);
-    let octets = arguments.octets(alloc)?;
+/// The option that octets are under a code, how many octets it says that it takes, and how many are left.
+fn cookie(row: &mut Row<'_>) -> Result<(), RowError> {
+    let code = OptionCode::from_int(row.number());
+    let octets = row.octets();
     let mut parser = Parser::from_ref(&octets);
-    let said = told(alloc, option_in(alloc, code, &mut parser))?;
-    let left = parser.remaining();
-    Ok(format!(in alloc; "{said} left={left}")?)
-}
-
-/// The cookie that is read under a code, and how many octets it says that it takes.
-fn option_in(
-    alloc: Global,
-    code: OptionCode,
-    parser: &mut Parser<'_>,
-) -> Result<String, ParseError> {
-    let Some(cookie) = Cookie::parse_option(code, parser)? else {
-        return Ok(word(alloc, "none")?);
-    };
-    let said = shown(alloc, &cookie)?;
-    let len = cookie.compose_len();
-    Ok(format!(in alloc; "{said} compose_len={len}")?)
+    match Cookie::parse_option(code, &mut parser) {
+        Ok(Some(cookie)) => {
+            shown(row, &cookie);
+            row.tell("compose_len", &cookie.compose_len());
+        }
+        Ok(None) => row.say("none"),
+        Err(error) => row.debug(&error),
+    }
+    row.tell("left", &parser.remaining());
+    Ok(())
 }
 
 /// The parts of a standard server cookie.
-fn standard_said(alloc: Global, standard: StandardServerCookie) -> Result<String, OutOfMemory> {
-    let version = standard.version();
-    let reserved = digits(alloc, &standard.reserved())?;
-    let timestamp = standard.timestamp().into_int();
-    let hash = digits(alloc, &standard.hash())?;
-    Ok(format!(in alloc;
-        "\"{standard}\" version={version} reserved={reserved} timestamp={timestamp} hash={hash}"
-    )?)
+fn standard_said(row: &mut Row<'_>, standard: StandardServerCookie) {
+    row.quote(&standard);
+    row.tell("version", &standard.version());
+    row.tell_octets("reserved", &standard.reserved());
+    row.tell("timestamp", &standard.timestamp().into_int());
+    row.tell_octets("hash", &standard.hash())
 }
 
 /// What a server cookie appends to none.
-fn server_octets(alloc: Global, server: &ServerCookie) -> Result<String, OutOfMemory> {
-    let mut octets = Vec::new(alloc);
-    server.compose(alloc, &mut octets)?;
-    digits(alloc, &octets)
-}
-
-/// The standard server cookie that a server cookie is.
-fn standard_in(alloc: Global, server: &ServerCookie) -> Result<String, OutOfMemory> {
-    match server.try_to_standard() {
-        Some(standard) => standard_said(alloc, standard),
-        None => word(alloc, "none"),
-    }
+fn server_octets(row: &mut Row<'_>, server: &ServerCookie) {
+    let mut octets = Vec::new(row.alloc());
+    row.keep(server.compose(row.alloc(), &mut octets));
+    row.hexadecimal(&octets)
 }
 
 /// A server cookie's octets, their number, its text, and the standard server cookie that it is.
-fn server_said(alloc: Global, server: &ServerCookie) -> Result<String, OutOfMemory> {
-    let octets = server_octets(alloc, server)?;
-    let len = server.compose_len();
-    let standard = standard_in(alloc, server)?;
-    Ok(format!(in alloc; "{octets} compose_len={len} \"{server}\" standard {standard}")?)
+fn server_said(row: &mut Row<'_>, server: &ServerCookie) {
+    server_octets(row, server);
+    row.tell("compose_len", &server.compose_len());
+    row.quote(server);
+    row.say("standard");
+    match server.try_to_standard() {
+        Some(standard) => standard_said(row, standard),
+        None => row.say("none"),
+    }
 }
 
 /// The server cookie of a version, three octets, a timestamp and a hash that is set afterwards.
-fn standard_server_cookie(
-    alloc: Global,
-    arguments: &mut Arguments<'_>,
-) -> Result<String, RowError> {
-    let version = arguments.number()?;
-    let reserved = arguments.array::<3>()?;
-    let timestamp = Serial(arguments.number()?);
+fn standard_server_cookie(row: &mut Row<'_>) -> Result<(), RowError> {
+    let version = row.number();
+    let reserved = row.array::<3>();
+    let timestamp = Serial(row.number());
     let mut standard = StandardServerCookie::new(version, reserved, timestamp, [0; 8]);
-    standard.set_hash(arguments.array::<8>()?);
-    server_said(alloc, &ServerCookie::from(standard)).map_err(no_memory)
+    standard.set_hash(row.array::<8>());
+    server_said(row, &ServerCookie::from(standard));
+    Ok(())
 }
 
 /// The server cookie of the next word.
-fn next_server(alloc: Global, arguments: &mut Arguments<'_>) -> Result<ServerCookie, RowError> {
-    let octets = arguments.octets(alloc)?;
+fn next_server(row: &mut Row<'_>) -> Result<ServerCookie, RowError> {
+    let octets = row.octets();
     if octets.len() < 8 || octets.len() > 32 {
         return Err(RowError::OutOfForm);
     }
@@ -204,38 +177,41 @@ fn next_server(alloc: Global, arguments: &mut Arguments<'_>) -> Result<ServerCoo
 }
 
 /// The server cookie of octets.
-fn server_cookie(alloc: Global, arguments: &mut Arguments<'_>) -> Result<String, RowError> {
-    server_said(alloc, &next_server(alloc, arguments)?).map_err(no_memory)
+fn server_cookie(row: &mut Row<'_>) -> Result<(), RowError> {
+    let server = next_server(row)?;
+    server_said(row, &server);
+    Ok(())
 }
 
 /// The octets of a client cookie to which those of another were copied.
-fn client_copied(alloc: Global, arguments: &mut Arguments<'_>) -> Result<String, RowError> {
-    let mut client = ClientCookie::from_octets(arguments.array()?);
-    let other = ClientCookie::from(arguments.array::<8>()?);
+fn client_copied(row: &mut Row<'_>) -> Result<(), RowError> {
+    let mut client = ClientCookie::from_octets(row.array());
+    let other = ClientCookie::from(row.array::<8>());
     client.as_slice_mut().copy_from_slice(other.as_slice());
-    digits(alloc, &<[u8; 8]>::from(client)).map_err(no_memory)
+    row.hexadecimal(&<[u8; 8]>::from(client));
+    Ok(())
 }
 
 /// How two client cookies compare.
-fn client_cmp(alloc: Global, arguments: &mut Arguments<'_>) -> Result<String, RowError> {
-    let client = ClientCookie::from_octets(arguments.array()?);
-    let other = ClientCookie::from_octets(arguments.array()?);
-    let order = client.cmp(&other);
-    Ok(format!(in alloc; "{order:?}")?)
+fn client_cmp(row: &mut Row<'_>) -> Result<(), RowError> {
+    let client = ClientCookie::from_octets(row.array());
+    let other = ClientCookie::from_octets(row.array());
+    row.debug(&client.cmp(&other));
+    Ok(())
 }
 
 /// How two server cookies compare.
-fn server_cmp(alloc: Global, arguments: &mut Arguments<'_>) -> Result<String, RowError> {
-    let server = next_server(alloc, arguments)?;
-    let other = next_server(alloc, arguments)?;
-    let order = server.cmp(&other);
-    Ok(format!(in alloc; "{order:?}")?)
+fn server_cmp(row: &mut Row<'_>) -> Result<(), RowError> {
+    let server = next_server(row)?;
+    let other = next_server(row)?;
+    row.debug(&server.cmp(&other));
+    Ok(())
 }
 
 /// How two cookies compare.
-fn cookie_cmp(alloc: Global, arguments: &mut Arguments<'_>) -> Result<String, RowError> {
-    let cookie = next_cookie(alloc, arguments)?;
-    let other = next_cookie(alloc, arguments)?;
-    let order = cookie.cmp(&other);
-    Ok(format!(in alloc; "{order:?}")?)
+fn cookie_cmp(row: &mut Row<'_>) -> Result<(), RowError> {
+    let cookie = next_cookie(row)?;
+    let other = next_cookie(row)?;
+    row.debug(&cookie.cmp(&other));
+    Ok(())
 }

@@ -1,116 +1,101 @@
 //! The calls of dns_kinds.
 
-use crate::told::{address, both_shown, built, no_memory, shown, told, word};
+use crate::said::{both_shown, shown};
 use dns_kinds::{
     Chain, ChainRef, ClientSubnet, Expire, ExtendedError, ExtendedErrorRef, IdleTimeout,
     TcpKeepalive,
 };
-use dns_name::{ExtendedErrorCode, NameRef, OutOfMemory, ParseError, Parser};
-use rows_table::{Arguments, RowError, yes_no};
-use std::alloc::Global;
+use dns_name::{ExtendedErrorCode, NameRef, Parser};
+use rows_table::{Calls, Row, RowError};
 use std::hash::{DefaultHasher, Hash, Hasher};
 
-/// Whether a call of dns_kinds is given octets alone.
-fn takes_octets(call: &str) -> bool {
-    matches!(
-        call,
-        "extended_error" | "keepalive_parse" | "chain" | "chain_new" | "subnet_parse"
-    )
-}
+/// The calls of dns_kinds.
+pub struct Kinds;
 
-/// What a call of dns_kinds says; none where the call is none of them.
-pub fn answer(
-    alloc: Global,
-    call: &str,
-    arguments: &mut Arguments<'_>,
-) -> Option<Result<String, RowError>> {
-    if takes_octets(call) {
-        return Some(of_octets(alloc, call, arguments));
-    }
-    let said = match call {
-        "extended_error_new" => extended_error_new(alloc, arguments),
-        "extended_error_private" => extended_error_private(alloc, arguments),
-        "expire" => expire(alloc, arguments),
-        "keepalive_millis" => keepalive_millis(alloc, arguments),
-        "chain_cmp" => chain_cmp(alloc, arguments),
-        "subnet" => subnet(alloc, arguments),
-        _ => return None,
-    };
-    Some(said)
-}
-
-/// What a call says of octets.
-fn of_octets(alloc: Global, call: &str, arguments: &mut Arguments<'_>) -> Result<String, RowError> {
-    let octets = arguments.octets(alloc)?;
-    told(alloc, by_octets(alloc, call, &octets))
-}
-
-/// What a call says of octets, or its refusal.
-fn by_octets(alloc: Global, call: &str, octets: &[u8]) -> Result<String, ParseError> {
-    match call {
-        "extended_error" => extended_error(alloc, octets),
-        "keepalive_parse" => keepalive_parse(alloc, octets),
-        "chain" => chain(alloc, octets),
-        "chain_new" => chain_new(alloc, octets),
-        _ => subnet_parse(alloc, octets),
+impl Calls for Kinds {
+    fn answer(&self, call: &str, row: &mut Row<'_>) -> Result<(), RowError> {
+        match call {
+            "extended_error" => extended_error(row),
+            "extended_error_new" => extended_error_new(row),
+            "extended_error_private" => extended_error_private(row),
+            "expire" => expire(row),
+            "keepalive_millis" => keepalive_millis(row),
+            "keepalive_parse" => keepalive_parse(row),
+            "chain" => chain(row),
+            "chain_new" => chain_new(row),
+            "chain_cmp" => chain_cmp(row),
+            "subnet" => subnet(row),
+            "subnet_parse" => subnet_parse(row),
+            _ => Err(RowError::NoSuchCall),
+        }
     }
 }
 
 /// An extended error that is read, borrowed and owned.
-fn extended_error(alloc: Global, octets: &[u8]) -> Result<String, ParseError> {
-    let mut parser = Parser::from_ref(octets);
-    let found = ExtendedErrorRef::parse(&mut parser)?;
-    Ok(both_shown(alloc, &found, &found.to_owned(alloc)?)?)
+fn extended_error(row: &mut Row<'_>) -> Result<(), RowError> {
+    let octets = row.octets();
+    let found = ExtendedErrorRef::parse(&mut Parser::from_ref(&octets))?;
+    let owned = found.to_owned(row.alloc())?;
+    both_shown(row, &found, &owned);
+    Ok(())
 }
 
 /// An extended error of a code and a text.
-fn extended_error_new(alloc: Global, arguments: &mut Arguments<'_>) -> Result<String, RowError> {
-    let code = ExtendedErrorCode::from_int(arguments.number()?);
-    match ExtendedError::new_with_str(alloc, code, arguments.text()?) {
-        Ok(error) => shown(alloc, &error).map_err(no_memory),
-        Err(error) => built(alloc, Err(error)).map_err(no_memory),
+fn extended_error_new(row: &mut Row<'_>) -> Result<(), RowError> {
+    let code = ExtendedErrorCode::from_int(row.number());
+    match ExtendedError::new_with_str(row.alloc(), code, row.text()) {
+        Ok(error) => shown(row, &error),
+        Err(error) => row.debug(&error),
     }
+    Ok(())
 }
 
 /// Whether a code is for private use.
-fn extended_error_private(
-    alloc: Global,
-    arguments: &mut Arguments<'_>,
-) -> Result<String, RowError> {
-    let error = ExtendedError::from(arguments.number::<u16>()?);
-    word(alloc, yes_no(error.is_private())).map_err(no_memory)
+fn extended_error_private(row: &mut Row<'_>) -> Result<(), RowError> {
+    let error = ExtendedError::from(row.number::<u16>());
+    row.whether(error.is_private());
+    Ok(())
 }
 
 /// A time of so many seconds, or none.
-fn expire(alloc: Global, arguments: &mut Arguments<'_>) -> Result<String, RowError> {
-    let expire = Expire::new(arguments.optional()?);
-    shown(alloc, &expire).map_err(no_memory)
+fn expire(row: &mut Row<'_>) -> Result<(), RowError> {
+    let expire = Expire::new(row.optional());
+    shown(row, &expire);
+    Ok(())
 }
 
 /// A timeout of so many milliseconds.
-fn keepalive_millis(alloc: Global, arguments: &mut Arguments<'_>) -> Result<String, RowError> {
-    match IdleTimeout::try_from_millis(arguments.number()?) {
-        Ok(timeout) => shown(alloc, &TcpKeepalive::new(Some(timeout))).map_err(no_memory),
-        Err(error) => Ok(format!(in alloc; "{error:?}")?),
+fn keepalive_millis(row: &mut Row<'_>) -> Result<(), RowError> {
+    match IdleTimeout::try_from_millis(row.number()) {
+        Ok(timeout) => shown(row, &TcpKeepalive::new(Some(timeout))),
+        Err(error) => row.debug(&error),
     }
+    Ok(())
 }
 
 /// A timeout that is read.
-fn keepalive_parse(alloc: Global, octets: &[u8]) -> Result<String, ParseError> {
-    let mut parser = Parser::from_ref(octets);
-    Ok(shown(alloc, &TcpKeepalive::parse(&mut parser)?)?)
+fn keepalive_parse(row: &mut Row<'_>) -> Result<(), RowError> {
+    let octets = row.octets();
+    let keepalive = TcpKeepalive::parse(&mut Parser::from_ref(&octets))?;
+    shown(row, &keepalive);
+    Ok(())
 }
 
 /// A chain from a name that is borrowed.
-fn chain(alloc: Global, octets: &[u8]) -> Result<String, ParseError> {
-    let given = ChainRef::new(NameRef::from_slice(octets)?);
-    Ok(both_shown(alloc, &given, &given.to_owned(alloc)?)?)
+fn chain(row: &mut Row<'_>) -> Result<(), RowError> {
+    let octets = row.octets();
+    let given = ChainRef::new(NameRef::from_slice(&octets)?);
+    let owned = given.to_owned(row.alloc())?;
+    both_shown(row, &given, &owned);
+    Ok(())
 }
 
 /// A chain from a name that is owned.
-fn chain_new(alloc: Global, octets: &[u8]) -> Result<String, ParseError> {
-    let owned = Chain::new(NameRef::from_slice(octets)?.to_owned(alloc)?);
-    Ok(both_shown(alloc, &owned.for_slice(), &owned)?)
+fn chain_new(row: &mut Row<'_>) -> Result<(), RowError> {
+    let octets = row.octets();
+    let owned = Chain::new(NameRef::from_slice(&octets)?.to_owned(row.alloc())?);
+    both_shown(row, &owned.for_slice(), &owned);
+    Ok(())
 }
 
 /// What a value is hashed to.
@@ -121,69 +106,57 @@ fn hashed<K: Hash>(value: &K) -> u64 {
 }
 
 /// How two values compare, and whether they are equal and hashed alike.
-fn compared<K: Ord + Hash>(alloc: Global, first: &K, second: &K) -> Result<String, OutOfMemory> {
-    let order = first.cmp(second);
-    let same = yes_no(first == second);
-    let alike = yes_no(hashed(first) == hashed(second));
-    Ok(format!(in alloc; "{order:?} eq={same} hash={alike}")?)
+fn compared<K: Ord + Hash>(row: &mut Row<'_>, first: &K, second: &K) {
+    row.debug(&first.cmp(second));
+    row.tell_whether("eq", first == second);
+    row.tell_whether("hash", hashed(first) == hashed(second))
 }
 
-/// How two chains compare as they are owned.
+/// How two chains compare as they are owned, and whether one is hashed alike in both forms.
 fn owned_compared(
-    alloc: Global,
+    row: &mut Row<'_>,
     first: &ChainRef<'_>,
     second: &ChainRef<'_>,
-) -> Result<String, OutOfMemory> {
-    let kept = first.to_owned(alloc)?;
-    let other = second.to_owned(alloc)?;
-    let alike = yes_no(hashed(first) == hashed(&kept));
-    let owned = compared(alloc, &kept, &other)?;
-    Ok(format!(in alloc; "owned {owned}, both hash={alike}")?)
+) -> Result<(), RowError> {
+    let kept = first.to_owned(row.alloc())?;
+    let other = second.to_owned(row.alloc())?;
+    compared(row, &kept, &other);
+    row.close(", both");
+    row.tell_whether("hash", hashed(first) == hashed(&kept));
+    Ok(())
 }
 
-/// How two chains compare, both as they are borrowed and as they are owned.
-fn both_compared(
-    alloc: Global,
-    first: &ChainRef<'_>,
-    second: &ChainRef<'_>,
-) -> Result<String, OutOfMemory> {
-    let borrowed = compared(alloc, first, second)?;
-    let owned = owned_compared(alloc, first, second)?;
-    Ok(format!(in alloc; "{borrowed}, {owned}")?)
-}
-
-/// How the chains from two names compare.
-fn chains_compared(alloc: Global, octets: &[u8], others: &[u8]) -> Result<String, ParseError> {
-    let first = ChainRef::new(NameRef::from_slice(octets)?);
-    let second = ChainRef::new(NameRef::from_slice(others)?);
-    Ok(both_compared(alloc, &first, &second)?)
-}
-
-/// How the chains from the names of two words compare.
-fn chain_cmp(alloc: Global, arguments: &mut Arguments<'_>) -> Result<String, RowError> {
-    let octets = arguments.octets(alloc)?;
-    let others = arguments.octets(alloc)?;
-    told(alloc, chains_compared(alloc, &octets, &others))
+/// How the chains from the names of two words compare, both as they are borrowed and as they are owned.
+fn chain_cmp(row: &mut Row<'_>) -> Result<(), RowError> {
+    let octets = row.octets();
+    let others = row.octets();
+    let first = ChainRef::new(NameRef::from_slice(&octets)?);
+    let second = ChainRef::new(NameRef::from_slice(&others)?);
+    compared(row, &first, &second);
+    row.close(", owned");
+    owned_compared(row, &first, &second)
 }
 
 /// A subnet's address and source prefix, and its option.
-fn subnet_said(alloc: Global, subnet: &ClientSubnet) -> Result<String, OutOfMemory> {
-    let addr = subnet.addr();
-    let source = subnet.source_prefix_len();
-    let said = shown(alloc, subnet)?;
-    Ok(format!(in alloc; "{addr} {source} {said}")?)
+fn subnet_said(row: &mut Row<'_>, subnet: &ClientSubnet) {
+    row.show(&subnet.addr());
+    row.show(&subnet.source_prefix_len());
+    shown(row, subnet)
 }
 
 /// A subnet of two prefixes and an address.
-fn subnet(alloc: Global, arguments: &mut Arguments<'_>) -> Result<String, RowError> {
-    let source = arguments.number()?;
-    let scope = arguments.number()?;
-    let subnet = ClientSubnet::new(source, scope, address(arguments)?);
-    subnet_said(alloc, &subnet).map_err(no_memory)
+fn subnet(row: &mut Row<'_>) -> Result<(), RowError> {
+    let source = row.number();
+    let scope = row.number();
+    let subnet = ClientSubnet::new(source, scope, row.address());
+    subnet_said(row, &subnet);
+    Ok(())
 }
 
 /// A subnet that is read.
-fn subnet_parse(alloc: Global, octets: &[u8]) -> Result<String, ParseError> {
-    let mut parser = Parser::from_ref(octets);
-    Ok(subnet_said(alloc, &ClientSubnet::parse(&mut parser)?)?)
+fn subnet_parse(row: &mut Row<'_>) -> Result<(), RowError> {
+    let octets = row.octets();
+    let subnet = ClientSubnet::parse(&mut Parser::from_ref(&octets))?;
+    subnet_said(row, &subnet);
+    Ok(())
 }

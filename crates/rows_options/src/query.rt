@@ -1,11 +1,10 @@
 //! How a query with options is built and read.
 
 use crate::messages::opened;
-use crate::told::{built, digits, no_memory, told, word};
 use dns_base::{AdditionalBuilder, Message, MessageBuilder, PushError, Question};
-use dns_name::{Class, Name, OutOfMemory, ParseError, Rtype};
-use dns_opt::{MessageOpt, OptRecordRef};
-use rows_table::RowError;
+use dns_name::{Class, Name, OutOfMemory, Rtype};
+use dns_opt::MessageOpt;
+use rows_table::{Row, RowError};
 use std::alloc::Global;
 
 /// The question for the root's address.
@@ -35,41 +34,37 @@ fn asking(alloc: Global) -> Result<AdditionalBuilder, PushError> {
     Ok(builder.additional())
 }
 
-/// The size and the identifier's data of an OPT record.
-fn opt_said(alloc: Global, opt: &OptRecordRef<'_>) -> Result<String, OutOfMemory> {
-    let size = opt.udp_payload_size();
-    let identifier = match opt.opt().nsid() {
-        Some(identifier) => digits(alloc, identifier.as_slice())?,
-        None => word(alloc, "none")?,
-    };
-    Ok(format!(in alloc; "udp_payload_size={size} nsid={identifier}")?)
-}
-
-/// The type that a query asks for, and its OPT record.
-fn query_said(alloc: Global, query: &Message) -> Result<String, OutOfMemory> {
+/// The type that a query asks for, and the size and the identifier's data of its OPT record.
+fn query_said(row: &mut Row<'_>, query: &Message) {
     let (Some(question), Some(opt)) = (query.first_question(), query.opt()) else {
-        return word(alloc, "none");
+        return row.say("none");
     };
-    let qtype = question.qtype().to_int();
-    let opt = opt_said(alloc, &opt)?;
-    Ok(format!(in alloc; "qtype={qtype} {opt}")?)
+    row.tell("qtype", &question.qtype().to_int());
+    row.tell("udp_payload_size", &opt.udp_payload_size());
+    match opt.opt().nsid() {
+        Some(identifier) => row.tell_octets("nsid", identifier.as_slice()),
+        None => row.say("nsid=none"),
+    }
 }
 
 /// A query's octets, and what is read of it.
-fn read(alloc: Global, octets: &[u8]) -> Result<String, ParseError> {
-    let query = Message::from_octets(Vec::from_slice(alloc, octets)?)?;
-    let said = query_said(alloc, &query)?;
-    let octets = digits(alloc, query.as_slice())?;
-    Ok(format!(in alloc; "{octets} {said}")?)
+fn read(row: &mut Row<'_>, octets: &[u8]) -> Result<(), RowError> {
+    let query = Message::from_octets(Vec::from_slice(row.alloc(), octets)?)?;
+    row.hexadecimal(query.as_slice());
+    query_said(row, &query);
+    Ok(())
 }
 
 /// The query with an OPT record that the steps build, and what is read of it.
-pub fn query(alloc: Global, steps: &str) -> Result<String, RowError> {
-    let Ok(mut builder) = asking(alloc) else {
+pub fn query(row: &mut Row<'_>) -> Result<(), RowError> {
+    let Ok(mut builder) = asking(row.alloc()) else {
         return Err(RowError::OutOfMemory);
     };
-    match opened(&mut builder, alloc, steps)? {
-        Ok(()) => told(alloc, read(alloc, builder.as_slice())),
-        refusal => built(alloc, refusal).map_err(no_memory),
+    match opened(&mut builder, row) {
+        Ok(()) => read(row, builder.as_slice()),
+        Err(refusal) => {
+            row.debug(&refusal);
+            Ok(())
+        }
     }
 }

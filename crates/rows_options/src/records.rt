@@ -5,59 +5,48 @@ ghost use Rattle.dns_base.specs.Records.{IsLawful};
 
 use crate::messages::opt_message;
 use crate::query::query;
-use crate::steps::{filled, rcode};
-use crate::told::{digits, no_memory, word};
+use crate::steps::{Target, rcode};
 use dns_base::Record;
 use dns_name::OutOfMemory;
 use dns_opt::{OptHeader, OptRecord};
-use rows_table::{Arguments, RowError};
+use rows_table::{Calls, Row, RowError};
 use std::alloc::Global;
 
-/// What a call of dns_opt says.
-pub fn answer(
-    alloc: Global,
-    call: &str,
-    arguments: &mut Arguments<'_>,
-) -> Result<String, RowError> {
-    match call {
-        "opt_header" => opt_header(alloc, arguments),
-        "opt_record" => opt_record(alloc, arguments),
-        "opt_message" => opt_message(alloc, arguments.all_words()),
-        "query" => query(alloc, arguments.all_words()),
-        _ => Err(RowError::NoSuchCall),
+/// The calls of dns_opt.
+pub struct Records;
+
+impl Calls for Records {
+    fn answer(&self, call: &str, row: &mut Row<'_>) -> Result<(), RowError> {
+        match call {
+            "opt_header" => opt_header(row),
+            "opt_record" => opt_record(row),
+            "opt_message" => opt_message(row),
+            "query" => query(row),
+            _ => Err(RowError::NoSuchCall),
+        }
     }
 }
 
-/// A head with a size, both parts of a response code and a version, that wants DNSSEC records.
-fn head(arguments: &mut Arguments<'_>) -> Result<OptHeader, RowError> {
+/// The octets of a head with a size, both parts of a response code and a version, that wants DNSSEC records.
+fn opt_header(row: &mut Row<'_>) -> Result<(), RowError> {
     let mut head = OptHeader::default();
-    head.set_udp_payload_size(arguments.number()?);
-    head.set_rcode(rcode(arguments)?);
-    head.set_version(arguments.number()?);
+    head.set_udp_payload_size(row.number());
+    head.set_rcode(rcode(row));
+    head.set_version(row.number());
     head.set_dnssec_ok(true);
-    Ok(head)
-}
-
-/// What a head appends to none.
-fn head_octets(alloc: Global, head: OptHeader) -> Result<String, OutOfMemory> {
-    let mut octets = Vec::new(alloc);
-    head.compose(alloc, &mut octets)?;
-    digits(alloc, &octets)
-}
-
-/// The octets of a head.
-fn opt_header(alloc: Global, arguments: &mut Arguments<'_>) -> Result<String, RowError> {
-    let head = head(arguments)?;
-    head_octets(alloc, head).map_err(no_memory)
+    let mut octets = Vec::new(row.alloc());
+    head.compose(row.alloc(), &mut octets)?;
+    row.hexadecimal(&octets);
+    Ok(())
 }
 
 /// What a record appends to none.
-fn record_octets(alloc: Global, item: &Record) -> Result<String, OutOfMemory>
+fn record_octets(row: &mut Row<'_>, item: &Record)
     requires { IsLawful item.now.rdata }
 {
-    let mut octets = Vec::new(alloc);
-    item.compose(alloc, &mut octets)?;
-    digits(alloc, &octets)
+    let mut octets = Vec::new(row.alloc());
+    row.keep(item.compose(row.alloc(), &mut octets));
+    row.hexadecimal(&octets)
 }
 
 /// A copy of an OPT record as a message holds it.
@@ -69,35 +58,26 @@ fn as_record(alloc: Global, given: &OptRecord) -> Result<Record, OutOfMemory>
 }
 
 /// The options of the OPT record that a record is.
-fn options_of(alloc: Global, item: Record) -> Result<String, OutOfMemory>
+fn options_of(row: &mut Row<'_>, item: Record)
     requires { IsLawful item.rdata }
 {
     match OptRecord::from_record(item) {
-        Some(opt) => digits(alloc, opt.opt().as_slice()),
-        None => word(alloc, "none"),
+        Some(opt) => row.tell_octets("options", opt.opt().as_slice()),
+        None => row.say("options=none"),
     }
 }
 
 /// The octets of an OPT record as a message holds it, and the options of the record that is made of that.
-fn record_said(alloc: Global, given: &OptRecord) -> Result<String, OutOfMemory> {
-    let item = as_record(alloc, given)?;
-    let octets = record_octets(alloc, &item)?;
-    let options = options_of(alloc, item)?;
-    Ok(format!(in alloc; "{octets} options={options}")?)
-}
-
-/// Appends what is said of an OPT record.
-fn push_record(alloc: Global, text: &mut String, given: &OptRecord) -> Result<(), OutOfMemory> {
-    let said = record_said(alloc, given)?;
-    text.push_str(said.as_str())?;
+fn record_said(row: &mut Row<'_>, given: &OptRecord) -> Result<(), RowError> {
+    let item = as_record(row.alloc(), given)?;
+    record_octets(row, &item);
+    options_of(row, item);
     Ok(())
 }
 
 /// What pushes to an empty OPT record answer, and the record.
-fn opt_record(alloc: Global, arguments: &mut Arguments<'_>) -> Result<String, RowError> {
-    let mut said = String::new(alloc);
-    let mut given = OptRecord::default(alloc);
-    filled(&mut given, alloc, arguments.all_words(), &mut said)?;
-    push_record(alloc, &mut said, &given).map_err(no_memory)?;
-    Ok(said)
+fn opt_record(row: &mut Row<'_>) -> Result<(), RowError> {
+    let mut given = OptRecord::default(row.alloc());
+    row.take_steps(", ", &mut Target::Record(&mut given));
+    record_said(row, &given)
 }

@@ -1,6 +1,6 @@
 //! The steps by which a row fills lists, records and records under construction with options.
 
-use crate::told::{address, no_memory, push_built};
+use crate::said::built;
 use dns_cookie::ClientCookie;
 use dns_name::{
     ComposeOptData, ExtendedErrorCode, Name, OptRcode, OptionCode, OutOfMemory, Rcode,
@@ -9,22 +9,24 @@ use dns_name::{
 use dns_opt::{
     BuildDataError, Cookie, IdleTimeout, KeyTagRef, NsidRef, Opt, OptBuilder, OptRecord,
 };
-use rows_table::{Arguments, RowError};
+use rows_table::{Row, RowError, Steps};
 use std::alloc::Global;
 
-/// What options are pushed to.
-pub trait TakesOptions {
-    /// Appends an option.
-    fn add<D: ComposeOptData>(&mut self, alloc: Global, option: &D) -> Result<(), BuildDataError>;
+/// What a step answers: whether the option was pushed.
+type Stepped = Result<(), BuildDataError>;
 
-    /// Appends an option of so many octets as are stated, by a closure that writes these.
-    fn add_raw(
-        &mut self,
-        alloc: Global,
-        code: OptionCode,
-        stated: u16,
-        octets: &[u8],
-    ) -> Result<(), BuildDataError>;
+/// What a step answers that is out of form, which the row doesn't hold with.
+fn out_of_form(row: &mut Row<'_>) -> Stepped {
+    row.fail(RowError::OutOfForm);
+    Ok(())
+}
+
+/// What options are pushed to.
+#[derive(Drop)]
+pub enum Target<'a> {
+    List(&'a mut Opt),
+    Record(&'a mut OptRecord),
+    Built(&'a mut OptBuilder),
 }
 
 /// Appends octets.
@@ -33,298 +35,192 @@ pub fn write(target: &mut Vec<u8>, octets: &[u8]) -> Result<(), OutOfMemory> {
     Ok(())
 }
 
-impl TakesOptions for Opt {
-    fn add<D: ComposeOptData>(&mut self, alloc: Global, option: &D) -> Result<(), BuildDataError> {
-        self.push(alloc, option)
-    }
-
-    fn add_raw(
-        &mut self,
-        alloc: Global,
-        code: OptionCode,
-        stated: u16,
-        octets: &[u8],
-    ) -> Result<(), BuildDataError> {
-        self.push_raw_option(
-            alloc,
-            code,
-            stated,
-            |_alloc: Global, target: &mut Vec<u8>| write(target, octets),
-        )
-    }
-}
-
-impl TakesOptions for OptRecord {
-    fn add<D: ComposeOptData>(&mut self, alloc: Global, option: &D) -> Result<(), BuildDataError> {
-        self.push(alloc, option)
-    }
-
-    fn add_raw(
-        &mut self,
-        alloc: Global,
-        code: OptionCode,
-        stated: u16,
-        octets: &[u8],
-    ) -> Result<(), BuildDataError> {
-        self.push_raw_option(
-            alloc,
-            code,
-            stated,
-            |_alloc: Global, target: &mut Vec<u8>| write(target, octets),
-        )
-    }
-}
-
-impl TakesOptions for OptBuilder {
-    fn add<D: ComposeOptData>(&mut self, alloc: Global, option: &D) -> Result<(), BuildDataError> {
-        self.push(alloc, option)
-    }
-
-    fn add_raw(
-        &mut self,
-        alloc: Global,
-        code: OptionCode,
-        stated: u16,
-        octets: &[u8],
-    ) -> Result<(), BuildDataError> {
-        self.push_raw_option(
-            alloc,
-            code,
-            stated,
-            |_alloc: Global, target: &mut Vec<u8>| write(target, octets),
-        )
-    }
-}
-
-/// What a step answers: whether the option was pushed, where the row has the step in form.
-type Stepped = Result<Result<(), BuildDataError>, RowError>;
-
-/// Pushes an identifier.
-fn add_nsid<T: TakesOptions>(target: &mut T, alloc: Global, octets: &[u8]) -> Stepped {
-    match NsidRef::from_slice(octets) {
-        Ok(option) => Ok(target.add(alloc, &option)),
-        Err(_) => Err(RowError::OutOfForm),
-    }
-}
-
-/// Pushes an identifier of so many zeros.
-fn add_zeros<T: TakesOptions>(target: &mut T, alloc: Global, many: usize) -> Stepped {
-    let zeros = vec![in alloc; 0u8; many]?;
-    add_nsid(target, alloc, &zeros)
-}
-
-/// Pushes a client's cookie.
-fn add_cookie<T: TakesOptions>(target: &mut T, alloc: Global, client: [u8; 8]) -> Stepped {
-    let cookie = Cookie::new(ClientCookie::from_octets(client), None);
-    Ok(target.add(alloc, &cookie))
-}
-
-/// Pushes an option of a code, a stated length and octets.
-fn add_raw<T: TakesOptions>(
-    target: &mut T,
-    alloc: Global,
-    arguments: &mut Arguments<'_>,
-) -> Stepped {
-    let code = OptionCode::from_int(arguments.number()?);
-    let stated = arguments.number()?;
-    let octets = arguments.octets(alloc)?;
-    Ok(target.add_raw(alloc, code, stated, &octets))
-}
-
-/// One step with what options are pushed to.
-fn step_with<T: TakesOptions>(
-    target: &mut T,
-    alloc: Global,
-    step: &str,
-    arguments: &mut Arguments<'_>,
-) -> Stepped {
-    match step {
-        "push_nsid" => {
-            let octets = arguments.octets(alloc)?;
-            add_nsid(target, alloc, &octets)
+impl Target<'_> {
+    /// Appends an option.
+    fn push<D: ComposeOptData>(&mut self, alloc: Global, option: &D) -> Result<(), BuildDataError> {
+        match self {
+            Target::List(list) => list.push(alloc, option),
+            Target::Record(item) => item.push(alloc, option),
+            Target::Built(opt) => opt.push(alloc, option),
         }
-        "push_zeros" => add_zeros(target, alloc, arguments.number()?),
-        "push_cookie" => add_cookie(target, alloc, arguments.array()?),
-        "raw" => add_raw(target, alloc, arguments),
-        _ => Err(RowError::NoSuchCall),
+    }
+
+    /// Appends an option of so many octets as are stated, by a closure that writes these.
+    fn push_raw(
+        &mut self,
+        alloc: Global,
+        code: OptionCode,
+        stated: u16,
+        octets: &[u8],
+    ) -> Result<(), BuildDataError> {
+        let closure = |_alloc: Global, target: &mut Vec<u8>| write(target, octets);
+        match self {
+            Target::List(list) => list.push_raw_option(alloc, code, stated, closure),
+            Target::Record(item) => item.push_raw_option(alloc, code, stated, closure),
+            Target::Built(opt) => opt.push_raw_option(alloc, code, stated, closure),
+        }
+    }
+
+    /// Pushes an identifier.
+    fn nsid(&mut self, row: &mut Row<'_>, octets: &[u8]) -> Stepped {
+        match NsidRef::from_slice(octets) {
+            Ok(option) => self.push(row.alloc(), &option),
+            Err(_) => out_of_form(row),
+        }
+    }
+
+    /// Pushes an option of a code, a stated length and octets.
+    fn raw(&mut self, row: &mut Row<'_>) -> Stepped {
+        let code = OptionCode::from_int(row.number());
+        let stated = row.number();
+        let octets = row.octets();
+        self.push_raw(row.alloc(), code, stated, &octets)
+    }
+
+    /// Pushes an option as it is, or one of no kind.
+    fn step(&mut self, step: &str, row: &mut Row<'_>) -> Stepped {
+        match step {
+            "push_nsid" => {
+                let octets = row.octets();
+                self.nsid(row, &octets)
+            }
+            "push_zeros" => {
+                let zeros = vec![in row.alloc(); 0u8; row.number()]?;
+                self.nsid(row, &zeros)
+            }
+            "push_cookie" => self.push(row.alloc(), &client_alone(row)),
+            "raw" => self.raw(row),
+            _ => out_of_form(row),
+        }
     }
 }
 
-/// The options that the steps push, which a comma parts; what each answers stands in the text, with a space behind it.
-pub fn filled<T: TakesOptions>(
-    target: &mut T,
-    alloc: Global,
-    steps: &str,
-    said: &mut String,
-) -> Result<(), RowError> {
-    if steps.is_empty() {
-        return Ok(());
+impl Steps for Target<'_> {
+    fn take_step(&mut self, step: &str, row: &mut Row<'_>) -> Result<(), RowError> {
+        let done = self.step(step, row);
+        built(row, done);
+        Ok(())
     }
-    for step in steps.split(", ") {
-        let mut arguments = Arguments::of(step);
-        let done = step_with(target, alloc, arguments.word()?, &mut arguments)?;
-        arguments.end()?;
-        push_built(alloc, said, done).map_err(no_memory)?;
-    }
-    Ok(())
 }
 
-/// The algorithms of the next word's octets.
-fn algorithms(
-    alloc: Global,
-    arguments: &mut Arguments<'_>,
-) -> Result<Vec<SecurityAlgorithm>, RowError> {
-    let numbers = arguments.octets(alloc)?;
-    let listed = numbers
+/// A client's cookie alone.
+fn client_alone(row: &mut Row<'_>) -> Cookie {
+    Cookie::new(ClientCookie::from_octets(row.array()), None)
+}
+
+/// Pushes the algorithms of the next word's octets, which a client understands.
+fn understood(opt: &mut OptBuilder, step: &str, row: &mut Row<'_>) -> Stepped {
+    let numbers = row.octets();
+    let listed: Vec<SecurityAlgorithm> = numbers
         .iter()
         .map(|number| SecurityAlgorithm::from_int(*number))
-        .collect(alloc)?;
-    Ok(listed)
+        .collect(row.alloc())?;
+    match step {
+        "dau" => opt.dau(row.alloc(), &listed),
+        "dhu" => opt.dhu(row.alloc(), &listed),
+        _ => opt.n3u(row.alloc(), &listed),
+    }
 }
 
 /// Pushes the name from which a chain is wanted.
-fn chain(opt: &mut OptBuilder, alloc: Global, arguments: &mut Arguments<'_>) -> Stepped {
-    match Name::from_octets(arguments.octets(alloc)?) {
-        Ok(start) => Ok(opt.chain(alloc, &start)),
-        Err(_) => Err(RowError::OutOfForm),
+fn chain(opt: &mut OptBuilder, row: &mut Row<'_>) -> Stepped {
+    match Name::from_octets(row.octets()) {
+        Ok(start) => opt.chain(row.alloc(), &start),
+        Err(_) => out_of_form(row),
     }
 }
 
 /// Pushes key tags.
-fn key_tag(opt: &mut OptBuilder, alloc: Global, arguments: &mut Arguments<'_>) -> Stepped {
-    let octets = arguments.octets(alloc)?;
+fn key_tag(opt: &mut OptBuilder, row: &mut Row<'_>) -> Stepped {
+    let octets = row.octets();
     match KeyTagRef::from_slice(&octets) {
-        Ok(tags) => Ok(opt.key_tag(alloc, &tags)),
-        Err(_) => Err(RowError::OutOfForm),
+        Ok(tags) => opt.key_tag(row.alloc(), &tags),
+        Err(_) => out_of_form(row),
     }
 }
 
 /// Pushes a subnet of two prefixes and an address.
-fn client_subnet(opt: &mut OptBuilder, alloc: Global, arguments: &mut Arguments<'_>) -> Stepped {
-    let source = arguments.number()?;
-    let scope = arguments.number()?;
-    Ok(opt.client_subnet(alloc, source, scope, address(arguments)?))
+fn client_subnet(opt: &mut OptBuilder, row: &mut Row<'_>) -> Stepped {
+    let source = row.number();
+    let scope = row.number();
+    opt.client_subnet(row.alloc(), source, scope, row.address())
 }
 
 /// Pushes an extended error of a code and a text.
-fn extended_error(opt: &mut OptBuilder, alloc: Global, arguments: &mut Arguments<'_>) -> Stepped {
-    let code = ExtendedErrorCode::from_int(arguments.number()?);
-    Ok(opt.extended_error(alloc, code, Some(arguments.text()?)))
+fn extended_error(opt: &mut OptBuilder, row: &mut Row<'_>) -> Stepped {
+    let code = ExtendedErrorCode::from_int(row.number());
+    opt.extended_error(row.alloc(), code, Some(row.text()))
 }
 
 /// Pushes a timeout in units of 100 ms.
-fn tcp_keepalive(opt: &mut OptBuilder, alloc: Global, arguments: &mut Arguments<'_>) -> Stepped {
-    let timeout = arguments.optional::<u16>()?.map(IdleTimeout::from);
-    Ok(opt.tcp_keepalive(alloc, timeout))
-}
-
-/// Pushes the algorithms that a client understands.
-fn understood(
-    opt: &mut OptBuilder,
-    alloc: Global,
-    step: &str,
-    arguments: &mut Arguments<'_>,
-) -> Stepped {
-    let listed = algorithms(alloc, arguments)?;
-    Ok(match step {
-        "dau" => opt.dau(alloc, &listed),
-        "dhu" => opt.dhu(alloc, &listed),
-        _ => opt.n3u(alloc, &listed),
-    })
-}
-
-/// Pushes a client's cookie by the call of its name.
-fn cookie(opt: &mut OptBuilder, alloc: Global, arguments: &mut Arguments<'_>) -> Stepped {
-    let client = ClientCookie::from_octets(arguments.array()?);
-    Ok(opt.cookie(alloc, Cookie::new(client, None)))
+fn tcp_keepalive(opt: &mut OptBuilder, row: &mut Row<'_>) -> Stepped {
+    let timeout = row.optional::<u16>().map(IdleTimeout::from);
+    opt.tcp_keepalive(row.alloc(), timeout)
 }
 
 /// Pushes an identifier by the call of its name.
-fn nsid(opt: &mut OptBuilder, alloc: Global, arguments: &mut Arguments<'_>) -> Stepped {
-    let octets = arguments.octets(alloc)?;
-    Ok(opt.nsid(alloc, &octets))
+fn nsid(opt: &mut OptBuilder, row: &mut Row<'_>) -> Stepped {
+    let octets = row.octets();
+    opt.nsid(row.alloc(), &octets)
 }
 
 /// Pushes an option of one kind by the call of its name.
-fn push_kind(
-    opt: &mut OptBuilder,
-    alloc: Global,
-    step: &str,
-    arguments: &mut Arguments<'_>,
-) -> Stepped {
+fn push_kind(opt: &mut OptBuilder, step: &str, row: &mut Row<'_>) -> Stepped {
     match step {
-        "dau" | "dhu" | "n3u" => understood(opt, alloc, step, arguments),
-        "chain" => chain(opt, alloc, arguments),
-        "cookie" => cookie(opt, alloc, arguments),
-        "expire" => Ok(opt.expire(alloc, arguments.optional()?)),
-        "extended_error" => extended_error(opt, alloc, arguments),
-        "tcp_keepalive" => tcp_keepalive(opt, alloc, arguments),
-        "key_tag" => key_tag(opt, alloc, arguments),
-        "nsid" => nsid(opt, alloc, arguments),
-        "client_nsid" => Ok(opt.client_nsid(alloc)),
-        "client_subnet" => client_subnet(opt, alloc, arguments),
-        "padding" => Ok(opt.padding(alloc, arguments.number()?)),
-        _ => step_with(opt, alloc, step, arguments),
+        "dau" | "dhu" | "n3u" => understood(opt, step, row),
+        "chain" => chain(opt, row),
+        "cookie" => opt.cookie(row.alloc(), client_alone(row)),
+        "expire" => opt.expire(row.alloc(), row.optional()),
+        "extended_error" => extended_error(opt, row),
+        "tcp_keepalive" => tcp_keepalive(opt, row),
+        "key_tag" => key_tag(opt, row),
+        "nsid" => nsid(opt, row),
+        "client_nsid" => opt.client_nsid(row.alloc()),
+        "client_subnet" => client_subnet(opt, row),
+        "padding" => opt.padding(row.alloc(), row.number()),
+        _ => Target::Built(opt).step(step, row),
     }
-}
-
-/// Sets a number of the record's head.
-fn set_number(
-    opt: &mut OptBuilder,
-    number: &str,
-    arguments: &mut Arguments<'_>,
-) -> Result<(), RowError> {
-    match number {
-        "udp_payload_size" => opt.set_udp_payload_size(arguments.number()?),
-        "rcode" => opt.set_rcode(rcode(arguments)?),
-        "version" => opt.set_version(arguments.number()?),
-        _ => opt.set_dnssec_ok(true),
-    }
-    Ok(())
 }
 
 /// The response code of a number below 4096 whose upper eight bits are the first word, and its lower four the second.
-pub fn rcode(arguments: &mut Arguments<'_>) -> Result<OptRcode, RowError> {
-    let upper = arguments.number()?;
-    let lower = Rcode::checked_from_int(arguments.number()?).ok_or(RowError::OutOfForm)?;
-    Ok(OptRcode::from_parts(lower, upper))
-}
-
-/// One step with a record under construction.
-fn build_step(opt: &mut OptBuilder, alloc: Global, arguments: &mut Arguments<'_>) -> Stepped {
-    match arguments.word()? {
-        number @ ("udp_payload_size" | "rcode" | "version" | "dnssec_ok") => {
-            set_number(opt, number, arguments)?;
-            Ok(Ok(()))
+pub fn rcode(row: &mut Row<'_>) -> OptRcode {
+    let upper = row.number();
+    match Rcode::checked_from_int(row.number()) {
+        Some(lower) => OptRcode::from_parts(lower, upper),
+        None => {
+            row.fail(RowError::OutOfForm);
+            OptRcode::NOERROR
         }
-        step => push_kind(opt, alloc, step, arguments),
     }
 }
 
-/// The steps with a record under construction, up to the first that is refused.
-fn build(opt: &mut OptBuilder, alloc: Global, steps: &str) -> Stepped {
-    for step in steps.split(", ") {
-        let mut arguments = Arguments::of(step);
-        if let Err(refusal) = build_step(opt, alloc, &mut arguments)? {
-            return Ok(Err(refusal));
-        }
-        arguments.end()?;
-    }
-    Ok(Ok(()))
+/// A record under construction, and whether a step was refused: then no further one is taken.
+#[derive(Drop)]
+struct Building<'a> {
+    opt: &'a mut OptBuilder,
+    done: Result<(), BuildDataError>,
 }
 
-/// The steps with a record under construction; a step that is out of form is kept, and then all is well.
-pub fn build_or_keep(
-    opt: &mut OptBuilder,
-    alloc: Global,
-    steps: &str,
-    kept: &mut Option<RowError>,
-) -> Result<(), BuildDataError> {
-    match build(opt, alloc, steps) {
-        Ok(done) => done,
-        Err(error) => {
-            *kept = Some(error);
-            Ok(())
+impl Steps for Building<'_> {
+    fn take_step(&mut self, step: &str, row: &mut Row<'_>) -> Result<(), RowError> {
+        if self.done.is_err() {
+            row.all_words();
+            return Ok(());
         }
+        match step {
+            "udp_payload_size" => self.opt.set_udp_payload_size(row.number()),
+            "rcode" => self.opt.set_rcode(rcode(row)),
+            "version" => self.opt.set_version(row.number()),
+            "dnssec_ok" => self.opt.set_dnssec_ok(true),
+            _ => self.done = push_kind(self.opt, step, row),
+        }
+        Ok(())
     }
+}
+
+/// Builds a record by the steps of a row.
+pub fn build(opt: &mut OptBuilder, row: &mut Row<'_>) -> Result<(), BuildDataError> {
+    let mut building = Building { opt, done: Ok(()) };
+    row.take_steps(", ", &mut building);
+    building.done
 }

@@ -2,21 +2,31 @@
 
 use dns_book::{Admission, BookState, Call, Look, Reply};
 use dns_service::{DgramConfig, StreamConfig};
-use rows_table::{Arguments, RowError};
-use std::alloc::Global;
+use rows_table::{Calls, Row, RowError, number_of};
+
+/// The book.
+pub(crate) struct BookRows;
+
+impl Calls for BookRows {
+    fn answer(&self, call: &str, row: &mut Row<'_>) -> Result<(), RowError> {
+        match call {
+            "book_state" => replies(row),
+            _ => Err(RowError::NoSuchCall),
+        }
+    }
+}
 
 /// The replies of an open book with this limit and version to calls, which commas part.
-pub(crate) fn answer(alloc: Global, arguments: &mut Arguments<'_>) -> Result<String, RowError> {
-    let stream = with_limit(arguments.number()?);
-    let version = arguments.number()?;
-    let mut state = BookState::resume(DgramConfig::new(), stream, version);
-    let mut replies = String::new(alloc);
-    for name in arguments.word()?.split(',') {
-        let reply = state.call(&call(name)?);
-        replies.push_str(reply_text(alloc, &reply)?.as_str())?;
-        replies.push_str(", ")?;
+fn replies(row: &mut Row<'_>) -> Result<(), RowError> {
+    let stream = with_limit(row.number());
+    let mut state = BookState::resume(DgramConfig::new(), stream, row.number());
+    for name in row.word().split(',') {
+        if !row.said().is_empty() {
+            row.close(",");
+        }
+        reply_said(row, &state.call(&call_named(name)?));
     }
-    Ok(String::from_str(alloc, replies.as_str().trim_end_matches(", "))?)
+    Ok(())
 }
 
 /// The default configuration with this limit of connections.
@@ -27,57 +37,62 @@ fn with_limit(limit: usize) -> StreamConfig {
 }
 
 /// A call by its name; `reconfigure` has a new limit behind a colon.
-fn call(name: &str) -> Result<Call, RowError> {
+fn call_named(name: &str) -> Result<Call, RowError> {
     match name {
         "admit" => Ok(Call::Admit),
         "release" => Ok(Call::Release),
         "shutdown" => Ok(Call::Shutdown),
         "look" => Ok(Call::Look),
-        _ => reconfigure(name),
+        _ => {
+            let limit = name.strip_prefix("reconfigure:");
+            Ok(Call::Reconfigure {
+                dgram: DgramConfig::new(),
+                stream: with_limit(number_of(limit.ok_or(RowError::OutOfForm)?)?),
+            })
+        }
     }
 }
 
-fn reconfigure(name: &str) -> Result<Call, RowError> {
-    let Some(("reconfigure", limit)) = name.split_once(':') else {
-        return Err(RowError::OutOfForm);
-    };
-    Ok(Call::Reconfigure {
-        dgram: DgramConfig::new(),
-        stream: with_limit(Arguments::of(limit).number()?),
-    })
-}
-
-fn reply_text(alloc: Global, reply: &Reply) -> Result<String, RowError> {
+fn reply_said(row: &mut Row<'_>, reply: &Reply) {
     match reply {
-        Reply::Admission(admission) => admission_text(alloc, admission),
-        Reply::Left(left) => Ok(format!(in alloc; "{left}")?),
-        Reply::Version(Ok(version)) => Ok(format!(in alloc; "{version}")?),
-        Reply::Version(Err(error)) => Ok(format!(in alloc; "{error:?}")?),
-        Reply::Look(look) => look_text(alloc, look),
+        Reply::Admission(admission) => admission_said(row, admission),
+        Reply::Left(left) => row.show(left),
+        Reply::Version(Ok(version)) => row.show(version),
+        Reply::Version(Err(error)) => row.debug(error),
+        Reply::Look(look) => look_said(row, look),
     }
 }
 
-fn admission_text(alloc: Global, admission: &Admission) -> Result<String, RowError> {
+fn admission_said(row: &mut Row<'_>, admission: &Admission) {
     match admission {
         Admission::Admitted(look) => {
-            let look = look_text(alloc, look)?;
-            Ok(format!(in alloc; "admitted {look}")?)
+            row.say("admitted");
+            look_said(row, look)
         }
         Admission::Full {
             taken,
             limit,
             accepted,
-        } => Ok(format!(in alloc; "full {taken} of {limit} {accepted}")?),
-        Admission::Closed => Ok(String::from_str(alloc, "closed")?),
+        } => {
+            row.say("full");
+            row.show(taken);
+            row.say("of");
+            row.show(limit);
+            row.show(accepted)
+        }
+        Admission::Closed => row.say("closed"),
     }
 }
 
 /// The version, whether the book is closed, and how many slots are taken of how many. Nothing else may be configured.
-fn look_text(alloc: Global, look: &Look) -> Result<String, RowError> {
+fn look_said(row: &mut Row<'_>, look: &Look) {
     let limit = look.stream.max_concurrent_connections();
     if look.dgram != DgramConfig::new() || look.stream != with_limit(limit) {
-        return Ok(String::from_str(alloc, "another configuration")?);
+        return row.say("another configuration");
     }
-    let state = if look.closed { "closed" } else { "open" };
-    Ok(format!(in alloc; "{} {state} {} of {limit}", look.version, look.taken)?)
+    row.show(&look.version);
+    row.say(if look.closed { "closed" } else { "open" });
+    row.show(&look.taken);
+    row.say("of");
+    row.show(&limit)
 }

@@ -1,65 +1,71 @@
 //! Rows of frames, of one client's core, and of the settings of a server.
 
 use crate::event_rows::events_of;
-use crate::line_rows::append_lines;
+use crate::line_rows::say_lines;
 use crate::service_rows::rules;
-use crate::texts::{given, octets_of, text_of};
-use dns_core::{ClientCore, Event, EventKind, Framer, Output, Settings};
+use dns_core::{ClientCore, Event, EventKind, Framer, Settings};
 use dns_server::ScriptService;
 use dns_service::{DgramConfig, Plainly, StreamConfig};
-use rows_table::{Arguments, RowError, hexadecimal};
+use rows_table::{Calls, Row, RowError};
 use std::alloc::Global;
 
-/// Says what a call of this name gives.
-pub(crate) fn answer(
-    alloc: Global,
-    call: &str,
-    arguments: &mut Arguments<'_>,
-) -> Result<String, RowError> {
-    match call {
-        "framer" => frames(alloc, arguments.all_words()),
-        "client_core" => client(alloc, arguments.all_words()),
-        _ => settings(alloc),
+/// Frames, one client, and settings.
+pub(crate) struct ClientRows;
+
+impl Calls for ClientRows {
+    fn answer(&self, call: &str, row: &mut Row<'_>) -> Result<(), RowError> {
+        match call {
+            "framer" => frames(row),
+            "client_core" => client(row),
+            "settings" => settings(row),
+            _ => Err(RowError::NoSuchCall),
+        }
     }
 }
 
 /// The first message of what is kept after each piece, and once more at the end.
-fn frames(alloc: Global, pieces: &str) -> Result<String, RowError> {
-    let mut framer = Framer::new(alloc);
-    let mut said = String::new(alloc);
-    for piece in pieces.split(' ') {
-        let octets = Arguments::of(piece).octets(alloc)?;
-        given(framer.feed(alloc, &octets))?;
-        said.push_str(next_message(alloc, &mut framer)?.as_str())?;
-        said.push(' ')?;
+fn frames(row: &mut Row<'_>) -> Result<(), RowError> {
+    let mut framer = Framer::new(row.alloc());
+    for piece in row.all_words().split(' ') {
+        let octets = row.octets_of(piece);
+        framer.feed(row.alloc(), &octets)?;
+        say_next(row, &mut framer)?;
     }
-    said.push_str(next_message(alloc, &mut framer)?.as_str())?;
-    Ok(said)
+    say_next(row, &mut framer)
 }
 
-fn next_message(alloc: Global, framer: &mut Framer) -> Result<String, RowError> {
-    match given(framer.next(alloc))? {
-        Some(message) => hexadecimal(alloc, &message),
-        None => Ok(String::from_str(alloc, "none")?),
+fn say_next(row: &mut Row<'_>, framer: &mut Framer) -> Result<(), RowError> {
+    match framer.next(row.alloc())? {
+        Some(message) => row.hexadecimal(&message),
+        None => row.say("none"),
     }
+    Ok(())
 }
 
 /// What one client is sent for its events, whose service answers each request with NXDOMAIN at its second poll.
-fn client(alloc: Global, lines: &str) -> Result<String, RowError> {
-    let events = events_of(alloc, lines)?;
-    let Some((first, rest)) = events.as_slice().split_first() else {
+fn client(row: &mut Row<'_>) -> Result<(), RowError> {
+    let events = events_of(row.alloc(), row.all_words())?;
+    let service = Plainly {
+        service: ScriptService::new(rules(row.alloc(), 3)?),
+    };
+    served(row, &service, &events)
+}
+
+/// What the core of a client, by its first event, is sent for the others.
+fn served(
+    row: &mut Row<'_>,
+    service: &Plainly<ScriptService>,
+    events: &[Event],
+) -> Result<(), RowError> {
+    let Some((first, rest)) = events.split_first() else {
         return Err(RowError::Missing);
     };
-    let service = Plainly {
-        service: ScriptService::new(rules(alloc, 3)?),
-    };
-    let mut core = core_of(alloc, &service, first)?;
-    let mut text = Vec::new(alloc);
+    let mut core = core_of(row.alloc(), service, first)?;
     for event in rest {
-        let outputs = given(core.step(alloc, &service, event))?;
-        append_lines(alloc, &mut text, &outputs)?;
+        let outputs = core.step(row.alloc(), service, event)?;
+        say_lines(row, &outputs);
     }
-    text_of(alloc, &text)
+    Ok(())
 }
 
 /// The core of a client by its first event.
@@ -69,14 +75,14 @@ fn core_of(
     event: &Event,
 ) -> Result<ClientCore<Plainly<ScriptService>>, RowError> {
     match &event.kind {
-        EventKind::Offer { addr } => given(ClientCore::admit(
+        EventKind::Offer { addr } => Ok(ClientCore::admit(
             alloc,
             event.client,
             *addr,
             &StreamConfig::new(),
-        )),
+        )?),
         EventKind::Datagram { addr, octets } => {
-            let (core, _) = given(ClientCore::datagram(
+            let (core, _) = ClientCore::datagram(
                 alloc,
                 service,
                 event.client,
@@ -85,7 +91,7 @@ fn core_of(
                 event.secs,
                 octets.as_slice(),
                 &DgramConfig::new(),
-            ))?;
+            )?;
             Ok(core)
         }
         _ => Err(RowError::OutOfForm),
@@ -94,14 +100,12 @@ fn core_of(
 
 /// Whether the settings are strict and EDNS is on, whether cookies are on, how many addresses are denied, and the limit
 /// of connections.
-fn settings(alloc: Global) -> Result<String, RowError> {
-    let settings = Settings::new(alloc);
-    Ok(format!(in alloc;
-        "{} {} {} {} {}",
-        settings.strict,
-        settings.edns,
-        settings.cookies.is_some(),
-        settings.denied.as_slice().len(),
-        settings.stream.max_concurrent_connections()
-    )?)
+fn settings(row: &mut Row<'_>) -> Result<(), RowError> {
+    let settings = Settings::new(row.alloc());
+    row.show(&settings.strict);
+    row.show(&settings.edns);
+    row.show(&settings.cookies.is_some());
+    row.show(&settings.denied.as_slice().len());
+    row.show(&settings.stream.max_concurrent_connections());
+    Ok(())
 }

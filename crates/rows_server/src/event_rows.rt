@@ -1,104 +1,118 @@
 //! Rows of the lines of events and of the stream server's configuration.
 
-use crate::texts::{given, octets_of};
+use crate::texts::next_text;
 use dns_name::SocketAddr;
 use dns_server::first_spoilt;
 use dns_service::{Event, EventKind, StreamConfig};
 use dns_trace::{LineError, Words, read_event, read_stream};
-use rows_table::{Arguments, RowError, hexadecimal};
+use rows_table::{Calls, Row, RowError};
 use std::alloc::Global;
 
-/// Says what a call of this name gives.
-pub(crate) fn answer(
-    alloc: Global,
-    call: &str,
-    arguments: &mut Arguments<'_>,
-) -> Result<String, RowError> {
-    match call {
-        "read_event" => event(alloc, arguments.all_words()),
-        "read_stream" => stream(alloc, arguments.all_words()),
-        _ => spoilt(alloc, arguments.all_words()),
+/// Lines of events.
+pub(crate) struct EventRows;
+
+impl Calls for EventRows {
+    fn answer(&self, call: &str, row: &mut Row<'_>) -> Result<(), RowError> {
+        match call {
+            "read_event" => event(row),
+            "read_stream" => stream(row),
+            "first_spoilt" => spoilt(row),
+            _ => Err(RowError::NoSuchCall),
+        }
     }
 }
 
-fn refused(alloc: Global) -> Result<String, RowError> {
-    Ok(String::from_str(alloc, "refused")?)
+/// Says that a line is refused, or ends where memory was short.
+pub(crate) fn refused(row: &mut Row<'_>, error: LineError) {
+    match error {
+        LineError::Refused(_) => row.say("refused"),
+        LineError::OutOfMemory => row.fail(RowError::OutOfMemory),
+    }
 }
 
-fn event(alloc: Global, line: &str) -> Result<String, RowError> {
-    let line = octets_of(alloc, line)?;
-    let words = given(Words::of(alloc, line.as_slice()))?;
-    match read_event(alloc, &words) {
-        Ok(event) => event_text(alloc, &event),
-        Err(LineError::Refused(_)) => refused(alloc),
-        Err(LineError::OutOfMemory) => Err(RowError::OutOfMemory),
+fn event(row: &mut Row<'_>) -> Result<(), RowError> {
+    let line = next_text(row);
+    let words = Words::of(row.alloc(), &line)?;
+    match read_event(row.alloc(), &words) {
+        Ok(event) => event_said(row, &event),
+        Err(error) => refused(row, error),
     }
+    Ok(())
 }
 
 /// The moment, the seconds, the client and what happens.
-fn event_text(alloc: Global, event: &Event) -> Result<String, RowError> {
-    let kind = kind_text(alloc, &event.kind)?;
-    Ok(format!(in alloc; "{} {} {} {kind}", event.at, event.secs, event.client)?)
+fn event_said(row: &mut Row<'_>, event: &Event) {
+    row.show(&event.at);
+    row.show(&event.secs);
+    row.show(&event.client);
+    kind_said(row, &event.kind)
 }
 
-fn kind_text(alloc: Global, kind: &EventKind) -> Result<String, RowError> {
+fn kind_said(row: &mut Row<'_>, kind: &EventKind) {
     match kind {
-        EventKind::Datagram { addr, octets } => datagram_text(alloc, *addr, octets.as_slice()),
-        EventKind::Turn { request } => Ok(format!(in alloc; "turn {request}")?),
-        EventKind::Offer { addr } => Ok(format!(in alloc; "offer {} {}", addr.ip, addr.port)?),
-        EventKind::Piece(octets) => piece_text(alloc, octets.as_slice()),
-        EventKind::End => Ok(String::from_str(alloc, "end")?),
-        EventKind::Write { took } => Ok(format!(in alloc; "write {took}")?),
-        EventKind::Release => Ok(String::from_str(alloc, "release")?),
+        EventKind::Datagram { addr, octets } => {
+            address_said(row, "datagram", *addr);
+            row.hexadecimal(octets.as_slice())
+        }
+        EventKind::Offer { addr } => address_said(row, "offer", *addr),
+        EventKind::Piece(octets) => {
+            row.say("piece");
+            row.hexadecimal(octets.as_slice())
+        }
+        EventKind::Turn { request } => {
+            row.say("turn");
+            row.show(request)
+        }
+        EventKind::Write { took } => {
+            row.say("write");
+            row.show(took)
+        }
+        EventKind::End => row.say("end"),
+        EventKind::Release => row.say("release"),
     }
 }
 
-fn datagram_text(alloc: Global, addr: SocketAddr, octets: &[u8]) -> Result<String, RowError> {
-    let octets = hexadecimal(alloc, octets)?;
-    Ok(format!(in alloc; "datagram {} {} {octets}", addr.ip, addr.port)?)
+fn address_said(row: &mut Row<'_>, kind: &str, addr: SocketAddr) {
+    row.say(kind);
+    row.show(&addr.ip);
+    row.show(&addr.port)
 }
 
-fn piece_text(alloc: Global, octets: &[u8]) -> Result<String, RowError> {
-    let octets = hexadecimal(alloc, octets)?;
-    Ok(format!(in alloc; "piece {octets}")?)
-}
-
-fn stream(alloc: Global, line: &str) -> Result<String, RowError> {
-    let line = octets_of(alloc, line)?;
-    let words = given(Words::of(alloc, line.as_slice()))?;
+fn stream(row: &mut Row<'_>) -> Result<(), RowError> {
+    let line = next_text(row);
+    let words = Words::of(row.alloc(), &line)?;
     match read_stream(&words) {
-        Ok(stream) => stream_text(alloc, &stream),
-        Err(_) => refused(alloc),
+        Ok(stream) => stream_said(row, &stream),
+        Err(_) => row.say("refused"),
     }
+    Ok(())
 }
 
 /// Both timeouts, the queue's bound, the limit of connections and whether more are accepted.
-fn stream_text(alloc: Global, stream: &StreamConfig) -> Result<String, RowError> {
+fn stream_said(row: &mut Row<'_>, stream: &StreamConfig) {
     let connection = stream.connection_config();
-    Ok(format!(in alloc;
-        "{} {} {} {} {}",
-        connection.idle_timeout(),
-        connection.response_write_timeout(),
-        connection.max_queued_responses(),
-        stream.max_concurrent_connections(),
-        stream.accept_connections_at_max()
-    )?)
+    row.show(&connection.idle_timeout());
+    row.show(&connection.response_write_timeout());
+    row.show(&connection.max_queued_responses());
+    row.show(&stream.max_concurrent_connections());
+    row.show(&stream.accept_connections_at_max())
 }
 
 /// The place of the first piece of a client whose frames aren't plain.
-fn spoilt(alloc: Global, lines: &str) -> Result<String, RowError> {
-    let events = events_of(alloc, lines)?;
-    match given(first_spoilt(alloc, events.as_slice()))? {
-        Some(place) => Ok(format!(in alloc; "{place}")?),
-        None => Ok(String::from_str(alloc, "none")?),
+fn spoilt(row: &mut Row<'_>) -> Result<(), RowError> {
+    let events = events_of(row.alloc(), row.all_words())?;
+    match first_spoilt(row.alloc(), &events)? {
+        Some(place) => row.show(&place),
+        None => row.say("none"),
     }
+    Ok(())
 }
 
 /// The events of lines.
 pub(crate) fn events_of(alloc: Global, lines: &str) -> Result<Vec<Event>, RowError> {
     let mut events = Vec::new(alloc);
     for line in lines.split(';') {
-        let words = given(Words::of(alloc, line.as_bytes()))?;
+        let words = Words::of(alloc, line.as_bytes())?;
         match read_event(alloc, &words) {
             Ok(event) => events.push(event)?,
             Err(_) => return Err(RowError::OutOfForm),

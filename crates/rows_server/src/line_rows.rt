@@ -1,56 +1,57 @@
 //! Rows of the lines that are written, and of how a run ends.
 
-use crate::texts::{given, text_of};
-use dns_name::Octets;
+use crate::texts::{close_text, say_text};
+use dns_name::{Octets, OutOfMemory};
 use dns_outside::MemorySink;
 use dns_server::{Status, WriteError, line, refusal, write_outputs, write_refusal};
 use dns_service::{Output, Why};
 use dns_trace::Reason;
-use rows_table::{Arguments, RowError};
+use rows_table::{Calls, Row, RowError};
 use std::alloc::Global;
 
-/// Says what a call of this name gives.
-pub(crate) fn answer(
-    alloc: Global,
-    call: &str,
-    arguments: &mut Arguments<'_>,
-) -> Result<String, RowError> {
-    match call {
-        "line" => output_line(alloc, &output(alloc, arguments)?),
-        "refusal" => refusal_line(alloc, arguments.number()?),
-        "write_outputs" => written_output(alloc, output(alloc, arguments)?),
-        "write_refusal" => written_refusal(alloc, arguments.number()?),
-        _ => number(alloc, arguments.word()?),
+/// Lines that are written.
+pub(crate) struct LineRows;
+
+impl Calls for LineRows {
+    fn answer(&self, call: &str, row: &mut Row<'_>) -> Result<(), RowError> {
+        match call {
+            "line" => output_line(row),
+            "refusal" => refusal_line(row),
+            "write_outputs" => written_output(row),
+            "write_refusal" => written_refusal(row),
+            "status" => number(row),
+            _ => Err(RowError::NoSuchCall),
+        }
     }
 }
 
 /// An output: its kind, its client, and what it says.
-fn output(alloc: Global, arguments: &mut Arguments<'_>) -> Result<Output, RowError> {
-    let kind = arguments.word()?;
-    let client = arguments.number()?;
-    match kind {
-        "datagram" => {
-            let octets = octets(alloc, arguments)?;
-            Ok(Output::Datagram { client, octets })
-        }
-        "frame" => {
-            let octets = octets(alloc, arguments)?;
-            Ok(Output::Frame { client, octets })
-        }
-        "closed" => {
-            let why = why(arguments.word()?)?;
-            Ok(Output::Closed { client, why })
-        }
-        _ => {
-            let accepted = arguments.word()? == "true";
-            Ok(Output::TurnedAway { client, accepted })
-        }
-    }
+fn output(row: &mut Row<'_>) -> Result<Output, RowError> {
+    let kind = row.word();
+    let client = row.number();
+    Ok(match kind {
+        "datagram" => Output::Datagram {
+            client,
+            octets: octets(row)?,
+        },
+        "frame" => Output::Frame {
+            client,
+            octets: octets(row)?,
+        },
+        "closed" => Output::Closed {
+            client,
+            why: why(row.word())?,
+        },
+        _ => Output::TurnedAway {
+            client,
+            accepted: row.word() == "true",
+        },
+    })
 }
 
-fn octets(alloc: Global, arguments: &mut Arguments<'_>) -> Result<Octets, RowError> {
-    let octets = arguments.octets(alloc)?;
-    given(Octets::from_slice(alloc, octets.as_slice()))
+fn octets(row: &mut Row<'_>) -> Result<Octets, RowError> {
+    let octets = row.octets();
+    Ok(Octets::from_slice(row.alloc(), &octets)?)
 }
 
 fn why(name: &str) -> Result<Why, RowError> {
@@ -62,27 +63,31 @@ fn why(name: &str) -> Result<Why, RowError> {
     }
 }
 
-fn output_line(alloc: Global, output: &Output) -> Result<String, RowError> {
-    let line = given(line(alloc, output))?;
-    text_of(alloc, line.as_bytes())
-}
-
-fn refusal_line(alloc: Global, number: u64) -> Result<String, RowError> {
-    let line = given(refusal(alloc, number, Reason::Unbuilt))?;
-    text_of(alloc, line.as_bytes())
-}
-
-/// Appends the lines of outputs.
-pub(crate) fn append_lines(
-    alloc: Global,
-    text: &mut Vec<u8>,
-    outputs: &[Output],
-) -> Result<(), RowError> {
-    for output in outputs {
-        let line = given(line(alloc, output))?;
-        text.extend_from_slice(line.as_bytes())?;
-    }
+fn output_line(row: &mut Row<'_>) -> Result<(), RowError> {
+    let output = output(row)?;
+    say_line(row, &output);
     Ok(())
+}
+
+fn refusal_line(row: &mut Row<'_>) -> Result<(), RowError> {
+    let line = refusal(row.alloc(), row.number(), Reason::Unbuilt)?;
+    say_text(row, line.as_bytes());
+    Ok(())
+}
+
+/// Says the line of an output, behind other ones with no space between.
+fn say_line(row: &mut Row<'_>, output: &Output) {
+    match line(row.alloc(), output) {
+        Ok(line) => close_text(row, line.as_bytes()),
+        Err(OutOfMemory) => row.fail(RowError::OutOfMemory),
+    }
+}
+
+/// Says the lines of outputs.
+pub(crate) fn say_lines(row: &mut Row<'_>, outputs: &[Output]) {
+    for output in outputs {
+        say_line(row, output);
+    }
 }
 
 fn empty_sink(alloc: Global) -> MemorySink {
@@ -90,32 +95,29 @@ fn empty_sink(alloc: Global) -> MemorySink {
 }
 
 /// How the writing ended, and what stands in the sink.
-fn sink_text(
-    alloc: Global,
-    ended: Result<(), WriteError>,
-    sink: &MemorySink,
-) -> Result<String, RowError> {
-    let text = text_of(alloc, sink.written())?;
-    Ok(format!(in alloc; "{ended:?} {text}")?)
+fn sink_said(row: &mut Row<'_>, ended: Result<(), WriteError>, sink: &MemorySink) {
+    row.debug(&ended);
+    say_text(row, sink.written())
 }
 
-fn written_output(alloc: Global, output: Output) -> Result<String, RowError> {
-    let mut outputs = Vec::new(alloc);
-    outputs.push(output)?;
-    let mut sink = empty_sink(alloc);
-    let ended = write_outputs(alloc, &mut sink, outputs.as_slice());
-    sink_text(alloc, ended, &sink)
+fn written_output(row: &mut Row<'_>) -> Result<(), RowError> {
+    let outputs = [output(row)?];
+    let mut sink = empty_sink(row.alloc());
+    let ended = write_outputs(row.alloc(), &mut sink, &outputs);
+    sink_said(row, ended, &sink);
+    Ok(())
 }
 
-fn written_refusal(alloc: Global, number: u64) -> Result<String, RowError> {
-    let mut sink = empty_sink(alloc);
-    let ended = write_refusal(alloc, &mut sink, number, Reason::Unbuilt);
-    sink_text(alloc, ended, &sink)
+fn written_refusal(row: &mut Row<'_>) -> Result<(), RowError> {
+    let mut sink = empty_sink(row.alloc());
+    let ended = write_refusal(row.alloc(), &mut sink, row.number(), Reason::Unbuilt);
+    sink_said(row, ended, &sink);
+    Ok(())
 }
 
 /// The exit status.
-fn number(alloc: Global, name: &str) -> Result<String, RowError> {
-    let status = match name {
+fn number(row: &mut Row<'_>) -> Result<(), RowError> {
+    let status = match row.word() {
         "Done" => Status::Done,
         "Usage" => Status::Usage,
         "Refused" => Status::Refused,
@@ -125,5 +127,6 @@ fn number(alloc: Global, name: &str) -> Result<String, RowError> {
         "TooLong" => Status::TooLong,
         _ => return Err(RowError::OutOfForm),
     };
-    Ok(format!(in alloc; "{}", status.number())?)
+    row.show(&status.number());
+    Ok(())
 }

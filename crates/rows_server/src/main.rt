@@ -12,47 +12,23 @@ mod service_rows;
 mod texts;
 mod value_rows;
 
-use rows_table::{Arguments, Calls, RowError};
-use std::alloc::Global;
+use book_rows::BookRows;
+use client_rows::ClientRows;
+use event_rows::EventRows;
+use line_rows::LineRows;
+use outside_rows::OutsideRows;
+use run_rows::RunRows;
+use service_rows::ServiceRows;
 use std::io;
 use std::process::ExitCode;
-
-/// The calls of dns_book, dns_client, dns_core, dns_outside, dns_trace and dns_server.
-struct Server;
-
-impl Calls for Server {
-    fn answer(
-        &self,
-        alloc: Global,
-        call: &str,
-        arguments: &mut Arguments<'_>,
-    ) -> Result<String, RowError> {
-        match call {
-            "book_state" => book_rows::answer(alloc, arguments),
-            "framer" | "client_core" | "settings" => client_rows::answer(alloc, call, arguments),
-            "reading"
-            | "writing"
-            | "memory_source"
-            | "memory_sink"
-            | "steady_source"
-            | "steady_sink" => outside_rows::answer(alloc, call, arguments),
-            "read_event" | "read_stream" | "first_spoilt" => {
-                event_rows::answer(alloc, call, arguments)
-            }
-            "line" | "refusal" | "write_outputs" | "write_refusal" | "status" => {
-                line_rows::answer(alloc, call, arguments)
-            }
-            "script_service" | "polled_request" | "script_target" | "arc_target" => {
-                service_rows::answer(alloc, call, arguments)
-            }
-            "run" | "replay" | "endless" | "read_script" => {
-                run_rows::answer(alloc, call, arguments)
-            }
-            _ => value_rows::answer(alloc, call, arguments),
-        }
-    }
-}
+use value_rows::ValueRows;
 
 fn main(rt: HostRuntime) -> io::Result<ExitCode> {
-    rows_table::run(&rt, &Server)
+    rows_table::run(
+        &rt,
+        &(
+            ((BookRows, ClientRows), (OutsideRows, EventRows)),
+            ((LineRows, ServiceRows), (RunRows, ValueRows)),
+        ),
+    )
 }

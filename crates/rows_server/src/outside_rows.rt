@@ -4,114 +4,115 @@ use dns_outside::{
     MemorySink, MemorySource, Reading, Sink, Source, SourceRead, SteadySink, SteadySource, Writing,
     read_all, write_all,
 };
-use rows_table::{Arguments, RowError, hexadecimal};
+use rows_table::{Calls, Row, RowError};
 use std::alloc::Global;
 
-/// Says what a call of this name gives.
-pub(crate) fn answer(
-    alloc: Global,
-    call: &str,
-    arguments: &mut Arguments<'_>,
-) -> Result<String, RowError> {
-    match call {
-        "reading" => reading(alloc, arguments.octets(alloc)?),
-        "writing" => writing(alloc, arguments),
-        "memory_source" => memory_source(alloc, arguments),
-        "memory_sink" => memory_sink(alloc, arguments),
-        "steady_source" => steady_source(alloc, arguments.octets(alloc)?),
-        _ => steady_sink(alloc, arguments.octets(alloc)?),
+/// Sources and sinks.
+pub(crate) struct OutsideRows;
+
+impl Calls for OutsideRows {
+    fn answer(&self, call: &str, row: &mut Row<'_>) -> Result<(), RowError> {
+        match call {
+            "reading" => reading(row),
+            "writing" => writing(row),
+            "memory_source" => memory_source(row),
+            "memory_sink" => memory_sink(row),
+            "steady_source" => steady_source(row),
+            "steady_sink" => steady_sink(row),
+            _ => Err(RowError::NoSuchCall),
+        }
     }
 }
 
 /// What three reads of two octets give of a slice.
-fn reading(alloc: Global, octets: Vec<u8>) -> Result<String, RowError> {
+fn reading(row: &mut Row<'_>) -> Result<(), RowError> {
+    let octets = row.octets();
     let mut source = Reading::new(octets.as_slice());
-    let first = one_read(alloc, &mut source)?;
-    let second = one_read(alloc, &mut source)?;
-    let third = one_read(alloc, &mut source)?;
-    Ok(format!(in alloc; "{first} {second} {third}")?)
+    for _ in 0..3 {
+        one_read(row, &mut source);
+    }
+    Ok(())
 }
 
 /// What one read of two octets gives.
-fn one_read<S: Source>(alloc: Global, source: &mut S) -> Result<String, RowError> {
+fn one_read<S: Source>(row: &mut Row<'_>, source: &mut S) {
     let mut buf = [0u8; 2];
     match source.read(&mut buf) {
         SourceRead::Got(count) => match buf.as_slice().split_at_checked(count) {
-            Some((got, _)) => hexadecimal(alloc, got),
-            None => Err(RowError::OutOfForm),
+            Some((got, _)) => row.hexadecimal(got),
+            None => row.fail(RowError::OutOfForm),
         },
-        SourceRead::End => Ok(String::from_str(alloc, "End")?),
-        SourceRead::Failed => Ok(String::from_str(alloc, "Failed")?),
+        SourceRead::End => row.say("End"),
+        SourceRead::Failed => row.say("Failed"),
     }
 }
 
 /// A piece is written by one call and another one whole: what the first call takes, and what stands in the vector.
-fn writing(alloc: Global, arguments: &mut Arguments<'_>) -> Result<String, RowError> {
-    let first = arguments.octets(alloc)?;
-    let second = arguments.octets(alloc)?;
-    let mut sink = Writing::new(Vec::new(alloc));
-    let took = sink.write(first.as_slice());
-    let whole = write_all(&mut sink, second.as_slice());
-    let octets = hexadecimal(alloc, sink.into_inner().as_slice())?;
-    Ok(format!(in alloc; "{took:?} {whole:?} {octets}")?)
+fn writing(row: &mut Row<'_>) -> Result<(), RowError> {
+    let first = row.octets();
+    let second = row.octets();
+    let mut sink = Writing::new(Vec::new(row.alloc()));
+    row.debug(&sink.write(&first));
+    row.debug(&write_all(&mut sink, &second));
+    row.hexadecimal(&sink.into_inner());
+    Ok(())
 }
 
-/// All that is left of a source, or why it isn't read.
-fn whole_source<S: Source>(alloc: Global, source: &mut S) -> Result<String, RowError> {
-    match read_all(alloc, source) {
-        Ok(octets) => hexadecimal(alloc, octets.as_slice()),
-        Err(error) => Ok(format!(in alloc; "{error:?}")?),
+/// Says all that is left of a source, or why it isn't read.
+fn say_whole<S: Source>(row: &mut Row<'_>, source: &mut S) {
+    match read_all(row.alloc(), source) {
+        Ok(octets) => row.hexadecimal(&octets),
+        Err(error) => row.debug(&error),
     }
 }
 
-/// The numbers of the calls that fail: one.
-fn failing(alloc: Global, number: u64) -> Result<Vec<u64>, RowError> {
-    let mut numbers = Vec::new(alloc);
-    numbers.push(number)?;
-    Ok(numbers)
+/// The numbers of the calls that fail: the one, where there is one.
+pub(crate) fn failing(alloc: Global, number: Option<u64>) -> Result<Vec<u64>, RowError> {
+    Ok(number.into_iter().collect(alloc)?)
 }
 
 /// A source of which one call fails and which gives so many octets a call is read whole twice: what the first gives, what
 /// is left then, and what the second gives.
-fn memory_source(alloc: Global, arguments: &mut Arguments<'_>) -> Result<String, RowError> {
-    let failing = failing(alloc, arguments.number()?)?;
-    let most = arguments.number()?;
-    let mut source = MemorySource::new(arguments.octets(alloc)?, failing, most);
-    let first = whole_source(alloc, &mut source)?;
-    let left = hexadecimal(alloc, source.left())?;
-    let second = whole_source(alloc, &mut source)?;
-    Ok(format!(in alloc; "{first} {left} {second}")?)
+fn memory_source(row: &mut Row<'_>) -> Result<(), RowError> {
+    let failing = failing(row.alloc(), Some(row.number()))?;
+    let most = row.number();
+    let mut source = MemorySource::new(row.octets(), failing, most);
+    say_whole(row, &mut source);
+    row.hexadecimal(source.left());
+    say_whole(row, &mut source);
+    Ok(())
 }
 
-/// What writing a piece whole gives, and what the sink has then.
-fn write_text(alloc: Global, sink: &mut MemorySink, piece: Vec<u8>) -> Result<String, RowError> {
-    let whole = write_all(sink, piece.as_slice());
-    let octets = hexadecimal(alloc, sink.written())?;
-    Ok(format!(in alloc; "{whole:?} {octets}")?)
+/// What writing the piece of the next word whole gives, and what the sink has then.
+fn say_written(row: &mut Row<'_>, sink: &mut MemorySink) {
+    let piece = row.octets();
+    row.debug(&write_all(sink, &piece));
+    row.hexadecimal(sink.written())
 }
 
 /// Two pieces are written whole to a sink of which one call fails and which takes so many octets a call.
-fn memory_sink(alloc: Global, arguments: &mut Arguments<'_>) -> Result<String, RowError> {
-    let failing = failing(alloc, arguments.number()?)?;
-    let mut sink = MemorySink::new(Vec::new(alloc), failing, arguments.number()?);
-    let first = write_text(alloc, &mut sink, arguments.octets(alloc)?)?;
-    let second = write_text(alloc, &mut sink, arguments.octets(alloc)?)?;
-    Ok(format!(in alloc; "{first} {second}")?)
+fn memory_sink(row: &mut Row<'_>) -> Result<(), RowError> {
+    let failing = failing(row.alloc(), Some(row.number()))?;
+    let mut sink = MemorySink::new(Vec::new(row.alloc()), failing, row.number());
+    say_written(row, &mut sink);
+    say_written(row, &mut sink);
+    Ok(())
 }
 
-fn steady_source(alloc: Global, octets: Vec<u8>) -> Result<String, RowError> {
-    let mut source = SteadySource::new(octets);
-    let all = whole_source(alloc, &mut source)?;
-    let left = hexadecimal(alloc, source.left())?;
-    Ok(format!(in alloc; "{all} {left}")?)
+fn steady_source(row: &mut Row<'_>) -> Result<(), RowError> {
+    let mut source = SteadySource::new(row.octets());
+    say_whole(row, &mut source);
+    row.hexadecimal(source.left());
+    Ok(())
 }
 
-fn steady_sink(alloc: Global, octets: Vec<u8>) -> Result<String, RowError> {
-    let mut sink = SteadySink::new(Vec::new(alloc));
-    let whole = write_all(&mut sink, octets.as_slice());
-    let written = match sink.written() {
-        Some(octets) => hexadecimal(alloc, octets)?,
-        None => String::from_str(alloc, "lost")?,
-    };
-    Ok(format!(in alloc; "{whole:?} {written}")?)
+fn steady_sink(row: &mut Row<'_>) -> Result<(), RowError> {
+    let octets = row.octets();
+    let mut sink = SteadySink::new(Vec::new(row.alloc()));
+    row.debug(&write_all(&mut sink, &octets));
+    match sink.written() {
+        Some(octets) => row.hexadecimal(octets),
+        None => row.say("lost"),
+    }
+    Ok(())
 }

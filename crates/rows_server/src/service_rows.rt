@@ -1,6 +1,5 @@
 //! Rows of the service and the target that play a script.
 
-use crate::texts::given;
 use dns_base::Message;
 use dns_core::{Notifiable, PolledRequest, VerdictFuture};
 use dns_name::{Class, IpAddr, Name, Rcode, SocketAddr};
@@ -9,21 +8,22 @@ use dns_service::{
     CallResult, OutOfMemory, Polled, ReplyFuture, ReplyStream, Request, Service, ServiceResult,
     TransportSpecificContext, UdpTransportContext,
 };
-use rows_table::{Arguments, RowError, hexadecimal};
+use rows_table::{Calls, Row, RowError};
 use std::alloc::Global;
 use std::sync::Arc;
 
-/// Says what a call of this name gives.
-pub(crate) fn answer(
-    alloc: Global,
-    call: &str,
-    arguments: &mut Arguments<'_>,
-) -> Result<String, RowError> {
-    match call {
-        "script_service" => played(alloc, arguments),
-        "polled_request" => polled(alloc, arguments),
-        "script_target" => verdict(alloc, &ScriptTarget),
-        _ => of_arc(alloc),
+/// The service and the target.
+pub(crate) struct ServiceRows;
+
+impl Calls for ServiceRows {
+    fn answer(&self, call: &str, row: &mut Row<'_>) -> Result<(), RowError> {
+        match call {
+            "script_service" => played(row),
+            "polled_request" => polled(row),
+            "script_target" => verdict(row, &ScriptTarget),
+            "arc_target" => of_arc(row),
+            _ => Err(RowError::NoSuchCall),
+        }
     }
 }
 
@@ -31,94 +31,98 @@ pub(crate) fn answer(
 pub(crate) fn rules(alloc: Global, rcode: u8) -> Result<Rules, RowError> {
     let rcode = Rcode::checked_from_int(rcode).ok_or(RowError::OutOfForm)?;
     let answers = [ScriptAnswer::Pend, ScriptAnswer::Rcode(rcode)];
-    let answers = given(ScriptAnswers::from_slice(alloc, answers.as_slice()))?;
+    let answers = ScriptAnswers::from_slice(alloc, answers.as_slice())?;
     let mut rules = Rules::from_vec(Vec::new(alloc));
-    given(rules.push(Rule { answers }))?;
+    rules.push(Rule { answers })?;
     Ok(rules)
 }
 
-fn request(alloc: Global, arguments: &mut Arguments<'_>) -> Result<Request<()>, RowError> {
-    let Ok(message) = Message::from_octets(arguments.octets(alloc)?) else {
-        return Err(RowError::OutOfForm);
-    };
-    let sender = SocketAddr {
-        ip: IpAddr::V4([192, 0, 2, 1]),
-        port: 5353,
-    };
+/// A service of one rule, with the response code of the next word.
+fn service(row: &mut Row<'_>) -> Result<ScriptService, RowError> {
+    Ok(ScriptService::new(rules(row.alloc(), row.number())?))
+}
+
+/// A request in a datagram, with the message of the next word.
+fn request(row: &mut Row<'_>) -> Result<Request<()>, RowError> {
+    let message = Message::from_octets(row.octets()).or(Err(RowError::OutOfForm))?;
     let transport = TransportSpecificContext::Udp(UdpTransportContext::new(None));
-    given(Request::new(alloc, sender, 5, 100, message, transport, ()))
+    let ip = IpAddr::V4([192, 0, 2, 1]);
+    let sender = SocketAddr { ip, port: 5353 };
+    Ok(Request::new(row.alloc(), sender, 5, 100, message, transport, ())?)
 }
 
 /// What the stream of the service of one rule gives to a request at three polls.
-fn played(alloc: Global, arguments: &mut Arguments<'_>) -> Result<String, RowError> {
-    let service = ScriptService::new(rules(alloc, arguments.number()?)?);
-    let mut request = request(alloc, arguments)?;
-    let mut future = given(service.call(alloc, &mut request))?;
-    match given(future.poll(alloc))? {
-        Polled::Ready(mut stream) => stream_text(alloc, &mut stream),
-        Polled::Pending => Err(RowError::Missing),
+fn played(row: &mut Row<'_>) -> Result<(), RowError> {
+    let service = service(row)?;
+    let mut request = request(row)?;
+    let mut future = service.call(row.alloc(), &mut request)?;
+    match future.poll(row.alloc())? {
+        Polled::Ready(mut stream) => three_polls(row, &mut stream),
+        Polled::Pending => row.fail(RowError::Missing),
     }
-}
-
-fn stream_text<S: ReplyStream>(alloc: Global, stream: &mut S) -> Result<String, RowError> {
-    let first = poll_text(alloc, stream.poll_next(alloc))?;
-    let second = poll_text(alloc, stream.poll_next(alloc))?;
-    let third = poll_text(alloc, stream.poll_next(alloc))?;
-    Ok(format!(in alloc; "{first} {second} {third}")?)
+    Ok(())
 }
 
 /// What the same request gives at three polls, as a client's core keeps it.
-fn polled(alloc: Global, arguments: &mut Arguments<'_>) -> Result<String, RowError> {
-    let service = ScriptService::new(rules(alloc, arguments.number()?)?);
-    let mut request = request(alloc, arguments)?;
-    let future = given(service.call(alloc, &mut request))?;
-    let mut polled = PolledRequest::Called(future);
-    let first = poll_text(alloc, polled.poll_next(alloc))?;
-    let second = poll_text(alloc, polled.poll_next(alloc))?;
-    let third = poll_text(alloc, polled.poll_next(alloc))?;
-    Ok(format!(in alloc; "{first} {second} {third}")?)
+fn polled(row: &mut Row<'_>) -> Result<(), RowError> {
+    let service = service(row)?;
+    let mut request = request(row)?;
+    let mut polled = PolledRequest::Called(service.call(row.alloc(), &mut request)?);
+    for _ in 0..3 {
+        poll_said(row, polled.poll_next(row.alloc()));
+    }
+    Ok(())
+}
+
+fn three_polls<S: ReplyStream>(row: &mut Row<'_>, stream: &mut S) {
+    for _ in 0..3 {
+        poll_said(row, stream.poll_next(row.alloc()));
+    }
 }
 
 /// `pending`, the reply or the error of an item, or `end`.
-fn poll_text(
-    alloc: Global,
-    answer: Result<Polled<Option<ServiceResult>>, OutOfMemory>,
-) -> Result<String, RowError> {
-    match given(answer)? {
-        Polled::Ready(Some(item)) => item_text(alloc, item),
-        Polled::Ready(None) => Ok(String::from_str(alloc, "end")?),
-        Polled::Pending => Ok(String::from_str(alloc, "pending")?),
+fn poll_said(row: &mut Row<'_>, answer: Result<Polled<Option<ServiceResult>>, OutOfMemory>) {
+    match answer {
+        Ok(polled) => polled_said(row, polled),
+        Err(OutOfMemory) => row.fail(RowError::OutOfMemory),
     }
 }
 
-fn item_text(alloc: Global, item: ServiceResult) -> Result<String, RowError> {
+fn polled_said(row: &mut Row<'_>, polled: Polled<Option<ServiceResult>>) {
+    match polled {
+        Polled::Ready(Some(item)) => item_said(row, item),
+        Polled::Ready(None) => row.say("end"),
+        Polled::Pending => row.say("pending"),
+    }
+}
+
+fn item_said(row: &mut Row<'_>, item: ServiceResult) {
     match item {
-        Ok(given) => reply_text(alloc, &given),
-        Err(error) => Ok(format!(in alloc; "{error:?}")?),
+        Ok(given) => reply_said(row, &given),
+        Err(error) => row.debug(&error),
     }
 }
 
-fn reply_text(alloc: Global, given: &CallResult) -> Result<String, RowError> {
+fn reply_said(row: &mut Row<'_>, given: &CallResult) {
     match given.response() {
-        Some(reply) => hexadecimal(alloc, reply.as_slice()),
-        None => Ok(String::from_str(alloc, "nothing")?),
+        Some(reply) => row.hexadecimal(reply.as_slice()),
+        None => row.say("nothing"),
     }
 }
 
-fn of_arc(alloc: Global) -> Result<String, RowError> {
-    match Arc::new(alloc, ScriptTarget) {
-        Ok(target) => verdict(alloc, &target),
-        Err(_) => Err(RowError::OutOfMemory),
-    }
+fn of_arc(row: &mut Row<'_>) -> Result<(), RowError> {
+    let target = Arc::new(row.alloc(), ScriptTarget)?;
+    verdict(row, &target)
 }
 
 /// The verdict on a change of the root zone.
-fn verdict<N: Notifiable>(alloc: Global, target: &N) -> Result<String, RowError> {
-    let root = given(Name::root(alloc))?;
+fn verdict<N: Notifiable>(row: &mut Row<'_>, target: &N) -> Result<(), RowError> {
+    let root = Name::root(row.alloc())?;
     let source = IpAddr::V4([192, 0, 2, 1]);
-    let mut verdict = given(target.notify_zone_changed(alloc, Class::IN, &root, None, source))?;
-    match given(verdict.poll(alloc))? {
-        Polled::Ready(verdict) => Ok(format!(in alloc; "{verdict:?}")?),
-        Polled::Pending => Ok(String::from_str(alloc, "pending")?),
+    let mut verdict = target.notify_zone_changed(row.alloc(), Class::IN, &root, None, source)?;
+    match verdict.poll(row.alloc())? {
+        Polled::Ready(verdict) => row.debug(&verdict),
+        Polled::Pending => row.say("pending"),
     }
+    Ok(())
 }

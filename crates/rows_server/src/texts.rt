@@ -1,40 +1,49 @@
-//! Lines within a row: `;` stands for LF, `^` for CR and `_` for a space. Failed calls as errors of a row.
+//! Lines within a row: `;` stands for LF, `^` for CR and `_` for a space.
 
-use dns_service::OutOfMemory;
-use rows_table::RowError;
-use std::alloc::Global;
+use rows_table::Row;
 
-/// What a call gave, or that memory was short.
-pub(crate) fn given<T>(answer: Result<T, OutOfMemory>) -> Result<T, RowError> {
-    match answer {
-        Ok(value) => Ok(value),
-        Err(OutOfMemory) => Err(RowError::OutOfMemory),
-    }
-}
-
-/// The octets that a text of a row stands for.
-pub(crate) fn octets_of(alloc: Global, text: &str) -> Result<Vec<u8>, RowError> {
-    let mut octets = Vec::new(alloc);
-    for octet in text.bytes() {
-        octets.push(match octet {
+/// The octets that all words which are left stand for.
+pub(crate) fn next_text(row: &mut Row<'_>) -> Vec<u8> {
+    let mut octets = Vec::new(row.alloc());
+    for octet in row.all_words().bytes() {
+        row.keep(octets.push(match octet {
             b';' => b'\n',
             b'^' => b'\r',
             b'_' => b' ',
             _ => octet,
-        })?;
+        }));
     }
-    Ok(octets)
+    octets
 }
 
 /// Octets as a row writes them: spaces stay.
-pub(crate) fn text_of(alloc: Global, octets: &[u8]) -> Result<String, RowError> {
-    let mut text = String::new(alloc);
+fn text_of(row: &mut Row<'_>, octets: &[u8]) -> String {
+    let mut text = String::new(row.alloc());
     for octet in octets {
-        text.push(match *octet {
+        row.keep(text.push(match *octet {
             b'\n' => ';',
             b'\r' => '^',
             _ => char::from(*octet),
-        })?;
+        }));
     }
-    Ok(text)
+    text
+}
+
+/// Says octets as lines.
+pub(crate) fn say_text(row: &mut Row<'_>, octets: &[u8]) {
+    let text = text_of(row, octets);
+    row.say(text.as_str());
+}
+
+/// Says octets as lines, behind what stands there with no space between.
+pub(crate) fn close_text(row: &mut Row<'_>, octets: &[u8]) {
+    let text = text_of(row, octets);
+    row.close(text.as_str());
+}
+
+/// Says octets as lines, in brackets.
+pub(crate) fn say_in_brackets(row: &mut Row<'_>, octets: &[u8]) {
+    row.close("(");
+    close_text(row, octets);
+    row.close(")");
 }

@@ -1,89 +1,77 @@
 //! Rows of lines, words and the values that they spell.
 
-use crate::texts::{given, octets_of, text_of};
-use dns_name::IpAddr;
+use crate::event_rows::refused;
+use crate::texts::{next_text, say_in_brackets};
 use dns_trace::{
     LineError, Reason, Words, addr, num, octets, port, quad, says_nothing, split_line, yes_no,
 };
-use rows_table::{Arguments, RowError, hexadecimal};
-use std::alloc::Global;
-use std::fmt;
+use rows_table::{Calls, Row, RowError};
+use std::fmt::Display;
 
-/// Says what a call of this name gives.
-pub(crate) fn answer(
-    alloc: Global,
-    call: &str,
-    arguments: &mut Arguments<'_>,
-) -> Result<String, RowError> {
-    let text = octets_of(alloc, arguments.all_words())?;
-    let text = text.as_slice();
-    match call {
-        "split_line" => line_and_rest(alloc, text),
-        "says_nothing" => skipped(alloc, text),
-        "words" => words_text(alloc, &given(Words::of(alloc, text))?),
-        "parts" => words_text(alloc, &given(Words::parts(alloc, text, b'.'))?),
-        "num" => value_text(alloc, num(text)),
-        "port" => value_text(alloc, port(text)),
-        "yes_no" => value_text(alloc, yes_no(text)),
-        "quad" => address_text(alloc, quad(alloc, text)),
-        "addr" => address_text(alloc, addr(alloc, text)),
-        "octets" => octets_text(alloc, text),
-        _ => Err(RowError::NoSuchCall),
+/// Lines, words and values.
+pub(crate) struct ValueRows;
+
+impl Calls for ValueRows {
+    fn answer(&self, call: &str, row: &mut Row<'_>) -> Result<(), RowError> {
+        let text = next_text(row);
+        match call {
+            "split_line" => line_and_rest(row, &text),
+            "says_nothing" => skipped(row, &text)?,
+            "words" => words_said(row, &Words::of(row.alloc(), &text)?),
+            "parts" => words_said(row, &Words::parts(row.alloc(), &text, b'.')?),
+            "octets" => octets_said(row, &text),
+            "quad" => line_value(row, quad(row.alloc(), &text)),
+            "addr" => line_value(row, addr(row.alloc(), &text)),
+            "num" => value(row, num(&text)),
+            "port" => value(row, port(&text)),
+            "yes_no" => value(row, yes_no(&text)),
+            _ => return Err(RowError::NoSuchCall),
+        }
+        Ok(())
     }
 }
 
 /// The first line and the rest, each in brackets.
-fn line_and_rest(alloc: Global, text: &[u8]) -> Result<String, RowError> {
+fn line_and_rest(row: &mut Row<'_>, text: &[u8]) {
     if text.is_empty() {
-        return Err(RowError::Missing);
+        return row.fail(RowError::Missing);
     }
     let (line, rest) = split_line(text);
-    let line = text_of(alloc, line)?;
-    let rest = text_of(alloc, rest)?;
-    Ok(format!(in alloc; "({line}) ({rest})")?)
+    say_in_brackets(row, line);
+    row.close(" ");
+    say_in_brackets(row, rest);
 }
 
-fn skipped(alloc: Global, text: &[u8]) -> Result<String, RowError> {
-    let words = given(Words::of(alloc, text))?;
-    Ok(format!(in alloc; "{}", says_nothing(&words))?)
+fn skipped(row: &mut Row<'_>, text: &[u8]) -> Result<(), RowError> {
+    let words = Words::of(row.alloc(), text)?;
+    row.show(&says_nothing(&words));
+    Ok(())
 }
 
 /// The words, each in brackets.
-fn words_text(alloc: Global, words: &Words<'_>) -> Result<String, RowError> {
-    let mut said = String::new(alloc);
+fn words_said(row: &mut Row<'_>, words: &Words<'_>) {
     for number in 0..words.len() {
-        let word = text_of(alloc, words.word(number))?;
-        said.push_str(format!(in alloc; "({word})")?.as_str())?;
+        say_in_brackets(row, words.word(number));
     }
-    Ok(said)
 }
 
-fn refused(alloc: Global) -> Result<String, RowError> {
-    Ok(String::from_str(alloc, "refused")?)
-}
-
-fn value_text<T: fmt::Display + Drop>(
-    alloc: Global,
-    value: Result<T, Reason>,
-) -> Result<String, RowError> {
+fn value<T: Display + Drop>(row: &mut Row<'_>, value: Result<T, Reason>) {
     match value {
-        Ok(value) => Ok(format!(in alloc; "{value}")?),
-        Err(_) => refused(alloc),
+        Ok(value) => row.show(&value),
+        Err(_) => row.say("refused"),
     }
 }
 
-fn address_text(alloc: Global, address: Result<IpAddr, LineError>) -> Result<String, RowError> {
-    match address {
-        Ok(address) => Ok(format!(in alloc; "{address}")?),
-        Err(LineError::Refused(_)) => refused(alloc),
-        Err(LineError::OutOfMemory) => Err(RowError::OutOfMemory),
+fn line_value<T: Display + Drop>(row: &mut Row<'_>, value: Result<T, LineError>) {
+    match value {
+        Ok(value) => row.show(&value),
+        Err(error) => refused(row, error),
     }
 }
 
-fn octets_text(alloc: Global, word: &[u8]) -> Result<String, RowError> {
-    match octets(alloc, word) {
-        Ok(octets) => hexadecimal(alloc, octets.as_slice()),
-        Err(LineError::Refused(_)) => refused(alloc),
-        Err(LineError::OutOfMemory) => Err(RowError::OutOfMemory),
+fn octets_said(row: &mut Row<'_>, word: &[u8]) {
+    match octets(row.alloc(), word) {
+        Ok(octets) => row.hexadecimal(octets.as_slice()),
+        Err(error) => refused(row, error),
     }
 }

@@ -1,15 +1,18 @@
 //! Why a row says nothing that could hold.
 
+use dns_name::{OutOfMemory, ParseError};
 use std::alloc::{AllocError, AllocFailed};
 use thiserror::Error;
 
-/// Why a row can't be judged.
+/// Why a row can't be judged; or that its octets are refused, which then is what the row says.
 #[derive(Clone, Copy, Debug, PartialEq, Eq, Error)]
 pub enum RowError {
     #[error("no ` = ` parts the call from what is wanted")]
     NothingWanted,
     #[error("no such call")]
     NoSuchCall,
+    #[error("no such step")]
+    NoSuchStep,
     #[error("an argument is missing")]
     Missing,
     #[error("an argument too many")]
@@ -20,6 +23,20 @@ pub enum RowError {
     Repetition,
     #[error("out of memory")]
     OutOfMemory,
+    #[error("{0}")]
+    Refused(ParseError),
+}
+
+impl From<ParseError> for RowError {
+    fn from(error: ParseError) -> RowError {
+        RowError::Refused(error)
+    }
+}
+
+impl From<OutOfMemory> for RowError {
+    fn from(_error: OutOfMemory) -> RowError {
+        RowError::OutOfMemory
+    }
 }
 
 impl From<AllocError> for RowError {

@@ -1,11 +1,14 @@
 //! Tables of rows: each line names a call, gives its arguments and, behind ` = `, what it is to say.
 #![tactic(auto)]
 
-mod arguments;
 mod error;
 mod repeats;
+mod row;
+mod said;
 mod table;
+mod words;
 
-pub use arguments::{Arguments, hexadecimal, yes_no};
 pub use error::RowError;
-pub use table::{Calls, run};
+pub use row::Row;
+pub use table::{Calls, Steps, run};
+pub use words::{address_of, array_of, number_of, octets_of};

@@ -1,32 +1,47 @@
 //! A table of rows is read from standard input, and each row that doesn't hold is told.
 
 use crate::repeats::written_out;
-use crate::{Arguments, RowError};
+use crate::{Row, RowError};
 use std::alloc::Global;
 use std::io;
 use std::process::ExitCode;
 
 /// The calls that the rows of a table name.
 pub trait Calls {
-    /// What the call of this name says of the arguments, as a row writes it.
-    fn answer(
-        &self,
-        alloc: Global,
-        call: &str,
-        arguments: &mut Arguments<'_>,
-    ) -> Result<String, RowError>;
+    /// Says in a row what the call of this name says of the row's arguments, which are read to their end before anything
+    /// can be refused.
+    fn answer(&self, call: &str, row: &mut Row<'_>) -> Result<(), RowError>;
 }
 
-/// What a call says in place of what a row wants of it, or none where the row holds.
-fn unwanted<C: Calls>(alloc: Global, calls: &C, row: &str) -> Result<Option<String>, RowError> {
-    let row = written_out(alloc, row)?;
-    let Some((asked, wanted)) = row.as_str().split_once(" = ") else {
+/// The calls of two parts of a table: the second is asked for what the first doesn't know.
+impl<A: Calls, B: Calls> Calls for (A, B) {
+    fn answer(&self, call: &str, row: &mut Row<'_>) -> Result<(), RowError> {
+        match self.0.answer(call, row) {
+            Err(RowError::NoSuchCall) => self.1.answer(call, row),
+            said => said,
+        }
+    }
+}
+
+/// What steps are taken with.
+pub trait Steps {
+    /// Takes the step of this name with the row's arguments, and says in the row what it answers.
+    fn take_step(&mut self, step: &str, row: &mut Row<'_>) -> Result<(), RowError>;
+}
+
+/// What a call says in place of what a row wants of it, or none where the row holds. A refusal of octets is what it says.
+fn unwanted<C: Calls>(alloc: Global, calls: &C, text: &str) -> Result<Option<String>, RowError> {
+    let text = written_out(alloc, text)?;
+    let Some((asked, wanted)) = text.as_str().split_once(" = ") else {
         return Err(RowError::NothingWanted);
     };
-    let mut arguments = Arguments::of(asked);
-    let call = arguments.word()?;
-    let said = calls.answer(alloc, call, &mut arguments)?;
-    arguments.end()?;
+    let mut row = Row::of(alloc, asked);
+    match calls.answer(row.word(), &mut row) {
+        Err(RowError::Refused(error)) => row.refuse(error),
+        said => said?,
+    }
+    row.end();
+    let said = row.into_said()?;
     Ok((said.as_str() != wanted.trim()).then_some(said))
 }
 
