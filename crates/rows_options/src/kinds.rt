@@ -34,6 +34,9 @@ pub fn answer(
         "keepalive_millis" => keepalive_millis(alloc, arguments),
         "chain_cmp" => chain_cmp(alloc, arguments),
         "subnet" => subnet(alloc, arguments),
+        "expire_cmp" => expire_cmp(alloc, arguments),
+        "keepalive_cmp" => keepalive_cmp(alloc, arguments),
+        "subnet_cmp" => subnet_cmp(alloc, arguments),
         _ => return None,
     };
     Some(said)
@@ -176,10 +179,42 @@ fn subnet_said(alloc: Global, subnet: &ClientSubnet) -> Result<String, OutOfMemo
 
 /// A subnet of two prefixes and an address.
 fn subnet(alloc: Global, arguments: &mut Arguments<'_>) -> Result<String, RowError> {
+    let subnet = next_subnet(arguments)?;
+    subnet_said(alloc, &subnet).map_err(no_memory)
+}
+
+/// The subnet of the next two prefixes and address.
+fn next_subnet(arguments: &mut Arguments<'_>) -> Result<ClientSubnet, RowError> {
     let source = arguments.number()?;
     let scope = arguments.number()?;
-    let subnet = ClientSubnet::new(source, scope, address(arguments)?);
-    subnet_said(alloc, &subnet).map_err(no_memory)
+    Ok(ClientSubnet::new(source, scope, address(arguments)?))
+}
+
+/// How two subnets compare.
+fn subnet_cmp(alloc: Global, arguments: &mut Arguments<'_>) -> Result<String, RowError> {
+    let first = next_subnet(arguments)?;
+    let second = next_subnet(arguments)?;
+    compared(alloc, &first, &second).map_err(no_memory)
+}
+
+/// How two times of so many seconds, or none, compare.
+fn expire_cmp(alloc: Global, arguments: &mut Arguments<'_>) -> Result<String, RowError> {
+    let first = Expire::new(arguments.optional()?);
+    let second = Expire::new(arguments.optional()?);
+    compared(alloc, &first, &second).map_err(no_memory)
+}
+
+/// The timeout of the next number of units, or none.
+fn next_keepalive(arguments: &mut Arguments<'_>) -> Result<TcpKeepalive, RowError> {
+    let units = arguments.optional::<u16>()?;
+    Ok(TcpKeepalive::new(units.map(IdleTimeout::from)))
+}
+
+/// How two timeouts compare.
+fn keepalive_cmp(alloc: Global, arguments: &mut Arguments<'_>) -> Result<String, RowError> {
+    let first = next_keepalive(arguments)?;
+    let second = next_keepalive(arguments)?;
+    compared(alloc, &first, &second).map_err(no_memory)
 }
 
 /// A subnet that is read.
