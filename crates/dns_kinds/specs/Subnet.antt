@@ -83,10 +83,10 @@ limited s c a = record { source = min s (width a); scope = min c (width a); addr
 abbrev pub subnet_octets : Subnet → List ℕ
 subnet_octets k = 0 ∷ family k.addr ∷ k.source ∷ k.scope ∷ take (octets_for k.source) (octets_of k.addr)
 
--- the source prefix is within the address
+-- the source prefix is within the address, which has no bit past it
 abbrev pub IsSubnet : ℕ → IpAddr → Type 0
-IsSubnet s (V4 a) = (s ≤ 32) × (length a ≡ 4)
-IsSubnet s (V6 a) = (s ≤ 128) × (length a ≡ 16)
+IsSubnet s (V4 a) = (s ≤ 32) × (length a ≡ 4) × (masked s a ≡ a)
+IsSubnet s (V6 a) = (s ≤ 128) × (length a ≡ 16) × (masked s a ≡ a)
 
 -- an address of w octets without a bit past the first s
 abbrev pub is_clear : ℕ → ℕ → List ℕ → Bool
