@@ -168,8 +168,6 @@ fn option_header(alloc: Global, octets: &[u8]) -> Result<String, ParseError> {
 
 /// What a closure writes to an empty vector.
 fn written(alloc: Global, octets: &[u8]) -> Result<String, OutOfMemory> {
-    let written = written_by(alloc, |_alloc: Global, target: &mut Vec<u8>| {
-        write(target, octets)
-    })?;
+    let written = written_by(alloc, |target: &mut Vec<u8>| write(target, octets))?;
     digits(alloc, &written)
 }

@@ -49,7 +49,7 @@ impl TakesOptions for Opt {
             alloc,
             code,
             stated,
-            |_alloc: Global, target: &mut Vec<u8>| write(target, octets),
+            |target: &mut Vec<u8>| write(target, octets),
         )
     }
 }
@@ -70,7 +70,7 @@ impl TakesOptions for OptRecord {
             alloc,
             code,
             stated,
-            |_alloc: Global, target: &mut Vec<u8>| write(target, octets),
+            |target: &mut Vec<u8>| write(target, octets),
         )
     }
 }
@@ -91,7 +91,7 @@ impl TakesOptions for OptBuilder {
             alloc,
             code,
             stated,
-            |_alloc: Global, target: &mut Vec<u8>| write(target, octets),
+            |target: &mut Vec<u8>| write(target, octets),
         )
     }
 }
