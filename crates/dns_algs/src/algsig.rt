@@ -1,6 +1,6 @@
 //! Lists of algorithms, owned or borrowed.
 
-ghost use Rattle.std.specs.Prelude.{◌≡◌, ◌≤◌, ◌<◌, ◌++◌, ℕ, List, length, nat_le, Some, Ok, IfOk, OnOk, MatchResult};
+ghost use Rattle.std.specs.Prelude.{◌≡◌, ◌≤◌, ◌<◌, ◌++◌, ℕ, List, length, nat_le, true, Some, Ok, IfOk, OnOk, MatchResult};
 ghost use Rattle.std.specs.Fmt.{WritesOnOk};
 ghost use Rattle.std.specs.Iterator.{IsFinite};
 ghost use Rattle.dns_name.specs.OptData.{ParsesData, for_code, list_data};
@@ -281,7 +281,11 @@ impl<'a, K: Variant> ParseOptData<'a> for HeldUnderstood<&'a [u8], K> {
 impl<S: HoldsOctets, K: Variant> ComposeOptData for HeldUnderstood<S, K> {
     ghost octets = { λ k. k };
 
-    fn compose_len(&self) -> u16 {
+    /// The number of octets, of which every value has at most 65,535.
+    fn compose_len(&self) -> u16
+        ensures value { result ≡ length self.now }
+        ensures readable { nat_le (length self.now) 65535 ≡ true }
+    {
         self.octets.as_slice().len() as u16
     }
 

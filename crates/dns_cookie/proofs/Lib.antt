@@ -1,3 +1,4 @@
 pub mod HexText
 pub mod Padding
+pub mod Responses
 pub mod Words

@@ -1,11 +1,12 @@
 //! Laws over several calls.
 
-ghost use Rattle.std.specs.Prelude.{◌≡◌, ◌↔◌, IsTrue, List, ℕ};
+ghost use Rattle.std.specs.Prelude.{◌≡◌, ◌↔◌, ◌<◌, ◌^◌, IsTrue, Bool, List, ℕ};
 ghost use Rattle.std.specs.Cmp.Lexicographic.{slice_cmp};
 ghost use Rattle.std.specs.Ordering.{nat_cmp};
 ghost use Rattle.dns_cookie.specs.ClientCookie.{client_octets};
 ghost use Rattle.dns_cookie.specs.declared.client_cookie.ClientCookie.{ClientCookie as Client};
-ghost use Rattle.dns_cookie.specs.Cookies.{Cookie as Parts, IsGood, cookie_cmp};
+ghost use Rattle.dns_cookie.specs.Cookies.{Checks, Cookie as Parts, IsGood, IsTimely, cookie_cmp, response};
+ghost use Rattle.dns_name.specs.declared.address.IpAddr.{IpAddr as Address};
 
 use crate::client_cookie::ClientCookie;
 use crate::cookie::Cookie;
@@ -37,6 +38,13 @@ pub fn check_at(cookie: &Cookie, client_ip: IpAddr, secret: &[u8; 16], now: Seri
 {
     cookie.check_server_hash(client_ip, secret, |timestamp| timestamp_ok(timestamp, now))
 }
+
+/// The cookie of a response, checked for the same address under the same secret, checks true exactly where the closure
+/// accepts its timestamp, and is good exactly as long as that is timely.
+pub fn responses_check<F: FnOnce(Serial) -> bool>()
+    ensures check { (f : F) (secret : List ℕ) (c : Parts) (timestamp : ℕ) (address : Address) (result : Bool) → timestamp < 2 ^ 32 → Checks (F.post f) secret address (response secret c timestamp address) result ↔ F.post f (record { 0 = timestamp }) result }
+    ensures good { (secret : List ℕ) (c : Parts) (timestamp now : ℕ) (address : Address) → timestamp < 2 ^ 32 → IsGood secret address now (response secret c timestamp address) ↔ IsTimely timestamp now }
+{}
 
 /// Cookies are ordered by their octets.
 pub fn order_is_that_of_octets()

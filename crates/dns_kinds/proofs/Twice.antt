@@ -19,6 +19,10 @@ pub masked_twice : (s : ℕ) (octets : List ℕ) → masked s (masked s octets) 
 masked_twice s [] = refl
 masked_twice s (x ∷ octets) = λ i. octet_twice s x i ∷ masked_twice (s - 8) octets i
 
+-- what is masked has no bit past the prefix
+pub masked_again : (s : ℕ) (octets out : List ℕ) → out ≡ masked s octets → masked s out ≡ out
+masked_again s octets out h = rw h (masked_twice s octets)
+
 pub address_twice : (s : ℕ) (a : IpAddr) → masked_addr s (masked_addr s a) ≡ masked_addr s a
 address_twice s (V4 a) = ap V4 (masked_twice s a)
 address_twice s (V6 a) = ap V6 (masked_twice s a)

@@ -26,8 +26,8 @@ below k n h = grind (arith, nat_tests)
 four_again : (n : ℕ) → n < 4294967296 → 65536 * (256 * (n / 65536 / 256) + n / 65536 % 256) + (256 * (n % 65536 / 256) + n % 65536 % 256) ≡ n
 four_again n h = omega arith
 
-two_again : (n : ℕ) → n < 65536 → 256 * (n / 256) + n % 256 ≡ n
-two_again n h = omega arith
+two_again : (n : ℕ) → 256 * (n / 256) + n % 256 ≡ n
+two_again n = omega arith
 
 pub expire_again : (k : Option ℕ) → is_below 4294967296 k ≡ true → kind (for_code 9 expire_data) 9 (expire_octets k) ≡ Some (Ok k)
 expire_again None h = refl
@@ -35,7 +35,7 @@ expire_again (Some n) h = ap (λ m. Some (Ok (Some m))) (four_again n (below n 4
 
 pub keepalive_again : (k : Option ℕ) → is_below 65536 k ≡ true → kind (for_code 11 keepalive_data) 11 (keepalive_octets k) ≡ Some (Ok k)
 keepalive_again None h = refl
-keepalive_again (Some n) h = ap (λ m. Some (Ok (Some m))) (two_again n (below n 65536 h))
+keepalive_again (Some n) h = ap (λ m. Some (Ok (Some m))) (two_again n)
 
 labels_known : (ls : List (List ℕ)) → are_labels ls ≡ true → AreLabels ls
 labels_known [] h = tt
@@ -64,7 +64,7 @@ has_octets (Some (x ∷ t)) = true
 
 -- the extended errors that come back: those without an empty text
 abbrev pub is_extended : Extended → Bool
-is_extended k = nat_lt k.code 65536 && (nat_le (length (text_octets k.text)) 65533 && has_octets k.text)
+is_extended k = nat_le (length (text_octets k.text)) 65533 && has_octets k.text
 
 text_again : (t : Option (List ℕ)) → has_octets t ≡ true → text_of (text_octets t) ≡ t
 text_again None h = refl
@@ -77,16 +77,15 @@ room m n e h = grind (arith, nat_tests)
 short_data : (d : List ℕ) → nat_lt 65535 (length d) ≡ false → extended_data d ≡ extended_of d
 short_data d h = rw h refl
 
-by_text : (c : ℕ) (t : Option (List ℕ)) → nat_lt c 65536 ≡ true → nat_le (length (text_octets t)) 65533 ≡ true → has_octets t ≡ true → kind (for_code 15 extended_data) 15 (extended_octets (extended c t)) ≡ Some (Ok (extended c t))
-by_text c t h r o =
+by_text : (c : ℕ) (t : Option (List ℕ)) → nat_le (length (text_octets t)) 65533 ≡ true → has_octets t ≡ true → kind (for_code 15 extended_data) 15 (extended_octets (extended c t)) ≡ Some (Ok (extended c t))
+by_text c t r o =
     let d : List ℕ = extended_octets (extended c t) in
     let long : length d ≡ length (text_octets t) + 2 = omega arith in
-    let read : extended_of d ≡ Ok (extended c t, length (text_octets t) + 2) = rw (text_again t o, two_again c (below c 65536 h)) refl in
+    let read : extended_of d ≡ Ok (extended c t, length (text_octets t) + 2) = rw (text_again t o, two_again c) refl in
     let found : extended_data d ≡ Ok (extended c t, length (text_octets t) + 2) = short_data d (room (length d) (length (text_octets t)) long r) ∙ read in
     ap (λ x. Some (whole d x)) found ∙ ap (λ x. Some x) (taken_whole d (length (text_octets t) + 2) (extended c t) (sym long))
 
 pub extended_again : (k : Extended) → is_extended k ≡ true → kind (for_code 15 extended_data) 15 (extended_octets k) ≡ Some (Ok k)
 extended_again k h =
-    let first = both (nat_lt k.code 65536) _ h in
-    let second = both (nat_le (length (text_octets k.text)) 65533) (has_octets k.text) first.1 in
-    by_text k.code k.text first.0 second.0 second.1
+    let parts = both (nat_le (length (text_octets k.text)) 65533) (has_octets k.text) h in
+    by_text k.code k.text parts.0 parts.1

@@ -1,7 +1,10 @@
 -- CLIENT-SUBNET (RFC 7871, section 6).
 use Rattle.std.specs.Prelude.{◌≡◌, ℕ, ◌+◌, ◌-◌, ◌*◌, ◌/◌, ◌^◌, ◌≤◌, Bool, ◌&&◌, List, [], ◌∷◌, ◌++◌, length, take, drop, replicate, Result, Ok, Err, nat_lt, nat_le, nat_eq, min, if◌then◌else◌}
-use Rattle.std.specs.Cmp.Lexicographic.{pointwise}
+use Rattle.std.specs.declared.cmp.Ordering.{Ordering}
+use Rattle.std.specs.declared.cmp.Ordering.TheVariants.{Less, Greater}
+use Rattle.std.specs.Cmp.Lexicographic.{pointwise, slice_cmp}
 use Rattle.std.specs.List.{list_all}
+use Rattle.std.specs.Ordering.{nat_cmp, ordering_then}
 use Rattle.dns_name.specs.declared.error.ParseError.{ParseError}
 use Rattle.dns_name.specs.declared.error.ParseError.TheVariants.{ShortInput, Form}
 use Rattle.dns_name.specs.declared.error.FormReason.TheVariants.{Family, AddressLength, AddressBits}
@@ -80,10 +83,10 @@ limited s c a = record { source = min s (width a); scope = min c (width a); addr
 abbrev pub subnet_octets : Subnet → List ℕ
 subnet_octets k = 0 ∷ family k.addr ∷ k.source ∷ k.scope ∷ take (octets_for k.source) (octets_of k.addr)
 
--- the source prefix is within the address
+-- the source prefix is within the address, which has no bit past it
 abbrev pub IsSubnet : ℕ → IpAddr → Type 0
-IsSubnet s (V4 a) = (s ≤ 32) × (length a ≡ 4)
-IsSubnet s (V6 a) = (s ≤ 128) × (length a ≡ 16)
+IsSubnet s (V4 a) = (s ≤ 32) × (length a ≡ 4) × (masked s a ≡ a)
+IsSubnet s (V6 a) = (s ≤ 128) × (length a ≡ 16) × (masked s a ≡ a)
 
 -- an address of w octets without a bit past the first s
 abbrev pub is_clear : ℕ → ℕ → List ℕ → Bool
@@ -92,6 +95,17 @@ is_clear w s a = nat_le s (8 * w) && (nat_eq (length a) w && (list_all (λ x. na
 abbrev pub is_clear_addr : ℕ → IpAddr → Bool
 is_clear_addr s (V4 a) = is_clear 4 s a
 is_clear_addr s (V6 a) = is_clear 16 s a
+
+-- the order of addresses: those of version 4 first, and of one version by their octets
+abbrev pub addr_cmp : IpAddr → IpAddr → Ordering
+addr_cmp (V4 a) (V4 b) = slice_cmp nat_cmp a b
+addr_cmp (V4 a) (V6 b) = Less
+addr_cmp (V6 a) (V4 b) = Greater
+addr_cmp (V6 a) (V6 b) = slice_cmp nat_cmp a b
+
+-- the order of subnets: by the source prefix, then the scope prefix, then the address
+abbrev pub subnet_cmp : Subnet → Subnet → Ordering
+subnet_cmp a b = ordering_then (nat_cmp a.source b.source) (ordering_then (nat_cmp a.scope b.scope) (addr_cmp a.addr b.addr))
 
 -- octets are read whole, or refused
 abbrev pub IsWhole : List ℕ → Taken Subnet → Result Subnet ParseError → Type 0

@@ -1,6 +1,6 @@
 //! CHAIN: the closest name that a client trusts already (RFC 7901).
 
-ghost use Rattle.std.specs.Prelude.{◌≡◌, length, Some, IfOk, fold, refl};
+ghost use Rattle.std.specs.Prelude.{◌≡◌, length, Some, IfOk, fold, refl, true};
 ghost use Rattle.std.specs.Cmp.{partial_equiv_from_equiv};
 ghost use Rattle.std.specs.Ordering.{as_partial_cmp};
 ghost use Rattle.dns_name.specs.Canonical.{name_cmp, name_cmp_total, same_name, same_name_equiv, same_name_ties};
@@ -120,8 +120,13 @@ impl<'a> ParseOptData<'a> for HeldChain<NameRef<'a>> {
 impl<N: HoldsName> ComposeOptData for HeldChain<N> {
     ghost octets = { spell };
 
-    fn compose_len(&self) -> u16 {
-        self.start.as_name().compose_len()
+    /// The number of octets, at most 255.
+    #[tactic(auto, using(crate::proofs::Readable::name_is))]
+    fn compose_len(&self) -> u16
+        ensures value { result ≡ length (spell self.now) }
+        ensures readable { is_name self.now ≡ true }
+    {
+        self.start.as_name().as_slice().len() as u16
     }
 
     fn compose_option(&self, alloc: Global, target: &mut Vec<u8>) -> Result<(), OutOfMemory> {

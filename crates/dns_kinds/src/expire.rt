@@ -1,6 +1,6 @@
 //! EXPIRE: after how many seconds a zone expires (RFC 7314).
 
-ghost use Rattle.std.specs.Prelude.{◌≡◌, Some};
+ghost use Rattle.std.specs.Prelude.{◌≡◌, Some, length, true};
 ghost use Rattle.dns_name.specs.OptData.{ParsesData, for_code};
 ghost use Rattle.dns_name.specs.Place.{rest};
 ghost use Rattle.dns_kinds.specs.Again.{expire_again, is_below};
@@ -91,7 +91,11 @@ impl<'a> ParseOptData<'a> for Expire {
 impl ComposeOptData for Expire {
     ghost octets = { expire_octets };
 
-    fn compose_len(&self) -> u16 {
+    /// The number of octets, 4 or none.
+    fn compose_len(&self) -> u16
+        ensures value { result ≡ length (expire_octets self.now) }
+        ensures readable { is_below 4294967296 self.now ≡ true }
+    {
         match self.expire {
             None => 0,
             Some(_) => 4,

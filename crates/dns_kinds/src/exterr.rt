@@ -1,6 +1,6 @@
 //! EXTENDED-ERROR: why an answer is as it is (RFC 8914), owned or borrowed.
 
-ghost use Rattle.std.specs.Prelude.{◌≡◌, ◌≤◌, ◌<◌, ◌+◌, ◌++◌, ◌↔◌, length, Some, None, IsTrue, IfOk, MatchResult, option_map};
+ghost use Rattle.std.specs.Prelude.{◌≡◌, ◌≢◌, [], true, ◌≤◌, ◌<◌, ◌+◌, ◌++◌, ◌↔◌, length, Some, None, IsTrue, IfOk, MatchResult, option_map};
 ghost use Rattle.std.specs.Option.{option_copied};
 ghost use Rattle.dns_name.specs.OptData.{ParsesData, for_code};
 ghost use Rattle.dns_name.specs.Place.{rest};
@@ -264,7 +264,12 @@ impl<'a> ParseOptData<'a> for HeldExtendedError<&'a [u8]> {
 impl<S: HoldsOctets> ComposeOptData for HeldExtendedError<S> {
     ghost octets = { extended_octets };
 
-    fn compose_len(&self) -> u16 {
+    /// The number of octets: 2, and those of the text. An empty text alone isn't read back: it is read as none.
+    #[tactic(auto, using(crate::proofs::Readable::extended_is))]
+    fn compose_len(&self) -> u16
+        ensures value { result ≡ length (extended_octets self.now) }
+        ensures readable { self.now.text ≢ Some [] → is_extended self.now ≡ true }
+    {
         match &self.text {
             None => 2,
             Some(text) => text.as_slice().len() as u16 + 2,

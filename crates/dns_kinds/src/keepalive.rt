@@ -1,6 +1,6 @@
 //! TCP-KEEPALIVE: how long an idle connection stays open (RFC 7828).
 
-ghost use Rattle.std.specs.Prelude.{◌≡◌, ◌*◌, ◌/◌, ◌≤◌, ◌<◌, Some, MatchResult, codes};
+ghost use Rattle.std.specs.Prelude.{◌≡◌, ◌*◌, ◌/◌, ◌≤◌, ◌<◌, Some, MatchResult, codes, length, true};
 ghost use Rattle.std.specs.Fmt.{decimal};
 ghost use Rattle.dns_name.specs.OptData.{ParsesData, for_code};
 ghost use Rattle.dns_name.specs.Place.{rest};
@@ -99,13 +99,15 @@ pub struct TcpKeepalive {
 }
 
 impl Model for TcpKeepalive {
-    ghost use Rattle.std.specs.Prelude.{Option, ℕ};
+    ghost use Rattle.std.specs.Prelude.{IfSome, Option, ℕ, ◌<◌};
 
     ghost Value = { Option ℕ };
 
     ghost view = { λ k. k.timeout };
 
     ghost inverse = { λ v. record { timeout = v } };
+
+    ghost invariant = { λ k. IfSome k.timeout (λ n. n < 65536) };
 }
 
 impl TcpKeepalive {
@@ -162,7 +164,11 @@ impl<'a> ParseOptData<'a> for TcpKeepalive {
 impl ComposeOptData for TcpKeepalive {
     ghost octets = { keepalive_octets };
 
-    fn compose_len(&self) -> u16 {
+    /// The number of octets, 2 or none.
+    fn compose_len(&self) -> u16
+        ensures value { result ≡ length (keepalive_octets self.now) }
+        ensures readable { is_below 65536 self.now ≡ true }
+    {
         match self.timeout {
             None => 0,
             Some(_) => 2,

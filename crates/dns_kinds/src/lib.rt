@@ -14,5 +14,5 @@ pub use chain::{Chain, ChainRef, HeldChain};
 pub use expire::Expire;
 pub use exterr::{ExtendedError, ExtendedErrorRef, HeldExtendedError};
 pub use keepalive::{FromDurationError, IdleTimeout, TcpKeepalive};
-pub use laws::masking_twice_is_masking_once;
+pub use laws::{masking_twice_is_masking_once, order_is_that_of_values};
 pub use subnet::ClientSubnet;

@@ -1,7 +1,8 @@
 //! Addresses without the bits past a prefix.
 
-ghost use Rattle.std.specs.Prelude.{◌≡◌, ◌≤◌, OnOk};
-ghost use Rattle.dns_kinds.specs.Subnet.{address, mask_octet, masked};
+ghost use Rattle.std.specs.Prelude.{◌≡◌, ◌≤◌, ◌*◌, IfOk, length, nat_lt, take, true};
+ghost use Rattle.std.specs.List.{list_all};
+ghost use Rattle.dns_kinds.specs.Subnet.{address, mask_octet, masked, octets_for};
 
 use dns_name::{FormReason, ParseError};
 
@@ -22,6 +23,15 @@ fn mask(s: u8, x: u8) -> u8
     }
 }
 
+/// The octets that the first s bits take.
+pub(crate) fn prefix(s: u8, octets: &[u8]) -> &[u8]
+    requires { s ≤ 8 * length octets.now }
+    ensures value { result.now ≡ take (octets_for s) octets.now }
+    ensures fits { list_all (λ x. nat_lt x 256) octets.now ≡ true }
+{
+    &octets[..(s as usize + 7) / 8]
+}
+
 /// Clears the bits past the first s.
 #[tactic(auto, using(crate::proofs::Masks::mask_step, crate::proofs::Masks::mask_end))]
 fn clear(s: u8, a: &mut [u8])
@@ -34,16 +44,20 @@ fn clear(s: u8, a: &mut [u8])
     }
 }
 
+#[tactic(auto, using(crate::proofs::Twice::masked_again))]
 pub(crate) fn mask4(s: u8, a: [u8; 4]) -> [u8; 4]
-    ensures { result ≡ masked s a }
+    ensures value { result ≡ masked s a }
+    ensures clear { masked s result ≡ result }
 {
     let mut out = a;
     clear(s, &mut out);
     out
 }
 
+#[tactic(auto, using(crate::proofs::Twice::masked_again))]
 pub(crate) fn mask16(s: u8, a: [u8; 16]) -> [u8; 16]
-    ensures { result ≡ masked s a }
+    ensures value { result ≡ masked s a }
+    ensures clear { masked s result ≡ result }
 {
     let mut out = a;
     clear(s, &mut out);
@@ -54,7 +68,7 @@ pub(crate) fn mask16(s: u8, a: [u8; 16]) -> [u8; 16]
 #[tactic(auto, unfolding(crate::specs::Subnet::address))]
 pub(crate) fn address16(s: u8, octets: &[u8]) -> Result<[u8; 16], ParseError>
     ensures value { result ≡ address 16 s octets.now }
-    ensures within { OnOk result (s ≤ 128) }
+    ensures within { IfOk result (λ a. (s ≤ 128) × (masked s a ≡ a)) }
 {
     let len = (s as usize + 7) / 8;
     if len > 16 || octets.len() != len {
@@ -72,7 +86,7 @@ pub(crate) fn address16(s: u8, octets: &[u8]) -> Result<[u8; 16], ParseError>
 #[tactic(auto, unfolding(crate::specs::Subnet::address))]
 pub(crate) fn address4(s: u8, octets: &[u8]) -> Result<[u8; 4], ParseError>
     ensures value { result ≡ address 4 s octets.now }
-    ensures within { OnOk result (s ≤ 32) }
+    ensures within { IfOk result (λ a. (s ≤ 32) × (masked s a ≡ a)) }
 {
     let len = (s as usize + 7) / 8;
     if len > 4 || octets.len() != len {

@@ -1,12 +1,12 @@
 //! CLIENT-SUBNET: the network that a query comes from (RFC 7871).
 
-ghost use Rattle.std.specs.Prelude.{◌≡◌, ◌≤◌, length};
+ghost use Rattle.std.specs.Prelude.{◌≡◌, ◌≤◌, length, take, true};
 ghost use Rattle.dns_name.specs.OptData.{ParsesData, for_code};
 ghost use Rattle.dns_name.specs.Place.{rest};
 ghost use Rattle.dns_kinds.specs.Clears.{is_clear_subnet, subnet_again};
-ghost use Rattle.dns_kinds.specs.Subnet.{IsWhole, limited, subnet_data, subnet_octets};
+ghost use Rattle.dns_kinds.specs.Subnet.{IsWhole, family, limited, octets_for, octets_of, subnet_data, subnet_octets};
 
-use crate::mask::{address4, address16, mask4, mask16};
+use crate::mask::{address4, address16, mask4, mask16, prefix};
 use dns_name::{
     ComposeOptData, FormReason, IpAddr, OptData, OptionCode, OutOfMemory, ParseError, ParseOptData,
     Parser, ReadBack,
@@ -81,6 +81,15 @@ impl ClientSubnet {
         self.addr
     }
 
+    /// The octets of the address that the source prefix takes.
+    fn sent(&self) -> &[u8]
+        ensures value { result.now ≡ take (octets_for self.now.source) (octets_of self.now.addr) }
+        ensures few { length result.now ≤ 16 }
+        ensures clear { is_clear_subnet self.now ≡ true }
+    {
+        prefix(self.source, octets(&self.addr))
+    }
+
     /// Reads all that is left.
     pub fn parse(parser: &mut Parser<'_>) -> Result<ClientSubnet, ParseError>
         ensures { ParsesData (subnet_data (rest parser.old)) parser.old parser.new result }
@@ -88,6 +97,26 @@ impl ClientSubnet {
         let found = of_octets(parser.peek_all())?;
         parser.advance_to_end();
         Ok(found)
+    }
+}
+
+/// The number of an address family (RFC 7871, section 6).
+fn family_of(addr: &IpAddr) -> u8
+    ensures { result ≡ family addr.now }
+{
+    match addr {
+        IpAddr::V4(_) => 1,
+        IpAddr::V6(_) => 2,
+    }
+}
+
+/// The octets of an address.
+fn octets(addr: &IpAddr) -> &[u8]
+    ensures { result.now ≡ octets_of addr.now }
+{
+    match addr {
+        IpAddr::V4(octets) => octets,
+        IpAddr::V6(octets) => octets,
     }
 }
 
@@ -144,23 +173,19 @@ impl<'a> ParseOptData<'a> for ClientSubnet {
 impl ComposeOptData for ClientSubnet {
     ghost octets = { subnet_octets };
 
-    fn compose_len(&self) -> u16 {
-        4 + (self.source as u16 + 7) / 8
+    /// The number of octets: 4, and those that the source prefix takes.
+    fn compose_len(&self) -> u16
+        ensures value { result ≡ length (subnet_octets self.now) }
+        ensures readable { is_clear_subnet self.now ≡ true }
+    {
+        4 + self.sent().len() as u16
     }
 
     fn compose_option(&self, alloc: Global, target: &mut Vec<u8>) -> Result<(), OutOfMemory> {
-        let len = (self.source as usize + 7) / 8;
-        target.reserve(4 + len)?;
-        match &self.addr {
-            IpAddr::V4(a) => {
-                target.extend_from_slice(&[0, 1, self.source, self.scope])?;
-                target.extend_from_slice(&a[..len])?;
-            }
-            IpAddr::V6(a) => {
-                target.extend_from_slice(&[0, 2, self.source, self.scope])?;
-                target.extend_from_slice(&a[..len])?;
-            }
-        }
+        let sent = self.sent();
+        target.reserve(4 + sent.len())?;
+        target.extend_from_slice(&[0, family_of(&self.addr), self.source, self.scope])?;
+        target.extend_from_slice(sent)?;
         Ok(())
     }
 }

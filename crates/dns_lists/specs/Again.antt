@@ -1,9 +1,9 @@
 -- What is composed is read again.
 use Rattle.std.proofs.Common.{◌≡◌, ℕ, List, length, Bool, true, false, refl, ◌&&◌, ◌%◌}
-use Rattle.std.specs.Prelude.{nat_le, nat_lt, nat_eq, Some, Ok}
+use Rattle.std.specs.Prelude.{nat_le, nat_eq, Some, Ok}
 use Rattle.dns_name.specs.OptData.{kind, for_code}
 use Rattle.dns_name.proofs.Readings.{not_above, not_below}
-use Rattle.dns_lists.specs.Tags.{tag_data}
+use Rattle.dns_lists.specs.Tags.{are_tags, tag_data}
 use Rattle.dns_lists.specs.Unknowns.{Unknown, unknown_data}
 
 both : (a b : Bool) → (a && b) ≡ true → (a ≡ true) × (b ≡ true)
@@ -12,7 +12,7 @@ both true false h = absurd (cc)
 both false b h = absurd (cc)
 
 -- tags come back
-pub tags_again : (k : List ℕ) → (nat_le (length k) 65535 && nat_eq (length k % 2) 0) ≡ true → kind (for_code 14 tag_data) 14 k ≡ Some (Ok k)
+pub tags_again : (k : List ℕ) → are_tags k ≡ true → kind (for_code 14 tag_data) 14 k ≡ Some (Ok k)
 tags_again k h =
     let parts = both (nat_le (length k) 65535) (nat_eq (length k % 2) 0) h in
     rw (not_above 65535 (length k) parts.0, parts.1, not_below (length k)) refl

@@ -1,5 +1,5 @@
 -- The key tags of an option (RFC 8145, section 4.1).
-use Rattle.std.specs.Prelude.{◌≡◌, ℕ, ◌%◌, ◌≤◌, List, [], ◌∷◌, length, Result, Ok, Err, nat_lt, nat_eq, if◌then◌else◌}
+use Rattle.std.specs.Prelude.{◌≡◌, ℕ, ◌%◌, ◌≤◌, List, [], ◌∷◌, length, Result, Ok, Err, Bool, ◌&&◌, nat_lt, nat_le, nat_eq, if◌then◌else◌}
 use Rattle.dns_name.specs.declared.error.ParseError.{ParseError}
 use Rattle.dns_name.specs.declared.error.ParseError.TheVariants.{Form}
 use Rattle.dns_name.specs.declared.error.FormReason.TheVariants.{LongList, OddLength}
@@ -9,6 +9,10 @@ use Rattle.dns_name.specs.Place.{be16}
 -- octets that are tags of two octets each
 abbrev pub AreTags : List ℕ → Type 0
 AreTags d = (length d ≤ 65535) × (length d % 2 ≡ 0)
+
+-- the same as a test
+abbrev pub are_tags : List ℕ → Bool
+are_tags d = nat_le (length d) 65535 && nat_eq (length d % 2) 0
 
 -- the octets, or why they are no tags
 abbrev pub tag_octets : List ℕ → Result (List ℕ) ParseError

@@ -1,6 +1,6 @@
 //! Any octets, owned or borrowed: NSID and PADDING.
 
-ghost use Rattle.std.specs.Prelude.{◌≡◌, ◌≤◌, ◌<◌, ◌++◌, [], ℕ, List, length, nat_le, Some, Ok, IfOk, OnOk, MatchResult};
+ghost use Rattle.std.specs.Prelude.{◌≡◌, ◌≤◌, ◌<◌, ◌++◌, [], ℕ, List, length, nat_le, true, Some, Ok, IfOk, OnOk, MatchResult};
 ghost use Rattle.dns_name.specs.OptData.{ParsesData, for_code, list_data};
 ghost use Rattle.dns_name.specs.Place.{rest};
 ghost use Rattle.dns_name.proofs.Readings.{list_again};
@@ -220,7 +220,11 @@ impl<'a, K: OctetsKind> ParseOptData<'a> for HeldPlain<&'a [u8], K> {
 impl<S: HoldsOctets, K: OctetsKind> ComposeOptData for HeldPlain<S, K> {
     ghost octets = { λ k. k };
 
-    fn compose_len(&self) -> u16 {
+    /// The number of octets, of which every value has at most 65,535.
+    fn compose_len(&self) -> u16
+        ensures value { result ≡ length self.now }
+        ensures readable { nat_le (length self.now) 65535 ≡ true }
+    {
         self.octets.as_slice().len() as u16
     }
 

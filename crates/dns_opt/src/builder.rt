@@ -78,7 +78,7 @@ impl OptBuilder {
 
     /// Appends an option whose data a closure writes to an empty vector, as many octets as are stated.
     /// A refused push leaves the record.
-    pub fn push_raw_option<F: FnOnce(Global, &mut Vec<u8>) -> Result<(), OutOfMemory>>(
+    pub fn push_raw_option<F: FnOnce(&mut Vec<u8>) -> Result<(), OutOfMemory>>(
         &mut self,
         alloc: Global,
         code: OptionCode,

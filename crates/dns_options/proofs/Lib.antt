@@ -1,2 +1,3 @@
 mod ItemLaws
+mod JoinedLaws
 mod Lists

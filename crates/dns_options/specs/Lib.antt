@@ -11,6 +11,7 @@ pub use Rattle.dns_name.specs.OptData
 pub use Rattle.dns_name.specs.Place
 pub mod OptionHeads
 pub mod Items
+pub mod Joined
 pub mod Pushes
 pub mod Writes
 pub mod All

@@ -4,6 +4,7 @@
 mod all;
 mod getters;
 mod iter;
+mod laws;
 mod list;
 mod opt;
 mod option_header;
@@ -23,6 +24,7 @@ pub use dns_lists::{
 };
 pub use dns_name::{BuildDataError, ComposeOptData, LongOptData, OptData, ParseOptData, ReadBack};
 pub use iter::OptIter;
+pub use laws::{lists_are_joined_options, push_adds_one_pair};
 pub use list::{HeldOpt, OptRef};
 pub use opt::{Opt, written_by};
 pub use option_header::OptionHeader;

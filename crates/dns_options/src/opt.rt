@@ -56,7 +56,7 @@ fn append_option(octets: &mut Vec<u8>, code: u16, added: &[u8]) -> Result<(), Ou
 
 /// Calls a writer once on an empty vector, and gives what it wrote there, as `push_raw_option` does before it looks at the
 /// length. Where the writer is refused, so is the call.
-pub fn written_by<F: FnOnce(Global, &mut Vec<u8>) -> Result<(), OutOfMemory>>(
+pub fn written_by<F: FnOnce(&mut Vec<u8>) -> Result<(), OutOfMemory>>(
     alloc: Global,
     write: F,
 ) -> Result<Vec<u8>, OutOfMemory>
@@ -64,7 +64,7 @@ pub fn written_by<F: FnOnce(Global, &mut Vec<u8>) -> Result<(), OutOfMemory>>(
     ensures { IfOk result (λ v. Writes F.FnOnce write v.items) }
 {
     let mut octets = Vec::new(alloc);
-    write(alloc, &mut octets)?;
+    write(&mut octets)?;
     Ok(octets)
 }
 
@@ -152,7 +152,7 @@ impl HeldOpt<Vec<u8>> {
     /// Appends an option whose data a closure writes to an empty vector, as many octets as are stated.
     /// A refused push leaves the list.
     #[tactic(auto, using(dns_message::proofs::OptionLaws::list_append))]
-    pub fn push_raw_option<F: FnOnce(Global, &mut Vec<u8>) -> Result<(), OutOfMemory>>(
+    pub fn push_raw_option<F: FnOnce(&mut Vec<u8>) -> Result<(), OutOfMemory>>(
         &mut self,
         alloc: Global,
         code: OptionCode,

@@ -26,6 +26,9 @@ impl Calls for Kinds {
             "chain_cmp" => chain_cmp(row),
             "subnet" => subnet(row),
             "subnet_parse" => subnet_parse(row),
+            "expire_cmp" => expire_cmp(row),
+            "keepalive_cmp" => keepalive_cmp(row),
+            "subnet_cmp" => subnet_cmp(row),
             _ => Err(RowError::NoSuchCall),
         }
     }
@@ -146,10 +149,44 @@ fn subnet_said(row: &mut Row<'_>, subnet: &ClientSubnet) {
 
 /// A subnet of two prefixes and an address.
 fn subnet(row: &mut Row<'_>) -> Result<(), RowError> {
+    let subnet = next_subnet(row);
+    subnet_said(row, &subnet);
+    Ok(())
+}
+
+/// The subnet of the next two prefixes and address.
+fn next_subnet(row: &mut Row<'_>) -> ClientSubnet {
     let source = row.number();
     let scope = row.number();
-    let subnet = ClientSubnet::new(source, scope, row.address());
-    subnet_said(row, &subnet);
+    ClientSubnet::new(source, scope, row.address())
+}
+
+/// How two subnets compare.
+fn subnet_cmp(row: &mut Row<'_>) -> Result<(), RowError> {
+    let first = next_subnet(row);
+    let second = next_subnet(row);
+    compared(row, &first, &second);
+    Ok(())
+}
+
+/// How two times of so many seconds, or none, compare.
+fn expire_cmp(row: &mut Row<'_>) -> Result<(), RowError> {
+    let first = Expire::new(row.optional());
+    let second = Expire::new(row.optional());
+    compared(row, &first, &second);
+    Ok(())
+}
+
+/// The timeout of the next number of units, or none.
+fn next_keepalive(row: &mut Row<'_>) -> TcpKeepalive {
+    TcpKeepalive::new(row.optional::<u16>().map(IdleTimeout::from))
+}
+
+/// How two timeouts compare.
+fn keepalive_cmp(row: &mut Row<'_>) -> Result<(), RowError> {
+    let first = next_keepalive(row);
+    let second = next_keepalive(row);
+    compared(row, &first, &second);
     Ok(())
 }
 

@@ -5,7 +5,6 @@ use crate::steps::{Target, write};
 use dns_name::{ComposeOptData, ParseError, Parser};
 use dns_options::{AllOptData, Cookie, NsidRef, Opt, OptRef, OptionHeader, PaddingRef, written_by};
 use rows_table::{Calls, Row, RowError};
-use std::alloc::Global;
 
 /// The calls of dns_options.
 pub struct Options;
@@ -118,9 +117,7 @@ fn option_header(row: &mut Row<'_>) -> Result<(), RowError> {
 /// What a closure writes to an empty vector.
 fn written(row: &mut Row<'_>) -> Result<(), RowError> {
     let octets = row.octets();
-    let written = written_by(row.alloc(), |_alloc: Global, target: &mut Vec<u8>| {
-        write(target, &octets)
-    })?;
+    let written = written_by(row.alloc(), |target: &mut Vec<u8>| write(target, &octets))?;
     row.hexadecimal(&written);
     Ok(())
 }

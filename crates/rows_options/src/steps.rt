@@ -53,7 +53,7 @@ impl Target<'_> {
         stated: u16,
         octets: &[u8],
     ) -> Result<(), BuildDataError> {
-        let closure = |_alloc: Global, target: &mut Vec<u8>| write(target, octets);
+        let closure = |target: &mut Vec<u8>| write(target, octets);
         match self {
             Target::List(list) => list.push_raw_option(alloc, code, stated, closure),
             Target::Record(item) => item.push_raw_option(alloc, code, stated, closure),
