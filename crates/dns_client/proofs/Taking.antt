@@ -1,5 +1,5 @@
 -- Frames are taken one at a time.
-use Rattle.std.proofs.Common.{◌≡◌, ℕ, ◌+◌, ◌<◌, ◌≤◌, List, [], ◌∷◌, ◌++◌, length, Some, None, Bool, true, false, refl, ap, sym, ◌∙◌, subst, lt-ltb}
+use Rattle.std.proofs.Common.{◌≡◌, ℕ, ◌+◌, ◌<◌, ◌≤◌, List, [], ◌∷◌, ◌++◌, length, Some, Bool, true, false, refl, ap, sym, ◌∙◌, subst, lt-ltb}
 use Rattle.std.specs.Prelude.{nat_lt, if◌then◌else◌}
 use Rattle.std.proofs.lemmas.Bool.{le-ltb}
 use Rattle.circular_buffer.specs.Buffer.{Buffer}
@@ -18,14 +18,14 @@ use Rattle.dns_client.specs.Stands.{Stands, Follows, Asks, Takes, KeepsAll, phas
 use Rattle.dns_client.specs.declared.client.ClientCore.{ClientCore}
 use Rattle.dns_client.specs.declared.client.Status.TheVariants.{Open as Is_open, Closed as Is_closed}
 use Rattle.dns_client.specs.declared.polling.PolledRequest.{PolledRequest}
-use Rattle.dns_client.proofs.FramesLemmas.{first_shorter, frames_none, frames_some, past_next, within_next, past-append, within-append, new_frames_by_kept}
+use Rattle.dns_client.proofs.FramesLemmas.{first_shorter, frames_some, past_next, within_next, past-append, within-append, new_frames_by_kept}
 
 in_open : (p : Phase) (a b c d : Told) → p ≡ Open → in_phase p a b c d ≡ c
 in_open p a b c d e = rw e refl
 
 module _ {W R F : Type 0} (answer : PolledRequest F R → ℕ → Answer) (answers : Req (Unit {0}) → ℕ → Answer) (at secs : ℕ) where
-  pub none_left : (core : ClientCore W R F) (outs : List Output) → first core.framer ≡ None → outs ≡ [] → Follows answer answers core core outs (λ s. take_frames at secs (frames core.framer) s)
-  none_left core outs e none s h = rw (frames_none core.framer e) (none, h)
+  pub none_left : (core : ClientCore W R F) (outs : List Output) → frames core.framer ≡ [] → outs ≡ [] → Follows answer answers core core outs (λ s. take_frames at secs (frames core.framer) s)
+  none_left core outs e none s h = rw e (none, h)
 
   pub short : (core new : ClientCore W R F) (f r : List ℕ) (outs : List Output) → first core.framer ≡ Some (f, r) → length f < 12 → outs ≡ Closed_output core.client Short ∷ []
       → new.client ≡ core.client → new.freed ≡ core.freed → new.status ≡ Is_closed

@@ -1,6 +1,8 @@
-use Rattle.std.proofs.Common.{◌≡◌, ◌∙◌, ap, List, ℕ}
+use Rattle.std.proofs.Common.{◌≡◌, ◌∙◌, ap, List, ℕ, Some}
+use Rattle.dns_client.specs.Frames.{first}
 use Rattle.dns_client.specs.Requests.{request_of_frame}
 use Rattle.dns_client.specs.PolledAt.{request_answer}
+use Rattle.dns_client.proofs.FramesLemmas.{first-framed}
 use Rattle.dns_client.proofs.Taking.{none_left, short, taken}
 use Rattle.dns_client.proofs.client.ClientCore.take_one.Goals as goal
 
@@ -12,10 +14,12 @@ returns-in_default g c =
 pub returns-in_default-from_octets : goal.returns-in_default-from_octets
 returns-in_default-from_octets g c =
     let h = rw c.in-Some.is at c.in_ok-frame.ensures.some in
-    short (request_answer g.W.Future.ReplyFuture.answer g.W.Stream.ReplyStream.answer) (g.W.Served.answer c.args.service.now) c.args.at c.args.secs c.args.self.now c.close.new.self c.in-Some.frame.items c.next.new.self c.in_ok-outs.outs.items h c.in_default-from_octets.ensures.1 c.in_ok-outs.ensures.outs c.in_ok-outs.ensures.client c.in_ok-outs.ensures.freed c.in_ok-outs.ensures.status
+    let e : first c.args.self.now.framer ≡ Some (c.in-Some.frame.items, c.next.new.self) = ap first h.1 ∙ first-framed c.in-Some.frame.items c.next.new.self in
+    short (request_answer g.W.Future.ReplyFuture.answer g.W.Stream.ReplyStream.answer) (g.W.Served.answer c.args.service.now) c.args.at c.args.secs c.args.self.now c.close.new.self c.in-Some.frame.items c.next.new.self c.in_ok-outs.outs.items e c.in_default-from_octets.ensures.1 c.in_ok-outs.ensures.outs c.in_ok-outs.ensures.client c.in_ok-outs.ensures.freed c.in_ok-outs.ensures.status
 
 pub returns : goal.returns
 returns g c =
     let h = rw c.in-Some.is at c.in_ok-frame.ensures.some in
+    let e : first c.args.self.now.framer ≡ Some (c.in-Some.frame.items, c.next.new.self) = ap first h.1 ∙ first-framed c.in-Some.frame.items c.next.new.self in
     let is : c.in_ok-request.request ≡ request_of_frame c.args.self.now.connection c.args.self.now.addr c.args.at c.args.secs c.in-Some.frame.items = c.in_ok-request.ensures ∙ ap (λ (o : List ℕ). request_of_frame c.args.self.now.connection c.args.self.now.addr c.args.at c.args.secs o) c.in-Ok.ensures.0 in
-    taken (request_answer g.W.Future.ReplyFuture.answer g.W.Stream.ReplyStream.answer) (g.W.Served.answer c.args.service.now) c.args.at c.args.secs c.args.self.now c.ask.new.self c.in-Some.frame.items c.next.new.self c.in_ok-request.request c.requires.status h c.in-Ok.ensures.1 is c.in_ok-ask.ensures
+    taken (request_answer g.W.Future.ReplyFuture.answer g.W.Stream.ReplyStream.answer) (g.W.Served.answer c.args.service.now) c.args.at c.args.secs c.args.self.now c.ask.new.self c.in-Some.frame.items c.next.new.self c.in_ok-request.request c.requires.status e c.in-Ok.ensures.1 is c.in_ok-ask.ensures
