@@ -23,15 +23,21 @@ post_after : (t : TransportSpecificContext) (h : Option ℕ) (o : List ℕ) → 
 post_after (Udp before) h o = refl
 post_after (NonUdp timeout) h o = refl
 
-pub passed_on : {Meta : Type 0} (r after : Req Meta) (copy : Req (Unit {0})) (h : Option ℕ) (inner future answer : ℕ → Answer)
+-- a hint that is set as it was set before
+hinted_again : (h : Option ℕ) (t : TransportSpecificContext) → hinted (hint_of (hinted h t)) t ≡ hinted h t
+hinted_again h (Udp before) = refl
+hinted_again h (NonUdp timeout) = refl
+
+pub passed_on : {Meta : Type 0} (r after : Req Meta) (original copy : Req (Unit {0})) (h : Option ℕ) (inner future answer : ℕ → Answer)
     → after ≡ record r { transport = hinted h r.transport; reserved = after.reserved }
-    → copy ≡ with_metadata after tt
+    → original ≡ with_metadata r tt
+    → copy ≡ record original { transport = hinted (hint_of after.transport) original.transport }
     → ((k : ℕ) → future k ≡ inner k)
     → answer ≡ each_rewritten (mand_post (limit (hint_of copy.transport)) copy) future
     → (k : ℕ) → answer k ≡ each_rewritten (mand_post (limit h) r) inner k
-passed_on r after copy h inner future answer kept copied same is k =
-    let transport : copy.transport ≡ hinted h r.transport = ap (λ (x : Req (Unit {0})). x.transport) copied ∙ ap (λ (x : Req _). x.transport) kept in
-    let octets : copy.octets ≡ r.octets = ap (λ (x : Req (Unit {0})). x.octets) copied ∙ ap (λ (x : Req _). x.octets) kept in
+passed_on r after original copy h inner future answer kept came copied same is k =
+    let transport : copy.transport ≡ hinted h r.transport = ap (λ (x : Req (Unit {0})). x.transport) copied ∙ (ap (λ (x : Req (Unit {0})). hinted (hint_of after.transport) x.transport) came ∙ (ap (λ (x : Req _). hinted (hint_of x.transport) r.transport) kept ∙ hinted_again h r.transport)) in
+    let octets : copy.octets ≡ r.octets = ap (λ (x : Req (Unit {0})). x.octets) copied ∙ ap (λ (x : Req (Unit {0})). x.octets) came in
     let post : post_by copy.transport (limit (hint_of copy.transport)) copy.octets ≡ post_by r.transport (limit h) r.octets =
     ap (λ (t : TransportSpecificContext). post_by t (limit (hint_of t)) copy.octets) transport
     ∙ (post_after r.transport h copy.octets ∙ ap (λ (o : List ℕ). post_by r.transport (limit h) o) octets) in

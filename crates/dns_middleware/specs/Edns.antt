@@ -14,14 +14,10 @@ use Rattle.dns_service.specs.Answer.{Answer}
 use Rattle.dns_service.specs.ErrorReply.{error_reply}
 use Rattle.dns_service.specs.Req.{Req}
 use Rattle.dns_service.specs.ServiceFn.{hint_at_entry}
-use Rattle.dns_service.specs.Transport.{hint_of, hinted}
+use Rattle.dns_service.specs.Transport.{hint_of, hinted, is_stream}
 use Rattle.dns_service.specs.WithOption.{with_option}
 use Rattle.dns_middleware.specs.Rewritten.{own, each_rewritten}
 use Rattle.dns_middleware.specs.OptItems.{opt_items}
-
-abbrev pub is_stream : TransportSpecificContext → Bool
-is_stream (Udp hint) = false
-is_stream (NonUdp timeout) = true
 
 -- a keepalive has a timeout, which a client may not send
 abbrev pub has_timeout : Option (Option ℕ) → Bool

@@ -1,10 +1,10 @@
 //! The EDNS layer (RFC 6891): what it refuses, and what it tells the service inside of a response's size.
 
-ghost use Rattle.std.specs.Prelude.{◌≡◌, ℕ, IfOk, OnOk, Some, true};
+ghost use Rattle.std.specs.Prelude.{◌≡◌, ℕ, IfOk, OnErr, OnOk, Some, true};
 ghost use Rattle.dns_service.specs.declared.message.Request.{Request};
 ghost use Rattle.dns_service.specs.Transport.{hint_of, hinted};
 ghost use Rattle.dns_stream.specs.Streams.{each_mapped};
-ghost use Rattle.dns_middleware.specs.Edns.{edns, edns_hint, edns_passed, edns_post, edns_refusal, is_stream, negotiated, record_refusal, reserved_over};
+ghost use Rattle.dns_middleware.specs.Edns.{edns, edns_hint, edns_passed, edns_post, edns_refusal, negotiated, record_refusal, reserved_over};
 ghost use Rattle.dns_middleware.specs.Rewritten.{rewritten};
 
 use crate::edns_post::EdnsPost;
@@ -65,7 +65,8 @@ where
         request: &mut Request<Meta>,
     ) -> Result<Now<Layered<S, Meta, EdnsPost>>, OutOfMemory> {
         if !self.enabled {
-            return pass_whole(alloc, &self.next, request);
+            let whole = pass_whole(alloc, &self.next, request)?;
+            return Ok(whole);
         }
         match edns_refusal(request) {
             Some(rcode) => Ok(of_own::<S, Meta, _>(refuse(&EdnsPost {}, alloc, request, rcode)?)),
@@ -83,6 +84,7 @@ fn pass_whole<S: Service<Meta>, Meta>(
     requires { S.can_call next.now }
     ensures answers { IfOk result (λ f. (k : ℕ) → ⟦<Now<Layered<S, Meta, EdnsPost>> as ReplyFuture>⟧.answer f k ≡ S.answer next.now request.old k) }
     ensures kept { OnOk result (request.new ≡ record request.old { transport = hinted (hint_of request.old.transport) request.old.transport; reserved = request.new.reserved }) }
+    ensures refused { OnErr result (request.new ≡ request.old) }
 {
     let future = call_inside(alloc, next, request)?;
     Ok(Now::new(MiddlewareStream::IdentityFuture(future)))
@@ -97,11 +99,28 @@ fn pass<S: Service<Meta>, Meta>(
     requires { S.can_call next.now }
     ensures answers { let r = request.old in IfOk result (λ s. (k : ℕ) → ⟦<PostprocessingStream<S::Future, (), EdnsPost> as ReplyStream>⟧.answer s k ≡ each_mapped (rewritten (edns_post r)) (S.answer next.now (edns_passed r)) k) }
     ensures kept { OnOk result (request.new ≡ record request.old { transport = hinted (hint_of (edns_passed request.old).transport) request.old.transport; reserved = request.new.reserved }) }
+    ensures refused { OnErr result (request.new ≡ request.old) }
 {
     let original = request.try_clone(alloc, ())?;
     pass_on(request);
-    let future = call_inside(alloc, next, request)?;
-    Ok(PostprocessingStream::new(future, original, EdnsPost {}))
+    match call_inside(alloc, next, request) {
+        Ok(future) => Ok(PostprocessingStream::new(future, original, EdnsPost {})),
+        Err(error) => {
+            restore(request, &original);
+            Err(error)
+        }
+    }
+}
+
+/// What was changed to pass the request on is as it came.
+fn restore<Meta>(request: &mut Request<Meta>, original: &Request<()>)
+    ensures { request.new ≡ record request.old { transport = hinted (hint_of original.now.transport) request.old.transport; reserved = original.now.reserved } }
+{
+    set_hint(
+        request.transport_ctx_mut(),
+        hint_of(original.transport_ctx()),
+    );
+    request.set_reserved_bytes(original.num_reserved_bytes());
 }
 
 /// Calls the service inside, which can't change the request's hint.
@@ -114,6 +133,7 @@ fn call_inside<S: Service<Meta>, Meta>(
     requires { S.can_call next.now }
     ensures answers { IfOk result (λ f. (k : ℕ) → S.Future.answer f k ≡ S.answer next.now request.old k) }
     ensures kept { OnOk result (request.new ≡ record request.old { transport = hinted (hint_of request.old.transport) request.old.transport; reserved = request.new.reserved }) }
+    ensures refused { OnErr result (request.new ≡ request.old) }
 {
     let hint = hint_of(request.transport_ctx());
     let future = next.call(alloc, request)?;
@@ -130,7 +150,7 @@ pub(crate) fn edns_refusal<Meta>(request: &Request<Meta>) -> Option<OptRcode>
         OptItems::NoItem => None,
         OptItems::BadFirst | OptItems::Several => Some(OptRcode::FORMERR),
         OptItems::OneRecord => match request.message().opt() {
-            Some(opt) => record_refusal(is_stream(request.transport_ctx()), &opt),
+            Some(opt) => record_refusal(request.transport_ctx().is_non_udp(), &opt),
             None => None,
         },
     }
@@ -149,15 +169,6 @@ fn record_refusal(stream: bool, opt: &OptRecordRef<'_>) -> Option<OptRcode>
     let keepalive = opt.opt().tcp_keepalive()?;
     keepalive.timeout()?;
     Some(OptRcode::FORMERR)
-}
-
-fn is_stream(transport: &TransportSpecificContext) -> bool
-    ensures { result ≡ is_stream transport.now }
-{
-    match transport {
-        TransportSpecificContext::Udp(_) => false,
-        TransportSpecificContext::NonUdp(_) => true,
-    }
 }
 
 /// The largest response over UDP in octets, by the server's hint and the client's size (RFC 6891, section 6.2.5).

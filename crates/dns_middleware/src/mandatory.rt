@@ -1,6 +1,6 @@
 //! The mandatory layer: refusals of a strict server, and replies that fit and answer their request.
 
-ghost use Rattle.std.specs.Prelude.{◌≡◌, ◌≤◌, ℕ, length, Option, IfOk, OnOk, true, false};
+ghost use Rattle.std.specs.Prelude.{◌≡◌, ◌≤◌, ℕ, length, Option, IfOk, OnErr, OnOk, true, false};
 ghost use Rattle.dns_base.specs.Msg.{Msg};
 ghost use Rattle.dns_base.specs.Wire.{wire};
 ghost use Rattle.dns_service.specs.declared.message.Request.{Request};
@@ -11,6 +11,7 @@ ghost use Rattle.dns_middleware.specs.Rewritten.{rewritten};
 ghost use Rattle.dns_middleware.specs.Mandatory.{limit, sized, responding, as_response, mand_post, mandatory, mandatory_hint, mandatory_refusal, strict_refusal};
 
 use crate::cutting::cut;
+use crate::edns::{hint_of, set_hint};
 use crate::layered::{Layered, Rewrite, of_mapped, of_own, refuse, rewrite_item};
 use dns_base::{AdditionalBuilder, Header, Message};
 use dns_name::{Opcode, OptRcode};
@@ -88,10 +89,21 @@ fn pass<S: Service<Meta>, Meta>(
     requires { S.can_call next.now }
     ensures answers { let r = request.old in IfOk result (λ s. (k : ℕ) → ⟦<PostprocessingStream<S::Future, (), MandatoryPost> as ReplyStream>⟧.answer s k ≡ each_mapped (rewritten (mand_post (limit (S.hint next.now r)) r)) (S.answer next.now r) k) }
     ensures kept { OnOk result (request.new ≡ record request.old { transport = hinted (S.hint next.now request.old) request.old.transport; reserved = request.new.reserved }) }
+    ensures refused { OnErr result (request.new ≡ request.old) }
 {
+    let original = request.try_clone(alloc, ())?;
     let future = next.call(alloc, request)?;
-    let request = request.try_clone(alloc, ())?;
-    Ok(PostprocessingStream::new(future, request, MandatoryPost {}))
+    let hint = hint_of(request.transport_ctx());
+    let original = with_hint(original, hint);
+    Ok(PostprocessingStream::new(future, original, MandatoryPost {}))
+}
+
+/// A request with another hint.
+fn with_hint(mut request: Request<()>, hint: Option<u16>) -> Request<()>
+    ensures { result ≡ record request { transport = hinted hint request.transport } }
+{
+    set_hint(request.transport_ctx_mut(), hint);
+    request
 }
 
 /// The response code with which the layer refuses a request by itself.

@@ -1,7 +1,12 @@
 -- The transport of a request: a datagram, with or without a hint of the largest response in octets, or a stream.
-use Rattle.std.specs.Prelude.{ℕ, Option, None}
+use Rattle.std.specs.Prelude.{ℕ, Bool, true, false, Option, None}
 use Rattle.dns_service.specs.declared.message.TransportSpecificContext.{TransportSpecificContext}
 use Rattle.dns_service.specs.declared.message.TransportSpecificContext.TheVariants.{Udp, NonUdp}
+
+-- whether a request came over a stream, and not in a datagram
+abbrev pub is_stream : TransportSpecificContext → Bool
+is_stream (Udp hint) = false
+is_stream (NonUdp timeout) = true
 
 -- the hint of a request's transport: a stream has none
 abbrev pub hint_of : TransportSpecificContext → Option ℕ

@@ -1,9 +1,11 @@
 //! Requests and their transports.
 
-ghost use Rattle.std.specs.Prelude.{◌≡◌, ◌+◌, ◌<◌, ◌^◌, min, IfOk, true, false, IsTrue, ◌↔◌};
+ghost use Rattle.std.specs.Prelude.{◌≡◌, ◌+◌, ◌<◌, ◌^◌, None, min, not, IfOk, true, false, IsTrue, ◌↔◌};
 ghost use Rattle.std.specs.Arc.{arc_value};
 ghost use Rattle.std.specs.Borrow.{sem};
+ghost use Rattle.dns_service.specs.declared.message.TransportSpecificContext.TheVariants.{NonUdp, Udp};
 ghost use Rattle.dns_service.specs.Req.{with_metadata};
+ghost use Rattle.dns_service.specs.Transport.{is_stream};
 
 use dns_base::Message;
 use dns_name::{OutOfMemory, SocketAddr};
@@ -51,6 +53,15 @@ impl UdpTransportContext {
     }
 }
 
+impl Default for UdpTransportContext {
+    ghost is_default = { λ c. c ≡ None };
+
+    /// A context with no hint.
+    fn default() -> Self {
+        UdpTransportContext::new(None)
+    }
+}
+
 /// What is known of a request that came over a stream.
 #[derive(Clone, Copy, Debug, PartialEq, Eq)]
 pub struct NonUdpTransportContext {
@@ -88,6 +99,38 @@ impl NonUdpTransportContext {
 pub enum TransportSpecificContext {
     Udp(UdpTransportContext),
     NonUdp(NonUdpTransportContext),
+}
+
+impl TransportSpecificContext {
+    /// Whether the request came in a datagram.
+    pub fn is_udp(&self) -> bool
+        ensures { result ≡ not (is_stream self.now) }
+    {
+        matches!(self, TransportSpecificContext::Udp(_))
+    }
+
+    /// Whether the request came over a stream.
+    pub fn is_non_udp(&self) -> bool
+        ensures { result ≡ is_stream self.now }
+    {
+        matches!(self, TransportSpecificContext::NonUdp(_))
+    }
+}
+
+impl From<UdpTransportContext> for TransportSpecificContext {
+    ghost from_gives = { λ context t. t ≡ Udp context };
+
+    fn from(context: UdpTransportContext) -> Self {
+        TransportSpecificContext::Udp(context)
+    }
+}
+
+impl From<NonUdpTransportContext> for TransportSpecificContext {
+    ghost from_gives = { λ context t. t ≡ NonUdp context };
+
+    fn from(context: NonUdpTransportContext) -> Self {
+        TransportSpecificContext::NonUdp(context)
+    }
 }
 
 /// A message with its sender, its moment in ms, its seconds, its transport and metadata.
@@ -201,6 +244,14 @@ impl<Meta> Request<Meta> {
         ensures { self.new ≡ record self.old { reserved = min (self.old.reserved + bytes) 65535 } }
     {
         self.num_reserved_bytes = self.num_reserved_bytes.saturating_add(bytes);
+    }
+
+    /// Keeps so many octets of the response free, however many were before: with what `num_reserved_bytes` said
+    /// earlier, it takes back what was reserved since.
+    pub fn set_reserved_bytes(&mut self, bytes: u16)
+        ensures { self.new ≡ record self.old { reserved = bytes } }
+    {
+        self.num_reserved_bytes = bytes;
     }
 
     /// How many octets of the response are to be left free.

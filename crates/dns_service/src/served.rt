@@ -1,6 +1,6 @@
 //! Services of requests without metadata, as a trait with no parameter.
 
-ghost use Rattle.std.specs.Prelude.{◌≡◌, ℕ, IfOk, OnOk, Option};
+ghost use Rattle.std.specs.Prelude.{◌≡◌, ℕ, IfOk, OnErr, OnOk, Option};
 ghost use Rattle.std.specs.Arc.{arc_value};
 ghost use Rattle.dns_service.specs.declared.message.Request.{Request};
 ghost use Rattle.dns_service.specs.Answer.{Answer};
@@ -31,7 +31,8 @@ pub trait Served: Drop {
     fn call(&self, alloc: Global, request: &mut Request<()>) -> Result<Self::Future, OutOfMemory>
         requires { can_call self.now }
         ensures answers { IfOk result (λ f. (k : ℕ) → Self.Future.answer f k ≡ answer self.now request.old k) }
-        ensures kept { OnOk result (request.new ≡ record request.old { transport = hinted (hint self.now request.old) request.old.transport; reserved = request.new.reserved }) };
+        ensures kept { OnOk result (request.new ≡ record request.old { transport = hinted (hint self.now request.old) request.old.transport; reserved = request.new.reserved }) }
+        ensures refused { OnErr result (request.new ≡ request.old) };
 }
 
 /// A service of requests without metadata.

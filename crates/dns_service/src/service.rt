@@ -1,6 +1,6 @@
 //! Services, reply futures and reply streams by poll.
 
-ghost use Rattle.std.specs.Prelude.{◌≡◌, ℕ, IfOk, OnOk, Option, Some, None, option_map, suc};
+ghost use Rattle.std.specs.Prelude.{◌≡◌, ℕ, IfOk, OnErr, OnOk, Option, Some, None, option_map, suc};
 ghost use Rattle.std.specs.Option.{option_copied};
 ghost use Rattle.std.specs.Arc.{arc_value};
 ghost use Rattle.std.specs.Borrow.{sem};
@@ -215,11 +215,12 @@ pub trait Service<Meta>: Drop {
     /// Whether the service may be called: one that is made of a closure needs a closure that may be.
     ghost can_call: { Self → Type 0 } = { λ _. Unit {0} };
 
-    /// Changes nothing of the request but its hint and its reserved octets.
+    /// Changes nothing of the request but its hint and its reserved octets, and nothing at all where it is refused.
     fn call(&self, alloc: Global, request: &mut Request<Meta>) -> Result<Self::Future, OutOfMemory>
         requires { can_call self.now }
         ensures answers { IfOk result (λ f. (k : ℕ) → Self.Future.answer f k ≡ answer self.now request.old k) }
-        ensures kept { OnOk result (request.new ≡ record request.old { transport = hinted (hint self.now request.old) request.old.transport; reserved = request.new.reserved }) };
+        ensures kept { OnOk result (request.new ≡ record request.old { transport = hinted (hint self.now request.old) request.old.transport; reserved = request.new.reserved }) }
+        ensures refused { OnErr result (request.new ≡ request.old) };
 }
 
 impl<T, Meta> Service<Meta> for Arc<T>

@@ -1,5 +1,5 @@
 use Rattle.std.proofs.Common.{sym}
-use Rattle.dns_middleware.specs.Edns.{is_stream}
+use Rattle.dns_service.specs.Transport.{is_stream}
 use Rattle.dns_middleware.proofs.ItemLaws.{refusal_other}
 use Rattle.dns_middleware.proofs.edns.edns_refusal.Goals as goal
 
