@@ -1,9 +1,10 @@
 -- Laws of frames.
-use Rattle.std.proofs.Common.{◌≡◌, ℕ, zero, suc, ◌+◌, ◌*◌, ◌≤◌, ◌<◌, List, [], ◌∷◌, ◌++◌, length, drop, Option, Some, None, refl, ap, sym, ◌∙◌, arith, length-append, length-drop, add-one}
+use Rattle.std.proofs.Common.{◌≡◌, ℕ, zero, suc, ◌+◌, ◌*◌, ◌/◌, ◌%◌, ◌≤◌, ◌<◌, nat_le, List, [], ◌∷◌, ◌++◌, length, drop, Option, Some, None, true, refl, ap, sym, ◌∙◌, arith, length-append, length-drop, add-one}
 use Rattle.std.specs.Option.{option_map_or}
 use Rattle.std.proofs.lemmas.Bool.Decides.{nat_tests}
 use Rattle.std.proofs.lemmas.List.{take-append-le, drop-append-le, drop_at}
-use Rattle.dns_client.specs.Frames.{split, first, frames_up_to, frames, past, rest}
+use Rattle.std.proofs.Math.Seq.{take-append_seam, drop-append_seam}
+use Rattle.dns_client.specs.Frames.{split, first, frames_up_to, frames, past, rest, framed}
 
 split_shorter : (n : ℕ) (o f r : List ℕ) → split n o ≡ Some (f, r) → length r ≤ length o
 split_shorter n o f r h = grind (arith, nat_tests, length-drop {A = ℕ})
@@ -135,3 +136,13 @@ within-append n o p h = omega (arith, ap length (goes o p).all, length-append (f
 -- the new frames of a piece, by what is kept
 pub new_frames_by_kept : (n : ℕ) (o p : List ℕ) → n ≤ length (frames o) → drop n (frames (o ++ p)) ≡ frames (past n o ++ p)
 new_frames_by_kept n o p h = sym (frames-past n (o ++ p)) ∙ ap frames (past-append n o p h)
+
+-- a message behind its length is the first frame
+pub first-framed : (f r : List ℕ) → first (framed f ++ r) ≡ Some (f, r)
+first-framed f r =
+    let n : 256 * (length f / 256) + length f % 256 ≡ length f = omega arith in
+    let within : nat_le (length f) (length (f ++ r)) ≡ true = grind (arith, nat_tests, length-append f r) in
+    rw (n, within, take-append_seam f r, drop-append_seam f r) refl
+
+pub frames-framed : (f r : List ℕ) → frames (framed f ++ r) ≡ f ∷ frames r
+frames-framed f r = frames_some (framed f ++ r) f r (first-framed f r)

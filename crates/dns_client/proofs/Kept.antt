@@ -1,5 +1,5 @@
 -- What is kept of the requests after a poll, and with one more.
-use Rattle.std.proofs.Common.{◌≡◌, ◌≢◌, ℕ, suc, ◌+◌, ◌<◌, ◌≤◌, List, [], ◌∷◌, ◌++◌, length, Option, Some, None, Bool, true, false, refl, ap, sym, ◌∙◌, arith, set, ⊎_elim, ◌⊎◌, inl, inr, length-append}
+use Rattle.std.proofs.Common.{◌≡◌, ◌≢◌, ℕ, zero, suc, ◌+◌, ◌<◌, ◌≤◌, List, [], ◌∷◌, ◌++◌, length, Option, Some, None, Bool, true, false, refl, ap, sym, ◌∙◌, arith, set, ⊎_elim, ◌⊎◌, inl, inr, length-append}
 use Rattle.std.specs.Prelude.{slice_get}
 use Rattle.std.specs.Ordering.{nat_cmp}
 use Rattle.std.specs.BTreeMap.{BTreeMap, get}
@@ -11,7 +11,7 @@ use Rattle.dns_service.specs.Req.{Req}
 use Rattle.dns_client.specs.Slate.{Asked}
 use Rattle.dns_client.specs.Turns.{polled, ends}
 use Rattle.dns_client.specs.PolledAt.{PolledAt, Left}
-use Rattle.dns_client.specs.Stands.{Keeps}
+use Rattle.dns_client.specs.Stands.{Keeps, sole}
 
 below_or_above : (a b : ℕ) → a ≢ b → (a < b) ⊎ (b < a)
 below_or_above a b ne = ⊎_elim (λ (h : a < b). inl h) (λ (h : b ≤ a). inr (omega arith)) (cases_lt a b)
@@ -76,3 +76,16 @@ module _ {Q : Type 0} (answer : Q → ℕ → Answer) (answers : Req (Unit {0}) 
       rw (past', others q apart) h)
       (below_or_above q (length rs) (λ (x : q ≡ length rs). apart (x ∙ sym e))))
       (cases_eq q k)
+
+  -- the one request of an exchange
+  pub sole_set : (old new : Option Q) (rs : List Asked) (r r' : Asked)
+      → slice_get rs 0 ≡ Some r
+      → ((k : ℕ) → Keeps answer answers (sole old k) (slice_get rs k))
+      → Keeps answer answers new (Some r')
+      → (k : ℕ) → Keeps answer answers (sole new k) (slice_get (set rs 0 r') k)
+  sole_set old new rs r r' e each here zero = let w = slice_get-set_same rs 0 r' (slice_get_within rs 0 r e) in rw w here
+  sole_set old new rs r r' e each here (suc k) = let w = slice_get-set_other rs 0 (suc k) r' (λ (same : suc k ≡ 0). absurd (omega arith)) in rw w (each (suc k))
+
+  pub none_sole : (k : ℕ) → Keeps answer answers (sole None k) None
+  none_sole zero = tt
+  none_sole (suc k) = tt

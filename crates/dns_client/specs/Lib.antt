@@ -11,4 +11,5 @@ pub mod Turns
 pub mod Rule
 pub mod PolledAt
 pub mod Stands
+pub mod Spent
 pub mod Pieces

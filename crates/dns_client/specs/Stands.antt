@@ -1,30 +1,22 @@
 -- When a client's core stands for a slate. The answers are those of the wrapped service.
-use Rattle.std.specs.Prelude.{◌≡◌, ℕ, ◌+◌, ◌<◌, ◌≤◌, List, [], ◌∷◌, ◌++◌, length, slice_get, nat_lt, if◌then◌else◌, Bool, true, false, Option, Some, None}
+use Rattle.std.specs.Prelude.{◌≡◌, ℕ, zero, suc, ◌+◌, ◌<◌, ◌≤◌, List, [], ◌∷◌, ◌++◌, length, slice_get, nat_lt, if◌then◌else◌, not, is_some, Bool, true, false, Option, Some, None}
 use Rattle.std.specs.Ordering.{nat_cmp}
-use Rattle.std.specs.BTreeMap.{get}
-use Rattle.circular_buffer.specs.Buffer.{buffer}
-use Rattle.dns_name.specs.declared.address.SocketAddr.{SocketAddr}
+use Rattle.std.specs.BTreeMap.{BTreeMap, get}
 use Rattle.dns_service.specs.Answer.{Answer}
-use Rattle.dns_service.specs.Config.{Connection}
 use Rattle.dns_service.specs.Req.{Req}
 use Rattle.dns_service.specs.declared.event.Output.{Output}
+use Rattle.dns_service.specs.declared.event.Output.TheVariants.{Frame, Closed as Closed_output}
 use Rattle.dns_client.specs.Frames.{frames, past}
-use Rattle.dns_client.specs.Slate.{Slate, Asked, Told, Phase, Exchange, Open, Closed}
+use Rattle.dns_client.specs.Slate.{Slate, Asked, Told, Exchange, Open, Closed}
 use Rattle.dns_client.specs.Requests.{asked, most_requests}
 use Rattle.dns_client.specs.Connections.{take_frames}
 use Rattle.dns_client.specs.declared.client.ClientCore.{ClientCore}
-use Rattle.dns_client.specs.declared.client.Status.{Status}
-use Rattle.dns_client.specs.declared.client.Status.TheVariants.{Exchange as Is_exchange, Open as Is_open, Closed as Is_closed}
+use Rattle.dns_client.specs.declared.client.State.{State}
+use Rattle.dns_client.specs.declared.client.State.TheVariants.{Exchange as Is_exchange, Open as Is_open, Closed as Is_closed}
+use Rattle.dns_client.specs.declared.connection.OpenConnection.{OpenConnection}
+use Rattle.dns_client.specs.declared.connection.Outcome.{Outcome}
+use Rattle.dns_client.specs.declared.connection.Outcome.TheVariants.{Nothing, Written, Ends}
 use Rattle.dns_client.specs.declared.polling.PolledRequest.{PolledRequest}
-
-abbrev pub phase_of : Status → Phase
-phase_of Is_exchange = Exchange
-phase_of Is_open = Open
-phase_of Is_closed = Closed
-
-abbrev pub is_closed : Status → Bool
-is_closed Is_closed = true
-is_closed _ = false
 
 -- a polled state is kept of each request that isn't done, and answers from the polls made on
 abbrev pub Keeps : {Q : Type 0} → (Q → ℕ → Answer) → (Req (Unit {0}) → ℕ → Answer) → Option Q → Option Asked → Type 0
@@ -33,56 +25,94 @@ Keeps answer answers None (Some r) = r.done ≡ true
 Keeps answer answers (Some q) None = ⊥
 Keeps answer answers (Some q) (Some r) = (r.done ≡ false) × ((k : ℕ) → answer q k ≡ answers r.request (r.polls + k))
 
--- a core of no requests
-pub record IsBare {W R F : Type 0} (number : ℕ) (from : SocketAddr) (as_is : Status) (config : Connection) (bound : ℕ) (core : ClientCore W R F) : Type 0 where
-  pub client : core.client ≡ number
-  pub addr : core.addr ≡ from
-  pub status : core.status ≡ as_is
-  pub freed : core.freed ≡ false
-  pub connection : core.connection ≡ config
-  pub framer : core.framer ≡ []
-  pub count : core.count ≡ 0
-  pub unfinished : core.unfinished.entries ≡ []
-  pub queue : core.queue ≡ buffer [] bound
+-- what is kept of an exchange's requests, of which there is one at most
+abbrev pub sole : {Q : Type 0} → Option Q → ℕ → Option Q
+sole kept zero = kept
+sole kept (suc k) = None
 
-module _ {W R F : Type 0} (answer : PolledRequest F R → ℕ → Answer) (answers : Req (Unit {0}) → ℕ → Answer) where
-  -- what is kept of the requests
-  abbrev pub KeepsAll : ClientCore W R F → List Asked → Type 0
-  KeepsAll core rs = (core.count ≡ length rs) × ((k : ℕ) → Keeps answer answers (get nat_cmp core.unfinished k) (slice_get rs k))
+abbrev pub state_is_spent : {W R F : Type 0} → State W R F → Bool
+state_is_spent (Is_exchange kept) = not (is_some kept)
+state_is_spent (Is_open c) = false
+state_is_spent (Is_closed freed) = freed
 
-  -- what an open connection keeps beside
-  pub record IsOpen (core : ClientCore W R F) (s : Slate) : Type 0 where
-    pub addr : core.addr ≡ s.addr
-    pub connection : core.connection ≡ s.connection
-    pub kept : core.framer ≡ past s.taken s.received
-    pub within : s.taken ≤ length (frames s.received)
-    pub queue : core.queue.items ≡ s.queue
-    pub bound : core.queue.capacity ≡ s.bound
+abbrev pub is_freed : {W R F : Type 0} → State W R F → Bool
+is_freed (Is_closed freed) = freed
+is_freed _ = false
 
-  pub record Stands (core : ClientCore W R F) (s : Slate) : Type 0 where
-    pub client : core.client ≡ s.client
-    pub freed : core.freed ≡ s.freed
-    pub phase : phase_of core.status ≡ s.phase
-    pub requests : is_closed core.status ≡ false → KeepsAll core s.requests
-    pub is_open : s.phase ≡ Open → IsOpen core s
+abbrev pub is_closed : {W R F : Type 0} → State W R F → Bool
+is_closed (Is_closed freed) = true
+is_closed _ = false
 
-  -- at every slate that the core stands for, the outputs are those that are told, and it stands for the slate after
-  abbrev pub Follows : ClientCore W R F → ClientCore W R F → List Output → (Slate → Told) → Type 0
-  Follows old new outs after = (s : Slate) → Stands old s → (outs ≡ (after s).1) × Stands new (after s).0
+-- what a client of this number is sent for an outcome, and its state after it
+abbrev pub outputs_of : ℕ → Outcome → List Output
+outputs_of client Nothing = []
+outputs_of client (Written m) = Frame client m ∷ []
+outputs_of client (Ends why) = Closed_output client why ∷ []
 
-  -- a request is made, unless most of them were made
-  pub record Asks (old new : ClientCore W R F) (r : Req (Unit {0})) : Type 0 where
-    pub client : new.client ≡ old.client
-    pub addr : new.addr ≡ old.addr
-    pub freed : new.freed ≡ old.freed
-    pub status : new.status ≡ old.status
-    pub connection : new.connection ≡ old.connection
-    pub framer : new.framer ≡ old.framer
-    pub queue : new.queue ≡ old.queue
-    pub made : (rs : List Asked) → KeepsAll old rs → KeepsAll new (if nat_lt (length rs) most_requests then rs ++ asked r ∷ [] else rs)
+abbrev pub state_after : {W R F : Type 0} → State W R F → Outcome → State W R F
+state_after state Nothing = state
+state_after state (Written m) = state
+state_after state (Ends why) = Is_closed false
 
-  -- one frame is taken, and what is left to be taken, at some slate that the core then stands for, is all that was
-  pub record Takes (at secs : ℕ) (old new : ClientCore W R F) : Type 0 where
-    pub status : new.status ≡ Is_open
-    pub less : length new.framer < length old.framer
-    pub goes : (s : Slate) → Stands old s → (t : Slate) × Stands new t × (take_frames at secs (frames new.framer) t ≡ take_frames at secs (frames old.framer) s)
+-- of a closed connection nothing is kept but its number, and whether it was released
+pub record IsClosed (number : ℕ) (freed_now : Bool) (s : Slate) : Type 0 where
+  pub client : number ≡ s.client
+  pub freed : s.freed ≡ freed_now
+  pub phase : s.phase ≡ Closed
+
+module _ {R F : Type 0} (answer : PolledRequest F R → ℕ → Answer) (answers : Req (Unit {0}) → ℕ → Answer) where
+  -- what is kept of a connection's requests, and how many were made
+  abbrev pub KeepsAll : ℕ → BTreeMap ℕ (PolledRequest F R) → List Asked → Type 0
+  KeepsAll count unfinished rs = (count ≡ length rs) × ((k : ℕ) → Keeps answer answers (get nat_cmp unfinished k) (slice_get rs k))
+
+  pub record IsExchange (number : ℕ) (unfinished : Option (PolledRequest F R)) (s : Slate) : Type 0 where
+    pub client : number ≡ s.client
+    pub freed : s.freed ≡ false
+    pub phase : s.phase ≡ Exchange
+    pub requests : (k : ℕ) → Keeps answer answers (sole unfinished k) (slice_get s.requests k)
+
+  -- at every slate of the exchange, the outputs are those that are told, and it is the exchange of the slate after
+  abbrev pub Exchanges : ℕ → Option (PolledRequest F R) → Option (PolledRequest F R) → List Output → (Slate → Told) → Type 0
+  Exchanges number old new outs after = (s : Slate) → IsExchange number old s → (outs ≡ (after s).1) × IsExchange number new (after s).0
+
+  module _ {W : Type 0} where
+    pub record IsOpen (number : ℕ) (c : OpenConnection W R F) (s : Slate) : Type 0 where
+      pub client : number ≡ s.client
+      pub freed : s.freed ≡ false
+      pub phase : s.phase ≡ Open
+      pub addr : c.addr ≡ s.addr
+      pub config : c.config ≡ s.connection
+      pub kept : c.framer ≡ past s.taken s.received
+      pub within : s.taken ≤ length (frames s.received)
+      pub requests : KeepsAll c.count c.unfinished s.requests
+      pub queue : c.queue.items ≡ s.queue
+      pub bound : c.queue.capacity ≡ s.bound
+
+    abbrev pub StandsIn : ℕ → State W R F → Slate → Type 0
+    StandsIn number (Is_exchange unfinished) s = IsExchange number unfinished s
+    StandsIn number (Is_open c) s = IsOpen number c s
+    StandsIn number (Is_closed freed) s = IsClosed number freed s
+
+    abbrev pub Stands : ClientCore W R F → Slate → Type 0
+    Stands core s = StandsIn core.client core.state s
+
+    -- at every slate that the core stands for, the outputs are those that are told, and it stands for the slate after
+    abbrev pub Follows : ClientCore W R F → ClientCore W R F → List Output → (Slate → Told) → Type 0
+    Follows old new outs after = (s : Slate) → Stands old s → (outs ≡ (after s).1) × Stands new (after s).0
+
+    -- the same of a connection that was open, by the outcome
+    abbrev pub Leads : OpenConnection W R F → OpenConnection W R F → Outcome → (Slate → Told) → Type 0
+    Leads old new outcome after = (number : ℕ) (s : Slate) → IsOpen number old s → (outputs_of number outcome ≡ (after s).1) × StandsIn number (state_after (Is_open new) outcome) (after s).0
+
+    -- a request is made, unless most of them were made
+    pub record Asks (old new : OpenConnection W R F) (r : Req (Unit {0})) : Type 0 where
+      pub addr : new.addr ≡ old.addr
+      pub config : new.config ≡ old.config
+      pub framer : new.framer ≡ old.framer
+      pub queue : new.queue ≡ old.queue
+      pub made : (rs : List Asked) → KeepsAll old.count old.unfinished rs → KeepsAll new.count new.unfinished (if nat_lt (length rs) most_requests then rs ++ asked r ∷ [] else rs)
+
+    -- one frame is taken, and what is left to be taken, at some slate of the connection, is all that was
+    pub record Takes (at secs : ℕ) (old new : OpenConnection W R F) : Type 0 where
+      pub less : length new.framer < length old.framer
+      pub goes : (number : ℕ) (s : Slate) → IsOpen number old s → (t : Slate) × IsOpen number new t × (take_frames at secs (frames new.framer) t ≡ take_frames at secs (frames old.framer) s)

@@ -1,7 +1,7 @@
 //! Frames of a stream.
 
-ghost use Rattle.std.specs.Prelude.{◌≡◌, ◌+◌, ◌≤◌, ◌++◌, [], IfOk, OnOk, OnErr, MatchOption, Some, None, length, drop, take};
-ghost use Rattle.dns_client.specs.Frames.{first};
+ghost use Rattle.std.specs.Prelude.{◌≡◌, ◌+◌, ◌≤◌, ◌++◌, ◌∷◌, [], IfOk, OnOk, OnErr, MatchOption, None, length, drop, take};
+ghost use Rattle.dns_client.specs.Frames.{first, framed, frames};
 
 use dns_service::OutOfMemory;
 use std::alloc::Global;
@@ -41,18 +41,27 @@ impl Framer {
         ensures ok { OnOk result (self.new ≡ self.old ++ piece.now) }
         ensures err { OnErr result (self.new ≡ self.old) }
     {
-        let mut octets = Vec::from_slice(alloc, &self.octets[self.at..])?;
-        octets.extend_from_slice(piece)?;
-        self.octets = octets;
-        self.at = 0;
+        self.let_go(alloc)?;
+        self.octets.extend_from_slice(piece)?;
+        Ok(())
+    }
+
+    /// Lets go of the octets that were taken, once they are more than half.
+    fn let_go(&mut self, alloc: Global) -> Result<(), OutOfMemory>
+        ensures { self.new ≡ self.old }
+    {
+        if self.at > self.octets.len() / 2 {
+            self.octets = Vec::from_slice(alloc, &self.octets[self.at..])?;
+            self.at = 0;
+        }
         Ok(())
     }
 
     /// The first frame of the octets kept, which goes with its length. Where there is none, or it is refused, all stays.
     pub fn next(&mut self, alloc: Global) -> Result<Option<Vec<u8>>, OutOfMemory>
         ensures some { IfOk result (λ frame. MatchOption frame
-            ((first self.old ≡ None) × (self.new ≡ self.old))
-            (λ f. first self.old ≡ Some (f.items, self.new))) }
+            ((frames self.old ≡ []) × (self.new ≡ self.old))
+            (λ f. (frames self.old ≡ f.items ∷ frames self.new) × (self.old ≡ framed f.items ++ self.new))) }
         ensures err { OnErr result (self.new ≡ self.old) }
     {
         let Some((frame, size)) = first_of(alloc, &self.octets[self.at..])? else {
@@ -65,7 +74,7 @@ impl Framer {
 
 /// The first frame, and how many octets it takes with its length.
 fn first_of(alloc: Global, kept: &[u8]) -> Result<Option<(Vec<u8>, usize)>, OutOfMemory>
-    ensures { IfOk result (λ r. MatchOption r (first kept.now ≡ None) (λ p. (p.1 ≤ length kept.now) × (first kept.now ≡ Some (p.0.items, drop p.1 kept.now)))) }
+    ensures { IfOk result (λ r. MatchOption r (first kept.now ≡ None) (λ p. (p.1 ≤ length kept.now) × (kept.now ≡ framed p.0.items ++ drop p.1 kept.now))) }
 {
     let Some(size) = size_of_first(kept) else {
         return Ok(None);
@@ -76,7 +85,7 @@ fn first_of(alloc: Global, kept: &[u8]) -> Result<Option<(Vec<u8>, usize)>, OutO
 
 /// The length of the first frame.
 fn size_of_first(kept: &[u8]) -> Option<usize>
-    ensures { MatchOption result (first kept.now ≡ None) (λ n. (2 + n ≤ length kept.now) × (first kept.now ≡ Some (take n (drop 2 kept.now), drop (2 + n) kept.now))) }
+    ensures { MatchOption result (first kept.now ≡ None) (λ n. (2 + n ≤ length kept.now) × (kept.now ≡ framed (take n (drop 2 kept.now)) ++ drop (2 + n) kept.now)) }
 {
     let [high, low, rest @ ..] = kept else {
         return None;

@@ -2,12 +2,14 @@
 #![tactic(auto)]
 
 mod client;
+mod connection;
+mod exchange;
 mod framer;
 mod laws;
 mod polling;
 mod requests;
 
-pub use client::{ClientCore, Status};
+pub use client::ClientCore;
 pub use framer::Framer;
 pub use laws::{frames_go_on, pieces_may_be_cut};
 pub use polling::PolledRequest;

@@ -53,7 +53,25 @@ fn is_last(answer: &Polled<Option<ServiceResult>>) -> bool
     }
 }
 
-/// Polls a request once, and lets it go where it is done.
+/// Polls a request once, where one is kept, and lets it go where it is done.
+pub fn poll_kept<F: ReplyFuture<Stream = R>, R: ReplyStream>(
+    alloc: Global,
+    unfinished: &mut Option<PolledRequest<F, R>>,
+) -> Result<Option<Polled<Option<ServiceResult>>>, OutOfMemory>
+    ensures { IfOk result (λ answer. PolledAt (request_answer F.answer R.answer) unfinished.old answer unfinished.new) }
+{
+    let answer = match unfinished {
+        None => return Ok(None),
+        Some(state) => state.poll_next(alloc)?,
+    };
+    if is_last(&answer) {
+        *unfinished = None;
+        return Ok(Some(answer));
+    }
+    Ok(Some(answer))
+}
+
+/// Polls the request of this number once, where it is kept, and lets it go where it is done.
 pub fn poll_at<F: ReplyFuture<Stream = R>, R: ReplyStream>(
     alloc: Global,
     unfinished: &mut BTreeMap<u64, PolledRequest<F, R>>,

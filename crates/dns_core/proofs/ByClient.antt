@@ -1,9 +1,9 @@
 -- What one client is sent, read off what all are sent.
 use Rattle.std.proofs.Common.{◌≡◌, ◌≢◌, ℕ, List, [], ◌∷◌, ◌++◌, Bool, true, false, refl, ap, sym, ◌∙◌, subst, append_assoc, ⊎_elim}
 use Rattle.std.proofs.lemmas.List.{append-nil}
-use Rattle.std.proofs.lemmas.Bool.{cases_eq, eq-eqb}
+use Rattle.std.proofs.lemmas.Bool.{cases_eq}
 use Rattle.std.proofs.lemmas.List.Elements.{filter-append}
-use Rattle.std.specs.Prelude.{nat_eq, filter, if◌then◌else◌, not, ◌&&◌, ◌||◌}
+use Rattle.std.specs.Prelude.{nat_eq, filter, if◌then◌else◌, not, ◌&&◌}
 use Rattle.std.specs.List.{list_any}
 use Rattle.dns_service.specs.Answer.{Answer}
 use Rattle.dns_service.specs.Req.{Req}
@@ -14,11 +14,10 @@ use Rattle.dns_client.specs.Slate.{Slate}
 use Rattle.dns_client.specs.Rule.{rule}
 use Rattle.dns_core.specs.Own.{concerns, own}
 use Rattle.dns_core.specs.Sent.{sent, slate}
-use Rattle.dns_core.specs.Out.{is_unused, begins, is_datagram, is_new, has_room, put, members, gained, out_after, out}
+use Rattle.dns_core.specs.Out.{is_unused, begins, is_new, members, gained, out_after, out}
 use Rattle.dns_core.specs.ByClient.{is_for, is_member, was_turned_away}
 use Rattle.dns_core.specs.declared.settings.Settings.{Settings}
-use Rattle.dns_core.proofs.OutLemmas.{sent_more, sent_still, members_more}
-use Rattle.dns_core.proofs.Counted.{put_there}
+use Rattle.dns_core.proofs.OutLemmas.{sent_more, sent_still}
 use Rattle.dns_core.proofs.Plain.{unused_is}
 use Rattle.dns_core.proofs.Gained.{concerns_same, concerns_other, slate_same, slate_other, members_kept, gained_own}
 use Rattle.dns_core.proofs.Nothing.{member_other, unused_alike}
@@ -32,7 +31,7 @@ module _ (answers : Req (Unit {0}) → ℕ → Answer) (settings : Settings) whe
   pub told : ℕ → List Event → List Output
   told c q = of_own (is_member answers settings c q) (is_unused (slate answers settings c q).phase) c q
 
-  new_unused : (q : List Event) (e : Event) → is_new answers settings q e ≡ true → (begins e.kind ≡ true) × (is_unused (slate answers settings e.client q).phase ≡ true)
+  pub new_unused : (q : List Event) (e : Event) → is_new answers settings q e ≡ true → (begins e.kind ≡ true) × (is_unused (slate answers settings e.client q).phase ≡ true)
   unfolding is_new
   new_unused q e n = both (begins e.kind) (is_unused (slate answers settings e.client q).phase) n
     where

@@ -3,11 +3,13 @@ pub mod Plain
 pub mod Counted
 pub mod Gained
 pub mod Keyed
-pub mod Served
-pub mod Offered
-pub mod Released
 pub mod Nothing
 pub mod Settled
 pub mod Named
 pub mod ByClient
+pub mod Spent
+pub mod Rising
+pub mod Served
+pub mod Offered
+pub mod Released
 pub mod Cut

@@ -20,7 +20,8 @@ use Rattle.dns_core.proofs.Counted.{filter_same}
 use Rattle.dns_core.proofs.Plain.{plain, rule_use, late}
 use Rattle.dns_core.proofs.Gained.{slate_same, slate_other, members_kept, gained_own, unused_same, new_is}
 
-put_other : (c x : ℕ) (ms : List ℕ) → c ≢ x → list_any (nat_eq c) (put x ms) ≡ list_any (nat_eq c) ms
+-- a number is put, and of another it is told as before
+pub put_other : (c x : ℕ) (ms : List ℕ) → c ≢ x → list_any (nat_eq c) (put x ms) ≡ list_any (nat_eq c) ms
 put_other c x [] apart = rw (ne_eqb c x apart) refl
 put_other c x (m ∷ ms) apart =
     (elim (nat_lt x m) as (λ b. list_any (nat_eq c) (if b then x ∷ m ∷ ms else m ∷ put x ms) ≡ list_any (nat_eq c) (m ∷ ms)) [

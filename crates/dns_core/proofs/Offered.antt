@@ -1,9 +1,9 @@
 -- A server after an offer.
-use Rattle.std.proofs.Common.{◌≡◌, ℕ, List, [], ◌∷◌, ◌++◌, true, false, refl, ap, sym, ◌∙◌}
-use Rattle.std.specs.Prelude.{nat_eq, nat_lt, if◌then◌else◌, is_some}
+use Rattle.std.proofs.Common.{◌≡◌, ◌≢◌, ℕ, List, [], ◌∷◌, ◌++◌, true, false, ap, sym, ◌∙◌, ⊎_elim}
+use Rattle.std.specs.Prelude.{nat_eq, nat_lt, if◌then◌else◌}
 use Rattle.std.specs.Ordering.{nat_cmp}
-use Rattle.std.specs.BTreeMap.{get}
 use Rattle.std.specs.BTreeSet.{BTreeSet, contains}
+use Rattle.std.proofs.lemmas.Bool.{cases_eq}
 use Rattle.dns_service.specs.Answer.{Answer}
 use Rattle.dns_service.specs.Config.{Stream}
 use Rattle.dns_service.specs.Req.{Req}
@@ -39,8 +39,10 @@ module _ {W R F : Type 0} (answer : PolledRequest F R → ℕ → Answer) (answe
       let ms : members answers settings (q ++ e ∷ []) ≡ members answers settings q = members_offer answers settings q e false new.is_new d (sym (room_is old q h) ∙ full) in (
         said ∙ ap (λ (s : Stream). TurnedAway e.client s.accept_connections_at_max ∷ []) h.stream ∙ sym (gained_away answers settings q e new.is_new ms new.no_member),
         record {
-          same_keys = h.same_keys ∙ sym ms;
-          stand = λ c core is. rw (slate_other answers settings c q e (λ (same : c ≡ e.client). let z = new.no_core in let y : is_some (get nat_cmp old.clients e.client) ≡ true = rw (← same, is) refl in cc)) (h.stand c core is);
+          clients = λ c. ⊎_elim
+              (λ (same : c ≡ e.client). rw (same, ms, new.no_core, new.no_member) tt)
+              (λ (apart : c ≢ e.client). rw (ms, slate_other answers settings c q e apart) (h.clients c))
+              (cases_eq c e.client);
           used = used_goes answer answers settings old u q e opens hu h;
           slots = h.slots ∙ sym (ap (taken answers settings (q ++ e ∷ [])) ms ∙ taken_absent answers settings q e (members answers settings q) new.no_member);
           dgram = h.dgram;

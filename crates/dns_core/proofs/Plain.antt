@@ -181,7 +181,7 @@ module _ (answers : Req (Unit {0}) → ℕ → Answer) where
   late e s b u = late_kind e e.kind s b u
 
   -- a request that is done, or none
-  exchange_done : (k : ℕ) (x : Option Asked) (s : Slate) → IsFinished x → exchange_turn answers k x s ≡ (s, [])
+  pub exchange_done : (k : ℕ) (x : Option Asked) (s : Slate) → IsFinished x → exchange_turn answers k x s ≡ (s, [])
   exchange_done k None s h = refl
   exchange_done k (Some r) s h = rw h refl
 

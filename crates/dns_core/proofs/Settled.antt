@@ -125,7 +125,7 @@ module _ (answers : Req (Unit {0}) → ℕ → Answer) where
   pub empty_idle : (e : Event) (s : Slate) → e.kind ≡ Piece [] → Settled s → rule answers e s ≡ (s, [])
   empty_idle e s is h = empty_kind e e.kind s is h
 
-  released_again : (s : Slate) → s.freed ≡ true → released s ≡ s
+  pub released_again : (s : Slate) → s.freed ≡ true → released s ≡ s
   released_again s h = ap (λ (b : Bool). record s { freed = b }) (sym h)
 
   again_kind : (e : Event) (k : EventKind) (s : Slate) → k ≡ Release → s.freed ≡ true → by_kind answers e k s ≡ (s, [])

@@ -1,7 +1,8 @@
 -- What a server keeps after some events.
-use Rattle.std.specs.Prelude.{◌≡◌, ℕ, List, [], ◌∷◌, ◌++◌, not}
+use Rattle.std.specs.Prelude.{◌≡◌, ℕ, List, [], ◌∷◌, ◌++◌, not, nat_eq}
+use Rattle.std.specs.List.{list_any}
 use Rattle.std.specs.Ordering.{nat_cmp}
-use Rattle.std.specs.BTreeMap.{keys}
+use Rattle.std.specs.BTreeMap.{get}
 use Rattle.std.specs.BTreeSet.{contains}
 use Rattle.dns_service.specs.Answer.{Answer}
 use Rattle.dns_service.specs.Req.{Req}
@@ -10,14 +11,13 @@ use Rattle.dns_service.specs.declared.event.Output.{Output}
 use Rattle.dns_client.specs.declared.polling.PolledRequest.{PolledRequest}
 use Rattle.dns_core.specs.Sent.{slate}
 use Rattle.dns_core.specs.Out.{members, taken, gained, is_unused}
-use Rattle.dns_core.specs.Serves.{StandAll}
+use Rattle.dns_core.specs.Serves.{Holds}
 use Rattle.dns_core.specs.declared.settings.Settings.{Settings}
 use Rattle.dns_core.specs.declared.server.Server.{Server}
 
 module _ {W R F : Type 0} (answer : PolledRequest F R → ℕ → Answer) (answers : Req (Unit {0}) → ℕ → Answer) where
   pub record Serves (settings : Settings) (q : List Event) (server : Server W R F) : Type 0 where
-    pub same_keys : keys server.clients ≡ members answers settings q
-    pub stand : StandAll answer answers server.clients (λ c. slate answers settings c q)
+    pub clients : (c : ℕ) → Holds answer answers (get nat_cmp server.clients c) (list_any (nat_eq c) (members answers settings q)) (slate answers settings c q)
     pub used : (c : ℕ) → contains nat_cmp server.used c ≡ not (is_unused (slate answers settings c q).phase)
     pub slots : server.taken ≡ taken answers settings q (members answers settings q)
     pub dgram : server.dgram ≡ settings.dgram

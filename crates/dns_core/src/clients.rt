@@ -1,46 +1,83 @@
 //! The cores by client number.
 
-ghost use Rattle.std.specs.Prelude.{◌≡◌, ◌≢◌, ℕ, ◌++◌, IfOk, OnOk};
+ghost use Rattle.std.specs.Prelude.{◌≡◌, ◌≢◌, ℕ, ◌++◌, IfOk, OnOk, None, Some, if◌then◌else◌};
 ghost use Rattle.std.specs.Ordering.{nat_cmp};
-ghost use Rattle.std.specs.BTreeMap.{get, keys, IsOrdered};
+ghost use Rattle.std.specs.BTreeMap.{get};
+ghost use Rattle.dns_service.specs.Answer.{Answer};
+ghost use Rattle.dns_service.specs.Req.{Req};
 ghost use Rattle.dns_client.specs.PolledAt.{request_answer};
-ghost use Rattle.dns_core.specs.Serves.{StepsKey, freed_at};
+ghost use Rattle.dns_client.specs.Slate.{Slate};
+ghost use Rattle.dns_client.specs.Spent.{is_spent};
+ghost use Rattle.dns_client.specs.Stands.{Stands, state_is_spent};
+ghost use Rattle.dns_core.specs.Serves.{Steps, StepsKey};
 
 use dns_client::ClientCore;
 use dns_service::{Event, OutOfMemory, Output, Served};
 use std::alloc::Global;
 use std::collections::BTreeMap;
 
-/// One client's event.
+/// One client's event, and whether the client is finished after it.
+fn step_there<W: Served>(
+    alloc: Global,
+    service: &W,
+    clients: &mut BTreeMap<u64, ClientCore<W>>,
+    event: &Event,
+) -> Result<(Vec<Output>, bool), OutOfMemory>
+    requires { W.can_call service.now }
+    ensures here { IfOk result (λ p. Steps (request_answer W.Future.answer W.Stream.answer) (W.answer service.now) (get nat_cmp clients.old event.now.client) event.now p.0.items p.1 (get nat_cmp clients.new event.now.client)) }
+    ensures others { OnOk result ((c : ℕ) → c ≢ event.now.client → get nat_cmp clients.new c ≡ get nat_cmp clients.old c) }
+{
+    match clients.get_mut(&event.client) {
+        None => Ok((Vec::new(alloc), false)),
+        Some(core) => {
+            let outs = core.step(alloc, service, event)?;
+            Ok((outs, core.is_spent()))
+        }
+    }
+}
+
+/// A client that is finished leaves.
+fn leave<W: Served>(clients: &mut BTreeMap<u64, ClientCore<W>>, client: u64, finished: bool)
+    ensures here { get nat_cmp clients.new client ≡ (if finished then None else get nat_cmp clients.old client) }
+    ensures others { (c : ℕ) → c ≢ client → get nat_cmp clients.new c ≡ get nat_cmp clients.old c }
+{
+    if finished {
+        let _finished = clients.remove(&client);
+    }
+}
+
+/// One client's event, by which it leaves if it is finished after it. Then `true` is answered.
 pub fn step_at<W: Served>(
     alloc: Global,
     service: &W,
     clients: &mut BTreeMap<u64, ClientCore<W>>,
     event: &Event,
-) -> Result<Vec<Output>, OutOfMemory>
+) -> Result<(Vec<Output>, bool), OutOfMemory>
     requires { W.can_call service.now }
-    ensures here { IfOk result (λ outs. StepsKey (request_answer W.Future.answer W.Stream.answer) (W.answer service.now) (get nat_cmp clients.old event.now.client) event.now outs.items (get nat_cmp clients.new event.now.client)) }
+    ensures here { IfOk result (λ p. StepsKey (request_answer W.Future.answer W.Stream.answer) (W.answer service.now) (get nat_cmp clients.old event.now.client) event.now p.0.items p.1 (get nat_cmp clients.new event.now.client)) }
     ensures others { OnOk result ((c : ℕ) → c ≢ event.now.client → get nat_cmp clients.new c ≡ get nat_cmp clients.old c) }
-    ensures keys { OnOk result (keys clients.new ≡ keys clients.old) }
-    ensures rising { OnOk result (IsOrdered nat_cmp clients.old) }
 {
-    match clients.get_mut(&event.client) {
-        None => Ok(Vec::new(alloc)),
-        Some(core) => {
-            let outs = core.step(alloc, service, event)?;
-            Ok(outs)
-        }
-    }
+    let (outs, finished) = step_there(alloc, service, clients, event)?;
+    leave(clients, event.client, finished);
+    Ok((outs, finished))
 }
 
-/// Whether the client is a connection that gave its slot back.
-pub fn is_freed_at<W: Served>(clients: &BTreeMap<u64, ClientCore<W>>, client: u64) -> bool
-    ensures { result ≡ freed_at (get nat_cmp clients.now client) }
+/// A client that begins enters, unless it is finished at once.
+pub fn enter<W: Served>(
+    clients: &mut BTreeMap<u64, ClientCore<W>>,
+    client: u64,
+    core: ClientCore<W>,
+) -> Result<(), OutOfMemory>
+    ensures here { OnOk result (get nat_cmp clients.new client ≡ (if state_is_spent core.state then get nat_cmp clients.old client else Some core)) }
+    ensures others { OnOk result ((c : ℕ) → c ≢ client → get nat_cmp clients.new c ≡ get nat_cmp clients.old c) }
+    ensures spent { OnOk result ((answers : Req (Unit {0}) → ℕ → Answer) (s : Slate)
+        → Stands (request_answer W.Future.answer W.Stream.answer) answers core s → state_is_spent core.state ≡ is_spent s) }
 {
-    match clients.get(&client) {
-        None => false,
-        Some(core) => core.is_freed(),
+    if core.is_spent() {
+        return Ok(());
     }
+    clients.insert(client, core)?;
+    Ok(())
 }
 
 pub fn append(outs: &mut Vec<Output>, more: Vec<Output>) -> Result<(), OutOfMemory>

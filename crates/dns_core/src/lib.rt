@@ -8,7 +8,7 @@ mod server;
 mod settings;
 mod stamped;
 
-pub use dns_client::{ClientCore, Framer, PolledRequest, Status};
+pub use dns_client::{ClientCore, Framer, PolledRequest};
 pub use dns_service::{Event, EventKind, Octets, Output, Why};
 pub use laws::{
     clients_are_sent_their_own, closed_connections_change_nothing, empty_pieces_change_nothing,

@@ -1,6 +1,6 @@
 //! The server over a list of events.
 
-ghost use Rattle.std.specs.Prelude.{◌≡◌, ◌-◌, ◌&&◌, not, if◌then◌else◌, ℕ, List, [], false, IfOk};
+ghost use Rattle.std.specs.Prelude.{◌≡◌, ◌-◌, if◌then◌else◌, ℕ, List, [], false, IfOk};
 ghost use Rattle.dns_service.specs.Answer.{Answer};
 ghost use Rattle.dns_service.specs.Req.{Req};
 ghost use Rattle.dns_service.specs.Config.{Dgram};
@@ -9,7 +9,7 @@ ghost use Rattle.dns_core.specs.Out.{begins, is_release, out};
 ghost use Rattle.dns_core.specs.Replies.{replies};
 ghost use Rattle.dns_core.specs.Early.{IsEarly};
 
-use crate::clients::{append, is_freed_at, step_at};
+use crate::clients::{append, enter, step_at};
 use crate::notify::Notifiable;
 use crate::settings::Settings;
 use crate::stamped::Stamped;
@@ -21,7 +21,7 @@ use dns_service::{
 use std::alloc::Global;
 use std::collections::{BTreeMap, BTreeSet};
 
-/// The cores of all clients, and the numbers that were used.
+/// The cores of the clients that aren't finished, and the numbers that were used.
 #[derive(Drop)]
 pub struct Server<W: Served> {
     clients: BTreeMap<u64, ClientCore<W>>,
@@ -53,7 +53,7 @@ impl<W: Served> Server<W> {
         requires release { is_release event.now.kind ≡ false }
         ensures { IfOk result (λ outs. Goes (request_answer W.Future.answer W.Stream.answer) (W.answer service.now) self.old self.new event.now outs.items) }
     {
-        let outs = step_at(alloc, service, &mut self.clients, event)?;
+        let (outs, _) = step_at(alloc, service, &mut self.clients, event)?;
         Ok(outs)
     }
 
@@ -83,7 +83,7 @@ impl<W: Served> Server<W> {
             octets,
             &self.dgram,
         )?;
-        self.clients.insert(event.client, core)?;
+        enter(&mut self.clients, event.client, core)?;
         self.used.insert(event.client)?;
         Ok(outs)
     }
@@ -111,7 +111,7 @@ impl<W: Served> Server<W> {
             return Ok(outs);
         }
         let core = ClientCore::admit(alloc, client, addr, &self.stream)?;
-        self.clients.insert(client, core)?;
+        enter(&mut self.clients, client, core)?;
         self.used.insert(client)?;
         self.taken += 1;
         Ok(Vec::new(alloc))
@@ -128,10 +128,8 @@ impl<W: Served> Server<W> {
         requires kind { event.now.kind ≡ EventKind.Release }
         ensures { IfOk result (λ outs. Goes (request_answer W.Future.answer W.Stream.answer) (W.answer service.now) self.old self.new event.now outs.items) }
     {
-        let before = is_freed_at(&self.clients, event.client);
-        let outs = step_at(alloc, service, &mut self.clients, event)?;
-        let after = is_freed_at(&self.clients, event.client);
-        self.taken = slots_left(self.taken, before, after);
+        let (outs, finished) = step_at(alloc, service, &mut self.clients, event)?;
+        self.taken = slots_left(self.taken, finished);
         Ok(outs)
     }
 
@@ -154,11 +152,11 @@ impl<W: Served> Server<W> {
     }
 }
 
-/// A slot is given back where the client is freed now and wasn't before.
-fn slots_left(taken: u64, before: bool, after: bool) -> u64
-    ensures { result ≡ (if after && not before then taken - 1 else taken) }
+/// A slot is given back where the release finishes its client.
+fn slots_left(taken: u64, finished: bool) -> u64
+    ensures { result ≡ (if finished then taken - 1 else taken) }
 {
-    if after && !before {
+    if finished {
         taken.saturating_sub(1)
     } else {
         taken

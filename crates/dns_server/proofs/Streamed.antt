@@ -1,5 +1,5 @@
 -- The streams of clients by client, and which of them are plain.
-use Rattle.std.proofs.Common.{◌≡◌, ◌≢◌, ℕ, ◌+◌, ◌<◌, List, [], ◌∷◌, ◌++◌, length, take, drop, get_or, Bool, true, false, cond, inl, inr, refl, ap, sym, ◌∙◌, arith, append-nil, drop-cons, add-one}
+use Rattle.std.proofs.Common.{◌≡◌, ◌≢◌, ℕ, ◌+◌, ◌<◌, List, [], ◌∷◌, ◌++◌, length, take, drop, get_or, Bool, true, false, cond, inl, inr, refl, ap, sym, ◌∙◌, arith, append-nil, length-append, drop-cons, add-one}
 use Rattle.std.specs.Prelude.{Option, Some, None, ◌&&◌, ◌⊎◌, not, nat_eq, if◌then◌else◌}
 use Rattle.std.specs.List.{flat_map}
 use Rattle.std.specs.Ordering.{nat_cmp}
@@ -12,31 +12,30 @@ use Rattle.std.proofs.lemmas.List.Elements.{filter-append}
 use Rattle.dns_service.specs.declared.event.Event.{Event}
 use Rattle.dns_service.specs.declared.event.EventKind.{EventKind}
 use Rattle.dns_service.specs.declared.event.EventKind.TheVariants.{Datagram, Turn, Offer, Piece, End, Write, Release}
-use Rattle.dns_client.specs.Frames.{first, frames}
-use Rattle.dns_client.proofs.FramesLemmas.{frames_none, frames_some, first_shorter}
+use Rattle.dns_client.specs.Frames.{frames, framed}
 use Rattle.dns_core.specs.Early.{piece_in, stream_of}
 use Rattle.dns_core.specs.Own.{own, concerns}
 use Rattle.dns_server.specs.PlainStreams.{is_plain_frame, is_plain_stream, is_piece, is_spoilt, spoilt_from, octets_in, StaysOrPlain}
 
-pub plain_none : (o : List ℕ) → first o ≡ None → is_plain_stream o ≡ true
-plain_none o e = rw (frames_none o e) refl
+pub plain_none : (o : List ℕ) → frames o ≡ [] → is_plain_stream o ≡ true
+plain_none o e = rw e refl
 
 pub plain_nothing : is_plain_stream [] ≡ true
 unfolding frames
 plain_nothing = refl
 
-plain_some : (o f r : List ℕ) → first o ≡ Some (f, r) → is_plain_stream o ≡ (is_plain_frame f && is_plain_stream r)
-plain_some o f r e = rw (frames_some o f r e) refl
+plain_some : (o f r : List ℕ) → frames o ≡ f ∷ frames r → is_plain_stream o ≡ (is_plain_frame f && is_plain_stream r)
+plain_some o f r e = rw e refl
 
 -- the first frame isn't plain, or is and leaves it to the others
-pub spoilt_first : (o f r : List ℕ) → first o ≡ Some (f, r) → is_plain_frame f ≡ false → is_plain_stream o ≡ false
+pub spoilt_first : (o f r : List ℕ) → frames o ≡ f ∷ frames r → is_plain_frame f ≡ false → is_plain_stream o ≡ false
 spoilt_first o f r e h = plain_some o f r e ∙ rw h refl
 
-pub plain_first : (o f r : List ℕ) → first o ≡ Some (f, r) → is_plain_frame f ≡ true → is_plain_stream r ≡ is_plain_stream o
+pub plain_first : (o f r : List ℕ) → frames o ≡ f ∷ frames r → is_plain_frame f ≡ true → is_plain_stream r ≡ is_plain_stream o
 plain_first o f r e h = sym (plain_some o f r e ∙ rw h refl)
 
-pub next_shorter : (o f r : List ℕ) → first o ≡ Some (f, r) → length r < length o
-next_shorter o f r e = first_shorter o f r e
+pub next_shorter : (o f r : List ℕ) → o ≡ framed f ++ r → length r < length o
+next_shorter o f r e = omega (arith, ap length e, length-append f r)
 
 at_is_eq : (c x : ℕ) → is_at (nat_cmp c) x ≡ nat_eq x c
 at_is_eq c x = grind (arith, nat_tests)

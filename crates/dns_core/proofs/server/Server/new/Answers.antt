@@ -1,5 +1,5 @@
 use Rattle.std.proofs.Common.{◌≡◌, refl, ap, None}
-use Rattle.std.specs.Map.{keys_of, lookup}
+use Rattle.std.specs.Map.{lookup}
 use Rattle.std.specs.Ordering.{nat_cmp}
 use Rattle.std.specs.BTreeMap.{get, is_at}
 use Rattle.std.specs.List.{list_any}
@@ -10,8 +10,7 @@ use Rattle.dns_core.proofs.server.Server.new.Goals as goal
 pub returns : goal.returns
 unfolding members slate taken
 returns g c = λ answers. record {
-  same_keys = ap keys_of c.new.ensures.empty;
-  stand = λ n core is. let e : get nat_cmp c.new.result n ≡ None = ap (lookup (is_at (nat_cmp n))) c.new.ensures.empty in cc;
+  clients = λ n. let e : get nat_cmp c.new.result n ≡ None = ap (lookup (is_at (nat_cmp n))) c.new.ensures.empty in rw e tt;
   used = λ n. ap (list_any (is_at (nat_cmp n))) c.new-2.ensures.empty;
   slots = refl;
   dgram = refl;

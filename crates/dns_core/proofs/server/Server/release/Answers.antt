@@ -3,4 +3,4 @@ use Rattle.dns_core.proofs.Released.{release_goes}
 use Rattle.dns_core.proofs.server.Server.release.Goals as goal
 
 pub returns : goal.returns
-returns g c = λ settings q h. release_goes (request_answer g.W.Future.ReplyFuture.answer g.W.Stream.ReplyStream.answer) (g.W.Served.answer c.args.service.now) settings c.args.self.now c.step_at.new.clients c.slots_left-self.result q c.args.event.now c.in_ok-outs.outs.items c.requires.kind c.in_ok-outs.ensures.here c.in_ok-outs.ensures.others c.in_ok-outs.ensures.keys c.in_ok-outs.ensures.rising (rw (c.is_freed_at-after.ensures, c.is_freed_at-before.ensures) at c.slots_left-self.ensures) h
+returns g c = λ settings q h. release_goes (request_answer g.W.Future.ReplyFuture.answer g.W.Stream.ReplyStream.answer) (g.W.Served.answer c.args.service.now) settings c.args.self.now c.step_at.new.clients c.slots_left-self.result q c.args.event.now c.in_ok-outs.outs.items c.in_ok-outs.finished c.requires.kind c.in_ok-outs.ensures.here c.in_ok-outs.ensures.others c.slots_left-self.ensures h

@@ -8,15 +8,12 @@ use Rattle.dns_client.specs.Requests.{asked, most_requests}
 use Rattle.dns_client.specs.PolledAt.{request_answer}
 use Rattle.dns_client.specs.declared.polling.PolledRequest.TheVariants.{Called}
 use Rattle.dns_client.proofs.Kept.{keeps_push}
-use Rattle.dns_client.proofs.client.ClientCore.ask.Goals as goal
+use Rattle.dns_client.proofs.connection.OpenConnection.ask.Goals as goal
 
 pub returns : goal.returns
 returns g c = record {
-  client = refl;
   addr = refl;
-  freed = refl;
-  status = refl;
-  connection = refl;
+  config = refl;
   framer = refl;
   queue = refl;
   made = λ rs h.

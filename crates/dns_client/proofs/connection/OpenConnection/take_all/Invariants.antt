@@ -1,0 +1,10 @@
+use Rattle.std.proofs.Common.{length}
+use Rattle.dns_client.specs.PolledAt.{request_answer}
+use Rattle.dns_client.proofs.Taking.{TakesOn}
+use Rattle.dns_client.proofs.connection.OpenConnection.take_all.Given as goal
+
+abbrev pub invariant-loop-outcome : goal.invariant-loop-outcome
+invariant-loop-outcome g l = TakesOn (request_answer g.W.Future.ReplyFuture.answer g.W.Stream.ReplyStream.answer) (g.W.Served.answer l.service) l.at l.secs l.fn.self l.self
+
+abbrev pub decreases-loop-outcome : goal.decreases-loop-outcome
+decreases-loop-outcome g l = length l.self.framer

@@ -1,0 +1,92 @@
+-- The members stand by rising number.
+use Rattle.std.proofs.Common.{◌≡◌, ℕ, List, [], ◌∷◌, ◌++◌, Bool, true, false, refl, sym, subst, append_assoc, arith, Less}
+use Rattle.std.proofs.lemmas.List.{append-nil}
+use Rattle.std.proofs.lemmas.Bool.Decides.{nat_tests}
+use Rattle.std.proofs.lemmas.Map.Keys.{sorted_head, sorted_tail}
+use Rattle.std.specs.Prelude.{nat_eq, nat_lt, if◌then◌else◌, ◌&&◌, ◌||◌}
+use Rattle.std.specs.List.{list_any, AllByRecursion}
+use Rattle.std.specs.List.Sorted.{IsStrictlySortedBy}
+use Rattle.std.specs.Ordering.{nat_cmp}
+use Rattle.dns_service.specs.Answer.{Answer}
+use Rattle.dns_service.specs.Req.{Req}
+use Rattle.dns_service.specs.declared.event.Event.{Event}
+use Rattle.dns_core.specs.Out.{put, is_datagram, is_new, has_room, members}
+use Rattle.dns_core.specs.declared.settings.Settings.{Settings}
+use Rattle.dns_core.proofs.OutLemmas.{members_more}
+use Rattle.dns_core.proofs.ByClient.{new_unused, members_used}
+
+abbrev AllAbove : ℕ → List ℕ → Type 0
+AllAbove c ns = AllByRecursion (λ y. nat_cmp c y ≡ Less) ns
+
+sorted_cons : (n : ℕ) (ns : List ℕ) → AllAbove n ns → IsStrictlySortedBy nat_cmp ns → IsStrictlySortedBy nat_cmp (n ∷ ns)
+unfolding IsStrictlySortedBy
+sorted_cons n ns a so = (a, so)
+
+sorted_none : IsStrictlySortedBy nat_cmp []
+unfolding IsStrictlySortedBy
+sorted_none = tt
+
+above_more : (c n : ℕ) (ns : List ℕ) → nat_cmp c n ≡ Less → AllAbove n ns → AllAbove c ns
+above_more c n [] h a = tt
+above_more c n (m ∷ ns) h a = let l : nat_cmp c m ≡ Less = grind (arith, nat_tests, h, a.0) in (l, above_more c n ns h a.1)
+
+above_put_case : (n c m : ℕ) (ns : List ℕ) → nat_cmp n c ≡ Less → AllAbove n (m ∷ ns) → AllAbove n (put c ns) → (b : Bool) → AllAbove n (if b then c ∷ m ∷ ns else m ∷ put c ns)
+above_put_case n c m ns h a more true = (h, a)
+above_put_case n c m ns h a more false = (a.0, more)
+
+above_put : (n c : ℕ) (ns : List ℕ) → nat_cmp n c ≡ Less → AllAbove n ns → AllAbove n (put c ns)
+above_put n c [] h a = (h, tt)
+above_put n c (m ∷ ns) h a = above_put_case n c m ns h a (above_put n c ns h a.1) (nat_lt c m)
+
+or_false : (a b : Bool) → (a || b) ≡ false → (a ≡ false) × (b ≡ false)
+or_false true b h = cc
+or_false false b h = (refl, h)
+
+sorted_put_case : (c m : ℕ) (ns : List ℕ) → IsStrictlySortedBy nat_cmp (m ∷ ns) → nat_eq c m ≡ false → IsStrictlySortedBy nat_cmp (put c ns) → (b : Bool) → nat_lt c m ≡ b → IsStrictlySortedBy nat_cmp (if b then c ∷ m ∷ ns else m ∷ put c ns)
+sorted_put_case c m ns so ne more true e =
+    let l : nat_cmp c m ≡ Less = grind (arith, nat_tests, e) in
+    sorted_cons c (m ∷ ns) (l, above_more c m ns l (sorted_head nat_cmp m ns so)) so
+sorted_put_case c m ns so ne more false e =
+    let l : nat_cmp m c ≡ Less = grind (arith, nat_tests, e, ne) in
+    sorted_cons m (put c ns) (above_put m c ns l (sorted_head nat_cmp m ns so)) more
+
+-- a new number goes to its place
+pub sorted_put : (c : ℕ) (ms : List ℕ) → IsStrictlySortedBy nat_cmp ms → list_any (nat_eq c) ms ≡ false → IsStrictlySortedBy nat_cmp (put c ms)
+sorted_put c [] so absent = sorted_cons c [] tt sorted_none
+sorted_put c (m ∷ ms) so absent =
+    let both = or_false (nat_eq c m) (list_any (nat_eq c) ms) absent in
+    sorted_put_case c m ms so both.0 (sorted_put c ms (sorted_tail nat_cmp m ms so) both.1) (nat_lt c m) refl
+
+module _ (answers : Req (Unit {0}) → ℕ → Answer) (settings : Settings) where
+  abbrev Rises : List Event → Type 0
+  Rises q = IsStrictlySortedBy nat_cmp (members answers settings q)
+
+  absent_case : (b : Bool) → (b ≡ true → ⊥) → b ≡ false
+  absent_case true h = absurd (h refl)
+  absent_case false h = refl
+
+  -- a client that begins is no member yet
+  new_absent : (q : List Event) (e : Event) → is_new answers settings q e ≡ true → list_any (nat_eq e.client) (members answers settings q) ≡ false
+  new_absent q e n = absent_case (list_any (nat_eq e.client) (members answers settings q)) (λ there. let used = members_used answers settings q e.client there in let fresh = (new_unused answers settings q e n).1 in let no : ⊥ = cc in no)
+
+  joins : (a b : Bool) → (a && b) ≡ true → a ≡ true
+  joins true b h = refl
+  joins false b h = cc
+
+  rises_case : (q : List Event) (e : Event) → Rises q → (b : Bool) → (is_new answers settings q e && (is_datagram e.kind || has_room answers settings q (members answers settings q))) ≡ b → IsStrictlySortedBy nat_cmp (if b then put e.client (members answers settings q) else members answers settings q)
+  rises_case q e h true n = sorted_put e.client (members answers settings q) h (new_absent q e (joins (is_new answers settings q e) (is_datagram e.kind || has_room answers settings q (members answers settings q)) n))
+  rises_case q e h false n = h
+
+  rises_more : (q : List Event) (e : Event) → Rises q → Rises (q ++ e ∷ [])
+  rises_more q e h = subst (IsStrictlySortedBy nat_cmp) (sym (members_more answers settings q e)) (rises_case q e h (is_new answers settings q e && (is_datagram e.kind || has_room answers settings q (members answers settings q))) refl)
+
+  rises_on : (r q : List Event) → Rises q → Rises (q ++ r)
+  rises_on [] q h = subst Rises (sym (append-nil q)) h
+  rises_on (x ∷ r) q h = subst Rises (append_assoc q (x ∷ []) r) (rises_on r (q ++ x ∷ []) (rises_more q x h))
+
+  rises_none : Rises []
+  unfolding members
+  rises_none = sorted_none
+
+  pub rises : (q : List Event) → Rises q
+  rises q = rises_on q [] rises_none
