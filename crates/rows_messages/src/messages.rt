@@ -96,23 +96,41 @@ fn answer_in(alloc: Global, octets: &[u8]) -> Result<Record, ParseError>
     }
 }
 
+/// The first answer record of the next word's message.
+fn next_answer(row: &mut Row<'_>) -> Result<Record, RowError>
+    ensures { IfOk result (λ r. IsLawful r.rdata) }
+{
+    let octets = row.octets();
+    Ok(answer_in(row.alloc(), &octets)?)
+}
+
+/// What a record appends to none.
+fn record_octets(row: &mut Row<'_>, item: &Record)
+    requires { IsLawful item.now.rdata }
+{
+    let mut target = Vec::new(row.alloc());
+    row.keep(item.compose(row.alloc(), &mut target));
+    row.hexadecimal(&target);
+}
+
+/// What a record's data appends to none.
+fn data_octets(row: &mut Row<'_>, item: &Record) {
+    let mut target = Vec::new(row.alloc());
+    row.keep(item.rdata.compose(row.alloc(), &mut target));
+    row.hexadecimal(&target);
+}
+
 /// The octets of the first answer record, names uncompressed.
 fn first_answer(row: &mut Row<'_>) -> Result<(), RowError> {
-    let octets = row.octets();
-    let item = answer_in(row.alloc(), &octets)?;
-    let mut target = Vec::new(row.alloc());
-    item.compose(row.alloc(), &mut target)?;
-    row.hexadecimal(&target);
+    let item = next_answer(row)?;
+    record_octets(row, &item);
     Ok(())
 }
 
 /// The octets of the first answer record's data, names uncompressed.
 fn answer_data(row: &mut Row<'_>) -> Result<(), RowError> {
-    let octets = row.octets();
-    let item = answer_in(row.alloc(), &octets)?;
-    let mut target = Vec::new(row.alloc());
-    item.rdata.compose(row.alloc(), &mut target)?;
-    row.hexadecimal(&target);
+    let item = next_answer(row)?;
+    data_octets(row, &item);
     Ok(())
 }
 

@@ -2,29 +2,41 @@
 
 use dns_name::{OutOfMemory, ParseError};
 use std::alloc::{AllocError, AllocFailed};
-use thiserror::Error;
 
 /// Why a row can't be judged; or that its octets are refused, which then is what the row says.
-#[derive(Clone, Copy, Debug, PartialEq, Eq, Error)]
+#[derive(Clone, Copy)]
 pub enum RowError {
-    #[error("no ` = ` parts the call from what is wanted")]
+    /// No ` = ` parts the call from what is wanted.
     NothingWanted,
-    #[error("no such call")]
     NoSuchCall,
-    #[error("no such step")]
     NoSuchStep,
-    #[error("an argument is missing")]
+    /// An argument is missing.
     Missing,
-    #[error("an argument too many")]
+    /// An argument is too many.
     TooMany,
-    #[error("an argument is out of form")]
+    /// An argument is out of form.
     OutOfForm,
-    #[error("a repetition is out of form")]
+    /// A repetition is out of form.
     Repetition,
-    #[error("out of memory")]
     OutOfMemory,
-    #[error("{0}")]
     Refused(ParseError),
+}
+
+impl RowError {
+    /// What the line of a row with this fault says.
+    pub(crate) fn as_str(self) -> &'static str {
+        match self {
+            RowError::NothingWanted => "no ` = ` parts the call from what is wanted",
+            RowError::NoSuchCall => "no such call",
+            RowError::NoSuchStep => "no such step",
+            RowError::Missing => "an argument is missing",
+            RowError::TooMany => "an argument too many",
+            RowError::OutOfForm => "an argument is out of form",
+            RowError::Repetition => "a repetition is out of form",
+            RowError::OutOfMemory => "out of memory",
+            RowError::Refused(_) => "octets are refused within a step",
+        }
+    }
 }
 
 impl From<ParseError> for RowError {
