@@ -63,6 +63,23 @@ fn item(row: &mut Row<'_>, request: &Request<()>) -> Result<ServiceResult, RowEr
     Ok(Ok(CallResult::new(reply)))
 }
 
+/// Through the EDNS layer alone, as the call names it.
+fn in_edns<S: Service<()>>(
+    call: &str,
+    row: &mut Row<'_>,
+    service: S,
+    request: &mut Request<()>,
+) -> Result<(), RowError>
+    requires { S.can_call service }
+{
+    let service = EdnsMiddlewareSvc::new(service);
+    match call {
+        "edns" | "edns_disabled" => only_item(row, &service.enable(call == "edns"), request),
+        "edns_hint" => hint_after(row, &service, request),
+        _ => Err(RowError::NoSuchCall),
+    }
+}
+
 /// Through the layers that the call names.
 fn through<S: Service<()>>(
     call: &str,
@@ -73,14 +90,14 @@ fn through<S: Service<()>>(
     requires { S.can_call service }
 {
     match call {
-        "mandatory" => in_mandatory(row, true, service, request),
-        "mandatory_relaxed" => in_mandatory(row, false, service, request),
-        "edns" => only_item(row, &EdnsMiddlewareSvc::new(service).enable(true), request),
-        "edns_disabled" => only_item(row, &EdnsMiddlewareSvc::new(service).enable(false), request),
-        "edns_hint" => hint_after(row, &EdnsMiddlewareSvc::new(service), request),
-        "both" => in_mandatory(row, true, EdnsMiddlewareSvc::new(service), request),
-        "both_relaxed" => in_mandatory(row, false, EdnsMiddlewareSvc::new(service), request),
-        _ => Err(RowError::NoSuchCall),
+        "mandatory" | "mandatory_relaxed" => {
+            in_mandatory(row, call == "mandatory", service, request)
+        }
+        "both" | "both_relaxed" => {
+            let service = EdnsMiddlewareSvc::new(service);
+            in_mandatory(row, call == "both", service, request)
+        }
+        _ => in_edns(call, row, service, request),
     }
 }
 

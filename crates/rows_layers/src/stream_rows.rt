@@ -23,18 +23,24 @@ pub(crate) struct StreamRows;
 impl Calls for StreamRows {
     fn answer(&self, call: &str, row: &mut Row<'_>) -> Result<(), RowError> {
         match call {
-            "polls" => {
-                let (mut stream, polls) = stream_and_polls(row)?;
-                polled(row, &mut stream, polls);
-            }
-            "sizes" => {
-                let (mut stream, polls) = stream_and_polls(row)?;
-                sizes(row, &mut stream, polls)?;
-            }
-            _ => return Err(RowError::NoSuchCall),
+            "polls" => polls(row),
+            "sizes" => sizes(row),
+            _ => Err(RowError::NoSuchCall),
         }
-        Ok(())
     }
+}
+
+/// What the polls of a stream answer.
+fn polls(row: &mut Row<'_>) -> Result<(), RowError> {
+    let (mut stream, polls) = stream_and_polls(row)?;
+    polled(row, &mut stream, polls);
+    Ok(())
+}
+
+/// The sizes that a stream tells, as it is polled.
+fn sizes(row: &mut Row<'_>) -> Result<(), RowError> {
+    let (mut stream, polls) = stream_and_polls(row)?;
+    sized(row, &mut stream, polls)
 }
 
 fn stream_and_polls(row: &mut Row<'_>) -> Result<(Layered, u8), RowError> {
@@ -89,7 +95,7 @@ fn polled<S: ReplyStream>(row: &mut Row<'_>, stream: &mut S, polls: u8) {
 }
 
 /// The size at first, and after each of so many polls.
-fn sizes<S: ReplyStream>(row: &mut Row<'_>, stream: &mut S, polls: u8) -> Result<(), RowError> {
+fn sized<S: ReplyStream>(row: &mut Row<'_>, stream: &mut S, polls: u8) -> Result<(), RowError> {
     size_said(row, stream.size_hint());
     for _ in 0..polls {
         stream.poll_next(row.alloc())?;

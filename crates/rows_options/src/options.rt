@@ -56,9 +56,13 @@ fn from_octets(row: &mut Row<'_>) -> Result<(), RowError> {
 
 /// How many options of any kind a list has that are read.
 fn readable(list: &OptRef<'_>) -> usize {
-    list.iter::<AllOptData>()
-        .filter(|item| item.is_ok())
-        .count()
+    let mut count = 0usize;
+    for item in list.iter::<AllOptData>() {
+        if item.is_ok() {
+            count = count.saturating_add(1);
+        }
+    }
+    count
 }
 
 /// The octets of an owned copy of a list.

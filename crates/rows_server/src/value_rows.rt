@@ -15,20 +15,35 @@ impl Calls for ValueRows {
     fn answer(&self, call: &str, row: &mut Row<'_>) -> Result<(), RowError> {
         let text = next_text(row);
         match call {
-            "split_line" => line_and_rest(row, &text),
-            "says_nothing" => skipped(row, &text)?,
-            "words" => words_said(row, &Words::of(row.alloc(), &text)?),
-            "parts" => words_said(row, &Words::parts(row.alloc(), &text, b'.')?),
-            "octets" => octets_said(row, &text),
-            "quad" => line_value(row, quad(row.alloc(), &text)),
-            "addr" => line_value(row, addr(row.alloc(), &text)),
-            "num" => value(row, num(&text)),
-            "port" => value(row, port(&text)),
-            "yes_no" => value(row, yes_no(&text)),
-            _ => return Err(RowError::NoSuchCall),
+            "split_line" | "says_nothing" | "words" | "parts" => of_line(row, call, &text),
+            _ => of_word(row, call, &text),
         }
-        Ok(())
     }
+}
+
+/// What a line, or what is parted by dots, is taken apart into.
+fn of_line(row: &mut Row<'_>, call: &str, text: &[u8]) -> Result<(), RowError> {
+    match call {
+        "split_line" => line_and_rest(row, text),
+        "says_nothing" => skipped(row, text)?,
+        "words" => words_said(row, &Words::of(row.alloc(), text)?),
+        _ => words_said(row, &Words::parts(row.alloc(), text, b'.')?),
+    }
+    Ok(())
+}
+
+/// What a word spells.
+fn of_word(row: &mut Row<'_>, call: &str, text: &[u8]) -> Result<(), RowError> {
+    match call {
+        "octets" => octets_said(row, text),
+        "quad" => line_value(row, quad(row.alloc(), text)),
+        "addr" => line_value(row, addr(row.alloc(), text)),
+        "num" => value(row, num(text)),
+        "port" => value(row, port(text)),
+        "yes_no" => value(row, yes_no(text)),
+        _ => return Err(RowError::NoSuchCall),
+    }
+    Ok(())
 }
 
 /// The first line and the rest, each in brackets.
