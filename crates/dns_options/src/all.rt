@@ -67,22 +67,21 @@ impl<'a> ParseOptData<'a> for AllOptData<'a> {
         code: OptionCode,
         parser: &mut Parser<'a>,
     ) -> Result<Option<AllOptData<'a>>, ParseError> {
-        let value = match code.to_int() {
-            5 => AllOptData::Dau(DauRef::parse(parser)?),
-            6 => AllOptData::Dhu(DhuRef::parse(parser)?),
-            7 => AllOptData::N3u(N3uRef::parse(parser)?),
-            13 => AllOptData::Chain(ChainRef::parse(parser)?),
-            10 => AllOptData::Cookie(Cookie::parse(parser)?),
-            9 => AllOptData::Expire(Expire::parse(parser)?),
-            15 => AllOptData::ExtendedError(ExtendedErrorRef::parse(parser)?),
-            11 => AllOptData::TcpKeepalive(TcpKeepalive::parse(parser)?),
-            14 => AllOptData::KeyTag(KeyTagRef::parse(parser)?),
-            3 => AllOptData::Nsid(NsidRef::parse(parser)?),
-            12 => AllOptData::Padding(PaddingRef::parse(parser)?),
-            8 => AllOptData::ClientSubnet(ClientSubnet::parse(parser)?),
-            _ => AllOptData::Other(other(code, parser)?),
-        };
-        Ok(Some(value))
+        match code.to_int() {
+            5 => Ok(Some(AllOptData::Dau(DauRef::parse(parser)?))),
+            6 => Ok(Some(AllOptData::Dhu(DhuRef::parse(parser)?))),
+            7 => Ok(Some(AllOptData::N3u(N3uRef::parse(parser)?))),
+            13 => Ok(Some(AllOptData::Chain(ChainRef::parse(parser)?))),
+            10 => Ok(Some(AllOptData::Cookie(Cookie::parse(parser)?))),
+            9 => Ok(Some(AllOptData::Expire(Expire::parse(parser)?))),
+            15 => Ok(Some(AllOptData::ExtendedError(ExtendedErrorRef::parse(parser)?))),
+            11 => Ok(Some(AllOptData::TcpKeepalive(TcpKeepalive::parse(parser)?))),
+            14 => Ok(Some(AllOptData::KeyTag(KeyTagRef::parse(parser)?))),
+            3 => Ok(Some(AllOptData::Nsid(NsidRef::parse(parser)?))),
+            12 => Ok(Some(AllOptData::Padding(PaddingRef::parse(parser)?))),
+            8 => Ok(Some(AllOptData::ClientSubnet(ClientSubnet::parse(parser)?))),
+            _ => Ok(Some(AllOptData::Other(other(code, parser)?))),
+        }
     }
 }
 
