@@ -8,14 +8,14 @@ use Rattle.dns_name.specs.declared.opt_error.BuildDataError.{BuildDataError}
 use Rattle.dns_name.specs.declared.opt_error.BuildDataError.TheVariants.{LongOptData, WrongLength, ShortBuf, OutOfMemory as NoMemory}
 
 -- numbers in decimal, each behind a comma and a space
-abbrev pub more_text : List ℕ → List ℕ
-more_text [] = []
-more_text (a ∷ more) = 44 ∷ 32 ∷ (decimal a ++ more_text more)
+abbrev pub more_algorithms_text : List ℕ → List ℕ
+more_algorithms_text [] = []
+more_algorithms_text (a ∷ more) = 44 ∷ 32 ∷ (decimal a ++ more_algorithms_text more)
 
 -- numbers in decimal, joined by a comma and a space
-abbrev pub numbers_text : List ℕ → List ℕ
-numbers_text [] = []
-numbers_text (a ∷ more) = decimal a ++ more_text more
+abbrev pub algorithms_text : List ℕ → List ℕ
+algorithms_text [] = []
+algorithms_text (a ∷ more) = decimal a ++ more_algorithms_text more
 
 -- what comes of the algorithms that an iterator gives: all of them, or a refusal exactly where they are more than 65,535, or want of memory
 abbrev pub Collected : {S : Type 0} → (S → Option ℕ → S → Type 0) → S → Result (List ℕ) BuildDataError → Type 0

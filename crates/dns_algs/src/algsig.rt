@@ -6,7 +6,7 @@ ghost use Rattle.std.specs.Iterator.{IsFinite};
 ghost use Rattle.dns_name.specs.OptData.{ParsesData, for_code, list_data};
 ghost use Rattle.dns_name.specs.Place.{rest};
 ghost use Rattle.dns_name.proofs.Readings.{list_again};
-ghost use Rattle.dns_algs.specs.Algorithms.{CollectedFrom, more_text, numbers_text};
+ghost use Rattle.dns_algs.specs.Algorithms.{CollectedFrom, more_algorithms_text, algorithms_text};
 
 use crate::collect::collected;
 use crate::iter::SecurityAlgorithmIter;
@@ -303,7 +303,7 @@ impl<'a, K: Variant> ReadBack<'a> for HeldUnderstood<&'a [u8], K> {
 
 /// Writes numbers in decimal, each behind a comma and a space.
 fn write_more<W: fmt::Write>(octets: &[u8], f: &mut fmt::Formatter<W>) -> fmt::Result
-    ensures { WritesOnOk W.write_str_gives f.old result (more_text octets.now) f.new }
+    ensures { WritesOnOk W.write_str_gives f.old result (more_algorithms_text octets.now) f.new }
 {
     let mut left = octets;
     'each: while let Some((number, more)) = left.split_first() {
@@ -314,7 +314,7 @@ fn write_more<W: fmt::Write>(octets: &[u8], f: &mut fmt::Formatter<W>) -> fmt::R
 }
 
 impl<S: HoldsOctets, K: Variant> fmt::Display for HeldUnderstood<S, K> {
-    ghost output = { λ k. Some (numbers_text k) };
+    ghost output = { λ k. Some (algorithms_text k) };
 
     fn fmt<W: fmt::Write>(&self, f: &mut fmt::Formatter<W>) -> fmt::Result {
         let Some((number, more)) = self.octets.as_slice().split_first() else {

@@ -26,9 +26,9 @@ abbrev pub within_limit : Built → Bool
 within_limit b = nat_le (length (wire b.message)) b.limit
 
 -- questions added one by one up to the first that has no room, and whether all have room
-abbrev pub copied : Built → List Question → Built × Bool
-copied b [] = (b, true)
-copied b (q ∷ qs) = if within_limit (with_question b q) then copied (with_question b q) qs else (b, false)
+abbrev pub with_copied : Built → List Question → Built × Bool
+with_copied b [] = (b, true)
+with_copied b (q ∷ qs) = if within_limit (with_question b q) then with_copied (with_question b q) qs else (b, false)
 
 -- questions are copied, or the copy ends ShortBuf at the first that has no room
 abbrev pub Copies : Built × Bool → Built → Result ⊤ PushError → Type 0
@@ -38,7 +38,7 @@ Copies c new (Err NoMemory) = Unit {0}
 
 -- the questions of a query have room in the answer to it
 abbrev pub have_room : Built → List ℕ → ℕ → Bool
-have_room b o rcode = (copied (with_header b (answer_header b.message.header (header_of o) rcode)) (questions_of o).0).1
+have_room b o rcode = (with_copied (with_header b (answer_header b.message.header (header_of o) rcode)) (questions_of o).0).1
 
 -- an answer is begun, or refused ShortBuf exactly where a question has no room
 abbrev pub Answers : Built → List ℕ → ℕ → Result Built PushError → Type 0
@@ -55,4 +55,4 @@ error_by (b, false) = with_rcode b 2
 
 -- what is built, as the error answer to a query's octets: the questions up to the first that has no room, for which RCODE becomes SERVFAIL
 abbrev pub error_to : Built → List ℕ → ℕ → Built
-error_to b o rcode = error_by (copied (with_header b (answer_header b.message.header (header_of o) rcode)) (questions_of o).0)
+error_to b o rcode = error_by (with_copied (with_header b (answer_header b.message.header (header_of o) rcode)) (questions_of o).0)

@@ -8,7 +8,7 @@ ghost use Rattle.dns_base.specs.Sections.{field, questions_of};
 ghost use Rattle.dns_base.specs.Built.{Built, NoRecords, Pushes, empty, with_header, with_question, with_record, less_questions, less_section, IsLast};
 ghost use Rattle.dns_base.specs.Draft.{all_at, count_place, counted, moved_behind, start_in, start_of};
 ghost use Rattle.dns_base.specs.Records.{record_of, IsLawful};
-ghost use Rattle.dns_base.specs.Replies.{Copies, copied};
+ghost use Rattle.dns_base.specs.Replies.{Copies, with_copied};
 ghost use Rattle.dns_base.specs.Replaced.{AreSpelt, less_type, other_than, records_at, spelling};
 
 use crate::error::PushError;
@@ -235,7 +235,7 @@ impl Draft {
         message: &Message,
     ) -> Result<(), PushError>
         requires { NoRecords self.old.message }
-        ensures value { Copies (copied self.old (questions_of message.now).0) self.new result }
+        ensures value { Copies (with_copied self.old (questions_of message.now).0) self.new result }
         ensures records { NoRecords self.new.message }
     {
         let mut questions = message.question();

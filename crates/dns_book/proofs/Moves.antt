@@ -11,7 +11,7 @@ use Rattle.dns_book.specs.declared.history.Entry.{Entry}
 use Rattle.dns_book.specs.declared.rule.View.{View}
 use Rattle.dns_book.specs.Words.{state_of}
 use Rattle.dns_book.specs.History.{Name, Under, states_after, calls_by, entries_in, Has}
-use Rattle.dns_book.specs.Rule.{gone, Owns, Fits, Apart, OwnBelow, InOrder, Kept, first_view, second_view, both_of}
+use Rattle.dns_book.specs.Rule.{gone, Owns, FitsHistory, Apart, OwnBelow, InOrder, KeptInOrder, first_view, second_view, both_of}
 use Rattle.dns_book.proofs.Names.{has_cases, begins_none}
 use Rattle.dns_book.proofs.Maps.{has-append, has-left, has-right, map-append, entries_in-left, entries_in-right, tails, heads}
 use Rattle.dns_book.proofs.Halves.{below_longer, new_below}
@@ -73,7 +73,7 @@ gone_right u = record { names = λ n o p. gone_owns n p; below = λ n l o b. gon
 gone_below : OwnBelow gone
 gone_below n o b = gone_owns n o
 
-gone_fits : (opening : State) (log : List Entry) → Fits opening log gone
+gone_fits : (opening : State) (log : List Entry) → FitsHistory opening log gone
 gone_fits opening log = record {
   ready = refl;
   start = λ l. absurd (true≢false (sym l));
@@ -128,7 +128,7 @@ hand_order opening log views id v at o =
     let cases = fork_cases views id gone v in
     record {
       legal = o.legal;
-      fits = all_two (set views id gone ++ v ∷ []) id (length (set views id gone)) gone v (Elsewhere views id) (Fits opening log) cases (gone_fits opening log) (o.fits id v at) (λ j u e. o.fits j u e.1);
+      fits = all_two (set views id gone ++ v ∷ []) id (length (set views id gone)) gone v (Elsewhere views id) (FitsHistory opening log) cases (gone_fits opening log) (o.fits id v at) (λ j u e. o.fits j u e.1);
       own = all_two (set views id gone ++ v ∷ []) id (length (set views id gone)) gone v (Elsewhere views id) OwnBelow cases gone_below (o.own id v at) (λ j u e. o.own j u e.1);
       apart = apart_two (set views id gone ++ v ∷ []) id (length (set views id gone)) gone v (Elsewhere views id) cases (gone_left v) (gone_right v)
           (λ j u e. (gone_left u, gone_right u, o.apart id j v u (λ is. e.0 (sym is)) at e.1, o.apart j id u v e.0 e.1 at))
@@ -141,10 +141,10 @@ hand_order opening log views id v at o =
           (o.known n);
     }
 
-pub hand_forks : (id : ℕ) (v : View) → v.opened ≡ true → Forks Kept id v gone v
+pub hand_forks : (id : ℕ) (v : View) → v.opened ≡ true → Forks KeptInOrder id v gone v
 hand_forks id v ready x views h at = go (only_kept x views id v ready at h)
   where
-    go : (opening : State) × (log : List Entry) × (state_of x ≡ states_after opening log) × InOrder opening log views → Kept x (set views id gone ++ v ∷ [])
+    go : (opening : State) × (log : List Entry) × (state_of x ≡ states_after opening log) × InOrder opening log views → KeptInOrder x (set views id gone ++ v ∷ [])
     go (opening, log, st, o) = inr (opening, log, st, hand_order opening log views id v at o)
 
 -- names below a name
@@ -249,7 +249,7 @@ fork_order opening log views id v live at o =
     (λ (h : Has (v.known.name ++ false ∷ []) v.known.mine). absurd (own (v.known.name ++ false ∷ []) (live, inr h) (new_below v.known.name false)))
     (λ (h : (¬ Has (v.known.name ++ false ∷ []) v.known.mine) × (entries_in (v.known.name ++ false ∷ []) v.known.mine ≡ [])). h.1)
     (has_cases (v.known.name ++ false ∷ []) v.known.mine) in
-    let fits_l : Fits opening log l = record {
+    let fits_l : FitsHistory opening log l = record {
       ready = f.ready;
       start = f.start;
       seen = f.seen;
@@ -260,7 +260,7 @@ fork_order opening log views id v live at o =
           (first_owns v n live p);
       map = f.map;
     } in
-    let fits_r : Fits opening log r = record {
+    let fits_r : FitsHistory opening log r = record {
       ready = f.ready;
       start = f.start;
       seen = f.seen;
@@ -270,7 +270,7 @@ fork_order opening log views id v live at o =
     } in
     record {
       legal = o.legal;
-      fits = all_two ns id end l r (Elsewhere views id) (Fits opening log) cases fits_l fits_r (λ j u e. o.fits j u e.1);
+      fits = all_two ns id end l r (Elsewhere views id) (FitsHistory opening log) cases fits_l fits_r (λ j u e. o.fits j u e.1);
       own = all_two ns id end l r (Elsewhere views id) OwnBelow cases (first_below v live own) (second_below v) (λ j u e. o.own j u e.1);
       apart = apart_two ns id end l r (Elsewhere views id) cases (first_second v live own) (second_first v live own)
           (λ j u e.
@@ -293,10 +293,10 @@ fork_order opening log views id v live at o =
           (o.known n);
     }
 
-pub split_forks : (id : ℕ) (v : View) → v.opened ≡ true → v.live ≡ true → Forks Kept id v (first_view v) (second_view v)
+pub split_forks : (id : ℕ) (v : View) → v.opened ≡ true → v.live ≡ true → Forks KeptInOrder id v (first_view v) (second_view v)
 split_forks id v ready live x views h at = go (only_kept x views id v ready at h)
   where
-    go : (opening : State) × (log : List Entry) × (state_of x ≡ states_after opening log) × InOrder opening log views → Kept x (set views id (first_view v) ++ second_view v ∷ [])
+    go : (opening : State) × (log : List Entry) × (state_of x ≡ states_after opening log) × InOrder opening log views → KeptInOrder x (set views id (first_view v) ++ second_view v ∷ [])
     go (opening, log, st, o) = inr (opening, log, st, fork_order opening log views id v live at o)
 
 -- two seats in one
@@ -319,7 +319,7 @@ both_right v w u live live' a b = record {
 both_below : (v w : View) → v.live ≡ true → w.live ≡ true → OwnBelow v → Apart v w → OwnBelow (both_of v w)
 both_below v w live live' own a n o under = ⊎_elim (λ (q : Owns v n). own n q under) (λ (q : Has n w.known.mine). a.below n live (live', inr q) under) (both_owns v w n live live' o)
 
-both_fits : (opening : State) (log : List Entry) (v w : View) → v.live ≡ true → w.live ≡ true → Apart v w → Fits opening log v → Fits opening log w → Fits opening log (both_of v w)
+both_fits : (opening : State) (log : List Entry) (v w : View) → v.live ≡ true → w.live ≡ true → Apart v w → FitsHistory opening log v → FitsHistory opening log w → FitsHistory opening log (both_of v w)
 both_fits opening log v w live live' a f g = record {
   ready = f.ready;
   start = f.start;
@@ -359,7 +359,7 @@ merge_order opening log views p q v w live live' ne at at' o =
     let here : get_elem? ns p ≡ some b = set_else (set views p b) q p gone (λ is. ne (sym is)) ∙ set_at views p v b at in
     record {
       legal = o.legal;
-      fits = all_two ns q p gone b (Outside views p q) (Fits opening log) cases (gone_fits opening log) (both_fits opening log v w live live' vw (o.fits p v at) (o.fits q w at')) (λ j u e. o.fits j u e.2);
+      fits = all_two ns q p gone b (Outside views p q) (FitsHistory opening log) cases (gone_fits opening log) (both_fits opening log v w live live' vw (o.fits p v at) (o.fits q w at')) (λ j u e. o.fits j u e.2);
       own = all_two ns q p gone b (Outside views p q) OwnBelow cases gone_below (both_below v w live live' (o.own p v at) vw) (λ j u e. o.own j u e.2);
       apart = apart_two ns q p gone b (Outside views p q) cases (gone_left b) (gone_right b)
           (λ j u e. (
@@ -385,11 +385,11 @@ merge_order opening log views p q v w live live' ne at at' o =
           (o.known n);
     }
 
-pub join_merges : (p q : ℕ) (v w : View) → v.opened ≡ true → v.live ≡ true → w.live ≡ true → Merges Kept p v q w (both_of v w) gone
+pub join_merges : (p q : ℕ) (v w : View) → v.opened ≡ true → v.live ≡ true → w.live ≡ true → Merges KeptInOrder p v q w (both_of v w) gone
 join_merges p q v w ready live live' x views h at ne at' = go (only_kept x views p v ready at h)
   where
     there : get_elem? views q ≡ some w
     there = sym (set_else views p q (both_of v w) ne) ∙ at'
 
-    go : (opening : State) × (log : List Entry) × (state_of x ≡ states_after opening log) × InOrder opening log views → Kept x (set (set views p (both_of v w)) q gone)
+    go : (opening : State) × (log : List Entry) × (state_of x ≡ states_after opening log) × InOrder opening log views → KeptInOrder x (set (set views p (both_of v w)) q gone)
     go (opening, log, st, o) = inr (opening, log, st, merge_order opening log views p q v w live live' ne at there o)

@@ -7,7 +7,7 @@ use Rattle.dns_book.specs.declared.call.Call.{Call}
 use Rattle.dns_book.specs.declared.call.Call.TheVariants.{Admit, Release, Reconfigure, Shutdown, Look}
 use Rattle.dns_book.specs.declared.history.Entry.{Entry}
 use Rattle.dns_book.specs.declared.history.Known.{Known}
-use Rattle.dns_book.specs.Machine.{state_after, has_room, has_version, admitted, replaced}
+use Rattle.dns_book.specs.Machine.{state_after, has_slot, has_version, admitted, replaced}
 use Rattle.dns_book.specs.History.{states_after, but_last}
 use Rattle.dns_book.specs.Causes.{Admits, HasShutdown, WasShutDown}
 use Rattle.dns_book.specs.Seats.{state_met}
@@ -18,7 +18,7 @@ either_closed false s x y a b = b
 
 -- a call closes the book, or leaves it as it is
 call_closes : (s : State) (c : Call) → ((c ≡ Shutdown) × ((state_after s c).closed ≡ true)) ⊎ ((c ≢ Shutdown) × ((state_after s c).closed ≡ s.closed))
-call_closes s Admit = inr ((λ is. cc), either_closed s.closed s s (if has_room s then admitted s else s) refl (either_closed (has_room s) s (admitted s) s refl refl))
+call_closes s Admit = inr ((λ is. cc), either_closed s.closed s s (if has_slot s then admitted s else s) refl (either_closed (has_slot s) s (admitted s) s refl refl))
 call_closes s Release = inr ((λ is. cc), refl)
 call_closes s (Reconfigure d t) = inr ((λ is. cc), either_closed s.closed s s (if has_version s then replaced s d t else s) refl (either_closed (has_version s) s (replaced s d t) s refl refl))
 call_closes s Shutdown = inl (refl, refl)

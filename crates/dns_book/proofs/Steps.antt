@@ -10,11 +10,11 @@ use Rattle.dns_book.specs.declared.history.Entry.{Entry}
 use Rattle.dns_book.specs.declared.rule.View.{View}
 use Rattle.dns_book.specs.Words.{state_of}
 use Rattle.dns_book.specs.History.{Name, Under, states_after, calls_by}
-use Rattle.dns_book.specs.Rule.{newcomer, opened_as, Fits, OwnBelow, InOrder, Kept, IsOpen, Looks, Opens, Settles}
+use Rattle.dns_book.specs.Rule.{newcomer, opened_as, FitsHistory, OwnBelow, InOrder, KeptInOrder, CanCall, Looks, Opens, Settles}
 use Rattle.dns_book.proofs.Names.{begins_whole, begins_none}
 use Rattle.dns_book.proofs.Turns.{set_at, only_kept, Narrows, apart_set, own_set, known_set, sound_of, call_at}
 
-pub look_turns : (id : ℕ) (v : View) → IsOpen v → Turns Kept id v (λ x. x) Looks
+pub look_turns : (id : ℕ) (v : View) → CanCall v → Turns KeptInOrder id v (λ x. x) Looks
 look_turns id v ready x = call_at id v Look x x ready refl
 
 -- the caller has seen the whole history
@@ -32,7 +32,7 @@ load_order opening log views id v at o =
       legal = o.legal;
       fits = λ j u at'. ⊎_elim
           (λ (t : (j ≡ id) × (w ≡ u)).
-          subst (λ (z : View). Fits opening log z) t.1
+          subst (λ (z : View). FitsHistory opening log z) t.1
           (let f = o.fits id v at in record { ready = f.ready; start = f.start; seen = begins_whole log; told = begins_none log; mine = λ n own. f.mine n own; map = f.map }))
           (λ (t : (j ≢ id) × (get_elem? views j ≡ some u)). o.fits j u t.1)
           (at_set views id j w u at');
@@ -41,11 +41,11 @@ load_order opening log views id v at o =
       known = λ n. ⊎_elim (λ (none : calls_by n log ≡ []). inl none) (λ who. inr (known_set views id v w n at (λ own. own) who)) (o.known n);
     }
 
-pub settle_turns : (id : ℕ) (v : View) → v.opened ≡ true → v.live ≡ true → Turns Kept id v (λ x. x) Settles
+pub settle_turns : (id : ℕ) (v : View) → v.opened ≡ true → v.live ≡ true → Turns KeptInOrder id v (λ x. x) Settles
 settle_turns id v ready live x views h at = go (only_kept x views id v ready at h)
   where
     go : (opening : State) × (log : List Entry) × (state_of x ≡ states_after opening log) × InOrder opening log views
-        → (w : View) × Kept x (set views id w) × Settles v x x w
+        → (w : View) × KeptInOrder x (set views id w) × Settles v x x w
     go (opening, log, st, o) =
         let w : View = after_load v log in
         let o' : InOrder opening log (set views id w) = load_order opening log views id v at o in
@@ -68,7 +68,7 @@ settle_turns id v ready live x views h at = go (only_kept x views id v ready at 
 first_order : (s : State) → InOrder s [] (opened_as s ∷ [])
 first_order s = record {
   legal = tt;
-  fits = λ j v at. subst (λ (z : View). Fits s [] z) (one j v at)
+  fits = λ j v at. subst (λ (z : View). FitsHistory s [] z) (one j v at)
       (record {
         ready = refl;
         start = λ _. refl;
@@ -100,7 +100,7 @@ set_first views id v w is at = ap (λ (l : List View). set l id w) is ∙ go id 
     go zero e = refl
     go (suc i) e = absurd (some-ne-none v (sym e))
 
-pub open_turns : (id : ℕ) (v : View) (words : List ℕ) → v.opened ≡ false → Turns Kept id v (λ _. words) Opens
+pub open_turns : (id : ℕ) (v : View) (words : List ℕ) → v.opened ≡ false → Turns KeptInOrder id v (λ _. words) Opens
 open_turns id v words closed x views h at =
     let w : View = opened_as (state_of words) in
     ⊎_elim

@@ -16,12 +16,12 @@ use Rattle.dns_book.specs.Machine.{state_after, reply_of}
 use Rattle.dns_book.specs.Words.{state_of}
 use Rattle.dns_book.specs.History.{Name, Under, same, entry, states_after, IsLegal, calls_by, entries_in, Has, with_entry}
 use Rattle.dns_book.specs.Seats.{IsSound, Called}
-use Rattle.dns_book.specs.Rule.{newcomer, Owns, Fits, Apart, OwnBelow, InOrder, Kept, IsOpen, Reads, Made, Tries}
+use Rattle.dns_book.specs.Rule.{newcomer, Owns, FitsHistory, Apart, OwnBelow, InOrder, KeptInOrder, CanCall, ReadsWords, Made, Tries}
 use Rattle.dns_book.proofs.Names.{same_refl, same_cases, calls_by-own, calls_by-other, states_after-append, legal-append, begins_more, begins_whole, begins_none, entries_in-with_same, entries_in-with_other, has-with, with-has, but_last-snoc}
 use Rattle.dns_book.proofs.Maps.{map-with}
 
-pub read_turns : (id : ℕ) (v : View) → Turns Kept id v (λ x. x) Reads
-read_turns id v x views h at = (v, subst (λ (l : List View). Kept x l) (sym (set_again views id v at)) h, refl)
+pub read_turns : (id : ℕ) (v : View) → Turns KeptInOrder id v (λ x. x) ReadsWords
+read_turns id v x views h at = (v, subst (λ (l : List View). KeptInOrder x l) (sym (set_again views id v at)) h, refl)
 
 pub set_at : {A : Type 0} (l : List A) (i : ℕ) (a b : A) → get_elem? l i ≡ some a → get_elem? (set l i b) i ≡ some b
 set_at [] i a b e = absurd (some-ne-none a (sym e))
@@ -35,7 +35,7 @@ not_first views id v is at = go id (subst (λ (l : List View). get_elem? l id �
     go zero e = sym (some-injective newcomer v e)
     go (suc i) e = absurd (some-ne-none v (sym e))
 
-pub only_kept : (words : List ℕ) (views : List View) (id : ℕ) (v : View) → v.opened ≡ true → get_elem? views id ≡ some v → Kept words views
+pub only_kept : (words : List ℕ) (views : List View) (id : ℕ) (v : View) → v.opened ≡ true → get_elem? views id ≡ some v → KeptInOrder words views
     → (opening : State) × (log : List Entry) × (state_of words ≡ states_after opening log) × InOrder opening log views
 only_kept words views id v ready at =
     ⊎_elim (λ is. absurd (true≢false (sym ready ∙ ap (λ (u : View). u.opened) (not_first views id v is at)))) (λ k. k)
@@ -124,7 +124,7 @@ mine_after v log c r live mine n o =
     ∙ (mine n (after_owns v log (entry v.known.name c r) live n o) ∙ sym (entries_in-with_other n v.known.name (entry v.known.name c r) v.known.mine t.0)))
     (same_cases n v.known.name)
 
-fits_other : (opening : State) (log : List Entry) (v u : View) (c : Call) (r : Reply) → Owns v v.known.name → Apart v u → Fits opening log u → Fits opening (log ++ entry v.known.name c r ∷ []) u
+fits_other : (opening : State) (log : List Entry) (v u : View) (c : Call) (r : Reply) → Owns v v.known.name → Apart v u → FitsHistory opening log u → FitsHistory opening (log ++ entry v.known.name c r ∷ []) u
 fits_other opening log v u c r own apart f = record {
   ready = f.ready;
   start = f.start;
@@ -146,7 +146,7 @@ call_order opening log views id v c live at o =
       legal = legal-append opening log e o.legal refl;
       fits = λ j u at'. ⊎_elim
           (λ (t : (j ≡ id) × (w ≡ u)).
-          subst (λ (z : View). Fits opening (log ++ e ∷ []) z) t.1
+          subst (λ (z : View). FitsHistory opening (log ++ e ∷ []) z) t.1
           (let f = o.fits id v at in
           record {
             ready = f.ready;
@@ -212,12 +212,12 @@ sound_of opening log views id v live at o all = let f = o.fits id v at in record
   below = λ n has under. o.own id v at n (live, inr has) under;
 }
 
-pub call_at : (id : ℕ) (v : View) (c : Call) (x y : List ℕ) → IsOpen v → state_of y ≡ state_after (state_of x) c
-    → TurnsAt Kept id v x y (λ v before after w. Made c (state_of before) v w)
+pub call_at : (id : ℕ) (v : View) (c : Call) (x y : List ℕ) → CanCall v → state_of y ≡ state_after (state_of x) c
+    → TurnsAt KeptInOrder id v x y (λ v before after w. Made c (state_of before) v w)
 call_at id v c x y ready step views h at = go (only_kept x views id v ready.0 at h)
   where
     go : (opening : State) × (log : List Entry) × (state_of x ≡ states_after opening log) × InOrder opening log views
-        → (w : View) × Kept y (set views id w) × Made c (state_of x) v w
+        → (w : View) × KeptInOrder y (set views id w) × Made c (state_of x) v w
     go (opening, log, st, o) =
         let e : Entry = entry v.known.name c (reply_of (states_after opening log) c) in
         let w : View = after_call v log e in
@@ -241,12 +241,12 @@ call_at id v c x y ready step views h at = go (only_kept x views id v ready.0 at
           ),
         )
 
-pub call_turns : (id : ℕ) (v : View) (c : Call) (current old new : List ℕ) → IsOpen v → current ≡ old → state_of new ≡ state_after (state_of old) c
-    → Turns Kept id v (λ x. if pointwise nat_eq x old then new else x) (Tries c current)
+pub call_turns : (id : ℕ) (v : View) (c : Call) (current old new : List ℕ) → CanCall v → current ≡ old → state_of new ≡ state_after (state_of old) c
+    → Turns KeptInOrder id v (λ x. if pointwise nat_eq x old then new else x) (Tries c current)
 call_turns id v c current old new ready is step x views h at = go (pointwise nat_eq x old) refl
   where
     go : (b : Bool) → pointwise nat_eq x old ≡ b
-        → (w : View) × Kept (if b then new else x) (set views id w) × Tries c current v x (if b then new else x) w
+        → (w : View) × KeptInOrder (if b then new else x) (set views id w) × Tries c current v x (if b then new else x) w
     go true e =
         let here : x ≡ old = (bytes_decides x old).0 e in
         let step' : state_of new ≡ state_after (state_of x) c = step ∙ ap (λ (l : List ℕ). state_after (state_of l) c) (sym here) in
@@ -254,4 +254,4 @@ call_turns id v c current old new ready is step x views h at = go (pointwise nat
         (t.0, t.1, ((λ _. t.2), (λ ne. absurd (ne (here ∙ sym is)))))
     go false e =
         let ne : x ≢ old = λ same_words. true≢false (sym ((bytes_decides x old).1 same_words) ∙ e) in
-        (v, subst (λ (l : List View). Kept x l) (sym (set_again views id v at)) h, ((λ same_words. absurd (ne (same_words ∙ is))), (λ _. refl)))
+        (v, subst (λ (l : List View). KeptInOrder x l) (sym (set_again views id v at)) h, ((λ same_words. absurd (ne (same_words ∙ is))), (λ _. refl)))

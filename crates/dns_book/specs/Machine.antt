@@ -23,8 +23,8 @@ limit_of s = s.stream.max_concurrent_connections
 abbrev pub last_version : ℕ
 last_version = 2 ^ 64 - 1
 
-abbrev pub has_room : State → Bool
-has_room s = nat_lt s.taken (limit_of s)
+abbrev pub has_slot : State → Bool
+has_slot s = nat_lt s.taken (limit_of s)
 
 abbrev pub has_version : State → Bool
 has_version s = nat_lt s.version last_version
@@ -38,7 +38,7 @@ abbrev pub replaced : State → Dgram → Stream → State
 replaced s d t = record s { version = s.version + 1; dgram = d; stream = t }
 
 abbrev pub state_after : State → Call → State
-state_after s Admit = if s.closed then s else (if has_room s then admitted s else s)
+state_after s Admit = if s.closed then s else (if has_slot s then admitted s else s)
 state_after s Release = record s { taken = s.taken - 1 }
 state_after s (Reconfigure d t) = if s.closed then s else (if has_version s then replaced s d t else s)
 state_after s Shutdown = record s { closed = true }
@@ -47,7 +47,7 @@ state_after s Look = s
 abbrev pub reply_of : State → Call → Reply
 reply_of s Admit =
     if s.closed then reply.Admission Closed
-    else (if has_room s then reply.Admission (Admitted (admitted s)) else reply.Admission (Full s.taken (limit_of s) s.stream.accept_connections_at_max))
+    else (if has_slot s then reply.Admission (Admitted (admitted s)) else reply.Admission (Full s.taken (limit_of s) s.stream.accept_connections_at_max))
 reply_of s Release = reply.Left (s.taken - 1)
 reply_of s (Reconfigure d t) =
     if s.closed then reply.Version (Ok s.version) else (if has_version s then reply.Version (Ok (s.version + 1)) else reply.Version (Err CommandCouldNotBeSent))

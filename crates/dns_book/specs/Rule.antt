@@ -34,7 +34,7 @@ abbrev pub Owns : View → Name → Type 0
 Owns v n = (v.live ≡ true) × ((n ≡ v.known.name) ⊎ Has n v.known.mine)
 
 -- what the pass knows is a part of the history
-pub record Fits (opening : State) (log : List Entry) (v : View) : Type 0 where
+pub record FitsHistory (opening : State) (log : List Entry) (v : View) : Type 0 where
   pub ready : v.opened ≡ true
   pub start : v.live ≡ true → v.known.opening ≡ opening
   pub seen : Begins v.known.seen log
@@ -53,28 +53,28 @@ OwnBelow v = (n : Name) → Owns v n → Under v.known.name n → ⊥
 
 pub record InOrder (opening : State) (log : List Entry) (views : List View) : Type 0 where
   pub legal : IsLegal opening log
-  pub fits : (j : ℕ) (v : View) → get_elem? views j ≡ some v → Fits opening log v
+  pub fits : (j : ℕ) (v : View) → get_elem? views j ≡ some v → FitsHistory opening log v
   pub own : (j : ℕ) (v : View) → get_elem? views j ≡ some v → OwnBelow v
   pub apart : (i j : ℕ) (v u : View) → i ≢ j → get_elem? views i ≡ some v → get_elem? views j ≡ some u → Apart v u
   pub known : (n : Name) → (calls_by n log ≡ []) ⊎ ((j : ℕ) × (u : View) × (get_elem? views j ≡ some u) × Owns u n)
 
 -- The words stand for the state after one legal history, of which each pass knows a part. Before that there is one pass, which knows nothing.
-abbrev pub Kept : List ℕ → List View → Type 0
-Kept words views =
+abbrev pub KeptInOrder : List ℕ → List View → Type 0
+KeptInOrder words views =
     (views ≡ newcomer ∷ [])
     ⊎ ((opening : State) × (log : List Entry) × (state_of words ≡ states_after opening log) × InOrder opening log views)
 
 -- the pass of a seat that can call
-abbrev pub IsOpen : View → Type 0
-IsOpen v = (v.opened ≡ true) × (v.live ≡ true) × (v.told ≡ [])
+abbrev pub CanCall : View → Type 0
+CanCall v = (v.opened ≡ true) × (v.live ≡ true) × (v.told ≡ [])
 
 -- a read before a try
-abbrev pub Reads : View → List ℕ → List ℕ → View → Type 0
-Reads v before after w = w ≡ v
+abbrev pub ReadsWords : View → List ℕ → List ℕ → View → Type 0
+ReadsWords v before after w = w ≡ v
 
 -- the call was made, at the state that the words stand for
 abbrev pub Made : Call → State → View → View → Type 0
-Made call at v w = Called v.known call (reply_of at call) w.known × (state_met w.known ≡ at) × IsOpen w
+Made call at v w = Called v.known call (reply_of at call) w.known × (state_met w.known ≡ at) × CanCall w
 
 -- a try: at the words that it expects the call is made, at others nothing happened
 abbrev pub Tries : Call → List ℕ → View → List ℕ → List ℕ → View → Type 0
@@ -99,8 +99,8 @@ second_view v = record v { known = second_half v.known }
 abbrev pub none_of : View → View
 none_of v = gone
 
-abbrev pub all_of : View → View
-all_of v = v
+abbrev pub whole_of : View → View
+whole_of v = v
 
 -- a pass that took in another's calls, and was told what the other had seen
 abbrev pub both_of : View → View → View
@@ -116,7 +116,7 @@ pub record Settled (v w : View) : Type 0 where
   pub sound : IsSound w.known
 
 abbrev pub Settles : View → List ℕ → List ℕ → View → Type 0
-Settles v before after w = Settled v w × IsOpen w
+Settles v before after w = Settled v w × CanCall w
 
 -- The first seat opens the book at its first step. Until then it holds the state that the book will open with.
 abbrev pub view_of : Option State → View → View
@@ -125,4 +125,4 @@ view_of None v = v
 
 abbrev pub IsReady : Option State → View → Type 0
 IsReady (Some s) v = v ≡ newcomer
-IsReady None v = IsOpen v × IsSound v.known
+IsReady None v = CanCall v × IsSound v.known

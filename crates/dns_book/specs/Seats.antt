@@ -9,7 +9,7 @@ use Rattle.dns_book.specs.declared.history.Known.{Known}
 use Rattle.dns_book.specs.History.{Name, Under, entry, states_after, IsLegal, Begins, but_last, calls_by, entries_in, Has, IsMap, with_entry}
 
 -- a seat in clauses: the book that it is a seat of, and what it knows
-pub record Standing : Type 0 where
+pub record Seated : Type 0 where
   pub book : TableId
   pub known : Known
 

@@ -1,12 +1,12 @@
 -- The state that the words of the cell stand for: slots taken; version; flags and response size;
 -- datagram write timeout; idle timeout; stream write timeout; bound of a queue; limit of connections.
 use Rattle.std.specs.Prelude.{ℕ, ◌/◌, ◌%◌, ◌==◌, if◌then◌else◌, List, slice_index, Option, Some, None}
-use Rattle.dns_service.specs.Config.{limited}
+use Rattle.dns_service.specs.Config.{in_range}
 use Rattle.dns_book.specs.declared.look.Look.{Look as State}
 
 -- bit 2 says that there is a response size, and it begins at bit 3
 abbrev pub size_of : ℕ → Option ℕ
-size_of flags = if flags / 4 % 2 == 1 then Some (limited 512 4096 (flags / 8 % 65536)) else None
+size_of flags = if flags / 4 % 2 == 1 then Some (in_range 512 4096 (flags / 8 % 65536)) else None
 
 abbrev pub state_of : List ℕ → State
 state_of words =
@@ -15,14 +15,14 @@ state_of words =
       version = slice_index words 1;
       closed = flags % 2 == 1;
       taken = slice_index words 0;
-      dgram = record { max_response_size = size_of flags; write_timeout = limited 1 60000 (slice_index words 3) };
+      dgram = record { max_response_size = size_of flags; write_timeout = in_range 1 60000 (slice_index words 3) };
       stream = record {
         accept_connections_at_max = flags / 2 % 2 == 1;
-        max_concurrent_connections = limited 1 100000 (slice_index words 7);
+        max_concurrent_connections = in_range 1 100000 (slice_index words 7);
         connection_config = record {
-          idle_timeout = limited 200 2592000000 (slice_index words 4);
-          response_write_timeout = limited 1 3600000 (slice_index words 5);
-          max_queued_responses = limited 1 1024 (slice_index words 6);
+          idle_timeout = in_range 200 2592000000 (slice_index words 4);
+          response_write_timeout = in_range 1 3600000 (slice_index words 5);
+          max_queued_responses = in_range 1 1024 (slice_index words 6);
         };
       };
     }

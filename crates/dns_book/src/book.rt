@@ -8,7 +8,7 @@ ghost use Rattle.dns_book.specs.Causes.{Admits, Reconfigures, WasShutDown};
 ghost use Rattle.dns_book.specs.Seats.{IsSound, Called, Joined, new_known, state_met, first_half, second_half};
 ghost use Rattle.dns_book.specs.Words.{state_of};
 ghost use Rattle.crossbeam_utils.specs.Register.{Turns, Forks, Merges};
-ghost use Rattle.dns_book.specs.Rule.{Kept, IsOpen, Made, Settled, view_of, IsReady};
+ghost use Rattle.dns_book.specs.Rule.{KeptInOrder, CanCall, Made, Settled, view_of, IsReady};
 
 use crate::call::{Call, Reply};
 use crate::look::{Admission, Look};
@@ -52,10 +52,10 @@ pub struct BookSeat {
 
 impl Model for BookSeat {
     ghost use Rattle.crossbeam_utils.specs.Seq.{cell_view};
-    ghost use Rattle.dns_book.specs.Seats.{Standing};
+    ghost use Rattle.dns_book.specs.Seats.{Seated};
     ghost use Rattle.dns_book.specs.Rule.{view_of, IsReady};
 
-    ghost Value = { Standing };
+    ghost Value = { Seated };
 
     ghost view = { λ s. record { book = s.pass.table_id; known = (view_of s.pending (cell_view s.pass)).known } };
 
@@ -206,7 +206,7 @@ impl Book {
         requires ready { IsReady pending (cell_view pass.old) }
         ensures pass { IsSamePass pass.old pass.new }
         ensures view { cell_view pass.new ≡ view_of pending (cell_view pass.old) }
-        ensures open { IsOpen (cell_view pass.new) × IsSound (cell_view pass.new).known }
+        ensures open { CanCall (cell_view pass.new) × IsSound (cell_view pass.new).known }
     {
         if let Some(state) = pending {
             self.swap::<Opened, R>(rt, pass, words_of(&state.shown()));
@@ -218,7 +218,7 @@ impl Book {
         requires book { pass.old.table_id ≡ self.now }
         requires live { ((cell_view pass.old).opened ≡ true) × ((cell_view pass.old).live ≡ true) }
         ensures pass { IsSamePass pass.old pass.new }
-        ensures settled { Settled (cell_view pass.old) (cell_view pass.new) × IsOpen (cell_view pass.new) }
+        ensures settled { Settled (cell_view pass.old) (cell_view pass.new) × CanCall (cell_view pass.new) }
     {
         self.load::<Settle, R>(rt, pass);
     }
@@ -233,7 +233,7 @@ impl Book {
         next: Words,
     ) -> bool
         requires book { pass.old.table_id ≡ self.now }
-        requires open { IsOpen (cell_view pass.old) }
+        requires open { CanCall (cell_view pass.old) }
         requires asked { (K.ask ≡ call.now) × (K.current ≡ current) }
         requires step { state_of next ≡ state_after (state_of current) call.now }
         ensures pass { IsSamePass pass.old pass.new }
@@ -246,7 +246,7 @@ impl Book {
     // It answers the state in which the call was made.
     fn make_at<R: Wait>(&self, rt: &R, pass: &mut SeatPass, call: Call) -> BookState
         requires book { pass.old.table_id ≡ self.now }
-        requires open { IsOpen (cell_view pass.old) }
+        requires open { CanCall (cell_view pass.old) }
         ensures pass { IsSamePass pass.old pass.new }
         ensures made { Made call result (cell_view pass.old) (cell_view pass.new) }
     {
@@ -261,7 +261,7 @@ impl Book {
     // One turn of it: none where another seat came between.
     fn try_once<R: Wait>(&self, rt: &R, pass: &mut SeatPass, call: &Call) -> Option<BookState>
         requires book { pass.old.table_id ≡ self.now }
-        requires open { IsOpen (cell_view pass.old) }
+        requires open { CanCall (cell_view pass.old) }
         ensures pass { IsSamePass pass.old pass.new }
         ensures made { MatchOption result (cell_view pass.new ≡ cell_view pass.old) (λ found. Made call.now found (cell_view pass.old) (cell_view pass.new)) }
     {
@@ -276,7 +276,7 @@ impl Book {
     // One load, after which the pass has what the outcome says.
     fn load<M: Outcome<Words, View>, R: Wait>(&self, rt: &R, pass: &mut SeatPass) -> Words
         requires book { pass.old.table_id ≡ self.now }
-        requires rule { Turns Kept pass.old.id (cell_view pass.old) (λ x. x) M.then }
+        requires rule { Turns KeptInOrder pass.old.id (cell_view pass.old) (λ x. x) M.then }
         ensures pass { IsSamePass pass.old pass.new }
         ensures told { M.then (cell_view pass.old) result result (cell_view pass.new) }
     {
@@ -291,7 +291,7 @@ impl Book {
         words: Words,
     ) -> Words
         requires book { pass.old.table_id ≡ self.now }
-        requires rule { Turns Kept pass.old.id (cell_view pass.old) (λ _. words) M.then }
+        requires rule { Turns KeptInOrder pass.old.id (cell_view pass.old) (λ _. words) M.then }
         ensures pass { IsSamePass pass.old pass.new }
         ensures told { M.then (cell_view pass.old) result words (cell_view pass.new) }
     {
@@ -307,7 +307,7 @@ impl Book {
         next: Words,
     ) -> Result<Words, Words>
         requires book { pass.old.table_id ≡ self.now }
-        requires rule { Turns Kept pass.old.id (cell_view pass.old) (λ x. if pointwise nat_eq x current then next else x) M.then }
+        requires rule { Turns KeptInOrder pass.old.id (cell_view pass.old) (λ x. if pointwise nat_eq x current then next else x) M.then }
         ensures pass { IsSamePass pass.old pass.new }
         ensures told { MatchResult result (λ x. (pointwise nat_eq x current ≡ true) × M.then (cell_view pass.old) x next (cell_view pass.new)) (λ x. (pointwise nat_eq x current ≡ false) × M.then (cell_view pass.old) x x (cell_view pass.new)) }
     {
@@ -318,7 +318,7 @@ impl Book {
     // Two passes of one.
     fn cut<M: Split<View>>(&self, pass: &mut SeatPass) -> SeatPass
         requires book { pass.old.table_id ≡ self.now }
-        requires rule { Forks Kept pass.old.id (cell_view pass.old) (M.left (cell_view pass.old)) (M.right (cell_view pass.old)) }
+        requires rule { Forks KeptInOrder pass.old.id (cell_view pass.old) (M.left (cell_view pass.old)) (M.right (cell_view pass.old)) }
         ensures kept { IsSamePass pass.old pass.new × (cell_view pass.new ≡ M.left (cell_view pass.old)) }
         ensures given { (result.table_id ≡ pass.old.table_id) × (cell_view result ≡ M.right (cell_view pass.old)) × (result.me.1 ≡ []) }
     {
@@ -328,7 +328,7 @@ impl Book {
     // One pass of two.
     fn merge<M: Join<View>>(&self, pass: &mut SeatPass, other: SeatPass)
         requires book { (pass.old.table_id ≡ self.now) × (other.table_id ≡ pass.old.table_id) × (other.me.1 ≡ []) }
-        requires rule { Merges Kept pass.old.id (cell_view pass.old) other.id (cell_view other) (M.both (cell_view pass.old) (cell_view other)) M.spent }
+        requires rule { Merges KeptInOrder pass.old.id (cell_view pass.old) other.id (cell_view other) (M.both (cell_view pass.old) (cell_view other)) M.spent }
         ensures { IsSamePass pass.old pass.new × (cell_view pass.new ≡ M.both (cell_view pass.old) (cell_view other)) }
     {
         self.cell.join_pass::<M>(pass, other);

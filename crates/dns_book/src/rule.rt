@@ -3,7 +3,7 @@
 ghost use Rattle.std.specs.Prelude.{[], List, ℕ};
 ghost use Rattle.dns_book.specs.declared.call.Call.{Call as TheCall};
 ghost use Rattle.dns_book.specs.declared.call.Call.TheVariants.{Look as look_call};
-ghost use Rattle.dns_book.specs.Rule.{Kept, newcomer, Reads, Tries, Looks, Opens, Settles, first_view, second_view, all_of, none_of, both_of, gone};
+ghost use Rattle.dns_book.specs.Rule.{KeptInOrder, newcomer, ReadsWords, Tries, Looks, Opens, Settles, first_view, second_view, whole_of, none_of, both_of, gone};
 
 use crate::history::{Entry, Known};
 use crate::words::Words;
@@ -25,7 +25,7 @@ pub struct View {
 pub struct OneHistory;
 
 impl Protocol<Words, View> for OneHistory {
-    ghost holds = { Kept };
+    ghost holds = { KeptInOrder };
 
     ghost first = { newcomer };
 }
@@ -47,7 +47,7 @@ impl Asked for Brand {
 pub struct Read;
 
 impl Outcome<Words, View> for Read {
-    ghost then = { Reads };
+    ghost then = { ReadsWords };
 }
 
 /// A call, made at the words that it expects and at no others.
@@ -95,7 +95,7 @@ pub struct HandOver;
 impl Split<View> for HandOver {
     ghost left = { none_of };
 
-    ghost right = { all_of };
+    ghost right = { whole_of };
 }
 
 /// One seat of two.

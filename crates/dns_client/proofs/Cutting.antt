@@ -6,7 +6,7 @@ use Rattle.std.proofs.lemmas.Bool.{cases_lt}
 use Rattle.dns_service.specs.Answer.{Answer}
 use Rattle.dns_service.specs.Req.{Req}
 use Rattle.dns_service.specs.declared.event.Output.{Output}
-use Rattle.dns_client.specs.Frames.{frames, rest}
+use Rattle.dns_client.specs.Frames.{frames, behind_frames}
 use Rattle.dns_client.specs.Slate.{Slate, Told, Phase, Unused, Exchange, Open, Closed, in_phase}
 use Rattle.dns_client.specs.Requests.{header_size, most_requests, request_of_frame, asked}
 use Rattle.dns_client.specs.Connections.{take_frame, take_frames, piece}
@@ -66,7 +66,7 @@ new_frames_join n o a b =
     ⊎_elim
     (λ (less : n < length (frames (o ++ a))).
     let e : n + length (drop n (frames (o ++ a))) ≡ length (frames (o ++ a)) = omega (arith, l) in
-    rw (e, ← append_assoc, g) (drop-append-le n (frames (o ++ a)) (frames (rest (o ++ a) ++ b)) (omega arith) ∙ ap (λ fs. drop n (frames (o ++ a)) ++ fs) (sym (drop_at (frames (o ++ a)) (frames (rest (o ++ a) ++ b)) (length (frames (o ++ a))) refl))))
+    rw (e, ← append_assoc, g) (drop-append-le n (frames (o ++ a)) (frames (behind_frames (o ++ a) ++ b)) (omega arith) ∙ ap (λ fs. drop n (frames (o ++ a)) ++ fs) (sym (drop_at (frames (o ++ a)) (frames (behind_frames (o ++ a) ++ b)) (length (frames (o ++ a))) refl))))
     (λ (more : length (frames (o ++ a)) ≤ n).
     let z : drop n (frames (o ++ a)) ≡ [] = drop_all n (frames (o ++ a)) more in
     rw (z, add-zero n, ← append_assoc) refl)

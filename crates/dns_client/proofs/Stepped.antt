@@ -6,7 +6,7 @@ use Rattle.dns_service.specs.Answer.{Answer}
 use Rattle.dns_service.specs.Req.{Req}
 use Rattle.dns_client.specs.Slate.{Slate, Asked, Told, Phase, Open, in_phase}
 use Rattle.dns_client.specs.Spent.{is_spent}
-use Rattle.dns_client.specs.Stands.{Keeps, Leads, StandsIn, outputs_of, state_after, sole, state_is_spent}
+use Rattle.dns_client.specs.Stands.{Keeps, Leads, StandsIn, outputs_of, state_behind, sole, state_is_spent}
 use Rattle.dns_client.specs.declared.client.State.{State}
 use Rattle.dns_client.specs.declared.client.State.TheVariants.{Exchange as Is_exchange, Open as Is_open, Closed as Is_closed}
 use Rattle.dns_client.specs.declared.connection.OpenConnection.{OpenConnection}
@@ -34,7 +34,7 @@ module _ {R F : Type 0} (answer : PolledRequest F R → ℕ → Answer) (answers
     pub in_leads : (old new : OpenConnection W R F) (outcome : Outcome) (x y w : Slate → Told) (after : Slate → Told)
         → Leads answer answers old new outcome after → Leads answer answers old new outcome (λ s. in_phase s.phase (x s) (y s) (after s) (w s))
     in_leads old new outcome x y w after f client s h =
-        let P : Told → Type 0 = λ t. (outputs_of client outcome ≡ t.1) × StandsIn answer answers client (state_after (Is_open new) outcome) t.0 in
+        let P : Told → Type 0 = λ t. (outputs_of client outcome ≡ t.1) × StandsIn answer answers client (state_behind (Is_open new) outcome) t.0 in
         subst P (sym (in_open s.phase (x s) (y s) (after s) (w s) h.phase)) (f client s h)
 
     -- by the state

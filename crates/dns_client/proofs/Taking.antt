@@ -9,11 +9,11 @@ use Rattle.dns_service.specs.Config.{Connection}
 use Rattle.dns_service.specs.Req.{Req}
 use Rattle.dns_service.specs.declared.event.Output.TheVariants.{Closed as Closed_output}
 use Rattle.dns_service.specs.declared.event.Why.TheVariants.{Short}
-use Rattle.dns_client.specs.Frames.{first, frames}
+use Rattle.dns_client.specs.Frames.{first_frame, frames}
 use Rattle.dns_client.specs.Slate.{Slate, Told}
 use Rattle.dns_client.specs.Requests.{header_size, most_requests, request_of_frame, asked}
 use Rattle.dns_client.specs.Connections.{take_frames, take_frame, piece}
-use Rattle.dns_client.specs.Stands.{IsOpen, Leads, Asks, Takes, KeepsAll, StandsIn, outputs_of, state_after}
+use Rattle.dns_client.specs.Stands.{IsOpen, Leads, Asks, TakesFrame, KeepsAll, StandsIn, outputs_of, state_behind}
 use Rattle.dns_client.specs.declared.client.State.TheVariants.{Open as Is_open}
 use Rattle.dns_client.specs.declared.connection.OpenConnection.{OpenConnection}
 use Rattle.dns_client.specs.declared.connection.Outcome.{Outcome}
@@ -25,7 +25,7 @@ module _ {W R F : Type 0} (answer : PolledRequest F R → ℕ → Answer) (answe
   pub none_left : (c : OpenConnection W R F) → frames c.framer ≡ [] → Leads answer answers c c Nothing (λ s. take_frames at secs (frames c.framer) s)
   none_left c e client s h = rw e (refl, h)
 
-  pub short : (c new : OpenConnection W R F) (f r : List ℕ) → first c.framer ≡ Some (f, r) → length f < 12
+  pub short : (c new : OpenConnection W R F) (f r : List ℕ) → first_frame c.framer ≡ Some (f, r) → length f < 12
       → Leads answer answers c new (Ends Short) (λ s. take_frames at secs (frames c.framer) s)
   short c new f r e l client s h =
       let t : nat_lt (length f) header_size ≡ true = lt-ltb (length f) 12 l in
@@ -34,7 +34,7 @@ module _ {W R F : Type 0} (answer : PolledRequest F R → ℕ → Answer) (answe
         record { client = h.client; freed = h.freed; phase = refl },
       )
 
-  asked_open : (c new : OpenConnection W R F) (f r : List ℕ) (client : ℕ) (s : Slate) → IsOpen answer answers client c s → first c.framer ≡ Some (f, r)
+  asked_open : (c new : OpenConnection W R F) (f r : List ℕ) (client : ℕ) (s : Slate) → IsOpen answer answers client c s → first_frame c.framer ≡ Some (f, r)
       → Asks answer answers (record c { framer = r }) new (request_of_frame c.config c.addr at secs f)
       → (b : Bool) → KeepsAll answer answers new.count new.unfinished (if b then s.requests ++ asked (request_of_frame s.connection s.addr at secs f) ∷ [] else s.requests)
       → IsOpen answer answers client new (if b then record s { taken = s.taken + 1; requests = s.requests ++ asked (request_of_frame s.connection s.addr at secs f) ∷ [] } else record s { taken = s.taken + 1 })
@@ -52,9 +52,9 @@ module _ {W R F : Type 0} (answer : PolledRequest F R → ℕ → Answer) (answe
         | false ↦ λ k. record { client = h.client; freed = h.freed; phase = h.phase; addr = ad; config = cf; kept = kept; within = within; requests = k; queue = qu; bound = bo }
       ]) k
 
-  pub taken : (c new : OpenConnection W R F) (f r : List ℕ) (q : Req (Unit {0})) → first c.framer ≡ Some (f, r) → 12 ≤ length f
+  pub taken : (c new : OpenConnection W R F) (f r : List ℕ) (q : Req (Unit {0})) → first_frame c.framer ≡ Some (f, r) → 12 ≤ length f
       → q ≡ request_of_frame c.config c.addr at secs f
-      → Asks answer answers (record c { framer = r }) new q → Takes answer answers at secs c new
+      → Asks answer answers (record c { framer = r }) new q → TakesFrame answer answers at secs c new
   taken c new f r q e l is a =
       let n : nat_lt (length f) header_size ≡ false = le-ltb (length f) 12 l in
       let a' = rw is at a in
@@ -88,7 +88,7 @@ module _ {W R F : Type 0} (answer : PolledRequest F R → ℕ → Answer) (answe
   abbrev pub TakesOn : OpenConnection W R F → OpenConnection W R F → Type 0
   TakesOn c l = (client : ℕ) (s : Slate) → IsOpen answer answers client c s → (t : Slate) × IsOpen answer answers client l t × (take_frames at secs (frames l.framer) t ≡ take_frames at secs (frames c.framer) s)
 
-  pub one_more : (c l new : OpenConnection W R F) → TakesOn c l → Takes answer answers at secs l new → TakesOn c new
+  pub one_more : (c l new : OpenConnection W R F) → TakesOn c l → TakesFrame answer answers at secs l new → TakesOn c new
   one_more c l new left t client s h =
       let r = left client s h in
       let u = t.goes client r.0 r.1 in (u.0, u.1, u.2 ∙ r.2)
@@ -98,5 +98,5 @@ module _ {W R F : Type 0} (answer : PolledRequest F R → ℕ → Answer) (answe
       → Leads answer answers c new outcome (λ s. take_frames at secs (frames c.framer) s)
   no_more c l new outcome left f client s h =
       let r = left client s h in
-      let P : Told → Type 0 = λ t. (outputs_of client outcome ≡ t.1) × StandsIn answer answers client (state_after (Is_open new) outcome) t.0 in
+      let P : Told → Type 0 = λ t. (outputs_of client outcome ≡ t.1) × StandsIn answer answers client (state_behind (Is_open new) outcome) t.0 in
       subst P r.2 (f client r.0 r.1)

@@ -49,10 +49,10 @@ outputs_of client Nothing = []
 outputs_of client (Written m) = Frame client m ∷ []
 outputs_of client (Ends why) = Closed_output client why ∷ []
 
-abbrev pub state_after : {W R F : Type 0} → State W R F → Outcome → State W R F
-state_after state Nothing = state
-state_after state (Written m) = state
-state_after state (Ends why) = Is_closed false
+abbrev pub state_behind : {W R F : Type 0} → State W R F → Outcome → State W R F
+state_behind state Nothing = state
+state_behind state (Written m) = state
+state_behind state (Ends why) = Is_closed false
 
 -- of a closed connection nothing is kept but its number, and whether it was released
 pub record IsClosed (number : ℕ) (freed_now : Bool) (s : Slate) : Type 0 where
@@ -102,7 +102,7 @@ module _ {R F : Type 0} (answer : PolledRequest F R → ℕ → Answer) (answers
 
     -- the same of a connection that was open, by the outcome
     abbrev pub Leads : OpenConnection W R F → OpenConnection W R F → Outcome → (Slate → Told) → Type 0
-    Leads old new outcome after = (number : ℕ) (s : Slate) → IsOpen number old s → (outputs_of number outcome ≡ (after s).1) × StandsIn number (state_after (Is_open new) outcome) (after s).0
+    Leads old new outcome after = (number : ℕ) (s : Slate) → IsOpen number old s → (outputs_of number outcome ≡ (after s).1) × StandsIn number (state_behind (Is_open new) outcome) (after s).0
 
     -- a request is made, unless most of them were made
     pub record Asks (old new : OpenConnection W R F) (r : Req (Unit {0})) : Type 0 where
@@ -113,6 +113,6 @@ module _ {R F : Type 0} (answer : PolledRequest F R → ℕ → Answer) (answers
       pub made : (rs : List Asked) → KeepsAll old.count old.unfinished rs → KeepsAll new.count new.unfinished (if nat_lt (length rs) most_requests then rs ++ asked r ∷ [] else rs)
 
     -- one frame is taken, and what is left to be taken, at some slate of the connection, is all that was
-    pub record Takes (at secs : ℕ) (old new : OpenConnection W R F) : Type 0 where
+    pub record TakesFrame (at secs : ℕ) (old new : OpenConnection W R F) : Type 0 where
       pub less : length new.framer < length old.framer
       pub goes : (number : ℕ) (s : Slate) → IsOpen number old s → (t : Slate) × IsOpen number new t × (take_frames at secs (frames new.framer) t ≡ take_frames at secs (frames old.framer) s)

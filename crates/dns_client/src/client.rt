@@ -48,7 +48,7 @@ fn step_closed(freed: &mut bool, event: &Event)
 }
 
 impl<W: Served> ClientCore<W> {
-    ghost use Rattle.dns_client.specs.Stands.{Stands, Follows, outputs_of, state_after, state_is_spent, is_freed, is_closed};
+    ghost use Rattle.dns_client.specs.Stands.{Stands, Follows, outputs_of, state_behind, state_is_spent, is_freed, is_closed};
 
     /// An exchange by its datagram, at a moment in ms and seconds, and what the client is sent for it. What is longer
     /// than 1,024 octets is cut, and below 12 octets no request is made.
@@ -97,7 +97,7 @@ impl<W: Served> ClientCore<W> {
     fn carry_out(&mut self, alloc: Global, outcome: Outcome) -> Result<Vec<Output>, OutOfMemory>
         ensures outs { IfOk result (λ outs. outs.items ≡ outputs_of self.old.client outcome) }
         ensures client { self.new.client ≡ self.old.client }
-        ensures state { self.new.state ≡ state_after self.old.state outcome }
+        ensures state { self.new.state ≡ state_behind self.old.state outcome }
     {
         let client = self.client;
         match outcome {

@@ -51,7 +51,7 @@ fn enqueue(queue: &mut HeapCircularBuffer<Octets>, octets: Octets)
 }
 
 impl<W: Served> OpenConnection<W> {
-    ghost use Rattle.dns_client.specs.Stands.{IsOpen, Leads, Asks, Takes};
+    ghost use Rattle.dns_client.specs.Stands.{IsOpen, Leads, Asks, TakesFrame};
 
     /// Of no requests. It takes the memory of its queue.
     pub fn open(alloc: Global, addr: SocketAddr, config: &StreamConfig) -> Result<Self, OutOfMemory>

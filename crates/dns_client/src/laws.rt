@@ -3,7 +3,7 @@
 ghost use Rattle.std.specs.Prelude.{◌≡◌, ℕ, List, ◌++◌};
 ghost use Rattle.dns_service.specs.Answer.{Answer};
 ghost use Rattle.dns_service.specs.Req.{Req};
-ghost use Rattle.dns_client.specs.Frames.{frames, rest};
+ghost use Rattle.dns_client.specs.Frames.{frames, behind_frames};
 ghost use Rattle.dns_client.specs.Pieces.{piece_of, IsCut};
 ghost use Rattle.dns_client.specs.Slate.{Slate};
 
@@ -15,5 +15,5 @@ pub fn pieces_may_be_cut()
 
 /// The frames of a longer stream are those of the shorter one, and then those of what was left and what came.
 pub fn frames_go_on()
-    ensures { (o p : List ℕ) → frames (o ++ p) ≡ frames o ++ frames (rest o ++ p) }
+    ensures { (o p : List ℕ) → frames (o ++ p) ≡ frames o ++ frames (behind_frames o ++ p) }
 {}

@@ -6,5 +6,5 @@ abbrev pub client_octets : ClientCookie → List ℕ
 client_octets c = c.cells.octets
 
 -- the client cookie of octets
-abbrev pub client_of : List ℕ → ClientCookie
-client_of octets = record { cells = record { octets = octets } }
+abbrev pub client_cookie_of : List ℕ → ClientCookie
+client_cookie_of octets = record { cells = record { octets = octets } }

@@ -3,7 +3,7 @@ use Rattle.std.specs.Prelude.{ℕ, ◌+◌, List, [], ◌∷◌, ◌++◌, lengt
 use Rattle.dns_name.specs.declared.error.ParseError.TheVariants.{ShortInput, Form}
 use Rattle.dns_name.specs.declared.error.FormReason.TheVariants.{ShortServerCookie, LongServerCookie}
 use Rattle.dns_name.specs.OptData.{Taken}
-use Rattle.dns_cookie.specs.ClientCookie.{client_of}
+use Rattle.dns_cookie.specs.ClientCookie.{client_cookie_of}
 use Rattle.dns_cookie.specs.Cookies.{Cookie}
 use Rattle.dns_cookie.specs.declared.client_cookie.ClientCookie.{ClientCookie}
 
@@ -11,7 +11,7 @@ use Rattle.dns_cookie.specs.declared.client_cookie.ClientCookie.{ClientCookie}
 
 -- a client cookie is eight octets
 abbrev pub client_data : List ℕ → Taken ClientCookie
-client_data d = if nat_lt (length d) 8 then Err ShortInput else Ok (client_of (take 8 d), 8)
+client_data d = if nat_lt (length d) 8 then Err ShortInput else Ok (client_cookie_of (take 8 d), 8)
 
 -- a server cookie is all that is left, 8 to 32 octets
 abbrev pub server_data : List ℕ → Taken (List ℕ)

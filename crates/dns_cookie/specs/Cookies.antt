@@ -24,8 +24,8 @@ IsTimely timestamp now = after_last_hour timestamp now ≤ 3900
 -- ---- the standard server cookie: version, three reserved octets, a timestamp and eight octets of hash
 
 -- the octets before the hash
-abbrev pub octets_before : ℕ → List ℕ → ℕ → List ℕ
-octets_before version reserved timestamp = version ∷ (reserved ++ to_be_bytes w32 timestamp)
+abbrev pub octets_before_hash : ℕ → List ℕ → ℕ → List ℕ
+octets_before_hash version reserved timestamp = version ∷ (reserved ++ to_be_bytes w32 timestamp)
 
 abbrev pub version_of : List ℕ → ℕ
 version_of s = slice_index s 0
@@ -66,7 +66,7 @@ HashAgrees secret client address s = hash_of s ≡ hash_octets secret client (ta
 -- the server cookie of version 1
 abbrev pub server_cookie : List ℕ → List ℕ → ℕ → IpAddr → List ℕ
 server_cookie secret client timestamp address =
-    let before = octets_before 1 (0 ∷ 0 ∷ 0 ∷ []) timestamp in
+    let before = octets_before_hash 1 (0 ∷ 0 ∷ 0 ∷ []) timestamp in
     before ++ hash_octets secret client before address
 
 -- ---- a cookie: a client part, and a server part or none
@@ -76,9 +76,9 @@ pub record Cookie : Type 0 where
   pub server : Option (List ℕ)
 
 -- its text: the hexadecimal digits of the client part and of the server part
-abbrev pub text_of : List ℕ → Option (List ℕ) → List ℕ
-text_of client None = encode_upper client
-text_of client (Some s) = encode_upper client ++ encode_upper s
+abbrev pub cookie_text : List ℕ → Option (List ℕ) → List ℕ
+cookie_text client None = encode_upper client
+cookie_text client (Some s) = encode_upper client ++ encode_upper s
 
 -- the standard server cookie in it
 abbrev pub standard_of : Option (List ℕ) → Option (List ℕ)

@@ -1,7 +1,7 @@
 -- What octets are after they were lent for writing.
 use Rattle.std.specs.Prelude.{List, ℕ}
 use Rattle.std.specs.Borrow.{Lends, MutBor, Fml, Array, u8, RattleType}
-use Rattle.dns_cookie.specs.ClientCookie.{client_of}
+use Rattle.dns_cookie.specs.ClientCookie.{client_cookie_of}
 use Rattle.dns_cookie.specs.declared.client_cookie.ClientCookie.{ClientCookie}
 use Rattle.dns_cookie.specs.contracts.cells.Cells as cells
 use Rattle.dns_cookie.specs.contracts.client_cookie.ClientCookie as client
@@ -13,4 +13,4 @@ module _ (N : RattleType) (c : MutBor (cells.the_row N).Denot) where
 
 -- a client cookie ends as the octets that are left behind r
 abbrev pub LendsClient : MutBor ClientCookie → MutBor (List ℕ) → Fml
-LendsClient c r = Lends client.the_row (Array u8 0) c r client_of
+LendsClient c r = Lends client.the_row (Array u8 0) c r client_cookie_of

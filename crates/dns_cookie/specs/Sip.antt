@@ -11,8 +11,8 @@ abbrev pub sum64 : ℕ → ℕ → ℕ
 sum64 x y = (x + y) % 2 ^ 64
 
 -- the second half of a round
-abbrev pub second_half : ℕ → ℕ → ℕ → ℕ → State
-second_half v0 v1 v2 v3 =
+abbrev pub round_end : ℕ → ℕ → ℕ → ℕ → State
+round_end v0 v1 v2 v3 =
     let w0 = sum64 v0 v3 in
     let w2 = sum64 v2 v1 in
     record { v0 = w0; v1 = bit_xor (rotate_left w64 v1 17) w2; v2 = rotate_left w64 w2 32; v3 = bit_xor (rotate_left w64 v3 21) w0 }
@@ -22,7 +22,7 @@ unfoldable pub round : State → State
 round s =
     let v0 = sum64 s.v0 s.v1 in
     let v2 = sum64 s.v2 s.v3 in
-    second_half (rotate_left w64 v0 32) (bit_xor (rotate_left w64 s.v1 13) v0) v2 (bit_xor (rotate_left w64 s.v3 16) v2)
+    round_end (rotate_left w64 v0 32) (bit_xor (rotate_left w64 s.v1 13) v0) v2 (bit_xor (rotate_left w64 s.v3 16) v2)
 
 -- the state under the key's two halves
 abbrev pub start : ℕ → ℕ → State

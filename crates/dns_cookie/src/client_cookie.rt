@@ -5,7 +5,7 @@ ghost use Rattle.std.specs.Borrow.{sem};
 ghost use Rattle.hex.specs.Hex.{encode_upper};
 ghost use Rattle.dns_name.specs.OptData.{ParsesData};
 ghost use Rattle.dns_name.specs.Place.{rest};
-ghost use Rattle.dns_cookie.specs.ClientCookie.{client_octets, client_of};
+ghost use Rattle.dns_cookie.specs.ClientCookie.{client_octets, client_cookie_of};
 ghost use Rattle.dns_cookie.specs.CookieData.{client_data};
 ghost use Rattle.dns_cookie.specs.Lending.{LendsClient};
 
@@ -30,7 +30,7 @@ impl ClientCookie {
 
     /// The client cookie of these octets.
     pub const fn from_octets(octets: [u8; 8]) -> ClientCookie
-        ensures { result ≡ client_of octets }
+        ensures { result ≡ client_cookie_of octets }
     {
         ClientCookie {
             cells: Cells { octets },
@@ -97,7 +97,7 @@ impl AsSlice<u8> for ClientCookie {
 }
 
 impl From<[u8; 8]> for ClientCookie {
-    ghost from_gives = { λ octets c. c ≡ client_of octets };
+    ghost from_gives = { λ octets c. c ≡ client_cookie_of octets };
 
     fn from(octets: [u8; 8]) -> ClientCookie {
         ClientCookie::from_octets(octets)

@@ -7,7 +7,7 @@ ghost use Rattle.dns_name.specs.Place.{rest};
 ghost use Rattle.dns_cookie.specs.ClientCookie.{client_octets};
 ghost use Rattle.dns_cookie.specs.CookieData.{cookie_data, cookie_octets, is_cookie};
 ghost use Rattle.dns_cookie.specs.ReadBack.{cookie_again};
-ghost use Rattle.dns_cookie.specs.Cookies.{text_of, standard_of, response, Checks, IsChecked};
+ghost use Rattle.dns_cookie.specs.Cookies.{cookie_text, standard_of, response, Checks, IsChecked};
 
 use crate::client_cookie::ClientCookie;
 use crate::server_cookie::ServerCookie;
@@ -34,15 +34,15 @@ impl Model for Cookie {
 
     ghost Value = { Parts };
 
-    ghost use Rattle.dns_cookie.specs.ClientCookie.{client_octets, client_of};
+    ghost use Rattle.dns_cookie.specs.ClientCookie.{client_octets, client_cookie_of};
 
     ghost view = { λ c. record { client = client_octets c.client; server = c.server } };
 
-    ghost inverse = { λ c. record { client = client_of c.client; server = c.server } };
+    ghost inverse = { λ c. record { client = client_cookie_of c.client; server = c.server } };
 }
 
 impl fmt::Display for Cookie {
-    ghost output = { λ c. Some (text_of c.client c.server) };
+    ghost output = { λ c. Some (cookie_text c.client c.server) };
 
     /// Writes the octets as upper-case hexadecimal digits.
     fn fmt<W: fmt::Write>(&self, f: &mut fmt::Formatter<W>) -> fmt::Result {

@@ -3,7 +3,7 @@
 ghost use Rattle.std.specs.Prelude.{Some, ◌≡◌, ◌≤◌, ◌+◌, ◌++◌, ◌↔◌, IsTrue, length, take};
 ghost use Rattle.std.specs.Int.{w64, to_le_bytes};
 ghost use Rattle.dns_cookie.specs.ClientCookie.{client_octets};
-ghost use Rattle.dns_cookie.specs.Cookies.{octets_before, version_of, reserved_of, timestamp_of, hash_of, address_octets, hash_number, server_cookie, HashAgrees};
+ghost use Rattle.dns_cookie.specs.Cookies.{octets_before_hash, version_of, reserved_of, timestamp_of, hash_of, address_octets, hash_number, server_cookie, HashAgrees};
 ghost use Rattle.hex.specs.Hex.{encode_upper};
 
 use crate::client_cookie::ClientCookie;
@@ -41,7 +41,7 @@ impl StandardServerCookie {
         timestamp: Serial,
         hash: [u8; 8],
     ) -> StandardServerCookie
-        ensures { result ≡ octets_before version reserved timestamp.0 ++ hash }
+        ensures { result ≡ octets_before_hash version reserved timestamp.0 ++ hash }
     {
         // the version stands first, and the other octets are written over
         let mut octets = [version; 16];

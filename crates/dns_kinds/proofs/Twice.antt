@@ -5,7 +5,7 @@ use Rattle.std.proofs.Math.Nat.{mul-div_cancel}
 use Rattle.std.proofs.lemmas.Nat.{pow_pos}
 use Rattle.dns_name.specs.declared.address.IpAddr.TheVariants.{V4, V6}
 use Rattle.dns_name.specs.declared.address.IpAddr.{IpAddr}
-use Rattle.dns_kinds.specs.Subnet.{limited, masked, masked_addr, mask_octet}
+use Rattle.dns_kinds.specs.Subnet.{within_address, masked, masked_addr, mask_octet}
 
 by_bits : (whole : Bool) (p x : ℕ) → 0 < p → (if whole then (if whole then x else x / p * p) else (if whole then x else x / p * p) / p * p) ≡ (if whole then x else x / p * p)
 by_bits true p x h = refl
@@ -27,6 +27,6 @@ pub address_twice : (s : ℕ) (a : IpAddr) → masked_addr s (masked_addr s a) �
 address_twice s (V4 a) = ap V4 (masked_twice s a)
 address_twice s (V6 a) = ap V6 (masked_twice s a)
 
-pub subnet_twice : (s c : ℕ) (a : IpAddr) → limited s c (limited s c a).addr ≡ limited s c a
+pub subnet_twice : (s c : ℕ) (a : IpAddr) → within_address s c (within_address s c a).addr ≡ within_address s c a
 subnet_twice s c (V4 a) = ap (λ (l : List ℕ). record { source = min s 32; scope = min c 32; addr = V4 l }) (masked_twice (min s 32) a)
 subnet_twice s c (V6 a) = ap (λ (l : List ℕ). record { source = min s 128; scope = min c 128; addr = V6 l }) (masked_twice (min s 128) a)

@@ -7,7 +7,7 @@ use Rattle.dns_name.specs.OptData.{kind, whole, for_code}
 use Rattle.dns_name.proofs.Readings.{not_below, taken_whole}
 use Rattle.dns_name.proofs.Spelt.{spelt_alone}
 use Rattle.dns_kinds.specs.Timers.{expire_data, expire_octets, keepalive_data, keepalive_octets}
-use Rattle.dns_kinds.specs.Extended.{Extended, extended, extended_data, extended_of, extended_octets, text_of, text_octets}
+use Rattle.dns_kinds.specs.Extended.{Extended, extended, extended_data, extended_of, extended_octets, taken_text, text_octets}
 use Rattle.dns_kinds.specs.Chains.{chain_data, are_labels, is_name}
 
 both : (a b : Bool) → (a && b) ≡ true → (a ≡ true) × (b ≡ true)
@@ -66,7 +66,7 @@ has_octets (Some (x ∷ t)) = true
 abbrev pub is_extended : Extended → Bool
 is_extended k = nat_le (length (text_octets k.text)) 65533 && has_octets k.text
 
-text_again : (t : Option (List ℕ)) → has_octets t ≡ true → text_of (text_octets t) ≡ t
+text_again : (t : Option (List ℕ)) → has_octets t ≡ true → taken_text (text_octets t) ≡ t
 text_again None h = refl
 text_again (Some []) h = absurd (cc)
 text_again (Some (x ∷ t)) h = refl

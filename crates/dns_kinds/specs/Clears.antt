@@ -8,7 +8,7 @@ use Rattle.dns_name.specs.OptData.{kind, whole, for_code}
 use Rattle.dns_name.proofs.Readings.{same_number, taken_whole}
 use Rattle.dns_name.specs.declared.address.IpAddr.TheVariants.{V4, V6}
 use Rattle.dns_name.specs.declared.address.IpAddr.{IpAddr}
-use Rattle.dns_kinds.specs.Subnet.{Subnet, mask_octet, masked, octets_for, padded, address, with_address, subnet_data, subnet_octets, is_clear, is_clear_addr}
+use Rattle.dns_kinds.specs.Subnet.{Subnet, mask_octet, masked, octets_for, with_zeros, address, with_address, subnet_data, subnet_octets, is_clear, is_clear_addr}
 
 -- the subnets that come back
 abbrev pub is_clear_subnet : Subnet → Bool
@@ -84,7 +84,7 @@ address_again w s a h =
     let room : octets_for s ≤ w = enough s w (at_most s (8 * w) short.0) in
     let taken : length (take (octets_for s) a) ≡ octets_for s = length_take (octets_for s) a (omega arith) in
     let back = padded_again s a small.0 (alike (masked s a) a small.1) in
-    let full : padded w (take (octets_for s) a) ≡ a = rw (taken, sym size) back in
+    let full : with_zeros w (take (octets_for s) a) ≡ a = rw (taken, sym size) back in
     (rw (too_few w (octets_for s) room, full, taken, same_number (octets_for s), small.1) refl, taken)
 
 v4_again : (s c : ℕ) (a : List ℕ) → is_clear 4 s a ≡ true → kind (for_code 8 subnet_data) 8 (0 ∷ 1 ∷ s ∷ c ∷ take (octets_for s) a) ≡ Some (Ok (record { source = s; scope = c; addr = V4 a }))

@@ -26,18 +26,18 @@ text_octets None = []
 text_octets (Some t) = t
 
 -- with its code a text has at most 65,535 octets
-abbrev pub Fits : Option (List ℕ) → Type 0
-Fits t = length (text_octets t) ≤ 65533
+abbrev pub TextFits : Option (List ℕ) → Type 0
+TextFits t = length (text_octets t) ≤ 65533
 
 -- no octets are no text
-abbrev pub text_of : List ℕ → Option (List ℕ)
-text_of [] = None
-text_of (x ∷ t) = Some (x ∷ t)
+abbrev pub taken_text : List ℕ → Option (List ℕ)
+taken_text [] = None
+taken_text (x ∷ t) = Some (x ∷ t)
 
 abbrev pub extended_of : List ℕ → Taken Extended
 extended_of [] = Err ShortInput
 extended_of (a ∷ []) = Err ShortInput
-extended_of (a ∷ b ∷ t) = Ok (extended (be16 a b) (text_of t), length t + 2)
+extended_of (a ∷ b ∷ t) = Ok (extended (be16 a b) (taken_text t), length t + 2)
 
 abbrev pub extended_data : List ℕ → Taken Extended
 extended_data d = if nat_lt 65535 (length d) then Err (Form LongList) else extended_of d
@@ -55,16 +55,16 @@ ReadsText (Some t) (Some (Err o)) = (o.now ≡ t) × ¬ (IsUtf8 t)
 
 -- what comes of a code and a text that is copied
 abbrev pub Copied : ℕ → List ℕ → Result Extended BuildDataError → Type 0
-Copied c t (Ok k) = Fits (Some t) × (k ≡ extended c (Some t))
+Copied c t (Ok k) = TextFits (Some t) × (k ≡ extended c (Some t))
 Copied c t (Err LongOptData) = 65533 < length t
-Copied c t (Err NoMemory) = Fits (Some t)
+Copied c t (Err NoMemory) = TextFits (Some t)
 Copied c t (Err (WrongLength a b)) = ⊥
 Copied c t (Err ShortBuf) = ⊥
 
 -- what comes of a code and a text that is taken
-abbrev pub Made : {E : Type 0} → ℕ → Option (List ℕ) → Result Extended E → Type 0
-Made c t (Ok k) = Fits t × (k ≡ extended c t)
-Made c t (Err e) = 65533 < length (text_octets t)
+abbrev pub MadeExtended : {E : Type 0} → ℕ → Option (List ℕ) → Result Extended E → Type 0
+MadeExtended c t (Ok k) = TextFits t × (k ≡ extended c t)
+MadeExtended c t (Err e) = 65533 < length (text_octets t)
 
 -- the text behind a space, with U+FFFD for each part that is none
 abbrev pub text_shown : Option (List ℕ) → List ℕ

@@ -33,14 +33,14 @@ abbrev pub octets_for : ℕ → ℕ
 octets_for s = (s + 7) / 8
 
 -- octets with zeros behind them, w in all
-abbrev pub padded : ℕ → List ℕ → List ℕ
-padded w d = d ++ drop (length d) (replicate w 0)
+abbrev pub with_zeros : ℕ → List ℕ → List ℕ
+with_zeros w d = d ++ drop (length d) (replicate w 0)
 
 -- the address of w octets that octets stand for under s bits, or why they stand for none
 unfoldable pub address : ℕ → ℕ → List ℕ → Result (List ℕ) ParseError
 address w s d =
     if nat_lt w (octets_for s) then Err (Form AddressLength)
-    else (if nat_eq (length d) (octets_for s) then (if pointwise nat_eq (masked s (padded w d)) (padded w d) then Ok (padded w d) else Err (Form AddressBits))
+    else (if nat_eq (length d) (octets_for s) then (if pointwise nat_eq (masked s (with_zeros w d)) (with_zeros w d) then Ok (with_zeros w d) else Err (Form AddressBits))
     else Err (Form AddressLength))
 
 abbrev pub with_address : (List ℕ → IpAddr) → ℕ → ℕ → ℕ → Result (List ℕ) ParseError → Taken Subnet
@@ -68,20 +68,20 @@ abbrev pub family : IpAddr → ℕ
 family (V4 a) = 1
 family (V6 a) = 2
 
-abbrev pub octets_of : IpAddr → List ℕ
-octets_of (V4 a) = a
-octets_of (V6 a) = a
+abbrev pub addr_octets : IpAddr → List ℕ
+addr_octets (V4 a) = a
+addr_octets (V6 a) = a
 
 abbrev pub masked_addr : ℕ → IpAddr → IpAddr
 masked_addr s (V4 a) = V4 (masked s a)
 masked_addr s (V6 a) = V6 (masked s a)
 
 -- both prefixes within the address, and the bits past the source prefix cleared
-abbrev pub limited : ℕ → ℕ → IpAddr → Subnet
-limited s c a = record { source = min s (width a); scope = min c (width a); addr = masked_addr (min s (width a)) a }
+abbrev pub within_address : ℕ → ℕ → IpAddr → Subnet
+within_address s c a = record { source = min s (width a); scope = min c (width a); addr = masked_addr (min s (width a)) a }
 
 abbrev pub subnet_octets : Subnet → List ℕ
-subnet_octets k = 0 ∷ family k.addr ∷ k.source ∷ k.scope ∷ take (octets_for k.source) (octets_of k.addr)
+subnet_octets k = 0 ∷ family k.addr ∷ k.source ∷ k.scope ∷ take (octets_for k.source) (addr_octets k.addr)
 
 -- the source prefix is within the address, which has no bit past it
 abbrev pub IsSubnet : ℕ → IpAddr → Type 0

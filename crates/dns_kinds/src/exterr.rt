@@ -5,7 +5,7 @@ ghost use Rattle.std.specs.Option.{option_copied};
 ghost use Rattle.dns_name.specs.OptData.{ParsesData, for_code};
 ghost use Rattle.dns_name.specs.Place.{rest};
 ghost use Rattle.dns_kinds.specs.Again.{extended_again, is_extended};
-ghost use Rattle.dns_kinds.specs.Extended.{Copied, Fits, IsRead, Made, ReadsText, extended, extended_data, extended_octets, extended_text, text_octets, text_shown};
+ghost use Rattle.dns_kinds.specs.Extended.{Copied, TextFits, IsRead, MadeExtended, ReadsText, extended, extended_data, extended_octets, extended_text, text_octets, text_shown};
 
 use bstr::BStr;
 use dns_name::{
@@ -32,7 +32,7 @@ pub struct HeldExtendedError<S: HoldsOctets> {
 }
 
 impl<S: HoldsOctets> Model for HeldExtendedError<S> {
-    ghost use Rattle.dns_kinds.specs.Extended.{Extended, Fits, extended};
+    ghost use Rattle.dns_kinds.specs.Extended.{Extended, TextFits, extended};
 
     ghost Value = { Extended };
 
@@ -40,7 +40,7 @@ impl<S: HoldsOctets> Model for HeldExtendedError<S> {
 
     ghost inverse = { λ e. record { code = e.code; text = e.text } };
 
-    ghost invariant = { λ k. Fits k.text };
+    ghost invariant = { λ k. TextFits k.text };
 }
 
 impl<S: HoldsOctets> HeldExtendedError<S> {
@@ -49,7 +49,7 @@ impl<S: HoldsOctets> HeldExtendedError<S> {
         code: ExtendedErrorCode,
         text: Option<S>,
     ) -> Result<HeldExtendedError<S>, LongOptData>
-        ensures { Made code (option_map S.octets text) result }
+        ensures { MadeExtended code (option_map S.octets text) result }
     {
         let Some(text) = text else {
             return Ok(HeldExtendedError { code, text: None });
@@ -230,7 +230,7 @@ impl From<u16> for HeldExtendedError<Vec<u8>> {
 impl TryFrom<(ExtendedErrorCode, Vec<u8>)> for HeldExtendedError<Vec<u8>> {
     type Error = LongOptData;
 
-    ghost try_from_gives = { λ p result. Made p.0 (Some p.1.items) result };
+    ghost try_from_gives = { λ p result. MadeExtended p.0 (Some p.1.items) result };
 
     fn try_from(parts: (ExtendedErrorCode, Vec<u8>)) -> Result<ExtendedError, LongOptData> {
         let (code, text) = parts;

@@ -4,7 +4,7 @@ ghost use Rattle.std.specs.Prelude.{◌≡◌, ℕ, List, Option as Maybe};
 ghost use Rattle.std.specs.Option.{option_cmp};
 ghost use Rattle.std.specs.Ordering.{nat_cmp};
 ghost use Rattle.dns_name.specs.declared.address.IpAddr.{IpAddr};
-ghost use Rattle.dns_kinds.specs.Subnet.{Subnet, limited, masked, masked_addr, subnet_cmp};
+ghost use Rattle.dns_kinds.specs.Subnet.{Subnet, within_address, masked, masked_addr, subnet_cmp};
 
 use crate::expire::Expire;
 use crate::keepalive::TcpKeepalive;
@@ -14,7 +14,7 @@ use crate::subnet::ClientSubnet;
 pub fn masking_twice_is_masking_once()
     ensures octets { (s : ℕ) (octets : List ℕ) → masked s (masked s octets) ≡ masked s octets }
     ensures address { (s : ℕ) (a : IpAddr) → masked_addr s (masked_addr s a) ≡ masked_addr s a }
-    ensures subnet { (s c : ℕ) (a : IpAddr) → limited s c (limited s c a).addr ≡ limited s c a }
+    ensures subnet { (s c : ℕ) (a : IpAddr) → within_address s c (within_address s c a).addr ≡ within_address s c a }
 {}
 
 /// Subnets are ordered by what their readers give: source prefix, scope prefix, address; expire times and timeouts by

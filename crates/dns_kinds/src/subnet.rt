@@ -4,7 +4,7 @@ ghost use Rattle.std.specs.Prelude.{◌≡◌, ◌≤◌, length, take, true};
 ghost use Rattle.dns_name.specs.OptData.{ParsesData, for_code};
 ghost use Rattle.dns_name.specs.Place.{rest};
 ghost use Rattle.dns_kinds.specs.Clears.{is_clear_subnet, subnet_again};
-ghost use Rattle.dns_kinds.specs.Subnet.{IsWhole, family, limited, octets_for, octets_of, subnet_data, subnet_octets};
+ghost use Rattle.dns_kinds.specs.Subnet.{IsWhole, family, within_address, octets_for, addr_octets, subnet_data, subnet_octets};
 
 use crate::mask::{address4, address16, mask4, mask16, prefix};
 use dns_name::{
@@ -38,7 +38,7 @@ impl Model for ClientSubnet {
 impl ClientSubnet {
     /// Limits both prefixes to the address, and clears its bits past the source prefix.
     pub fn new(source_prefix_len: u8, scope_prefix_len: u8, addr: IpAddr) -> ClientSubnet
-        ensures { result ≡ limited source_prefix_len scope_prefix_len addr }
+        ensures { result ≡ within_address source_prefix_len scope_prefix_len addr }
     {
         match addr {
             IpAddr::V4(a) => {
@@ -83,7 +83,7 @@ impl ClientSubnet {
 
     /// The octets of the address that the source prefix takes.
     fn sent(&self) -> &[u8]
-        ensures value { result.now ≡ take (octets_for self.now.source) (octets_of self.now.addr) }
+        ensures value { result.now ≡ take (octets_for self.now.source) (addr_octets self.now.addr) }
         ensures few { length result.now ≤ 16 }
         ensures clear { is_clear_subnet self.now ≡ true }
     {
@@ -112,7 +112,7 @@ fn family_of(addr: &IpAddr) -> u8
 
 /// The octets of an address.
 fn octets(addr: &IpAddr) -> &[u8]
-    ensures { result.now ≡ octets_of addr.now }
+    ensures { result.now ≡ addr_octets addr.now }
 {
     match addr {
         IpAddr::V4(octets) => octets,

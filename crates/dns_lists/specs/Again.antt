@@ -4,7 +4,7 @@ use Rattle.std.specs.Prelude.{nat_le, nat_eq, Some, Ok}
 use Rattle.dns_name.specs.OptData.{kind, for_code}
 use Rattle.dns_name.proofs.Readings.{not_above, not_below}
 use Rattle.dns_lists.specs.Tags.{are_tags, tag_data}
-use Rattle.dns_lists.specs.Unknowns.{Unknown, unknown_data}
+use Rattle.dns_lists.specs.Unknowns.{Unknown, unknown_taken}
 
 both : (a b : Bool) → (a && b) ≡ true → (a ≡ true) × (b ≡ true)
 both true true h = (refl, refl)
@@ -18,5 +18,5 @@ tags_again k h =
     rw (not_above 65535 (length k) parts.0, parts.1, not_below (length k)) refl
 
 -- data of any code comes back
-pub unknown_again : (k : Unknown) → nat_le (length k.octets) 65535 ≡ true → kind unknown_data k.code k.octets ≡ Some (Ok k)
+pub unknown_again : (k : Unknown) → nat_le (length k.octets) 65535 ≡ true → kind unknown_taken k.code k.octets ≡ Some (Ok k)
 unknown_again k h = rw (not_above 65535 (length k.octets) h, not_below (length k.octets)) refl

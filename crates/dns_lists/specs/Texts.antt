@@ -24,10 +24,10 @@ abbrev pub plain_text : List ℕ → List ℕ
 plain_text d = flat_map (λ x. hex (x / 16) ++ hex (x % 16)) d
 
 -- numbers, each behind a comma and a space
-abbrev pub more_text : List ℕ → List ℕ
-more_text ns = flat_map (λ n. 44 ∷ 32 ∷ hex n) ns
+abbrev pub more_numbers_text : List ℕ → List ℕ
+more_numbers_text ns = flat_map (λ n. 44 ∷ 32 ∷ hex n) ns
 
 -- numbers joined by a comma and a space
 abbrev pub numbers_text : List ℕ → List ℕ
 numbers_text [] = []
-numbers_text (n ∷ ns) = hex n ++ more_text ns
+numbers_text (n ∷ ns) = hex n ++ more_numbers_text ns

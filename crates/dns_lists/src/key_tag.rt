@@ -7,7 +7,7 @@ ghost use Rattle.dns_name.specs.OptData.{ParsesData, for_code};
 ghost use Rattle.dns_name.specs.Place.{rest};
 ghost use Rattle.dns_lists.specs.Again.{tags_again};
 ghost use Rattle.dns_lists.specs.Tags.{AreTags, are_tags, tag_data, tag_octets, tags};
-ghost use Rattle.dns_lists.specs.Texts.{more_text, numbers_text};
+ghost use Rattle.dns_lists.specs.Texts.{more_numbers_text, numbers_text};
 
 use dns_name::{
     ComposeOptData, FormReason, Held, HoldsOctets, OptData, OptionCode, OutOfMemory, ParseError,
@@ -248,7 +248,7 @@ impl<'a> ReadBack<'a> for HeldKeyTag<&'a [u8]> {
 
 /// Writes tags in hexadecimal, each behind a comma and a space.
 fn write_more<W: fmt::Write>(tags: KeyTagIter<'_>, f: &mut fmt::Formatter<W>) -> fmt::Result
-    ensures { WritesOnOk W.write_str_gives f.old result (more_text tags.entry) f.new }
+    ensures { WritesOnOk W.write_str_gives f.old result (more_numbers_text tags.entry) f.new }
 {
     let mut left = tags;
     'each: while let Some(tag) = left.next() {

@@ -3,7 +3,7 @@
 ghost use Rattle.std.specs.Prelude.{◌≡◌, ◌≤◌, ◌<◌, ◌++◌, ℕ, List, length, nat_le, true, Some, Ok, IfOk, OnOk, MatchResult};
 ghost use Rattle.dns_lists.specs.Again.{unknown_again};
 ghost use Rattle.dns_lists.specs.Texts.{plain_text};
-ghost use Rattle.dns_lists.specs.Unknowns.{unknown, unknown_data};
+ghost use Rattle.dns_lists.specs.Unknowns.{unknown, unknown_taken};
 
 use crate::texts::write_plain;
 use dns_name::{
@@ -138,7 +138,7 @@ impl<S: HoldsOctets> OptData for HeldUnknown<S> {
 }
 
 impl<'a> ParseOptData<'a> for HeldUnknown<&'a [u8]> {
-    ghost takes = { unknown_data };
+    ghost takes = { unknown_taken };
 
     fn parse_option(
         code: OptionCode,

@@ -11,13 +11,13 @@ use Rattle.dns_base.specs.Msg.{Msg, ResourceRecord, IsMessage, HasName, HasOwner
 use Rattle.dns_base.specs.Options.{option_list}
 use Rattle.dns_base.specs.Wire.{question_octets, record_octets, wire}
 use Rattle.dns_base.specs.Built.{Built, with_additional}
-use Rattle.dns_base.specs.Replies.{copied}
+use Rattle.dns_base.specs.Replies.{with_copied}
 use Rattle.dns_base.specs.Sections.{Items, all_of, questions_of}
 use Rattle.dns_base.proofs.Copied.{copied_on, copied_off, readable_all}
 use Rattle.dns_message.proofs.Written.{questions_written}
 use Rattle.dns_middleware.specs.Cut.{fits, truncated, first_fitting, shortened, cut, built_fitting, or_else, Added}
 use Rattle.dns_opt.specs.OptRecords.{where_list, listed, opt_record_among}
-use Rattle.dns_middleware.specs.OptIn.{minimal, opt_record_in, readable}
+use Rattle.dns_middleware.specs.OptIn.{minimal, opt_record_in, readable_items}
 
 -- the octets of questions and of records
 abbrev pub asking : List Question → ℕ
@@ -38,7 +38,7 @@ asking_more qs more = ap length (flat_map-append question_octets qs more) ∙ le
 abbrev pub at : Msg → ℕ → List Question → Built
 at m n qs = record { message = truncated m qs []; limit = n }
 
-copied_within : (m : Msg) (n : ℕ) (more qs : List Question) → 12 + asking (qs ++ more) ≤ n → copied (at m n qs) more ≡ (at m n (qs ++ more), true)
+copied_within : (m : Msg) (n : ℕ) (more qs : List Question) → 12 + asking (qs ++ more) ≤ n → with_copied (at m n qs) more ≡ (at m n (qs ++ more), true)
 copied_within m n [] qs h = ap (λ l. (at m n l, true)) (sym (append-nil qs))
 copied_within m n (q ∷ more) qs h =
     let e : (qs ++ q ∷ []) ++ more ≡ qs ++ q ∷ more = append_assoc qs (q ∷ []) more in
@@ -46,7 +46,7 @@ copied_within m n (q ∷ more) qs h =
     let here : length (wire (truncated m (qs ++ q ∷ []) [])) ≤ n = omega (arith, size m (qs ++ q ∷ []) [], asking_more (qs ++ q ∷ []) more) in
     copied_on (at m n qs) q more here ∙ (copied_within m n more (qs ++ q ∷ []) k ∙ ap (λ l. (at m n l, true)) e)
 
-copied_past : (m : Msg) (n : ℕ) (more qs : List Question) → 12 + asking qs ≤ n → n < 12 + asking (qs ++ more) → (copied (at m n qs) more).1 ≡ false
+copied_past : (m : Msg) (n : ℕ) (more qs : List Question) → 12 + asking qs ≤ n → n < 12 + asking (qs ++ more) → (with_copied (at m n qs) more).1 ≡ false
 copied_past m n [] qs h g =
     let e : asking (qs ++ []) ≡ asking qs = ap asking (append-nil qs) in
     absurd (omega arith)
@@ -77,7 +77,7 @@ pub unfit : (n : ℕ) (m : Msg) → n < length (wire m) → built_fitting n m �
 unfit n m h = other _ _ _ _ h
 
 -- the questions are copied
-pub asked_all : (m : Msg) (n : ℕ) (new : Built) → 12 ≤ n → copied (at m n []) m.questions ≡ (new, true) → Some new ≡ built_fitting n (truncated m m.questions [])
+pub asked_all : (m : Msg) (n : ℕ) (new : Built) → 12 ≤ n → with_copied (at m n []) m.questions ≡ (new, true) → Some new ≡ built_fitting n (truncated m m.questions [])
 asked_all m n new h g =
     let s = size m m.questions [] in
     elim (cases_lt n (12 + asking m.questions)) [
@@ -85,7 +85,7 @@ asked_all m n new h g =
       | inr y ↦ ap (λ (p : Built × Bool). Some p.0) (sym g ∙ copied_within m n m.questions [] y) ∙ sym (fit n (truncated m m.questions []) (omega (arith, s)))
     ]
 
-pub asked_less : (m : Msg) (n : ℕ) (new : Built) → copied (at m n []) m.questions ≡ (new, false) → None ≡ built_fitting n (truncated m m.questions [])
+pub asked_less : (m : Msg) (n : ℕ) (new : Built) → with_copied (at m n []) m.questions ≡ (new, false) → None ≡ built_fitting n (truncated m m.questions [])
 asked_less m n new g =
     let s = size m m.questions [] in
     elim (cases_lt n (12 + asking m.questions)) [
@@ -97,14 +97,14 @@ pub asked_none : (m : Msg) (n : ℕ) → n < 12 → None ≡ built_fitting n (tr
 asked_none m n h = let s = size m m.questions [] in sym (unfit n (truncated m m.questions []) (omega (arith, s)))
 
 -- the questions of a message that is written
-questions_given : (m : Msg) (o : List ℕ) (items : List (Result Question ParseError)) → IsMessage m → o ≡ wire m → items ≡ all_of (questions_of o) → readable items ≡ m.questions
+questions_given : (m : Msg) (o : List ℕ) (items : List (Result Question ParseError)) → IsMessage m → o ≡ wire m → items ≡ all_of (questions_of o) → readable_items items ≡ m.questions
 questions_given m o items n h g =
-    ap readable (g ∙ ap (λ x. all_of (questions_of x)) h) ∙ (readable_all (questions_of (wire m)) ∙ ap (λ (i : Items Question). i.0) (questions_written m n))
+    ap readable_items (g ∙ ap (λ x. all_of (questions_of x)) h) ∙ (readable_all (questions_of (wire m)) ∙ ap (λ (i : Items Question). i.0) (questions_written m n))
 
 pub copied_given : (m : Msg) (n : ℕ) (b new : Built) (o : List ℕ) (items : List (Result Question ParseError)) (all want : Bool) →
-    IsMessage m → o ≡ wire m → items ≡ all_of (questions_of o) → b ≡ at m n [] → copied b (readable items) ≡ (new, all) → all ≡ want → copied (at m n []) m.questions ≡ (new, want)
+    IsMessage m → o ≡ wire m → items ≡ all_of (questions_of o) → b ≡ at m n [] → with_copied b (readable_items items) ≡ (new, all) → all ≡ want → with_copied (at m n []) m.questions ≡ (new, want)
 copied_given m n b new o items all want i h g e k w =
-    ap (λ x. copied x m.questions) (sym e) ∙ (ap (copied b) (sym (questions_given m o items i h g)) ∙ (k ∙ ap (λ t. (new, t)) w))
+    ap (λ x. with_copied x m.questions) (sym e) ∙ (ap (with_copied b) (sym (questions_given m o items i h g)) ∙ (k ∙ ap (λ t. (new, t)) w))
 
 -- ---- a record more
 

@@ -3,7 +3,7 @@ use Rattle.std.proofs.Common.{◌≡◌, ℕ, List, [], ◌∷◌, Bool, true, f
 use Rattle.dns_name.specs.declared.error.ParseError.{ParseError}
 use Rattle.dns_base.specs.Sections.{authority_of, reached, standing_additional}
 use Rattle.dns_base.specs.Standing.{Standing}
-use Rattle.dns_opt.specs.OptRecords.{OptState, first_opt, opt_in, opt_of, readable}
+use Rattle.dns_opt.specs.OptRecords.{OptState, first_opt, opt_in, opt_of, readable_opt}
 use Rattle.dns_middleware.specs.declared.opt_items.OptItems.TheVariants.{NoItem, BadFirst, OneRecord, Several}
 use Rattle.dns_middleware.specs.OptItems.{items_among, items_reached, opt_items, first_item, kind_of}
 use Rattle.dns_middleware.specs.Edns.{record_refusal, items_refusal}
@@ -16,7 +16,7 @@ first_by false x more items h = h
 first_among : (records : List (Result Standing ParseError)) → first_opt records ≡ first_item (items_among records)
 first_among [] = refl
 first_among (Err e ∷ more) = refl
-first_among (Ok s ∷ more) = first_by (nat_eq s.resource.rtype 41) (readable s.resource) (first_opt more) (items_among more) (first_among more)
+first_among (Ok s ∷ more) = first_by (nat_eq s.resource.rtype 41) (readable_opt s.resource) (first_opt more) (items_among more) (first_among more)
 
 first_reached : (r : Result (List (Result Standing ParseError)) ParseError) → opt_in r ≡ first_item (items_reached r)
 first_reached (Ok more) = first_among more

@@ -16,7 +16,7 @@ use Rattle.dns_service.specs.Req.{Req}
 use Rattle.dns_service.specs.ServiceFn.{hint_at_entry}
 use Rattle.dns_service.specs.Transport.{hint_of, hinted, is_stream}
 use Rattle.dns_service.specs.WithOption.{with_option}
-use Rattle.dns_middleware.specs.Rewritten.{own, each_rewritten}
+use Rattle.dns_middleware.specs.Rewritten.{own_reply, each_rewritten}
 use Rattle.dns_middleware.specs.OptItems.{opt_items}
 
 -- a keepalive has a timeout, which a client may not send
@@ -110,7 +110,7 @@ edns_post r m = with_some_opt (is_some (opt_of r.octets)) (with_keepalive (keepa
 
 -- the answers of an enabled layer, which answers by itself where it has a code
 abbrev pub enabled_by : {Meta : Type 0} → Option ℕ → (Req Meta → ℕ → Answer) → Req Meta → ℕ → Answer
-enabled_by (Some code) answer r = own (edns_post r (error_reply r.octets code))
+enabled_by (Some code) answer r = own_reply (edns_post r (error_reply r.octets code))
 enabled_by None answer r = each_rewritten (edns_post r) (answer (edns_passed r))
 
 -- what the layer answers, enabled or not, by what the service inside answers

@@ -12,7 +12,7 @@ use Rattle.dns_service.specs.ErrorReply.{error_reply}
 use Rattle.dns_service.specs.Req.{Req}
 use Rattle.dns_service.specs.ServiceFn.{hint_at_entry}
 use Rattle.dns_middleware.specs.Cut.{cut}
-use Rattle.dns_middleware.specs.Rewritten.{own, each_rewritten}
+use Rattle.dns_middleware.specs.Rewritten.{own_reply, each_rewritten}
 
 -- how many octets a reply over UDP may take, by the request's hint: at least 512
 abbrev pub limit : Option ℕ → ℕ
@@ -47,7 +47,7 @@ mandatory_refusal strict o = if strict then strict_refusal o else None
 
 -- the layer's answers, by whether it refuses the request, and by the inner answers and the hint that the inner service leaves
 abbrev pub answers_by : {Meta : Type 0} → Option ℕ → (Req Meta → ℕ → Answer) → (Req Meta → Option ℕ) → Req Meta → ℕ → Answer
-answers_by (Some code) answer hint r = own (mand_post (limit (hint_at_entry r)) r (error_reply r.octets code))
+answers_by (Some code) answer hint r = own_reply (mand_post (limit (hint_at_entry r)) r (error_reply r.octets code))
 answers_by None answer hint r = each_rewritten (mand_post (limit (hint r)) r) (answer r)
 
 abbrev pub mandatory : {Meta : Type 0} → Bool → (Req Meta → ℕ → Answer) → (Req Meta → Option ℕ) → Req Meta → ℕ → Answer

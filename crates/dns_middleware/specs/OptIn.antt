@@ -14,11 +14,11 @@ abbrev pub minimal : ResourceRecord → ResourceRecord
 minimal r = opt_record (opt_state (record (head_by r.class r.ttl) { flags = 0 }) [])
 
 -- what an iterator gives before its first refusal
-abbrev pub readable : {A : Type 0} → List (Result A ParseError) → List A
-readable [] = []
-readable (Ok x ∷ more) = x ∷ readable more
-readable (Err e ∷ more) = []
+abbrev pub readable_items : {A : Type 0} → List (Result A ParseError) → List A
+readable_items [] = []
+readable_items (Ok x ∷ more) = x ∷ readable_items more
+readable_items (Err e ∷ more) = []
 
 -- the records that an iterator gives
 abbrev pub resources : List (Result Standing ParseError) → List ResourceRecord
-resources items = map (λ (s : Standing). s.resource) (readable items)
+resources items = map (λ (s : Standing). s.resource) (readable_items items)

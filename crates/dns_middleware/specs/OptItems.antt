@@ -3,7 +3,7 @@ use Rattle.std.specs.Prelude.{ℕ, List, [], ◌∷◌, Option, Some, None, Resu
 use Rattle.dns_name.specs.declared.error.ParseError.{ParseError}
 use Rattle.dns_base.specs.Sections.{authority_of, reached, standing_additional}
 use Rattle.dns_base.specs.Standing.{Standing}
-use Rattle.dns_opt.specs.OptRecords.{OptState, readable}
+use Rattle.dns_opt.specs.OptRecords.{OptState, readable_opt}
 use Rattle.dns_middleware.specs.declared.opt_items.OptItems.{OptItems}
 use Rattle.dns_middleware.specs.declared.opt_items.OptItems.TheVariants.{NoItem, BadFirst, OneRecord, Several}
 
@@ -11,7 +11,7 @@ use Rattle.dns_middleware.specs.declared.opt_items.OptItems.TheVariants.{NoItem,
 abbrev pub items_among : List (Result Standing ParseError) → List (Option OptState)
 items_among [] = []
 items_among (Err e ∷ more) = None ∷ []
-items_among (Ok s ∷ more) = if nat_eq s.resource.rtype 41 then readable s.resource ∷ items_among more else items_among more
+items_among (Ok s ∷ more) = if nat_eq s.resource.rtype 41 then readable_opt s.resource ∷ items_among more else items_among more
 
 abbrev pub items_reached : Result (List (Result Standing ParseError)) ParseError → List (Option OptState)
 items_reached (Ok more) = items_among more

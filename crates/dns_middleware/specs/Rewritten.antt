@@ -15,8 +15,8 @@ rewritten f (Ok given) = Ok (record given { response = option_map f given.respon
 rewritten f (Err error) = Err error
 
 -- a layer's own reply: the item at answer 0, the end from answer 1
-abbrev pub own : Msg → ℕ → Answer
-own m = once (reply m)
+abbrev pub own_reply : Msg → ℕ → Answer
+own_reply m = once (reply m)
 
 -- answers whose replies are rewritten
 abbrev pub each_rewritten : (Msg → Msg) → (ℕ → Answer) → ℕ → Answer

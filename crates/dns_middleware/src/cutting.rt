@@ -3,9 +3,9 @@
 ghost use Rattle.std.specs.Prelude.{◌≡◌, ◌≤◌, [], ◌∷◌, IfOk, OnOk, OnErr, length};
 ghost use Rattle.dns_base.specs.Built.{with_additional};
 ghost use Rattle.dns_base.specs.Records.{record_of, IsLawful};
-ghost use Rattle.dns_base.specs.Replies.{copied};
+ghost use Rattle.dns_base.specs.Replies.{with_copied};
 ghost use Rattle.dns_middleware.specs.Cut.{cut_built, built_fitting, first_fitting, or_else, shortened, truncated, Added};
-ghost use Rattle.dns_middleware.specs.OptIn.{minimal, opt_record_in, readable};
+ghost use Rattle.dns_middleware.specs.OptIn.{minimal, opt_record_in, readable_items};
 
 use crate::opt_in::{minimal, opt_record_in};
 use dns_base::{
@@ -176,7 +176,7 @@ fn copy_questions(
     target: &mut QuestionBuilder,
     source: QuestionIter<'_>,
 ) -> Result<bool, OutOfMemory>
-    ensures { IfOk result (λ all. copied target.old (readable source.entry) ≡ (target.new, all)) }
+    ensures { IfOk result (λ all. with_copied target.old (readable_items source.entry) ≡ (target.new, all)) }
 {
     let mut left = source;
     'walk: while let Some(Ok(question)) = left.next() {

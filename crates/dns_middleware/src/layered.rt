@@ -5,7 +5,7 @@ ghost use Rattle.dns_base.specs.Msg.{Msg};
 ghost use Rattle.dns_service.specs.declared.message.Request.{Request};
 ghost use Rattle.dns_service.specs.ErrorReply.{error_reply};
 ghost use Rattle.dns_service.specs.Req.{with_metadata};
-ghost use Rattle.dns_middleware.specs.Rewritten.{own, rewritten};
+ghost use Rattle.dns_middleware.specs.Rewritten.{own_reply, rewritten};
 
 use dns_base::AdditionalBuilder;
 use dns_name::OptRcode;
@@ -72,7 +72,7 @@ fn rewrite_given<R: Rewrite>(
 pub(crate) fn of_own<S: Service<Meta>, Meta, P: Postprocess<()>>(
     own: Once,
 ) -> Now<Layered<S, Meta, P>>
-    ensures { ⟦<Now<Layered<S, Meta, P>> as ReplyFuture>⟧.answer result ≡ ⟦<Once as ReplyStream>⟧.answer own }
+    ensures { ⟦<Now<Layered<S, Meta, P>> as ReplyFuture>⟧.answer result ≡ ⟦<Once as ReplyStream>⟧.answer own_reply }
 {
     Now::new(MiddlewareStream::Result(own))
 }
@@ -93,7 +93,7 @@ pub(crate) fn refuse<R: Rewrite, Meta>(
     request: &Request<Meta>,
     rcode: OptRcode,
 ) -> Result<Once, OutOfMemory>
-    ensures { IfOk result (λ s. ⟦<Once as ReplyStream>⟧.answer s ≡ own (R.rewriting rule.now (with_metadata request.now tt) (error_reply request.now.octets rcode))) }
+    ensures { IfOk result (λ s. ⟦<Once as ReplyStream>⟧.answer s ≡ own_reply (R.rewriting rule.now (with_metadata request.now tt) (error_reply request.now.octets rcode))) }
 {
     let reply = mk_error_response(alloc, request.message(), rcode)?;
     own_reply(rule, alloc, request, reply)
@@ -106,7 +106,7 @@ fn own_reply<R: Rewrite, Meta>(
     request: &Request<Meta>,
     reply: AdditionalBuilder,
 ) -> Result<Once, OutOfMemory>
-    ensures { IfOk result (λ s. ⟦<Once as ReplyStream>⟧.answer s ≡ own (R.rewriting rule.now (with_metadata request.now tt) reply.message)) }
+    ensures { IfOk result (λ s. ⟦<Once as ReplyStream>⟧.answer s ≡ own_reply (R.rewriting rule.now (with_metadata request.now tt) reply.message)) }
 {
     let request = request.try_clone(alloc, ())?;
     let mut reply = reply;

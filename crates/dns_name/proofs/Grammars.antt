@@ -10,8 +10,8 @@ use Rattle.dns_name.specs.declared.piece.Piece.TheVariants.{End, Text, Jump}
 use Rattle.dns_name.specs.declared.piece.Reach.{Reach}
 use Rattle.dns_name.specs.Place.{Read}
 use Rattle.dns_name.specs.Labels.{spell, AreLabels}
-use Rattle.dns_name.specs.Names.{near, piece, piece_of, jump, with_label, with_end, by_piece, name_up_to, most, rest_of, name_by, name_within, uncompressed_at}
-use Rattle.dns_name.specs.Grammar.{Stands, root, label, pointer, Found, StandsPlain}
+use Rattle.dns_name.specs.Names.{near, name_piece, name_piece_of, jump, with_label, with_end, by_piece, name_up_to, most, rest_of, name_by, name_within, uncompressed_at}
+use Rattle.dns_name.specs.Grammar.{NameStands, root, label, pointer, Found, StandsPlain}
 use Rattle.dns_name.proofs.Walks.{jump_no_text, jump_no_end, rest_unrolled, rest_text, rest_jump}
 use Rattle.dns_name.proofs.Spelt.{piece_end, piece_text, behind, further, length_spell, near_prefix, seen_prefix, take_all, plain_spelt}
 
@@ -34,16 +34,16 @@ followed limit = record { limit = limit; pointers = true }
 
 -- ---- what is in the grammar is read
 
-jump_here : (at head low : ℕ) (more : List ℕ) → 192 ≤ head → 256 * (head - 192) + low < at → piece_of true at (head ∷ low ∷ more) ≡ Ok (Jump (256 * (head - 192) + low))
+jump_here : (at head low : ℕ) (more : List ℕ) → 192 ≤ head → 256 * (head - 192) + low < at → name_piece_of true at (head ∷ low ∷ more) ≡ Ok (Jump (256 * (head - 192) + low))
 jump_here at head low more h k = grind (arith, nat_tests)
 
-piece_jump : (limit hops : ℕ) (o : List ℕ) (at high low : ℕ) (more : List ℕ) → drop at (near limit hops o) ≡ (192 + high) ∷ low ∷ more → 256 * high + low < at → piece (followed limit) hops o at ≡ Ok (Jump (256 * high + low))
-unfolding piece
+piece_jump : (limit hops : ℕ) (o : List ℕ) (at high low : ℕ) (more : List ℕ) → drop at (near limit hops o) ≡ (192 + high) ∷ low ∷ more → 256 * high + low < at → name_piece (followed limit) hops o at ≡ Ok (Jump (256 * high + low))
+unfolding name_piece
 piece_jump limit hops o at high low more h k =
     let e : 192 + high - 192 ≡ high = omega arith in
     rw h (jump_here at (192 + high) low more (omega arith) (rw e k) ∙ ap (λ x. Ok (Jump (256 * x + low))) e)
 
-in_read : (o : List ℕ) (limit l at : ℕ) (ls : List (List ℕ)) (h size hops end : ℕ) → Stands o l at ls h end → l ≡ seen_to limit hops o → size + length (spell ls) ≤ 255 → hops + h ≤ 255 →
+in_read : (o : List ℕ) (limit l at : ℕ) (ls : List (List ℕ)) (h size hops end : ℕ) → NameStands o l at ls h end → l ≡ seen_to limit hops o → size + length (spell ls) ≤ 255 → hops + h ≤ 255 →
     rest_of o (followed limit) at size hops ≡ Ok (ls, end)
 in_read o limit _ _ _ _ size hops _ (root l at more d) g r f =
     let d' = at_near limit hops l at o (0 ∷ more) g d in
@@ -104,20 +104,20 @@ jump_octets at head t (low ∷ o) k h =
     let e : head ≡ 192 + (head - 192) = omega arith in
     record { high = head - 192; low = low; more = o; spelt = ap (λ x. x ∷ low ∷ o) e; target = grind (arith, nat_tests); back = grind (arith, nat_tests) }
 
-text_octets : (b : Bool) (at n head : ℕ) (o : List ℕ) → piece_of b at (head ∷ o) ≡ Ok (Text n) → (head ≡ n) × (0 < n) × (n < 64) × (n ≤ length o)
+text_octets : (b : Bool) (at n head : ℕ) (o : List ℕ) → name_piece_of b at (head ∷ o) ≡ Ok (Text n) → (head ≡ n) × (0 < n) × (n < 64) × (n ≤ length o)
 text_octets true at n head o h =
     let j = jump_no_text at head n o in
     (grind (arith, nat_tests), grind (arith, nat_tests), grind (arith, nat_tests), grind (arith, nat_tests))
 text_octets false at n head o h = (grind (arith, nat_tests), grind (arith, nat_tests), grind (arith, nat_tests), grind (arith, nat_tests))
 
-end_octets : (b : Bool) (at head : ℕ) (o : List ℕ) → piece_of b at (head ∷ o) ≡ Ok End → head ≡ 0
+end_octets : (b : Bool) (at head : ℕ) (o : List ℕ) → name_piece_of b at (head ∷ o) ≡ Ok End → head ≡ 0
 end_octets true at head o h = let j = jump_no_end at head o in grind (arith, nat_tests)
 end_octets false at head o h = grind (arith, nat_tests)
 
-pointer_octets : (at t head : ℕ) (o : List ℕ) → piece_of true at (head ∷ o) ≡ Ok (Jump t) → (192 ≤ head) × (jump at head o ≡ Ok (Jump t))
+pointer_octets : (at t head : ℕ) (o : List ℕ) → name_piece_of true at (head ∷ o) ≡ Ok (Jump t) → (192 ≤ head) × (jump at head o ≡ Ok (Jump t))
 pointer_octets at t head o h = (grind (arith, nat_tests), grind (arith, nat_tests))
 
-no_pointer : (at t : ℕ) (d : List ℕ) → piece_of false at d ≡ Ok (Jump t) → ⊥
+no_pointer : (at t : ℕ) (d : List ℕ) → name_piece_of false at d ≡ Ok (Jump t) → ⊥
 no_pointer at t [] h = cc
 no_pointer at t (head ∷ o) h = grind (arith, nat_tests)
 
@@ -130,7 +130,7 @@ record Begun (at n : ℕ) (d : List ℕ) : Type 0 where
   some : 0 < n
   short : n < 64
 
-begun : (b : Bool) (at n : ℕ) (d : List ℕ) → piece_of b at d ≡ Ok (Text n) → Begun at n d
+begun : (b : Bool) (at n : ℕ) (d : List ℕ) → name_piece_of b at d ≡ Ok (Text n) → Begun at n d
 begun b at n [] h = absurd (cc)
 begun b at n (head ∷ d) h =
     let t = text_octets b at n head d h in
@@ -150,29 +150,29 @@ same_label l at n o b =
     let t = behind (take l o) at (length b.name) (b.name ++ b.more) b.spelt in
     ap (λ k. take k (drop (at + 1) o)) (sym b.counted) ∙ seen_prefix true l (at + 1) b.name b.more o t
 
-found_end : (o d : List ℕ) (l at size hops : ℕ) → drop at (take l o) ≡ d → size ≤ 254 → hops ≤ 255 → piece_of true at d ≡ Ok End → Found o l at size hops [] (at + 1)
+found_end : (o d : List ℕ) (l at size hops : ℕ) → drop at (take l o) ≡ d → size ≤ 254 → hops ≤ 255 → name_piece_of true at d ≡ Ok End → Found o l at size hops [] (at + 1)
 found_end o [] l at size hops e s f h = absurd (cc)
 found_end o (head ∷ d) l at size hops e s f h =
     record { pointers = 0; stands = root l at d (e ∙ ap (λ x. x ∷ d) (end_octets true at head d h)); room = omega arith; few = omega arith }
 
-found_text : (o : List ℕ) (l at size hops n : ℕ) (ls : List (List ℕ)) (end : ℕ) → piece_of true at (drop at (take l o)) ≡ Ok (Text n) → Found o l (at + n + 1) (size + n + 1) hops ls end → Found o l at size hops (take n (drop (at + 1) o) ∷ ls) end
+found_text : (o : List ℕ) (l at size hops n : ℕ) (ls : List (List ℕ)) (end : ℕ) → name_piece_of true at (drop at (take l o)) ≡ Ok (Text n) → Found o l (at + n + 1) (size + n + 1) hops ls end → Found o l at size hops (take n (drop (at + 1) o) ∷ ls) end
 found_text o l at size hops n ls end h f =
     let b = begun true at n (drop at (take l o)) h in
-    let q : Stands o l (at + length b.name + 1) ls f.pointers end = rw b.counted f.stands in
+    let q : NameStands o l (at + length b.name + 1) ls f.pointers end = rw b.counted f.stands in
     rw (same_label l at n o b)
     (record { pointers = f.pointers; stands = label l at f.pointers end b.name b.more ls (omega (arith, b.counted, b.some)) (omega (arith, b.counted, b.short)) b.spelt q; room = omega (arith, b.counted, length-append b.name (spell ls), f.room); few = f.few })
 
-found_jump : (o d : List ℕ) (l at size hops t : ℕ) (ls : List (List ℕ)) (end : ℕ) → drop at (take l o) ≡ d → piece_of true at d ≡ Ok (Jump t) → Found o (length o) t size (hops + 1) ls end → Found o l at size hops ls (at + 2)
+found_jump : (o d : List ℕ) (l at size hops t : ℕ) (ls : List (List ℕ)) (end : ℕ) → drop at (take l o) ≡ d → name_piece_of true at d ≡ Ok (Jump t) → Found o (length o) t size (hops + 1) ls end → Found o l at size hops ls (at + 2)
 found_jump o [] l at size hops t ls end e h f = absurd (cc)
 found_jump o (head ∷ d) l at size hops t ls end e h f =
     let p = pointer_octets at t head d h in
     let j = jump_octets at head t d p.0 p.1 in
-    let q : Stands o (length o) (256 * j.high + j.low) ls f.pointers end = rw j.target f.stands in
+    let q : NameStands o (length o) (256 * j.high + j.low) ls f.pointers end = rw j.target f.stands in
     record { pointers = f.pointers + 1; stands = pointer l at f.pointers end j.high j.low j.more ls (e ∙ j.spelt) j.back q; room = f.room; few = omega (arith, f.few) }
 
 found_piece : (go : ℕ → ℕ → ℕ → Read (List (List ℕ))) (o : List ℕ) (limit at size hops : ℕ) (p : Result Piece ParseError) (ls : List (List ℕ)) (e : ℕ) →
     ((a s h : ℕ) (ks : List (List ℕ)) (d : ℕ) → s ≤ 254 → h ≤ 255 → go a s h ≡ Ok (ks, d) → Found o (seen_to limit h o) a s h ks d) →
-    piece_of true at (drop at (take (seen_to limit hops o) o)) ≡ p → size ≤ 254 → hops ≤ 255 → by_piece go o at size hops p ≡ Ok (ls, e) → Found o (seen_to limit hops o) at size hops ls e
+    name_piece_of true at (drop at (take (seen_to limit hops o) o)) ≡ p → size ≤ 254 → hops ≤ 255 → by_piece go o at size hops p ≡ Ok (ls, e) → Found o (seen_to limit hops o) at size hops ls e
 found_piece go o limit at size hops (Err x) ls e ih q s f h = absurd (cc)
 found_piece go o limit at size hops (Ok End) ls e ih q s f h =
     let k : ([], at + 1) ≡ (ls, e) = cc in
@@ -190,11 +190,11 @@ found_piece go o limit at size hops (Ok (Jump t)) ls e ih q s f h =
     (found_jump o _ (seen_to limit hops o) at size hops t ls l.0 refl q (subst (λ (x : ℕ). Found o x t size (hops + 1) ls l.0) (seen_jumped limit hops o) i))
 
 found_up_to : (k : ℕ) (o : List ℕ) (limit at size hops : ℕ) (ls : List (List ℕ)) (e : ℕ) → size ≤ 254 → hops ≤ 255 → name_up_to k o (followed limit) at size hops ≡ Ok (ls, e) → Found o (seen_to limit hops o) at size hops ls e
-unfolding piece
+unfolding name_piece
 found_up_to zero o limit at size hops ls e s f h = absurd (cc)
 found_up_to (suc k) o limit at size hops ls e s f h =
-    found_piece (name_up_to k o (followed limit)) o limit at size hops (piece (followed limit) hops o at) ls e (λ a b c ks d. found_up_to k o limit a b c ks d)
-    (ap (λ t. piece_of true at (drop at t)) (to_seen limit hops o)) s f h
+    found_piece (name_up_to k o (followed limit)) o limit at size hops (name_piece (followed limit) hops o at) ls e (λ a b c ks d. found_up_to k o limit a b c ks d)
+    (ap (λ t. name_piece_of true at (drop at t)) (to_seen limit hops o)) s f h
 
 pub read_in : (o : List ℕ) (limit at : ℕ) (ls : List (List ℕ)) (e : ℕ) → name_within o limit at ≡ Ok (ls, e) → Found o limit at 0 0 ls e
 unfolding name_by rest_of
@@ -217,11 +217,11 @@ record Written (o : List ℕ) (at size : ℕ) (ls : List (List ℕ)) (end : ℕ)
   room : size + length (spell ls) ≤ 255
   ends : end ≡ at + length (spell ls)
 
-written_end : (o d : List ℕ) (at size : ℕ) → drop at o ≡ d → size ≤ 254 → piece_of false at d ≡ Ok End → Written o at size [] (at + 1)
+written_end : (o d : List ℕ) (at size : ℕ) → drop at o ≡ d → size ≤ 254 → name_piece_of false at d ≡ Ok End → Written o at size [] (at + 1)
 written_end o [] at size e s h = absurd (cc)
 written_end o (head ∷ d) at size e s h = record { more = d; spelt = e ∙ ap (λ x. x ∷ d) (end_octets false at head d h); labels = tt; room = omega arith; ends = refl }
 
-written_text : (o : List ℕ) (at size n : ℕ) (ls : List (List ℕ)) (end : ℕ) → piece_of false at (drop at (take (length o) o)) ≡ Ok (Text n) → Written o (at + n + 1) (size + n + 1) ls end → Written o at size (take n (drop (at + 1) o) ∷ ls) end
+written_text : (o : List ℕ) (at size n : ℕ) (ls : List (List ℕ)) (end : ℕ) → name_piece_of false at (drop at (take (length o) o)) ≡ Ok (Text n) → Written o (at + n + 1) (size + n + 1) ls end → Written o at size (take n (drop (at + 1) o) ∷ ls) end
 written_text o at size n ls end h w =
     let b = begun false at n (drop at (take (length o) o)) h in
     let g : drop at o ≡ length b.name ∷ (b.name ++ b.more) = ap (drop at) (sym (take_all o)) ∙ b.spelt in
@@ -240,7 +240,7 @@ written_text o at size n ls end h w =
 
 written_piece : (go : ℕ → ℕ → ℕ → Read (List (List ℕ))) (o : List ℕ) (at size : ℕ) (p : Result Piece ParseError) (ls : List (List ℕ)) (e : ℕ) →
     ((a s : ℕ) (ks : List (List ℕ)) (d : ℕ) → s ≤ 254 → go a s 0 ≡ Ok (ks, d) → Written o a s ks d) →
-    piece_of false at (drop at (take (length o) o)) ≡ p → size ≤ 254 → by_piece go o at size 0 p ≡ Ok (ls, e) → Written o at size ls e
+    name_piece_of false at (drop at (take (length o) o)) ≡ p → size ≤ 254 → by_piece go o at size 0 p ≡ Ok (ls, e) → Written o at size ls e
 written_piece go o at size (Err x) ls e ih q s h = absurd (cc)
 written_piece go o at size (Ok End) ls e ih q s h =
     let k : ([], at + 1) ≡ (ls, e) = cc in
@@ -252,10 +252,10 @@ written_piece go o at size (Ok (Text n)) ls e ih q s h =
 written_piece go o at size (Ok (Jump t)) ls e ih q s h = absurd (no_pointer at t (drop at (take (length o) o)) q)
 
 written_up_to : (k : ℕ) (o : List ℕ) (at size : ℕ) (ls : List (List ℕ)) (e : ℕ) → size ≤ 254 → name_up_to k o (plain o) at size 0 ≡ Ok (ls, e) → Written o at size ls e
-unfolding piece
+unfolding name_piece
 written_up_to zero o at size ls e s h = absurd (cc)
 written_up_to (suc k) o at size ls e s h =
-    written_piece (name_up_to k o (plain o)) o at size (piece (plain o) 0 o at) ls e (λ a b ks d. written_up_to k o a b ks d) refl s h
+    written_piece (name_up_to k o (plain o)) o at size (name_piece (plain o) 0 o at) ls e (λ a b ks d. written_up_to k o a b ks d) refl s h
 
 pub plain_read : (o : List ℕ) (at : ℕ) (ls : List (List ℕ)) (e : ℕ) → uncompressed_at o at ≡ Ok (ls, e) → StandsPlain o at ls e
 unfolding name_by rest_of

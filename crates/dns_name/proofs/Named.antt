@@ -10,7 +10,7 @@ use Rattle.dns_name.specs.declared.piece.Piece.TheVariants.{End, Text, Jump}
 use Rattle.dns_name.specs.Place.{Read}
 use Rattle.dns_name.specs.declared.piece.Reach.{Reach}
 use Rattle.dns_name.specs.Labels.{spell, AreLabels, FitBehind, IsName}
-use Rattle.dns_name.specs.Names.{near, piece, with_label, with_end, by_piece, name_up_to, rest_of, name_by, labels_of, most}
+use Rattle.dns_name.specs.Names.{near, name_piece, with_label, with_end, by_piece, name_up_to, rest_of, name_by, labels_of, most}
 use Rattle.dns_name.proofs.Walks.{text_within}
 
 abbrev ReadsName : ℕ → Read (List (List ℕ)) → Type 0
@@ -51,7 +51,7 @@ near_short limit hops o = let e = length-take limit o in grind (arith, nat_tests
 named_up_to : (k : ℕ) (o : List ℕ) (r : Reach) (at size hops : ℕ) → size ≤ 254 → ReadsName size (name_up_to k o r at size hops)
 named_up_to zero o r at size hops s = tt
 named_up_to (suc k) o r at size hops s =
-    named_piece (name_up_to k o r) o (length (near r.limit hops o)) at size hops (piece r hops o at) s (near_short r.limit hops o) (λ n h. text_within r hops o at n h) (λ a b c d. named_up_to k o r a b c d)
+    named_piece (name_up_to k o r) o (length (near r.limit hops o)) at size hops (name_piece r hops o at) s (near_short r.limit hops o) (λ n h. text_within r hops o at n h) (λ a b c d. named_up_to k o r a b c d)
 
 rest_named : (o : List ℕ) (r : Reach) (at size hops : ℕ) → size ≤ 254 → ReadsName size (rest_of o r at size hops)
 unfolding rest_of

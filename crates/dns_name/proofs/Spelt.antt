@@ -6,18 +6,18 @@ use Rattle.std.proofs.lemmas.Bool.Decides.{nat_tests}
 use Rattle.dns_name.specs.declared.piece.Piece.TheVariants.{End, Text}
 use Rattle.dns_name.specs.declared.piece.Reach.{Reach}
 use Rattle.dns_name.specs.Labels.{spell, AreLabels, IsName}
-use Rattle.dns_name.specs.Names.{near, piece, piece_of, rest_of, name_by, name_at, uncompressed_at, IsSpelt, labels_of}
+use Rattle.dns_name.specs.Names.{near, name_piece, name_piece_of, rest_of, name_by, name_at, uncompressed_at, IsSpelt, labels_of}
 use Rattle.dns_name.proofs.Walks.{rest_unrolled, rest_text}
 
-text_here : (b : Bool) (at n : ℕ) (more : List ℕ) → 0 < n → n < 64 → n ≤ length more → piece_of b at (n ∷ more) ≡ Ok (Text n)
+text_here : (b : Bool) (at n : ℕ) (more : List ℕ) → 0 < n → n < 64 → n ≤ length more → name_piece_of b at (n ∷ more) ≡ Ok (Text n)
 text_here b at n more p q r = grind (arith, nat_tests)
 
-pub piece_end : (r : Reach) (hops : ℕ) (o : List ℕ) (at : ℕ) (more : List ℕ) → drop at (near r.limit hops o) ≡ 0 ∷ more → piece r hops o at ≡ Ok End
-unfolding piece
+pub piece_end : (r : Reach) (hops : ℕ) (o : List ℕ) (at : ℕ) (more : List ℕ) → drop at (near r.limit hops o) ≡ 0 ∷ more → name_piece r hops o at ≡ Ok End
+unfolding name_piece
 piece_end r hops o at more h = rw h refl
 
-pub piece_text : (r : Reach) (hops : ℕ) (o : List ℕ) (at n : ℕ) (more : List ℕ) → drop at (near r.limit hops o) ≡ n ∷ more → 0 < n → n < 64 → n ≤ length more → piece r hops o at ≡ Ok (Text n)
-unfolding piece
+pub piece_text : (r : Reach) (hops : ℕ) (o : List ℕ) (at n : ℕ) (more : List ℕ) → drop at (near r.limit hops o) ≡ n ∷ more → 0 < n → n < 64 → n ≤ length more → name_piece r hops o at ≡ Ok (Text n)
+unfolding name_piece
 piece_text r hops o at n more h p q s = rw h (text_here r.pointers at n more p q s)
 
 pub behind : (o : List ℕ) (at n : ℕ) (more : List ℕ) → drop at o ≡ n ∷ more → drop (at + 1) o ≡ more

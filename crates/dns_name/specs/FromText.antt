@@ -107,9 +107,9 @@ IsRefusal BadEscape read = read ≡ Err BadEscape
 IsRefusal BadCharacter read = read ≡ Err BadCharacter
 
 -- what is read is given, unless memory runs out
-abbrev pub Gives : {A : Type 0} → Result A FromTextError → Result A FromTextError → Type 0
-Gives (Ok x) read = read ≡ Ok x
-Gives (Err e) read = IsRefusal e read
+abbrev pub GivesName : {A : Type 0} → Result A FromTextError → Result A FromTextError → Type 0
+GivesName (Ok x) read = read ≡ Ok x
+GivesName (Err e) read = IsRefusal e read
 
 -- the label that is read is appended behind its length
 pub record Appends (read : Front (List ℕ)) (old new rest : List ℕ) : Type 0 where

@@ -19,9 +19,9 @@ jump at head [] = Err ShortInput
 jump at head (low ∷ more) = let target = 256 * (head - 192) + low in if nat_lt target at then Ok (Jump target) else Err (Form Pointer)
 
 -- what stands at a place, from the octets there
-abbrev pub piece_of : Bool → ℕ → List ℕ → Result Piece ParseError
-piece_of pointers at [] = Err ShortInput
-piece_of pointers at (head ∷ more) =
+abbrev pub name_piece_of : Bool → ℕ → List ℕ → Result Piece ParseError
+name_piece_of pointers at [] = Err ShortInput
+name_piece_of pointers at (head ∷ more) =
     if nat_eq head 0 then Ok End
     else (if nat_lt head 64 then text head more
     else (if nat_lt head 192 then Err (Form Label)
@@ -32,8 +32,8 @@ abbrev pub near : ℕ → ℕ → List ℕ → List ℕ
 near limit hops o = if nat_eq hops 0 then take limit o else o
 
 -- what stands at a place behind so many pointers
-unfoldable pub piece : Reach → ℕ → List ℕ → ℕ → Result Piece ParseError
-piece r hops o at = piece_of r.pointers at (drop at (near r.limit hops o))
+unfoldable pub name_piece : Reach → ℕ → List ℕ → ℕ → Result Piece ParseError
+name_piece r hops o at = name_piece_of r.pointers at (drop at (near r.limit hops o))
 
 -- a label in front of what is read behind it
 abbrev pub with_label : List ℕ → Read (List (List ℕ)) → Read (List (List ℕ))
@@ -56,7 +56,7 @@ by_piece go o at size hops (Ok (Jump target)) = if nat_lt 254 hops then Err (For
 -- a name of at most k pieces
 abbrev pub name_up_to : ℕ → List ℕ → Reach → ℕ → ℕ → ℕ → Read (List (List ℕ))
 name_up_to zero o r at size hops = Err (Form Hops)
-name_up_to (suc k) o r at size hops = by_piece (name_up_to k o r) o at size hops (piece r hops o at)
+name_up_to (suc k) o r at size hops = by_piece (name_up_to k o r) o at size hops (name_piece r hops o at)
 
 -- more pieces than are left, since each label takes two octets at least
 abbrev pub most : ℕ → ℕ → ℕ

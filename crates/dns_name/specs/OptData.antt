@@ -38,6 +38,6 @@ abbrev pub list_data : List ℕ → Taken (List ℕ)
 list_data d = if nat_lt 65535 (length d) then Err (Form LongList) else Ok (d, length d)
 
 -- what is read, turned into another value
-abbrev pub mapped : {X Y : Type 0} → (X → Y) → Taken X → Taken Y
-mapped f (Ok p) = Ok (f p.0, p.1)
-mapped f (Err e) = Err e
+abbrev pub mapped_data : {X Y : Type 0} → (X → Y) → Taken X → Taken Y
+mapped_data f (Ok p) = Ok (f p.0, p.1)
+mapped_data f (Err e) = Err e

@@ -32,9 +32,9 @@ abbrev pub moved : ℕ → Place → Place
 moved n p = record { octets = p.octets; at = p.at + n }
 
 -- n octets are taken where as many are left; where fewer are, the place stays
-abbrev pub Takes : ℕ → Bool → Place → Place → Type 0
-Takes n true old new = (n ≤ length (rest old)) × (new ≡ moved n old)
-Takes n false old new = (length (rest old) < n) × (new ≡ old)
+abbrev pub TakesOctets : ℕ → Bool → Place → Place → Type 0
+TakesOctets n true old new = (n ≤ length (rest old)) × (new ≡ moved n old)
+TakesOctets n false old new = (length (rest old) < n) × (new ≡ old)
 
 -- what is read is a value and the place behind it, or a refusal
 abbrev pub Read : Type 0 → Type 0

@@ -2,7 +2,7 @@
 
 ghost use Rattle.std.specs.Prelude.{◌≡◌, ◌≤◌, ◌+◌, ◌++◌, ◌↔◌, ◌-◌, [], ℕ, List, length, take, drop, Some, IsTrue, IfOk, OnOk, OnErr, ⊤};
 ghost use Rattle.dns_name.specs.Canonical.{name_cmp};
-ghost use Rattle.dns_name.specs.FromText.{Gives, text_name};
+ghost use Rattle.dns_name.specs.FromText.{GivesName, text_name};
 ghost use Rattle.dns_name.specs.Labels.{IsName, EndsWith, folded, spell};
 ghost use Rattle.dns_name.specs.NameText.{name_text};
 ghost use Rattle.dns_name.specs.Names.{uncompressed, uncompressed_at};
@@ -201,7 +201,7 @@ impl Name {
 
     /// The name that a text is (RFC 1035, section 5.1), absolute with a final dot or without; the root's is a dot.
     pub fn from_text(alloc: Global, text: &str) -> Result<Name, FromTextError>
-        ensures { Gives result (text_name text.now) }
+        ensures { GivesName result (text_name text.now) }
     {
         let octets = name_in(alloc, text.as_bytes())?;
         Ok(Name { octets })

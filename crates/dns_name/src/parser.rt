@@ -1,7 +1,7 @@
 //! A place in a slice.
 
 ghost use Rattle.std.specs.Prelude.{◌≡◌, ◌+◌, ◌≤◌, length, take, slice_index, is_ok, IfOk, IfErr, OnOk, OnErr, ⊤};
-ghost use Rattle.dns_name.specs.Place.{Place, Takes, be16, moved, rest};
+ghost use Rattle.dns_name.specs.Place.{Place, TakesOctets, be16, moved, rest};
 
 use crate::error::ParseError;
 use std::alloc::AllocError;
@@ -85,7 +85,7 @@ impl<'a> Parser<'a> {
 
     /// Goes past so many octets.
     pub fn advance(&mut self, n: usize) -> Result<(), ParseError>
-        ensures taken { Takes n (is_ok result) self.old self.new }
+        ensures taken { TakesOctets n (is_ok result) self.old self.new }
         ensures err { IfErr result (λ e. e ≡ ParseError.ShortInput) }
     {
         if self.octets.len() - self.at < n {
@@ -105,7 +105,7 @@ impl<'a> Parser<'a> {
     /// The next octets.
     pub fn parse_octets(&mut self, n: usize) -> Result<&'a [u8], ParseError>
         ensures ok { IfOk result (λ part. part.now ≡ take n (rest self.old)) }
-        ensures taken { Takes n (is_ok result) self.old self.new }
+        ensures taken { TakesOctets n (is_ok result) self.old self.new }
         ensures err { IfErr result (λ e. e ≡ ParseError.ShortInput) }
     {
         if self.octets.len() - self.at < n {
@@ -120,7 +120,7 @@ impl<'a> Parser<'a> {
     pub fn parse_buf(&mut self, buf: &mut [u8]) -> Result<(), ParseError>
         ensures ok { OnOk result (buf.new ≡ take (length buf.old) (rest self.old)) }
         ensures kept { OnErr result (buf.new ≡ buf.old) }
-        ensures taken { Takes (length buf.old) (is_ok result) self.old self.new }
+        ensures taken { TakesOctets (length buf.old) (is_ok result) self.old self.new }
         ensures err { IfErr result (λ e. e ≡ ParseError.ShortInput) }
     {
         let part = self.parse_octets(buf.len())?;
@@ -131,7 +131,7 @@ impl<'a> Parser<'a> {
     /// The next octet.
     pub fn parse_u8(&mut self) -> Result<u8, ParseError>
         ensures ok { IfOk result (λ n. n ≡ slice_index (rest self.old) 0) }
-        ensures taken { Takes 1 (is_ok result) self.old self.new }
+        ensures taken { TakesOctets 1 (is_ok result) self.old self.new }
         ensures err { IfErr result (λ e. e ≡ ParseError.ShortInput) }
     {
         let part = self.parse_octets(1)?;
@@ -141,7 +141,7 @@ impl<'a> Parser<'a> {
     /// The next two octets, as a number in network order.
     pub fn parse_u16_be(&mut self) -> Result<u16, ParseError>
         ensures ok { IfOk result (λ n. n ≡ be16 (slice_index (rest self.old) 0) (slice_index (rest self.old) 1)) }
-        ensures taken { Takes 2 (is_ok result) self.old self.new }
+        ensures taken { TakesOctets 2 (is_ok result) self.old self.new }
         ensures err { IfErr result (λ e. e ≡ ParseError.ShortInput) }
     {
         let part = self.parse_octets(2)?;
@@ -151,7 +151,7 @@ impl<'a> Parser<'a> {
     /// A parser of the next octets alone.
     pub fn parse_parser(&mut self, n: usize) -> Result<Parser<'a>, ParseError>
         ensures ok { IfOk result (λ p. p ≡ record { octets = take n (rest self.old); at = 0 }) }
-        ensures taken { Takes n (is_ok result) self.old self.new }
+        ensures taken { TakesOctets n (is_ok result) self.old self.new }
         ensures err { IfErr result (λ e. e ≡ ParseError.ShortInput) }
     {
         let part = self.parse_octets(n)?;

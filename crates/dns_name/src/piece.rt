@@ -1,7 +1,7 @@
 //! The pieces of a name as they stand in octets.
 
 ghost use Rattle.std.specs.Prelude.{◌≡◌, ◌≤◌, ◌<◌, ◌^◌, length};
-ghost use Rattle.dns_name.specs.Names.{piece, piece_of, jump, near};
+ghost use Rattle.dns_name.specs.Names.{name_piece, name_piece_of, jump, near};
 
 use crate::error::{FormReason, ParseError};
 
@@ -26,11 +26,11 @@ pub struct Reach {
 }
 
 /// The piece at a place, behind so many pointers.
-#[tactic(auto, unfolding(crate::specs::Names::piece))]
+#[tactic(auto, unfolding(crate::specs::Names::name_piece))]
 pub fn piece_at(message: &[u8], reach: Reach, hops: usize, at: usize) -> Result<Piece, ParseError>
     requires limited { reach.limit ≤ length message.now }
     requires within { at ≤ length (near reach.limit hops message.now) }
-    ensures { result ≡ piece reach hops message.now at }
+    ensures { result ≡ name_piece reach hops message.now at }
 {
     let seen = if hops == 0 {
         &message[..reach.limit]
@@ -42,7 +42,7 @@ pub fn piece_at(message: &[u8], reach: Reach, hops: usize, at: usize) -> Result<
 
 /// The piece that octets at a place begin with.
 fn piece_in(octets: &[u8], pointers: bool, at: usize) -> Result<Piece, ParseError>
-    ensures { result ≡ piece_of pointers at octets.now }
+    ensures { result ≡ name_piece_of pointers at octets.now }
 {
     let [head, more @ ..] = octets else {
         return Err(ParseError::ShortInput);

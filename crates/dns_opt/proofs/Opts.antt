@@ -8,11 +8,11 @@ use Rattle.dns_base.specs.Wire.{wire}
 use Rattle.dns_base.specs.Sections.{Items, authority_of, reached, standing_additional}
 use Rattle.dns_message.proofs.Coming.{same_additional}
 use Rattle.dns_message.proofs.Written.{authority_written, additional_written}
-use Rattle.dns_opt.specs.OptRecords.{OptState, first_opt, listed, opt_in, opt_of, opt_record_among, readable, state_of}
+use Rattle.dns_opt.specs.OptRecords.{OptState, first_opt, listed, opt_in, opt_of, opt_record_among, readable_opt, opt_state_of}
 use Rattle.dns_opt.specs.Reopened.{opt_among}
 
-found_by : (r : ResourceRecord) (opt : Bool) (more : Option OptState) (rest : Option ResourceRecord) → more ≡ option_map state_of rest →
-    (if opt then readable r else more) ≡ option_map state_of (if opt then listed r else rest)
+found_by : (r : ResourceRecord) (opt : Bool) (more : Option OptState) (rest : Option ResourceRecord) → more ≡ option_map opt_state_of rest →
+    (if opt then readable_opt r else more) ≡ option_map opt_state_of (if opt then listed r else rest)
 found_by r true more rest h = refl
 found_by r false more rest h = h
 

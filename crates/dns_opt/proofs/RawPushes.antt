@@ -4,7 +4,7 @@ use Rattle.std.specs.Prelude.{⊤}
 use Rattle.dns_name.specs.declared.opt_error.BuildDataError.{BuildDataError}
 use Rattle.dns_name.specs.declared.opt_error.BuildDataError.TheVariants.{LongOptData, WrongLength, ShortBuf, OutOfMemory as NoMemory}
 use Rattle.dns_options.specs.Pushes.{PushedRaw}
-use Rattle.dns_opt.specs.Drafts.{Draft, PushedRawIn, with_options}
+use Rattle.dns_opt.specs.Drafts.{OptDraft, PushedRawIn, with_options}
 
 pub raw_by : {P Q : List ℕ → Type 0} (code n : ℕ) (old new : List ℕ) (r : Result ⊤ BuildDataError) → ((d : List ℕ) → P d → Q d) → PushedRaw P code n old new r → PushedRaw Q code n old new r
 raw_by code n old new (Ok u) f (fits, (d, w, l, e)) = (fits, (d, f d w, l, e))
@@ -14,7 +14,7 @@ raw_by code n old new (Err NoMemory) f h = h
 raw_by code n old new (Err ShortBuf) f h = h
 
 -- the same into a draft that has room
-pub raw_in : {P Q : List ℕ → Type 0} (code n : ℕ) (old : Draft) (new : List ℕ) (r : Result ⊤ BuildDataError) → ((d : List ℕ) → P d → Q d) → length old.options + 4 + n + 11 ≤ old.room → PushedRaw P code n old.options new r → PushedRawIn Q code n old (with_options old new) r
+pub raw_in : {P Q : List ℕ → Type 0} (code n : ℕ) (old : OptDraft) (new : List ℕ) (r : Result ⊤ BuildDataError) → ((d : List ℕ) → P d → Q d) → length old.options + 4 + n + 11 ≤ old.room → PushedRaw P code n old.options new r → PushedRawIn Q code n old (with_options old new) r
 raw_in code n old new (Ok u) f room (fits, (d, w, l, e)) = (fits, room, (d, f d w, l, ap (with_options old) e))
 raw_in code n old new (Err LongOptData) f room (long, e) = (long, ap (with_options old) e)
 raw_in code n old new (Err (WrongLength s t)) f room (fits, (d, w, a, b, l), e) = (fits, (d, f d w, a, b, l), ap (with_options old) e)

@@ -74,18 +74,18 @@ abbrev pub listed : ResourceRecord → Option ResourceRecord
 listed r = where_list r (option_list r.rdata)
 
 -- the head and the options that a record of type OPT is
-abbrev pub state_of : ResourceRecord → OptState
-state_of r = opt_state (head_by r.class r.ttl) r.rdata
+abbrev pub opt_state_of : ResourceRecord → OptState
+opt_state_of r = opt_state (head_by r.class r.ttl) r.rdata
 
 -- the head and the options of a record, none where its data is no option list
-abbrev pub readable : ResourceRecord → Option OptState
-readable r = option_map state_of (listed r)
+abbrev pub readable_opt : ResourceRecord → Option OptState
+readable_opt r = option_map opt_state_of (listed r)
 
 -- the first record of type OPT, none where it, or a record before it, is unreadable
 abbrev pub first_opt : List (Result Standing ParseError) → Option OptState
 first_opt [] = None
 first_opt (Err e ∷ more) = None
-first_opt (Ok s ∷ more) = if nat_eq s.resource.rtype 41 then readable s.resource else first_opt more
+first_opt (Ok s ∷ more) = if nat_eq s.resource.rtype 41 then readable_opt s.resource else first_opt more
 
 abbrev pub opt_in : Result (List (Result Standing ParseError)) ParseError → Option OptState
 opt_in (Ok more) = first_opt more

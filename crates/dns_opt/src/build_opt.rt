@@ -3,7 +3,7 @@
 ghost use Rattle.std.specs.Prelude.{◌≡◌, ◌≤◌, IfOk};
 ghost use Rattle.std.specs.Fn.{FnOnceReturnsAtMut};
 ghost use Rattle.dns_base.specs.Built.{Built, with_additional, with_header};
-ghost use Rattle.dns_opt.specs.Drafts.{Appended, BuiltOpt, Ends, EndsIn, IsBuiltOpt, PushesOpt, PutInto, opened, room_of};
+ghost use Rattle.dns_opt.specs.Drafts.{Appended, BuiltOpt, Ends, EndsIn, IsBuiltOpt, PushesOpt, PutInto, opened_opt, room_of};
 ghost use Rattle.dns_opt.specs.OptRecords.{opt_record, opt_state};
 ghost use Rattle.dns_opt.specs.Reopened.{Reopens, less_opts, old_opt, reopened};
 
@@ -106,7 +106,7 @@ fn room(message: &AdditionalBuilder) -> usize
 
 /// An OPT record without options.
 fn open(message: &AdditionalBuilder, alloc: Global) -> OptBuilder
-    ensures { result ≡ opened message.now }
+    ensures { result ≡ opened_opt message.now }
 {
     OptBuilder {
         head: OptHeader::default(),

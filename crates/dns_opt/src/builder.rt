@@ -1,7 +1,7 @@
 //! OPT records under construction.
 
 ghost use Rattle.std.specs.Prelude.{◌≡◌, ◌/◌, ◌%◌};
-ghost use Rattle.dns_opt.specs.Drafts.{Draft, PushedIn, PushedRawIn};
+ghost use Rattle.dns_opt.specs.Drafts.{OptDraft, PushedIn, PushedRawIn};
 ghost use Rattle.dns_opt.specs.OptRecords.{with_do};
 ghost use Rattle.dns_options.specs.Writes.{Writes};
 
@@ -21,9 +21,9 @@ pub struct OptBuilder {
 }
 
 impl Model for OptBuilder {
-    ghost use Rattle.dns_opt.specs.Drafts.{Draft};
+    ghost use Rattle.dns_opt.specs.Drafts.{OptDraft};
 
-    ghost Value = { Draft };
+    ghost Value = { OptDraft };
 
     ghost view = { λ b. record { head = b.head; low = b.low; options = b.options; room = b.room } };
 }

@@ -4,7 +4,7 @@ ghost use Rattle.std.specs.Prelude.{◌≡◌, ◌+◌, ◌≤◌, ◌<◌, [], 
 ghost use Rattle.std.specs.Option.{option_copied};
 ghost use Rattle.dns_name.specs.Labels.{spell};
 ghost use Rattle.dns_kinds.specs.Extended.{extended, extended_octets};
-ghost use Rattle.dns_kinds.specs.Subnet.{limited, subnet_octets};
+ghost use Rattle.dns_kinds.specs.Subnet.{within_address, subnet_octets};
 ghost use Rattle.dns_kinds.specs.Timers.{expire_octets, keepalive_octets};
 ghost use Rattle.dns_cookie.specs.CookieData.{cookie_octets};
 ghost use Rattle.dns_opt.specs.Drafts.{Cloned, PushedIn};
@@ -167,7 +167,7 @@ impl OptBuilder {
         scope_prefix_len: u8,
         addr: IpAddr,
     ) -> Result<(), BuildDataError>
-        ensures { PushedIn 8 (subnet_octets (limited source_prefix_len scope_prefix_len addr)) self.old self.new result }
+        ensures { PushedIn 8 (subnet_octets (within_address source_prefix_len scope_prefix_len addr)) self.old self.new result }
     {
         let subnet = ClientSubnet::new(source_prefix_len, scope_prefix_len, addr);
         self.push(alloc, &subnet)

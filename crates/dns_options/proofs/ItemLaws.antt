@@ -4,7 +4,7 @@ use Rattle.std.specs.Prelude.{option_map, is_some, unwrap_or}
 use Rattle.std.specs.Prelude.{Result, Ok, Err}
 use Rattle.dns_name.specs.declared.error.ParseError.{ParseError}
 use Rattle.dns_name.specs.Place.{Place}
-use Rattle.dns_name.specs.OptData.{Taken, ParsesData, ParsesOption, mapped, kind}
+use Rattle.dns_name.specs.OptData.{Taken, ParsesData, ParsesOption, mapped_data, kind}
 use Rattle.dns_message.specs.Options.{first_option, options, IsOptionList}
 use Rattle.dns_message.proofs.OptionLaws.{options_some, options_empty, list_step, none_empty}
 use Rattle.dns_options.specs.Items.{with_item, items, items_of}
@@ -21,7 +21,7 @@ pub items_none : {X : Type 0} (t : ℕ → List ℕ → Option (Taken X)) (o : L
 items_none t o h e = ap (items_of t) (none_empty o h e) ∙ ap (λ x. items t (unwrap_or x [])) options_empty
 
 -- a refused reading is refused as another value's too
-pub refused_mapped : {X Y : Type 0} (f : X → Y) (r : Taken X) (old new : Place) (result : Result X ParseError) (e : ParseError) (given : Result (Option Y) ParseError) → ParsesData r old new result → result ≡ Err e → given ≡ Err e → ParsesOption (Some (mapped f r)) old new given
+pub refused_mapped : {X Y : Type 0} (f : X → Y) (r : Taken X) (old new : Place) (result : Result X ParseError) (e : ParseError) (given : Result (Option Y) ParseError) → ParsesData r old new result → result ≡ Err e → given ≡ Err e → ParsesOption (Some (mapped_data f r)) old new given
 refused_mapped {X} f (Ok p) old new result e given h is so = let no : ◌≡◌ {A = Result X ParseError} (Ok p.0) (Err e) = sym h.1 ∙ is in absurd (cc)
 refused_mapped {X} f (Err d) old new result e given h is so =
     let both : ◌≡◌ {A = Result X ParseError} (Err e) (Err d) = sym is ∙ h.0 in

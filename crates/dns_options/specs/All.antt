@@ -1,7 +1,7 @@
 -- Every kind of option as one.
 use Rattle.std.specs.Prelude.{ℕ, List, Option, Some, nat_eq, if◌then◌else◌}
 use Rattle.dns_name.specs.Labels.{spell}
-use Rattle.dns_name.specs.OptData.{Taken, mapped, list_data}
+use Rattle.dns_name.specs.OptData.{Taken, mapped_data, list_data}
 use Rattle.dns_lists.specs.Tags.{tag_data}
 use Rattle.dns_lists.specs.Unknowns.{unknown}
 use Rattle.dns_kinds.specs.Chains.{chain_data}
@@ -15,19 +15,19 @@ use Rattle.dns_options.specs.declared.all.AllOptData.TheVariants.{Dau, Dhu, N3u,
 -- the kind of each code that has one, else the data under its code
 abbrev pub all_data : ℕ → List ℕ → Taken AllOptData
 all_data code d =
-    if nat_eq code 5 then mapped Dau (list_data d)
-    else (if nat_eq code 6 then mapped Dhu (list_data d)
-    else (if nat_eq code 7 then mapped N3u (list_data d)
-    else (if nat_eq code 13 then mapped Chain (chain_data d)
-    else (if nat_eq code 10 then mapped Cookie (cookie_data d)
-    else (if nat_eq code 9 then mapped Expire (expire_data d)
-    else (if nat_eq code 15 then mapped ExtendedError (extended_data d)
-    else (if nat_eq code 11 then mapped TcpKeepalive (keepalive_data d)
-    else (if nat_eq code 14 then mapped KeyTag (tag_data d)
-    else (if nat_eq code 3 then mapped Nsid (list_data d)
-    else (if nat_eq code 12 then mapped Padding (list_data d)
-    else (if nat_eq code 8 then mapped ClientSubnet (subnet_data d)
-    else mapped (λ o. Other (unknown code o)) (list_data d))))))))))))
+    if nat_eq code 5 then mapped_data Dau (list_data d)
+    else (if nat_eq code 6 then mapped_data Dhu (list_data d)
+    else (if nat_eq code 7 then mapped_data N3u (list_data d)
+    else (if nat_eq code 13 then mapped_data Chain (chain_data d)
+    else (if nat_eq code 10 then mapped_data Cookie (cookie_data d)
+    else (if nat_eq code 9 then mapped_data Expire (expire_data d)
+    else (if nat_eq code 15 then mapped_data ExtendedError (extended_data d)
+    else (if nat_eq code 11 then mapped_data TcpKeepalive (keepalive_data d)
+    else (if nat_eq code 14 then mapped_data KeyTag (tag_data d)
+    else (if nat_eq code 3 then mapped_data Nsid (list_data d)
+    else (if nat_eq code 12 then mapped_data Padding (list_data d)
+    else (if nat_eq code 8 then mapped_data ClientSubnet (subnet_data d)
+    else mapped_data (λ o. Other (unknown code o)) (list_data d))))))))))))
 
 abbrev pub all_takes : ℕ → List ℕ → Option (Taken AllOptData)
 all_takes code d = Some (all_data code d)
@@ -47,17 +47,17 @@ code_of (Padding k) = 12
 code_of (ClientSubnet k) = 8
 code_of (Other k) = k.code
 
-abbrev pub octets_of : AllOptData → List ℕ
-octets_of (Dau k) = k
-octets_of (Dhu k) = k
-octets_of (N3u k) = k
-octets_of (Chain k) = spell k
-octets_of (Cookie k) = cookie_octets k
-octets_of (Expire k) = expire_octets k
-octets_of (ExtendedError k) = extended_octets k
-octets_of (TcpKeepalive k) = keepalive_octets k
-octets_of (KeyTag k) = k
-octets_of (Nsid k) = k
-octets_of (Padding k) = k
-octets_of (ClientSubnet k) = subnet_octets k
-octets_of (Other k) = k.octets
+abbrev pub all_octets : AllOptData → List ℕ
+all_octets (Dau k) = k
+all_octets (Dhu k) = k
+all_octets (N3u k) = k
+all_octets (Chain k) = spell k
+all_octets (Cookie k) = cookie_octets k
+all_octets (Expire k) = expire_octets k
+all_octets (ExtendedError k) = extended_octets k
+all_octets (TcpKeepalive k) = keepalive_octets k
+all_octets (KeyTag k) = k
+all_octets (Nsid k) = k
+all_octets (Padding k) = k
+all_octets (ClientSubnet k) = subnet_octets k
+all_octets (Other k) = k.octets

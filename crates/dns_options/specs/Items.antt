@@ -31,9 +31,9 @@ NextItem old None new = (old ≡ []) × (new ≡ [])
 NextItem old (Some x) new = old ≡ x ∷ new
 
 -- a list is taken whole
-abbrev pub with_length : List ℕ → Result (List ℕ) ParseError → Taken (List ℕ)
-with_length d (Ok o) = Ok (o, length d)
-with_length d (Err e) = Err e
+abbrev pub list_with_length : List ℕ → Result (List ℕ) ParseError → Taken (List ℕ)
+list_with_length d (Ok o) = Ok (o, length d)
+list_with_length d (Err e) = Err e
 
-abbrev pub opt_data : List ℕ → Taken (List ℕ)
-opt_data d = with_length d (option_list d)
+abbrev pub list_taken : List ℕ → Taken (List ℕ)
+list_taken d = list_with_length d (option_list d)

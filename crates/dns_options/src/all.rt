@@ -1,7 +1,7 @@
 //! Every kind of option as one.
 
 ghost use Rattle.std.specs.Prelude.{◌≡◌};
-ghost use Rattle.dns_options.specs.All.{all_takes, code_of, octets_of};
+ghost use Rattle.dns_options.specs.All.{all_takes, code_of, all_octets};
 
 use dns_algs::{DauRef, DhuRef, N3uRef};
 use dns_cookie::Cookie;
@@ -87,19 +87,19 @@ impl<'a> ParseOptData<'a> for AllOptData<'a> {
 
 /// All that is left, under a code.
 fn other<'a>(code: OptionCode, parser: &mut Parser<'a>) -> Result<UnknownOptDataRef<'a>, ParseError>
-    ensures { ParsesData (mapped (unknown code) (list_data (rest parser.old))) parser.old parser.new result }
+    ensures { ParsesData (mapped_data (unknown code) (list_data (rest parser.old))) parser.old parser.new result }
 {
     let value = UnknownOptDataRef::new(code, parser.peek_all())?;
     parser.advance_to_end();
     Ok(value)
 }
 
-ghost use Rattle.dns_name.specs.OptData.{ParsesData, mapped, list_data};
+ghost use Rattle.dns_name.specs.OptData.{ParsesData, mapped_data, list_data};
 ghost use Rattle.dns_name.specs.Place.{rest};
 ghost use Rattle.dns_lists.specs.Unknowns.{unknown};
 
 impl<'a> ComposeOptData for AllOptData<'a> {
-    ghost octets = { octets_of };
+    ghost octets = { all_octets };
 
     fn compose_len(&self) -> u16 {
         each!(self, value => value.compose_len())

@@ -6,7 +6,7 @@ ghost use Rattle.std.specs.Ordering.{nat_cmp};
 ghost use Rattle.dns_name.specs.OptData.{ParsesData};
 ghost use Rattle.dns_name.specs.Place.{rest};
 ghost use Rattle.dns_message.specs.Options.{IsOptionList, option_list};
-ghost use Rattle.dns_options.specs.Items.{first_ok, items_of, opt_data};
+ghost use Rattle.dns_options.specs.Items.{first_ok, items_of, list_taken};
 
 use crate::iter::OptIter;
 use crate::opt::Opt;
@@ -84,7 +84,7 @@ impl<'a> HeldOpt<&'a [u8]> {
 
     /// The option list that is left in a parser.
     pub fn parse(parser: &mut Parser<'a>) -> Result<OptRef<'a>, ParseError>
-        ensures { ParsesData (opt_data (rest parser.old)) parser.old parser.new result }
+        ensures { ParsesData (list_taken (rest parser.old)) parser.old parser.new result }
     {
         let found = OptRef::from_slice(parser.peek_all())?;
         parser.advance_to_end();

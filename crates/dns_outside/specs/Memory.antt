@@ -26,21 +26,21 @@ abbrev pub next : ℕ → ℕ
 next calls = min (calls + 1) (2 ^ 64 - 1)
 
 -- how many of n octets one call moves: at most so many, and at least one
-abbrev pub piece_of : ℕ → ℕ → ℕ
-piece_of most n = min n (max most 1)
+abbrev pub moved_at_once : ℕ → ℕ → ℕ
+moved_at_once most n = min n (max most 1)
 
 -- a read into so much room, with the source a before it and b after it
-abbrev pub Gives : SourceRead → ℕ → Supply → Supply → Type 0
-Gives (Got n) room a b = (n ≡ piece_of a.most (min (length a.left) room)) × (b.faults ≡ a.faults)
-Gives End room a b = (a.left ≡ []) × (b.faults ≡ a.faults)
-Gives Failed room a b = b.faults ≡ next a.faults
+abbrev pub Supplies : SourceRead → ℕ → Supply → Supply → Type 0
+Supplies (Got n) room a b = (n ≡ moved_at_once a.most (min (length a.left) room)) × (b.faults ≡ a.faults)
+Supplies End room a b = (a.left ≡ []) × (b.faults ≡ a.faults)
+Supplies Failed room a b = b.faults ≡ next a.faults
 
 -- a write of a piece of so many octets, with the sink a before it and b after it
-abbrev pub Takes : SinkWrite → ℕ → Store → Store → Type 0
-Takes (Took n) size a b = (n ≡ piece_of a.most size) × (b.faults ≡ a.faults)
-Takes WriteFailed size a b = b.faults ≡ next a.faults
+abbrev pub Stores : SinkWrite → ℕ → Store → Store → Type 0
+Stores (Took n) size a b = (n ≡ moved_at_once a.most size) × (b.faults ≡ a.faults)
+Stores WriteFailed size a b = b.faults ≡ next a.faults
 
 -- a sink of which no call fails: what it keeps, and whether that is all that was taken
-pub record Kept : Type 0 where
+pub record KeptOctets : Type 0 where
   pub taken : List ℕ
   pub whole : Bool

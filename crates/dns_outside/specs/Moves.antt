@@ -44,7 +44,7 @@ WriteCause (Took n) a b = b ≡ a
 WriteCause WriteFailed a b = Rose a b
 
 -- so many octets were read of a, and b is left
-pub record Read (count : ℕ) (a b : List ℕ) : Type 0 where
+pub record ReadExactly (count : ℕ) (a b : List ℕ) : Type 0 where
   pub got : List ℕ
   pub front : a ≡ got ++ b
   pub count_is : length got ≡ count
@@ -58,7 +58,7 @@ pub record ReadAtMost (most : ℕ) (a b : List ℕ) : Type 0 where
 -- what reading a whole source answers: all octets, or why there are none
 abbrev pub ReadTo : {V : Type 0} → (V → List ℕ) → Result V ReadError → List ℕ → List ℕ → Type 0
 ReadTo items (Ok v) a b = (a ≡ items v) × (b ≡ [])
-ReadTo items (Err TooLong) a b = Read (LIMIT + 1) a b
+ReadTo items (Err TooLong) a b = ReadExactly (LIMIT + 1) a b
 ReadTo items (Err OutOfMemory) a b = ReadAtMost (LIMIT + 1) a b
 ReadTo items (Err Fault) a b = ReadAtMost LIMIT a b
 

@@ -3,7 +3,7 @@
 ghost use Rattle.std.specs.Prelude.{◌≡◌, ◌≤◌, ◌↔◌, length, Contains};
 ghost use Rattle.dns_outside.specs.Causes.{Tells};
 ghost use Rattle.dns_outside.specs.Moves.{ReadMoves, ReadBound, ReadCause, WriteMoves, WriteBound, WriteCause};
-ghost use Rattle.dns_outside.specs.Memory.{Gives, Takes, next};
+ghost use Rattle.dns_outside.specs.Memory.{Supplies, Stores, next};
 
 use crate::sink::{Sink, SinkWrite};
 use crate::source::{Source, SourceRead};
@@ -67,7 +67,7 @@ impl Source for MemorySource {
         ensures bound { ReadBound result buf.new }
         ensures later { self.old.faults ≤ self.new.faults }
         ensures cause { ReadCause result self.old.faults self.new.faults }
-        ensures gives { Gives result (length buf.old) self.old self.new }
+        ensures gives { Supplies result (length buf.old) self.old self.new }
         ensures fails { (result ≡ SourceRead.Failed) ↔ Contains self.old.failing self.old.calls }
         ensures called { self.new.calls ≡ next self.old.calls }
         ensures kept { (self.new.failing ≡ self.old.failing) × (self.new.most ≡ self.old.most) }
@@ -143,7 +143,7 @@ impl Sink for MemorySink {
         ensures bound { WriteBound result piece.now }
         ensures later { self.old.faults ≤ self.new.faults }
         ensures cause { WriteCause result self.old.faults self.new.faults }
-        ensures takes { Takes result (length piece.now) self.old self.new }
+        ensures takes { Stores result (length piece.now) self.old self.new }
         ensures listed { Contains self.old.failing self.old.calls → result ≡ SinkWrite.Failed }
         ensures called { self.new.calls ≡ next self.old.calls }
         ensures kept { (self.new.failing ≡ self.old.failing) × (self.new.most ≡ self.old.most) }

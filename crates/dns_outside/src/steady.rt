@@ -66,9 +66,9 @@ pub struct SteadySink {
 }
 
 impl Model for SteadySink {
-    ghost use Rattle.dns_outside.specs.Memory.{Kept};
+    ghost use Rattle.dns_outside.specs.Memory.{KeptOctets};
 
-    ghost Value = { Kept };
+    ghost Value = { KeptOctets };
 
     ghost view = { λ s. record { taken = s.octets.items; whole = s.whole } };
 }

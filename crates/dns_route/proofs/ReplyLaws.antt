@@ -8,21 +8,21 @@ use Rattle.dns_opt.specs.OptRecords.{OptState, opt_of}
 use Rattle.dns_service.specs.ReplyErrors.{parse_refused}
 use Rattle.dns_route.specs.declared.kept.Keeps.TheVariants.{SubnetsAndErrors}
 use Rattle.dns_route.specs.Kept.{kept_opt}
-use Rattle.dns_route.specs.ReplyMessage.{Begins, Composes, reply_by, reply_of, reply_with, with_opt}
+use Rattle.dns_route.specs.ReplyMessage.{BeginsReply, Composes, reply_by, reply_read, reply_with, reply_with_opt}
 
 -- a copy that is refused is so as a reply
-pub copy_refused : (opt : Option OptState) (read : Result Msg ParseError) (e : ParseError) → Gives (Err e) read → Composes (with_opt opt read) (Err (parse_refused e))
-copy_refused opt read ShortInput g = (ShortInput, ap (with_opt opt) g)
-copy_refused opt read (Form f) g = (Form f, ap (with_opt opt) g)
+pub copy_refused : (opt : Option OptState) (read : Result Msg ParseError) (e : ParseError) → Gives (Err e) read → Composes (reply_with_opt opt read) (Err (parse_refused e))
+copy_refused opt read ShortInput g = (ShortInput, ap (reply_with_opt opt) g)
+copy_refused opt read (Form f) g = (Form f, ap (reply_with_opt opt) g)
 copy_refused opt read NoMemory g = tt
 
-kept_refused : (o : List ℕ) (read : Result OptState ParseError) (e : ParseError) → Gives (Err e) read → Begins (reply_with o read) (Err (parse_refused e))
+kept_refused : (o : List ℕ) (read : Result OptState ParseError) (e : ParseError) → Gives (Err e) read → BeginsReply (reply_with o read) (Err (parse_refused e))
 kept_refused o read ShortInput g = (ShortInput, ap (reply_with o) g)
 kept_refused o read (Form f) g = (Form f, ap (reply_with o) g)
 kept_refused o read NoMemory g = tt
 
 -- options that are refused are so as a reply
-pub options_refused : (o : List ℕ) (s : OptState) (size : ℕ) (e : ParseError) → opt_of o ≡ Some s → size ≡ s.head.size → Gives (Err e) (kept_opt size SubnetsAndErrors s) → Begins (reply_of o) (Err (parse_refused e))
+pub options_refused : (o : List ℕ) (s : OptState) (size : ℕ) (e : ParseError) → opt_of o ≡ Some s → size ≡ s.head.size → Gives (Err e) (kept_opt size SubnetsAndErrors s) → BeginsReply (reply_read o) (Err (parse_refused e))
 options_refused o s size e h i g =
     let k = subst (λ (n : ℕ). Gives (Err e) (kept_opt n SubnetsAndErrors s)) i g in
-    subst (λ r. Begins r (Err (parse_refused e))) (sym (ap (reply_by o) h)) (kept_refused o (kept_opt s.head.size SubnetsAndErrors s) e k)
+    subst (λ r. BeginsReply r (Err (parse_refused e))) (sym (ap (reply_by o) h)) (kept_refused o (kept_opt s.head.size SubnetsAndErrors s) e k)

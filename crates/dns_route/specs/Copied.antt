@@ -22,9 +22,9 @@ in_front (Ok x) (Err e) = Err e
 in_front (Err e) more = Err e
 
 -- every item, or the first refusal
-abbrev pub whole : {A : Type 0} → List (Result A ParseError) → Result (List A) ParseError
-whole [] = Ok []
-whole (item ∷ items) = in_front item (whole items)
+abbrev pub whole_list : {A : Type 0} → List (Result A ParseError) → Result (List A) ParseError
+whole_list [] = Ok []
+whole_list (item ∷ items) = in_front item (whole_list items)
 
 -- a record with its data as octets, names uncompressed
 abbrev pub plainly : Result Record ParseError → Result ResourceRecord ParseError
@@ -56,7 +56,7 @@ gathered h (Ok qs) (Ok an) (Ok ns) (Ok ar) = Ok (record { header = h; questions 
 
 -- the copy of octets that are a message, or the foremost refusal of a section or its data
 unfoldable pub copied : List ℕ → Result Msg ParseError
-copied o = gathered (header_of o) (whole (all_of (questions_of o))) (copied_records (all_of (standing_answers o))) (copied_records (all_of (standing_authority o))) (others_of (copied_records (all_of (standing_additional o))))
+copied o = gathered (header_of o) (whole_list (all_of (questions_of o))) (copied_records (all_of (standing_answers o))) (copied_records (all_of (standing_authority o))) (others_of (copied_records (all_of (standing_additional o))))
 
 -- a vector of what is read is given, unless memory runs out
 abbrev pub GivesAll : {A : Type 0} → Result (Vec A Global) ParseError → Result (List A) ParseError → Type 0

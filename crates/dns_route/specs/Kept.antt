@@ -19,8 +19,8 @@ kept_options k [] = []
 kept_options k (p ∷ ps) = if keeps k p.0 then option_octets p.0 p.1 ++ kept_options k ps else kept_options k ps
 
 -- the kept options of an option list
-abbrev pub kept_of : Keeps → List ℕ → List ℕ
-kept_of k o = kept_options k (unwrap_or (options o) [])
+abbrev pub kept_of_list : Keeps → List ℕ → List ℕ
+kept_of_list k o = kept_options k (unwrap_or (options o) [])
 
 -- the first refusal among items
 abbrev pub refusal : {X : Type 0} → List (Result X ParseError) → Result ⊤ ParseError
@@ -38,7 +38,7 @@ plain_head size ok = record { size = size; ext = 0; version = 0; flags = with_do
 
 -- an OPT record of a size, with the DO bit of another and its kept options
 abbrev pub kept_record : ℕ → Keeps → OptState → OptState
-kept_record size k s = opt_state (plain_head size (is_do s.head.flags)) (kept_of k s.options)
+kept_record size k s = opt_state (plain_head size (is_do s.head.flags)) (kept_of_list k s.options)
 
 abbrev pub kept_checked : OptState → Result ⊤ ParseError → Result OptState ParseError
 kept_checked s (Ok _) = Ok s

@@ -31,20 +31,20 @@ reply_by o None = Ok (record { octets = o; opt = None })
 reply_by o (Some s) = reply_with o (kept_opt s.head.size SubnetsAndErrors s)
 
 -- the reply that is begun with octets that are a message
-abbrev pub reply_of : List ℕ → Result ReplyState ParseError
-reply_of o = reply_by o (opt_of o)
+abbrev pub reply_read : List ℕ → Result ReplyState ParseError
+reply_read o = reply_by o (opt_of o)
 
 abbrev pub IsRefused : {A : Type 0} → Result A ParseError → Type 0
 IsRefused read = (e : ParseError) × (read ≡ Err e)
 
 -- a reply is begun; FormatError exactly where an option is unreadable
-abbrev pub Begins : {R : Type 0} → Result R ParseError → Result R ReplyError → Type 0
-Begins read (Ok r) = read ≡ Ok r
-Begins read (Err (Service FormatError)) = IsRefused read
-Begins read (Err (Service InternalError)) = ⊥
-Begins read (Err (Service NotImplemented)) = ⊥
-Begins read (Err (Service Refused)) = ⊥
-Begins read (Err NoMemory) = Unit {0}
+abbrev pub BeginsReply : {R : Type 0} → Result R ParseError → Result R ReplyError → Type 0
+BeginsReply read (Ok r) = read ≡ Ok r
+BeginsReply read (Err (Service FormatError)) = IsRefused read
+BeginsReply read (Err (Service InternalError)) = ⊥
+BeginsReply read (Err (Service NotImplemented)) = ⊥
+BeginsReply read (Err (Service Refused)) = ⊥
+BeginsReply read (Err NoMemory) = Unit {0}
 
 -- the OPT record that an option is added to
 abbrev pub begun : Option OptState → OptState
@@ -52,24 +52,24 @@ begun None = opt_state zero_head []
 begun (Some s) = s
 
 -- the reply with an option as the last of its OPT record
-abbrev pub and_option : ℕ → List ℕ → ReplyState → ReplyState
-and_option code d r = record r { opt = Some (opt_state (begun r.opt).head ((begun r.opt).options ++ option_octets code d)) }
+abbrev pub with_reply_option : ℕ → List ℕ → ReplyState → ReplyState
+with_reply_option code d r = record r { opt = Some (opt_state (begun r.opt).head ((begun r.opt).options ++ option_octets code d)) }
 
 -- an option is added; refused LongOptData exactly where the options would pass 65,535 octets, and a refused call leaves the reply
 abbrev pub Adds : ℕ → List ℕ → ReplyState → ReplyState → Result ⊤ BuildDataError → Type 0
-Adds code d old new (Ok _) = Fits (begun old.opt).options (length d) × (new ≡ and_option code d old)
+Adds code d old new (Ok _) = Fits (begun old.opt).options (length d) × (new ≡ with_reply_option code d old)
 Adds code d old new (Err LongOptData) = (65535 < length (begun old.opt).options + 4 + length d) × (new ≡ old)
 Adds code d old new (Err NoBuildMemory) = Fits (begun old.opt).options (length d) × (new ≡ old)
 Adds code d old new (Err ShortBuf) = ⊥
 Adds code d old new (Err (WrongLength s w)) = ⊥
 
-abbrev pub with_opt : Option OptState → Result Msg ParseError → Result Msg ParseError
-with_opt opt (Ok m) = Ok (and_opt m opt)
-with_opt opt (Err e) = Err e
+abbrev pub reply_with_opt : Option OptState → Result Msg ParseError → Result Msg ParseError
+reply_with_opt opt (Ok m) = Ok (and_opt m opt)
+reply_with_opt opt (Err e) = Err e
 
 -- the message of a reply: the copy of its octets, and its OPT record last
 abbrev pub reply_message : ReplyState → Result Msg ParseError
-reply_message r = with_opt r.opt (copied r.octets)
+reply_message r = reply_with_opt r.opt (copied r.octets)
 
 -- a message is composed; FormatError exactly where it can't be read, else InternalError exactly above 65,535 octets
 abbrev pub Composes : Result Msg ParseError → Result Built ReplyError → Type 0

@@ -41,12 +41,12 @@ abbrev pub request_of : List ℕ → Result RequestState ParseError
 request_of o = request_with (opt_of o) (copied o)
 
 -- a request is read, or refused as its octets are
-abbrev pub Reads : Result RequestState ParseError → Result RequestState Error → Type 0
-Reads read (Ok r) = read ≡ Ok r
-Reads read (Err (Unreadable ShortInput)) = read ≡ Err ShortInput
-Reads read (Err (Unreadable (Form f))) = read ≡ Err (Form f)
-Reads read (Err (Unreadable NoParseMemory)) = ⊥
-Reads read (Err NoMemory) = Unit {0}
+abbrev pub ReadsRequest : Result RequestState ParseError → Result RequestState Error → Type 0
+ReadsRequest read (Ok r) = read ≡ Ok r
+ReadsRequest read (Err (Unreadable ShortInput)) = read ≡ Err ShortInput
+ReadsRequest read (Err (Unreadable (Form f))) = read ≡ Err (Form f)
+ReadsRequest read (Err (Unreadable NoParseMemory)) = ⊥
+ReadsRequest read (Err NoMemory) = Unit {0}
 
 -- a refused reading as the refusal of a request
 abbrev pub unreadable : ParseError → Error
@@ -65,8 +65,8 @@ sent_opt false [] = None
 sent_opt false (x ∷ o) = Some (opt_state (plain_head 1232 false) (x ∷ o))
 
 -- the message that is sent, its OPT record last
-abbrev pub sent : RequestState → Msg
-sent r = and_opt r.message (sent_opt r.dnssec_ok r.options)
+abbrev pub request_sent : RequestState → Msg
+request_sent r = and_opt r.message (sent_opt r.dnssec_ok r.options)
 
 -- octets of a message are written; ShortBuf exactly above 65,535
 abbrev pub Sends : Msg → Result (List ℕ) PushError → Type 0

@@ -9,7 +9,7 @@ ghost use Rattle.dns_base.specs.Replaced.{other_than};
 ghost use Rattle.dns_base.specs.Sections.{all_of, questions_of, standing_additional, standing_answers, standing_authority};
 ghost use Rattle.dns_base.specs.Standing.{Gives};
 ghost use Rattle.dns_route.specs.Builds.{Builds, and_opt, unlimited};
-ghost use Rattle.dns_route.specs.Copied.{GivesAll, copied, copied_item, copied_records, others_of, whole};
+ghost use Rattle.dns_route.specs.Copied.{GivesAll, copied, copied_item, copied_records, others_of, whole_list};
 
 use crate::builds::{assembled, opt_built};
 use dns_base::{
@@ -141,7 +141,7 @@ impl CopiedMessage {
 
 /// The questions of a message.
 fn questions_in(alloc: Global, message: &MessageRef<'_>) -> Result<Vec<Question>, ParseError>
-    ensures { GivesAll result (whole (all_of (questions_of message.now))) }
+    ensures { GivesAll result (whole_list (all_of (questions_of message.now))) }
 {
     let mut left = message.question();
     let mut questions = Vec::new(alloc);

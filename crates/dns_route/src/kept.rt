@@ -5,7 +5,7 @@ ghost use Rattle.dns_base.specs.Options.{option_octets};
 ghost use Rattle.dns_base.specs.Standing.{Gives};
 ghost use Rattle.dns_opt.specs.OptRecords.{opt_state, zero_head};
 ghost use Rattle.dns_opt.specs.Pushes.{Pushed};
-ghost use Rattle.dns_route.specs.Kept.{checked, keeps, kept_of, kept_opt, plain_head};
+ghost use Rattle.dns_route.specs.Kept.{checked, keeps, kept_of_list, kept_opt, plain_head};
 
 use dns_base::{ParseError, first_option};
 use dns_lists::UnknownOptDataRef;
@@ -50,7 +50,7 @@ fn check(options: &OptRef<'_>) -> Result<(), ParseError>
 /// An OPT record without numbers, of the options that are kept, in order and as they stand.
 #[tactic(auto, using(crate::proofs::KeptLaws::kept_taken, crate::proofs::KeptLaws::kept_left, crate::proofs::KeptLaws::kept_none, crate::proofs::KeptLaws::first_size, dns_message::proofs::OptionLaws::list_step))]
 fn keep(alloc: Global, which: Keeps, options: &OptRef<'_>) -> Result<OptRecord, OutOfMemory>
-    ensures { IfOk result (λ r. r ≡ opt_state zero_head (kept_of which options.now)) }
+    ensures { IfOk result (λ r. r ≡ opt_state zero_head (kept_of_list which options.now)) }
 {
     let mut kept = OptRecord::default(alloc);
     let mut rest = options.as_slice();

@@ -4,7 +4,7 @@ ghost use Rattle.std.specs.Prelude.{◌≡◌, ℕ, ⊤, IfOk, List, Result};
 ghost use Rattle.dns_name.specs.declared.error.ParseError.{ParseError};
 ghost use Rattle.dns_name.specs.declared.opt_error.BuildDataError.{BuildDataError};
 ghost use Rattle.dns_base.specs.Msg.{Msg};
-ghost use Rattle.dns_route.specs.ReplyMessage.{Adds, Begins, Composes, reply_message, reply_of};
+ghost use Rattle.dns_route.specs.ReplyMessage.{Adds, BeginsReply, Composes, reply_message, reply_read};
 
 use crate::copied::CopiedMessage;
 use crate::kept::{Keeps, kept_opt};
@@ -28,7 +28,7 @@ pub trait ComposeReply: Sized {
 
     /// Begins a reply with a message. FormatError where one of its options is unreadable.
     fn from_message(alloc: Global, message: &MessageRef<'_>) -> Result<Self, ReplyError>
-        ensures { Begins (begun message.now) result };
+        ensures { BeginsReply (begun message.now) result };
 
     /// Adds an option to the reply's OPT record.
     fn add_opt<D: ComposeOptData>(&mut self, alloc: Global, opt: &D) -> Result<(), BuildDataError>
@@ -59,7 +59,7 @@ impl Model for ReplyMessage {
 }
 
 impl ComposeReply for ReplyMessage {
-    ghost begun = { reply_of };
+    ghost begun = { reply_read };
 
     ghost adds = { Adds };
 

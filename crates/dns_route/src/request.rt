@@ -2,7 +2,7 @@
 
 ghost use Rattle.std.specs.Prelude.{◌≡◌, ◌≤◌, IfOk, length};
 ghost use Rattle.std.specs.Option.{option_copied};
-ghost use Rattle.dns_route.specs.RequestMessage.{AddsTo, Reads, Sends, request_of, sent, sent_opt};
+ghost use Rattle.dns_route.specs.RequestMessage.{AddsTo, ReadsRequest, Sends, request_of, request_sent, sent_opt};
 
 use crate::copied::CopiedMessage;
 use crate::kept::{Keeps, kept_opt, plain};
@@ -63,7 +63,7 @@ impl RequestMessage {
     /// Keeps the message without OPT record, the DO bit and the client subnets. Sections and data are read first, then the
     /// options of the first OPT record, each as its kind.
     pub fn try_from(alloc: Global, request: &Request<()>) -> Result<RequestMessage, Error>
-        ensures { Reads (request_of request.now.octets) result }
+        ensures { ReadsRequest (request_of request.now.octets) result }
     {
         let source = request.message();
         let message = CopiedMessage::read(alloc, &source.for_ref())?;
@@ -103,7 +103,7 @@ impl RequestMessage {
     /// The message that is sent: its names uncompressed, and last an OPT record of size 1,232 where DO is set or there are
     /// options.
     pub fn to_message(&self, alloc: Global) -> Result<Message, PushError>
-        ensures { Sends (sent self.now) result }
+        ensures { Sends (request_sent self.now) result }
     {
         let built = self.message.build(alloc, self.sent_opt())?;
         let octets = Vec::from_slice(alloc, built.as_slice())?;

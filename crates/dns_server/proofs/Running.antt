@@ -4,7 +4,7 @@ use Rattle.dns_outside.specs.Causes.{Tells, Rose}
 use Rattle.dns_outside.specs.Moves.{ReadAtMost, Cut}
 use Rattle.dns_server.specs.Script.{script}
 use Rattle.dns_server.specs.Status.{SourceFaults, SinkFaults}
-use Rattle.dns_server.specs.Runs.{text_of, Judges, ReplayReads, ReplayWrites, Decides}
+use Rattle.dns_server.specs.Runs.{run_text, Judges, ReplayReads, ReplayWrites, Decides}
 use Rattle.dns_server.specs.declared.program.Status.{Status}
 use Rattle.dns_server.specs.declared.program.Status.TheVariants.{Done, Usage, Refused, ReadFault, WriteFault, OutOfMemory, TooLong}
 
@@ -29,7 +29,7 @@ whole_read s text a b r0 r1 read le h = record {
 
 -- what was written for its text
 pub whole_answered : (s : Status) (text a b c d : List ℕ) (r0 r1 w0 w1 : Type 0) → Tells r1 r0 ((a ≡ text) × (b ≡ []))
-    → Tells w1 w0 (ReplayWrites s (text_of (script text)) c d) → Tells (r1 × w1) (r0 × w0) (ReplayWrites s (text_of (script a)) c d)
+    → Tells w1 w0 (ReplayWrites s (run_text (script text)) c d) → Tells (r1 × w1) (r0 × w0) (ReplayWrites s (run_text (script a)) c d)
 whole_answered s text a b c d r0 r1 w0 w1 read wrote = record {
   told = λ x. let r = read.told x.0 in let w = wrote.told x.1 in ((r.0, w.0), rw r.1.0 w.1);
 }

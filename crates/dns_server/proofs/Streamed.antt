@@ -15,7 +15,7 @@ use Rattle.dns_service.specs.declared.event.EventKind.TheVariants.{Datagram, Tur
 use Rattle.dns_client.specs.Frames.{frames, framed}
 use Rattle.dns_core.specs.Early.{piece_in, stream_of}
 use Rattle.dns_core.specs.Own.{own, concerns}
-use Rattle.dns_server.specs.PlainStreams.{is_plain_frame, is_plain_stream, is_piece, is_spoilt, spoilt_from, octets_in, StaysOrPlain}
+use Rattle.dns_server.specs.PlainStreams.{is_plain_frame, is_plain_stream, is_piece, is_spoilt, spoilt_from, octets_kept, StaysOrPlain}
 
 pub plain_none : (o : List ℕ) → frames o ≡ [] → is_plain_stream o ≡ true
 plain_none o e = rw e refl
@@ -49,17 +49,17 @@ pub one_event : (c : ℕ) (e : Event) → stream_of c (e ∷ []) ≡ (if nat_eq 
 one_event c e = (elim (nat_eq e.client c) as (λ b. flat_map (λ (e : Event). piece_in e.kind) (cond b (e ∷ []) []) ≡ (if b then piece_in e.kind else [])) [ true ↦ append-nil (piece_in e.kind) | false ↦ refl ])
 
 gathered_at : {V : Type 0} (items : V → List ℕ) (m n : BTreeMap ℕ V) (k c : ℕ) (p : List ℕ) (b : Bool) → nat_eq k c ≡ b
-    → octets_in items (get nat_cmp n k) ≡ octets_in items (get nat_cmp m k) ++ p → ((c : ℕ) → c ≢ k → get nat_cmp n c ≡ get nat_cmp m c)
-    → octets_in items (get nat_cmp n c) ≡ octets_in items (get nat_cmp m c) ++ (if b then p else [])
+    → octets_kept items (get nat_cmp n k) ≡ octets_kept items (get nat_cmp m k) ++ p → ((c : ℕ) → c ≢ k → get nat_cmp n c ≡ get nat_cmp m c)
+    → octets_kept items (get nat_cmp n c) ≡ octets_kept items (get nat_cmp m c) ++ (if b then p else [])
 gathered_at items m n k c p true e here others = let s : k ≡ c = grind (arith, nat_tests, e) in rw s at here
 gathered_at items m n k c p false e here others =
     let apart : c ≢ k = λ (s : c ≡ k). let no : nat_eq k c ≡ true = grind (arith, nat_tests, s) in let bad : ⊥ = cc in bad in
-    rw (others c apart) (sym (append-nil (octets_in items (get nat_cmp m c))))
+    rw (others c apart) (sym (append-nil (octets_kept items (get nat_cmp m c))))
 
 pub gathered : {V : Type 0} (items : V → List ℕ) (m n : BTreeMap ℕ V) (e : Event)
-    → octets_in items (get nat_cmp n e.client) ≡ octets_in items (get nat_cmp m e.client) ++ piece_in e.kind → ((c : ℕ) → c ≢ e.client → get nat_cmp n c ≡ get nat_cmp m c)
-    → (c : ℕ) → octets_in items (get nat_cmp n c) ≡ octets_in items (get nat_cmp m c) ++ stream_of c (e ∷ [])
-gathered items m n e here others c = gathered_at items m n e.client c (piece_in e.kind) (nat_eq e.client c) refl here others ∙ ap (λ p. octets_in items (get nat_cmp m c) ++ p) (sym (one_event c e))
+    → octets_kept items (get nat_cmp n e.client) ≡ octets_kept items (get nat_cmp m e.client) ++ piece_in e.kind → ((c : ℕ) → c ≢ e.client → get nat_cmp n c ≡ get nat_cmp m c)
+    → (c : ℕ) → octets_kept items (get nat_cmp n c) ≡ octets_kept items (get nat_cmp m c) ++ stream_of c (e ∷ [])
+gathered items m n e here others c = gathered_at items m n e.client c (piece_in e.kind) (nat_eq e.client c) refl here others ∙ ap (λ p. octets_kept items (get nat_cmp m c) ++ p) (sym (one_event c e))
 
 no_piece : (b : Bool) (p : List ℕ) → p ≡ [] → (if b then p else []) ≡ []
 no_piece true p e = e
@@ -77,14 +77,14 @@ abbrev pub LeftAt : {V : Type 0} → (V → List ℕ) → List ℕ → Option V 
 LeftAt items o None = is_plain_stream o ≡ true
 LeftAt items o (Some v) = items v ≡ o
 
-left_first : {V : Type 0} (items : V → List ℕ) (o : List ℕ) (x : Option V) → octets_in items x ≡ o → LeftAt items o x
+left_first : {V : Type 0} (items : V → List ℕ) (o : List ℕ) (x : Option V) → octets_kept items x ≡ o → LeftAt items o x
 left_first items o None e = rw (← e) plain_nothing
 left_first items o (Some v) e = e
 
-pub all_left : {V : Type 0} (items : V → List ℕ) (es : List Event) (m : BTreeMap ℕ V) → ((c : ℕ) → octets_in items (get nat_cmp m c) ≡ stream_of c es) → (c : ℕ) → LeftAt items (stream_of c es) (get nat_cmp m c)
+pub all_left : {V : Type 0} (items : V → List ℕ) (es : List Event) (m : BTreeMap ℕ V) → ((c : ℕ) → octets_kept items (get nat_cmp m c) ≡ stream_of c es) → (c : ℕ) → LeftAt items (stream_of c es) (get nat_cmp m c)
 all_left items es m h c = left_first items (stream_of c es) (get nat_cmp m c) (h c)
 
-left_plain : {V : Type 0} (items : V → List ℕ) (o : List ℕ) (x : Option V) → LeftAt items o x → is_plain_stream (octets_in items x) ≡ is_plain_stream o
+left_plain : {V : Type 0} (items : V → List ℕ) (o : List ℕ) (x : Option V) → LeftAt items o x → is_plain_stream (octets_kept items x) ≡ is_plain_stream o
 left_plain items o None h = plain_nothing ∙ sym h
 left_plain items o (Some v) h = ap is_plain_stream h
 
@@ -96,11 +96,11 @@ pub left_on : {V : Type 0} (items : V → List ℕ) (es : List Event) (m n : BTr
 left_on items es m n h k c = left_goes_on items (stream_of c es) (get nat_cmp m c) (get nat_cmp n c) (h c) (k c)
 
 -- what is told of the event by what is kept
-pub spoilt_told : {V : Type 0} (items : V → List ℕ) (es : List Event) (m : BTreeMap ℕ V) (e : Event) → ((c : ℕ) → LeftAt items (stream_of c es) (get nat_cmp m c)) → (is_piece e.kind && not (is_plain_stream (octets_in items (get nat_cmp m e.client)))) ≡ is_spoilt es e
+pub spoilt_told : {V : Type 0} (items : V → List ℕ) (es : List Event) (m : BTreeMap ℕ V) (e : Event) → ((c : ℕ) → LeftAt items (stream_of c es) (get nat_cmp m c)) → (is_piece e.kind && not (is_plain_stream (octets_kept items (get nat_cmp m e.client)))) ≡ is_spoilt es e
 spoilt_told items es m e h = ap (λ b. is_piece e.kind && not b) (left_plain items (stream_of e.client es) (get nat_cmp m e.client) (h e.client))
 
 -- a client of which nothing is kept
-pub nothing_spoils : {V : Type 0} (items : V → List ℕ) (b : Bool) (x : Option V) → x ≡ None → (b && not (is_plain_stream (octets_in items x))) ≡ false
+pub nothing_spoils : {V : Type 0} (items : V → List ℕ) (b : Bool) (x : Option V) → x ≡ None → (b && not (is_plain_stream (octets_kept items x))) ≡ false
 nothing_spoils items true x e = rw (e, plain_nothing) refl
 nothing_spoils items false x e = refl
 

@@ -35,10 +35,10 @@ unfoldable pub spoilt_line : Plan → Option ℕ
 spoilt_line p = option_map (λ i. slice_index_or p.lines i 0) (spoilt_from p.events 0 p.events)
 
 -- what is kept for a client, or no octet
-abbrev pub octets_in : {V : Type 0} → (V → List ℕ) → Option V → List ℕ
-octets_in items None = []
-octets_in items (Some v) = items v
+abbrev pub octets_kept : {V : Type 0} → (V → List ℕ) → Option V → List ℕ
+octets_kept items None = []
+octets_kept items (Some v) = items v
 
 -- what is kept for a client stays, or is taken out and is plain
 abbrev pub StaysOrPlain : {V : Type 0} → (V → List ℕ) → Option V → Option V → Type 0
-StaysOrPlain items x y = (y ≡ x) ⊎ ((y ≡ None) × (is_plain_stream (octets_in items x) ≡ true))
+StaysOrPlain items x y = (y ≡ x) ⊎ ((y ≡ None) × (is_plain_stream (octets_kept items x) ≡ true))

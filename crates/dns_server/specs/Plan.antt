@@ -11,5 +11,5 @@ pub record Plan : Type 0 where
   pub events : List Event
   pub lines : List ℕ
 
-abbrev pub nothing : Plan
-nothing = record { stream = None; rules = []; events = []; lines = [] }
+abbrev pub empty_plan : Plan
+empty_plan = record { stream = None; rules = []; events = []; lines = [] }

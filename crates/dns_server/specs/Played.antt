@@ -16,14 +16,14 @@ abbrev pub new_builder : Built
 new_builder = record { message = empty; limit = 65535 }
 
 -- a reply with this response code, or the error `servfail` where the questions have no room
-abbrev pub reply_of : List ℕ → ℕ → Item
-reply_of o code = if have_room new_builder o code then Ok (record { response = Some (answer_to new_builder o code).message; feedback = None }) else Err InternalError
+abbrev pub played_reply : List ℕ → ℕ → Item
+played_reply o code = if have_room new_builder o code then Ok (record { response = Some (answer_to new_builder o code).message; feedback = None }) else Err InternalError
 
 -- one answer to a message of these octets
 abbrev pub given : List ℕ → ScriptAnswer → Answer
 given o Pend = Pending
 given o (Error e) = Ready (Some (Err e))
-given o (Rcode code) = Ready (Some (reply_of o code))
+given o (Rcode code) = Ready (Some (played_reply o code))
 
 -- answers one by one, and then the end
 abbrev pub played_from : List ℕ → List ScriptAnswer → ℕ → Answer

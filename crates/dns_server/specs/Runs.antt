@@ -1,7 +1,7 @@
 -- What a run answers, by what was read and written. In each, a and b are what is left of the source before and after the call,
 -- and c and d what the sink has taken before and after it.
 use Rattle.std.specs.Prelude.{◌≡◌, ℕ, ◌+◌, ◌≤◌, List, [], ◌++◌, length, Result, Ok, Err, IsOk, IsErr, true, Option, Some, None}
-use Rattle.dns_outside.specs.Moves.{Read, ReadAtMost, Cut}
+use Rattle.dns_outside.specs.Moves.{ReadExactly, ReadAtMost, Cut}
 use Rattle.dns_outside.specs.declared.source.TheConstants.{LIMIT}
 use Rattle.dns_service.specs.declared.event.Output.{Output}
 use Rattle.dns_trace.specs.declared.reason.Reason.{Reason}
@@ -31,13 +31,13 @@ abbrev pub settings_with : Option Stream → Settings
 settings_with stream = record opening_settings { stream = stream_or_default stream }
 
 -- what the clients are sent: the outputs of the events, served by the rules
-unfoldable pub outputs_of : Plan → List Output
-outputs_of p = out (replies (played p.rules)) (settings_with p.stream) p.events
+unfoldable pub plan_outputs : Plan → List Output
+plan_outputs p = out (replies (played p.rules)) (settings_with p.stream) p.events
 
 -- what is written for a script, or for the first bad line of a text that is none
-abbrev pub text_of : Result Plan (ℕ × Reason) → List ℕ
-text_of (Ok p) = lines_of (outputs_of p)
-text_of (Err e) = refused_line e.0 e.1
+abbrev pub run_text : Result Plan (ℕ × Reason) → List ℕ
+run_text (Ok p) = lines_of (plan_outputs p)
+run_text (Err e) = refused_line e.0 e.1
 
 -- all of the source was read, and it was not too long
 abbrev pub Whole : List ℕ → List ℕ → Type 0
@@ -58,7 +58,7 @@ ReplayReads Refused a b = Whole a b × IsErr (script a)
 ReplayReads WriteFault a b = Whole a b
 ReplayReads OutOfMemory a b = ReadAtMost (LIMIT + 1) a b
 ReplayReads ReadFault a b = ReadAtMost LIMIT a b
-ReplayReads TooLong a b = Read (LIMIT + 1) a b
+ReplayReads TooLong a b = ReadExactly (LIMIT + 1) a b
 ReplayReads Usage a b = ⊥
 
 -- what was written, by the status: a text, a front of it, or nothing
@@ -73,7 +73,7 @@ abbrev pub RunReads : Command → Status → List ℕ → List ℕ → Type 0
 RunReads Replay s a b = ReplayReads s a b
 
 abbrev pub RunWrites : Command → Status → List ℕ → List ℕ → List ℕ → Type 0
-RunWrites Replay s a c d = ReplayWrites s (text_of (script a)) c d
+RunWrites Replay s a c d = ReplayWrites s (run_text (script a)) c d
 
 -- a script gives Done, and another text Refused, save for want of memory
 abbrev pub Decides : Status → Result Plan (ℕ × Reason) → Type 0

@@ -5,7 +5,7 @@ use Rattle.std.specs.Option.{option_map_or}
 use Rattle.std.specs.Str.{bytes_eq}
 use Rattle.std.specs.Str.Lines.{lines}
 use Rattle.dns_trace.specs.Lines.{is_skipped}
-use Rattle.dns_trace.specs.Words.{words_of, word}
+use Rattle.dns_trace.specs.Words.{words_of, word_at}
 use Rattle.dns_trace.specs.Reading.{◌>>=◌, unless}
 use Rattle.dns_trace.specs.Values.{number}
 use Rattle.dns_trace.specs.EventLines.{event_line}
@@ -18,7 +18,7 @@ use Rattle.dns_server.specs.declared.rule.Rule.{Rule}
 use Rattle.dns_server.specs.declared.rule.ScriptAnswer.{ScriptAnswer}
 use Rattle.dns_server.specs.declared.rule.ScriptAnswer.TheVariants.{Pend, Rcode}
 use Rattle.dns_server.specs.Plain.{is_plain_kind, needs_rule}
-use Rattle.dns_server.specs.Plan.{Plan, nothing}
+use Rattle.dns_server.specs.Plan.{Plan, empty_plan}
 use Rattle.dns_server.specs.PlainStreams.{spoilt_line}
 
 abbrev pub with_rule : Plan → Rule → Plan
@@ -47,7 +47,7 @@ unfoldable pub rule_line : Plan → List (List ℕ) → Result Plan Reason
 rule_line p ws = do
   _ ← unless Unbuilt (length p.events == 0)
   _ ← unless Unbuilt (nat_le 3 (length ws))
-  _ ← unless Unbuilt (bytes_eq (word ws 1) (codes "*"))
+  _ ← unless Unbuilt (bytes_eq (word_at ws 1) (codes "*"))
   answers ← answers_after [] (drop 2 ws)
   Ok (with_rule p (record { answers = answers }))
 
@@ -72,8 +72,8 @@ unfoldable pub after_line : ℕ → Plan → List ℕ → Result Plan Reason
 after_line n p l =
     let ws = words_of l in
     if is_skipped ws then Ok p
-    else if bytes_eq (word ws 0) (codes "rule") then rule_line p ws
-    else if bytes_eq (word ws 0) (codes "stream") then first_stream_line p ws
+    else if bytes_eq (word_at ws 0) (codes "rule") then rule_line p ws
+    else if bytes_eq (word_at ws 0) (codes "stream") then first_stream_line p ws
     else next_event_line n p ws
 
 abbrev pub numbered : {A : Type 0} → ℕ → Result A Reason → Result A (ℕ × Reason)
@@ -90,4 +90,4 @@ unfoldable pub with_plain_streams : Plan → Result Plan (ℕ × Reason)
 with_plain_streams p = option_map_or (λ n. Err (n, Unbuilt)) (spoilt_line p) (Ok p)
 
 unfoldable pub script : List ℕ → Result Plan (ℕ × Reason)
-script t = after_lines 1 nothing (lines t) >>= with_plain_streams
+script t = after_lines 1 empty_plan (lines t) >>= with_plain_streams

@@ -10,6 +10,6 @@ Refuses OutOfMemory read = Unit {0}
 Refuses (Refused n r) read = read ≡ Err (n, r)
 
 -- what a script says, or its first bad line, unless memory was wanting
-abbrev pub Reads : Result Plan ScriptError → Result Plan (ℕ × Reason) → Type 0
-Reads (Ok s) read = read ≡ Ok s
-Reads (Err e) read = Refuses e read
+abbrev pub ReadsScript : Result Plan ScriptError → Result Plan (ℕ × Reason) → Type 0
+ReadsScript (Ok s) read = read ≡ Ok s
+ReadsScript (Err e) read = Refuses e read

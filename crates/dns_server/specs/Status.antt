@@ -4,14 +4,14 @@ use Rattle.dns_outside.specs.Causes.{Rose}
 use Rattle.dns_server.specs.declared.program.Status.{Status}
 use Rattle.dns_server.specs.declared.program.Status.TheVariants.{Done, Usage, Refused, ReadFault, WriteFault, OutOfMemory, TooLong}
 
-abbrev pub number_of : Status → ℕ
-number_of Done = 0
-number_of Usage = 2
-number_of Refused = 3
-number_of ReadFault = 4
-number_of WriteFault = 5
-number_of OutOfMemory = 6
-number_of TooLong = 7
+abbrev pub status_number : Status → ℕ
+status_number Done = 0
+status_number Usage = 2
+status_number Refused = 3
+status_number ReadFault = 4
+status_number WriteFault = 5
+status_number OutOfMemory = 6
+status_number TooLong = 7
 
 -- the source's count rises with ReadFault, and with no other status
 abbrev pub SourceFaults : Status → ℕ → ℕ → Type 0

@@ -4,7 +4,7 @@ ghost use Rattle.std.specs.Prelude.{◌≡◌, ◌≢◌, ◌&&◌, ◌++◌, �
 ghost use Rattle.std.specs.BTreeMap.{get};
 ghost use Rattle.std.specs.Ordering.{nat_cmp};
 ghost use Rattle.dns_core.specs.Early.{piece_in, stream_of};
-ghost use Rattle.dns_server.specs.PlainStreams.{is_plain_frame, is_plain_stream, is_piece, spoilt_from, octets_in, StaysOrPlain};
+ghost use Rattle.dns_server.specs.PlainStreams.{is_plain_frame, is_plain_stream, is_piece, spoilt_from, octets_kept, StaysOrPlain};
 
 use dns_base::is_plain;
 use dns_core::Framer;
@@ -63,7 +63,7 @@ fn append(
     client: u64,
     piece: &[u8],
 ) -> Result<(), OutOfMemory>
-    ensures here { OnOk result (octets_in (λ v. v.items) (get nat_cmp streams.new client) ≡ octets_in (λ v. v.items) (get nat_cmp streams.old client) ++ piece.now) }
+    ensures here { OnOk result (octets_kept (λ v. v.items) (get nat_cmp streams.new client) ≡ octets_kept (λ v. v.items) (get nat_cmp streams.old client) ++ piece.now) }
     ensures others { OnOk result ((c : ℕ) → c ≢ client → get nat_cmp streams.new c ≡ get nat_cmp streams.old c) }
 {
     let mut stream = match streams.remove(&client) {
@@ -82,7 +82,7 @@ fn gather(
     streams: &mut BTreeMap<u64, Vec<u8>>,
     event: &Event,
 ) -> Result<(), OutOfMemory>
-    ensures { OnOk result ((c : ℕ) → octets_in (λ v. v.items) (get nat_cmp streams.new c) ≡ octets_in (λ v. v.items) (get nat_cmp streams.old c) ++ stream_of c (event.now ∷ [])) }
+    ensures { OnOk result ((c : ℕ) → octets_kept (λ v. v.items) (get nat_cmp streams.new c) ≡ octets_kept (λ v. v.items) (get nat_cmp streams.old c) ++ stream_of c (event.now ∷ [])) }
 {
     let piece = piece_of(&event.kind);
     if piece.is_empty() {
@@ -93,7 +93,7 @@ fn gather(
 
 /// The streams of all clients that have one.
 fn streams_of(alloc: Global, events: &[Event]) -> Result<BTreeMap<u64, Vec<u8>>, OutOfMemory>
-    ensures { IfOk result (λ m. (c : ℕ) → octets_in (λ v. v.items) (get nat_cmp m c) ≡ stream_of c events.now) }
+    ensures { IfOk result (λ m. (c : ℕ) → octets_kept (λ v. v.items) (get nat_cmp m c) ≡ stream_of c events.now) }
 {
     let mut streams = BTreeMap::new(alloc);
     for event in events {
@@ -109,7 +109,7 @@ fn spoils(
     streams: &mut BTreeMap<u64, Vec<u8>>,
     event: &Event,
 ) -> Result<bool, OutOfMemory>
-    ensures value { IfOk result (λ b. b ≡ (is_piece event.now.kind && not (is_plain_stream (octets_in (λ v. v.items) (get nat_cmp streams.old event.now.client))))) }
+    ensures value { IfOk result (λ b. b ≡ (is_piece event.now.kind && not (is_plain_stream (octets_kept (λ v. v.items) (get nat_cmp streams.old event.now.client))))) }
     ensures kept { IfOk result (λ b. b ≡ false → (c : ℕ) → StaysOrPlain (λ v. v.items) (get nat_cmp streams.old c) (get nat_cmp streams.new c)) }
 {
     if !is_a_piece(&event.kind) {

@@ -6,11 +6,11 @@ ghost use Rattle.dns_outside.specs.declared.source.TheConstants.{LIMIT};
 ghost use Rattle.dns_core.specs.Early.{stream_of};
 ghost use Rattle.dns_server.specs.PlainStreams.{is_plain_stream};
 ghost use Rattle.dns_server.specs.Command.{command_of};
-ghost use Rattle.dns_server.specs.Status.{number_of, SourceFaults, SinkFaults};
+ghost use Rattle.dns_server.specs.Status.{status_number, SourceFaults, SinkFaults};
 ghost use Rattle.dns_server.specs.Line.{lines_of};
 ghost use Rattle.dns_server.specs.Script.{script};
 ghost use Rattle.dns_server.specs.Writes.{Wrote, WroteFaults};
-ghost use Rattle.dns_server.specs.Runs.{outputs_of, text_of, settings_with, Judges, ReplayReads, ReplayWrites, RunReads, RunWrites, Completes};
+ghost use Rattle.dns_server.specs.Runs.{plan_outputs, run_text, settings_with, Judges, ReplayReads, ReplayWrites, RunReads, RunWrites, Completes};
 
 use crate::command::{Command, read_command};
 use crate::reader::read_script;
@@ -43,11 +43,11 @@ pub enum Status {
 }
 
 impl Status {
-    ghost use Rattle.dns_server.specs.Status.{number_of};
+    ghost use Rattle.dns_server.specs.Status.{status_number};
 
     /// The exit status of the program.
     pub fn number(self) -> u8
-        ensures { result ≡ number_of self }
+        ensures { result ≡ status_number self }
     {
         match self {
             Status::Done => 0,
@@ -73,10 +73,10 @@ fn settings(alloc: Global, stream: Option<StreamConfig>) -> Settings
 }
 
 /// What the clients of a script are sent.
-#[tactic(auto, using(crate::proofs::Queries::all_queries, crate::proofs::Queries::all_streams), unfolding(crate::specs::Runs::outputs_of))]
+#[tactic(auto, using(crate::proofs::Queries::all_queries, crate::proofs::Queries::all_streams), unfolding(crate::specs::Runs::plan_outputs))]
 fn outputs(alloc: Global, script: Script) -> Result<Vec<Output>, OutOfMemory>
     requires { (c : ℕ) → is_plain_stream (stream_of c script.events) ≡ true }
-    ensures { IfOk result (λ v. v.items ≡ outputs_of script) }
+    ensures { IfOk result (λ v. v.items ≡ plan_outputs script) }
 {
     let settings = settings(alloc, script.stream());
     let (rules, events) = script.into_parts();
@@ -92,7 +92,7 @@ fn outputs(alloc: Global, script: Script) -> Result<Vec<Output>, OutOfMemory>
 /// Writes what the clients of a script are sent.
 fn answer_script<W: Sink>(alloc: Global, script: Script, sink: &mut W) -> Result<(), WriteError>
     requires { (c : ℕ) → is_plain_stream (stream_of c script.events) ≡ true }
-    ensures told { Tells (W.tells sink.new) (W.tells sink.old) (Wrote result (lines_of (outputs_of script)) (W.taken sink.old) (W.taken sink.new)) }
+    ensures told { Tells (W.tells sink.new) (W.tells sink.old) (Wrote result (lines_of (plan_outputs script)) (W.taken sink.old) (W.taken sink.new)) }
     ensures cause { WroteFaults result (W.faults sink.old) (W.faults sink.new) }
 {
     let all = outputs(alloc, script)?;
@@ -104,7 +104,7 @@ fn answer_script<W: Sink>(alloc: Global, script: Script, sink: &mut W) -> Result
 fn answer_text<W: Sink>(alloc: Global, text: &[u8], sink: &mut W) -> Status
     requires { length text.now ≤ LIMIT }
     ensures judged { Judges result (script text.now) }
-    ensures told { Tells (W.tells sink.new) (W.tells sink.old) (ReplayWrites result (text_of (script text.now)) (W.taken sink.old) (W.taken sink.new)) }
+    ensures told { Tells (W.tells sink.new) (W.tells sink.old) (ReplayWrites result (run_text (script text.now)) (W.taken sink.old) (W.taken sink.new)) }
     ensures faults { SinkFaults result (W.faults sink.old) (W.faults sink.new) }
     ensures read { (result ≢ Status.Usage) × (result ≢ Status.ReadFault) × (result ≢ Status.TooLong) }
 {

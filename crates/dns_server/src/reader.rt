@@ -2,12 +2,12 @@
 
 ghost use Rattle.std.specs.Prelude.{◌≡◌, ℕ, true, ◌<◌, ◌≤◌, ◌^◌, [], drop, length, IsTrue, IfOk};
 ghost use Rattle.dns_trace.specs.EventLines.{event_line};
-ghost use Rattle.dns_trace.specs.Reading.{Gives};
+ghost use Rattle.dns_trace.specs.Reading.{GivesLine};
 ghost use Rattle.dns_server.specs.Plain.{is_plain_kind};
 ghost use Rattle.dns_server.specs.Script.{answer_of, answers_after, rule_line, first_stream_line, next_event_line, after_line, with_plain_streams, script};
 ghost use Rattle.dns_server.specs.PlainStreams.{is_plain_stream};
 ghost use Rattle.dns_core.specs.Early.{stream_of};
-ghost use Rattle.dns_server.specs.ScriptReads.{Reads};
+ghost use Rattle.dns_server.specs.ScriptReads.{ReadsScript};
 
 use crate::plain::{is_plain_event, needs_a_rule};
 use crate::plain_streams::first_spoilt;
@@ -39,7 +39,7 @@ fn answer(word: &[u8]) -> Result<ScriptAnswer, Reason>
 
 /// The answers from the third word on.
 fn answers(alloc: Global, words: &Words) -> Result<ScriptAnswers, LineError>
-    ensures { Gives (λ a. a) result (answers_after [] (drop 2 words.now)) }
+    ensures { GivesLine (λ a. a) result (answers_after [] (drop 2 words.now)) }
 {
     let mut answers = Vec::new(alloc);
     for i in 2..words.len() {
@@ -52,7 +52,7 @@ fn answers(alloc: Global, words: &Words) -> Result<ScriptAnswers, LineError>
 /// A line `rule * ANSWER ..`.
 #[tactic(auto, unfolding(crate::specs::Script::rule_line))]
 fn rule(alloc: Global, script: Script, words: &Words) -> Result<Script, LineError>
-    ensures { Gives (λ s. s) result (rule_line script words.now) }
+    ensures { GivesLine (λ s. s) result (rule_line script words.now) }
 {
     if !script.events().is_empty() {
         return Err(LineError::Refused(Reason::Unbuilt));
@@ -70,7 +70,7 @@ fn rule(alloc: Global, script: Script, words: &Words) -> Result<Script, LineErro
 /// A line `stream IDLE WRITE QUEUE LIMIT yes|no`.
 #[tactic(auto, unfolding(crate::specs::Script::first_stream_line))]
 fn stream(script: Script, words: &Words) -> Result<Script, LineError>
-    ensures { Gives (λ s. s) result (first_stream_line script words.now) }
+    ensures { GivesLine (λ s. s) result (first_stream_line script words.now) }
 {
     if !script.events().is_empty() {
         return Err(LineError::Refused(Reason::Unbuilt));
@@ -85,7 +85,7 @@ fn stream(script: Script, words: &Words) -> Result<Script, LineError>
 /// The line of an event, which has this number.
 #[tactic(auto, unfolding(crate::specs::Script::next_event_line))]
 fn event(alloc: Global, line: u64, script: Script, words: &Words) -> Result<Script, LineError>
-    ensures { Gives (λ s. s) result (next_event_line line script words.now) }
+    ensures { GivesLine (λ s. s) result (next_event_line line script words.now) }
 {
     let event = read_event(alloc, words)?;
     if !is_plain_event(&event.kind) {
@@ -100,7 +100,7 @@ fn event(alloc: Global, line: u64, script: Script, words: &Words) -> Result<Scri
 /// What a script says with one line more, which has this number.
 #[tactic(auto, unfolding(crate::specs::Script::after_line))]
 fn after(alloc: Global, number: u64, script: Script, line: &[u8]) -> Result<Script, LineError>
-    ensures { Gives (λ s. s) result (after_line number script line.now) }
+    ensures { GivesLine (λ s. s) result (after_line number script line.now) }
 {
     let words = Words::of(alloc, line)?;
     if says_nothing(&words) {
@@ -118,7 +118,7 @@ fn after(alloc: Global, number: u64, script: Script, line: &[u8]) -> Result<Scri
 /// A script, unless the stream of a client isn't plain.
 #[tactic(auto, using(crate::proofs::Streamed::none_spoilt), unfolding(crate::specs::Script::with_plain_streams, crate::specs::PlainStreams::spoilt_line))]
 fn with_plain_streams(alloc: Global, script: Script) -> Result<Script, ScriptError>
-    ensures value { Reads result (with_plain_streams script) }
+    ensures value { ReadsScript result (with_plain_streams script) }
     ensures streams { IfOk result (λ s. (c : ℕ) → is_plain_stream (stream_of c s.events) ≡ true) }
 {
     match first_spoilt(alloc, script.events()) {
@@ -135,7 +135,7 @@ fn with_plain_streams(alloc: Global, script: Script) -> Result<Script, ScriptErr
 #[tactic(auto, unfolding(crate::specs::Script::script))]
 pub fn read_script(alloc: Global, text: &[u8]) -> Result<Script, ScriptError>
     requires { length text.now < 2 ^ 40 }
-    ensures value { Reads result (script text.now) }
+    ensures value { ReadsScript result (script text.now) }
     ensures streams { IfOk result (λ s. (c : ℕ) → is_plain_stream (stream_of c s.events) ≡ true) }
 {
     let mut all = Script::new(alloc);

@@ -1,7 +1,7 @@
 //! What a script says.
 
 ghost use Rattle.std.specs.Prelude.{◌≡◌, slice_index_or, IfOk, IsTrue, All};
-ghost use Rattle.dns_server.specs.Plan.{nothing};
+ghost use Rattle.dns_server.specs.Plan.{empty_plan};
 ghost use Rattle.dns_server.specs.Plain.{is_plain_kind};
 ghost use Rattle.dns_server.specs.Script.{with_rule, with_event, with_stream};
 
@@ -44,7 +44,7 @@ impl Model for Script {
 impl Script {
     /// A script that says nothing.
     pub fn new(alloc: Global) -> Script
-        ensures { result ≡ nothing }
+        ensures { result ≡ empty_plan }
     {
         Script {
             stream: None,

@@ -3,7 +3,7 @@
 ghost use Rattle.std.specs.Prelude.{◌≡◌, IfOk, Some, length, ◌-◌};
 ghost use Rattle.dns_service.specs.Transport.{hint_of};
 ghost use Rattle.dns_server.specs.Rules.{answers_for};
-ghost use Rattle.dns_server.specs.Played.{given, reply_of, played};
+ghost use Rattle.dns_server.specs.Played.{given, played_reply, played};
 ghost use Rattle.dns_server.specs.Streams.{left_of, answers_left};
 
 use crate::rule::{Rule, Rules, ScriptAnswer, ScriptAnswers};
@@ -128,7 +128,7 @@ fn make_answer(
 
 /// A reply with this response code, or the error `servfail` where the questions have no room.
 fn make_reply(alloc: Global, message: &Message, rcode: Rcode) -> Result<ServiceResult, OutOfMemory>
-    ensures { IfOk result (λ i. i ≡ reply_of message.now rcode) }
+    ensures { IfOk result (λ i. i ≡ played_reply message.now rcode) }
 {
     let builder = MessageBuilder::new(alloc)?;
     match builder.start_answer(alloc, message, rcode) {

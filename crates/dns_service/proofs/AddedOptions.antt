@@ -8,7 +8,7 @@ use Rattle.dns_base.specs.Msg.{Msg}
 use Rattle.dns_base.specs.Built.{Built}
 use Rattle.dns_base.specs.Options.{option_octets}
 use Rattle.dns_base.specs.Wire.{wire}
-use Rattle.dns_opt.specs.Drafts.{Draft, EndsIn, PushedIn, PutInto}
+use Rattle.dns_opt.specs.Drafts.{OptDraft, EndsIn, PushedIn, PutInto}
 use Rattle.dns_opt.specs.Reopened.{IsReopened, Reopens, less_opts, old_opt, reopened}
 use Rattle.dns_opt.proofs.Sizes.{opt_grows}
 use Rattle.dns_service.specs.WithOption.{AddsOption, optioned, with_option}
@@ -34,32 +34,32 @@ itself : (m : Msg) (code : ℕ) (d : List ℕ) → 65535 < length (wire (optione
 itself m code d h = ap (λ (b : Bool). if b then optioned m code d else m) (test_false _ _ h)
 
 module _ (old new : Built) (code : ℕ) (d : List ℕ) where
-  put : (result : Result ⊤ BuildDataError) (left : Draft) → old.limit ≤ 65535 → PushedIn code d (reopened old) left (Ok tt) → PutInto left (less_opts old) old new result → AddsOption code d old new result
+  put : (result : Result ⊤ BuildDataError) (left : OptDraft) → old.limit ≤ 65535 → PushedIn code d (reopened old) left (Ok tt) → PutInto left (less_opts old) old new result → AddsOption code d old new result
   put (Ok u) left l k h =
-      let g = subst (λ (x : Draft). PutInto x (less_opts old) old new (Ok u)) k.2 h in
+      let g = subst (λ (x : OptDraft). PutInto x (less_opts old) old new (Ok u)) k.2 h in
       let w = whole old.message code d (omega (arith, g.1)) in
       (g.0 ∙ ap (λ (m : Msg). record { message = m; limit = old.limit }) (sym w), g.1)
   put (Err LongOptData) left l k h = absurd h
   put (Err (WrongLength s w)) left l k h = absurd h
   put (Err ShortBuf) left l k h =
-      let g = subst (λ (x : Draft). PutInto x (less_opts old) old new (Err ShortBuf)) k.2 h in
+      let g = subst (λ (x : OptDraft). PutInto x (less_opts old) old new (Err ShortBuf)) k.2 h in
       (g.0, k.0, g.1)
   put (Err NoMemory) left l k h = h
 
-  refused : (e : BuildDataError) (left : Draft) → PushedIn code d (reopened old) left (Err e) → new ≡ old → AddsOption code d old new (Err e)
+  refused : (e : BuildDataError) (left : OptDraft) → PushedIn code d (reopened old) left (Err e) → new ≡ old → AddsOption code d old new (Err e)
   refused LongOptData left k h = (h, k.0)
   refused (WrongLength s w) left k h = absurd k
   refused ShortBuf left k h = (h, k.0, omega (arith, k.1, optioned_length old code d))
   refused NoMemory left k h = h
 
-  ended : (result answer : Result ⊤ BuildDataError) (left : Draft) → old.limit ≤ 65535 → PushedIn code d (reopened old) left answer → EndsIn answer left (less_opts old) old new result → AddsOption code d old new result
+  ended : (result answer : Result ⊤ BuildDataError) (left : OptDraft) → old.limit ≤ 65535 → PushedIn code d (reopened old) left answer → EndsIn answer left (less_opts old) old new result → AddsOption code d old new result
   ended result (Ok u) left l k h = put result left l k h
   ended result (Err e) left l k h = subst (λ (r : Result ⊤ BuildDataError). AddsOption code d old new r) (sym h.0) (refused e left k h.1)
 
-  module _ (calls : Draft → Result ⊤ BuildDataError → Draft → Type 0) where
+  module _ (calls : OptDraft → Result ⊤ BuildDataError → OptDraft → Type 0) where
     -- a closure that pushes the option and does nothing else
     abbrev pub PushesOption : Type 0
-    PushesOption = (answer : Result ⊤ BuildDataError) (left : Draft) → calls (reopened old) answer left → PushedIn code d (reopened old) left answer
+    PushesOption = (answer : Result ⊤ BuildDataError) (left : OptDraft) → calls (reopened old) answer left → PushedIn code d (reopened old) left answer
 
     built : (result : Result ⊤ BuildDataError) → old.limit ≤ 65535 → PushesOption → IsReopened calls old new result → AddsOption code d old new result
     built result l p h = ended result h.answer h.left l (p h.answer h.left h.met) h.ends

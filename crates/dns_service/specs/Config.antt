@@ -20,12 +20,12 @@ pub record Stream : Type 0 where
   pub connection_config : Connection
 
 -- x, or the end of the range that lies nearest
-abbrev pub limited : ℕ → ℕ → ℕ → ℕ
-limited low high x = max low (min x high)
+abbrev pub in_range : ℕ → ℕ → ℕ → ℕ
+in_range low high x = max low (min x high)
 
 abbrev pub limited_size : Option ℕ → Option ℕ
 limited_size None = None
-limited_size (Some size) = Some (limited 512 4096 size)
+limited_size (Some size) = Some (in_range 512 4096 size)
 
 abbrev pub IsBetween : ℕ → ℕ → ℕ → Type 0
 IsBetween low high x = (low ≤ x) × (x ≤ high)

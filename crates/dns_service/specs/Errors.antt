@@ -9,8 +9,8 @@ rcode_of InternalError = 2
 rcode_of NotImplemented = 4
 rcode_of Refused = 5
 
-abbrev pub text_of : ServiceError → List ℕ
-text_of FormatError = codes "Format error"
-text_of InternalError = codes "Internal error"
-text_of NotImplemented = codes "Not implemented"
-text_of Refused = codes "Refused"
+abbrev pub service_error_text : ServiceError → List ℕ
+service_error_text FormatError = codes "Format error"
+service_error_text InternalError = codes "Internal error"
+service_error_text NotImplemented = codes "Not implemented"
+service_error_text Refused = codes "Refused"

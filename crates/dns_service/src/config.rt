@@ -1,6 +1,6 @@
 //! The configurations of the servers. Each setter limits its value to a range.
 ghost use Rattle.std.specs.Prelude.{◌≡◌, ◌≤◌};
-ghost use Rattle.dns_service.specs.Config.{limited, limited_size, IsBetween, IsResponseSize, Dgram, Connection, Stream, IsDgram, IsConnection, IsStream, default_dgram, default_connection, default_stream};
+ghost use Rattle.dns_service.specs.Config.{in_range, limited_size, IsBetween, IsResponseSize, Dgram, Connection, Stream, IsDgram, IsConnection, IsStream, default_dgram, default_connection, default_stream};
 
 use std::marker::Model;
 
@@ -50,7 +50,7 @@ impl DgramConfig {
 
     /// How long a write may take, from 1 ms to 60,000 ms.
     pub fn set_write_timeout(&mut self, millis: u64)
-        ensures { self.new ≡ record self.old { write_timeout = limited 1 60000 millis } }
+        ensures { self.new ≡ record self.old { write_timeout = in_range 1 60000 millis } }
     {
         self.write_timeout = millis.clamp(1, 60_000);
     }
@@ -105,7 +105,7 @@ impl ConnectionConfig {
 
     /// How long the connection may be idle, from 200 ms to 2,592,000,000 ms (RFC 7766 6.2.3).
     pub fn set_idle_timeout(&mut self, millis: u64)
-        ensures { self.new ≡ record self.old { idle_timeout = limited 200 2592000000 millis } }
+        ensures { self.new ≡ record self.old { idle_timeout = in_range 200 2592000000 millis } }
     {
         self.idle_timeout = millis.clamp(200, 2_592_000_000);
     }
@@ -121,7 +121,7 @@ impl ConnectionConfig {
 
     /// How long the write of a response may take, from 1 ms to 3,600,000 ms.
     pub fn set_response_write_timeout(&mut self, millis: u64)
-        ensures { self.new ≡ record self.old { response_write_timeout = limited 1 3600000 millis } }
+        ensures { self.new ≡ record self.old { response_write_timeout = in_range 1 3600000 millis } }
     {
         self.response_write_timeout = millis.clamp(1, 3_600_000);
     }
@@ -137,7 +137,7 @@ impl ConnectionConfig {
 
     /// How many responses may wait to be written, from 1 to 1,024.
     pub fn set_max_queued_responses(&mut self, count: usize)
-        ensures { self.new ≡ record self.old { max_queued_responses = limited 1 1024 count } }
+        ensures { self.new ≡ record self.old { max_queued_responses = in_range 1 1024 count } }
     {
         self.max_queued_responses = count.clamp(1, 1024);
     }
@@ -209,7 +209,7 @@ impl StreamConfig {
 
     /// How many connections there may be at once, from 1 to 100,000.
     pub fn set_max_concurrent_connections(&mut self, count: usize)
-        ensures { self.new ≡ record self.old { max_concurrent_connections = limited 1 100000 count } }
+        ensures { self.new ≡ record self.old { max_concurrent_connections = in_range 1 100000 count } }
     {
         self.max_concurrent_connections = count.clamp(1, 100_000);
     }

@@ -10,7 +10,7 @@ ghost use Rattle.dns_service.specs.Answer.{Answer, Item, IfPending, IfReady};
 ghost use Rattle.dns_service.specs.Transport.{hinted};
 ghost use Rattle.dns_service.specs.Given.{message_in};
 ghost use Rattle.dns_service.specs.Lending.{LendsReply};
-ghost use Rattle.dns_service.specs.Errors.{rcode_of, text_of};
+ghost use Rattle.dns_service.specs.Errors.{rcode_of, service_error_text};
 
 use crate::message::Request;
 use dns_base::AdditionalBuilder;
@@ -51,7 +51,7 @@ impl ServiceError {
 }
 
 impl fmt::Display for ServiceError {
-    ghost output = { λ e. Some (text_of e) };
+    ghost output = { λ e. Some (service_error_text e) };
 
     fn fmt<W: fmt::Write>(&self, f: &mut fmt::Formatter<W>) -> fmt::Result {
         match self {

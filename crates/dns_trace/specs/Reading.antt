@@ -19,6 +19,6 @@ Fails OutOfMemory read = Unit {0}
 Fails (Refused r) read = read ≡ Err r
 
 -- a reader gave what is read, or its refusal, unless memory was wanting
-abbrev pub Gives : {X Y : Type 0} → (X → Y) → Result X LineError → Result Y Reason → Type 0
-Gives view (Ok x) read = read ≡ Ok (view x)
-Gives view (Err e) read = Fails e read
+abbrev pub GivesLine : {X Y : Type 0} → (X → Y) → Result X LineError → Result Y Reason → Type 0
+GivesLine view (Ok x) read = read ≡ Ok (view x)
+GivesLine view (Err e) read = Fails e read

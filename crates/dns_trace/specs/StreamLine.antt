@@ -1,7 +1,7 @@
 -- The line that configures the stream server: each number is limited to its range.
 use Rattle.std.specs.Prelude.{ℕ, Bool, ◌==◌, List, length, Result, Ok}
-use Rattle.dns_service.specs.Config.{Stream, limited}
-use Rattle.dns_trace.specs.Words.{word}
+use Rattle.dns_service.specs.Config.{Stream, in_range}
+use Rattle.dns_trace.specs.Words.{word_at}
 use Rattle.dns_trace.specs.Reading.{◌>>=◌, unless}
 use Rattle.dns_trace.specs.Values.{num_of, yes_no_of}
 use Rattle.dns_trace.specs.declared.reason.Reason.{Reason}
@@ -10,11 +10,11 @@ use Rattle.dns_trace.specs.declared.reason.Reason.TheVariants.{Unbuilt}
 abbrev pub configured : ℕ → ℕ → ℕ → ℕ → Bool → Stream
 configured idle write queue limit accepts = record {
   accept_connections_at_max = accepts;
-  max_concurrent_connections = limited 1 100000 limit;
+  max_concurrent_connections = in_range 1 100000 limit;
   connection_config = record {
-    idle_timeout = limited 200 2592000000 idle;
-    response_write_timeout = limited 1 3600000 write;
-    max_queued_responses = limited 1 1024 queue;
+    idle_timeout = in_range 200 2592000000 idle;
+    response_write_timeout = in_range 1 3600000 write;
+    max_queued_responses = in_range 1 1024 queue;
   };
 }
 
@@ -22,9 +22,9 @@ configured idle write queue limit accepts = record {
 unfoldable pub stream_line : List (List ℕ) → Result Stream Reason
 stream_line ws = do
   _ ← unless Unbuilt (length ws == 6)
-  idle ← num_of (word ws 1)
-  write ← num_of (word ws 2)
-  queue ← num_of (word ws 3)
-  limit ← num_of (word ws 4)
-  accepts ← yes_no_of (word ws 5)
+  idle ← num_of (word_at ws 1)
+  write ← num_of (word_at ws 2)
+  queue ← num_of (word_at ws 3)
+  limit ← num_of (word_at ws 4)
+  accepts ← yes_no_of (word_at ws 5)
   Ok (configured idle write queue limit accepts)

@@ -6,7 +6,7 @@ use Rattle.hex.specs.Hex.{decode_of, decode_sized}
 use Rattle.hex.specs.declared.error.FromHexError.{FromHexError}
 use Rattle.dns_name.specs.declared.address.IpAddr.{IpAddr}
 use Rattle.dns_name.specs.declared.address.IpAddr.TheVariants.{V4, V6}
-use Rattle.dns_trace.specs.Words.{word}
+use Rattle.dns_trace.specs.Words.{word_at}
 use Rattle.dns_trace.specs.Reading.{◌>>=◌, unless}
 use Rattle.dns_trace.specs.declared.reason.Reason.{Reason}
 use Rattle.dns_trace.specs.declared.reason.Reason.TheVariants.{Unbuilt}
@@ -36,8 +36,8 @@ from_hex (Ok x) = Ok x
 from_hex (Err e) = Err Unbuilt
 
 -- an even number of hexadecimal digits, or `-` for no octet
-unfoldable pub octets_of : List ℕ → Result (List ℕ) Reason
-octets_of w = if bytes_eq w (codes "-") then Ok [] else from_hex (decode_of w)
+unfoldable pub hex_octets_of : List ℕ → Result (List ℕ) Reason
+hex_octets_of w = if bytes_eq w (codes "-") then Ok [] else from_hex (decode_of w)
 
 -- `yes` or `no`
 unfoldable pub yes_no_of : List ℕ → Result Bool Reason
@@ -47,10 +47,10 @@ yes_no_of w = if bytes_eq w (codes "yes") then Ok true else if bytes_eq w (codes
 unfoldable pub quad_of : List (List ℕ) → Result IpAddr Reason
 quad_of ps = do
   _ ← unless Unbuilt (length ps == 4)
-  a ← number 3 256 (word ps 0)
-  b ← number 3 256 (word ps 1)
-  c ← number 3 256 (word ps 2)
-  d ← number 3 256 (word ps 3)
+  a ← number 3 256 (word_at ps 0)
+  b ← number 3 256 (word_at ps 1)
+  c ← number 3 256 (word_at ps 2)
+  d ← number 3 256 (word_at ps 3)
   Ok (V4 (a ∷ b ∷ c ∷ d ∷ []))
 
 abbrev pub quad_word : List ℕ → Result IpAddr Reason

@@ -7,5 +7,5 @@ abbrev pub words_of : List ℕ → List (List ℕ)
 words_of l = filter (λ w. not (length w == 0)) (slice_split (λ b. b == 32) l)
 
 -- the word of that number, from 0, or the empty one
-abbrev pub word : List (List ℕ) → ℕ → List ℕ
-word ws i = slice_index_or ws i []
+abbrev pub word_at : List (List ℕ) → ℕ → List ℕ
+word_at ws i = slice_index_or ws i []

@@ -1,7 +1,7 @@
 //! The lines of events.
 
 ghost use Rattle.std.specs.Prelude.{◌≡◌};
-ghost use Rattle.dns_trace.specs.Reading.{Gives};
+ghost use Rattle.dns_trace.specs.Reading.{GivesLine};
 ghost use Rattle.dns_trace.specs.EventLines.{event_of, datagram_line, turn_line, offer_line, piece_line, write_line, bare_line, event_line};
 
 use crate::reason::{LineError, Reason};
@@ -30,7 +30,7 @@ fn event(words: &Words, kind: EventKind) -> Result<Event, Reason>
 /// The event of a line `datagram AT SECS CLIENT ADDR PORT HEX`. The first word is not looked at.
 #[tactic(auto, unfolding(crate::specs::EventLines::datagram_line))]
 fn read_datagram(alloc: Global, words: &Words) -> Result<Event, LineError>
-    ensures { Gives (λ e. e) result (datagram_line words.now) }
+    ensures { GivesLine (λ e. e) result (datagram_line words.now) }
 {
     if words.len() != 7 {
         return Err(LineError::Refused(Reason::Unbuilt));
@@ -45,7 +45,7 @@ fn read_datagram(alloc: Global, words: &Words) -> Result<Event, LineError>
 /// The event of a line `turn AT SECS CLIENT REQUEST`. The first word is not looked at.
 #[tactic(auto, unfolding(crate::specs::EventLines::turn_line))]
 fn read_turn(words: &Words) -> Result<Event, LineError>
-    ensures { Gives (λ e. e) result (turn_line words.now) }
+    ensures { GivesLine (λ e. e) result (turn_line words.now) }
 {
     if words.len() != 5 {
         return Err(LineError::Refused(Reason::Unbuilt));
@@ -57,7 +57,7 @@ fn read_turn(words: &Words) -> Result<Event, LineError>
 /// The event of a line `offer AT SECS CLIENT ADDR PORT`. The first word is not looked at.
 #[tactic(auto, unfolding(crate::specs::EventLines::offer_line))]
 fn read_offer(alloc: Global, words: &Words) -> Result<Event, LineError>
-    ensures { Gives (λ e. e) result (offer_line words.now) }
+    ensures { GivesLine (λ e. e) result (offer_line words.now) }
 {
     if words.len() != 6 {
         return Err(LineError::Refused(Reason::Unbuilt));
@@ -71,7 +71,7 @@ fn read_offer(alloc: Global, words: &Words) -> Result<Event, LineError>
 /// The event of a line `piece AT SECS CLIENT HEX`. The first word is not looked at.
 #[tactic(auto, unfolding(crate::specs::EventLines::piece_line))]
 fn read_piece(alloc: Global, words: &Words) -> Result<Event, LineError>
-    ensures { Gives (λ e. e) result (piece_line words.now) }
+    ensures { GivesLine (λ e. e) result (piece_line words.now) }
 {
     if words.len() != 5 {
         return Err(LineError::Refused(Reason::Unbuilt));
@@ -83,7 +83,7 @@ fn read_piece(alloc: Global, words: &Words) -> Result<Event, LineError>
 /// The event of a line `write AT SECS CLIENT TOOK`. The first word is not looked at.
 #[tactic(auto, unfolding(crate::specs::EventLines::write_line))]
 fn read_write(words: &Words) -> Result<Event, LineError>
-    ensures { Gives (λ e. e) result (write_line words.now) }
+    ensures { GivesLine (λ e. e) result (write_line words.now) }
 {
     if words.len() != 5 {
         return Err(LineError::Refused(Reason::Unbuilt));
@@ -95,7 +95,7 @@ fn read_write(words: &Words) -> Result<Event, LineError>
 /// The event of a line of a name and `AT SECS CLIENT`. The first word is not looked at.
 #[tactic(auto, unfolding(crate::specs::EventLines::bare_line))]
 fn read_bare(words: &Words, kind: EventKind) -> Result<Event, LineError>
-    ensures { Gives (λ e. e) result (bare_line words.now kind) }
+    ensures { GivesLine (λ e. e) result (bare_line words.now kind) }
 {
     if words.len() != 4 {
         return Err(LineError::Refused(Reason::Unbuilt));
@@ -107,7 +107,7 @@ fn read_bare(words: &Words, kind: EventKind) -> Result<Event, LineError>
 /// `offer AT SECS CLIENT ADDR PORT`, `piece AT SECS CLIENT HEX`, `write AT SECS CLIENT TOOK`, `end AT SECS CLIENT` or
 /// `release AT SECS CLIENT`.
 pub fn read_event(alloc: Global, words: &Words) -> Result<Event, LineError>
-    ensures { Gives (λ e. e) result (event_line words.now) }
+    ensures { GivesLine (λ e. e) result (event_line words.now) }
 {
     let name = words.word(0);
     if name == b"datagram".as_slice() {

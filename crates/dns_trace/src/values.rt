@@ -1,8 +1,8 @@
 //! Numbers, addresses and octets that words spell.
 
 ghost use Rattle.std.specs.Prelude.{◌≡◌, ◌<◌, ◌≤◌, IfOk};
-ghost use Rattle.dns_trace.specs.Reading.{Gives};
-ghost use Rattle.dns_trace.specs.Values.{number, num_of, port_of, octets_of, quad_of, quad_word, addr_of, yes_no_of};
+ghost use Rattle.dns_trace.specs.Reading.{GivesLine};
+ghost use Rattle.dns_trace.specs.Values.{number, num_of, port_of, hex_octets_of, quad_of, quad_word, addr_of, yes_no_of};
 
 use crate::reason::{LineError, Reason};
 use crate::words::Words;
@@ -58,9 +58,9 @@ fn octet(word: &[u8]) -> Result<u8, Reason>
 }
 
 /// Octets from an even number of hexadecimal digits of either case, or none from `-` and from the empty word.
-#[tactic(auto, unfolding(crate::specs::Values::octets_of))]
+#[tactic(auto, unfolding(crate::specs::Values::hex_octets_of))]
 pub fn octets(alloc: Global, word: &[u8]) -> Result<Octets, LineError>
-    ensures { Gives (λ o. o) result (octets_of word.now) }
+    ensures { GivesLine (λ o. o) result (hex_octets_of word.now) }
 {
     if word == b"-".as_slice() {
         return Ok(Octets::from_vec(Vec::new(alloc)));
@@ -102,7 +102,7 @@ fn quad_parts(parts: &Words) -> Result<IpAddr, Reason>
 
 /// An address as a dotted quad: four numbers of 1 to 3 digits below 256.
 pub fn quad(alloc: Global, word: &[u8]) -> Result<IpAddr, LineError>
-    ensures { Gives (λ a. a) result (quad_word word.now) }
+    ensures { GivesLine (λ a. a) result (quad_word word.now) }
 {
     let parts = Words::parts(alloc, word, b'.')?;
     Ok(quad_parts(&parts)?)
@@ -111,7 +111,7 @@ pub fn quad(alloc: Global, word: &[u8]) -> Result<IpAddr, LineError>
 /// An address: 32 hexadecimal digits of either case, or a dotted quad.
 #[tactic(auto, unfolding(crate::specs::Values::addr_of))]
 pub fn addr(alloc: Global, word: &[u8]) -> Result<IpAddr, LineError>
-    ensures { Gives (λ a. a) result (addr_of word.now) }
+    ensures { GivesLine (λ a. a) result (addr_of word.now) }
 {
     if word.len() == 32 {
         let mut octets = [0u8; 16];

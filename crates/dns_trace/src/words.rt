@@ -2,7 +2,7 @@
 
 ghost use Rattle.std.specs.Prelude.{◌≡◌, length, ◌==◌, IfOk};
 ghost use Rattle.std.specs.List.{slice_split};
-ghost use Rattle.dns_trace.specs.Words.{words_of, word};
+ghost use Rattle.dns_trace.specs.Words.{words_of, word_at};
 
 use dns_name::OutOfMemory;
 use std::alloc::Global;
@@ -36,7 +36,7 @@ impl<'a> Words<'a> {
 
     /// What stands before, between and behind the separators of a word.
     pub fn parts(alloc: Global, word: &'a [u8], separator: u8) -> Result<Words<'a>, OutOfMemory>
-        ensures { IfOk result (λ ws. ws ≡ slice_split (λ b. b == separator) word.now) }
+        ensures { IfOk result (λ ws. ws ≡ slice_split (λ b. b == separator) word_at.now) }
     {
         let words: Vec<&'a [u8]> = word.split(|octet| *octet == separator).collect(alloc)?;
         Ok(Words { words })
@@ -51,7 +51,7 @@ impl<'a> Words<'a> {
 
     /// The word of that number, from 0, or the empty one.
     pub fn word(&self, number: usize) -> &'a [u8]
-        ensures { result.now ≡ word self.now number }
+        ensures { result.now ≡ word_at self.now number }
     {
         match self.words.get(number) {
             Some(word) => *word,

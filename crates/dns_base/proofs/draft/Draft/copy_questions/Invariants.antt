@@ -1,13 +1,13 @@
 use Rattle.std.proofs.Common.{◌≡◌, length}
 use Rattle.dns_base.specs.Built.{NoRecords}
 use Rattle.dns_base.specs.Sections.{questions_of}
-use Rattle.dns_base.specs.Replies.{copied}
+use Rattle.dns_base.specs.Replies.{with_copied}
 use Rattle.dns_base.proofs.Copied.{readable}
 use Rattle.dns_base.proofs.draft.Draft.copy_questions.Given as goal
 
 abbrev pub invariant-questions : goal.invariant-questions
 invariant-questions l = record {
-  same : copied l.self (readable l.questions) ≡ copied l.fn.self (questions_of l.message).0;
+  same : with_copied l.self (readable l.questions) ≡ with_copied l.fn.self (questions_of l.message).0;
   empty : NoRecords l.self.message;
 }
 

@@ -1,5 +1,5 @@
 use Rattle.std.proofs.Common.{◌≡◌, ◌∙◌, ap, List, ℕ, Some}
-use Rattle.dns_client.specs.Frames.{first}
+use Rattle.dns_client.specs.Frames.{first_frame}
 use Rattle.dns_client.specs.Requests.{request_of_frame}
 use Rattle.dns_client.specs.PolledAt.{request_answer}
 use Rattle.dns_client.proofs.FramesLemmas.{first-framed}
@@ -14,12 +14,12 @@ returns-in_default g c =
 pub returns-in_default-from_octets : goal.returns-in_default-from_octets
 returns-in_default-from_octets g c =
     let h = rw c.in-Some.is at c.in_ok-frame.ensures.some in
-    let e : first c.args.self.now.framer ≡ Some (c.in-Some.frame.items, c.next.new.self) = ap first h.1 ∙ first-framed c.in-Some.frame.items c.next.new.self in
+    let e : first_frame c.args.self.now.framer ≡ Some (c.in-Some.frame.items, c.next.new.self) = ap first_frame h.1 ∙ first-framed c.in-Some.frame.items c.next.new.self in
     short (request_answer g.W.Future.ReplyFuture.answer g.W.Stream.ReplyStream.answer) (g.W.Served.answer c.args.service.now) c.args.at c.args.secs c.args.self.now (record c.args.self.now { framer = c.next.new.self }) c.in-Some.frame.items c.next.new.self e c.in_default-from_octets.ensures.1
 
 pub returns : goal.returns
 returns g c =
     let h = rw c.in-Some.is at c.in_ok-frame.ensures.some in
-    let e : first c.args.self.now.framer ≡ Some (c.in-Some.frame.items, c.next.new.self) = ap first h.1 ∙ first-framed c.in-Some.frame.items c.next.new.self in
+    let e : first_frame c.args.self.now.framer ≡ Some (c.in-Some.frame.items, c.next.new.self) = ap first_frame h.1 ∙ first-framed c.in-Some.frame.items c.next.new.self in
     let is : c.in_ok-request.request ≡ request_of_frame c.args.self.now.config c.args.self.now.addr c.args.at c.args.secs c.in-Some.frame.items = c.in_ok-request.ensures ∙ ap (λ (o : List ℕ). request_of_frame c.args.self.now.config c.args.self.now.addr c.args.at c.args.secs o) c.in-Ok.ensures.0 in
     taken (request_answer g.W.Future.ReplyFuture.answer g.W.Stream.ReplyStream.answer) (g.W.Served.answer c.args.service.now) c.args.at c.args.secs c.args.self.now c.ask.new.self c.in-Some.frame.items c.next.new.self c.in_ok-request.request e c.in-Ok.ensures.1 is c.in_ok-ask.ensures
