@@ -1,7 +1,8 @@
 //! Copies of record data.
 
-ghost use Rattle.std.specs.Prelude.{◌≡◌, IfOk};
-ghost use Rattle.dns_message.specs.Records.{IsLawful};
+ghost use Rattle.std.specs.Prelude.{◌≡◌, IfOk, None};
+ghost use Rattle.dns_message.specs.Equality.{data_parts};
+ghost use Rattle.dns_message.specs.Records.{IsLawful, octets_alone};
 
 use crate::rdata::RecordData;
 use dns_name::{Name, Octets, OutOfMemory, Rtype};
@@ -20,13 +21,47 @@ impl RecordData {
         self.copied(alloc)
     }
 
+    /// A copy.
     fn copied(&self, alloc: Global) -> CopiedData
         ensures { IfOk result (λ d. d ≡ self.now) }
     {
         match self {
             RecordData::A(octets) => Ok(RecordData::A(*octets)),
             RecordData::Aaaa(octets) => Ok(RecordData::Aaaa(*octets)),
+            RecordData::Opt(octets) => copy_opt(alloc, octets),
+            RecordData::Unknown { rtype, octets } => copy_unknown(alloc, *rtype, octets),
+            _ => self.copied_fields(alloc),
+        }
+    }
+
+    /// A copy of data that is names and numbers.
+    fn copied_fields(&self, alloc: Global) -> CopiedData
+        requires { octets_alone self.now ≡ None }
+        ensures { IfOk result (λ d. d ≡ self.now) }
+    {
+        match self {
             RecordData::Named { rtype, name } => copy_named(alloc, *rtype, name),
+            RecordData::Minfo { first, second } => copy_minfo(alloc, first, second),
+            RecordData::Mx {
+                preference,
+                exchange,
+            } => copy_mx(alloc, *preference, exchange),
+            RecordData::Srv {
+                priority,
+                weight,
+                port,
+                target,
+            } => copy_srv(alloc, *priority, *weight, *port, target),
+            _ => self.copied_soa(alloc),
+        }
+    }
+
+    /// A copy of the start of a zone.
+    fn copied_soa(&self, alloc: Global) -> CopiedData
+        requires { (data_parts self.now).0 ≡ 4 }
+        ensures { IfOk result (λ d. d ≡ self.now) }
+    {
+        match self {
             RecordData::Soa {
                 mname,
                 rname,
@@ -47,19 +82,7 @@ impl RecordData {
                     minimum: *minimum,
                 })
             }
-            RecordData::Minfo { first, second } => copy_minfo(alloc, first, second),
-            RecordData::Mx {
-                preference,
-                exchange,
-            } => copy_mx(alloc, *preference, exchange),
-            RecordData::Srv {
-                priority,
-                weight,
-                port,
-                target,
-            } => copy_srv(alloc, *priority, *weight, *port, target),
-            RecordData::Opt(octets) => copy_opt(alloc, octets),
-            RecordData::Unknown { rtype, octets } => copy_unknown(alloc, *rtype, octets),
+            _ => unreachable!(),
         }
     }
 }

@@ -1,5 +1,9 @@
 //! Record data as Debug text, as a derive would write it.
 
+ghost use Rattle.std.specs.Prelude.{◌≡◌, None};
+ghost use Rattle.dns_message.specs.Equality.{data_parts};
+ghost use Rattle.dns_message.specs.Records.{octets_alone};
+
 use crate::rdata::RecordData;
 use dns_name::{Name, Octets, Rtype, Serial, Ttl};
 use std::fmt;
@@ -9,33 +13,52 @@ impl fmt::Debug for RecordData {
         match self {
             RecordData::A(octets) => show_octets(f, "A", octets),
             RecordData::Aaaa(octets) => show_octets(f, "Aaaa", octets),
-            RecordData::Named { rtype, name } => show_named(f, rtype, name),
-            RecordData::Soa {
-                mname,
-                rname,
-                serial,
-                refresh,
-                retry,
-                expire,
-                minimum,
-            } => {
-                let times = [*refresh, *retry, *expire, *minimum];
-                show_soa(f, mname, rname, serial, times)
-            }
-            RecordData::Minfo { first, second } => show_minfo(f, first, second),
-            RecordData::Mx {
-                preference,
-                exchange,
-            } => show_mx(f, preference, exchange),
-            RecordData::Srv {
-                priority,
-                weight,
-                port,
-                target,
-            } => show_srv(f, priority, weight, port, target),
             RecordData::Opt(octets) => show_octets(f, "Opt", octets),
             RecordData::Unknown { rtype, octets } => show_unknown(f, rtype, octets),
+            _ => show_fields(f, self),
         }
+    }
+}
+
+/// Data that is names and numbers.
+fn show_fields<W: fmt::Write>(f: &mut fmt::Formatter<W>, rdata: &RecordData) -> fmt::Result
+    requires { octets_alone rdata.now ≡ None }
+{
+    match rdata {
+        RecordData::Named { rtype, name } => show_named(f, rtype, name),
+        RecordData::Minfo { first, second } => show_minfo(f, first, second),
+        RecordData::Mx {
+            preference,
+            exchange,
+        } => show_mx(f, preference, exchange),
+        RecordData::Srv {
+            priority,
+            weight,
+            port,
+            target,
+        } => show_srv(f, priority, weight, port, target),
+        _ => show_authority(f, rdata),
+    }
+}
+
+/// The start of a zone.
+fn show_authority<W: fmt::Write>(f: &mut fmt::Formatter<W>, rdata: &RecordData) -> fmt::Result
+    requires { (data_parts rdata.now).0 ≡ 4 }
+{
+    match rdata {
+        RecordData::Soa {
+            mname,
+            rname,
+            serial,
+            refresh,
+            retry,
+            expire,
+            minimum,
+        } => {
+            let times = [*refresh, *retry, *expire, *minimum];
+            show_soa(f, mname, rname, serial, times)
+        }
+        _ => unreachable!(),
     }
 }
 
