@@ -9,6 +9,7 @@ pub use Rattle.dns_message.specs.Standing
 pub use Rattle.dns_message.specs.Sections
 pub use Rattle.dns_message.specs.Plain
 pub use Rattle.dns_message.specs.TypedData
+pub use Rattle.dns_message.specs.Equality
 pub mod PushErrors
 pub mod Built
 pub mod Replaced

@@ -4,3 +4,4 @@ pub mod Plains
 pub mod OptionLaws
 pub mod TypedWritten
 pub mod TypedSections
+pub mod Copies

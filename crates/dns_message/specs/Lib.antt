@@ -1,3 +1,4 @@
+pub use Rattle.dns_name.specs.Canonical
 pub use Rattle.dns_name.specs.Labels
 pub use Rattle.dns_name.specs.Names
 pub use Rattle.dns_name.specs.Place
@@ -13,3 +14,4 @@ pub mod Standing
 pub mod Sections
 pub mod Plain
 pub mod TypedData
+pub mod Equality

@@ -1,8 +1,10 @@
 //! Questions.
 
 ghost use Rattle.std.specs.Prelude.{◌≡◌, ◌≤◌, ◌<◌, ◌+◌, ◌++◌, length, take, IfOk, OnOk, OnErr, ⊤};
+ghost use Rattle.std.specs.Cmp.{partial_equiv_from_equiv};
 ghost use Rattle.std.specs.Iterator.{YieldsFirst, item_count};
 ghost use Rattle.dns_message.specs.declared.question.Question.{Question};
+ghost use Rattle.dns_message.specs.Equality.{same_question, same_question_equiv};
 ghost use Rattle.dns_message.specs.Read.{question_at};
 ghost use Rattle.dns_message.specs.Sections.{ends_at, to_come};
 ghost use Rattle.dns_message.specs.Wire.{question_octets};
@@ -14,7 +16,8 @@ use dns_name::{Class, Name, OutOfMemory, ParseError, ParsedName, Rtype};
 use std::alloc::{AllocError, Global};
 use std::marker::Model;
 
-/// A question (RFC 1035, section 4.1.2).
+/// A question (RFC 1035, section 4.1.2). Questions are equal where their names are up to ASCII case, their types and
+/// their classes.
 #[derive(Debug, Drop)]
 pub struct Question {
     /// The name that is asked for.
@@ -55,7 +58,33 @@ impl ComposeQuestion for Question {
     }
 }
 
+impl PartialEq for Question {
+    ghost eq = { same_question };
+
+    ghost laws = { partial_equiv_from_equiv same_question_equiv };
+
+    fn eq(&self, other: &Question) -> bool {
+        self.qname == other.qname && self.qtype == other.qtype && self.qclass == other.qclass
+    }
+}
+
+impl Eq for Question {
+    ghost laws = { same_question_equiv };
+}
+
 impl Question {
+    /// The same question, in memory of its own.
+    pub fn try_clone(&self, alloc: Global) -> Result<Question, OutOfMemory>
+        ensures { IfOk result (λ q. q ≡ self.now) }
+    {
+        let qname = self.qname.try_clone(alloc)?;
+        Ok(Question {
+            qname,
+            qtype: self.qtype,
+            qclass: self.qclass,
+        })
+    }
+
     /// Appends the octets of a question, or some of them.
     fn write(&self, alloc: Global, target: &mut Vec<u8>) -> Result<(), OutOfMemory>
         ensures ok { OnOk result (target.new.items ≡ target.old.items ++ question_octets self.now) }

@@ -35,8 +35,9 @@ pub(crate) enum Shape {
     Other,
 }
 
-/// The data of a record, by the shape of its type.
-#[derive(Debug, Drop)]
+/// The data of a record, by the shape of its type. Data is equal where it is the same variant, with the same numbers
+/// or octets, and with the same names up to ASCII case.
+#[derive(Drop)]
 pub enum RecordData {
     /// An address (RFC 1035, section 3.4.1).
     A([u8; 4]),

@@ -1,7 +1,9 @@
 //! Records.
 
 ghost use Rattle.std.specs.Prelude.{◌≡◌, ◌≤◌, ◌<◌, ◌+◌, ◌++◌, length, take, IfOk, OnOk, OnErr, ⊤};
+ghost use Rattle.std.specs.Cmp.{partial_equiv_from_equiv};
 ghost use Rattle.std.specs.Iterator.{YieldsFirst, item_count};
+ghost use Rattle.dns_message.specs.Equality.{same_record, same_record_equiv};
 ghost use Rattle.dns_message.specs.Fixed.{fixed_of};
 ghost use Rattle.dns_message.specs.Msg.{HasOwner};
 ghost use Rattle.dns_message.specs.Records.{IsLawful, record_of};
@@ -18,7 +20,8 @@ use dns_name::{Class, Name, OutOfMemory, ParseError, ParsedName, Rtype, Ttl};
 use std::alloc::{AllocError, Global};
 use std::marker::Model;
 
-/// A record (RFC 1035, section 3.2.1), whose type is that of its data.
+/// A record (RFC 1035, section 3.2.1), whose type is that of its data. Records are equal where their owners are up
+/// to ASCII case, their classes and their data: the TTL doesn't count (RFC 2136, section 1.1.1).
 #[derive(Debug, Drop)]
 pub struct Record {
     /// The name that owns the record.
@@ -31,7 +34,36 @@ pub struct Record {
     pub rdata: RecordData,
 }
 
+impl PartialEq for Record {
+    ghost eq = { same_record };
+
+    ghost laws = { partial_equiv_from_equiv same_record_equiv };
+
+    fn eq(&self, other: &Record) -> bool {
+        self.owner == other.owner && self.class == other.class && self.rdata == other.rdata
+    }
+}
+
+impl Eq for Record {
+    ghost laws = { same_record_equiv };
+}
+
 impl Record {
+    /// The same record, in memory of its own.
+    pub fn try_clone(&self, alloc: Global) -> Result<Record, OutOfMemory>
+        ensures value { IfOk result (λ r. r ≡ self.now) }
+        ensures lawful { IsLawful self.now.rdata → IfOk result (λ r. IsLawful r.rdata) }
+    {
+        let owner = self.owner.try_clone(alloc)?;
+        let rdata = self.rdata.try_clone(alloc)?;
+        Ok(Record {
+            owner,
+            class: self.class,
+            ttl: self.ttl,
+            rdata,
+        })
+    }
+
     /// How many octets the record takes, names uncompressed.
     pub fn compose_len(&self) -> usize
         requires { IsLawful self.now.rdata }

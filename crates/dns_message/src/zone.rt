@@ -1,6 +1,7 @@
 //! The numbers of a zone's start.
 
 ghost use Rattle.std.specs.Prelude.{◌≡◌, ◌≤◌, ◌++◌, length, take, IfOk, OnOk, OnErr};
+ghost use Rattle.dns_name.specs.Place.{four};
 ghost use Rattle.dns_message.specs.Zone.{ttls_at, zone_at, zone_octets};
 
 use crate::read::{four_in, ttl_in};
@@ -55,6 +56,14 @@ pub(crate) fn push_zone(target: &mut Vec<u8>, numbers: ZoneNumbers) -> Result<()
     ensures err { OnErr result (take (length target.old.items) target.new.items ≡ target.old.items) }
 {
     push_four(target, numbers.serial.into_int())?;
+    push_times(target, numbers)
+}
+
+/// Appends the times, or some of their octets.
+fn push_times(target: &mut Vec<u8>, numbers: ZoneNumbers) -> Result<(), OutOfMemory>
+    ensures ok { OnOk result (target.new.items ≡ target.old.items ++ (four numbers.refresh ++ (four numbers.retry ++ (four numbers.expire ++ four numbers.minimum)))) }
+    ensures err { OnErr result (take (length target.old.items) target.new.items ≡ target.old.items) }
+{
     push_four(target, numbers.refresh.as_secs())?;
     push_four(target, numbers.retry.as_secs())?;
     push_four(target, numbers.expire.as_secs())?;

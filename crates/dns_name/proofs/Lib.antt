@@ -8,3 +8,4 @@ pub mod Orders
 pub mod FromTexts
 pub mod FromNames
 pub mod TextsBack
+pub mod Sames

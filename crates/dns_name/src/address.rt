@@ -28,10 +28,15 @@ fn groups<W: fmt::Write>(octets: &[u8; 16], f: &mut fmt::Formatter<W>) -> fmt::R
         if i > 0 {
             f.write_str(":")?;
         }
-        let group = 256 * octets[2 * i] as u16 + octets[2 * i + 1] as u16;
-        write!(f, "{group:x}")?;
+        write_group(octets[2 * i], octets[2 * i + 1], f)?;
     }
     Ok(())
+}
+
+/// The number that two octets are, in hexadecimal digits.
+fn write_group<W: fmt::Write>(high: u8, low: u8, f: &mut fmt::Formatter<W>) -> fmt::Result {
+    let group = 256 * high as u16 + low as u16;
+    write!(f, "{group:x}")
 }
 
 /// An address and a port.

@@ -2,7 +2,7 @@
 
 ghost use Rattle.std.specs.Prelude.{◌≡◌, ◌≤◌, ◌<◌, ◌+◌, ◌++◌, ◌∷◌, ◌↔◌, length, drop, IsTrue, OnOk};
 ghost use Rattle.std.specs.Iterator.{YieldsFirstBy, item_count};
-ghost use Rattle.dns_name.specs.Canonical.{label_cmp, name_cmp};
+ghost use Rattle.dns_name.specs.Canonical.{label_cmp, name_cmp, same_name};
 ghost use Rattle.dns_name.specs.Labels.{IsName, EndsWith, folded};
 ghost use Rattle.dns_name.specs.Names.{CanGoOn, labels_of, name_by};
 
@@ -104,6 +104,13 @@ pub(crate) fn same(mut labels: Labels<'_>, mut others: Labels<'_>) -> bool
             return false;
         }
     }
+}
+
+/// The same, as what definitions name.
+pub(crate) fn alike(labels: Labels<'_>, others: Labels<'_>) -> bool
+    ensures { result ≡ same_name labels.entry others.entry }
+{
+    same(labels, others)
 }
 
 /// Whether the labels, of which there are this many with the root's, end with the others.

@@ -9,6 +9,7 @@ mod iana;
 mod labels;
 mod laws;
 mod name;
+mod name_cmp;
 mod name_text;
 mod octets;
 mod opt_data;

@@ -224,6 +224,13 @@ impl Name {
         Ok(Name { octets })
     }
 
+    /// The same name, in memory of its own.
+    pub fn try_clone(&self, alloc: Global) -> Result<Name, OutOfMemory>
+        ensures { IfOk result (λ n. n ≡ self.now) }
+    {
+        self.for_ref().to_owned(alloc)
+    }
+
     /// The name, borrowed.
     pub fn for_ref(&self) -> NameRef<'_>
         ensures value { result ≡ self.now }

@@ -2,7 +2,7 @@
 
 ghost use Rattle.std.specs.Prelude.{Some};
 ghost use Rattle.std.specs.Fmt.{WritesOnOk};
-ghost use Rattle.dns_name.specs.NameText.{label_text, more_text, name_text, octet_text};
+ghost use Rattle.dns_name.specs.NameText.{digits_text, label_text, more_text, name_text, octet_text};
 
 use crate::labels::Labels;
 use std::fmt;
@@ -22,10 +22,17 @@ impl fmt::Display for OctetText {
         } else if 32 < octet && octet < 127 {
             write!(f, "{shown}")
         } else {
-            let (hundreds, tens, ones) = (octet / 100, octet / 10 % 10, octet % 10);
-            write!(f, "\\{hundreds}{tens}{ones}")
+            write_digits(octet, f)
         }
     }
+}
+
+/// Writes an octet as three decimal digits behind a backslash.
+fn write_digits<W: fmt::Write>(octet: u8, f: &mut fmt::Formatter<W>) -> fmt::Result
+    ensures { WritesOnOk W.write_str_gives f.old result (digits_text octet) f.new }
+{
+    let (hundreds, tens, ones) = (octet / 100, octet / 10 % 10, octet % 10);
+    write!(f, "\\{hundreds}{tens}{ones}")
 }
 
 /// A label, as text.

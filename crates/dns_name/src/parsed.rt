@@ -1,13 +1,15 @@
 //! Names of a message, pointers followed.
 
 ghost use Rattle.std.specs.Prelude.{◌≡◌, ◌≤◌, ◌+◌, ◌↔◌, length, IsTrue, IfOk, Some, ⊤};
+ghost use Rattle.std.specs.Cmp.{partial_equiv_from_equiv};
+ghost use Rattle.dns_name.specs.Canonical.{same_name, same_name_equiv};
 ghost use Rattle.dns_name.specs.Labels.{IsName, EndsWith, folded};
 ghost use Rattle.dns_name.specs.NameText.{name_text};
 ghost use Rattle.dns_name.specs.Names.{end_of, name_at, name_by, name_within};
 ghost use Rattle.dns_name.specs.Place.{Parses};
 
 use crate::error::{FormReason, OutOfMemory, ParseError};
-use crate::labels::{Labels, ends, same};
+use crate::labels::{Labels, alike, ends, same};
 use crate::name::{Name, NameRef};
 use crate::name_text::write_name;
 use crate::parser::Parser;
@@ -47,6 +49,20 @@ impl<'a> Clone for ParsedName<'a> {
             at: self.at,
         })
     }
+}
+
+impl<'a> PartialEq for ParsedName<'a> {
+    ghost eq = { same_name };
+
+    ghost laws = { partial_equiv_from_equiv same_name_equiv };
+
+    fn eq(&self, other: &ParsedName<'a>) -> bool {
+        alike(self.labels(), other.labels())
+    }
+}
+
+impl<'a> Eq for ParsedName<'a> {
+    ghost laws = { same_name_equiv };
 }
 
 impl<'a> fmt::Display for ParsedName<'a> {
