@@ -56,32 +56,38 @@ macro_rules! each {
     };
 }
 
-impl<'a> AllOptData<'a> {
-    /// The kind's name.
-    fn name(&self) -> &'static str {
+/// The text that a derive would write.
+impl<'a> fmt::Debug for AllOptData<'a> {
+    fn fmt<W: fmt::Write>(&self, f: &mut fmt::Formatter<W>) -> fmt::Result {
         match self {
-            AllOptData::Dau(_) => "Dau",
-            AllOptData::Dhu(_) => "Dhu",
-            AllOptData::N3u(_) => "N3u",
-            AllOptData::Chain(_) => "Chain",
-            AllOptData::Cookie(_) => "Cookie",
-            AllOptData::Expire(_) => "Expire",
-            AllOptData::ExtendedError(_) => "ExtendedError",
-            AllOptData::TcpKeepalive(_) => "TcpKeepalive",
-            AllOptData::KeyTag(_) => "KeyTag",
-            AllOptData::Nsid(_) => "Nsid",
-            AllOptData::Padding(_) => "Padding",
-            AllOptData::ClientSubnet(_) => "ClientSubnet",
-            AllOptData::Other(_) => "Other",
+            AllOptData::Dau(value) => show("Dau", value, f),
+            AllOptData::Dhu(value) => show("Dhu", value, f),
+            AllOptData::N3u(value) => show("N3u", value, f),
+            AllOptData::KeyTag(value) => show("KeyTag", value, f),
+            AllOptData::Nsid(value) => show("Nsid", value, f),
+            AllOptData::Padding(value) => show("Padding", value, f),
+            AllOptData::Other(value) => show("Other", value, f),
+            _ => show_fields(self, f),
         }
     }
 }
 
-/// The text that a derive would write.
-impl<'a> fmt::Debug for AllOptData<'a> {
-    fn fmt<W: fmt::Write>(&self, f: &mut fmt::Formatter<W>) -> fmt::Result {
-        let name = self.name();
-        each!(self, value => show(name, value, f))
+/// Shows an option of numbers, an address, a name or a text; the others are shown above.
+fn show_fields<W: fmt::Write>(option: &AllOptData<'_>, f: &mut fmt::Formatter<W>) -> fmt::Result {
+    match option {
+        AllOptData::Chain(value) => show("Chain", value, f),
+        AllOptData::Cookie(value) => show("Cookie", value, f),
+        AllOptData::Expire(value) => show("Expire", value, f),
+        AllOptData::ExtendedError(value) => show("ExtendedError", value, f),
+        AllOptData::TcpKeepalive(value) => show("TcpKeepalive", value, f),
+        AllOptData::ClientSubnet(value) => show("ClientSubnet", value, f),
+        AllOptData::Dau(_)
+        | AllOptData::Dhu(_)
+        | AllOptData::N3u(_)
+        | AllOptData::KeyTag(_)
+        | AllOptData::Nsid(_)
+        | AllOptData::Padding(_)
+        | AllOptData::Other(_) => Ok(()),
     }
 }
 
