@@ -1,6 +1,6 @@
 //! CHAIN: the closest name that a client trusts already (RFC 7901).
 
-ghost use Rattle.std.specs.Prelude.{◌≡◌, length, Some, IfOk, fold, refl, true};
+ghost use Rattle.std.specs.Prelude.{◌≡◌, length, Some, IfOk, fold, refl, true, ⊤};
 ghost use Rattle.std.specs.Cmp.{partial_equiv_from_equiv};
 ghost use Rattle.std.specs.Ordering.{as_partial_cmp};
 ghost use Rattle.dns_name.specs.Canonical.{name_cmp, name_cmp_total, same_name, same_name_equiv, same_name_ties};
@@ -15,7 +15,7 @@ use dns_name::{
     ComposeOptData, HoldsName, Name, NameRef, OptData, OptionCode, OutOfMemory, ParseError,
     ParseOptData, Parser, ReadBack,
 };
-use std::alloc::Global;
+use std::alloc::{AllocError, Global};
 use std::cmp::Ordering;
 use std::fmt;
 use std::hash::{Hash, Hasher};
@@ -39,6 +39,17 @@ impl<N: HoldsName> Model for HeldChain<N> {
     ghost Value = { List (List ℕ) };
 
     ghost view = { λ k. N.labels k.start };
+}
+
+impl<'a> Clone for HeldChain<NameRef<'a>> {
+    ghost is_clone = { λ chain copy. copy ≡ chain };
+
+    ghost is_infallible = { λ _. ⊤ };
+
+    fn clone(&self) -> Result<ChainRef<'a>, AllocError> {
+        let start = self.start.clone()?;
+        Ok(HeldChain { start })
+    }
 }
 
 impl<N: HoldsName> HeldChain<N> {

@@ -12,22 +12,32 @@ use Rattle.dns_cookie.specs.CookieData.{cookie_data, cookie_octets}
 use Rattle.dns_options.specs.declared.all.AllOptData.{AllOptData}
 use Rattle.dns_options.specs.declared.all.AllOptData.TheVariants.{Dau, Dhu, N3u, Chain, Cookie, Expire, ExtendedError, TcpKeepalive, KeyTag, Nsid, Padding, ClientSubnet, Other}
 
+-- options over plain octets, and of a code that has no kind
+abbrev pub octets_data : ℕ → List ℕ → Taken AllOptData
+octets_data code d =
+    if nat_eq code 3 then mapped_data Nsid (list_data d)
+    else (if nat_eq code 12 then mapped_data Padding (list_data d)
+    else (if nat_eq code 14 then mapped_data KeyTag (tag_data d)
+    else mapped_data (λ o. Other (unknown code o)) (list_data d)))
+
+-- options of numbers, an address, a name or a text, else those above
+abbrev pub fields_data : ℕ → List ℕ → Taken AllOptData
+fields_data code d =
+    if nat_eq code 8 then mapped_data ClientSubnet (subnet_data d)
+    else (if nat_eq code 9 then mapped_data Expire (expire_data d)
+    else (if nat_eq code 11 then mapped_data TcpKeepalive (keepalive_data d)
+    else (if nat_eq code 13 then mapped_data Chain (chain_data d)
+    else (if nat_eq code 15 then mapped_data ExtendedError (extended_data d)
+    else octets_data code d))))
+
 -- the kind of each code that has one, else the data under its code
 abbrev pub all_data : ℕ → List ℕ → Taken AllOptData
 all_data code d =
     if nat_eq code 5 then mapped_data Dau (list_data d)
     else (if nat_eq code 6 then mapped_data Dhu (list_data d)
     else (if nat_eq code 7 then mapped_data N3u (list_data d)
-    else (if nat_eq code 13 then mapped_data Chain (chain_data d)
     else (if nat_eq code 10 then mapped_data Cookie (cookie_data d)
-    else (if nat_eq code 9 then mapped_data Expire (expire_data d)
-    else (if nat_eq code 15 then mapped_data ExtendedError (extended_data d)
-    else (if nat_eq code 11 then mapped_data TcpKeepalive (keepalive_data d)
-    else (if nat_eq code 14 then mapped_data KeyTag (tag_data d)
-    else (if nat_eq code 3 then mapped_data Nsid (list_data d)
-    else (if nat_eq code 12 then mapped_data Padding (list_data d)
-    else (if nat_eq code 8 then mapped_data ClientSubnet (subnet_data d)
-    else mapped_data (λ o. Other (unknown code o)) (list_data d))))))))))))
+    else fields_data code d)))
 
 abbrev pub all_takes : ℕ → List ℕ → Option (Taken AllOptData)
 all_takes code d = Some (all_data code d)

@@ -1,7 +1,10 @@
 //! Every kind of option as one.
 
-ghost use Rattle.std.specs.Prelude.{◌≡◌};
-ghost use Rattle.dns_options.specs.All.{all_takes, code_of, all_octets};
+ghost use Rattle.std.specs.Prelude.{◌≡◌, ⊤, Some};
+ghost use Rattle.dns_name.specs.OptData.{ParsesData, ParsesOption, mapped_data, list_data};
+ghost use Rattle.dns_name.specs.Place.{rest};
+ghost use Rattle.dns_lists.specs.Unknowns.{unknown};
+ghost use Rattle.dns_options.specs.All.{all_octets, all_takes, code_of, fields_data, octets_data};
 
 use dns_algs::{DauRef, DhuRef, N3uRef};
 use dns_cookie::Cookie;
@@ -10,10 +13,11 @@ use dns_lists::{KeyTagRef, NsidRef, PaddingRef, UnknownOptDataRef};
 use dns_name::{
     ComposeOptData, OptData, OptionCode, OutOfMemory, ParseError, ParseOptData, Parser,
 };
-use std::alloc::Global;
+use std::alloc::{AllocError, Global};
+use std::fmt;
 
 /// The data of any option.
-#[derive(Debug, Drop)]
+#[derive(Drop)]
 pub enum AllOptData<'a> {
     Dau(DauRef<'a>),
     Dhu(DhuRef<'a>),
@@ -52,6 +56,74 @@ macro_rules! each {
     };
 }
 
+/// The text that a derive would write.
+impl<'a> fmt::Debug for AllOptData<'a> {
+    fn fmt<W: fmt::Write>(&self, f: &mut fmt::Formatter<W>) -> fmt::Result {
+        match self {
+            AllOptData::Dau(value) => show("Dau", value, f),
+            AllOptData::Dhu(value) => show("Dhu", value, f),
+            AllOptData::N3u(value) => show("N3u", value, f),
+            AllOptData::KeyTag(value) => show("KeyTag", value, f),
+            AllOptData::Nsid(value) => show("Nsid", value, f),
+            AllOptData::Padding(value) => show("Padding", value, f),
+            AllOptData::Other(value) => show("Other", value, f),
+            _ => show_fields(self, f),
+        }
+    }
+}
+
+/// Shows an option of numbers, an address, a name or a text; the others are shown above.
+fn show_fields<W: fmt::Write>(option: &AllOptData<'_>, f: &mut fmt::Formatter<W>) -> fmt::Result {
+    match option {
+        AllOptData::Chain(value) => show("Chain", value, f),
+        AllOptData::Cookie(value) => show("Cookie", value, f),
+        AllOptData::Expire(value) => show("Expire", value, f),
+        AllOptData::ExtendedError(value) => show("ExtendedError", value, f),
+        AllOptData::TcpKeepalive(value) => show("TcpKeepalive", value, f),
+        AllOptData::ClientSubnet(value) => show("ClientSubnet", value, f),
+        AllOptData::Dau(_)
+        | AllOptData::Dhu(_)
+        | AllOptData::N3u(_)
+        | AllOptData::KeyTag(_)
+        | AllOptData::Nsid(_)
+        | AllOptData::Padding(_)
+        | AllOptData::Other(_) => Ok(()),
+    }
+}
+
+/// A name, and a value in parentheses.
+fn show<D: fmt::Debug, W: fmt::Write>(
+    name: &str,
+    value: &D,
+    f: &mut fmt::Formatter<W>,
+) -> fmt::Result {
+    f.debug_tuple(name).field(value).finish()
+}
+
+impl<'a> Clone for AllOptData<'a> {
+    ghost is_clone = { λ option copy. copy ≡ option };
+
+    ghost is_infallible = { λ _. ⊤ };
+
+    fn clone(&self) -> Result<AllOptData<'a>, AllocError> {
+        match self {
+            AllOptData::Dau(value) => Ok(AllOptData::Dau(value.clone()?)),
+            AllOptData::Dhu(value) => Ok(AllOptData::Dhu(value.clone()?)),
+            AllOptData::N3u(value) => Ok(AllOptData::N3u(value.clone()?)),
+            AllOptData::Chain(value) => Ok(AllOptData::Chain(value.clone()?)),
+            AllOptData::Cookie(value) => Ok(AllOptData::Cookie(*value)),
+            AllOptData::Expire(value) => Ok(AllOptData::Expire(*value)),
+            AllOptData::ExtendedError(value) => Ok(AllOptData::ExtendedError(value.clone()?)),
+            AllOptData::TcpKeepalive(value) => Ok(AllOptData::TcpKeepalive(*value)),
+            AllOptData::KeyTag(value) => Ok(AllOptData::KeyTag(value.clone()?)),
+            AllOptData::Nsid(value) => Ok(AllOptData::Nsid(value.clone()?)),
+            AllOptData::Padding(value) => Ok(AllOptData::Padding(value.clone()?)),
+            AllOptData::ClientSubnet(value) => Ok(AllOptData::ClientSubnet(*value)),
+            AllOptData::Other(value) => Ok(AllOptData::Other(value.clone()?)),
+        }
+    }
+}
+
 impl<'a> OptData for AllOptData<'a> {
     ghost code_of = { code_of };
 
@@ -71,17 +143,41 @@ impl<'a> ParseOptData<'a> for AllOptData<'a> {
             5 => Ok(Some(AllOptData::Dau(DauRef::parse(parser)?))),
             6 => Ok(Some(AllOptData::Dhu(DhuRef::parse(parser)?))),
             7 => Ok(Some(AllOptData::N3u(N3uRef::parse(parser)?))),
-            13 => Ok(Some(AllOptData::Chain(ChainRef::parse(parser)?))),
             10 => Ok(Some(AllOptData::Cookie(Cookie::parse(parser)?))),
-            9 => Ok(Some(AllOptData::Expire(Expire::parse(parser)?))),
-            15 => Ok(Some(AllOptData::ExtendedError(ExtendedErrorRef::parse(parser)?))),
-            11 => Ok(Some(AllOptData::TcpKeepalive(TcpKeepalive::parse(parser)?))),
-            14 => Ok(Some(AllOptData::KeyTag(KeyTagRef::parse(parser)?))),
-            3 => Ok(Some(AllOptData::Nsid(NsidRef::parse(parser)?))),
-            12 => Ok(Some(AllOptData::Padding(PaddingRef::parse(parser)?))),
-            8 => Ok(Some(AllOptData::ClientSubnet(ClientSubnet::parse(parser)?))),
-            _ => Ok(Some(AllOptData::Other(other(code, parser)?))),
+            _ => parse_fields(code, parser),
         }
+    }
+}
+
+/// An option of numbers, an address, a name or a text, or one of those below.
+fn parse_fields<'a>(
+    code: OptionCode,
+    parser: &mut Parser<'a>,
+) -> Result<Option<AllOptData<'a>>, ParseError>
+    ensures { ParsesOption (Some (fields_data code (rest parser.old))) parser.old parser.new result }
+{
+    match code.to_int() {
+        8 => Ok(Some(AllOptData::ClientSubnet(ClientSubnet::parse(parser)?))),
+        9 => Ok(Some(AllOptData::Expire(Expire::parse(parser)?))),
+        11 => Ok(Some(AllOptData::TcpKeepalive(TcpKeepalive::parse(parser)?))),
+        13 => Ok(Some(AllOptData::Chain(ChainRef::parse(parser)?))),
+        15 => Ok(Some(AllOptData::ExtendedError(ExtendedErrorRef::parse(parser)?))),
+        _ => parse_octets(code, parser),
+    }
+}
+
+/// An option over plain octets, or of a code that has no kind.
+fn parse_octets<'a>(
+    code: OptionCode,
+    parser: &mut Parser<'a>,
+) -> Result<Option<AllOptData<'a>>, ParseError>
+    ensures { ParsesOption (Some (octets_data code (rest parser.old))) parser.old parser.new result }
+{
+    match code.to_int() {
+        3 => Ok(Some(AllOptData::Nsid(NsidRef::parse(parser)?))),
+        12 => Ok(Some(AllOptData::Padding(PaddingRef::parse(parser)?))),
+        14 => Ok(Some(AllOptData::KeyTag(KeyTagRef::parse(parser)?))),
+        _ => Ok(Some(AllOptData::Other(other(code, parser)?))),
     }
 }
 
@@ -93,10 +189,6 @@ fn other<'a>(code: OptionCode, parser: &mut Parser<'a>) -> Result<UnknownOptData
     parser.advance_to_end();
     Ok(value)
 }
-
-ghost use Rattle.dns_name.specs.OptData.{ParsesData, mapped_data, list_data};
-ghost use Rattle.dns_name.specs.Place.{rest};
-ghost use Rattle.dns_lists.specs.Unknowns.{unknown};
 
 impl<'a> ComposeOptData for AllOptData<'a> {
     ghost octets = { all_octets };

@@ -1,12 +1,13 @@
 //! The options of a list that a type reads.
 
-ghost use Rattle.std.specs.Prelude.{◌≡◌};
+ghost use Rattle.std.specs.Prelude.{◌≡◌, ⊤};
 ghost use Rattle.dns_name.specs.OptData.{kind};
 ghost use Rattle.dns_message.specs.Options.{IsOptionList};
 ghost use Rattle.dns_options.specs.Items.{NextItem, items_of};
 
 use dns_message::first_option;
 use dns_name::{FormReason, OptionCode, ParseError, ParseOptData, Parser};
+use std::alloc::AllocError;
 use std::marker::{Model, PhantomData};
 
 /// One option by its code and data, which is taken whole.
@@ -49,7 +50,7 @@ where
 }
 
 /// The options that are left of a list, as far as the type D reads them. After a refused one comes the end.
-#[derive(Clone, Debug, Drop)]
+#[derive(Debug, Drop)]
 pub struct OptIter<'a, D> {
     rest: &'a [u8],
     of: PhantomData<D>,
@@ -64,6 +65,19 @@ impl<'a, D> Model for OptIter<'a, D> {
     ghost view = { λ i. i.rest.now };
 
     ghost invariant = { λ i. IsOptionList i.rest.now };
+}
+
+impl<'a, D> Clone for OptIter<'a, D> {
+    ghost is_clone = { λ iterator copy. copy ≡ iterator };
+
+    ghost is_infallible = { λ _. ⊤ };
+
+    fn clone(&self) -> Result<OptIter<'a, D>, AllocError> {
+        Ok(OptIter {
+            rest: self.rest,
+            of: PhantomData,
+        })
+    }
 }
 
 impl<'a, D: ParseOptData<'a> + Drop> OptIter<'a, D> {
