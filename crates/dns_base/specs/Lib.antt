@@ -11,6 +11,7 @@ pub use Rattle.dns_message.specs.Plain
 pub use Rattle.dns_message.specs.TypedData
 pub mod PushErrors
 pub mod Built
+pub mod Readers
 pub mod Replaced
 pub mod Draft
 pub mod Replies
