@@ -6,22 +6,17 @@ use Rattle.dns_message.specs.declared.question.Question.{Question}
 use Rattle.dns_base.specs.Header.{header_of}
 use Rattle.dns_base.specs.Wire.{wire}
 use Rattle.dns_base.specs.Sections.{Items, all_of, questions_of}
+use Rattle.dns_base.specs.Readers.{readable_items}
 use Rattle.dns_base.specs.Built.{Built, NoRecords, NoAuthority, and_question, with_question, with_header}
 use Rattle.dns_base.specs.Replies.{within_limit, with_copied, with_questions, answer_header, answer_to, have_room}
 
--- the items that an iterator gives before its first refusal
-abbrev pub readable : {A : Type 0} → List (Result A ParseError) → List A
-readable [] = []
-readable (Ok x ∷ xs) = x ∷ readable xs
-readable (Err e ∷ xs) = []
-
-readable_ok : {A : Type 0} (xs : List A) (more : List (Result A ParseError)) → readable (map Ok xs ++ more) ≡ xs ++ readable more
+readable_ok : {A : Type 0} (xs : List A) (more : List (Result A ParseError)) → readable_items (map Ok xs ++ more) ≡ xs ++ readable_items more
 readable_ok [] more = refl
 readable_ok (x ∷ xs) more = ap (λ t. x ∷ t) (readable_ok xs more)
 
--- they are the section's items
-pub readable_all : {A : Type 0} (i : Items A) → readable (all_of i) ≡ i.0
-readable_all (xs, Ok end) = ap readable (sym (append-nil (map Ok xs))) ∙ (readable_ok xs [] ∙ append-nil xs)
+-- the items that an iterator gives before its first refusal are the section's
+pub readable_all : {A : Type 0} (i : Items A) → readable_items (all_of i) ≡ i.0
+readable_all (xs, Ok end) = ap readable_items (sym (append-nil (map Ok xs))) ∙ (readable_ok xs [] ∙ append-nil xs)
 readable_all (xs, Err e) = readable_ok xs (Err e ∷ []) ∙ append-nil xs
 
 chosen : {A : Type 0} (m n : ℕ) (x y : A) → m ≤ n → (if nat_le m n then x else y) ≡ x

@@ -4,3 +4,4 @@ pub mod Rewound
 pub mod Placed
 pub mod Sieved
 pub mod Replacing
+pub mod ReadItems

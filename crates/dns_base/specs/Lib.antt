@@ -12,6 +12,7 @@ pub use Rattle.dns_message.specs.TypedData
 pub use Rattle.dns_message.specs.Equality
 pub mod PushErrors
 pub mod Built
+pub mod Readers
 pub mod Replaced
 pub mod Draft
 pub mod Replies

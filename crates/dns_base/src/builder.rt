@@ -4,6 +4,8 @@ ghost use Rattle.std.specs.Prelude.{◌≡◌, ◌≤◌, length, min, IfOk};
 ghost use Rattle.dns_base.specs.Msg.{IsMessage, item_counts};
 ghost use Rattle.dns_base.specs.Wire.{wire};
 ghost use Rattle.dns_base.specs.Built.{with_header};
+ghost use Rattle.dns_base.specs.Readers.{AreReadable, readable_items};
+ghost use Rattle.dns_base.specs.Sections.{all_of, questions_of};
 
 mod additional;
 mod message;
@@ -13,7 +15,7 @@ mod stage;
 
 use crate::draft::Draft;
 use crate::stream::StreamTarget;
-use dns_message::{Header, HeaderCounts, Message, MessageRef};
+use dns_message::{Header, HeaderCounts, Message, MessageRef, QuestionIter};
 use dns_name::OutOfMemory;
 use stage::{
     AdditionalStage, AnswerStage, AuthorityStage, Before, HeaderStage, QuestionStage, Stage,
@@ -161,6 +163,15 @@ impl<S: Stage> Builder<S> {
         ensures lawful { IsMessage self.now.message }
     {
         self.draft.as_message()
+    }
+
+    /// The questions, in order.
+    pub fn questions(&self) -> QuestionIter<'_>
+        ensures value { result ≡ all_of (questions_of (wire self.now.message)) }
+        ensures readable { AreReadable result }
+        ensures questions { readable_items result ≡ self.now.message.questions }
+    {
+        self.draft.questions()
     }
 
     /// A copy.

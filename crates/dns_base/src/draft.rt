@@ -265,7 +265,7 @@ impl Draft {
     }
 
     /// The place where the additional records begin.
-    fn additional_start(&self) -> usize
+    pub(crate) fn additional_start(&self) -> usize
         ensures value { start_of Section.Additional (wire self.now.message) ≡ Ok result }
         ensures spelt { AreSpelt (wire self.now.message) (length self.now.message.additional) result }
         ensures read { records_at (wire self.now.message) (length self.now.message.additional) result ≡ self.now.message.additional }

@@ -4,6 +4,7 @@
 mod builder;
 mod draft;
 mod error;
+mod readers;
 mod replace;
 mod stream;
 

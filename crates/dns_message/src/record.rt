@@ -264,8 +264,8 @@ impl<'a> Clone for RecordIter<'a> {
 }
 
 impl<'a> RecordIter<'a> {
-    /// So many records from a place on.
-    pub(crate) fn of(message: &'a [u8], at: usize, left: u16) -> RecordIter<'a>
+    /// So many records from a place of a message on, in octets from its start.
+    pub fn of(message: &'a [u8], at: usize, left: u16) -> RecordIter<'a>
         requires { at ≤ length message.now }
         ensures { result ≡ to_come (standing_at message.now) left at }
     {

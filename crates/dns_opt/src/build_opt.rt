@@ -9,7 +9,7 @@ ghost use Rattle.dns_opt.specs.Reopened.{Reopens, less_opts, old_opt, reopened};
 
 use crate::builder::OptBuilder;
 use crate::header::OptHeader;
-use crate::message_opt::MessageOpt;
+use crate::message_opt::first_opt;
 use crate::record::{OptRecord, record_by};
 use dns_base::{AdditionalBuilder, PushError};
 use dns_name::{BuildDataError, OutOfMemory, Rcode, Rtype};
@@ -68,12 +68,11 @@ impl BuildOpt for AdditionalBuilder {
 }
 
 /// The first OPT record of a message, or an empty one.
-#[tactic(auto, using(crate::proofs::Opts::opt_back))]
+#[tactic(auto, using(crate::proofs::Opts::opt_given))]
 fn old_opt(message: &AdditionalBuilder, alloc: Global) -> Result<OptRecord, OutOfMemory>
     ensures { IfOk result (λ r. r ≡ old_opt message.now.message) }
 {
-    let written = message.as_message();
-    match written.opt() {
+    match first_opt(message.additional_records()) {
         Some(record) => record.to_owned(alloc),
         None => Ok(OptRecord::default(alloc)),
     }

@@ -18,7 +18,7 @@ pub trait MessageOpt {
 }
 
 /// The first OPT record of a section.
-fn first_opt(records: RecordIter<'_>) -> Option<OptRecordRef<'_>>
+pub(crate) fn first_opt(records: RecordIter<'_>) -> Option<OptRecordRef<'_>>
     ensures { result ≡ first_opt records.entry }
 {
     let mut left = records;

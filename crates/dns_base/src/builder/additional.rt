@@ -3,16 +3,27 @@
 ghost use Rattle.std.specs.Prelude.{◌≡◌, length};
 ghost use Rattle.dns_base.specs.Wire.{wire};
 ghost use Rattle.dns_base.specs.Built.{Pushes, with_additional};
+ghost use Rattle.dns_base.specs.Readers.{AreReadable, resources};
 ghost use Rattle.dns_base.specs.Records.{IsLawful, record_of};
 ghost use Rattle.dns_base.specs.Replaced.{less_type};
+ghost use Rattle.dns_base.specs.Sections.{all_of, standing_additional};
 
 use crate::builder::AdditionalBuilder;
 use crate::error::PushError;
-use dns_message::Record;
+use dns_message::{Record, RecordIter};
 use dns_name::Rtype;
 use std::alloc::Global;
 
 impl AdditionalBuilder {
+    /// The additional records, in order. They are read from the place where they begin; no other section is.
+    pub fn additional_records(&self) -> RecordIter<'_>
+        ensures value { result ≡ all_of (standing_additional (wire self.now.message)) }
+        ensures readable { AreReadable result }
+        ensures records { resources result ≡ self.now.message.additional }
+    {
+        self.draft.additional_records()
+    }
+
     /// Drops the additional records of a type; the others stay, in order. Takes no memory.
     pub fn remove_type(&mut self, rtype: Rtype)
         ensures { self.new ≡ less_type rtype self.old }

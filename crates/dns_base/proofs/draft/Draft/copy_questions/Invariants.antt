@@ -2,12 +2,12 @@ use Rattle.std.proofs.Common.{◌≡◌, length}
 use Rattle.dns_base.specs.Built.{NoRecords}
 use Rattle.dns_base.specs.Sections.{questions_of}
 use Rattle.dns_base.specs.Replies.{with_copied}
-use Rattle.dns_base.proofs.Copied.{readable}
+use Rattle.dns_base.specs.Readers.{readable_items}
 use Rattle.dns_base.proofs.draft.Draft.copy_questions.Given as goal
 
 abbrev pub invariant-questions : goal.invariant-questions
 invariant-questions l = record {
-  same : with_copied l.self (readable l.questions) ≡ with_copied l.fn.self (questions_of l.message).0;
+  same : with_copied l.self (readable_items l.questions) ≡ with_copied l.fn.self (questions_of l.message).0;
   empty : NoRecords l.self.message;
 }
 
