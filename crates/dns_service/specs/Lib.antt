@@ -13,4 +13,5 @@ pub mod WithOption
 pub mod Lending
 pub mod Config
 pub mod Once
+pub mod PolledRequest
 pub mod ServiceFn

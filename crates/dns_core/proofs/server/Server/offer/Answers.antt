@@ -4,7 +4,7 @@ use Rattle.std.proofs.lemmas.Bool.{le-ltb}
 use Rattle.dns_service.specs.declared.event.Output.{Output}
 use Rattle.dns_service.specs.declared.event.Output.TheVariants.{TurnedAway}
 use Rattle.dns_client.specs.Slate.{Slate, Told, Unused}
-use Rattle.dns_client.specs.PolledAt.{request_answer}
+use Rattle.dns_service.specs.PolledRequest.{request_answer}
 use Rattle.dns_client.specs.Stands.{state_is_spent}
 use Rattle.dns_core.specs.Out.{begins, is_datagram, is_unused, holds_slot, members}
 use Rattle.dns_core.specs.Sent.{slate}
