@@ -6,10 +6,13 @@ ghost use Rattle.dns_base.specs.Wire.{wire};
 ghost use Rattle.dns_base.specs.Built.{with_header};
 
 mod additional;
+mod assembled;
 mod message;
 mod question;
 mod record;
 mod stage;
+
+pub use assembled::assemble;
 
 use crate::draft::Draft;
 use crate::stream::StreamTarget;
