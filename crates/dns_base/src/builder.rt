@@ -12,10 +12,9 @@ mod question;
 mod record;
 mod stage;
 
-pub use assembled::assemble;
-
 use crate::draft::Draft;
 use crate::stream::StreamTarget;
+pub use assembled::assemble;
 use dns_message::{Header, HeaderCounts, Message, MessageRef};
 use dns_name::OutOfMemory;
 use stage::{
