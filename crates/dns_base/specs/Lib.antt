@@ -13,6 +13,8 @@ pub use Rattle.dns_message.specs.Equality
 pub mod PushErrors
 pub mod Built
 pub mod Readers
+pub mod CopiedRecord
+pub mod Builds
 pub mod Replaced
 pub mod Draft
 pub mod Replies

@@ -8,6 +8,7 @@ ghost use Rattle.dns_base.specs.Readers.{AreReadable, readable_items};
 ghost use Rattle.dns_base.specs.Sections.{all_of, questions_of};
 
 mod additional;
+mod assembled;
 mod message;
 mod question;
 mod record;
@@ -15,6 +16,7 @@ mod stage;
 
 use crate::draft::Draft;
 use crate::stream::StreamTarget;
+pub use assembled::assemble;
 use dns_message::{Header, HeaderCounts, Message, MessageRef, QuestionIter};
 use dns_name::OutOfMemory;
 use stage::{

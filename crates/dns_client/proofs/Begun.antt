@@ -17,7 +17,7 @@ use Rattle.dns_client.specs.Datagrams.{exchange}
 use Rattle.dns_client.specs.Connections.{opened}
 use Rattle.dns_client.specs.Stands.{IsExchange, IsOpen, KeepsAll, Keeps, sole}
 use Rattle.dns_client.specs.declared.connection.OpenConnection.{OpenConnection}
-use Rattle.dns_client.specs.declared.polling.PolledRequest.{PolledRequest}
+use Rattle.dns_service.specs.declared.polled.PolledRequest.{PolledRequest}
 use Rattle.dns_client.proofs.Kept.{none_sole}
 
 module _ {R F : Type 0} (answer : PolledRequest F R → ℕ → Answer) (answers : Req (Unit {0}) → ℕ → Answer) where

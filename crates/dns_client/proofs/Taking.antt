@@ -18,7 +18,7 @@ use Rattle.dns_client.specs.declared.client.State.TheVariants.{Open as Is_open}
 use Rattle.dns_client.specs.declared.connection.OpenConnection.{OpenConnection}
 use Rattle.dns_client.specs.declared.connection.Outcome.{Outcome}
 use Rattle.dns_client.specs.declared.connection.Outcome.TheVariants.{Nothing, Ends}
-use Rattle.dns_client.specs.declared.polling.PolledRequest.{PolledRequest}
+use Rattle.dns_service.specs.declared.polled.PolledRequest.{PolledRequest}
 use Rattle.dns_client.proofs.FramesLemmas.{first_shorter, frames_some, past_next, within_next, past-append, within-append, new_frames_by_kept}
 
 module _ {W R F : Type 0} (answer : PolledRequest F R → ℕ → Answer) (answers : Req (Unit {0}) → ℕ → Answer) (at secs : ℕ) where

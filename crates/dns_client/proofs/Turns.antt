@@ -16,7 +16,7 @@ use Rattle.dns_client.specs.Turns.{polled, exchange_turn, turn, sent_at_once, re
 use Rattle.dns_client.specs.PolledAt.{PolledAt}
 use Rattle.dns_client.specs.Stands.{Keeps, IsOpen, Exchanges}
 use Rattle.dns_client.specs.declared.connection.OpenConnection.{OpenConnection}
-use Rattle.dns_client.specs.declared.polling.PolledRequest.{PolledRequest}
+use Rattle.dns_service.specs.declared.polled.PolledRequest.{PolledRequest}
 use Rattle.dns_client.proofs.Kept.{found, keeps_set, sole_set}
 
 -- the queue after a reply

@@ -1,6 +1,7 @@
 pub use Rattle.dns_base.specs.Wire
 pub use Rattle.dns_service.specs.Answer
 pub use Rattle.dns_service.specs.Given
+pub use Rattle.dns_service.specs.PolledRequest
 pub use Rattle.dns_service.specs.Req
 pub mod Frames
 pub mod Slate

@@ -2,13 +2,6 @@
 use Rattle.std.specs.Prelude.{◌≡◌, ℕ, suc, Bool, true, false, Option, Some, None}
 use Rattle.dns_service.specs.Answer.{Answer}
 use Rattle.dns_client.specs.Turns.{ends}
-use Rattle.dns_client.specs.declared.polling.PolledRequest.{PolledRequest}
-use Rattle.dns_client.specs.declared.polling.PolledRequest.TheVariants.{Called, Streaming}
-
--- the answers of a polled request from now on
-abbrev pub request_answer : {F R : Type 0} → (F → ℕ → Answer) → (R → ℕ → Answer) → PolledRequest F R → ℕ → Answer
-request_answer f r (Called x) = f x
-request_answer f r (Streaming x) = r x
 
 module _ {Q : Type 0} (answer : Q → ℕ → Answer) where
   abbrev pub GoesOn : Q → Option Q → Type 0

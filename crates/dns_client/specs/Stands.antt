@@ -16,7 +16,7 @@ use Rattle.dns_client.specs.declared.client.State.TheVariants.{Exchange as Is_ex
 use Rattle.dns_client.specs.declared.connection.OpenConnection.{OpenConnection}
 use Rattle.dns_client.specs.declared.connection.Outcome.{Outcome}
 use Rattle.dns_client.specs.declared.connection.Outcome.TheVariants.{Nothing, Written, Ends}
-use Rattle.dns_client.specs.declared.polling.PolledRequest.{PolledRequest}
+use Rattle.dns_service.specs.declared.polled.PolledRequest.{PolledRequest}
 
 -- a polled state is kept of each request that isn't done, and answers from the polls made on
 abbrev pub Keeps : {Q : Type 0} → (Q → ℕ → Answer) → (Req (Unit {0}) → ℕ → Answer) → Option Q → Option Asked → Type 0

@@ -9,14 +9,14 @@ ghost use Rattle.dns_client.specs.Connections.{opened};
 ghost use Rattle.dns_client.specs.Rule.{rule};
 ghost use Rattle.dns_client.specs.Spent.{is_spent};
 ghost use Rattle.dns_client.specs.Stands.{IsClosed};
-ghost use Rattle.dns_client.specs.PolledAt.{request_answer};
+ghost use Rattle.dns_service.specs.PolledRequest.{request_answer};
 
 use crate::connection::{OpenConnection, Outcome};
-use crate::exchange::{exchange_step, one};
-use crate::polling::PolledRequest;
-use crate::requests::{cut, datagram_request};
-use dns_base::{Message, SocketAddr};
-use dns_service::{DgramConfig, Event, EventKind, OutOfMemory, Output, Served, StreamConfig};
+use crate::exchange::{begin_exchange, exchange_step, one};
+use dns_base::SocketAddr;
+use dns_service::{
+    DgramConfig, Event, EventKind, OutOfMemory, Output, PolledRequest, Served, StreamConfig,
+};
 use std::alloc::Global;
 
 /// What a client is, with what is kept of it.
@@ -67,14 +67,8 @@ impl<W: Served> ClientCore<W> {
             → (p.1.items ≡ (datagram client addr at secs octets.now s).1)
             × Stands (request_answer W.Future.answer W.Stream.answer) (W.answer service.now) p.0 (datagram client addr at secs octets.now s).0) }
     {
-        let octets = cut(alloc, octets)?;
-        let Ok(message) = Message::from_octets(octets) else {
-            let state = State::Exchange(None);
-            return Ok((ClientCore { client, state }, Vec::new(alloc)));
-        };
-        let mut request = datagram_request(alloc, config, addr, at, secs, message)?;
-        let future = service.call(alloc, &mut request)?;
-        let state = State::Exchange(Some(PolledRequest::Called(future)));
+        let unfinished = begin_exchange(alloc, service, addr, at, secs, octets, config)?;
+        let state = State::Exchange(unfinished);
         Ok((ClientCore { client, state }, Vec::new(alloc)))
     }
 

@@ -9,15 +9,16 @@ ghost use Rattle.dns_client.specs.Frames.{frames};
 ghost use Rattle.dns_client.specs.Connections.{opened, take_frames, piece, write};
 ghost use Rattle.dns_client.specs.Turns.{turn};
 ghost use Rattle.dns_client.specs.Rule.{rule};
-ghost use Rattle.dns_client.specs.PolledAt.{request_answer};
+ghost use Rattle.dns_service.specs.PolledRequest.{request_answer};
 
 use crate::framer::Framer;
-use crate::polling::{PolledRequest, poll_at};
+use crate::polling::poll_at;
 use crate::requests::{frame_of, frame_request, reply_of};
 use circular_buffer::HeapCircularBuffer;
 use dns_base::{Message, SocketAddr};
 use dns_service::{
-    ConnectionConfig, Event, EventKind, Octets, OutOfMemory, Request, Served, StreamConfig, Why,
+    ConnectionConfig, Event, EventKind, Octets, OutOfMemory, PolledRequest, Request, Served,
+    StreamConfig, Why,
 };
 use std::alloc::Global;
 use std::collections::BTreeMap;
@@ -86,7 +87,7 @@ impl<W: Served> OpenConnection<W> {
         }
         let future = service.call(alloc, &mut request)?;
         self.unfinished
-            .insert(self.count, PolledRequest::Called(future))?;
+            .insert(self.count, PolledRequest::Future(future))?;
         self.count += 1;
         Ok(())
     }

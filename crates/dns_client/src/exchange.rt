@@ -3,14 +3,21 @@
 ghost use Rattle.std.specs.Prelude.{◌≡◌, ℕ, ◌∷◌, [], IfOk, slice_get};
 ghost use Rattle.dns_service.specs.Answer.{Answer};
 ghost use Rattle.dns_service.specs.Req.{Req};
-ghost use Rattle.dns_client.specs.PolledAt.{request_answer};
+ghost use Rattle.dns_service.specs.PolledRequest.{request_answer};
+ghost use Rattle.dns_client.specs.Datagrams.{datagram};
+ghost use Rattle.dns_client.specs.Requests.{request_of_datagram};
 ghost use Rattle.dns_client.specs.Rule.{rule};
-ghost use Rattle.dns_client.specs.Stands.{Exchanges};
+ghost use Rattle.dns_client.specs.Slate.{Slate, IsUnused};
+ghost use Rattle.dns_client.specs.Stands.{Exchanges, IsExchange};
 ghost use Rattle.dns_client.specs.Turns.{exchange_turn};
 
-use crate::polling::{PolledRequest, poll_kept};
-use crate::requests::{datagram_of, reply_of};
-use dns_service::{Event, EventKind, OutOfMemory, Output, ReplyFuture, ReplyStream};
+use crate::polling::poll_kept;
+use crate::requests::{cut, datagram_of, datagram_request, reply_of};
+use dns_base::{Message, SocketAddr};
+use dns_service::{
+    DgramConfig, Event, EventKind, OutOfMemory, Output, PolledRequest, ReplyFuture, ReplyStream,
+    Served,
+};
 use std::alloc::Global;
 
 /// The one output.
@@ -20,6 +27,46 @@ pub fn one(alloc: Global, output: Output) -> Result<Vec<Output>, OutOfMemory>
     let mut outs = Vec::new(alloc);
     outs.push(output)?;
     Ok(outs)
+}
+
+/// Asks the service a datagram's request.
+fn ask<W: Served>(
+    alloc: Global,
+    service: &W,
+    addr: SocketAddr,
+    at: u64,
+    secs: u64,
+    message: Message,
+    config: &DgramConfig,
+) -> Result<W::Future, OutOfMemory>
+    requires { W.can_call service.now }
+    ensures { IfOk result (λ f. (k : ℕ) → W.Future.answer f k ≡ W.answer service.now (request_of_datagram config.now addr at secs message) k) }
+{
+    let mut request = datagram_request(alloc, config, addr, at, secs, message)?;
+    let future = service.call(alloc, &mut request)?;
+    Ok(future)
+}
+
+/// Begins an exchange by its datagram. Below 12 octets no request is made.
+pub fn begin_exchange<W: Served>(
+    alloc: Global,
+    service: &W,
+    addr: SocketAddr,
+    at: u64,
+    secs: u64,
+    octets: &[u8],
+    config: &DgramConfig,
+) -> Result<Option<PolledRequest<W::Future, W::Stream>>, OutOfMemory>
+    requires { W.can_call service.now }
+    ensures { IfOk result (λ unfinished. (client : ℕ) (s : Slate) → IsUnused s → s.conf.dgram ≡ config.now
+        → IsExchange (request_answer W.Future.answer W.Stream.answer) (W.answer service.now) client unfinished (datagram client addr at secs octets.now s).0) }
+{
+    let octets = cut(alloc, octets)?;
+    let Ok(message) = Message::from_octets(octets) else {
+        return Ok(None);
+    };
+    let future = ask(alloc, service, addr, at, secs, message, config)?;
+    Ok(Some(PolledRequest::Future(future)))
 }
 
 /// Polls a request of an exchange once. No request but the first is made.

@@ -10,6 +10,6 @@ mod polling;
 mod requests;
 
 pub use client::ClientCore;
+pub use dns_service::PolledRequest;
 pub use framer::Framer;
 pub use laws::{frames_go_on, pieces_may_be_cut};
-pub use polling::PolledRequest;

@@ -1,45 +1,15 @@
-//! Requests that are polled.
+//! Polls of the requests that are kept.
 
-ghost use Rattle.std.specs.Prelude.{◌≡◌, ◌≢◌, ℕ, suc, IfOk, OnOk};
+ghost use Rattle.std.specs.Prelude.{◌≡◌, ◌≢◌, ℕ, IfOk, OnOk};
 ghost use Rattle.std.specs.Ordering.{nat_cmp};
 ghost use Rattle.std.specs.BTreeMap.{get};
-ghost use Rattle.dns_client.specs.PolledAt.{PolledAt, request_answer};
+ghost use Rattle.dns_service.specs.PolledRequest.{request_answer};
+ghost use Rattle.dns_client.specs.PolledAt.{PolledAt};
 ghost use Rattle.dns_client.specs.Turns.{ends};
 
-use dns_service::{OutOfMemory, Polled, ReplyFuture, ReplyStream, ServiceResult};
+use dns_service::{OutOfMemory, Polled, PolledRequest, ReplyFuture, ReplyStream, ServiceResult};
 use std::alloc::Global;
 use std::collections::BTreeMap;
-
-/// A request from its call on: its future, and then the stream of its replies.
-#[derive(Drop)]
-pub enum PolledRequest<F, R> {
-    Called(F),
-    Streaming(R),
-}
-
-impl<F, R> PolledRequest<F, R>
-where
-    F: ReplyFuture<Stream = R>,
-    R: ReplyStream,
-{
-    /// Takes the next answer. A future that is ready is followed by the first poll of its stream.
-    pub fn poll_next(&mut self, alloc: Global) -> Result<Polled<Option<ServiceResult>>, OutOfMemory>
-        ensures now { IfOk result (λ p. p ≡ request_answer F.answer R.answer self.old 0) }
-        ensures later { OnOk result ((k : ℕ) → request_answer F.answer R.answer self.new k ≡ request_answer F.answer R.answer self.old (suc k)) }
-    {
-        match self {
-            PolledRequest::Called(future) => match future.poll(alloc)? {
-                Polled::Pending => Ok(Polled::Pending),
-                Polled::Ready(mut stream) => {
-                    let answer = stream.poll_next(alloc)?;
-                    *self = PolledRequest::Streaming(stream);
-                    Ok(answer)
-                }
-            },
-            PolledRequest::Streaming(stream) => stream.poll_next(alloc),
-        }
-    }
-}
 
 /// Whether an answer makes its request done.
 fn is_last(answer: &Polled<Option<ServiceResult>>) -> bool

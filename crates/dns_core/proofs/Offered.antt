@@ -11,7 +11,7 @@ use Rattle.dns_service.specs.declared.event.Event.{Event}
 use Rattle.dns_service.specs.declared.event.Output.{Output}
 use Rattle.dns_service.specs.declared.event.Output.TheVariants.{TurnedAway}
 use Rattle.dns_client.specs.Rule.{rule}
-use Rattle.dns_client.specs.declared.polling.PolledRequest.{PolledRequest}
+use Rattle.dns_service.specs.declared.polled.PolledRequest.{PolledRequest}
 use Rattle.dns_core.specs.Sent.{slate}
 use Rattle.dns_core.specs.Out.{is_unused, is_datagram, has_room, taken, members, gained}
 use Rattle.dns_core.specs.Server.{Serves}

@@ -15,7 +15,7 @@ use Rattle.dns_client.specs.Connections.{released}
 use Rattle.dns_client.specs.Rule.{rule}
 use Rattle.dns_client.specs.Spent.{is_spent}
 use Rattle.dns_client.specs.declared.client.ClientCore.{ClientCore}
-use Rattle.dns_client.specs.declared.polling.PolledRequest.{PolledRequest}
+use Rattle.dns_service.specs.declared.polled.PolledRequest.{PolledRequest}
 use Rattle.dns_core.specs.Sent.{slate}
 use Rattle.dns_core.specs.Out.{begins, holds_slot, taken, members, gained}
 use Rattle.dns_core.specs.Serves.{Holds, Steps, StepsKey}

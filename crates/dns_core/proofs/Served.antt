@@ -17,7 +17,7 @@ use Rattle.dns_client.specs.Stands.{Stands, StandsIn, Follows}
 use Rattle.dns_client.specs.declared.client.ClientCore.{ClientCore}
 use Rattle.dns_client.specs.declared.client.State.{State}
 use Rattle.dns_client.specs.declared.client.State.TheVariants.{Exchange as Is_exchange, Open as Is_open, Closed as Is_closed}
-use Rattle.dns_client.specs.declared.polling.PolledRequest.{PolledRequest}
+use Rattle.dns_service.specs.declared.polled.PolledRequest.{PolledRequest}
 use Rattle.dns_core.specs.Sent.{slate}
 use Rattle.dns_core.specs.Out.{is_unused, begins, is_release, is_new, taken, members, put, gained}
 use Rattle.dns_core.specs.Serves.{Holds, Steps, StepsKey}

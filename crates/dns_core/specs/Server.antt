@@ -8,7 +8,7 @@ use Rattle.dns_service.specs.Answer.{Answer}
 use Rattle.dns_service.specs.Req.{Req}
 use Rattle.dns_service.specs.declared.event.Event.{Event}
 use Rattle.dns_service.specs.declared.event.Output.{Output}
-use Rattle.dns_client.specs.declared.polling.PolledRequest.{PolledRequest}
+use Rattle.dns_service.specs.declared.polled.PolledRequest.{PolledRequest}
 use Rattle.dns_core.specs.Sent.{slate}
 use Rattle.dns_core.specs.Out.{members, taken, gained, is_unused}
 use Rattle.dns_core.specs.Serves.{Holds}

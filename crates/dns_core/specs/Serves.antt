@@ -9,7 +9,7 @@ use Rattle.dns_client.specs.Spent.{is_spent}
 use Rattle.dns_client.specs.Rule.{rule}
 use Rattle.dns_client.specs.Stands.{Stands, Follows}
 use Rattle.dns_client.specs.declared.client.ClientCore.{ClientCore}
-use Rattle.dns_client.specs.declared.polling.PolledRequest.{PolledRequest}
+use Rattle.dns_service.specs.declared.polled.PolledRequest.{PolledRequest}
 
 module _ {W R F : Type 0} (answer : PolledRequest F R → ℕ → Answer) (answers : Req (Unit {0}) → ℕ → Answer) where
   -- of a member a core is kept as long as its slate isn't spent; nothing is of a client that is no member

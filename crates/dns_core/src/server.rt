@@ -6,7 +6,7 @@ ghost use Rattle.std.specs.Ordering.{nat_cmp};
 ghost use Rattle.dns_service.specs.Answer.{Answer};
 ghost use Rattle.dns_service.specs.Req.{Req};
 ghost use Rattle.dns_service.specs.Config.{Dgram};
-ghost use Rattle.dns_client.specs.PolledAt.{request_answer};
+ghost use Rattle.dns_service.specs.PolledRequest.{request_answer};
 ghost use Rattle.dns_core.specs.Out.{begins, is_release, out};
 ghost use Rattle.dns_core.specs.Replies.{replies};
 ghost use Rattle.dns_core.specs.Early.{IsEarly};

@@ -3,7 +3,7 @@
 ghost use Rattle.std.specs.Prelude.{◌≡◌};
 ghost use Rattle.dns_stream.specs.Streams.{middleware_answer, middleware_size};
 
-use dns_service::{OutOfMemory, Polled, ReplyFuture, ReplyStream, ServiceResult};
+use dns_service::{OutOfMemory, Polled, ReplyFuture, ReplyStream, ServiceResult, poll_future};
 use std::alloc::Global;
 
 /// Answers as what it holds. A future that is ready is polled as its stream in the same call.
@@ -32,10 +32,9 @@ where
 
     fn poll_next(&mut self, alloc: Global) -> Result<Polled<Option<ServiceResult>>, OutOfMemory> {
         match self {
-            MiddlewareStream::IdentityFuture(future) => match future.poll(alloc)? {
+            MiddlewareStream::IdentityFuture(future) => match poll_future(alloc, future)? {
                 Polled::Pending => Ok(Polled::Pending),
-                Polled::Ready(mut stream) => {
-                    let answer = stream.poll_next(alloc)?;
+                Polled::Ready((stream, answer)) => {
                     *self = MiddlewareStream::IdentityStream(stream);
                     Ok(answer)
                 }

@@ -67,7 +67,7 @@ fn played(row: &mut Row<'_>) -> Result<(), RowError> {
 fn polled(row: &mut Row<'_>) -> Result<(), RowError> {
     let service = service(row)?;
     let mut request = request(row)?;
-    let mut polled = PolledRequest::Called(service.call(row.alloc(), &mut request)?);
+    let mut polled = PolledRequest::Future(service.call(row.alloc(), &mut request)?);
     for _ in 0..3 {
         poll_said(row, polled.poll_next(row.alloc()));
     }

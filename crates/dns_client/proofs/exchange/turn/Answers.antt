@@ -1,6 +1,6 @@
 use Rattle.std.proofs.Common.{None, Some, ap, ◌∙◌, List, ℕ, [], ◌∷◌}
 use Rattle.dns_service.specs.declared.event.Output.TheVariants.{Datagram}
-use Rattle.dns_client.specs.PolledAt.{request_answer}
+use Rattle.dns_service.specs.PolledRequest.{request_answer}
 use Rattle.dns_client.proofs.Turns.{exchange_turned}
 use Rattle.dns_client.proofs.exchange.turn.Goals as goal
 

@@ -1,5 +1,5 @@
 use Rattle.std.proofs.Common.{◌≡◌, ◌++◌, take, drop}
-use Rattle.dns_client.specs.PolledAt.{request_answer}
+use Rattle.dns_service.specs.PolledRequest.{request_answer}
 use Rattle.dns_core.specs.Out.{out, out_after}
 use Rattle.dns_core.specs.Server.{Serves}
 use Rattle.dns_core.proofs.server.serve.Given as goal

@@ -5,8 +5,8 @@ use Rattle.std.specs.BTreeMap.{get}
 use Rattle.std.proofs.lemmas.Bool.Decides.{nat_tests}
 use Rattle.std.proofs.lemmas.Grind.{common_steps}
 use Rattle.dns_client.specs.Requests.{asked, most_requests}
-use Rattle.dns_client.specs.PolledAt.{request_answer}
-use Rattle.dns_client.specs.declared.polling.PolledRequest.TheVariants.{Called}
+use Rattle.dns_service.specs.PolledRequest.{request_answer}
+use Rattle.dns_service.specs.declared.polled.PolledRequest.TheVariants.{Future}
 use Rattle.dns_client.proofs.Kept.{keeps_push}
 use Rattle.dns_client.proofs.connection.OpenConnection.ask.Goals as goal
 
@@ -22,7 +22,7 @@ returns g c = record {
       let others : (q : ℕ) → q ≢ c.args.self.now.count → get nat_cmp c.insert.new.self q ≡ get nat_cmp c.args.self.now.unfinished q = λ q ne. grind (arith, common_steps, nat_tests, u.0 q) in
       rw few (
         omega (arith, h.0, length-append rs (asked c.args.request ∷ [])),
-        keeps_push (request_answer g.W.Future.ReplyFuture.answer g.W.Stream.ReplyStream.answer) (g.W.Served.answer c.args.service.now) c.args.self.now.unfinished c.insert.new.self rs c.args.self.now.count (asked c.args.request) (Called c.in_ok-future.future) h.0 h.1 others u.1
+        keeps_push (request_answer g.W.Future.ReplyFuture.answer g.W.Stream.ReplyStream.answer) (g.W.Served.answer c.args.service.now) c.args.self.now.unfinished c.insert.new.self rs c.args.self.now.count (asked c.args.request) (Future c.in_ok-future.future) h.0 h.1 others u.1
             (refl, λ j. c.in_ok-future.ensures.answers j ∙ ap (g.W.Served.answer c.args.service.now c.args.request) (sym (zero-add j))),
       );
 }

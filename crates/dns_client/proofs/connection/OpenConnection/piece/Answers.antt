@@ -1,4 +1,4 @@
-use Rattle.dns_client.specs.PolledAt.{request_answer}
+use Rattle.dns_service.specs.PolledRequest.{request_answer}
 use Rattle.dns_client.proofs.Taking.{fed}
 use Rattle.dns_client.proofs.connection.OpenConnection.piece.Goals as goal
 

@@ -1,6 +1,6 @@
 use Rattle.std.proofs.Common.{[]}
 use Rattle.dns_client.specs.Connections.{piece, write}
-use Rattle.dns_client.specs.PolledAt.{request_answer}
+use Rattle.dns_service.specs.PolledRequest.{request_answer}
 use Rattle.dns_client.specs.Slate.{Slate}
 use Rattle.dns_client.proofs.Stepped.{in_leads}
 use Rattle.dns_client.proofs.connection.OpenConnection.step.Goals as goal

@@ -1,4 +1,4 @@
-use Rattle.dns_client.specs.PolledAt.{request_answer}
+use Rattle.dns_service.specs.PolledRequest.{request_answer}
 use Rattle.dns_client.proofs.Taking.{one_more, no_more}
 use Rattle.dns_client.proofs.connection.OpenConnection.take_all.Goals as goal
 

@@ -1,5 +1,5 @@
 use Rattle.std.proofs.Common.{length}
-use Rattle.dns_client.specs.PolledAt.{request_answer}
+use Rattle.dns_service.specs.PolledRequest.{request_answer}
 use Rattle.dns_client.proofs.Taking.{TakesOn}
 use Rattle.dns_client.proofs.connection.OpenConnection.take_all.Given as goal
 

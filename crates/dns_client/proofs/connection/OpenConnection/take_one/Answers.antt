@@ -1,7 +1,7 @@
 use Rattle.std.proofs.Common.{◌≡◌, ◌∙◌, ap, List, ℕ, Some}
 use Rattle.dns_client.specs.Frames.{first_frame}
 use Rattle.dns_client.specs.Requests.{request_of_frame}
-use Rattle.dns_client.specs.PolledAt.{request_answer}
+use Rattle.dns_service.specs.PolledRequest.{request_answer}
 use Rattle.dns_client.proofs.FramesLemmas.{first-framed}
 use Rattle.dns_client.proofs.Taking.{none_left, short, taken}
 use Rattle.dns_client.proofs.connection.OpenConnection.take_one.Goals as goal

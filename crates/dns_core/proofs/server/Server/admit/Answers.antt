@@ -1,7 +1,7 @@
 use Rattle.std.proofs.Common.{◌≡◌, ◌<◌, ◌+◌, ℕ, ap, sym, ◌∙◌, true, [], ◌∷◌, ◌++◌, lt-ltb}
 use Rattle.std.specs.Prelude.{not}
 use Rattle.dns_client.specs.Slate.{Slate, Told, Unused}
-use Rattle.dns_client.specs.PolledAt.{request_answer}
+use Rattle.dns_service.specs.PolledRequest.{request_answer}
 use Rattle.dns_client.specs.Stands.{state_is_spent}
 use Rattle.dns_core.specs.Out.{begins, is_datagram, is_unused, holds_slot, members}
 use Rattle.dns_core.specs.Sent.{slate}

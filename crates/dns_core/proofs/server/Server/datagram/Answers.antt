@@ -1,6 +1,6 @@
 use Rattle.std.proofs.Common.{◌≡◌, ap, sym, ◌∙◌, false, [], ◌∷◌, ◌++◌}
 use Rattle.dns_client.specs.Slate.{Slate, Told, Unused}
-use Rattle.dns_client.specs.PolledAt.{request_answer}
+use Rattle.dns_service.specs.PolledRequest.{request_answer}
 use Rattle.dns_client.specs.Stands.{state_is_spent}
 use Rattle.dns_core.specs.Out.{begins, is_datagram, is_unused, holds_slot, members}
 use Rattle.dns_core.specs.Sent.{slate}

@@ -1,4 +1,4 @@
-use Rattle.dns_client.specs.PolledAt.{request_answer}
+use Rattle.dns_service.specs.PolledRequest.{request_answer}
 use Rattle.dns_core.proofs.Served.{own_goes}
 use Rattle.dns_core.proofs.server.Server.own.Goals as goal
 

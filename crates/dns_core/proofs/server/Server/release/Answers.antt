@@ -1,4 +1,4 @@
-use Rattle.dns_client.specs.PolledAt.{request_answer}
+use Rattle.dns_service.specs.PolledRequest.{request_answer}
 use Rattle.dns_core.proofs.Released.{release_goes}
 use Rattle.dns_core.proofs.server.Server.release.Goals as goal
 

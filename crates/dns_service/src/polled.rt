@@ -1,0 +1,70 @@
+//! Requests that are polled: a future, and then its stream.
+
+ghost use Rattle.std.specs.Prelude.{◌≡◌, ℕ, suc, IfOk, OnOk};
+ghost use Rattle.dns_service.specs.Answer.{IfPending, IfReady};
+ghost use Rattle.dns_service.specs.PolledRequest.{request_answer, request_size};
+
+use crate::service::{Polled, ReplyFuture, ReplyStream, ServiceResult};
+use dns_name::OutOfMemory;
+use std::alloc::Global;
+
+/// Polls a future, and where it is ready its stream in the same call: then the stream is given, with what it answered.
+/// After want of memory the future isn't to be polled again.
+pub fn poll_future<F: ReplyFuture<Stream = R>, R: ReplyStream>(
+    alloc: Global,
+    future: &mut F,
+) -> Result<Polled<(R, Polled<Option<ServiceResult>>)>, OutOfMemory>
+    ensures pending { IfOk result (IfPending (F.answer future.old 0 ≡ Polled.Pending × ((k : ℕ) → F.answer future.new k ≡ F.answer future.old (suc k)))) }
+    ensures ready { IfOk result (IfReady (λ p. (p.1 ≡ F.answer future.old 0) × ((k : ℕ) → R.answer p.0 k ≡ F.answer future.old (suc k)))) }
+{
+    match future.poll(alloc)? {
+        Polled::Pending => Ok(Polled::Pending),
+        Polled::Ready(mut stream) => {
+            let answer = stream.poll_next(alloc)?;
+            Ok(Polled::Ready((stream, answer)))
+        }
+    }
+}
+
+/// A request from its call on.
+#[derive(Drop)]
+pub enum PolledRequest<F, R> {
+    /// The future that the call gave.
+    Future(F),
+    /// The stream of its replies.
+    Stream(R),
+}
+
+impl<F, R> PolledRequest<F, R>
+where
+    F: ReplyFuture<Stream = R>,
+    R: ReplyStream,
+{
+    /// Takes the next answer. A future that is ready is followed by the first poll of its stream. After want of memory the
+    /// request isn't to be polled again.
+    pub fn poll_next(&mut self, alloc: Global) -> Result<Polled<Option<ServiceResult>>, OutOfMemory>
+        ensures now { IfOk result (λ p. p ≡ request_answer F.answer R.answer self.old 0) }
+        ensures later { OnOk result ((k : ℕ) → request_answer F.answer R.answer self.new k ≡ request_answer F.answer R.answer self.old (suc k)) }
+    {
+        match self {
+            PolledRequest::Future(future) => match poll_future(alloc, future)? {
+                Polled::Pending => Ok(Polled::Pending),
+                Polled::Ready((stream, answer)) => {
+                    *self = PolledRequest::Stream(stream);
+                    Ok(answer)
+                }
+            },
+            PolledRequest::Stream(stream) => stream.poll_next(alloc),
+        }
+    }
+
+    /// How many items are left, at least and at most: as the stream says, and unknown before it.
+    pub fn size_hint(&self) -> (usize, Option<usize>)
+        ensures { result ≡ request_size R.size self.now }
+    {
+        match self {
+            PolledRequest::Future(_) => (0, None),
+            PolledRequest::Stream(stream) => stream.size_hint(),
+        }
+    }
+}
