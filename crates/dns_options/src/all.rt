@@ -14,10 +14,9 @@ use dns_name::{
     ComposeOptData, OptData, OptionCode, OutOfMemory, ParseError, ParseOptData, Parser,
 };
 use std::alloc::{AllocError, Global};
-use std::fmt;
 
 /// The data of any option.
-#[derive(Drop)]
+#[derive(Debug, Drop)]
 pub enum AllOptData<'a> {
     Dau(DauRef<'a>),
     Dhu(DhuRef<'a>),
@@ -54,50 +53,6 @@ macro_rules! each {
             AllOptData::Other($value) => $said,
         }
     };
-}
-
-/// The text that a derive would write.
-impl<'a> fmt::Debug for AllOptData<'a> {
-    fn fmt<W: fmt::Write>(&self, f: &mut fmt::Formatter<W>) -> fmt::Result {
-        match self {
-            AllOptData::Dau(value) => show("Dau", value, f),
-            AllOptData::Dhu(value) => show("Dhu", value, f),
-            AllOptData::N3u(value) => show("N3u", value, f),
-            AllOptData::KeyTag(value) => show("KeyTag", value, f),
-            AllOptData::Nsid(value) => show("Nsid", value, f),
-            AllOptData::Padding(value) => show("Padding", value, f),
-            AllOptData::Other(value) => show("Other", value, f),
-            _ => show_fields(self, f),
-        }
-    }
-}
-
-/// Shows an option of numbers, an address, a name or a text; the others are shown above.
-fn show_fields<W: fmt::Write>(option: &AllOptData<'_>, f: &mut fmt::Formatter<W>) -> fmt::Result {
-    match option {
-        AllOptData::Chain(value) => show("Chain", value, f),
-        AllOptData::Cookie(value) => show("Cookie", value, f),
-        AllOptData::Expire(value) => show("Expire", value, f),
-        AllOptData::ExtendedError(value) => show("ExtendedError", value, f),
-        AllOptData::TcpKeepalive(value) => show("TcpKeepalive", value, f),
-        AllOptData::ClientSubnet(value) => show("ClientSubnet", value, f),
-        AllOptData::Dau(_)
-        | AllOptData::Dhu(_)
-        | AllOptData::N3u(_)
-        | AllOptData::KeyTag(_)
-        | AllOptData::Nsid(_)
-        | AllOptData::Padding(_)
-        | AllOptData::Other(_) => Ok(()),
-    }
-}
-
-/// A name, and a value in parentheses.
-fn show<D: fmt::Debug, W: fmt::Write>(
-    name: &str,
-    value: &D,
-    f: &mut fmt::Formatter<W>,
-) -> fmt::Result {
-    f.debug_tuple(name).field(value).finish()
 }
 
 impl<'a> Clone for AllOptData<'a> {
