@@ -1,2 +1,3 @@
 mod ErrorReplies
 mod AddedOptions
+mod CutLaws
