@@ -1,5 +1,3 @@
-pub mod OptLaws
-pub mod CutLaws
 pub mod MandatoryLaws
 pub mod ItemLaws
 pub mod EdnsLaws

@@ -8,11 +8,10 @@ use Rattle.dns_service.specs.declared.message.TransportSpecificContext.{Transpor
 use Rattle.dns_service.specs.declared.message.TransportSpecificContext.TheVariants.{Udp, NonUdp}
 use Rattle.dns_service.specs.Answer.{Answer, mapped}
 use Rattle.dns_service.specs.Req.{Req, with_metadata}
-use Rattle.dns_service.specs.Transport.{hint_of, hinted}
-use Rattle.dns_middleware.specs.Cut.{cut}
+use Rattle.dns_service.specs.Transport.{hint_of, hinted, limit}
+use Rattle.dns_service.specs.Cut.{cut}
 use Rattle.dns_middleware.specs.Rewritten.{each_rewritten, rewritten}
-use Rattle.dns_middleware.specs.Mandatory.{limit, sized, as_response, mand_post}
-use Rattle.dns_middleware.proofs.CutLaws.{all_fit}
+use Rattle.dns_middleware.specs.Mandatory.{sized, as_response, mand_post}
 
 -- the rewriting, by the parts of the request that it reads
 abbrev post_by : TransportSpecificContext → ℕ → List ℕ → Msg → Msg
@@ -54,11 +53,12 @@ at_least : (h : Option ℕ) → 512 ≤ limit h
 at_least None = search arith
 at_least (Some h) = search arith
 
-udp_fits : (t : TransportSpecificContext) (before h : Option ℕ) (q : Header) (m : Msg) → t ≡ Udp before → length (wire (as_response q (sized t (limit h) m))) ≤ limit h
-udp_fits t before h q m e =
-    subst (λ (x : TransportSpecificContext). length (wire (as_response q (sized x (limit h) m))) ≤ limit h) (sym e)
-    (subst (λ (x : ℕ). x ≤ limit h) (sym (header_length q (cut (limit h) m))) (all_fit (limit h) m (at_least h)))
+module _ (all_fit : (n : ℕ) (m : Msg) → 512 ≤ n → length (wire (cut n m)) ≤ n) where
+  udp_fits : (t : TransportSpecificContext) (before h : Option ℕ) (q : Header) (m : Msg) → t ≡ Udp before → length (wire (as_response q (sized t (limit h) m))) ≤ limit h
+  udp_fits t before h q m e =
+      subst (λ (x : TransportSpecificContext). length (wire (as_response q (sized x (limit h) m))) ≤ limit h) (sym e)
+      (subst (λ (x : ℕ). x ≤ limit h) (sym (header_length q (cut (limit h) m))) (all_fit (limit h) m (at_least h)))
 
--- a reply over UDP fits
-pub post_fits : (r : Req (Unit {0})) (before h : Option ℕ) (m : Msg) → r.transport ≡ Udp before → length (wire (mand_post (limit h) r m)) ≤ limit h
-post_fits r before h m e = udp_fits r.transport before h (header_of r.octets) m e
+  -- a reply over UDP fits
+  pub post_fits : (r : Req (Unit {0})) (before h : Option ℕ) (m : Msg) → r.transport ≡ Udp before → length (wire (mand_post (limit h) r m)) ≤ limit h
+  post_fits r before h m e = udp_fits r.transport before h (header_of r.octets) m e

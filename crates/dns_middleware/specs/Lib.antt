@@ -4,12 +4,12 @@ pub use Rattle.dns_message.specs.Msg
 pub use Rattle.dns_message.specs.Records
 pub use Rattle.dns_message.specs.Wire
 pub use Rattle.dns_opt.specs.OptRecords
+pub use Rattle.dns_service.specs.Cut
 pub use Rattle.dns_service.specs.ErrorReply
+pub use Rattle.dns_service.specs.OptIn
 pub use Rattle.dns_service.specs.Req
 pub use Rattle.dns_service.specs.Transport
 pub use Rattle.dns_stream.specs.Streams
-pub mod OptIn
-pub mod Cut
 pub mod Rewritten
 pub mod Mandatory
 pub mod OptItems

@@ -1,6 +1,6 @@
 -- The mandatory layer: what each server does, whatever its service (RFC 1035, sections 4.1.1 and 4.2.1; RFC 3425, section 3, for IQUERY;
 -- RFC 9619, section 4, for several questions).
-use Rattle.std.specs.Prelude.{ℕ, max, nat_eq, nat_lt, List, Bool, true, ◌&&◌, if◌then◌else◌, Option, Some, None}
+use Rattle.std.specs.Prelude.{ℕ, nat_eq, nat_lt, List, Bool, true, ◌&&◌, if◌then◌else◌, Option, Some, None}
 use Rattle.dns_message.specs.declared.header.Header.{Header}
 use Rattle.dns_base.specs.Msg.{Msg}
 use Rattle.dns_base.specs.Header.{header_of}
@@ -11,13 +11,9 @@ use Rattle.dns_service.specs.Answer.{Answer}
 use Rattle.dns_service.specs.ErrorReply.{error_reply}
 use Rattle.dns_service.specs.Req.{Req}
 use Rattle.dns_service.specs.ServiceFn.{hint_at_entry}
-use Rattle.dns_middleware.specs.Cut.{cut}
+use Rattle.dns_service.specs.Transport.{limit}
+use Rattle.dns_service.specs.Cut.{cut}
 use Rattle.dns_middleware.specs.Rewritten.{own_reply, each_rewritten}
-
--- how many octets a reply over UDP may take, by the request's hint: at least 512
-abbrev pub limit : Option ℕ → ℕ
-limit None = 512
-limit (Some hint) = max 512 hint
 
 -- a reply as it goes over a transport: a datagram is cut, a stream's is not
 abbrev pub sized : TransportSpecificContext → ℕ → Msg → Msg

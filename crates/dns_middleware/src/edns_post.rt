@@ -1,17 +1,16 @@
 //! What the EDNS layer makes of a reply (RFC 6891, section 7; RFC 7828, section 3).
 
 ghost use Rattle.std.specs.Prelude.{◌≡◌, [], IfOk, OnOk};
+ghost use Rattle.dns_base.specs.Readers.{resources};
 ghost use Rattle.dns_base.specs.Records.{record_of, IsLawful};
 ghost use Rattle.dns_opt.specs.OptRecords.{opt_record, opt_state, zero_head};
-ghost use Rattle.dns_middleware.specs.Edns.{edns_post, has_opt, in_kind, keepalive_for, units_of, with_keepalive, with_some_opt};
-ghost use Rattle.dns_middleware.specs.OptIn.{resources};
+ghost use Rattle.dns_middleware.specs.Edns.{and_fitting, edns_post, has_opt, in_kind, keepalive_for, units_of, with_keepalive, with_some_opt};
 ghost use Rattle.dns_middleware.specs.OptItems.{opt_items};
 ghost use Rattle.dns_middleware.specs.Rewritten.{rewritten};
 
-use crate::cutting::added;
 use crate::layered::{Rewrite, rewrite_item};
 use crate::opt_items::{OptItems, opt_items};
-use dns_base::{AdditionalBuilder, Record, RecordIter, Rtype};
+use dns_base::{AdditionalBuilder, PushError, Record, RecordIter, Rtype};
 use dns_name::{BuildDataError, OutOfMemory};
 use dns_opt::{IdleTimeout, MessageOpt, OptRecord, TcpKeepalive};
 use dns_service::{
@@ -129,9 +128,20 @@ fn with_some_opt(
     if !answered || has_opt(reply) {
         return Ok(());
     }
+    and_fitting(alloc, reply)
+}
+
+/// Adds an empty OPT record where it has room.
+fn and_fitting(alloc: Global, reply: &mut AdditionalBuilder) -> Result<(), OutOfMemory>
+    requires { reply.old.limit ≡ 65535 }
+    ensures { OnOk result (reply.new ≡ record reply.old { message = and_fitting reply.old.message }) }
+{
     let opt = empty_opt(alloc)?;
-    added(alloc, reply, &opt)?;
-    Ok(())
+    match reply.push(alloc, &opt) {
+        Ok(()) => Ok(()),
+        Err(PushError::ShortBuf) => Ok(()),
+        Err(PushError::OutOfMemory) => Err(OutOfMemory),
+    }
 }
 
 /// An empty OPT record.
@@ -143,14 +153,10 @@ fn empty_opt(alloc: Global) -> Result<Record, OutOfMemory>
 }
 
 /// Whether a message has a record of type OPT.
-#[tactic(auto, using(crate::proofs::OptLaws::additional_given, crate::proofs::OptLaws::additional_reached))]
 fn has_opt(message: &AdditionalBuilder) -> bool
     ensures { result ≡ has_opt message.now.message.additional }
 {
-    match message.as_message().additional() {
-        Ok(records) => any_opt(records),
-        Err(_) => false,
-    }
+    any_opt(message.additional_records())
 }
 
 /// Whether there is a record of type OPT.

@@ -5,22 +5,21 @@ ghost use Rattle.dns_base.specs.Msg.{Msg};
 ghost use Rattle.dns_base.specs.Wire.{wire};
 ghost use Rattle.dns_service.specs.declared.message.Request.{Request};
 ghost use Rattle.dns_service.specs.Req.{Req, with_metadata};
-ghost use Rattle.dns_service.specs.Transport.{hint_of, hinted};
+ghost use Rattle.dns_service.specs.Transport.{hint_of, hinted, limit};
 ghost use Rattle.dns_stream.specs.Streams.{each_mapped};
 ghost use Rattle.dns_middleware.specs.Rewritten.{rewritten};
-ghost use Rattle.dns_middleware.specs.Mandatory.{limit, sized, responding, as_response, mand_post, mandatory, mandatory_hint, mandatory_refusal, strict_refusal};
+ghost use Rattle.dns_middleware.specs.Mandatory.{sized, responding, as_response, mand_post, mandatory, mandatory_hint, mandatory_refusal, strict_refusal};
 
-use crate::cutting::cut;
 use crate::edns::{hint_of, set_hint};
 use crate::layered::{Layered, Rewrite, of_mapped, of_own, refuse, rewrite_item};
 use dns_base::{AdditionalBuilder, Header, Message};
 use dns_name::{Opcode, OptRcode};
-use dns_service::{ReplyStream, Request, Service, ServiceResult, TransportSpecificContext};
+use dns_service::{
+    ReplyStream, Request, Service, ServiceResult, TransportSpecificContext, cut, cut_fits,
+    reply_limit,
+};
 use dns_stream::{Now, OutOfMemory, Postprocess, PostprocessingStream};
 use std::alloc::Global;
-
-/// The least size in octets that a response over UDP may take (RFC 1035, section 4.2.1).
-pub const MINIMUM_RESPONSE_BYTE_LEN: u16 = 512;
 
 /// A service whose replies fit the transport and answer their request. A strict one refuses IQUERY, and QUERY of
 /// several questions, by itself.
@@ -172,19 +171,9 @@ fn fit(
 {
     match transport {
         TransportSpecificContext::Udp(context) => {
-            cut(alloc, reply, limit(context.max_response_size_hint()))
+            cut(alloc, reply, reply_limit(context.max_response_size_hint()))
         }
         TransportSpecificContext::NonUdp(_) => Ok(()),
-    }
-}
-
-/// How many octets a reply over UDP may take.
-fn limit(hint: Option<u16>) -> usize
-    ensures { result ≡ limit hint }
-{
-    match hint {
-        Some(hint) => hint.max(MINIMUM_RESPONSE_BYTE_LEN) as usize,
-        None => MINIMUM_RESPONSE_BYTE_LEN as usize,
     }
 }
 
@@ -202,4 +191,6 @@ fn respond(query: &Header, reply: &mut AdditionalBuilder)
 /// A rewritten reply over UDP has no more octets than the hint allows, and 512 where the hint allows less.
 pub fn replies_fit()
     ensures { (r : Req (Unit {0})) (before hint : Option ℕ) (m : Msg) → r.transport ≡ TransportSpecificContext.Udp before → length (wire (mand_post (limit hint) r m)) ≤ limit hint }
-{}
+{
+    cut_fits();
+}

@@ -2,3 +2,4 @@ mod ErrorReplies
 mod AddedOptions
 pub mod CopyLaws
 pub mod LastOpts
+mod CutLaws

@@ -2,6 +2,8 @@ pub use Rattle.dns_base.specs.Builds
 pub use Rattle.dns_base.specs.Built
 pub use Rattle.dns_base.specs.CopiedRecord
 pub use Rattle.dns_base.specs.Replaced
+pub use Rattle.dns_message.specs.Msg
+pub use Rattle.dns_message.specs.Wire
 pub use Rattle.dns_opt.specs.Drafts
 pub use Rattle.dns_opt.specs.Reopened
 pub mod Transport
@@ -12,6 +14,8 @@ pub mod Errors
 pub mod ReplyErrors
 pub mod ErrorReply
 pub mod WithOption
+pub mod OptIn
+pub mod Cut
 pub mod Lending
 pub mod Config
 pub mod Once

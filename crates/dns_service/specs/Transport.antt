@@ -1,5 +1,5 @@
 -- The transport of a request: a datagram, with or without a hint of the largest response in octets, or a stream.
-use Rattle.std.specs.Prelude.{ℕ, Bool, true, false, Option, None}
+use Rattle.std.specs.Prelude.{ℕ, max, Bool, true, false, Option, Some, None}
 use Rattle.dns_service.specs.declared.message.TransportSpecificContext.{TransportSpecificContext}
 use Rattle.dns_service.specs.declared.message.TransportSpecificContext.TheVariants.{Udp, NonUdp}
 
@@ -17,3 +17,8 @@ hint_of (NonUdp timeout) = None
 abbrev pub hinted : Option ℕ → TransportSpecificContext → TransportSpecificContext
 hinted hint (Udp before) = Udp hint
 hinted hint (NonUdp timeout) = NonUdp timeout
+
+-- how many octets a reply over UDP may take, by the request's hint: at least 512 (RFC 1035, section 4.2.1)
+abbrev pub limit : Option ℕ → ℕ
+limit None = 512
+limit (Some hint) = max 512 hint

@@ -3,12 +3,15 @@
 
 mod config;
 mod copied;
+mod cutting;
 mod error;
 mod event;
 mod function;
 mod last_opt;
+mod limits;
 mod message;
 mod once;
+mod opt_in;
 mod options;
 mod polled;
 mod reply;
@@ -18,10 +21,12 @@ mod service;
 
 pub use config::{ConnectionConfig, DgramConfig, StreamConfig};
 pub use copied::CopiedMessage;
+pub use cutting::{cut, cut_fits};
 pub use dns_name::{Octets, OutOfMemory};
 pub use error::Error;
 pub use event::{Event, EventKind, Output, Why};
 pub use function::{Gives, ServiceFn, service_fn};
+pub use limits::{MINIMUM_RESPONSE_BYTE_LEN, reply_limit};
 pub use message::{NonUdpTransportContext, Request, TransportSpecificContext, UdpTransportContext};
 pub use once::{Now, Once};
 pub use options::{add_edns_option, add_edns_options, remove_edns_opt_record};

@@ -1,6 +1,6 @@
 use Rattle.std.proofs.Common.{◌≡◌, length}
 use Rattle.dns_middleware.specs.Edns.{has_opt}
-use Rattle.dns_middleware.specs.OptIn.{resources}
+use Rattle.dns_base.specs.Readers.{resources}
 use Rattle.dns_middleware.proofs.edns_post.any_opt.Given as goal
 
 abbrev pub invariant-walk : goal.invariant-walk

@@ -3,4 +3,4 @@ use Rattle.dns_middleware.proofs.MandatoryLaws.{post_fits}
 use Rattle.dns_middleware.proofs.mandatory.replies_fit.Goals as goal
 
 pub returns : goal.returns
-returns g = post_fits
+returns c = post_fits c.cut_fits.ensures.fits
