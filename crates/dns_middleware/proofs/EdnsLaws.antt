@@ -1,12 +1,12 @@
 -- The hint of a request that a service inside was called with.
-use Rattle.std.proofs.Common.{◌≡◌, ℕ, Bool, false, Option, Some, None, refl, ap, sym, ◌∙◌}
+use Rattle.std.proofs.Common.{◌≡◌, ℕ, Option, Some, None, refl, ap, ◌∙◌}
 use Rattle.dns_opt.specs.OptRecords.{OptState, opt_of}
 use Rattle.dns_service.specs.declared.message.TransportSpecificContext.{TransportSpecificContext}
 use Rattle.dns_service.specs.declared.message.TransportSpecificContext.TheVariants.{Udp, NonUdp}
 use Rattle.dns_service.specs.Answer.{Answer, mapped}
 use Rattle.dns_service.specs.Req.{Req, with_metadata}
 use Rattle.dns_service.specs.Transport.{hint_of, hinted}
-use Rattle.dns_middleware.specs.Edns.{negotiated, edns, edns_passed, edns_post, passed_by}
+use Rattle.dns_middleware.specs.Edns.{negotiated, edns_passed, edns_post, passed_by}
 use Rattle.dns_middleware.specs.Rewritten.{each_rewritten, rewritten}
 
 -- a hint that is set again is as it was
@@ -35,10 +35,3 @@ passed_on r copy inner future answer copied same is k =
     ap (λ (f : ℕ → Answer). f k) is
     ∙ (ap (λ (a : Answer). mapped (rewritten (edns_post copy)) a) (same k)
     ∙ ap (λ (q : Req (Unit {0})). mapped (rewritten (edns_post q)) (inner k)) copied)
-
--- a disabled layer answers as the service inside
-pub passed_whole : {Meta : Type 0} (on : Bool) (svc : Req Meta → ℕ → Answer) (r : Req Meta) (answer : ℕ → Answer)
-    → on ≡ false
-    → ((k : ℕ) → answer k ≡ svc r k)
-    → (k : ℕ) → answer k ≡ edns on svc r k
-passed_whole on svc r answer off same k = same k ∙ ap (λ (b : Bool). edns b svc r k) (sym off)

@@ -64,14 +64,28 @@ where
         alloc: Global,
         request: &mut Request<Meta>,
     ) -> Result<Now<Layered<S, Meta, EdnsPost>>, OutOfMemory> {
-        if !self.enabled {
-            let whole = pass_whole(alloc, &self.next, request)?;
-            return Ok(whole);
+        if self.enabled {
+            spoken(alloc, &self.next, request)
+        } else {
+            pass_whole(alloc, &self.next, request)
         }
-        match edns_refusal(request) {
-            Some(rcode) => Ok(of_own::<S, Meta, _>(refuse(&EdnsPost {}, alloc, request, rcode)?)),
-            None => Ok(of_mapped::<S, Meta, _>(pass(alloc, &self.next, request)?)),
-        }
+    }
+}
+
+/// The replies of an enabled layer: its own where it refuses the request, else the inner ones.
+fn spoken<S: Service<Meta>, Meta>(
+    alloc: Global,
+    next: &S,
+    request: &mut Request<Meta>,
+) -> Result<Now<Layered<S, Meta, EdnsPost>>, OutOfMemory>
+    requires { S.can_call next.now }
+    ensures answers { IfOk result (λ f. (k : ℕ) → ⟦<Now<Layered<S, Meta, EdnsPost>> as ReplyFuture>⟧.answer f k ≡ edns true (S.answer next.now) request.old k) }
+    ensures kept { OnOk result (request.new ≡ record request.old { transport = hinted (edns_hint true request.old) request.old.transport; reserved = request.new.reserved }) }
+    ensures refused { OnErr result (request.new ≡ request.old) }
+{
+    match edns_refusal(request) {
+        Some(rcode) => Ok(of_own::<S, Meta, _>(refuse(&EdnsPost {}, alloc, request, rcode)?)),
+        None => Ok(of_mapped::<S, Meta, _>(pass(alloc, next, request)?)),
     }
 }
 

@@ -137,7 +137,21 @@ fn and_fitting(alloc: Global, reply: &mut AdditionalBuilder) -> Result<(), OutOf
     ensures { OnOk result (reply.new ≡ record reply.old { message = and_fitting reply.old.message }) }
 {
     let opt = empty_opt(alloc)?;
-    match reply.push(alloc, &opt) {
+    push_fitting(alloc, reply, &opt)
+}
+
+/// Adds an OPT record, which is empty, where it has room.
+fn push_fitting(
+    alloc: Global,
+    reply: &mut AdditionalBuilder,
+    opt: &Record,
+) -> Result<(), OutOfMemory>
+    requires limit { reply.old.limit ≡ 65535 }
+    requires empty { record_of opt.now ≡ opt_record (opt_state zero_head []) }
+    requires lawful { IsLawful opt.now.rdata }
+    ensures { OnOk result (reply.new ≡ record reply.old { message = and_fitting reply.old.message }) }
+{
+    match reply.push(alloc, opt) {
         Ok(()) => Ok(()),
         Err(PushError::ShortBuf) => Ok(()),
         Err(PushError::OutOfMemory) => Err(OutOfMemory),
