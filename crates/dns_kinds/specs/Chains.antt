@@ -6,7 +6,7 @@ use Rattle.dns_name.specs.Canonical.{same_name}
 use Rattle.dns_name.specs.Labels.{folded, spell}
 use Rattle.dns_name.specs.Names.{uncompressed_at}
 use Rattle.dns_name.specs.OptData.{Taken}
-use Rattle.dns_name.proofs.Ordered.{same_name_Decides}
+use Rattle.dns_name.specs.Canonical.{same_name_Decides}
 
 -- one uncompressed name
 abbrev pub chain_data : List ℕ → Taken (List (List ℕ))

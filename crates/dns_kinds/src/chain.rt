@@ -4,7 +4,7 @@ ghost use Rattle.std.specs.Prelude.{◌≡◌, length, Some, IfOk, fold, refl, t
 ghost use Rattle.std.specs.Cmp.{partial_equiv_from_equiv};
 ghost use Rattle.std.specs.Ordering.{as_partial_cmp};
 ghost use Rattle.dns_name.specs.Canonical.{name_cmp, same_name};
-ghost use Rattle.dns_name.proofs.Ordered.{name_cmp_total, name_order, same_name_equiv, same_name_ties};
+ghost use Rattle.dns_name.specs.Canonical.{name_cmp_total, same_name_order, same_name_equiv, same_name_ties};
 ghost use Rattle.dns_name.specs.Labels.{IsName, spell};
 ghost use Rattle.dns_name.specs.NameText.{name_text};
 ghost use Rattle.dns_name.specs.OptData.{ParsesData, for_code};
@@ -193,7 +193,7 @@ impl<N: HoldsName> Ord for HeldChain<N> {
 impl<N: HoldsName> PartialOrd for HeldChain<N> {
     ghost partial_cmp = { as_partial_cmp name_cmp };
 
-    ghost laws = { name_order };
+    ghost laws = { same_name_order };
 
     fn partial_cmp(&self, other: &HeldChain<N>) -> Option<Ordering> {
         Some(self.cmp(other))
