@@ -63,14 +63,19 @@ bare_line ws kind = do
   _ ← unless Unbuilt (length ws == 4)
   event_of ws kind
 
+-- the line of an event of a connection that was offered, by its first word
+abbrev pub connection_line : List (List ℕ) → Result Event Reason
+connection_line ws =
+    if bytes_eq (word_at ws 0) (codes "piece") then piece_line ws
+    else if bytes_eq (word_at ws 0) (codes "write") then write_line ws
+    else if bytes_eq (word_at ws 0) (codes "end") then bare_line ws End
+    else if bytes_eq (word_at ws 0) (codes "release") then bare_line ws Release
+    else Err Unbuilt
+
 -- the line of an event, by its first word
 abbrev pub event_line : List (List ℕ) → Result Event Reason
 event_line ws =
     if bytes_eq (word_at ws 0) (codes "datagram") then datagram_line ws
     else if bytes_eq (word_at ws 0) (codes "turn") then turn_line ws
     else if bytes_eq (word_at ws 0) (codes "offer") then offer_line ws
-    else if bytes_eq (word_at ws 0) (codes "piece") then piece_line ws
-    else if bytes_eq (word_at ws 0) (codes "write") then write_line ws
-    else if bytes_eq (word_at ws 0) (codes "end") then bare_line ws End
-    else if bytes_eq (word_at ws 0) (codes "release") then bare_line ws Release
-    else Err Unbuilt
+    else connection_line ws

@@ -2,7 +2,7 @@
 
 ghost use Rattle.std.specs.Prelude.{◌≡◌};
 ghost use Rattle.dns_trace.specs.Reading.{GivesLine};
-ghost use Rattle.dns_trace.specs.EventLines.{event_of, datagram_line, turn_line, offer_line, piece_line, write_line, bare_line, event_line};
+ghost use Rattle.dns_trace.specs.EventLines.{event_of, datagram_line, turn_line, offer_line, piece_line, write_line, bare_line, connection_line, event_line};
 
 use crate::reason::{LineError, Reason};
 use crate::values::{addr, num, octets, port};
@@ -103,6 +103,27 @@ fn read_bare(words: &Words, kind: EventKind) -> Result<Event, LineError>
     Ok(event(words, kind)?)
 }
 
+/// The event of a line of a connection that was offered: `piece AT SECS CLIENT HEX`, `write AT SECS CLIENT TOOK`,
+/// `end AT SECS CLIENT` or `release AT SECS CLIENT`.
+fn read_connection_event(alloc: Global, words: &Words) -> Result<Event, LineError>
+    ensures { GivesLine (λ e. e) result (connection_line words.now) }
+{
+    let name = words.word(0);
+    if name == b"piece".as_slice() {
+        return read_piece(alloc, words);
+    }
+    if name == b"write".as_slice() {
+        return read_write(words);
+    }
+    if name == b"end".as_slice() {
+        return read_bare(words, EventKind::End);
+    }
+    if name == b"release".as_slice() {
+        return read_bare(words, EventKind::Release);
+    }
+    Err(LineError::Refused(Reason::Unbuilt))
+}
+
 /// The event of a line: `datagram AT SECS CLIENT ADDR PORT HEX`, `turn AT SECS CLIENT REQUEST`,
 /// `offer AT SECS CLIENT ADDR PORT`, `piece AT SECS CLIENT HEX`, `write AT SECS CLIENT TOOK`, `end AT SECS CLIENT` or
 /// `release AT SECS CLIENT`.
@@ -119,17 +140,5 @@ pub fn read_event(alloc: Global, words: &Words) -> Result<Event, LineError>
     if name == b"offer".as_slice() {
         return read_offer(alloc, words);
     }
-    if name == b"piece".as_slice() {
-        return read_piece(alloc, words);
-    }
-    if name == b"write".as_slice() {
-        return read_write(words);
-    }
-    if name == b"end".as_slice() {
-        return read_bare(words, EventKind::End);
-    }
-    if name == b"release".as_slice() {
-        return read_bare(words, EventKind::Release);
-    }
-    Err(LineError::Refused(Reason::Unbuilt))
+    read_connection_event(alloc, words)
 }
