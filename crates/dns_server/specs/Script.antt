@@ -67,14 +67,16 @@ next_event_line n p ws = do
   _ ← unless Unbuilt (not (needs_rule e.kind) || nat_lt 0 (length p.rules))
   Ok (with_event p n e)
 
--- what a script says with line n more
-unfoldable pub after_line : ℕ → Plan → List ℕ → Result Plan Reason
-after_line n p l =
-    let ws = words_of l in
+-- what a script says with line n more, by its words
+unfoldable pub after_words : ℕ → Plan → List (List ℕ) → Result Plan Reason
+after_words n p ws =
     if is_skipped ws then Ok p
     else if bytes_eq (word_at ws 0) (codes "rule") then rule_line p ws
     else if bytes_eq (word_at ws 0) (codes "stream") then first_stream_line p ws
     else next_event_line n p ws
+
+abbrev pub after_line : ℕ → Plan → List ℕ → Result Plan Reason
+after_line n p l = after_words n p (words_of l)
 
 abbrev pub numbered : {A : Type 0} → ℕ → Result A Reason → Result A (ℕ × Reason)
 numbered n (Ok x) = Ok x

@@ -4,7 +4,7 @@ ghost use Rattle.std.specs.Prelude.{◌≡◌, ℕ, true, ◌<◌, ◌≤◌, �
 ghost use Rattle.dns_trace.specs.EventLines.{event_line};
 ghost use Rattle.dns_trace.specs.Reading.{GivesLine};
 ghost use Rattle.dns_server.specs.Plain.{is_plain_kind};
-ghost use Rattle.dns_server.specs.Script.{answer_of, answers_after, rule_line, first_stream_line, next_event_line, after_line, with_plain_streams, script};
+ghost use Rattle.dns_server.specs.Script.{answer_of, answers_after, with_rule, with_event, with_stream, rule_line, first_stream_line, next_event_line, after_words, after_line, with_plain_streams, script};
 ghost use Rattle.dns_server.specs.PlainStreams.{is_plain_stream};
 ghost use Rattle.dns_core.specs.Early.{stream_of};
 ghost use Rattle.dns_server.specs.ScriptReads.{ReadsScript};
@@ -14,6 +14,7 @@ use crate::plain_streams::first_spoilt;
 use crate::rule::{Rule, ScriptAnswer, ScriptAnswers};
 use crate::script::{Script, ScriptError};
 use dns_name::Rcode;
+use dns_service::{Event, StreamConfig};
 use dns_trace::{
     LineError, Reason, Words, decimal, read_event, read_stream, says_nothing, split_line,
 };
@@ -49,10 +50,10 @@ fn answers(alloc: Global, words: &Words) -> Result<ScriptAnswers, LineError>
     Ok(ScriptAnswers::from_vec(alloc, answers)?)
 }
 
-/// A line `rule * ANSWER ..`.
+/// The rule of a line `rule * ANSWER ..` behind what a script says so far.
 #[tactic(auto, unfolding(crate::specs::Script::rule_line))]
-fn rule(alloc: Global, script: Script, words: &Words) -> Result<Script, LineError>
-    ensures { GivesLine (λ s. s) result (rule_line script words.now) }
+fn next_rule(alloc: Global, script: &Script, words: &Words) -> Result<Rule, LineError>
+    ensures { GivesLine (with_rule script.now) result (rule_line script.now words.now) }
 {
     if !script.events().is_empty() {
         return Err(LineError::Refused(Reason::Unbuilt));
@@ -64,13 +65,21 @@ fn rule(alloc: Global, script: Script, words: &Words) -> Result<Script, LineErro
         return Err(LineError::Refused(Reason::Unbuilt));
     }
     let answers = answers(alloc, words)?;
-    Ok(script.with_rule(Rule { answers })?)
+    Ok(Rule { answers })
 }
 
-/// A line `stream IDLE WRITE QUEUE LIMIT yes|no`.
+/// A line `rule * ANSWER ..`.
+fn rule(alloc: Global, script: Script, words: &Words) -> Result<Script, LineError>
+    ensures { GivesLine (λ s. s) result (rule_line script words.now) }
+{
+    let rule = next_rule(alloc, &script, words)?;
+    Ok(script.with_rule(rule)?)
+}
+
+/// The configuration of a line `stream IDLE WRITE QUEUE LIMIT yes|no` behind what a script says so far.
 #[tactic(auto, unfolding(crate::specs::Script::first_stream_line))]
-fn stream(script: Script, words: &Words) -> Result<Script, LineError>
-    ensures { GivesLine (λ s. s) result (first_stream_line script words.now) }
+fn first_stream(script: &Script, words: &Words) -> Result<StreamConfig, LineError>
+    ensures { GivesLine (with_stream script.now) result (first_stream_line script.now words.now) }
 {
     if !script.events().is_empty() {
         return Err(LineError::Refused(Reason::Unbuilt));
@@ -78,14 +87,22 @@ fn stream(script: Script, words: &Words) -> Result<Script, LineError>
     if script.stream().is_some() {
         return Err(LineError::Refused(Reason::Unbuilt));
     }
-    let stream = read_stream(words)?;
+    Ok(read_stream(words)?)
+}
+
+/// A line `stream IDLE WRITE QUEUE LIMIT yes|no`.
+fn stream(script: Script, words: &Words) -> Result<Script, LineError>
+    ensures { GivesLine (λ s. s) result (first_stream_line script words.now) }
+{
+    let stream = first_stream(&script, words)?;
     Ok(script.with_stream(stream))
 }
 
-/// The line of an event, which has this number.
+/// The event of a line behind what a script says so far.
 #[tactic(auto, unfolding(crate::specs::Script::next_event_line))]
-fn event(alloc: Global, line: u64, script: Script, words: &Words) -> Result<Script, LineError>
-    ensures { GivesLine (λ s. s) result (next_event_line line script words.now) }
+fn next_event(alloc: Global, script: &Script, words: &Words) -> Result<Event, LineError>
+    ensures value { (n : ℕ) → GivesLine (with_event script.now n) result (next_event_line n script.now words.now) }
+    ensures plain { IfOk result (λ e. IsTrue (is_plain_kind e.kind)) }
 {
     let event = read_event(alloc, words)?;
     if !is_plain_event(&event.kind) {
@@ -94,25 +111,45 @@ fn event(alloc: Global, line: u64, script: Script, words: &Words) -> Result<Scri
     if needs_a_rule(&event.kind) && script.rules().is_empty() {
         return Err(LineError::Refused(Reason::Unbuilt));
     }
+    Ok(event)
+}
+
+/// The line of an event, which has this number.
+fn event(alloc: Global, line: u64, script: Script, words: &Words) -> Result<Script, LineError>
+    ensures { GivesLine (λ s. s) result (next_event_line line script words.now) }
+{
+    let event = next_event(alloc, &script, words)?;
     Ok(script.with_event(line, event)?)
 }
 
+/// What a script says with a line of these words more, which has this number.
+#[tactic(auto, unfolding(crate::specs::Script::after_words))]
+fn after_words(
+    alloc: Global,
+    number: u64,
+    script: Script,
+    words: &Words,
+) -> Result<Script, LineError>
+    ensures { GivesLine (λ s. s) result (after_words number script words.now) }
+{
+    if says_nothing(words) {
+        return Ok(script);
+    }
+    if words.word(0) == b"rule".as_slice() {
+        return rule(alloc, script, words);
+    }
+    if words.word(0) == b"stream".as_slice() {
+        return stream(script, words);
+    }
+    event(alloc, number, script, words)
+}
+
 /// What a script says with one line more, which has this number.
-#[tactic(auto, unfolding(crate::specs::Script::after_line))]
 fn after(alloc: Global, number: u64, script: Script, line: &[u8]) -> Result<Script, LineError>
     ensures { GivesLine (λ s. s) result (after_line number script line.now) }
 {
     let words = Words::of(alloc, line)?;
-    if says_nothing(&words) {
-        return Ok(script);
-    }
-    if words.word(0) == b"rule".as_slice() {
-        return rule(alloc, script, &words);
-    }
-    if words.word(0) == b"stream".as_slice() {
-        return stream(script, &words);
-    }
-    event(alloc, number, script, &words)
+    after_words(alloc, number, script, &words)
 }
 
 /// A script, unless the stream of a client isn't plain.
