@@ -1,8 +1,9 @@
 //! The cores by client number.
 
-ghost use Rattle.std.specs.Prelude.{◌≡◌, ◌≢◌, ℕ, ◌++◌, IfOk, OnOk, None, Some, if◌then◌else◌};
+ghost use Rattle.std.specs.Prelude.{◌≡◌, ◌≢◌, ℕ, [], ◌∷◌, ◌++◌, IfOk, OnOk, None, Some, true, nat_eq, if◌then◌else◌};
 ghost use Rattle.std.specs.Ordering.{nat_cmp};
 ghost use Rattle.std.specs.BTreeMap.{get};
+ghost use Rattle.std.specs.BTreeSet.{contains};
 ghost use Rattle.dns_service.specs.Answer.{Answer};
 ghost use Rattle.dns_service.specs.Req.{Req};
 ghost use Rattle.dns_client.specs.PolledAt.{request_answer};
@@ -14,7 +15,7 @@ ghost use Rattle.dns_core.specs.Serves.{Steps, StepsKey};
 use dns_client::ClientCore;
 use dns_service::{Event, OutOfMemory, Output, Served};
 use std::alloc::Global;
-use std::collections::BTreeMap;
+use std::collections::{BTreeMap, BTreeSet};
 
 /// One client's event, and whether the client is finished after it.
 fn step_there<W: Served>(
@@ -62,6 +63,19 @@ pub fn step_at<W: Served>(
     Ok((outs, finished))
 }
 
+/// A core is kept under the number of its client.
+fn keep<W: Served>(
+    clients: &mut BTreeMap<u64, ClientCore<W>>,
+    client: u64,
+    core: ClientCore<W>,
+) -> Result<(), OutOfMemory>
+    ensures here { OnOk result (get nat_cmp clients.new client ≡ Some core) }
+    ensures others { OnOk result ((c : ℕ) → c ≢ client → get nat_cmp clients.new c ≡ get nat_cmp clients.old c) }
+{
+    clients.insert(client, core)?;
+    Ok(())
+}
+
 /// A client that begins enters, unless it is finished at once.
 pub fn enter<W: Served>(
     clients: &mut BTreeMap<u64, ClientCore<W>>,
@@ -76,8 +90,31 @@ pub fn enter<W: Served>(
     if core.is_spent() {
         return Ok(());
     }
-    clients.insert(client, core)?;
+    keep(clients, client, core)
+}
+
+/// A number is used from now on.
+pub fn use_number(used: &mut BTreeSet<u64>, client: u64) -> Result<(), OutOfMemory>
+    ensures { OnOk result ((c : ℕ) → contains nat_cmp used.new c ≡ (if nat_eq c client then true else contains nat_cmp used.old c)) }
+{
+    used.insert(client)?;
     Ok(())
+}
+
+/// A client is turned away under its number, and told so.
+pub fn turn_away(
+    alloc: Global,
+    used: &mut BTreeSet<u64>,
+    client: u64,
+    accepted: bool,
+) -> Result<Vec<Output>, OutOfMemory>
+    ensures used { OnOk result ((c : ℕ) → contains nat_cmp used.new c ≡ (if nat_eq c client then true else contains nat_cmp used.old c)) }
+    ensures outs { IfOk result (λ outs. outs.items ≡ Output.TurnedAway client accepted ∷ []) }
+{
+    use_number(used, client)?;
+    let mut outs = Vec::new(alloc);
+    outs.push(Output::TurnedAway { client, accepted })?;
+    Ok(outs)
 }
 
 pub fn append(outs: &mut Vec<Output>, more: Vec<Output>) -> Result<(), OutOfMemory>

@@ -1,6 +1,8 @@
 //! The server over a list of events.
 
-ghost use Rattle.std.specs.Prelude.{◌≡◌, ◌-◌, if◌then◌else◌, ℕ, List, [], false, IfOk};
+ghost use Rattle.std.specs.Prelude.{◌≡◌, ◌<◌, ◌-◌, if◌then◌else◌, ℕ, List, [], false, IfOk};
+ghost use Rattle.std.specs.BTreeSet.{contains};
+ghost use Rattle.std.specs.Ordering.{nat_cmp};
 ghost use Rattle.dns_service.specs.Answer.{Answer};
 ghost use Rattle.dns_service.specs.Req.{Req};
 ghost use Rattle.dns_service.specs.Config.{Dgram};
@@ -9,7 +11,7 @@ ghost use Rattle.dns_core.specs.Out.{begins, is_release, out};
 ghost use Rattle.dns_core.specs.Replies.{replies};
 ghost use Rattle.dns_core.specs.Early.{IsEarly};
 
-use crate::clients::{append, enter, step_at};
+use crate::clients::{append, enter, step_at, turn_away, use_number};
 use crate::notify::Notifiable;
 use crate::settings::Settings;
 use crate::stamped::Stamped;
@@ -84,7 +86,7 @@ impl<W: Served> Server<W> {
             &self.dgram,
         )?;
         enter(&mut self.clients, event.client, core)?;
-        self.used.insert(event.client)?;
+        use_number(&mut self.used, event.client)?;
         Ok(outs)
     }
 
@@ -99,20 +101,34 @@ impl<W: Served> Server<W> {
         requires { event.now.kind ≡ EventKind.Offer addr }
         ensures { IfOk result (λ outs. Goes (request_answer W.Future.answer W.Stream.answer) (W.answer service.now) self.old self.new event.now outs.items) }
     {
-        let client = event.client;
-        if self.used.contains(&client) {
+        if self.used.contains(&event.client) {
             return Ok(Vec::new(alloc));
         }
         if self.taken >= self.stream.max_concurrent_connections() as u64 {
-            self.used.insert(client)?;
             let accepted = self.stream.accept_connections_at_max();
-            let mut outs = Vec::new(alloc);
-            outs.push(Output::TurnedAway { client, accepted })?;
+            let outs = turn_away(alloc, &mut self.used, event.client, accepted)?;
             return Ok(outs);
         }
-        let core = ClientCore::admit(alloc, client, addr, &self.stream)?;
-        enter(&mut self.clients, client, core)?;
-        self.used.insert(client)?;
+        self.admit(alloc, service, event, addr)
+    }
+
+    /// A connection is admitted: its number isn't used, and a slot is free.
+    fn admit(
+        &mut self,
+        alloc: Global,
+        service: &W,
+        event: &Event,
+        addr: SocketAddr,
+    ) -> Result<Vec<Output>, OutOfMemory>
+        requires kind { event.now.kind ≡ EventKind.Offer addr }
+        requires unused { contains nat_cmp self.old.used event.now.client ≡ false }
+        requires room { self.old.taken < self.old.stream.max_concurrent_connections }
+        requires few { self.old.taken < 100000 }
+        ensures { IfOk result (λ outs. Goes (request_answer W.Future.answer W.Stream.answer) (W.answer service.now) self.old self.new event.now outs.items) }
+    {
+        let core = ClientCore::admit(alloc, event.client, addr, &self.stream)?;
+        enter(&mut self.clients, event.client, core)?;
+        use_number(&mut self.used, event.client)?;
         self.taken += 1;
         Ok(Vec::new(alloc))
     }

@@ -5,7 +5,6 @@ use Rattle.dns_client.specs.Stands.{state_is_spent}
 use Rattle.dns_core.specs.Out.{begins, is_datagram, is_unused, holds_slot, members}
 use Rattle.dns_core.specs.Sent.{slate}
 use Rattle.dns_core.proofs.Gained.{slate_same, members_datagram, taken_put_not}
-use Rattle.dns_core.proofs.Keyed.{used_put}
 use Rattle.dns_core.proofs.Plain.{begun}
 use Rattle.dns_core.proofs.Served.{idle_goes, new_from, begin_goes}
 use Rattle.dns_core.proofs.server.Server.datagram.Goals as goal
@@ -24,9 +23,9 @@ returns g c = λ settings q h.
     let p : s.phase ≡ Unused = ap (λ (t : Slate). t.phase) n.unused in
     let is = begun b e s c.args.addr c.args.octets.now c.requires.kind p in
     let free : holds_slot (slate b settings e.client (q ++ e ∷ [])) ≡ false = ap holds_slot (slate_same b settings q e) ∙ ap (λ (t : Told). holds_slot t.0) is in
-    begin_goes a b settings c.args.self.now c.enter.new.clients c.insert.new.self c.args.self.now.taken c.in_ok-core.core (state_is_spent c.in_ok-core.core.state) q e c.in_ok-core.outs.items n
+    begin_goes a b settings c.args.self.now c.enter.new.clients c.use_number.new.used c.args.self.now.taken c.in_ok-core.core (state_is_spent c.in_ok-core.core.state) q e c.in_ok-core.outs.items n
     (members_datagram b settings q e n.is_new (ap is_datagram c.requires.kind))
     (h.slots ∙ sym (taken_put_not b settings q e (members b settings q) free n.no_member))
     (rw is (c.in_ok-core.ensures s n.unused n.dgram))
     (ap (λ (t : Told). is_unused t.0.phase) is) (c.in_ok-enter.ensures.spent b) c.in_ok-enter.ensures.here c.in_ok-enter.ensures.others
-    (used_put c.args.self.now.used c.insert.new.self e.client c.in_ok-insert.ensures.updates.0) h
+    c.in_ok-use_number.ensures h
