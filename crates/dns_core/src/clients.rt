@@ -90,7 +90,8 @@ pub fn enter<W: Served>(
     if core.is_spent() {
         return Ok(());
     }
-    keep(clients, client, core)
+    keep(clients, client, core)?;
+    Ok(())
 }
 
 /// A number is used from now on.
