@@ -5,6 +5,7 @@ pub mod Grammars
 pub mod Whole
 pub mod Readings
 pub mod Orders
+pub mod Ordered
 pub mod FromTexts
 pub mod FromNames
 pub mod TextsBack

@@ -1,6 +1,7 @@
 use Rattle.std.proofs.Common.{sym, ◌∙◌}
 use Rattle.std.specs.Cmp.{Equal-is}
-use Rattle.dns_name.specs.Canonical.{name_cmp, name_cmp_total, same_name_ties, same_name_Decides}
+use Rattle.dns_name.specs.Canonical.{name_cmp}
+use Rattle.dns_name.proofs.Ordered.{name_cmp_total, same_name_ties, same_name_Decides}
 use Rattle.dns_name.proofs.laws.names_are_ordered.Goals as goal
 
 pub returns-clause-total : goal.returns-clause-total
