@@ -11,6 +11,8 @@ pub use Rattle.dns_message.specs.Plain
 pub use Rattle.dns_message.specs.TypedData
 pub mod PushErrors
 pub mod Built
+pub mod CopiedRecord
+pub mod Builds
 pub mod Replaced
 pub mod Draft
 pub mod Replies

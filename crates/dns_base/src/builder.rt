@@ -6,6 +6,7 @@ ghost use Rattle.dns_base.specs.Wire.{wire};
 ghost use Rattle.dns_base.specs.Built.{with_header};
 
 mod additional;
+mod assembled;
 mod message;
 mod question;
 mod record;
@@ -13,6 +14,7 @@ mod stage;
 
 use crate::draft::Draft;
 use crate::stream::StreamTarget;
+pub use assembled::assemble;
 use dns_message::{Header, HeaderCounts, Message, MessageRef};
 use dns_name::OutOfMemory;
 use stage::{

@@ -2,14 +2,16 @@
 #![tactic(auto)]
 
 mod builder;
+mod copied_record;
 mod draft;
 mod error;
 mod replace;
 mod stream;
 
 pub use builder::{
-    AdditionalBuilder, AnswerBuilder, AuthorityBuilder, MessageBuilder, QuestionBuilder,
+    AdditionalBuilder, AnswerBuilder, AuthorityBuilder, MessageBuilder, QuestionBuilder, assemble,
 };
+pub use copied_record::CopiedRecord;
 pub use dns_message::{
     ComposeQuestion, Header, HeaderCounts, Message, MessageRef, Question, QuestionIter,
     QuestionRef, Record, RecordData, RecordIter, RecordRef, Sections, data_has_names, first_option,

@@ -1,4 +1,2 @@
-pub mod BuildLaws
-pub mod CopyLaws
 pub mod KeptLaws
 pub mod ReplyLaws

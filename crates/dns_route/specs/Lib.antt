@@ -1,4 +1,6 @@
+pub use Rattle.dns_base.specs.Builds
 pub use Rattle.dns_base.specs.Built
+pub use Rattle.dns_base.specs.CopiedRecord
 pub use Rattle.dns_base.specs.Replaced
 pub use Rattle.dns_base.specs.Replies
 pub use Rattle.dns_message.specs.Header
@@ -9,8 +11,8 @@ pub use Rattle.dns_message.specs.Sections
 pub use Rattle.dns_message.specs.Standing
 pub use Rattle.dns_opt.specs.OptRecords
 pub use Rattle.dns_opt.specs.Pushes
-pub mod Copied
-pub mod Builds
+pub use Rattle.dns_service.specs.Copied
+pub use Rattle.dns_service.specs.LastOpt
 pub mod Kept
 pub mod ReplyMessage
 pub mod RequestMessage

@@ -13,8 +13,8 @@ use Rattle.dns_service.specs.declared.service.ServiceError.TheVariants.{FormatEr
 use Rattle.dns_service.specs.declared.reply_error.ReplyError.{ReplyError}
 use Rattle.dns_service.specs.declared.reply_error.ReplyError.TheVariants.{Service, OutOfMemory as NoMemory}
 use Rattle.dns_route.specs.declared.kept.Keeps.TheVariants.{SubnetsAndErrors}
-use Rattle.dns_route.specs.Builds.{and_opt}
-use Rattle.dns_route.specs.Copied.{copied}
+use Rattle.dns_service.specs.LastOpt.{and_opt}
+use Rattle.dns_service.specs.Copied.{copied}
 use Rattle.dns_route.specs.Kept.{kept_opt}
 
 -- the octets of the message, and the OPT record that the reply gets

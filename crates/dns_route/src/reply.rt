@@ -6,12 +6,11 @@ ghost use Rattle.dns_name.specs.declared.opt_error.BuildDataError.{BuildDataErro
 ghost use Rattle.dns_base.specs.Msg.{Msg};
 ghost use Rattle.dns_route.specs.ReplyMessage.{Adds, BeginsReply, Composes, reply_message, reply_read};
 
-use crate::copied::CopiedMessage;
 use crate::kept::{Keeps, kept_opt};
 use dns_base::{AdditionalBuilder, Message, MessageRef};
 use dns_name::{BuildDataError, ComposeOptData, OutOfMemory};
 use dns_opt::{MessageOpt, OptRecord};
-use dns_service::ReplyError;
+use dns_service::{CopiedMessage, ReplyError};
 use std::alloc::Global;
 use std::marker::Model;
 

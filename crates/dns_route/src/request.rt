@@ -4,12 +4,11 @@ ghost use Rattle.std.specs.Prelude.{◌≡◌, ◌≤◌, IfOk, length};
 ghost use Rattle.std.specs.Option.{option_copied};
 ghost use Rattle.dns_route.specs.RequestMessage.{AddsTo, ReadsRequest, Sends, request_of, request_sent, sent_opt};
 
-use crate::copied::CopiedMessage;
 use crate::kept::{Keeps, kept_opt, plain};
 use dns_base::{Message, ParseError, PushError};
 use dns_name::{BuildDataError, ComposeOptData, OutOfMemory};
 use dns_opt::{MessageOpt, OptRecord};
-use dns_service::Request;
+use dns_service::{CopiedMessage, Request};
 use std::alloc::Global;
 use std::marker::Model;
 

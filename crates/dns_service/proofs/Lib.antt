@@ -1,2 +1,4 @@
 mod ErrorReplies
 mod AddedOptions
+pub mod CopyLaws
+pub mod LastOpts

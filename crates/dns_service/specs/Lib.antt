@@ -1,4 +1,6 @@
+pub use Rattle.dns_base.specs.Builds
 pub use Rattle.dns_base.specs.Built
+pub use Rattle.dns_base.specs.CopiedRecord
 pub use Rattle.dns_base.specs.Replaced
 pub use Rattle.dns_opt.specs.Drafts
 pub use Rattle.dns_opt.specs.Reopened
@@ -15,3 +17,5 @@ pub mod Config
 pub mod Once
 pub mod PolledRequest
 pub mod ServiceFn
+pub mod Copied
+pub mod LastOpt

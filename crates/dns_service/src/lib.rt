@@ -2,9 +2,11 @@
 #![tactic(auto)]
 
 mod config;
+mod copied;
 mod error;
 mod event;
 mod function;
+mod last_opt;
 mod message;
 mod once;
 mod options;
@@ -15,6 +17,7 @@ mod served;
 mod service;
 
 pub use config::{ConnectionConfig, DgramConfig, StreamConfig};
+pub use copied::CopiedMessage;
 pub use dns_name::{Octets, OutOfMemory};
 pub use error::Error;
 pub use event::{Event, EventKind, Output, Why};

@@ -1,7 +1,7 @@
 use Rattle.std.proofs.Common.{◌≡◌, Err, ap, subst, ◌∙◌}
 use Rattle.std.proofs.lemmas.Result.{err_from_is_err_and}
 use Rattle.dns_base.specs.Standing.{Gives}
-use Rattle.dns_route.specs.Copied.{copied}
+use Rattle.dns_service.specs.Copied.{copied}
 use Rattle.dns_route.proofs.ReplyLaws.{copy_refused}
 use Rattle.dns_route.proofs.reply.ReplyMessageComposeReply.additional_builder_stream_target.Goals as goal
 

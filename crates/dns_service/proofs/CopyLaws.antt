@@ -10,7 +10,7 @@ use Rattle.dns_base.specs.Msg.{ResourceRecord}
 use Rattle.dns_base.specs.Replaced.{other_than}
 use Rattle.dns_base.specs.Sections.{all_of, items_behind, reached}
 use Rattle.dns_base.specs.Standing.{Gives, Standing}
-use Rattle.dns_route.specs.Copied.{in_front, copied_item, copied_records, gathered, GivesAll}
+use Rattle.dns_service.specs.Copied.{in_front, copied_item, copied_records, gathered, GivesAll}
 
 -- items in front of what is left of a section
 abbrev pub behind : {A : Type 0} → List A → Result (List A) ParseError → Result (List A) ParseError

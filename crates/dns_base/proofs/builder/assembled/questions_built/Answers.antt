@@ -1,6 +1,6 @@
 use Rattle.std.proofs.lemmas.Result.{err_from_is_err_and}
-use Rattle.dns_route.proofs.BuildLaws.{header_refused}
-use Rattle.dns_route.proofs.builds.questions_built.Goals as goal
+use Rattle.dns_base.proofs.BuildLaws.{header_refused}
+use Rattle.dns_base.proofs.builder.assembled.questions_built.Goals as goal
 
 pub returns-in_err-builder : goal.returns-in_err-builder
 returns-in_err-builder c =

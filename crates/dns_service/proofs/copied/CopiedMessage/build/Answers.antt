@@ -2,9 +2,10 @@ use Rattle.std.proofs.Common.{◌≡◌, subst, Err}
 use Rattle.std.specs.Option.{option_copied}
 use Rattle.std.proofs.lemmas.Result.{err_from_is_err_and}
 use Rattle.dns_base.specs.Msg.{Msg}
-use Rattle.dns_route.specs.Builds.{Builds, unlimited}
-use Rattle.dns_route.proofs.BuildLaws.{opt_refused, sections}
-use Rattle.dns_route.proofs.copied.CopiedMessage.build.Goals as goal
+use Rattle.dns_base.specs.Builds.{Builds, unlimited}
+use Rattle.dns_base.proofs.BuildLaws.{sections}
+use Rattle.dns_service.proofs.LastOpts.{opt_refused}
+use Rattle.dns_service.proofs.copied.CopiedMessage.build.Goals as goal
 
 pub returns-in_err-message : goal.returns-in_err-message
 returns-in_err-message c =

@@ -7,13 +7,12 @@ use Rattle.dns_name.specs.declared.error.ParseError.{ParseError}
 use Rattle.dns_name.specs.declared.error.ParseError.TheVariants.{ShortInput, Form, OutOfMemory as NoMemory}
 use Rattle.dns_message.specs.declared.header.Header.{Header}
 use Rattle.dns_message.specs.declared.question.Question.{Question}
-use Rattle.dns_message.specs.declared.record.Record.{Record}
+use Rattle.dns_base.specs.CopiedRecord.{copied_record}
 use Rattle.dns_base.specs.Header.{header_of}
 use Rattle.dns_base.specs.Msg.{Msg, ResourceRecord}
-use Rattle.dns_base.specs.Records.{record_of}
 use Rattle.dns_base.specs.Replaced.{other_than}
 use Rattle.dns_base.specs.Sections.{all_of, questions_of, standing_answers, standing_authority, standing_additional}
-use Rattle.dns_base.specs.Standing.{Standing, typed}
+use Rattle.dns_base.specs.Standing.{Standing}
 
 -- an item in front of those behind it, or the first refusal
 abbrev pub in_front : {A : Type 0} → Result A ParseError → Result (List A) ParseError → Result (List A) ParseError
@@ -26,14 +25,9 @@ abbrev pub whole_list : {A : Type 0} → List (Result A ParseError) → Result (
 whole_list [] = Ok []
 whole_list (item ∷ items) = in_front item (whole_list items)
 
--- a record with its data as octets, names uncompressed
-abbrev pub plainly : Result Record ParseError → Result ResourceRecord ParseError
-plainly (Ok r) = Ok (record_of r)
-plainly (Err e) = Err e
-
 -- a record that a section gives, copied: refused where it, or its data, is unreadable
 abbrev pub copied_item : Result Standing ParseError → Result ResourceRecord ParseError
-copied_item (Ok s) = plainly (typed s)
+copied_item (Ok s) = copied_record s
 copied_item (Err e) = Err e
 
 -- the records that a section gives, copied

@@ -1,66 +1,22 @@
 //! Messages that are copied, their names uncompressed.
 
-ghost use Rattle.std.specs.Prelude.{◌≡◌, Ok};
+ghost use Rattle.std.specs.Prelude.{◌≡◌};
 ghost use Rattle.std.specs.Option.{option_copied};
-ghost use Rattle.dns_base.specs.Built.{with_header};
-ghost use Rattle.dns_base.specs.Header.{header_of};
-ghost use Rattle.dns_base.specs.Records.{IsLawful, record_of};
+ghost use Rattle.dns_base.specs.Builds.{Builds, unlimited};
 ghost use Rattle.dns_base.specs.Replaced.{other_than};
 ghost use Rattle.dns_base.specs.Sections.{all_of, questions_of, standing_additional, standing_answers, standing_authority};
 ghost use Rattle.dns_base.specs.Standing.{Gives};
-ghost use Rattle.dns_route.specs.Builds.{Builds, and_opt, unlimited};
-ghost use Rattle.dns_route.specs.Copied.{GivesAll, copied, copied_item, copied_records, others_of, whole_list};
+ghost use Rattle.dns_service.specs.Copied.{GivesAll, copied, copied_records, others_of, whole_list};
+ghost use Rattle.dns_service.specs.LastOpt.{and_opt};
 
-use crate::builds::{assembled, opt_built};
+use crate::last_opt::opt_built;
 use dns_base::{
-    AdditionalBuilder, Header, MessageRef, ParseError, PushError, Question, Record, RecordIter,
-    RecordRef, Rtype,
+    AdditionalBuilder, CopiedRecord, Header, MessageRef, ParseError, PushError, Question,
+    RecordIter, Rtype, assemble,
 };
 use dns_opt::OptRecord;
 use std::alloc::Global;
 use std::marker::Model;
-
-/// A record whose data was read by the shape of its type.
-#[derive(Debug, Drop)]
-pub(crate) struct CopiedRecord {
-    inner: Record,
-}
-
-impl Model for CopiedRecord {
-    ghost use Rattle.dns_base.specs.Msg.{ResourceRecord};
-    ghost use Rattle.dns_base.specs.Records.{IsLawful, record_of};
-
-    ghost Value = { ResourceRecord };
-
-    ghost view = { λ r. record_of r.inner };
-
-    ghost invariant = { λ r. IsLawful r.inner.rdata };
-}
-
-impl CopiedRecord {
-    /// A copy of a record as it stands in a message.
-    fn read(alloc: Global, source: &RecordRef<'_>) -> Result<CopiedRecord, ParseError>
-        ensures { Gives result (copied_item (Ok source.now)) }
-    {
-        let inner = source.to_record(alloc)?;
-        Ok(CopiedRecord { inner })
-    }
-
-    /// The type.
-    fn rtype(&self) -> Rtype
-        ensures { result ≡ self.now.rtype }
-    {
-        self.inner.rdata.rtype()
-    }
-
-    /// The record.
-    pub(crate) fn get(&self) -> &Record
-        ensures value { record_of result.now ≡ self.now }
-        ensures lawful { IsLawful result.now.rdata }
-    {
-        &self.inner
-    }
-}
 
 /// A message that was read whole, without the OPT records of its additional section.
 #[derive(Debug, Drop)]
@@ -127,7 +83,7 @@ impl CopiedMessage {
     ) -> Result<AdditionalBuilder, PushError>
         ensures { Builds (unlimited (and_opt self.now (option_copied opt.entry))) result }
     {
-        let message = assembled(
+        let message = assemble(
             alloc,
             self.header,
             self.questions.as_slice(),
