@@ -2,7 +2,7 @@ use Rattle.std.proofs.Common.{◌<◌, length, arith}
 use Rattle.std.proofs.lemmas.Result.{err_from_is_err_and}
 use Rattle.dns_base.specs.Builds.{with_records}
 use Rattle.dns_base.proofs.BuildLaws.{push_refused_at}
-use Rattle.dns_base.proofs.builder.assembled.Builder.push_all.Goals as goal
+use Rattle.dns_base.proofs.builder.Builder.push_all.Goals as goal
 
 pub returns-in_err-push_copied : goal.returns-in_err-push_copied
 returns-in_err-push_copied g c =

@@ -1,6 +1,6 @@
 use Rattle.std.proofs.Common.{◌≡◌, drop}
 use Rattle.dns_base.specs.Builds.{KeepsLimit, with_records}
-use Rattle.dns_base.proofs.builder.assembled.Builder.push_all.Given as goal
+use Rattle.dns_base.proofs.builder.Builder.push_all.Given as goal
 
 abbrev pub invariant-each : goal.invariant-each
 invariant-each g l = record {
