@@ -2,3 +2,9 @@ pub mod BuildLaws
 pub mod CopyLaws
 pub mod KeptLaws
 pub mod ReplyLaws
+pub mod KeyLaws
+pub mod RouteLaws
+pub mod SuffixLaws
+pub mod OwnLaws
+pub mod TurnLaws
+pub mod OwnBuilt

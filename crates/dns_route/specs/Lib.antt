@@ -14,3 +14,8 @@ pub mod Builds
 pub mod Kept
 pub mod ReplyMessage
 pub mod RequestMessage
+pub mod OwnReplies
+pub mod Turns
+pub mod Relays
+pub mod Routes
+pub mod Places
