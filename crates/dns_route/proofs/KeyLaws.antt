@@ -86,12 +86,14 @@ module _ {S : Type 0} (rs : List (Route S)) (r : Route S) where
   within_by None false w = tt
   within_by (Some i) false w = omega (arith, length-append rs (r ∷ []), w)
 
-  module _ {H : Type 0} (m n : HashMap (Vec ℕ Global) ℕ H) (k : List ℕ) where
+  module _ {H : Type 0} (m n : HashMap (Vec ℕ Global) ℕ H) (k : List ℕ) (place : ℕ) where
     -- a place more is kept, behind all others
-    pub known_more : Knows m rs → k ≡ name_key r.0 → ((o : List ℕ) → place_under n o ≡ (if bytes_eq k o then Some (length rs) else place_under m o)) → Knows n (rs ++ r ∷ [])
-    known_more h e put =
+    pub known_more : Knows m rs → k ≡ name_key r.0 → place ≡ length rs → ((o : List ℕ) → place_under n o ≡ (if bytes_eq k o then Some place else place_under m o)) → Knows n (rs ++ r ∷ [])
+    known_more h e l put =
         let turned : (o : List ℕ) → bytes_eq k o ≡ bytes_eq o (name_key r.0) = λ o. nat_list_eq_equiv.symm k o ∙ ap (bytes_eq o) e in
-        let at : (o : List ℕ) → place_under n o ≡ (if bytes_eq o (name_key r.0) then Some (length rs) else place_under m o) = λ o. put o ∙ ap (λ (b : Bool). if b then Some (length rs) else place_under m o) (turned o) in
+        let at : (o : List ℕ) → place_under n o ≡ (if bytes_eq o (name_key r.0) then Some (length rs) else place_under m o) =
+        λ o. put o ∙ (ap (λ (b : Bool). if b then Some place else place_under m o) (turned o) ∙ ap (λ i. if bytes_eq o (name_key r.0) then Some i else place_under m o) l)
+        in
         record {
           last = λ o. ap (route_at (rs ++ r ∷ [])) (at o) ∙ found_by o (place_under m o) (bytes_eq o (name_key r.0)) refl (h.last o) (h.within o);
           within = λ o. subst (λ p. IfSome p (λ i. i < length (rs ++ r ∷ []))) (sym (at o)) (within_by (place_under m o) (bytes_eq o (name_key r.0)) (h.within o));
@@ -133,3 +135,15 @@ none_known {S} m rs e i =
       last = λ o. ap (route_at []) (at o);
       within = λ o. subst (λ p. IfSome p (λ i. i < 0)) (sym (at o)) tt;
     })
+
+-- ---- what is found
+
+module _ {S H : Type 0} (m : HashMap (Vec ℕ Global) ℕ H) (rs : List (Route S)) (o : List ℕ) (h : Knows m rs) where
+  pub found_there : (p : ℕ) (x : Route S) → place_under m o ≡ Some p → slice_get rs p ≡ Some x → Some x.1 ≡ option_map (λ (r : Route S). r.1) (last_under o rs)
+  found_there p x e g = sym (ap (option_map (λ (r : Route S). r.1)) (sym (h.last o) ∙ (ap (route_at rs) e ∙ g)))
+
+  pub not_there : (p : ℕ) → place_under m o ≡ Some p → slice_get rs p ≡ None → None ≡ option_map (λ (r : Route S). r.1) (last_under o rs)
+  not_there p e g = sym (ap (option_map (λ (r : Route S). r.1)) (sym (h.last o) ∙ (ap (route_at rs) e ∙ g)))
+
+  pub nowhere : place_under m o ≡ None → None ≡ option_map (λ (r : Route S). r.1) (last_under o rs)
+  nowhere e = sym (ap (option_map (λ (r : Route S). r.1)) (sym (h.last o) ∙ ap (route_at rs) e))

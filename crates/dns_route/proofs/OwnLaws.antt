@@ -40,7 +40,7 @@ code_bare b code h l =
     let e : code / 16 ≡ 0 = omega arith in
     let none : AreBare b.message.additional = inl h in
     let some : AreBare (with_opt (code_draft b code) b).message.additional =
-        inr (ap (λ (rs : List ResourceRecord). rs ++ opt_record (opt_state (code_draft b code).head []) ∷ []) h ∙ ap (λ n. opt_record (opt_state (record zero_head { ext = n }) []) ∷ []) e)
+    inr (ap (λ (rs : List ResourceRecord). rs ++ opt_record (opt_state (code_draft b code).head []) ∷ []) h ∙ ap (λ n. opt_record (opt_state (record zero_head { ext = n }) []) ∷ []) e)
     in
     elim (within_limit (with_opt_record (code_draft b code) b)) as (λ (c : Bool). AreBare (if c then with_opt (code_draft b code) b else b).message.additional) [ true ↦ some | false ↦ none ]
 

@@ -1,9 +1,10 @@
 -- The service that is chosen, by look-ups of a name, of the name without its first label, and so on to the root.
-use Rattle.std.proofs.Common.{◌≡◌, ℕ, ◌+◌, ◌-◌, ◌≤◌, ◌<◌, Bool, true, false, List, [], ◌∷◌, length, map, drop, cond, nat_eq, nat_le, Option, Some, None, refl, ap, sym, subst, ◌∙◌, arith, length-map}
+use Rattle.std.proofs.Common.{◌≡◌, ℕ, ◌+◌, ◌-◌, ◌≤◌, ◌<◌, Bool, true, false, List, [], ◌∷◌, length, map, drop, cond, nat_eq, nat_le, Option, Some, None, refl, ap, sym, subst, ◌∙◌, arith}
 use Rattle.std.specs.Prelude.{◌&&◌, ◌↔◌, IsTrue, max, option_map, is_some}
 use Rattle.std.specs.Cmp.{both_ways}
 use Rattle.std.specs.List.{filter, last_or}
 use Rattle.std.proofs.lemmas.Bool.Decides.{nat_tests}
+use Rattle.std.proofs.lemmas.List.{length-map}
 use Rattle.std.proofs.Math.Nat.{max-le, le-max_left, le-max_right}
 use Rattle.std.specs.Char.{to_ascii_lowercase}
 use Rattle.dns_name.specs.Canonical.{same_name, same_name_Decides}
@@ -52,10 +53,10 @@ filter_both p o d e [] = refl
 filter_both {X} p o d e (x ∷ xs) =
     let ih = filter_both p o d e xs in
     let step : filter o (cond (p x) (x ∷ filter p xs) (filter p xs)) ≡ cond (p x && o x) (x ∷ filter d xs) (filter d xs) =
-        elim (p x) as (λ (b : Bool). filter o (cond b (x ∷ filter p xs) (filter p xs)) ≡ cond (b && o x) (x ∷ filter d xs) (filter d xs)) [
-          | true ↦ ap (λ (l : List X). cond (o x) (x ∷ l) l) ih
-          | false ↦ ih
-        ]
+    elim (p x) as (λ (b : Bool). filter o (cond b (x ∷ filter p xs) (filter p xs)) ≡ cond (b && o x) (x ∷ filter d xs) (filter d xs)) [
+      | true ↦ ap (λ (l : List X). cond (o x) (x ∷ l) l) ih
+      | false ↦ ih
+    ]
     in
     step ∙ ap (λ b. cond b (x ∷ filter d xs) (filter d xs)) (e x)
 
@@ -79,7 +80,7 @@ ends_le : (q n : List (List ℕ)) → ends_name q n ≡ true → length n ≤ le
 ends_le q n h = true_le (length n) (length q) (first_true (nat_le (length n) (length q)) (same_name (drop (length q - length n) q) n) h)
 
 folded_length : (ls : List (List ℕ)) → length (folded ls) ≡ length ls
-folded_length ls = length-map (map to_ascii_lowercase) ls
+folded_length ls = length-map ls (map to_ascii_lowercase)
 
 same_length : (a b : List (List ℕ)) → same_name a b ≡ true → length a ≡ length b
 same_length a b h = sym (folded_length a) ∙ (ap length ((same_name_Decides a b).0 h) ∙ folded_length b)
@@ -93,18 +94,18 @@ pub record IsTail (q s : List (List ℕ)) : Type 0 where
 same_as : (q s : List (List ℕ)) → IsTail q s → (n : List (List ℕ)) → (ends_name q n && nat_eq (length n) (length s)) ≡ same_name s n
 same_as q s t n =
     let there : (ends_name q n && nat_eq (length n) (length s)) ≡ true → same_name s n ≡ true =
-        λ h.
-        let a = first_true (ends_name q n) (nat_eq (length n) (length s)) h in
-        let b = true_eq (length n) (length s) (second_true (ends_name q n) (nat_eq (length n) (length s)) h) in
-        let c = second_true (nat_le (length n) (length q)) (same_name (drop (length q - length n) q) n) a in
-        subst (λ (x : List (List ℕ)). same_name x n ≡ true) (ap (λ k. drop (length q - k) q) b ∙ sym t.tail) c
+    λ h.
+    let a = first_true (ends_name q n) (nat_eq (length n) (length s)) h in
+    let b = true_eq (length n) (length s) (second_true (ends_name q n) (nat_eq (length n) (length s)) h) in
+    let c = second_true (nat_le (length n) (length q)) (same_name (drop (length q - length n) q) n) a in
+    subst (λ (x : List (List ℕ)). same_name x n ≡ true) (ap (λ k. drop (length q - k) q) b ∙ sym t.tail) c
     in
     let back : same_name s n ≡ true → (ends_name q n && nat_eq (length n) (length s)) ≡ true =
-        λ h.
-        let b : length n ≡ length s = sym (same_length s n h) in
-        let c : same_name (drop (length q - length n) q) n ≡ true = subst (λ (x : List (List ℕ)). same_name x n ≡ true) (t.tail ∙ ap (λ k. drop (length q - k) q) (sym b)) h in
-        let l : length n ≤ length q = omega (arith, t.short) in
-        both_true (ends_name q n) (nat_eq (length n) (length s)) (both_true (nat_le (length n) (length q)) (same_name (drop (length q - length n) q) n) (le_true (length n) (length q) l) c) (eq_true (length n) (length s) b)
+    λ h.
+    let b : length n ≡ length s = sym (same_length s n h) in
+    let c : same_name (drop (length q - length n) q) n ≡ true = subst (λ (x : List (List ℕ)). same_name x n ≡ true) (t.tail ∙ ap (λ k. drop (length q - k) q) (sym b)) h in
+    let l : length n ≤ length q = omega (arith, t.short) in
+    both_true (ends_name q n) (nat_eq (length n) (length s)) (both_true (nat_le (length n) (length q)) (same_name (drop (length q - length n) q) n) (le_true (length n) (length q) l) c) (eq_true (length n) (length s) b)
     in
     both_ways _ _ there back
 
@@ -159,7 +160,7 @@ module _ {S : Type 0} (q : List (List ℕ)) where
         let b = under_most (length s) rs u in
         let m : most_labels (matching q rs) ≡ length s = omega (arith, a, b) in
         let c : chosen q rs ≡ option_map (λ (r : Route S). r.1) (Some x) =
-            ap (λ n. option_map (λ (r : Route S). r.1) (last_or None (of_labels n (matching q rs)))) m ∙ ap (option_map (λ (r : Route S). r.1)) (ap (last_or None) (of_same rs) ∙ k)
+        ap (λ n. option_map (λ (r : Route S). r.1) (last_or None (of_labels n (matching q rs)))) m ∙ ap (option_map (λ (r : Route S). r.1)) (ap (last_or None) (of_same rs) ∙ k)
         in
         h ∙ sym c
 
@@ -172,9 +173,9 @@ module _ {S : Type 0} (q : List (List ℕ)) where
     missed_by (r ∷ rs) u h =
         let n = none_by r (filter (λ (r : Route S). same_name s r.0) rs) (same_name s r.0) h in
         let none : ends_name q r.0 ≡ true → nat_eq (length r.0) (length s) ≡ true → ⊥ =
-            λ a b.
-            let x : true ≡ false = sym (both_true (ends_name q r.0) (nat_eq (length r.0) (length s)) a b) ∙ (same_as q s t r.0 ∙ n.0) in
-            cc
+        λ a b.
+        let x : true ≡ false = sym (both_true (ends_name q r.0) (nat_eq (length r.0) (length s)) a b) ∙ (same_as q s t r.0 ∙ n.0) in
+        cc
         in
         (λ a. less_by (length r.0) (length s) (nat_eq (length r.0) (length s)) refl (none a) (u.0 a), missed_by rs u.1 n.1)
 

@@ -84,10 +84,7 @@ impl SingleService for BoxClientTransportToSingleService {
 }
 
 /// The request as it is sent on, where it can be read.
-fn readable(
-    alloc: Global,
-    request: &Request<()>,
-) -> Result<Option<RequestMessage>, OutOfMemory>
+fn readable(alloc: Global, request: &Request<()>) -> Result<Option<RequestMessage>, OutOfMemory>
     ensures { IfOk result (λ m. m ≡ readable_request (request_of request.now.octets)) }
 {
     match RequestMessage::try_from(alloc, request) {

@@ -12,23 +12,36 @@ use dns_name::{Labels, Name, OutOfMemory, ParsedName};
 use std::alloc::Global;
 use std::collections::HashMap;
 
+/// Appends octets in lower case.
+fn push_lower(label: &[u8], octets: &mut Vec<u8>) -> Result<(), OutOfMemory>
+    ensures { OnOk result (octets.new.items ≡ octets.old.items ++ map to_ascii_lowercase label.now) }
+{
+    'octets: for octet in label {
+        octets.push(octet.to_ascii_lowercase())?;
+    }
+    Ok(())
+}
+
 /// Appends a label in lower case behind its length.
 fn push_folded(label: &[u8], octets: &mut Vec<u8>) -> Result<(), OutOfMemory>
     requires { length label.now < 256 }
     ensures { OnOk result (octets.new.items ≡ octets.old.items ++ (length label.now ∷ map to_ascii_lowercase label.now)) }
 {
     octets.push(label.len() as u8)?;
-    octets.extend(label.iter().map(u8::to_ascii_lowercase))?;
-    Ok(())
+    push_lower(label, octets)
 }
 
-/// The octets of a name in lower case.
-pub(crate) fn folded_octets(alloc: Global, name: Labels<'_>) -> Result<Vec<u8>, OutOfMemory>
+/// The octets of a name in lower case, in memory for so many at first.
+pub(crate) fn folded_octets(
+    alloc: Global,
+    name: Labels<'_>,
+    capacity: usize,
+) -> Result<Vec<u8>, OutOfMemory>
     requires { IsName name }
     ensures { IfOk result (λ v. v.items ≡ name_key name.entry) }
 {
     let mut left = name;
-    let mut octets = Vec::new(alloc);
+    let mut octets = Vec::with_capacity(alloc, capacity)?;
     'labels: while let Some(label) = left.next() {
         push_folded(label, &mut octets)?;
     }
@@ -37,11 +50,7 @@ pub(crate) fn folded_octets(alloc: Global, name: Labels<'_>) -> Result<Vec<u8>, 
 }
 
 /// Keeps a place under octets, in place of what was kept there.
-fn put(
-    places: &mut HashMap<Vec<u8>, usize>,
-    key: Vec<u8>,
-    place: usize,
-) -> Result<(), OutOfMemory>
+fn put(places: &mut HashMap<Vec<u8>, usize>, key: Vec<u8>, place: usize) -> Result<(), OutOfMemory>
     ensures ok { OnOk result ((o : _) → place_under places.new o ≡ (if bytes_eq key.items o then Some place else place_under places.old o)) }
     ensures err { OnErr result (places.new.entries ≡ places.old.entries) }
 {
@@ -80,7 +89,8 @@ fn named<'a, S>(
     ensures { option_copied result ≡ option_map (λ r. r.1) (last_under octets.now routes.now) }
 {
     let place = *places.get(octets)?;
-    Some(&routes[place].1)
+    let route = routes.get(place)?;
+    Some(&route.1)
 }
 
 /// The service for a name: the look-ups are of the whole name, of the name without its first label, and so on to the
@@ -94,7 +104,7 @@ pub(crate) fn deepest<'a, S>(
     requires { Knows places.now routes.now }
     ensures { IfOk result (λ s. option_copied s ≡ chosen name.now routes.now) }
 {
-    let octets = folded_octets(alloc, name.labels())?;
+    let octets = folded_octets(alloc, name.labels(), 255)?;
     let mut left = name.labels();
     let mut at = 0;
     'suffixes: loop {

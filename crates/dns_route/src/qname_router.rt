@@ -50,16 +50,12 @@ impl<S: SingleService> QnameRouter<S> {
         ensures ok { OnOk result (self.new ≡ self.old ++ (name, service) ∷ []) }
         ensures err { OnErr result (self.new ≡ self.old) }
     {
-        let key = folded_octets(alloc, name.labels())?;
+        let key = folded_octets(alloc, name.labels(), name.compose_len() as usize)?;
         put_route(&mut self.routes, &mut self.places, key, (name, service))
     }
 
     /// The service for a name.
-    fn service_for(
-        &self,
-        alloc: Global,
-        name: &ParsedName<'_>,
-    ) -> Result<Option<&S>, OutOfMemory>
+    fn service_for(&self, alloc: Global, name: &ParsedName<'_>) -> Result<Option<&S>, OutOfMemory>
         ensures { IfOk result (λ s. option_copied s ≡ chosen name.now self.now) }
     {
         deepest(alloc, &self.routes, &self.places, name)

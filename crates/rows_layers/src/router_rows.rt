@@ -12,9 +12,7 @@ use dns_route::{
     BoxClientTransportToSingleService, ClientTransportToSingleService, ComposeReply, QnameRouter,
     ReplyMessage, RequestMessage, SendError, SendRequest, SingleService, SingleServiceToService,
 };
-use dns_service::{
-    OutOfMemory, Polled, ReplyFuture, ReplyStream, Request, Service, ServiceError,
-};
+use dns_service::{OutOfMemory, Polled, ReplyFuture, ReplyStream, Request, Service, ServiceError};
 use rows_table::{Calls, Row, RowError};
 use std::alloc::Global;
 use std::sync::Arc;
@@ -154,7 +152,7 @@ fn error_text(row: &mut Row<'_>) -> Result<(), RowError> {
 }
 
 /// A transport: how often it is pending, and its error or the octets of its message.
-fn planned(row: &mut Row<'_>) -> Result<Planned, RowError> {
+fn next_transport(row: &mut Row<'_>) -> Result<Planned, RowError> {
     let waits = row.number();
     let answer = row.word();
     if let Some(error) = send_error(answer) {
@@ -173,7 +171,7 @@ fn planned(row: &mut Row<'_>) -> Result<Planned, RowError> {
 /// What a single service over a transport says at a turn.
 fn transport(row: &mut Row<'_>) -> Result<(), RowError> {
     let k = row.number();
-    let conn = planned(row)?;
+    let conn = next_transport(row)?;
     let request = request(row)?;
     turn_said(row, &ClientTransportToSingleService::new(conn), &request, k)
 }
@@ -181,16 +179,22 @@ fn transport(row: &mut Row<'_>) -> Result<(), RowError> {
 /// The same over the transport in a box.
 fn boxed_transport(row: &mut Row<'_>) -> Result<(), RowError> {
     let k = row.number();
-    let conn = planned(row)?;
+    let conn = next_transport(row)?;
     let request = request(row)?;
-    let conn: Box<dyn SendRequest + Send + Sync> =
-        Box::new(row.alloc(), conn).or(Err(RowError::OutOfMemory))?;
-    turn_said(row, &BoxClientTransportToSingleService::new(conn), &request, k)
+    let conn: Box<dyn SendRequest + Send + Sync> = Box::new(row.alloc(), conn).or(Err(
+        RowError::OutOfMemory,
+    ))?;
+    turn_said(
+        row,
+        &BoxClientTransportToSingleService::new(conn),
+        &request,
+        k,
+    )
 }
 
 /// What a service over such a single service says at four polls at most, up to the end.
 fn to_service(row: &mut Row<'_>) -> Result<(), RowError> {
-    let conn = planned(row)?;
+    let conn = next_transport(row)?;
     let mut request = request(row)?;
     let service = Arc::new(row.alloc(), ClientTransportToSingleService::new(conn))?;
     let mut future = SingleServiceToService::new(service).call(row.alloc(), &mut request)?;
