@@ -1,5 +1,5 @@
 -- What is built of a router's own replies.
-use Rattle.std.proofs.Common.{◌≡◌, ℕ, ◌+◌, ◌≤◌, ◌<◌, Bool, true, false, if◌then◌else◌, List, [], ◌∷◌, ◌++◌, length, Option, Some, None, Result, Ok, Err, refl, ap, sym, subst, ◌∙◌, arith, ◌⊎◌, inl, inr}
+use Rattle.std.proofs.Common.{◌≡◌, ℕ, ◌+◌, ◌%◌, ◌≤◌, ◌<◌, Bool, true, false, if◌then◌else◌, List, [], ◌∷◌, ◌++◌, length, Option, Some, None, Result, Ok, Err, refl, ap, sym, subst, ◌∙◌, arith, ◌⊎◌, inl, inr}
 use Rattle.std.specs.Prelude.{map}
 use Rattle.std.specs.List.{AllZip}
 use Rattle.dns_name.specs.declared.error.ParseError.{ParseError}
@@ -7,7 +7,8 @@ use Rattle.dns_base.specs.Built.{Built, empty, with_header, with_question}
 use Rattle.dns_base.specs.Msg.{Msg, IsMessage, ResourceRecord}
 use Rattle.dns_base.specs.Records.{record_of}
 use Rattle.dns_base.specs.Replaced.{other_than}
-use Rattle.dns_base.specs.Replies.{error_by, with_copied, within_limit}
+use Rattle.dns_base.specs.Header.{header_of}
+use Rattle.dns_base.specs.Replies.{answer_header, error_by, with_copied, within_limit}
 use Rattle.dns_base.specs.Sections.{Items, all_of, answers_of, authority_of, questions_of, reached, standing_additional, standing_answers, standing_authority}
 use Rattle.dns_base.specs.Standing.{Standing, typed}
 use Rattle.dns_base.specs.Wire.{wire}
@@ -80,7 +81,10 @@ module _ (f : Msg → List ResourceRecord) (bare : (b : Built) (q : Question) �
   section_error (b, false) = headed b (record b.message.header { rcode = 2 })
 
   section_begun : (query : List ℕ) (code : ℕ) → f (error_begun query code).message ≡ f empty
-  section_begun query code = section_error _ ∙ (section_copied _ _ ∙ headed _ _)
+  section_begun query code =
+      let b : Built = record { message = empty; limit = 65535 } in
+      let h : Header = answer_header b.message.header (header_of query) (code % 16) in
+      section_error (with_copied (with_header b h) (questions_of query).0) ∙ (section_copied (with_header b h) (questions_of query).0 ∙ headed b h)
 
 error_answers : (query : List ℕ) (code : ℕ) → (error_reply query code).answers ≡ []
 error_answers query code =

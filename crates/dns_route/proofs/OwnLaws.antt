@@ -7,14 +7,18 @@ use Rattle.dns_base.specs.Wire.{wire}
 use Rattle.dns_message.specs.declared.question.Question.{Question}
 use Rattle.dns_message.proofs.OptionLaws.{options_empty}
 use Rattle.dns_opt.specs.Drafts.{with_opt, with_opt_record}
+use Rattle.dns_opt.specs.Extended.{Extended, extended, extended_octets}
 use Rattle.dns_opt.specs.OptRecords.{OptState, opt_of, opt_record, opt_state, zero_head}
 use Rattle.dns_opt.specs.Reopened.{opt_among}
 use Rattle.dns_opt.proofs.Opts.{opt_back}
 use Rattle.dns_service.specs.ErrorReply.{code_draft, error_begun, error_reply, with_code}
+use Rattle.dns_service.specs.declared.reply_error.ReplyError.TheVariants.{Service}
+use Rattle.dns_service.specs.declared.service.ServiceError.{ServiceError}
+use Rattle.dns_service.specs.declared.service.ServiceError.TheVariants.{FormatError, InternalError, NotImplemented, Refused}
 use Rattle.dns_route.specs.declared.kept.Keeps.TheVariants.{SubnetsAndErrors}
 use Rattle.dns_route.specs.Kept.{kept_opt}
 use Rattle.dns_route.specs.OwnReplies.{begun_with, error_state}
-use Rattle.dns_route.specs.ReplyMessage.{begun, reply_by, reply_read}
+use Rattle.dns_route.specs.ReplyMessage.{BeginsReply, ReplyState, begun, reply_by, reply_read}
 
 -- an OPT record of zeros and no options, or none
 abbrev pub IsBare : Option OptState → Type 0
@@ -77,3 +81,28 @@ no_options x (inr h) = ap (λ (x : Option OptState). (begun x).options) h
 
 pub error_options : (query : List ℕ) (code : ℕ) → code < 16 → length (begun (error_state query code).opt).options ≡ 0
 error_options query code l = ap length (no_options (error_state query code).opt (error_opt query code l))
+
+-- what is begun of octets that are an error reply
+pub begun_as : (query : List ℕ) (code : ℕ) (m : Msg) (o : List ℕ) (r : ReplyState) → code < 16 → m ≡ error_reply query code → IsMessage m → o ≡ wire m → reply_read o ≡ Ok r → r ≡ error_state query code
+begun_as query code m o r l e h w b =
+    let k : reply_read o ≡ Ok (error_state query code) = ap reply_read (w ∙ ap wire e) ∙ error_read query code l (subst IsMessage e h) in
+    let x : Ok r ≡ Ok (error_state query code) = sym b ∙ k in
+    cc
+
+-- it isn't refused
+pub never_refused : (query : List ℕ) (code : ℕ) (m : Msg) (o : List ℕ) (e : ServiceError) → code < 16 → m ≡ error_reply query code → IsMessage m → o ≡ wire m → BeginsReply (reply_read o) (Err (Service e)) → ⊥
+never_refused query code m o FormatError l i h w b =
+    let k : reply_read o ≡ Ok (error_state query code) = ap reply_read (w ∙ ap wire i) ∙ error_read query code l (subst IsMessage i h) in
+    let x : Ok (error_state query code) ≡ Err b.0 = sym k ∙ b.1 in
+    cc
+never_refused query code m o InternalError l i h w b = b
+never_refused query code m o NotImplemented l i h w b = b
+never_refused query code m o Refused l i h w b = b
+
+-- a text has room
+pub text_fits : (query text : List ℕ) (r : ReplyState) (k : Extended) → r ≡ error_state query 2 → k ≡ extended 0 (Some text) → length text ≤ 65000 → length (begun r.opt).options + 4 + length (extended_octets k) ≤ 65535
+text_fits query text r k e i l =
+    let a : length (begun r.opt).options ≡ 0 = ap (λ (r : ReplyState). length (begun r.opt).options) e ∙ error_options query 2 (omega arith) in
+    let b : length (extended_octets k) ≡ length (extended_octets (extended 0 (Some text))) = ap (λ (k : Extended). length (extended_octets k)) i in
+    let c : length (extended_octets (extended 0 (Some text))) ≡ length text + 2 = omega arith in
+    omega (arith, a, b, c)

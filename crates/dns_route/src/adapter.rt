@@ -48,26 +48,23 @@ impl<C: SendRequest> SingleService for ClientTransportToSingleService<C> {
     }
 }
 
-/// A transport that its owner put into a box.
-pub type BoxedTransport = Box<dyn SendRequest + Send + Sync>;
-
 /// The same over a transport in a box, so that transports of several kinds make single services of one type.
 #[derive(Drop)]
 pub struct BoxClientTransportToSingleService {
-    conn: BoxedTransport,
+    conn: Box<dyn SendRequest + Send + Sync>,
 }
 
 impl BoxClientTransportToSingleService {
     /// Over a transport that its owner put into a box.
-    pub fn new(conn: BoxedTransport) -> Self
-        ensures { ⟦<BoxClientTransportToSingleService as SingleService>⟧.answer result ≡ relayed (BoxedTransport.answer conn) }
+    pub fn new(conn: Box<dyn SendRequest + Send + Sync>) -> Self
+        ensures { ⟦<BoxClientTransportToSingleService as SingleService>⟧.answer result ≡ relayed ((⟦<(dyn SendRequest + Send + Sync) as SendRequest>⟧ conn.vtable).answer conn.value) }
     {
         BoxClientTransportToSingleService { conn }
     }
 }
 
 impl SingleService for BoxClientTransportToSingleService {
-    ghost answer = { λ s. relayed (BoxedTransport.answer s.conn) };
+    ghost answer = { λ s. relayed ((⟦<(dyn SendRequest + Send + Sync) as SendRequest>⟧ s.conn.vtable).answer s.conn.value) };
 
     fn turn(
         &self,

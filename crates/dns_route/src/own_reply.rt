@@ -1,7 +1,9 @@
 //! Replies that a router and the adapters give of their own.
 
-ghost use Rattle.std.specs.Prelude.{◌≡◌, ◌<◌, ◌≤◌, IfOk, length};
-ghost use Rattle.dns_route.specs.OwnReplies.{error_state, explained};
+ghost use Rattle.std.specs.Prelude.{◌≡◌, ◌<◌, ◌≤◌, ◌+◌, IfOk, OnOk, length};
+ghost use Rattle.dns_opt.specs.Extended.{extended_octets};
+ghost use Rattle.dns_route.specs.OwnReplies.{error_state, explained, no_upstream};
+ghost use Rattle.dns_route.specs.ReplyMessage.{begun, with_reply_option};
 
 use crate::reply::{ComposeReply, ReplyMessage};
 use dns_base::Message;
@@ -41,9 +43,29 @@ pub(crate) fn explained(
     let Ok(why) = why else {
         unreachable!();
     };
-    match reply.add_opt(alloc, &why) {
-        Ok(()) => Ok(reply),
+    push_why(&mut reply, alloc, &why)?;
+    Ok(reply)
+}
+
+/// Adds an extended error that has room.
+fn push_why(
+    reply: &mut ReplyMessage,
+    alloc: Global,
+    why: &ExtendedErrorRef<'_>,
+) -> Result<(), OutOfMemory>
+    requires { length (begun reply.old.opt).options + 4 + length (extended_octets why.now) ≤ 65535 }
+    ensures { OnOk result (reply.new ≡ with_reply_option 15 (extended_octets why.now) reply.old) }
+{
+    match reply.add_opt(alloc, why) {
+        Ok(()) => Ok(()),
         Err(BuildDataError::OutOfMemory) => Err(OutOfMemory),
         Err(_) => unreachable!(),
     }
+}
+
+/// SERVFAIL, since a router has no service for a name.
+pub(crate) fn no_service(alloc: Global, query: &Message) -> Result<ReplyMessage, OutOfMemory>
+    ensures { IfOk result (λ r. r ≡ explained query.now no_upstream) }
+{
+    explained(alloc, query, "No upstream for request")
 }

@@ -4,7 +4,7 @@ ghost use Rattle.std.specs.Prelude.{◌≡◌, ◌++◌, ◌∷◌, [], IfOk, On
 ghost use Rattle.std.specs.Option.{option_copied};
 ghost use Rattle.dns_route.specs.Routes.{chosen, routed};
 
-use crate::own_reply::{error_begun, explained};
+use crate::own_reply::{error_begun, no_service};
 use crate::places::{deepest, folded_octets, put_route};
 use crate::reply::ReplyMessage;
 use crate::single_service::SingleService;
@@ -80,7 +80,7 @@ impl<S: SingleService> SingleService for QnameRouter<S> {
         match self.service_for(alloc, &question.qname())? {
             Some(service) => service.turn(alloc, request, k),
             None => {
-                let reply = explained(alloc, request.message(), "No upstream for request")?;
+                let reply = no_service(alloc, request.message())?;
                 Ok(Polled::Ready(Ok(reply)))
             }
         }
