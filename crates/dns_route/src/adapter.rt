@@ -57,14 +57,14 @@ pub struct BoxClientTransportToSingleService {
 impl BoxClientTransportToSingleService {
     /// Over a transport that its owner put into a box.
     pub fn new(conn: Box<dyn SendRequest + Send + Sync>) -> Self
-        ensures { ⟦<BoxClientTransportToSingleService as SingleService>⟧.answer result ≡ relayed ((⟦<(dyn SendRequest + Send + Sync) as SendRequest>⟧ conn.vtable).answer conn.value) }
+        ensures { ⟦<BoxClientTransportToSingleService as SingleService>⟧.answer result ≡ relayed ((SendRequest-box conn).answer conn.value) }
     {
         BoxClientTransportToSingleService { conn }
     }
 }
 
 impl SingleService for BoxClientTransportToSingleService {
-    ghost answer = { λ s. relayed ((⟦<(dyn SendRequest + Send + Sync) as SendRequest>⟧ s.conn.vtable).answer s.conn.value) };
+    ghost answer = { λ s. relayed ((SendRequest-box s.conn).answer s.conn.value) };
 
     fn turn(
         &self,
