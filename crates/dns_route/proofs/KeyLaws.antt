@@ -1,10 +1,9 @@
 -- Names by their octets in lower case, and the places that are kept under octets.
-use Rattle.std.proofs.Common.{◌≡◌, ℕ, ◌+◌, ◌≤◌, ◌<◌, Bool, true, false, List, [], ◌∷◌, ◌++◌, length, map, take, drop, cond, Option, Some, None, refl, ap, sym, subst, ◌∙◌, arith, append_assoc, append-nil, length-append, get_or}
-use Rattle.std.specs.Prelude.{if◌then◌else◌, IfSome, option_map, is_some}
-use Rattle.std.specs.Char.{to_ascii_lowercase}
+use Rattle.std.proofs.Common.{◌≡◌, ℕ, ◌≤◌, ◌<◌, Bool, true, false, List, [], ◌∷◌, ◌++◌, length, take, drop, cond, Option, Some, None, refl, ap, sym, subst, ◌∙◌, arith, append-nil, length-append}
+use Rattle.std.specs.Prelude.{if◌then◌else◌, IfSome}
 use Rattle.std.specs.Cmp.{both_ways}
 use Rattle.std.specs.Cmp.Lexicographic.{bytes_decides, nat_list_eq_equiv}
-use Rattle.std.specs.HashMap.{HashMap, UpdatesBy, get_by}
+use Rattle.std.specs.HashMap.{HashMap, UpdatesBy}
 use Rattle.std.specs.List.{filter, last_or, slice_get}
 use Rattle.std.specs.Map.{lookup, AreApart, IsKeyTest, KeepsOthers}
 use Rattle.std.specs.Str.{bytes_eq}
@@ -118,32 +117,3 @@ module _ {H : Type 0} (k : List ℕ) (m n : HashMap (Vec ℕ Global) ℕ H) (w :
       at_octets (place_under m) (place_under n) k w h.1
       (λ cs e. other_entries (λ (x y : Vec ℕ Global). bytes_eq x.items y.items) (λ (y : Vec ℕ Global). bytes_eq k y.items) m.entries n.entries h.3 (λ (y : Vec ℕ Global). bytes_eq cs y.items) (λ x y. nat_list_eq_equiv.congr cs x.items y.items) (λ y. apart k cs y.items e))
       o (bytes_eq k o) refl
-
--- the same entries are found
-pub same_known : {S H : Type 0} (m n : HashMap (Vec ℕ Global) ℕ H) (rs : List (Route S)) → n.entries ≡ m.entries → Knows m rs → Knows n rs
-same_known m n rs e h =
-    let at : (o : List ℕ) → place_under n o ≡ place_under m o = λ o. ap (lookup (λ (y : Vec ℕ Global). bytes_eq o y.items)) e in
-    record {
-      last = λ o. ap (route_at rs) (at o) ∙ h.last o;
-      within = λ o. subst (λ p. IfSome p (λ i. i < length rs)) (sym (at o)) (h.within o);
-    }
-
-pub none_known : {S H : Type 0} (m : HashMap (Vec ℕ Global) ℕ H) (rs : List (Route S)) → m.entries ≡ [] → rs ≡ [] → Knows m rs
-none_known {S} m rs e i =
-    let at : (o : List ℕ) → place_under m o ≡ None = λ o. ap (lookup (λ (y : Vec ℕ Global). bytes_eq o y.items)) e in
-    subst (λ (l : List (Route S)). Knows m l) (sym i) (record {
-      last = λ o. ap (route_at []) (at o);
-      within = λ o. subst (λ p. IfSome p (λ i. i < 0)) (sym (at o)) tt;
-    })
-
--- ---- what is found
-
-module _ {S H : Type 0} (m : HashMap (Vec ℕ Global) ℕ H) (rs : List (Route S)) (o : List ℕ) (h : Knows m rs) where
-  pub found_there : (p : ℕ) (x : Route S) → place_under m o ≡ Some p → slice_get rs p ≡ Some x → Some x.1 ≡ option_map (λ (r : Route S). r.1) (last_under o rs)
-  found_there p x e g = sym (ap (option_map (λ (r : Route S). r.1)) (sym (h.last o) ∙ (ap (route_at rs) e ∙ g)))
-
-  pub not_there : (p : ℕ) → place_under m o ≡ Some p → slice_get rs p ≡ None → None ≡ option_map (λ (r : Route S). r.1) (last_under o rs)
-  not_there p e g = sym (ap (option_map (λ (r : Route S). r.1)) (sym (h.last o) ∙ (ap (route_at rs) e ∙ g)))
-
-  pub nowhere : place_under m o ≡ None → None ≡ option_map (λ (r : Route S). r.1) (last_under o rs)
-  nowhere e = sym (ap (option_map (λ (r : Route S). r.1)) (sym (h.last o) ∙ ap (route_at rs) e))

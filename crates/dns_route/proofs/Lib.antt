@@ -6,5 +6,4 @@ pub mod KeyLaws
 pub mod RouteLaws
 pub mod SuffixLaws
 pub mod OwnLaws
-pub mod TurnLaws
 pub mod OwnBuilt

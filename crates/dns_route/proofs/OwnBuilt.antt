@@ -1,5 +1,5 @@
 -- What is built of a router's own replies.
-use Rattle.std.proofs.Common.{◌≡◌, ℕ, ◌+◌, ◌%◌, ◌≤◌, ◌<◌, Bool, true, false, if◌then◌else◌, List, [], ◌∷◌, ◌++◌, length, Option, Some, None, Result, Ok, Err, refl, ap, sym, subst, ◌∙◌, arith, ◌⊎◌, inl, inr}
+use Rattle.std.proofs.Common.{◌≡◌, ℕ, ◌%◌, ◌<◌, Bool, true, false, if◌then◌else◌, List, [], ◌∷◌, ◌++◌, Option, Some, None, Result, Ok, Err, refl, ap, sym, subst, ◌∙◌, arith, inl, inr}
 use Rattle.std.specs.Prelude.{map}
 use Rattle.std.specs.List.{AllZip}
 use Rattle.dns_name.specs.declared.error.ParseError.{ParseError}
@@ -10,7 +10,7 @@ use Rattle.dns_base.specs.Replaced.{other_than}
 use Rattle.dns_base.specs.Header.{header_of}
 use Rattle.dns_base.specs.Replies.{answer_header, error_by, with_copied, within_limit}
 use Rattle.dns_base.specs.Sections.{Items, all_of, answers_of, authority_of, questions_of, reached, standing_additional, standing_answers, standing_authority}
-use Rattle.dns_base.specs.Standing.{Standing, typed}
+use Rattle.dns_base.specs.Standing.{Standing}
 use Rattle.dns_base.specs.Wire.{wire}
 use Rattle.dns_message.specs.TypedData.{IsReadAs, IsTyped, ReadsBack}
 use Rattle.dns_message.specs.declared.question.Question.{Question}
@@ -22,12 +22,12 @@ use Rattle.dns_message.proofs.TypedSections.{additional_back, answers_back, auth
 use Rattle.dns_message.proofs.Written.{header_written, questions_written}
 use Rattle.dns_opt.specs.Drafts.{with_opt, with_opt_record}
 use Rattle.dns_opt.specs.OptRecords.{OptState, opt_record, opt_state, zero_head}
-use Rattle.dns_opt.specs.Reopened.{old_opt, opt_among, opt_or_empty}
+use Rattle.dns_opt.specs.Reopened.{opt_among, opt_or_empty}
 use Rattle.dns_service.specs.ErrorReply.{code_draft, error_begun, error_reply}
 use Rattle.dns_service.specs.WithOption.{and_option, optioned}
 use Rattle.dns_route.specs.Builds.{and_opt}
-use Rattle.dns_route.specs.Copied.{copied, copied_item, copied_records, gathered, in_front, others_of, plainly, whole_list}
-use Rattle.dns_route.specs.OwnReplies.{begun_with, error_state}
+use Rattle.dns_route.specs.Copied.{copied, copied_item, copied_records, in_front, others_of, plainly, whole_list}
+use Rattle.dns_route.specs.OwnReplies.{error_state}
 use Rattle.dns_route.specs.ReplyMessage.{begun, reply_message, reply_with_opt, with_reply_option}
 use Rattle.dns_route.proofs.OwnLaws.{AreBare, error_records}
 

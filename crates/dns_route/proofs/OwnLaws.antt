@@ -1,5 +1,5 @@
 -- Error replies as replies: what they have of OPT records is kept whole.
-use Rattle.std.proofs.Common.{◌≡◌, ℕ, ◌+◌, ◌*◌, ◌/◌, ◌%◌, ◌≤◌, ◌<◌, Bool, true, false, List, [], ◌∷◌, ◌++◌, length, Option, Some, None, Result, Ok, Err, refl, ap, sym, subst, ◌∙◌, arith, ◌⊎◌, inl, inr, if◌then◌else◌}
+use Rattle.std.proofs.Common.{◌≡◌, ℕ, ◌+◌, ◌/◌, ◌≤◌, ◌<◌, Bool, true, false, List, [], ◌∷◌, ◌++◌, length, Option, Some, None, Ok, Err, refl, ap, sym, subst, ◌∙◌, arith, ◌⊎◌, inl, inr, if◌then◌else◌}
 use Rattle.dns_base.specs.Built.{Built, with_question}
 use Rattle.dns_base.specs.Msg.{Msg, IsMessage, ResourceRecord}
 use Rattle.dns_base.specs.Replies.{with_copied, error_by, within_limit}
@@ -8,7 +8,7 @@ use Rattle.dns_message.specs.declared.question.Question.{Question}
 use Rattle.dns_message.proofs.OptionLaws.{options_empty}
 use Rattle.dns_opt.specs.Drafts.{with_opt, with_opt_record}
 use Rattle.dns_opt.specs.Extended.{Extended, extended, extended_octets}
-use Rattle.dns_opt.specs.OptRecords.{OptState, opt_of, opt_record, opt_state, zero_head}
+use Rattle.dns_opt.specs.OptRecords.{OptState, opt_record, opt_state, zero_head}
 use Rattle.dns_opt.specs.Reopened.{opt_among}
 use Rattle.dns_opt.proofs.Opts.{opt_back}
 use Rattle.dns_service.specs.ErrorReply.{code_draft, error_begun, error_reply, with_code}
@@ -17,7 +17,7 @@ use Rattle.dns_service.specs.declared.service.ServiceError.{ServiceError}
 use Rattle.dns_service.specs.declared.service.ServiceError.TheVariants.{FormatError, InternalError, NotImplemented, Refused}
 use Rattle.dns_route.specs.declared.kept.Keeps.TheVariants.{SubnetsAndErrors}
 use Rattle.dns_route.specs.Kept.{kept_opt}
-use Rattle.dns_route.specs.OwnReplies.{begun_with, error_state}
+use Rattle.dns_route.specs.OwnReplies.{error_state}
 use Rattle.dns_route.specs.ReplyMessage.{BeginsReply, ReplyState, begun, reply_by, reply_read}
 
 -- an OPT record of zeros and no options, or none

@@ -1,6 +1,6 @@
 -- The service that is chosen, by look-ups of a name, of the name without its first label, and so on to the root.
 use Rattle.std.proofs.Common.{◌≡◌, ℕ, ◌+◌, ◌-◌, ◌≤◌, ◌<◌, Bool, true, false, List, [], ◌∷◌, length, map, drop, cond, nat_eq, nat_le, Option, Some, None, refl, ap, sym, subst, ◌∙◌, arith}
-use Rattle.std.specs.Prelude.{◌&&◌, ◌↔◌, IsTrue, max, option_map, is_some}
+use Rattle.std.specs.Prelude.{◌&&◌, ◌↔◌, IsTrue, option_map, is_some}
 use Rattle.std.specs.Cmp.{both_ways}
 use Rattle.std.specs.List.{filter, last_or}
 use Rattle.std.proofs.lemmas.Bool.Decides.{nat_tests}

@@ -1,9 +1,9 @@
 -- The rest of a name, label by label, and its octets in lower case.
-use Rattle.std.proofs.Common.{◌≡◌, ℕ, ◌+◌, ◌-◌, ◌≤◌, ◌<◌, List, [], ◌∷◌, ◌++◌, length, map, take, drop, refl, ap, sym, ◌∙◌, arith, length-drop, length-append, append_assoc}
+use Rattle.std.proofs.Common.{◌≡◌, ℕ, ◌+◌, ◌-◌, ◌<◌, List, ◌∷◌, ◌++◌, length, map, take, drop, ap, sym, ◌∙◌, arith, length-drop}
 use Rattle.std.proofs.lemmas.List.{drop-drop, length-map}
 use Rattle.std.proofs.Math.Seq.{drop-append_seam, take-length}
 use Rattle.std.specs.Char.{to_ascii_lowercase}
-use Rattle.dns_name.specs.Labels.{folded, spell}
+use Rattle.dns_name.specs.Labels.{folded}
 use Rattle.dns_route.specs.Places.{name_key}
 use Rattle.dns_route.proofs.KeyLaws.{spelt_some}
 use Rattle.dns_route.proofs.RouteLaws.{IsTail}
@@ -38,20 +38,8 @@ next_octets o at s t l e h =
     let d : at + (length l + 1) ≡ at + 1 + length m = omega (arith, n) in
     ap (λ x. drop x o) d ∙ c
 
-pub next_within : (o : List ℕ) (at : ℕ) (s t : List (List ℕ)) (l : List ℕ) → s ≡ l ∷ t → drop at o ≡ name_key s → at + (length l + 1) < length o
-next_within o at s t l e h = in_octets o (at + (length l + 1)) t (next_octets o at s t l e h)
-
 -- all octets from a place on
 pub rest_octets : (o p : List ℕ) (at : ℕ) (s : List (List ℕ)) → p ≡ o → drop at o ≡ name_key s → take (length p - at) (drop at p) ≡ name_key s
 rest_octets o p at s e h =
     let n : length p - at ≡ length (drop at p) = sym (length-drop at p) in
     ap (λ k. take k (drop at p)) n ∙ (take-length (drop at p) ∙ (ap (drop at) e ∙ h))
-
--- ---- a label more
-
--- labels that were written, and those behind them
-pub written_more : (before after : List ℕ) (l : List ℕ) (rest : List (List ℕ)) → after ≡ before ++ (length l ∷ map to_ascii_lowercase l) → after ++ name_key rest ≡ before ++ name_key (l ∷ rest)
-written_more before after l rest e =
-    let m = map to_ascii_lowercase l in
-    let n : length l ≡ length m = sym (length-map l to_ascii_lowercase) in
-    ap (λ x. x ++ name_key rest) (e ∙ ap (λ k. before ++ (k ∷ m)) n) ∙ append_assoc before (length m ∷ m) (name_key rest)

@@ -1,5 +1,5 @@
 -- How a router finds a name: by the octets of the name in lower case (RFC 1035, section 3.1; RFC 4343, section 3).
-use Rattle.std.specs.Prelude.{ℕ, ◌≡◌, ◌<◌, Bool, List, length, Option, Some, None, IfSome}
+use Rattle.std.specs.Prelude.{ℕ, ◌≡◌, ◌<◌, List, length, Option, Some, None, IfSome}
 use Rattle.std.specs.List.{filter, last_or, slice_get}
 use Rattle.std.specs.Str.{bytes_eq}
 use Rattle.std.specs.HashMap.{HashMap, get_by}

@@ -1,4 +1,4 @@
-use Rattle.std.proofs.Common.{◌≡◌, Some, ap, ◌∙◌}
+use Rattle.std.proofs.Common.{Some, ap, ◌∙◌}
 use Rattle.dns_opt.specs.Extended.{extended}
 use Rattle.dns_route.proofs.OwnLaws.{text_fits}
 use Rattle.dns_route.proofs.own_reply.explained.Goals as goal

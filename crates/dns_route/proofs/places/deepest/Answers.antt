@@ -1,4 +1,4 @@
-use Rattle.std.proofs.Common.{◌≡◌, ◌+◌, length, drop, ap, sym, ◌∙◌, subst, arith}
+use Rattle.std.proofs.Common.{◌≡◌, ◌+◌, length, ap, sym, ◌∙◌, subst, arith}
 use Rattle.dns_route.specs.Places.{name_key}
 use Rattle.dns_route.proofs.RouteLaws.{AllUnder, IsTail, found, missed, none_chosen, under_all}
 use Rattle.dns_route.proofs.SuffixLaws.{in_octets, next_octets, next_tail, rest_octets, whole_tail}
