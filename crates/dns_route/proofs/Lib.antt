@@ -1,2 +1,7 @@
 pub mod KeptLaws
 pub mod ReplyLaws
+pub mod KeyLaws
+pub mod RouteLaws
+pub mod SuffixLaws
+pub mod OwnLaws
+pub mod OwnBuilt

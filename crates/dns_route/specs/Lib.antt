@@ -16,3 +16,8 @@ pub use Rattle.dns_service.specs.LastOpt
 pub mod Kept
 pub mod ReplyMessage
 pub mod RequestMessage
+pub mod OwnReplies
+pub mod Turns
+pub mod Relays
+pub mod Routes
+pub mod Places

@@ -1,10 +1,24 @@
-//! Replies and requests that are composed of other messages.
+//! Replies and requests that are composed of other messages, single services that answer with one, and a router of them.
 #![tactic(auto)]
 
+mod adapter;
 mod kept;
+mod laws;
+mod own_reply;
+mod places;
+mod qname_router;
 mod reply;
 pub mod request;
+mod send_request;
+mod single_service;
+mod to_service;
 
+pub use adapter::{BoxClientTransportToSingleService, ClientTransportToSingleService};
 pub use dns_service::CopiedMessage;
+pub use laws::{matches_are_suffixes, own_replies_are_error_replies};
+pub use qname_router::QnameRouter;
 pub use reply::{ComposeReply, ReplyMessage};
 pub use request::RequestMessage;
+pub use send_request::{SendError, SendRequest};
+pub use single_service::SingleService;
+pub use to_service::{SingleServiceFuture, SingleServiceToService};

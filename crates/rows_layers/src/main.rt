@@ -7,6 +7,7 @@ mod layer_rows;
 mod reply_rows;
 mod request_rows;
 mod route_rows;
+mod router_rows;
 mod said;
 mod service_rows;
 mod slow;
@@ -18,6 +19,7 @@ use layer_rows::LayerRows;
 use reply_rows::ReplyRows;
 use request_rows::RequestRows;
 use route_rows::RouteRows;
+use router_rows::RouterRows;
 use rows_table::run;
 use service_rows::ServiceRows;
 use std::io;
@@ -29,7 +31,7 @@ fn main(rt: HostRuntime) -> io::Result<ExitCode> {
         &rt,
         &(
             ((RequestRows, ServiceRows), (ErrorRows, ReplyRows)),
-            ((StreamRows, RouteRows), LayerRows),
+            ((StreamRows, RouteRows), (RouterRows, LayerRows)),
         ),
     )
 }

@@ -1,0 +1,124 @@
+//! Single services over transports.
+
+ghost use Rattle.std.specs.Prelude.{◌≡◌, IfOk};
+ghost use Rattle.dns_route.specs.ReplyMessage.{reply_read};
+ghost use Rattle.dns_route.specs.Relays.{read_reply, readable_request, relay_answer, relayed};
+ghost use Rattle.dns_route.specs.RequestMessage.{request_of};
+
+use crate::own_reply::explained;
+use crate::reply::{ComposeReply, ReplyMessage};
+use crate::request::{Error, RequestMessage};
+use crate::send_request::{SendError, SendRequest};
+use crate::single_service::SingleService;
+use dns_base::Message;
+use dns_service::{OutOfMemory, Polled, ReplyError, Request, ServiceError};
+use std::alloc::Global;
+
+/// A single service over a transport. A request that can't be read is InternalError and isn't sent; a message that is
+/// answered begins the reply, or is FormatError where an option of its OPT record is unreadable; an error of the transport
+/// is SERVFAIL, with an extended error of its text.
+#[derive(Drop)]
+pub struct ClientTransportToSingleService<C> {
+    conn: C,
+}
+
+impl<C: SendRequest> ClientTransportToSingleService<C> {
+    /// Over a transport.
+    pub fn new(conn: C) -> Self
+        ensures { ⟦<ClientTransportToSingleService<C> as SingleService>⟧.answer result ≡ relayed (C.answer conn) }
+    {
+        ClientTransportToSingleService { conn }
+    }
+}
+
+impl<C: SendRequest> SingleService for ClientTransportToSingleService<C> {
+    ghost answer = { λ s. relayed (C.answer s.conn) };
+
+    fn turn(
+        &self,
+        alloc: Global,
+        request: &Request<()>,
+        k: u64,
+    ) -> Result<Polled<Result<ReplyMessage, ServiceError>>, OutOfMemory> {
+        let Some(sent) = readable(alloc, request)? else {
+            return Ok(Polled::Ready(Err(ServiceError::InternalError)));
+        };
+        let answer = self.conn.poll_response(alloc, &sent, k)?;
+        relay(alloc, request.message(), answer)
+    }
+}
+
+/// The same over a transport in a box, so that transports of several kinds make single services of one type.
+#[derive(Drop)]
+pub struct BoxClientTransportToSingleService {
+    conn: Box<dyn SendRequest + Send + Sync>,
+}
+
+impl BoxClientTransportToSingleService {
+    /// Over a transport that its owner put into a box.
+    pub fn new(conn: Box<dyn SendRequest + Send + Sync>) -> Self
+        ensures { ⟦<BoxClientTransportToSingleService as SingleService>⟧.answer result ≡ relayed ((SendRequest-box conn).answer conn.value) }
+    {
+        BoxClientTransportToSingleService { conn }
+    }
+}
+
+impl SingleService for BoxClientTransportToSingleService {
+    ghost answer = { λ s. relayed ((SendRequest-box s.conn).answer s.conn.value) };
+
+    fn turn(
+        &self,
+        alloc: Global,
+        request: &Request<()>,
+        k: u64,
+    ) -> Result<Polled<Result<ReplyMessage, ServiceError>>, OutOfMemory> {
+        let Some(sent) = readable(alloc, request)? else {
+            return Ok(Polled::Ready(Err(ServiceError::InternalError)));
+        };
+        let answer = self.conn.poll_response(alloc, &sent, k)?;
+        relay(alloc, request.message(), answer)
+    }
+}
+
+/// The request as it is sent on, where it can be read.
+fn readable(alloc: Global, request: &Request<()>) -> Result<Option<RequestMessage>, OutOfMemory>
+    ensures { IfOk result (λ m. m ≡ readable_request (request_of request.now.octets)) }
+{
+    match RequestMessage::try_from(alloc, request) {
+        Ok(sent) => Ok(Some(sent)),
+        Err(Error::Unreadable(_)) => Ok(None),
+        Err(Error::OutOfMemory) => Err(OutOfMemory),
+    }
+}
+
+/// What a turn answers where a transport gave this answer to the query.
+fn relay(
+    alloc: Global,
+    query: &Message,
+    answer: Polled<Result<Message, SendError>>,
+) -> Result<Polled<Result<ReplyMessage, ServiceError>>, OutOfMemory>
+    ensures { IfOk result (λ p. p ≡ relay_answer query.now answer) }
+{
+    match answer {
+        Polled::Pending => Ok(Polled::Pending),
+        Polled::Ready(Ok(message)) => Ok(Polled::Ready(begun(alloc, &message)?)),
+        Polled::Ready(Err(error)) => {
+            let reply = explained(alloc, query, error.text())?;
+            Ok(Polled::Ready(Ok(reply)))
+        }
+    }
+}
+
+/// The reply that a message begins, or why it doesn't.
+fn begun(
+    alloc: Global,
+    message: &Message,
+) -> Result<Result<ReplyMessage, ServiceError>, OutOfMemory>
+    ensures { IfOk result (λ r. r ≡ read_reply (reply_read message.now)) }
+{
+    match ReplyMessage::from_message(alloc, &message.for_ref()) {
+        Ok(reply) => Ok(Ok(reply)),
+        Err(ReplyError::Service(error)) => Ok(Err(error)),
+        Err(ReplyError::OutOfMemory) => Err(OutOfMemory),
+    }
+}

@@ -1,0 +1,88 @@
+//! A router of requests by the name of their question.
+
+ghost use Rattle.std.specs.Prelude.{◌≡◌, ◌++◌, ◌∷◌, [], IfOk, OnOk, OnErr};
+ghost use Rattle.std.specs.Option.{option_copied};
+ghost use Rattle.dns_route.specs.Routes.{chosen, routed};
+
+use crate::own_reply::{error_begun, no_service};
+use crate::places::{deepest, folded_octets, put_route};
+use crate::reply::ReplyMessage;
+use crate::single_service::SingleService;
+use dns_name::{Name, OptRcode, ParsedName};
+use dns_service::{OutOfMemory, Polled, Request, ServiceError};
+use std::alloc::Global;
+use std::collections::HashMap;
+use std::marker::Model;
+
+/// Asks the service whose name ends the question's, up to ASCII case: of several the one with the most labels, and of
+/// those of one name the one that was added last. Contracts see the names and their services in the order in which
+/// they were added.
+#[derive(Drop)]
+pub struct QnameRouter<S> {
+    routes: Vec<(Name, S)>,
+    places: HashMap<Vec<u8>, usize>,
+}
+
+impl<S> Model for QnameRouter<S> {
+    ghost use Rattle.std.specs.Prelude.{List, ℕ};
+    ghost use Rattle.dns_route.specs.Places.{Knows};
+
+    ghost Value = { List (List (List ℕ) × S) };
+
+    ghost view = { λ r. r.routes.items };
+
+    ghost invariant = { λ r. Knows r.places r.routes.items };
+}
+
+impl<S: SingleService> QnameRouter<S> {
+    /// A router that has no service.
+    pub fn new(alloc: Global) -> Self
+        ensures { result ≡ [] }
+    {
+        QnameRouter {
+            routes: Vec::new(alloc),
+            places: HashMap::new(alloc),
+        }
+    }
+
+    /// Adds a service under a name, behind those that were added before. A refused call leaves the router.
+    pub fn add(&mut self, alloc: Global, name: Name, service: S) -> Result<(), OutOfMemory>
+        ensures ok { OnOk result (self.new ≡ self.old ++ (name, service) ∷ []) }
+        ensures err { OnErr result (self.new ≡ self.old) }
+    {
+        let key = folded_octets(alloc, name.labels(), name.compose_len() as usize)?;
+        put_route(&mut self.routes, &mut self.places, key, (name, service))
+    }
+
+    /// The service for a name.
+    fn service_for(&self, alloc: Global, name: &ParsedName<'_>) -> Result<Option<&S>, OutOfMemory>
+        ensures { IfOk result (λ s. option_copied s ≡ chosen name.now self.now) }
+    {
+        deepest(alloc, &self.routes, &self.places, name)
+    }
+}
+
+impl<S: SingleService> SingleService for QnameRouter<S> {
+    ghost answer = { routed S.answer };
+
+    /// The turn of the service that is chosen. Without a readable question the reply is FORMERR; without a service for
+    /// it SERVFAIL, with an extended error that says so.
+    fn turn(
+        &self,
+        alloc: Global,
+        request: &Request<()>,
+        k: u64,
+    ) -> Result<Polled<Result<ReplyMessage, ServiceError>>, OutOfMemory> {
+        let Some(question) = request.message().first_question() else {
+            let reply = error_begun(alloc, request.message(), OptRcode::FORMERR)?;
+            return Ok(Polled::Ready(Ok(reply)));
+        };
+        match self.service_for(alloc, &question.qname())? {
+            Some(service) => service.turn(alloc, request, k),
+            None => {
+                let reply = no_service(alloc, request.message())?;
+                Ok(Polled::Ready(Ok(reply)))
+            }
+        }
+    }
+}

@@ -1,0 +1,212 @@
+//! Rows of routers, of single services over transports, and of services over those.
+
+ghost use Rattle.std.specs.Prelude.{◌≡◌, Err, IfOk, nat_lt, if◌then◌else◌};
+ghost use Rattle.dns_service.specs.declared.service.Polled.TheVariants.{Pending, Ready};
+
+use crate::request_rows::request;
+use crate::said::poll_said;
+use crate::words::{message, service_error};
+use dns_base::Message;
+use dns_name::Name;
+use dns_route::{
+    BoxClientTransportToSingleService, ClientTransportToSingleService, ComposeReply, QnameRouter,
+    ReplyMessage, RequestMessage, SendError, SendRequest, SingleService, SingleServiceToService,
+};
+use dns_service::{OutOfMemory, Polled, ReplyFuture, ReplyStream, Request, Service, ServiceError};
+use rows_table::{Calls, Row, RowError};
+use std::alloc::Global;
+use std::sync::Arc;
+
+/// Routers and what they stand on.
+pub(crate) struct RouterRows;
+
+impl Calls for RouterRows {
+    fn answer(&self, call: &str, row: &mut Row<'_>) -> Result<(), RowError> {
+        match call {
+            "router" => router(row),
+            "send_error" => error_text(row),
+            "transport" => transport(row),
+            "boxed_transport" => boxed_transport(row),
+            "to_service" => to_service(row),
+            _ => Err(RowError::NoSuchCall),
+        }
+    }
+}
+
+/// Gives the same error to any request.
+#[derive(Drop)]
+struct Refusing {
+    error: ServiceError,
+}
+
+impl SingleService for Refusing {
+    ghost answer = { λ s _ _. Ready (Err s.error) };
+
+    fn turn(
+        &self,
+        _alloc: Global,
+        _request: &Request<()>,
+        _k: u64,
+    ) -> Result<Polled<Result<ReplyMessage, ServiceError>>, OutOfMemory> {
+        Ok(Polled::Ready(Err(self.error)))
+    }
+}
+
+/// A transport that is pending some times, and then has an answer.
+#[derive(Drop)]
+struct Planned {
+    waits: u64,
+    answer: Result<Message, SendError>,
+}
+
+impl SendRequest for Planned {
+    ghost answer = { λ t _ k. if nat_lt k t.waits then Pending else Ready t.answer };
+
+    fn poll_response(
+        &self,
+        alloc: Global,
+        _request: &RequestMessage,
+        k: u64,
+    ) -> Result<Polled<Result<Message, SendError>>, OutOfMemory> {
+        if k < self.waits {
+            return Ok(Polled::Pending);
+        }
+        match &self.answer {
+            Ok(message) => Ok(Polled::Ready(Ok(copy(alloc, message)?))),
+            Err(error) => Ok(Polled::Ready(Err(*error))),
+        }
+    }
+}
+
+/// The same message.
+fn copy(alloc: Global, message: &Message) -> Result<Message, OutOfMemory>
+    ensures { IfOk result (λ m. m ≡ message.now) }
+{
+    let octets = Vec::from_slice(alloc, message.as_slice())?;
+    Ok(Message::of(octets))
+}
+
+/// What a router says at turn 0: the next word has its names, each with the error that its service gives, `-` for none.
+fn router(row: &mut Row<'_>) -> Result<(), RowError> {
+    let names = row.word();
+    let request = request(row)?;
+    let mut router = QnameRouter::new(row.alloc());
+    for route in names.split(',') {
+        if let Some((name, error)) = route.split_once(':') {
+            add(row, &mut router, name, error)?;
+        }
+    }
+    turn_said(row, &router, &request, 0)
+}
+
+fn add(
+    row: &mut Row<'_>,
+    router: &mut QnameRouter<Refusing>,
+    name: &str,
+    error: &str,
+) -> Result<(), RowError> {
+    let name = Name::from_octets(row.octets_of(name)).or(Err(RowError::OutOfForm))?;
+    let error = service_error(error).ok_or(RowError::OutOfForm)?;
+    router.add(row.alloc(), name, Refusing { error })?;
+    Ok(())
+}
+
+/// What a single service says at a turn.
+fn turn_said<S: SingleService>(
+    row: &mut Row<'_>,
+    service: &S,
+    request: &Request<()>,
+    k: u64,
+) -> Result<(), RowError> {
+    match service.turn(row.alloc(), request, k)? {
+        Polled::Pending => row.say("pending"),
+        Polled::Ready(Ok(reply)) => built_said(row, &reply),
+        Polled::Ready(Err(error)) => row.debug(&error),
+    }
+    Ok(())
+}
+
+/// The octets of a reply, or why it can't be built.
+fn built_said(row: &mut Row<'_>, reply: &ReplyMessage) {
+    match reply.additional_builder_stream_target(row.alloc()) {
+        Ok(built) => row.hexadecimal(built.as_slice()),
+        Err(error) => row.debug(&error),
+    }
+}
+
+/// The error of a transport by its name.
+fn send_error(name: &str) -> Option<SendError> {
+    match name {
+        "Closed" => Some(SendError::Closed),
+        "Timeout" => Some(SendError::Timeout),
+        "Unreachable" => Some(SendError::Unreachable),
+        _ => None,
+    }
+}
+
+/// Its text.
+fn error_text(row: &mut Row<'_>) -> Result<(), RowError> {
+    let error = send_error(row.word()).ok_or(RowError::OutOfForm)?;
+    row.show(&error);
+    Ok(())
+}
+
+/// A transport: how often it is pending, and its error or the octets of its message.
+fn next_transport(row: &mut Row<'_>) -> Result<Planned, RowError> {
+    let waits = row.number();
+    let answer = row.word();
+    if let Some(error) = send_error(answer) {
+        return Ok(Planned {
+            waits,
+            answer: Err(error),
+        });
+    }
+    let message = message(row.octets_of(answer))?;
+    Ok(Planned {
+        waits,
+        answer: Ok(message),
+    })
+}
+
+/// What a single service over a transport says at a turn.
+fn transport(row: &mut Row<'_>) -> Result<(), RowError> {
+    let k = row.number();
+    let conn = next_transport(row)?;
+    let request = request(row)?;
+    turn_said(row, &ClientTransportToSingleService::new(conn), &request, k)
+}
+
+/// The same over the transport in a box.
+fn boxed_transport(row: &mut Row<'_>) -> Result<(), RowError> {
+    let k = row.number();
+    let conn = next_transport(row)?;
+    let request = request(row)?;
+    let conn: Box<dyn SendRequest + Send + Sync> = Box::new(row.alloc(), conn).or(Err(
+        RowError::OutOfMemory,
+    ))?;
+    turn_said(
+        row,
+        &BoxClientTransportToSingleService::new(conn),
+        &request,
+        k,
+    )
+}
+
+/// What a service over such a single service says at four polls at most, up to the end.
+fn to_service(row: &mut Row<'_>) -> Result<(), RowError> {
+    let conn = next_transport(row)?;
+    let mut request = request(row)?;
+    let service = Arc::new(row.alloc(), ClientTransportToSingleService::new(conn))?;
+    let mut future = SingleServiceToService::new(service).call(row.alloc(), &mut request)?;
+    for _ in 0..4 {
+        match future.poll(row.alloc())? {
+            Polled::Pending => row.say("pending"),
+            Polled::Ready(mut stream) => {
+                poll_said(row, stream.poll_next(row.alloc()));
+                poll_said(row, stream.poll_next(row.alloc()));
+                return Ok(());
+            }
+        }
+    }
+    Ok(())
+}
