@@ -3,7 +3,7 @@
 use crate::inner::{AsPlanned, planned};
 use crate::request_rows::{hint_said, request};
 use crate::said::item_said;
-use crate::words::{opt_rcode, reply, service_error};
+use crate::words::{next_reply, opt_rcode, reply, service_error};
 use dns_middleware::{EdnsMiddlewareSvc, MandatoryMiddlewareSvc, cut};
 use dns_service::{
     CallResult, Polled, ReplyFuture, ReplyStream, Request, Service, ServiceResult,
@@ -25,7 +25,7 @@ impl Calls for LayerRows {
 
 /// A reply is cut to so many octets: its limit and its octets.
 fn cut_reply(row: &mut Row<'_>) -> Result<(), RowError> {
-    let mut message = reply(row.alloc(), row.octets())?;
+    let mut message = next_reply(row)?;
     cut(row.alloc(), &mut message, row.number())?;
     row.show(&message.push_limit());
     row.hexadecimal(message.as_slice());
@@ -58,7 +58,10 @@ fn item(row: &mut Row<'_>, request: &Request<()>) -> Result<ServiceResult, RowEr
                 opt_rcode(row.number_of(number))?,
             )?
         }
-        None => reply(row.alloc(), row.octets_of(word))?,
+        None => {
+            let octets = row.octets_of(word);
+            reply(row, octets)?
+        }
     };
     Ok(Ok(CallResult::new(reply)))
 }

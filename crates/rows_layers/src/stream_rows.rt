@@ -6,7 +6,7 @@ use crate::said::{poll_said, size_said};
 use crate::slow::{Later, SameError, Slow};
 use dns_service::{CallResult, ReplyStream, ServiceError, ServiceFeedback};
 use dns_stream::{MiddlewareStream, Once, PostprocessingStream};
-use rows_table::{Calls, Row, RowError};
+use rows_table::{Calls, Row, RowError, pages};
 use std::alloc::Global;
 
 type Layered = MiddlewareStream<
@@ -78,7 +78,9 @@ fn mapped(
     alloc: Global,
     error: ServiceError,
 ) -> Result<PostprocessingStream<Later<Slow>, (), SameError>, RowError> {
-    let request = request(&mut Row::of(alloc, "udp none 123401000000000000000000"))?;
+    let text = "udp none 123401000000000000000000";
+    let pages = pages(alloc, text)?;
+    let request = request(&mut Row::of(alloc, text, &pages))?;
     Ok(PostprocessingStream::new(later(error), request, SameError {}))
 }
 

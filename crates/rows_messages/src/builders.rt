@@ -62,7 +62,7 @@ fn framed(row: &mut Row<'_>) -> Result<(), RowError> {
 fn asked(row: &mut Row<'_>) -> Result<(usize, Rcode, Message), RowError> {
     let limit = row.number();
     let rcode = Rcode::checked_from_int(row.number()).ok_or(RowError::OutOfForm)?;
-    let query = Message::from_octets(row.octets()).or(Err(RowError::OutOfForm))?;
+    let query = Message::from_octets(row.vector()).or(Err(RowError::OutOfForm))?;
     Ok((limit, rcode, query))
 }
 

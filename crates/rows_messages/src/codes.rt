@@ -1,6 +1,8 @@
 //! The numbers that constants of dns_name have.
 
-use dns_name::{Class, ExtendedErrorCode, Opcode, OptRcode, OptionCode, Rcode, Rtype};
+use dns_name::{
+    Class, Code, ExtendedErrorCode, HeaderCode, Opcode, OptRcode, OptionCode, Rcode, Rtype,
+};
 use rows_table::{Calls, Row, RowError};
 
 /// The registries of dns_name.
@@ -9,200 +11,188 @@ pub struct Codes;
 impl Calls for Codes {
     fn answer(&self, call: &str, row: &mut Row<'_>) -> Result<(), RowError> {
         match call {
-            "classes" => classes(row),
-            "rtypes" => rtypes(row),
-            "more_rtypes" => more_rtypes(row),
-            "option_codes" => option_codes(row),
-            "extended_error_codes" => extended_error_codes(row),
-            "more_extended_error_codes" => more_extended_error_codes(row),
-            "opcodes" => opcodes(row),
-            "rcodes" => rcodes(row),
-            "opt_rcodes" => opt_rcodes(row),
-            "more_opt_rcodes" => more_opt_rcodes(row),
+            "classes" => said(row, &CLASSES),
+            "rtypes" => said(row, &RTYPES),
+            "more_rtypes" => said(row, &MORE_RTYPES),
+            "option_codes" => said(row, &OPTION_CODES),
+            "extended_error_codes" => said(row, &EXTENDED_ERROR_CODES),
+            "more_extended_error_codes" => said(row, &MORE_EXTENDED_ERROR_CODES),
+            "opcodes" => header_said(row, &OPCODES),
+            "rcodes" => header_said(row, &RCODES),
+            "opt_rcodes" => opt_said(row, &OPT_RCODES),
+            "more_opt_rcodes" => opt_said(row, &MORE_OPT_RCODES),
             _ => return Err(RowError::NoSuchCall),
         }
         Ok(())
     }
 }
 
-/// The classes.
-fn classes(row: &mut Row<'_>) {
-    row.tell("IN", &Class::IN.to_int());
-    row.tell("CH", &Class::CH.to_int());
-    row.tell("HS", &Class::HS.to_int());
-    row.tell("NONE", &Class::NONE.to_int());
-    row.tell("ANY", &Class::ANY.to_int());
+/// Says the numbers of codes.
+fn said<K>(row: &mut Row<'_>, codes: &[(&str, Code<K>)]) {
+    for (name, code) in codes {
+        row.tell(name, &code.to_int());
+    }
 }
+
+/// Says the numbers of codes of a header.
+fn header_said<K>(row: &mut Row<'_>, codes: &[(&str, HeaderCode<K>)]) {
+    for (name, code) in codes {
+        row.tell(name, &code.to_int());
+    }
+}
+
+/// Says the numbers of response codes with the bits of an OPT record.
+fn opt_said(row: &mut Row<'_>, codes: &[(&str, OptRcode)]) {
+    for (name, code) in codes {
+        row.tell(name, &code.to_int());
+    }
+}
+
+/// The classes.
+const CLASSES: [(&str, Class); 5] = [
+    ("IN", Class::IN),
+    ("CH", Class::CH),
+    ("HS", Class::HS),
+    ("NONE", Class::NONE),
+    ("ANY", Class::ANY),
+];
 
 /// The record types.
-fn rtypes(row: &mut Row<'_>) {
-    row.tell("A", &Rtype::A.to_int());
-    row.tell("NS", &Rtype::NS.to_int());
-    row.tell("MD", &Rtype::MD.to_int());
-    row.tell("MF", &Rtype::MF.to_int());
-    row.tell("CNAME", &Rtype::CNAME.to_int());
-    row.tell("SOA", &Rtype::SOA.to_int());
-    row.tell("MB", &Rtype::MB.to_int());
-    row.tell("MG", &Rtype::MG.to_int());
-    row.tell("MR", &Rtype::MR.to_int());
-    row.tell("PTR", &Rtype::PTR.to_int());
-    row.tell("MINFO", &Rtype::MINFO.to_int());
-    row.tell("MX", &Rtype::MX.to_int());
-    row.tell("TXT", &Rtype::TXT.to_int());
-    row.tell("AAAA", &Rtype::AAAA.to_int());
-}
+const RTYPES: [(&str, Rtype); 14] = [
+    ("A", Rtype::A),
+    ("NS", Rtype::NS),
+    ("MD", Rtype::MD),
+    ("MF", Rtype::MF),
+    ("CNAME", Rtype::CNAME),
+    ("SOA", Rtype::SOA),
+    ("MB", Rtype::MB),
+    ("MG", Rtype::MG),
+    ("MR", Rtype::MR),
+    ("PTR", Rtype::PTR),
+    ("MINFO", Rtype::MINFO),
+    ("MX", Rtype::MX),
+    ("TXT", Rtype::TXT),
+    ("AAAA", Rtype::AAAA),
+];
 
 /// The other record types.
-fn more_rtypes(row: &mut Row<'_>) {
-    row.tell("SRV", &Rtype::SRV.to_int());
-    row.tell("DNAME", &Rtype::DNAME.to_int());
-    row.tell("OPT", &Rtype::OPT.to_int());
-    row.tell("DS", &Rtype::DS.to_int());
-    row.tell("RRSIG", &Rtype::RRSIG.to_int());
-    row.tell("NSEC", &Rtype::NSEC.to_int());
-    row.tell("DNSKEY", &Rtype::DNSKEY.to_int());
-    row.tell("NSEC3", &Rtype::NSEC3.to_int());
-    row.tell("SVCB", &Rtype::SVCB.to_int());
-    row.tell("HTTPS", &Rtype::HTTPS.to_int());
-    row.tell("IXFR", &Rtype::IXFR.to_int());
-    row.tell("AXFR", &Rtype::AXFR.to_int());
-    row.tell("ANY", &Rtype::ANY.to_int());
-    row.tell("CAA", &Rtype::CAA.to_int());
-}
+const MORE_RTYPES: [(&str, Rtype); 14] = [
+    ("SRV", Rtype::SRV),
+    ("DNAME", Rtype::DNAME),
+    ("OPT", Rtype::OPT),
+    ("DS", Rtype::DS),
+    ("RRSIG", Rtype::RRSIG),
+    ("NSEC", Rtype::NSEC),
+    ("DNSKEY", Rtype::DNSKEY),
+    ("NSEC3", Rtype::NSEC3),
+    ("SVCB", Rtype::SVCB),
+    ("HTTPS", Rtype::HTTPS),
+    ("IXFR", Rtype::IXFR),
+    ("AXFR", Rtype::AXFR),
+    ("ANY", Rtype::ANY),
+    ("CAA", Rtype::CAA),
+];
 
 /// The option codes.
-fn option_codes(row: &mut Row<'_>) {
-    row.tell("NSID", &OptionCode::NSID.to_int());
-    row.tell("DAU", &OptionCode::DAU.to_int());
-    row.tell("DHU", &OptionCode::DHU.to_int());
-    row.tell("N3U", &OptionCode::N3U.to_int());
-    row.tell("CLIENT_SUBNET", &OptionCode::CLIENT_SUBNET.to_int());
-    row.tell("EXPIRE", &OptionCode::EXPIRE.to_int());
-    row.tell("COOKIE", &OptionCode::COOKIE.to_int());
-    row.tell("TCP_KEEPALIVE", &OptionCode::TCP_KEEPALIVE.to_int());
-    row.tell("PADDING", &OptionCode::PADDING.to_int());
-    row.tell("CHAIN", &OptionCode::CHAIN.to_int());
-    row.tell("KEY_TAG", &OptionCode::KEY_TAG.to_int());
-    row.tell("EXTENDED_ERROR", &OptionCode::EXTENDED_ERROR.to_int());
-}
+const OPTION_CODES: [(&str, OptionCode); 12] = [
+    ("NSID", OptionCode::NSID),
+    ("DAU", OptionCode::DAU),
+    ("DHU", OptionCode::DHU),
+    ("N3U", OptionCode::N3U),
+    ("CLIENT_SUBNET", OptionCode::CLIENT_SUBNET),
+    ("EXPIRE", OptionCode::EXPIRE),
+    ("COOKIE", OptionCode::COOKIE),
+    ("TCP_KEEPALIVE", OptionCode::TCP_KEEPALIVE),
+    ("PADDING", OptionCode::PADDING),
+    ("CHAIN", OptionCode::CHAIN),
+    ("KEY_TAG", OptionCode::KEY_TAG),
+    ("EXTENDED_ERROR", OptionCode::EXTENDED_ERROR),
+];
 
 /// The extended error codes.
-fn extended_error_codes(row: &mut Row<'_>) {
-    row.tell("OTHER", &ExtendedErrorCode::OTHER.to_int());
-    row.tell(
-        "UNSUPPORTED_DNSKEY_ALGORITHM",
-        &ExtendedErrorCode::UNSUPPORTED_DNSKEY_ALGORITHM.to_int(),
-    );
-    row.tell(
-        "UNSUPPORTED_DS_DIGEST_TYPE",
-        &ExtendedErrorCode::UNSUPPORTED_DS_DIGEST_TYPE.to_int(),
-    );
-    row.tell("STALE_ANSWER", &ExtendedErrorCode::STALE_ANSWER.to_int());
-    row.tell("FORGED_ANSWER", &ExtendedErrorCode::FORGED_ANSWER.to_int());
-    row.tell(
-        "DNSSEC_INDETERMINATE",
-        &ExtendedErrorCode::DNSSEC_INDETERMINATE.to_int(),
-    );
-    row.tell("DNSSEC_BOGUS", &ExtendedErrorCode::DNSSEC_BOGUS.to_int());
-    row.tell(
-        "SIGNATURE_EXPIRED",
-        &ExtendedErrorCode::SIGNATURE_EXPIRED.to_int(),
-    );
-    row.tell(
-        "SIGNATURE_NOT_YET_VALID",
-        &ExtendedErrorCode::SIGNATURE_NOT_YET_VALID.to_int(),
-    );
-    row.tell(
-        "DNSKEY_MISSING",
-        &ExtendedErrorCode::DNSKEY_MISSING.to_int(),
-    );
-    row.tell(
-        "RRSIGS_MISSING",
-        &ExtendedErrorCode::RRSIGS_MISSING.to_int(),
-    );
-    row.tell(
-        "NO_ZONE_KEY_BIT_SET",
-        &ExtendedErrorCode::NO_ZONE_KEY_BIT_SET.to_int(),
-    );
-    row.tell("NSEC_MISSING", &ExtendedErrorCode::NSEC_MISSING.to_int());
-}
+const EXTENDED_ERROR_CODES: [(&str, ExtendedErrorCode); 13] = [
+    ("OTHER", ExtendedErrorCode::OTHER),
+    ("UNSUPPORTED_DNSKEY_ALGORITHM", ExtendedErrorCode::UNSUPPORTED_DNSKEY_ALGORITHM),
+    ("UNSUPPORTED_DS_DIGEST_TYPE", ExtendedErrorCode::UNSUPPORTED_DS_DIGEST_TYPE),
+    ("STALE_ANSWER", ExtendedErrorCode::STALE_ANSWER),
+    ("FORGED_ANSWER", ExtendedErrorCode::FORGED_ANSWER),
+    ("DNSSEC_INDETERMINATE", ExtendedErrorCode::DNSSEC_INDETERMINATE),
+    ("DNSSEC_BOGUS", ExtendedErrorCode::DNSSEC_BOGUS),
+    ("SIGNATURE_EXPIRED", ExtendedErrorCode::SIGNATURE_EXPIRED),
+    ("SIGNATURE_NOT_YET_VALID", ExtendedErrorCode::SIGNATURE_NOT_YET_VALID),
+    ("DNSKEY_MISSING", ExtendedErrorCode::DNSKEY_MISSING),
+    ("RRSIGS_MISSING", ExtendedErrorCode::RRSIGS_MISSING),
+    ("NO_ZONE_KEY_BIT_SET", ExtendedErrorCode::NO_ZONE_KEY_BIT_SET),
+    ("NSEC_MISSING", ExtendedErrorCode::NSEC_MISSING),
+];
 
 /// The other extended error codes.
-fn more_extended_error_codes(row: &mut Row<'_>) {
-    row.tell("CACHED_ERROR", &ExtendedErrorCode::CACHED_ERROR.to_int());
-    row.tell("NOT_READY", &ExtendedErrorCode::NOT_READY.to_int());
-    row.tell("BLOCKED", &ExtendedErrorCode::BLOCKED.to_int());
-    row.tell("CENSORED", &ExtendedErrorCode::CENSORED.to_int());
-    row.tell("FILTERED", &ExtendedErrorCode::FILTERED.to_int());
-    row.tell("PROHIBITED", &ExtendedErrorCode::PROHIBITED.to_int());
-    row.tell(
-        "STALE_NXDOMAIN_ANSWER",
-        &ExtendedErrorCode::STALE_NXDOMAIN_ANSWER.to_int(),
-    );
-    row.tell(
-        "NOT_AUTHORITATIVE",
-        &ExtendedErrorCode::NOT_AUTHORITATIVE.to_int(),
-    );
-    row.tell("NOT_SUPPORTED", &ExtendedErrorCode::NOT_SUPPORTED.to_int());
-    row.tell(
-        "NO_REACHABLE_AUTHORITY",
-        &ExtendedErrorCode::NO_REACHABLE_AUTHORITY.to_int(),
-    );
-    row.tell("NETWORK_ERROR", &ExtendedErrorCode::NETWORK_ERROR.to_int());
-    row.tell("INVALID_DATA", &ExtendedErrorCode::INVALID_DATA.to_int());
-}
+const MORE_EXTENDED_ERROR_CODES: [(&str, ExtendedErrorCode); 12] = [
+    ("CACHED_ERROR", ExtendedErrorCode::CACHED_ERROR),
+    ("NOT_READY", ExtendedErrorCode::NOT_READY),
+    ("BLOCKED", ExtendedErrorCode::BLOCKED),
+    ("CENSORED", ExtendedErrorCode::CENSORED),
+    ("FILTERED", ExtendedErrorCode::FILTERED),
+    ("PROHIBITED", ExtendedErrorCode::PROHIBITED),
+    ("STALE_NXDOMAIN_ANSWER", ExtendedErrorCode::STALE_NXDOMAIN_ANSWER),
+    ("NOT_AUTHORITATIVE", ExtendedErrorCode::NOT_AUTHORITATIVE),
+    ("NOT_SUPPORTED", ExtendedErrorCode::NOT_SUPPORTED),
+    ("NO_REACHABLE_AUTHORITY", ExtendedErrorCode::NO_REACHABLE_AUTHORITY),
+    ("NETWORK_ERROR", ExtendedErrorCode::NETWORK_ERROR),
+    ("INVALID_DATA", ExtendedErrorCode::INVALID_DATA),
+];
 
 /// The operation codes.
-fn opcodes(row: &mut Row<'_>) {
-    row.tell("QUERY", &Opcode::QUERY.to_int());
-    row.tell("IQUERY", &Opcode::IQUERY.to_int());
-    row.tell("STATUS", &Opcode::STATUS.to_int());
-    row.tell("NOTIFY", &Opcode::NOTIFY.to_int());
-    row.tell("UPDATE", &Opcode::UPDATE.to_int());
-    row.tell("DSO", &Opcode::DSO.to_int());
-}
+const OPCODES: [(&str, Opcode); 6] = [
+    ("QUERY", Opcode::QUERY),
+    ("IQUERY", Opcode::IQUERY),
+    ("STATUS", Opcode::STATUS),
+    ("NOTIFY", Opcode::NOTIFY),
+    ("UPDATE", Opcode::UPDATE),
+    ("DSO", Opcode::DSO),
+];
 
 /// The response codes of a header.
-fn rcodes(row: &mut Row<'_>) {
-    row.tell("NOERROR", &Rcode::NOERROR.to_int());
-    row.tell("FORMERR", &Rcode::FORMERR.to_int());
-    row.tell("SERVFAIL", &Rcode::SERVFAIL.to_int());
-    row.tell("NXDOMAIN", &Rcode::NXDOMAIN.to_int());
-    row.tell("NOTIMP", &Rcode::NOTIMP.to_int());
-    row.tell("REFUSED", &Rcode::REFUSED.to_int());
-    row.tell("YXDOMAIN", &Rcode::YXDOMAIN.to_int());
-    row.tell("YXRRSET", &Rcode::YXRRSET.to_int());
-    row.tell("NXRRSET", &Rcode::NXRRSET.to_int());
-    row.tell("NOTAUTH", &Rcode::NOTAUTH.to_int());
-    row.tell("NOTZONE", &Rcode::NOTZONE.to_int());
-    row.tell("DSOTYPENI", &Rcode::DSOTYPENI.to_int());
-}
+const RCODES: [(&str, Rcode); 12] = [
+    ("NOERROR", Rcode::NOERROR),
+    ("FORMERR", Rcode::FORMERR),
+    ("SERVFAIL", Rcode::SERVFAIL),
+    ("NXDOMAIN", Rcode::NXDOMAIN),
+    ("NOTIMP", Rcode::NOTIMP),
+    ("REFUSED", Rcode::REFUSED),
+    ("YXDOMAIN", Rcode::YXDOMAIN),
+    ("YXRRSET", Rcode::YXRRSET),
+    ("NXRRSET", Rcode::NXRRSET),
+    ("NOTAUTH", Rcode::NOTAUTH),
+    ("NOTZONE", Rcode::NOTZONE),
+    ("DSOTYPENI", Rcode::DSOTYPENI),
+];
 
 /// The response codes with the bits of an OPT record.
-fn opt_rcodes(row: &mut Row<'_>) {
-    row.tell("NOERROR", &OptRcode::NOERROR.to_int());
-    row.tell("FORMERR", &OptRcode::FORMERR.to_int());
-    row.tell("SERVFAIL", &OptRcode::SERVFAIL.to_int());
-    row.tell("NXDOMAIN", &OptRcode::NXDOMAIN.to_int());
-    row.tell("NOTIMP", &OptRcode::NOTIMP.to_int());
-    row.tell("REFUSED", &OptRcode::REFUSED.to_int());
-    row.tell("YXDOMAIN", &OptRcode::YXDOMAIN.to_int());
-    row.tell("YXRRSET", &OptRcode::YXRRSET.to_int());
-    row.tell("NXRRSET", &OptRcode::NXRRSET.to_int());
-    row.tell("NOTAUTH", &OptRcode::NOTAUTH.to_int());
-    row.tell("NOTZONE", &OptRcode::NOTZONE.to_int());
-    row.tell("DSOTYPENI", &OptRcode::DSOTYPENI.to_int());
-    row.tell("BADVERS", &OptRcode::BADVERS.to_int());
-    row.tell("BADSIG", &OptRcode::BADSIG.to_int());
-}
+const OPT_RCODES: [(&str, OptRcode); 14] = [
+    ("NOERROR", OptRcode::NOERROR),
+    ("FORMERR", OptRcode::FORMERR),
+    ("SERVFAIL", OptRcode::SERVFAIL),
+    ("NXDOMAIN", OptRcode::NXDOMAIN),
+    ("NOTIMP", OptRcode::NOTIMP),
+    ("REFUSED", OptRcode::REFUSED),
+    ("YXDOMAIN", OptRcode::YXDOMAIN),
+    ("YXRRSET", OptRcode::YXRRSET),
+    ("NXRRSET", OptRcode::NXRRSET),
+    ("NOTAUTH", OptRcode::NOTAUTH),
+    ("NOTZONE", OptRcode::NOTZONE),
+    ("DSOTYPENI", OptRcode::DSOTYPENI),
+    ("BADVERS", OptRcode::BADVERS),
+    ("BADSIG", OptRcode::BADSIG),
+];
 
 /// The other response codes with the bits of an OPT record.
-fn more_opt_rcodes(row: &mut Row<'_>) {
-    row.tell("BADKEY", &OptRcode::BADKEY.to_int());
-    row.tell("BADTIME", &OptRcode::BADTIME.to_int());
-    row.tell("BADMODE", &OptRcode::BADMODE.to_int());
-    row.tell("BADNAME", &OptRcode::BADNAME.to_int());
-    row.tell("BADALG", &OptRcode::BADALG.to_int());
-    row.tell("BADTRUNC", &OptRcode::BADTRUNC.to_int());
-    row.tell("BADCOOKIE", &OptRcode::BADCOOKIE.to_int());
-}
+const MORE_OPT_RCODES: [(&str, OptRcode); 7] = [
+    ("BADKEY", OptRcode::BADKEY),
+    ("BADTIME", OptRcode::BADTIME),
+    ("BADMODE", OptRcode::BADMODE),
+    ("BADNAME", OptRcode::BADNAME),
+    ("BADALG", OptRcode::BADALG),
+    ("BADTRUNC", OptRcode::BADTRUNC),
+    ("BADCOOKIE", OptRcode::BADCOOKIE),
+];

@@ -28,7 +28,7 @@ fn frames(row: &mut Row<'_>) -> Result<(), RowError> {
     let mut framer = Framer::new(row.alloc());
     for piece in row.all_words().split(' ') {
         let octets = row.octets_of(piece);
-        framer.feed(row.alloc(), &octets)?;
+        framer.feed(row.alloc(), octets)?;
         say_next(row, &mut framer)?;
     }
     say_next(row, &mut framer)

@@ -44,7 +44,7 @@ fn service(row: &mut Row<'_>) -> Result<ScriptService, RowError> {
 
 /// A request in a datagram, with the message of the next word.
 fn request(row: &mut Row<'_>) -> Result<Request<()>, RowError> {
-    let message = Message::from_octets(row.octets()).or(Err(RowError::OutOfForm))?;
+    let message = Message::from_octets(row.vector()).or(Err(RowError::OutOfForm))?;
     let transport = TransportSpecificContext::Udp(UdpTransportContext::new(None));
     let ip = IpAddr::V4([192, 0, 2, 1]);
     let sender = SocketAddr { ip, port: 5353 };

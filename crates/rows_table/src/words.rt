@@ -3,19 +3,7 @@
 use crate::RowError;
 use dns_name::IpAddr;
 use hex::FromHex;
-use std::alloc::Global;
 use std::str::FromStr;
-
-/// The octets of a word in hexadecimal, `-` for none.
-pub fn octets_of(alloc: Global, word: &str) -> Result<Vec<u8>, RowError> {
-    if word == "-" {
-        return Ok(Vec::new(alloc));
-    }
-    match hex::decode(alloc, word) {
-        Ok(octets) => Ok(octets),
-        Err(_) => Err(RowError::OutOfForm),
-    }
-}
 
 /// So many octets of a word in hexadecimal.
 pub fn array_of<const N: usize>(word: &str) -> Result<[u8; N], RowError> {
