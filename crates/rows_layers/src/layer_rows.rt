@@ -4,6 +4,7 @@ use crate::inner::{AsPlanned, planned};
 use crate::request_rows::{hint_said, request};
 use crate::said::item_said;
 use crate::words::{next_reply, opt_rcode, reply, service_error};
+use dns_base::AdditionalBuilder;
 use dns_middleware::{EdnsMiddlewareSvc, MandatoryMiddlewareSvc, cut};
 use dns_service::{
     CallResult, Polled, ReplyFuture, ReplyStream, Request, Service, ServiceResult,
@@ -47,23 +48,27 @@ fn layered(call: &str, row: &mut Row<'_>) -> Result<(), RowError> {
 /// The item of the next word: an error by its name, the error reply to the request with a response code, or octets.
 fn item(row: &mut Row<'_>, request: &Request<()>) -> Result<ServiceResult, RowError> {
     let word = row.word();
-    if let Some(error) = service_error(word) {
-        return Ok(Err(error));
+    match service_error(word) {
+        Some(error) => Ok(Err(error)),
+        None => Ok(Ok(CallResult::new(item_reply(row, request, word)?))),
     }
-    let reply = match word.strip_prefix("rcode:") {
+}
+
+fn item_reply(
+    row: &mut Row<'_>,
+    request: &Request<()>,
+    word: &str,
+) -> Result<AdditionalBuilder, RowError> {
+    match word.strip_prefix("rcode:") {
         Some(number) => {
-            mk_error_response(
-                row.alloc(),
-                request.message(),
-                opt_rcode(row.number_of(number))?,
-            )?
+            let rcode = opt_rcode(row.number_of(number))?;
+            Ok(mk_error_response(row.alloc(), request.message(), rcode)?)
         }
         None => {
             let octets = row.octets_of(word);
-            reply(row, octets)?
+            reply(row, octets)
         }
-    };
-    Ok(Ok(CallResult::new(reply)))
+    }
 }
 
 /// Through the EDNS layer alone, as the call names it.

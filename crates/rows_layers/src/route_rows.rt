@@ -65,25 +65,29 @@ fn reply_message(row: &mut Row<'_>) -> Result<(), RowError> {
     let source = message_ref(row)?;
     let identifier = row.octets();
     match ReplyMessage::from_message(row.alloc(), &source) {
-        Ok(reply) => composed(row, reply, identifier)?,
+        Ok(reply) => composed(row, reply, identifier),
         Err(error) => row.debug(&error),
     }
     Ok(())
 }
 
-fn composed(row: &mut Row<'_>, reply: ReplyMessage, added: &[u8]) -> Result<(), RowError> {
+fn composed(row: &mut Row<'_>, reply: ReplyMessage, added: &[u8]) {
     let mut reply = reply;
     if !added.is_empty() {
-        let identifier = NsidRef::from_slice(added).or(Err(RowError::OutOfForm))?;
-        reply
-            .add_opt(row.alloc(), &identifier)
-            .or(Err(RowError::OutOfForm))?;
+        identifier_added(row, &mut reply, added);
     }
     match reply.additional_builder_stream_target(row.alloc()) {
         Ok(built) => row.hexadecimal(built.as_slice()),
         Err(error) => row.debug(&error),
     }
-    Ok(())
+}
+
+/// Adds an NSID.
+fn identifier_added(row: &mut Row<'_>, reply: &mut ReplyMessage, octets: &[u8]) {
+    match NsidRef::from_slice(octets) {
+        Ok(identifier) => row.keep(reply.add_opt(row.alloc(), &identifier)),
+        Err(_) => row.fail(RowError::OutOfForm),
+    }
 }
 
 /// The copy of a message with QR set, built.

@@ -28,10 +28,17 @@ pub(crate) fn next_reply(row: &mut Row<'_>) -> Result<AdditionalBuilder, RowErro
 pub(crate) fn reply(row: &mut Row<'_>, octets: &[u8]) -> Result<AdditionalBuilder, RowError> {
     let message = MessageRef::from_slice(octets).or(Err(RowError::OutOfForm))?;
     let opt = opt_record(row.alloc(), &message)?;
-    let copied = CopiedMessage::read(row.alloc(), &message).or(Err(RowError::OutOfForm))?;
-    copied
-        .build(row.alloc(), opt.as_ref())
-        .or(Err(RowError::OutOfForm))
+    copied(row.alloc(), &message, opt.as_ref())
+}
+
+/// A copy of a message with this OPT record in place of its own.
+fn copied(
+    alloc: Global,
+    message: &MessageRef<'_>,
+    opt: Option<&OptRecord>,
+) -> Result<AdditionalBuilder, RowError> {
+    let copied = CopiedMessage::read(alloc, message).or(Err(RowError::OutOfForm))?;
+    copied.build(alloc, opt).or(Err(RowError::OutOfForm))
 }
 
 fn opt_record(alloc: Global, message: &MessageRef<'_>) -> Result<Option<OptRecord>, OutOfMemory> {
