@@ -172,13 +172,34 @@ fn reply_sum<S: Service<()>>(
 
 /// The sum of the octets of a stream's one reply.
 fn stream_sum<R: ReplyStream>(alloc: Global, stream: &mut R) -> Result<u64, WorkError> {
-    let sum = match stream.poll_next(alloc)? {
-        Polled::Ready(Some(Ok(item))) => item_sum(&item),
-        _ => None,
-    };
-    match (sum, stream.poll_next(alloc)?) {
-        (Some(sum), Polled::Ready(None)) => Ok(sum),
-        _ => Err(WorkError::Service),
+    let sum = polled_sum(stream.poll_next(alloc)?);
+    if !is_end(&stream.poll_next(alloc)?) {
+        return Err(WorkError::Service);
+    }
+    sum.ok_or(WorkError::Service)
+}
+
+/// Whether a stream ended at a poll.
+fn is_end(polled: &Polled<Option<ServiceResult>>) -> bool {
+    match polled {
+        Polled::Ready(item) => item.is_none(),
+        Polled::Pending => false,
+    }
+}
+
+/// The sum of the octets of the reply that a poll gave.
+fn polled_sum(polled: Polled<Option<ServiceResult>>) -> Option<u64> {
+    match polled {
+        Polled::Ready(item) => given_sum(item?),
+        Polled::Pending => None,
+    }
+}
+
+/// The sum of the octets of an item's reply, where it isn't an error.
+fn given_sum(item: ServiceResult) -> Option<u64> {
+    match item {
+        Ok(given) => item_sum(&given),
+        Err(_) => None,
     }
 }
 

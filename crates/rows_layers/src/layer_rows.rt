@@ -155,14 +155,22 @@ fn only_item<S: Service<()>>(
 }
 
 fn only_answer<S: ReplyStream>(row: &mut Row<'_>, stream: &mut S) -> Result<(), RowError> {
-    let Polled::Ready(Some(item)) = stream.poll_next(row.alloc())? else {
-        row.say("no item");
-        return Ok(());
-    };
-    item_said(row, item);
-    match stream.poll_next(row.alloc())? {
+    answer_said(row, stream.poll_next(row.alloc())?);
+    end_said(row, &stream.poll_next(row.alloc())?);
+    Ok(())
+}
+
+fn answer_said(row: &mut Row<'_>, polled: Polled<Option<ServiceResult>>) {
+    match polled {
+        Polled::Ready(Some(item)) => item_said(row, item),
+        _ => row.say("no item"),
+    }
+}
+
+/// Says where a stream doesn't end.
+fn end_said(row: &mut Row<'_>, polled: &Polled<Option<ServiceResult>>) {
+    match polled {
         Polled::Ready(None) => {}
         _ => row.say("no end"),
     }
-    Ok(())
 }
