@@ -21,11 +21,7 @@ pub fn pages<'a>(alloc: Global, text: &'a str) -> Result<Vec<Page<'a>>, RowError
 }
 
 /// Appends the octets of a word, where it is hexadecimal.
-fn push_page<'a>(
-    alloc: Global,
-    pages: &mut Vec<Page<'a>>,
-    word: &'a str,
-) -> Result<(), RowError> {
+fn push_page<'a>(alloc: Global, pages: &mut Vec<Page<'a>>, word: &'a str) -> Result<(), RowError> {
     match hex::decode(alloc, word) {
         Ok(octets) => Ok(pages.push(Page { word, octets })?),
         Err(FromHexError::OutOfMemory) => Err(RowError::OutOfMemory),
