@@ -1,9 +1,8 @@
 //! The numbers that constants of dns_name have.
 
-use dns_name::{
-    Class, Code, ExtendedErrorCode, HeaderCode, Opcode, OptRcode, OptionCode, Rcode, Rtype,
-};
+use dns_name::{Class, ExtendedErrorCode, Opcode, OptRcode, OptionCode, Rcode, Rtype};
 use rows_table::{Calls, Row, RowError};
+use std::fmt::Display;
 
 /// The registries of dns_name.
 pub struct Codes;
@@ -11,188 +10,228 @@ pub struct Codes;
 impl Calls for Codes {
     fn answer(&self, call: &str, row: &mut Row<'_>) -> Result<(), RowError> {
         match call {
-            "classes" => said(row, &CLASSES),
-            "rtypes" => said(row, &RTYPES),
-            "more_rtypes" => said(row, &MORE_RTYPES),
-            "option_codes" => said(row, &OPTION_CODES),
-            "extended_error_codes" => said(row, &EXTENDED_ERROR_CODES),
-            "more_extended_error_codes" => said(row, &MORE_EXTENDED_ERROR_CODES),
-            "opcodes" => header_said(row, &OPCODES),
-            "rcodes" => header_said(row, &RCODES),
-            "opt_rcodes" => opt_said(row, &OPT_RCODES),
-            "more_opt_rcodes" => opt_said(row, &MORE_OPT_RCODES),
+            "classes" => classes(row),
+            "rtypes" => rtypes(row),
+            "more_rtypes" => more_rtypes(row),
+            "option_codes" => option_codes(row),
+            "extended_error_codes" => extended_error_codes(row),
+            "more_extended_error_codes" => more_extended_error_codes(row),
+            "opcodes" => opcodes(row),
+            "rcodes" => rcodes(row),
+            "opt_rcodes" => opt_rcodes(row),
+            "more_opt_rcodes" => more_opt_rcodes(row),
             _ => return Err(RowError::NoSuchCall),
         }
         Ok(())
     }
 }
 
-/// Says the numbers of codes.
-fn said<K>(row: &mut Row<'_>, codes: &[(&str, Code<K>)]) {
-    for (name, code) in codes {
-        row.tell(name, &code.to_int());
-    }
-}
-
-/// Says the numbers of codes of a header.
-fn header_said<K>(row: &mut Row<'_>, codes: &[(&str, HeaderCode<K>)]) {
-    for (name, code) in codes {
-        row.tell(name, &code.to_int());
-    }
-}
-
-/// Says the numbers of response codes with the bits of an OPT record.
-fn opt_said(row: &mut Row<'_>, codes: &[(&str, OptRcode)]) {
-    for (name, code) in codes {
-        row.tell(name, &code.to_int());
+/// Says numbers, each under the name in its place.
+fn numbered<T: Display>(row: &mut Row<'_>, names: &str, numbers: &[T]) {
+    for (name, number) in names.split(' ').zip(numbers) {
+        row.tell(name, number);
     }
 }
 
 /// The classes.
-const CLASSES: [(&str, Class); 5] = [
-    ("IN", Class::IN),
-    ("CH", Class::CH),
-    ("HS", Class::HS),
-    ("NONE", Class::NONE),
-    ("ANY", Class::ANY),
-];
+fn classes(row: &mut Row<'_>) {
+    let numbers = [
+        Class::IN.to_int(),
+        Class::CH.to_int(),
+        Class::HS.to_int(),
+        Class::NONE.to_int(),
+        Class::ANY.to_int(),
+    ];
+    numbered(row, "IN CH HS NONE ANY", &numbers)
+}
 
 /// The record types.
-const RTYPES: [(&str, Rtype); 14] = [
-    ("A", Rtype::A),
-    ("NS", Rtype::NS),
-    ("MD", Rtype::MD),
-    ("MF", Rtype::MF),
-    ("CNAME", Rtype::CNAME),
-    ("SOA", Rtype::SOA),
-    ("MB", Rtype::MB),
-    ("MG", Rtype::MG),
-    ("MR", Rtype::MR),
-    ("PTR", Rtype::PTR),
-    ("MINFO", Rtype::MINFO),
-    ("MX", Rtype::MX),
-    ("TXT", Rtype::TXT),
-    ("AAAA", Rtype::AAAA),
-];
+fn rtypes(row: &mut Row<'_>) {
+    let numbers = [
+        Rtype::A.to_int(),
+        Rtype::NS.to_int(),
+        Rtype::MD.to_int(),
+        Rtype::MF.to_int(),
+        Rtype::CNAME.to_int(),
+        Rtype::SOA.to_int(),
+        Rtype::MB.to_int(),
+        Rtype::MG.to_int(),
+        Rtype::MR.to_int(),
+        Rtype::PTR.to_int(),
+        Rtype::MINFO.to_int(),
+        Rtype::MX.to_int(),
+        Rtype::TXT.to_int(),
+        Rtype::AAAA.to_int(),
+    ];
+    numbered(
+        row,
+        "A NS MD MF CNAME SOA MB MG MR PTR MINFO MX TXT AAAA",
+        &numbers,
+    )
+}
 
 /// The other record types.
-const MORE_RTYPES: [(&str, Rtype); 14] = [
-    ("SRV", Rtype::SRV),
-    ("DNAME", Rtype::DNAME),
-    ("OPT", Rtype::OPT),
-    ("DS", Rtype::DS),
-    ("RRSIG", Rtype::RRSIG),
-    ("NSEC", Rtype::NSEC),
-    ("DNSKEY", Rtype::DNSKEY),
-    ("NSEC3", Rtype::NSEC3),
-    ("SVCB", Rtype::SVCB),
-    ("HTTPS", Rtype::HTTPS),
-    ("IXFR", Rtype::IXFR),
-    ("AXFR", Rtype::AXFR),
-    ("ANY", Rtype::ANY),
-    ("CAA", Rtype::CAA),
-];
+fn more_rtypes(row: &mut Row<'_>) {
+    let numbers = [
+        Rtype::SRV.to_int(),
+        Rtype::DNAME.to_int(),
+        Rtype::OPT.to_int(),
+        Rtype::DS.to_int(),
+        Rtype::RRSIG.to_int(),
+        Rtype::NSEC.to_int(),
+        Rtype::DNSKEY.to_int(),
+        Rtype::NSEC3.to_int(),
+        Rtype::SVCB.to_int(),
+        Rtype::HTTPS.to_int(),
+        Rtype::IXFR.to_int(),
+        Rtype::AXFR.to_int(),
+        Rtype::ANY.to_int(),
+        Rtype::CAA.to_int(),
+    ];
+    numbered(
+        row,
+        "SRV DNAME OPT DS RRSIG NSEC DNSKEY NSEC3 SVCB HTTPS IXFR AXFR ANY CAA",
+        &numbers,
+    )
+}
 
 /// The option codes.
-const OPTION_CODES: [(&str, OptionCode); 12] = [
-    ("NSID", OptionCode::NSID),
-    ("DAU", OptionCode::DAU),
-    ("DHU", OptionCode::DHU),
-    ("N3U", OptionCode::N3U),
-    ("CLIENT_SUBNET", OptionCode::CLIENT_SUBNET),
-    ("EXPIRE", OptionCode::EXPIRE),
-    ("COOKIE", OptionCode::COOKIE),
-    ("TCP_KEEPALIVE", OptionCode::TCP_KEEPALIVE),
-    ("PADDING", OptionCode::PADDING),
-    ("CHAIN", OptionCode::CHAIN),
-    ("KEY_TAG", OptionCode::KEY_TAG),
-    ("EXTENDED_ERROR", OptionCode::EXTENDED_ERROR),
-];
+fn option_codes(row: &mut Row<'_>) {
+    let numbers = [
+        OptionCode::NSID.to_int(),
+        OptionCode::DAU.to_int(),
+        OptionCode::DHU.to_int(),
+        OptionCode::N3U.to_int(),
+        OptionCode::CLIENT_SUBNET.to_int(),
+        OptionCode::EXPIRE.to_int(),
+        OptionCode::COOKIE.to_int(),
+        OptionCode::TCP_KEEPALIVE.to_int(),
+        OptionCode::PADDING.to_int(),
+        OptionCode::CHAIN.to_int(),
+        OptionCode::KEY_TAG.to_int(),
+        OptionCode::EXTENDED_ERROR.to_int(),
+    ];
+    let names = "NSID DAU DHU N3U CLIENT_SUBNET EXPIRE COOKIE TCP_KEEPALIVE PADDING CHAIN KEY_TAG \
+        EXTENDED_ERROR";
+    numbered(row, names, &numbers)
+}
 
 /// The extended error codes.
-const EXTENDED_ERROR_CODES: [(&str, ExtendedErrorCode); 13] = [
-    ("OTHER", ExtendedErrorCode::OTHER),
-    ("UNSUPPORTED_DNSKEY_ALGORITHM", ExtendedErrorCode::UNSUPPORTED_DNSKEY_ALGORITHM),
-    ("UNSUPPORTED_DS_DIGEST_TYPE", ExtendedErrorCode::UNSUPPORTED_DS_DIGEST_TYPE),
-    ("STALE_ANSWER", ExtendedErrorCode::STALE_ANSWER),
-    ("FORGED_ANSWER", ExtendedErrorCode::FORGED_ANSWER),
-    ("DNSSEC_INDETERMINATE", ExtendedErrorCode::DNSSEC_INDETERMINATE),
-    ("DNSSEC_BOGUS", ExtendedErrorCode::DNSSEC_BOGUS),
-    ("SIGNATURE_EXPIRED", ExtendedErrorCode::SIGNATURE_EXPIRED),
-    ("SIGNATURE_NOT_YET_VALID", ExtendedErrorCode::SIGNATURE_NOT_YET_VALID),
-    ("DNSKEY_MISSING", ExtendedErrorCode::DNSKEY_MISSING),
-    ("RRSIGS_MISSING", ExtendedErrorCode::RRSIGS_MISSING),
-    ("NO_ZONE_KEY_BIT_SET", ExtendedErrorCode::NO_ZONE_KEY_BIT_SET),
-    ("NSEC_MISSING", ExtendedErrorCode::NSEC_MISSING),
-];
+fn extended_error_codes(row: &mut Row<'_>) {
+    let numbers = [
+        ExtendedErrorCode::OTHER.to_int(),
+        ExtendedErrorCode::UNSUPPORTED_DNSKEY_ALGORITHM.to_int(),
+        ExtendedErrorCode::UNSUPPORTED_DS_DIGEST_TYPE.to_int(),
+        ExtendedErrorCode::STALE_ANSWER.to_int(),
+        ExtendedErrorCode::FORGED_ANSWER.to_int(),
+        ExtendedErrorCode::DNSSEC_INDETERMINATE.to_int(),
+        ExtendedErrorCode::DNSSEC_BOGUS.to_int(),
+        ExtendedErrorCode::SIGNATURE_EXPIRED.to_int(),
+        ExtendedErrorCode::SIGNATURE_NOT_YET_VALID.to_int(),
+        ExtendedErrorCode::DNSKEY_MISSING.to_int(),
+        ExtendedErrorCode::RRSIGS_MISSING.to_int(),
+        ExtendedErrorCode::NO_ZONE_KEY_BIT_SET.to_int(),
+        ExtendedErrorCode::NSEC_MISSING.to_int(),
+    ];
+    let names = "OTHER UNSUPPORTED_DNSKEY_ALGORITHM UNSUPPORTED_DS_DIGEST_TYPE STALE_ANSWER \
+        FORGED_ANSWER DNSSEC_INDETERMINATE DNSSEC_BOGUS SIGNATURE_EXPIRED \
+        SIGNATURE_NOT_YET_VALID DNSKEY_MISSING RRSIGS_MISSING NO_ZONE_KEY_BIT_SET \
+        NSEC_MISSING";
+    numbered(row, names, &numbers)
+}
 
 /// The other extended error codes.
-const MORE_EXTENDED_ERROR_CODES: [(&str, ExtendedErrorCode); 12] = [
-    ("CACHED_ERROR", ExtendedErrorCode::CACHED_ERROR),
-    ("NOT_READY", ExtendedErrorCode::NOT_READY),
-    ("BLOCKED", ExtendedErrorCode::BLOCKED),
-    ("CENSORED", ExtendedErrorCode::CENSORED),
-    ("FILTERED", ExtendedErrorCode::FILTERED),
-    ("PROHIBITED", ExtendedErrorCode::PROHIBITED),
-    ("STALE_NXDOMAIN_ANSWER", ExtendedErrorCode::STALE_NXDOMAIN_ANSWER),
-    ("NOT_AUTHORITATIVE", ExtendedErrorCode::NOT_AUTHORITATIVE),
-    ("NOT_SUPPORTED", ExtendedErrorCode::NOT_SUPPORTED),
-    ("NO_REACHABLE_AUTHORITY", ExtendedErrorCode::NO_REACHABLE_AUTHORITY),
-    ("NETWORK_ERROR", ExtendedErrorCode::NETWORK_ERROR),
-    ("INVALID_DATA", ExtendedErrorCode::INVALID_DATA),
-];
+fn more_extended_error_codes(row: &mut Row<'_>) {
+    let numbers = [
+        ExtendedErrorCode::CACHED_ERROR.to_int(),
+        ExtendedErrorCode::NOT_READY.to_int(),
+        ExtendedErrorCode::BLOCKED.to_int(),
+        ExtendedErrorCode::CENSORED.to_int(),
+        ExtendedErrorCode::FILTERED.to_int(),
+        ExtendedErrorCode::PROHIBITED.to_int(),
+        ExtendedErrorCode::STALE_NXDOMAIN_ANSWER.to_int(),
+        ExtendedErrorCode::NOT_AUTHORITATIVE.to_int(),
+        ExtendedErrorCode::NOT_SUPPORTED.to_int(),
+        ExtendedErrorCode::NO_REACHABLE_AUTHORITY.to_int(),
+        ExtendedErrorCode::NETWORK_ERROR.to_int(),
+        ExtendedErrorCode::INVALID_DATA.to_int(),
+    ];
+    let names = "CACHED_ERROR NOT_READY BLOCKED CENSORED FILTERED PROHIBITED STALE_NXDOMAIN_ANSWER \
+        NOT_AUTHORITATIVE NOT_SUPPORTED NO_REACHABLE_AUTHORITY NETWORK_ERROR INVALID_DATA";
+    numbered(row, names, &numbers)
+}
 
 /// The operation codes.
-const OPCODES: [(&str, Opcode); 6] = [
-    ("QUERY", Opcode::QUERY),
-    ("IQUERY", Opcode::IQUERY),
-    ("STATUS", Opcode::STATUS),
-    ("NOTIFY", Opcode::NOTIFY),
-    ("UPDATE", Opcode::UPDATE),
-    ("DSO", Opcode::DSO),
-];
+fn opcodes(row: &mut Row<'_>) {
+    let numbers = [
+        Opcode::QUERY.to_int(),
+        Opcode::IQUERY.to_int(),
+        Opcode::STATUS.to_int(),
+        Opcode::NOTIFY.to_int(),
+        Opcode::UPDATE.to_int(),
+        Opcode::DSO.to_int(),
+    ];
+    numbered(row, "QUERY IQUERY STATUS NOTIFY UPDATE DSO", &numbers)
+}
 
 /// The response codes of a header.
-const RCODES: [(&str, Rcode); 12] = [
-    ("NOERROR", Rcode::NOERROR),
-    ("FORMERR", Rcode::FORMERR),
-    ("SERVFAIL", Rcode::SERVFAIL),
-    ("NXDOMAIN", Rcode::NXDOMAIN),
-    ("NOTIMP", Rcode::NOTIMP),
-    ("REFUSED", Rcode::REFUSED),
-    ("YXDOMAIN", Rcode::YXDOMAIN),
-    ("YXRRSET", Rcode::YXRRSET),
-    ("NXRRSET", Rcode::NXRRSET),
-    ("NOTAUTH", Rcode::NOTAUTH),
-    ("NOTZONE", Rcode::NOTZONE),
-    ("DSOTYPENI", Rcode::DSOTYPENI),
-];
+fn rcodes(row: &mut Row<'_>) {
+    let numbers = [
+        Rcode::NOERROR.to_int(),
+        Rcode::FORMERR.to_int(),
+        Rcode::SERVFAIL.to_int(),
+        Rcode::NXDOMAIN.to_int(),
+        Rcode::NOTIMP.to_int(),
+        Rcode::REFUSED.to_int(),
+        Rcode::YXDOMAIN.to_int(),
+        Rcode::YXRRSET.to_int(),
+        Rcode::NXRRSET.to_int(),
+        Rcode::NOTAUTH.to_int(),
+        Rcode::NOTZONE.to_int(),
+        Rcode::DSOTYPENI.to_int(),
+    ];
+    let names = "NOERROR FORMERR SERVFAIL NXDOMAIN NOTIMP REFUSED YXDOMAIN YXRRSET NXRRSET NOTAUTH \
+        NOTZONE DSOTYPENI";
+    numbered(row, names, &numbers)
+}
 
 /// The response codes with the bits of an OPT record.
-const OPT_RCODES: [(&str, OptRcode); 14] = [
-    ("NOERROR", OptRcode::NOERROR),
-    ("FORMERR", OptRcode::FORMERR),
-    ("SERVFAIL", OptRcode::SERVFAIL),
-    ("NXDOMAIN", OptRcode::NXDOMAIN),
-    ("NOTIMP", OptRcode::NOTIMP),
-    ("REFUSED", OptRcode::REFUSED),
-    ("YXDOMAIN", OptRcode::YXDOMAIN),
-    ("YXRRSET", OptRcode::YXRRSET),
-    ("NXRRSET", OptRcode::NXRRSET),
-    ("NOTAUTH", OptRcode::NOTAUTH),
-    ("NOTZONE", OptRcode::NOTZONE),
-    ("DSOTYPENI", OptRcode::DSOTYPENI),
-    ("BADVERS", OptRcode::BADVERS),
-    ("BADSIG", OptRcode::BADSIG),
-];
+fn opt_rcodes(row: &mut Row<'_>) {
+    let numbers = [
+        OptRcode::NOERROR.to_int(),
+        OptRcode::FORMERR.to_int(),
+        OptRcode::SERVFAIL.to_int(),
+        OptRcode::NXDOMAIN.to_int(),
+        OptRcode::NOTIMP.to_int(),
+        OptRcode::REFUSED.to_int(),
+        OptRcode::YXDOMAIN.to_int(),
+        OptRcode::YXRRSET.to_int(),
+        OptRcode::NXRRSET.to_int(),
+        OptRcode::NOTAUTH.to_int(),
+        OptRcode::NOTZONE.to_int(),
+        OptRcode::DSOTYPENI.to_int(),
+        OptRcode::BADVERS.to_int(),
+        OptRcode::BADSIG.to_int(),
+    ];
+    let names = "NOERROR FORMERR SERVFAIL NXDOMAIN NOTIMP REFUSED YXDOMAIN YXRRSET NXRRSET NOTAUTH \
+        NOTZONE DSOTYPENI BADVERS BADSIG";
+    numbered(row, names, &numbers)
+}
 
 /// The other response codes with the bits of an OPT record.
-const MORE_OPT_RCODES: [(&str, OptRcode); 7] = [
-    ("BADKEY", OptRcode::BADKEY),
-    ("BADTIME", OptRcode::BADTIME),
-    ("BADMODE", OptRcode::BADMODE),
-    ("BADNAME", OptRcode::BADNAME),
-    ("BADALG", OptRcode::BADALG),
-    ("BADTRUNC", OptRcode::BADTRUNC),
-    ("BADCOOKIE", OptRcode::BADCOOKIE),
-];
+fn more_opt_rcodes(row: &mut Row<'_>) {
+    let numbers = [
+        OptRcode::BADKEY.to_int(),
+        OptRcode::BADTIME.to_int(),
+        OptRcode::BADMODE.to_int(),
+        OptRcode::BADNAME.to_int(),
+        OptRcode::BADALG.to_int(),
+        OptRcode::BADTRUNC.to_int(),
+        OptRcode::BADCOOKIE.to_int(),
+    ];
+    numbered(
+        row,
+        "BADKEY BADTIME BADMODE BADNAME BADALG BADTRUNC BADCOOKIE",
+        &numbers,
+    )
+}
