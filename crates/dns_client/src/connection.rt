@@ -137,7 +137,7 @@ impl<W: Served> OpenConnection<W> {
     ) -> Result<Option<Outcome>, OutOfMemory>
         requires { W.can_call service.now }
         ensures { IfOk result (λ outcome. MatchOption outcome
-            (Takes (request_answer W.Future.answer W.Stream.answer) (W.answer service.now) at secs self.old self.new)
+            (TakesFrame (request_answer W.Future.answer W.Stream.answer) (W.answer service.now) at secs self.old self.new)
             (λ outcome. Leads (request_answer W.Future.answer W.Stream.answer) (W.answer service.now) self.old self.new outcome (λ s. take_frames at secs (frames self.old.framer) s))) }
     {
         let Some(frame) = self.framer.next(alloc)? else {

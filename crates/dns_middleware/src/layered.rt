@@ -72,7 +72,7 @@ fn rewrite_given<R: Rewrite>(
 pub(crate) fn of_own<S: Service<Meta>, Meta, P: Postprocess<()>>(
     own: Once,
 ) -> Now<Layered<S, Meta, P>>
-    ensures { ⟦<Now<Layered<S, Meta, P>> as ReplyFuture>⟧.answer result ≡ ⟦<Once as ReplyStream>⟧.answer own_reply }
+    ensures { ⟦<Now<Layered<S, Meta, P>> as ReplyFuture>⟧.answer result ≡ ⟦<Once as ReplyStream>⟧.answer own }
 {
     Now::new(MiddlewareStream::Result(own))
 }

@@ -130,7 +130,7 @@ fn answer_text<W: Sink>(alloc: Global, text: &[u8], sink: &mut W) -> Status
 fn replay<R: Source, W: Sink>(alloc: Global, source: &mut R, sink: &mut W) -> Status
     ensures read { Tells (R.tells source.new) (R.tells source.old) (ReplayReads result (R.left source.old) (R.left source.new)) }
     ensures written { Tells (R.tells source.new × W.tells sink.new) (R.tells source.old × W.tells sink.old)
-        (ReplayWrites result (text_of (script (R.left source.old))) (W.taken sink.old) (W.taken sink.new)) }
+        (ReplayWrites result (run_text (script (R.left source.old))) (W.taken sink.old) (W.taken sink.new)) }
     ensures source_faults { SourceFaults result (R.faults source.old) (R.faults source.new) }
     ensures sink_faults { SinkFaults result (W.faults sink.old) (W.faults sink.new) }
     ensures too_long { result ≡ Status.TooLong → sink.new ≡ sink.old }

@@ -36,7 +36,7 @@ impl<'a> Words<'a> {
 
     /// What stands before, between and behind the separators of a word.
     pub fn parts(alloc: Global, word: &'a [u8], separator: u8) -> Result<Words<'a>, OutOfMemory>
-        ensures { IfOk result (λ ws. ws ≡ slice_split (λ b. b == separator) word_at.now) }
+        ensures { IfOk result (λ ws. ws ≡ slice_split (λ b. b == separator) word.now) }
     {
         let words: Vec<&'a [u8]> = word.split(|octet| *octet == separator).collect(alloc)?;
         Ok(Words { words })
