@@ -80,11 +80,7 @@ fn stepped<S: Served>(
 }
 
 /// The core of a client by its first event.
-fn core_of<S: Served>(
-    alloc: Global,
-    service: &S,
-    event: &Event,
-) -> Result<ClientCore<S>, RowError>
+fn core_of<S: Served>(alloc: Global, service: &S, event: &Event) -> Result<ClientCore<S>, RowError>
     requires { S.can_call service.now }
 {
     match &event.kind {
