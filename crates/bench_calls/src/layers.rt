@@ -44,25 +44,44 @@ fn given(
 
 /// The sum of the replies to so many queries of a service that answers at once.
 pub fn plain_replies(alloc: Global, count: u64) -> Result<u64, WorkError> {
-    let service = service_fn::<Same, _, AdditionalBuilder>(given, answer(alloc)?);
-    replies(alloc, &service, &mut QUERY, count)
+    served(alloc, false, &mut QUERY, count)
 }
 
 /// The sum of the replies to so many queries of that service within the EDNS layer within the mandatory one.
 pub fn layered_replies(alloc: Global, count: u64) -> Result<u64, WorkError> {
-    through_layers(alloc, &mut QUERY, count)
+    served(alloc, true, &mut QUERY, count)
 }
 
 /// The same for queries without an OPT record.
 pub fn bare_replies(alloc: Global, count: u64) -> Result<u64, WorkError> {
-    through_layers(alloc, &mut BARE_QUERY, count)
+    served(alloc, true, &mut BARE_QUERY, count)
 }
 
-fn through_layers(alloc: Global, query: &mut [u8], count: u64) -> Result<u64, WorkError>
+/// The sum of the replies to so many queries of the service, within the layers or alone.
+fn served(alloc: Global, layered: bool, query: &mut [u8], count: u64) -> Result<u64, WorkError>
     requires { 2 ≤ length query.old }
 {
-    let service = service_fn::<Same, _, AdditionalBuilder>(given, answer(alloc)?);
-    within_mandatory(alloc, EdnsMiddlewareSvc::new(service), query, count)
+    let answer = answer(alloc)?;
+    let service = service_fn::<Same, _, AdditionalBuilder>(given, answer);
+    within(alloc, service, layered, query, count)
+}
+
+/// The sum of the replies of a service, within the layers or alone.
+fn within<S: Service<()>>(
+    alloc: Global,
+    service: S,
+    layered: bool,
+    query: &mut [u8],
+    count: u64,
+) -> Result<u64, WorkError>
+    requires can_call { S.can_call service }
+    requires identifier { 2 ≤ length query.old }
+{
+    if layered {
+        within_mandatory(alloc, EdnsMiddlewareSvc::new(service), query, count)
+    } else {
+        replies(alloc, &service, query, count)
+    }
 }
 
 /// The sum of the replies where a service stands within the mandatory layer.
@@ -153,13 +172,34 @@ fn reply_sum<S: Service<()>>(
 
 /// The sum of the octets of a stream's one reply.
 fn stream_sum<R: ReplyStream>(alloc: Global, stream: &mut R) -> Result<u64, WorkError> {
-    let sum = match stream.poll_next(alloc)? {
-        Polled::Ready(Some(Ok(item))) => item_sum(&item),
-        _ => None,
-    };
-    match (sum, stream.poll_next(alloc)?) {
-        (Some(sum), Polled::Ready(None)) => Ok(sum),
-        _ => Err(WorkError::Service),
+    let sum = polled_sum(stream.poll_next(alloc)?);
+    if !is_end(&stream.poll_next(alloc)?) {
+        return Err(WorkError::Service);
+    }
+    sum.ok_or(WorkError::Service)
+}
+
+/// Whether a stream ended at a poll.
+fn is_end(polled: &Polled<Option<ServiceResult>>) -> bool {
+    match polled {
+        Polled::Ready(item) => item.is_none(),
+        Polled::Pending => false,
+    }
+}
+
+/// The sum of the octets of the reply that a poll gave.
+fn polled_sum(polled: Polled<Option<ServiceResult>>) -> Option<u64> {
+    match polled {
+        Polled::Ready(item) => given_sum(item?),
+        Polled::Pending => None,
+    }
+}
+
+/// The sum of the octets of an item's reply, where it isn't an error.
+fn given_sum(item: ServiceResult) -> Option<u64> {
+    match item {
+        Ok(given) => item_sum(&given),
+        Err(_) => None,
     }
 }
 

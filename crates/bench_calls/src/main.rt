@@ -17,13 +17,22 @@ const USAGE: &str = "Usage: bench_calls sip20|sip64|check|read|build|plain|layer
 /// The work that the words behind the program's name ask for, and how often.
 fn read_words(rt: &HostRuntime) -> io::Result<Option<(Work, u64)>> {
     let mut words = std::env::args(rt)?.skip(1);
-    let (Some(work), Some(count), None) = (words.next(), words.next(), words.next()) else {
+    let work = read_work(words.next());
+    let count = read_count(words.next());
+    if words.next().is_some() {
         return Ok(None);
-    };
-    let Some(work) = Work::named(work.as_str()) else {
-        return Ok(None);
-    };
-    Ok(count.parse::<u64>().ok().map(|count| (work, count)))
+    }
+    Ok(work.zip(count))
+}
+
+/// The work that a word names.
+fn read_work(word: Option<String>) -> Option<Work> {
+    Work::named(word?.as_str())
+}
+
+/// The number that a word is.
+fn read_count(word: Option<String>) -> Option<u64> {
+    word?.parse::<u64>().ok()
 }
 
 fn main(rt: HostRuntime) -> io::Result<ExitCode> {

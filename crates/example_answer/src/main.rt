@@ -5,15 +5,15 @@ ghost use Rattle.std.specs.Prelude.{◌≡◌, Some, None, Ok};
 ghost use Rattle.std.specs.Result.{ForOk};
 ghost use Rattle.dns_service.specs.ErrorReply.{error_reply};
 
-use dns_base::{Message, OutOfMemory, ParseError};
+use anyhow::{Context, bail};
+use dns_base::{Message, OutOfMemory};
 use dns_middleware::{EdnsMiddlewareSvc, MandatoryMiddlewareSvc};
 use dns_name::{IpAddr, OptRcode, SocketAddr};
 use dns_service::{
     CallResult, Gives, Polled, ReplyFuture, ReplyStream, Request, Service, ServiceResult,
     TransportSpecificContext, UdpTransportContext, mk_error_response, service_fn,
 };
-use std::alloc::{AllocError, Global};
-use thiserror::Error;
+use std::alloc::Global;
 
 /// A query for the root's address, with RD and an OPT record.
 const QUERY: &[u8] =
@@ -38,35 +38,6 @@ fn refuse(
     Ok(Ok(CallResult::new(reply)))
 }
 
-/// Why no reply is printed.
-#[derive(Clone, Copy, Debug, PartialEq, Eq, Error)]
-enum NoReply {
-    #[error("the query is not read: {0}")]
-    Unreadable(ParseError),
-    #[error("out of memory")]
-    OutOfMemory,
-    #[error("the service gives no reply at once")]
-    NotAtOnce,
-}
-
-impl From<ParseError> for NoReply {
-    fn from(error: ParseError) -> NoReply {
-        NoReply::Unreadable(error)
-    }
-}
-
-impl From<OutOfMemory> for NoReply {
-    fn from(_error: OutOfMemory) -> NoReply {
-        NoReply::OutOfMemory
-    }
-}
-
-impl From<AllocError> for NoReply {
-    fn from(_error: AllocError) -> NoReply {
-        NoReply::OutOfMemory
-    }
-}
-
 fn main(rt: HostRuntime) -> anyhow::Result<()> {
     let service = service_fn::<Refusal, _, _>(refuse, OptRcode::NXDOMAIN);
     let service = MandatoryMiddlewareSvc::new(EdnsMiddlewareSvc::new(service));
@@ -76,7 +47,7 @@ fn main(rt: HostRuntime) -> anyhow::Result<()> {
 }
 
 /// The octets of the first reply to a query that came in a datagram.
-fn reply_to<S: Service<()>>(alloc: Global, service: &S, query: &[u8]) -> Result<Vec<u8>, NoReply>
+fn reply_to<S: Service<()>>(alloc: Global, service: &S, query: &[u8]) -> anyhow::Result<Vec<u8>>
     requires { S.can_call service.now }
 {
     let mut request = received(alloc, query)?;
@@ -84,13 +55,13 @@ fn reply_to<S: Service<()>>(alloc: Global, service: &S, query: &[u8]) -> Result<
 }
 
 /// The request that a datagram of these octets makes.
-fn received(alloc: Global, octets: &[u8]) -> Result<Request<()>, NoReply> {
+fn received(alloc: Global, octets: &[u8]) -> anyhow::Result<Request<()>> {
     let sender = SocketAddr {
         ip: IpAddr::V4([192, 0, 2, 1]),
         port: 5353,
     };
     let transport = TransportSpecificContext::Udp(UdpTransportContext::new(Some(1232)));
-    let query = Message::from_octets(Vec::from_slice(alloc, octets)?)?;
+    let query = Message::from_octets(Vec::from_slice(alloc, octets)?).context("reading the query")?;
     Ok(Request::new(alloc, sender, 0, 0, query, transport, ())?)
 }
 
@@ -99,18 +70,18 @@ fn first_reply<S: Service<()>>(
     alloc: Global,
     service: &S,
     request: &mut Request<()>,
-) -> Result<Vec<u8>, NoReply>
+) -> anyhow::Result<Vec<u8>>
     requires { S.can_call service.now }
 {
     let mut future = service.call(alloc, request)?;
     let Polled::Ready(mut stream) = future.poll(alloc)? else {
-        return Err(NoReply::NotAtOnce);
+        bail!("the service gives no stream at once");
     };
     let Polled::Ready(Some(Ok(given))) = stream.poll_next(alloc)? else {
-        return Err(NoReply::NotAtOnce);
+        bail!("the service gives no reply at once");
     };
     let (Some(reply), _) = given.into_inner() else {
-        return Err(NoReply::NotAtOnce);
+        bail!("the service gives feedback alone");
     };
     Ok(Vec::from_slice(alloc, reply.as_slice())?)
 }

@@ -3,7 +3,8 @@
 use crate::inner::{AsPlanned, planned};
 use crate::request_rows::{hint_said, request};
 use crate::said::item_said;
-use crate::words::{opt_rcode, reply, service_error};
+use crate::words::{next_reply, opt_rcode, reply, service_error};
+use dns_base::AdditionalBuilder;
 use dns_middleware::{EdnsMiddlewareSvc, MandatoryMiddlewareSvc, cut};
 use dns_service::{
     CallResult, Polled, ReplyFuture, ReplyStream, Request, Service, ServiceResult,
@@ -25,7 +26,7 @@ impl Calls for LayerRows {
 
 /// A reply is cut to so many octets: its limit and its octets.
 fn cut_reply(row: &mut Row<'_>) -> Result<(), RowError> {
-    let mut message = reply(row.alloc(), row.octets())?;
+    let mut message = next_reply(row)?;
     cut(row.alloc(), &mut message, row.number())?;
     row.show(&message.push_limit());
     row.hexadecimal(message.as_slice());
@@ -47,20 +48,27 @@ fn layered(call: &str, row: &mut Row<'_>) -> Result<(), RowError> {
 /// The item of the next word: an error by its name, the error reply to the request with a response code, or octets.
 fn item(row: &mut Row<'_>, request: &Request<()>) -> Result<ServiceResult, RowError> {
     let word = row.word();
-    if let Some(error) = service_error(word) {
-        return Ok(Err(error));
+    match service_error(word) {
+        Some(error) => Ok(Err(error)),
+        None => Ok(Ok(CallResult::new(item_reply(row, request, word)?))),
     }
-    let reply = match word.strip_prefix("rcode:") {
+}
+
+fn item_reply(
+    row: &mut Row<'_>,
+    request: &Request<()>,
+    word: &str,
+) -> Result<AdditionalBuilder, RowError> {
+    match word.strip_prefix("rcode:") {
         Some(number) => {
-            mk_error_response(
-                row.alloc(),
-                request.message(),
-                opt_rcode(row.number_of(number))?,
-            )?
+            let rcode = opt_rcode(row.number_of(number))?;
+            Ok(mk_error_response(row.alloc(), request.message(), rcode)?)
         }
-        None => reply(row.alloc(), row.octets_of(word))?,
-    };
-    Ok(Ok(CallResult::new(reply)))
+        None => {
+            let octets = row.octets_of(word);
+            reply(row, octets)
+        }
+    }
 }
 
 /// Through the EDNS layer alone, as the call names it.
@@ -147,14 +155,22 @@ fn only_item<S: Service<()>>(
 }
 
 fn only_answer<S: ReplyStream>(row: &mut Row<'_>, stream: &mut S) -> Result<(), RowError> {
-    let Polled::Ready(Some(item)) = stream.poll_next(row.alloc())? else {
-        row.say("no item");
-        return Ok(());
-    };
-    item_said(row, item);
-    match stream.poll_next(row.alloc())? {
+    answer_said(row, stream.poll_next(row.alloc())?);
+    end_said(row, &stream.poll_next(row.alloc())?);
+    Ok(())
+}
+
+fn answer_said(row: &mut Row<'_>, polled: Polled<Option<ServiceResult>>) {
+    match polled {
+        Polled::Ready(Some(item)) => item_said(row, item),
+        _ => row.say("no item"),
+    }
+}
+
+/// Says where a stream doesn't end.
+fn end_said(row: &mut Row<'_>, polled: &Polled<Option<ServiceResult>>) {
+    match polled {
         Polled::Ready(None) => {}
         _ => row.say("no end"),
     }
-    Ok(())
 }

@@ -38,7 +38,7 @@ fn empty(row: &mut Row<'_>) -> Result<(), RowError> {
 
 /// The error reply to a message with a response code.
 fn error_reply(row: &mut Row<'_>) -> Result<AdditionalBuilder, RowError> {
-    let query = message(row.octets())?;
+    let query = message(row)?;
     let rcode = opt_rcode(row.number())?;
     Ok(mk_error_response(row.alloc(), &query, rcode)?)
 }
@@ -180,7 +180,7 @@ fn option_added(
     octets: &str,
 ) -> Result<(), BuildDataError> {
     let octets = row.octets_of(octets);
-    add_edns_option(row.alloc(), reply, &NsidRef::from_slice(&octets)?)
+    add_edns_option(row.alloc(), reply, &NsidRef::from_slice(octets)?)
 }
 
 /// Pushes the root's address.

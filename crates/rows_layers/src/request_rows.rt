@@ -25,7 +25,7 @@ impl Calls for RequestRows {
 /// `stream` with an idle timeout in ms, and its message.
 pub(crate) fn request(row: &mut Row<'_>) -> Result<Request<()>, RowError> {
     let transport = transport(row)?;
-    let message = message(row.octets())?;
+    let message = message(row)?;
     let ip = IpAddr::V4([192, 0, 2, 1]);
     let sender = SocketAddr { ip, port: 5353 };
     Ok(Request::new(row.alloc(), sender, 5, 100, message, transport, ())?)

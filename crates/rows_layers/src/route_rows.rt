@@ -1,7 +1,7 @@
 //! Rows of messages that are composed of other ones.
 
 use crate::request_rows::request;
-use crate::words::message;
+use crate::words::message_ref;
 use dns_opt::NsidRef;
 use dns_route::{ComposeReply, CopiedMessage, ReplyMessage, RequestMessage};
 use rows_table::{Calls, Row, RowError};
@@ -52,7 +52,7 @@ fn request_step(row: &mut Row<'_>, asked: &mut RequestMessage, step: &str) {
         Some(("dnssec_ok", value)) => asked.set_dnssec_ok(value == "true"),
         Some((_, octets)) => {
             let octets = row.octets_of(octets);
-            match NsidRef::from_slice(&octets) {
+            match NsidRef::from_slice(octets) {
                 Ok(identifier) => row.keep(asked.add_opt(row.alloc(), &identifier)),
                 Err(_) => row.fail(RowError::OutOfForm),
             }
@@ -62,34 +62,38 @@ fn request_step(row: &mut Row<'_>, asked: &mut RequestMessage, step: &str) {
 
 /// A reply that is composed of a message, with an NSID that is added or `-` for none.
 fn reply_message(row: &mut Row<'_>) -> Result<(), RowError> {
-    let source = message(row.octets())?;
+    let source = message_ref(row)?;
     let identifier = row.octets();
-    match ReplyMessage::from_message(row.alloc(), &source.for_ref()) {
-        Ok(reply) => composed(row, reply, &identifier)?,
+    match ReplyMessage::from_message(row.alloc(), &source) {
+        Ok(reply) => composed(row, reply, identifier),
         Err(error) => row.debug(&error),
     }
     Ok(())
 }
 
-fn composed(row: &mut Row<'_>, reply: ReplyMessage, added: &[u8]) -> Result<(), RowError> {
+fn composed(row: &mut Row<'_>, reply: ReplyMessage, added: &[u8]) {
     let mut reply = reply;
     if !added.is_empty() {
-        let identifier = NsidRef::from_slice(added).or(Err(RowError::OutOfForm))?;
-        reply
-            .add_opt(row.alloc(), &identifier)
-            .or(Err(RowError::OutOfForm))?;
+        identifier_added(row, &mut reply, added);
     }
     match reply.additional_builder_stream_target(row.alloc()) {
         Ok(built) => row.hexadecimal(built.as_slice()),
         Err(error) => row.debug(&error),
     }
-    Ok(())
+}
+
+/// Adds an NSID.
+fn identifier_added(row: &mut Row<'_>, reply: &mut ReplyMessage, octets: &[u8]) {
+    match NsidRef::from_slice(octets) {
+        Ok(identifier) => row.keep(reply.add_opt(row.alloc(), &identifier)),
+        Err(_) => row.fail(RowError::OutOfForm),
+    }
 }
 
 /// The copy of a message with QR set, built.
 fn copied_message(row: &mut Row<'_>) -> Result<(), RowError> {
-    let source = message(row.octets())?;
-    let copied = CopiedMessage::read(row.alloc(), &source.for_ref());
+    let source = message_ref(row)?;
+    let copied = CopiedMessage::read(row.alloc(), &source);
     let mut copied = copied.or(Err(RowError::OutOfForm))?;
     let mut header = copied.header();
     header.set_qr(true);

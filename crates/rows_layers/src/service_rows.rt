@@ -89,9 +89,27 @@ fn served(row: &mut Row<'_>) -> Result<(), RowError> {
 
 /// What the silent service gives as a service behind a shared reference.
 fn of_arc(row: &mut Row<'_>) -> Result<(), RowError> {
-    let mut request = request(row)?;
     let shared = Arc::new(row.alloc(), Silent {})?;
-    let mut future = Service::call(&shared, row.alloc(), &mut request)?;
+    answered(row, &shared)
+}
+
+/// What a service gives to the request of the next words.
+fn answered<S: Service<()>>(row: &mut Row<'_>, service: &S) -> Result<(), RowError>
+    requires { S.can_call service.now }
+{
+    let mut request = request(row)?;
+    called(row, service, &mut request)
+}
+
+/// What a service gives to a request.
+fn called<S: Service<()>>(
+    row: &mut Row<'_>,
+    service: &S,
+    request: &mut Request<()>,
+) -> Result<(), RowError>
+    requires { S.can_call service.now }
+{
+    let mut future = service.call(row.alloc(), request)?;
     future_said(row, &mut future)
 }
 
@@ -100,8 +118,7 @@ fn of_closure(row: &mut Row<'_>) -> Result<(), RowError> {
     let error = next_error(row)?;
     let mut request = request(row)?;
     let service = service_fn::<AsPlanned, _, _>(planned, Err(error));
-    let mut future = service.call(row.alloc(), &mut request)?;
-    future_said(row, &mut future)?;
+    called(row, &service, &mut request)?;
     row.close(", reserved");
     row.show(&request.num_reserved_bytes());
     Ok(())

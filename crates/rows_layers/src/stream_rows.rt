@@ -6,7 +6,7 @@ use crate::said::{poll_said, size_said};
 use crate::slow::{Later, SameError, Slow};
 use dns_service::{CallResult, ReplyStream, ServiceError, ServiceFeedback};
 use dns_stream::{MiddlewareStream, Once, PostprocessingStream};
-use rows_table::{Calls, Row, RowError};
+use rows_table::{Calls, Row, RowError, pages};
 use std::alloc::Global;
 
 type Layered = MiddlewareStream<
@@ -23,41 +23,36 @@ pub(crate) struct StreamRows;
 impl Calls for StreamRows {
     fn answer(&self, call: &str, row: &mut Row<'_>) -> Result<(), RowError> {
         match call {
-            "polls" => polls(row),
-            "sizes" => sizes(row),
+            "polls" => watched(row, false),
+            "sizes" => watched(row, true),
             _ => Err(RowError::NoSuchCall),
         }
     }
 }
 
-/// What the polls of a stream answer.
-fn polls(row: &mut Row<'_>) -> Result<(), RowError> {
-    let (mut stream, polls) = stream_and_polls(row)?;
-    polled(row, &mut stream, polls);
-    Ok(())
-}
-
-/// The sizes that a stream tells, as it is polled.
-fn sizes(row: &mut Row<'_>) -> Result<(), RowError> {
-    let (mut stream, polls) = stream_and_polls(row)?;
-    sized(row, &mut stream, polls)
-}
-
-fn stream_and_polls(row: &mut Row<'_>) -> Result<(Layered, u8), RowError> {
+/// A stream of the kind of the next word, round an item of an error.
+fn watched(row: &mut Row<'_>, sizes: bool) -> Result<(), RowError> {
     let kind = row.word();
     let error = next_error(row)?;
-    let polls = row.number::<u8>();
-    Ok((stream(row.alloc(), kind, error)?, polls))
+    let stream: Layered = match kind {
+        "IdentityFuture" => MiddlewareStream::IdentityFuture(later(error)),
+        "IdentityStream" => MiddlewareStream::IdentityStream(slow(error)),
+        "Map" => MiddlewareStream::Map(mapped(row.alloc(), error)?),
+        "Result" => MiddlewareStream::Result(feedback()),
+        _ => return Err(RowError::OutOfForm),
+    };
+    shown(row, stream, sizes)
 }
 
-fn stream(alloc: Global, kind: &str, error: ServiceError) -> Result<Layered, RowError> {
-    match kind {
-        "IdentityFuture" => Ok(MiddlewareStream::IdentityFuture(later(error))),
-        "IdentityStream" => Ok(MiddlewareStream::IdentityStream(slow(error))),
-        "Map" => Ok(MiddlewareStream::Map(mapped(alloc, error)?)),
-        "Result" => Ok(MiddlewareStream::Result(feedback())),
-        _ => Err(RowError::OutOfForm),
+/// The sizes that a stream tells as it is polled so many times, or what these polls answer.
+fn shown<S: ReplyStream>(row: &mut Row<'_>, stream: S, sizes: bool) -> Result<(), RowError> {
+    let mut stream = stream;
+    let polls = row.number::<u8>();
+    if sizes {
+        return sized(row, &mut stream, polls);
     }
+    polled(row, &mut stream, polls);
+    Ok(())
 }
 
 fn slow(error: ServiceError) -> Slow {
@@ -78,7 +73,9 @@ fn mapped(
     alloc: Global,
     error: ServiceError,
 ) -> Result<PostprocessingStream<Later<Slow>, (), SameError>, RowError> {
-    let request = request(&mut Row::of(alloc, "udp none 123401000000000000000000"))?;
+    let text = "udp none 123401000000000000000000";
+    let pages = pages(alloc, text)?;
+    let request = request(&mut Row::of(alloc, text, &pages))?;
     Ok(PostprocessingStream::new(later(error), request, SameError {}))
 }
 

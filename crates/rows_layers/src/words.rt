@@ -1,29 +1,47 @@
 //! What words of rows stand for: messages, replies, response codes and errors.
 
-use dns_base::{AdditionalBuilder, Message};
+use dns_base::{AdditionalBuilder, Message, MessageRef};
 use dns_name::{OptRcode, Rcode};
 use dns_opt::{MessageOpt, OptRecord};
 use dns_route::CopiedMessage;
 use dns_service::{OutOfMemory, ServiceError};
-use rows_table::RowError;
+use rows_table::{Row, RowError};
 use std::alloc::Global;
 
-/// Octets as a message.
-pub(crate) fn message(octets: Vec<u8>) -> Result<Message, RowError> {
-    Message::from_octets(octets).or(Err(RowError::OutOfForm))
+/// The octets of the next word as a message.
+pub(crate) fn message(row: &mut Row<'_>) -> Result<Message, RowError> {
+    Message::from_octets(row.vector()).or(Err(RowError::OutOfForm))
+}
+
+/// The octets of the next word as a message that is borrowed.
+pub(crate) fn message_ref<'a>(row: &mut Row<'a>) -> Result<MessageRef<'a>, RowError> {
+    MessageRef::from_slice(row.octets()).or(Err(RowError::OutOfForm))
+}
+
+/// The octets of the next word as a reply under construction.
+pub(crate) fn next_reply(row: &mut Row<'_>) -> Result<AdditionalBuilder, RowError> {
+    let octets = row.octets();
+    reply(row, octets)
 }
 
 /// Octets as a reply under construction: each section as it stands, with uncompressed names, and the OPT record last.
-pub(crate) fn reply(alloc: Global, octets: Vec<u8>) -> Result<AdditionalBuilder, RowError> {
-    let message = message(octets)?;
-    let opt = opt_record(alloc, &message)?;
-    let copied = CopiedMessage::read(alloc, &message.for_ref()).or(Err(RowError::OutOfForm))?;
-    copied
-        .build(alloc, opt.as_ref())
-        .or(Err(RowError::OutOfForm))
+pub(crate) fn reply(row: &mut Row<'_>, octets: &[u8]) -> Result<AdditionalBuilder, RowError> {
+    let message = MessageRef::from_slice(octets).or(Err(RowError::OutOfForm))?;
+    let opt = opt_record(row.alloc(), &message)?;
+    copied(row.alloc(), &message, opt.as_ref())
 }
 
-fn opt_record(alloc: Global, message: &Message) -> Result<Option<OptRecord>, OutOfMemory> {
+/// A copy of a message with this OPT record in place of its own.
+fn copied(
+    alloc: Global,
+    message: &MessageRef<'_>,
+    opt: Option<&OptRecord>,
+) -> Result<AdditionalBuilder, RowError> {
+    let copied = CopiedMessage::read(alloc, message).or(Err(RowError::OutOfForm))?;
+    copied.build(alloc, opt).or(Err(RowError::OutOfForm))
+}
+
+fn opt_record(alloc: Global, message: &MessageRef<'_>) -> Result<Option<OptRecord>, OutOfMemory> {
     match message.opt() {
         Some(opt) => Ok(Some(opt.to_owned(alloc)?)),
         None => Ok(None),

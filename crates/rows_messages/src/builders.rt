@@ -7,8 +7,8 @@ ghost use Rattle.dns_base.specs.Standing.{Gives};
 use crate::data::record_in_words;
 use crate::stages::Stage;
 use dns_base::{
-    AdditionalBuilder, AnswerBuilder, Message, MessageBuilder, PushError, Record, StreamTarget,
-    data_has_names, typed_records_read_back,
+    AdditionalBuilder, Message, MessageBuilder, Record, StreamTarget, data_has_names,
+    typed_records_read_back,
 };
 use dns_name::{OutOfMemory, ParseError, Rcode};
 use rows_table::{Calls, Row, RowError};
@@ -58,14 +58,6 @@ fn framed(row: &mut Row<'_>) -> Result<(), RowError> {
     Ok(())
 }
 
-/// The limit, the response code and the query of the next words.
-fn asked(row: &mut Row<'_>) -> Result<(usize, Rcode, Message), RowError> {
-    let limit = row.number();
-    let rcode = Rcode::checked_from_int(row.number()).ok_or(RowError::OutOfForm)?;
-    let query = Message::from_octets(row.octets()).or(Err(RowError::OutOfForm))?;
-    Ok((limit, rcode, query))
-}
-
 /// An empty message of at most so many octets.
 fn within(alloc: Global, limit: usize) -> Result<MessageBuilder, OutOfMemory> {
     let mut builder = MessageBuilder::new(alloc)?;
@@ -73,30 +65,60 @@ fn within(alloc: Global, limit: usize) -> Result<MessageBuilder, OutOfMemory> {
     Ok(builder)
 }
 
-/// The answer to a query.
-fn answered(row: &mut Row<'_>) -> Result<Result<AnswerBuilder, PushError>, RowError> {
-    let (limit, rcode, query) = asked(row)?;
-    Ok(within(row.alloc(), limit)?.start_answer(row.alloc(), &query, rcode))
+/// The response code of the next word.
+fn rcode(row: &mut Row<'_>) -> Rcode {
+    match Rcode::checked_from_int(row.number()) {
+        Some(rcode) => rcode,
+        None => {
+            row.fail(RowError::OutOfForm);
+            Rcode::NOERROR
+        }
+    }
+}
+
+/// The message of the next word.
+fn query(row: &mut Row<'_>) -> Result<Message, RowError> {
+    Message::from_octets(row.vector()).or(Err(RowError::OutOfForm))
 }
 
 /// The answer to a query, and what the steps say of it.
 fn start_answer(row: &mut Row<'_>) -> Result<(), RowError> {
-    match answered(row)? {
+    let limit = row.number();
+    let rcode = rcode(row);
+    let query = query(row)?;
+    answer_to(row, limit, rcode, &query)
+}
+
+/// The same of at most so many octets and with a response code.
+fn answer_to(
+    row: &mut Row<'_>,
+    limit: usize,
+    rcode: Rcode,
+    query: &Message,
+) -> Result<(), RowError> {
+    match within(row.alloc(), limit)?.start_answer(row.alloc(), query, rcode) {
         Ok(answer) => shown(row, &mut Stage::Answer(answer)),
         Err(error) => row.debug(&error),
     }
     Ok(())
 }
 
-/// The error answer to a query.
-fn refused(row: &mut Row<'_>) -> Result<AnswerBuilder, RowError> {
-    let (limit, rcode, query) = asked(row)?;
-    Ok(within(row.alloc(), limit)?.start_error(row.alloc(), &query, rcode)?)
-}
-
 /// The error answer to a query, and what the steps say of it.
 fn start_error(row: &mut Row<'_>) -> Result<(), RowError> {
-    let error = refused(row)?;
+    let limit = row.number();
+    let rcode = rcode(row);
+    let query = query(row)?;
+    error_to(row, limit, rcode, &query)
+}
+
+/// The same of at most so many octets and with a response code.
+fn error_to(
+    row: &mut Row<'_>,
+    limit: usize,
+    rcode: Rcode,
+    query: &Message,
+) -> Result<(), RowError> {
+    let error = within(row.alloc(), limit)?.start_error(row.alloc(), query, rcode)?;
     shown(row, &mut Stage::Answer(error));
     Ok(())
 }

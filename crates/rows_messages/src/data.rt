@@ -10,7 +10,7 @@ use std::alloc::Global;
 
 /// The name of the next word.
 fn name(row: &mut Row<'_>) -> Result<Name, RowError> {
-    Ok(Name::from_octets(row.octets())?)
+    Name::from_octets(row.vector()).or(Err(RowError::OutOfForm))
 }
 
 /// The numbers of a zone's start.
@@ -94,8 +94,8 @@ fn data(row: &mut Row<'_>) -> Result<RecordData, RowError>
         "MINFO" => minfo(row),
         "MX" => mx(row),
         "SRV" => srv(row),
-        "OPT" => RecordData::opt(row.octets()).ok_or(RowError::OutOfForm),
-        "TXT" => RecordData::unknown(Rtype::from_int(16), row.octets()).ok_or(RowError::OutOfForm),
+        "OPT" => RecordData::opt(row.vector()).ok_or(RowError::OutOfForm),
+        "TXT" => RecordData::unknown(Rtype::from_int(16), row.vector()).ok_or(RowError::OutOfForm),
         _ => Err(RowError::OutOfForm),
     }
 }

@@ -30,10 +30,14 @@ impl Calls for Messages {
     }
 }
 
+/// The message of the next word.
+fn next_message<'a>(row: &mut Row<'a>) -> Result<MessageRef<'a>, RowError> {
+    MessageRef::from_slice(row.octets()).or(Err(RowError::OutOfForm))
+}
+
 /// The first four octets of a message's header.
 fn header_octets(row: &mut Row<'_>) -> Result<(), RowError> {
-    let octets = row.octets();
-    let header = MessageRef::from_slice(&octets)?.header();
+    let header = next_message(row)?.header();
     row.hexadecimal(&header.octets());
     Ok(())
 }
@@ -41,7 +45,7 @@ fn header_octets(row: &mut Row<'_>) -> Result<(), RowError> {
 /// Whether a message is a plain query.
 fn plain(row: &mut Row<'_>) -> Result<(), RowError> {
     let octets = row.octets();
-    row.whether(is_plain(&octets));
+    row.whether(is_plain(octets));
     Ok(())
 }
 
@@ -52,7 +56,7 @@ fn number_in(row: &mut Row<'_>) -> Result<(), RowError> {
     if place > octets.len() {
         return Err(RowError::OutOfForm);
     }
-    row.show(&number_at(&octets, place));
+    row.show(&number_at(octets, place));
     Ok(())
 }
 
@@ -65,8 +69,7 @@ fn composed<Q: ComposeQuestion>(row: &mut Row<'_>, question: &Q) {
 
 /// The first question, owned, and how many octets it says that it takes.
 fn first_question(row: &mut Row<'_>) -> Result<(), RowError> {
-    let octets = row.octets();
-    let Some(found) = MessageRef::from_slice(&octets)?.first_question() else {
+    let Some(found) = next_message(row)?.first_question() else {
         row.say("none");
         return Ok(());
     };
@@ -78,8 +81,7 @@ fn first_question(row: &mut Row<'_>) -> Result<(), RowError> {
 
 /// The first question, where it stands.
 fn compose_question(row: &mut Row<'_>) -> Result<(), RowError> {
-    let octets = row.octets();
-    match MessageRef::from_slice(&octets)?.first_question() {
+    match next_message(row)?.first_question() {
         Some(found) => composed(row, &found),
         None => row.say("none"),
     }
@@ -101,7 +103,7 @@ fn next_answer(row: &mut Row<'_>) -> Result<Record, RowError>
     ensures { IfOk result (λ r. IsLawful r.rdata) }
 {
     let octets = row.octets();
-    Ok(answer_in(row.alloc(), &octets)?)
+    Ok(answer_in(row.alloc(), octets)?)
 }
 
 /// What a record appends to none.
@@ -154,8 +156,7 @@ fn asked(row: &mut Row<'_>, questions: QuestionIter<'_>) -> Result<(), RowError>
 
 /// The types of all four sections.
 fn sections(row: &mut Row<'_>) -> Result<(), RowError> {
-    let octets = row.octets();
-    let (questions, answer, authority, additional) = MessageRef::from_slice(&octets)?.sections()?;
+    let (questions, answer, authority, additional) = next_message(row)?.sections()?;
     asked(row, questions)?;
     types(row, "answer", answer)?;
     types(row, "authority", authority)?;
@@ -164,6 +165,6 @@ fn sections(row: &mut Row<'_>) -> Result<(), RowError> {
 
 /// The types of the answer records.
 fn answer_types(row: &mut Row<'_>) -> Result<(), RowError> {
-    let octets = row.octets();
-    types(row, "answer", MessageRef::from_slice(&octets)?.answer()?)
+    let answer = next_message(row)?.answer()?;
+    types(row, "answer", answer)
 }

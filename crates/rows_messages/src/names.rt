@@ -1,8 +1,7 @@
 //! The calls of dns_name.
 
 use dns_name::{FromTextError, Name, NameRef, Octets, ParsedName, Parser, Serial};
-use rows_table::{Calls, Row, RowError, octets_of};
-use std::alloc::Global;
+use rows_table::{Calls, Row, RowError};
 use std::cmp::Ordering;
 
 /// The calls of dns_name.
@@ -34,29 +33,25 @@ impl Calls for Names {
 /// The octets of an uncompressed name.
 fn from_slice(row: &mut Row<'_>) -> Result<(), RowError> {
     let octets = row.octets();
-    row.hexadecimal(NameRef::from_slice(&octets)?.as_slice());
+    row.hexadecimal(NameRef::from_slice(octets)?.as_slice());
     Ok(())
 }
 
-/// The name at a place of a message, beside another name.
-fn parsed_name(row: &mut Row<'_>) -> Result<(), RowError> {
-    let message = row.octets();
-    let place = row.number::<usize>();
-    let like = row.octets();
-    parsed_beside(row, &message, place, NameRef::from_slice(&like)?)
+/// A parser at the place in a message that the next words are.
+fn next_parser<'a>(row: &mut Row<'a>) -> Result<Parser<'a>, RowError> {
+    let mut parser = Parser::from_ref(row.octets());
+    match parser.advance(row.number()) {
+        Ok(()) => Ok(parser),
+        Err(_) => Err(RowError::OutOfForm),
+    }
 }
 
-/// The name at a place, or its refusal and the place where the parser then is.
-fn parsed_beside(
-    row: &mut Row<'_>,
-    message: &[u8],
-    place: usize,
-    like: NameRef<'_>,
-) -> Result<(), RowError> {
-    let mut parser = Parser::from_ref(message);
-    parser.advance(place)?;
+/// The name at a place of a message, beside another name; or its refusal, and the place where the parser then is.
+fn parsed_name(row: &mut Row<'_>) -> Result<(), RowError> {
+    let mut parser = next_parser(row)?;
+    let other = row.name()?;
     match ParsedName::parse(&mut parser) {
-        Ok(name) => beside(row, &name, &like),
+        Ok(name) => beside(row, &name, &other),
         Err(error) => {
             row.debug(&error);
             row.tell("pos", &parser.pos());
@@ -72,29 +67,22 @@ fn beside(row: &mut Row<'_>, name: &ParsedName<'_>, other: &NameRef<'_>) {
     row.tell_whether("ends_with", name.ends_with(other))
 }
 
-/// The name at a place of a message, owned.
-fn parsed_to_name(row: &mut Row<'_>) -> Result<(), RowError> {
-    let message = row.octets();
-    let place = row.number::<usize>();
-    name_at(row, &message, place)
+/// The name at the place in a message that the next words are.
+fn next_parsed<'a>(row: &mut Row<'a>) -> Result<ParsedName<'a>, RowError> {
+    let mut parser = next_parser(row)?;
+    ParsedName::parse(&mut parser).or(Err(RowError::OutOfForm))
 }
 
-/// The octets of the name at a place, uncompressed.
-fn name_at(row: &mut Row<'_>, message: &[u8], place: usize) -> Result<(), RowError> {
-    let mut parser = Parser::from_ref(message);
-    parser.advance(place)?;
-    let name = ParsedName::parse(&mut parser)?.to_name(row.alloc())?;
+/// The octets of the name at a place of a message, uncompressed.
+fn parsed_to_name(row: &mut Row<'_>) -> Result<(), RowError> {
+    let name = next_parsed(row)?.to_name(row.alloc())?;
     row.hexadecimal(name.as_slice());
     Ok(())
 }
 
 /// The name at a place of a message as text, for users and for programmers.
 fn parsed_text(row: &mut Row<'_>) -> Result<(), RowError> {
-    let message = row.octets();
-    let place = row.number::<usize>();
-    let mut parser = Parser::from_ref(&message);
-    parser.advance(place)?;
-    let name = ParsedName::parse(&mut parser)?;
+    let name = next_parsed(row)?;
     row.quote(&name);
     row.debug(&name);
     Ok(())
@@ -103,7 +91,7 @@ fn parsed_text(row: &mut Row<'_>) -> Result<(), RowError> {
 /// The text of the refusal of octets that are no name.
 fn refusal_text(row: &mut Row<'_>) -> Result<(), RowError> {
     let octets = row.octets();
-    match NameRef::from_slice(&octets) {
+    match NameRef::from_slice(octets) {
         Ok(_) => row.say("none"),
         Err(error) => row.show(&error),
     }
@@ -137,17 +125,16 @@ fn appended(row: &mut Row<'_>, name: &Name) {
 
 /// What a borrowed name appends to none.
 fn composed(row: &mut Row<'_>) -> Result<(), RowError> {
-    let octets = row.octets();
+    let name = row.name()?;
     let mut target = Vec::new(row.alloc());
-    NameRef::from_slice(&octets)?.compose(row.alloc(), &mut target)?;
+    row.keep(name.compose(row.alloc(), &mut target));
     row.hexadecimal(&target);
     Ok(())
 }
 
 /// The octets of an owned copy of a name, and how many it says that it takes.
 fn owned(row: &mut Row<'_>) -> Result<(), RowError> {
-    let octets = row.octets();
-    let name = NameRef::from_slice(&octets)?.to_owned(row.alloc())?;
+    let name = row.name()?.to_owned(row.alloc())?;
     row.hexadecimal(name.as_slice());
     row.tell("compose_len", &name.compose_len());
     Ok(())
@@ -155,42 +142,43 @@ fn owned(row: &mut Row<'_>) -> Result<(), RowError> {
 
 /// A name as text, in quotation marks.
 fn name_text(row: &mut Row<'_>) -> Result<(), RowError> {
-    let octets = row.octets();
-    row.quote(&NameRef::from_slice(&octets)?);
+    let name = row.name()?;
+    row.quote(&name);
     Ok(())
 }
 
 /// The octets of a copy.
 fn copied(row: &mut Row<'_>) -> Result<(), RowError> {
-    let octets = row.octets();
-    row.hexadecimal(Octets::from_slice(row.alloc(), &octets)?.as_slice());
+    let copy = Octets::from_slice(row.alloc(), row.octets())?;
+    row.hexadecimal(copy.as_slice());
     Ok(())
 }
 
 /// The canonical order of the names that two words are.
-fn order_of(alloc: Global, word: &str, other: &str) -> Result<Ordering, RowError> {
-    let octets = octets_of(alloc, word)?;
-    let others = octets_of(alloc, other)?;
-    let name = NameRef::from_slice(&octets)?;
-    Ok(name.name_cmp(&NameRef::from_slice(&others)?))
+fn order_of(row: &mut Row<'_>, word: &str, other: &str) -> Result<Ordering, RowError> {
+    let name = row.name_of(word)?;
+    let other = row.name_of(other)?;
+    Ok(name.name_cmp(&other))
 }
 
 /// The canonical order of two names.
 fn name_cmp(row: &mut Row<'_>) -> Result<(), RowError> {
-    let order = order_of(row.alloc(), row.word(), row.word())?;
+    let name = row.word();
+    let other = row.word();
+    let order = order_of(row, name, other)?;
     row.debug(&order);
     Ok(())
 }
 
 /// The place of a name among these that a name compares with otherwise than by their places.
 fn misplaced(
-    alloc: Global,
+    row: &mut Row<'_>,
     names: &str,
     place: usize,
     name: &str,
 ) -> Result<Option<usize>, RowError> {
     for (other_place, other) in names.split(' ').enumerate() {
-        if order_of(alloc, name, other)? != place.cmp(&other_place) {
+        if order_of(row, name, other)? != place.cmp(&other_place) {
             return Ok(Some(other_place));
         }
     }
@@ -201,7 +189,7 @@ fn misplaced(
 fn names_rise(row: &mut Row<'_>) -> Result<(), RowError> {
     let names = row.all_words();
     for (place, name) in names.split(' ').enumerate() {
-        if let Some(other) = misplaced(row.alloc(), names, place, name)? {
+        if let Some(other) = misplaced(row, names, place, name)? {
             row.tell("not", &place);
             row.tell("and", &other);
             return Ok(());

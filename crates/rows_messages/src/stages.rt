@@ -184,14 +184,14 @@ fn next_record(row: &mut Row<'_>) -> Result<Record, RowError>
     ensures { IfOk result (λ r. IsLawful r.rdata) }
 {
     let octets = row.octets();
-    let (found, _) = record_in(&octets, 0)?;
+    let (found, _) = record_in(octets, 0)?;
     Ok(found.to_record(row.alloc())?)
 }
 
 /// Adds the question of the next word.
 fn push_question(builder: &mut QuestionBuilder, row: &mut Row<'_>) -> Result<(), RowError> {
     let octets = row.octets();
-    let question = question_of(row.alloc(), &octets)?;
+    let question = question_of(row.alloc(), octets)?;
     row.outcome(builder.push(row.alloc(), &question));
     Ok(())
 }

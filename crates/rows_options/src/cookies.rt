@@ -35,7 +35,7 @@ impl Calls for Cookies {
 /// The hash of octets under a key.
 fn hash(row: &mut Row<'_>) -> Result<(), RowError> {
     let key = row.array::<16>();
-    let hash = siphash24(&key, &row.octets());
+    let hash = siphash24(&key, row.octets());
     row.hexadecimal(&hash.to_be_bytes());
     Ok(())
 }
@@ -50,8 +50,8 @@ fn timely(row: &mut Row<'_>) -> Result<(), RowError> {
 
 /// The cookie of the next word.
 fn next_cookie(row: &mut Row<'_>) -> Result<Cookie, RowError> {
-    let octets = row.octets();
-    Cookie::parse(&mut Parser::from_ref(&octets)).or(Err(RowError::OutOfForm))
+    let mut parser = Parser::from_ref(row.octets());
+    Cookie::parse(&mut parser).or(Err(RowError::OutOfForm))
 }
 
 /// Whether a cookie checks for an address under a secret, where only one timestamp is accepted.
@@ -114,8 +114,7 @@ fn check_created(row: &mut Row<'_>) -> Result<(), RowError> {
 /// The option that octets are under a code, how many octets it says that it takes, and how many are left.
 fn cookie(row: &mut Row<'_>) -> Result<(), RowError> {
     let code = OptionCode::from_int(row.number());
-    let octets = row.octets();
-    let mut parser = Parser::from_ref(&octets);
+    let mut parser = Parser::from_ref(row.octets());
     match Cookie::parse_option(code, &mut parser) {
         Ok(Some(cookie)) => {
             shown(row, &cookie);
@@ -173,7 +172,7 @@ fn next_server(row: &mut Row<'_>) -> Result<ServerCookie, RowError> {
     if octets.len() < 8 || octets.len() > 32 {
         return Err(RowError::OutOfForm);
     }
-    Ok(ServerCookie::from_octets(&octets))
+    Ok(ServerCookie::from_octets(octets))
 }
 
 /// The server cookie of octets.

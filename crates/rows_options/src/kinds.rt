@@ -5,7 +5,7 @@ use dns_kinds::{
     Chain, ChainRef, ClientSubnet, Expire, ExtendedError, ExtendedErrorRef, IdleTimeout,
     TcpKeepalive,
 };
-use dns_name::{ExtendedErrorCode, NameRef, Parser};
+use dns_name::{ExtendedErrorCode, Parser};
 use rows_table::{Calls, Row, RowError};
 use std::hash::{DefaultHasher, Hash, Hasher};
 
@@ -36,8 +36,8 @@ impl Calls for Kinds {
 
 /// An extended error that is read, borrowed and owned.
 fn extended_error(row: &mut Row<'_>) -> Result<(), RowError> {
-    let octets = row.octets();
-    let found = ExtendedErrorRef::parse(&mut Parser::from_ref(&octets))?;
+    let mut parser = Parser::from_ref(row.octets());
+    let found = ExtendedErrorRef::parse(&mut parser)?;
     let owned = found.to_owned(row.alloc())?;
     both_shown(row, &found, &owned);
     Ok(())
@@ -78,16 +78,15 @@ fn keepalive_millis(row: &mut Row<'_>) -> Result<(), RowError> {
 
 /// A timeout that is read.
 fn keepalive_parse(row: &mut Row<'_>) -> Result<(), RowError> {
-    let octets = row.octets();
-    let keepalive = TcpKeepalive::parse(&mut Parser::from_ref(&octets))?;
+    let mut parser = Parser::from_ref(row.octets());
+    let keepalive = TcpKeepalive::parse(&mut parser)?;
     shown(row, &keepalive);
     Ok(())
 }
 
 /// A chain from a name that is borrowed.
 fn chain(row: &mut Row<'_>) -> Result<(), RowError> {
-    let octets = row.octets();
-    let given = ChainRef::new(NameRef::from_slice(&octets)?);
+    let given = ChainRef::new(row.name()?);
     let owned = given.to_owned(row.alloc())?;
     both_shown(row, &given, &owned);
     Ok(())
@@ -95,8 +94,7 @@ fn chain(row: &mut Row<'_>) -> Result<(), RowError> {
 
 /// A chain from a name that is owned.
 fn chain_new(row: &mut Row<'_>) -> Result<(), RowError> {
-    let octets = row.octets();
-    let owned = Chain::new(NameRef::from_slice(&octets)?.to_owned(row.alloc())?);
+    let owned = Chain::new(row.name()?.to_owned(row.alloc())?);
     both_shown(row, &owned.for_slice(), &owned);
     Ok(())
 }
@@ -131,10 +129,8 @@ fn owned_compared(
 
 /// How the chains from the names of two words compare, both as they are borrowed and as they are owned.
 fn chain_cmp(row: &mut Row<'_>) -> Result<(), RowError> {
-    let octets = row.octets();
-    let others = row.octets();
-    let first = ChainRef::new(NameRef::from_slice(&octets)?);
-    let second = ChainRef::new(NameRef::from_slice(&others)?);
+    let first = ChainRef::new(row.name()?);
+    let second = ChainRef::new(row.name()?);
     compared(row, &first, &second);
     row.close(", owned");
     owned_compared(row, &first, &second)
@@ -192,8 +188,8 @@ fn keepalive_cmp(row: &mut Row<'_>) -> Result<(), RowError> {
 
 /// A subnet that is read.
 fn subnet_parse(row: &mut Row<'_>) -> Result<(), RowError> {
-    let octets = row.octets();
-    let subnet = ClientSubnet::parse(&mut Parser::from_ref(&octets))?;
+    let mut parser = Parser::from_ref(row.octets());
+    let subnet = ClientSubnet::parse(&mut parser)?;
     subnet_said(row, &subnet);
     Ok(())
 }

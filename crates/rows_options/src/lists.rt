@@ -32,8 +32,8 @@ impl Calls for Lists {
 /// An option of plain octets: given, and owned as it is read.
 fn plain<K: OctetsKind>(row: &mut Row<'_>) -> Result<(), RowError> {
     let octets = row.octets();
-    let given = PlainRef::<K>::from_slice(&octets).or(Err(RowError::OutOfForm))?;
-    let mut parser = Parser::from_ref(&octets);
+    let given = PlainRef::<K>::from_slice(octets).or(Err(RowError::OutOfForm))?;
+    let mut parser = Parser::from_ref(octets);
     let owned = PlainRef::<K>::parse(&mut parser)?.to_owned(row.alloc())?;
     both_shown(row, &given, &owned);
     Ok(())
@@ -41,8 +41,7 @@ fn plain<K: OctetsKind>(row: &mut Row<'_>) -> Result<(), RowError> {
 
 /// Key tags, and how many octets may be written.
 fn key_tag(row: &mut Row<'_>) -> Result<(), RowError> {
-    let octets = row.octets();
-    let given = KeyTagRef::from_slice(&octets)?;
+    let given = KeyTagRef::from_slice(row.octets())?;
     let mut owned = given.to_owned(row.alloc())?;
     let len = owned.as_slice_mut().len();
     both_shown(row, &given, &owned);
@@ -53,8 +52,7 @@ fn key_tag(row: &mut Row<'_>) -> Result<(), RowError> {
 /// An option of no kind, of a code and data, and how many octets may be written.
 fn unknown(row: &mut Row<'_>) -> Result<(), RowError> {
     let code = OptionCode::from_int(row.number());
-    let octets = row.octets();
-    let mut parser = Parser::from_ref(&octets);
+    let mut parser = Parser::from_ref(row.octets());
     let Some(found) = UnknownOptDataRef::parse_option(code, &mut parser)? else {
         row.say("none");
         return Ok(());
@@ -68,8 +66,7 @@ fn unknown(row: &mut Row<'_>) -> Result<(), RowError> {
 
 /// A list of algorithms, and how many octets reading leaves.
 fn understood<K: Variant>(row: &mut Row<'_>) -> Result<(), RowError> {
-    let octets = row.octets();
-    let mut parser = Parser::from_ref(&octets);
+    let mut parser = Parser::from_ref(row.octets());
     let found = UnderstoodRef::<K>::parse(&mut parser)?;
     let owned = found.to_owned(row.alloc())?;
     both_shown(row, &found, &owned);

@@ -48,7 +48,7 @@ fn list_len(row: &mut Row<'_>) -> Result<(), RowError> {
 
 /// The text of a list that owns its octets, and how many of its options are read.
 fn from_octets(row: &mut Row<'_>) -> Result<(), RowError> {
-    let list = Opt::from_octets(row.octets())?;
+    let list = Opt::from_octets(row.vector())?;
     row.quote(&list);
     row.tell("readable", &readable(&list.for_slice_ref()));
     Ok(())
@@ -67,29 +67,39 @@ fn readable(list: &OptRef<'_>) -> usize {
 
 /// The octets of an owned copy of a list.
 fn from_slice(row: &mut Row<'_>) -> Result<(), RowError> {
-    let octets = row.octets();
-    let list = OptRef::from_slice(&octets)?.to_owned(row.alloc())?;
+    let list = OptRef::from_slice(row.octets())?.to_owned(row.alloc())?;
     row.hexadecimal(list.as_slice());
     Ok(())
 }
 
+/// The list of the next word.
+fn next_list<'a>(row: &mut Row<'a>) -> Result<OptRef<'a>, RowError> {
+    OptRef::from_slice(row.octets()).or(Err(RowError::OutOfForm))
+}
+
 /// The options of any kind that a list has, each with its code and its data.
 fn all_options(row: &mut Row<'_>) -> Result<(), RowError> {
-    let octets = row.octets();
-    for item in OptRef::from_slice(&octets)?.iter::<AllOptData>() {
+    for item in next_list(row)?.iter::<AllOptData>() {
         if !row.said().is_empty() {
             row.close(",");
         }
-        code_and_data(row, &item?);
+        option_said(row, item);
     }
     Ok(())
+}
+
+/// An option's code and its data, or why it isn't read.
+fn option_said(row: &mut Row<'_>, item: Result<AllOptData<'_>, ParseError>) {
+    match item {
+        Ok(option) => code_and_data(row, &option),
+        Err(error) => row.debug(&error),
+    }
 }
 
 /// The data of the first option of a kind in a list.
 fn first(row: &mut Row<'_>) -> Result<(), RowError> {
     let kind = row.word();
-    let octets = row.octets();
-    let list = OptRef::from_slice(&octets)?;
+    let list = next_list(row)?;
     match kind {
         "nsid" => first_said(row, list.first::<NsidRef>()),
         "padding" => first_said(row, list.first::<PaddingRef>()),
@@ -109,8 +119,7 @@ fn first_said<D: ComposeOptData + Drop>(row: &mut Row<'_>, found: Option<D>) {
 
 /// The head of an option, and how many octets are left behind it.
 fn option_header(row: &mut Row<'_>) -> Result<(), RowError> {
-    let octets = row.octets();
-    let mut parser = Parser::from_ref(&octets);
+    let mut parser = Parser::from_ref(row.octets());
     let head = OptionHeader::parse(&mut parser)?;
     row.tell("code", &head.code().to_int());
     row.tell("len", &head.len());
@@ -121,7 +130,7 @@ fn option_header(row: &mut Row<'_>) -> Result<(), RowError> {
 /// What a closure writes to an empty vector.
 fn written(row: &mut Row<'_>) -> Result<(), RowError> {
     let octets = row.octets();
-    let written = written_by(row.alloc(), |target: &mut Vec<u8>| write(target, &octets))?;
+    let written = written_by(row.alloc(), |target: &mut Vec<u8>| write(target, octets))?;
     row.hexadecimal(&written);
     Ok(())
 }

@@ -1,7 +1,7 @@
 //! How a query with options is built and read.
 
 use crate::messages::opened;
-use dns_base::{AdditionalBuilder, Message, MessageBuilder, PushError, Question};
+use dns_base::{AdditionalBuilder, MessageBuilder, MessageRef, PushError, Question};
 use dns_name::{Class, Name, OutOfMemory, Rtype};
 use dns_opt::MessageOpt;
 use rows_table::{Row, RowError};
@@ -35,9 +35,11 @@ fn asking(alloc: Global) -> Result<AdditionalBuilder, PushError> {
 }
 
 /// The type that a query asks for, and the size and the identifier's data of its OPT record.
-fn query_said(row: &mut Row<'_>, query: &Message) {
+fn query_said(row: &mut Row<'_>, octets: &[u8]) -> Result<(), RowError> {
+    let query = MessageRef::from_slice(octets).or(Err(RowError::OutOfForm))?;
     let (Some(question), Some(opt)) = (query.first_question(), query.opt()) else {
-        return row.say("none");
+        row.say("none");
+        return Ok(());
     };
     row.tell("qtype", &question.qtype().to_int());
     row.tell("udp_payload_size", &opt.udp_payload_size());
@@ -45,14 +47,19 @@ fn query_said(row: &mut Row<'_>, query: &Message) {
         Some(identifier) => row.tell_octets("nsid", identifier.as_slice()),
         None => row.say("nsid=none"),
     }
+    Ok(())
+}
+
+/// What is read of a query.
+pub fn read_query(row: &mut Row<'_>) -> Result<(), RowError> {
+    let octets = row.octets();
+    query_said(row, octets)
 }
 
 /// A query's octets, and what is read of it.
 fn read(row: &mut Row<'_>, octets: &[u8]) -> Result<(), RowError> {
-    let query = Message::from_octets(Vec::from_slice(row.alloc(), octets)?)?;
-    row.hexadecimal(query.as_slice());
-    query_said(row, &query);
-    Ok(())
+    row.hexadecimal(octets);
+    query_said(row, octets)
 }
 
 /// The query with an OPT record that the steps build, and what is read of it.

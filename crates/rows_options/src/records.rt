@@ -4,7 +4,7 @@ ghost use Rattle.std.specs.Prelude.{IfOk};
 ghost use Rattle.dns_base.specs.Records.{IsLawful};
 
 use crate::messages::opt_message;
-use crate::query::query;
+use crate::query::{query, read_query};
 use crate::steps::{Target, rcode};
 use dns_base::Record;
 use dns_name::OutOfMemory;
@@ -22,6 +22,7 @@ impl Calls for Records {
             "opt_record" => opt_record(row),
             "opt_message" => opt_message(row),
             "query" => query(row),
+            "read_query" => read_query(row),
             _ => Err(RowError::NoSuchCall),
         }
     }

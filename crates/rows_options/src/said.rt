@@ -29,9 +29,9 @@ pub fn both_shown<B: ComposeOptData + Display, O: ComposeOptData + Display>(
     borrowed: &B,
     owned: &O,
 ) {
-    let mut other = Row::of(row.alloc(), "");
+    let mut other = Row::of(row.alloc(), "", &[]);
     shown(&mut other, owned);
-    let mut first = Row::of(row.alloc(), "");
+    let mut first = Row::of(row.alloc(), "", &[]);
     shown(&mut first, borrowed);
     row.say(first.said());
     if first.said() != other.said() {

@@ -74,7 +74,7 @@ impl Target<'_> {
         let code = OptionCode::from_int(row.number());
         let stated = row.number();
         let octets = row.octets();
-        self.push_raw(row.alloc(), code, stated, &octets)
+        self.push_raw(row.alloc(), code, stated, octets)
     }
 
     /// Pushes an option as it is, or one of no kind.
@@ -82,7 +82,7 @@ impl Target<'_> {
         match step {
             "push_nsid" => {
                 let octets = row.octets();
-                self.nsid(row, &octets)
+                self.nsid(row, octets)
             }
             "push_zeros" => {
                 let zeros = vec![in row.alloc(); 0u8; row.number()]?;
@@ -124,7 +124,7 @@ fn understood(opt: &mut OptBuilder, step: &str, row: &mut Row<'_>) -> Stepped {
 
 /// Pushes the name from which a chain is wanted.
 fn chain(opt: &mut OptBuilder, row: &mut Row<'_>) -> Stepped {
-    match Name::from_octets(row.octets()) {
+    match Name::from_octets(row.vector()) {
         Ok(start) => opt.chain(row.alloc(), &start),
         Err(_) => out_of_form(row),
     }
@@ -132,8 +132,7 @@ fn chain(opt: &mut OptBuilder, row: &mut Row<'_>) -> Stepped {
 
 /// Pushes key tags.
 fn key_tag(opt: &mut OptBuilder, row: &mut Row<'_>) -> Stepped {
-    let octets = row.octets();
-    match KeyTagRef::from_slice(&octets) {
+    match KeyTagRef::from_slice(row.octets()) {
         Ok(tags) => opt.key_tag(row.alloc(), &tags),
         Err(_) => out_of_form(row),
     }
@@ -160,8 +159,7 @@ fn tcp_keepalive(opt: &mut OptBuilder, row: &mut Row<'_>) -> Stepped {
 
 /// Pushes an identifier by the call of its name.
 fn nsid(opt: &mut OptBuilder, row: &mut Row<'_>) -> Stepped {
-    let octets = row.octets();
-    opt.nsid(row.alloc(), &octets)
+    opt.nsid(row.alloc(), row.octets())
 }
 
 /// Pushes an option of one kind by the call of its name.

@@ -5,7 +5,7 @@ use crate::line_rows::say_lines;
 use crate::service_rows::rules;
 use dns_core::{ClientCore, Event, EventKind, Framer, Settings};
 use dns_server::ScriptService;
-use dns_service::{DgramConfig, Plainly, StreamConfig};
+use dns_service::{DgramConfig, Plainly, Served, StreamConfig};
 use rows_table::{Calls, Row, RowError};
 use std::alloc::Global;
 
@@ -28,7 +28,7 @@ fn frames(row: &mut Row<'_>) -> Result<(), RowError> {
     let mut framer = Framer::new(row.alloc());
     for piece in row.all_words().split(' ') {
         let octets = row.octets_of(piece);
-        framer.feed(row.alloc(), &octets)?;
+        framer.feed(row.alloc(), octets)?;
         say_next(row, &mut framer)?;
     }
     say_next(row, &mut framer)
@@ -52,28 +52,37 @@ fn client(row: &mut Row<'_>) -> Result<(), RowError> {
 }
 
 /// What the core of a client, by its first event, is sent for the others.
-fn served(
-    row: &mut Row<'_>,
-    service: &Plainly<ScriptService>,
-    events: &[Event],
-) -> Result<(), RowError> {
+fn served<S: Served>(row: &mut Row<'_>, service: &S, events: &[Event]) -> Result<(), RowError>
+    requires { S.can_call service.now }
+{
     let Some((first, rest)) = events.split_first() else {
         return Err(RowError::Missing);
     };
     let mut core = core_of(row.alloc(), service, first)?;
     for event in rest {
-        let outputs = core.step(row.alloc(), service, event)?;
-        say_lines(row, &outputs);
+        stepped(row, &mut core, service, event)?;
     }
     Ok(())
 }
 
-/// The core of a client by its first event.
-fn core_of(
-    alloc: Global,
-    service: &Plainly<ScriptService>,
+/// What a core is sent for an event.
+fn stepped<S: Served>(
+    row: &mut Row<'_>,
+    core: &mut ClientCore<S>,
+    service: &S,
     event: &Event,
-) -> Result<ClientCore<Plainly<ScriptService>>, RowError> {
+) -> Result<(), RowError>
+    requires { S.can_call service.now }
+{
+    let outputs = core.step(row.alloc(), service, event)?;
+    say_lines(row, &outputs);
+    Ok(())
+}
+
+/// The core of a client by its first event.
+fn core_of<S: Served>(alloc: Global, service: &S, event: &Event) -> Result<ClientCore<S>, RowError>
+    requires { S.can_call service.now }
+{
     match &event.kind {
         EventKind::Offer { addr } => Ok(ClientCore::admit(
             alloc,

@@ -50,8 +50,7 @@ fn output(row: &mut Row<'_>) -> Result<Output, RowError> {
 }
 
 fn octets(row: &mut Row<'_>) -> Result<Octets, RowError> {
-    let octets = row.octets();
-    Ok(Octets::from_slice(row.alloc(), &octets)?)
+    Ok(Octets::from_slice(row.alloc(), row.octets())?)
 }
 
 fn why(name: &str) -> Result<Why, RowError> {

@@ -27,7 +27,7 @@ impl Calls for OutsideRows {
 /// What three reads of two octets give of a slice.
 fn reading(row: &mut Row<'_>) -> Result<(), RowError> {
     let octets = row.octets();
-    let mut source = Reading::new(octets.as_slice());
+    let mut source = Reading::new(octets);
     for _ in 0..3 {
         one_read(row, &mut source);
     }
@@ -52,8 +52,8 @@ fn writing(row: &mut Row<'_>) -> Result<(), RowError> {
     let first = row.octets();
     let second = row.octets();
     let mut sink = Writing::new(Vec::new(row.alloc()));
-    row.debug(&sink.write(&first));
-    row.debug(&write_all(&mut sink, &second));
+    row.debug(&sink.write(first));
+    row.debug(&write_all(&mut sink, second));
     row.hexadecimal(&sink.into_inner());
     Ok(())
 }
@@ -76,7 +76,7 @@ pub(crate) fn failing(alloc: Global, number: Option<u64>) -> Result<Vec<u64>, Ro
 fn memory_source(row: &mut Row<'_>) -> Result<(), RowError> {
     let failing = failing(row.alloc(), Some(row.number()))?;
     let most = row.number();
-    let mut source = MemorySource::new(row.octets(), failing, most);
+    let mut source = MemorySource::new(row.vector(), failing, most);
     say_whole(row, &mut source);
     row.hexadecimal(source.left());
     say_whole(row, &mut source);
@@ -86,7 +86,7 @@ fn memory_source(row: &mut Row<'_>) -> Result<(), RowError> {
 /// What writing the piece of the next word whole gives, and what the sink has then.
 fn say_written(row: &mut Row<'_>, sink: &mut MemorySink) {
     let piece = row.octets();
-    row.debug(&write_all(sink, &piece));
+    row.debug(&write_all(sink, piece));
     row.hexadecimal(sink.written())
 }
 
@@ -100,7 +100,7 @@ fn memory_sink(row: &mut Row<'_>) -> Result<(), RowError> {
 }
 
 fn steady_source(row: &mut Row<'_>) -> Result<(), RowError> {
-    let mut source = SteadySource::new(row.octets());
+    let mut source = SteadySource::new(row.vector());
     say_whole(row, &mut source);
     row.hexadecimal(source.left());
     Ok(())
@@ -109,7 +109,7 @@ fn steady_source(row: &mut Row<'_>) -> Result<(), RowError> {
 fn steady_sink(row: &mut Row<'_>) -> Result<(), RowError> {
     let octets = row.octets();
     let mut sink = SteadySink::new(Vec::new(row.alloc()));
-    row.debug(&write_all(&mut sink, &octets));
+    row.debug(&write_all(&mut sink, octets));
     match sink.written() {
         Some(octets) => row.hexadecimal(octets),
         None => row.say("lost"),

@@ -2,7 +2,7 @@
 
 use crate::outside_rows::failing;
 use crate::texts::{next_text, say_text};
-use dns_outside::{MemorySink, MemorySource, Reading};
+use dns_outside::{MemorySink, MemorySource, Reading, Source};
 use dns_server::{ScriptError, read_script, run};
 use rows_table::{Calls, Row, RowError};
 use std::alloc::Global;
@@ -35,24 +35,40 @@ fn sink(alloc: Global, number: Option<u64>) -> Result<MemorySink, RowError> {
     Ok(MemorySink::new(Vec::new(alloc), failing(alloc, number)?, 40))
 }
 
-/// How the run of a script ends, and what it writes.
-fn replay(row: &mut Row<'_>) -> Result<(), RowError> {
-    let mut source = MemorySource::new(next_text(row), Vec::new(row.alloc()), 40);
+/// How the run of a word ends.
+fn ran<S: Source>(
+    row: &mut Row<'_>,
+    word: &str,
+    source: &mut S,
+    sink: &mut MemorySink,
+) -> Result<(), RowError> {
+    let words = words(row.alloc(), word)?;
+    row.debug(&run(row.alloc(), &words, source, sink));
+    Ok(())
+}
+
+/// How the run of a word over a source ends, and what it writes.
+fn written<S: Source>(row: &mut Row<'_>, word: &str, source: &mut S) -> Result<(), RowError> {
     let mut sink = sink(row.alloc(), None)?;
-    let words = words(row.alloc(), "replay")?;
-    row.debug(&run(row.alloc(), &words, &mut source, &mut sink));
+    ran(row, word, source, &mut sink)?;
     say_text(row, sink.written());
     Ok(())
 }
 
+/// How the run of a script ends, and what it writes.
+fn replay(row: &mut Row<'_>) -> Result<(), RowError> {
+    let mut source = MemorySource::new(next_text(row), Vec::new(row.alloc()), 40);
+    written(row, "replay", &mut source)
+}
+
 /// How the run of a word ends where one read and one write fail, or none, whether anything was read, and what it writes.
 fn with_faults(row: &mut Row<'_>) -> Result<(), RowError> {
-    let words = words(row.alloc(), row.word())?;
+    let word = row.word();
     let read = failing(row.alloc(), row.optional())?;
     let mut sink = sink(row.alloc(), row.optional())?;
     let mut source = MemorySource::new(next_text(row), read, 40);
     let size = source.left().len();
-    row.debug(&run(row.alloc(), &words, &mut source, &mut sink));
+    ran(row, word, &mut source, &mut sink)?;
     row.say(if source.left().len() == size {
         "untouched"
     } else {
@@ -64,12 +80,8 @@ fn with_faults(row: &mut Row<'_>) -> Result<(), RowError> {
 
 /// How the run of a word ends over octets without an end, and what it writes.
 fn endless(row: &mut Row<'_>) -> Result<(), RowError> {
-    let words = words(row.alloc(), row.word())?;
-    let mut source = Reading::new(io::repeat(0));
-    let mut sink = sink(row.alloc(), None)?;
-    row.debug(&run(row.alloc(), &words, &mut source, &mut sink));
-    say_text(row, sink.written());
-    Ok(())
+    let word = row.word();
+    written(row, word, &mut Reading::new(io::repeat(0)))
 }
 
 /// How many rules and events a script has, or its first bad line.

@@ -3,7 +3,9 @@
 use dns_base::Message;
 use dns_core::{Notifiable, PolledRequest, VerdictFuture};
 use dns_name::{Class, IpAddr, Name, Rcode, SocketAddr};
-use dns_server::{Rule, Rules, ScriptAnswer, ScriptAnswers, ScriptService, ScriptTarget};
+use dns_server::{
+    Rule, Rules, ScriptAnswer, ScriptAnswers, ScriptFuture, ScriptService, ScriptTarget,
+};
 use dns_service::{
     CallResult, OutOfMemory, Polled, ReplyFuture, ReplyStream, Request, Service, ServiceResult,
     TransportSpecificContext, UdpTransportContext,
@@ -44,7 +46,7 @@ fn service(row: &mut Row<'_>) -> Result<ScriptService, RowError> {
 
 /// A request in a datagram, with the message of the next word.
 fn request(row: &mut Row<'_>) -> Result<Request<()>, RowError> {
-    let message = Message::from_octets(row.octets()).or(Err(RowError::OutOfForm))?;
+    let message = Message::from_octets(row.vector()).or(Err(RowError::OutOfForm))?;
     let transport = TransportSpecificContext::Udp(UdpTransportContext::new(None));
     let ip = IpAddr::V4([192, 0, 2, 1]);
     let sender = SocketAddr { ip, port: 5353 };
@@ -54,8 +56,7 @@ fn request(row: &mut Row<'_>) -> Result<Request<()>, RowError> {
 /// What the stream of the service of one rule gives to a request at three polls.
 fn played(row: &mut Row<'_>) -> Result<(), RowError> {
     let service = service(row)?;
-    let mut request = request(row)?;
-    let mut future = service.call(row.alloc(), &mut request)?;
+    let mut future = called(row, &service)?;
     match future.poll(row.alloc())? {
         Polled::Ready(mut stream) => three_polls(row, &mut stream),
         Polled::Pending => row.fail(RowError::Missing),
@@ -63,11 +64,16 @@ fn played(row: &mut Row<'_>) -> Result<(), RowError> {
     Ok(())
 }
 
+/// The future that the service gives to the request of the next word.
+fn called(row: &mut Row<'_>, service: &ScriptService) -> Result<ScriptFuture, RowError> {
+    let mut request = request(row)?;
+    Ok(service.call(row.alloc(), &mut request)?)
+}
+
 /// What the same request gives at three polls, as a client's core keeps it.
 fn polled(row: &mut Row<'_>) -> Result<(), RowError> {
     let service = service(row)?;
-    let mut request = request(row)?;
-    let mut polled = PolledRequest::Future(service.call(row.alloc(), &mut request)?);
+    let mut polled = PolledRequest::Future(called(row, &service)?);
     for _ in 0..3 {
         poll_said(row, polled.poll_next(row.alloc()));
     }

@@ -2,6 +2,7 @@
 #![tactic(auto)]
 
 mod error;
+mod page;
 mod repeats;
 mod row;
 mod said;
@@ -9,6 +10,7 @@ mod table;
 mod words;
 
 pub use error::RowError;
+pub use page::{Page, pages};
 pub use row::Row;
 pub use table::{Calls, Steps, run};
-pub use words::{address_of, array_of, number_of, octets_of};
+pub use words::{address_of, array_of, number_of};

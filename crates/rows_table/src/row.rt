@@ -1,27 +1,31 @@
 //! A row that is judged: its arguments are read one after the other, and what its call says of them is written.
 
-use crate::words::{address_of, array_of, number_of, octets_of};
+use crate::page::Page;
+use crate::words::{address_of, array_of, number_of};
 use crate::{RowError, Steps};
-use dns_name::IpAddr;
+use dns_name::{IpAddr, NameRef};
 use std::alloc::Global;
 use std::str::FromStr;
 
-/// The words of a row that are still to be read, what its call says so far, and the first fault, if there is one. A row
-/// with a fault doesn't hold, whatever its call says: so what can't be read is zero or empty, and reading goes on.
+/// The words of a row that are still to be read, the octets that they are, what its call says so far, and the first fault,
+/// if there is one. A row with a fault doesn't hold, whatever its call says: so what can't be read is zero or empty, and
+/// reading goes on.
 #[derive(Drop)]
 pub struct Row<'a> {
     alloc: Global,
     words: &'a str,
+    pages: &'a [Page<'a>],
     pub(crate) said: String,
     fault: Option<RowError>,
 }
 
 impl<'a> Row<'a> {
-    /// A row of the words of a text, which spaces part.
-    pub fn of(alloc: Global, text: &'a str) -> Row<'a> {
+    /// A row of the words of a text, which spaces part, with the octets that they are.
+    pub fn of(alloc: Global, text: &'a str, pages: &'a [Page<'a>]) -> Row<'a> {
         Row {
             alloc,
             words: text.trim(),
+            pages,
             said: String::new(alloc),
             fault: None,
         }
@@ -67,15 +71,52 @@ impl<'a> Row<'a> {
     }
 
     /// The octets of the next word in hexadecimal, `-` for none.
-    pub fn octets(&mut self) -> Vec<u8> {
+    pub fn octets(&mut self) -> &'a [u8] {
         let word = self.word();
         self.octets_of(word)
     }
 
     /// The octets of a word in hexadecimal, `-` for none.
-    pub fn octets_of(&mut self, word: &str) -> Vec<u8> {
-        let octets = octets_of(self.alloc, word);
-        self.read(octets, Vec::new(self.alloc))
+    pub fn octets_of(&mut self, word: &str) -> &'a [u8] {
+        if word == "-" {
+            return b"";
+        }
+        for page in self.pages {
+            if page.word == word {
+                return &page.octets;
+            }
+        }
+        self.fail(RowError::OutOfForm);
+        b""
+    }
+
+    /// The same octets as the next word's, owned.
+    pub fn vector(&mut self) -> Vec<u8> {
+        let octets = self.octets();
+        self.copied(octets)
+    }
+
+    /// The same octets, owned.
+    pub fn copied(&mut self, octets: &[u8]) -> Vec<u8> {
+        match Vec::from_slice(self.alloc, octets) {
+            Ok(copy) => copy,
+            Err(_) => {
+                self.fail(RowError::OutOfMemory);
+                Vec::new(self.alloc)
+            }
+        }
+    }
+
+    /// The uncompressed name that the octets of the next word are.
+    pub fn name(&mut self) -> Result<NameRef<'a>, RowError> {
+        let word = self.word();
+        self.name_of(word)
+    }
+
+    /// The uncompressed name that the octets of a word are.
+    pub fn name_of(&mut self, word: &str) -> Result<NameRef<'a>, RowError> {
+        let octets = self.octets_of(word);
+        NameRef::from_slice(octets).or(Err(RowError::OutOfForm))
     }
 
     /// So many octets of the next word in hexadecimal.

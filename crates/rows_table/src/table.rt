@@ -1,5 +1,6 @@
 //! A table of rows is read from standard input, and each row that doesn't hold is told.
 
+use crate::page::pages;
 use crate::repeats::written_out;
 use crate::{Row, RowError};
 use std::alloc::Global;
@@ -31,7 +32,8 @@ pub trait Steps {
 
 /// What the call of a row says of its arguments, where there is no fault. A refusal of octets is what it says.
 fn said<C: Calls>(alloc: Global, calls: &C, asked: &str) -> Result<String, RowError> {
-    let mut row = Row::of(alloc, asked);
+    let pages = pages(alloc, asked)?;
+    let mut row = Row::of(alloc, asked, &pages);
     match calls.answer(row.word(), &mut row) {
         Ok(()) => {}
         Err(RowError::Refused(error)) => row.refuse(error),
