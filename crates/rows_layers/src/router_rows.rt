@@ -5,7 +5,7 @@ ghost use Rattle.dns_service.specs.declared.service.Polled.TheVariants.{Pending,
 
 use crate::request_rows::request;
 use crate::said::poll_said;
-use crate::words::{message, service_error};
+use crate::words::service_error;
 use dns_base::Message;
 use dns_name::Name;
 use dns_route::{
@@ -105,7 +105,8 @@ fn add(
     name: &str,
     error: &str,
 ) -> Result<(), RowError> {
-    let name = Name::from_octets(row.octets_of(name)).or(Err(RowError::OutOfForm))?;
+    let octets = row.octets_of(name);
+    let name = Name::from_octets(row.copied(octets)).or(Err(RowError::OutOfForm))?;
     let error = service_error(error).ok_or(RowError::OutOfForm)?;
     router.add(row.alloc(), name, Refusing { error })?;
     Ok(())
@@ -161,7 +162,8 @@ fn next_transport(row: &mut Row<'_>) -> Result<Planned, RowError> {
             answer: Err(error),
         });
     }
-    let message = message(row.octets_of(answer))?;
+    let octets = row.octets_of(answer);
+    let message = Message::from_octets(row.copied(octets)).or(Err(RowError::OutOfForm))?;
     Ok(Planned {
         waits,
         answer: Ok(message),

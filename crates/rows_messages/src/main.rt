@@ -3,6 +3,7 @@
 
 mod builders;
 mod codes;
+mod copies;
 mod data;
 mod messages;
 mod names;
@@ -16,7 +17,7 @@ fn main(rt: HostRuntime) -> io::Result<ExitCode> {
         &rt,
         &(
             (codes::Codes, names::Names),
-            (messages::Messages, builders::Builders),
+            (messages::Messages, (copies::Copies, builders::Builders)),
         ),
     )
 }

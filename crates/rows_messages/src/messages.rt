@@ -31,7 +31,7 @@ impl Calls for Messages {
 }
 
 /// The message of the next word.
-fn next_message<'a>(row: &mut Row<'a>) -> Result<MessageRef<'a>, RowError> {
+pub(crate) fn next_message<'a>(row: &mut Row<'a>) -> Result<MessageRef<'a>, RowError> {
     MessageRef::from_slice(row.octets()).or(Err(RowError::OutOfForm))
 }
 
@@ -61,7 +61,7 @@ fn number_in(row: &mut Row<'_>) -> Result<(), RowError> {
 }
 
 /// What a question appends to none.
-fn composed<Q: ComposeQuestion>(row: &mut Row<'_>, question: &Q) {
+pub(crate) fn composed<Q: ComposeQuestion>(row: &mut Row<'_>, question: &Q) {
     let mut target = Vec::new(row.alloc());
     row.keep(question.compose_question(row.alloc(), &mut target));
     row.hexadecimal(&target)
@@ -99,7 +99,7 @@ fn answer_in(alloc: Global, octets: &[u8]) -> Result<Record, ParseError>
 }
 
 /// The first answer record of the next word's message.
-fn next_answer(row: &mut Row<'_>) -> Result<Record, RowError>
+pub(crate) fn next_answer(row: &mut Row<'_>) -> Result<Record, RowError>
     ensures { IfOk result (λ r. IsLawful r.rdata) }
 {
     let octets = row.octets();
@@ -107,7 +107,7 @@ fn next_answer(row: &mut Row<'_>) -> Result<Record, RowError>
 }
 
 /// What a record appends to none.
-fn record_octets(row: &mut Row<'_>, item: &Record)
+pub(crate) fn record_octets(row: &mut Row<'_>, item: &Record)
     requires { IsLawful item.now.rdata }
 {
     let mut target = Vec::new(row.alloc());
@@ -116,7 +116,7 @@ fn record_octets(row: &mut Row<'_>, item: &Record)
 }
 
 /// What a record's data appends to none.
-fn data_octets(row: &mut Row<'_>, item: &Record) {
+pub(crate) fn data_octets(row: &mut Row<'_>, item: &Record) {
     let mut target = Vec::new(row.alloc());
     row.keep(item.rdata.compose(row.alloc(), &mut target));
     row.hexadecimal(&target);
