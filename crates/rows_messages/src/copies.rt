@@ -33,7 +33,9 @@ fn name_copy(row: &mut Row<'_>) -> Result<(), RowError> {
 
 /// The first question of the next word's message, owned.
 fn next_question(row: &mut Row<'_>) -> Result<Question, RowError> {
-    let found = next_message(row)?.first_question().ok_or(RowError::OutOfForm)?;
+    let found = next_message(row)?
+        .first_question()
+        .ok_or(RowError::OutOfForm)?;
     Ok(found.to_question(row.alloc())?)
 }
 
