@@ -164,11 +164,9 @@ fn first_read(
     }
 }
 
-/// Whether two records have the same fields.
-fn alike(alloc: Global, item: &Record, read: &Record) -> Result<bool, RowError> {
-    let given = format!(in alloc; "{item:?}")?;
-    let back = format!(in alloc; "{read:?}")?;
-    Ok(given.as_str() == back.as_str())
+/// Whether two records have the same fields, names up to ASCII case.
+fn alike(item: &Record, read: &Record) -> bool {
+    *item == *read && item.ttl == read.ttl
 }
 
 /// Whether all fields of the first additional record of what is built are those of the record that was pushed.
@@ -177,7 +175,7 @@ fn reads_back(alloc: Global, builder: &AdditionalBuilder, item: &Record) -> Resu
     requires lawful { IsLawful item.now.rdata }
 {
     let read = first_read(alloc, builder, item)?;
-    alike(alloc, item, &read)
+    Ok(alike(item, &read))
 }
 
 /// The data's octets of a record that is pushed, and whether all fields come back when they are read.
