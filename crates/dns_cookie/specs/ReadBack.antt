@@ -1,15 +1,12 @@
 -- A cookie that is written and read again is the same.
-use Rattle.std.specs.Prelude.{◌≡◌, ℕ, ◌+◌, ◌≤◌, List, [], ◌∷◌, ◌++◌, length, take, drop, Option, Some, None, Ok, Bool, true, false, ◌&&◌, ◌==◌, nat_lt, nat_le}
+use Rattle.std.specs.Prelude.{◌≡◌, ℕ, ◌+◌, ◌≤◌, List, [], ◌∷◌, ◌++◌, length, take, drop, Option, Some, None, Ok, true, false, ◌==◌, nat_lt, nat_le}
 use Rattle.std.proofs.Common.{arith, refl, sym, ap, ◌∙◌, length-append}
 use Rattle.std.proofs.Math.Seq.{take-append_seam, drop-append_seam}
 use Rattle.std.proofs.lemmas.Bool.{le-ltb, leb-true, eqb-true}
 use Rattle.dns_name.specs.OptData.{kind, for_code, whole}
+use Rattle.dns_name.proofs.Readings.{both}
 use Rattle.dns_cookie.specs.Cookies.{Cookie}
 use Rattle.dns_cookie.specs.CookieData.{cookie_data, cookie_octets, server_octets, server_part, server_data, with_some, with_client, is_cookie, is_server_part}
-
-both : (a b : Bool) → (a && b) ≡ true → (a ≡ true) × (b ≡ true)
-both true b h = (refl, h)
-both false b h = cc
 
 server_whole : (s : List ℕ) → 8 ≤ length s → length s ≤ 32 → with_some (server_data s) ≡ Ok (Some s, length s)
 server_whole s least most =

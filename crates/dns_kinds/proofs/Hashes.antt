@@ -7,7 +7,8 @@ use Rattle.std.proofs.lemmas.List.{take_all}
 use Rattle.std.specs.Bool.{IsTrue}
 use Rattle.std.specs.Char.{to_ascii_lowercase}
 use Rattle.std.specs.Hash as fed
-use Rattle.dns_name.specs.Canonical.{same_name, same_name_Decides}
+use Rattle.dns_name.specs.Canonical.{same_name}
+use Rattle.dns_name.proofs.Ordered.{same_name_Decides}
 use Rattle.dns_name.specs.Labels.{AreLabels, IsName, folded, spell}
 use Rattle.dns_kinds.specs.Chains.{hashed_name}
 

@@ -5,9 +5,8 @@ use Rattle.std.specs.Prelude.{◌≢◌, nat_le, nat_lt, nat_eq, slice_index, So
 use Rattle.std.specs.Cmp.Lexicographic.{pointwise}
 use Rattle.std.specs.List.{list_all}
 use Rattle.dns_name.specs.Labels.{spell, AreLabels, IsName}
-use Rattle.dns_kinds.specs.Again.{has_octets, is_extended}
 use Rattle.dns_kinds.specs.Chains.{are_labels, is_name}
-use Rattle.dns_kinds.specs.Extended.{Extended, TextFits, text_octets}
+use Rattle.dns_kinds.specs.Extended.{Extended, TextFits, text_octets, has_octets, is_extended}
 use Rattle.dns_kinds.specs.Subnet.{IsSubnet, is_clear, is_clear_addr, masked, addr_octets}
 use Rattle.dns_name.specs.declared.address.IpAddr.{IpAddr}
 use Rattle.dns_name.specs.declared.address.IpAddr.TheVariants.{V4, V6}

@@ -4,24 +4,11 @@ use Rattle.std.proofs.lemmas.Bool.Decides.{nat_tests}
 use Rattle.std.specs.Prelude.{◌&&◌, nat_le, nat_lt, Some, None, Ok, Option}
 use Rattle.dns_name.specs.Labels.{spell, AreLabels, IsName}
 use Rattle.dns_name.specs.OptData.{kind, whole, for_code}
-use Rattle.dns_name.proofs.Readings.{not_below, taken_whole}
+use Rattle.dns_name.proofs.Readings.{both, below, at_most, not_below, taken_whole}
 use Rattle.dns_name.proofs.Spelt.{spelt_alone}
-use Rattle.dns_kinds.specs.Timers.{expire_data, expire_octets, keepalive_data, keepalive_octets}
-use Rattle.dns_kinds.specs.Extended.{Extended, extended, extended_data, extended_of, extended_octets, taken_text, text_octets}
+use Rattle.dns_kinds.specs.Timers.{is_below, expire_data, expire_octets, keepalive_data, keepalive_octets}
+use Rattle.dns_kinds.specs.Extended.{Extended, has_octets, is_extended, extended, extended_data, extended_of, extended_octets, taken_text, text_octets}
 use Rattle.dns_kinds.specs.Chains.{chain_data, are_labels, is_name}
-
-both : (a b : Bool) → (a && b) ≡ true → (a ≡ true) × (b ≡ true)
-both true true h = (refl, refl)
-both true false h = absurd (cc)
-both false b h = absurd (cc)
-
--- numbers below a bound
-abbrev pub is_below : ℕ → Option ℕ → Bool
-is_below n None = true
-is_below n (Some k) = nat_lt k n
-
-below : (k n : ℕ) → nat_lt k n ≡ true → k < n
-below k n h = grind (arith, nat_tests)
 
 four_again : (n : ℕ) → n < 4294967296 → 65536 * (256 * (n / 65536 / 256) + n / 65536 % 256) + (256 * (n % 65536 / 256) + n % 65536 % 256) ≡ n
 four_again n h = omega arith
@@ -44,9 +31,6 @@ labels_known (l ∷ ls) h =
     let bounds = both (nat_lt 0 (length l)) (nat_lt (length l) 64) parts.0 in
     (below 0 (length l) bounds.0, below (length l) 64 bounds.1, labels_known ls parts.1)
 
-at_most : (k n : ℕ) → nat_le k n ≡ true → k ≤ n
-at_most k n h = grind (arith, nat_tests)
-
 name_known : (ls : List (List ℕ)) → is_name ls ≡ true → IsName ls
 name_known ls h =
     let parts = both (are_labels ls) (nat_le (length (spell ls)) 255) h in
@@ -55,16 +39,6 @@ name_known ls h =
 
 pub chain_again : (k : List (List ℕ)) → is_name k ≡ true → kind (for_code 13 chain_data) 13 (spell k) ≡ Some (Ok k)
 chain_again k h = rw (spelt_alone k (name_known k h), not_below (length (spell k))) refl
-
--- a text that has octets, or none
-abbrev pub has_octets : Option (List ℕ) → Bool
-has_octets None = true
-has_octets (Some []) = false
-has_octets (Some (x ∷ t)) = true
-
--- the extended errors that come back: those without an empty text
-abbrev pub is_extended : Extended → Bool
-is_extended k = nat_le (length (text_octets k.text)) 65533 && has_octets k.text
 
 text_again : (t : Option (List ℕ)) → has_octets t ≡ true → taken_text (text_octets t) ≡ t
 text_again None h = refl

@@ -1,13 +1,12 @@
 -- CHAIN (RFC 7901, section 4).
 use Rattle.std.specs.Prelude.{ℕ, Bool, true, ◌&&◌, List, [], ◌∷◌, length, nat_lt, nat_le}
-use Rattle.std.specs.Cmp.{IsPartialOrder, partial_order_from_own_ties, partial_order_from_total}
 use Rattle.std.specs.Hash as fed
-use Rattle.std.specs.Ordering.{as_partial_cmp}
 use Rattle.std.proofs.Common.{◌≡◌, ap}
-use Rattle.dns_name.specs.Canonical.{name_cmp, name_cmp_total, same_name, same_name_Decides, same_name_ties}
+use Rattle.dns_name.specs.Canonical.{same_name}
 use Rattle.dns_name.specs.Labels.{folded, spell}
 use Rattle.dns_name.specs.Names.{uncompressed_at}
 use Rattle.dns_name.specs.OptData.{Taken}
+use Rattle.dns_name.proofs.Ordered.{same_name_Decides}
 
 -- one uncompressed name
 abbrev pub chain_data : List ℕ → Taken (List (List ℕ))
@@ -20,10 +19,6 @@ are_labels (l ∷ ls) = (nat_lt 0 (length l) && nat_lt (length l) 64) && are_lab
 -- labels of 1 to 63 octets, at most 255 octets as they are written
 abbrev pub is_name : List (List ℕ) → Bool
 is_name ls = are_labels ls && nat_le (length (spell ls)) 255
-
--- the canonical order of names, by which no two are without an answer (RFC 4034, section 6.1)
-pub name_order : IsPartialOrder same_name (as_partial_cmp name_cmp)
-name_order = partial_order_from_own_ties (partial_order_from_total name_cmp_total) same_name_ties
 
 -- a name is hashed by its octets with ASCII letters in lower case
 abbrev pub hashed_name : List (List ℕ) → List (List ℕ)

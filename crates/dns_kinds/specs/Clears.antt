@@ -5,25 +5,10 @@ use Rattle.std.specs.Prelude.{◌&&◌, nat_le, nat_lt, nat_eq, Some, Ok}
 use Rattle.std.specs.Cmp.Lexicographic.{pointwise}
 use Rattle.std.specs.List.{list_all}
 use Rattle.dns_name.specs.OptData.{kind, whole, for_code}
-use Rattle.dns_name.proofs.Readings.{same_number, taken_whole}
+use Rattle.dns_name.proofs.Readings.{both, below, at_most, same_number, taken_whole}
 use Rattle.dns_name.specs.declared.address.IpAddr.TheVariants.{V4, V6}
 use Rattle.dns_name.specs.declared.address.IpAddr.{IpAddr}
-use Rattle.dns_kinds.specs.Subnet.{Subnet, mask_octet, masked, octets_for, with_zeros, address, with_address, subnet_data, subnet_octets, is_clear, is_clear_addr}
-
--- the subnets that come back
-abbrev pub is_clear_subnet : Subnet → Bool
-is_clear_subnet k = is_clear_addr k.source k.addr
-
-both : (a b : Bool) → (a && b) ≡ true → (a ≡ true) × (b ≡ true)
-both true true h = (refl, refl)
-both true false h = absurd (cc)
-both false b h = absurd (cc)
-
-below : (k n : ℕ) → nat_lt k n ≡ true → k < n
-below k n h = grind (arith, nat_tests)
-
-at_most : (k n : ℕ) → nat_le k n ≡ true → k ≤ n
-at_most k n h = grind (arith, nat_tests)
+use Rattle.dns_kinds.specs.Subnet.{Subnet, mask_octet, masked, octets_for, with_zeros, address, with_address, subnet_data, subnet_octets, is_clear, is_clear_addr, is_clear_subnet}
 
 same : (k n : ℕ) → nat_eq k n ≡ true → k ≡ n
 same k n h = grind (arith, nat_tests)

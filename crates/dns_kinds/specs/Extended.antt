@@ -1,5 +1,5 @@
 -- EXTENDED-ERROR (RFC 8914, section 2).
-use Rattle.std.specs.Prelude.{◌≡◌, ℕ, ◌+◌, ◌<◌, ◌≤◌, List, [], ◌∷◌, ◌++◌, length, Option, Some, None, Result, Ok, Err, nat_lt, encode_utf8_all, if◌then◌else◌}
+use Rattle.std.specs.Prelude.{◌≡◌, ℕ, ◌+◌, ◌<◌, ◌≤◌, List, [], ◌∷◌, ◌++◌, length, Bool, true, false, ◌&&◌, nat_le, Option, Some, None, Result, Ok, Err, nat_lt, encode_utf8_all, if◌then◌else◌}
 use Rattle.std.specs.Borrow.{Bor}
 use Rattle.std.specs.Fmt.{decimal}
 use Rattle.std.specs.Str.{IsUtf8}
@@ -79,3 +79,13 @@ extended_text k = decimal k.code ++ text_shown k.text
 abbrev pub IsRead : List ℕ → Taken Extended → Result Extended ParseError → Type 0
 IsRead d (Ok p) result = (result ≡ Ok p.0) × (p.1 ≡ length d)
 IsRead d (Err e) result = result ≡ Err e
+
+-- a text that has octets, or none
+abbrev pub has_octets : Option (List ℕ) → Bool
+has_octets None = true
+has_octets (Some []) = false
+has_octets (Some (x ∷ t)) = true
+
+-- the extended errors that come back: those without an empty text
+abbrev pub is_extended : Extended → Bool
+is_extended k = nat_le (length (text_octets k.text)) 65533 && has_octets k.text

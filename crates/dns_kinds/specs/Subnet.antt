@@ -96,6 +96,10 @@ abbrev pub is_clear_addr : ℕ → IpAddr → Bool
 is_clear_addr s (V4 a) = is_clear 4 s a
 is_clear_addr s (V6 a) = is_clear 16 s a
 
+-- the subnets that come back
+abbrev pub is_clear_subnet : Subnet → Bool
+is_clear_subnet k = is_clear_addr k.source k.addr
+
 -- the order of addresses: those of version 4 first, and of one version by their octets
 abbrev pub addr_cmp : IpAddr → IpAddr → Ordering
 addr_cmp (V4 a) (V4 b) = slice_cmp nat_cmp a b

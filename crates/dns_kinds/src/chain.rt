@@ -3,13 +3,14 @@
 ghost use Rattle.std.specs.Prelude.{◌≡◌, length, Some, IfOk, fold, refl, true, ⊤};
 ghost use Rattle.std.specs.Cmp.{partial_equiv_from_equiv};
 ghost use Rattle.std.specs.Ordering.{as_partial_cmp};
-ghost use Rattle.dns_name.specs.Canonical.{name_cmp, name_cmp_total, same_name, same_name_equiv, same_name_ties};
+ghost use Rattle.dns_name.specs.Canonical.{name_cmp, same_name};
+ghost use Rattle.dns_name.proofs.Ordered.{name_cmp_total, name_order, same_name_equiv, same_name_ties};
 ghost use Rattle.dns_name.specs.Labels.{IsName, spell};
 ghost use Rattle.dns_name.specs.NameText.{name_text};
 ghost use Rattle.dns_name.specs.OptData.{ParsesData, for_code};
 ghost use Rattle.dns_name.specs.Place.{rest};
 ghost use Rattle.dns_kinds.specs.Again.{chain_again};
-ghost use Rattle.dns_kinds.specs.Chains.{chain_data, hashed_name, is_name, name_order, same_hashed};
+ghost use Rattle.dns_kinds.specs.Chains.{chain_data, hashed_name, is_name, same_hashed};
 
 use dns_name::{
     ComposeOptData, HoldsName, Name, NameRef, OptData, OptionCode, OutOfMemory, ParseError,

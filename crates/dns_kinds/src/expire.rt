@@ -3,8 +3,8 @@
 ghost use Rattle.std.specs.Prelude.{◌≡◌, Some, length, true};
 ghost use Rattle.dns_name.specs.OptData.{ParsesData, for_code};
 ghost use Rattle.dns_name.specs.Place.{rest};
-ghost use Rattle.dns_kinds.specs.Again.{expire_again, is_below};
-ghost use Rattle.dns_kinds.specs.Timers.{expire_data, expire_octets, number_text};
+ghost use Rattle.dns_kinds.specs.Again.{expire_again};
+ghost use Rattle.dns_kinds.specs.Timers.{is_below, expire_data, expire_octets, number_text};
 
 use dns_name::{
     ComposeOptData, OptData, OptionCode, OutOfMemory, ParseError, ParseOptData, Parser, ReadBack,

@@ -4,8 +4,8 @@ ghost use Rattle.std.specs.Prelude.{◌≡◌, ◌≢◌, [], true, ◌≤◌, �
 ghost use Rattle.std.specs.Option.{option_copied};
 ghost use Rattle.dns_name.specs.OptData.{ParsesData, for_code};
 ghost use Rattle.dns_name.specs.Place.{rest};
-ghost use Rattle.dns_kinds.specs.Again.{extended_again, is_extended};
-ghost use Rattle.dns_kinds.specs.Extended.{Copied, TextFits, IsRead, MadeExtended, ReadsText, extended, extended_data, extended_octets, extended_text, text_octets, text_shown};
+ghost use Rattle.dns_kinds.specs.Again.{extended_again};
+ghost use Rattle.dns_kinds.specs.Extended.{Copied, TextFits, IsRead, is_extended, MadeExtended, ReadsText, extended, extended_data, extended_octets, extended_text, text_octets, text_shown};
 
 use bstr::BStr;
 use dns_name::{

@@ -4,8 +4,8 @@ ghost use Rattle.std.specs.Prelude.{◌≡◌, ◌*◌, ◌/◌, ◌≤◌, ◌<
 ghost use Rattle.std.specs.Fmt.{decimal};
 ghost use Rattle.dns_name.specs.OptData.{ParsesData, for_code};
 ghost use Rattle.dns_name.specs.Place.{rest};
-ghost use Rattle.dns_kinds.specs.Again.{is_below, keepalive_again};
-ghost use Rattle.dns_kinds.specs.Timers.{keepalive_data, keepalive_octets, number_text};
+ghost use Rattle.dns_kinds.specs.Again.{keepalive_again};
+ghost use Rattle.dns_kinds.specs.Timers.{is_below, keepalive_data, keepalive_octets, number_text};
 
 use dns_name::{
     ComposeOptData, OptData, OptionCode, OutOfMemory, ParseError, ParseOptData, Parser, ReadBack,

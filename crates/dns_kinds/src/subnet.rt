@@ -3,8 +3,8 @@
 ghost use Rattle.std.specs.Prelude.{◌≡◌, ◌≤◌, length, take, true};
 ghost use Rattle.dns_name.specs.OptData.{ParsesData, for_code};
 ghost use Rattle.dns_name.specs.Place.{rest};
-ghost use Rattle.dns_kinds.specs.Clears.{is_clear_subnet, subnet_again};
-ghost use Rattle.dns_kinds.specs.Subnet.{IsWhole, family, within_address, octets_for, addr_octets, subnet_data, subnet_octets};
+ghost use Rattle.dns_kinds.specs.Clears.{subnet_again};
+ghost use Rattle.dns_kinds.specs.Subnet.{IsWhole, is_clear_subnet, family, within_address, octets_for, addr_octets, subnet_data, subnet_octets};
 
 use crate::mask::{address4, address16, mask4, mask16, prefix};
 use dns_name::{

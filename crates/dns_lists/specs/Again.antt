@@ -1,15 +1,10 @@
 -- What is composed is read again.
-use Rattle.std.proofs.Common.{◌≡◌, ℕ, List, length, Bool, true, false, refl, ◌&&◌, ◌%◌}
+use Rattle.std.proofs.Common.{◌≡◌, ℕ, List, length, true, refl, ◌%◌}
 use Rattle.std.specs.Prelude.{nat_le, nat_eq, Some, Ok}
 use Rattle.dns_name.specs.OptData.{kind, for_code}
-use Rattle.dns_name.proofs.Readings.{not_above, not_below}
+use Rattle.dns_name.proofs.Readings.{both, not_above, not_below}
 use Rattle.dns_lists.specs.Tags.{are_tags, tag_data}
 use Rattle.dns_lists.specs.Unknowns.{Unknown, unknown_taken}
-
-both : (a b : Bool) → (a && b) ≡ true → (a ≡ true) × (b ≡ true)
-both true true h = (refl, refl)
-both true false h = absurd (cc)
-both false b h = absurd (cc)
 
 -- tags come back
 pub tags_again : (k : List ℕ) → are_tags k ≡ true → kind (for_code 14 tag_data) 14 k ≡ Some (Ok k)
