@@ -7,10 +7,8 @@ use Rattle.std.proofs.lemmas.List.{take_all}
 use Rattle.std.specs.Bool.{IsTrue}
 use Rattle.std.specs.Char.{to_ascii_lowercase}
 use Rattle.std.specs.Hash as fed
-use Rattle.dns_name.specs.Canonical.{same_name}
-use Rattle.dns_name.proofs.Ordered.{same_name_Decides}
+use Rattle.dns_name.specs.Canonical.{name_writes, same_name, same_name_Decides}
 use Rattle.dns_name.specs.Labels.{AreLabels, IsName, folded, spell}
-use Rattle.dns_kinds.specs.Chains.{hashed_name}
 
 pub tells_same : (r : Bool) (a b : List (List ℕ)) → (IsTrue r ↔ (folded a ≡ folded b)) → r ≡ same_name a b
 tells_same r a b h = same_from_decides r (same_name a b) h (same_name_Decides a b)
@@ -30,7 +28,7 @@ spelt_lower (l ∷ ls) h =
     let more = map-append to_ascii_lowercase l (spell ls) ∙ ap (λ r. map to_ascii_lowercase l ++ r) (spelt_lower ls h.2) in
     λ i. first i ∷ more i
 
-pub all_fed : {S : Type 0} (write : S → List ℕ → S) (before first after : S) (i : ℕ) (octets : List ℕ) (ls : List (List ℕ)) → octets ≡ spell ls → IsName ls → length octets ≤ i → first ≡ write before (fed.le_bytes 8 (length octets)) → after ≡ fold write first (flat_map fed.u8 (map to_ascii_lowercase (take i octets))) → after ≡ fold write before (hashed_name ls)
+pub all_fed : {S : Type 0} (write : S → List ℕ → S) (before first after : S) (i : ℕ) (octets : List ℕ) (ls : List (List ℕ)) → octets ≡ spell ls → IsName ls → length octets ≤ i → first ≡ write before (fed.le_bytes 8 (length octets)) → after ≡ fold write first (flat_map fed.u8 (map to_ascii_lowercase (take i octets))) → after ≡ fold write before (name_writes ls)
 all_fed write before first after i octets ls spelt named all start fed_so_far =
     let lower : map to_ascii_lowercase octets ≡ spell (folded ls) = ap (map to_ascii_lowercase) spelt ∙ spelt_lower ls named.labels in
     let long : length octets ≡ length (spell (folded ls)) = sym (length_lower octets) ∙ ap length lower in

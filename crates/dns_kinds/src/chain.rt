@@ -3,14 +3,13 @@
 ghost use Rattle.std.specs.Prelude.{◌≡◌, length, Some, IfOk, fold, refl, true, ⊤};
 ghost use Rattle.std.specs.Cmp.{partial_equiv_from_equiv};
 ghost use Rattle.std.specs.Ordering.{as_partial_cmp};
-ghost use Rattle.dns_name.specs.Canonical.{name_cmp, same_name};
-ghost use Rattle.dns_name.proofs.Ordered.{name_cmp_total, name_order, same_name_equiv, same_name_ties};
+ghost use Rattle.dns_name.specs.Canonical.{name_cmp, name_cmp_total, name_writes, same_name, same_name_equiv, same_name_order, same_name_ties, same_name_writes};
 ghost use Rattle.dns_name.specs.Labels.{IsName, spell};
 ghost use Rattle.dns_name.specs.NameText.{name_text};
 ghost use Rattle.dns_name.specs.OptData.{ParsesData, for_code};
 ghost use Rattle.dns_name.specs.Place.{rest};
 ghost use Rattle.dns_kinds.specs.Again.{chain_again};
-ghost use Rattle.dns_kinds.specs.Chains.{chain_data, hashed_name, is_name, same_hashed};
+ghost use Rattle.dns_kinds.specs.Chains.{chain_data, is_name};
 
 use dns_name::{
     ComposeOptData, HoldsName, Name, NameRef, OptData, OptionCode, OutOfMemory, ParseError,
@@ -167,9 +166,9 @@ impl<N: HoldsName> Eq for HeldChain<N> {
 }
 
 impl<N: HoldsName> Hash for HeldChain<N> {
-    ghost hash_input = { hashed_name };
+    ghost hash_input = { name_writes };
 
-    ghost respects_eq = { same_hashed };
+    ghost respects_eq = { same_name_writes };
 
     fn hash<H: Hasher>(&self, state: &mut H) {
         hash_name(&self.start.as_name(), state);
@@ -193,7 +192,7 @@ impl<N: HoldsName> Ord for HeldChain<N> {
 impl<N: HoldsName> PartialOrd for HeldChain<N> {
     ghost partial_cmp = { as_partial_cmp name_cmp };
 
-    ghost laws = { name_order };
+    ghost laws = { same_name_order };
 
     fn partial_cmp(&self, other: &HeldChain<N>) -> Option<Ordering> {
         Some(self.cmp(other))
@@ -218,7 +217,7 @@ fn same(name: &NameRef<'_>, other: &NameRef<'_>) -> bool
 
 /// Feeds the octets of a name with ASCII letters in lower case.
 fn hash_name<H: Hasher>(name: &NameRef<'_>, state: &mut H)
-    ensures { state.new ≡ fold H.write state.old (hashed_name name.now) }
+    ensures { state.new ≡ fold H.write state.old (name_writes name.now) }
 {
     let octets = name.as_slice();
     state.write_usize(octets.len());

@@ -1,8 +1,19 @@
 -- What is composed is read again.
-use Rattle.std.proofs.Common.{◌≡◌, ℕ, List, length, true, false, arith, refl}
+use Rattle.std.proofs.Common.{◌≡◌, ℕ, ◌<◌, ◌≤◌, List, length, Bool, true, false, arith, refl}
 use Rattle.std.proofs.lemmas.Bool.Decides.{nat_tests}
-use Rattle.std.specs.Prelude.{nat_le, nat_lt, nat_eq, Some, Ok}
+use Rattle.std.specs.Prelude.{◌&&◌, nat_le, nat_lt, nat_eq, Some, Ok}
 use Rattle.dns_name.specs.OptData.{kind, whole, for_code, list_data}
+
+pub both : (a b : Bool) → (a && b) ≡ true → (a ≡ true) × (b ≡ true)
+both true true h = (refl, refl)
+both true false h = absurd (cc)
+both false b h = absurd (cc)
+
+pub below : (k n : ℕ) → nat_lt k n ≡ true → k < n
+below k n h = grind (arith, nat_tests)
+
+pub at_most : (k n : ℕ) → nat_le k n ≡ true → k ≤ n
+at_most k n h = grind (arith, nat_tests)
 
 pub same_number : (n : ℕ) → nat_eq n n ≡ true
 same_number n = grind (arith, nat_tests)
