@@ -17,22 +17,22 @@ use dns_service::{
 use std::alloc::Global;
 
 /// The query for the root's address, with RD and an OPT record of size 1232.
-const QUERY: [u8; 28] =
+pub(crate) const QUERY: [u8; 28] =
     *b"\x12\x34\x01\x00\x00\x01\x00\x00\x00\x00\x00\x01\x00\x00\x01\x00\x01\x00\x00\x29\x04\xd0\x00\x00\x00\x00\x00\x00";
 
 /// The same without the OPT record.
-const BARE_QUERY: [u8; 17] =
+pub(crate) const BARE_QUERY: [u8; 17] =
     *b"\x12\x34\x01\x00\x00\x01\x00\x00\x00\x00\x00\x00\x00\x00\x01\x00\x01";
 
 /// The reply that stands beside the closure, to any request.
-struct Same {}
+pub(crate) struct Same {}
 
 impl Gives<AdditionalBuilder> for Same {
     ghost item = { λ _ reply. Ok (record { response = Some reply.message; feedback = None }) };
 }
 
 /// What the closure gives.
-fn given(
+pub(crate) fn given(
     alloc: Global,
     _request: &Request<()>,
     reply: &AdditionalBuilder,
@@ -104,7 +104,7 @@ fn started(alloc: Global) -> Result<AnswerBuilder, WorkError> {
 }
 
 /// The answer of one address.
-fn answer(alloc: Global) -> Result<AdditionalBuilder, WorkError> {
+pub(crate) fn answer(alloc: Global) -> Result<AdditionalBuilder, WorkError> {
     let mut answer = started(alloc)?;
     push_address(alloc, &mut answer)?;
     Ok(answer.additional())
@@ -121,7 +121,7 @@ fn push_address(alloc: Global, answer: &mut AnswerBuilder) -> Result<(), WorkErr
 }
 
 /// The sum of the replies to so many queries, whose identifier is another each time.
-fn replies<S: Service<()>>(
+pub(crate) fn replies<S: Service<()>>(
     alloc: Global,
     service: &S,
     query: &mut [u8],

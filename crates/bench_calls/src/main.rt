@@ -7,12 +7,14 @@ mod layers;
 mod read;
 mod response;
 mod work;
+mod wrapped;
 
 use std::io;
 use std::process::ExitCode;
 use work::{Work, WorkError, done};
 
-const USAGE: &str = "Usage: bench_calls sip20|sip64|check|read|build|plain|layers|bare COUNT";
+const USAGE: &str =
+    "Usage: bench_calls sip20|sip64|check|read|build|plain|layers|bare|wrapped|bare_wrapped COUNT";
 
 /// The work that the words behind the program's name ask for, and how often.
 fn read_words(rt: &HostRuntime) -> io::Result<Option<(Work, u64)>> {

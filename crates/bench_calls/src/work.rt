@@ -5,6 +5,7 @@ use crate::hash::{checks, hash_chain};
 use crate::layers::{bare_replies, layered_replies, plain_replies};
 use crate::read::readings;
 use crate::response::RESPONSE;
+use crate::wrapped::{bare_wrapped_replies, wrapped_replies};
 use dns_base::PushError;
 use dns_name::{BuildDataError, OutOfMemory, ParseError};
 use std::alloc::Global;
@@ -29,6 +30,10 @@ pub enum Work {
     Layers,
     /// The same for a query without an OPT record.
     Bare,
+    /// A query to a service that answers at once, in all layers.
+    Wrapped,
+    /// The same for a query without an OPT record.
+    BareWrapped,
 }
 
 impl Work {
@@ -43,6 +48,8 @@ impl Work {
             "plain" => Some(Work::Plain),
             "layers" => Some(Work::Layers),
             "bare" => Some(Work::Bare),
+            "wrapped" => Some(Work::Wrapped),
+            "bare_wrapped" => Some(Work::BareWrapped),
             _ => None,
         }
     }
@@ -94,6 +101,8 @@ pub fn done(alloc: Global, work: Work, count: u64) -> Result<u64, WorkError> {
         Work::Plain => plain_replies(alloc, count),
         Work::Layers => layered_replies(alloc, count),
         Work::Bare => bare_replies(alloc, count),
+        Work::Wrapped => wrapped_replies(alloc, count),
+        Work::BareWrapped => bare_wrapped_replies(alloc, count),
     }
 }
 

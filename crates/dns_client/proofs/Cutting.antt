@@ -1,4 +1,5 @@
 -- A piece cut in two changes nothing.
+use Rattle.dns_client.specs.Serving.{Serving}
 use Rattle.std.proofs.Common.{◌≡◌, ℕ, ◌+◌, ◌<◌, ◌≤◌, List, [], ◌∷◌, ◌++◌, length, drop, Bool, true, false, refl, ap, sym, ◌∙◌, arith, ◌⊎◌, inl, inr, ⊎_elim, append_assoc, append-nil, length-drop, add-zero}
 use Rattle.std.specs.Prelude.{nat_lt, if◌then◌else◌}
 use Rattle.std.proofs.lemmas.List.{drop_all, drop-append-le, drop_at}
@@ -72,7 +73,7 @@ new_frames_join n o a b =
     rw (z, add-zero n, ← append_assoc) refl)
     (cases_lt n (length (frames (o ++ a))))
 
-module _ (answers : Req (Unit {0}) → ℕ → Answer) where
+module _ (answers : Serving) where
   cut_open : (c at secs : ℕ) (a b : List ℕ) (s : Slate) → IsCut answers (piece_of c at secs (a ++ b)) (piece_of c at secs a) (piece_of c at secs b) (record s { phase = Open })
   cut_open c at secs a b s =
       let t = record s { phase = Open; received = s.received ++ a } in

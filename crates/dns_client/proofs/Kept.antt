@@ -1,49 +1,67 @@
 -- What is kept of the requests after a poll, and with one more.
-use Rattle.std.proofs.Common.{◌≡◌, ◌≢◌, ℕ, zero, suc, ◌+◌, ◌<◌, ◌≤◌, List, [], ◌∷◌, ◌++◌, length, Option, Some, None, Bool, true, false, refl, ap, sym, ◌∙◌, arith, set, ⊎_elim, ◌⊎◌, inl, inr, length-append}
+use Rattle.dns_client.specs.Serving.{Serving}
+use Rattle.std.proofs.Common.{◌≡◌, ◌≢◌, ℕ, zero, suc, ◌+◌, ◌<◌, ◌≤◌, List, [], ◌∷◌, ◌++◌, length, Option, Some, None, Bool, true, false, refl, ap, sym, ◌∙◌, subst, arith, set, ⊎_elim, ◌⊎◌, inl, inr, length-append}
+use Rattle.std.specs.Arc.{arc_value}
 use Rattle.std.specs.Prelude.{slice_get}
 use Rattle.std.specs.Ordering.{nat_cmp}
 use Rattle.std.specs.BTreeMap.{BTreeMap, get}
 use Rattle.std.proofs.lemmas.Bool.{cases_eq, cases_lt}
 use Rattle.std.proofs.lemmas.Option.{slice_get_within, slice_get_past}
 use Rattle.circular_buffer.proofs.Places.{slice_get-set_same, slice_get-set_other, slice_get-append_left, slice_get-last}
+use Rattle.dns_base.specs.Msg.{Msg}
 use Rattle.dns_service.specs.Answer.{Answer}
-use Rattle.dns_service.specs.Req.{Req}
+use Rattle.dns_service.specs.declared.polled.PolledRequest.{PolledRequest}
 use Rattle.dns_client.specs.Slate.{Asked}
-use Rattle.dns_client.specs.Turns.{polled, ends}
-use Rattle.dns_client.specs.PolledAt.{PolledAt, Left}
-use Rattle.dns_client.specs.Stands.{Keeps, sole}
+use Rattle.dns_client.specs.Turns.{polled, ends, limit_for, reply_to, sent_for}
+use Rattle.dns_client.specs.PolledAt.{GoesOn, PolledAt, Left}
+use Rattle.dns_client.specs.Stands.{IsKept, Keeps, sole}
+use Rattle.dns_client.specs.declared.kept.KeptRequest.{KeptRequest}
 
 below_or_above : (a b : ℕ) → a ≢ b → (a < b) ⊎ (b < a)
 below_or_above a b ne = ⊎_elim (λ (h : a < b). inl h) (λ (h : b ≤ a). inr (omega arith)) (cases_lt a b)
 
-module _ {Q : Type 0} (answer : Q → ℕ → Answer) (answers : Req (Unit {0}) → ℕ → Answer) where
+module _ {F R : Type 0} (answer : PolledRequest F R → ℕ → Answer) (answers : Serving) where
   -- what a poll finds, and what is kept after it
-  pub record Found (x : Option Asked) (a : Answer) (g : Option Q) : Type 0 where
+  pub record Found (x : Option Asked) (reply : Option Msg) (g : Option (KeptRequest F R)) : Type 0 where
     pub r : Asked
     pub is : x ≡ Some r
     pub open_yet : r.done ≡ false
-    pub says : a ≡ answers r.request r.polls
-    pub keeps : Keeps answer answers g (Some (polled a r))
+    pub says : reply ≡ sent_for answers r.request (answers.answer r.request r.polls)
+    pub keeps : Keeps answer answers g (Some (polled (answers.answer r.request r.polls) r))
 
-  later : (q q' : Q) (r : Asked) → ((j : ℕ) → answer q' j ≡ answer q (suc j)) → ((j : ℕ) → answer q j ≡ answers r.request (r.polls + j)) → (j : ℕ) → answer q' j ≡ answers r.request (r.polls + 1 + j)
-  later q q' r p k j = let e : r.polls + suc j ≡ r.polls + 1 + j = omega arith in p j ∙ k (suc j) ∙ ap (answers r.request) e
+  later : (q q' : KeptRequest F R) (r : Asked) → GoesOn answer q q' → IsKept answer answers q r → (j : ℕ) → answer q'.polled j ≡ answers.answer r.request (r.polls + 1 + j)
+  later q q' r p k j = let e : r.polls + suc j ≡ r.polls + 1 + j = omega arith in p.polled j ∙ k.polled (suc j) ∙ ap (answers.answer r.request) e
 
-  now : (q : Q) (a : Answer) (r : Asked) → a ≡ answer q 0 → ((j : ℕ) → answer q j ≡ answers r.request (r.polls + j)) → a ≡ answers r.request r.polls
-  now q a r h k = let e : r.polls + 0 ≡ r.polls = omega arith in h ∙ k 0 ∙ ap (answers r.request) e
+  now : (q : KeptRequest F R) (r : Asked) → IsKept answer answers q r → answer q.polled 0 ≡ answers.answer r.request r.polls
+  now q r k = let e : r.polls + 0 ≡ r.polls = omega arith in k.polled 0 ∙ ap (answers.answer r.request) e
 
-  left_keeps : (q : Q) (r : Asked) (a : Answer) (g : Option Q) (b : Bool) → ends a ≡ b → Left answer q b g → ((j : ℕ) → answer q j ≡ answers r.request (r.polls + j)) → Keeps answer answers g (Some (polled a r))
+  left_keeps : (q : KeptRequest F R) (r : Asked) (a : Answer) (g : Option (KeptRequest F R)) (b : Bool) → ends a ≡ b → Left answer q b g → IsKept answer answers q r → Keeps answer answers g (Some (polled a r))
   left_keeps q r a None true e l k = e
   left_keeps q r a (Some g) true e l k = let h : Some g ≡ None = l in cc
   left_keeps q r a None false e l k = absurd l
-  left_keeps q r a (Some g) false e l k = (e, later q g r l k)
+  left_keeps q r a (Some g) false e l k = record { going = e; polled = later q g r l k; message = ap arc_value l.message ∙ k.message; limit = l.limit ∙ k.limit }
 
-  pub found : (q : Option Q) (x : Option Asked) (a : Answer) (g : Option Q) → Keeps answer answers q x → PolledAt answer q (Some a) g → Found x a g
-  found None x a g k p = let h : Some a ≡ None = p.0 in cc
-  found (Some q) None a g k p = absurd k
-  found (Some q) (Some r) a g k p = record { r = r; is = refl; open_yet = k.0; says = now q a r p.0 k.1; keeps = left_keeps q r a g (ends a) refl p.1 k.1 }
+  -- the reply by what is kept is the one by the request
+  same_reply : (q : KeptRequest F R) (r : Asked) → IsKept answer answers q r → reply_to q.limit (arc_value q.message) (answer q.polled 0) ≡ sent_for answers r.request (answers.answer r.request r.polls)
+  same_reply q r k =
+      ap (λ (n : Option ℕ). reply_to n (arc_value q.message) (answer q.polled 0)) k.limit
+      ∙ (ap (λ (o : List ℕ). reply_to (limit_for answers r.request) o (answer q.polled 0)) k.message
+      ∙ ap (λ (a : Answer). reply_to (limit_for answers r.request) r.request.octets a) (now q r k))
+
+  pub found : (q : KeptRequest F R) (x : Option Asked) (reply : Option Msg) (g : Option (KeptRequest F R)) → Keeps answer answers (Some q) x → PolledAt answer (Some q) reply g → Found x reply g
+  found q None reply g k p = absurd k
+  found q (Some r) reply g k p =
+      let n = now q r k in
+      record {
+        r = r;
+        is = refl;
+        open_yet = k.going;
+        says = p.0 ∙ same_reply q r k;
+        keeps = left_keeps q r (answers.answer r.request r.polls) g (ends (answers.answer r.request r.polls)) refl (subst (λ (a : Answer). Left answer q (ends a) g) n p.1) k;
+      }
 
   -- a place that is written
-  pub keeps_set : (old new : BTreeMap ℕ Q) (rs : List Asked) (k : ℕ) (r r' : Asked)
+  pub keeps_set : (old new : BTreeMap ℕ (KeptRequest F R)) (rs : List Asked) (k : ℕ) (r r' : Asked)
       → slice_get rs k ≡ Some r
       → ((q : ℕ) → Keeps answer answers (get nat_cmp old q) (slice_get rs q))
       → ((q : ℕ) → q ≢ k → get nat_cmp new q ≡ get nat_cmp old q)
@@ -56,7 +74,7 @@ module _ {Q : Type 0} (answer : Q → ℕ → Answer) (answers : Req (Unit {0}) 
       (cases_eq q k)
 
   -- one more request
-  pub keeps_push : (old new : BTreeMap ℕ Q) (rs : List Asked) (k : ℕ) (r : Asked) (f : Q)
+  pub keeps_push : (old new : BTreeMap ℕ (KeptRequest F R)) (rs : List Asked) (k : ℕ) (r : Asked) (f : KeptRequest F R)
       → k ≡ length rs
       → ((q : ℕ) → Keeps answer answers (get nat_cmp old q) (slice_get rs q))
       → ((q : ℕ) → q ≢ k → get nat_cmp new q ≡ get nat_cmp old q)
@@ -78,7 +96,7 @@ module _ {Q : Type 0} (answer : Q → ℕ → Answer) (answers : Req (Unit {0}) 
       (cases_eq q k)
 
   -- the one request of an exchange
-  pub sole_set : (old new : Option Q) (rs : List Asked) (r r' : Asked)
+  pub sole_set : (old new : Option (KeptRequest F R)) (rs : List Asked) (r r' : Asked)
       → slice_get rs 0 ≡ Some r
       → ((k : ℕ) → Keeps answer answers (sole old k) (slice_get rs k))
       → Keeps answer answers new (Some r')

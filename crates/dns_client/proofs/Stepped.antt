@@ -1,4 +1,5 @@
 -- What follows from the state of a core.
+use Rattle.dns_client.specs.Serving.{Serving}
 use Rattle.std.proofs.Common.{◌≡◌, ℕ, zero, suc, List, [], ◌∷◌, Option, Some, None, true, false, refl, sym, subst}
 use Rattle.std.specs.Prelude.{slice_get}
 use Rattle.std.specs.List.{list_all}
@@ -10,13 +11,14 @@ use Rattle.dns_client.specs.Stands.{Keeps, Leads, StandsIn, outputs_of, state_be
 use Rattle.dns_client.specs.declared.client.State.{State}
 use Rattle.dns_client.specs.declared.client.State.TheVariants.{Exchange as Is_exchange, Open as Is_open, Closed as Is_closed}
 use Rattle.dns_client.specs.declared.connection.OpenConnection.{OpenConnection}
+use Rattle.dns_client.specs.declared.kept.KeptRequest.{KeptRequest}
 use Rattle.dns_client.specs.declared.connection.Outcome.{Outcome}
 use Rattle.dns_service.specs.declared.polled.PolledRequest.{PolledRequest}
 
 in_open : (p : Phase) (a b c d : Told) → p ≡ Open → in_phase p a b c d ≡ c
 in_open p a b c d e = rw e refl
 
-module _ {R F : Type 0} (answer : PolledRequest F R → ℕ → Answer) (answers : Req (Unit {0}) → ℕ → Answer) where
+module _ {R F : Type 0} (answer : PolledRequest F R → ℕ → Answer) (answers : Serving) where
   all_done : (rs : List Asked) → ((k : ℕ) → Keeps answer answers None (slice_get rs k)) → list_all (λ (r : Asked). r.done) rs ≡ true
   all_done [] h = refl
   all_done (r ∷ rs) h = rw (h 0) (all_done rs (λ k. h (suc k)))
@@ -25,9 +27,9 @@ module _ {R F : Type 0} (answer : PolledRequest F R → ℕ → Answer) (answers
   none_sole x zero h = h
   none_sole x (suc k) h = h
 
-  some_open : (q : PolledRequest F R) (rs : List Asked) → Keeps answer answers (Some q) (slice_get rs 0) → list_all (λ (r : Asked). r.done) rs ≡ false
+  some_open : (q : KeptRequest F R) (rs : List Asked) → Keeps answer answers (Some q) (slice_get rs 0) → list_all (λ (r : Asked). r.done) rs ≡ false
   some_open q [] h = absurd h
-  some_open q (r ∷ rs) h = rw h.0 refl
+  some_open q (r ∷ rs) h = rw h.going refl
 
   module _ {W : Type 0} where
     -- what an open connection does

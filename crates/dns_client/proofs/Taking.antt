@@ -1,19 +1,23 @@
 -- Frames are taken one at a time.
+use Rattle.dns_client.specs.Serving.{Serving}
 use Rattle.std.proofs.Common.{◌≡◌, ℕ, ◌+◌, ◌<◌, ◌≤◌, List, [], ◌∷◌, ◌++◌, length, Some, Bool, true, false, refl, ap, sym, ◌∙◌, subst, lt-ltb}
 use Rattle.std.specs.Prelude.{nat_lt, if◌then◌else◌}
 use Rattle.std.proofs.lemmas.Bool.{le-ltb}
 use Rattle.circular_buffer.specs.Buffer.{Buffer}
 use Rattle.dns_name.specs.declared.address.SocketAddr.{SocketAddr}
+use Rattle.dns_base.specs.Header.{header_of}
+use Rattle.dns_base.specs.Wire.{wire}
 use Rattle.dns_service.specs.Answer.{Answer}
+use Rattle.dns_service.specs.ErrorReply.{error_reply}
 use Rattle.dns_service.specs.Config.{Connection}
 use Rattle.dns_service.specs.Req.{Req}
 use Rattle.dns_service.specs.declared.event.Output.TheVariants.{Closed as Closed_output}
 use Rattle.dns_service.specs.declared.event.Why.TheVariants.{Short}
-use Rattle.dns_client.specs.Frames.{first_frame, frames}
+use Rattle.dns_client.specs.Frames.{first_frame, framed, frames}
 use Rattle.dns_client.specs.Slate.{Slate, Told}
 use Rattle.dns_client.specs.Requests.{header_size, most_requests, request_of_frame, asked}
-use Rattle.dns_client.specs.Connections.{take_frames, take_frame, piece}
-use Rattle.dns_client.specs.Stands.{IsOpen, Leads, Asks, TakesFrame, KeepsAll, StandsIn, outputs_of, state_behind}
+use Rattle.dns_client.specs.Connections.{take_frames, take_frame, take_request, piece}
+use Rattle.dns_client.specs.Stands.{IsOpen, Leads, Asks, Refuses, TakesFrame, KeepsAll, StandsIn, outputs_of, state_behind}
 use Rattle.dns_client.specs.declared.client.State.TheVariants.{Open as Is_open}
 use Rattle.dns_client.specs.declared.connection.OpenConnection.{OpenConnection}
 use Rattle.dns_client.specs.declared.connection.Outcome.{Outcome}
@@ -21,7 +25,7 @@ use Rattle.dns_client.specs.declared.connection.Outcome.TheVariants.{Nothing, En
 use Rattle.dns_service.specs.declared.polled.PolledRequest.{PolledRequest}
 use Rattle.dns_client.proofs.FramesLemmas.{first_shorter, frames_some, past_next, within_next, past-append, within-append, new_frames_by_kept}
 
-module _ {W R F : Type 0} (answer : PolledRequest F R → ℕ → Answer) (answers : Req (Unit {0}) → ℕ → Answer) (at secs : ℕ) where
+module _ {W R F : Type 0} (answer : PolledRequest F R → ℕ → Answer) (answers : Serving) (at secs : ℕ) where
   pub none_left : (c : OpenConnection W R F) → frames c.framer ≡ [] → Leads answer answers c c Nothing (λ s. take_frames at secs (frames c.framer) s)
   none_left c e client s h = rw e (refl, h)
 
@@ -53,9 +57,10 @@ module _ {W R F : Type 0} (answer : PolledRequest F R → ℕ → Answer) (answe
       ]) k
 
   pub taken : (c new : OpenConnection W R F) (f r : List ℕ) (q : Req (Unit {0})) → first_frame c.framer ≡ Some (f, r) → 12 ≤ length f
+      → (header_of f).qr ≡ false
       → q ≡ request_of_frame c.config c.addr at secs f
       → Asks answer answers (record c { framer = r }) new q → TakesFrame answer answers at secs c new
-  taken c new f r q e l is a =
+  taken c new f r q e l query is a =
       let n : nat_lt (length f) header_size ≡ false = le-ltb (length f) 12 l in
       let a' = rw is at a in
       record {
@@ -63,7 +68,42 @@ module _ {W R F : Type 0} (answer : PolledRequest F R → ℕ → Answer) (answe
         goes = λ client s h.
             let same : request_of_frame c.config c.addr at secs f ≡ request_of_frame s.connection s.addr at secs f = ap (λ (x : Connection). request_of_frame x c.addr at secs f) h.config ∙ ap (λ (x : SocketAddr). request_of_frame s.connection x at secs f) h.addr in
             let k = rw same at (a'.made s.requests h.requests) in
-            (take_frame at secs f s, asked_open c new f r client s h e a' (nat_lt (length s.requests) most_requests) k, rw (a.framer, frames_some c.framer f r e, n) refl);
+            (take_request at secs f s, asked_open c new f r client s h e a' (nat_lt (length s.requests) most_requests) k, rw (a.framer, frames_some c.framer f r e, n, query) refl);
+      }
+
+  refused_open : (c new : OpenConnection W R F) (f r : List ℕ) (client : ℕ) (s : Slate) → IsOpen answer answers client c s → first_frame c.framer ≡ Some (f, r)
+      → Refuses answer answers (record c { framer = r }) new f
+      → (b : Bool) → new.queue.items ≡ (if b then s.queue ++ framed (wire (error_reply f 1)) ∷ [] else s.queue)
+      → IsOpen answer answers client new (if b then record s { taken = s.taken + 1; queue = s.queue ++ framed (wire (error_reply f 1)) ∷ [] } else record s { taken = s.taken + 1 })
+  refused_open c new f r client s h e a b q =
+      let e' = rw h.kept at e in
+      let kept = a.framer ∙ sym (past_next s.taken s.received f r h.within e') in
+      let within = within_next s.taken s.received f r h.within e' in
+      let ad = a.addr ∙ h.addr in
+      let cf = a.config ∙ h.config in
+      let bo = a.bound ∙ h.bound in
+      let rs : KeepsAll answer answers new.count new.unfinished s.requests = rw (a.count, a.unfinished) h.requests in
+      let P : Bool → Type 0 = λ b. new.queue.items ≡ (if b then s.queue ++ framed (wire (error_reply f 1)) ∷ [] else s.queue) → IsOpen answer answers client new (if b then record s { taken = s.taken + 1; queue = s.queue ++ framed (wire (error_reply f 1)) ∷ [] } else record s { taken = s.taken + 1 }) in
+      (elim b as P [
+        | true ↦ λ q. record { client = h.client; freed = h.freed; phase = h.phase; addr = ad; config = cf; kept = kept; within = within; requests = rs; queue = q; bound = bo }
+        | false ↦ λ q. record { client = h.client; freed = h.freed; phase = h.phase; addr = ad; config = cf; kept = kept; within = within; requests = rs; queue = q; bound = bo }
+      ]) q
+
+  queue_by : (b : Bool) (s : Slate) (m : List ℕ) → (if b then record s { queue = s.queue ++ m ∷ [] } else s).queue ≡ (if b then s.queue ++ m ∷ [] else s.queue)
+  queue_by true s m = refl
+  queue_by false s m = refl
+
+  -- a response is taken
+  pub refused : (c new : OpenConnection W R F) (f r : List ℕ) → first_frame c.framer ≡ Some (f, r) → 12 ≤ length f → (header_of f).qr ≡ true
+      → Refuses answer answers (record c { framer = r }) new f → TakesFrame answer answers at secs c new
+  refused c new f r e l response a =
+      let n : nat_lt (length f) header_size ≡ false = le-ltb (length f) 12 l in
+      record {
+        less = rw a.framer (first_shorter c.framer f r e);
+        goes = λ client s h.
+            let b = nat_lt (length s.queue) s.bound in
+            let q = a.queue s h.queue h.bound ∙ queue_by b s (framed (wire (error_reply f 1))) in
+            (take_frame at secs f s, rw response (refused_open c new f r client s h e a b q), rw (a.framer, frames_some c.framer f r e, n) refl);
       }
 
   pub fed : (c new : OpenConnection W R F) (p : List ℕ) (outcome : Outcome)

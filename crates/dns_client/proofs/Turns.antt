@@ -1,4 +1,5 @@
 -- What a client's core is after a turn.
+use Rattle.dns_client.specs.Serving.{Serving}
 use Rattle.std.proofs.Common.{◌≡◌, ◌≢◌, ℕ, List, [], ◌∷◌, ◌++◌, length, Option, Some, None, Bool, true, false, refl, ap, sym, ◌∙◌, subst, ⊎_elim, length-set}
 use Rattle.std.specs.Prelude.{slice_get, nat_lt, if◌then◌else◌}
 use Rattle.std.specs.Ordering.{nat_cmp}
@@ -12,10 +13,11 @@ use Rattle.dns_service.specs.Req.{Req}
 use Rattle.dns_service.specs.declared.event.Output.{Output}
 use Rattle.dns_client.specs.Frames.{framed}
 use Rattle.dns_client.specs.Slate.{Slate, Asked}
-use Rattle.dns_client.specs.Turns.{polled, exchange_turn, turn, sent_at_once, reply_in, with_request, queued}
+use Rattle.dns_client.specs.Turns.{polled, exchange_turn, turn, sent_at_once, with_request, queued}
 use Rattle.dns_client.specs.PolledAt.{PolledAt}
 use Rattle.dns_client.specs.Stands.{Keeps, IsOpen, Exchanges}
 use Rattle.dns_client.specs.declared.connection.OpenConnection.{OpenConnection}
+use Rattle.dns_client.specs.declared.kept.KeptRequest.{KeptRequest}
 use Rattle.dns_service.specs.declared.polled.PolledRequest.{PolledRequest}
 use Rattle.dns_client.proofs.Kept.{found, keeps_set, sole_set}
 
@@ -24,32 +26,38 @@ abbrev pub ring : Option Msg → Buffer (List ℕ) → Buffer (List ℕ)
 ring None q = q
 ring (Some m) q = if nat_lt (length q.items) q.capacity then buffer (q.items ++ framed (wire m) ∷ []) q.capacity else q
 
-module _ {R F : Type 0} (answer : PolledRequest F R → ℕ → Answer) (answers : Req (Unit {0}) → ℕ → Answer) where
+module _ {R F : Type 0} (answer : PolledRequest F R → ℕ → Answer) (answers : Serving) where
   -- a turn of a request of which nothing is kept
   nothing_turned : (k : ℕ) (x : Option Asked) (s : Slate) → Keeps answer answers None x → turn answers k x s ≡ s
   nothing_turned k None s h = refl
   nothing_turned k (Some r) s h = rw h refl
 
-  pub exchange_turned : (client : ℕ) (old new : Option (PolledRequest F R)) (a : Answer) (x : Option Msg) (outs : List Output)
-      → x ≡ reply_in a
-      → PolledAt answer old (Some a) new
+  nothing_exchanged : (k : ℕ) (x : Option Asked) (s : Slate) → Keeps answer answers None x → exchange_turn answers k x s ≡ (s, [])
+  nothing_exchanged k None s h = refl
+  nothing_exchanged k (Some r) s h = rw h refl
+
+  pub exchange_turned : (client : ℕ) (old new : Option (KeptRequest F R)) (x : Option Msg) (outs : List Output)
+      → PolledAt answer old x new
       → outs ≡ sent_at_once client x
       → Exchanges answer answers client old new outs (λ s. exchange_turn answers 0 (slice_get s.requests 0) s)
-  exchange_turned client old new a x outs e p said s h =
-      let f = found answer answers old (slice_get s.requests 0) a new (h.requests 0) p in
-      rw (f.is, f.open_yet, ← f.says, ← e) (
+  exchange_turned client None new x outs p said s h =
+      let n : exchange_turn answers 0 (slice_get s.requests 0) s ≡ (s, []) = nothing_exchanged 0 (slice_get s.requests 0) s (h.requests 0) in
+      rw (n, p.1) (said ∙ ap (sent_at_once client) p.0, h)
+  exchange_turned client (Some q) new x outs p said s h =
+      let f = found answer answers q (slice_get s.requests 0) x new (h.requests 0) p in
+      rw (f.is, f.open_yet, ← f.says) (
         said ∙ ap (λ n. sent_at_once n x) h.client,
         record {
           client = h.client;
           freed = h.freed;
           phase = h.phase;
-          requests = sole_set answer answers old new s.requests f.r (polled a f.r) f.is h.requests f.keeps;
+          requests = sole_set answer answers (Some q) new s.requests f.r (polled (answers.answer f.r.request f.r.polls) f.r) f.is h.requests f.keeps;
         },
       )
 
   module _ {W : Type 0} where
     -- what a poll leaves of a connection
-    polled_open : (client : ℕ) (old : OpenConnection W R F) (m : BTreeMap ℕ (PolledRequest F R)) (k : ℕ) (r : Asked) (a : Answer) (s : Slate)
+    polled_open : (client : ℕ) (old : OpenConnection W R F) (m : BTreeMap ℕ (KeptRequest F R)) (k : ℕ) (r : Asked) (a : Answer) (s : Slate)
         → IsOpen answer answers client old s
         → slice_get s.requests k ≡ Some r
         → ((q : ℕ) → q ≢ k → get nat_cmp m q ≡ get nat_cmp old.unfinished q)
@@ -79,7 +87,7 @@ module _ {R F : Type 0} (answer : PolledRequest F R → ℕ → Answer) (answers
         let e : nat_lt (length c.queue.items) c.queue.capacity ≡ nat_lt (length s.queue) s.bound = ap (λ xs. nat_lt (length xs) c.queue.capacity) h.queue ∙ ap (λ n. nat_lt (length s.queue) n) h.bound in
         subst P e (enqueued client c (framed (wire m)) s h (nat_lt (length c.queue.items) c.queue.capacity))
 
-    same_requests : (client : ℕ) (old : OpenConnection W R F) (m : BTreeMap ℕ (PolledRequest F R)) (s : Slate) → ((q : ℕ) → get nat_cmp m q ≡ get nat_cmp old.unfinished q) → IsOpen answer answers client old s → IsOpen answer answers client (record old { unfinished = m }) s
+    same_requests : (client : ℕ) (old : OpenConnection W R F) (m : BTreeMap ℕ (KeptRequest F R)) (s : Slate) → ((q : ℕ) → get nat_cmp m q ≡ get nat_cmp old.unfinished q) → IsOpen answer answers client old s → IsOpen answer answers client (record old { unfinished = m }) s
     same_requests client old m s same h = record {
       client = h.client;
       freed = h.freed;
@@ -93,24 +101,18 @@ module _ {R F : Type 0} (answer : PolledRequest F R → ℕ → Answer) (answers
       bound = h.bound;
     }
 
-    pub undone : (client : ℕ) (old : OpenConnection W R F) (m : BTreeMap ℕ (PolledRequest F R)) (k : ℕ) (q : Option (PolledRequest F R)) (s : Slate)
+    pub turned : (client : ℕ) (old : OpenConnection W R F) (m : BTreeMap ℕ (KeptRequest F R)) (k : ℕ) (q : Option (KeptRequest F R)) (x : Option Msg) (s : Slate)
         → get nat_cmp old.unfinished k ≡ q
-        → PolledAt answer q None (get nat_cmp m k)
-        → ((q : ℕ) → q ≢ k → get nat_cmp m q ≡ get nat_cmp old.unfinished q)
-        → IsOpen answer answers client old s
-        → IsOpen answer answers client (record old { unfinished = m }) (turn answers k (slice_get s.requests k) s)
-    undone client old m k None s e p others h =
-        let gone : Keeps answer answers None (slice_get s.requests k) = rw e at (h.requests.1 k) in
-        let same : (q : ℕ) → get nat_cmp m q ≡ get nat_cmp old.unfinished q = λ q. ⊎_elim (λ (here : q ≡ k). rw here (p.1 ∙ sym e)) (λ (apart : q ≢ k). others q apart) (cases_eq q k) in
-        rw (nothing_turned k (slice_get s.requests k) s gone) (same_requests client old m s same h)
-    undone client old m k (Some q) s e p others h = absurd p
-
-    pub turned : (client : ℕ) (old : OpenConnection W R F) (m : BTreeMap ℕ (PolledRequest F R)) (k : ℕ) (a : Answer) (x : Option Msg) (s : Slate)
-        → x ≡ reply_in a
-        → PolledAt answer (get nat_cmp old.unfinished k) (Some a) (get nat_cmp m k)
+        → PolledAt answer q x (get nat_cmp m k)
         → ((q : ℕ) → q ≢ k → get nat_cmp m q ≡ get nat_cmp old.unfinished q)
         → IsOpen answer answers client old s
         → IsOpen answer answers client (record old { unfinished = m; queue = ring x old.queue }) (turn answers k (slice_get s.requests k) s)
-    turned client old m k a x s e p others h =
-        let f = found answer answers (get nat_cmp old.unfinished k) (slice_get s.requests k) a (get nat_cmp m k) (h.requests.1 k) p in
-        rw (f.is, f.open_yet, ← f.says, ← e) (queued_open client (record old { unfinished = m }) (with_request k (polled a f.r) s) x (polled_open client old m k f.r a s h f.is others f.keeps))
+    turned client old m k None x s e p others h =
+        let gone : Keeps answer answers None (slice_get s.requests k) = rw e at (h.requests.1 k) in
+        let same : (q : ℕ) → get nat_cmp m q ≡ get nat_cmp old.unfinished q = λ q. ⊎_elim (λ (here : q ≡ k). rw here (p.1 ∙ sym e)) (λ (apart : q ≢ k). others q apart) (cases_eq q k) in
+        rw (p.0, nothing_turned k (slice_get s.requests k) s gone) (same_requests client old m s same h)
+    turned client old m k (Some q) x s e p others h =
+        let here : Keeps answer answers (Some q) (slice_get s.requests k) = rw e at (h.requests.1 k) in
+        let f = found answer answers q (slice_get s.requests k) x (get nat_cmp m k) here p in
+        let a = answers.answer f.r.request f.r.polls in
+        rw (f.is, f.open_yet, ← f.says) (queued_open client (record old { unfinished = m }) (with_request k (polled a f.r) s) x (polled_open client old m k f.r a s h f.is others f.keeps))

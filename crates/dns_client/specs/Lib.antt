@@ -4,6 +4,7 @@ pub use Rattle.dns_service.specs.Given
 pub use Rattle.dns_service.specs.PolledRequest
 pub use Rattle.dns_service.specs.Req
 pub mod Frames
+pub mod Serving
 pub mod Slate
 pub mod Requests
 pub mod Datagrams

@@ -1,15 +1,21 @@
 -- When a client's core stands for a slate. The answers are those of the wrapped service.
 use Rattle.std.specs.Prelude.{◌≡◌, ℕ, zero, suc, ◌+◌, ◌<◌, ◌≤◌, List, [], ◌∷◌, ◌++◌, length, slice_get, nat_lt, if◌then◌else◌, not, is_some, Bool, true, false, Option, Some, None}
 use Rattle.std.specs.Ordering.{nat_cmp}
+use Rattle.std.specs.Arc.{arc_value}
 use Rattle.std.specs.BTreeMap.{BTreeMap, get}
+use Rattle.dns_base.specs.Wire.{wire}
 use Rattle.dns_service.specs.Answer.{Answer}
+use Rattle.dns_service.specs.ErrorReply.{error_reply}
 use Rattle.dns_service.specs.Req.{Req}
 use Rattle.dns_service.specs.declared.event.Output.{Output}
 use Rattle.dns_service.specs.declared.event.Output.TheVariants.{Frame, Closed as Closed_output}
-use Rattle.dns_client.specs.Frames.{frames, past}
+use Rattle.dns_client.specs.Frames.{framed, frames, past}
+use Rattle.dns_client.specs.Serving.{Serving}
 use Rattle.dns_client.specs.Slate.{Slate, Asked, Told, Exchange, Open, Closed}
 use Rattle.dns_client.specs.Requests.{asked, most_requests}
-use Rattle.dns_client.specs.Connections.{take_frames}
+use Rattle.dns_client.specs.Connections.{enqueue, take_frames}
+use Rattle.dns_client.specs.Turns.{limit_for}
+use Rattle.dns_client.specs.declared.kept.KeptRequest.{KeptRequest}
 use Rattle.dns_client.specs.declared.client.ClientCore.{ClientCore}
 use Rattle.dns_client.specs.declared.client.State.{State}
 use Rattle.dns_client.specs.declared.client.State.TheVariants.{Exchange as Is_exchange, Open as Is_open, Closed as Is_closed}
@@ -18,12 +24,19 @@ use Rattle.dns_client.specs.declared.connection.Outcome.{Outcome}
 use Rattle.dns_client.specs.declared.connection.Outcome.TheVariants.{Nothing, Written, Ends}
 use Rattle.dns_service.specs.declared.polled.PolledRequest.{PolledRequest}
 
--- a polled state is kept of each request that isn't done, and answers from the polls made on
-abbrev pub Keeps : {Q : Type 0} → (Q → ℕ → Answer) → (Req (Unit {0}) → ℕ → Answer) → Option Q → Option Asked → Type 0
+-- what is kept of a request that isn't done: a polled state that answers from the polls made on, its message, and how many octets a
+-- reply may take
+pub record IsKept {F R : Type 0} (answer : PolledRequest F R → ℕ → Answer) (answers : Serving) (q : KeptRequest F R) (r : Asked) : Type 0 where
+  pub going : r.done ≡ false
+  pub polled : (k : ℕ) → answer q.polled k ≡ answers.answer r.request (r.polls + k)
+  pub message : arc_value q.message ≡ r.request.octets
+  pub limit : q.limit ≡ limit_for answers r.request
+
+abbrev pub Keeps : {F R : Type 0} → (PolledRequest F R → ℕ → Answer) → Serving → Option (KeptRequest F R) → Option Asked → Type 0
 Keeps answer answers None None = Unit {0}
 Keeps answer answers None (Some r) = r.done ≡ true
 Keeps answer answers (Some q) None = ⊥
-Keeps answer answers (Some q) (Some r) = (r.done ≡ false) × ((k : ℕ) → answer q k ≡ answers r.request (r.polls + k))
+Keeps answer answers (Some q) (Some r) = IsKept answer answers q r
 
 -- what is kept of an exchange's requests, of which there is one at most
 abbrev pub sole : {Q : Type 0} → Option Q → ℕ → Option Q
@@ -60,19 +73,19 @@ pub record IsClosed (number : ℕ) (freed_now : Bool) (s : Slate) : Type 0 where
   pub freed : s.freed ≡ freed_now
   pub phase : s.phase ≡ Closed
 
-module _ {R F : Type 0} (answer : PolledRequest F R → ℕ → Answer) (answers : Req (Unit {0}) → ℕ → Answer) where
+module _ {R F : Type 0} (answer : PolledRequest F R → ℕ → Answer) (answers : Serving) where
   -- what is kept of a connection's requests, and how many were made
-  abbrev pub KeepsAll : ℕ → BTreeMap ℕ (PolledRequest F R) → List Asked → Type 0
+  abbrev pub KeepsAll : ℕ → BTreeMap ℕ (KeptRequest F R) → List Asked → Type 0
   KeepsAll count unfinished rs = (count ≡ length rs) × ((k : ℕ) → Keeps answer answers (get nat_cmp unfinished k) (slice_get rs k))
 
-  pub record IsExchange (number : ℕ) (unfinished : Option (PolledRequest F R)) (s : Slate) : Type 0 where
+  pub record IsExchange (number : ℕ) (unfinished : Option (KeptRequest F R)) (s : Slate) : Type 0 where
     pub client : number ≡ s.client
     pub freed : s.freed ≡ false
     pub phase : s.phase ≡ Exchange
     pub requests : (k : ℕ) → Keeps answer answers (sole unfinished k) (slice_get s.requests k)
 
   -- at every slate of the exchange, the outputs are those that are told, and it is the exchange of the slate after
-  abbrev pub Exchanges : ℕ → Option (PolledRequest F R) → Option (PolledRequest F R) → List Output → (Slate → Told) → Type 0
+  abbrev pub Exchanges : ℕ → Option (KeptRequest F R) → Option (KeptRequest F R) → List Output → (Slate → Told) → Type 0
   Exchanges number old new outs after = (s : Slate) → IsExchange number old s → (outs ≡ (after s).1) × IsExchange number new (after s).0
 
   module _ {W : Type 0} where
@@ -111,6 +124,16 @@ module _ {R F : Type 0} (answer : PolledRequest F R → ℕ → Answer) (answers
       pub framer : new.framer ≡ old.framer
       pub queue : new.queue ≡ old.queue
       pub made : (rs : List Asked) → KeepsAll old.count old.unfinished rs → KeepsAll new.count new.unfinished (if nat_lt (length rs) most_requests then rs ++ asked r ∷ [] else rs)
+
+    -- a response is refused
+    pub record Refuses (old new : OpenConnection W R F) (o : List ℕ) : Type 0 where
+      pub addr : new.addr ≡ old.addr
+      pub config : new.config ≡ old.config
+      pub framer : new.framer ≡ old.framer
+      pub count : new.count ≡ old.count
+      pub unfinished : new.unfinished ≡ old.unfinished
+      pub queue : (s : Slate) → old.queue.items ≡ s.queue → old.queue.capacity ≡ s.bound → new.queue.items ≡ (enqueue (framed (wire (error_reply o 1))) s).queue
+      pub bound : new.queue.capacity ≡ old.queue.capacity
 
     -- one frame is taken, and what is left to be taken, at some slate of the connection, is all that was
     pub record TakesFrame (at secs : ℕ) (old new : OpenConnection W R F) : Type 0 where

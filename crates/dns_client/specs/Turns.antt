@@ -7,7 +7,12 @@ use Rattle.dns_service.specs.Req.{Req}
 use Rattle.dns_service.specs.declared.service.Polled.TheVariants.{Pending, Ready}
 use Rattle.dns_service.specs.declared.event.Output.{Output}
 use Rattle.dns_service.specs.declared.event.Output.TheVariants.{Datagram}
+use Rattle.dns_service.specs.Cut.{sized}
+use Rattle.dns_service.specs.ErrorReply.{error_reply}
+use Rattle.dns_service.specs.Errors.{rcode_of}
+use Rattle.dns_service.specs.Transport.{limit, limit_over}
 use Rattle.dns_client.specs.Frames.{framed}
+use Rattle.dns_client.specs.Serving.{Serving}
 use Rattle.dns_client.specs.Slate.{Slate, Told, Asked}
 use Rattle.dns_client.specs.Connections.{enqueue}
 
@@ -22,12 +27,13 @@ ends (Ready (Some (Err error))) = true
 abbrev pub polled : Answer → Asked → Asked
 polled a r = record r { polls = r.polls + 1; done = ends a }
 
--- the message of a reply; an error item is answered with nothing
-abbrev pub reply_in : Answer → Option Msg
-reply_in Pending = None
-reply_in (Ready None) = None
-reply_in (Ready (Some (Ok given))) = given.response
-reply_in (Ready (Some (Err error))) = None
+-- the message of a reply to octets that are a message, of at most n octets where that is limited; an error item is answered by
+-- an error reply
+abbrev pub reply_to : Option ℕ → List ℕ → Answer → Option Msg
+reply_to n o Pending = None
+reply_to n o (Ready None) = None
+reply_to n o (Ready (Some (Ok given))) = given.response
+reply_to n o (Ready (Some (Err error))) = Some (sized n (error_reply o (rcode_of error)))
 
 abbrev pub with_request : ℕ → Asked → Slate → Slate
 with_request k r s = record s { requests = slice_set s.requests k r }
@@ -42,17 +48,25 @@ abbrev pub queued : Option Msg → Slate → Slate
 queued None s = s
 queued (Some m) s = enqueue (framed (wire m)) s
 
-module _ (answers : Req (Unit {0}) → ℕ → Answer) where
+module _ (answers : Serving) where
+  -- how many octets a reply to a request may take, where that is limited
+  abbrev pub limit_for : Req (Unit {0}) → Option ℕ
+  limit_for r = limit_over r.transport (limit (answers.hint r))
+
+  -- what is sent for the answer to a poll of a request
+  abbrev pub sent_for : Req (Unit {0}) → Answer → Option Msg
+  sent_for r a = reply_to (limit_for r) r.octets a
+
   -- one poll of an unfinished request of an exchange
   abbrev pub exchange_turn : ℕ → Option Asked → Slate → Told
   exchange_turn k None s = (s, [])
   exchange_turn k (Some r) s =
       if r.done then (s, [])
-      else (with_request k (polled (answers r.request r.polls) r) s, sent_at_once s.client (reply_in (answers r.request r.polls)))
+      else (with_request k (polled (answers.answer r.request r.polls) r) s, sent_at_once s.client (sent_for r.request (answers.answer r.request r.polls)))
 
   -- and of a connection
   abbrev pub turn : ℕ → Option Asked → Slate → Slate
   turn k None s = s
   turn k (Some r) s =
       if r.done then s
-      else queued (reply_in (answers r.request r.polls)) (with_request k (polled (answers r.request r.polls) r) s)
+      else queued (sent_for r.request (answers.answer r.request r.polls)) (with_request k (polled (answers.answer r.request r.polls) r) s)

@@ -1,8 +1,7 @@
 //! One client's core.
 
 ghost use Rattle.std.specs.Prelude.{◌≡◌, ℕ, [], IfOk};
-ghost use Rattle.dns_service.specs.Answer.{Answer};
-ghost use Rattle.dns_service.specs.Req.{Req};
+ghost use Rattle.dns_client.specs.Serving.{Serving, serving};
 ghost use Rattle.dns_client.specs.Slate.{Slate, IsUnused};
 ghost use Rattle.dns_client.specs.Datagrams.{datagram};
 ghost use Rattle.dns_client.specs.Connections.{opened};
@@ -13,17 +12,16 @@ ghost use Rattle.dns_service.specs.PolledRequest.{request_answer};
 
 use crate::connection::{OpenConnection, Outcome};
 use crate::exchange::{begin_exchange, exchange_step, one};
+use crate::kept::KeptRequest;
 use dns_base::SocketAddr;
-use dns_service::{
-    DgramConfig, Event, EventKind, OutOfMemory, Output, PolledRequest, Served, StreamConfig,
-};
+use dns_service::{DgramConfig, Event, EventKind, OutOfMemory, Output, Served, StreamConfig};
 use std::alloc::Global;
 
 /// What a client is, with what is kept of it.
 #[derive(Drop)]
 enum State<W: Served> {
     /// One datagram, and its request until that is done.
-    Exchange(Option<PolledRequest<W::Future, W::Stream>>),
+    Exchange(Option<KeptRequest<W::Future, W::Stream>>),
     /// A connection that is open.
     Open(OpenConnection<W>),
     /// A connection that is closed, and whether it gave its slot back.
@@ -39,7 +37,7 @@ pub struct ClientCore<W: Served> {
 
 /// An event of a closed connection: a release gives its slot back.
 fn step_closed(freed: &mut bool, event: &Event)
-    ensures { (answers : Req (Unit {0}) → ℕ → Answer) (client : ℕ) (s : Slate) → IsClosed client freed.old s
+    ensures { (answers : Serving) (client : ℕ) (s : Slate) → IsClosed client freed.old s
         → ([] ≡ (rule answers event.now s).1) × IsClosed client freed.new (rule answers event.now s).0 }
 {
     if let EventKind::Release = &event.kind {
@@ -51,7 +49,7 @@ impl<W: Served> ClientCore<W> {
     ghost use Rattle.dns_client.specs.Stands.{Stands, Follows, outputs_of, state_behind, state_is_spent, is_freed, is_closed};
 
     /// An exchange by its datagram, at a moment in ms and seconds, and what the client is sent for it. What is longer
-    /// than 1,024 octets is cut, and below 12 octets no request is made.
+    /// than 1,024 octets is cut. Below 12 octets no request is made, and a response is refused at once.
     pub fn datagram(
         alloc: Global,
         service: &W,
@@ -65,11 +63,13 @@ impl<W: Served> ClientCore<W> {
         requires { W.can_call service.now }
         ensures { IfOk result (λ p. (s : Slate) → IsUnused s → s.conf.dgram ≡ config.now
             → (p.1.items ≡ (datagram client addr at secs octets.now s).1)
-            × Stands (request_answer W.Future.answer W.Stream.answer) (W.answer service.now) p.0 (datagram client addr at secs octets.now s).0) }
+            × Stands (request_answer W.Future.answer W.Stream.answer) (serving (W.answer service.now) (W.hint service.now)) p.0 (datagram client addr at secs octets.now s).0) }
     {
-        let unfinished = begin_exchange(alloc, service, addr, at, secs, octets, config)?;
+        let (unfinished, outs) = begin_exchange(
+            alloc, service, client, addr, at, secs, octets, config,
+        )?;
         let state = State::Exchange(unfinished);
-        Ok((ClientCore { client, state }, Vec::new(alloc)))
+        Ok((ClientCore { client, state }, outs))
     }
 
     /// An open connection. It takes the memory of its queue.
@@ -79,7 +79,7 @@ impl<W: Served> ClientCore<W> {
         addr: SocketAddr,
         config: &StreamConfig,
     ) -> Result<Self, OutOfMemory>
-        ensures { IfOk result (λ core. (answers : Req (Unit {0}) → ℕ → Answer) (s : Slate) → IsUnused s → s.conf.stream ≡ config.now
+        ensures { IfOk result (λ core. (answers : Serving) (s : Slate) → IsUnused s → s.conf.stream ≡ config.now
             → Stands (request_answer W.Future.answer W.Stream.answer) answers core (opened client addr s)) }
     {
         let connection = OpenConnection::open(alloc, addr, config)?;
@@ -112,8 +112,8 @@ impl<W: Served> ClientCore<W> {
         event: &Event,
     ) -> Result<Vec<Output>, OutOfMemory>
         requires { W.can_call service.now }
-        ensures { IfOk result (λ outs. Follows (request_answer W.Future.answer W.Stream.answer) (W.answer service.now) self.old self.new outs.items
-            (rule (W.answer service.now) event.now)) }
+        ensures { IfOk result (λ outs. Follows (request_answer W.Future.answer W.Stream.answer) (serving (W.answer service.now) (W.hint service.now)) self.old self.new outs.items
+            (rule (serving (W.answer service.now) (W.hint service.now)) event.now)) }
     {
         match &mut self.state {
             State::Exchange(unfinished) => exchange_step(alloc, self.client, unfinished, event),
@@ -132,7 +132,7 @@ impl<W: Served> ClientCore<W> {
     /// Whether nothing changes any more: an exchange whose request is done, or a closed connection that was released.
     pub fn is_spent(&self) -> bool
         ensures value { result ≡ state_is_spent self.now.state }
-        ensures spent { (answers : Req (Unit {0}) → ℕ → Answer) (s : Slate)
+        ensures spent { (answers : Serving) (s : Slate)
             → Stands (request_answer W.Future.answer W.Stream.answer) answers self.now s → state_is_spent self.now.state ≡ is_spent s }
     {
         match &self.state {

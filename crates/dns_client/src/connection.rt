@@ -2,8 +2,7 @@
 
 ghost use Rattle.std.specs.Prelude.{◌≡◌, ℕ, [], ◌∷◌, ◌++◌, IfOk, OnOk, MatchOption, length, nat_lt, if◌then◌else◌, slice_get};
 ghost use Rattle.circular_buffer.specs.Buffer.{buffer};
-ghost use Rattle.dns_service.specs.Answer.{Answer};
-ghost use Rattle.dns_service.specs.Req.{Req};
+ghost use Rattle.dns_client.specs.Serving.{Serving, serving};
 ghost use Rattle.dns_client.specs.Slate.{Slate, IsUnused};
 ghost use Rattle.dns_client.specs.Frames.{frames};
 ghost use Rattle.dns_client.specs.Connections.{opened, take_frames, piece, write};
@@ -12,13 +11,14 @@ ghost use Rattle.dns_client.specs.Rule.{rule};
 ghost use Rattle.dns_service.specs.PolledRequest.{request_answer};
 
 use crate::framer::Framer;
+use crate::kept::{KeptRequest, call, refused};
 use crate::polling::poll_at;
-use crate::requests::{frame_of, frame_request, reply_of};
+use crate::requests::{frame_of, frame_request};
 use circular_buffer::HeapCircularBuffer;
 use dns_base::{Message, SocketAddr};
+use dns_name::OptRcode;
 use dns_service::{
-    ConnectionConfig, Event, EventKind, Octets, OutOfMemory, PolledRequest, Request, Served,
-    StreamConfig, Why,
+    ConnectionConfig, Event, EventKind, Octets, OutOfMemory, Request, Served, StreamConfig, Why,
 };
 use std::alloc::Global;
 use std::collections::BTreeMap;
@@ -39,7 +39,7 @@ pub struct OpenConnection<W: Served> {
     addr: SocketAddr,
     config: ConnectionConfig,
     framer: Framer,
-    unfinished: BTreeMap<u64, PolledRequest<W::Future, W::Stream>>,
+    unfinished: BTreeMap<u64, KeptRequest<W::Future, W::Stream>>,
     count: u64,
     queue: HeapCircularBuffer<Octets>,
 }
@@ -52,11 +52,11 @@ fn enqueue(queue: &mut HeapCircularBuffer<Octets>, octets: Octets)
 }
 
 impl<W: Served> OpenConnection<W> {
-    ghost use Rattle.dns_client.specs.Stands.{IsOpen, Leads, Asks, TakesFrame};
+    ghost use Rattle.dns_client.specs.Stands.{IsOpen, Leads, Asks, Refuses, TakesFrame};
 
     /// Of no requests. It takes the memory of its queue.
     pub fn open(alloc: Global, addr: SocketAddr, config: &StreamConfig) -> Result<Self, OutOfMemory>
-        ensures { IfOk result (λ c. (answers : Req (Unit {0}) → ℕ → Answer) (client : ℕ) (s : Slate) → IsUnused s → s.conf.stream ≡ config.now
+        ensures { IfOk result (λ c. (answers : Serving) (client : ℕ) (s : Slate) → IsUnused s → s.conf.stream ≡ config.now
             → IsOpen (request_answer W.Future.answer W.Stream.answer) answers client c (opened client addr s)) }
     {
         let config = config.connection_config();
@@ -73,35 +73,36 @@ impl<W: Served> OpenConnection<W> {
     }
 
     /// Makes a request, unless 2^64 - 1 of them were made.
-    fn ask(
-        &mut self,
-        alloc: Global,
-        service: &W,
-        mut request: Request<()>,
-    ) -> Result<(), OutOfMemory>
+    fn ask(&mut self, alloc: Global, service: &W, request: Request<()>) -> Result<(), OutOfMemory>
         requires { W.can_call service.now }
-        ensures { OnOk result (Asks (request_answer W.Future.answer W.Stream.answer) (W.answer service.now) self.old self.new request) }
+        ensures { OnOk result (Asks (request_answer W.Future.answer W.Stream.answer) (serving (W.answer service.now) (W.hint service.now)) self.old self.new request) }
     {
         if self.count == u64::MAX {
             return Ok(());
         }
-        let future = service.call(alloc, &mut request)?;
-        self.unfinished
-            .insert(self.count, PolledRequest::Future(future))?;
+        let kept = call(alloc, service, request)?;
+        self.unfinished.insert(self.count, kept)?;
         self.count += 1;
+        Ok(())
+    }
+
+    /// Answers a response, of which no request is made.
+    fn refuse(&mut self, alloc: Global, message: &Message) -> Result<(), OutOfMemory>
+        ensures { OnOk result (Refuses self.old self.new message.now) }
+    {
+        let reply = refused(alloc, message, None, OptRcode::FORMERR)?;
+        let octets = frame_of(alloc, &reply)?;
+        enqueue(&mut self.queue, octets);
         Ok(())
     }
 
     /// Polls a request once, and queues a reply.
     fn turn(&mut self, alloc: Global, request: u64) -> Result<(), OutOfMemory>
-        ensures { OnOk result ((answers : Req (Unit {0}) → ℕ → Answer) (client : ℕ) (s : Slate)
+        ensures { OnOk result ((answers : Serving) (client : ℕ) (s : Slate)
             → IsOpen (request_answer W.Future.answer W.Stream.answer) answers client self.old s
             → IsOpen (request_answer W.Future.answer W.Stream.answer) answers client self.new (turn answers request (slice_get s.requests request) s)) }
     {
-        let Some(answer) = poll_at(alloc, &mut self.unfinished, request)? else {
-            return Ok(());
-        };
-        let Some(reply) = reply_of(answer) else {
+        let Some(reply) = poll_at(alloc, &mut self.unfinished, request)? else {
             return Ok(());
         };
         let octets = frame_of(alloc, &reply)?;
@@ -118,7 +119,7 @@ impl<W: Served> OpenConnection<W> {
         secs: u64,
     ) -> Result<Outcome, OutOfMemory>
         requires { W.can_call service.now }
-        ensures { IfOk result (λ outcome. Leads (request_answer W.Future.answer W.Stream.answer) (W.answer service.now) self.old self.new outcome
+        ensures { IfOk result (λ outcome. Leads (request_answer W.Future.answer W.Stream.answer) (serving (W.answer service.now) (W.hint service.now)) self.old self.new outcome
             (λ s. take_frames at secs (frames self.old.framer) s)) }
     {
         loop {
@@ -138,8 +139,8 @@ impl<W: Served> OpenConnection<W> {
     ) -> Result<Option<Outcome>, OutOfMemory>
         requires { W.can_call service.now }
         ensures { IfOk result (λ outcome. MatchOption outcome
-            (TakesFrame (request_answer W.Future.answer W.Stream.answer) (W.answer service.now) at secs self.old self.new)
-            (λ outcome. Leads (request_answer W.Future.answer W.Stream.answer) (W.answer service.now) self.old self.new outcome (λ s. take_frames at secs (frames self.old.framer) s))) }
+            (TakesFrame (request_answer W.Future.answer W.Stream.answer) (serving (W.answer service.now) (W.hint service.now)) at secs self.old self.new)
+            (λ outcome. Leads (request_answer W.Future.answer W.Stream.answer) (serving (W.answer service.now) (W.hint service.now)) self.old self.new outcome (λ s. take_frames at secs (frames self.old.framer) s))) }
     {
         let Some(frame) = self.framer.next(alloc)? else {
             return Ok(Some(Outcome::Nothing));
@@ -147,6 +148,10 @@ impl<W: Served> OpenConnection<W> {
         let Ok(message) = Message::from_octets(frame) else {
             return Ok(Some(Outcome::Ends(Why::Short)));
         };
+        if message.header().qr {
+            self.refuse(alloc, &message)?;
+            return Ok(None);
+        }
         let request = frame_request(alloc, &self.config, self.addr, at, secs, message)?;
         self.ask(alloc, service, request)?;
         Ok(None)
@@ -162,7 +167,7 @@ impl<W: Served> OpenConnection<W> {
         octets: &[u8],
     ) -> Result<Outcome, OutOfMemory>
         requires { W.can_call service.now }
-        ensures { IfOk result (λ outcome. Leads (request_answer W.Future.answer W.Stream.answer) (W.answer service.now) self.old self.new outcome
+        ensures { IfOk result (λ outcome. Leads (request_answer W.Future.answer W.Stream.answer) (serving (W.answer service.now) (W.hint service.now)) self.old self.new outcome
             (λ s. piece at secs octets.now s)) }
     {
         self.framer.feed(alloc, octets)?;
@@ -172,7 +177,7 @@ impl<W: Served> OpenConnection<W> {
 
     /// Writes the front frame.
     fn write(&mut self, took: u64) -> Outcome
-        ensures { (answers : Req (Unit {0}) → ℕ → Answer)
+        ensures { (answers : Serving)
             → Leads (request_answer W.Future.answer W.Stream.answer) answers self.old self.new result (λ s. write took s.queue s) }
     {
         if self.queue.is_empty() {
@@ -195,8 +200,8 @@ impl<W: Served> OpenConnection<W> {
         event: &Event,
     ) -> Result<Outcome, OutOfMemory>
         requires { W.can_call service.now }
-        ensures { IfOk result (λ outcome. Leads (request_answer W.Future.answer W.Stream.answer) (W.answer service.now) self.old self.new outcome
-            (rule (W.answer service.now) event.now)) }
+        ensures { IfOk result (λ outcome. Leads (request_answer W.Future.answer W.Stream.answer) (serving (W.answer service.now) (W.hint service.now)) self.old self.new outcome
+            (rule (serving (W.answer service.now) (W.hint service.now)) event.now)) }
     {
         match &event.kind {
             EventKind::Piece(octets) => {

@@ -1,22 +1,22 @@
 //! An exchange: one datagram, and its request until that is done.
 
 ghost use Rattle.std.specs.Prelude.{◌≡◌, ℕ, ◌∷◌, [], IfOk, slice_get};
-ghost use Rattle.dns_service.specs.Answer.{Answer};
-ghost use Rattle.dns_service.specs.Req.{Req};
 ghost use Rattle.dns_service.specs.PolledRequest.{request_answer};
-ghost use Rattle.dns_client.specs.Datagrams.{datagram};
-ghost use Rattle.dns_client.specs.Requests.{request_of_datagram};
+ghost use Rattle.dns_client.specs.Datagrams.{datagram, refused_datagram};
 ghost use Rattle.dns_client.specs.Rule.{rule};
+ghost use Rattle.dns_client.specs.Serving.{Serving, serving};
 ghost use Rattle.dns_client.specs.Slate.{Slate, IsUnused};
 ghost use Rattle.dns_client.specs.Stands.{Exchanges, IsExchange};
 ghost use Rattle.dns_client.specs.Turns.{exchange_turn};
 
+use crate::kept::{KeptRequest, call, refused};
 use crate::polling::poll_kept;
-use crate::requests::{cut, datagram_of, datagram_request, reply_of};
+use crate::requests::{cut, datagram_of, datagram_request};
 use dns_base::{Message, SocketAddr};
+use dns_name::OptRcode;
 use dns_service::{
-    DgramConfig, Event, EventKind, OutOfMemory, Output, PolledRequest, ReplyFuture, ReplyStream,
-    Served,
+    DgramConfig, Event, EventKind, OutOfMemory, Output, ReplyFuture, ReplyStream, Served,
+    reply_limit,
 };
 use std::alloc::Global;
 
@@ -29,63 +29,71 @@ pub fn one(alloc: Global, output: Output) -> Result<Vec<Output>, OutOfMemory>
     Ok(outs)
 }
 
-/// Asks the service a datagram's request.
-fn ask<W: Served>(
-    alloc: Global,
-    service: &W,
-    addr: SocketAddr,
-    at: u64,
-    secs: u64,
-    message: Message,
-    config: &DgramConfig,
-) -> Result<W::Future, OutOfMemory>
-    requires { W.can_call service.now }
-    ensures { IfOk result (λ f. (k : ℕ) → W.Future.answer f k ≡ W.answer service.now (request_of_datagram config.now addr at secs message) k) }
-{
-    let mut request = datagram_request(alloc, config, addr, at, secs, message)?;
-    let future = service.call(alloc, &mut request)?;
-    Ok(future)
-}
+/// What is kept of an exchange, and what its client is sent at once.
+pub type BegunExchange<W> = (
+    Option<KeptRequest<<W as Served>::Future, <W as Served>::Stream>>,
+    Vec<Output>,
+);
 
-/// Begins an exchange by its datagram. Below 12 octets no request is made.
+/// Begins an exchange by its datagram. Below 12 octets no request is made, and of a response neither, which is refused at
+/// once.
 pub fn begin_exchange<W: Served>(
     alloc: Global,
     service: &W,
+    client: u64,
     addr: SocketAddr,
     at: u64,
     secs: u64,
     octets: &[u8],
     config: &DgramConfig,
-) -> Result<Option<PolledRequest<W::Future, W::Stream>>, OutOfMemory>
+) -> Result<BegunExchange<W>, OutOfMemory>
     requires { W.can_call service.now }
-    ensures { IfOk result (λ unfinished. (client : ℕ) (s : Slate) → IsUnused s → s.conf.dgram ≡ config.now
-        → IsExchange (request_answer W.Future.answer W.Stream.answer) (W.answer service.now) client unfinished (datagram client addr at secs octets.now s).0) }
+    ensures { IfOk result (λ p. (s : Slate) → IsUnused s → s.conf.dgram ≡ config.now
+        → IsExchange (request_answer W.Future.answer W.Stream.answer) (serving (W.answer service.now) (W.hint service.now)) client p.0 (datagram client addr at secs octets.now s).0
+        × (p.1.items ≡ (datagram client addr at secs octets.now s).1)) }
 {
     let octets = cut(alloc, octets)?;
     let Ok(message) = Message::from_octets(octets) else {
-        return Ok(None);
+        return Ok((None, Vec::new(alloc)));
     };
-    let future = ask(alloc, service, addr, at, secs, message, config)?;
-    Ok(Some(PolledRequest::Future(future)))
+    if message.header().qr {
+        let outs = refuse(alloc, client, &message, config)?;
+        return Ok((None, outs));
+    }
+    let request = datagram_request(alloc, config, addr, at, secs, message)?;
+    let kept = call(alloc, service, request)?;
+    Ok((Some(kept), Vec::new(alloc)))
+}
+
+/// What the sender of a response is sent.
+fn refuse(
+    alloc: Global,
+    client: u64,
+    message: &Message,
+    config: &DgramConfig,
+) -> Result<Vec<Output>, OutOfMemory>
+    ensures { IfOk result (λ outs. outs.items ≡ refused_datagram client config.now message.now) }
+{
+    let limit = reply_limit(config.max_response_size()) as u16;
+    let reply = refused(alloc, message, Some(limit), OptRcode::FORMERR)?;
+    let octets = datagram_of(alloc, &reply)?;
+    one(alloc, Output::Datagram { client, octets })
 }
 
 /// Polls a request of an exchange once. No request but the first is made.
 fn turn<F: ReplyFuture<Stream = R>, R: ReplyStream>(
     alloc: Global,
     client: u64,
-    unfinished: &mut Option<PolledRequest<F, R>>,
+    unfinished: &mut Option<KeptRequest<F, R>>,
     request: u64,
 ) -> Result<Vec<Output>, OutOfMemory>
-    ensures { IfOk result (λ outs. (answers : Req (Unit {0}) → ℕ → Answer)
+    ensures { IfOk result (λ outs. (answers : Serving)
         → Exchanges (request_answer F.answer R.answer) answers client unfinished.old unfinished.new outs.items (λ s. exchange_turn answers request (slice_get s.requests request) s)) }
 {
     if request != 0 {
         return Ok(Vec::new(alloc));
     }
-    let Some(answer) = poll_kept(alloc, unfinished)? else {
-        return Ok(Vec::new(alloc));
-    };
-    let Some(reply) = reply_of(answer) else {
+    let Some(reply) = poll_kept(alloc, unfinished)? else {
         return Ok(Vec::new(alloc));
     };
     let octets = datagram_of(alloc, &reply)?;
@@ -97,10 +105,10 @@ fn turn<F: ReplyFuture<Stream = R>, R: ReplyStream>(
 pub fn exchange_step<F: ReplyFuture<Stream = R>, R: ReplyStream>(
     alloc: Global,
     client: u64,
-    unfinished: &mut Option<PolledRequest<F, R>>,
+    unfinished: &mut Option<KeptRequest<F, R>>,
     event: &Event,
 ) -> Result<Vec<Output>, OutOfMemory>
-    ensures { IfOk result (λ outs. (answers : Req (Unit {0}) → ℕ → Answer)
+    ensures { IfOk result (λ outs. (answers : Serving)
         → Exchanges (request_answer F.answer R.answer) answers client unfinished.old unfinished.new outs.items (rule answers event.now)) }
 {
     match &event.kind {

@@ -1,5 +1,6 @@
 //! Laws of the rules.
 
+ghost use Rattle.dns_client.specs.Serving.{Serving};
 ghost use Rattle.std.specs.Prelude.{◌≡◌, ℕ, List, ◌++◌};
 ghost use Rattle.dns_service.specs.Answer.{Answer};
 ghost use Rattle.dns_service.specs.Req.{Req};
@@ -9,7 +10,7 @@ ghost use Rattle.dns_client.specs.Slate.{Slate};
 
 /// A piece cut in two, both parts at its moment and seconds, changes nothing, at every slate and wherever it is cut.
 pub fn pieces_may_be_cut()
-    ensures { (answers : Req (Unit {0}) → ℕ → Answer) (client at secs : ℕ) (a b : List ℕ) (s : Slate)
+    ensures { (answers : Serving) (client at secs : ℕ) (a b : List ℕ) (s : Slate)
         → IsCut answers (piece_of client at secs (a ++ b)) (piece_of client at secs a) (piece_of client at secs b) s }
 {}
 

@@ -3,60 +3,51 @@
 ghost use Rattle.std.specs.Prelude.{◌≡◌, ◌≢◌, ℕ, IfOk, OnOk};
 ghost use Rattle.std.specs.Ordering.{nat_cmp};
 ghost use Rattle.std.specs.BTreeMap.{get};
+ghost use Rattle.dns_service.specs.Given.{message_in};
 ghost use Rattle.dns_service.specs.PolledRequest.{request_answer};
 ghost use Rattle.dns_client.specs.PolledAt.{PolledAt};
-ghost use Rattle.dns_client.specs.Turns.{ends};
 
-use dns_service::{OutOfMemory, Polled, PolledRequest, ReplyFuture, ReplyStream, ServiceResult};
+use crate::kept::KeptRequest;
+use dns_base::AdditionalBuilder;
+use dns_service::{OutOfMemory, ReplyFuture, ReplyStream};
 use std::alloc::Global;
 use std::collections::BTreeMap;
 
-/// Whether an answer makes its request done.
-fn is_last(answer: &Polled<Option<ServiceResult>>) -> bool
-    ensures { result ≡ ends answer.now }
-{
-    match answer {
-        Polled::Pending => false,
-        Polled::Ready(None) => true,
-        Polled::Ready(Some(Ok(_))) => false,
-        Polled::Ready(Some(Err(_))) => true,
-    }
-}
-
-/// Polls a request once, where one is kept, and lets it go where it is done.
+/// Polls a request once, where one is kept, and lets it go where it is done. What is sent for the answer is given.
 pub fn poll_kept<F: ReplyFuture<Stream = R>, R: ReplyStream>(
     alloc: Global,
-    unfinished: &mut Option<PolledRequest<F, R>>,
-) -> Result<Option<Polled<Option<ServiceResult>>>, OutOfMemory>
-    ensures { IfOk result (λ answer. PolledAt (request_answer F.answer R.answer) unfinished.old answer unfinished.new) }
+    unfinished: &mut Option<KeptRequest<F, R>>,
+) -> Result<Option<AdditionalBuilder>, OutOfMemory>
+    ensures { IfOk result (λ reply. PolledAt (request_answer F.answer R.answer) unfinished.old (message_in reply) unfinished.new) }
 {
-    let answer = match unfinished {
+    let (reply, done) = match unfinished {
         None => return Ok(None),
-        Some(state) => state.poll_next(alloc)?,
+        Some(kept) => kept.poll(alloc)?,
     };
-    if is_last(&answer) {
+    if done {
         *unfinished = None;
-        return Ok(Some(answer));
+        return Ok(reply);
     }
-    Ok(Some(answer))
+    Ok(reply)
 }
 
-/// Polls the request of this number once, where it is kept, and lets it go where it is done.
+/// Polls the request of this number once, where it is kept, and lets it go where it is done. What is sent for the answer is
+/// given.
 pub fn poll_at<F: ReplyFuture<Stream = R>, R: ReplyStream>(
     alloc: Global,
-    unfinished: &mut BTreeMap<u64, PolledRequest<F, R>>,
+    unfinished: &mut BTreeMap<u64, KeptRequest<F, R>>,
     request: u64,
-) -> Result<Option<Polled<Option<ServiceResult>>>, OutOfMemory>
-    ensures here { IfOk result (λ answer. PolledAt (request_answer F.answer R.answer) (get nat_cmp unfinished.old request) answer (get nat_cmp unfinished.new request)) }
+) -> Result<Option<AdditionalBuilder>, OutOfMemory>
+    ensures here { IfOk result (λ reply. PolledAt (request_answer F.answer R.answer) (get nat_cmp unfinished.old request) (message_in reply) (get nat_cmp unfinished.new request)) }
     ensures others { OnOk result ((q : ℕ) → q ≢ request → get nat_cmp unfinished.new q ≡ get nat_cmp unfinished.old q) }
 {
-    let answer = match unfinished.get_mut(&request) {
+    let (reply, done) = match unfinished.get_mut(&request) {
         None => return Ok(None),
-        Some(state) => state.poll_next(alloc)?,
+        Some(kept) => kept.poll(alloc)?,
     };
-    if is_last(&answer) {
+    if done {
         let _done = unfinished.remove(&request);
-        return Ok(Some(answer));
+        return Ok(reply);
     }
-    Ok(Some(answer))
+    Ok(reply)
 }

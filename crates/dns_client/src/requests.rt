@@ -2,16 +2,14 @@
 
 ghost use Rattle.std.specs.Prelude.{◌≡◌, ◌≤◌, IfOk, length};
 ghost use Rattle.dns_base.specs.Wire.{wire};
-ghost use Rattle.dns_service.specs.Given.{message_in};
 ghost use Rattle.dns_client.specs.Datagrams.{cut_datagram};
 ghost use Rattle.dns_client.specs.Frames.{framed};
 ghost use Rattle.dns_client.specs.Requests.{request_of_datagram, request_of_frame};
-ghost use Rattle.dns_client.specs.Turns.{reply_in};
 
 use dns_base::{AdditionalBuilder, Message, SocketAddr};
 use dns_service::{
-    ConnectionConfig, DgramConfig, NonUdpTransportContext, Octets, OutOfMemory, Polled, Request,
-    ServiceResult, TransportSpecificContext, UdpTransportContext,
+    ConnectionConfig, DgramConfig, NonUdpTransportContext, Octets, OutOfMemory, Request,
+    TransportSpecificContext, UdpTransportContext,
 };
 use std::alloc::Global;
 
@@ -58,16 +56,6 @@ pub fn frame_request(
     let transport = TransportSpecificContext::NonUdp(context);
     let request = Request::new(alloc, addr, at, secs, message, transport, ())?;
     Ok(request)
-}
-
-/// The reply of an answer.
-pub fn reply_of(answer: Polled<Option<ServiceResult>>) -> Option<AdditionalBuilder>
-    ensures { message_in result ≡ reply_in answer }
-{
-    let Polled::Ready(Some(Ok(given))) = answer else {
-        return None;
-    };
-    given.into_inner().0
 }
 
 /// A reply as a datagram.

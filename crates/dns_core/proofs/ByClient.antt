@@ -1,4 +1,5 @@
 -- What one client is sent, read off what all are sent.
+use Rattle.dns_client.specs.Serving.{Serving}
 use Rattle.std.proofs.Common.{◌≡◌, ◌≢◌, ℕ, List, [], ◌∷◌, ◌++◌, Bool, true, false, refl, ap, sym, ◌∙◌, subst, append_assoc, ⊎_elim}
 use Rattle.std.proofs.lemmas.List.{append-nil}
 use Rattle.std.proofs.lemmas.Bool.{cases_eq}
@@ -16,14 +17,14 @@ use Rattle.dns_core.specs.Own.{concerns, own}
 use Rattle.dns_core.specs.Sent.{sent, slate}
 use Rattle.dns_core.specs.Out.{is_unused, begins, is_new, members, gained, out_after, out}
 use Rattle.dns_core.specs.ByClient.{is_for, is_member, was_turned_away}
-use Rattle.dns_core.specs.declared.settings.Settings.{Settings}
+use Rattle.dns_middleware.specs.declared.settings.Settings.{Settings}
 use Rattle.dns_core.proofs.OutLemmas.{sent_more, sent_still}
 use Rattle.dns_core.proofs.Plain.{unused_is}
 use Rattle.dns_core.proofs.Gained.{concerns_same, concerns_other, slate_same, slate_other, members_kept, gained_own}
 use Rattle.dns_core.proofs.Nothing.{member_other, unused_alike}
-use Rattle.dns_core.proofs.Named.{AreFor, filter_for, filter_others, rule_for, quiet, begins_used, of_client, silent}
+use Rattle.dns_core.proofs.Named.{AreFor, filter_for, filter_others, rule_for, first_for, begins_used, of_client, silent}
 
-module _ (answers : Req (Unit {0}) → ℕ → Answer) (settings : Settings) where
+module _ (answers : Serving) (settings : Settings) where
   -- what the rules for a client alone give: of an exchange or a connection all that it is sent, of one that was turned away that
   abbrev pub of_own : Bool → Bool → ℕ → List Event → List Output
   of_own member unused c q = if member then sent answers settings (own c q) else (if unused then [] else TurnedAway c settings.stream.accept_connections_at_max ∷ [])
@@ -68,8 +69,8 @@ module _ (answers : Req (Unit {0}) → ℕ → Answer) (settings : Settings) whe
 
   -- the client of an event alone is sent anything for it
   rule_own : (q : List Event) (e : Event) (b : Bool) → is_unused (slate answers settings e.client q).phase ≡ b → AreFor e.client (rule answers e (slate answers settings e.client q)).1
-  rule_own q e true u = rw (quiet answers e (slate answers settings e.client q) (unused_is (slate answers settings e.client q).phase u)) tt
-  rule_own q e false u = subst (λ (c : ℕ). AreFor c (rule answers e (slate answers settings e.client q)).1) (of_client answers settings e.client q u) (rule_for answers e (slate answers settings e.client q))
+  rule_own q e true u = first_for answers e (slate answers settings e.client q) (unused_is (slate answers settings e.client q).phase u)
+  rule_own q e false u = subst (λ (c : ℕ). AreFor c (rule answers e (slate answers settings e.client q)).1) (of_client answers settings e.client q u) (rule_for answers e (slate answers settings e.client q) u)
 
   either_own : (c : ℕ) (b n : Bool) (os ps : List Output) → AreFor c os → AreFor c ps → AreFor c (if b then os else (if n then ps else []))
   either_own c true n os ps h k = h

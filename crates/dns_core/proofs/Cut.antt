@@ -1,4 +1,5 @@
 -- A piece that is cut in two changes nothing of what is sent.
+use Rattle.dns_client.specs.Serving.{Serving}
 use Rattle.std.proofs.Common.{◌≡◌, ℕ, List, [], ◌∷◌, ◌++◌, ap, ◌∙◌, append_assoc}
 use Rattle.dns_service.specs.Answer.{Answer}
 use Rattle.dns_service.specs.Req.{Req}
@@ -9,9 +10,9 @@ use Rattle.dns_client.specs.Pieces.{IsCut}
 use Rattle.dns_client.specs.Rule.{rule}
 use Rattle.dns_core.specs.Settings.{opening}
 use Rattle.dns_core.specs.Sent.{sent_after, sent}
-use Rattle.dns_core.specs.declared.settings.Settings.{Settings}
+use Rattle.dns_middleware.specs.declared.settings.Settings.{Settings}
 
-module _ (answers : Req (Unit {0}) → ℕ → Answer) (whole former latter : Event) (cut : (s : Slate) → IsCut answers whole former latter s) where
+module _ (answers : Serving) (whole former latter : Event) (cut : (s : Slate) → IsCut answers whole former latter s) where
   cut_after : (p r : List Event) (s : Slate) → sent_after answers s (p ++ whole ∷ r) ≡ sent_after answers s (p ++ former ∷ latter ∷ r)
   cut_after [] r s =
       let k = cut s in

@@ -1,4 +1,5 @@
 -- What is sent for one event more, and who are members then.
+use Rattle.dns_client.specs.Serving.{Serving}
 use Rattle.std.proofs.Common.{◌≡◌, ◌≢◌, ℕ, List, [], ◌∷◌, ◌++◌, ◌+◌, length, Bool, true, false, refl, ap, sym, ◌∙◌}
 use Rattle.std.specs.Prelude.{nat_eq, if◌then◌else◌}
 use Rattle.std.specs.List.{list_any}
@@ -12,7 +13,7 @@ use Rattle.dns_client.specs.Rule.{rule}
 use Rattle.dns_core.specs.Own.{concerns}
 use Rattle.dns_core.specs.Sent.{slate}
 use Rattle.dns_core.specs.Out.{is_unused, begins, is_datagram, is_release, holds_slot, is_new, taken, has_room, members, put, gained}
-use Rattle.dns_core.specs.declared.settings.Settings.{Settings}
+use Rattle.dns_middleware.specs.declared.settings.Settings.{Settings}
 use Rattle.dns_core.proofs.OutLemmas.{slate_some, slate_none, members_more}
 use Rattle.dns_core.proofs.Counted.{put_there, filter_same, absent_other, filter_put, filter_put_not}
 use Rattle.dns_core.proofs.Plain.{unused_kept, slot_kept}
@@ -23,7 +24,7 @@ concerns_same e = eq-eqb e.client e.client refl
 pub concerns_other : (c : ℕ) (e : Event) → c ≢ e.client → concerns c e ≡ false
 concerns_other c e ne = ne_eqb e.client c (λ h. ne (sym h))
 
-module _ (answers : Req (Unit {0}) → ℕ → Answer) (settings : Settings) where
+module _ (answers : Serving) (settings : Settings) where
   pub slate_same : (q : List Event) (e : Event) → slate answers settings e.client (q ++ e ∷ []) ≡ (rule answers e (slate answers settings e.client q)).0
   slate_same q e = slate_some answers settings e.client q e (concerns_same e)
 

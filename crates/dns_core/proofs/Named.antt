@@ -1,4 +1,5 @@
 -- Whom the outputs of a client's rule are for, and what a client that didn't begin is sent.
+use Rattle.dns_client.specs.Serving.{Serving}
 use Rattle.std.proofs.Common.{◌≡◌, ◌≢◌, ℕ, ◌+◌, List, [], ◌∷◌, ◌++◌, length, drop, Bool, true, false, cond, refl, ap, sym, ◌∙◌, subst}
 use Rattle.std.specs.Prelude.{Option, Some, None, slice_get, nat_lt, filter, if◌then◌else◌}
 use Rattle.std.proofs.lemmas.Bool.{eq-eqb, eqb-true, ne_eqb}
@@ -15,16 +16,19 @@ use Rattle.dns_service.specs.declared.event.Why.TheVariants.{Ended, Short, Write
 use Rattle.dns_client.specs.Frames.{frames, framed}
 use Rattle.dns_client.specs.Slate.{Slate, Asked, Told, Phase, Unused, Exchange, Open, Closed, fresh, in_phase}
 use Rattle.dns_client.specs.Requests.{header_size, most_requests, request_of_frame, asked}
-use Rattle.dns_client.specs.Datagrams.{datagram}
+use Rattle.dns_name.specs.declared.address.SocketAddr.{SocketAddr}
+use Rattle.dns_base.specs.Header.{header_of}
+use Rattle.dns_service.specs.Config.{Dgram}
+use Rattle.dns_client.specs.Datagrams.{cut_datagram, refused_datagram, datagram}
 use Rattle.dns_client.specs.Connections.{opened, close, take_frame, take_frames, piece, write, enqueue, released}
-use Rattle.dns_client.specs.Turns.{exchange_turn, turn, polled, with_request, sent_at_once, reply_in, queued}
+use Rattle.dns_client.specs.Turns.{exchange_turn, turn, polled, with_request, sent_at_once, sent_for, queued}
 use Rattle.dns_client.specs.Rule.{rule, by_kind}
 use Rattle.dns_core.specs.Settings.{opening}
 use Rattle.dns_core.specs.Own.{concerns, own}
 use Rattle.dns_core.specs.Sent.{slate_after, sent_after, sent, slate}
 use Rattle.dns_core.specs.Out.{is_unused, begins}
 use Rattle.dns_core.specs.ByClient.{client_of, is_for}
-use Rattle.dns_core.specs.declared.settings.Settings.{Settings}
+use Rattle.dns_middleware.specs.declared.settings.Settings.{Settings}
 use Rattle.dns_core.proofs.Plain.{unused_is, rule_use}
 
 -- each output is for the client
@@ -41,11 +45,11 @@ filter_others c d [] h apart = refl
 filter_others c d (o ∷ os) h apart =
     rw (ne_eqb (client_of o) c (λ (e : client_of o ≡ c). apart (sym e ∙ h.0)), filter_others c d os h.1 apart) refl
 
-phase_for : (c : ℕ) (p : Phase) (x y z w : Told) → AreFor c x.1 → AreFor c y.1 → AreFor c z.1 → AreFor c w.1 → AreFor c (in_phase p x y z w).1
-phase_for c Unused x y z w hx hy hz hw = hx
-phase_for c Exchange x y z w hx hy hz hw = hy
-phase_for c Open x y z w hx hy hz hw = hz
-phase_for c Closed x y z w hx hy hz hw = hw
+phase_for : (c : ℕ) (p : Phase) (x y z w : Told) → is_unused p ≡ false → AreFor c y.1 → AreFor c z.1 → AreFor c w.1 → AreFor c (in_phase p x y z w).1
+phase_for c Unused x y z w u hy hz hw = cc
+phase_for c Exchange x y z w u hy hz hw = hy
+phase_for c Open x y z w u hy hz hw = hz
+phase_for c Closed x y z w u hy hz hw = hw
 
 frame_client : (at secs : ℕ) (f : List ℕ) (s : Slate) → (take_frame at secs f s).client ≡ s.client
 frame_client at secs f s = (elim (nat_lt (length s.requests) most_requests) as (λ b. let t : Slate = (if b then record s { taken = s.taken + 1; requests = s.requests ++ asked (request_of_frame s.connection s.addr at secs f) ∷ [] } else record s { taken = s.taken + 1 }) in t.client ≡ s.client) [ true ↦ refl | false ↦ refl ])
@@ -65,37 +69,58 @@ at_once_for : (client : ℕ) (x : Option Msg) → AreFor client (sent_at_once cl
 at_once_for client None = tt
 at_once_for client (Some m) = (refl, tt)
 
-module _ (answers : Req (Unit {0}) → ℕ → Answer) where
+module _ (answers : Serving) where
   exchange_turn_for : (k : ℕ) (x : Option Asked) (s : Slate) → AreFor s.client (exchange_turn answers k x s).1
   exchange_turn_for k None s = tt
   exchange_turn_for k (Some r) s =
-      (elim r.done as (λ b. let t : Told = (if b then (s, []) else (with_request k (polled (answers r.request r.polls) r) s, sent_at_once s.client (reply_in (answers r.request r.polls)))) in AreFor s.client t.1) [ true ↦ tt | false ↦ at_once_for s.client (reply_in (answers r.request r.polls)) ])
+      (elim r.done as (λ b. let t : Told = (if b then (s, []) else (with_request k (polled (answers.answer r.request r.polls) r) s, sent_at_once s.client (sent_for answers r.request (answers.answer r.request r.polls)))) in AreFor s.client t.1) [ true ↦ tt | false ↦ at_once_for s.client (sent_for answers r.request (answers.answer r.request r.polls)) ])
 
-  kind_for : (e : Event) (k : EventKind) (s : Slate) → AreFor s.client (by_kind answers e k s).1
-  kind_for e (Datagram addr o) s = phase_for s.client s.phase (datagram e.client addr e.at e.secs o s) (s, []) (s, []) (s, []) tt tt tt tt
-  kind_for e (Turn k) s = phase_for s.client s.phase (s, []) (exchange_turn answers k (slice_get s.requests k) s) (turn answers k (slice_get s.requests k) s, []) (s, []) tt (exchange_turn_for k (slice_get s.requests k) s) tt tt
-  kind_for e (Offer addr) s = phase_for s.client s.phase (opened e.client addr s, []) (s, []) (s, []) (s, []) tt tt tt tt
-  kind_for e (Piece o) s = phase_for s.client s.phase (s, []) (s, []) (piece e.at e.secs o s) (s, []) tt tt (take_for e.at e.secs (drop s.taken (frames (s.received ++ o))) (record s { received = s.received ++ o })) tt
-  kind_for e End s = phase_for s.client s.phase (s, []) (s, []) (close Ended s) (s, []) tt tt (refl, tt) tt
-  kind_for e (Write took) s = phase_for s.client s.phase (s, []) (s, []) (write took s.queue s) (s, []) tt tt (write_for took s.queue s) tt
-  kind_for e Release s = phase_for s.client s.phase (s, []) (s, []) (s, []) (released s, []) tt tt tt tt
+  kind_for : (e : Event) (k : EventKind) (s : Slate) → is_unused s.phase ≡ false → AreFor s.client (by_kind answers e k s).1
+  kind_for e (Datagram addr o) s u = phase_for s.client s.phase (datagram e.client addr e.at e.secs o s) (s, []) (s, []) (s, []) u tt tt tt
+  kind_for e (Turn k) s u = phase_for s.client s.phase (s, []) (exchange_turn answers k (slice_get s.requests k) s) (turn answers k (slice_get s.requests k) s, []) (s, []) u (exchange_turn_for k (slice_get s.requests k) s) tt tt
+  kind_for e (Offer addr) s u = phase_for s.client s.phase (opened e.client addr s, []) (s, []) (s, []) (s, []) u tt tt tt
+  kind_for e (Piece o) s u = phase_for s.client s.phase (s, []) (s, []) (piece e.at e.secs o s) (s, []) u tt (take_for e.at e.secs (drop s.taken (frames (s.received ++ o))) (record s { received = s.received ++ o })) tt
+  kind_for e End s u = phase_for s.client s.phase (s, []) (s, []) (close Ended s) (s, []) u tt (refl, tt) tt
+  kind_for e (Write took) s u = phase_for s.client s.phase (s, []) (s, []) (write took s.queue s) (s, []) u tt (write_for took s.queue s) tt
+  kind_for e Release s u = phase_for s.client s.phase (s, []) (s, []) (s, []) (released s, []) u tt tt tt
 
-  -- what a client is sent is for the number in its slate
-  pub rule_for : (e : Event) (s : Slate) → AreFor s.client (rule answers e s).1
-  rule_for e s = kind_for e e.kind s
+  -- what a client that began is sent is for the number in its slate
+  pub rule_for : (e : Event) (s : Slate) → is_unused s.phase ≡ false → AreFor s.client (rule answers e s).1
+  rule_for e s u = kind_for e e.kind s u
 
-  quiet_kind : (e : Event) (k : EventKind) (s : Slate) → s.phase ≡ Unused → (by_kind answers e k s).1 ≡ []
-  quiet_kind e (Datagram addr o) s p = rw p refl
-  quiet_kind e (Turn k) s p = rw p refl
-  quiet_kind e (Offer addr) s p = rw p refl
-  quiet_kind e (Piece o) s p = rw p refl
-  quiet_kind e End s p = rw p refl
-  quiet_kind e (Write took) s p = rw p refl
-  quiet_kind e Release s p = rw p refl
+  at_once_case : (client : ℕ) (dgram : Dgram) (o : List ℕ) (short qr : Bool) → AreFor client (if short then [] else (if qr then refused_datagram client dgram o else []))
+  at_once_case client dgram o true qr = tt
+  at_once_case client dgram o false true = (refl, tt)
+  at_once_case client dgram o false false = tt
 
-  -- nothing is sent at the event by which a client begins, nor before it
-  pub quiet : (e : Event) (s : Slate) → s.phase ≡ Unused → (rule answers e s).1 ≡ []
-  quiet e s p = quiet_kind e e.kind s p
+  datagram_for : (client : ℕ) (addr : SocketAddr) (at secs : ℕ) (o : List ℕ) (s : Slate) → AreFor client (datagram client addr at secs o s).1
+  datagram_for client addr at secs o s = at_once_case client s.conf.dgram (cut_datagram o) (nat_lt (length (cut_datagram o)) header_size) (header_of (cut_datagram o)).qr
+
+  first_kind : (e : Event) (k : EventKind) (s : Slate) → s.phase ≡ Unused → AreFor e.client (by_kind answers e k s).1
+  first_kind e (Datagram addr o) s p = rw p (datagram_for e.client addr e.at e.secs o s)
+  first_kind e (Turn k) s p = rw p tt
+  first_kind e (Offer addr) s p = rw p tt
+  first_kind e (Piece o) s p = rw p tt
+  first_kind e End s p = rw p tt
+  first_kind e (Write took) s p = rw p tt
+  first_kind e Release s p = rw p tt
+
+  -- and at the event by which it begins, for the number of the event
+  pub first_for : (e : Event) (s : Slate) → s.phase ≡ Unused → AreFor e.client (rule answers e s).1
+  first_for e s p = first_kind e e.kind s p
+
+  quiet_kind : (e : Event) (k : EventKind) (s : Slate) → s.phase ≡ Unused → is_unused (by_kind answers e k s).0.phase ≡ true → (by_kind answers e k s).1 ≡ []
+  quiet_kind e (Datagram addr o) s p u = let begun : is_unused Exchange ≡ true = rw p at u in cc
+  quiet_kind e (Turn k) s p u = rw p refl
+  quiet_kind e (Offer addr) s p u = rw p refl
+  quiet_kind e (Piece o) s p u = rw p refl
+  quiet_kind e End s p u = rw p refl
+  quiet_kind e (Write took) s p u = rw p refl
+  quiet_kind e Release s p u = rw p refl
+
+  -- nothing is sent before the event by which a client begins
+  pub quiet : (e : Event) (s : Slate) → s.phase ≡ Unused → is_unused (rule answers e s).0.phase ≡ true → (rule answers e s).1 ≡ []
+  quiet e s p u = quiet_kind e e.kind s p u
 
   used_begin : (p : Phase) (t s : Slate) → is_unused t.phase ≡ false → p ≡ s.phase → is_unused (in_phase {X = Told} p (t, []) (s, []) (s, []) (s, [])).0.phase ≡ false
   used_begin Unused t s u is = u
@@ -140,7 +165,7 @@ module _ (answers : Req (Unit {0}) → ℕ → Answer) where
   exchange_client : (k : ℕ) (x : Option Asked) (s : Slate) → (exchange_turn answers k x s).0.client ≡ s.client
   exchange_client k None s = refl
   exchange_client k (Some r) s =
-      (elim r.done as (λ b. let t : Told = (if b then (s, []) else (with_request k (polled (answers r.request r.polls) r) s, sent_at_once s.client (reply_in (answers r.request r.polls)))) in t.0.client ≡ s.client) [ true ↦ refl | false ↦ refl ])
+      (elim r.done as (λ b. let t : Told = (if b then (s, []) else (with_request k (polled (answers.answer r.request r.polls) r) s, sent_at_once s.client (sent_for answers r.request (answers.answer r.request r.polls)))) in t.0.client ≡ s.client) [ true ↦ refl | false ↦ refl ])
 
   enqueue_client : (m : List ℕ) (s : Slate) → (enqueue m s).client ≡ s.client
   enqueue_client m s = (elim (nat_lt (length s.queue) s.bound) as (λ b. let t : Slate = (if b then record s { queue = s.queue ++ m ∷ [] } else s) in t.client ≡ s.client) [ true ↦ refl | false ↦ refl ])
@@ -152,8 +177,8 @@ module _ (answers : Req (Unit {0}) → ℕ → Answer) where
   turn_client : (k : ℕ) (x : Option Asked) (s : Slate) → (turn answers k x s).client ≡ s.client
   turn_client k None s = refl
   turn_client k (Some r) s =
-      let a = answers r.request r.polls in
-      (elim r.done as (λ b. let t : Slate = (if b then s else queued (reply_in a) (with_request k (polled a r) s)) in t.client ≡ s.client) [ true ↦ refl | false ↦ queued_client (reply_in a) (with_request k (polled a r) s) ])
+      let a = answers.answer r.request r.polls in
+      (elim r.done as (λ b. let t : Slate = (if b then s else queued (sent_for answers r.request a) (with_request k (polled a r) s)) in t.client ≡ s.client) [ true ↦ refl | false ↦ queued_client (sent_for answers r.request a) (with_request k (polled a r) s) ])
 
   kind_of_client : (e : Event) (k : EventKind) (s : Slate) → IsOf e.client s → IsOf e.client (by_kind answers e k s).0
   kind_of_client e (Datagram addr o) s h = phase_of_client e.client s.phase s (datagram e.client addr e.at e.secs o s) (s, []) (s, []) (s, []) refl h (λ u. refl) refl refl refl
@@ -183,7 +208,7 @@ module _ (answers : Req (Unit {0}) → ℕ → Answer) where
   still_used (x ∷ es) s u = still_used es (rule answers x s).0 ((rule_use answers x s).used u)
 
   silent_case : (x : Event) (es : List Event) (s : Slate) → ((t : Slate) → is_unused t.phase ≡ true → is_unused (slate_after answers t es).phase ≡ true → sent_after answers t es ≡ []) → is_unused s.phase ≡ true → is_unused (slate_after answers (rule answers x s).0 es).phase ≡ true → (b : Bool) → is_unused (rule answers x s).0.phase ≡ b → (rule answers x s).1 ++ sent_after answers (rule answers x s).0 es ≡ []
-  silent_case x es s more u v true is = rw (quiet x s (unused_is s.phase u), more (rule answers x s).0 is v) refl
+  silent_case x es s more u v true is = rw (quiet x s (unused_is s.phase u) is, more (rule answers x s).0 is v) refl
   silent_case x es s more u v false is = let used = still_used es (rule answers x s).0 is in cc
 
   silent_after : (es : List Event) (s : Slate) → is_unused s.phase ≡ true → is_unused (slate_after answers s es).phase ≡ true → sent_after answers s es ≡ []

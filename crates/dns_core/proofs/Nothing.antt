@@ -1,4 +1,5 @@
 -- Events that change nothing for anybody.
+use Rattle.dns_client.specs.Serving.{Serving}
 use Rattle.std.proofs.Common.{◌≡◌, ◌≢◌, ℕ, List, [], ◌∷◌, ◌++◌, length, Bool, true, false, refl, ap, sym, ◌∙◌, append_assoc, ⊎_elim}
 use Rattle.std.proofs.lemmas.List.{append-nil}
 use Rattle.std.proofs.Math.Seq.{take-append_seam}
@@ -14,7 +15,7 @@ use Rattle.dns_client.specs.Rule.{rule}
 use Rattle.dns_core.specs.Sent.{slate}
 use Rattle.dns_core.specs.Out.{is_unused, begins, is_datagram, holds_slot, is_new, taken, has_room, put, members, gained, out_after, out}
 use Rattle.dns_core.specs.ByClient.{IsPrefix}
-use Rattle.dns_core.specs.declared.settings.Settings.{Settings}
+use Rattle.dns_middleware.specs.declared.settings.Settings.{Settings}
 use Rattle.dns_core.proofs.OutLemmas.{members_more}
 use Rattle.dns_core.proofs.Counted.{filter_same}
 use Rattle.dns_core.proofs.Plain.{plain, rule_use, late}
@@ -29,7 +30,7 @@ put_other c x (m ∷ ms) apart =
       | false ↦ ap (λ (b : Bool). nat_eq c m || b) (put_other c x ms apart)
     ])
 
-module _ (answers : Req (Unit {0}) → ℕ → Answer) (settings : Settings) where
+module _ (answers : Serving) (settings : Settings) where
   -- two lists of events after which everything goes on alike
   pub record Alike (q p : List Event) : Type 0 where
     pub same_members : members answers settings q ≡ members answers settings p

@@ -1,4 +1,5 @@
 -- A server after an offer.
+use Rattle.dns_client.specs.Serving.{Serving}
 use Rattle.std.proofs.Common.{◌≡◌, ◌≢◌, ℕ, List, [], ◌∷◌, ◌++◌, true, false, ap, sym, ◌∙◌, ⊎_elim}
 use Rattle.std.specs.Prelude.{nat_eq, nat_lt, if◌then◌else◌}
 use Rattle.std.specs.Ordering.{nat_cmp}
@@ -15,12 +16,12 @@ use Rattle.dns_service.specs.declared.polled.PolledRequest.{PolledRequest}
 use Rattle.dns_core.specs.Sent.{slate}
 use Rattle.dns_core.specs.Out.{is_unused, is_datagram, has_room, taken, members, gained}
 use Rattle.dns_core.specs.Server.{Serves}
-use Rattle.dns_core.specs.declared.settings.Settings.{Settings}
+use Rattle.dns_middleware.specs.declared.settings.Settings.{Settings}
 use Rattle.dns_core.specs.declared.server.Server.{Server}
 use Rattle.dns_core.proofs.Gained.{slate_other, members_offer, gained_away, taken_absent}
 use Rattle.dns_core.proofs.Served.{IsNew, used_goes}
 
-module _ {W R F : Type 0} (answer : PolledRequest F R → ℕ → Answer) (answers : Req (Unit {0}) → ℕ → Answer) (settings : Settings) where
+module _ {W R F : Type 0} (answer : PolledRequest F R → ℕ → Answer) (answers : Serving) (settings : Settings) where
   -- whether a slot is free
   pub room_is : (old : Server W R F) (q : List Event) → Serves answer answers settings q old → nat_lt old.taken old.stream.max_concurrent_connections ≡ has_room answers settings q (members answers settings q)
   unfolding has_room

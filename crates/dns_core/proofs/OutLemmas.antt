@@ -1,4 +1,5 @@
 -- One event more.
+use Rattle.dns_client.specs.Serving.{Serving}
 use Rattle.std.proofs.Common.{◌≡◌, ℕ, List, [], ◌∷◌, ◌++◌, true, false, cond, refl, ap, sym, ◌∙◌, append_assoc}
 use Rattle.std.proofs.lemmas.List.{append-nil}
 use Rattle.std.proofs.Math.Seq.{take-append_seam}
@@ -13,7 +14,7 @@ use Rattle.dns_core.specs.Own.{concerns, own}
 use Rattle.dns_core.specs.Sent.{slate_after, sent_after, sent, slate}
 use Rattle.dns_core.specs.Out.{joined, members_after, members, gained, out_after}
 use Rattle.dns_core.specs.ByClient.{IsPrefix}
-use Rattle.dns_core.specs.declared.settings.Settings.{Settings}
+use Rattle.dns_middleware.specs.declared.settings.Settings.{Settings}
 
 own_some : (c : ℕ) (q : List Event) (e : Event) → concerns c e ≡ true → own c (q ++ e ∷ []) ≡ own c q ++ e ∷ []
 own_some c [] e h = rw h refl
@@ -23,7 +24,7 @@ own_none : (c : ℕ) (q : List Event) (e : Event) → concerns c e ≡ false →
 own_none c [] e h = rw h refl
 own_none c (x ∷ q) e h = (elim (concerns c x) as (λ b. cond b (x ∷ own c (q ++ e ∷ [])) (own c (q ++ e ∷ [])) ≡ cond b (x ∷ own c q) (own c q)) [ true ↦ ap (λ es. x ∷ es) (own_none c q e h) | false ↦ own_none c q e h ])
 
-module _ (answers : Req (Unit {0}) → ℕ → Answer) where
+module _ (answers : Serving) where
   slate_after_snoc : (s : Slate) (q : List Event) (e : Event) → slate_after answers s (q ++ e ∷ []) ≡ (rule answers e (slate_after answers s q)).0
   slate_after_snoc s [] e = refl
   slate_after_snoc s (x ∷ q) e = slate_after_snoc (rule answers x s).0 q e

@@ -1,5 +1,6 @@
 -- A slate has the configurations of the settings, an unused one has nothing else, and slots are held and given back by offers
 -- and releases alone.
+use Rattle.dns_client.specs.Serving.{Serving}
 use Rattle.std.proofs.Common.{◌≡◌, ℕ, ◌+◌, List, [], ◌∷◌, ◌++◌, length, drop, Bool, true, false, cond, refl, ap, sym, ◌∙◌, subst}
 use Rattle.std.specs.Prelude.{Option, Some, None, slice_get, nat_lt, if◌then◌else◌}
 use Rattle.dns_name.specs.declared.address.SocketAddr.{SocketAddr}
@@ -18,14 +19,14 @@ use Rattle.dns_client.specs.Slate.{Slate, Asked, Conf, Told, Phase, Unused, Exch
 use Rattle.dns_client.specs.Requests.{header_size, most_requests, request_of_frame, asked}
 use Rattle.dns_client.specs.Datagrams.{datagram}
 use Rattle.dns_client.specs.Connections.{opened, close, take_frame, take_frames, piece, write, enqueue, released}
-use Rattle.dns_client.specs.Turns.{exchange_turn, turn, polled, with_request, sent_at_once, reply_in, queued}
+use Rattle.dns_client.specs.Turns.{exchange_turn, turn, polled, with_request, sent_at_once, sent_for, queued}
 use Rattle.dns_client.specs.Rule.{rule, by_kind}
 use Rattle.dns_core.specs.Finished.{IsFinished}
 use Rattle.dns_core.specs.Settings.{opening}
 use Rattle.dns_core.specs.Own.{own, concerns}
 use Rattle.dns_core.specs.Sent.{slate_after, slate}
 use Rattle.dns_core.specs.Out.{is_unused, is_connection, begins, is_release, holds_slot}
-use Rattle.dns_core.specs.declared.settings.Settings.{Settings}
+use Rattle.dns_middleware.specs.declared.settings.Settings.{Settings}
 
 -- what goes on keeps its configurations, a used number stays used, and a slot stays held
 pub record GoesOn (s t : Slate) : Type 0 where
@@ -89,19 +90,19 @@ queued_on : (x : Option Msg) (s : Slate) → GoesOn s (queued x s)
 queued_on None s = same s
 queued_on (Some m) s = enqueue_on (framed (wire m)) s
 
-module _ (answers : Req (Unit {0}) → ℕ → Answer) where
+module _ (answers : Serving) where
   exchange_turn_on : (k : ℕ) (x : Option Asked) (s : Slate) → GoesOn s (exchange_turn answers k x s).0
   exchange_turn_on k None s = same s
   exchange_turn_on k (Some r) s =
-      (elim r.done as (λ b. let t : Told = (if b then (s, []) else (with_request k (polled (answers r.request r.polls) r) s, sent_at_once s.client (reply_in (answers r.request r.polls)))) in GoesOn s t.0) [ true ↦ same s | false ↦ record { conf = refl; used = λ h. h; slot = refl } ])
+      (elim r.done as (λ b. let t : Told = (if b then (s, []) else (with_request k (polled (answers.answer r.request r.polls) r) s, sent_at_once s.client (sent_for answers r.request (answers.answer r.request r.polls)))) in GoesOn s t.0) [ true ↦ same s | false ↦ record { conf = refl; used = λ h. h; slot = refl } ])
 
   turn_on : (k : ℕ) (x : Option Asked) (s : Slate) → GoesOn s (turn answers k x s)
   turn_on k None s = same s
   turn_on k (Some r) s =
-      let a = answers r.request r.polls in
+      let a = answers.answer r.request r.polls in
       let t = with_request k (polled a r) s in
-      let g = then_on s t (queued (reply_in a) t) (record { conf = refl; used = λ h. h; slot = refl }) (queued_on (reply_in a) t) in
-      (elim r.done as (λ b. GoesOn s (if b then s else queued (reply_in a) t)) [ true ↦ same s | false ↦ g ])
+      let g = then_on s t (queued (sent_for answers r.request a) t) (record { conf = refl; used = λ h. h; slot = refl }) (queued_on (sent_for answers r.request a) t) in
+      (elim r.done as (λ b. GoesOn s (if b then s else queued (sent_for answers r.request a) t)) [ true ↦ same s | false ↦ g ])
 
   kind_on : (e : Event) (k : EventKind) (s : Slate) → begins k ≡ false → is_release k ≡ false → GoesOn s (by_kind answers e k s).0
   kind_on e (Datagram addr o) s b r = cc

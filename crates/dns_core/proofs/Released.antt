@@ -1,4 +1,5 @@
 -- A server after a release.
+use Rattle.dns_client.specs.Serving.{Serving}
 use Rattle.std.proofs.Common.{◌≡◌, ◌≢◌, ℕ, ◌-◌, List, [], ◌∷◌, ◌++◌, Option, Some, None, Bool, true, false, refl, ap, sym, ◌∙◌}
 use Rattle.std.specs.Prelude.{nat_eq, if◌then◌else◌, not}
 use Rattle.std.specs.List.{list_any}
@@ -20,7 +21,7 @@ use Rattle.dns_core.specs.Sent.{slate}
 use Rattle.dns_core.specs.Out.{begins, holds_slot, taken, members, gained}
 use Rattle.dns_core.specs.Serves.{Holds, Steps, StepsKey}
 use Rattle.dns_core.specs.Server.{Serves}
-use Rattle.dns_core.specs.declared.settings.Settings.{Settings}
+use Rattle.dns_middleware.specs.declared.settings.Settings.{Settings}
 use Rattle.dns_core.specs.declared.server.Server.{Server}
 use Rattle.dns_core.proofs.Counted.{one_less}
 use Rattle.dns_core.proofs.Gained.{slate_same, slate_other, not_new, members_kept, unused_same, taken_absent}
@@ -46,10 +47,10 @@ release_case Closed s finished e h f =
     let now : finished ≡ true = f ∙ rw e refl in
     record { gone = λ _. (rw (e, h) refl, rw e refl); kept = λ k. let no : ⊥ = cc in absurd no }
 
-rule_slot : (answers : Req (Unit {0}) → ℕ → Answer) (e : Event) (s : Slate) (finished : Bool) → e.kind ≡ Release → is_spent s ≡ false → finished ≡ is_spent (rule answers e s).0 → Slot s (rule answers e s).0 finished
+rule_slot : (answers : Serving) (e : Event) (s : Slate) (finished : Bool) → e.kind ≡ Release → is_spent s ≡ false → finished ≡ is_spent (rule answers e s).0 → Slot s (rule answers e s).0 finished
 rule_slot answers e s finished k = rw k (release_case s.phase s finished refl)
 
-module _ {W R F : Type 0} (answer : PolledRequest F R → ℕ → Answer) (answers : Req (Unit {0}) → ℕ → Answer) where
+module _ {W R F : Type 0} (answer : PolledRequest F R → ℕ → Answer) (answers : Serving) where
   -- of a member
   member_slot : (o w : Option (ClientCore W R F)) (b : Bool) (e : Event) (outs : List Output) (finished : Bool) (s : Slate) → e.kind ≡ Release → b ≡ true → Steps answer answers o e outs finished w → Holds answer answers o b s → Slot s (rule answers e s).0 finished
   member_slot None w true e outs finished s r m k h = unmoved s (rule answers e s).0 finished (ap (λ (t : Told). t.0) (spent_idle answers e s h)) k.1

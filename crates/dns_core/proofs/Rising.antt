@@ -1,4 +1,5 @@
 -- The members stand by rising number.
+use Rattle.dns_client.specs.Serving.{Serving}
 use Rattle.std.proofs.Common.{◌≡◌, ℕ, List, [], ◌∷◌, ◌++◌, Bool, true, false, refl, sym, subst, append_assoc, arith, Less}
 use Rattle.std.proofs.lemmas.List.{append-nil}
 use Rattle.std.proofs.lemmas.Bool.Decides.{nat_tests}
@@ -11,7 +12,7 @@ use Rattle.dns_service.specs.Answer.{Answer}
 use Rattle.dns_service.specs.Req.{Req}
 use Rattle.dns_service.specs.declared.event.Event.{Event}
 use Rattle.dns_core.specs.Out.{put, is_datagram, is_new, has_room, members}
-use Rattle.dns_core.specs.declared.settings.Settings.{Settings}
+use Rattle.dns_middleware.specs.declared.settings.Settings.{Settings}
 use Rattle.dns_core.proofs.OutLemmas.{members_more}
 use Rattle.dns_core.proofs.ByClient.{new_unused, members_used}
 
@@ -57,7 +58,7 @@ sorted_put c (m ∷ ms) so absent =
     let both = or_false (nat_eq c m) (list_any (nat_eq c) ms) absent in
     sorted_put_case c m ms so both.0 (sorted_put c ms (sorted_tail nat_cmp m ms so) both.1) (nat_lt c m) refl
 
-module _ (answers : Req (Unit {0}) → ℕ → Answer) (settings : Settings) where
+module _ (answers : Serving) (settings : Settings) where
   abbrev Rises : List Event → Type 0
   Rises q = IsStrictlySortedBy nat_cmp (members answers settings q)
 

@@ -1,4 +1,5 @@
 -- A server after one event more.
+use Rattle.dns_client.specs.Serving.{Serving}
 use Rattle.std.proofs.Common.{◌≡◌, ◌≢◌, ℕ, List, [], ◌∷◌, ◌++◌, Option, Some, None, Bool, true, false, refl, ap, sym, ◌∙◌, ⊎_elim}
 use Rattle.std.specs.Prelude.{nat_eq, if◌then◌else◌, not}
 use Rattle.std.specs.List.{list_any}
@@ -22,7 +23,7 @@ use Rattle.dns_core.specs.Sent.{slate}
 use Rattle.dns_core.specs.Out.{is_unused, begins, is_release, is_new, taken, members, put, gained}
 use Rattle.dns_core.specs.Serves.{Holds, Steps, StepsKey}
 use Rattle.dns_core.specs.Server.{Serves}
-use Rattle.dns_core.specs.declared.settings.Settings.{Settings}
+use Rattle.dns_middleware.specs.declared.settings.Settings.{Settings}
 use Rattle.dns_core.specs.declared.server.Server.{Server}
 use Rattle.dns_core.proofs.Counted.{put_there}
 use Rattle.dns_core.proofs.Nothing.{put_other}
@@ -46,7 +47,7 @@ none_kept : {X : Type 0} (finished : Bool) (w : Option X) → w ≡ None → (if
 none_kept true w e = refl
 none_kept false w e = e
 
-module _ {W R F : Type 0} (answer : PolledRequest F R → ℕ → Answer) (answers : Req (Unit {0}) → ℕ → Answer) where
+module _ {W R F : Type 0} (answer : PolledRequest F R → ℕ → Answer) (answers : Serving) where
   -- the event of a client of which a core is kept
   pub steps_there : (o w : Option (ClientCore W R F)) (core new : ClientCore W R F) (e : Event) (outs : List Output) (finished : Bool) → o ≡ Some core → w ≡ Some new
       → Follows answer answers core new outs (rule answers e) → ((s : Slate) → Stands answer answers new s → finished ≡ is_spent s) → Steps answer answers o e outs finished w

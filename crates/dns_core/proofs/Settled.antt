@@ -1,4 +1,5 @@
 -- All frames of the octets received are taken, so an empty piece changes nothing; nor does a second release.
+use Rattle.dns_client.specs.Serving.{Serving}
 use Rattle.std.proofs.Common.{◌≡◌, ◌≤◌, ℕ, ◌+◌, List, [], ◌∷◌, ◌++◌, length, drop, Bool, true, false, refl, ap, sym, arith, length-drop}
 use Rattle.std.proofs.lemmas.List.{append-nil, drop_all}
 use Rattle.std.specs.Prelude.{Option, Some, None, slice_get, nat_lt, if◌then◌else◌}
@@ -17,12 +18,12 @@ use Rattle.dns_client.specs.Slate.{Slate, Asked, Told, Phase, Unused, Exchange, 
 use Rattle.dns_client.specs.Requests.{header_size, most_requests, request_of_frame, asked}
 use Rattle.dns_client.specs.Datagrams.{datagram}
 use Rattle.dns_client.specs.Connections.{opened, close, take_frame, take_frames, piece, write, enqueue, released}
-use Rattle.dns_client.specs.Turns.{exchange_turn, turn, polled, with_request, sent_at_once, reply_in, queued}
+use Rattle.dns_client.specs.Turns.{exchange_turn, turn, polled, with_request, sent_at_once, sent_for, queued}
 use Rattle.dns_client.specs.Rule.{rule, by_kind}
 use Rattle.dns_core.specs.Settings.{opening}
 use Rattle.dns_core.specs.Own.{own}
 use Rattle.dns_core.specs.Sent.{slate_after, slate}
-use Rattle.dns_core.specs.declared.settings.Settings.{Settings}
+use Rattle.dns_middleware.specs.declared.settings.Settings.{Settings}
 use Rattle.dns_core.proofs.Plain.{all_same}
 
 -- each frame of the octets received is taken
@@ -82,19 +83,19 @@ queued_settled : (x : Option Msg) (s : Slate) → Settled s → Settled (queued 
 queued_settled None s h = h
 queued_settled (Some m) s h = enqueue_settled (framed (wire m)) s h
 
-module _ (answers : Req (Unit {0}) → ℕ → Answer) where
+module _ (answers : Serving) where
   exchange_settled : (k : ℕ) (x : Option Asked) (s : Slate) → Settled s → Settled (exchange_turn answers k x s).0
   exchange_settled k None s h = h
   exchange_settled k (Some r) s h =
-      let t = with_request k (polled (answers r.request r.polls) r) s in
-      (elim r.done as (λ b. let u : Told = (if b then (s, []) else (t, sent_at_once s.client (reply_in (answers r.request r.polls)))) in Settled u.0) [ true ↦ h | false ↦ same_frames s t refl refl h ])
+      let t = with_request k (polled (answers.answer r.request r.polls) r) s in
+      (elim r.done as (λ b. let u : Told = (if b then (s, []) else (t, sent_at_once s.client (sent_for answers r.request (answers.answer r.request r.polls)))) in Settled u.0) [ true ↦ h | false ↦ same_frames s t refl refl h ])
 
   turn_settled : (k : ℕ) (x : Option Asked) (s : Slate) → Settled s → Settled (turn answers k x s)
   turn_settled k None s h = h
   turn_settled k (Some r) s h =
-      let a = answers r.request r.polls in
+      let a = answers.answer r.request r.polls in
       let t = with_request k (polled a r) s in
-      (elim r.done as (λ b. Settled (if b then s else queued (reply_in a) t)) [ true ↦ h | false ↦ queued_settled (reply_in a) t (same_frames s t refl refl h) ])
+      (elim r.done as (λ b. Settled (if b then s else queued (sent_for answers r.request a) t)) [ true ↦ h | false ↦ queued_settled (sent_for answers r.request a) t (same_frames s t refl refl h) ])
 
   kind_settled : (e : Event) (k : EventKind) (s : Slate) → Settled s → Settled (by_kind answers e k s).0
   kind_settled e (Datagram addr o) s h = phase_settled s.phase (datagram e.client addr e.at e.secs o s) (s, []) (s, []) (s, []) (same_frames s (datagram e.client addr e.at e.secs o s).0 refl refl h) h h h

@@ -1,4 +1,5 @@
 -- At a spent slate an event tells nothing and changes nothing, and no client is spent before it begins.
+use Rattle.dns_client.specs.Serving.{Serving}
 use Rattle.std.proofs.Common.{◌≡◌, ℕ, zero, suc, List, [], ◌∷◌, Bool, true, false, refl, ap}
 use Rattle.std.specs.Prelude.{slice_get, ◌&&◌}
 use Rattle.std.specs.List.{list_all}
@@ -37,7 +38,7 @@ spent_case Exchange s x y z w h hy hw = hy h
 spent_case Open s x y z w h hy hw = cc
 spent_case Closed s x y z w h hy hw = hw h
 
-module _ (answers : Req (Unit {0}) → ℕ → Answer) where
+module _ (answers : Serving) where
   spent_kind : (e : Event) (k : EventKind) (s : Slate) → is_spent s ≡ true → by_kind answers e k s ≡ (s, [])
   spent_kind e (Datagram addr o) s h = spent_case s.phase s (datagram e.client addr e.at e.secs o s) (s, []) (s, []) (s, []) h (λ _. refl) (λ _. refl)
   spent_kind e (Turn k) s h = spent_case s.phase s (s, []) (exchange_turn answers k (slice_get s.requests k) s) (turn answers k (slice_get s.requests k) s, []) (s, []) h (λ d. exchange_done answers k (slice_get s.requests k) s (all_finished s.requests k d)) (λ _. refl)

@@ -1,4 +1,5 @@
 -- What one client is sent, read off what all are sent.
+use Rattle.dns_client.specs.Serving.{Serving}
 use Rattle.std.specs.Prelude.{◌≡◌, ℕ, List, length, take, nat_eq, Bool, not, ◌&&◌}
 use Rattle.std.specs.List.{list_any}
 use Rattle.dns_service.specs.Answer.{Answer}
@@ -8,7 +9,7 @@ use Rattle.dns_service.specs.declared.event.Output.{Output}
 use Rattle.dns_service.specs.declared.event.Output.TheVariants.{Datagram, Frame, Closed, TurnedAway}
 use Rattle.dns_core.specs.Sent.{slate}
 use Rattle.dns_core.specs.Out.{is_unused, members}
-use Rattle.dns_core.specs.declared.settings.Settings.{Settings}
+use Rattle.dns_middleware.specs.declared.settings.Settings.{Settings}
 
 -- the client that an output is for
 abbrev pub client_of : Output → ℕ
@@ -24,7 +25,7 @@ is_for c o = nat_eq (client_of o) c
 abbrev pub IsPrefix : {X : Type 0} → List X → List X → Type 0
 IsPrefix xs ys = take (length xs) ys ≡ xs
 
-module _ (answers : Req (Unit {0}) → ℕ → Answer) (settings : Settings) where
+module _ (answers : Serving) (settings : Settings) where
   -- an exchange or a connection
   abbrev pub is_member : ℕ → List Event → Bool
   is_member c es = list_any (nat_eq c) (members answers settings es)

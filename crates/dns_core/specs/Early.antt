@@ -1,32 +1,17 @@
--- What a run may be handed as long as there are no layers: queries alone, and no cookies.
-use Rattle.std.specs.Prelude.{◌≡◌, ℕ, ◌≤◌, List, [], length, All, false, None}
-use Rattle.std.specs.List.{flat_map}
-use Rattle.dns_base.specs.Header.{header_of}
-use Rattle.dns_service.specs.declared.event.Event.{Event}
-use Rattle.dns_service.specs.declared.event.EventKind.{EventKind}
-use Rattle.dns_service.specs.declared.event.EventKind.TheVariants.{Datagram, Piece}
-use Rattle.dns_client.specs.Frames.{frames}
-use Rattle.dns_client.specs.Requests.{header_size}
-use Rattle.dns_core.specs.Own.{own}
-use Rattle.dns_core.specs.declared.settings.Settings.{Settings}
+-- What a service may not do as long as feedback isn't heard: no item of it carries one.
+use Rattle.std.specs.Prelude.{◌≡◌, ℕ, Some, None, Ok, Err}
+use Rattle.dns_service.specs.Answer.{Answer, Item}
+use Rattle.dns_service.specs.Req.{Req}
+use Rattle.dns_service.specs.declared.service.Polled.TheVariants.{Pending, Ready}
 
--- a message, if octets are one, isn't itself a response
-abbrev pub IsQuery : List ℕ → Type 0
-IsQuery o = header_size ≤ length o → (header_of o).qr ≡ false
+abbrev pub HasNoFeedback : Item → Type 0
+HasNoFeedback (Ok given) = given.feedback ≡ None
+HasNoFeedback (Err error) = Unit {0}
 
-abbrev pub IsQueryAlone : EventKind → Type 0
-IsQueryAlone (Datagram addr o) = IsQuery o
-IsQueryAlone _ = Unit {0}
+abbrev pub TellsNothing : Answer → Type 0
+TellsNothing Pending = Unit {0}
+TellsNothing (Ready None) = Unit {0}
+TellsNothing (Ready (Some item)) = HasNoFeedback item
 
-abbrev pub piece_in : EventKind → List ℕ
-piece_in (Piece o) = o
-piece_in _ = []
-
--- the octets of a client's stream
-abbrev pub stream_of : ℕ → List Event → List ℕ
-stream_of c es = flat_map (λ e. piece_in e.kind) (own c es)
-
-pub record IsEarly (settings : Settings) (events : List Event) : Type 0 where
-  pub datagrams : All (λ e. IsQueryAlone e.kind) events
-  pub streams : (c : ℕ) → All IsQuery (frames (stream_of c events))
-  pub cookies : settings.cookies ≡ None
+abbrev pub GivesNoFeedback : (Req (Unit {0}) → ℕ → Answer) → Type 0
+GivesNoFeedback answers = (r : Req (Unit {0})) (k : ℕ) → TellsNothing (answers r k)

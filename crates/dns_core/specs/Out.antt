@@ -1,4 +1,5 @@
 -- What all clients are sent. Lists of events go from the oldest to the newest; an event e comes after the events q.
+use Rattle.dns_client.specs.Serving.{Serving}
 use Rattle.std.specs.Prelude.{ℕ, List, [], ◌∷◌, ◌++◌, length, filter, nat_lt, nat_eq, if◌then◌else◌, Bool, true, false, not, ◌&&◌, ◌||◌}
 use Rattle.std.specs.List.{list_any}
 use Rattle.dns_service.specs.Answer.{Answer}
@@ -11,7 +12,7 @@ use Rattle.dns_service.specs.declared.event.Output.TheVariants.{TurnedAway}
 use Rattle.dns_client.specs.Slate.{Slate, Phase, Unused, Open, Closed}
 use Rattle.dns_client.specs.Rule.{rule}
 use Rattle.dns_core.specs.Sent.{slate}
-use Rattle.dns_core.specs.declared.settings.Settings.{Settings}
+use Rattle.dns_middleware.specs.declared.settings.Settings.{Settings}
 
 abbrev pub is_unused : Phase → Bool
 is_unused Unused = true
@@ -45,7 +46,7 @@ put c (n ∷ ns) = if nat_lt c n then c ∷ n ∷ ns else n ∷ put c ns
 abbrev pub holds_slot : Slate → Bool
 holds_slot s = is_connection s.phase && not s.freed
 
-module _ (answers : Req (Unit {0}) → ℕ → Answer) (settings : Settings) where
+module _ (answers : Serving) (settings : Settings) where
   -- what a client is sent for its own event e, by the rule at its slate
   abbrev pub gain : ℕ → List Event → Event → List Output
   gain c q e = (rule answers e (slate answers settings c q)).1

@@ -1,4 +1,5 @@
 -- What one client is sent for its events, from the oldest to the newest, and the slate that it has after them.
+use Rattle.dns_client.specs.Serving.{Serving}
 use Rattle.std.specs.Prelude.{ℕ, List, [], ◌∷◌, ◌++◌}
 use Rattle.dns_service.specs.Answer.{Answer}
 use Rattle.dns_service.specs.Req.{Req}
@@ -8,10 +9,10 @@ use Rattle.dns_client.specs.Slate.{Slate, fresh}
 use Rattle.dns_client.specs.Rule.{rule}
 use Rattle.dns_core.specs.Settings.{opening}
 use Rattle.dns_core.specs.Own.{own}
-use Rattle.dns_core.specs.declared.settings.Settings.{Settings}
+use Rattle.dns_middleware.specs.declared.settings.Settings.{Settings}
 
 -- the answers are those of the wrapped service, by request and poll
-module _ (answers : Req (Unit {0}) → ℕ → Answer) where
+module _ (answers : Serving) where
   abbrev pub slate_after : Slate → List Event → Slate
   slate_after s [] = s
   slate_after s (e ∷ es) = slate_after (rule answers e s).0 es

@@ -1,4 +1,5 @@
 -- What a server keeps after some events.
+use Rattle.dns_client.specs.Serving.{Serving}
 use Rattle.std.specs.Prelude.{◌≡◌, ℕ, List, [], ◌∷◌, ◌++◌, not, nat_eq}
 use Rattle.std.specs.List.{list_any}
 use Rattle.std.specs.Ordering.{nat_cmp}
@@ -12,10 +13,10 @@ use Rattle.dns_service.specs.declared.polled.PolledRequest.{PolledRequest}
 use Rattle.dns_core.specs.Sent.{slate}
 use Rattle.dns_core.specs.Out.{members, taken, gained, is_unused}
 use Rattle.dns_core.specs.Serves.{Holds}
-use Rattle.dns_core.specs.declared.settings.Settings.{Settings}
+use Rattle.dns_middleware.specs.declared.settings.Settings.{Settings}
 use Rattle.dns_core.specs.declared.server.Server.{Server}
 
-module _ {W R F : Type 0} (answer : PolledRequest F R → ℕ → Answer) (answers : Req (Unit {0}) → ℕ → Answer) where
+module _ {W R F : Type 0} (answer : PolledRequest F R → ℕ → Answer) (answers : Serving) where
   pub record Serves (settings : Settings) (q : List Event) (server : Server W R F) : Type 0 where
     pub clients : (c : ℕ) → Holds answer answers (get nat_cmp server.clients c) (list_any (nat_eq c) (members answers settings q)) (slate answers settings c q)
     pub used : (c : ℕ) → contains nat_cmp server.used c ≡ not (is_unused (slate answers settings c q).phase)

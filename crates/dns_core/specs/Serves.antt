@@ -1,4 +1,5 @@
 -- What is kept of one client: the core that stands for its slate, until that is spent.
+use Rattle.dns_client.specs.Serving.{Serving}
 use Rattle.std.specs.Prelude.{◌≡◌, ℕ, [], List, Bool, true, false, Option, Some, None, if◌then◌else◌}
 use Rattle.dns_service.specs.Answer.{Answer}
 use Rattle.dns_service.specs.Req.{Req}
@@ -11,7 +12,7 @@ use Rattle.dns_client.specs.Stands.{Stands, Follows}
 use Rattle.dns_client.specs.declared.client.ClientCore.{ClientCore}
 use Rattle.dns_service.specs.declared.polled.PolledRequest.{PolledRequest}
 
-module _ {W R F : Type 0} (answer : PolledRequest F R → ℕ → Answer) (answers : Req (Unit {0}) → ℕ → Answer) where
+module _ {W R F : Type 0} (answer : PolledRequest F R → ℕ → Answer) (answers : Serving) where
   -- of a member a core is kept as long as its slate isn't spent; nothing is of a client that is no member
   abbrev pub Holds : Option (ClientCore W R F) → Bool → Slate → Type 0
   Holds None true s = is_spent s ≡ true

@@ -1,6 +1,7 @@
 -- The configurations that a client finds in the settings of a server.
+use Rattle.dns_client.specs.Serving.{Serving}
 use Rattle.dns_client.specs.Slate.{Conf}
-use Rattle.dns_core.specs.declared.settings.Settings.{Settings}
+use Rattle.dns_middleware.specs.declared.settings.Settings.{Settings}
 
 abbrev pub opening : Settings → Conf
 opening settings = record { dgram = settings.dgram; stream = settings.stream }

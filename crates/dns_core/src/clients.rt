@@ -1,5 +1,6 @@
 //! The cores by client number.
 
+ghost use Rattle.dns_client.specs.Serving.{Serving, serving};
 ghost use Rattle.std.specs.Prelude.{◌≡◌, ◌≢◌, ℕ, [], ◌∷◌, ◌++◌, IfOk, OnOk, None, Some, true, nat_eq, if◌then◌else◌};
 ghost use Rattle.std.specs.Ordering.{nat_cmp};
 ghost use Rattle.std.specs.BTreeMap.{get};
@@ -25,7 +26,7 @@ fn step_there<W: Served>(
     event: &Event,
 ) -> Result<(Vec<Output>, bool), OutOfMemory>
     requires { W.can_call service.now }
-    ensures here { IfOk result (λ p. Steps (request_answer W.Future.answer W.Stream.answer) (W.answer service.now) (get nat_cmp clients.old event.now.client) event.now p.0.items p.1 (get nat_cmp clients.new event.now.client)) }
+    ensures here { IfOk result (λ p. Steps (request_answer W.Future.answer W.Stream.answer) (serving (W.answer service.now) (W.hint service.now)) (get nat_cmp clients.old event.now.client) event.now p.0.items p.1 (get nat_cmp clients.new event.now.client)) }
     ensures others { OnOk result ((c : ℕ) → c ≢ event.now.client → get nat_cmp clients.new c ≡ get nat_cmp clients.old c) }
 {
     match clients.get_mut(&event.client) {
@@ -55,7 +56,7 @@ pub fn step_at<W: Served>(
     event: &Event,
 ) -> Result<(Vec<Output>, bool), OutOfMemory>
     requires { W.can_call service.now }
-    ensures here { IfOk result (λ p. StepsKey (request_answer W.Future.answer W.Stream.answer) (W.answer service.now) (get nat_cmp clients.old event.now.client) event.now p.0.items p.1 (get nat_cmp clients.new event.now.client)) }
+    ensures here { IfOk result (λ p. StepsKey (request_answer W.Future.answer W.Stream.answer) (serving (W.answer service.now) (W.hint service.now)) (get nat_cmp clients.old event.now.client) event.now p.0.items p.1 (get nat_cmp clients.new event.now.client)) }
     ensures others { OnOk result ((c : ℕ) → c ≢ event.now.client → get nat_cmp clients.new c ≡ get nat_cmp clients.old c) }
 {
     let (outs, finished) = step_there(alloc, service, clients, event)?;
@@ -84,7 +85,7 @@ pub fn enter<W: Served>(
 ) -> Result<(), OutOfMemory>
     ensures here { OnOk result (get nat_cmp clients.new client ≡ (if state_is_spent core.state then get nat_cmp clients.old client else Some core)) }
     ensures others { OnOk result ((c : ℕ) → c ≢ client → get nat_cmp clients.new c ≡ get nat_cmp clients.old c) }
-    ensures spent { OnOk result ((answers : Req (Unit {0}) → ℕ → Answer) (s : Slate)
+    ensures spent { OnOk result ((answers : Serving) (s : Slate)
         → Stands (request_answer W.Future.answer W.Stream.answer) answers core s → state_is_spent core.state ≡ is_spent s) }
 {
     if core.is_spent() {

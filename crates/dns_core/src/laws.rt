@@ -1,5 +1,6 @@
 //! Laws of what is sent.
 
+ghost use Rattle.dns_client.specs.Serving.{Serving};
 ghost use Rattle.std.specs.Prelude.{◌≡◌, ℕ, List, [], ◌∷◌, ◌++◌, true, false, Option, Some, None, slice_get, nat_eq, filter};
 ghost use Rattle.std.specs.List.{list_any};
 ghost use Rattle.dns_service.specs.Answer.{Answer};
@@ -14,18 +15,18 @@ ghost use Rattle.dns_core.specs.Sent.{sent, slate};
 ghost use Rattle.dns_core.specs.Out.{begins, gain, is_release, is_unused, members, out};
 ghost use Rattle.dns_core.specs.ByClient.{IsPrefix, is_for, is_member, was_turned_away};
 ghost use Rattle.dns_core.specs.Finished.{IsFinished};
-ghost use Rattle.dns_core.specs.declared.settings.Settings.{Settings};
+ghost use Rattle.dns_middleware.specs.declared.settings.Settings.{Settings};
 
 /// The headline, read by client. Of all that is sent, what is for an exchange or a connection is what the rules for it
 /// alone send for its own events; to a client that was turned away it is told so, once; and nothing is for any other.
 pub fn clients_are_sent_their_own()
-    ensures own { (answers : Req (Unit {0}) → ℕ → Answer) (settings : Settings) (c : ℕ) (es : List Event)
+    ensures own { (answers : Serving) (settings : Settings) (c : ℕ) (es : List Event)
         → is_member answers settings c es ≡ true
         → filter (is_for c) (out answers settings es) ≡ sent answers settings (own c es) }
-    ensures away { (answers : Req (Unit {0}) → ℕ → Answer) (settings : Settings) (c : ℕ) (es : List Event)
+    ensures away { (answers : Serving) (settings : Settings) (c : ℕ) (es : List Event)
         → was_turned_away answers settings c es ≡ true
         → filter (is_for c) (out answers settings es) ≡ Output.TurnedAway c settings.stream.accept_connections_at_max ∷ [] }
-    ensures stranger { (answers : Req (Unit {0}) → ℕ → Answer) (settings : Settings) (c : ℕ) (es : List Event)
+    ensures stranger { (answers : Serving) (settings : Settings) (c : ℕ) (es : List Event)
         → is_member answers settings c es ≡ false → was_turned_away answers settings c es ≡ false
         → filter (is_for c) (out answers settings es) ≡ [] }
 {}
@@ -33,7 +34,7 @@ pub fn clients_are_sent_their_own()
 /// Whatever the others do: two lists of events with the same events of a client, in neither of which it was turned away,
 /// send it the same.
 pub fn others_change_nothing()
-    ensures { (answers : Req (Unit {0}) → ℕ → Answer) (settings : Settings) (c : ℕ) (es fs : List Event)
+    ensures { (answers : Serving) (settings : Settings) (c : ℕ) (es fs : List Event)
         → own c es ≡ own c fs → was_turned_away answers settings c es ≡ false → was_turned_away answers settings c fs ≡ false
         → filter (is_for c) (out answers settings es) ≡ filter (is_for c) (out answers settings fs) }
 {}
@@ -41,17 +42,17 @@ pub fn others_change_nothing()
 /// What is sent for the first of some events is the front of what is sent for all of them, to one client and to all. What
 /// one event more of a client adds to what it is sent is the gain.
 pub fn more_events_send_more()
-    ensures one { (answers : Req (Unit {0}) → ℕ → Answer) (settings : Settings) (p r : List Event)
+    ensures one { (answers : Serving) (settings : Settings) (p r : List Event)
         → IsPrefix (sent answers settings p) (sent answers settings (p ++ r)) }
-    ensures all { (answers : Req (Unit {0}) → ℕ → Answer) (settings : Settings) (p r : List Event)
+    ensures all { (answers : Serving) (settings : Settings) (p r : List Event)
         → IsPrefix (out answers settings p) (out answers settings (p ++ r)) }
-    ensures more { (answers : Req (Unit {0}) → ℕ → Answer) (settings : Settings) (q : List Event) (e : Event)
+    ensures more { (answers : Serving) (settings : Settings) (q : List Event) (e : Event)
         → sent answers settings (own e.client (q ++ e ∷ [])) ≡ sent answers settings (own e.client q) ++ gain answers settings e.client q e }
 {}
 
 /// A piece cut in two, both parts at its moment and seconds and next to each other, changes nothing, wherever it is cut.
 pub fn pieces_may_be_cut()
-    ensures { (answers : Req (Unit {0}) → ℕ → Answer) (settings : Settings) (client at secs : ℕ) (a b : List ℕ) (p r : List Event)
+    ensures { (answers : Serving) (settings : Settings) (client at secs : ℕ) (a b : List ℕ) (p r : List Event)
         → sent answers settings (p ++ piece_of client at secs (a ++ b) ∷ r) ≡ sent answers settings (p ++ piece_of client at secs a ∷ piece_of client at secs b ∷ r) }
 {
     dns_client::pieces_may_be_cut();
@@ -59,42 +60,42 @@ pub fn pieces_may_be_cut()
 
 /// An event of a client that is no exchange and no connection, by which none begins, changes nothing for anybody.
 pub fn strangers_change_nothing()
-    ensures { (answers : Req (Unit {0}) → ℕ → Answer) (settings : Settings) (q r : List Event) (e : Event)
+    ensures { (answers : Serving) (settings : Settings) (q r : List Event) (e : Event)
         → begins e.kind ≡ false → list_any (nat_eq e.client) (members answers settings q) ≡ false
         → out answers settings (q ++ e ∷ r) ≡ out answers settings (q ++ r) }
 {}
 
 /// Once a connection is closed, an event that is no release changes nothing for anybody.
 pub fn closed_connections_change_nothing()
-    ensures { (answers : Req (Unit {0}) → ℕ → Answer) (settings : Settings) (q r : List Event) (e : Event)
+    ensures { (answers : Serving) (settings : Settings) (q r : List Event) (e : Event)
         → is_release e.kind ≡ false → (slate answers settings e.client q).phase ≡ Closed
         → out answers settings (q ++ e ∷ r) ≡ out answers settings (q ++ r) }
 {}
 
 /// A turn that names no unfinished request changes nothing for anybody.
 pub fn finished_requests_change_nothing()
-    ensures { (answers : Req (Unit {0}) → ℕ → Answer) (settings : Settings) (q r : List Event) (e : Event) (k : ℕ)
+    ensures { (answers : Serving) (settings : Settings) (q r : List Event) (e : Event) (k : ℕ)
         → e.kind ≡ EventKind.Turn k → IsFinished (slice_get (slate answers settings e.client q).requests k)
         → out answers settings (q ++ e ∷ r) ≡ out answers settings (q ++ r) }
 {}
 
 /// A datagram and an offer under a used number change nothing for anybody.
 pub fn used_numbers_change_nothing()
-    ensures { (answers : Req (Unit {0}) → ℕ → Answer) (settings : Settings) (q r : List Event) (e : Event)
+    ensures { (answers : Serving) (settings : Settings) (q r : List Event) (e : Event)
         → begins e.kind ≡ true → is_unused (slate answers settings e.client q).phase ≡ false
         → out answers settings (q ++ e ∷ r) ≡ out answers settings (q ++ r) }
 {}
 
 /// A second release of a connection changes nothing for anybody.
 pub fn second_releases_change_nothing()
-    ensures { (answers : Req (Unit {0}) → ℕ → Answer) (settings : Settings) (q r : List Event) (e : Event)
+    ensures { (answers : Serving) (settings : Settings) (q r : List Event) (e : Event)
         → e.kind ≡ EventKind.Release → (slate answers settings e.client q).freed ≡ true
         → out answers settings (q ++ e ∷ r) ≡ out answers settings (q ++ r) }
 {}
 
 /// A piece of no octets changes nothing for anybody.
 pub fn empty_pieces_change_nothing()
-    ensures { (answers : Req (Unit {0}) → ℕ → Answer) (settings : Settings) (q r : List Event) (e : Event)
+    ensures { (answers : Serving) (settings : Settings) (q r : List Event) (e : Event)
         → e.kind ≡ EventKind.Piece []
         → out answers settings (q ++ e ∷ r) ≡ out answers settings (q ++ r) }
 {}

@@ -3,12 +3,10 @@
 
 mod clients;
 mod laws;
-mod notify;
 mod server;
-mod settings;
-mod stamped;
 
 pub use dns_client::{ClientCore, Framer, PolledRequest};
+pub use dns_middleware::{Notifiable, NotifyError, Settings, VerdictFuture, wrap};
 pub use dns_service::{Event, EventKind, Octets, Output, Why};
 pub use laws::{
     clients_are_sent_their_own, closed_connections_change_nothing, empty_pieces_change_nothing,
@@ -16,6 +14,4 @@ pub use laws::{
     pieces_may_be_cut, second_releases_change_nothing, strangers_change_nothing,
     used_numbers_change_nothing,
 };
-pub use notify::{Notifiable, NotifyError, VerdictFuture};
 pub use server::serve_events;
-pub use settings::Settings;

@@ -1,5 +1,6 @@
 //! The server over a list of events.
 
+ghost use Rattle.dns_client.specs.Serving.{Serving, serving};
 ghost use Rattle.std.specs.Prelude.{◌≡◌, ◌<◌, ◌-◌, if◌then◌else◌, ℕ, List, [], false, IfOk};
 ghost use Rattle.std.specs.BTreeSet.{contains};
 ghost use Rattle.std.specs.Ordering.{nat_cmp};
@@ -8,15 +9,14 @@ ghost use Rattle.dns_service.specs.Req.{Req};
 ghost use Rattle.dns_service.specs.Config.{Dgram};
 ghost use Rattle.dns_service.specs.PolledRequest.{request_answer};
 ghost use Rattle.dns_core.specs.Out.{begins, is_release, out};
-ghost use Rattle.dns_core.specs.Replies.{replies};
-ghost use Rattle.dns_core.specs.Early.{IsEarly};
+ghost use Rattle.dns_core.specs.Early.{GivesNoFeedback};
+ghost use Rattle.dns_middleware.specs.Verdicts.{verdict_on};
+ghost use Rattle.dns_middleware.specs.Wrapped.{hint_left, replies};
 
 use crate::clients::{append, enter, step_at, turn_away, use_number};
-use crate::notify::Notifiable;
-use crate::settings::Settings;
-use crate::stamped::Stamped;
 use dns_base::SocketAddr;
 use dns_client::ClientCore;
+use dns_middleware::{Notifiable, Settings, wrap};
 use dns_service::{
     DgramConfig, Event, EventKind, OutOfMemory, Output, Plainly, Served, Service, StreamConfig,
 };
@@ -37,7 +37,7 @@ impl<W: Served> Server<W> {
     ghost use Rattle.dns_core.specs.Server.{Serves, Goes};
 
     fn new(alloc: Global, settings: &Settings) -> Self
-        ensures { (answers : Req (Unit {0}) → ℕ → Answer) → Serves (request_answer W.Future.answer W.Stream.answer) answers settings.now [] result }
+        ensures { (answers : Serving) → Serves (request_answer W.Future.answer W.Stream.answer) answers settings.now [] result }
     {
         Server {
             clients: BTreeMap::new(alloc),
@@ -53,7 +53,7 @@ impl<W: Served> Server<W> {
         requires can_call { W.can_call service.now }
         requires begins { begins event.now.kind ≡ false }
         requires release { is_release event.now.kind ≡ false }
-        ensures { IfOk result (λ outs. Goes (request_answer W.Future.answer W.Stream.answer) (W.answer service.now) self.old self.new event.now outs.items) }
+        ensures { IfOk result (λ outs. Goes (request_answer W.Future.answer W.Stream.answer) (serving (W.answer service.now) (W.hint service.now)) self.old self.new event.now outs.items) }
     {
         let (outs, _) = step_at(alloc, service, &mut self.clients, event)?;
         Ok(outs)
@@ -70,7 +70,7 @@ impl<W: Served> Server<W> {
     ) -> Result<Vec<Output>, OutOfMemory>
         requires can_call { W.can_call service.now }
         requires kind { event.now.kind ≡ EventKind.Datagram addr octets.now }
-        ensures { IfOk result (λ outs. Goes (request_answer W.Future.answer W.Stream.answer) (W.answer service.now) self.old self.new event.now outs.items) }
+        ensures { IfOk result (λ outs. Goes (request_answer W.Future.answer W.Stream.answer) (serving (W.answer service.now) (W.hint service.now)) self.old self.new event.now outs.items) }
     {
         if self.used.contains(&event.client) {
             return Ok(Vec::new(alloc));
@@ -99,7 +99,7 @@ impl<W: Served> Server<W> {
         addr: SocketAddr,
     ) -> Result<Vec<Output>, OutOfMemory>
         requires { event.now.kind ≡ EventKind.Offer addr }
-        ensures { IfOk result (λ outs. Goes (request_answer W.Future.answer W.Stream.answer) (W.answer service.now) self.old self.new event.now outs.items) }
+        ensures { IfOk result (λ outs. Goes (request_answer W.Future.answer W.Stream.answer) (serving (W.answer service.now) (W.hint service.now)) self.old self.new event.now outs.items) }
     {
         if self.used.contains(&event.client) {
             return Ok(Vec::new(alloc));
@@ -124,7 +124,7 @@ impl<W: Served> Server<W> {
         requires unused { contains nat_cmp self.old.used event.now.client ≡ false }
         requires room { self.old.taken < self.old.stream.max_concurrent_connections }
         requires few { self.old.taken < 100000 }
-        ensures { IfOk result (λ outs. Goes (request_answer W.Future.answer W.Stream.answer) (W.answer service.now) self.old self.new event.now outs.items) }
+        ensures { IfOk result (λ outs. Goes (request_answer W.Future.answer W.Stream.answer) (serving (W.answer service.now) (W.hint service.now)) self.old self.new event.now outs.items) }
     {
         let core = ClientCore::admit(alloc, event.client, addr, &self.stream)?;
         enter(&mut self.clients, event.client, core)?;
@@ -142,7 +142,7 @@ impl<W: Served> Server<W> {
     ) -> Result<Vec<Output>, OutOfMemory>
         requires can_call { W.can_call service.now }
         requires kind { event.now.kind ≡ EventKind.Release }
-        ensures { IfOk result (λ outs. Goes (request_answer W.Future.answer W.Stream.answer) (W.answer service.now) self.old self.new event.now outs.items) }
+        ensures { IfOk result (λ outs. Goes (request_answer W.Future.answer W.Stream.answer) (serving (W.answer service.now) (W.hint service.now)) self.old self.new event.now outs.items) }
     {
         let (outs, finished) = step_at(alloc, service, &mut self.clients, event)?;
         self.taken = slots_left(self.taken, finished);
@@ -152,7 +152,7 @@ impl<W: Served> Server<W> {
     /// One event of any kind.
     fn one(&mut self, alloc: Global, service: &W, event: &Event) -> Result<Vec<Output>, OutOfMemory>
         requires { W.can_call service.now }
-        ensures { IfOk result (λ outs. Goes (request_answer W.Future.answer W.Stream.answer) (W.answer service.now) self.old self.new event.now outs.items) }
+        ensures { IfOk result (λ outs. Goes (request_answer W.Future.answer W.Stream.answer) (serving (W.answer service.now) (W.hint service.now)) self.old self.new event.now outs.items) }
     {
         match &event.kind {
             EventKind::Datagram { addr, octets } => {
@@ -187,7 +187,7 @@ pub fn serve<W: Served>(
     events: &[Event],
 ) -> Result<Vec<Output>, OutOfMemory>
     requires { W.can_call service.now }
-    ensures { IfOk result (λ outs. outs.items ≡ out (W.answer service.now) settings.now events.now) }
+    ensures { IfOk result (λ outs. outs.items ≡ out (serving (W.answer service.now) (W.hint service.now)) settings.now events.now) }
 {
     let mut server = Server::new(alloc, settings);
     let mut outs = Vec::new(alloc);
@@ -198,21 +198,19 @@ pub fn serve<W: Served>(
     Ok(outs)
 }
 
-/// What all clients are sent. The wrapped service gives the given one's replies, each with the identifier and the RD
-/// flag of its request and with QR.
+/// What all clients are sent. The wrapped service is the given one in the layers of the settings, where the target is told
+/// of changed zones.
 pub fn serve_events<S: Service<()>, N: Notifiable>(
     alloc: Global,
     settings: &Settings,
     service: S,
-    _target: N,
+    target: N,
     events: &[Event],
 ) -> Result<Vec<Output>, OutOfMemory>
     requires can_call { S.can_call service }
-    requires early { IsEarly settings.now events.now }
-    ensures { IfOk result (λ outs. outs.items ≡ out (replies (S.answer service)) settings.now events.now) }
+    requires early { GivesNoFeedback (S.answer service) }
+    ensures { IfOk result (λ outs. outs.items ≡ out (serving (replies settings.now (S.answer service) (verdict_on (N.verdict target))) (hint_left settings.now)) settings.now events.now) }
 {
-    let wrapped = Plainly {
-        service: Stamped { service },
-    };
-    serve(alloc, settings, &wrapped, events)
+    let service = wrap(alloc, settings, service, target)?;
+    serve(alloc, settings, &Plainly { service }, events)
 }

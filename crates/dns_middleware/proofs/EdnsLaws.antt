@@ -1,13 +1,11 @@
--- The hint of a request that a service inside was called with.
+-- The hint of a request that a service inside was called with, and how it is put back.
 use Rattle.std.proofs.Common.{◌≡◌, ℕ, Option, Some, None, refl, ap, ◌∙◌}
-use Rattle.dns_opt.specs.OptRecords.{OptState, opt_of}
 use Rattle.dns_service.specs.declared.message.TransportSpecificContext.{TransportSpecificContext}
 use Rattle.dns_service.specs.declared.message.TransportSpecificContext.TheVariants.{Udp, NonUdp}
-use Rattle.dns_service.specs.Answer.{Answer, mapped}
-use Rattle.dns_service.specs.Req.{Req, with_metadata}
+use Rattle.dns_service.specs.Answer.{Answer, Item, mapped}
 use Rattle.dns_service.specs.Transport.{hint_of, hinted}
-use Rattle.dns_middleware.specs.Edns.{negotiated, edns_passed, edns_post, passed_by}
-use Rattle.dns_middleware.specs.Rewritten.{each_rewritten, rewritten}
+use Rattle.dns_stream.specs.Streams.{each_mapped}
+use Rattle.dns_middleware.specs.Edns.{negotiated, transport_by}
 
 -- a hint that is set again is as it was
 pub restored : (h : Option ℕ) (t : TransportSpecificContext) → hinted (hint_of t) (hinted h t) ≡ hinted (hint_of t) t
@@ -18,20 +16,29 @@ again : (h : Option ℕ) (t : TransportSpecificContext) → hinted (hint_of (hin
 again h (Udp before) = refl
 again h (NonUdp timeout) = refl
 
-transport_by : {Meta : Type 0} (o : Option OptState) (r : Req Meta) → hinted (hint_of (passed_by o r).transport) (passed_by o r).transport ≡ hinted (hint_of (passed_by o r).transport) r.transport
-transport_by None r = refl
-transport_by (Some s) r = again (Some (negotiated (hint_of r.transport) s.head.size)) r.transport
+pub passed_transport : (size : Option ℕ) (t : TransportSpecificContext) → hinted (hint_of (transport_by size t)) (transport_by size t) ≡ hinted (hint_of (transport_by size t)) t
+passed_transport None t = refl
+passed_transport (Some size) t = again (Some (negotiated (hint_of t) size)) t
 
-pub passed_transport : {Meta : Type 0} (r : Req Meta) → hinted (hint_of (edns_passed r).transport) (edns_passed r).transport ≡ hinted (hint_of (edns_passed r).transport) r.transport
-passed_transport r = transport_by (opt_of r.octets) r
+-- what is passed on differs in the hint alone
+pub passed_hinted : (size : Option ℕ) (t : TransportSpecificContext) → hinted (hint_of (transport_by size t)) t ≡ transport_by size t
+passed_hinted None (Udp hint) = refl
+passed_hinted None (NonUdp timeout) = refl
+passed_hinted (Some size) (Udp hint) = refl
+passed_hinted (Some size) (NonUdp timeout) = refl
 
--- the replies are rewritten for the request as it came
-pub passed_on : {Meta : Type 0} (r : Req Meta) (copy : Req (Unit {0})) (inner future answer : ℕ → Answer)
-    → copy ≡ with_metadata r tt
-    → ((k : ℕ) → future k ≡ inner k)
-    → answer ≡ each_rewritten (edns_post copy) future
-    → (k : ℕ) → answer k ≡ each_rewritten (edns_post r) inner k
-passed_on r copy inner future answer copied same is k =
-    ap (λ (f : ℕ → Answer). f k) is
-    ∙ (ap (λ (a : Answer). mapped (rewritten (edns_post copy)) a) (same k)
-    ∙ ap (λ (q : Req (Unit {0})). mapped (rewritten (edns_post q)) (inner k)) copied)
+-- a transport has its own hint
+pub kept_hint : (t : TransportSpecificContext) → hinted (hint_of t) t ≡ t
+kept_hint (Udp hint) = refl
+kept_hint (NonUdp timeout) = refl
+
+-- its hint put back, it is as it came
+pub put_back : (size : Option ℕ) (t : TransportSpecificContext) → hinted (hint_of t) (transport_by size t) ≡ t
+put_back None (Udp hint) = refl
+put_back None (NonUdp timeout) = refl
+put_back (Some size) (Udp hint) = refl
+put_back (Some size) (NonUdp timeout) = refl
+
+-- the replies of the service inside, each mapped
+pub each_passed : (f : Item → Item) (inner future answer : ℕ → Answer) → ((k : ℕ) → future k ≡ inner k) → answer ≡ each_mapped f future → (k : ℕ) → answer k ≡ mapped f (inner k)
+each_passed f inner future answer same is k = ap (λ (a : ℕ → Answer). a k) is ∙ ap (mapped f) (same k)

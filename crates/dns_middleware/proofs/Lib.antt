@@ -1,3 +1,6 @@
 pub mod MandatoryLaws
-pub mod ItemLaws
 pub mod EdnsLaws
+pub mod CookieLaws
+pub mod Nested
+pub mod CookieReplies
+pub mod ReplyLaws

@@ -1,18 +1,18 @@
 //! The EDNS layer (RFC 6891): what it refuses, and what it tells the service inside of a response's size.
 
-ghost use Rattle.std.specs.Prelude.{◌≡◌, ℕ, IfOk, OnErr, OnOk, Some, true};
+ghost use Rattle.std.specs.Prelude.{◌≡◌, ℕ, IfOk, OnErr, OnOk, None, true};
 ghost use Rattle.dns_service.specs.declared.message.Request.{Request};
+ghost use Rattle.dns_service.specs.Answer.{mapped};
+ghost use Rattle.dns_service.specs.Asked.{client_size};
 ghost use Rattle.dns_service.specs.Transport.{hint_of, hinted};
-ghost use Rattle.dns_stream.specs.Streams.{each_mapped};
-ghost use Rattle.dns_middleware.specs.Edns.{edns, edns_hint, edns_passed, edns_post, edns_refusal, negotiated, record_refusal, reserved_over};
+ghost use Rattle.dns_middleware.specs.Edns.{edns, edns_by, edns_hint, opt_refusal, passed_by, record_refusal, transport_by};
 ghost use Rattle.dns_middleware.specs.Rewritten.{rewritten};
 
 use crate::edns_post::EdnsPost;
 use crate::layered::{Layered, of_mapped, of_own, refuse};
-use crate::opt_items::{OptItems, opt_items};
+use crate::passing::call_passed;
 use dns_name::OptRcode;
-use dns_opt::{MessageOpt, OptRecordRef};
-use dns_service::{ReplyFuture, ReplyStream, Request, Service, TransportSpecificContext};
+use dns_service::{AskedOpt, AskedRecord, ReplyFuture, ReplyStream, Request, Service, read_asked};
 use dns_stream::{MiddlewareStream, Now, OutOfMemory, PostprocessingStream};
 use std::alloc::Global;
 
@@ -64,10 +64,26 @@ where
         alloc: Global,
         request: &mut Request<Meta>,
     ) -> Result<Now<Layered<S, Meta, EdnsPost>>, OutOfMemory> {
-        if self.enabled {
-            spoken(alloc, &self.next, request)
-        } else {
-            pass_whole(alloc, &self.next, request)
+        if !self.enabled {
+            let whole = pass_whole(alloc, &self.next, request)?;
+            return Ok(whole);
+        }
+        let asked = read_asked(request.message());
+        let rule = EdnsPost::new(&asked, request.transport_ctx());
+        match opt_refusal(request.transport_ctx().is_non_udp(), &asked.opt) {
+            Some(rcode) => Ok(of_own::<S, Meta, _>(refuse(
+                &rule,
+                alloc,
+                request.message(),
+                rcode,
+            )?)),
+            None => Ok(of_mapped::<S, Meta, _>(pass(
+                alloc,
+                &self.next,
+                asked.opt.client_size(),
+                rule,
+                request,
+            )?)),
         }
     }
 }
@@ -100,142 +116,48 @@ fn pass_whole<S: Service<Meta>, Meta>(
     ensures kept { OnOk result (request.new ≡ record request.old { transport = hinted (hint_of request.old.transport) request.old.transport; reserved = request.new.reserved }) }
     ensures refused { OnErr result (request.new ≡ request.old) }
 {
-    let future = call_inside(alloc, next, request)?;
+    let future = call_passed(alloc, next, None, request)?;
     Ok(Now::new(MiddlewareStream::IdentityFuture(future)))
 }
 
-/// The inner replies to the request as it is passed on, rewritten for the request as it came.
+/// The inner replies to the request as it is passed on, rewritten by the rule.
 fn pass<S: Service<Meta>, Meta>(
     alloc: Global,
     next: &S,
+    size: Option<u16>,
+    rule: EdnsPost,
     request: &mut Request<Meta>,
 ) -> Result<PostprocessingStream<S::Future, (), EdnsPost>, OutOfMemory>
     requires { S.can_call next.now }
-    ensures answers { let r = request.old in IfOk result (λ s. (k : ℕ) → ⟦<PostprocessingStream<S::Future, (), EdnsPost> as ReplyStream>⟧.answer s k ≡ each_mapped (rewritten (edns_post r)) (S.answer next.now (edns_passed r)) k) }
-    ensures kept { OnOk result (request.new ≡ record request.old { transport = hinted (hint_of (edns_passed request.old).transport) request.old.transport; reserved = request.new.reserved }) }
+    ensures answers { IfOk result (λ s. (k : ℕ) → ⟦<PostprocessingStream<S::Future, (), EdnsPost> as ReplyStream>⟧.answer s k ≡ mapped (rewritten (edns_by rule)) (S.answer next.now (passed_by size request.old) k)) }
+    ensures kept { OnOk result (request.new ≡ record request.old { transport = hinted (hint_of (transport_by size request.old.transport)) request.old.transport; reserved = request.new.reserved }) }
     ensures refused { OnErr result (request.new ≡ request.old) }
 {
     let original = request.try_clone(alloc, ())?;
-    pass_on(request);
-    match call_inside(alloc, next, request) {
-        Ok(future) => Ok(PostprocessingStream::new(future, original, EdnsPost {})),
-        Err(error) => {
-            restore(request, &original);
-            Err(error)
-        }
-    }
+    let future = call_passed(alloc, next, size, request)?;
+    Ok(PostprocessingStream::new(future, original, rule))
 }
 
-/// What was changed to pass the request on is as it came.
-fn restore<Meta>(request: &mut Request<Meta>, original: &Request<()>)
-    ensures { request.new ≡ record request.old { transport = hinted (hint_of original.now.transport) request.old.transport; reserved = original.now.reserved } }
+/// The response code with which what is asked is refused.
+pub(crate) fn opt_refusal(stream: bool, opt: &AskedOpt) -> Option<OptRcode>
+    ensures { result ≡ opt_refusal stream opt.now }
 {
-    set_hint(
-        request.transport_ctx_mut(),
-        hint_of(original.transport_ctx()),
-    );
-    request.set_reserved_bytes(original.num_reserved_bytes());
-}
-
-/// Calls the service inside, which can't change the request's hint.
-#[tactic(auto, using(crate::proofs::EdnsLaws::restored))]
-fn call_inside<S: Service<Meta>, Meta>(
-    alloc: Global,
-    next: &S,
-    request: &mut Request<Meta>,
-) -> Result<S::Future, OutOfMemory>
-    requires { S.can_call next.now }
-    ensures answers { IfOk result (λ f. (k : ℕ) → S.Future.answer f k ≡ S.answer next.now request.old k) }
-    ensures kept { OnOk result (request.new ≡ record request.old { transport = hinted (hint_of request.old.transport) request.old.transport; reserved = request.new.reserved }) }
-    ensures refused { OnErr result (request.new ≡ request.old) }
-{
-    let hint = hint_of(request.transport_ctx());
-    let future = next.call(alloc, request)?;
-    set_hint(request.transport_ctx_mut(), hint);
-    Ok(future)
-}
-
-/// The response code with which a request is refused.
-#[tactic(auto, using(crate::proofs::ItemLaws::refusal_none, crate::proofs::ItemLaws::refusal_bad, crate::proofs::ItemLaws::refusal_several, crate::proofs::ItemLaws::refusal_one, crate::proofs::ItemLaws::refusal_other))]
-pub(crate) fn edns_refusal<Meta>(request: &Request<Meta>) -> Option<OptRcode>
-    ensures { result ≡ edns_refusal request.now }
-{
-    match opt_items(request.message()) {
-        OptItems::NoItem => None,
-        OptItems::BadFirst | OptItems::Several => Some(OptRcode::FORMERR),
-        OptItems::OneRecord => match request.message().opt() {
-            Some(opt) => record_refusal(request.transport_ctx().is_non_udp(), &opt),
-            None => None,
-        },
+    match opt {
+        AskedOpt::NoItem => None,
+        AskedOpt::One(record) => record_refusal(stream, record),
+        AskedOpt::Refused(_) => Some(OptRcode::FORMERR),
     }
 }
 
 /// BADVERS for another version than 0, and FORMERR for a keepalive with a timeout over a stream.
-fn record_refusal(stream: bool, opt: &OptRecordRef<'_>) -> Option<OptRcode>
-    ensures { result ≡ record_refusal stream opt.now }
+fn record_refusal(stream: bool, record: &AskedRecord) -> Option<OptRcode>
+    ensures { result ≡ record_refusal stream record.now }
 {
-    if opt.version() > 0 {
+    if record.version > 0 {
         return Some(OptRcode::BADVERS);
     }
-    if !stream {
-        return None;
+    if stream && record.sends_timeout {
+        return Some(OptRcode::FORMERR);
     }
-    let keepalive = opt.opt().tcp_keepalive()?;
-    keepalive.timeout()?;
-    Some(OptRcode::FORMERR)
-}
-
-/// The largest response over UDP in octets, by the server's hint and the client's size (RFC 6891, section 6.2.5).
-fn negotiated(hint: Option<u16>, size: u16) -> u16
-    ensures { result ≡ negotiated hint size }
-{
-    let client = size.max(512);
-    match hint {
-        None => client,
-        Some(hint) => client.min(hint.max(512)),
-    }
-}
-
-/// The request as it is passed on: its hint is negotiated, and octets for an OPT record are reserved.
-pub(crate) fn pass_on<Meta>(request: &mut Request<Meta>)
-    ensures { request.new ≡ edns_passed request.old }
-{
-    let Some(opt) = request.message().opt() else {
-        return;
-    };
-    let size = opt.udp_payload_size();
-    let reserved = reserved_over(request.transport_ctx());
-    let hint = negotiated(hint_of(request.transport_ctx()), size);
-    set_hint(request.transport_ctx_mut(), Some(hint));
-    request.reserve_bytes(reserved);
-}
-
-/// How many octets an OPT record takes, and with a keepalive.
-fn reserved_over(transport: &TransportSpecificContext) -> u16
-    ensures { result ≡ reserved_over transport.now }
-{
-    match transport {
-        TransportSpecificContext::Udp(_) => 11,
-        TransportSpecificContext::NonUdp(_) => 17,
-    }
-}
-
-/// The hint of a transport.
-pub(crate) fn hint_of(transport: &TransportSpecificContext) -> Option<u16>
-    ensures { result ≡ hint_of transport.now }
-{
-    match transport {
-        TransportSpecificContext::Udp(context) => context.max_response_size_hint(),
-        TransportSpecificContext::NonUdp(_) => None,
-    }
-}
-
-/// Sets the hint of a transport that has one.
-pub(crate) fn set_hint(transport: &mut TransportSpecificContext, hint: Option<u16>)
-    ensures { transport.new ≡ hinted hint transport.old }
-{
-    match transport {
-        TransportSpecificContext::Udp(context) => context.set_max_response_size_hint(hint),
-        TransportSpecificContext::NonUdp(_) => {}
-    }
+    None
 }

@@ -4,65 +4,66 @@ ghost use Rattle.std.specs.Prelude.{◌≡◌, [], IfOk, OnOk};
 ghost use Rattle.dns_base.specs.Readers.{resources};
 ghost use Rattle.dns_base.specs.Records.{record_of, IsLawful};
 ghost use Rattle.dns_opt.specs.OptRecords.{opt_record, opt_state, zero_head};
-ghost use Rattle.dns_middleware.specs.Edns.{and_fitting, edns_post, has_opt, in_kind, keepalive_for, units_of, with_keepalive, with_some_opt};
-ghost use Rattle.dns_middleware.specs.OptItems.{opt_items};
+ghost use Rattle.dns_middleware.specs.Edns.{and_fitting, edns_by, edns_rule, has_opt, in_kind, keepalive_over, units_of, with_keepalive, with_some_opt};
 ghost use Rattle.dns_middleware.specs.Rewritten.{rewritten};
 
-use crate::layered::{Rewrite, rewrite_item};
-use crate::opt_items::{OptItems, opt_items};
+use crate::rewrite::{Rewrite, rewrite_item};
 use dns_base::{AdditionalBuilder, PushError, Record, RecordIter, Rtype};
 use dns_name::{BuildDataError, OutOfMemory};
-use dns_opt::{IdleTimeout, MessageOpt, OptRecord, TcpKeepalive};
+use dns_opt::{IdleTimeout, OptRecord, TcpKeepalive};
 use dns_service::{
-    Request, ServiceResult, TransportSpecificContext, add_edns_option, remove_edns_opt_record,
+    Asked, AskedOpt, Request, ServiceResult, TransportSpecificContext, add_edns_option,
+    remove_edns_opt_record,
 };
 use dns_stream::Postprocess;
 use std::alloc::Global;
 
-/// Gives a reply the OPT record that its request asks for.
-#[derive(Drop)]
-pub struct EdnsPost {}
+/// How the replies to a request are given the OPT record that it asks for.
+#[derive(Clone, Copy, Debug)]
+pub struct EdnsPost {
+    /// Whether the request has an OPT record, which each reply answers with one.
+    pub answered: bool,
+    /// The keepalive that each reply gets.
+    pub keepalive: Option<IdleTimeout>,
+}
+
+impl EdnsPost {
+    /// The rule for what is asked over a transport.
+    pub fn new(asked: &Asked, transport: &TransportSpecificContext) -> EdnsPost
+        ensures { result ≡ edns_rule transport.now asked.now }
+    {
+        EdnsPost {
+            answered: asked.opt.client_size().is_some(),
+            keepalive: keepalive_over(transport, &asked.opt),
+        }
+    }
+}
 
 impl Rewrite for EdnsPost {
-    ghost rewriting = { λ _ r. edns_post r };
+    ghost rewriting = { edns_by };
 
-    fn rewrite(
-        &self,
-        alloc: Global,
-        request: &Request<()>,
-        reply: &mut AdditionalBuilder,
-    ) -> Result<(), OutOfMemory> {
-        edns_post(alloc, request, reply)
+    /// The limit of the reply is cleared.
+    fn rewrite(&self, alloc: Global, reply: &mut AdditionalBuilder) -> Result<(), OutOfMemory> {
+        reply.clear_push_limit();
+        in_kind(alloc, self.answered, reply)?;
+        with_keepalive(alloc, self.keepalive, reply)?;
+        with_some_opt(alloc, self.answered, reply)
     }
 }
 
 impl Postprocess<()> for EdnsPost {
-    ghost post = { λ _ r. rewritten (edns_post r) };
+    ghost post = { λ p _. rewritten (edns_by p) };
 
     fn map(
         &self,
         alloc: Global,
-        request: &Request<()>,
+        _request: &Request<()>,
         item: ServiceResult,
     ) -> Result<ServiceResult, OutOfMemory> {
-        rewrite_item(self, alloc, request, item)
+        let mut item = item;
+        rewrite_item(self, alloc, &mut item)?;
+        Ok(item)
     }
-}
-
-/// Rewrites a reply, whose limit is cleared.
-fn edns_post(
-    alloc: Global,
-    request: &Request<()>,
-    reply: &mut AdditionalBuilder,
-) -> Result<(), OutOfMemory>
-    ensures { OnOk result (reply.new ≡ record { message = edns_post request.now reply.old.message; limit = 65535 }) }
-{
-    reply.clear_push_limit();
-    let has_opt = request.message().opt().is_some();
-    let keepalive = keepalive_for(request);
-    in_kind(alloc, has_opt, reply)?;
-    with_keepalive(alloc, keepalive, reply)?;
-    with_some_opt(alloc, has_opt, reply)
 }
 
 /// Drops a reply's OPT records, where the request has none.
@@ -75,16 +76,19 @@ fn in_kind(alloc: Global, has_opt: bool, reply: &mut AdditionalBuilder) -> Resul
     remove_edns_opt_record(alloc, reply)
 }
 
-/// The keepalive that replies to a request get.
-fn keepalive_for(request: &Request<()>) -> Option<IdleTimeout>
-    ensures { result ≡ keepalive_for request.now.transport (opt_items request.now.octets) }
+/// The keepalive that replies to what is asked get.
+fn keepalive_over(transport: &TransportSpecificContext, opt: &AskedOpt) -> Option<IdleTimeout>
+    ensures { result ≡ keepalive_over transport.now opt.now }
 {
-    match request.transport_ctx() {
+    match transport {
         TransportSpecificContext::Udp(_) => None,
-        TransportSpecificContext::NonUdp(context) => match opt_items(request.message()) {
-            OptItems::NoItem => None,
-            _ => units_of(context.idle_timeout()),
-        },
+        TransportSpecificContext::NonUdp(context) => {
+            if opt.has_item() {
+                units_of(context.idle_timeout())
+            } else {
+                None
+            }
+        }
     }
 }
 

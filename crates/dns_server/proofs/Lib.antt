@@ -1,4 +1,3 @@
 pub mod Batches
-pub mod Queries
 pub mod Running
-pub mod Streamed
+mod Padded

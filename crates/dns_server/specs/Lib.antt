@@ -1,13 +1,11 @@
-pub use Rattle.dns_core.specs.Early
 pub use Rattle.dns_outside.specs.Causes
 pub use Rattle.dns_outside.specs.Moves
 pub use Rattle.dns_service.specs.Transport
 pub use Rattle.dns_trace.specs.EventLines
 pub use Rattle.dns_trace.specs.Reading
+pub mod AnswerWords
 pub mod Command
 pub mod Line
-pub mod Plain
-pub mod PlainStreams
 pub mod Plan
 pub mod Played
 pub mod Rules
@@ -16,4 +14,5 @@ pub mod Script
 pub mod ScriptReads
 pub mod Status
 pub mod Streams
+pub mod Targets
 pub mod Writes

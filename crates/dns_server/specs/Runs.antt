@@ -5,12 +5,13 @@ use Rattle.dns_outside.specs.Moves.{ReadExactly, ReadAtMost, Cut}
 use Rattle.dns_outside.specs.declared.source.TheConstants.{LIMIT}
 use Rattle.dns_service.specs.declared.event.Output.{Output}
 use Rattle.dns_trace.specs.declared.reason.Reason.{Reason}
-use Rattle.dns_service.specs.Config.{Stream, default_dgram, default_stream}
+use Rattle.dns_client.specs.Serving.{serving}
 use Rattle.dns_core.specs.Out.{out}
-use Rattle.dns_core.specs.Replies.{replies}
-use Rattle.dns_core.specs.declared.settings.Settings.{Settings}
-use Rattle.dns_server.specs.Plan.{Plan}
+use Rattle.dns_middleware.specs.Verdicts.{verdict_on}
+use Rattle.dns_middleware.specs.Wrapped.{hint_left, replies}
+use Rattle.dns_server.specs.Plan.{Plan, settings_of}
 use Rattle.dns_server.specs.Played.{played}
+use Rattle.dns_server.specs.Targets.{script_verdicts}
 use Rattle.dns_server.specs.Script.{script}
 use Rattle.dns_server.specs.Line.{lines_of, refused_line}
 use Rattle.dns_server.specs.declared.command.Command.{Command}
@@ -18,21 +19,9 @@ use Rattle.dns_server.specs.declared.command.Command.TheVariants.{Replay}
 use Rattle.dns_server.specs.declared.program.Status.{Status}
 use Rattle.dns_server.specs.declared.program.Status.TheVariants.{Done, Usage, Refused, ReadFault, WriteFault, OutOfMemory, TooLong}
 
--- the settings of a script that sets nothing: strict, with EDNS, without cookies, nobody denied
-abbrev pub opening_settings : Settings
-opening_settings = record { strict = true; edns = true; cookies = None; denied = []; dgram = default_dgram; stream = default_stream }
-
-abbrev pub stream_or_default : Option Stream → Stream
-stream_or_default None = default_stream
-stream_or_default (Some s) = s
-
--- the settings of a script that sets at most the stream server's configuration
-abbrev pub settings_with : Option Stream → Settings
-settings_with stream = record opening_settings { stream = stream_or_default stream }
-
--- what the clients are sent: the outputs of the events, served by the rules
+-- what the clients are sent: the outputs of the events, served by the rules under the settings
 unfoldable pub plan_outputs : Plan → List Output
-plan_outputs p = out (replies (played p.rules)) (settings_with p.stream) p.events
+plan_outputs p = out (serving (replies (settings_of p) (played p.rules) (verdict_on (script_verdicts p.zones))) (hint_left (settings_of p))) (settings_of p) p.events
 
 -- what is written for a script, or for the first bad line of a text that is none
 abbrev pub run_text : Result Plan (ℕ × Reason) → List ℕ

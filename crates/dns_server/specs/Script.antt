@@ -1,82 +1,149 @@
--- The grammar of a script, line by line: the rules of the service and the configuration of the stream server stand before the
--- first event.
-use Rattle.std.specs.Prelude.{ℕ, ◌+◌, ◌==◌, ◌||◌, nat_le, nat_lt, not, is_some, Some, List, [], ◌∷◌, ◌++◌, length, take, drop, Result, Ok, Err, codes, if◌then◌else◌}
-use Rattle.std.specs.Option.{option_map_or}
+-- The grammar of a script, line by line: the settings and the rules of the service and of the target stand before the first event.
+use Rattle.std.specs.Prelude.{ℕ, ◌+◌, ◌-◌, ◌==◌, nat_le, nat_lt, not, is_some, Option, Some, None, List, [], ◌∷◌, ◌++◌, length, take, drop, Result, Ok, Err, codes, if◌then◌else◌}
+use Rattle.std.specs.List.{list_all}
 use Rattle.std.specs.Str.{bytes_eq}
 use Rattle.std.specs.Str.Lines.{lines}
 use Rattle.dns_trace.specs.Lines.{is_skipped}
 use Rattle.dns_trace.specs.Words.{words_of, word_at}
 use Rattle.dns_trace.specs.Reading.{◌>>=◌, unless}
-use Rattle.dns_trace.specs.Values.{number}
+use Rattle.dns_trace.specs.Values.{addr_of, secret_of, yes_no_of}
+use Rattle.dns_trace.specs.DgramLine.{dgram_line}
 use Rattle.dns_trace.specs.EventLines.{event_line}
+use Rattle.dns_trace.specs.NameWords.{name_word}
 use Rattle.dns_trace.specs.StreamLine.{stream_line}
 use Rattle.dns_trace.specs.declared.reason.Reason.{Reason}
 use Rattle.dns_trace.specs.declared.reason.Reason.TheVariants.{Unbuilt}
-use Rattle.dns_service.specs.Config.{Stream}
-use Rattle.dns_service.specs.declared.event.Event.{Event}
+use Rattle.dns_middleware.specs.declared.notifiable.NotifyError.{NotifyError}
+use Rattle.dns_middleware.specs.declared.notifiable.NotifyError.TheVariants.{NotAuthForZone, Other}
+use Rattle.dns_server.specs.declared.notify_rule.NotifyRule.{NotifyRule}
 use Rattle.dns_server.specs.declared.rule.Rule.{Rule}
-use Rattle.dns_server.specs.declared.rule.ScriptAnswer.{ScriptAnswer}
-use Rattle.dns_server.specs.declared.rule.ScriptAnswer.TheVariants.{Pend, Rcode}
-use Rattle.dns_server.specs.Plain.{is_plain_kind, needs_rule}
+use Rattle.dns_server.specs.AnswerWords.{answers_after}
 use Rattle.dns_server.specs.Plan.{Plan, empty_plan}
-use Rattle.dns_server.specs.PlainStreams.{spoilt_line}
 
-abbrev pub with_rule : Plan → Rule → Plan
-with_rule p r = record p { rules = p.rules ++ r ∷ [] }
+-- before the first event
+abbrev pub before_events : Plan → Result (Unit {0}) Reason
+before_events p = unless Unbuilt (length p.events == 0)
 
-abbrev pub with_event : Plan → ℕ → Event → Plan
-with_event p n e = record p { events = p.events ++ e ∷ []; lines = p.lines ++ n ∷ [] }
+-- what isn't said yet
+abbrev pub unsaid : {A : Type 0} → Option A → Result (Unit {0}) Reason
+unsaid said = unless Unbuilt (not (is_some said))
 
-abbrev pub with_stream : Plan → Stream → Plan
-with_stream p s = record p { stream = Some s }
+abbrev pub of_words : ℕ → List (List ℕ) → Result (Unit {0}) Reason
+of_words n ws = unless Unbuilt (length ws == n)
 
--- pend, or rcode:N with N below 16
-unfoldable pub answer_of : List ℕ → Result ScriptAnswer Reason
-answer_of w =
-    if bytes_eq w (codes "pend") then Ok Pend
-    else if bytes_eq (take 6 w) (codes "rcode:") then (number 20 16 (drop 6 w) >>= λ n. Ok (Rcode n))
-    else Err Unbuilt
+-- strict yes|no
+unfoldable pub strict_line : Plan → List (List ℕ) → Result Plan Reason
+strict_line p ws = do
+  _ ← before_events p
+  _ ← unsaid p.strict
+  _ ← of_words 2 ws
+  yes ← yes_no_of (word_at ws 1)
+  Ok (record p { strict = Some yes })
 
--- the answers given and those of the words
-abbrev pub answers_after : List ScriptAnswer → List (List ℕ) → Result (List ScriptAnswer) Reason
-answers_after given [] = Ok given
-answers_after given (w ∷ ws) = answer_of w >>= λ a. answers_after (given ++ a ∷ []) ws
+-- edns yes|no
+unfoldable pub edns_line : Plan → List (List ℕ) → Result Plan Reason
+edns_line p ws = do
+  _ ← before_events p
+  _ ← unsaid p.edns
+  _ ← of_words 2 ws
+  yes ← yes_no_of (word_at ws 1)
+  Ok (record p { edns = Some yes })
 
--- rule * ANSWER .., before the first event
-unfoldable pub rule_line : Plan → List (List ℕ) → Result Plan Reason
-rule_line p ws = do
-  _ ← unless Unbuilt (length p.events == 0)
-  _ ← unless Unbuilt (nat_le 3 (length ws))
-  _ ← unless Unbuilt (bytes_eq (word_at ws 1) (codes "*"))
-  answers ← answers_after [] (drop 2 ws)
-  Ok (with_rule p (record { answers = answers }))
+-- secret HEX, of 16 octets
+unfoldable pub secret_line : Plan → List (List ℕ) → Result Plan Reason
+secret_line p ws = do
+  _ ← before_events p
+  _ ← unsaid p.secret
+  _ ← of_words 2 ws
+  secret ← secret_of (word_at ws 1)
+  Ok (record p { secret = Some secret })
 
--- a line `stream`, once and before the first event
+-- deny ADDR
+unfoldable pub deny_line : Plan → List (List ℕ) → Result Plan Reason
+deny_line p ws = do
+  _ ← before_events p
+  _ ← of_words 2 ws
+  address ← addr_of (word_at ws 1)
+  Ok (record p { denied = p.denied ++ address ∷ [] })
+
+-- a line `dgram`, once
+unfoldable pub first_dgram_line : Plan → List (List ℕ) → Result Plan Reason
+first_dgram_line p ws = do
+  _ ← before_events p
+  _ ← unsaid p.dgram
+  d ← dgram_line ws
+  Ok (record p { dgram = Some d })
+
+-- a line `stream`, once
 unfoldable pub first_stream_line : Plan → List (List ℕ) → Result Plan Reason
 first_stream_line p ws = do
-  _ ← unless Unbuilt (length p.events == 0)
-  _ ← unless Unbuilt (not (is_some p.stream))
+  _ ← before_events p
+  _ ← unsaid p.stream
   s ← stream_line ws
-  Ok (with_stream p s)
+  Ok (record p { stream = Some s })
 
--- line n is that of an event, whose message is plain; behind a rule, where it may carry one
-unfoldable pub next_event_line : ℕ → Plan → List (List ℕ) → Result Plan Reason
-next_event_line n p ws = do
-  e ← event_line ws
-  _ ← unless Unbuilt (is_plain_kind e.kind)
-  _ ← unless Unbuilt (not (needs_rule e.kind) || nat_lt 0 (length p.rules))
-  Ok (with_event p n e)
+-- `*` for all names, or a name
+abbrev pub for_name : Result (List (List ℕ)) Reason → Result (Option (List (List ℕ))) Reason
+for_name (Ok n) = Ok (Some n)
+for_name (Err e) = Err e
 
--- what a script says with line n more, by its words
-unfoldable pub after_words : ℕ → Plan → List (List ℕ) → Result Plan Reason
-after_words n p ws =
+unfoldable pub rule_name : List ℕ → Result (Option (List (List ℕ))) Reason
+rule_name w = if bytes_eq w (codes "*") then Ok None else for_name (name_word w)
+
+-- rule NAME|* ANSWER ..
+unfoldable pub rule_line : Plan → List (List ℕ) → Result Plan Reason
+rule_line p ws = do
+  _ ← before_events p
+  _ ← unless Unbuilt (nat_le 3 (length ws))
+  name ← rule_name (word_at ws 1)
+  answers ← answers_after [] (drop 2 ws)
+  Ok (record p { rules = p.rules ++ record { name = name; answers = answers } ∷ [] })
+
+-- ok, notauth or other
+unfoldable pub verdict_word : List ℕ → Result (Result (Unit {0}) NotifyError) Reason
+verdict_word w =
+    if bytes_eq w (codes "ok") then Ok (Ok tt)
+    else if bytes_eq w (codes "notauth") then Ok (Err NotAuthForZone)
+    else if bytes_eq w (codes "other") then Ok (Err Other)
+    else Err Unbuilt
+
+-- the words between the name and the last are `pend`
+abbrev pub words_between : List (List ℕ) → List (List ℕ)
+words_between ws = take (length ws - 3) (drop 2 ws)
+
+-- notify NAME pend .. ok|notauth|other
+unfoldable pub notify_line : Plan → List (List ℕ) → Result Plan Reason
+notify_line p ws = do
+  _ ← before_events p
+  _ ← unless Unbuilt (nat_le 3 (length ws))
+  apex ← name_word (word_at ws 1)
+  _ ← unless Unbuilt (list_all (λ w. bytes_eq w (codes "pend")) (words_between ws))
+  verdict ← verdict_word (word_at ws (length ws - 1))
+  Ok (record p { zones = p.zones ++ record { apex = apex; pends = length ws - 3; verdict = verdict } ∷ [] })
+
+-- the line of an event
+unfoldable pub next_event_line : Plan → List (List ℕ) → Result Plan Reason
+next_event_line p ws = event_line ws >>= λ e. Ok (record p { events = p.events ++ e ∷ [] })
+
+-- a line that sets something, by its first word; else that of an event
+unfoldable pub set_line : Plan → List (List ℕ) → Result Plan Reason
+set_line p ws =
+    if bytes_eq (word_at ws 0) (codes "strict") then strict_line p ws
+    else if bytes_eq (word_at ws 0) (codes "edns") then edns_line p ws
+    else if bytes_eq (word_at ws 0) (codes "secret") then secret_line p ws
+    else if bytes_eq (word_at ws 0) (codes "deny") then deny_line p ws
+    else if bytes_eq (word_at ws 0) (codes "dgram") then first_dgram_line p ws
+    else if bytes_eq (word_at ws 0) (codes "stream") then first_stream_line p ws
+    else next_event_line p ws
+
+-- what a script says with a line more
+unfoldable pub after_line : Plan → List ℕ → Result Plan Reason
+after_line p l =
+    let ws = words_of l in
     if is_skipped ws then Ok p
     else if bytes_eq (word_at ws 0) (codes "rule") then rule_line p ws
-    else if bytes_eq (word_at ws 0) (codes "stream") then first_stream_line p ws
-    else next_event_line n p ws
-
-abbrev pub after_line : ℕ → Plan → List ℕ → Result Plan Reason
-after_line n p l = after_words n p (words_of l)
+    else if bytes_eq (word_at ws 0) (codes "notify") then notify_line p ws
+    else set_line p ws
 
 abbrev pub numbered : {A : Type 0} → ℕ → Result A Reason → Result A (ℕ × Reason)
 numbered n (Ok x) = Ok x
@@ -85,11 +152,7 @@ numbered n (Err r) = Err (n, r)
 -- the lines, of which the first is line n, behind those that gave p: what all say, or the first bad line and its reason
 abbrev pub after_lines : ℕ → Plan → List (List ℕ) → Result Plan (ℕ × Reason)
 after_lines n p [] = Ok p
-after_lines n p (l ∷ ls) = numbered n (after_line n p l) >>= λ q. after_lines (n + 1) q ls
-
--- each client's stream is plain, or the line of the first piece of one whose stream isn't
-unfoldable pub with_plain_streams : Plan → Result Plan (ℕ × Reason)
-with_plain_streams p = option_map_or (λ n. Err (n, Unbuilt)) (spoilt_line p) (Ok p)
+after_lines n p (l ∷ ls) = numbered n (after_line p l) >>= λ q. after_lines (n + 1) q ls
 
 unfoldable pub script : List ℕ → Result Plan (ℕ × Reason)
-script t = after_lines 1 empty_plan (lines t) >>= with_plain_streams
+script t = after_lines 1 empty_plan (lines t)

@@ -1,22 +1,25 @@
 //! The program: a script is read, its events are served by its rules, and the outputs are written line by line.
 #![tactic(auto)]
 
+mod answer_words;
 mod command;
+mod notify_lines;
+mod notify_rule;
 mod output_line;
-mod plain;
-mod plain_streams;
 mod program;
 mod reader;
 mod rule;
+mod rule_lines;
 mod script;
+mod script_answers;
 mod script_service;
 mod script_target;
+mod setting_lines;
 mod writing;
 
 pub use command::{Command, read_command};
+pub use notify_rule::{NotifyRule, NotifyRules};
 pub use output_line::{line, refusal};
-pub use plain::is_plain_event;
-pub use plain_streams::first_spoilt;
 pub use program::{Status, run};
 pub use reader::read_script;
 pub use rule::{Rule, Rules, ScriptAnswer, ScriptAnswers};

@@ -3,14 +3,12 @@
 ghost use Rattle.std.specs.Prelude.{◌≡◌, ◌≢◌, ◌↔◌, ◌≤◌, length, map, string_bytes, IfSome, IfOk, None, ℕ, true};
 ghost use Rattle.dns_outside.specs.Causes.{Tells, Rose};
 ghost use Rattle.dns_outside.specs.declared.source.TheConstants.{LIMIT};
-ghost use Rattle.dns_core.specs.Early.{stream_of};
-ghost use Rattle.dns_server.specs.PlainStreams.{is_plain_stream};
 ghost use Rattle.dns_server.specs.Command.{command_of};
 ghost use Rattle.dns_server.specs.Status.{status_number, SourceFaults, SinkFaults};
 ghost use Rattle.dns_server.specs.Line.{lines_of};
 ghost use Rattle.dns_server.specs.Script.{script};
 ghost use Rattle.dns_server.specs.Writes.{Wrote, WroteFaults};
-ghost use Rattle.dns_server.specs.Runs.{plan_outputs, run_text, settings_with, Judges, ReplayReads, ReplayWrites, RunReads, RunWrites, Completes};
+ghost use Rattle.dns_server.specs.Runs.{plan_outputs, run_text, Judges, ReplayReads, ReplayWrites, RunReads, RunWrites, Completes};
 
 use crate::command::{Command, read_command};
 use crate::reader::read_script;
@@ -18,10 +16,10 @@ use crate::script::{Script, ScriptError};
 use crate::script_service::ScriptService;
 use crate::script_target::ScriptTarget;
 use crate::writing::{WriteError, write_outputs, write_refusal};
-use dns_core::{Settings, serve_events};
+use dns_core::serve_events;
 use dns_name::OutOfMemory;
 use dns_outside::{ReadError, Sink, Source, read_all};
-use dns_service::{Output, StreamConfig};
+use dns_service::Output;
 use std::alloc::Global;
 
 /// How a run ended.
@@ -61,37 +59,23 @@ impl Status {
     }
 }
 
-/// The settings of a script, which sets at most the configuration of the stream server.
-fn settings(alloc: Global, stream: Option<StreamConfig>) -> Settings
-    ensures { result ≡ settings_with stream }
-{
-    let mut settings = Settings::new(alloc);
-    if let Some(stream) = stream {
-        settings.stream = stream;
-    }
-    settings
-}
-
 /// What the clients of a script are sent.
-#[tactic(auto, using(crate::proofs::Queries::all_queries, crate::proofs::Queries::all_streams), unfolding(crate::specs::Runs::plan_outputs))]
+#[tactic(auto, unfolding(crate::specs::Runs::plan_outputs))]
 fn outputs(alloc: Global, script: Script) -> Result<Vec<Output>, OutOfMemory>
-    requires { (c : ℕ) → is_plain_stream (stream_of c script.events) ≡ true }
     ensures { IfOk result (λ v. v.items ≡ plan_outputs script) }
 {
-    let settings = settings(alloc, script.stream());
-    let (rules, events) = script.into_parts();
+    let (settings, rules, zones, events) = script.into_parts();
     serve_events(
         alloc,
         &settings,
         ScriptService::new(rules),
-        ScriptTarget,
+        ScriptTarget::new(zones),
         &events,
     )
 }
 
 /// Writes what the clients of a script are sent.
 fn answer_script<W: Sink>(alloc: Global, script: Script, sink: &mut W) -> Result<(), WriteError>
-    requires { (c : ℕ) → is_plain_stream (stream_of c script.events) ≡ true }
     ensures told { Tells (W.tells sink.new) (W.tells sink.old) (Wrote result (lines_of (plan_outputs script)) (W.taken sink.old) (W.taken sink.new)) }
     ensures cause { WroteFaults result (W.faults sink.old) (W.faults sink.new) }
 {

@@ -2,7 +2,7 @@
 
 ghost use Rattle.std.specs.Prelude.{◌≡◌, ◌++◌, ◌∷◌, [], OnOk, OnErr, IfOk, List};
 
-use dns_name::{OutOfMemory, Rcode};
+use dns_name::{Name, OutOfMemory, Rcode};
 use dns_service::ServiceError;
 use std::alloc::Global;
 use std::marker::Model;
@@ -17,6 +17,12 @@ pub enum ScriptAnswer {
     Error(ServiceError),
     /// A reply with the request's questions and this response code.
     Rcode(Rcode),
+    /// A reply that is a header alone, whose bits are zero but for this response code.
+    Blank(Rcode),
+    /// A reply with the request's questions and an answer of so many zeros.
+    Fill(u16),
+    /// A reply with the request's questions and an OPT record with a padding of so many zeros.
+    Opt(u16),
 }
 
 /// Poll answers, in order, which all requests that play them share.
@@ -69,6 +75,8 @@ impl ScriptAnswers {
 /// A service line.
 #[derive(Debug, Drop)]
 pub struct Rule {
+    /// The name that it is for, where it isn't for all.
+    pub name: Option<Name>,
     pub answers: ScriptAnswers,
 }
 

@@ -1,13 +1,14 @@
 //! What a script says.
 
-ghost use Rattle.std.specs.Prelude.{◌≡◌, slice_index_or, IfOk, IsTrue, All};
-ghost use Rattle.dns_server.specs.Plan.{empty_plan};
-ghost use Rattle.dns_server.specs.Plain.{is_plain_kind};
-ghost use Rattle.dns_server.specs.Script.{with_rule, with_event, with_stream};
+ghost use Rattle.std.specs.Prelude.{◌≡◌, ◌++◌, ◌∷◌, [], Some, OnOk};
+ghost use Rattle.dns_server.specs.Plan.{empty_plan, settings_of};
 
+use crate::notify_rule::{NotifyRule, NotifyRules};
 use crate::rule::{Rule, Rules};
-use dns_name::OutOfMemory;
-use dns_service::{Event, StreamConfig};
+use dns_base::Addrs;
+use dns_core::Settings;
+use dns_name::{IpAddr, OutOfMemory};
+use dns_service::{DgramConfig, Event, StreamConfig};
 use dns_trace::Reason;
 use std::alloc::Global;
 use std::marker::Model;
@@ -20,25 +21,26 @@ pub enum ScriptError {
     Refused { line: u64, reason: Reason },
 }
 
-/// The rules of the service and the events, of which each message is plain.
+/// The settings, the rules of the service and of the target, and the events.
 #[derive(Debug, Drop)]
 pub struct Script {
+    strict: Option<bool>,
+    edns: Option<bool>,
+    secret: Option<[u8; 16]>,
+    denied: Vec<IpAddr>,
+    dgram: Option<DgramConfig>,
     stream: Option<StreamConfig>,
     rules: Rules,
+    zones: NotifyRules,
     events: Vec<Event>,
-    lines: Vec<u64>,
 }
 
 impl Model for Script {
-    ghost use Rattle.std.specs.Prelude.{IsTrue, All};
-    ghost use Rattle.dns_server.specs.Plain.{is_plain_kind};
     ghost use Rattle.dns_server.specs.Plan.{Plan};
 
     ghost Value = { Plan };
 
-    ghost view = { λ s. record { stream = s.stream; rules = s.rules; events = s.events.items; lines = s.lines.items } };
-
-    ghost invariant = { λ s. All (λ e. IsTrue (is_plain_kind e.kind)) s.events.items };
+    ghost view = { λ s. record { strict = s.strict; edns = s.edns; secret = s.secret; denied = s.denied.items; dgram = s.dgram; stream = s.stream; rules = s.rules; zones = s.zones; events = s.events.items } };
 }
 
 impl Script {
@@ -47,40 +49,109 @@ impl Script {
         ensures { result ≡ empty_plan }
     {
         Script {
+            strict: None,
+            edns: None,
+            secret: None,
+            denied: Vec::new(alloc),
+            dgram: None,
             stream: None,
             rules: Rules::from_vec(Vec::new(alloc)),
+            zones: NotifyRules::new(alloc),
             events: Vec::new(alloc),
-            lines: Vec::new(alloc),
         }
     }
 
-    /// One rule more.
-    pub fn with_rule(self, rule: Rule) -> Result<Script, OutOfMemory>
-        ensures { IfOk result (λ s. s ≡ with_rule self rule) }
+    /// Says whether faulty queries are refused.
+    pub fn set_strict(&mut self, strict: bool)
+        ensures { self.new ≡ record self.old { strict = Some strict } }
     {
-        let mut script = self;
-        script.rules.push(rule)?;
-        Ok(script)
+        self.strict = Some(strict);
     }
 
-    /// One event more, of the line of this number.
-    pub fn with_event(self, line: u64, event: Event) -> Result<Script, OutOfMemory>
-        requires { IsTrue (is_plain_kind event.kind) }
-        ensures { IfOk result (λ s. s ≡ with_event self line event) }
+    /// Says whether EDNS is on.
+    pub fn set_edns(&mut self, edns: bool)
+        ensures { self.new ≡ record self.old { edns = Some edns } }
     {
-        let mut script = self;
-        script.lines.push(line)?;
-        script.events.push(event)?;
-        Ok(script)
+        self.edns = Some(edns);
+    }
+
+    /// Says that cookies are on, under this secret.
+    pub fn set_secret(&mut self, secret: [u8; 16])
+        ensures { self.new ≡ record self.old { secret = Some secret } }
+    {
+        self.secret = Some(secret);
+    }
+
+    /// One address more that is denied.
+    pub fn deny(&mut self, address: IpAddr) -> Result<(), OutOfMemory>
+        ensures { OnOk result (self.new ≡ record self.old { denied = self.old.denied ++ address ∷ [] }) }
+    {
+        self.denied.push(address)?;
+        Ok(())
+    }
+
+    /// The configuration of the datagram server.
+    pub fn set_dgram(&mut self, dgram: DgramConfig)
+        ensures { self.new ≡ record self.old { dgram = Some dgram } }
+    {
+        self.dgram = Some(dgram);
     }
 
     /// The configuration of the stream server.
-    pub fn with_stream(self, stream: StreamConfig) -> Script
-        ensures { result ≡ with_stream self stream }
+    pub fn set_stream(&mut self, stream: StreamConfig)
+        ensures { self.new ≡ record self.old { stream = Some stream } }
     {
-        let mut script = self;
-        script.stream = Some(stream);
-        script
+        self.stream = Some(stream);
+    }
+
+    /// One rule of the service more.
+    pub fn push_rule(&mut self, rule: Rule) -> Result<(), OutOfMemory>
+        ensures { OnOk result (self.new ≡ record self.old { rules = self.old.rules ++ rule ∷ [] }) }
+    {
+        self.rules.push(rule)
+    }
+
+    /// One rule of the target more.
+    pub fn push_zone(&mut self, zone: NotifyRule) -> Result<(), OutOfMemory>
+        ensures { OnOk result (self.new ≡ record self.old { zones = self.old.zones ++ zone ∷ [] }) }
+    {
+        self.zones.push(zone)
+    }
+
+    /// One event more.
+    pub fn push_event(&mut self, event: Event) -> Result<(), OutOfMemory>
+        ensures { OnOk result (self.new ≡ record self.old { events = self.old.events ++ event ∷ [] }) }
+    {
+        self.events.push(event)?;
+        Ok(())
+    }
+
+    /// Whether faulty queries are refused, where it is said.
+    pub fn strict(&self) -> Option<bool>
+        ensures { result ≡ self.now.strict }
+    {
+        self.strict
+    }
+
+    /// Whether EDNS is on, where it is said.
+    pub fn edns(&self) -> Option<bool>
+        ensures { result ≡ self.now.edns }
+    {
+        self.edns
+    }
+
+    /// The secret of cookies, where they are on.
+    pub fn secret(&self) -> Option<[u8; 16]>
+        ensures { result ≡ self.now.secret }
+    {
+        self.secret
+    }
+
+    /// The configuration of the datagram server, where it is set.
+    pub fn dgram(&self) -> Option<DgramConfig>
+        ensures { result ≡ self.now.dgram }
+    {
+        self.dgram
     }
 
     /// The configuration of the stream server, where it is set.
@@ -97,30 +168,32 @@ impl Script {
         self.events.as_slice()
     }
 
-    /// The rules of the service.
-    pub fn rules(&self) -> &[Rule]
-        ensures { result.now ≡ self.now.rules }
+    /// The settings, the rules of the service and of the target, and the events.
+    pub fn into_parts(self) -> (Settings, Rules, NotifyRules, Vec<Event>)
+        ensures settings { result.0 ≡ settings_of self }
+        ensures rules { result.1 ≡ self.rules }
+        ensures zones { result.2 ≡ self.zones }
+        ensures events { result.3.items ≡ self.events }
     {
-        self.rules.as_slice()
-    }
-
-    /// The number of the line of the event at this place, or 0.
-    pub fn line(&self, place: usize) -> u64
-        ensures { result ≡ slice_index_or self.now.lines place 0 }
-    {
-        match self.lines.get(place) {
-            Some(line) => *line,
-            None => 0,
-        }
-    }
-
-    /// The rules of the service and the events.
-    pub fn into_parts(self) -> (Rules, Vec<Event>)
-        ensures rules { result.0 ≡ self.rules }
-        ensures events { result.1.items ≡ self.events }
-        ensures plain { All (λ e. IsTrue (is_plain_kind e.kind)) self.events }
-    {
-        let Script { rules, events, .. } = self;
-        (rules, events)
+        let Script {
+            strict,
+            edns,
+            secret,
+            denied,
+            dgram,
+            stream,
+            rules,
+            zones,
+            events,
+        } = self;
+        let settings = Settings {
+            strict: strict.unwrap_or(true),
+            edns: edns.unwrap_or(true),
+            cookies: secret,
+            denied: Addrs::from_vec(denied),
+            dgram: dgram.unwrap_or(DgramConfig::new()),
+            stream: stream.unwrap_or(StreamConfig::new()),
+        };
+        (settings, rules, zones, events)
     }
 }

@@ -2,15 +2,16 @@
 
 ghost use Rattle.std.specs.Prelude.{◌≡◌, IfOk, Some, length, ◌-◌};
 ghost use Rattle.dns_service.specs.Transport.{hint_of};
-ghost use Rattle.dns_server.specs.Rules.{answers_for};
-ghost use Rattle.dns_server.specs.Played.{given, played_reply, played};
+ghost use Rattle.dns_server.specs.Rules.{answers_for, fits_asked, name_asked};
+ghost use Rattle.dns_server.specs.Played.{played};
 ghost use Rattle.dns_server.specs.Streams.{left_of, answers_left};
 
 use crate::rule::{Rule, Rules, ScriptAnswer, ScriptAnswers};
-use dns_base::{Message, MessageBuilder, PushError};
-use dns_name::{OutOfMemory, Rcode};
+use crate::script_answers::make_answer;
+use dns_base::Message;
+use dns_name::OutOfMemory;
 use dns_service::{
-    CallResult, Polled, ReplyFuture, ReplyStream, Request, Service, ServiceError, ServiceResult,
+    Polled, ReplyFuture, ReplyStream, Request, Service, ServiceError, ServiceResult,
 };
 use std::alloc::Global;
 use std::sync::Arc;
@@ -40,7 +41,7 @@ impl Service<()> for ScriptService {
     ghost hint = { λ _ r. hint_of r.transport };
 
     fn call(&self, alloc: Global, request: &mut Request<()>) -> Result<ScriptFuture, OutOfMemory> {
-        let answers = answers_of(alloc, self.rules.as_slice())?;
+        let answers = answers_for(alloc, self.rules.as_slice(), request.message())?;
         let message = Arc::try_clone(request.message())?;
         Ok(ScriptFuture {
             stream: Some(ScriptStream {
@@ -52,13 +53,32 @@ impl Service<()> for ScriptService {
     }
 }
 
-/// The answers of the first rule, and a refusal where there is none.
-fn answers_of(alloc: Global, rules: &[Rule]) -> Result<ScriptAnswers, OutOfMemory>
-    ensures { IfOk result (λ a. a ≡ answers_for rules.now) }
+/// The answers of the first rule that fits a message, and a refusal where there is none.
+fn answers_for(
+    alloc: Global,
+    rules: &[Rule],
+    message: &Message,
+) -> Result<ScriptAnswers, OutOfMemory>
+    ensures { IfOk result (λ a. a ≡ answers_for rules.now (name_asked message.now)) }
 {
-    match rules {
-        [rule, ..] => rule.answers.try_clone(),
-        [] => ScriptAnswers::from_slice(alloc, &[ScriptAnswer::Error(ServiceError::Refused)]),
+    for rule in rules {
+        if fits(rule, message) {
+            return rule.answers.try_clone();
+        }
+    }
+    ScriptAnswers::from_slice(alloc, &[ScriptAnswer::Error(ServiceError::Refused)])
+}
+
+/// Whether a rule fits a message.
+fn fits(rule: &Rule, message: &Message) -> bool
+    ensures { result ≡ fits_asked rule.now.name (name_asked message.now) }
+{
+    match &rule.name {
+        None => true,
+        Some(name) => match message.first_question() {
+            Some(question) => question.qname().name_eq(&name.for_ref()),
+            None => false,
+        },
     }
 }
 
@@ -105,35 +125,5 @@ impl ReplyStream for ScriptStream {
     fn size_hint(&self) -> (usize, Option<usize>) {
         let left = self.answers.as_slice().len().saturating_sub(self.next);
         (0, Some(left))
-    }
-}
-
-/// One answer to a message.
-fn make_answer(
-    alloc: Global,
-    message: &Message,
-    answer: ScriptAnswer,
-) -> Result<Polled<Option<ServiceResult>>, OutOfMemory>
-    ensures { IfOk result (λ p. p ≡ given message.now answer) }
-{
-    match answer {
-        ScriptAnswer::Pend => Ok(Polled::Pending),
-        ScriptAnswer::Error(error) => Ok(Polled::Ready(Some(Err(error)))),
-        ScriptAnswer::Rcode(rcode) => {
-            let item = make_reply(alloc, message, rcode)?;
-            Ok(Polled::Ready(Some(item)))
-        }
-    }
-}
-
-/// A reply with this response code, or the error `servfail` where the questions have no room.
-fn make_reply(alloc: Global, message: &Message, rcode: Rcode) -> Result<ServiceResult, OutOfMemory>
-    ensures { IfOk result (λ i. i ≡ played_reply message.now rcode) }
-{
-    let builder = MessageBuilder::new(alloc)?;
-    match builder.start_answer(alloc, message, rcode) {
-        Ok(reply) => Ok(Ok(CallResult::new(reply.additional()))),
-        Err(PushError::ShortBuf) => Ok(Err(ServiceError::InternalError)),
-        Err(PushError::OutOfMemory) => Err(OutOfMemory),
     }
 }

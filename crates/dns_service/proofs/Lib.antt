@@ -3,3 +3,4 @@ mod AddedOptions
 pub mod CopyLaws
 pub mod LastOpts
 mod CutLaws
+mod AskedLaws

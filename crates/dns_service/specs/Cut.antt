@@ -46,3 +46,8 @@ or_else None other = other
 abbrev pub Added : Built → Built → Built → Bool → Type 0
 Added old new more true = (new ≡ more) × (length (wire more.message) ≤ more.limit)
 Added old new more false = (new ≡ old) × PassesLimit more
+
+-- a message that is cut where there is a limit
+abbrev pub sized : Option ℕ → Msg → Msg
+sized None m = m
+sized (Some n) m = cut n m

@@ -4,8 +4,13 @@ pub use Rattle.dns_base.specs.CopiedRecord
 pub use Rattle.dns_base.specs.Replaced
 pub use Rattle.dns_message.specs.Msg
 pub use Rattle.dns_message.specs.Wire
+pub use Rattle.dns_cookie.specs.Cookies
+pub use Rattle.dns_cookie.specs.CookieData
 pub use Rattle.dns_opt.specs.Drafts
 pub use Rattle.dns_opt.specs.Reopened
+pub use Rattle.dns_opt.specs.OptRecords
+pub mod OptItems
+pub mod Asked
 pub mod Transport
 pub mod Req
 pub mod Given

@@ -22,3 +22,8 @@ hinted hint (NonUdp timeout) = NonUdp timeout
 abbrev pub limit : Option ℕ → ℕ
 limit None = 512
 limit (Some hint) = max 512 hint
+
+-- a datagram has a limit, and a stream has none
+abbrev pub limit_over : TransportSpecificContext → ℕ → Option ℕ
+limit_over (Udp hint) n = Some n
+limit_over (NonUdp timeout) n = None

@@ -1,6 +1,7 @@
 //! Requests, services by poll, and the events and outputs of a server.
 #![tactic(auto)]
 
+mod asked;
 mod config;
 mod copied;
 mod cutting;
@@ -8,6 +9,7 @@ mod error;
 mod event;
 mod function;
 mod last_opt;
+mod laws;
 mod limits;
 mod message;
 mod once;
@@ -19,6 +21,7 @@ mod reply_error;
 mod served;
 mod service;
 
+pub use asked::{Asked, AskedCookie, AskedOpt, AskedRecord, read_asked};
 pub use config::{ConnectionConfig, DgramConfig, StreamConfig};
 pub use copied::CopiedMessage;
 pub use cutting::{cut, cut_fits};
@@ -26,7 +29,8 @@ pub use dns_name::{Octets, OutOfMemory};
 pub use error::Error;
 pub use event::{Event, EventKind, Output, Why};
 pub use function::{Gives, ServiceFn, service_fn};
-pub use limits::{MINIMUM_RESPONSE_BYTE_LEN, reply_limit};
+pub use laws::{asked_keeps_opt, items_begin_with_opt};
+pub use limits::{MINIMUM_RESPONSE_BYTE_LEN, fit, limit_over, reply_limit};
 pub use message::{NonUdpTransportContext, Request, TransportSpecificContext, UdpTransportContext};
 pub use once::{Now, Once};
 pub use options::{add_edns_option, add_edns_options, remove_edns_opt_record};

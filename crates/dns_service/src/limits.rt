@@ -1,7 +1,14 @@
 //! How many octets a reply may take.
 
-ghost use Rattle.std.specs.Prelude.{◌≡◌, ◌≤◌};
-ghost use Rattle.dns_service.specs.Transport.{limit};
+ghost use Rattle.std.specs.Prelude.{◌≡◌, ◌≤◌, OnOk};
+ghost use Rattle.dns_service.specs.Cut.{sized};
+ghost use Rattle.dns_service.specs.Transport.{limit, limit_over};
+
+use crate::cutting::cut;
+use crate::message::TransportSpecificContext;
+use dns_base::AdditionalBuilder;
+use dns_name::OutOfMemory;
+use std::alloc::Global;
 
 /// The least size in octets that a response over UDP may take (RFC 1035, section 4.2.1).
 pub const MINIMUM_RESPONSE_BYTE_LEN: u16 = 512;
@@ -10,9 +17,34 @@ pub const MINIMUM_RESPONSE_BYTE_LEN: u16 = 512;
 pub fn reply_limit(hint: Option<u16>) -> usize
     ensures value { result ≡ limit hint }
     ensures least { 512 ≤ result }
+    ensures most { result ≤ 65535 }
 {
     match hint {
         Some(hint) => hint.max(MINIMUM_RESPONSE_BYTE_LEN) as usize,
         None => MINIMUM_RESPONSE_BYTE_LEN as usize,
+    }
+}
+
+/// How many octets a reply to a request of this transport may take, where that is limited, by the hint after the call.
+pub fn limit_over(transport: &TransportSpecificContext, hint: Option<u16>) -> Option<u16>
+    ensures { result ≡ limit_over transport.now (limit hint) }
+{
+    match transport {
+        TransportSpecificContext::Udp(_) => Some(reply_limit(hint) as u16),
+        TransportSpecificContext::NonUdp(_) => None,
+    }
+}
+
+/// Cuts a reply where there is a limit.
+pub fn fit(
+    alloc: Global,
+    limit: Option<u16>,
+    reply: &mut AdditionalBuilder,
+) -> Result<(), OutOfMemory>
+    ensures { OnOk result (reply.new.message ≡ sized limit reply.old.message) }
+{
+    match limit {
+        Some(limit) => cut(alloc, reply, limit as usize),
+        None => Ok(()),
     }
 }

@@ -5,7 +5,7 @@ ghost use Rattle.std.specs.Arc.{arc_value};
 ghost use Rattle.std.specs.Borrow.{sem};
 ghost use Rattle.dns_service.specs.declared.message.TransportSpecificContext.TheVariants.{NonUdp, Udp};
 ghost use Rattle.dns_service.specs.Req.{with_metadata};
-ghost use Rattle.dns_service.specs.Transport.{is_stream};
+ghost use Rattle.dns_service.specs.Transport.{hint_of, hinted, is_stream};
 
 use dns_base::Message;
 use dns_name::{OutOfMemory, SocketAddr};
@@ -114,6 +114,28 @@ impl TransportSpecificContext {
         ensures { result ≡ is_stream self.now }
     {
         matches!(self, TransportSpecificContext::NonUdp(_))
+    }
+}
+
+impl TransportSpecificContext {
+    /// The hint of the largest response in octets: a stream has none.
+    pub fn hint(&self) -> Option<u16>
+        ensures { result ≡ hint_of self.now }
+    {
+        match self {
+            TransportSpecificContext::Udp(context) => context.max_response_size_hint(),
+            TransportSpecificContext::NonUdp(_) => None,
+        }
+    }
+
+    /// Sets the hint, where the transport has one.
+    pub fn set_hint(&mut self, hint: Option<u16>)
+        ensures { self.new ≡ hinted hint self.old }
+    {
+        match self {
+            TransportSpecificContext::Udp(context) => context.set_max_response_size_hint(hint),
+            TransportSpecificContext::NonUdp(_) => {}
+        }
     }
 }
 

@@ -1,5 +1,5 @@
 -- Values that words spell.
-use Rattle.std.specs.Prelude.{ℕ, Bool, true, false, ◌+◌, ◌-◌, ◌*◌, ◌==◌, ◌&&◌, nat_lt, nat_le, if◌then◌else◌, List, [], ◌∷◌, length, Result, Ok, Err, codes}
+use Rattle.std.specs.Prelude.{ℕ, Bool, true, false, ◌+◌, ◌-◌, ◌*◌, ◌==◌, ◌&&◌, nat_lt, nat_le, if◌then◌else◌, List, [], ◌∷◌, length, Option, Some, None, Result, Ok, Err, codes}
 use Rattle.std.specs.List.{slice_split}
 use Rattle.std.specs.Str.{bytes_eq}
 use Rattle.hex.specs.Hex.{decode_of, decode_sized}
@@ -42,6 +42,14 @@ hex_octets_of w = if bytes_eq w (codes "-") then Ok [] else from_hex (decode_of 
 -- `yes` or `no`
 unfoldable pub yes_no_of : List ℕ → Result Bool Reason
 yes_no_of w = if bytes_eq w (codes "yes") then Ok true else if bytes_eq w (codes "no") then Ok false else Err Unbuilt
+
+-- a size in octets of at most 65,535, or none
+unfoldable pub size_of : List ℕ → Result (Option ℕ) Reason
+size_of w = if bytes_eq w (codes "none") then Ok None else (number 20 65536 w >>= λ n. Ok (Some n))
+
+-- 32 hexadecimal digits
+unfoldable pub secret_of : List ℕ → Result (List ℕ) Reason
+secret_of w = from_hex (decode_sized w 16)
 
 -- the four parts of a dotted quad
 unfoldable pub quad_of : List (List ℕ) → Result IpAddr Reason

@@ -2,7 +2,7 @@
 
 ghost use Rattle.std.specs.Prelude.{◌≡◌, ◌<◌, ◌≤◌, IfOk};
 ghost use Rattle.dns_trace.specs.Reading.{GivesLine};
-ghost use Rattle.dns_trace.specs.Values.{number, num_of, port_of, hex_octets_of, quad_of, quad_word, addr_of, yes_no_of};
+ghost use Rattle.dns_trace.specs.Values.{number, num_of, port_of, hex_octets_of, quad_of, quad_word, addr_of, secret_of, size_of, yes_no_of};
 
 use crate::reason::{LineError, Reason};
 use crate::words::Words;
@@ -84,6 +84,30 @@ pub fn yes_no(word: &[u8]) -> Result<bool, Reason>
         return Ok(false);
     }
     Err(Reason::Unbuilt)
+}
+
+/// A size in octets of at most 65,535, or `none`.
+#[tactic(auto, unfolding(crate::specs::Values::size_of))]
+pub fn size(word: &[u8]) -> Result<Option<u16>, Reason>
+    ensures { result ≡ size_of word.now }
+{
+    if word == b"none".as_slice() {
+        return Ok(None);
+    }
+    let size = decimal(word, 20, 65536)?;
+    Ok(Some(size as u16))
+}
+
+/// A secret of 16 octets from 32 hexadecimal digits of either case.
+#[tactic(auto, unfolding(crate::specs::Values::secret_of))]
+pub fn secret(word: &[u8]) -> Result<[u8; 16], Reason>
+    ensures { result ≡ secret_of word.now }
+{
+    let mut octets = [0u8; 16];
+    match hex::decode_to_slice(word, &mut octets) {
+        Ok(()) => Ok(octets),
+        Err(_) => Err(Reason::Unbuilt),
+    }
 }
 
 #[tactic(auto, unfolding(crate::specs::Values::quad_of))]

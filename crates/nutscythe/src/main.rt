@@ -10,10 +10,11 @@ const HELP: &str = "\
 Usage: nutscythe replay < SCRIPT    (or --help, or --version)
 Reads a script, serves its events by its rules, writes a line for each output.
 
-stream IDLE WRITE QUEUE LIMIT yes|no   the stream server, once: timeouts in ms,
-                                       frames that may wait, connections, and
-                                       whether one more is taken and closed
-rule * ANSWER ..                       a request's polls: pend or rcode:0 to 15
+strict yes|no, edns yes|no   settings, once; secret HEX   of cookies; deny ADDR
+dgram none|SIZE WRITE, stream IDLE WRITE QUEUE LIMIT yes|no   the two servers
+rule NAME|* ANSWER ..   a request's polls: pend, rcode:0 to 15, blank:0 to 15,
+                        fill:LEN, opt:LEN, formerr, servfail, notimp, refused
+notify NAME pend .. ok|notauth|other   what is answered to a NOTIFY
 datagram AT SECS CLIENT ADDR PORT HEX  a query came from an address
 offer AT SECS CLIENT ADDR PORT         a connection is offered
 piece AT SECS CLIENT HEX               octets of its stream came
@@ -21,9 +22,9 @@ turn AT SECS CLIENT REQUEST            a request, from number 0, is polled once
 write AT SECS CLIENT TOOK              its front frame is written, in TOOK ms
 end AT SECS CLIENT                     its stream ended
 release AT SECS CLIENT                 its slot is free again
-stream and rule stand first, and a rule before datagram and piece. Numbers are
-decimal, ADDR a dotted quad or 32 hex digits, HEX pairs of digits or -, and a
-line that begins with # says nothing. docs/scripts.md explains each line.
+The first five lines stand before the others. Numbers are decimal, ADDR a
+dotted quad or 32 hex digits, HEX pairs of digits or -, and a line that begins
+with # says nothing. docs/scripts.md explains each line.
 
 Written are datagram CLIENT HEX, frame CLIENT HEX (with its length in front),
 closed CLIENT ended|short|writetimeout and turned CLIENT yes|no, or for what is

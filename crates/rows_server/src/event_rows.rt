@@ -2,7 +2,6 @@
 
 use crate::texts::next_text;
 use dns_name::SocketAddr;
-use dns_server::first_spoilt;
 use dns_service::{Event, EventKind, StreamConfig};
 use dns_trace::{LineError, Words, read_event, read_stream};
 use rows_table::{Calls, Row, RowError};
@@ -16,7 +15,6 @@ impl Calls for EventRows {
         match call {
             "read_event" => event(row),
             "read_stream" => stream(row),
-            "first_spoilt" => spoilt(row),
             _ => Err(RowError::NoSuchCall),
         }
     }
@@ -96,16 +94,6 @@ fn stream_said(row: &mut Row<'_>, stream: &StreamConfig) {
     row.show(&connection.max_queued_responses());
     row.show(&stream.max_concurrent_connections());
     row.show(&stream.accept_connections_at_max())
-}
-
-/// The place of the first piece of a client whose frames aren't plain.
-fn spoilt(row: &mut Row<'_>) -> Result<(), RowError> {
-    let events = events_of(row.alloc(), row.all_words())?;
-    match first_spoilt(row.alloc(), &events)? {
-        Some(place) => row.show(&place),
-        None => row.say("none"),
-    }
-    Ok(())
 }
 
 /// The events of lines.

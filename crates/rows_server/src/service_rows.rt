@@ -4,7 +4,8 @@ use dns_base::Message;
 use dns_core::{Notifiable, PolledRequest, VerdictFuture};
 use dns_name::{Class, IpAddr, Name, Rcode, SocketAddr};
 use dns_server::{
-    Rule, Rules, ScriptAnswer, ScriptAnswers, ScriptFuture, ScriptService, ScriptTarget,
+    NotifyRules, Rule, Rules, ScriptAnswer, ScriptAnswers, ScriptFuture, ScriptService,
+    ScriptTarget,
 };
 use dns_service::{
     CallResult, OutOfMemory, Polled, ReplyFuture, ReplyStream, Request, Service, ServiceResult,
@@ -22,7 +23,7 @@ impl Calls for ServiceRows {
         match call {
             "script_service" => played(row),
             "polled_request" => polled(row),
-            "script_target" => verdict(row, &ScriptTarget),
+            "script_target" => of_target(row),
             "arc_target" => of_arc(row),
             _ => Err(RowError::NoSuchCall),
         }
@@ -35,7 +36,10 @@ pub(crate) fn rules(alloc: Global, rcode: u8) -> Result<Rules, RowError> {
     let answers = [ScriptAnswer::Pend, ScriptAnswer::Rcode(rcode)];
     let answers = ScriptAnswers::from_slice(alloc, answers.as_slice())?;
     let mut rules = Rules::from_vec(Vec::new(alloc));
-    rules.push(Rule { answers })?;
+    rules.push(Rule {
+        name: None,
+        answers,
+    })?;
     Ok(rules)
 }
 
@@ -116,8 +120,18 @@ fn reply_said(row: &mut Row<'_>, given: &CallResult) {
     }
 }
 
+/// A target of no rules.
+fn target(row: &Row<'_>) -> ScriptTarget {
+    ScriptTarget::new(NotifyRules::new(row.alloc()))
+}
+
+fn of_target(row: &mut Row<'_>) -> Result<(), RowError> {
+    let target = target(row);
+    verdict(row, &target)
+}
+
 fn of_arc(row: &mut Row<'_>) -> Result<(), RowError> {
-    let target = Arc::new(row.alloc(), ScriptTarget)?;
+    let target = Arc::new(row.alloc(), target(row))?;
     verdict(row, &target)
 }
 

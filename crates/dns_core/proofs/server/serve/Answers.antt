@@ -1,3 +1,4 @@
+use Rattle.dns_client.specs.Serving.{serving}
 use Rattle.std.proofs.Common.{◌≡◌, ◌+◌, ap, sym, ◌∙◌, ◌∷◌, ◌++◌, [], take, drop, length, ◌<◌, add-one, drop-cons}
 use Rattle.std.proofs.lemmas.List.{take_more}
 use Rattle.dns_service.specs.declared.event.Event.{Event}
@@ -8,13 +9,13 @@ use Rattle.dns_core.proofs.server.serve.Goals as goal
 pub loop-event-init : goal.loop-event-init
 unfolding out
 loop-event-init g c = record {
-  told = ap (λ os. os ++ out_after (g.W.Served.answer c.args.service.now) c.args.settings.now [] c.args.events.now) c.new-outs.ensures.items;
-  serves = c.new-server.ensures (g.W.Served.answer c.args.service.now);
+  told = ap (λ os. os ++ out_after (serving (g.W.Served.answer c.args.service.now) (g.W.Served.hint c.args.service.now)) c.args.settings.now [] c.args.events.now) c.new-outs.ensures.items;
+  serves = c.new-server.ensures (serving (g.W.Served.answer c.args.service.now) (g.W.Served.hint c.args.service.now));
 }
 
 pub loop-event-preserved : goal.loop-event-preserved
 loop-event-preserved g c =
-    let b = g.W.Served.answer c.args.service.now in
+    let b = serving (g.W.Served.answer c.args.service.now) (g.W.Served.hint c.args.service.now) in
     let i = c.loop-event.event-index in
     let es = c.args.events.now in
     let e = c.event-item.result in

@@ -1,12 +1,11 @@
 use Rattle.std.proofs.Common.{◌≡◌, ◌+◌, ◌≤◌, length}
 use Rattle.std.specs.Str.Lines.{lines}
-use Rattle.dns_server.specs.Script.{script, after_lines, with_plain_streams}
-use Rattle.dns_trace.specs.Reading.{◌>>=◌}
+use Rattle.dns_server.specs.Script.{script, after_lines}
 use Rattle.dns_server.proofs.reader.read_script.Given as goal
 
 abbrev pub invariant-loop-rest : goal.invariant-loop-rest
 invariant-loop-rest l = record {
-  told : (after_lines l.line l.all (lines l.rest) >>= with_plain_streams) ≡ script l.text;
+  told : after_lines l.line l.all (lines l.rest) ≡ script l.text;
   few : l.line + length l.rest ≤ length l.text + 1;
 }
 

@@ -1,3 +1,4 @@
+use Rattle.dns_client.specs.Serving.{serving}
 use Rattle.std.proofs.Common.{◌≡◌, ◌≢◌, ℕ, length, refl, ap, sym, ◌∙◌, arith, true, [], ◌∷◌, length-append, zero-add}
 use Rattle.std.specs.Prelude.{nat_lt}
 use Rattle.std.specs.Ordering.{nat_cmp}
@@ -22,7 +23,7 @@ returns g c = record {
       let others : (q : ℕ) → q ≢ c.args.self.now.count → get nat_cmp c.insert.new.self q ≡ get nat_cmp c.args.self.now.unfinished q = λ q ne. grind (arith, common_steps, nat_tests, u.0 q) in
       rw few (
         omega (arith, h.0, length-append rs (asked c.args.request ∷ [])),
-        keeps_push (request_answer g.W.Future.ReplyFuture.answer g.W.Stream.ReplyStream.answer) (g.W.Served.answer c.args.service.now) c.args.self.now.unfinished c.insert.new.self rs c.args.self.now.count (asked c.args.request) (Future c.in_ok-future.future) h.0 h.1 others u.1
+        keeps_push (request_answer g.W.Future.ReplyFuture.answer g.W.Stream.ReplyStream.answer) (serving (g.W.Served.answer c.args.service.now) (g.W.Served.hint c.args.service.now)) c.args.self.now.unfinished c.insert.new.self rs c.args.self.now.count (asked c.args.request) (Future c.in_ok-future.future) h.0 h.1 others u.1
             (refl, λ j. c.in_ok-future.ensures.answers j ∙ ap (g.W.Served.answer c.args.service.now c.args.request) (sym (zero-add j))),
       );
 }

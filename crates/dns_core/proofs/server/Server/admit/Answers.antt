@@ -1,3 +1,4 @@
+use Rattle.dns_client.specs.Serving.{serving}
 use Rattle.std.proofs.Common.{◌≡◌, ◌<◌, ◌+◌, ℕ, ap, sym, ◌∙◌, true, [], ◌∷◌, ◌++◌, lt-ltb}
 use Rattle.std.specs.Prelude.{not}
 use Rattle.dns_client.specs.Slate.{Slate, Told, Unused}
@@ -14,7 +15,7 @@ use Rattle.dns_core.proofs.server.Server.admit.Goals as goal
 pub returns : goal.returns
 returns g c = λ settings q h.
     let a = request_answer g.W.Future.ReplyFuture.answer g.W.Stream.ReplyStream.answer in
-    let b = g.W.Served.answer c.args.service.now in
+    let b = serving (g.W.Served.answer c.args.service.now) (g.W.Served.hint c.args.service.now) in
     let e = c.args.event.now in
     let n = new_from a b settings c.args.self.now q e (ap begins c.requires.kind) c.requires.unused h in
     let s = slate b settings e.client q in

@@ -1,3 +1,4 @@
+use Rattle.dns_client.specs.Serving.{serving}
 use Rattle.std.proofs.Common.{◌≡◌, ap, sym, ◌∙◌, false, [], ◌∷◌, ◌++◌}
 use Rattle.dns_client.specs.Slate.{Slate, Told, Unused}
 use Rattle.dns_service.specs.PolledRequest.{request_answer}
@@ -11,12 +12,12 @@ use Rattle.dns_core.proofs.server.Server.datagram.Goals as goal
 
 pub returns-then-contains : goal.returns-then-contains
 returns-then-contains g c = λ settings q h.
-    idle_goes (request_answer g.W.Future.ReplyFuture.answer g.W.Stream.ReplyStream.answer) (g.W.Served.answer c.args.service.now) settings c.args.self.now q c.args.event.now c.new.result.items (ap begins c.requires.kind) c.new.ensures.items (sym c.if-contains.ensures) h
+    idle_goes (request_answer g.W.Future.ReplyFuture.answer g.W.Stream.ReplyStream.answer) (serving (g.W.Served.answer c.args.service.now) (g.W.Served.hint c.args.service.now)) settings c.args.self.now q c.args.event.now c.new.result.items (ap begins c.requires.kind) c.new.ensures.items (sym c.if-contains.ensures) h
 
 pub returns : goal.returns
 returns g c = λ settings q h.
     let a = request_answer g.W.Future.ReplyFuture.answer g.W.Stream.ReplyStream.answer in
-    let b = g.W.Served.answer c.args.service.now in
+    let b = serving (g.W.Served.answer c.args.service.now) (g.W.Served.hint c.args.service.now) in
     let e = c.args.event.now in
     let n = new_from a b settings c.args.self.now q e (ap begins c.requires.kind) (sym c.if-contains.ensures) h in
     let s = slate b settings e.client q in

@@ -1,3 +1,4 @@
+use Rattle.dns_client.specs.Serving.{serving}
 use Rattle.std.proofs.Common.{◌≡◌, ◌≤◌, ap, sym, ◌∙◌, [], ◌∷◌, Bool}
 use Rattle.std.proofs.lemmas.Bool.{le-ltb}
 use Rattle.dns_service.specs.declared.event.Output.TheVariants.{TurnedAway}
@@ -12,12 +13,12 @@ use Rattle.dns_core.proofs.server.Server.offer.Goals as goal
 
 pub returns-then-contains : goal.returns-then-contains
 returns-then-contains g c = λ settings q h.
-    idle_goes (request_answer g.W.Future.ReplyFuture.answer g.W.Stream.ReplyStream.answer) (g.W.Served.answer c.args.service.now) settings c.args.self.now q c.args.event.now c.new.result.items (ap begins c.requires) c.new.ensures.items (sym c.if-contains.ensures) h
+    idle_goes (request_answer g.W.Future.ReplyFuture.answer g.W.Stream.ReplyStream.answer) (serving (g.W.Served.answer c.args.service.now) (g.W.Served.hint c.args.service.now)) settings c.args.self.now q c.args.event.now c.new.result.items (ap begins c.requires) c.new.ensures.items (sym c.if-contains.ensures) h
 
 pub returns-then-self-max_concurrent_connections : goal.returns-then-self-max_concurrent_connections
 returns-then-self-max_concurrent_connections g c = λ settings q h.
     let a = request_answer g.W.Future.ReplyFuture.answer g.W.Stream.ReplyStream.answer in
-    let b = g.W.Served.answer c.args.service.now in
+    let b = serving (g.W.Served.answer c.args.service.now) (g.W.Served.hint c.args.service.now) in
     let e = c.args.event.now in
     let n = new_from a b settings c.args.self.now q e (ap begins c.requires) (sym c.if-contains.ensures) h in
     let s = slate b settings e.client q in

@@ -1,0 +1,112 @@
+//! What is kept of a request that isn't done.
+
+ghost use Rattle.std.specs.Prelude.{◌≡◌, ℕ, IfOk, OnOk};
+ghost use Rattle.std.specs.Arc.{arc_value};
+ghost use Rattle.dns_service.specs.Given.{message_in};
+ghost use Rattle.dns_service.specs.PolledRequest.{request_answer};
+ghost use Rattle.dns_service.specs.Transport.{limit, limit_over};
+ghost use Rattle.dns_client.specs.PolledAt.{IsPolled};
+ghost use Rattle.dns_client.specs.Turns.{reply_to};
+
+use dns_base::{AdditionalBuilder, Message};
+use dns_name::OptRcode;
+use dns_service::{
+    OutOfMemory, Polled, PolledRequest, ReplyFuture, ReplyStream, Request, Served, ServiceError,
+    ServiceResult, fit, limit_over, mk_error_response,
+};
+use std::alloc::Global;
+use std::sync::Arc;
+
+/// A request that isn't done: its polled state, its message, and how many octets a reply may take, where that is limited.
+#[derive(Drop)]
+pub struct KeptRequest<F, R> {
+    polled: PolledRequest<F, R>,
+    message: Arc<Message>,
+    limit: Option<u16>,
+}
+
+/// Asks a service a request.
+pub fn call<W: Served>(
+    alloc: Global,
+    service: &W,
+    request: Request<()>,
+) -> Result<KeptRequest<W::Future, W::Stream>, OutOfMemory>
+    requires { W.can_call service.now }
+    ensures answers { IfOk result (λ q. (k : ℕ) → request_answer W.Future.answer W.Stream.answer q.polled k ≡ W.answer service.now request k) }
+    ensures message { IfOk result (λ q. arc_value q.message ≡ request.octets) }
+    ensures limit { IfOk result (λ q. q.limit ≡ limit_over request.transport (limit (W.hint service.now request))) }
+{
+    let mut request = request;
+    let message = Arc::try_clone(request.message())?;
+    let future = service.call(alloc, &mut request)?;
+    let transport = request.transport_ctx();
+    Ok(KeptRequest {
+        polled: PolledRequest::Future(future),
+        message,
+        limit: limit_over(transport, transport.hint()),
+    })
+}
+
+impl<F, R> KeptRequest<F, R>
+where
+    F: ReplyFuture<Stream = R>,
+    R: ReplyStream,
+{
+    /// Takes the next answer: the reply that is sent for it, where there is one, and whether the request is done.
+    pub fn poll(&mut self, alloc: Global) -> Result<(Option<AdditionalBuilder>, bool), OutOfMemory>
+        ensures { IfOk result (λ p. IsPolled (request_answer F.answer R.answer) self.old (message_in p.0) p.1 self.new) }
+    {
+        match self.polled.poll_next(alloc)? {
+            Polled::Pending => Ok((None, false)),
+            Polled::Ready(None) => Ok((None, true)),
+            Polled::Ready(Some(item)) => answered(alloc, &self.message, self.limit, item),
+        }
+    }
+}
+
+/// The reply that is sent for an item, where there is one, and whether its request is done.
+fn answered(
+    alloc: Global,
+    message: &Message,
+    limit: Option<u16>,
+    item: ServiceResult,
+) -> Result<(Option<AdditionalBuilder>, bool), OutOfMemory> {
+    match item {
+        Ok(given) => Ok((given.into_inner().0, false)),
+        Err(error) => {
+            let reply = error_reply(alloc, message, limit, error)?;
+            Ok((Some(reply), true))
+        }
+    }
+}
+
+/// The reply that is sent for an error item.
+fn error_reply(
+    alloc: Global,
+    message: &Message,
+    limit: Option<u16>,
+    error: ServiceError,
+) -> Result<AdditionalBuilder, OutOfMemory>
+    ensures { IfOk result (λ b. Some b.message ≡ reply_to limit message.now (Ready (Some (Err error)))) }
+{
+    refused(alloc, message, limit, OptRcode::from(error.rcode()))
+}
+
+ghost use Rattle.std.specs.Prelude.{Some};
+ghost use Rattle.dns_service.specs.declared.service.Polled.TheVariants.{Ready};
+ghost use Rattle.dns_service.specs.Cut.{sized};
+ghost use Rattle.dns_service.specs.ErrorReply.{error_reply};
+
+/// The error reply to a message, of so many octets at most where that is limited.
+pub fn refused(
+    alloc: Global,
+    message: &Message,
+    limit: Option<u16>,
+    rcode: OptRcode,
+) -> Result<AdditionalBuilder, OutOfMemory>
+    ensures { IfOk result (λ b. b.message ≡ sized limit (error_reply message.now rcode)) }
+{
+    let mut reply = mk_error_response(alloc, message, rcode)?;
+    fit(alloc, limit, &mut reply)?;
+    Ok(reply)
+}

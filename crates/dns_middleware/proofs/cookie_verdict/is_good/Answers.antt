@@ -1,0 +1,6 @@
+use Rattle.std.proofs.Common.{rules}
+use Rattle.dns_middleware.proofs.CookieLaws.{good_checked}
+use Rattle.dns_middleware.proofs.cookie_verdict.is_good.Goals as goal
+
+pub returns : goal.returns
+returns c = good_checked _ _ _ _ _ _ (λ s b h. search rules) c.check_server_hash.ensures

@@ -1,5 +1,0 @@
-use Rattle.dns_middleware.proofs.ItemLaws.{begin_with_opt}
-use Rattle.dns_middleware.proofs.laws.items_begin_with_opt.Goals as goal
-
-pub returns : goal.returns
-returns c = begin_with_opt

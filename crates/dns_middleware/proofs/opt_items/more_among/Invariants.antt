@@ -1,9 +1,0 @@
-use Rattle.std.proofs.Common.{◌≡◌, length}
-use Rattle.dns_middleware.specs.OptItems.{items_among}
-use Rattle.dns_middleware.proofs.opt_items.more_among.Given as goal
-
-abbrev pub invariant-walk : goal.invariant-walk
-invariant-walk l = items_among l.left ≡ items_among l.fn.records
-
-abbrev pub decreases-walk : goal.decreases-walk
-decreases-walk l = length l.left

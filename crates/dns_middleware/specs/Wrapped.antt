@@ -1,0 +1,100 @@
+-- The service in its layers: how a request is taken, and what is answered, by the settings, the given service and the target. No
+-- layer is named here.
+use Rattle.std.specs.Prelude.{ℕ, Bool, true, false, List, Option, Some, None, if◌then◌else◌}
+use Rattle.dns_base.specs.Msg.{Msg}
+use Rattle.dns_service.specs.declared.asked.Asked.{Asked}
+use Rattle.dns_service.specs.declared.message.TransportSpecificContext.{TransportSpecificContext}
+use Rattle.dns_service.specs.Answer.{Answer, mapped}
+use Rattle.dns_service.specs.Asked.{asked_of, client_size}
+use Rattle.dns_service.specs.ErrorReply.{error_reply}
+use Rattle.dns_service.specs.Req.{Req}
+use Rattle.dns_service.specs.Transport.{hint_of, is_stream, limit}
+use Rattle.dns_middleware.specs.declared.notice.Notice.{Notice}
+use Rattle.dns_middleware.specs.declared.refusal.Refusal.{Refusal}
+use Rattle.dns_middleware.specs.declared.refusal.Refusal.TheVariants.{FromOutside, FromInside}
+use Rattle.dns_middleware.specs.declared.settings.Settings.{Settings}
+use Rattle.dns_middleware.specs.Cookies.{cookie_own}
+use Rattle.dns_middleware.specs.Edns.{edns_post, opt_refusal, passed_by}
+use Rattle.dns_middleware.specs.Mandatory.{mand_post, mandatory_refusal}
+use Rattle.dns_middleware.specs.Notify.{PolledVerdict, asking, notice_of}
+use Rattle.dns_middleware.specs.Rewritten.{own_reply, rewritten}
+
+-- a reply of the server's own, rewritten by the mandatory rule alone, or also by that of EDNS; a question to the target; or the
+-- request as it is passed to the given service
+pub data Gate (Meta : Type 0) : Type 0 where
+  Outer : Msg → Gate Meta
+  Inner : Msg → Gate Meta
+  Ask : Notice → Gate Meta
+  Pass : Req Meta → Gate Meta
+
+-- the code of what EDNS refuses, and of what is refused before that
+abbrev pub inner_refusal : Option ℕ → Option Refusal
+inner_refusal None = None
+inner_refusal (Some code) = Some (FromInside code)
+
+abbrev pub outer_refusal : Option ℕ → Option Refusal → Option Refusal
+outer_refusal (Some code) after = Some (FromOutside code)
+outer_refusal None after = after
+
+abbrev pub refusal_by : Settings → TransportSpecificContext → Asked → Option Refusal
+refusal_by s t a = outer_refusal (mandatory_refusal s.strict a) (if s.edns then inner_refusal (opt_refusal (is_stream t) a.opt) else None)
+
+abbrev pub refusal_of : {Meta : Type 0} → Settings → Req Meta → Option Refusal
+refusal_of s r = refusal_by s r.transport (asked_of r.octets)
+
+-- one case where it fits, and else the others
+abbrev pub refused_or : {Meta : Type 0} → List ℕ → Option Refusal → Gate Meta → Gate Meta
+refused_or o (Some (FromOutside code)) more = Outer (error_reply o code)
+refused_or o (Some (FromInside code)) more = Inner (error_reply o code)
+refused_or o None more = more
+
+abbrev pub inner_or : {Meta : Type 0} → Option Msg → Gate Meta → Gate Meta
+inner_or (Some m) more = Inner m
+inner_or None more = more
+
+abbrev pub ask_or : {Meta : Type 0} → Option Notice → Gate Meta → Gate Meta
+ask_or (Some notice) more = Ask notice
+ask_or None more = more
+
+-- the client's size, where EDNS is on
+abbrev pub size_by : Settings → Asked → Option ℕ
+size_by s a = if s.edns then client_size a.opt else None
+
+-- the request as it is passed on
+abbrev pub passed : {Meta : Type 0} → Settings → Req Meta → Req Meta
+passed s r = passed_by (size_by s (asked_of r.octets)) r
+
+-- how a request is taken: the first case that fits
+abbrev pub gate : {Meta : Type 0} → Settings → Req Meta → Gate Meta
+gate s r =
+    refused_or r.octets (refusal_of s r)
+    (inner_or (cookie_own s.cookies s.denied r)
+    (ask_or (notice_of r)
+    (Pass (passed s r))))
+
+-- the hint that the request has after the call
+abbrev pub left_by : {Meta : Type 0} → Option Refusal → Settings → Req Meta → Option ℕ
+left_by (Some refused) s r = hint_of r.transport
+left_by None s r = hint_of (passed s r).transport
+
+abbrev pub hint_left : {Meta : Type 0} → Settings → Req Meta → Option ℕ
+hint_left s r = left_by (refusal_of s r) s r
+
+-- how many octets a reply over UDP may take
+abbrev pub request_limit : {Meta : Type 0} → Settings → Req Meta → ℕ
+request_limit s r = limit (hint_left s r)
+
+-- the rewriting of a reply from inside the mandatory rule
+abbrev pub inner_post : {Meta : Type 0} → Settings → ℕ → Req Meta → Msg → Msg
+inner_post s n r m = mand_post n r (if s.edns then edns_post r m else m)
+
+-- answer k to a request that is taken like this
+abbrev pub by_gate : {Meta : Type 0} → Settings → (Req Meta → ℕ → Answer) → (Notice → ℕ → PolledVerdict) → ℕ → Req Meta → Gate Meta → ℕ → Answer
+by_gate s svc tgt n r (Outer m) k = own_reply (mand_post n r m) k
+by_gate s svc tgt n r (Inner m) k = own_reply (inner_post s n r m) k
+by_gate s svc tgt n r (Ask notice) k = mapped (rewritten (inner_post s n r)) (asking r.octets (tgt notice) k)
+by_gate s svc tgt n r (Pass q) k = mapped (rewritten (inner_post s n r)) (svc q k)
+
+-- answer k of the service in its layers
+abbrev pub replies : {Meta : Type 0} → Settings → (Req Meta → ℕ → Answer) → (Notice → ℕ → PolledVerdict) → Req Meta → ℕ → Answer
+replies s svc tgt r k = by_gate s svc tgt (request_limit s r) r (gate s r) k

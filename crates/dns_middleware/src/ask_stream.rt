@@ -1,0 +1,67 @@
+//! Waits for a verdict, and then replies once.
+
+ghost use Rattle.std.specs.Prelude.{◌≡◌, ℕ, IfOk};
+ghost use Rattle.std.specs.Arc.{arc_value};
+ghost use Rattle.dns_middleware.specs.Notify.{ask_answer, ask_size, asking};
+ghost use Rattle.dns_middleware.specs.Verdicts.{verdict_on};
+
+use crate::notice::Notice;
+use crate::notifiable::{Notifiable, VerdictFuture};
+use crate::notify_reply::notify_reply;
+use dns_base::Message;
+use dns_service::{CallResult, OutOfMemory, Polled, ReplyStream, ServiceResult};
+use std::alloc::Global;
+use std::sync::Arc;
+
+/// Pending as a verdict is, then its reply, then the end.
+#[derive(Drop)]
+pub enum AskStream<V> {
+    Asking(V, Arc<Message>),
+    Answered,
+}
+
+impl<V: VerdictFuture> ReplyStream for AskStream<V> {
+    ghost answer = { ask_answer V.verdict };
+
+    ghost size = { ask_size };
+
+    fn poll_next(&mut self, alloc: Global) -> Result<Polled<Option<ServiceResult>>, OutOfMemory> {
+        match self {
+            AskStream::Answered => Ok(Polled::Ready(None)),
+            AskStream::Asking(future, request) => match future.poll(alloc)? {
+                Polled::Pending => Ok(Polled::Pending),
+                Polled::Ready(verdict) => {
+                    let reply = notify_reply(alloc, request, verdict)?;
+                    *self = AskStream::Answered;
+                    Ok(Polled::Ready(Some(Ok(CallResult::new(reply)))))
+                }
+            },
+        }
+    }
+
+    fn size_hint(&self) -> (usize, Option<usize>) {
+        match self {
+            AskStream::Asking(_, _) => (1, Some(1)),
+            AskStream::Answered => (0, Some(0)),
+        }
+    }
+}
+
+/// Asks a target on behalf of a request.
+pub(crate) fn ask<N: Notifiable>(
+    alloc: Global,
+    target: &N,
+    request: &Arc<Message>,
+    notice: &Notice,
+) -> Result<AskStream<N::Future>, OutOfMemory>
+    ensures { IfOk result (λ s. (k : ℕ) → ⟦<AskStream<N::Future> as ReplyStream>⟧.answer s k ≡ asking (arc_value request.now) (verdict_on (N.verdict target.now) notice.now) k) }
+{
+    let future = target.notify_zone_changed(
+        alloc,
+        notice.class,
+        &notice.apex_name,
+        notice.serial,
+        notice.source,
+    )?;
+    Ok(AskStream::Asking(future, Arc::try_clone(request)?))
+}

@@ -1,0 +1,116 @@
+//! The cookie layer (RFC 7873).
+
+ghost use Rattle.std.specs.Prelude.{◌≡◌, ℕ, Some, None, true, IfOk, OnErr, OnOk};
+ghost use Rattle.dns_middleware.specs.Cookies.{cookies, cookies_hint, secret_where};
+
+use crate::cookie_replies::cookie_own;
+use crate::layered::alone;
+use dns_base::Addrs;
+use dns_name::IpAddr;
+use dns_service::{Request, Service, read_asked};
+use dns_stream::{MiddlewareStream, Now, Once, OutOfMemory};
+use std::alloc::Global;
+
+/// The stream of a cookie layer round a service: the inner replies, or a reply of the layer's own.
+pub type CookieStream<S, Meta> = MiddlewareStream<
+    <S as Service<Meta>>::Future,
+    <S as Service<Meta>>::Stream,
+    Once,
+    Once,
+>;
+
+/// A service behind DNS cookies. A disabled layer passes each request.
+#[derive(Drop)]
+pub struct CookiesMiddlewareSvc<S> {
+    next: S,
+    secret: [u8; 16],
+    denied: Addrs,
+    enabled: bool,
+}
+
+impl<S> CookiesMiddlewareSvc<S> {
+    ghost use Rattle.std.specs.Prelude.{[]};
+
+    /// Round a service, under a secret of the server's, with no address denied, and enabled.
+    pub fn new(alloc: Global, next: S, secret: [u8; 16]) -> Self
+        ensures { result ≡ record { next = next; secret = secret; denied = []; enabled = true } }
+    {
+        CookiesMiddlewareSvc {
+            next,
+            secret,
+            denied: Addrs::from_vec(Vec::new(alloc)),
+            enabled: true,
+        }
+    }
+
+    /// The same layer, which denies these addresses service over UDP without a good cookie.
+    pub fn with_denied_ips(self, denied: Vec<IpAddr>) -> Self
+        ensures { result ≡ record self { denied = denied.items } }
+    {
+        CookiesMiddlewareSvc {
+            next: self.next,
+            secret: self.secret,
+            denied: Addrs::from_vec(denied),
+            enabled: self.enabled,
+        }
+    }
+
+    /// The same layer, enabled or not.
+    pub fn enable(self, enabled: bool) -> Self
+        ensures { result ≡ record self { enabled = enabled } }
+    {
+        CookiesMiddlewareSvc {
+            next: self.next,
+            secret: self.secret,
+            denied: self.denied,
+            enabled,
+        }
+    }
+
+    /// The secret, where the layer is enabled.
+    fn secret(&self) -> Option<[u8; 16]>
+        ensures { result ≡ secret_where self.now.enabled self.now.secret }
+    {
+        if self.enabled {
+            Some(self.secret)
+        } else {
+            None
+        }
+    }
+}
+
+impl<S, Meta> Service<Meta> for CookiesMiddlewareSvc<S>
+where
+    S: Service<Meta>,
+{
+    type Stream = CookieStream<S, Meta>;
+
+    type Future = Now<CookieStream<S, Meta>>;
+
+    ghost answer = { λ s. cookies (secret_where s.enabled s.secret) s.denied (S.answer s.next) };
+
+    ghost hint = { λ s. cookies_hint (secret_where s.enabled s.secret) s.denied (S.hint s.next) };
+
+    ghost can_call = { λ s. S.can_call s.next };
+
+    fn call(
+        &self,
+        alloc: Global,
+        request: &mut Request<Meta>,
+    ) -> Result<Now<CookieStream<S, Meta>>, OutOfMemory> {
+        let asked = read_asked(request.message());
+        match cookie_own(
+            alloc,
+            self.secret(),
+            self.denied.as_slice(),
+            request,
+            &asked,
+        )? {
+            Some(reply) => Ok(Now::new(MiddlewareStream::Result(alone(reply)))),
+            None => {
+                let future = self.next.call(alloc, request)?;
+                Ok(Now::new(MiddlewareStream::IdentityFuture(future)))
+            }
+        }
+    }
+}

@@ -1,0 +1,48 @@
+//! What is refused before a request is looked at for cookies and notices.
+
+ghost use Rattle.std.specs.Prelude.{◌≡◌};
+ghost use Rattle.dns_middleware.specs.Wrapped.{refusal_by, size_by};
+
+use crate::edns::opt_refusal;
+use crate::mandatory::mandatory_refusal;
+use crate::settings::Settings;
+use dns_name::OptRcode;
+use dns_service::{Asked, TransportSpecificContext};
+
+/// Why a request is refused: by what each server does, or by EDNS, whose rule its reply then goes through.
+#[derive(Clone, Copy, Debug, PartialEq, Eq)]
+pub enum Refusal {
+    FromOutside(OptRcode),
+    FromInside(OptRcode),
+}
+
+/// Why what is asked over a transport is refused, where it is.
+pub(crate) fn refusal_by(
+    settings: &Settings,
+    transport: &TransportSpecificContext,
+    asked: &Asked,
+) -> Option<Refusal>
+    ensures { result ≡ refusal_by settings.now transport.now asked.now }
+{
+    if let Some(rcode) = mandatory_refusal(settings.strict, asked) {
+        return Some(Refusal::FromOutside(rcode));
+    }
+    if !settings.edns {
+        return None;
+    }
+    match opt_refusal(transport.is_non_udp(), &asked.opt) {
+        Some(rcode) => Some(Refusal::FromInside(rcode)),
+        None => None,
+    }
+}
+
+/// The client's size, where EDNS is on.
+pub(crate) fn size_by(settings: &Settings, asked: &Asked) -> Option<u16>
+    ensures { result ≡ size_by settings.now asked.now }
+{
+    if settings.edns {
+        asked.opt.client_size()
+    } else {
+        None
+    }
+}

@@ -1,0 +1,60 @@
+//! The replies of the service in its layers, as one type that nests nothing.
+
+ghost use Rattle.std.specs.Prelude.{◌≡◌, ℕ, IfOk, OnOk};
+ghost use Rattle.dns_middleware.specs.WrappedStreams.{wrapped_answer, wrapped_size};
+
+use crate::ask_stream::AskStream;
+use crate::notifiable::VerdictFuture;
+use crate::rewrite::rewrite_answer;
+use crate::wrap_post::WrapPost;
+use dns_service::{Once, OutOfMemory, Polled, ReplyStream, ServiceResult};
+use std::alloc::Global;
+
+/// The replies of the service in its layers.
+#[derive(Drop)]
+pub enum WrappedStream<R, V> {
+    /// A reply of its own.
+    Own(Once),
+    /// The reply by a target's verdict.
+    Asking(AskStream<V>, WrapPost),
+    /// The replies of the given service, rewritten.
+    Passed(R, WrapPost),
+}
+
+impl<R, V> ReplyStream for WrappedStream<R, V>
+where
+    R: ReplyStream,
+    V: VerdictFuture,
+{
+    ghost answer = { wrapped_answer ⟦<Once as ReplyStream>⟧.answer R.answer V.verdict };
+
+    ghost size = { wrapped_size ⟦<Once as ReplyStream>⟧.size R.size };
+
+    fn poll_next(&mut self, alloc: Global) -> Result<Polled<Option<ServiceResult>>, OutOfMemory> {
+        match self {
+            WrappedStream::Own(stream) => stream.poll_next(alloc),
+            WrappedStream::Asking(stream, post) => {
+                let mut polled = stream.poll_next(alloc);
+                if let Ok(answer) = &mut polled {
+                    rewrite_answer(post, alloc, answer)?;
+                }
+                polled
+            }
+            WrappedStream::Passed(stream, post) => {
+                let mut polled = stream.poll_next(alloc);
+                if let Ok(answer) = &mut polled {
+                    rewrite_answer(post, alloc, answer)?;
+                }
+                polled
+            }
+        }
+    }
+
+    fn size_hint(&self) -> (usize, Option<usize>) {
+        match self {
+            WrappedStream::Own(stream) => stream.size_hint(),
+            WrappedStream::Asking(stream, _) => stream.size_hint(),
+            WrappedStream::Passed(stream, _) => stream.size_hint(),
+        }
+    }
+}

@@ -1,0 +1,65 @@
+//! The lines of the target's rules.
+
+ghost use Rattle.std.specs.Prelude.{◌≡◌, codes};
+ghost use Rattle.std.specs.List.{list_all};
+ghost use Rattle.std.specs.Str.{bytes_eq};
+ghost use Rattle.dns_trace.specs.Reading.{GivesLine};
+ghost use Rattle.dns_server.specs.Script.{notify_line, verdict_word, words_between};
+
+use crate::notify_rule::NotifyRule;
+use crate::script::Script;
+use dns_core::NotifyError;
+use dns_trace::{LineError, Reason, Words, name};
+use std::alloc::Global;
+
+/// `ok`, `notauth` or `other`.
+#[tactic(auto, unfolding(crate::specs::Script::verdict_word))]
+fn verdict(word: &[u8]) -> Result<Result<(), NotifyError>, Reason>
+    ensures { result ≡ verdict_word word.now }
+{
+    if word == b"ok".as_slice() {
+        return Ok(Ok(()));
+    }
+    if word == b"notauth".as_slice() {
+        return Ok(Err(NotifyError::NotAuthForZone));
+    }
+    if word == b"other".as_slice() {
+        return Ok(Err(NotifyError::Other));
+    }
+    Err(Reason::Unbuilt)
+}
+
+/// Whether the words between the name and the last one are `pend`.
+fn all_pend(words: &Words) -> bool
+    ensures { result ≡ list_all (λ w. bytes_eq w (codes "pend")) (words_between words.now) }
+{
+    for i in 2..words.len().saturating_sub(1) {
+        if words.word(i) != b"pend".as_slice() {
+            return false;
+        }
+    }
+    true
+}
+
+/// A line `notify NAME pend .. ok|notauth|other`.
+#[tactic(auto, unfolding(crate::specs::Script::notify_line))]
+pub fn read_notify(alloc: Global, script: Script, words: &Words) -> Result<Script, LineError>
+    ensures { GivesLine (λ s. s) result (notify_line script words.now) }
+{
+    if !script.events().is_empty() || words.len() < 3 {
+        return Err(LineError::Refused(Reason::Unbuilt));
+    }
+    let apex = name(alloc, words.word(1))?;
+    if !all_pend(words) {
+        return Err(LineError::Refused(Reason::Unbuilt));
+    }
+    let verdict = verdict(words.word(words.len() - 1))?;
+    let pends = words.len() - 3;
+    let mut script = script;
+    script.push_zone(NotifyRule {
+        apex,
+        pends,
+        verdict,
+    })?;
+    Ok(script)
+}

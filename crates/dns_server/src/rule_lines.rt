@@ -1,0 +1,51 @@
+//! The lines of the service's rules.
+
+ghost use Rattle.std.specs.Prelude.{◌≡◌, [], drop, option_map};
+ghost use Rattle.dns_trace.specs.Reading.{GivesLine};
+ghost use Rattle.dns_server.specs.AnswerWords.{answers_after};
+ghost use Rattle.dns_server.specs.Script.{rule_line, rule_name};
+
+use crate::answer_words::answer;
+use crate::rule::{Rule, ScriptAnswers};
+use crate::script::Script;
+use dns_name::Name;
+use dns_trace::{LineError, Reason, Words, name};
+use std::alloc::Global;
+
+/// The answers from the third word on.
+fn answers(alloc: Global, words: &Words) -> Result<ScriptAnswers, LineError>
+    ensures { GivesLine (λ a. a) result (answers_after [] (drop 2 words.now)) }
+{
+    let mut answers = Vec::new(alloc);
+    for i in 2..words.len() {
+        let given = answer(words.word(i))?;
+        answers.push(given)?;
+    }
+    Ok(ScriptAnswers::from_vec(alloc, answers)?)
+}
+
+/// `*` for all names, or a name.
+#[tactic(auto, unfolding(crate::specs::Script::rule_name))]
+fn rule_name(alloc: Global, word: &[u8]) -> Result<Option<Name>, LineError>
+    ensures { GivesLine (λ n. n) result (rule_name word.now) }
+{
+    if word == b"*".as_slice() {
+        return Ok(None);
+    }
+    Ok(Some(name(alloc, word)?))
+}
+
+/// A line `rule NAME|* ANSWER ..`.
+#[tactic(auto, unfolding(crate::specs::Script::rule_line))]
+pub fn read_rule(alloc: Global, script: Script, words: &Words) -> Result<Script, LineError>
+    ensures { GivesLine (λ s. s) result (rule_line script words.now) }
+{
+    if !script.events().is_empty() || words.len() < 3 {
+        return Err(LineError::Refused(Reason::Unbuilt));
+    }
+    let name = rule_name(alloc, words.word(1))?;
+    let answers = answers(alloc, words)?;
+    let mut script = script;
+    script.push_rule(Rule { name, answers })?;
+    Ok(script)
+}

@@ -1,0 +1,32 @@
+//! The line that configures the datagram server.
+
+ghost use Rattle.std.specs.Prelude.{◌≡◌};
+ghost use Rattle.dns_trace.specs.DgramLine.{dgram_line, sized_dgram};
+
+use crate::reason::Reason;
+use crate::values::{num, size};
+use crate::words::Words;
+use dns_service::DgramConfig;
+
+/// The configuration of these numbers, each limited to its range: a size in octets and a time in milliseconds.
+fn configure(size: Option<u16>, write: u64) -> DgramConfig
+    ensures { result ≡ sized_dgram size write }
+{
+    let mut dgram = DgramConfig::new();
+    dgram.set_max_response_size(size);
+    dgram.set_write_timeout(write);
+    dgram
+}
+
+/// The configuration of a line `dgram SIZE WRITE`. The first word is not looked at.
+#[tactic(auto, unfolding(crate::specs::DgramLine::dgram_line))]
+pub fn read_dgram(words: &Words) -> Result<DgramConfig, Reason>
+    ensures { result ≡ dgram_line words.now }
+{
+    if words.len() != 3 {
+        return Err(Reason::Unbuilt);
+    }
+    let size = size(words.word(1))?;
+    let write = num(words.word(2))?;
+    Ok(configure(size, write))
+}
