@@ -64,26 +64,10 @@ where
         alloc: Global,
         request: &mut Request<Meta>,
     ) -> Result<Now<Layered<S, Meta, EdnsPost>>, OutOfMemory> {
-        if !self.enabled {
-            let whole = pass_whole(alloc, &self.next, request)?;
-            return Ok(whole);
-        }
-        let asked = read_asked(request.message());
-        let rule = EdnsPost::new(&asked, request.transport_ctx());
-        match opt_refusal(request.transport_ctx().is_non_udp(), &asked.opt) {
-            Some(rcode) => Ok(of_own::<S, Meta, _>(refuse(
-                &rule,
-                alloc,
-                request.message(),
-                rcode,
-            )?)),
-            None => Ok(of_mapped::<S, Meta, _>(pass(
-                alloc,
-                &self.next,
-                asked.opt.client_size(),
-                rule,
-                request,
-            )?)),
+        if self.enabled {
+            spoken(alloc, &self.next, request)
+        } else {
+            pass_whole(alloc, &self.next, request)
         }
     }
 }
@@ -99,9 +83,17 @@ fn spoken<S: Service<Meta>, Meta>(
     ensures kept { OnOk result (request.new ≡ record request.old { transport = hinted (edns_hint true request.old) request.old.transport; reserved = request.new.reserved }) }
     ensures refused { OnErr result (request.new ≡ request.old) }
 {
-    match edns_refusal(request) {
-        Some(rcode) => Ok(of_own::<S, Meta, _>(refuse(&EdnsPost {}, alloc, request, rcode)?)),
-        None => Ok(of_mapped::<S, Meta, _>(pass(alloc, next, request)?)),
+    let asked = read_asked(request.message());
+    let rule = EdnsPost::new(&asked, request.transport_ctx());
+    match opt_refusal(request.transport_ctx().is_non_udp(), &asked.opt) {
+        Some(rcode) => {
+            let reply = refuse(&rule, alloc, request.message(), rcode)?;
+            Ok(of_own::<S, Meta, _>(reply))
+        }
+        None => {
+            let mapped = pass(alloc, next, asked.opt.client_size(), rule, request)?;
+            Ok(of_mapped::<S, Meta, _>(mapped))
+        }
     }
 }
 
