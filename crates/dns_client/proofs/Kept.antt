@@ -11,7 +11,7 @@ use Rattle.circular_buffer.proofs.Places.{slice_get-set_same, slice_get-set_othe
 use Rattle.dns_base.specs.Msg.{Msg}
 use Rattle.dns_service.specs.Answer.{Answer}
 use Rattle.dns_service.specs.declared.polled.PolledRequest.{PolledRequest}
-use Rattle.dns_client.specs.Slate.{Asked}
+use Rattle.dns_client.specs.Slate.{SlateRequest}
 use Rattle.dns_client.specs.Turns.{polled, ends, limit_for, reply_to, sent_for}
 use Rattle.dns_client.specs.PolledAt.{GoesOn, PolledAt, Left}
 use Rattle.dns_client.specs.Stands.{IsKept, Keeps, sole}
@@ -22,33 +22,33 @@ below_or_above a b ne = ⊎_elim (λ (h : a < b). inl h) (λ (h : b ≤ a). inr 
 
 module _ {F R : Type 0} (answer : PolledRequest F R → ℕ → Answer) (answers : Serving) where
   -- what a poll finds, and what is kept after it
-  pub record Found (x : Option Asked) (reply : Option Msg) (g : Option (KeptRequest F R)) : Type 0 where
-    pub r : Asked
+  pub record Found (x : Option SlateRequest) (reply : Option Msg) (g : Option (KeptRequest F R)) : Type 0 where
+    pub r : SlateRequest
     pub is : x ≡ Some r
     pub open_yet : r.done ≡ false
     pub says : reply ≡ sent_for answers r.request (answers.answer r.request r.polls)
     pub keeps : Keeps answer answers g (Some (polled (answers.answer r.request r.polls) r))
 
-  later : (q q' : KeptRequest F R) (r : Asked) → GoesOn answer q q' → IsKept answer answers q r → (j : ℕ) → answer q'.polled j ≡ answers.answer r.request (r.polls + 1 + j)
+  later : (q q' : KeptRequest F R) (r : SlateRequest) → GoesOn answer q q' → IsKept answer answers q r → (j : ℕ) → answer q'.polled j ≡ answers.answer r.request (r.polls + 1 + j)
   later q q' r p k j = let e : r.polls + suc j ≡ r.polls + 1 + j = omega arith in p.polled j ∙ k.polled (suc j) ∙ ap (answers.answer r.request) e
 
-  now : (q : KeptRequest F R) (r : Asked) → IsKept answer answers q r → answer q.polled 0 ≡ answers.answer r.request r.polls
+  now : (q : KeptRequest F R) (r : SlateRequest) → IsKept answer answers q r → answer q.polled 0 ≡ answers.answer r.request r.polls
   now q r k = let e : r.polls + 0 ≡ r.polls = omega arith in k.polled 0 ∙ ap (answers.answer r.request) e
 
-  left_keeps : (q : KeptRequest F R) (r : Asked) (a : Answer) (g : Option (KeptRequest F R)) (b : Bool) → ends a ≡ b → Left answer q b g → IsKept answer answers q r → Keeps answer answers g (Some (polled a r))
+  left_keeps : (q : KeptRequest F R) (r : SlateRequest) (a : Answer) (g : Option (KeptRequest F R)) (b : Bool) → ends a ≡ b → Left answer q b g → IsKept answer answers q r → Keeps answer answers g (Some (polled a r))
   left_keeps q r a None true e l k = e
   left_keeps q r a (Some g) true e l k = let h : Some g ≡ None = l in cc
   left_keeps q r a None false e l k = absurd l
   left_keeps q r a (Some g) false e l k = record { going = e; polled = later q g r l k; message = ap arc_value l.message ∙ k.message; limit = l.limit ∙ k.limit }
 
   -- the reply by what is kept is the one by the request
-  same_reply : (q : KeptRequest F R) (r : Asked) → IsKept answer answers q r → reply_to q.limit (arc_value q.message) (answer q.polled 0) ≡ sent_for answers r.request (answers.answer r.request r.polls)
+  same_reply : (q : KeptRequest F R) (r : SlateRequest) → IsKept answer answers q r → reply_to q.limit (arc_value q.message) (answer q.polled 0) ≡ sent_for answers r.request (answers.answer r.request r.polls)
   same_reply q r k =
       ap (λ (n : Option ℕ). reply_to n (arc_value q.message) (answer q.polled 0)) k.limit
       ∙ (ap (λ (o : List ℕ). reply_to (limit_for answers r.request) o (answer q.polled 0)) k.message
       ∙ ap (λ (a : Answer). reply_to (limit_for answers r.request) r.request.octets a) (now q r k))
 
-  pub found : (q : KeptRequest F R) (x : Option Asked) (reply : Option Msg) (g : Option (KeptRequest F R)) → Keeps answer answers (Some q) x → PolledAt answer (Some q) reply g → Found x reply g
+  pub found : (q : KeptRequest F R) (x : Option SlateRequest) (reply : Option Msg) (g : Option (KeptRequest F R)) → Keeps answer answers (Some q) x → PolledAt answer (Some q) reply g → Found x reply g
   found q None reply g k p = absurd k
   found q (Some r) reply g k p =
       let n = now q r k in
@@ -61,7 +61,7 @@ module _ {F R : Type 0} (answer : PolledRequest F R → ℕ → Answer) (answers
       }
 
   -- a place that is written
-  pub keeps_set : (old new : BTreeMap ℕ (KeptRequest F R)) (rs : List Asked) (k : ℕ) (r r' : Asked)
+  pub keeps_set : (old new : BTreeMap ℕ (KeptRequest F R)) (rs : List SlateRequest) (k : ℕ) (r r' : SlateRequest)
       → slice_get rs k ≡ Some r
       → ((q : ℕ) → Keeps answer answers (get nat_cmp old q) (slice_get rs q))
       → ((q : ℕ) → q ≢ k → get nat_cmp new q ≡ get nat_cmp old q)
@@ -74,7 +74,7 @@ module _ {F R : Type 0} (answer : PolledRequest F R → ℕ → Answer) (answers
       (cases_eq q k)
 
   -- one more request
-  pub keeps_push : (old new : BTreeMap ℕ (KeptRequest F R)) (rs : List Asked) (k : ℕ) (r : Asked) (f : KeptRequest F R)
+  pub keeps_push : (old new : BTreeMap ℕ (KeptRequest F R)) (rs : List SlateRequest) (k : ℕ) (r : SlateRequest) (f : KeptRequest F R)
       → k ≡ length rs
       → ((q : ℕ) → Keeps answer answers (get nat_cmp old q) (slice_get rs q))
       → ((q : ℕ) → q ≢ k → get nat_cmp new q ≡ get nat_cmp old q)
@@ -96,7 +96,7 @@ module _ {F R : Type 0} (answer : PolledRequest F R → ℕ → Answer) (answers
       (cases_eq q k)
 
   -- the one request of an exchange
-  pub sole_set : (old new : Option (KeptRequest F R)) (rs : List Asked) (r r' : Asked)
+  pub sole_set : (old new : Option (KeptRequest F R)) (rs : List SlateRequest) (r r' : SlateRequest)
       → slice_get rs 0 ≡ Some r
       → ((k : ℕ) → Keeps answer answers (sole old k) (slice_get rs k))
       → Keeps answer answers new (Some r')

@@ -5,7 +5,7 @@ use Rattle.std.specs.Prelude.{slice_get}
 use Rattle.std.specs.List.{list_all}
 use Rattle.dns_service.specs.Answer.{Answer}
 use Rattle.dns_service.specs.Req.{Req}
-use Rattle.dns_client.specs.Slate.{Slate, Asked, Told, Phase, Open, in_phase}
+use Rattle.dns_client.specs.Slate.{Slate, SlateRequest, Told, Phase, Open, in_phase}
 use Rattle.dns_client.specs.Spent.{is_spent}
 use Rattle.dns_client.specs.Stands.{Keeps, Leads, StandsIn, outputs_of, state_behind, sole, state_is_spent}
 use Rattle.dns_client.specs.declared.client.State.{State}
@@ -19,15 +19,15 @@ in_open : (p : Phase) (a b c d : Told) → p ≡ Open → in_phase p a b c d ≡
 in_open p a b c d e = rw e refl
 
 module _ {R F : Type 0} (answer : PolledRequest F R → ℕ → Answer) (answers : Serving) where
-  all_done : (rs : List Asked) → ((k : ℕ) → Keeps answer answers None (slice_get rs k)) → list_all (λ (r : Asked). r.done) rs ≡ true
+  all_done : (rs : List SlateRequest) → ((k : ℕ) → Keeps answer answers None (slice_get rs k)) → list_all (λ (r : SlateRequest). r.done) rs ≡ true
   all_done [] h = refl
   all_done (r ∷ rs) h = rw (h 0) (all_done rs (λ k. h (suc k)))
 
-  none_sole : (x : Option Asked) (k : ℕ) → Keeps answer answers (sole None k) x → Keeps answer answers None x
+  none_sole : (x : Option SlateRequest) (k : ℕ) → Keeps answer answers (sole None k) x → Keeps answer answers None x
   none_sole x zero h = h
   none_sole x (suc k) h = h
 
-  some_open : (q : KeptRequest F R) (rs : List Asked) → Keeps answer answers (Some q) (slice_get rs 0) → list_all (λ (r : Asked). r.done) rs ≡ false
+  some_open : (q : KeptRequest F R) (rs : List SlateRequest) → Keeps answer answers (Some q) (slice_get rs 0) → list_all (λ (r : SlateRequest). r.done) rs ≡ false
   some_open q [] h = absurd h
   some_open q (r ∷ rs) h = rw h.going refl
 

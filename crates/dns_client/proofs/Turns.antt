@@ -12,7 +12,7 @@ use Rattle.dns_service.specs.Answer.{Answer}
 use Rattle.dns_service.specs.Req.{Req}
 use Rattle.dns_service.specs.declared.event.Output.{Output}
 use Rattle.dns_client.specs.Frames.{framed}
-use Rattle.dns_client.specs.Slate.{Slate, Asked}
+use Rattle.dns_client.specs.Slate.{Slate, SlateRequest}
 use Rattle.dns_client.specs.Turns.{polled, exchange_turn, turn, sent_at_once, with_request, queued}
 use Rattle.dns_client.specs.PolledAt.{PolledAt}
 use Rattle.dns_client.specs.Stands.{Keeps, IsOpen, Exchanges}
@@ -28,11 +28,11 @@ ring (Some m) q = if nat_lt (length q.items) q.capacity then buffer (q.items ++ 
 
 module _ {R F : Type 0} (answer : PolledRequest F R → ℕ → Answer) (answers : Serving) where
   -- a turn of a request of which nothing is kept
-  nothing_turned : (k : ℕ) (x : Option Asked) (s : Slate) → Keeps answer answers None x → turn answers k x s ≡ s
+  nothing_turned : (k : ℕ) (x : Option SlateRequest) (s : Slate) → Keeps answer answers None x → turn answers k x s ≡ s
   nothing_turned k None s h = refl
   nothing_turned k (Some r) s h = rw h refl
 
-  nothing_exchanged : (k : ℕ) (x : Option Asked) (s : Slate) → Keeps answer answers None x → exchange_turn answers k x s ≡ (s, [])
+  nothing_exchanged : (k : ℕ) (x : Option SlateRequest) (s : Slate) → Keeps answer answers None x → exchange_turn answers k x s ≡ (s, [])
   nothing_exchanged k None s h = refl
   nothing_exchanged k (Some r) s h = rw h refl
 
@@ -57,7 +57,7 @@ module _ {R F : Type 0} (answer : PolledRequest F R → ℕ → Answer) (answers
 
   module _ {W : Type 0} where
     -- what a poll leaves of a connection
-    polled_open : (client : ℕ) (old : OpenConnection W R F) (m : BTreeMap ℕ (KeptRequest F R)) (k : ℕ) (r : Asked) (a : Answer) (s : Slate)
+    polled_open : (client : ℕ) (old : OpenConnection W R F) (m : BTreeMap ℕ (KeptRequest F R)) (k : ℕ) (r : SlateRequest) (a : Answer) (s : Slate)
         → IsOpen answer answers client old s
         → slice_get s.requests k ≡ Some r
         → ((q : ℕ) → q ≢ k → get nat_cmp m q ≡ get nat_cmp old.unfinished q)

@@ -4,7 +4,7 @@ use Rattle.dns_name.specs.declared.address.SocketAddr.{SocketAddr}
 use Rattle.dns_service.specs.Config.{Dgram, Connection}
 use Rattle.dns_service.specs.Req.{Req}
 use Rattle.dns_service.specs.declared.message.TransportSpecificContext.TheVariants.{Udp, NonUdp}
-use Rattle.dns_client.specs.Slate.{Asked}
+use Rattle.dns_client.specs.Slate.{SlateRequest}
 
 -- the octets of a header (RFC 1035, section 4.1.1): what is shorter is no message
 abbrev pub header_size : ℕ
@@ -39,5 +39,5 @@ request_of_frame connection addr at secs o = record {
 }
 
 -- a request that was not polled yet
-abbrev pub asked : Req (Unit {0}) → Asked
+abbrev pub asked : Req (Unit {0}) → SlateRequest
 asked r = record { request = r; polls = 0; done = false }

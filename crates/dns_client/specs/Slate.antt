@@ -15,7 +15,7 @@ pub data Phase : Type 0 where
   Closed : Phase
 
 -- a request as it came, the number of its polls, and whether it is done
-pub record Asked : Type 0 where
+pub record SlateRequest : Type 0 where
   pub request : Req (Unit {0})
   pub polls : ℕ
   pub done : Bool
@@ -37,7 +37,7 @@ pub record Slate : Type 0 where
   pub bound : ℕ
   pub received : List ℕ
   pub taken : ℕ
-  pub requests : List Asked
+  pub requests : List SlateRequest
   pub queue : List (List ℕ)
 
 -- a slate, and what the client is sent on the way to it

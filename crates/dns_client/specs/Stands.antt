@@ -11,7 +11,7 @@ use Rattle.dns_service.specs.declared.event.Output.{Output}
 use Rattle.dns_service.specs.declared.event.Output.TheVariants.{Frame, Closed as Closed_output}
 use Rattle.dns_client.specs.Frames.{framed, frames, past}
 use Rattle.dns_client.specs.Serving.{Serving}
-use Rattle.dns_client.specs.Slate.{Slate, Asked, Told, Exchange, Open, Closed}
+use Rattle.dns_client.specs.Slate.{Slate, SlateRequest, Told, Exchange, Open, Closed}
 use Rattle.dns_client.specs.Requests.{asked, most_requests}
 use Rattle.dns_client.specs.Connections.{enqueue, take_frames}
 use Rattle.dns_client.specs.Turns.{limit_for}
@@ -26,13 +26,13 @@ use Rattle.dns_service.specs.declared.polled.PolledRequest.{PolledRequest}
 
 -- what is kept of a request that isn't done: a polled state that answers from the polls made on, its message, and how many octets a
 -- reply may take
-pub record IsKept {F R : Type 0} (answer : PolledRequest F R → ℕ → Answer) (answers : Serving) (q : KeptRequest F R) (r : Asked) : Type 0 where
+pub record IsKept {F R : Type 0} (answer : PolledRequest F R → ℕ → Answer) (answers : Serving) (q : KeptRequest F R) (r : SlateRequest) : Type 0 where
   pub going : r.done ≡ false
   pub polled : (k : ℕ) → answer q.polled k ≡ answers.answer r.request (r.polls + k)
   pub message : arc_value q.message ≡ r.request.octets
   pub limit : q.limit ≡ limit_for answers r.request
 
-abbrev pub Keeps : {F R : Type 0} → (PolledRequest F R → ℕ → Answer) → Serving → Option (KeptRequest F R) → Option Asked → Type 0
+abbrev pub Keeps : {F R : Type 0} → (PolledRequest F R → ℕ → Answer) → Serving → Option (KeptRequest F R) → Option SlateRequest → Type 0
 Keeps answer answers None None = Unit {0}
 Keeps answer answers None (Some r) = r.done ≡ true
 Keeps answer answers (Some q) None = ⊥
@@ -75,7 +75,7 @@ pub record IsClosed (number : ℕ) (freed_now : Bool) (s : Slate) : Type 0 where
 
 module _ {R F : Type 0} (answer : PolledRequest F R → ℕ → Answer) (answers : Serving) where
   -- what is kept of a connection's requests, and how many were made
-  abbrev pub KeepsAll : ℕ → BTreeMap ℕ (KeptRequest F R) → List Asked → Type 0
+  abbrev pub KeepsAll : ℕ → BTreeMap ℕ (KeptRequest F R) → List SlateRequest → Type 0
   KeepsAll count unfinished rs = (count ≡ length rs) × ((k : ℕ) → Keeps answer answers (get nat_cmp unfinished k) (slice_get rs k))
 
   pub record IsExchange (number : ℕ) (unfinished : Option (KeptRequest F R)) (s : Slate) : Type 0 where
@@ -123,7 +123,7 @@ module _ {R F : Type 0} (answer : PolledRequest F R → ℕ → Answer) (answers
       pub config : new.config ≡ old.config
       pub framer : new.framer ≡ old.framer
       pub queue : new.queue ≡ old.queue
-      pub made : (rs : List Asked) → KeepsAll old.count old.unfinished rs → KeepsAll new.count new.unfinished (if nat_lt (length rs) most_requests then rs ++ asked r ∷ [] else rs)
+      pub made : (rs : List SlateRequest) → KeepsAll old.count old.unfinished rs → KeepsAll new.count new.unfinished (if nat_lt (length rs) most_requests then rs ++ asked r ∷ [] else rs)
 
     -- a response is refused
     pub record Refuses (old new : OpenConnection W R F) (o : List ℕ) : Type 0 where

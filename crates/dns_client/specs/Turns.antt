@@ -13,7 +13,7 @@ use Rattle.dns_service.specs.Errors.{rcode_of}
 use Rattle.dns_service.specs.Transport.{limit, limit_over}
 use Rattle.dns_client.specs.Frames.{framed}
 use Rattle.dns_client.specs.Serving.{Serving}
-use Rattle.dns_client.specs.Slate.{Slate, Told, Asked}
+use Rattle.dns_client.specs.Slate.{Slate, Told, SlateRequest}
 use Rattle.dns_client.specs.Connections.{enqueue}
 
 -- the end and an error item make a request done
@@ -24,7 +24,7 @@ ends (Ready (Some (Ok given))) = false
 ends (Ready (Some (Err error))) = true
 
 -- a request after a poll
-abbrev pub polled : Answer → Asked → Asked
+abbrev pub polled : Answer → SlateRequest → SlateRequest
 polled a r = record r { polls = r.polls + 1; done = ends a }
 
 -- the message of a reply to octets that are a message, of at most n octets where that is limited; an error item is answered by
@@ -35,7 +35,7 @@ reply_to n o (Ready None) = None
 reply_to n o (Ready (Some (Ok given))) = given.response
 reply_to n o (Ready (Some (Err error))) = Some (sized n (error_reply o (rcode_of error)))
 
-abbrev pub with_request : ℕ → Asked → Slate → Slate
+abbrev pub with_request : ℕ → SlateRequest → Slate → Slate
 with_request k r s = record s { requests = slice_set s.requests k r }
 
 -- an exchange is sent a reply at once
@@ -58,14 +58,14 @@ module _ (answers : Serving) where
   sent_for r a = reply_to (limit_for r) r.octets a
 
   -- one poll of an unfinished request of an exchange
-  abbrev pub exchange_turn : ℕ → Option Asked → Slate → Told
+  abbrev pub exchange_turn : ℕ → Option SlateRequest → Slate → Told
   exchange_turn k None s = (s, [])
   exchange_turn k (Some r) s =
       if r.done then (s, [])
       else (with_request k (polled (answers.answer r.request r.polls) r) s, sent_at_once s.client (sent_for r.request (answers.answer r.request r.polls)))
 
   -- and of a connection
-  abbrev pub turn : ℕ → Option Asked → Slate → Slate
+  abbrev pub turn : ℕ → Option SlateRequest → Slate → Slate
   turn k None s = s
   turn k (Some r) s =
       if r.done then s

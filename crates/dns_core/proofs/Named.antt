@@ -14,7 +14,7 @@ use Rattle.dns_service.specs.declared.event.Output.{Output}
 use Rattle.dns_service.specs.declared.event.Output.TheVariants.{Frame}
 use Rattle.dns_service.specs.declared.event.Why.TheVariants.{Ended, Short, WriteTimeout}
 use Rattle.dns_client.specs.Frames.{frames, framed}
-use Rattle.dns_client.specs.Slate.{Slate, Asked, Told, Phase, Unused, Exchange, Open, Closed, fresh, in_phase}
+use Rattle.dns_client.specs.Slate.{Slate, SlateRequest, Told, Phase, Unused, Exchange, Open, Closed, fresh, in_phase}
 use Rattle.dns_client.specs.Requests.{header_size, most_requests, request_of_frame, asked}
 use Rattle.dns_name.specs.declared.address.SocketAddr.{SocketAddr}
 use Rattle.dns_base.specs.Header.{header_of}
@@ -70,7 +70,7 @@ at_once_for client None = tt
 at_once_for client (Some m) = (refl, tt)
 
 module _ (answers : Serving) where
-  exchange_turn_for : (k : ℕ) (x : Option Asked) (s : Slate) → AreFor s.client (exchange_turn answers k x s).1
+  exchange_turn_for : (k : ℕ) (x : Option SlateRequest) (s : Slate) → AreFor s.client (exchange_turn answers k x s).1
   exchange_turn_for k None s = tt
   exchange_turn_for k (Some r) s =
       (elim r.done as (λ b. let t : Told = (if b then (s, []) else (with_request k (polled (answers.answer r.request r.polls) r) s, sent_at_once s.client (sent_for answers r.request (answers.answer r.request r.polls)))) in AreFor s.client t.1) [ true ↦ tt | false ↦ at_once_for s.client (sent_for answers r.request (answers.answer r.request r.polls)) ])
@@ -162,7 +162,7 @@ module _ (answers : Serving) where
   write_client took (m ∷ ms) s =
       (elim (nat_lt s.connection.response_write_timeout took) as (λ b. let t : Told = (if b then close WriteTimeout s else (record s { queue = ms }, Frame s.client m ∷ [])) in t.0.client ≡ s.client) [ true ↦ refl | false ↦ refl ])
 
-  exchange_client : (k : ℕ) (x : Option Asked) (s : Slate) → (exchange_turn answers k x s).0.client ≡ s.client
+  exchange_client : (k : ℕ) (x : Option SlateRequest) (s : Slate) → (exchange_turn answers k x s).0.client ≡ s.client
   exchange_client k None s = refl
   exchange_client k (Some r) s =
       (elim r.done as (λ b. let t : Told = (if b then (s, []) else (with_request k (polled (answers.answer r.request r.polls) r) s, sent_at_once s.client (sent_for answers r.request (answers.answer r.request r.polls)))) in t.0.client ≡ s.client) [ true ↦ refl | false ↦ refl ])
@@ -174,7 +174,7 @@ module _ (answers : Serving) where
   queued_client None s = refl
   queued_client (Some m) s = enqueue_client (framed (wire m)) s
 
-  turn_client : (k : ℕ) (x : Option Asked) (s : Slate) → (turn answers k x s).client ≡ s.client
+  turn_client : (k : ℕ) (x : Option SlateRequest) (s : Slate) → (turn answers k x s).client ≡ s.client
   turn_client k None s = refl
   turn_client k (Some r) s =
       let a = answers.answer r.request r.polls in

@@ -15,7 +15,7 @@ use Rattle.dns_service.specs.declared.event.Output.TheVariants.{Frame}
 use Rattle.dns_service.specs.declared.event.Why.{Why}
 use Rattle.dns_service.specs.declared.event.Why.TheVariants.{Ended, Short, WriteTimeout}
 use Rattle.dns_client.specs.Frames.{frames, framed}
-use Rattle.dns_client.specs.Slate.{Slate, Asked, Conf, Told, Phase, Unused, Exchange, Open, Closed, fresh, in_phase}
+use Rattle.dns_client.specs.Slate.{Slate, SlateRequest, Conf, Told, Phase, Unused, Exchange, Open, Closed, fresh, in_phase}
 use Rattle.dns_client.specs.Requests.{header_size, most_requests, request_of_frame, asked}
 use Rattle.dns_client.specs.Datagrams.{datagram}
 use Rattle.dns_client.specs.Connections.{opened, close, take_frame, take_frames, piece, write, enqueue, released}
@@ -91,12 +91,12 @@ queued_on None s = same s
 queued_on (Some m) s = enqueue_on (framed (wire m)) s
 
 module _ (answers : Serving) where
-  exchange_turn_on : (k : ℕ) (x : Option Asked) (s : Slate) → GoesOn s (exchange_turn answers k x s).0
+  exchange_turn_on : (k : ℕ) (x : Option SlateRequest) (s : Slate) → GoesOn s (exchange_turn answers k x s).0
   exchange_turn_on k None s = same s
   exchange_turn_on k (Some r) s =
       (elim r.done as (λ b. let t : Told = (if b then (s, []) else (with_request k (polled (answers.answer r.request r.polls) r) s, sent_at_once s.client (sent_for answers r.request (answers.answer r.request r.polls)))) in GoesOn s t.0) [ true ↦ same s | false ↦ record { conf = refl; used = λ h. h; slot = refl } ])
 
-  turn_on : (k : ℕ) (x : Option Asked) (s : Slate) → GoesOn s (turn answers k x s)
+  turn_on : (k : ℕ) (x : Option SlateRequest) (s : Slate) → GoesOn s (turn answers k x s)
   turn_on k None s = same s
   turn_on k (Some r) s =
       let a = answers.answer r.request r.polls in
@@ -182,11 +182,11 @@ module _ (answers : Serving) where
   late e s b u = late_kind e e.kind s b u
 
   -- a request that is done, or none
-  pub exchange_done : (k : ℕ) (x : Option Asked) (s : Slate) → IsFinished x → exchange_turn answers k x s ≡ (s, [])
+  pub exchange_done : (k : ℕ) (x : Option SlateRequest) (s : Slate) → IsFinished x → exchange_turn answers k x s ≡ (s, [])
   exchange_done k None s h = refl
   exchange_done k (Some r) s h = rw h refl
 
-  turn_done : (k : ℕ) (x : Option Asked) (s : Slate) → IsFinished x → turn answers k x s ≡ s
+  turn_done : (k : ℕ) (x : Option SlateRequest) (s : Slate) → IsFinished x → turn answers k x s ≡ s
   turn_done k None s h = refl
   turn_done k (Some r) s h = rw h refl
 

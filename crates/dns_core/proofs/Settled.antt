@@ -14,7 +14,7 @@ use Rattle.dns_service.specs.declared.event.Output.TheVariants.{Frame}
 use Rattle.dns_service.specs.declared.event.Why.{Why}
 use Rattle.dns_service.specs.declared.event.Why.TheVariants.{Ended, Short, WriteTimeout}
 use Rattle.dns_client.specs.Frames.{frames, framed}
-use Rattle.dns_client.specs.Slate.{Slate, Asked, Told, Phase, Unused, Exchange, Open, Closed, fresh, in_phase}
+use Rattle.dns_client.specs.Slate.{Slate, SlateRequest, Told, Phase, Unused, Exchange, Open, Closed, fresh, in_phase}
 use Rattle.dns_client.specs.Requests.{header_size, most_requests, request_of_frame, asked}
 use Rattle.dns_client.specs.Datagrams.{datagram}
 use Rattle.dns_client.specs.Connections.{opened, close, take_frame, take_frames, piece, write, enqueue, released}
@@ -84,13 +84,13 @@ queued_settled None s h = h
 queued_settled (Some m) s h = enqueue_settled (framed (wire m)) s h
 
 module _ (answers : Serving) where
-  exchange_settled : (k : ℕ) (x : Option Asked) (s : Slate) → Settled s → Settled (exchange_turn answers k x s).0
+  exchange_settled : (k : ℕ) (x : Option SlateRequest) (s : Slate) → Settled s → Settled (exchange_turn answers k x s).0
   exchange_settled k None s h = h
   exchange_settled k (Some r) s h =
       let t = with_request k (polled (answers.answer r.request r.polls) r) s in
       (elim r.done as (λ b. let u : Told = (if b then (s, []) else (t, sent_at_once s.client (sent_for answers r.request (answers.answer r.request r.polls)))) in Settled u.0) [ true ↦ h | false ↦ same_frames s t refl refl h ])
 
-  turn_settled : (k : ℕ) (x : Option Asked) (s : Slate) → Settled s → Settled (turn answers k x s)
+  turn_settled : (k : ℕ) (x : Option SlateRequest) (s : Slate) → Settled s → Settled (turn answers k x s)
   turn_settled k None s h = h
   turn_settled k (Some r) s h =
       let a = answers.answer r.request r.polls in

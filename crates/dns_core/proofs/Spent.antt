@@ -9,7 +9,7 @@ use Rattle.dns_service.specs.declared.event.Event.{Event}
 use Rattle.dns_service.specs.declared.event.EventKind.{EventKind}
 use Rattle.dns_service.specs.declared.event.EventKind.TheVariants.{Datagram, Turn, Offer, Piece, End, Write, Release}
 use Rattle.dns_service.specs.declared.event.Why.TheVariants.{Ended}
-use Rattle.dns_client.specs.Slate.{Slate, Asked, Told, Phase, Unused, Exchange, Open, Closed, in_phase}
+use Rattle.dns_client.specs.Slate.{Slate, SlateRequest, Told, Phase, Unused, Exchange, Open, Closed, in_phase}
 use Rattle.dns_client.specs.Datagrams.{datagram}
 use Rattle.dns_client.specs.Connections.{opened, close, piece, write, released}
 use Rattle.dns_client.specs.Turns.{exchange_turn, turn}
@@ -24,15 +24,15 @@ both : (a b : Bool) → (a && b) ≡ true → (a ≡ true) × (b ≡ true)
 both true b h = (refl, h)
 both false b h = cc
 
-all_finished : (rs : List Asked) (k : ℕ) → list_all (λ (r : Asked). r.done) rs ≡ true → IsFinished (slice_get rs k)
+all_finished : (rs : List SlateRequest) (k : ℕ) → list_all (λ (r : SlateRequest). r.done) rs ≡ true → IsFinished (slice_get rs k)
 all_finished [] k h = tt
-all_finished (r ∷ rs) zero h = (both r.done (list_all (λ (r : Asked). r.done) rs) h).0
-all_finished (r ∷ rs) (suc k) h = all_finished rs k (both r.done (list_all (λ (r : Asked). r.done) rs) h).1
+all_finished (r ∷ rs) zero h = (both r.done (list_all (λ (r : SlateRequest). r.done) rs) h).0
+all_finished (r ∷ rs) (suc k) h = all_finished rs k (both r.done (list_all (λ (r : SlateRequest). r.done) rs) h).1
 
 abbrev pub spent_in : Phase → Slate → Bool
-spent_in p s = in_phase p false (list_all (λ (r : Asked). r.done) s.requests) false s.freed
+spent_in p s = in_phase p false (list_all (λ (r : SlateRequest). r.done) s.requests) false s.freed
 
-spent_case : (p : Phase) (s : Slate) (x y z w : Told) → spent_in p s ≡ true → (list_all (λ (r : Asked). r.done) s.requests ≡ true → y ≡ (s, [])) → (s.freed ≡ true → w ≡ (s, [])) → in_phase p x y z w ≡ (s, [])
+spent_case : (p : Phase) (s : Slate) (x y z w : Told) → spent_in p s ≡ true → (list_all (λ (r : SlateRequest). r.done) s.requests ≡ true → y ≡ (s, [])) → (s.freed ≡ true → w ≡ (s, [])) → in_phase p x y z w ≡ (s, [])
 spent_case Unused s x y z w h hy hw = cc
 spent_case Exchange s x y z w h hy hw = hy h
 spent_case Open s x y z w h hy hw = cc

@@ -1,7 +1,7 @@
 -- A request that is done, or none.
 use Rattle.std.specs.Prelude.{◌≡◌, true, Option, Some, None}
-use Rattle.dns_client.specs.Slate.{Asked}
+use Rattle.dns_client.specs.Slate.{SlateRequest}
 
-abbrev pub IsFinished : Option Asked → Type 0
+abbrev pub IsFinished : Option SlateRequest → Type 0
 IsFinished None = Unit {0}
 IsFinished (Some r) = r.done ≡ true

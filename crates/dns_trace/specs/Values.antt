@@ -44,8 +44,8 @@ unfoldable pub yes_no_of : List ℕ → Result Bool Reason
 yes_no_of w = if bytes_eq w (codes "yes") then Ok true else if bytes_eq w (codes "no") then Ok false else Err Unbuilt
 
 -- a size in octets of at most 65,535, or none
-unfoldable pub size_of : List ℕ → Result (Option ℕ) Reason
-size_of w = if bytes_eq w (codes "none") then Ok None else (number 20 65536 w >>= λ n. Ok (Some n))
+unfoldable pub size_or_none : List ℕ → Result (Option ℕ) Reason
+size_or_none w = if bytes_eq w (codes "none") then Ok None else (number 20 65536 w >>= λ n. Ok (Some n))
 
 -- 32 hexadecimal digits
 unfoldable pub secret_of : List ℕ → Result (List ℕ) Reason

@@ -2,7 +2,7 @@
 
 ghost use Rattle.std.specs.Prelude.{◌≡◌, ◌<◌, ◌≤◌, IfOk};
 ghost use Rattle.dns_trace.specs.Reading.{GivesLine};
-ghost use Rattle.dns_trace.specs.Values.{number, num_of, port_of, hex_octets_of, quad_of, quad_word, addr_of, secret_of, size_of, yes_no_of};
+ghost use Rattle.dns_trace.specs.Values.{number, num_of, port_of, hex_octets_of, quad_of, quad_word, addr_of, secret_of, size_or_none, yes_no_of};
 
 use crate::reason::{LineError, Reason};
 use crate::words::Words;
@@ -87,9 +87,9 @@ pub fn yes_no(word: &[u8]) -> Result<bool, Reason>
 }
 
 /// A size in octets of at most 65,535, or `none`.
-#[tactic(auto, unfolding(crate::specs::Values::size_of))]
+#[tactic(auto, unfolding(crate::specs::Values::size_or_none))]
 pub fn size(word: &[u8]) -> Result<Option<u16>, Reason>
-    ensures { result ≡ size_of word.now }
+    ensures { result ≡ size_or_none word.now }
 {
     if word == b"none".as_slice() {
         return Ok(None);
