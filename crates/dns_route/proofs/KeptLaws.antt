@@ -66,7 +66,7 @@ pub begun : (k : Keeps) (o : List ℕ) → IsOptionList o → length o ≤ 65535
 unfolding options
 begun k o h l =
     let q = some_of (options_up_to (length o) o) h in
-    record { fuel = length o; pairs = q.0; behind = q.1; same = ap (λ x. kept_options k (unwrap_or x [])) (sym q.1); room = l }
+    record { fuel = length o; pairs = q.0; behind = q.1; same = ap (λ x. kept_options k (unwrap_or x [])) (sym q.1); room = omega (arith, l) }
 
 pub ended : (k : Keeps) (o left kept : List ℕ) → IsWalked k o left kept → first_option left ≡ None → kept ≡ kept_of_list k o
 ended k o left kept w f =

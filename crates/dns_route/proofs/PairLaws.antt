@@ -1,8 +1,10 @@
 -- Names and their services in two lists of one length, and the places that know them.
-use Rattle.std.proofs.Common.{◌≡◌, ℕ, zero, suc, ◌+◌, ◌-◌, ◌≤◌, ◌<◌, List, [], ◌∷◌, ◌++◌, length, drop, Option, Some, None, refl, ap, sym, subst, ◌∙◌, arith, length-append, length-drop}
-use Rattle.std.specs.Prelude.{option_map, max, if◌then◌else◌}
+use Rattle.std.proofs.Common.{◌≡◌, ℕ, zero, suc, ◌+◌, ◌-◌, ◌≤◌, ◌<◌, List, [], ◌∷◌, ◌++◌, length, drop, Option, Some, None, MatchOption, Bor, get_or, refl, ap, sym, subst, ◌∙◌, arith, length-append, length-drop}
+use Rattle.std.specs.Prelude.{option_map, max, if◌then◌else◌, IfSome}
 use Rattle.std.specs.HashMap.{HashMap}
-use Rattle.std.specs.List.{slice_get, zip}
+use Rattle.std.specs.List.{HoldsAt, slice_get, zip}
+use Rattle.std.specs.Option.{option_copied}
+use Rattle.std.proofs.lemmas.Option.{slice_get_past, slice_get_read}
 use Rattle.std.specs.Str.{bytes_eq}
 use Rattle.smallvec.specs.SmallVec.{SmallVec}
 use Rattle.std.proofs.Math.Nat.{max-le, le-max_left, le-max_right}
@@ -14,11 +16,14 @@ use Rattle.dns_route.proofs.RouteLaws.{AllUnder, IsTail, ends_le}
 
 -- ---- pairs
 
-pub zip_more : {K X : Type 0} (ks : List K) (xs : List X) (k : K) (x : X) → length xs ≡ length ks → zip (ks ++ k ∷ []) (xs ++ x ∷ []) ≡ zip ks xs ++ (k, x) ∷ []
+zip_more : {K X : Type 0} (ks : List K) (xs : List X) (k : K) (x : X) → length xs ≡ length ks → zip (ks ++ k ∷ []) (xs ++ x ∷ []) ≡ zip ks xs ++ (k, x) ∷ []
 zip_more [] [] k x h = refl
 zip_more [] (y ∷ xs) k x h = absurd (omega arith)
 zip_more (l ∷ ks) [] k x h = absurd (omega arith)
 zip_more (l ∷ ks) (y ∷ xs) k x h = ap (λ zs. (l, y) ∷ zs) (zip_more ks xs k x (omega (arith, h)))
+
+pub zip_grown : {K X : Type 0} (ks : List K) (xs : List X) (keys : List K) (items : List X) (p : K × X) → keys ≡ ks ++ p.0 ∷ [] → items ≡ xs ++ p.1 ∷ [] → length xs ≡ length ks → zip keys items ≡ zip ks xs ++ p ∷ []
+zip_grown ks xs keys items p e f h = ap (λ l. zip l items) e ∙ (ap (zip (ks ++ p.0 ∷ [])) f ∙ zip_more ks xs p.0 p.1 h)
 
 zip_length : {K X : Type 0} (ks : List K) (xs : List X) → length xs ≡ length ks → length (zip ks xs) ≡ length xs
 zip_length [] [] h = refl
@@ -32,6 +37,11 @@ zip_at [] (y ∷ xs) i h = absurd (omega arith)
 zip_at (l ∷ ks) [] i h = absurd (omega arith)
 zip_at (l ∷ ks) (y ∷ xs) zero h = refl
 zip_at (l ∷ ks) (y ∷ xs) (suc i) h = zip_at ks xs i (omega (arith, h))
+
+-- what a slice's `get` gives
+pub copied_at : {X : Type 0} (r : Option (Bor X)) (xs : List X) (i : ℕ) → MatchOption r (length xs ≤ i) (λ x. (i < length xs) × HoldsAt (λ y. x.now ≡ y) xs i) → IfSome r (λ x. x.now ≡ get_or xs i x.now) → option_copied r ≡ slice_get xs i
+copied_at None xs i m h = sym (slice_get_past xs i m)
+copied_at (Some x) xs i m h = sym (slice_get_read xs (length xs) i x.now refl m.0 h)
 
 -- ---- labels
 
@@ -76,18 +86,21 @@ labels_behind q s k e h = subst AreLabels (sym e) (dropped k q h)
 -- ---- places
 
 module _ {S H : Type 0} (ns : List (List (List ℕ))) (ss : List S) where
-  pub paired_more : (m n : HashMap (SmallVec ℕ) ℕ H) (k : List ℕ) (place : ℕ) (r : Route S) → length ss ≡ length ns → Knows m (zip ns ss) → k ≡ name_key r.0 → place ≡ length ss →
-      ((o : List ℕ) → place_under n o ≡ (if bytes_eq k o then Some place else place_under m o)) → Knows n (zip (ns ++ r.0 ∷ []) (ss ++ r.1 ∷ []))
-  paired_more m n k place r p h e l put =
-      subst (λ (rs : List (Route S)). Knows n rs) (sym (zip_more ns ss r.0 r.1 p)) (known_more (zip ns ss) r m n k place h e (l ∙ sym (zip_length ns ss p)) put)
-
   -- names and services with one more
-  pub routes_more : (m n : HashMap (SmallVec ℕ) ℕ H) (most : ℕ) (r : Route S) → AreRoutes ns ss m most → Knows n (zip (ns ++ r.0 ∷ []) (ss ++ r.1 ∷ [])) → AreRoutes (ns ++ r.0 ∷ []) (ss ++ r.1 ∷ []) n (max most (length r.0))
-  routes_more m n most r a k = record {
-    paired = omega (arith, a.paired, length-append ns (r.0 ∷ []), length-append ss (r.1 ∷ []));
-    known = k;
-    within = subst (λ (rs : List (Route S)). most_labels rs ≤ max most (length r.0)) (sym (zip_more ns ss r.0 r.1 a.paired)) (more_within (zip ns ss) r most a.within);
-  }
+  module _ (names : List (List (List ℕ))) (services : List S) (r : Route S) (e : names ≡ ns ++ r.0 ∷ []) (f : services ≡ ss ++ r.1 ∷ []) where
+    pub known_grown : (m n : HashMap (SmallVec ℕ) ℕ H) (k : List ℕ) (place : ℕ) → length ss ≡ length ns → Knows m (zip ns ss) → k ≡ name_key r.0 → place ≡ length ss →
+        ((o : List ℕ) → place_under n o ≡ (if bytes_eq k o then Some place else place_under m o)) → Knows n (zip names services)
+    known_grown m n k place p h i l put =
+        subst (λ (rs : List (Route S)). Knows n rs) (sym (zip_grown ns ss names services r e f p)) (known_more (zip ns ss) r m n k place h i (l ∙ sym (zip_length ns ss p)) put)
+
+    pub routes_grown : (m n : HashMap (SmallVec ℕ) ℕ H) (most more : ℕ) → AreRoutes ns ss m most → Knows n (zip names services) → more ≡ max most (length r.0) → AreRoutes names services n more
+    routes_grown m n most more a k g =
+        let w = more_within (zip ns ss) r most a.within in
+        record {
+          paired = omega (arith, a.paired, ap length e, ap length f, length-append ns (r.0 ∷ []), length-append ss (r.1 ∷ []));
+          known = k;
+          within = subst (λ (rs : List (Route S)). most_labels rs ≤ more) (sym (zip_grown ns ss names services r e f a.paired)) (omega (arith, w, g));
+        }
 
   -- the service at the place under octets
   pub service_under : (m : HashMap (SmallVec ℕ) ℕ H) (o : List ℕ) (p : Option ℕ) → length ss ≡ length ns → Knows m (zip ns ss) → place_under m o ≡ p → option_map (λ (r : Route S). r.1) (route_at (zip ns ss) p) ≡ option_map (λ (r : Route S). r.1) (last_under o (zip ns ss))

@@ -1,17 +1,25 @@
-use Rattle.std.proofs.Common.{◌≡◌, ◌+◌, length, ap, sym, ◌∙◌, subst, arith}
+use Rattle.std.proofs.Common.{◌≡◌, ◌+◌, length, drop, ap, sym, ◌∙◌, subst, arith}
+use Rattle.std.specs.Option.{option_copied}
 use Rattle.dns_route.specs.Places.{name_key}
-use Rattle.dns_route.proofs.RouteLaws.{AllUnder, IsTail, found, missed, none_chosen, under_all}
-use Rattle.dns_route.proofs.SuffixLaws.{in_octets, next_octets, next_tail, rest_octets, whole_tail}
-use Rattle.dns_route.proofs.places.deepest.Goals as goal
+use Rattle.dns_route.proofs.PairLaws.{labels_behind, tail_behind, under_behind}
+use Rattle.dns_route.proofs.RouteLaws.{AllUnder, IsTail, found, missed, none_chosen}
+use Rattle.dns_route.proofs.SuffixLaws.{in_octets, next_octets, next_tail, rest_octets}
+use Rattle.dns_route.proofs.routes.Routes.deepest.Goals as goal
+
+pub folded_octets-requires : goal.folded_octets-requires
+folded_octets-requires g c =
+    labels_behind c.args.name.now c.behind.result c.args.skipped (c.behind.ensures ∙ ap (drop c.args.skipped) c.labels.ensures.value) c.labels.ensures.named.labels
 
 pub suffixes-init : goal.suffixes-init
 suffixes-init g c =
     let q = c.args.name.now in
-    let e : q ≡ c.labels-left.result = sym c.labels-left.ensures.value in
+    let k = c.args.skipped in
+    let d : c.behind.result ≡ drop k q = c.behind.ensures ∙ ap (drop k) c.labels.ensures.value in
+    let e : c.behind-left.result ≡ drop k q = c.behind-left.ensures ∙ ap (drop k) c.labels-2.ensures.value in
     record {
-      tail = subst (IsTail q) e (whole_tail q);
-      octets = c.in_ok-octets.ensures ∙ ap name_key (c.labels.ensures.value ∙ e);
-      under = subst (λ s. AllUnder (length s + 1) q c.args.routes.now) e (under_all q c.args.routes.now);
+      tail = tail_behind q c.behind-left.result k e (omega (arith, c.requires));
+      octets = c.in_ok-octets.ensures ∙ ap name_key (d ∙ sym e);
+      under = under_behind q c.behind-left.result k c.args.self.now e c.requires;
     }
 
 pub slice_bounds-named-count : goal.slice_bounds-named-count
@@ -24,22 +32,22 @@ slice_bounds-named-start g c =
 
 pub returns-in-Some : goal.returns-in-Some
 returns-in-Some g c =
-    found c.args.name.now c.suffixes.left c.suffixes.invariant.tail c.args.routes.now _ c.in-Some.service.now c.suffixes.invariant.under (rest_octets c.in_ok-octets.octets.items c.deref.result.now c.suffixes.at c.suffixes.left c.deref.ensures.value c.suffixes.invariant.octets) c.in-Some.ensures
+    found c.args.name.now c.suffixes.left c.suffixes.invariant.tail c.args.self.now _ c.in-Some.service.now c.suffixes.invariant.under (rest_octets c.in_ok-octets.octets.items c.deref.result.now c.suffixes.at c.suffixes.left c.deref.ensures.value c.suffixes.invariant.octets) (ap option_copied (sym c.in-Some.is) ∙ c.in_ok-service.ensures)
 
 pub returns-in_default-next : goal.returns-in_default-next
 returns-in_default-next g c =
     let q = c.args.name.now in
-    let rs = c.args.routes.now in
-    let u = missed q c.suffixes.left c.suffixes.invariant.tail rs _ c.suffixes.invariant.under (rest_octets c.in_ok-octets.octets.items c.deref.result.now c.suffixes.at c.suffixes.left c.deref.ensures.value c.suffixes.invariant.octets) c.in_default.ensures in
+    let rs = c.args.self.now in
+    let u = missed q c.suffixes.left c.suffixes.invariant.tail rs _ c.suffixes.invariant.under (rest_octets c.in_ok-octets.octets.items c.deref.result.now c.suffixes.at c.suffixes.left c.deref.ensures.value c.suffixes.invariant.octets) (ap option_copied (sym c.in_default.is) ∙ c.in_ok-service.ensures) in
     none_chosen q rs (subst (λ s. AllUnder (length s) q rs) c.in_default-next.ensures.steps.0 u)
 
 pub suffixes-preserved : goal.suffixes-preserved
 suffixes-preserved g c =
     let q = c.args.name.now in
-    let rs = c.args.routes.now in
+    let rs = c.args.self.now in
     let e = c.in-Some-next.ensures.steps in
     let n : length c.suffixes.left ≡ length c.next.new.self + 1 = omega (arith, ap length e) in
-    let u = missed q c.suffixes.left c.suffixes.invariant.tail rs _ c.suffixes.invariant.under (rest_octets c.in_ok-octets.octets.items c.deref.result.now c.suffixes.at c.suffixes.left c.deref.ensures.value c.suffixes.invariant.octets) c.in_default.ensures in
+    let u = missed q c.suffixes.left c.suffixes.invariant.tail rs _ c.suffixes.invariant.under (rest_octets c.in_ok-octets.octets.items c.deref.result.now c.suffixes.at c.suffixes.left c.deref.ensures.value c.suffixes.invariant.octets) (ap option_copied (sym c.in_default.is) ∙ c.in_ok-service.ensures) in
     record {
       tail = next_tail q c.suffixes.left c.next.new.self c.in-Some-next.label.now e c.suffixes.invariant.tail;
       octets = next_octets c.in_ok-octets.octets.items c.suffixes.at c.suffixes.left c.next.new.self c.in-Some-next.label.now e c.suffixes.invariant.octets;
