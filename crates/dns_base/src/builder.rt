@@ -25,10 +25,10 @@ use stage::{
 use std::alloc::Global;
 use std::marker::{Model, PhantomData};
 
-/// A message that is being built, at a stage: what is behind that is empty.
+/// A message that is being built, at a stage: what is behind that is empty. It is moved often, so its state stands in a box.
 #[derive(Debug, Drop)]
 pub struct Builder<S: Stage> {
-    draft: Draft,
+    draft: Box<Draft>,
     stage: PhantomData<S>,
 }
 
@@ -37,9 +37,9 @@ impl<S: Stage> Model for Builder<S> {
 
     ghost Value = { Built };
 
-    ghost view = { λ b. b.draft };
+    ghost view = { λ b. b.draft.value };
 
-    ghost invariant = { λ b. IsWithin S.extent b.draft.message };
+    ghost invariant = { λ b. IsWithin S.extent b.draft.value.message };
 }
 
 /// A message that nothing but a header was built of yet.
@@ -182,7 +182,7 @@ impl<S: Stage> Builder<S> {
     {
         let draft = self.draft.try_clone(alloc)?;
         Ok(Builder {
-            draft,
+            draft: Box::new(alloc, draft)?,
             stage: PhantomData,
         })
     }
@@ -192,7 +192,7 @@ impl<S: Stage> Builder<S> {
         ensures value { result ≡ wire self.message }
         ensures lawful { IsMessage self.message }
     {
-        self.draft.into_message()
+        Box::into_inner(self.draft).into_message()
     }
 
     /// The finished message.
@@ -200,6 +200,6 @@ impl<S: Stage> Builder<S> {
         ensures value { result ≡ wire self.message }
         ensures lawful { IsMessage self.message }
     {
-        self.draft.finish()
+        Box::into_inner(self.draft).finish()
     }
 }

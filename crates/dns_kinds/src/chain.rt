@@ -1,6 +1,6 @@
 //! CHAIN: the closest name that a client trusts already (RFC 7901).
 
-ghost use Rattle.std.specs.Prelude.{◌≡◌, length, Some, IfOk, fold, refl, true, ⊤};
+ghost use Rattle.std.specs.Prelude.{◌≡◌, length, Some, IfOk, refl, true, ⊤};
 ghost use Rattle.std.specs.Cmp.{partial_equiv_from_equiv};
 ghost use Rattle.std.specs.Ordering.{as_partial_cmp};
 ghost use Rattle.dns_name.specs.Canonical.{name_cmp, name_cmp_total, name_writes, same_name, same_name_equiv, same_name_order, same_name_ties, same_name_writes};
@@ -157,7 +157,7 @@ impl<N: HoldsName> PartialEq for HeldChain<N> {
     ghost laws = { partial_equiv_from_equiv same_name_equiv };
 
     fn eq(&self, other: &HeldChain<N>) -> bool {
-        same(&self.start.as_name(), &other.start.as_name())
+        self.start.as_name() == other.start.as_name()
     }
 }
 
@@ -171,7 +171,7 @@ impl<N: HoldsName> Hash for HeldChain<N> {
     ghost respects_eq = { same_name_writes };
 
     fn hash<H: Hasher>(&self, state: &mut H) {
-        hash_name(&self.start.as_name(), state);
+        self.start.as_name().hash(state);
     }
 }
 
@@ -205,23 +205,5 @@ impl<N: HoldsName> fmt::Display for HeldChain<N> {
     fn fmt<W: fmt::Write>(&self, f: &mut fmt::Formatter<W>) -> fmt::Result {
         let start = self.start.as_name();
         write!(f, "{start}")
-    }
-}
-
-/// Whether names are the same up to ASCII case.
-fn same(name: &NameRef<'_>, other: &NameRef<'_>) -> bool
-    ensures { result ≡ same_name name.now other.now }
-{
-    name.name_eq(other)
-}
-
-/// Feeds the octets of a name with ASCII letters in lower case.
-fn hash_name<H: Hasher>(name: &NameRef<'_>, state: &mut H)
-    ensures { state.new ≡ fold H.write state.old (name_writes name.now) }
-{
-    let octets = name.as_slice();
-    state.write_usize(octets.len());
-    'octets: for octet in octets {
-        state.write_u8(octet.to_ascii_lowercase());
     }
 }

@@ -3,6 +3,7 @@
 ghost use Rattle.std.specs.Prelude.{◌≡◌, ◌≤◌, ◌<◌, ◌++◌, ◌^◌, length, take, option_map, IfSome, OnOk, OnErr};
 ghost use Rattle.dns_name.specs.Labels.{spell};
 ghost use Rattle.dns_name.specs.Place.{two};
+ghost use Rattle.dns_message.specs.Equality.{data_parts};
 ghost use Rattle.dns_message.specs.Zone.{zone_octets};
 ghost use Rattle.dns_message.specs.Records.{data_octets, data_type, octets_alone, opt_data, shape_of, unknown_data, IsLawful};
 
@@ -198,14 +199,27 @@ impl RecordData {
         }
     }
 
-    /// Appends the octets of data that is names and numbers, or some of them.
-    fn write_fields(&self, alloc: Global, target: &mut Vec<u8>) -> Result<(), OutOfMemory>
-        requires { octets_alone self.now ≡ None }
-        ensures ok { OnOk result (target.new.items ≡ target.old.items ++ data_octets self.now) }
-        ensures err { OnErr result (take (length target.old.items) target.new.items ≡ target.old.items) }
+    /// The start of a zone, of two names and the numbers.
+    pub(crate) fn of_zone_start(mname: Name, rname: Name, numbers: ZoneNumbers) -> RecordData
+        ensures { result ≡ RecordData.Soa mname rname numbers.serial numbers.refresh numbers.retry numbers.expire numbers.minimum }
+    {
+        RecordData::Soa {
+            mname,
+            rname,
+            serial: numbers.serial,
+            refresh: numbers.refresh,
+            retry: numbers.retry,
+            expire: numbers.expire,
+            minimum: numbers.minimum,
+        }
+    }
+
+    /// The names and the numbers of data that is the start of a zone.
+    pub(crate) fn zone_start(&self) -> (&Name, &Name, ZoneNumbers)
+        requires { (data_parts self.now).0 ≡ 4 }
+        ensures { self.now ≡ RecordData.Soa result.0.now result.1.now result.2.serial result.2.refresh result.2.retry result.2.expire result.2.minimum }
     {
         match self {
-            RecordData::Named { name, .. } => name.compose(alloc, target),
             RecordData::Soa {
                 mname,
                 rname,
@@ -222,6 +236,22 @@ impl RecordData {
                     expire: *expire,
                     minimum: *minimum,
                 };
+                (mname, rname, numbers)
+            }
+            _ => unreachable!(),
+        }
+    }
+
+    /// Appends the octets of data that is names and numbers, or some of them.
+    fn write_fields(&self, alloc: Global, target: &mut Vec<u8>) -> Result<(), OutOfMemory>
+        requires { octets_alone self.now ≡ None }
+        ensures ok { OnOk result (target.new.items ≡ target.old.items ++ data_octets self.now) }
+        ensures err { OnErr result (take (length target.old.items) target.new.items ≡ target.old.items) }
+    {
+        match self {
+            RecordData::Named { name, .. } => name.compose(alloc, target),
+            RecordData::Soa { .. } => {
+                let (mname, rname, numbers) = self.zone_start();
                 push_authority(alloc, target, mname, rname, numbers)
             }
             RecordData::Minfo { first, second } => push_names(alloc, target, first, second),

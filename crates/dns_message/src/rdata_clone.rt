@@ -61,29 +61,9 @@ impl RecordData {
         requires { (data_parts self.now).0 ≡ 4 }
         ensures { IfOk result (λ d. d ≡ self.now) }
     {
-        match self {
-            RecordData::Soa {
-                mname,
-                rname,
-                serial,
-                refresh,
-                retry,
-                expire,
-                minimum,
-            } => {
-                let (mname, rname) = copy_names(alloc, mname, rname)?;
-                Ok(RecordData::Soa {
-                    mname,
-                    rname,
-                    serial: *serial,
-                    refresh: *refresh,
-                    retry: *retry,
-                    expire: *expire,
-                    minimum: *minimum,
-                })
-            }
-            _ => unreachable!(),
-        }
+        let (mname, rname, numbers) = self.zone_start();
+        let (mname, rname) = copy_names(alloc, mname, rname)?;
+        Ok(RecordData::of_zone_start(mname, rname, numbers))
     }
 }
 

@@ -1,13 +1,12 @@
 //! When record data is equal.
 
-ghost use Rattle.std.specs.Prelude.{◌≡◌, ◌==◌, ◌&&◌, [], ◌∷◌};
+ghost use Rattle.std.specs.Prelude.{◌≡◌, [], ◌∷◌};
 ghost use Rattle.std.specs.Cmp.{partial_equiv_from_equiv};
-ghost use Rattle.std.specs.Cmp.Lexicographic.{pointwise};
-ghost use Rattle.dns_name.specs.Canonical.{same_name};
-ghost use Rattle.dns_message.specs.Equality.{data_parts, same_data, same_data_equiv};
+ghost use Rattle.dns_message.specs.Equality.{same_data, same_data_equiv};
 
 use crate::rdata::RecordData;
-use dns_name::{Name, Octets, Rtype, Serial, Ttl};
+use crate::zone::ZoneNumbers;
+use dns_name::{Name, Octets, Rtype};
 
 impl PartialEq for RecordData {
     ghost eq = { same_data };
@@ -19,16 +18,8 @@ impl PartialEq for RecordData {
             RecordData::A(octets) => is_a(other, octets),
             RecordData::Aaaa(octets) => is_aaaa(other, octets),
             RecordData::Named { rtype, name } => is_named(other, *rtype, name),
-            RecordData::Soa {
-                mname,
-                rname,
-                serial,
-                refresh,
-                retry,
-                expire,
-                minimum,
-            } => {
-                let numbers = zone_numbers(serial, refresh, retry, expire, minimum);
+            RecordData::Soa { .. } => {
+                let (mname, rname, numbers) = self.zone_start();
                 is_soa(other, mname, rname, numbers)
             }
             RecordData::Minfo { first, second } => is_minfo(other, first, second),
@@ -53,21 +44,15 @@ impl Eq for RecordData {
 }
 
 /// The numbers of a zone's start in their order (RFC 1035, section 3.3.13).
-fn zone_numbers(
-    serial: &Serial,
-    refresh: &Ttl,
-    retry: &Ttl,
-    expire: &Ttl,
-    minimum: &Ttl,
-) -> [u32; 5]
-    ensures { result ≡ serial.now.0 ∷ refresh.now ∷ retry.now ∷ expire.now ∷ minimum.now ∷ [] }
+fn in_order(numbers: ZoneNumbers) -> [u32; 5]
+    ensures { result ≡ numbers.serial.0 ∷ numbers.refresh ∷ numbers.retry ∷ numbers.expire ∷ numbers.minimum ∷ [] }
 {
     [
-        serial.into_int(),
-        refresh.as_secs(),
-        retry.as_secs(),
-        expire.as_secs(),
-        minimum.as_secs(),
+        numbers.serial.into_int(),
+        numbers.refresh.as_secs(),
+        numbers.retry.as_secs(),
+        numbers.expire.as_secs(),
+        numbers.minimum.as_secs(),
     ]
 }
 
@@ -101,21 +86,14 @@ fn is_named(rdata: &RecordData, rtype: Rtype, name: &Name) -> bool
     }
 }
 
-fn is_soa(rdata: &RecordData, mname: &Name, rname: &Name, numbers: [u32; 5]) -> bool
-    ensures { result ≡ ((4 == (data_parts rdata.now).0) && (pointwise ◌==◌ numbers (data_parts rdata.now).1 && pointwise same_name (mname.now ∷ rname.now ∷ []) (data_parts rdata.now).2)) }
+fn is_soa(rdata: &RecordData, mname: &Name, rname: &Name, numbers: ZoneNumbers) -> bool
+    ensures { result ≡ same_data (RecordData.Soa mname.now rname.now numbers.serial numbers.refresh numbers.retry numbers.expire numbers.minimum) rdata.now }
 {
     match rdata {
-        RecordData::Soa {
-            mname: other_mname,
-            rname: other_rname,
-            serial,
-            refresh,
-            retry,
-            expire,
-            minimum,
-        } => {
-            let others = zone_numbers(serial, refresh, retry, expire, minimum);
-            numbers == others && mname == other_mname && rname == other_rname
+        RecordData::Soa { .. } => {
+            let (other_mname, other_rname, others) = rdata.zone_start();
+            let same_numbers = in_order(numbers) == in_order(others);
+            same_numbers && mname == other_mname && rname == other_rname
         }
         _ => false,
     }

@@ -5,7 +5,8 @@ ghost use Rattle.dns_message.specs.Equality.{data_parts};
 ghost use Rattle.dns_message.specs.Records.{octets_alone};
 
 use crate::rdata::RecordData;
-use dns_name::{Name, Octets, Rtype, Serial, Ttl};
+use crate::zone::ZoneNumbers;
+use dns_name::{Name, Octets, Rtype};
 use std::fmt;
 
 impl fmt::Debug for RecordData {
@@ -45,21 +46,13 @@ fn show_fields<W: fmt::Write>(f: &mut fmt::Formatter<W>, rdata: &RecordData) -> 
 fn show_authority<W: fmt::Write>(f: &mut fmt::Formatter<W>, rdata: &RecordData) -> fmt::Result
     requires { (data_parts rdata.now).0 ≡ 4 }
 {
-    match rdata {
-        RecordData::Soa {
-            mname,
-            rname,
-            serial,
-            refresh,
-            retry,
-            expire,
-            minimum,
-        } => {
-            let times = [*refresh, *retry, *expire, *minimum];
-            show_soa(f, mname, rname, serial, times)
-        }
-        _ => unreachable!(),
-    }
+    let (mname, rname, numbers) = rdata.zone_start();
+    let mut shown = f.debug_struct("Soa");
+    shown
+        .field("mname", mname)
+        .field("rname", rname)
+        .field("serial", &numbers.serial);
+    show_times(shown, numbers)
 }
 
 fn show_octets<W: fmt::Write, T: fmt::Debug>(
@@ -77,29 +70,16 @@ fn show_named<W: fmt::Write>(f: &mut fmt::Formatter<W>, rtype: &Rtype, name: &Na
         .finish()
 }
 
-fn show_soa<W: fmt::Write>(
-    f: &mut fmt::Formatter<W>,
-    mname: &Name,
-    rname: &Name,
-    serial: &Serial,
-    times: [Ttl; 4],
-) -> fmt::Result {
-    let mut shown = f.debug_struct("Soa");
-    shown
-        .field("mname", mname)
-        .field("rname", rname)
-        .field("serial", serial);
-    show_times(shown, times)
-}
-
 /// The times of a zone's start behind its other fields.
-fn show_times<W: fmt::Write>(mut shown: fmt::DebugStruct<'_, W>, times: [Ttl; 4]) -> fmt::Result {
-    let [refresh, retry, expire, minimum] = times;
+fn show_times<W: fmt::Write>(
+    mut shown: fmt::DebugStruct<'_, W>,
+    numbers: ZoneNumbers,
+) -> fmt::Result {
     shown
-        .field("refresh", &refresh)
-        .field("retry", &retry)
-        .field("expire", &expire)
-        .field("minimum", &minimum)
+        .field("refresh", &numbers.refresh)
+        .field("retry", &numbers.retry)
+        .field("expire", &numbers.expire)
+        .field("minimum", &numbers.minimum)
         .finish()
 }
 

@@ -168,16 +168,7 @@ fn soa_in(alloc: Global, window: Window<'_>, at: usize) -> FoundData
 {
     let ((mname, rname), at) = names_in(alloc, window, at)?;
     let (numbers, at) = zone_in(window.octets(), at)?;
-    let soa = RecordData::Soa {
-        mname,
-        rname,
-        serial: numbers.serial,
-        refresh: numbers.refresh,
-        retry: numbers.retry,
-        expire: numbers.expire,
-        minimum: numbers.minimum,
-    };
-    Ok((soa, at))
+    Ok((RecordData::of_zone_start(mname, rname, numbers), at))
 }
 
 #[tactic(auto, unfolding(crate::specs::Standing::minfo_at))]

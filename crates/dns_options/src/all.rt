@@ -1,6 +1,7 @@
 //! Every kind of option as one.
 
 ghost use Rattle.std.specs.Prelude.{◌≡◌, ⊤, Some};
+ghost use Rattle.std.specs.Result.{IsOkAnd};
 ghost use Rattle.dns_name.specs.OptData.{ParsesData, ParsesOption, mapped_data, list_data};
 ghost use Rattle.dns_name.specs.Place.{rest};
 ghost use Rattle.dns_lists.specs.Unknowns.{unknown};
@@ -61,22 +62,18 @@ impl<'a> Clone for AllOptData<'a> {
     ghost is_infallible = { λ _. ⊤ };
 
     fn clone(&self) -> Result<AllOptData<'a>, AllocError> {
-        match self {
-            AllOptData::Dau(value) => Ok(AllOptData::Dau(value.clone()?)),
-            AllOptData::Dhu(value) => Ok(AllOptData::Dhu(value.clone()?)),
-            AllOptData::N3u(value) => Ok(AllOptData::N3u(value.clone()?)),
-            AllOptData::Chain(value) => Ok(AllOptData::Chain(value.clone()?)),
-            AllOptData::Cookie(value) => Ok(AllOptData::Cookie(*value)),
-            AllOptData::Expire(value) => Ok(AllOptData::Expire(*value)),
-            AllOptData::ExtendedError(value) => Ok(AllOptData::ExtendedError(value.clone()?)),
-            AllOptData::TcpKeepalive(value) => Ok(AllOptData::TcpKeepalive(*value)),
-            AllOptData::KeyTag(value) => Ok(AllOptData::KeyTag(value.clone()?)),
-            AllOptData::Nsid(value) => Ok(AllOptData::Nsid(value.clone()?)),
-            AllOptData::Padding(value) => Ok(AllOptData::Padding(value.clone()?)),
-            AllOptData::ClientSubnet(value) => Ok(AllOptData::ClientSubnet(*value)),
-            AllOptData::Other(value) => Ok(AllOptData::Other(value.clone()?)),
-        }
+        each!(self, value => copied(value))
     }
+}
+
+/// A copy of a value, as an option.
+fn copied<'a, T: Clone + Into<AllOptData<'a>>>(value: &T) -> Result<AllOptData<'a>, AllocError>
+    requires same { (copy : T) → T.is_clone value.now copy → copy ≡ value.now }
+    requires infallible { T.is_infallible value.now }
+    ensures { IsOkAnd result (T.converts value.now) }
+{
+    let copy = value.clone()?;
+    Ok(copy.into())
 }
 
 impl<'a> OptData for AllOptData<'a> {

@@ -1,6 +1,6 @@
 //! Sources and sinks in memory, with calls that fail.
 
-ghost use Rattle.std.specs.Prelude.{◌≡◌, ◌≤◌, ◌↔◌, length, Contains};
+ghost use Rattle.std.specs.Prelude.{◌≡◌, ◌≤◌, ◌↔◌, if◌then◌else◌, length, Contains, IsTrue};
 ghost use Rattle.dns_outside.specs.Causes.{Tells};
 ghost use Rattle.dns_outside.specs.Moves.{ReadMoves, ReadBound, ReadCause, WriteMoves, WriteBound, WriteCause};
 ghost use Rattle.dns_outside.specs.Memory.{Supplies, Stores, next};
@@ -9,15 +9,58 @@ use crate::sink::{Sink, SinkWrite};
 use crate::source::{Source, SourceRead};
 use std::marker::Model;
 
+/// Calls, of which those fail whose numbers are listed.
+#[derive(Drop)]
+struct FailingCalls {
+    listed: Vec<u64>,
+    made: u64,
+    faults: u64,
+}
+
+impl FailingCalls {
+    /// No call so far. `listed` holds the numbers of those that fail, from 0.
+    fn of(listed: Vec<u64>) -> FailingCalls
+        ensures { result ≡ record { listed = listed; made = 0; faults = 0 } }
+    {
+        FailingCalls {
+            listed,
+            made: 0,
+            faults: 0,
+        }
+    }
+
+    /// One call more: whether it is a listed one, which is a fault.
+    fn fails(&mut self) -> bool
+        ensures listed { IsTrue result ↔ Contains self.old.listed.items self.old.made }
+        ensures made { self.new.made ≡ next self.old.made }
+        ensures faults { self.new.faults ≡ (if result then next self.old.faults else self.old.faults) }
+        ensures later { self.old.faults ≤ self.new.faults }
+        ensures kept { self.new.listed ≡ self.old.listed }
+    {
+        let fails = self.listed.contains(&self.made);
+        self.made = self.made.saturating_add(1);
+        if fails {
+            self.fault();
+        }
+        fails
+    }
+
+    /// One fault more.
+    fn fault(&mut self)
+        ensures value { self.new ≡ record self.old { faults = next self.old.faults } }
+        ensures later { self.old.faults ≤ self.new.faults }
+    {
+        self.faults = self.faults.saturating_add(1);
+    }
+}
+
 /// A source over a vector, which tells what is left. The calls whose numbers are listed fail, and no others.
 #[derive(Drop)]
 pub struct MemorySource {
     octets: Vec<u8>,
     place: usize,
     most: usize,
-    failing: Vec<u64>,
-    calls: u64,
-    faults: u64,
+    calls: FailingCalls,
 }
 
 impl Model for MemorySource {
@@ -26,7 +69,7 @@ impl Model for MemorySource {
 
     ghost Value = { Supply };
 
-    ghost view = { λ s. record { left = drop s.place s.octets.items; most = s.most; failing = s.failing.items; calls = s.calls; faults = s.faults } };
+    ghost view = { λ s. record { left = drop s.place s.octets.items; most = s.most; failing = s.calls.listed.items; calls = s.calls.made; faults = s.calls.faults } };
 
     ghost invariant = { λ s. s.place ≤ length s.octets.items };
 }
@@ -41,9 +84,7 @@ impl MemorySource {
             octets,
             place: 0,
             most,
-            failing,
-            calls: 0,
-            faults: 0,
+            calls: FailingCalls::of(failing),
         }
     }
 
@@ -72,10 +113,7 @@ impl Source for MemorySource {
         ensures called { self.new.calls ≡ next self.old.calls }
         ensures kept { (self.new.failing ≡ self.old.failing) × (self.new.most ≡ self.old.most) }
     {
-        let call = self.calls;
-        self.calls = self.calls.saturating_add(1);
-        if self.failing.contains(&call) {
-            self.faults = self.faults.saturating_add(1);
+        if self.calls.fails() {
             return SourceRead::Failed;
         }
         let left = self.octets.len() - self.place;
@@ -95,9 +133,7 @@ impl Source for MemorySource {
 pub struct MemorySink {
     octets: Vec<u8>,
     most: usize,
-    failing: Vec<u64>,
-    calls: u64,
-    faults: u64,
+    calls: FailingCalls,
 }
 
 impl Model for MemorySink {
@@ -105,7 +141,7 @@ impl Model for MemorySink {
 
     ghost Value = { Store };
 
-    ghost view = { λ s. record { taken = s.octets.items; most = s.most; failing = s.failing.items; calls = s.calls; faults = s.faults } };
+    ghost view = { λ s. record { taken = s.octets.items; most = s.most; failing = s.calls.listed.items; calls = s.calls.made; faults = s.calls.faults } };
 }
 
 impl MemorySink {
@@ -117,9 +153,7 @@ impl MemorySink {
         MemorySink {
             octets,
             most,
-            failing,
-            calls: 0,
-            faults: 0,
+            calls: FailingCalls::of(failing),
         }
     }
 
@@ -148,17 +182,14 @@ impl Sink for MemorySink {
         ensures called { self.new.calls ≡ next self.old.calls }
         ensures kept { (self.new.failing ≡ self.old.failing) × (self.new.most ≡ self.old.most) }
     {
-        let call = self.calls;
-        self.calls = self.calls.saturating_add(1);
-        if self.failing.contains(&call) {
-            self.faults = self.faults.saturating_add(1);
+        if self.calls.fails() {
             return SinkWrite::Failed;
         }
         let count = piece.len().min(self.most.max(1));
         match self.octets.extend_from_slice(&piece[..count]) {
             Ok(()) => SinkWrite::Took(count),
             Err(_) => {
-                self.faults = self.faults.saturating_add(1);
+                self.calls.fault();
                 SinkWrite::Failed
             }
         }

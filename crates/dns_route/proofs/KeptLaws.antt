@@ -1,33 +1,14 @@
--- The kept options by the first option of a list.
-use Rattle.std.proofs.Common.{◌≡◌, ℕ, ◌+◌, ◌≤◌, true, false, List, [], ◌∷◌, ◌++◌, length, take, drop, Option, Some, None, refl, ap, sym, ◌∙◌, arith, length-drop, length-take, length-append, append_assoc}
+-- What is kept of options, by a walk over the first option of those that are left.
+use Rattle.std.proofs.Common.{◌≡◌, ℕ, zero, suc, ◌+◌, ◌≤◌, true, false, List, [], ◌∷◌, ◌++◌, length, take, drop, Option, Some, None, refl, ap, sym, ◌∙◌, arith, length-drop, length-take, length-append, append-nil, append_assoc}
 use Rattle.std.specs.Prelude.{option_map, is_some, unwrap_or, if◌then◌else◌, nat_le}
 use Rattle.std.proofs.lemmas.Option.{cond_some}
 use Rattle.std.proofs.lemmas.Bool.{leb-true}
 use Rattle.dns_name.specs.Place.{be16}
-use Rattle.dns_base.specs.Options.{split_at, first_option, options, option_octets, IsOptionList}
-use Rattle.dns_message.proofs.OptionLaws.{options_some, options_empty, list_step, none_empty}
+use Rattle.dns_base.specs.Options.{split_at, first_option, with_first, options_up_to, options, option_octets, IsOptionList}
 use Rattle.dns_route.specs.declared.kept.Keeps.{Keeps}
 use Rattle.dns_route.specs.Kept.{keeps, kept_options, kept_of_list}
 
-kept_map : (k : Keeps) (c : ℕ) (d : List ℕ) (x : Option (List (ℕ × List ℕ))) → is_some x ≡ true → kept_options k (unwrap_or (option_map (λ ps. (c, d) ∷ ps) x) []) ≡ (if keeps k c then option_octets c d ++ kept_options k (unwrap_or x []) else kept_options k (unwrap_or x []))
-kept_map k c d None h = cc
-kept_map k c d (Some ps) h = refl
-
-kept_some : (k : Keeps) (o : List ℕ) (c : ℕ) (d r : List ℕ) → IsOptionList o → first_option o ≡ Some (c, d, r) → kept_of_list k o ≡ (if keeps k c then option_octets c d ++ kept_of_list k r else kept_of_list k r)
-kept_some k o c d r h e = ap (λ x. kept_options k (unwrap_or x [])) (options_some o c d r e) ∙ kept_map k c d (options r) (sym (list_step o c d r e) ∙ h)
-
-pub kept_taken : (k : Keeps) (o : List ℕ) (c : ℕ) (d r : List ℕ) → IsOptionList o → first_option o ≡ Some (c, d, r) → keeps k c ≡ true → kept_of_list k o ≡ option_octets c d ++ kept_of_list k r
-kept_taken k o c d r h e t = kept_some k o c d r h e ∙ ap (λ b. if b then option_octets c d ++ kept_of_list k r else kept_of_list k r) t
-
-pub kept_left : (k : Keeps) (o : List ℕ) (c : ℕ) (d r : List ℕ) → IsOptionList o → first_option o ≡ Some (c, d, r) → keeps k c ≡ false → kept_of_list k o ≡ kept_of_list k r
-kept_left k o c d r h e t = kept_some k o c d r h e ∙ ap (λ b. if b then option_octets c d ++ kept_of_list k r else kept_of_list k r) t
-
-pub kept_none : (k : Keeps) (o : List ℕ) → IsOptionList o → first_option o ≡ None → kept_of_list k o ≡ []
-kept_none k o h e = ap (kept_of_list k) (none_empty o h e) ∙ ap (λ x. kept_options k (unwrap_or x [])) options_empty
-
--- a kept option behind those that are kept already
-pub kept_more : (k : Keeps) (o : List ℕ) (c : ℕ) (d r xs ys : List ℕ) → IsOptionList o → first_option o ≡ Some (c, d, r) → keeps k c ≡ true → xs ++ kept_of_list k o ≡ ys → (xs ++ option_octets c d) ++ kept_of_list k r ≡ ys
-kept_more k o c d r xs ys h e t s = append_assoc xs (option_octets c d) (kept_of_list k r) ∙ (ap (λ l. xs ++ l) (sym (kept_taken k o c d r h e t)) ∙ s)
+-- ---- the first option of a list
 
 split_size : (code n : ℕ) (x : List ℕ) (c : ℕ) (d r : List ℕ) → split_at code n x ≡ Some (c, d, r) → length x ≡ length d + length r
 split_size code n x c d r e =
@@ -38,13 +19,85 @@ split_size code n x c d r e =
     omega (arith, h, ap length a, ap length b, length-take n x, length-drop n x)
 
 -- how long a list is by its first option
-pub first_size : (o : List ℕ) (c : ℕ) (d r : List ℕ) → first_option o ≡ Some (c, d, r) → length o ≡ 4 + length d + length r
+first_size : (o : List ℕ) (c : ℕ) (d r : List ℕ) → first_option o ≡ Some (c, d, r) → length o ≡ 4 + length d + length r
 first_size [] c d r e = cc
 first_size (x ∷ []) c d r e = cc
 first_size (x ∷ y ∷ []) c d r e = cc
 first_size (x ∷ y ∷ z ∷ []) c d r e = cc
 first_size (x ∷ y ∷ z ∷ w ∷ o) c d r e = omega (arith, split_size (be16 x y) (be16 z w) o c d r e)
 
--- how long a list is with an option more, and what follows the option
-pub more_size : (o : List ℕ) (c : ℕ) (d r xs : List ℕ) → first_option o ≡ Some (c, d, r) → length xs + length o ≤ 65535 → length (xs ++ option_octets c d) + length r ≤ 65535
-more_size o c d r xs e h = omega (arith, first_size o c d r e, length-append xs (option_octets c d))
+mapped : (p : ℕ × List ℕ) (x : Option (List (ℕ × List ℕ))) (ps : List (ℕ × List ℕ)) → option_map (λ qs. p ∷ qs) x ≡ Some ps → (qs : List (ℕ × List ℕ)) × (x ≡ Some qs) × (ps ≡ p ∷ qs)
+mapped p None ps e = cc
+mapped p (Some qs) ps e = (qs, refl, cc)
+
+-- the options by the first one, and those behind it
+first_pair : (n : ℕ) (o : List ℕ) (ps : List (ℕ × List ℕ)) (c : ℕ) (d r : List ℕ) → options_up_to n o ≡ Some ps → first_option o ≡ Some (c, d, r) → (m : ℕ) × (qs : List (ℕ × List ℕ)) × (options_up_to m r ≡ Some qs) × (ps ≡ (c, d) ∷ qs)
+first_pair zero [] ps c d r e f = cc
+first_pair zero (a ∷ o) ps c d r e f = cc
+first_pair (suc n) [] ps c d r e f = cc
+first_pair (suc n) (a ∷ o) ps c d r e f =
+    let g : option_map (λ qs. (c, d) ∷ qs) (options_up_to n r) ≡ Some ps = sym (ap (with_first (options_up_to n)) f) ∙ e in
+    let q = mapped (c, d) (options_up_to n r) ps g in
+    (n, q.0, q.1, q.2)
+
+no_pairs : (n : ℕ) (o : List ℕ) (ps : List (ℕ × List ℕ)) → options_up_to n o ≡ Some ps → first_option o ≡ None → ps ≡ []
+no_pairs zero [] ps e f = cc
+no_pairs zero (a ∷ o) ps e f = cc
+no_pairs (suc n) [] ps e f = cc
+no_pairs (suc n) (a ∷ o) ps e f =
+    let g : None ≡ Some ps = sym (ap (with_first (options_up_to n)) f) ∙ e in
+    cc
+
+-- ---- the walk
+
+some_of : (x : Option (List (ℕ × List ℕ))) → is_some x ≡ true → (ps : List (ℕ × List ℕ)) × (x ≡ Some ps)
+some_of None h = cc
+some_of (Some ps) h = (ps, refl)
+
+-- what is left of a list are options, and what was kept with what is to be kept of them is what is kept of the list
+pub record IsWalked (k : Keeps) (o left kept : List ℕ) : Type 0 where
+  pub fuel : ℕ
+  pub pairs : List (ℕ × List ℕ)
+  pub behind : options_up_to fuel left ≡ Some pairs
+  pub same : kept ++ kept_options k pairs ≡ kept_of_list k o
+  pub room : length kept + length left ≤ 65535
+
+pub begun : (k : Keeps) (o : List ℕ) → IsOptionList o → length o ≤ 65535 → IsWalked k o o []
+unfolding options
+begun k o h l =
+    let q = some_of (options_up_to (length o) o) h in
+    record { fuel = length o; pairs = q.0; behind = q.1; same = ap (λ x. kept_options k (unwrap_or x [])) (sym q.1); room = omega (arith, l) }
+
+pub ended : (k : Keeps) (o left kept : List ℕ) → IsWalked k o left kept → first_option left ≡ None → kept ≡ kept_of_list k o
+ended k o left kept w f =
+    let n : kept_options k w.pairs ≡ [] = ap (kept_options k) (no_pairs w.fuel left w.pairs w.behind f) in
+    sym (append-nil kept) ∙ (ap (λ l. kept ++ l) (sym n) ∙ w.same)
+
+module _ (k : Keeps) (o left kept : List ℕ) (c : ℕ) (d r : List ℕ) (w : IsWalked k o left kept) (f : first_option left ≡ Some (c, d, r)) where
+  -- an option has room behind those that are kept
+  pub has_room : length kept + 4 + length d ≤ 65535
+  has_room = omega (arith, first_size left c d r f, w.room)
+
+  pub kept_one : keeps k c ≡ true → IsWalked k o r (kept ++ option_octets c d)
+  kept_one t =
+      let s = first_pair w.fuel left w.pairs c d r w.behind f in
+      let e : kept_options k w.pairs ≡ option_octets c d ++ kept_options k s.1 = ap (kept_options k) s.3 ∙ ap (λ b. if b then option_octets c d ++ kept_options k s.1 else kept_options k s.1) t in
+      record {
+        fuel = s.0;
+        pairs = s.1;
+        behind = s.2;
+        same = append_assoc kept (option_octets c d) (kept_options k s.1) ∙ (ap (λ l. kept ++ l) (sym e) ∙ w.same);
+        room = omega (arith, first_size left c d r f, length-append kept (option_octets c d), w.room);
+      }
+
+  pub left_one : keeps k c ≡ false → IsWalked k o r kept
+  left_one t =
+      let s = first_pair w.fuel left w.pairs c d r w.behind f in
+      let e : kept_options k w.pairs ≡ kept_options k s.1 = ap (kept_options k) s.3 ∙ ap (λ b. if b then option_octets c d ++ kept_options k s.1 else kept_options k s.1) t in
+      record {
+        fuel = s.0;
+        pairs = s.1;
+        behind = s.2;
+        same = ap (λ l. kept ++ l) (sym e) ∙ w.same;
+        room = omega (arith, first_size left c d r f, w.room);
+      }

@@ -7,8 +7,7 @@ use Rattle.std.specs.HashMap.{HashMap, UpdatesBy}
 use Rattle.std.specs.List.{filter, last_or, slice_get}
 use Rattle.std.specs.Map.{lookup, AreApart, IsKeyTest, KeepsOthers}
 use Rattle.std.specs.Str.{bytes_eq}
-use Rattle.std.specs.declared.alloc.Global.{Global}
-use Rattle.std.specs.declared.vec.Vec.{Vec}
+use Rattle.smallvec.specs.SmallVec.{SmallVec}
 use Rattle.std.proofs.lemmas.List.Elements.{filter-append}
 use Rattle.std.proofs.lemmas.Option.{slice_get-get_or}
 use Rattle.std.proofs.Math.ListN.{get_or-append}
@@ -85,7 +84,7 @@ module _ {S : Type 0} (rs : List (Route S)) (r : Route S) where
   within_by None false w = tt
   within_by (Some i) false w = omega (arith, length-append rs (r ∷ []), w)
 
-  module _ {H : Type 0} (m n : HashMap (Vec ℕ Global) ℕ H) (k : List ℕ) (place : ℕ) where
+  module _ {H : Type 0} (m n : HashMap (SmallVec ℕ) ℕ H) (k : List ℕ) (place : ℕ) where
     -- a place more is kept, behind all others
     pub known_more : Knows m rs → k ≡ name_key r.0 → place ≡ length rs → ((o : List ℕ) → place_under n o ≡ (if bytes_eq k o then Some place else place_under m o)) → Knows n (rs ++ r ∷ [])
     known_more h e l put =
@@ -111,9 +110,9 @@ at_octets : {W : Type 0} (f g : List ℕ → W) (bs : List ℕ) (w : W) → g bs
 at_octets f g bs w here other cs true e = subst (λ l. g l ≡ w) ((bytes_decides bs cs).0 e) here
 at_octets f g bs w here other cs false e = other cs e
 
-module _ {H : Type 0} (k : List ℕ) (m n : HashMap (Vec ℕ Global) ℕ H) (w : Option ℕ) where
-  pub put_under : UpdatesBy (λ (x y : Vec ℕ Global). bytes_eq x.items y.items) (λ (y : Vec ℕ Global). bytes_eq k y.items) m n w → (o : List ℕ) → place_under n o ≡ (if bytes_eq k o then w else place_under m o)
+module _ {H : Type 0} (k : List ℕ) (m n : HashMap (SmallVec ℕ) ℕ H) (w : Option ℕ) where
+  pub put_under : UpdatesBy (λ (x y : SmallVec ℕ). bytes_eq x.items y.items) (λ (y : SmallVec ℕ). bytes_eq k y.items) m n w → (o : List ℕ) → place_under n o ≡ (if bytes_eq k o then w else place_under m o)
   put_under h o =
       at_octets (place_under m) (place_under n) k w h.1
-      (λ cs e. other_entries (λ (x y : Vec ℕ Global). bytes_eq x.items y.items) (λ (y : Vec ℕ Global). bytes_eq k y.items) m.entries n.entries h.3 (λ (y : Vec ℕ Global). bytes_eq cs y.items) (λ x y. nat_list_eq_equiv.congr cs x.items y.items) (λ y. apart k cs y.items e))
+      (λ cs e. other_entries (λ (x y : SmallVec ℕ). bytes_eq x.items y.items) (λ (y : SmallVec ℕ). bytes_eq k y.items) m.entries n.entries h.3 (λ (y : SmallVec ℕ). bytes_eq cs y.items) (λ x y. nat_list_eq_equiv.congr cs x.items y.items) (λ y. apart k cs y.items e))
       o (bytes_eq k o) refl

@@ -9,7 +9,7 @@ use Rattle.dns_base.specs.Records.{record_of}
 use Rattle.dns_base.specs.Replaced.{other_than}
 use Rattle.dns_base.specs.Header.{header_of}
 use Rattle.dns_base.specs.Replies.{answer_header, error_by, with_copied, within_limit}
-use Rattle.dns_base.specs.Sections.{Items, all_of, answers_of, authority_of, questions_of, reached, standing_additional, standing_answers, standing_authority}
+use Rattle.dns_base.specs.Sections.{Items, all_of, answers_of, authority_of, message_of, questions_of, reached, standing_additional, standing_answers, standing_authority}
 use Rattle.dns_base.specs.Standing.{Standing}
 use Rattle.dns_base.specs.Wire.{wire}
 use Rattle.dns_message.specs.TypedData.{IsReadAs, IsTyped, ReadsBack}
@@ -17,9 +17,6 @@ use Rattle.dns_message.specs.declared.question.Question.{Question}
 use Rattle.dns_message.specs.declared.header.Header.{Header}
 use Rattle.dns_message.specs.declared.rdata.RecordData.TheVariants.{Opt as OptList}
 use Rattle.dns_message.specs.declared.record.Record.{Record}
-use Rattle.dns_message.proofs.OptionLaws.{options_empty}
-use Rattle.dns_message.proofs.TypedSections.{additional_back, answers_back, authority_back}
-use Rattle.dns_message.proofs.Written.{header_written, questions_written}
 use Rattle.dns_opt.specs.Drafts.{with_opt, with_opt_record}
 use Rattle.dns_opt.specs.OptRecords.{OptState, opt_record, opt_state, zero_head}
 use Rattle.dns_opt.specs.Reopened.{opt_among, opt_or_empty}
@@ -30,7 +27,7 @@ use Rattle.dns_service.specs.Copied.{copied, copied_item, copied_records, in_fro
 use Rattle.dns_base.specs.CopiedRecord.{plainly}
 use Rattle.dns_route.specs.OwnReplies.{error_state}
 use Rattle.dns_route.specs.ReplyMessage.{begun, reply_message, reply_with_opt, with_reply_option}
-use Rattle.dns_route.proofs.OwnLaws.{AreBare, error_records}
+use Rattle.dns_route.proofs.OwnLaws.{AreBare, error_records, options_empty}
 
 -- ---- the copy of a message that was built of typed records
 
@@ -56,18 +53,36 @@ whole_mapped : (qs : List Question) → whole_list (map (λ (q : Question). Ok q
 whole_mapped [] = refl
 whole_mapped (q ∷ qs) = ap (in_front (Ok q)) (whole_mapped qs)
 
-module _ (m : Msg) (h : IsMessage m) where
-  copied_questions : whole_list (all_of (questions_of (wire m))) ≡ Ok m.questions
-  copied_questions = ap (λ (i : Items Question). whole_list (all_of i)) (questions_written m h) ∙ whole_mapped m.questions
+-- questions behind which a section is reached
+questions_copied : (i : Items Question) (qs : List Question) (xs : List ResourceRecord) (j : Items Standing) → i.0 ≡ qs → ReadsBack xs (reached i.1 j) → whole_list (all_of i) ≡ Ok qs
+questions_copied (ps, Ok end) qs xs j e h = whole_mapped ps ∙ ap (λ (l : List Question). Ok l) e
+questions_copied (ps, Err x) qs xs j e h = absurd h
 
-  copied_back : AreTyped m.answers → AreTyped m.authority → AreTyped m.additional → copied (wire m) ≡ Ok (record m { additional = other_than 41 m.additional })
+-- messages that are written are read again, and so are their typed records
+pub record AreReadBack : Type 0 where
+  pub same : (m : Msg) → IsMessage m → message_of (wire m) ≡ m
+  pub answers : (m : Msg) → IsMessage m → ReadsBack m.answers (reached (questions_of (wire m)).1 (standing_answers (wire m)))
+  pub authority : (m : Msg) → IsMessage m → ReadsBack m.authority (reached (answers_of (wire m)).1 (standing_authority (wire m)))
+  pub additional : (m : Msg) → IsMessage m → ReadsBack m.additional (reached (authority_of (wire m)).1 (standing_additional (wire m)))
+
+module _ (back : AreReadBack) where
+  header_back : (m : Msg) → IsMessage m → header_of (wire m) ≡ m.header
+  unfolding message_of
+  header_back m h = ap (λ (x : Msg). x.header) (back.same m h)
+
+  questions_back : (m : Msg) → IsMessage m → (questions_of (wire m)).0 ≡ m.questions
+  unfolding message_of
+  questions_back m h = ap (λ (x : Msg). x.questions) (back.same m h)
+
+  copied_back : (m : Msg) → IsMessage m → AreTyped m.answers → AreTyped m.authority → AreTyped m.additional → copied (wire m) ≡ Ok (record m { additional = other_than 41 m.additional })
   unfolding copied
-  copied_back a b c =
+  copied_back m h a b c =
       let o = wire m in
-      let an = copied_reached m.answers (questions_of o).1 (standing_answers o) a (answers_back m h) in
-      let ns = copied_reached m.authority (answers_of o).1 (standing_authority o) b (authority_back m h) in
-      let ar = ap others_of (copied_reached m.additional (authority_of o).1 (standing_additional o) c (additional_back m h)) in
-      rw (header_written m h, copied_questions, an, ns, ar) refl
+      let qs = questions_copied (questions_of o) m.questions m.answers (standing_answers o) (questions_back m h) (back.answers m h) in
+      let an = copied_reached m.answers (questions_of o).1 (standing_answers o) a (back.answers m h) in
+      let ns = copied_reached m.authority (answers_of o).1 (standing_authority o) b (back.authority m h) in
+      let ar = ap others_of (copied_reached m.additional (authority_of o).1 (standing_additional o) c (back.additional m h)) in
+      rw (header_back m h, qs, an, ns, ar) refl
 
 -- ---- error replies
 
@@ -125,24 +140,23 @@ bare_again rs (inl h) m = subst (λ (l : List ResourceRecord). and_opt (record m
 bare_again rs (inr h) m =
     subst (λ (l : List ResourceRecord). and_opt (record m { additional = other_than 41 l }) (opt_among l) ≡ record m { additional = l }) (sym h) (rw options_empty refl)
 
-module _ (query : List ℕ) (code : ℕ) (l : code < 16) (h : IsMessage (error_reply query code)) where
+begun_or : (x : Option OptState) → begun x ≡ opt_or_empty x
+begun_or None = refl
+begun_or (Some s) = refl
+
+module _ (back : AreReadBack) (query : List ℕ) (code : ℕ) (l : code < 16) (h : IsMessage (error_reply query code)) where
   error_copied : copied (wire (error_reply query code)) ≡ Ok (record (error_reply query code) { additional = other_than 41 (error_reply query code).additional })
   error_copied =
-      copied_back (error_reply query code) h (none_typed _ (error_answers query code)) (none_typed _ (error_authority query code)) (bare_typed _ (error_records query code l))
+      copied_back back (error_reply query code) h (none_typed _ (error_answers query code)) (none_typed _ (error_authority query code)) (bare_typed _ (error_records query code l))
 
   -- what is built of an error reply is that error reply
   pub error_built : reply_message (error_state query code) ≡ Ok (error_reply query code)
   error_built =
       ap (reply_with_opt (error_state query code).opt) error_copied ∙ ap (λ (m : Msg). Ok m) (bare_again (error_reply query code).additional (error_records query code l) (error_reply query code))
 
-begun_or : (x : Option OptState) → begun x ≡ opt_or_empty x
-begun_or None = refl
-begun_or (Some s) = refl
-
--- and with an option, the error reply with that option
-pub explained_built : (query : List ℕ) (code : ℕ) → code < 16 → IsMessage (error_reply query code) → (c : ℕ) (d : List ℕ) →
-    reply_message (with_reply_option c d (error_state query code)) ≡ Ok (optioned (error_reply query code) c d)
-explained_built query code l h c d =
-    let m = error_reply query code in
-    ap (reply_with_opt (with_reply_option c d (error_state query code)).opt) (error_copied query code l h)
-    ∙ ap (λ (s : OptState). Ok (record m { additional = other_than 41 m.additional ++ opt_record (and_option s c d) ∷ [] })) (begun_or (opt_among m.additional))
+  -- and with an option, the error reply with that option
+  pub explained_built : (c : ℕ) (d : List ℕ) → reply_message (with_reply_option c d (error_state query code)) ≡ Ok (optioned (error_reply query code) c d)
+  explained_built c d =
+      let m = error_reply query code in
+      ap (reply_with_opt (with_reply_option c d (error_state query code)).opt) error_copied
+      ∙ ap (λ (s : OptState). Ok (record m { additional = other_than 41 m.additional ++ opt_record (and_option s c d) ∷ [] })) (begun_or (opt_among m.additional))

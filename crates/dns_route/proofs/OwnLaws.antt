@@ -2,17 +2,14 @@
 use Rattle.std.proofs.Common.{◌≡◌, ℕ, ◌+◌, ◌/◌, ◌≤◌, ◌<◌, Bool, true, false, List, [], ◌∷◌, ◌++◌, length, Option, Some, None, Ok, Err, refl, ap, sym, subst, ◌∙◌, arith, ◌⊎◌, inl, inr, if◌then◌else◌}
 use Rattle.dns_base.specs.Built.{Built, with_question}
 use Rattle.dns_base.specs.Msg.{Msg, IsMessage, ResourceRecord}
+use Rattle.dns_base.specs.Options.{options}
 use Rattle.dns_base.specs.Replies.{with_copied, error_by, within_limit}
 use Rattle.dns_base.specs.Wire.{wire}
 use Rattle.dns_message.specs.declared.question.Question.{Question}
-use Rattle.dns_message.proofs.Coming.{same_additional}
-use Rattle.dns_message.proofs.OptionLaws.{options_empty}
-use Rattle.dns_message.proofs.Written.{all_readable, read_back}
 use Rattle.dns_opt.specs.Drafts.{with_opt, with_opt_record}
 use Rattle.dns_opt.specs.Extended.{Extended, extended, extended_octets}
-use Rattle.dns_opt.specs.OptRecords.{OptState, opt_record, opt_state, zero_head}
+use Rattle.dns_opt.specs.OptRecords.{OptState, opt_of, opt_record, opt_state, zero_head}
 use Rattle.dns_opt.specs.Reopened.{opt_among}
-use Rattle.dns_opt.proofs.Opts.{opt_back}
 use Rattle.dns_service.specs.ErrorReply.{code_draft, error_begun, error_reply, with_code}
 use Rattle.dns_service.specs.declared.reply_error.ReplyError.TheVariants.{Service}
 use Rattle.dns_service.specs.declared.service.ServiceError.{ServiceError}
@@ -21,6 +18,10 @@ use Rattle.dns_route.specs.declared.kept.Keeps.TheVariants.{SubnetsAndErrors}
 use Rattle.dns_route.specs.Kept.{kept_opt}
 use Rattle.dns_route.specs.OwnReplies.{error_state}
 use Rattle.dns_route.specs.ReplyMessage.{BeginsReply, ReplyState, begun, reply_by, reply_read}
+
+pub options_empty : options [] ≡ Some []
+unfolding options
+options_empty = refl
 
 -- an OPT record of zeros and no options, or none
 abbrev pub IsBare : Option OptState → Type 0
@@ -72,11 +73,6 @@ read_bare o x (inl h) = subst (λ (x : Option OptState). reply_by o x ≡ Ok (re
 read_bare o x (inr h) =
     subst (λ (x : Option OptState). reply_by o x ≡ Ok (record { octets = o; opt = x })) (sym h) (rw kept_zero refl)
 
-pub error_read : (query : List ℕ) (code : ℕ) → code < 16 → IsMessage (error_reply query code) → reply_read (wire (error_reply query code)) ≡ Ok (error_state query code)
-error_read query code l m =
-    let w = wire (error_reply query code) in
-    ap (reply_by w) (opt_back read_back all_readable same_additional (error_reply query code) m) ∙ read_bare w (error_state query code).opt (error_opt query code l)
-
 no_options : (x : Option OptState) → IsBare x → (begun x).options ≡ []
 no_options x (inl h) = ap (λ (x : Option OptState). (begun x).options) h
 no_options x (inr h) = ap (λ (x : Option OptState). (begun x).options) h
@@ -84,22 +80,31 @@ no_options x (inr h) = ap (λ (x : Option OptState). (begun x).options) h
 pub error_options : (query : List ℕ) (code : ℕ) → code < 16 → length (begun (error_state query code).opt).options ≡ 0
 error_options query code l = ap length (no_options (error_state query code).opt (error_opt query code l))
 
--- what is begun of octets that are an error reply
-pub begun_as : (query : List ℕ) (code : ℕ) (m : Msg) (o : List ℕ) (r : ReplyState) → code < 16 → m ≡ error_reply query code → IsMessage m → o ≡ wire m → reply_read o ≡ Ok r → r ≡ error_state query code
-begun_as query code m o r l e h w b =
-    let k : reply_read o ≡ Ok (error_state query code) = ap reply_read (w ∙ ap wire e) ∙ error_read query code l (subst IsMessage e h) in
-    let x : Ok r ≡ Ok (error_state query code) = sym b ∙ k in
-    cc
+-- the OPT record that a written message is read to have is the first among its records
+module _ (opts_back : (m : Msg) → IsMessage m → opt_of (wire m) ≡ opt_among m.additional) (query : List ℕ) (code : ℕ) (l : code < 16) where
+  error_read : IsMessage (error_reply query code) → reply_read (wire (error_reply query code)) ≡ Ok (error_state query code)
+  error_read h =
+      let w = wire (error_reply query code) in
+      ap (reply_by w) (opts_back (error_reply query code) h) ∙ read_bare w (error_state query code).opt (error_opt query code l)
 
--- it isn't refused
-pub never_refused : (query : List ℕ) (code : ℕ) (m : Msg) (o : List ℕ) (e : ServiceError) → code < 16 → m ≡ error_reply query code → IsMessage m → o ≡ wire m → BeginsReply (reply_read o) (Err (Service e)) → ⊥
-never_refused query code m o FormatError l i h w b =
-    let k : reply_read o ≡ Ok (error_state query code) = ap reply_read (w ∙ ap wire i) ∙ error_read query code l (subst IsMessage i h) in
-    let x : Ok (error_state query code) ≡ Err b.0 = sym k ∙ b.1 in
-    cc
-never_refused query code m o InternalError l i h w b = b
-never_refused query code m o NotImplemented l i h w b = b
-never_refused query code m o Refused l i h w b = b
+  module _ (m : Msg) (o : List ℕ) (e : m ≡ error_reply query code) (h : IsMessage m) (w : o ≡ wire m) where
+    read_so : reply_read o ≡ Ok (error_state query code)
+    read_so = ap reply_read (w ∙ ap wire e) ∙ error_read (subst IsMessage e h)
+
+    -- what is begun of octets that are an error reply
+    pub begun_as : (r : ReplyState) → reply_read o ≡ Ok r → r ≡ error_state query code
+    begun_as r b =
+        let x : Ok r ≡ Ok (error_state query code) = sym b ∙ read_so in
+        cc
+
+    -- it isn't refused
+    pub never_refused : (e : ServiceError) → BeginsReply (reply_read o) (Err (Service e)) → ⊥
+    never_refused FormatError b =
+        let x : Ok (error_state query code) ≡ Err b.0 = sym read_so ∙ b.1 in
+        cc
+    never_refused InternalError b = b
+    never_refused NotImplemented b = b
+    never_refused Refused b = b
 
 -- a text has room
 pub text_fits : (query text : List ℕ) (r : ReplyState) (k : Extended) → r ≡ error_state query 2 → k ≡ extended 0 (Some text) → length text ≤ 65000 → length (begun r.opt).options + 4 + length (extended_octets k) ≤ 65535

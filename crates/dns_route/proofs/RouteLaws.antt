@@ -76,7 +76,7 @@ none_by x xs false h = (refl, h)
 
 -- ---- names that end a question's
 
-ends_le : (q n : List (List ℕ)) → ends_name q n ≡ true → length n ≤ length q
+pub ends_le : (q n : List (List ℕ)) → ends_name q n ≡ true → length n ≤ length q
 ends_le q n h = true_le (length n) (length q) (first_true (nat_le (length n) (length q)) (same_name (drop (length q - length n) q) n) h)
 
 folded_length : (ls : List (List ℕ)) → length (folded ls) ≡ length ls

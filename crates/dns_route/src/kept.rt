@@ -48,7 +48,7 @@ fn check(options: &OptRef<'_>) -> Result<(), ParseError>
 }
 
 /// An OPT record without numbers, of the options that are kept, in order and as they stand.
-#[tactic(auto, using(crate::proofs::KeptLaws::kept_taken, crate::proofs::KeptLaws::kept_left, crate::proofs::KeptLaws::kept_none, crate::proofs::KeptLaws::first_size, dns_message::proofs::OptionLaws::list_step))]
+#[tactic(auto, using(crate::proofs::KeptLaws::begun, crate::proofs::KeptLaws::left_one))]
 fn keep(alloc: Global, which: Keeps, options: &OptRef<'_>) -> Result<OptRecord, OutOfMemory>
     ensures { IfOk result (λ r. r ≡ opt_state zero_head (kept_of_list which options.now)) }
 {

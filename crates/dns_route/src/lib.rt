@@ -9,6 +9,7 @@ mod places;
 mod qname_router;
 mod reply;
 pub mod request;
+mod routes;
 mod send_request;
 mod single_service;
 mod to_service;

@@ -8,7 +8,7 @@ ghost use Rattle.dns_route.specs.ReplyMessage.{begun, with_reply_option};
 use crate::reply::{ComposeReply, ReplyMessage};
 use dns_base::Message;
 use dns_name::{BuildDataError, ExtendedErrorCode, OptRcode, OutOfMemory};
-use dns_opt::ExtendedErrorRef;
+use dns_opt::{ExtendedErrorRef, opts_read_back};
 use dns_service::{ReplyError, mk_error_response};
 use std::alloc::Global;
 
@@ -21,6 +21,7 @@ pub(crate) fn error_begun(
     requires { rcode < 16 }
     ensures { IfOk result (λ r. r ≡ error_state query.now rcode) }
 {
+    opts_read_back();
     let built = mk_error_response(alloc, query, rcode)?;
     match ReplyMessage::from_message(alloc, &built.as_message()) {
         Ok(reply) => Ok(reply),

@@ -5,13 +5,12 @@ ghost use Rattle.std.specs.Option.{option_copied};
 ghost use Rattle.dns_route.specs.Routes.{chosen, routed};
 
 use crate::own_reply::{error_begun, no_service};
-use crate::places::{deepest, folded_octets, put_route};
 use crate::reply::ReplyMessage;
+use crate::routes::Routes;
 use crate::single_service::SingleService;
 use dns_name::{Name, OptRcode, ParsedName};
 use dns_service::{OutOfMemory, Polled, Request, ServiceError};
 use std::alloc::Global;
-use std::collections::HashMap;
 use std::marker::Model;
 
 /// Asks the service whose name ends the question's, up to ASCII case: of several the one with the most labels, and of
@@ -19,19 +18,15 @@ use std::marker::Model;
 /// they were added.
 #[derive(Drop)]
 pub struct QnameRouter<S> {
-    routes: Vec<(Name, S)>,
-    places: HashMap<Vec<u8>, usize>,
+    routes: Routes<S>,
 }
 
 impl<S> Model for QnameRouter<S> {
     ghost use Rattle.std.specs.Prelude.{List, ℕ};
-    ghost use Rattle.dns_route.specs.Places.{Knows};
 
     ghost Value = { List (List (List ℕ) × S) };
 
-    ghost view = { λ r. r.routes.items };
-
-    ghost invariant = { λ r. Knows r.places r.routes.items };
+    ghost view = { λ r. r.routes };
 }
 
 impl<S: SingleService> QnameRouter<S> {
@@ -40,8 +35,7 @@ impl<S: SingleService> QnameRouter<S> {
         ensures { result ≡ [] }
     {
         QnameRouter {
-            routes: Vec::new(alloc),
-            places: HashMap::new(alloc),
+            routes: Routes::new(alloc),
         }
     }
 
@@ -50,15 +44,14 @@ impl<S: SingleService> QnameRouter<S> {
         ensures ok { OnOk result (self.new ≡ self.old ++ (name, service) ∷ []) }
         ensures err { OnErr result (self.new ≡ self.old) }
     {
-        let key = folded_octets(alloc, name.labels(), name.compose_len() as usize)?;
-        put_route(&mut self.routes, &mut self.places, key, (name, service))
+        self.routes.add(alloc, name, service)
     }
 
     /// The service for a name.
     fn service_for(&self, alloc: Global, name: &ParsedName<'_>) -> Result<Option<&S>, OutOfMemory>
         ensures { IfOk result (λ s. option_copied s ≡ chosen name.now self.now) }
     {
-        deepest(alloc, &self.routes, &self.places, name)
+        self.routes.for_name(alloc, name)
     }
 }
 

@@ -44,16 +44,23 @@ fn listed(alloc: Global, record: &RecordRef<'_>) -> Result<Option<Record>, OutOf
     ensures lawful { IfOk result (λ o. IfSome o (λ r. IsLawful r.rdata)) }
 {
     let octets = Vec::from_slice(alloc, record.rdata())?;
-    let Some(rdata) = RecordData::opt(octets) else {
-        return Ok(None);
-    };
+    match RecordData::opt(octets) {
+        Some(rdata) => Ok(Some(owned(alloc, record, rdata)?)),
+        None => Ok(None),
+    }
+}
+
+/// The record with this data, owned.
+fn owned(alloc: Global, record: &RecordRef<'_>, rdata: RecordData) -> Result<Record, OutOfMemory>
+    ensures { IfOk result (λ r. r ≡ record { owner = record.now.resource.owner; class = record.now.resource.class; ttl = record.now.resource.ttl; rdata = rdata }) }
+{
     let owner = record.owner().to_name(alloc)?;
-    Ok(Some(Record {
+    Ok(Record {
         owner,
         class: record.class(),
         ttl: record.ttl(),
         rdata,
-    }))
+    })
 }
 
 /// No options.

@@ -71,23 +71,6 @@ fn item_reply(
     }
 }
 
-/// Through the EDNS layer alone, as the call names it.
-fn in_edns<S: Service<()>>(
-    call: &str,
-    row: &mut Row<'_>,
-    service: S,
-    request: &mut Request<()>,
-) -> Result<(), RowError>
-    requires { S.can_call service }
-{
-    let service = EdnsMiddlewareSvc::new(service);
-    match call {
-        "edns" | "edns_disabled" => only_item(row, &service.enable(call == "edns"), request),
-        "edns_hint" => hint_after(row, &service, request),
-        _ => Err(RowError::NoSuchCall),
-    }
-}
-
 /// Through the layers that the call names.
 fn through<S: Service<()>>(
     call: &str,
@@ -105,7 +88,12 @@ fn through<S: Service<()>>(
             let service = EdnsMiddlewareSvc::new(service);
             in_mandatory(row, call == "both", service, request)
         }
-        _ => in_edns(call, row, service, request),
+        "edns" | "edns_disabled" => {
+            let service = EdnsMiddlewareSvc::new(service);
+            only_item(row, &service.enable(call == "edns"), request)
+        }
+        "edns_hint" => hint_after(row, &EdnsMiddlewareSvc::new(service), request),
+        _ => Err(RowError::NoSuchCall),
     }
 }
 

@@ -98,18 +98,7 @@ fn answered<S: Service<()>>(row: &mut Row<'_>, service: &S) -> Result<(), RowErr
     requires { S.can_call service.now }
 {
     let mut request = request(row)?;
-    called(row, service, &mut request)
-}
-
-/// What a service gives to a request.
-fn called<S: Service<()>>(
-    row: &mut Row<'_>,
-    service: &S,
-    request: &mut Request<()>,
-) -> Result<(), RowError>
-    requires { S.can_call service.now }
-{
-    let mut future = service.call(row.alloc(), request)?;
+    let mut future = service.call(row.alloc(), &mut request)?;
     future_said(row, &mut future)
 }
 
@@ -118,7 +107,8 @@ fn of_closure(row: &mut Row<'_>) -> Result<(), RowError> {
     let error = next_error(row)?;
     let mut request = request(row)?;
     let service = service_fn::<AsPlanned, _, _>(planned, Err(error));
-    called(row, &service, &mut request)?;
+    let mut future = service.call(row.alloc(), &mut request)?;
+    future_said(row, &mut future)?;
     row.close(", reserved");
     row.show(&request.num_reserved_bytes());
     Ok(())

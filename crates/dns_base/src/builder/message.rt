@@ -19,7 +19,7 @@ impl MessageBuilder {
     {
         let draft = Draft::new(alloc)?;
         Ok(Builder {
-            draft,
+            draft: Box::new(alloc, draft)?,
             stage: PhantomData,
         })
     }
