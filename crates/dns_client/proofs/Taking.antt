@@ -72,7 +72,7 @@ module _ {W R F : Type 0} (answer : PolledRequest F R → ℕ → Answer) (answe
       }
 
   refused_open : (c new : OpenConnection W R F) (f r : List ℕ) (client : ℕ) (s : Slate) → IsOpen answer answers client c s → first_frame c.framer ≡ Some (f, r)
-      → Refuses answer answers (record c { framer = r }) new f
+      → Refuses (record c { framer = r }) new f
       → (b : Bool) → new.queue.items ≡ (if b then s.queue ++ framed (wire (error_reply f 1)) ∷ [] else s.queue)
       → IsOpen answer answers client new (if b then record s { taken = s.taken + 1; queue = s.queue ++ framed (wire (error_reply f 1)) ∷ [] } else record s { taken = s.taken + 1 })
   refused_open c new f r client s h e a b q =
@@ -95,7 +95,7 @@ module _ {W R F : Type 0} (answer : PolledRequest F R → ℕ → Answer) (answe
 
   -- a response is taken
   pub refused : (c new : OpenConnection W R F) (f r : List ℕ) → first_frame c.framer ≡ Some (f, r) → 12 ≤ length f → (header_of f).qr ≡ true
-      → Refuses answer answers (record c { framer = r }) new f → TakesFrame answer answers at secs c new
+      → Refuses (record c { framer = r }) new f → TakesFrame answer answers at secs c new
   refused c new f r e l response a =
       let n : nat_lt (length f) header_size ≡ false = le-ltb (length f) 12 l in
       record {

@@ -19,7 +19,7 @@ use Rattle.dns_client.specs.Stands.{Keeps, IsOpen, Exchanges}
 use Rattle.dns_client.specs.declared.connection.OpenConnection.{OpenConnection}
 use Rattle.dns_client.specs.declared.kept.KeptRequest.{KeptRequest}
 use Rattle.dns_service.specs.declared.polled.PolledRequest.{PolledRequest}
-use Rattle.dns_client.proofs.Kept.{found, keeps_set, sole_set}
+use Rattle.dns_client.proofs.Keeping.{found, keeps_set, sole_set}
 
 -- the queue after a reply
 abbrev pub ring : Option Msg → Buffer (List ℕ) → Buffer (List ℕ)
