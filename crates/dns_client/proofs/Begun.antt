@@ -60,28 +60,28 @@ module _ {R F : Type 0} (answer : PolledRequest F R → ℕ → Answer) (answers
       })
 
   -- what is shorter than a header makes no request, and is answered with nothing
-  pub begun_short : (client : ℕ) (addr : SocketAddr) (at secs : ℕ) (o : List ℕ) (s : Slate) → IsUnused s → length o < 12
-      → IsExchange answer answers client None (exchange client addr at secs o s) × ([] ≡ at_once client s.conf.dgram o)
-  begun_short client addr at secs o s unused short =
+  pub begun_short : (client : ℕ) (addr : SocketAddr) (at secs : ℕ) (o : List ℕ) (outs : List Output) (s : Slate) → IsUnused s → length o < 12 → outs ≡ []
+      → (outs ≡ at_once client s.conf.dgram o) × IsExchange answer answers client None (exchange client addr at secs o s)
+  begun_short client addr at secs o outs s unused short none =
       let l : nat_lt (length o) header_size ≡ true = lt-ltb (length o) 12 short in
-      (exchanged_none client addr at secs o s unused (rw l refl), rw l refl)
+      (rw l none, exchanged_none client addr at secs o s unused (rw l refl))
 
   -- a response makes no request, and is refused at once
   pub begun_response : (client : ℕ) (addr : SocketAddr) (at secs : ℕ) (o : List ℕ) (dgram : Dgram) (outs : List Output) (s : Slate) → IsUnused s → 12 ≤ length o → (header_of o).qr ≡ true
       → s.conf.dgram ≡ dgram → outs ≡ refused_datagram client dgram o
-      → IsExchange answer answers client None (exchange client addr at secs o s) × (outs ≡ at_once client s.conf.dgram o)
+      → (outs ≡ at_once client s.conf.dgram o) × IsExchange answer answers client None (exchange client addr at secs o s)
   begun_response client addr at secs o dgram outs s unused long response d says =
       let l : nat_lt (length o) header_size ≡ false = le-ltb (length o) 12 long in
-      (exchanged_none client addr at secs o s unused (rw (l, response) refl), rw (l, response) (says ∙ ap (λ (x : Dgram). refused_datagram client x o) (sym d)))
+      (rw (l, response) (says ∙ ap (λ (x : Dgram). refused_datagram client x o) (sym d)), exchanged_none client addr at secs o s unused (rw (l, response) refl))
 
   -- a query is asked
-  pub begun_query : (q : KeptRequest F R) (client : ℕ) (addr : SocketAddr) (at secs : ℕ) (o : List ℕ) (dgram : Dgram) (r : Req (Unit {0})) (s : Slate)
+  pub begun_query : (q : KeptRequest F R) (client : ℕ) (addr : SocketAddr) (at secs : ℕ) (o : List ℕ) (dgram : Dgram) (r : Req (Unit {0})) (outs : List Output) (s : Slate)
       → IsUnused s → 12 ≤ length o → (header_of o).qr ≡ false → IsKept answer answers q (asked r)
-      → r ≡ request_of_datagram dgram addr at secs o → s.conf.dgram ≡ dgram
-      → IsExchange answer answers client (Some q) (exchange client addr at secs o s) × ([] ≡ at_once client s.conf.dgram o)
-  begun_query q client addr at secs o dgram r s unused long query h is d =
+      → r ≡ request_of_datagram dgram addr at secs o → s.conf.dgram ≡ dgram → outs ≡ []
+      → (outs ≡ at_once client s.conf.dgram o) × IsExchange answer answers client (Some q) (exchange client addr at secs o s)
+  begun_query q client addr at secs o dgram r outs s unused long query h is d none =
       let l : nat_lt (length o) header_size ≡ false = le-ltb (length o) 12 long in
-      (exchanged q client addr at secs o dgram r s unused h is d (rw (l, query) refl), rw (l, query) refl)
+      (rw (l, query) none, exchanged q client addr at secs o dgram r s unused h is d (rw (l, query) refl))
 
   none_kept : (m : BTreeMap ℕ (KeptRequest F R)) → m.entries ≡ [] → KeepsAll answer answers 0 m []
   none_kept m e = (refl, λ k. let g : get nat_cmp m k ≡ None = ap (lookup (is_at (nat_cmp k))) e in rw g tt)

@@ -9,7 +9,6 @@ use Rattle.circular_buffer.specs.Buffer.{Buffer, buffer}
 use Rattle.dns_base.specs.Msg.{Msg}
 use Rattle.dns_base.specs.Wire.{wire}
 use Rattle.dns_service.specs.Answer.{Answer}
-use Rattle.dns_service.specs.Req.{Req}
 use Rattle.dns_service.specs.declared.event.Output.{Output}
 use Rattle.dns_client.specs.Frames.{framed}
 use Rattle.dns_client.specs.Slate.{Slate, SlateRequest}
