@@ -1,5 +1,5 @@
 -- What clients are sent answers what they asked.
-use Rattle.std.proofs.Common.{◌≡◌, ℕ, ◌≤◌, Bool, true, false, List, [], ◌∷◌, ◌++◌, length, Option, Some, None, refl, ap, sym, ◌∙◌, subst, append_assoc}
+use Rattle.std.proofs.Common.{◌≡◌, ℕ, ◌≤◌, Bool, true, false, List, [], ◌∷◌, ◌++◌, length, drop, Option, Some, None, refl, ap, sym, ◌∙◌, subst, append_assoc}
 use Rattle.std.specs.Prelude.{IfSome, if◌then◌else◌, ◌&&◌, ◌||◌, nat_eq, nat_lt, slice_get}
 use Rattle.std.specs.List.{All, list_any}
 use Rattle.std.proofs.Math.Seq.{take-append_seam}
@@ -27,7 +27,7 @@ use Rattle.dns_client.specs.Frames.{behind_frames, frames}
 use Rattle.dns_client.specs.Requests.{asked, header_size, request_of_datagram}
 use Rattle.dns_client.specs.Rule.{by_kind, rule}
 use Rattle.dns_client.specs.Serving.{Serving}
-use Rattle.dns_client.specs.Slate.{Slate, SlateRequest, Told, Phase, Unused, Exchange, Open, Closed, fresh}
+use Rattle.dns_client.specs.Slate.{Slate, SlateRequest, Told, Phase, Unused, Exchange, Open, Closed, fresh, in_phase}
 use Rattle.dns_client.specs.Turns.{exchange_turn, polled, sent_at_once, sent_for, turn, with_request}
 use Rattle.dns_core.specs.Out.{begins, gain, gained, is_connection, is_new, is_release, is_unused, members, out, out_after}
 use Rattle.dns_core.specs.Own.{concerns}
@@ -104,6 +104,25 @@ module _ (answers : Serving) (settings : Settings)
     sent = none_sent q e;
   }
 
+  -- what a client's state chooses
+  at_exchange : (q : List Event) (e : Event) (p : Phase) (x y z w : Told) → p ≡ Exchange → Leads q e y → Leads q e (in_phase p x y z w)
+  at_exchange q e Unused x y z w is h = cc
+  at_exchange q e Exchange x y z w is h = h
+  at_exchange q e Open x y z w is h = cc
+  at_exchange q e Closed x y z w is h = cc
+
+  at_open : (q : List Event) (e : Event) (p : Phase) (x y z w : Told) → p ≡ Open → Leads q e z → Leads q e (in_phase p x y z w)
+  at_open q e Unused x y z w is h = cc
+  at_open q e Exchange x y z w is h = cc
+  at_open q e Open x y z w is h = h
+  at_open q e Closed x y z w is h = cc
+
+  at_closed : (q : List Event) (e : Event) (p : Phase) (x y z w : Told) → p ≡ Closed → Leads q e w → Leads q e (in_phase p x y z w)
+  at_closed q e Unused x y z w is h = cc
+  at_closed q e Exchange x y z w is h = cc
+  at_closed q e Open x y z w is h = cc
+  at_closed q e Closed x y z w is h = h
+
   -- ---- an exchange
 
   one_sent : (es : List Event) (c : ℕ) (x : Option Msg) (o : List ℕ) (n : ℕ) → ((m : Msg) → Responds o m → length (wire m) ≤ n → AnswersDatagram answers settings es c (wire m)) → IfSome x (Responds o) → IfSome x (λ m. length (wire m) ≤ n) → Replies es (sent_at_once c x)
@@ -111,7 +130,7 @@ module _ (answers : Serving) (settings : Settings)
   one_sent es c (Some m) o n build h k = All-cons (IsReply answers settings es) (Datagram c (wire m)) [] (build m h k) (All-nil (IsReply answers settings es))
 
   query_limit : (r : Req (Unit {0})) (size : ℕ) (b : Bool) → (header_of r.octets).qr ≡ b → b ≡ false → size ≤ limit (answers.hint r) → size ≤ datagram_limit answers r
-  query_limit r size b is no h = let q : (header_of r.octets).qr ≡ false = is ∙ no in rw q h
+  query_limit r size b is query h = let q : (header_of r.octets).qr ≡ false = is ∙ query in rw q h
 
   made_sent : (q : List Event) (e : Event) (s : Slate) (h : Exchanges settings e.client q s) (x : SlateRequest) (k : ℕ) → Made settings.dgram h.addr h.event (cut_datagram h.asks) x → (r : List Event) → Replies (q ++ e ∷ r) (sent_at_once e.client (sent_for answers x.request (answers.answer x.request k)))
   made_sent q e s h x k m r =
@@ -135,7 +154,7 @@ module _ (answers : Serving) (settings : Settings)
 
   in_exchange : (c : ℕ) (q : List Event) (s : Slate) → s.phase ≡ Exchange → Exchanges settings c q s → HasIn settings s.phase c q s
   unfolding HasIn
-  in_exchange c q s p h = rw p h
+  in_exchange c q s p h = subst (λ (x : Phase). HasIn settings x c q s) (sym p) h
 
   still_exchange : (q : List Event) (e : Event) (s : Slate) → s.phase ≡ Exchange → Exchanges settings e.client q s → Leads q e (s, [])
   still_exchange q e s p h = still q e s (λ u. let no : Exchange ≡ Unused = sym p ∙ u in cc) (in_exchange e.client q s p h)
@@ -153,13 +172,13 @@ module _ (answers : Serving) (settings : Settings)
       (elim x.done as (λ b. let u : Told = (if b then (s, []) else (t, sent_at_once s.client (sent_for answers x.request a))) in Leads q e u) [ true ↦ still_exchange q e s p h | false ↦ l ])
 
   exchange_leads : (q : List Event) (e : Event) (k : EventKind) (s : Slate) → s.phase ≡ Exchange → s.client ≡ e.client → Exchanges settings e.client q s → Leads q e (by_kind answers e k s)
-  exchange_leads q e (Is_datagram addr o) s p is h = rw p (still_exchange q e s p h)
-  exchange_leads q e (Turn k) s p is h = rw p (turn_exchange q e k (slice_get s.requests k) s p is h (all_at (Made settings.dgram h.addr h.event (cut_datagram h.asks)) s.requests k h.requests))
-  exchange_leads q e (Offer addr) s p is h = rw p (still_exchange q e s p h)
-  exchange_leads q e (Piece o) s p is h = rw p (still_exchange q e s p h)
-  exchange_leads q e End s p is h = rw p (still_exchange q e s p h)
-  exchange_leads q e (Write took) s p is h = rw p (still_exchange q e s p h)
-  exchange_leads q e Release s p is h = rw p (still_exchange q e s p h)
+  exchange_leads q e (Is_datagram addr o) s p is h = at_exchange q e s.phase (datagram e.client addr e.at e.secs o s) (s, []) (s, []) (s, []) p (still_exchange q e s p h)
+  exchange_leads q e (Turn k) s p is h = at_exchange q e s.phase (s, []) (exchange_turn answers k (slice_get s.requests k) s) (turn answers k (slice_get s.requests k) s, []) (s, []) p (turn_exchange q e k (slice_get s.requests k) s p is h (all_at (Made settings.dgram h.addr h.event (cut_datagram h.asks)) s.requests k h.requests))
+  exchange_leads q e (Offer addr) s p is h = at_exchange q e s.phase (opened e.client addr s, []) (s, []) (s, []) (s, []) p (still_exchange q e s p h)
+  exchange_leads q e (Piece o) s p is h = at_exchange q e s.phase (s, []) (s, []) (piece e.at e.secs o s) (s, []) p (still_exchange q e s p h)
+  exchange_leads q e End s p is h = at_exchange q e s.phase (s, []) (s, []) (close Ended s) (s, []) p (still_exchange q e s p h)
+  exchange_leads q e (Write took) s p is h = at_exchange q e s.phase (s, []) (s, []) (write took s.queue s) (s, []) p (still_exchange q e s p h)
+  exchange_leads q e Release s p is h = at_exchange q e s.phase (s, []) (s, []) (s, []) (released s, []) p (still_exchange q e s p h)
 
   -- ---- a client that begins
 
@@ -239,22 +258,22 @@ module _ (answers : Serving) (settings : Settings)
       })
 
   open_leads : (q : List Event) (e : Event) (k : EventKind) (s : Slate) → s.phase ≡ Open → slate answers settings e.client q ≡ s → s.client ≡ e.client → Listens s → Leads q e (by_kind answers e k s)
-  open_leads q e (Is_datagram addr o) s p at is h = rw p (listening q e (s, []) h (none_sent q e))
-  open_leads q e (Turn k) s p at is h = rw p (listening q e (turn answers k (slice_get s.requests k) s, []) (turn_listens answers respond k s h) (none_sent q e))
-  open_leads q e (Offer addr) s p at is h = rw p (listening q e (s, []) h (none_sent q e))
-  open_leads q e (Piece o) s p at is h = rw p (listening q e (piece e.at e.secs o s) (piece_listens go_on e.at e.secs o s h) (λ r. take_sends (IsReply answers settings (q ++ e ∷ r)) (closes (q ++ e ∷ r)) e.at e.secs _ _))
-  open_leads q e End s p at is h = rw p (listening q e (close Ended s) (closed_listens Ended s) (λ r. All-cons (IsReply answers settings (q ++ e ∷ r)) (Closed_output s.client Ended) [] tt (none_sent q e r)))
-  open_leads q e (Write took) s p at is h = rw p (listening q e (write took s.queue s) (write_listens took s.queue s refl h) (λ r. write_sends (IsReply answers settings (q ++ e ∷ r)) (closes (q ++ e ∷ r)) took s.queue s (All-weaker (RepliesTo (frames s.received)) (λ o. IsReply answers settings (q ++ e ∷ r) (Frame s.client o)) (frame_sent q r e s at is) s.queue h.queue)))
-  open_leads q e Release s p at is h = rw p (listening q e (s, []) h (none_sent q e))
+  open_leads q e (Is_datagram addr o) s p at is h = at_open q e s.phase (datagram e.client addr e.at e.secs o s) (s, []) (s, []) (s, []) p (listening q e (s, []) h (none_sent q e))
+  open_leads q e (Turn k) s p at is h = at_open q e s.phase (s, []) (exchange_turn answers k (slice_get s.requests k) s) (turn answers k (slice_get s.requests k) s, []) (s, []) p (listening q e (turn answers k (slice_get s.requests k) s, []) (turn_listens answers respond k s h) (none_sent q e))
+  open_leads q e (Offer addr) s p at is h = at_open q e s.phase (opened e.client addr s, []) (s, []) (s, []) (s, []) p (listening q e (s, []) h (none_sent q e))
+  open_leads q e (Piece o) s p at is h = at_open q e s.phase (s, []) (s, []) (piece e.at e.secs o s) (s, []) p (listening q e (piece e.at e.secs o s) (piece_listens go_on e.at e.secs o s h) (λ r. take_sends (IsReply answers settings (q ++ e ∷ r)) (closes (q ++ e ∷ r)) e.at e.secs (drop s.taken (frames (s.received ++ o))) (record s { received = s.received ++ o })))
+  open_leads q e End s p at is h = at_open q e s.phase (s, []) (s, []) (close Ended s) (s, []) p (listening q e (close Ended s) (closed_listens Ended s) (λ r. All-cons (IsReply answers settings (q ++ e ∷ r)) (Closed_output s.client Ended) [] tt (none_sent q e r)))
+  open_leads q e (Write took) s p at is h = at_open q e s.phase (s, []) (s, []) (write took s.queue s) (s, []) p (listening q e (write took s.queue s) (write_listens took s.queue s refl h) (λ r. write_sends (IsReply answers settings (q ++ e ∷ r)) (closes (q ++ e ∷ r)) took s.queue s (All-weaker (RepliesTo (frames s.received)) (λ o. IsReply answers settings (q ++ e ∷ r) (Frame s.client o)) (frame_sent q r e s at is) s.queue h.queue)))
+  open_leads q e Release s p at is h = at_open q e s.phase (s, []) (s, []) (s, []) (released s, []) p (listening q e (s, []) h (none_sent q e))
 
   closed_leads : (q : List Event) (e : Event) (k : EventKind) (s : Slate) → s.phase ≡ Closed → Listens s → Leads q e (by_kind answers e k s)
-  closed_leads q e (Is_datagram addr o) s p h = rw p (listening q e (s, []) h (none_sent q e))
-  closed_leads q e (Turn k) s p h = rw p (listening q e (s, []) h (none_sent q e))
-  closed_leads q e (Offer addr) s p h = rw p (listening q e (s, []) h (none_sent q e))
-  closed_leads q e (Piece o) s p h = rw p (listening q e (s, []) h (none_sent q e))
-  closed_leads q e End s p h = rw p (listening q e (s, []) h (none_sent q e))
-  closed_leads q e (Write took) s p h = rw p (listening q e (s, []) h (none_sent q e))
-  closed_leads q e Release s p h = rw p (listening q e (released s, []) (released_listens s h) (none_sent q e))
+  closed_leads q e (Is_datagram addr o) s p h = at_closed q e s.phase (datagram e.client addr e.at e.secs o s) (s, []) (s, []) (s, []) p (listening q e (s, []) h (none_sent q e))
+  closed_leads q e (Turn k) s p h = at_closed q e s.phase (s, []) (exchange_turn answers k (slice_get s.requests k) s) (turn answers k (slice_get s.requests k) s, []) (s, []) p (listening q e (s, []) h (none_sent q e))
+  closed_leads q e (Offer addr) s p h = at_closed q e s.phase (opened e.client addr s, []) (s, []) (s, []) (s, []) p (listening q e (s, []) h (none_sent q e))
+  closed_leads q e (Piece o) s p h = at_closed q e s.phase (s, []) (s, []) (piece e.at e.secs o s) (s, []) p (listening q e (s, []) h (none_sent q e))
+  closed_leads q e End s p h = at_closed q e s.phase (s, []) (s, []) (close Ended s) (s, []) p (listening q e (s, []) h (none_sent q e))
+  closed_leads q e (Write took) s p h = at_closed q e s.phase (s, []) (s, []) (write took s.queue s) (s, []) p (listening q e (s, []) h (none_sent q e))
+  closed_leads q e Release s p h = at_closed q e s.phase (s, []) (s, []) (s, []) (released s, []) p (listening q e (released s, []) (released_listens s h) (none_sent q e))
 
   -- ---- all clients
 

@@ -120,16 +120,16 @@ module _ (answers : Serving) where
   pub quiet : (e : Event) (s : Slate) → s.phase ≡ Unused → is_unused (rule answers e s).0.phase ≡ true → (rule answers e s).1 ≡ []
   quiet e s p u = quiet_kind e e.kind s p u
 
-  used_begin : (p : Phase) (t s : Slate) → is_unused t.phase ≡ false → p ≡ s.phase → is_unused (in_phase {X = Told} p (t, []) (s, []) (s, []) (s, [])).0.phase ≡ false
+  used_begin : (p : Phase) (t : Told) (s : Slate) → is_unused t.0.phase ≡ false → p ≡ s.phase → is_unused (in_phase p t (s, []) (s, []) (s, [])).0.phase ≡ false
   used_begin Unused t s u is = u
   used_begin Exchange t s u is = ap is_unused (sym is)
   used_begin Open t s u is = ap is_unused (sym is)
   used_begin Closed t s u is = ap is_unused (sym is)
 
   begins_kind : (e : Event) (k : EventKind) (s : Slate) → begins k ≡ true → is_unused (by_kind answers e k s).0.phase ≡ false
-  begins_kind e (Datagram addr o) s b = used_begin s.phase (datagram e.client addr e.at e.secs o s).0 s refl refl
+  begins_kind e (Datagram addr o) s b = used_begin s.phase (datagram e.client addr e.at e.secs o s) s refl refl
   begins_kind e (Turn k) s b = cc
-  begins_kind e (Offer addr) s b = used_begin s.phase (opened e.client addr s) s refl refl
+  begins_kind e (Offer addr) s b = used_begin s.phase (opened e.client addr s, []) s refl refl
   begins_kind e (Piece o) s b = cc
   begins_kind e End s b = cc
   begins_kind e (Write took) s b = cc

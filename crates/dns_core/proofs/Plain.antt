@@ -124,7 +124,7 @@ module _ (answers : Serving) where
   weak : (s t : Slate) → GoesOn s t → KeepsUse s t
   weak s t g = record { conf = g.conf; used = g.used }
 
-  begin_use : (p : Phase) (s t : Slate) → t.conf ≡ s.conf → is_unused t.phase ≡ false → KeepsUse s (in_phase {X = Told} p (t, []) (s, []) (s, []) (s, [])).0
+  begin_use : (p : Phase) (s : Slate) (t : Told) → t.0.conf ≡ s.conf → is_unused t.0.phase ≡ false → KeepsUse s (in_phase p t (s, []) (s, []) (s, [])).0
   begin_use Unused s t c u = record { conf = c; used = λ _. u }
   begin_use Exchange s t c u = record { conf = refl; used = λ h. h }
   begin_use Open s t c u = record { conf = refl; used = λ h. h }
@@ -137,9 +137,9 @@ module _ (answers : Serving) where
   release_use Closed s = record { conf = refl; used = λ h. h }
 
   kind_use : (e : Event) (k : EventKind) (s : Slate) → KeepsUse s (by_kind answers e k s).0
-  kind_use e (Datagram addr o) s = begin_use s.phase s (datagram e.client addr e.at e.secs o s).0 refl refl
+  kind_use e (Datagram addr o) s = begin_use s.phase s (datagram e.client addr e.at e.secs o s) refl refl
   kind_use e (Turn k) s = weak s (by_kind answers e (Turn k) s).0 (kind_on e (Turn k) s refl refl)
-  kind_use e (Offer addr) s = begin_use s.phase s (opened e.client addr s) refl refl
+  kind_use e (Offer addr) s = begin_use s.phase s (opened e.client addr s, []) refl refl
   kind_use e (Piece o) s = weak s (by_kind answers e (Piece o) s).0 (kind_on e (Piece o) s refl refl)
   kind_use e End s = weak s (by_kind answers e End s).0 (kind_on e End s refl refl)
   kind_use e (Write took) s = weak s (by_kind answers e (Write took) s).0 (kind_on e (Write took) s refl refl)

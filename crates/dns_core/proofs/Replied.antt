@@ -7,7 +7,7 @@ use Rattle.dns_base.specs.Header.{header_of}
 use Rattle.dns_base.specs.Msg.{Msg, ResourceRecord}
 use Rattle.dns_base.specs.Replies.{answer_header, error_by, within_limit, with_copied}
 use Rattle.dns_base.specs.Wire.{wire}
-use Rattle.dns_opt.specs.Drafts.{with_opt, with_opt_record}
+use Rattle.dns_service.specs.Drafts.{with_opt, with_opt_record}
 use Rattle.dns_service.specs.Answer.{Answer}
 use Rattle.dns_service.specs.Cut.{cut, first_fitting, fits, shortened, sized, truncated}
 use Rattle.dns_service.specs.Errors.{rcode_of}
