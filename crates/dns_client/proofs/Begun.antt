@@ -1,31 +1,34 @@
 -- A client that begins is that of its slate.
 use Rattle.dns_client.specs.Serving.{Serving}
-use Rattle.std.proofs.Common.{◌≡◌, ℕ, zero, suc, ◌≤◌, ◌<◌, List, [], ◌∷◌, length, Some, None, true, false, refl, ap, sym, ◌∙◌, subst, lit≤, zero-add}
+use Rattle.std.proofs.Common.{◌≡◌, ℕ, zero, suc, ◌≤◌, ◌<◌, List, [], ◌∷◌, length, Some, None, true, false, refl, ap, sym, ◌∙◌, subst, lit≤, lt-ltb, zero-add}
 use Rattle.std.specs.Arc.{arc_value}
-use Rattle.std.specs.Prelude.{slice_get}
+use Rattle.std.specs.Prelude.{nat_lt, slice_get}
 use Rattle.std.specs.Map.{lookup}
 use Rattle.std.specs.Ordering.{nat_cmp}
 use Rattle.std.specs.BTreeMap.{BTreeMap, get, is_at}
+use Rattle.std.proofs.lemmas.Bool.{le-ltb}
 use Rattle.circular_buffer.specs.Buffer.{Buffer, buffer}
 use Rattle.dns_name.specs.declared.address.SocketAddr.{SocketAddr}
+use Rattle.dns_base.specs.Header.{header_of}
 use Rattle.dns_service.specs.Answer.{Answer}
 use Rattle.dns_service.specs.Config.{Dgram, Connection, Stream}
 use Rattle.dns_service.specs.Req.{Req}
+use Rattle.dns_service.specs.declared.event.Output.{Output}
 use Rattle.dns_client.specs.Frames.{frames}
 use Rattle.dns_client.specs.Slate.{Slate, Conf, IsUnused, fresh}
-use Rattle.dns_client.specs.Requests.{request_of_datagram, asked}
-use Rattle.dns_client.specs.Datagrams.{asks_nothing, exchange}
+use Rattle.dns_client.specs.Requests.{header_size, request_of_datagram, asked}
+use Rattle.dns_client.specs.Datagrams.{asks_nothing, at_once, exchange, refused_datagram}
 use Rattle.dns_client.specs.Connections.{opened}
 use Rattle.dns_client.specs.Stands.{IsExchange, IsKept, IsOpen, KeepsAll, Keeps, sole}
 use Rattle.dns_client.specs.Turns.{limit_for}
 use Rattle.dns_client.specs.declared.kept.KeptRequest.{KeptRequest}
 use Rattle.dns_client.specs.declared.connection.OpenConnection.{OpenConnection}
 use Rattle.dns_service.specs.declared.polled.PolledRequest.{PolledRequest}
-use Rattle.dns_client.proofs.Kept.{none_sole}
+use Rattle.dns_client.proofs.Keeping.{none_sole}
 
 module _ {R F : Type 0} (answer : PolledRequest F R → ℕ → Answer) (answers : Serving) where
   -- no request is made
-  pub exchanged_none : (client : ℕ) (addr : SocketAddr) (at secs : ℕ) (o : List ℕ) (s : Slate) → IsUnused s → asks_nothing o ≡ true
+  exchanged_none : (client : ℕ) (addr : SocketAddr) (at secs : ℕ) (o : List ℕ) (s : Slate) → IsUnused s → asks_nothing o ≡ true
       → IsExchange answer answers client None (exchange client addr at secs o s)
   exchanged_none client addr at secs o s unused none =
       rw none (record {
@@ -43,7 +46,7 @@ module _ {R F : Type 0} (answer : PolledRequest F R → ℕ → Answer) (answers
   pub called : (q : KeptRequest F R) (r : Req (Unit {0})) → ((j : ℕ) → answer q.polled j ≡ answers.answer r j) → arc_value q.message ≡ r.octets → q.limit ≡ limit_for answers r → IsKept answer answers q (asked r)
   called q r h message limit = record { going = refl; polled = λ j. h j ∙ ap (answers.answer r) (sym (zero-add j)); message = message; limit = limit }
 
-  pub exchanged : (q : KeptRequest F R) (client : ℕ) (addr : SocketAddr) (at secs : ℕ) (o : List ℕ) (dgram : Dgram) (r : Req (Unit {0})) (s : Slate)
+  exchanged : (q : KeptRequest F R) (client : ℕ) (addr : SocketAddr) (at secs : ℕ) (o : List ℕ) (dgram : Dgram) (r : Req (Unit {0})) (s : Slate)
       → IsUnused s → IsKept answer answers q (asked r)
       → r ≡ request_of_datagram dgram addr at secs o → s.conf.dgram ≡ dgram → asks_nothing o ≡ false
       → IsExchange answer answers client (Some q) (exchange client addr at secs o s)
@@ -55,6 +58,30 @@ module _ {R F : Type 0} (answer : PolledRequest F R → ℕ → Answer) (answers
         phase = refl;
         requests = kept_first q r h;
       })
+
+  -- what is shorter than a header makes no request, and is answered with nothing
+  pub begun_short : (client : ℕ) (addr : SocketAddr) (at secs : ℕ) (o : List ℕ) (outs : List Output) (s : Slate) → IsUnused s → length o < 12 → outs ≡ []
+      → (outs ≡ at_once client s.conf.dgram o) × IsExchange answer answers client None (exchange client addr at secs o s)
+  begun_short client addr at secs o outs s unused short none =
+      let l : nat_lt (length o) header_size ≡ true = lt-ltb (length o) 12 short in
+      (rw l none, exchanged_none client addr at secs o s unused (rw l refl))
+
+  -- a response makes no request, and is refused at once
+  pub begun_response : (client : ℕ) (addr : SocketAddr) (at secs : ℕ) (o : List ℕ) (dgram : Dgram) (outs : List Output) (s : Slate) → IsUnused s → 12 ≤ length o → (header_of o).qr ≡ true
+      → s.conf.dgram ≡ dgram → outs ≡ refused_datagram client dgram o
+      → (outs ≡ at_once client s.conf.dgram o) × IsExchange answer answers client None (exchange client addr at secs o s)
+  begun_response client addr at secs o dgram outs s unused long response d says =
+      let l : nat_lt (length o) header_size ≡ false = le-ltb (length o) 12 long in
+      (rw (l, response) (says ∙ ap (λ (x : Dgram). refused_datagram client x o) (sym d)), exchanged_none client addr at secs o s unused (rw (l, response) refl))
+
+  -- a query is asked
+  pub begun_query : (q : KeptRequest F R) (client : ℕ) (addr : SocketAddr) (at secs : ℕ) (o : List ℕ) (dgram : Dgram) (r : Req (Unit {0})) (outs : List Output) (s : Slate)
+      → IsUnused s → 12 ≤ length o → (header_of o).qr ≡ false → IsKept answer answers q (asked r)
+      → r ≡ request_of_datagram dgram addr at secs o → s.conf.dgram ≡ dgram → outs ≡ []
+      → (outs ≡ at_once client s.conf.dgram o) × IsExchange answer answers client (Some q) (exchange client addr at secs o s)
+  begun_query q client addr at secs o dgram r outs s unused long query h is d none =
+      let l : nat_lt (length o) header_size ≡ false = le-ltb (length o) 12 long in
+      (rw (l, query) none, exchanged q client addr at secs o dgram r s unused h is d (rw (l, query) refl))
 
   none_kept : (m : BTreeMap ℕ (KeptRequest F R)) → m.entries ≡ [] → KeepsAll answer answers 0 m []
   none_kept m e = (refl, λ k. let g : get nat_cmp m k ≡ None = ap (lookup (is_at (nat_cmp k))) e in rw g tt)

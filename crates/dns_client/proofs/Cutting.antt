@@ -4,13 +4,14 @@ use Rattle.std.proofs.Common.{◌≡◌, ℕ, ◌+◌, ◌<◌, ◌≤◌, List,
 use Rattle.std.specs.Prelude.{nat_lt, if◌then◌else◌}
 use Rattle.std.proofs.lemmas.List.{drop_all, drop-append-le, drop_at}
 use Rattle.std.proofs.lemmas.Bool.{cases_lt}
-use Rattle.dns_service.specs.Answer.{Answer}
-use Rattle.dns_service.specs.Req.{Req}
 use Rattle.dns_service.specs.declared.event.Output.{Output}
-use Rattle.dns_client.specs.Frames.{frames, behind_frames}
+use Rattle.dns_base.specs.Header.{header_of}
+use Rattle.dns_base.specs.Wire.{wire}
+use Rattle.dns_service.specs.ErrorReply.{error_reply}
+use Rattle.dns_client.specs.Frames.{frames, framed, behind_frames}
 use Rattle.dns_client.specs.Slate.{Slate, Told, Phase, Unused, Exchange, Open, Closed, in_phase}
 use Rattle.dns_client.specs.Requests.{header_size, most_requests, request_of_frame, asked}
-use Rattle.dns_client.specs.Connections.{take_frame, take_frames, piece}
+use Rattle.dns_client.specs.Connections.{enqueue, take_request, take_frame, take_frames, piece}
 use Rattle.dns_client.specs.Pieces.{piece_of, IsCut}
 use Rattle.dns_client.proofs.FramesLemmas.{goes}
 
@@ -29,29 +30,45 @@ record Opens (at secs : ℕ) (fs gs : List (List ℕ)) (s : Slate) (x : List ℕ
   taken : (take_frames at secs fs s).0.taken ≡ s.taken + length fs
   all : take_frames at secs (fs ++ gs) (with_received x s) ≡ take_frames at secs gs (with_received x (take_frames at secs fs s).0)
 
-asked_received : (at secs : ℕ) (f : List ℕ) (s : Slate) (x : List ℕ) → take_frame at secs f (with_received x s) ≡ with_received x (take_frame at secs f s)
+-- a response's reply is queued whatever was received
+refused_received : (m : List ℕ) (s : Slate) (x : List ℕ) → enqueue m (record (with_received x s) { taken = s.taken + 1 }) ≡ with_received x (enqueue m (record s { taken = s.taken + 1 }))
+refused_received m s x = (elim (nat_lt (length s.queue) s.bound) as (λ b. (if b then record (with_received x s) { taken = s.taken + 1; queue = s.queue ++ m ∷ [] } else record (with_received x s) { taken = s.taken + 1 }) ≡ with_received x (if b then record s { taken = s.taken + 1; queue = s.queue ++ m ∷ [] } else record s { taken = s.taken + 1 })) [ true ↦ refl | false ↦ refl ])
+
+asked_received : (at secs : ℕ) (f : List ℕ) (s : Slate) (x : List ℕ) → take_request at secs f (with_received x s) ≡ with_received x (take_request at secs f s)
 asked_received at secs f s x = (elim (nat_lt (length s.requests) most_requests) as (λ b. (if b then record (with_received x s) { taken = s.taken + 1; requests = s.requests ++ asked (request_of_frame s.connection s.addr at secs f) ∷ [] } else record (with_received x s) { taken = s.taken + 1 }) ≡ with_received x (if b then record s { taken = s.taken + 1; requests = s.requests ++ asked (request_of_frame s.connection s.addr at secs f) ∷ [] } else record s { taken = s.taken + 1 })) [ true ↦ refl | false ↦ refl ])
+
+abbrev refusal : List ℕ → List ℕ
+refusal f = framed (wire (error_reply f 1))
+
+frame_received : (at secs : ℕ) (f : List ℕ) (s : Slate) (x : List ℕ) → take_frame at secs f (with_received x s) ≡ with_received x (take_frame at secs f s)
+frame_received at secs f s x = (elim (header_of f).qr as (λ b. (if b then enqueue (refusal f) (record (with_received x s) { taken = s.taken + 1 }) else take_request at secs f (with_received x s)) ≡ with_received x (if b then enqueue (refusal f) (record s { taken = s.taken + 1 }) else take_request at secs f s)) [ true ↦ refused_received (refusal f) s x | false ↦ asked_received at secs f s x ])
 
 record Same (s t : Slate) : Type 0 where
   phase : t.phase ≡ s.phase
   received : t.received ≡ s.received
   taken : t.taken ≡ s.taken + 1
 
-asked_same : (at secs : ℕ) (f : List ℕ) (s : Slate) → Same s (take_frame at secs f s)
+refused_same : (m : List ℕ) (s : Slate) → Same s (enqueue m (record s { taken = s.taken + 1 }))
+refused_same m s = (elim (nat_lt (length s.queue) s.bound) as (λ b. Same s (if b then record s { taken = s.taken + 1; queue = s.queue ++ m ∷ [] } else record s { taken = s.taken + 1 })) [ true ↦ record { phase = refl; received = refl; taken = refl } | false ↦ record { phase = refl; received = refl; taken = refl } ])
+
+asked_same : (at secs : ℕ) (f : List ℕ) (s : Slate) → Same s (take_request at secs f s)
 asked_same at secs f s = (elim (nat_lt (length s.requests) most_requests) as (λ b. Same s (if b then record s { taken = s.taken + 1; requests = s.requests ++ asked (request_of_frame s.connection s.addr at secs f) ∷ [] } else record s { taken = s.taken + 1 })) [ true ↦ record { phase = refl; received = refl; taken = refl } | false ↦ record { phase = refl; received = refl; taken = refl } ])
+
+frame_same : (at secs : ℕ) (f : List ℕ) (s : Slate) → Same s (take_frame at secs f s)
+frame_same at secs f s = (elim (header_of f).qr as (λ b. Same s (if b then enqueue (refusal f) (record s { taken = s.taken + 1 }) else take_request at secs f s)) [ true ↦ refused_same (refusal f) s | false ↦ asked_same at secs f s ])
 
 more_on : (at secs : ℕ) (f : List ℕ) (fs gs : List (List ℕ)) (s : Slate) (x : List ℕ) (b : Bool) → nat_lt (length f) header_size ≡ b → Ends at secs fs gs (take_frame at secs f s) x ⊎ Opens at secs fs gs (take_frame at secs f s) x → Ends at secs (f ∷ fs) gs s x ⊎ Opens at secs (f ∷ fs) gs s x
 more_on at secs f fs gs s x true h ih = inl (record { phase = rw h refl; all = rw h refl })
 more_on at secs f fs gs s x false h ih =
-    let a = asked_same at secs f s in
+    let a = frame_same at secs f s in
     ⊎_elim
-    (λ (e : Ends at secs fs gs (take_frame at secs f s) x). inl (record { phase = rw h e.phase; all = rw (h, asked_received at secs f s x) e.all }))
+    (λ (e : Ends at secs fs gs (take_frame at secs f s) x). inl (record { phase = rw h e.phase; all = rw (h, frame_received at secs f s x) e.all }))
     (λ (o : Opens at secs fs gs (take_frame at secs f s) x). inr (record {
       phase = rw h (o.phase ∙ a.phase);
       none = rw h o.none;
       received = rw h (o.received ∙ a.received);
       taken = rw h (o.taken ∙ omega (arith, a.taken));
-      all = rw (h, asked_received at secs f s x) o.all;
+      all = rw (h, frame_received at secs f s x) o.all;
     }))
     ih
 

@@ -1,5 +1,5 @@
 pub mod FramesLemmas
-pub mod Kept
+pub mod Keeping
 pub mod Turns
 pub mod Begun
 pub mod Taking

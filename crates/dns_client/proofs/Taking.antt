@@ -25,6 +25,10 @@ use Rattle.dns_client.specs.declared.connection.Outcome.TheVariants.{Nothing, En
 use Rattle.dns_service.specs.declared.polled.PolledRequest.{PolledRequest}
 use Rattle.dns_client.proofs.FramesLemmas.{first_shorter, frames_some, past_next, within_next, past-append, within-append, new_frames_by_kept}
 
+queue_by : (b : Bool) (s : Slate) (m : List ℕ) → (if b then record s { queue = s.queue ++ m ∷ [] } else s).queue ≡ (if b then s.queue ++ m ∷ [] else s.queue)
+queue_by true s m = refl
+queue_by false s m = refl
+
 module _ {W R F : Type 0} (answer : PolledRequest F R → ℕ → Answer) (answers : Serving) (at secs : ℕ) where
   pub none_left : (c : OpenConnection W R F) → frames c.framer ≡ [] → Leads answer answers c c Nothing (λ s. take_frames at secs (frames c.framer) s)
   none_left c e client s h = rw e (refl, h)
@@ -72,7 +76,7 @@ module _ {W R F : Type 0} (answer : PolledRequest F R → ℕ → Answer) (answe
       }
 
   refused_open : (c new : OpenConnection W R F) (f r : List ℕ) (client : ℕ) (s : Slate) → IsOpen answer answers client c s → first_frame c.framer ≡ Some (f, r)
-      → Refuses answer answers (record c { framer = r }) new f
+      → Refuses (record c { framer = r }) new f
       → (b : Bool) → new.queue.items ≡ (if b then s.queue ++ framed (wire (error_reply f 1)) ∷ [] else s.queue)
       → IsOpen answer answers client new (if b then record s { taken = s.taken + 1; queue = s.queue ++ framed (wire (error_reply f 1)) ∷ [] } else record s { taken = s.taken + 1 })
   refused_open c new f r client s h e a b q =
@@ -89,13 +93,9 @@ module _ {W R F : Type 0} (answer : PolledRequest F R → ℕ → Answer) (answe
         | false ↦ λ q. record { client = h.client; freed = h.freed; phase = h.phase; addr = ad; config = cf; kept = kept; within = within; requests = rs; queue = q; bound = bo }
       ]) q
 
-  queue_by : (b : Bool) (s : Slate) (m : List ℕ) → (if b then record s { queue = s.queue ++ m ∷ [] } else s).queue ≡ (if b then s.queue ++ m ∷ [] else s.queue)
-  queue_by true s m = refl
-  queue_by false s m = refl
-
   -- a response is taken
   pub refused : (c new : OpenConnection W R F) (f r : List ℕ) → first_frame c.framer ≡ Some (f, r) → 12 ≤ length f → (header_of f).qr ≡ true
-      → Refuses answer answers (record c { framer = r }) new f → TakesFrame answer answers at secs c new
+      → Refuses (record c { framer = r }) new f → TakesFrame answer answers at secs c new
   refused c new f r e l response a =
       let n : nat_lt (length f) header_size ≡ false = le-ltb (length f) 12 l in
       record {

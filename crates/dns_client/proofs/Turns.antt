@@ -9,7 +9,6 @@ use Rattle.circular_buffer.specs.Buffer.{Buffer, buffer}
 use Rattle.dns_base.specs.Msg.{Msg}
 use Rattle.dns_base.specs.Wire.{wire}
 use Rattle.dns_service.specs.Answer.{Answer}
-use Rattle.dns_service.specs.Req.{Req}
 use Rattle.dns_service.specs.declared.event.Output.{Output}
 use Rattle.dns_client.specs.Frames.{framed}
 use Rattle.dns_client.specs.Slate.{Slate, SlateRequest}
@@ -19,7 +18,7 @@ use Rattle.dns_client.specs.Stands.{Keeps, IsOpen, Exchanges}
 use Rattle.dns_client.specs.declared.connection.OpenConnection.{OpenConnection}
 use Rattle.dns_client.specs.declared.kept.KeptRequest.{KeptRequest}
 use Rattle.dns_service.specs.declared.polled.PolledRequest.{PolledRequest}
-use Rattle.dns_client.proofs.Kept.{found, keeps_set, sole_set}
+use Rattle.dns_client.proofs.Keeping.{found, keeps_set, sole_set}
 
 -- the queue after a reply
 abbrev pub ring : Option Msg → Buffer (List ℕ) → Buffer (List ℕ)

@@ -1,6 +1,6 @@
 -- The exchange that a datagram makes (RFC 1035, section 4.2.1). A datagram is cut at 1,024 octets. One that is shorter than a header
 -- makes no request, though its number is used; nor does a response, which is answered with FORMERR at once.
-use Rattle.std.specs.Prelude.{ℕ, List, [], ◌∷◌, length, take, nat_lt, Bool, true, ◌||◌, if◌then◌else◌, Some}
+use Rattle.std.specs.Prelude.{ℕ, List, [], ◌∷◌, length, take, nat_lt, Bool, ◌||◌, if◌then◌else◌}
 use Rattle.dns_name.specs.declared.address.SocketAddr.{SocketAddr}
 use Rattle.dns_base.specs.Header.{header_of}
 use Rattle.dns_base.specs.Wire.{wire}

@@ -16,8 +16,8 @@ module _ {F R : Type 0} (answer : PolledRequest F R → ℕ → Answer) where
 
   -- the reply that the answer is, and whether the request is done
   pub record IsPolled (q : KeptRequest F R) (reply : Option Msg) (done : Bool) (q' : KeptRequest F R) : Type 0 where
-    pub reply : reply ≡ reply_to q.limit (arc_value q.message) (answer q.polled 0)
-    pub done : done ≡ ends (answer q.polled 0)
+    pub says : reply ≡ reply_to q.limit (arc_value q.message) (answer q.polled 0)
+    pub ended : done ≡ ends (answer q.polled 0)
     pub on : GoesOn q q'
 
   abbrev pub LeftOn : KeptRequest F R → Option (KeptRequest F R) → Type 0

@@ -1,9 +1,7 @@
 -- What a client's events do to its slate, in which an Offer stands for one that is admitted. The answers are those of the
 -- wrapped service, by request and poll.
 use Rattle.dns_client.specs.Serving.{Serving}
-use Rattle.std.specs.Prelude.{ℕ, [], slice_get}
-use Rattle.dns_service.specs.Answer.{Answer}
-use Rattle.dns_service.specs.Req.{Req}
+use Rattle.std.specs.Prelude.{[], slice_get}
 use Rattle.dns_service.specs.declared.event.Event.{Event}
 use Rattle.dns_service.specs.declared.event.EventKind.{EventKind}
 use Rattle.dns_service.specs.declared.event.EventKind.TheVariants.{Datagram, Turn, Offer, Piece, End, Write, Release}

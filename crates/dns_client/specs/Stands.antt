@@ -73,6 +73,16 @@ pub record IsClosed (number : ℕ) (freed_now : Bool) (s : Slate) : Type 0 where
   pub freed : s.freed ≡ freed_now
   pub phase : s.phase ≡ Closed
 
+-- a response is refused
+pub record Refuses {W R F : Type 0} (old new : OpenConnection W R F) (o : List ℕ) : Type 0 where
+  pub addr : new.addr ≡ old.addr
+  pub config : new.config ≡ old.config
+  pub framer : new.framer ≡ old.framer
+  pub count : new.count ≡ old.count
+  pub unfinished : new.unfinished ≡ old.unfinished
+  pub queue : (s : Slate) → old.queue.items ≡ s.queue → old.queue.capacity ≡ s.bound → new.queue.items ≡ (enqueue (framed (wire (error_reply o 1))) s).queue
+  pub bound : new.queue.capacity ≡ old.queue.capacity
+
 module _ {R F : Type 0} (answer : PolledRequest F R → ℕ → Answer) (answers : Serving) where
   -- what is kept of a connection's requests, and how many were made
   abbrev pub KeepsAll : ℕ → BTreeMap ℕ (KeptRequest F R) → List SlateRequest → Type 0
@@ -124,16 +134,6 @@ module _ {R F : Type 0} (answer : PolledRequest F R → ℕ → Answer) (answers
       pub framer : new.framer ≡ old.framer
       pub queue : new.queue ≡ old.queue
       pub made : (rs : List SlateRequest) → KeepsAll old.count old.unfinished rs → KeepsAll new.count new.unfinished (if nat_lt (length rs) most_requests then rs ++ asked r ∷ [] else rs)
-
-    -- a response is refused
-    pub record Refuses (old new : OpenConnection W R F) (o : List ℕ) : Type 0 where
-      pub addr : new.addr ≡ old.addr
-      pub config : new.config ≡ old.config
-      pub framer : new.framer ≡ old.framer
-      pub count : new.count ≡ old.count
-      pub unfinished : new.unfinished ≡ old.unfinished
-      pub queue : (s : Slate) → old.queue.items ≡ s.queue → old.queue.capacity ≡ s.bound → new.queue.items ≡ (enqueue (framed (wire (error_reply o 1))) s).queue
-      pub bound : new.queue.capacity ≡ old.queue.capacity
 
     -- one frame is taken, and what is left to be taken, at some slate of the connection, is all that was
     pub record TakesFrame (at secs : ℕ) (old new : OpenConnection W R F) : Type 0 where

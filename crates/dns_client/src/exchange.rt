@@ -49,8 +49,8 @@ pub fn begin_exchange<W: Served>(
 ) -> Result<BegunExchange<W>, OutOfMemory>
     requires { W.can_call service.now }
     ensures { IfOk result (λ p. (s : Slate) → IsUnused s → s.conf.dgram ≡ config.now
-        → IsExchange (request_answer W.Future.answer W.Stream.answer) (serving (W.answer service.now) (W.hint service.now)) client p.0 (datagram client addr at secs octets.now s).0
-        × (p.1.items ≡ (datagram client addr at secs octets.now s).1)) }
+        → (p.1.items ≡ (datagram client addr at secs octets.now s).1)
+        × IsExchange (request_answer W.Future.answer W.Stream.answer) (serving (W.answer service.now) (W.hint service.now)) client p.0 (datagram client addr at secs octets.now s).0) }
 {
     let octets = cut(alloc, octets)?;
     let Ok(message) = Message::from_octets(octets) else {

@@ -1,18 +1,21 @@
 //! What is kept of a request that isn't done.
 
-ghost use Rattle.std.specs.Prelude.{◌≡◌, ℕ, IfOk, OnOk};
+ghost use Rattle.std.specs.Prelude.{◌≡◌, ℕ, IfOk, Some};
 ghost use Rattle.std.specs.Arc.{arc_value};
+ghost use Rattle.dns_service.specs.Cut.{sized};
+ghost use Rattle.dns_service.specs.ErrorReply.{error_reply};
 ghost use Rattle.dns_service.specs.Given.{message_in};
 ghost use Rattle.dns_service.specs.PolledRequest.{request_answer};
 ghost use Rattle.dns_service.specs.Transport.{limit, limit_over};
+ghost use Rattle.dns_service.specs.declared.service.Polled.TheVariants.{Ready};
 ghost use Rattle.dns_client.specs.PolledAt.{IsPolled};
-ghost use Rattle.dns_client.specs.Turns.{reply_to};
+ghost use Rattle.dns_client.specs.Turns.{ends, reply_to};
 
 use dns_base::{AdditionalBuilder, Message};
 use dns_name::OptRcode;
 use dns_service::{
-    OutOfMemory, Polled, PolledRequest, ReplyFuture, ReplyStream, Request, Served, ServiceError,
-    ServiceResult, fit, limit_over, mk_error_response,
+    OutOfMemory, Polled, PolledRequest, ReplyFuture, ReplyStream, Request, Served, ServiceResult,
+    fit, limit_over, mk_error_response,
 };
 use std::alloc::Global;
 use std::sync::Arc;
@@ -70,32 +73,19 @@ fn answered(
     message: &Message,
     limit: Option<u16>,
     item: ServiceResult,
-) -> Result<(Option<AdditionalBuilder>, bool), OutOfMemory> {
+) -> Result<(Option<AdditionalBuilder>, bool), OutOfMemory>
+    ensures reply { IfOk result (λ p. message_in p.0 ≡ reply_to limit message.now (Ready (Some item))) }
+    ensures done { IfOk result (λ p. p.1 ≡ ends (Ready (Some item))) }
+{
     match item {
         Ok(given) => Ok((given.into_inner().0, false)),
         Err(error) => {
-            let reply = error_reply(alloc, message, limit, error)?;
+            let rcode = OptRcode::from(error.rcode());
+            let reply = refused(alloc, message, limit, rcode)?;
             Ok((Some(reply), true))
         }
     }
 }
-
-/// The reply that is sent for an error item.
-fn error_reply(
-    alloc: Global,
-    message: &Message,
-    limit: Option<u16>,
-    error: ServiceError,
-) -> Result<AdditionalBuilder, OutOfMemory>
-    ensures { IfOk result (λ b. Some b.message ≡ reply_to limit message.now (Ready (Some (Err error)))) }
-{
-    refused(alloc, message, limit, OptRcode::from(error.rcode()))
-}
-
-ghost use Rattle.std.specs.Prelude.{Some};
-ghost use Rattle.dns_service.specs.declared.service.Polled.TheVariants.{Ready};
-ghost use Rattle.dns_service.specs.Cut.{sized};
-ghost use Rattle.dns_service.specs.ErrorReply.{error_reply};
 
 /// The error reply to a message, of so many octets at most where that is limited.
 pub fn refused(

@@ -1,4 +1,5 @@
 pub mod OutLemmas
+pub mod Taken
 pub mod Plain
 pub mod Counted
 pub mod Gained
@@ -13,3 +14,7 @@ pub mod Served
 pub mod Offered
 pub mod Released
 pub mod Cut
+pub mod Replied
+pub mod Begun
+pub mod Listening
+pub mod Answered

@@ -3,9 +3,12 @@ use Rattle.dns_client.specs.Serving.{Serving}
 use Rattle.std.proofs.Common.{◌≡◌, ◌≢◌, ℕ, ◌+◌, List, [], ◌∷◌, ◌++◌, length, drop, Bool, true, false, cond, refl, ap, sym, ◌∙◌, subst}
 use Rattle.std.specs.Prelude.{Option, Some, None, slice_get, nat_lt, filter, if◌then◌else◌}
 use Rattle.std.proofs.lemmas.Bool.{eq-eqb, eqb-true, ne_eqb}
+use Rattle.dns_name.specs.declared.address.SocketAddr.{SocketAddr}
+use Rattle.dns_base.specs.Header.{header_of}
 use Rattle.dns_base.specs.Msg.{Msg}
 use Rattle.dns_base.specs.Wire.{wire}
 use Rattle.dns_service.specs.Answer.{Answer}
+use Rattle.dns_service.specs.Config.{Dgram}
 use Rattle.dns_service.specs.Req.{Req}
 use Rattle.dns_service.specs.declared.event.Event.{Event}
 use Rattle.dns_service.specs.declared.event.EventKind.{EventKind}
@@ -15,10 +18,7 @@ use Rattle.dns_service.specs.declared.event.Output.TheVariants.{Frame}
 use Rattle.dns_service.specs.declared.event.Why.TheVariants.{Ended, Short, WriteTimeout}
 use Rattle.dns_client.specs.Frames.{frames, framed}
 use Rattle.dns_client.specs.Slate.{Slate, SlateRequest, Told, Phase, Unused, Exchange, Open, Closed, fresh, in_phase}
-use Rattle.dns_client.specs.Requests.{header_size, most_requests, request_of_frame, asked}
-use Rattle.dns_name.specs.declared.address.SocketAddr.{SocketAddr}
-use Rattle.dns_base.specs.Header.{header_of}
-use Rattle.dns_service.specs.Config.{Dgram}
+use Rattle.dns_client.specs.Requests.{header_size}
 use Rattle.dns_client.specs.Datagrams.{cut_datagram, refused_datagram, datagram}
 use Rattle.dns_client.specs.Connections.{opened, close, take_frame, take_frames, piece, write, enqueue, released}
 use Rattle.dns_client.specs.Turns.{exchange_turn, turn, polled, with_request, sent_at_once, sent_for, queued}
@@ -30,6 +30,7 @@ use Rattle.dns_core.specs.Out.{is_unused, begins}
 use Rattle.dns_core.specs.ByClient.{client_of, is_for}
 use Rattle.dns_middleware.specs.declared.settings.Settings.{Settings}
 use Rattle.dns_core.proofs.Plain.{unused_is, rule_use}
+use Rattle.dns_core.proofs.Taken.{takes}
 
 -- each output is for the client
 abbrev pub AreFor : ℕ → List Output → Type 0
@@ -51,13 +52,10 @@ phase_for c Exchange x y z w u hy hz hw = hy
 phase_for c Open x y z w u hy hz hw = hz
 phase_for c Closed x y z w u hy hz hw = hw
 
-frame_client : (at secs : ℕ) (f : List ℕ) (s : Slate) → (take_frame at secs f s).client ≡ s.client
-frame_client at secs f s = (elim (nat_lt (length s.requests) most_requests) as (λ b. let t : Slate = (if b then record s { taken = s.taken + 1; requests = s.requests ++ asked (request_of_frame s.connection s.addr at secs f) ∷ [] } else record s { taken = s.taken + 1 }) in t.client ≡ s.client) [ true ↦ refl | false ↦ refl ])
-
 take_for : (at secs : ℕ) (fs : List (List ℕ)) (s : Slate) → AreFor s.client (take_frames at secs fs s).1
 take_for at secs [] s = tt
 take_for at secs (f ∷ fs) s =
-    let more = subst (λ (c : ℕ). AreFor c (take_frames at secs fs (take_frame at secs f s)).1) (frame_client at secs f s) (take_for at secs fs (take_frame at secs f s)) in
+    let more = subst (λ (c : ℕ). AreFor c (take_frames at secs fs (take_frame at secs f s)).1) (takes at secs f s).client (take_for at secs fs (take_frame at secs f s)) in
     (elim (nat_lt (length f) header_size) as (λ b. let t : Told = (if b then close Short s else take_frames at secs fs (take_frame at secs f s)) in AreFor s.client t.1) [ true ↦ (refl, tt) | false ↦ more ])
 
 write_for : (took : ℕ) (q : List (List ℕ)) (s : Slate) → AreFor s.client (write took q s).1
@@ -122,16 +120,16 @@ module _ (answers : Serving) where
   pub quiet : (e : Event) (s : Slate) → s.phase ≡ Unused → is_unused (rule answers e s).0.phase ≡ true → (rule answers e s).1 ≡ []
   quiet e s p u = quiet_kind e e.kind s p u
 
-  used_begin : (p : Phase) (t s : Slate) → is_unused t.phase ≡ false → p ≡ s.phase → is_unused (in_phase {X = Told} p (t, []) (s, []) (s, []) (s, [])).0.phase ≡ false
+  used_begin : (p : Phase) (t : Told) (s : Slate) → is_unused t.0.phase ≡ false → p ≡ s.phase → is_unused (in_phase p t (s, []) (s, []) (s, [])).0.phase ≡ false
   used_begin Unused t s u is = u
   used_begin Exchange t s u is = ap is_unused (sym is)
   used_begin Open t s u is = ap is_unused (sym is)
   used_begin Closed t s u is = ap is_unused (sym is)
 
   begins_kind : (e : Event) (k : EventKind) (s : Slate) → begins k ≡ true → is_unused (by_kind answers e k s).0.phase ≡ false
-  begins_kind e (Datagram addr o) s b = used_begin s.phase (datagram e.client addr e.at e.secs o s).0 s refl refl
+  begins_kind e (Datagram addr o) s b = used_begin s.phase (datagram e.client addr e.at e.secs o s) s refl refl
   begins_kind e (Turn k) s b = cc
-  begins_kind e (Offer addr) s b = used_begin s.phase (opened e.client addr s) s refl refl
+  begins_kind e (Offer addr) s b = used_begin s.phase (opened e.client addr s, []) s refl refl
   begins_kind e (Piece o) s b = cc
   begins_kind e End s b = cc
   begins_kind e (Write took) s b = cc
@@ -154,7 +152,7 @@ module _ (answers : Serving) where
   take_client : (at secs : ℕ) (fs : List (List ℕ)) (s : Slate) → (take_frames at secs fs s).0.client ≡ s.client
   take_client at secs [] s = refl
   take_client at secs (f ∷ fs) s =
-      let more = take_client at secs fs (take_frame at secs f s) ∙ frame_client at secs f s in
+      let more = take_client at secs fs (take_frame at secs f s) ∙ (takes at secs f s).client in
       (elim (nat_lt (length f) header_size) as (λ b. let t : Told = (if b then close Short s else take_frames at secs fs (take_frame at secs f s)) in t.0.client ≡ s.client) [ true ↦ refl | false ↦ more ])
 
   write_client : (took : ℕ) (q : List (List ℕ)) (s : Slate) → (write took q s).0.client ≡ s.client

@@ -16,7 +16,7 @@ use Rattle.dns_service.specs.declared.event.Why.{Why}
 use Rattle.dns_service.specs.declared.event.Why.TheVariants.{Ended, Short, WriteTimeout}
 use Rattle.dns_client.specs.Frames.{frames, framed}
 use Rattle.dns_client.specs.Slate.{Slate, SlateRequest, Conf, Told, Phase, Unused, Exchange, Open, Closed, fresh, in_phase}
-use Rattle.dns_client.specs.Requests.{header_size, most_requests, request_of_frame, asked}
+use Rattle.dns_client.specs.Requests.{header_size}
 use Rattle.dns_client.specs.Datagrams.{datagram}
 use Rattle.dns_client.specs.Connections.{opened, close, take_frame, take_frames, piece, write, enqueue, released}
 use Rattle.dns_client.specs.Turns.{exchange_turn, turn, polled, with_request, sent_at_once, sent_for, queued}
@@ -27,6 +27,7 @@ use Rattle.dns_core.specs.Own.{own, concerns}
 use Rattle.dns_core.specs.Sent.{slate_after, slate}
 use Rattle.dns_core.specs.Out.{is_unused, is_connection, begins, is_release, holds_slot}
 use Rattle.dns_middleware.specs.declared.settings.Settings.{Settings}
+use Rattle.dns_core.proofs.Taken.{takes}
 
 -- what goes on keeps its configurations, a used number stays used, and a slot stays held
 pub record GoesOn (s t : Slate) : Type 0 where
@@ -62,15 +63,14 @@ close_on : (why : Why) (s : Slate) → is_connection s.phase ≡ true → GoesOn
 close_on why s h = record { conf = refl; used = λ _. refl; slot = rw h refl }
 
 take_frame_on : (at secs : ℕ) (f : List ℕ) (s : Slate) → GoesOn s (take_frame at secs f s)
-take_frame_on at secs f s = (elim (nat_lt (length s.requests) most_requests) as (λ b. GoesOn s (if b then record s { taken = s.taken + 1; requests = s.requests ++ asked (request_of_frame s.connection s.addr at secs f) ∷ [] } else record s { taken = s.taken + 1 })) [ true ↦ record { conf = refl; used = λ h. h; slot = refl } | false ↦ record { conf = refl; used = λ h. h; slot = refl } ])
-
-frame_phase : (at secs : ℕ) (f : List ℕ) (s : Slate) → (take_frame at secs f s).phase ≡ s.phase
-frame_phase at secs f s = (elim (nat_lt (length s.requests) most_requests) as (λ b. let t : Slate = (if b then record s { taken = s.taken + 1; requests = s.requests ++ asked (request_of_frame s.connection s.addr at secs f) ∷ [] } else record s { taken = s.taken + 1 }) in t.phase ≡ s.phase) [ true ↦ refl | false ↦ refl ])
+take_frame_on at secs f s =
+    let t = takes at secs f s in
+    record { conf = t.conf; used = λ h. ap is_unused t.phase ∙ h; slot = rw (t.phase, t.freed) refl }
 
 take_on : (at secs : ℕ) (fs : List (List ℕ)) (s : Slate) → is_connection s.phase ≡ true → GoesOn s (take_frames at secs fs s).0
 take_on at secs [] s h = same s
 take_on at secs (f ∷ fs) s h =
-    let more = then_on s (take_frame at secs f s) (take_frames at secs fs (take_frame at secs f s)).0 (take_frame_on at secs f s) (take_on at secs fs (take_frame at secs f s) (ap is_connection (frame_phase at secs f s) ∙ h)) in
+    let more = then_on s (take_frame at secs f s) (take_frames at secs fs (take_frame at secs f s)).0 (take_frame_on at secs f s) (take_on at secs fs (take_frame at secs f s) (ap is_connection (takes at secs f s).phase ∙ h)) in
     (elim (nat_lt (length f) header_size) as (λ b. let t : Told = (if b then close Short s else take_frames at secs fs (take_frame at secs f s)) in GoesOn s t.0) [ true ↦ close_on Short s h | false ↦ more ])
 
 piece_on : (at secs : ℕ) (o : List ℕ) (s : Slate) → is_connection s.phase ≡ true → GoesOn s (piece at secs o s).0
@@ -124,7 +124,7 @@ module _ (answers : Serving) where
   weak : (s t : Slate) → GoesOn s t → KeepsUse s t
   weak s t g = record { conf = g.conf; used = g.used }
 
-  begin_use : (p : Phase) (s t : Slate) → t.conf ≡ s.conf → is_unused t.phase ≡ false → KeepsUse s (in_phase {X = Told} p (t, []) (s, []) (s, []) (s, [])).0
+  begin_use : (p : Phase) (s : Slate) (t : Told) → t.0.conf ≡ s.conf → is_unused t.0.phase ≡ false → KeepsUse s (in_phase p t (s, []) (s, []) (s, [])).0
   begin_use Unused s t c u = record { conf = c; used = λ _. u }
   begin_use Exchange s t c u = record { conf = refl; used = λ h. h }
   begin_use Open s t c u = record { conf = refl; used = λ h. h }
@@ -137,9 +137,9 @@ module _ (answers : Serving) where
   release_use Closed s = record { conf = refl; used = λ h. h }
 
   kind_use : (e : Event) (k : EventKind) (s : Slate) → KeepsUse s (by_kind answers e k s).0
-  kind_use e (Datagram addr o) s = begin_use s.phase s (datagram e.client addr e.at e.secs o s).0 refl refl
+  kind_use e (Datagram addr o) s = begin_use s.phase s (datagram e.client addr e.at e.secs o s) refl refl
   kind_use e (Turn k) s = weak s (by_kind answers e (Turn k) s).0 (kind_on e (Turn k) s refl refl)
-  kind_use e (Offer addr) s = begin_use s.phase s (opened e.client addr s) refl refl
+  kind_use e (Offer addr) s = begin_use s.phase s (opened e.client addr s, []) refl refl
   kind_use e (Piece o) s = weak s (by_kind answers e (Piece o) s).0 (kind_on e (Piece o) s refl refl)
   kind_use e End s = weak s (by_kind answers e End s).0 (kind_on e End s refl refl)
   kind_use e (Write took) s = weak s (by_kind answers e (Write took) s).0 (kind_on e (Write took) s refl refl)

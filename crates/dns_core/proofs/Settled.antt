@@ -15,7 +15,7 @@ use Rattle.dns_service.specs.declared.event.Why.{Why}
 use Rattle.dns_service.specs.declared.event.Why.TheVariants.{Ended, Short, WriteTimeout}
 use Rattle.dns_client.specs.Frames.{frames, framed}
 use Rattle.dns_client.specs.Slate.{Slate, SlateRequest, Told, Phase, Unused, Exchange, Open, Closed, fresh, in_phase}
-use Rattle.dns_client.specs.Requests.{header_size, most_requests, request_of_frame, asked}
+use Rattle.dns_client.specs.Requests.{header_size}
 use Rattle.dns_client.specs.Datagrams.{datagram}
 use Rattle.dns_client.specs.Connections.{opened, close, take_frame, take_frames, piece, write, enqueue, released}
 use Rattle.dns_client.specs.Turns.{exchange_turn, turn, polled, with_request, sent_at_once, sent_for, queued}
@@ -25,6 +25,7 @@ use Rattle.dns_core.specs.Own.{own}
 use Rattle.dns_core.specs.Sent.{slate_after, slate}
 use Rattle.dns_middleware.specs.declared.settings.Settings.{Settings}
 use Rattle.dns_core.proofs.Plain.{all_same}
+use Rattle.dns_core.proofs.Taken.{takes}
 
 -- each frame of the octets received is taken
 pub Settled : Slate → Type 0
@@ -52,18 +53,13 @@ phase_settled Closed x y z w hx hy hz hw = hw
 closed_settled : (why : Why) (s : Slate) → Settled (close why s).0
 closed_settled why s = nothing_received (close why s).0 refl
 
-frame_received : (at secs : ℕ) (f : List ℕ) (s : Slate) → (take_frame at secs f s).received ≡ s.received
-frame_received at secs f s = (elim (nat_lt (length s.requests) most_requests) as (λ b. let t : Slate = (if b then record s { taken = s.taken + 1; requests = s.requests ++ asked (request_of_frame s.connection s.addr at secs f) ∷ [] } else record s { taken = s.taken + 1 }) in t.received ≡ s.received) [ true ↦ refl | false ↦ refl ])
-
-frame_taken : (at secs : ℕ) (f : List ℕ) (s : Slate) → (take_frame at secs f s).taken ≡ s.taken + 1
-frame_taken at secs f s = (elim (nat_lt (length s.requests) most_requests) as (λ b. let t : Slate = (if b then record s { taken = s.taken + 1; requests = s.requests ++ asked (request_of_frame s.connection s.addr at secs f) ∷ [] } else record s { taken = s.taken + 1 }) in t.taken ≡ s.taken + 1) [ true ↦ refl | false ↦ refl ])
-
 take_settled : (at secs : ℕ) (fs : List (List ℕ)) (s : Slate) → length (frames s.received) ≤ s.taken + length fs → Settled (take_frames at secs fs s).0
 unfolding Settled
 take_settled at secs [] s h = omega (arith, h)
 take_settled at secs (f ∷ fs) s h =
     let less : length (frames s.received) ≤ (s.taken + 1) + length fs = omega (arith, h) in
-    let more = take_settled at secs fs (take_frame at secs f s) (rw (frame_received at secs f s, frame_taken at secs f s) less) in
+    let t = takes at secs f s in
+    let more = take_settled at secs fs (take_frame at secs f s) (rw (t.received, t.taken) less) in
     (elim (nat_lt (length f) header_size) as (λ b. let t : Told = (if b then close Short s else take_frames at secs fs (take_frame at secs f s)) in length (frames t.0.received) ≤ t.0.taken) [ true ↦ closed_settled Short s | false ↦ more ])
 
 piece_settled : (at secs : ℕ) (o : List ℕ) (s : Slate) → Settled (piece at secs o s).0

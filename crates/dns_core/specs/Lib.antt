@@ -12,6 +12,7 @@ pub mod Own
 pub mod Sent
 pub mod Out
 pub mod ByClient
+pub mod ReplyTo
 pub mod Early
 pub mod Serves
 pub mod Server

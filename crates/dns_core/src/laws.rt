@@ -1,7 +1,7 @@
 //! Laws of what is sent.
 
-ghost use Rattle.dns_client.specs.Serving.{Serving};
-ghost use Rattle.std.specs.Prelude.{◌≡◌, ℕ, List, [], ◌∷◌, ◌++◌, true, false, Option, Some, None, slice_get, nat_eq, filter};
+ghost use Rattle.dns_client.specs.Serving.{Serving, serving};
+ghost use Rattle.std.specs.Prelude.{◌≡◌, ℕ, List, [], ◌∷◌, ◌++◌, true, false, Option, Some, None, slice_get, nat_eq, filter, All};
 ghost use Rattle.std.specs.List.{list_any};
 ghost use Rattle.dns_service.specs.Answer.{Answer};
 ghost use Rattle.dns_service.specs.Req.{Req};
@@ -15,6 +15,9 @@ ghost use Rattle.dns_core.specs.Sent.{sent, slate};
 ghost use Rattle.dns_core.specs.Out.{begins, gain, is_release, is_unused, members, out};
 ghost use Rattle.dns_core.specs.ByClient.{IsPrefix, is_for, is_member, was_turned_away};
 ghost use Rattle.dns_core.specs.Finished.{IsFinished};
+ghost use Rattle.dns_core.specs.ReplyTo.{IsReply};
+ghost use Rattle.dns_middleware.specs.Verdicts.{Verdicts, verdict_on};
+ghost use Rattle.dns_middleware.specs.Wrapped.{hint_left, replies};
 ghost use Rattle.dns_middleware.specs.declared.settings.Settings.{Settings};
 
 /// The headline, read by client. Of all that is sent, what is for an exchange or a connection is what the rules for it
@@ -49,6 +52,20 @@ pub fn more_events_send_more()
     ensures more { (answers : Serving) (settings : Settings) (q : List Event) (e : Event)
         → sent answers settings (own e.client (q ++ e ∷ [])) ≡ sent answers settings (own e.client q) ++ gain answers settings e.client q e }
 {}
+
+/// Each datagram that is sent answers the one by which its client began: it carries that one's identifier, and QR, and has no
+/// more octets than the limit of its request. Each frame answers one of those that its connection received before, with that
+/// one's identifier, and QR.
+pub fn replies_answer_what_was_asked()
+    ensures { (settings : Settings) (given : Req (Unit {0}) → ℕ → Answer) (verdicts : Verdicts) (es : List Event)
+        → All (IsReply (serving (replies settings given (verdict_on verdicts)) (hint_left settings)) settings es)
+            (out (serving (replies settings given (verdict_on verdicts)) (hint_left settings)) settings es) }
+{
+    dns_middleware::wrapped_replies_respond();
+    dns_middleware::wrapped_replies_fit();
+    dns_service::cut_fits();
+    dns_client::frames_go_on();
+}
 
 /// A piece cut in two, both parts at its moment and seconds and next to each other, changes nothing, wherever it is cut.
 pub fn pieces_may_be_cut()

@@ -11,7 +11,7 @@ pub use dns_service::{Event, EventKind, Octets, Output, Why};
 pub use laws::{
     clients_are_sent_their_own, closed_connections_change_nothing, empty_pieces_change_nothing,
     finished_requests_change_nothing, more_events_send_more, others_change_nothing,
-    pieces_may_be_cut, second_releases_change_nothing, strangers_change_nothing,
-    used_numbers_change_nothing,
+    pieces_may_be_cut, replies_answer_what_was_asked, second_releases_change_nothing,
+    strangers_change_nothing, used_numbers_change_nothing,
 };
 pub use server::serve_events;

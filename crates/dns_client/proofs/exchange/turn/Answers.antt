@@ -1,4 +1,4 @@
-use Rattle.std.proofs.Common.{None, Some, ap, ◌∙◌, refl, List, ℕ, [], ◌∷◌}
+use Rattle.std.proofs.Common.{None, Some, ap, ◌∙◌, List, ℕ, [], ◌∷◌}
 use Rattle.dns_service.specs.declared.event.Output.TheVariants.{Datagram}
 use Rattle.dns_service.specs.PolledRequest.{request_answer}
 use Rattle.dns_client.proofs.Turns.{exchange_turned}
@@ -6,8 +6,8 @@ use Rattle.dns_client.proofs.exchange.turn.Goals as goal
 
 pub returns-in_default : goal.returns-in_default
 returns-in_default g c = λ answers.
-    rw c.if-request-ne0.false (exchange_turned (request_answer g.F.ReplyFuture.answer g.R.ReplyStream.answer) answers c.args.client c.args.unfinished.now c.poll_kept.new.unfinished None c.new-in_default.result.items (rw c.in_default.is at c.in_ok-poll_kept.ensures) c.new-in_default.ensures.items)
+    rw c.if-request-ne0.false (exchange_turned (request_answer g.F.ReplyFuture.answer g.R.ReplyStream.answer) answers c.args.client c.args.unfinished.now c.poll_kept.new.unfinished None c.new-in_default.result.items (rw c.in_default.is at c.in_ok-reply.ensures) c.new-in_default.ensures.items)
 
 pub returns : goal.returns
 returns g c = λ answers.
-    rw c.if-request-ne0.false (exchange_turned (request_answer g.F.ReplyFuture.answer g.R.ReplyStream.answer) answers c.args.client c.args.unfinished.now c.poll_kept.new.unfinished (Some c.in-Some.reply.message) c.in_ok-outs.outs.items (rw c.in-Some.is at c.in_ok-poll_kept.ensures) (c.in_ok-outs.ensures ∙ ap (λ (o : List ℕ). Datagram c.args.client o ∷ []) c.in_ok-octets.ensures))
+    rw c.if-request-ne0.false (exchange_turned (request_answer g.F.ReplyFuture.answer g.R.ReplyStream.answer) answers c.args.client c.args.unfinished.now c.poll_kept.new.unfinished (Some c.in-Some.reply.message) c.in_ok-outs.outs.items (rw c.in-Some.is at c.in_ok-reply.ensures) (c.in_ok-outs.ensures ∙ ap (λ (o : List ℕ). Datagram c.args.client o ∷ []) c.in_ok-octets.ensures))

@@ -1,0 +1,66 @@
+-- What each reply that is sent has to do with the message that it answers (RFC 1035, sections 4.1.1 and 4.2.1).
+use Rattle.std.specs.Prelude.{◌≡◌, ℕ, ◌≤◌, List, [], ◌∷◌, length, Bool, true, ◌&&◌, if◌then◌else◌, Option, Some, None}
+use Rattle.std.specs.List.{Contains}
+use Rattle.dns_name.specs.declared.address.SocketAddr.{SocketAddr}
+use Rattle.dns_base.specs.Header.{header_of}
+use Rattle.dns_base.specs.Msg.{Msg}
+use Rattle.dns_base.specs.Wire.{wire}
+use Rattle.dns_service.specs.Req.{Req}
+use Rattle.dns_service.specs.Transport.{hint_of, limit}
+use Rattle.dns_service.specs.declared.event.Event.{Event}
+use Rattle.dns_service.specs.declared.event.EventKind.TheVariants.{Datagram as Is_datagram}
+use Rattle.dns_service.specs.declared.event.Output.{Output}
+use Rattle.dns_service.specs.declared.event.Output.TheVariants.{Datagram, Frame, Closed, TurnedAway}
+use Rattle.dns_client.specs.Datagrams.{cut_datagram}
+use Rattle.dns_client.specs.Frames.{frames, framed}
+use Rattle.dns_client.specs.Requests.{request_of_datagram}
+use Rattle.dns_client.specs.Serving.{Serving}
+use Rattle.dns_core.specs.ByClient.{IsPrefix}
+use Rattle.dns_core.specs.Out.{begins}
+use Rattle.dns_core.specs.Own.{concerns}
+use Rattle.dns_core.specs.Sent.{slate}
+use Rattle.dns_middleware.specs.declared.settings.Settings.{Settings}
+
+-- the event by which a client begins
+abbrev pub begun_by : ℕ → List Event → Option Event
+begun_by c [] = None
+begun_by c (e ∷ es) = if concerns c e && begins e.kind then Some e else begun_by c es
+
+-- a message answers one of these octets: it carries its identifier, and QR
+abbrev pub Responds : List ℕ → Msg → Type 0
+Responds query m = (m.header.id ≡ (header_of query).id) × (m.header.qr ≡ true)
+
+module _ (answers : Serving) where
+  -- how many octets the datagrams that answer a datagram may take: as the wrapped service leaves it, and for a response, which
+  -- it isn't asked, as it came
+  abbrev pub datagram_limit : Req (Unit {0}) → ℕ
+  datagram_limit r = if (header_of r.octets).qr then limit (hint_of r.transport) else limit (answers.hint r)
+
+  module _ (settings : Settings) (es : List Event) where
+    -- octets that a client is sent answer the datagram by which it began
+    pub record AnswersDatagram (c : ℕ) (o : List ℕ) : Type 0 where
+      pub event : Event
+      pub addr : SocketAddr
+      pub asks : List ℕ
+      pub message : Msg
+      pub begun : begun_by c es ≡ Some event
+      pub kind : event.kind ≡ Is_datagram addr asks
+      pub is : o ≡ wire message
+      pub responds : Responds (cut_datagram asks) message
+      pub fits : length o ≤ datagram_limit (request_of_datagram settings.dgram addr event.at event.secs (cut_datagram asks))
+
+    -- a frame that a client is sent answers one of the frames that it sent before
+    pub record AnswersFrame (c : ℕ) (o : List ℕ) : Type 0 where
+      pub before : List Event
+      pub asks : List ℕ
+      pub message : Msg
+      pub front : IsPrefix before es
+      pub asked : Contains (frames (slate answers settings c before).received) asks
+      pub is : o ≡ framed (wire message)
+      pub responds : Responds asks message
+
+    abbrev pub IsReply : Output → Type 0
+    IsReply (Datagram c o) = AnswersDatagram c o
+    IsReply (Frame c o) = AnswersFrame c o
+    IsReply (Closed c why) = Unit {0}
+    IsReply (TurnedAway c accepted) = Unit {0}
