@@ -1,3 +1,5 @@
 pub mod Batches
+pub mod Between
+pub mod Quiet
 pub mod Running
 mod Padded

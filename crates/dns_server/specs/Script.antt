@@ -136,14 +136,16 @@ set_line p ws =
     else if bytes_eq (word_at ws 0) (codes "stream") then first_stream_line p ws
     else next_event_line p ws
 
--- what a script says with a line more
-unfoldable pub after_line : Plan → List ℕ → Result Plan Reason
-after_line p l =
-    let ws = words_of l in
+-- what a script says with the line of these words more
+unfoldable pub after_words : Plan → List (List ℕ) → Result Plan Reason
+after_words p ws =
     if is_skipped ws then Ok p
     else if bytes_eq (word_at ws 0) (codes "rule") then rule_line p ws
     else if bytes_eq (word_at ws 0) (codes "notify") then notify_line p ws
     else set_line p ws
+
+abbrev pub after_line : Plan → List ℕ → Result Plan Reason
+after_line p l = after_words p (words_of l)
 
 abbrev pub numbered : {A : Type 0} → ℕ → Result A Reason → Result A (ℕ × Reason)
 numbered n (Ok x) = Ok x

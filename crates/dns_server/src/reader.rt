@@ -1,9 +1,8 @@
 //! The reader of a script.
 
 ghost use Rattle.std.specs.Prelude.{◌≡◌, ◌<◌, ◌^◌, [], drop, length};
-ghost use Rattle.dns_trace.specs.Reading.{GivesLine};
-ghost use Rattle.dns_server.specs.Script.{after_line, next_event_line, script, set_line};
-ghost use Rattle.dns_server.specs.ScriptReads.{ReadsScript};
+ghost use Rattle.dns_server.specs.Script.{after_line, after_words, next_event_line, script, set_line};
+ghost use Rattle.dns_server.specs.ScriptReads.{ReadsScript, TakesLine};
 
 use crate::notify_lines::read_notify;
 use crate::rule_lines::read_rule;
@@ -16,19 +15,18 @@ use std::alloc::Global;
 
 /// The line of an event.
 #[tactic(auto, unfolding(crate::specs::Script::next_event_line))]
-fn event(alloc: Global, script: Script, words: &Words) -> Result<Script, LineError>
-    ensures { GivesLine (λ s. s) result (next_event_line script words.now) }
+fn event(alloc: Global, script: &mut Script, words: &Words) -> Result<(), LineError>
+    ensures { TakesLine result script.new (next_event_line script.old words.now) }
 {
-    let mut script = script;
     let event = read_event(alloc, words)?;
     script.push_event(event)?;
-    Ok(script)
+    Ok(())
 }
 
 /// A line that sets something, or the line of an event.
 #[tactic(auto, unfolding(crate::specs::Script::set_line))]
-fn set(alloc: Global, script: Script, words: &Words) -> Result<Script, LineError>
-    ensures { GivesLine (λ s. s) result (set_line script words.now) }
+fn set(alloc: Global, script: &mut Script, words: &Words) -> Result<(), LineError>
+    ensures { TakesLine result script.new (set_line script.old words.now) }
 {
     let name = words.word(0);
     if name == b"strict".as_slice() {
@@ -52,22 +50,29 @@ fn set(alloc: Global, script: Script, words: &Words) -> Result<Script, LineError
     event(alloc, script, words)
 }
 
-/// What a script says with one line more.
-#[tactic(auto, unfolding(crate::specs::Script::after_line))]
-fn after(alloc: Global, script: Script, line: &[u8]) -> Result<Script, LineError>
-    ensures { GivesLine (λ s. s) result (after_line script line.now) }
+/// What a script says with the line of these words more.
+#[tactic(auto, unfolding(crate::specs::Script::after_words))]
+fn after_words(alloc: Global, script: &mut Script, words: &Words) -> Result<(), LineError>
+    ensures { TakesLine result script.new (after_words script.old words.now) }
 {
-    let words = Words::of(alloc, line)?;
-    if says_nothing(&words) {
-        return Ok(script);
+    if says_nothing(words) {
+        return Ok(());
     }
     if words.word(0) == b"rule".as_slice() {
-        return read_rule(alloc, script, &words);
+        return read_rule(alloc, script, words);
     }
     if words.word(0) == b"notify".as_slice() {
-        return read_notify(alloc, script, &words);
+        return read_notify(alloc, script, words);
     }
-    set(alloc, script, &words)
+    set(alloc, script, words)
+}
+
+/// What a script says with one line more.
+fn after(alloc: Global, script: &mut Script, line: &[u8]) -> Result<(), LineError>
+    ensures { TakesLine result script.new (after_line script.old line.now) }
+{
+    let words = Words::of(alloc, line)?;
+    after_words(alloc, script, &words)
 }
 
 /// What a text says, or its first bad line and the reason.
@@ -81,8 +86,8 @@ pub fn read_script(alloc: Global, text: &[u8]) -> Result<Script, ScriptError>
     let mut line = 1u64;
     while !rest.is_empty() {
         let (first, more) = split_line(rest);
-        match after(alloc, all, first) {
-            Ok(next) => all = next,
+        match after(alloc, &mut all, first) {
+            Ok(()) => {}
             Err(LineError::OutOfMemory) => return Err(ScriptError::OutOfMemory),
             Err(LineError::Refused(reason)) => return Err(ScriptError::Refused { line, reason }),
         }

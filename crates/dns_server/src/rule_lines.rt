@@ -4,6 +4,7 @@ ghost use Rattle.std.specs.Prelude.{◌≡◌, [], drop, option_map};
 ghost use Rattle.dns_trace.specs.Reading.{GivesLine};
 ghost use Rattle.dns_server.specs.AnswerWords.{answers_after};
 ghost use Rattle.dns_server.specs.Script.{rule_line, rule_name};
+ghost use Rattle.dns_server.specs.ScriptReads.{TakesLine};
 
 use crate::answer_words::answer;
 use crate::rule::{Rule, ScriptAnswers};
@@ -37,15 +38,14 @@ fn rule_name(alloc: Global, word: &[u8]) -> Result<Option<Name>, LineError>
 
 /// A line `rule NAME|* ANSWER ..`.
 #[tactic(auto, unfolding(crate::specs::Script::rule_line))]
-pub fn read_rule(alloc: Global, script: Script, words: &Words) -> Result<Script, LineError>
-    ensures { GivesLine (λ s. s) result (rule_line script words.now) }
+pub fn read_rule(alloc: Global, script: &mut Script, words: &Words) -> Result<(), LineError>
+    ensures { TakesLine result script.new (rule_line script.old words.now) }
 {
     if !script.events().is_empty() || words.len() < 3 {
         return Err(LineError::Refused(Reason::Unbuilt));
     }
     let name = rule_name(alloc, words.word(1))?;
     let answers = answers(alloc, words)?;
-    let mut script = script;
     script.push_rule(Rule { name, answers })?;
-    Ok(script)
+    Ok(())
 }
