@@ -1,7 +1,7 @@
 //! The reader of a script.
 
 ghost use Rattle.std.specs.Prelude.{◌≡◌, ◌<◌, ◌^◌, [], drop, length};
-ghost use Rattle.dns_server.specs.Script.{after_line, after_words, next_event_line, script, set_line};
+ghost use Rattle.dns_server.specs.Script.{after_line, after_words, layer_line, next_event_line, script, server_line};
 ghost use Rattle.dns_server.specs.ScriptReads.{ReadsScript, TakesLine};
 
 use crate::notify_lines::read_notify;
@@ -23,10 +23,25 @@ fn event(alloc: Global, script: &mut Script, words: &Words) -> Result<(), LineEr
     Ok(())
 }
 
-/// A line that sets something, or the line of an event.
-#[tactic(auto, unfolding(crate::specs::Script::set_line))]
-fn set(alloc: Global, script: &mut Script, words: &Words) -> Result<(), LineError>
-    ensures { TakesLine result script.new (set_line script.old words.now) }
+/// A line that configures a server, or the line of an event.
+#[tactic(auto, unfolding(crate::specs::Script::server_line))]
+fn server_line(alloc: Global, script: &mut Script, words: &Words) -> Result<(), LineError>
+    ensures { TakesLine result script.new (server_line script.old words.now) }
+{
+    let name = words.word(0);
+    if name == b"dgram".as_slice() {
+        return read_dgram_line(script, words);
+    }
+    if name == b"stream".as_slice() {
+        return read_stream_line(script, words);
+    }
+    event(alloc, script, words)
+}
+
+/// A line that sets something for the layers, or one of the others.
+#[tactic(auto, unfolding(crate::specs::Script::layer_line))]
+fn layer_line(alloc: Global, script: &mut Script, words: &Words) -> Result<(), LineError>
+    ensures { TakesLine result script.new (layer_line script.old words.now) }
 {
     let name = words.word(0);
     if name == b"strict".as_slice() {
@@ -41,13 +56,7 @@ fn set(alloc: Global, script: &mut Script, words: &Words) -> Result<(), LineErro
     if name == b"deny".as_slice() {
         return read_deny(alloc, script, words);
     }
-    if name == b"dgram".as_slice() {
-        return read_dgram_line(script, words);
-    }
-    if name == b"stream".as_slice() {
-        return read_stream_line(script, words);
-    }
-    event(alloc, script, words)
+    server_line(alloc, script, words)
 }
 
 /// What a script says with the line of these words more.
@@ -64,7 +73,7 @@ fn after_words(alloc: Global, script: &mut Script, words: &Words) -> Result<(), 
     if words.word(0) == b"notify".as_slice() {
         return read_notify(alloc, script, words);
     }
-    set(alloc, script, words)
+    layer_line(alloc, script, words)
 }
 
 /// What a script says with one line more.
