@@ -15,7 +15,7 @@ name_asked o = option_map (λ (q : Question). q.qname) (first_of (questions_of o
 -- a rule for all names fits, and one for a name where that is asked for, up to ASCII case
 abbrev pub fits_name : List (List ℕ) → Option (List (List ℕ)) → Bool
 fits_name n None = false
-fits_name n (Some asked) = same_name n asked
+fits_name n (Some asked) = same_name asked n
 
 abbrev pub fits_asked : Option (List (List ℕ)) → Option (List (List ℕ)) → Bool
 fits_asked None asked = true

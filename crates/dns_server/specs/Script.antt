@@ -37,8 +37,8 @@ strict_line p ws = do
   _ ← before_events p
   _ ← unsaid p.strict
   _ ← of_words 2 ws
-  yes ← yes_no_of (word_at ws 1)
-  Ok (record p { strict = Some yes })
+  strict ← yes_no_of (word_at ws 1)
+  Ok (record p { strict = Some strict })
 
 -- edns yes|no
 unfoldable pub edns_line : Plan → List (List ℕ) → Result Plan Reason
@@ -46,8 +46,8 @@ edns_line p ws = do
   _ ← before_events p
   _ ← unsaid p.edns
   _ ← of_words 2 ws
-  yes ← yes_no_of (word_at ws 1)
-  Ok (record p { edns = Some yes })
+  edns ← yes_no_of (word_at ws 1)
+  Ok (record p { edns = Some edns })
 
 -- secret HEX, of 16 octets
 unfoldable pub secret_line : Plan → List (List ℕ) → Result Plan Reason
@@ -91,13 +91,18 @@ unfoldable pub rule_name : List ℕ → Result (Option (List (List ℕ))) Reason
 rule_name w = if bytes_eq w (codes "*") then Ok None else for_name (name_word w)
 
 -- rule NAME|* ANSWER ..
-unfoldable pub rule_line : Plan → List (List ℕ) → Result Plan Reason
-rule_line p ws = do
-  _ ← before_events p
+unfoldable pub rule_of : List (List ℕ) → Result Rule Reason
+rule_of ws = do
   _ ← unless Unbuilt (nat_le 3 (length ws))
   name ← rule_name (word_at ws 1)
   answers ← answers_after [] (drop 2 ws)
-  Ok (record p { rules = p.rules ++ record { name = name; answers = answers } ∷ [] })
+  Ok (record { name = name; answers = answers })
+
+unfoldable pub rule_line : Plan → List (List ℕ) → Result Plan Reason
+rule_line p ws = do
+  _ ← before_events p
+  rule ← rule_of ws
+  Ok (record p { rules = p.rules ++ rule ∷ [] })
 
 -- ok, notauth or other
 unfoldable pub verdict_word : List ℕ → Result (Result (Unit {0}) NotifyError) Reason
@@ -112,38 +117,50 @@ abbrev pub words_between : List (List ℕ) → List (List ℕ)
 words_between ws = take (length ws - 3) (drop 2 ws)
 
 -- notify NAME pend .. ok|notauth|other
-unfoldable pub notify_line : Plan → List (List ℕ) → Result Plan Reason
-notify_line p ws = do
-  _ ← before_events p
+unfoldable pub notify_of : List (List ℕ) → Result NotifyRule Reason
+notify_of ws = do
   _ ← unless Unbuilt (nat_le 3 (length ws))
   apex ← name_word (word_at ws 1)
   _ ← unless Unbuilt (list_all (λ w. bytes_eq w (codes "pend")) (words_between ws))
   verdict ← verdict_word (word_at ws (length ws - 1))
-  Ok (record p { zones = p.zones ++ record { apex = apex; pends = length ws - 3; verdict = verdict } ∷ [] })
+  Ok (record { apex = apex; pends = length ws - 3; verdict = verdict })
+
+unfoldable pub notify_line : Plan → List (List ℕ) → Result Plan Reason
+notify_line p ws = do
+  _ ← before_events p
+  zone ← notify_of ws
+  Ok (record p { zones = p.zones ++ zone ∷ [] })
 
 -- the line of an event
 unfoldable pub next_event_line : Plan → List (List ℕ) → Result Plan Reason
 next_event_line p ws = event_line ws >>= λ e. Ok (record p { events = p.events ++ e ∷ [] })
 
--- a line that sets something, by its first word; else that of an event
-unfoldable pub set_line : Plan → List (List ℕ) → Result Plan Reason
-set_line p ws =
+-- a line that configures a server, by its first word; else that of an event
+unfoldable pub server_line : Plan → List (List ℕ) → Result Plan Reason
+server_line p ws =
+    if bytes_eq (word_at ws 0) (codes "dgram") then first_dgram_line p ws
+    else if bytes_eq (word_at ws 0) (codes "stream") then first_stream_line p ws
+    else next_event_line p ws
+
+-- a line that sets something for the layers, by its first word; else one of those
+unfoldable pub layer_line : Plan → List (List ℕ) → Result Plan Reason
+layer_line p ws =
     if bytes_eq (word_at ws 0) (codes "strict") then strict_line p ws
     else if bytes_eq (word_at ws 0) (codes "edns") then edns_line p ws
     else if bytes_eq (word_at ws 0) (codes "secret") then secret_line p ws
     else if bytes_eq (word_at ws 0) (codes "deny") then deny_line p ws
-    else if bytes_eq (word_at ws 0) (codes "dgram") then first_dgram_line p ws
-    else if bytes_eq (word_at ws 0) (codes "stream") then first_stream_line p ws
-    else next_event_line p ws
+    else server_line p ws
 
--- what a script says with a line more
-unfoldable pub after_line : Plan → List ℕ → Result Plan Reason
-after_line p l =
-    let ws = words_of l in
+-- what a script says with the line of these words more
+unfoldable pub after_words : Plan → List (List ℕ) → Result Plan Reason
+after_words p ws =
     if is_skipped ws then Ok p
     else if bytes_eq (word_at ws 0) (codes "rule") then rule_line p ws
     else if bytes_eq (word_at ws 0) (codes "notify") then notify_line p ws
-    else set_line p ws
+    else layer_line p ws
+
+abbrev pub after_line : Plan → List ℕ → Result Plan Reason
+after_line p l = after_words p (words_of l)
 
 abbrev pub numbered : {A : Type 0} → ℕ → Result A Reason → Result A (ℕ × Reason)
 numbered n (Ok x) = Ok x

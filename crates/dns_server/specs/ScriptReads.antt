@@ -1,9 +1,16 @@
--- What the reader of a script answers.
+-- What the reader of a script answers, for a line and for a text.
 use Rattle.std.specs.Prelude.{◌≡◌, ℕ, Result, Ok, Err}
+use Rattle.dns_trace.specs.Reading.{Fails}
+use Rattle.dns_trace.specs.declared.reason.LineError.{LineError}
 use Rattle.dns_trace.specs.declared.reason.Reason.{Reason}
 use Rattle.dns_server.specs.Plan.{Plan}
 use Rattle.dns_server.specs.declared.script.ScriptError.{ScriptError}
 use Rattle.dns_server.specs.declared.script.ScriptError.TheVariants.{OutOfMemory, Refused}
+
+-- what is said with a line more, or its refusal, unless memory was wanting
+abbrev pub TakesLine : Result (Unit {0}) LineError → Plan → Result Plan Reason → Type 0
+TakesLine (Ok u) said read = read ≡ Ok said
+TakesLine (Err e) said read = Fails e read
 
 abbrev pub Refuses : ScriptError → Result Plan (ℕ × Reason) → Type 0
 Refuses OutOfMemory read = Unit {0}

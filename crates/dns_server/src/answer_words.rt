@@ -1,9 +1,11 @@
 //! The answers that words spell.
 
-ghost use Rattle.std.specs.Prelude.{◌≡◌};
-ghost use Rattle.dns_server.specs.AnswerWords.{answer_of, reply_word};
+ghost use Rattle.std.specs.Prelude.{◌≡◌, MatchOption, take, drop, length, true, false};
+ghost use Rattle.std.specs.Str.{bytes_eq};
+ghost use Rattle.dns_trace.specs.Values.{number};
+ghost use Rattle.dns_server.specs.AnswerWords.{answer_of, error_word, reply_word, sized_reply};
 
-use crate::rule::ScriptAnswer;
+use crate::rule::{ScriptAnswer, ScriptReply};
 use dns_name::Rcode;
 use dns_service::ServiceError;
 use dns_trace::{Reason, decimal};
@@ -18,9 +20,6 @@ fn behind<'a>(word: &'a [u8], prefix: &[u8]) -> Option<&'a [u8]>
     Some(&word[prefix.len()..])
 }
 
-ghost use Rattle.std.specs.Prelude.{MatchOption, take, drop, length, true, false};
-ghost use Rattle.std.specs.Str.{bytes_eq};
-
 /// A response code of four bits.
 fn rcode(word: &[u8]) -> Result<Rcode, Reason>
     ensures { result ≡ number 20 16 word.now }
@@ -32,8 +31,6 @@ fn rcode(word: &[u8]) -> Result<Rcode, Reason>
     }
 }
 
-ghost use Rattle.dns_trace.specs.Values.{number};
-
 /// A number of octets of at most 65,000.
 fn octets(word: &[u8]) -> Result<u16, Reason>
     ensures { result ≡ number 20 65001 word.now }
@@ -44,22 +41,49 @@ fn octets(word: &[u8]) -> Result<u16, Reason>
 
 /// A reply: `rcode:N`, `blank:N`, `fill:L` or `opt:L`.
 #[tactic(auto, unfolding(crate::specs::AnswerWords::reply_word))]
-fn reply(word: &[u8]) -> Result<ScriptAnswer, Reason>
+fn reply(word: &[u8]) -> Result<ScriptReply, Reason>
     ensures { result ≡ reply_word word.now }
 {
     if let Some(rest) = behind(word, b"rcode:".as_slice()) {
-        return Ok(ScriptAnswer::Rcode(rcode(rest)?));
+        return Ok(ScriptReply::Rcode(rcode(rest)?));
     }
     if let Some(rest) = behind(word, b"blank:".as_slice()) {
-        return Ok(ScriptAnswer::Blank(rcode(rest)?));
+        return Ok(ScriptReply::Blank(rcode(rest)?));
     }
+    sized_reply(word)
+}
+
+/// A reply with so many zeros: `fill:L` or `opt:L`.
+#[tactic(auto, unfolding(crate::specs::AnswerWords::sized_reply))]
+fn sized_reply(word: &[u8]) -> Result<ScriptReply, Reason>
+    ensures { result ≡ sized_reply word.now }
+{
     if let Some(rest) = behind(word, b"fill:".as_slice()) {
-        return Ok(ScriptAnswer::Fill(octets(rest)?));
+        return Ok(ScriptReply::Fill(octets(rest)?));
     }
     if let Some(rest) = behind(word, b"opt:".as_slice()) {
-        return Ok(ScriptAnswer::Opt(octets(rest)?));
+        return Ok(ScriptReply::Opt(octets(rest)?));
     }
     Err(Reason::Unbuilt)
+}
+
+/// An error, where the word is one.
+fn error(word: &[u8]) -> Option<ServiceError>
+    ensures { result ≡ error_word word.now }
+{
+    if word == b"formerr".as_slice() {
+        return Some(ServiceError::FormatError);
+    }
+    if word == b"servfail".as_slice() {
+        return Some(ServiceError::InternalError);
+    }
+    if word == b"notimp".as_slice() {
+        return Some(ServiceError::NotImplemented);
+    }
+    if word == b"refused".as_slice() {
+        return Some(ServiceError::Refused);
+    }
+    None
 }
 
 /// An answer: `pend`, an error or a reply.
@@ -70,17 +94,8 @@ pub fn answer(word: &[u8]) -> Result<ScriptAnswer, Reason>
     if word == b"pend".as_slice() {
         return Ok(ScriptAnswer::Pend);
     }
-    if word == b"formerr".as_slice() {
-        return Ok(ScriptAnswer::Error(ServiceError::FormatError));
+    if let Some(error) = error(word) {
+        return Ok(ScriptAnswer::Error(error));
     }
-    if word == b"servfail".as_slice() {
-        return Ok(ScriptAnswer::Error(ServiceError::InternalError));
-    }
-    if word == b"notimp".as_slice() {
-        return Ok(ScriptAnswer::Error(ServiceError::NotImplemented));
-    }
-    if word == b"refused".as_slice() {
-        return Ok(ScriptAnswer::Error(ServiceError::Refused));
-    }
-    reply(word)
+    Ok(ScriptAnswer::Reply(reply(word)?))
 }

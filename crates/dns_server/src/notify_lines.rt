@@ -4,7 +4,8 @@ ghost use Rattle.std.specs.Prelude.{◌≡◌, codes};
 ghost use Rattle.std.specs.List.{list_all};
 ghost use Rattle.std.specs.Str.{bytes_eq};
 ghost use Rattle.dns_trace.specs.Reading.{GivesLine};
-ghost use Rattle.dns_server.specs.Script.{notify_line, verdict_word, words_between};
+ghost use Rattle.dns_server.specs.Script.{notify_line, notify_of, verdict_word, words_between};
+ghost use Rattle.dns_server.specs.ScriptReads.{TakesLine};
 
 use crate::notify_rule::NotifyRule;
 use crate::script::Script;
@@ -30,6 +31,7 @@ fn verdict(word: &[u8]) -> Result<Result<(), NotifyError>, Reason>
 }
 
 /// Whether the words between the name and the last one are `pend`.
+#[tactic(auto, using(crate::proofs::Between::between_end))]
 fn all_pend(words: &Words) -> bool
     ensures { result ≡ list_all (λ w. bytes_eq w (codes "pend")) (words_between words.now) }
 {
@@ -41,12 +43,12 @@ fn all_pend(words: &Words) -> bool
     true
 }
 
-/// A line `notify NAME pend .. ok|notauth|other`.
-#[tactic(auto, unfolding(crate::specs::Script::notify_line))]
-pub fn read_notify(alloc: Global, script: Script, words: &Words) -> Result<Script, LineError>
-    ensures { GivesLine (λ s. s) result (notify_line script words.now) }
+/// The verdict of a line `notify NAME pend .. ok|notauth|other`.
+#[tactic(auto, unfolding(crate::specs::Script::notify_of))]
+fn notify_of(alloc: Global, words: &Words) -> Result<NotifyRule, LineError>
+    ensures { GivesLine (λ r. r) result (notify_of words.now) }
 {
-    if !script.events().is_empty() || words.len() < 3 {
+    if words.len() < 3 {
         return Err(LineError::Refused(Reason::Unbuilt));
     }
     let apex = name(alloc, words.word(1))?;
@@ -55,11 +57,22 @@ pub fn read_notify(alloc: Global, script: Script, words: &Words) -> Result<Scrip
     }
     let verdict = verdict(words.word(words.len() - 1))?;
     let pends = words.len() - 3;
-    let mut script = script;
-    script.push_zone(NotifyRule {
+    Ok(NotifyRule {
         apex,
         pends,
         verdict,
-    })?;
-    Ok(script)
+    })
+}
+
+/// A line `notify NAME pend .. ok|notauth|other`.
+#[tactic(auto, unfolding(crate::specs::Script::notify_line))]
+pub fn read_notify(alloc: Global, script: &mut Script, words: &Words) -> Result<(), LineError>
+    ensures { TakesLine result script.new (notify_line script.old words.now) }
+{
+    if !script.events().is_empty() {
+        return Err(LineError::Refused(Reason::Unbuilt));
+    }
+    let zone = notify_of(alloc, words)?;
+    script.push_zone(zone)?;
+    Ok(())
 }

@@ -60,7 +60,7 @@ impl Status {
 }
 
 /// What the clients of a script are sent.
-#[tactic(auto, unfolding(crate::specs::Runs::plan_outputs))]
+#[tactic(auto, using(crate::proofs::Quiet::rules_are_quiet), unfolding(crate::specs::Runs::plan_outputs))]
 fn outputs(alloc: Global, script: Script) -> Result<Vec<Output>, OutOfMemory>
     ensures { IfOk result (λ v. v.items ≡ plan_outputs script) }
 {

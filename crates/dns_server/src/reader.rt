@@ -1,9 +1,8 @@
 //! The reader of a script.
 
 ghost use Rattle.std.specs.Prelude.{◌≡◌, ◌<◌, ◌^◌, [], drop, length};
-ghost use Rattle.dns_trace.specs.Reading.{GivesLine};
-ghost use Rattle.dns_server.specs.Script.{after_line, next_event_line, script, set_line};
-ghost use Rattle.dns_server.specs.ScriptReads.{ReadsScript};
+ghost use Rattle.dns_server.specs.Script.{after_line, after_words, layer_line, next_event_line, script, server_line};
+ghost use Rattle.dns_server.specs.ScriptReads.{ReadsScript, TakesLine};
 
 use crate::notify_lines::read_notify;
 use crate::rule_lines::read_rule;
@@ -16,19 +15,33 @@ use std::alloc::Global;
 
 /// The line of an event.
 #[tactic(auto, unfolding(crate::specs::Script::next_event_line))]
-fn event(alloc: Global, script: Script, words: &Words) -> Result<Script, LineError>
-    ensures { GivesLine (λ s. s) result (next_event_line script words.now) }
+fn event(alloc: Global, script: &mut Script, words: &Words) -> Result<(), LineError>
+    ensures { TakesLine result script.new (next_event_line script.old words.now) }
 {
-    let mut script = script;
     let event = read_event(alloc, words)?;
     script.push_event(event)?;
-    Ok(script)
+    Ok(())
 }
 
-/// A line that sets something, or the line of an event.
-#[tactic(auto, unfolding(crate::specs::Script::set_line))]
-fn set(alloc: Global, script: Script, words: &Words) -> Result<Script, LineError>
-    ensures { GivesLine (λ s. s) result (set_line script words.now) }
+/// A line that configures a server, or the line of an event.
+#[tactic(auto, unfolding(crate::specs::Script::server_line))]
+fn server_line(alloc: Global, script: &mut Script, words: &Words) -> Result<(), LineError>
+    ensures { TakesLine result script.new (server_line script.old words.now) }
+{
+    let name = words.word(0);
+    if name == b"dgram".as_slice() {
+        return read_dgram_line(script, words);
+    }
+    if name == b"stream".as_slice() {
+        return read_stream_line(script, words);
+    }
+    event(alloc, script, words)
+}
+
+/// A line that sets something for the layers, or one of the others.
+#[tactic(auto, unfolding(crate::specs::Script::layer_line))]
+fn layer_line(alloc: Global, script: &mut Script, words: &Words) -> Result<(), LineError>
+    ensures { TakesLine result script.new (layer_line script.old words.now) }
 {
     let name = words.word(0);
     if name == b"strict".as_slice() {
@@ -43,31 +56,32 @@ fn set(alloc: Global, script: Script, words: &Words) -> Result<Script, LineError
     if name == b"deny".as_slice() {
         return read_deny(alloc, script, words);
     }
-    if name == b"dgram".as_slice() {
-        return read_dgram_line(script, words);
+    server_line(alloc, script, words)
+}
+
+/// What a script says with the line of these words more.
+#[tactic(auto, unfolding(crate::specs::Script::after_words))]
+fn after_words(alloc: Global, script: &mut Script, words: &Words) -> Result<(), LineError>
+    ensures { TakesLine result script.new (after_words script.old words.now) }
+{
+    if says_nothing(words) {
+        return Ok(());
     }
-    if name == b"stream".as_slice() {
-        return read_stream_line(script, words);
+    if words.word(0) == b"rule".as_slice() {
+        return read_rule(alloc, script, words);
     }
-    event(alloc, script, words)
+    if words.word(0) == b"notify".as_slice() {
+        return read_notify(alloc, script, words);
+    }
+    layer_line(alloc, script, words)
 }
 
 /// What a script says with one line more.
-#[tactic(auto, unfolding(crate::specs::Script::after_line))]
-fn after(alloc: Global, script: Script, line: &[u8]) -> Result<Script, LineError>
-    ensures { GivesLine (λ s. s) result (after_line script line.now) }
+fn after(alloc: Global, script: &mut Script, line: &[u8]) -> Result<(), LineError>
+    ensures { TakesLine result script.new (after_line script.old line.now) }
 {
     let words = Words::of(alloc, line)?;
-    if says_nothing(&words) {
-        return Ok(script);
-    }
-    if words.word(0) == b"rule".as_slice() {
-        return read_rule(alloc, script, &words);
-    }
-    if words.word(0) == b"notify".as_slice() {
-        return read_notify(alloc, script, &words);
-    }
-    set(alloc, script, &words)
+    after_words(alloc, script, &words)
 }
 
 /// What a text says, or its first bad line and the reason.
@@ -81,8 +95,8 @@ pub fn read_script(alloc: Global, text: &[u8]) -> Result<Script, ScriptError>
     let mut line = 1u64;
     while !rest.is_empty() {
         let (first, more) = split_line(rest);
-        match after(alloc, all, first) {
-            Ok(next) => all = next,
+        match after(alloc, &mut all, first) {
+            Ok(()) => {}
             Err(LineError::OutOfMemory) => return Err(ScriptError::OutOfMemory),
             Err(LineError::Refused(reason)) => return Err(ScriptError::Refused { line, reason }),
         }

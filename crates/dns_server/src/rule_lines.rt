@@ -3,7 +3,8 @@
 ghost use Rattle.std.specs.Prelude.{◌≡◌, [], drop, option_map};
 ghost use Rattle.dns_trace.specs.Reading.{GivesLine};
 ghost use Rattle.dns_server.specs.AnswerWords.{answers_after};
-ghost use Rattle.dns_server.specs.Script.{rule_line, rule_name};
+ghost use Rattle.dns_server.specs.Script.{rule_line, rule_name, rule_of};
+ghost use Rattle.dns_server.specs.ScriptReads.{TakesLine};
 
 use crate::answer_words::answer;
 use crate::rule::{Rule, ScriptAnswers};
@@ -35,17 +36,28 @@ fn rule_name(alloc: Global, word: &[u8]) -> Result<Option<Name>, LineError>
     Ok(Some(name(alloc, word)?))
 }
 
-/// A line `rule NAME|* ANSWER ..`.
-#[tactic(auto, unfolding(crate::specs::Script::rule_line))]
-pub fn read_rule(alloc: Global, script: Script, words: &Words) -> Result<Script, LineError>
-    ensures { GivesLine (λ s. s) result (rule_line script words.now) }
+/// The rule of a line `rule NAME|* ANSWER ..`.
+#[tactic(auto, unfolding(crate::specs::Script::rule_of))]
+fn rule_of(alloc: Global, words: &Words) -> Result<Rule, LineError>
+    ensures { GivesLine (λ r. r) result (rule_of words.now) }
 {
-    if !script.events().is_empty() || words.len() < 3 {
+    if words.len() < 3 {
         return Err(LineError::Refused(Reason::Unbuilt));
     }
     let name = rule_name(alloc, words.word(1))?;
     let answers = answers(alloc, words)?;
-    let mut script = script;
-    script.push_rule(Rule { name, answers })?;
-    Ok(script)
+    Ok(Rule { name, answers })
+}
+
+/// A line `rule NAME|* ANSWER ..`.
+#[tactic(auto, unfolding(crate::specs::Script::rule_line))]
+pub fn read_rule(alloc: Global, script: &mut Script, words: &Words) -> Result<(), LineError>
+    ensures { TakesLine result script.new (rule_line script.old words.now) }
+{
+    if !script.events().is_empty() {
+        return Err(LineError::Refused(Reason::Unbuilt));
+    }
+    let rule = rule_of(alloc, words)?;
+    script.push_rule(rule)?;
+    Ok(())
 }

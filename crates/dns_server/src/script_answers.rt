@@ -1,17 +1,17 @@
 //! The answers of a script, made for a message.
 
-ghost use Rattle.std.specs.Prelude.{◌≡◌, IfOk, IfSome, MatchOption, Some, true, false, option_map};
+ghost use Rattle.std.specs.Prelude.{◌≡◌, IfOk, MatchOption, true, false};
 ghost use Rattle.dns_base.specs.Built.{with_answer};
 ghost use Rattle.dns_base.specs.Records.{IsLawful, record_of};
 ghost use Rattle.dns_base.specs.Replies.{answer_to, have_room};
 ghost use Rattle.dns_opt.specs.Drafts.{with_opt, with_opt_record};
-ghost use Rattle.dns_server.specs.Played.{PutsPadding, blank_reply, fill_record, fill_reply, given, new_builder, opt_reply, padded_draft, played_reply, replied_within};
+ghost use Rattle.dns_server.specs.Played.{PutsPadding, blank_reply, fill_record, fill_reply, given, new_builder, opt_reply, padded_draft, played_reply, replied_within, scripted};
 
-use crate::rule::ScriptAnswer;
+use crate::rule::{ScriptAnswer, ScriptReply};
 use dns_base::{
     AdditionalBuilder, AnswerBuilder, Message, MessageBuilder, PushError, Record, RecordData,
 };
-use dns_name::{BuildDataError, Class, Name, OutOfMemory, Rcode, Rtype, Ttl};
+use dns_name::{BuildDataError, Class, Name, Octets, OutOfMemory, Rcode, Rtype, Ttl};
 use dns_opt::{BuildOpt, OptBuilder};
 use dns_service::{CallResult, Polled, ServiceError, ServiceResult};
 use std::alloc::Global;
@@ -27,12 +27,25 @@ pub fn make_answer(
     let item = match answer {
         ScriptAnswer::Pend => return Ok(Polled::Pending),
         ScriptAnswer::Error(error) => Err(error),
-        ScriptAnswer::Rcode(rcode) => make_reply(alloc, message, rcode)?,
-        ScriptAnswer::Blank(rcode) => make_blank(alloc, rcode)?,
-        ScriptAnswer::Fill(len) => make_filled(alloc, message, len)?,
-        ScriptAnswer::Opt(len) => make_padded(alloc, message, len)?,
+        ScriptAnswer::Reply(reply) => make_reply(alloc, message, reply)?,
     };
     Ok(Polled::Ready(Some(item)))
+}
+
+/// A reply to a message.
+fn make_reply(
+    alloc: Global,
+    message: &Message,
+    reply: ScriptReply,
+) -> Result<ServiceResult, OutOfMemory>
+    ensures { IfOk result (λ i. i ≡ scripted message.now reply) }
+{
+    match reply {
+        ScriptReply::Rcode(rcode) => make_bare(alloc, message, rcode),
+        ScriptReply::Blank(rcode) => make_blank(alloc, rcode),
+        ScriptReply::Fill(len) => make_filled(alloc, message, len),
+        ScriptReply::Opt(len) => make_padded(alloc, message, len),
+    }
 }
 
 /// An answer to a message is begun; none where there is no room for the questions.
@@ -52,7 +65,7 @@ fn begin(
 }
 
 /// A reply with this response code, or the error `servfail` where the questions have no room.
-fn make_reply(alloc: Global, message: &Message, rcode: Rcode) -> Result<ServiceResult, OutOfMemory>
+fn make_bare(alloc: Global, message: &Message, rcode: Rcode) -> Result<ServiceResult, OutOfMemory>
     ensures { IfOk result (λ i. i ≡ played_reply message.now rcode) }
 {
     match begin(alloc, message, rcode)? {
@@ -76,21 +89,20 @@ fn make_blank(alloc: Global, rcode: Rcode) -> Result<ServiceResult, OutOfMemory>
 fn make_filled(alloc: Global, message: &Message, len: u16) -> Result<ServiceResult, OutOfMemory>
     ensures { IfOk result (λ i. i ≡ fill_reply message.now len) }
 {
+    let record = zeros(alloc, len)?;
     match begin(alloc, message, Rcode::NOERROR)? {
-        Some(reply) => fill(alloc, reply, len),
+        Some(reply) => fill(alloc, reply, &record),
         None => Ok(Err(ServiceError::InternalError)),
     }
 }
 
-/// What is begun with an answer of so many zeros more.
-fn fill(alloc: Global, reply: AnswerBuilder, len: u16) -> Result<ServiceResult, OutOfMemory>
-    ensures { IfOk result (λ i. i ≡ replied_within (with_answer reply (fill_record len)) (with_answer reply (fill_record len))) }
+/// What is begun with an answer more.
+fn fill(alloc: Global, reply: AnswerBuilder, record: &Record) -> Result<ServiceResult, OutOfMemory>
+    requires { IsLawful record.now.rdata }
+    ensures { IfOk result (λ i. i ≡ replied_within (with_answer reply (record_of record.now)) (with_answer reply (record_of record.now))) }
 {
     let mut reply = reply;
-    let Some(record) = zeros(alloc, len)? else {
-        return Ok(Err(ServiceError::InternalError));
-    };
-    match reply.push(alloc, &record) {
+    match reply.push(alloc, record) {
         Ok(()) => Ok(Ok(CallResult::new(reply.additional()))),
         Err(PushError::ShortBuf) => Ok(Err(ServiceError::InternalError)),
         Err(PushError::OutOfMemory) => Err(OutOfMemory),
@@ -98,21 +110,19 @@ fn fill(alloc: Global, reply: AnswerBuilder, len: u16) -> Result<ServiceResult, 
 }
 
 /// The record of so many zeros.
-fn zeros(alloc: Global, len: u16) -> Result<Option<Record>, OutOfMemory>
-    ensures value { IfOk result (λ o. option_map record_of o ≡ Some (fill_record len)) }
-    ensures lawful { IfOk result (λ o. IfSome o (λ r. IsLawful r.rdata)) }
+fn zeros(alloc: Global, len: u16) -> Result<Record, OutOfMemory>
+    ensures value { IfOk result (λ r. record_of r ≡ fill_record len) }
+    ensures lawful { IfOk result (λ r. IsLawful r.rdata) }
 {
-    let octets = vec![in alloc; 0u8; len as usize]?;
-    let Some(rdata) = RecordData::unknown(Rtype::from_int(65280), octets) else {
-        return Ok(None);
-    };
+    let octets = Octets::from_vec(vec![in alloc; 0u8; len as usize]?);
     let owner = Name::root(alloc)?;
-    Ok(Some(Record {
+    let rtype = Rtype::from_int(65280);
+    Ok(Record {
         owner,
         class: Class::IN,
         ttl: Ttl::from_secs(0),
-        rdata,
-    }))
+        rdata: RecordData::Unknown { rtype, octets },
+    })
 }
 
 /// A reply with an OPT record of so many zeros, or the error `servfail` where something has no room.

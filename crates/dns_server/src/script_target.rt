@@ -47,7 +47,7 @@ fn verdict_of(rules: &[NotifyRule], apex: &Name) -> ScriptVerdict
     ensures { pending_first result.pends result.verdict ≡ zone_verdict rules.now apex.now }
 {
     for rule in rules {
-        if rule.apex.name_eq(&apex.for_ref()) {
+        if rule.apex == *apex {
             return ScriptVerdict {
                 pends: rule.pends,
                 verdict: rule.verdict,

@@ -1,9 +1,10 @@
-//! Rows of the lines of events and of the stream server's configuration.
+//! Rows of the lines of events and of the servers' configurations.
 
 use crate::texts::next_text;
+use crate::value_rows::say_size;
 use dns_name::SocketAddr;
 use dns_service::{Event, EventKind, StreamConfig};
-use dns_trace::{LineError, Words, read_event, read_stream};
+use dns_trace::{LineError, Words, read_dgram, read_event, read_stream};
 use rows_table::{Calls, Row, RowError};
 use std::alloc::Global;
 
@@ -15,6 +16,7 @@ impl Calls for EventRows {
         match call {
             "read_event" => event(row),
             "read_stream" => stream(row),
+            "read_dgram" => dgram(row),
             _ => Err(RowError::NoSuchCall),
         }
     }
@@ -81,6 +83,20 @@ fn stream(row: &mut Row<'_>) -> Result<(), RowError> {
     let words = Words::of(row.alloc(), &line)?;
     match read_stream(&words) {
         Ok(stream) => stream_said(row, &stream),
+        Err(_) => row.say("refused"),
+    }
+    Ok(())
+}
+
+/// The largest response, and how long a write may take.
+fn dgram(row: &mut Row<'_>) -> Result<(), RowError> {
+    let line = next_text(row);
+    let words = Words::of(row.alloc(), &line)?;
+    match read_dgram(&words) {
+        Ok(dgram) => {
+            say_size(row, dgram.max_response_size());
+            row.show(&dgram.write_timeout());
+        }
         Err(_) => row.say("refused"),
     }
     Ok(())

@@ -84,7 +84,7 @@ fn endless(row: &mut Row<'_>) -> Result<(), RowError> {
     written(row, word, &mut Reading::new(io::repeat(0)))
 }
 
-/// How many rules and events a script has, or its first bad line.
+/// How many rules of the service and of the target, and events, a script has, or its first bad line.
 fn read_text(row: &mut Row<'_>) -> Result<(), RowError> {
     let script = next_text(row);
     if script.len() >= 67_108_864 {
@@ -92,8 +92,10 @@ fn read_text(row: &mut Row<'_>) -> Result<(), RowError> {
     }
     match read_script(row.alloc(), &script) {
         Ok(script) => {
-            row.show(&script.rules().len());
-            row.show(&script.events().len());
+            let (_, rules, zones, events) = script.into_parts();
+            row.show(&rules.as_slice().len());
+            row.show(&zones.as_slice().len());
+            row.show(&events.len());
         }
         Err(ScriptError::Refused { line, .. }) => {
             row.say("refused");

@@ -3,7 +3,8 @@
 use crate::event_rows::refused;
 use crate::texts::{next_text, say_in_brackets};
 use dns_trace::{
-    LineError, Reason, Words, addr, num, octets, port, quad, says_nothing, split_line, yes_no,
+    LineError, Reason, Words, addr, name, num, octets, port, quad, says_nothing, secret, size,
+    split_line, yes_no,
 };
 use rows_table::{Calls, Row, RowError};
 use std::fmt::Display;
@@ -36,6 +37,9 @@ fn of_line(row: &mut Row<'_>, call: &str, text: &[u8]) -> Result<(), RowError> {
 fn of_word(row: &mut Row<'_>, call: &str, text: &[u8]) -> Result<(), RowError> {
     match call {
         "octets" => octets_said(row, text),
+        "secret" => secret_said(row, text),
+        "size" => size_said(row, text),
+        "name" => line_value(row, name(row.alloc(), text)),
         "quad" => line_value(row, quad(row.alloc(), text)),
         "addr" => line_value(row, addr(row.alloc(), text)),
         "num" => value(row, num(text)),
@@ -88,5 +92,27 @@ fn octets_said(row: &mut Row<'_>, word: &[u8]) {
     match octets(row.alloc(), word) {
         Ok(octets) => row.hexadecimal(octets.as_slice()),
         Err(error) => refused(row, error),
+    }
+}
+
+fn secret_said(row: &mut Row<'_>, word: &[u8]) {
+    match secret(word) {
+        Ok(octets) => row.hexadecimal(octets.as_slice()),
+        Err(_) => row.say("refused"),
+    }
+}
+
+fn size_said(row: &mut Row<'_>, word: &[u8]) {
+    match size(word) {
+        Ok(size) => say_size(row, size),
+        Err(_) => row.say("refused"),
+    }
+}
+
+/// A size, or `none`.
+pub(crate) fn say_size(row: &mut Row<'_>, size: Option<u16>) {
+    match size {
+        Some(size) => row.show(&size),
+        None => row.say("none"),
     }
 }

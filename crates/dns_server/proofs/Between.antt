@@ -1,0 +1,18 @@
+-- The words between two places of a line.
+use Rattle.std.proofs.Common.{◌≡◌, ℕ, suc, ◌+◌, ◌-◌, ◌<◌, ◌≤◌, Bool, true, false, List, [], ◌∷◌, length, take, drop, get_or, refl, arith, drop-cons, add-one}
+use Rattle.std.specs.List.{list_all}
+use Rattle.std.specs.Prelude.{◌&&◌}
+
+-- the first of those that are left, and the others
+pub between_step : (p : List ℕ → Bool) (ws : List (List ℕ)) (i : ℕ) → i < length ws - 1
+    → list_all p (take (length ws - (i + 1)) (drop i ws)) ≡ (p (get_or ws i []) && list_all p (take (length ws - (i + 1 + 1)) (drop (i + 1) ws)))
+between_step p ws i lt =
+    let n : length ws - (i + 1) ≡ suc (length ws - (i + 1 + 1)) = omega arith in
+    let l : i < length ws = omega arith in
+    rw (n, drop-cons ws i [], add-one) refl
+
+-- none is left
+pub between_end : (p : List ℕ → Bool) (ws : List (List ℕ)) (i : ℕ) → length ws ≤ i + 1 → list_all p (take (length ws - (i + 1)) (drop i ws)) ≡ true
+between_end p ws i le =
+    let n : length ws - (i + 1) ≡ 0 = omega arith in
+    rw n refl
