@@ -1,6 +1,6 @@
 -- A cookie is checked as the definition says.
-use Rattle.std.proofs.Common.{◌≡◌, ℕ, ◌≤◌, Bool, true, false, ◌&&◌, ◌↔◌, List, take, nat_le, Option, Some, None, refl, cc}
-use Rattle.std.proofs.lemmas.Bool.Decides.{Decides-leb, same_from_decides}
+use Rattle.std.proofs.Common.{◌≡◌, ℕ, ◌≤◌, Bool, ◌&&◌, ◌↔◌, List, take, nat_le, Option, Some, None, arith}
+use Rattle.std.proofs.lemmas.Bool.Decides.{Decides-and, nat_tests, same_from_decides}
 use Rattle.std.proofs.lemmas.Slice.Eq.{bytes_eq-Decides}
 use Rattle.std.specs.Bool.{Decides, IsTrue}
 use Rattle.dns_name.specs.declared.address.IpAddr.{IpAddr}
@@ -8,10 +8,8 @@ use Rattle.dns_name.specs.declared.serial.Serial.{Serial}
 use Rattle.dns_cookie.specs.Cookies.{Checks, ChecksStandard, Cookie, HashAgrees, IsTimely, after_last_hour, hash_octets, hash_of, standard_of, timestamp_of}
 use Rattle.dns_middleware.specs.Cookies.{is_good, is_good_part}
 
-both_decide : {P Q : Type 0} (a b : Bool) → Decides a P → Decides b Q → Decides (a && b) (P × Q)
-both_decide true true f g = ((λ e. (f.0 refl, g.0 refl)), (λ p. refl))
-both_decide true false f g = ((λ e. absurd (cc)), (λ p. g.1 p.1))
-both_decide false b f g = ((λ e. absurd (cc)), (λ p. f.1 p.0))
+le_decides : (a b : ℕ) → Decides (nat_le a b) (a ≤ b)
+le_decides a b = ((λ e. grind (arith, nat_tests)), (λ h. grind (arith, nat_tests)))
 
 module _ (accepts : Serial → Bool → Type 0) (secret : List ℕ) (a : IpAddr) (now : ℕ) where
   -- a closure that accepts the timestamps that are timely
@@ -24,7 +22,7 @@ module _ (accepts : Serial → Bool → Type 0) (secret : List ℕ) (a : IpAddr)
       let t = k (record { 0 = timestamp_of s }) h.accepted h.asked in
       same_from_decides result (nat_le (after_last_hour (timestamp_of s) now) 3900 && _)
       ((λ e. (t.0 (h.verdict.0 e).0, (h.verdict.0 e).1)), (λ p. h.verdict.1 (t.1 p.0, p.1)))
-      (both_decide _ _ (Decides-leb (after_last_hour (timestamp_of s) now) 3900) (bytes_eq-Decides (hash_of s) (hash_octets secret client (take 8 s) a)))
+      (Decides-and _ _ (le_decides (after_last_hour (timestamp_of s) now) 3900) (bytes_eq-Decides (hash_of s) (hash_octets secret client (take 8 s) a)))
 
   pub good_checked : (c : Cookie) (result : Bool) → AcceptsTimely → Checks accepts secret a c result → result ≡ is_good secret a now c
   good_checked c result k h = by_part c.client (standard_of c.server) result k h
