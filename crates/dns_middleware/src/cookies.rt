@@ -3,13 +3,14 @@
 ghost use Rattle.std.specs.Prelude.{◌≡◌, ℕ, Some, None, true, IfOk, OnErr, OnOk};
 ghost use Rattle.dns_service.specs.declared.message.Request.{Request};
 ghost use Rattle.dns_service.specs.Given.{message_in};
+ghost use Rattle.dns_service.specs.Transport.{hinted};
 ghost use Rattle.dns_middleware.specs.Cookies.{cookie_own, cookies, cookies_hint, secret_where};
 
 use crate::cookie_replies::cookie_own;
 use crate::layered::{of_inner, of_own};
 use dns_base::{AdditionalBuilder, Addrs};
 use dns_name::IpAddr;
-use dns_service::{Request, Service, read_asked};
+use dns_service::{ReplyFuture, Request, Service, read_asked};
 use dns_stream::{MiddlewareStream, Now, Once, OutOfMemory};
 use std::alloc::Global;
 
@@ -115,10 +116,22 @@ where
     ) -> Result<Now<CookieStream<S, Meta>>, OutOfMemory> {
         match self.own_reply(alloc, request)? {
             Some(reply) => Ok(of_own::<S, Meta, _>(reply)),
-            None => {
-                let future = self.next.call(alloc, request)?;
-                Ok(of_inner::<S, Meta, _, _>(future))
-            }
+            None => pass(alloc, &self.next, request),
         }
     }
+}
+
+/// The inner replies to the request.
+fn pass<S: Service<Meta>, Meta>(
+    alloc: Global,
+    next: &S,
+    request: &mut Request<Meta>,
+) -> Result<Now<CookieStream<S, Meta>>, OutOfMemory>
+    requires { S.can_call next.now }
+    ensures answers { IfOk result (λ f. (k : ℕ) → ⟦<Now<CookieStream<S, Meta>> as ReplyFuture>⟧.answer f k ≡ S.answer next.now request.old k) }
+    ensures kept { OnOk result (request.new ≡ record request.old { transport = hinted (S.hint next.now request.old) request.old.transport; reserved = request.new.reserved }) }
+    ensures refused { OnErr result (request.new ≡ request.old) }
+{
+    let future = next.call(alloc, request)?;
+    Ok(of_inner::<S, Meta, _, _>(future))
 }
