@@ -1,6 +1,5 @@
 -- The layers one inside the other answer as the service in its layers does.
-use Rattle.std.proofs.Common.{◌≡◌, ◌∙◌, sym, ℕ, zero, suc, Bool, true, false, if◌then◌else◌, List, Option, Some, None, Result, Ok, Err, option_map, refl, ap, rules, arith}
-use Rattle.std.proofs.lemmas.Grind.{common_steps}
+use Rattle.std.proofs.Common.{◌≡◌, ◌∙◌, sym, ℕ, zero, suc, Bool, true, false, if◌then◌else◌, List, Option, Some, None, Result, Ok, Err, option_map, refl, ap}
 use Rattle.dns_name.specs.declared.address.IpAddr.{IpAddr}
 use Rattle.dns_base.specs.Msg.{Msg}
 use Rattle.dns_service.specs.Config.{Dgram, Stream}
@@ -76,6 +75,15 @@ module _ (strict : Bool) (secret : Option (List ℕ)) (denied : List IpAddr) (dg
   same false None e None (Some notice) svc tgt r k = refl
   same false None e None None svc tgt r k = refl
 
+  -- the hint that is left, by what each layer decides
+  same-hint : {Meta : Type 0} → (on : Bool) (m e : Option ℕ) (r : Req Meta)
+      → left_by (outer_refusal m (if on then inner_refusal e else None)) (set on) r
+      ≡ hint_by (λ q. if on then hint_by (λ p. hint_at_entry (edns_passed p)) q e else hint_at_entry q) r m
+  same-hint on (Some code) e r = refl
+  same-hint true None (Some code) r = refl
+  same-hint true None None r = refl
+  same-hint false None e r = refl
+
 wrapped-cases : {Meta : Type 0} → (s : Settings) (svc : Req Meta → ℕ → Answer) (tgt : Notice → ℕ → PolledVerdict) (r : Req Meta) (k : ℕ)
     → replies s svc tgt r k ≡ by_cases s (mandatory_refusal s.strict (asked_of r.octets)) (opt_refusal (is_stream r.transport) (asked_of r.octets).opt) (cookie_own s.cookies s.denied r) (notice_of r) svc tgt r k
 wrapped-cases s svc tgt r k = refl
@@ -99,4 +107,6 @@ nested-replies s svc tgt r k =
     ∙ nested-cases s svc tgt r k
 
 pub nested-hint : {Meta : Type 0} → (s : Settings) (r : Req Meta) → hint_left s r ≡ mandatory_hint s.strict (edns_hint s.edns) r
-nested-hint s r = grind (arith, common_steps)
+nested-hint s r =
+    let a = asked_of r.octets in
+    same-hint s.strict s.cookies s.denied s.dgram s.stream s.edns (mandatory_refusal s.strict a) (opt_refusal (is_stream r.transport) a.opt) r

@@ -46,7 +46,7 @@ fn layered(call: &str, row: &mut Row<'_>) -> Result<(), RowError> {
 }
 
 /// The item of the next word: an error by its name, the error reply to the request with a response code, or octets.
-fn item(row: &mut Row<'_>, request: &Request<()>) -> Result<ServiceResult, RowError> {
+pub(crate) fn item(row: &mut Row<'_>, request: &Request<()>) -> Result<ServiceResult, RowError> {
     let word = row.word();
     match service_error(word) {
         Some(error) => Ok(Err(error)),
@@ -139,7 +139,7 @@ fn hint_after<S: Service<()>>(
 }
 
 /// The item that a service gives at the first poll, where the second poll gives the end.
-fn only_item<S: Service<()>>(
+pub(crate) fn only_item<S: Service<()>>(
     row: &mut Row<'_>,
     service: &S,
     request: &mut Request<()>,

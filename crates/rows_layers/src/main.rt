@@ -1,9 +1,11 @@
 //! Rows over services, streams, layers and composed messages: the table on standard input is judged row by row.
 #![tactic(auto)]
 
+mod cookie_rows;
 mod error_rows;
 mod inner;
 mod layer_rows;
+mod notify_rows;
 mod reply_rows;
 mod request_rows;
 mod route_rows;
@@ -12,10 +14,14 @@ mod said;
 mod service_rows;
 mod slow;
 mod stream_rows;
+mod target;
 mod words;
+mod wrap_rows;
 
+use cookie_rows::CookieRows;
 use error_rows::ErrorRows;
 use layer_rows::LayerRows;
+use notify_rows::NotifyRows;
 use reply_rows::ReplyRows;
 use request_rows::RequestRows;
 use route_rows::RouteRows;
@@ -25,13 +31,17 @@ use service_rows::ServiceRows;
 use std::io;
 use std::process::ExitCode;
 use stream_rows::StreamRows;
+use wrap_rows::WrapRows;
 
 fn main(rt: HostRuntime) -> io::Result<ExitCode> {
     run(
         &rt,
         &(
             ((RequestRows, ServiceRows), (ErrorRows, ReplyRows)),
-            ((StreamRows, RouteRows), (RouterRows, LayerRows)),
+            (
+                ((StreamRows, RouteRows), (RouterRows, CookieRows)),
+                ((NotifyRows, WrapRows), LayerRows),
+            ),
         ),
     )
 }

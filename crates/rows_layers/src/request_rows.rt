@@ -21,14 +21,22 @@ impl Calls for RequestRows {
     }
 }
 
-/// A request from 192.0.2.1 and port 5353, at moment 5 and second 100: its transport, `udp` with a hint in octets or
-/// `stream` with an idle timeout in ms, and its message.
+/// A request from 192.0.2.1 at second 100: its transport, `udp` with a hint in octets or `stream` with an idle timeout in
+/// ms, and its message.
 pub(crate) fn request(row: &mut Row<'_>) -> Result<Request<()>, RowError> {
+    request_from(row, IpAddr::V4([192, 0, 2, 1]), 100)
+}
+
+/// The same from port 5353 of an address, at moment 5 and a second.
+pub(crate) fn request_from(
+    row: &mut Row<'_>,
+    ip: IpAddr,
+    second: u64,
+) -> Result<Request<()>, RowError> {
     let transport = transport(row)?;
     let message = message(row)?;
-    let ip = IpAddr::V4([192, 0, 2, 1]);
     let sender = SocketAddr { ip, port: 5353 };
-    Ok(Request::new(row.alloc(), sender, 5, 100, message, transport, ())?)
+    Ok(Request::new(row.alloc(), sender, 5, second, message, transport, ())?)
 }
 
 fn transport(row: &mut Row<'_>) -> Result<TransportSpecificContext, RowError> {

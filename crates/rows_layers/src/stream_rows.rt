@@ -85,7 +85,7 @@ fn feedback() -> Once {
 }
 
 /// What so many polls give.
-fn polled<S: ReplyStream>(row: &mut Row<'_>, stream: &mut S, polls: u8) {
+pub(crate) fn polled<S: ReplyStream>(row: &mut Row<'_>, stream: &mut S, polls: u8) {
     for _ in 0..polls {
         poll_said(row, stream.poll_next(row.alloc()));
     }

@@ -1,0 +1,54 @@
+//! Rows of the NOTIFY layer: a request through it to a service that answers at once.
+
+use crate::inner::{AsPlanned, planned};
+use crate::layer_rows::item;
+use crate::request_rows::request;
+use crate::stream_rows::polled;
+use crate::target::Target;
+use dns_middleware::NotifyMiddlewareSvc;
+use dns_service::{Polled, ReplyFuture, Request, Service, service_fn};
+use rows_table::{Calls, Row, RowError};
+
+/// The NOTIFY layer.
+pub(crate) struct NotifyRows;
+
+impl Calls for NotifyRows {
+    fn answer(&self, call: &str, row: &mut Row<'_>) -> Result<(), RowError> {
+        match call {
+            "notify" => notified(row),
+            _ => Err(RowError::NoSuchCall),
+        }
+    }
+}
+
+/// So many polls of a request, with a target, to a service that answers with the item behind it.
+fn notified(row: &mut Row<'_>) -> Result<(), RowError> {
+    let polls = row.number::<u8>();
+    let target = Target::next(row)?;
+    let mut request = request(row)?;
+    let item = item(row, &request)?;
+    let service = service_fn::<AsPlanned, _, _>(planned, item);
+    some_polls(
+        row,
+        &NotifyMiddlewareSvc::new(service, target),
+        &mut request,
+        polls,
+    )
+}
+
+/// What so many polls of a service's stream give to a request.
+pub(crate) fn some_polls<S: Service<()>>(
+    row: &mut Row<'_>,
+    service: &S,
+    request: &mut Request<()>,
+    polls: u8,
+) -> Result<(), RowError>
+    requires { S.can_call service.now }
+{
+    let mut future = service.call(row.alloc(), request)?;
+    match future.poll(row.alloc())? {
+        Polled::Ready(mut stream) => polled(row, &mut stream, polls),
+        Polled::Pending => row.say("no stream"),
+    }
+    Ok(())
+}

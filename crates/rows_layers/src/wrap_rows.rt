@@ -1,0 +1,68 @@
+//! Rows of a service in all layers, which are set as the row says.
+
+use crate::inner::{AsPlanned, planned};
+use crate::layer_rows::item;
+use crate::notify_rows::some_polls;
+use crate::request_rows::{hint_said, request};
+use crate::target::Target;
+use dns_middleware::{Settings, wrap};
+use dns_service::{Request, Service, service_fn};
+use rows_table::{Calls, Row, RowError, array_of};
+
+/// A service in its layers.
+pub(crate) struct WrapRows;
+
+impl Calls for WrapRows {
+    fn answer(&self, call: &str, row: &mut Row<'_>) -> Result<(), RowError> {
+        match call {
+            "wrap" => wrapped(row),
+            _ => Err(RowError::NoSuchCall),
+        }
+    }
+}
+
+/// Settings, so many polls of a request, with a target, to a service that answers with the item behind it; and the hint
+/// that the request has after the call.
+fn wrapped(row: &mut Row<'_>) -> Result<(), RowError> {
+    let settings = settings(row)?;
+    let polls = row.number::<u8>();
+    let target = Target::next(row)?;
+    let mut request = request(row)?;
+    let item = item(row, &request)?;
+    let service = service_fn::<AsPlanned, _, _>(planned, item);
+    let service = wrap(row.alloc(), &settings, service, target)?;
+    some_polls(row, &service, &mut request, polls)?;
+    row.close(", hint");
+    hint_said(row, request.transport_ctx());
+    Ok(())
+}
+
+/// The settings of the next words: `strict` or `relaxed`, `edns` or `plain`, and the secret of cookies or `-`.
+fn settings(row: &mut Row<'_>) -> Result<Settings, RowError> {
+    let mut settings = Settings::new(row.alloc());
+    settings.strict = either(row, "strict", "relaxed")?;
+    settings.edns = either(row, "edns", "plain")?;
+    settings.cookies = secret(row.word())?;
+    Ok(settings)
+}
+
+fn secret(word: &str) -> Result<Option<[u8; 16]>, RowError> {
+    if word == "-" {
+        Ok(None)
+    } else {
+        Ok(Some(array_of(word)?))
+    }
+}
+
+/// Whether the next word is the first of two, and not the second.
+fn either(row: &mut Row<'_>, first: &str, second: &str) -> Result<bool, RowError> {
+    let word = row.word();
+    if word == first {
+        return Ok(true);
+    }
+    if word == second {
+        Ok(false)
+    } else {
+        Err(RowError::OutOfForm)
+    }
+}
