@@ -1,10 +1,12 @@
 -- What the service in its layers answers, by what a call finds and makes on its way.
 use Rattle.std.proofs.Common.{◌≡◌, ◌∙◌, sym, ℕ, List, Option, Some, None, option_map, refl, ap}
+use Rattle.dns_base.specs.Built.{Built}
 use Rattle.dns_base.specs.Msg.{Msg}
 use Rattle.dns_service.specs.declared.asked.Asked.{Asked}
 use Rattle.dns_service.specs.declared.message.TransportSpecificContext.{TransportSpecificContext}
 use Rattle.dns_service.specs.Answer.{Answer, mapped}
 use Rattle.dns_service.specs.Asked.{asked_of}
+use Rattle.dns_service.specs.Given.{message_in}
 use Rattle.dns_service.specs.Req.{Req}
 use Rattle.dns_service.specs.Transport.{hint_of, limit}
 use Rattle.dns_middleware.specs.declared.notice.Notice.{Notice}
@@ -84,30 +86,34 @@ own-answer s svc tgt r k reply (Some m) x o e =
     let is : reply ≡ wrap_by (rule_for s r (hint_of (passed s r).transport)) m = cc in
     ap (λ (y : Msg). own_reply y k) is ∙ not-refused s svc tgt r k (Some m) (notice_of r) x o refl
 
-pub cookie-answer : {Meta : Type 0} → (s : Settings) (svc : Req Meta → ℕ → Answer) (tgt : Notice → ℕ → PolledVerdict) (r : Req Meta) (k : ℕ) (reply : Msg) (post : WrapPost)
-    → None ≡ refusal_of s r → post ≡ rule_for s r (hint_of (passed s r).transport) → Some reply ≡ option_map (wrap_by post) (cookie_own s.cookies s.denied r) → own_reply reply k ≡ replies s svc tgt r k
-cookie-answer s svc tgt r k reply post x p e =
-    own-answer s svc tgt r k reply (cookie_own s.cookies s.denied r) x refl (e ∙ ap (λ (q : WrapPost). option_map (wrap_by q) (cookie_own s.cookies s.denied r)) p)
+pub cookie-answer : {Meta : Type 0} → (s : Settings) (svc : Req Meta → ℕ → Answer) (tgt : Notice → ℕ → PolledVerdict) (r : Req Meta) (k : ℕ) (found : Option Built) (reply : Built) (post : WrapPost)
+    → None ≡ refusal_of s r → post ≡ rule_for s r (hint_of (passed s r).transport) → message_in found ≡ option_map (wrap_by post) (cookie_own s.cookies s.denied r) → found ≡ Some reply → own_reply reply.message k ≡ replies s svc tgt r k
+cookie-answer s svc tgt r k found reply post x p e is =
+    own-answer s svc tgt r k reply.message (cookie_own s.cookies s.denied r) x refl
+        (sym (ap message_in is) ∙ e ∙ ap (λ (q : WrapPost). option_map (wrap_by q) (cookie_own s.cookies s.denied r)) p)
 
 -- it has none
-pub no-own : (f : Msg → Msg) (own : Option Msg) → None ≡ option_map f own → None ≡ own
-no-own f None e = refl
-no-own f (Some m) e = absurd (cc)
+no-message : (f : Msg → Msg) (own : Option Msg) → None ≡ option_map f own → None ≡ own
+no-message f None e = refl
+no-message f (Some m) e = absurd (cc)
+
+pub no-own : (f : Msg → Msg) (own : Option Msg) (found : Option Built) → message_in found ≡ option_map f own → found ≡ None → None ≡ own
+no-own f own found e is = no-message f own (sym (ap message_in is) ∙ e)
 
 -- a notice that the target is asked
-pub notice-answer : {Meta : Type 0} → (s : Settings) (svc : Req Meta → ℕ → Answer) (tgt : Notice → ℕ → PolledVerdict) (r : Req Meta) (k : ℕ) (notice : Notice) (post : WrapPost) (asked : Answer)
-    → None ≡ refusal_of s r → None ≡ cookie_own s.cookies s.denied r → Some notice ≡ notice_of r → post ≡ rule_for s r (hint_of (passed s r).transport) → asked ≡ asking r.octets (tgt notice) k
+pub notice-answer : {Meta : Type 0} → (s : Settings) (svc : Req Meta → ℕ → Answer) (tgt : Notice → ℕ → PolledVerdict) (r : Req Meta) (k : ℕ) (found : Option Notice) (notice : Notice) (post : WrapPost) (asked : Answer)
+    → None ≡ refusal_of s r → None ≡ cookie_own s.cookies s.denied r → found ≡ notice_of r → found ≡ Some notice → post ≡ rule_for s r (hint_of (passed s r).transport) → asked ≡ asking r.octets (tgt notice) k
     → mapped (rewritten (wrap_by post)) asked ≡ replies s svc tgt r k
-notice-answer s svc tgt r k notice post asked x o n p a =
+notice-answer s svc tgt r k found notice post asked x o n is p a =
     ap (λ (q : WrapPost). mapped (rewritten (wrap_by q)) asked) p
     ∙ ap (mapped (rewritten (wrap_by (rule_for s r (hint_of (passed s r).transport))))) a
-    ∙ not-refused s svc tgt r k None (Some notice) x o n
+    ∙ not-refused s svc tgt r k None (Some notice) x o (sym is ∙ n)
 
 -- a request that is passed to the given service
-pub passed-answer : {Meta : Type 0} → (s : Settings) (svc : Req Meta → ℕ → Answer) (tgt : Notice → ℕ → PolledVerdict) (r : Req Meta) (k : ℕ) (post : WrapPost) (given : Answer)
-    → None ≡ refusal_of s r → None ≡ cookie_own s.cookies s.denied r → None ≡ notice_of r → post ≡ rule_for s r (hint_of (passed s r).transport) → given ≡ svc (passed s r) k
+pub passed-answer : {Meta : Type 0} → (s : Settings) (svc : Req Meta → ℕ → Answer) (tgt : Notice → ℕ → PolledVerdict) (r : Req Meta) (k : ℕ) (found : Option Notice) (post : WrapPost) (given : Answer)
+    → None ≡ refusal_of s r → None ≡ cookie_own s.cookies s.denied r → found ≡ notice_of r → found ≡ None → post ≡ rule_for s r (hint_of (passed s r).transport) → given ≡ svc (passed s r) k
     → mapped (rewritten (wrap_by post)) given ≡ replies s svc tgt r k
-passed-answer s svc tgt r k post given x o n p a =
+passed-answer s svc tgt r k found post given x o n is p a =
     ap (λ (q : WrapPost). mapped (rewritten (wrap_by q)) given) p
     ∙ ap (mapped (rewritten (wrap_by (rule_for s r (hint_of (passed s r).transport))))) a
-    ∙ not-refused s svc tgt r k None None x o n
+    ∙ not-refused s svc tgt r k None None x o (sym is ∙ n)

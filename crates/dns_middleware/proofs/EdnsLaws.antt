@@ -1,11 +1,16 @@
 -- The hint of a request that a service inside was called with, and how it is put back.
-use Rattle.std.proofs.Common.{◌≡◌, ℕ, Option, Some, None, refl, ap, ◌∙◌}
+use Rattle.std.proofs.Common.{◌≡◌, ℕ, Option, Some, None, Result, Ok, Err, IfOk, true, refl, ap, sym, ◌∙◌}
 use Rattle.dns_service.specs.declared.message.TransportSpecificContext.{TransportSpecificContext}
 use Rattle.dns_service.specs.declared.message.TransportSpecificContext.TheVariants.{Udp, NonUdp}
-use Rattle.dns_service.specs.Answer.{Answer, Item, mapped}
+use Rattle.dns_service.specs.declared.asked.Asked.{Asked}
+use Rattle.dns_service.specs.Answer.{Answer, mapped}
+use Rattle.dns_service.specs.Asked.{asked_of, client_size}
+use Rattle.dns_service.specs.ErrorReply.{error_reply}
+use Rattle.dns_service.specs.Req.{Req}
 use Rattle.dns_service.specs.Transport.{hint_of, hinted}
-use Rattle.dns_stream.specs.Streams.{each_mapped}
-use Rattle.dns_middleware.specs.Edns.{negotiated, transport_by}
+use Rattle.dns_middleware.specs.declared.edns_post.EdnsPost.{EdnsPost}
+use Rattle.dns_middleware.specs.Edns.{edns, edns_by, edns_by_code, edns_passed, edns_post, edns_refusal, edns_rule, negotiated, passed_by, transport_by}
+use Rattle.dns_middleware.specs.Rewritten.{own_reply, rewritten}
 
 -- a hint that is set again is as it was
 pub restored : (h : Option ℕ) (t : TransportSpecificContext) → hinted (hint_of t) (hinted h t) ≡ hinted (hint_of t) t
@@ -39,6 +44,23 @@ put_back None (NonUdp timeout) = refl
 put_back (Some size) (Udp hint) = refl
 put_back (Some size) (NonUdp timeout) = refl
 
--- the replies of the service inside, each mapped
-pub each_passed : (f : Item → Item) (inner future answer : ℕ → Answer) → ((k : ℕ) → future k ≡ inner k) → answer ≡ each_mapped f future → (k : ℕ) → answer k ≡ mapped f (inner k)
-each_passed f inner future answer same is k = ap (λ (a : ℕ → Answer). a k) is ∙ ap (mapped f) (same k)
+-- the inner replies to the request as it is passed on, rewritten by the rule for what was read of it
+pub passed_on : {F E Meta : Type 0} (result : Result F E) (answer : F → ℕ → Answer) (inner : Req Meta → ℕ → Answer) (r : Req Meta) (a : Asked) (rule : EdnsPost) (size : Option ℕ)
+    → a ≡ asked_of r.octets
+    → rule ≡ edns_rule r.transport a
+    → size ≡ client_size a.opt
+    → IfOk result (λ f. (k : ℕ) → answer f k ≡ mapped (rewritten (edns_by rule)) (inner (passed_by size r) k))
+    → IfOk result (λ f. (k : ℕ) → answer f k ≡ mapped (rewritten (edns_post r)) (inner (edns_passed r) k))
+passed_on (Err error) answer inner r a rule size asked is sized h = tt
+passed_on (Ok f) answer inner r a rule size asked is sized h = λ k.
+    let p : rule ≡ edns_rule r.transport (asked_of r.octets) = is ∙ ap (edns_rule r.transport) asked in
+    let s : size ≡ client_size (asked_of r.octets).opt = sized ∙ ap (λ (x : Asked). client_size x.opt) asked in
+    h k ∙ (ap (λ (x : Option ℕ). mapped (rewritten (edns_by rule)) (inner (passed_by x r) k)) s ∙ ap (λ (x : EdnsPost). mapped (rewritten (edns_by x)) (inner (edns_passed r) k)) p)
+
+-- a request that is refused has the layer's own reply
+pub own_answers : {F E Meta : Type 0} (result : Result F E) (answer : F → ℕ → Answer) (inner : Req Meta → ℕ → Answer) (r : Req Meta) (code : ℕ)
+    → edns_refusal r ≡ Some code
+    → IfOk result (λ f. (k : ℕ) → answer f k ≡ own_reply (edns_post r (error_reply r.octets code)) k)
+    → IfOk result (λ f. (k : ℕ) → answer f k ≡ edns true inner r k)
+own_answers (Ok f) answer inner r code e h = λ k. h k ∙ ap (edns_by_code inner r k) (sym e)
+own_answers (Err error) answer inner r code e h = tt

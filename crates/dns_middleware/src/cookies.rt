@@ -1,13 +1,16 @@
 //! The cookie layer (RFC 7873).
 
 ghost use Rattle.std.specs.Prelude.{◌≡◌, ℕ, Some, None, true, IfOk, OnErr, OnOk};
-ghost use Rattle.dns_middleware.specs.Cookies.{cookies, cookies_hint, secret_where};
+ghost use Rattle.dns_service.specs.declared.message.Request.{Request};
+ghost use Rattle.dns_service.specs.Given.{message_in};
+ghost use Rattle.dns_service.specs.Transport.{hinted};
+ghost use Rattle.dns_middleware.specs.Cookies.{cookie_own, cookies, cookies_hint, secret_where};
 
 use crate::cookie_replies::cookie_own;
-use crate::layered::alone;
-use dns_base::Addrs;
+use crate::layered::{of_inner, of_own};
+use dns_base::{AdditionalBuilder, Addrs};
 use dns_name::IpAddr;
-use dns_service::{Request, Service, read_asked};
+use dns_service::{ReplyFuture, Request, Service, read_asked};
 use dns_stream::{MiddlewareStream, Now, Once, OutOfMemory};
 use std::alloc::Global;
 
@@ -67,6 +70,19 @@ impl<S> CookiesMiddlewareSvc<S> {
         }
     }
 
+    /// The layer's own reply to a request, where it has one.
+    fn own_reply<Meta>(
+        &self,
+        alloc: Global,
+        request: &Request<Meta>,
+    ) -> Result<Option<AdditionalBuilder>, OutOfMemory>
+        ensures { IfOk result (λ own. message_in own ≡ cookie_own (secret_where self.now.enabled self.now.secret) self.now.denied request.now) }
+    {
+        let asked = read_asked(request.message());
+        let secret = self.secret();
+        cookie_own(alloc, secret, self.denied.as_slice(), request, &asked)
+    }
+
     /// The secret, where the layer is enabled.
     fn secret(&self) -> Option<[u8; 16]>
         ensures { result ≡ secret_where self.now.enabled self.now.secret }
@@ -98,19 +114,24 @@ where
         alloc: Global,
         request: &mut Request<Meta>,
     ) -> Result<Now<CookieStream<S, Meta>>, OutOfMemory> {
-        let asked = read_asked(request.message());
-        match cookie_own(
-            alloc,
-            self.secret(),
-            self.denied.as_slice(),
-            request,
-            &asked,
-        )? {
-            Some(reply) => Ok(Now::new(MiddlewareStream::Result(alone(reply)))),
-            None => {
-                let future = self.next.call(alloc, request)?;
-                Ok(Now::new(MiddlewareStream::IdentityFuture(future)))
-            }
+        match self.own_reply(alloc, request)? {
+            Some(reply) => Ok(of_own::<S, Meta, _>(reply)),
+            None => pass(alloc, &self.next, request),
         }
     }
+}
+
+/// The inner replies to the request.
+fn pass<S: Service<Meta>, Meta>(
+    alloc: Global,
+    next: &S,
+    request: &mut Request<Meta>,
+) -> Result<Now<CookieStream<S, Meta>>, OutOfMemory>
+    requires { S.can_call next.now }
+    ensures answers { IfOk result (λ f. (k : ℕ) → ⟦<Now<CookieStream<S, Meta>> as ReplyFuture>⟧.answer f k ≡ S.answer next.now request.old k) }
+    ensures kept { OnOk result (request.new ≡ record request.old { transport = hinted (S.hint next.now request.old) request.old.transport; reserved = request.new.reserved }) }
+    ensures refused { OnErr result (request.new ≡ request.old) }
+{
+    let future = next.call(alloc, request)?;
+    Ok(of_inner::<S, Meta, _, _>(future))
 }

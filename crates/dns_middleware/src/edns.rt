@@ -3,17 +3,19 @@
 ghost use Rattle.std.specs.Prelude.{◌≡◌, ℕ, IfOk, OnErr, OnOk, None, true};
 ghost use Rattle.dns_service.specs.declared.message.Request.{Request};
 ghost use Rattle.dns_service.specs.Answer.{mapped};
-ghost use Rattle.dns_service.specs.Asked.{client_size};
+ghost use Rattle.dns_service.specs.Asked.{asked_of};
+ghost use Rattle.dns_service.specs.ErrorReply.{error_reply};
+ghost use Rattle.dns_service.specs.ServiceFn.{hint_at_entry};
 ghost use Rattle.dns_service.specs.Transport.{hint_of, hinted};
-ghost use Rattle.dns_middleware.specs.Edns.{edns, edns_by, edns_hint, opt_refusal, passed_by, record_refusal, transport_by};
-ghost use Rattle.dns_middleware.specs.Rewritten.{rewritten};
+ghost use Rattle.dns_middleware.specs.Edns.{edns, edns_by, edns_hint, edns_passed, edns_post, opt_refusal, passed_by, record_refusal, transport_by};
+ghost use Rattle.dns_middleware.specs.Rewritten.{own_reply, rewritten};
 
 use crate::edns_post::EdnsPost;
-use crate::layered::{Layered, of_mapped, of_own, refuse};
+use crate::layered::{Layered, of_inner, of_mapped, of_own, refuse};
 use crate::passing::call_passed;
 use dns_name::OptRcode;
-use dns_service::{AskedOpt, AskedRecord, ReplyFuture, ReplyStream, Request, Service, read_asked};
-use dns_stream::{MiddlewareStream, Now, OutOfMemory, PostprocessingStream};
+use dns_service::{Asked, AskedOpt, AskedRecord, ReplyFuture, Request, Service, read_asked};
+use dns_stream::{Now, OutOfMemory};
 use std::alloc::Global;
 
 /// A service that speaks EDNS. A disabled layer passes each request and each reply as they are.
@@ -84,17 +86,25 @@ fn spoken<S: Service<Meta>, Meta>(
     ensures refused { OnErr result (request.new ≡ request.old) }
 {
     let asked = read_asked(request.message());
-    let rule = EdnsPost::new(&asked, request.transport_ctx());
     match opt_refusal(request.transport_ctx().is_non_udp(), &asked.opt) {
-        Some(rcode) => {
-            let reply = refuse(&rule, alloc, request.message(), rcode)?;
-            Ok(of_own::<S, Meta, _>(reply))
-        }
-        None => {
-            let mapped = pass(alloc, next, asked.opt.client_size(), rule, request)?;
-            Ok(of_mapped::<S, Meta, _>(mapped))
-        }
+        Some(rcode) => refused::<S, Meta>(alloc, &asked, request, rcode),
+        None => pass(alloc, next, &asked, request),
     }
+}
+
+/// The reply to a request that is refused. This was read of the request.
+fn refused<S: Service<Meta>, Meta>(
+    alloc: Global,
+    asked: &Asked,
+    request: &Request<Meta>,
+    rcode: OptRcode,
+) -> Result<Now<Layered<S, Meta, EdnsPost>>, OutOfMemory>
+    requires { asked.now ≡ asked_of request.now.octets }
+    ensures { let r = request.now in IfOk result (λ f. (k : ℕ) → ⟦<Now<Layered<S, Meta, EdnsPost>> as ReplyFuture>⟧.answer f k ≡ own_reply (edns_post r (error_reply r.octets rcode)) k) }
+{
+    let rule = EdnsPost::new(asked, request.transport_ctx());
+    let reply = refuse(&rule, alloc, request.message(), rcode)?;
+    Ok(of_own::<S, Meta, _>(reply))
 }
 
 /// The inner replies to the request as it came.
@@ -109,25 +119,50 @@ fn pass_whole<S: Service<Meta>, Meta>(
     ensures refused { OnErr result (request.new ≡ request.old) }
 {
     let future = call_passed(alloc, next, None, request)?;
-    Ok(Now::new(MiddlewareStream::IdentityFuture(future)))
+    Ok(of_inner::<S, Meta, _, _>(future))
 }
 
-/// The inner replies to the request as it is passed on, rewritten by the rule.
+/// The inner replies to the request as it is passed on, rewritten. This was read of the request.
 fn pass<S: Service<Meta>, Meta>(
     alloc: Global,
     next: &S,
+    asked: &Asked,
+    request: &mut Request<Meta>,
+) -> Result<Now<Layered<S, Meta, EdnsPost>>, OutOfMemory>
+    requires can_call { S.can_call next.now }
+    requires asked { asked.now ≡ asked_of request.old.octets }
+    ensures answers { let r = request.old in IfOk result (λ f. (k : ℕ) → ⟦<Now<Layered<S, Meta, EdnsPost>> as ReplyFuture>⟧.answer f k ≡ mapped (rewritten (edns_post r)) (S.answer next.now (edns_passed r) k)) }
+    ensures kept { OnOk result (request.new ≡ record request.old { transport = hinted (hint_at_entry (edns_passed request.old)) request.old.transport; reserved = request.new.reserved }) }
+    ensures refused { OnErr result (request.new ≡ request.old) }
+{
+    let rule = EdnsPost::new(asked, request.transport_ctx());
+    let original = request.try_clone(alloc, ())?;
+    call_mapped(
+        alloc,
+        next,
+        asked.opt.client_size(),
+        original,
+        rule,
+        request,
+    )
+}
+
+/// The inner replies to the request as it is passed on by the client's size, rewritten by the rule for the request as it came.
+fn call_mapped<S: Service<Meta>, Meta>(
+    alloc: Global,
+    next: &S,
     size: Option<u16>,
+    original: Request<()>,
     rule: EdnsPost,
     request: &mut Request<Meta>,
-) -> Result<PostprocessingStream<S::Future, (), EdnsPost>, OutOfMemory>
+) -> Result<Now<Layered<S, Meta, EdnsPost>>, OutOfMemory>
     requires { S.can_call next.now }
-    ensures answers { IfOk result (λ s. (k : ℕ) → ⟦<PostprocessingStream<S::Future, (), EdnsPost> as ReplyStream>⟧.answer s k ≡ mapped (rewritten (edns_by rule)) (S.answer next.now (passed_by size request.old) k)) }
+    ensures answers { IfOk result (λ f. (k : ℕ) → ⟦<Now<Layered<S, Meta, EdnsPost>> as ReplyFuture>⟧.answer f k ≡ mapped (rewritten (edns_by rule)) (S.answer next.now (passed_by size request.old) k)) }
     ensures kept { OnOk result (request.new ≡ record request.old { transport = hinted (hint_of (transport_by size request.old.transport)) request.old.transport; reserved = request.new.reserved }) }
     ensures refused { OnErr result (request.new ≡ request.old) }
 {
-    let original = request.try_clone(alloc, ())?;
     let future = call_passed(alloc, next, size, request)?;
-    Ok(PostprocessingStream::new(future, original, rule))
+    Ok(of_mapped::<S, Meta, _>(future, original, rule))
 }
 
 /// The response code with which what is asked is refused.

@@ -1,13 +1,14 @@
 //! What the layers share: the stream of a layer, and replies of its own.
 
 ghost use Rattle.std.specs.Prelude.{◌≡◌, ℕ, IfOk};
+ghost use Rattle.dns_service.specs.Answer.{mapped};
 ghost use Rattle.dns_service.specs.ErrorReply.{error_reply};
 ghost use Rattle.dns_middleware.specs.Rewritten.{own_reply};
 
 use crate::rewrite::Rewrite;
 use dns_base::{AdditionalBuilder, Message};
 use dns_name::OptRcode;
-use dns_service::{CallResult, ReplyFuture, ReplyStream, Service, mk_error_response};
+use dns_service::{CallResult, ReplyFuture, ReplyStream, Request, Service, mk_error_response};
 use dns_stream::{MiddlewareStream, Now, Once, OutOfMemory, Postprocess, PostprocessingStream};
 use std::alloc::Global;
 
@@ -20,21 +21,32 @@ pub type Layered<S, Meta, P> = MiddlewareStream<
 >;
 
 /// A layer's replies that are its own, at once.
-pub(crate) fn of_own<S: Service<Meta>, Meta, P: Postprocess<()>>(
+pub(crate) fn of_own<S: Service<Meta>, Meta, M: ReplyStream>(
     reply: AdditionalBuilder,
-) -> Now<Layered<S, Meta, P>>
-    ensures { (k : ℕ) → ⟦<Now<Layered<S, Meta, P>> as ReplyFuture>⟧.answer result k ≡ own_reply reply.message k }
+) -> Now<MiddlewareStream<S::Future, S::Stream, M, Once>>
+    ensures { (k : ℕ) → ⟦<Now<MiddlewareStream<S::Future, S::Stream, M, Once>> as ReplyFuture>⟧.answer result k ≡ own_reply reply.message k }
 {
     Now::new(MiddlewareStream::Result(alone(reply)))
 }
 
-/// A layer's replies that are those of the service inside, mapped, at once.
-pub(crate) fn of_mapped<S: Service<Meta>, Meta, P: Postprocess<()>>(
-    mapped: PostprocessingStream<S::Future, (), P>,
-) -> Now<Layered<S, Meta, P>>
-    ensures { ⟦<Now<Layered<S, Meta, P>> as ReplyFuture>⟧.answer result ≡ ⟦<PostprocessingStream<S::Future, (), P> as ReplyStream>⟧.answer mapped }
+/// A layer's replies that are those of the service inside as they are, at once.
+pub(crate) fn of_inner<S: Service<Meta>, Meta, M: ReplyStream, O: ReplyStream>(
+    future: S::Future,
+) -> Now<MiddlewareStream<S::Future, S::Stream, M, O>>
+    ensures { (k : ℕ) → ⟦<Now<MiddlewareStream<S::Future, S::Stream, M, O>> as ReplyFuture>⟧.answer result k ≡ S.Future.answer future k }
 {
-    Now::new(MiddlewareStream::Map(mapped))
+    Now::new(MiddlewareStream::IdentityFuture(future))
+}
+
+/// A layer's replies that are those of the service inside, mapped by a rule for the request as it came, at once.
+pub(crate) fn of_mapped<S: Service<Meta>, Meta, P: Postprocess<()>>(
+    future: S::Future,
+    original: Request<()>,
+    rule: P,
+) -> Now<Layered<S, Meta, P>>
+    ensures { (k : ℕ) → ⟦<Now<Layered<S, Meta, P>> as ReplyFuture>⟧.answer result k ≡ mapped (P.post rule original) (S.Future.answer future k) }
+{
+    Now::new(MiddlewareStream::Map(PostprocessingStream::new(future, original, rule)))
 }
 
 /// A reply and nothing else, and then the end.

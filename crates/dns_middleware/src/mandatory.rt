@@ -4,15 +4,17 @@ ghost use Rattle.std.specs.Prelude.{◌≡◌, ℕ, IfOk, OnErr, OnOk, false, tr
 ghost use Rattle.dns_service.specs.declared.message.Request.{Request};
 ghost use Rattle.dns_service.specs.Answer.{mapped};
 ghost use Rattle.dns_service.specs.Asked.{asked_of};
-ghost use Rattle.dns_service.specs.Transport.{hinted, limit};
-ghost use Rattle.dns_middleware.specs.Rewritten.{rewritten};
-ghost use Rattle.dns_middleware.specs.Mandatory.{mand_post, mandatory, mandatory_hint, mandatory_refusal, strict_refusal};
+ghost use Rattle.dns_service.specs.ErrorReply.{error_reply};
+ghost use Rattle.dns_service.specs.ServiceFn.{hint_at_entry};
+ghost use Rattle.dns_service.specs.Transport.{hint_of, hinted, limit};
+ghost use Rattle.dns_middleware.specs.Rewritten.{own_reply, rewritten};
+ghost use Rattle.dns_middleware.specs.Mandatory.{mand_post, mand_rule, mandatory, mandatory_hint, mandatory_refusal, strict_refusal};
 
 use crate::layered::{Layered, of_mapped, of_own, refuse};
 use crate::mandatory_post::MandatoryPost;
 use dns_name::{Opcode, OptRcode};
-use dns_service::{Asked, ReplyStream, Request, Service, read_asked};
-use dns_stream::{Now, OutOfMemory, PostprocessingStream};
+use dns_service::{Asked, ReplyFuture, Request, Service, read_asked};
+use dns_stream::{Now, OutOfMemory};
 use std::alloc::Global;
 
 /// A service whose replies fit the transport and answer their request. A strict one refuses IQUERY, and QUERY of
@@ -63,34 +65,68 @@ where
     ) -> Result<Now<Layered<S, Meta, MandatoryPost>>, OutOfMemory> {
         let asked = read_asked(request.message());
         match mandatory_refusal(self.strict, &asked) {
-            Some(rcode) => {
-                let transport = request.transport_ctx();
-                let rule = MandatoryPost::new(&asked, transport, transport.hint());
-                Ok(of_own::<S, Meta, _>(refuse(&rule, alloc, request.message(), rcode)?))
-            }
-            None => Ok(of_mapped::<S, Meta, _>(pass(alloc, &self.next, &asked, request)?)),
+            Some(rcode) => refused::<S, Meta>(alloc, &asked, request, rcode),
+            None => pass(alloc, &self.next, &asked, request),
         }
     }
 }
 
-/// The inner replies, which are rewritten by the hint that the inner service left.
+/// The reply to a request that is refused. This was read of the request.
+fn refused<S: Service<Meta>, Meta>(
+    alloc: Global,
+    asked: &Asked,
+    request: &Request<Meta>,
+    rcode: OptRcode,
+) -> Result<Now<Layered<S, Meta, MandatoryPost>>, OutOfMemory>
+    requires { asked.now ≡ asked_of request.now.octets }
+    ensures { let r = request.now in IfOk result (λ f. (k : ℕ) → ⟦<Now<Layered<S, Meta, MandatoryPost>> as ReplyFuture>⟧.answer f k ≡ own_reply (mand_post (limit (hint_at_entry r)) r (error_reply r.octets rcode)) k) }
+{
+    let reply = refuse(&rule_now(asked, request), alloc, request.message(), rcode)?;
+    Ok(of_own::<S, Meta, _>(reply))
+}
+
+/// The inner replies, which are rewritten by the hint that the inner service left. This was read of the request.
 fn pass<S: Service<Meta>, Meta>(
     alloc: Global,
     next: &S,
     asked: &Asked,
     request: &mut Request<Meta>,
-) -> Result<PostprocessingStream<S::Future, (), MandatoryPost>, OutOfMemory>
+) -> Result<Now<Layered<S, Meta, MandatoryPost>>, OutOfMemory>
     requires can_call { S.can_call next.now }
     requires asked { asked.now ≡ asked_of request.old.octets }
-    ensures answers { let r = request.old in IfOk result (λ s. (k : ℕ) → ⟦<PostprocessingStream<S::Future, (), MandatoryPost> as ReplyStream>⟧.answer s k ≡ mapped (rewritten (mand_post (limit (S.hint next.now r)) r)) (S.answer next.now r k)) }
+    ensures answers { let r = request.old in IfOk result (λ f. (k : ℕ) → ⟦<Now<Layered<S, Meta, MandatoryPost>> as ReplyFuture>⟧.answer f k ≡ mapped (rewritten (mand_post (limit (S.hint next.now r)) r)) (S.answer next.now r k)) }
     ensures kept { OnOk result (request.new ≡ record request.old { transport = hinted (S.hint next.now request.old) request.old.transport; reserved = request.new.reserved }) }
     ensures refused { OnErr result (request.new ≡ request.old) }
 {
     let original = request.try_clone(alloc, ())?;
+    call_mapped(alloc, next, asked, original, request)
+}
+
+/// The same, where the request was copied.
+fn call_mapped<S: Service<Meta>, Meta>(
+    alloc: Global,
+    next: &S,
+    asked: &Asked,
+    original: Request<()>,
+    request: &mut Request<Meta>,
+) -> Result<Now<Layered<S, Meta, MandatoryPost>>, OutOfMemory>
+    requires can_call { S.can_call next.now }
+    requires asked { asked.now ≡ asked_of request.old.octets }
+    ensures answers { let r = request.old in IfOk result (λ f. (k : ℕ) → ⟦<Now<Layered<S, Meta, MandatoryPost>> as ReplyFuture>⟧.answer f k ≡ mapped (rewritten (mand_post (limit (S.hint next.now r)) r)) (S.answer next.now r k)) }
+    ensures kept { OnOk result (request.new ≡ record request.old { transport = hinted (S.hint next.now request.old) request.old.transport; reserved = request.new.reserved }) }
+    ensures refused { OnErr result (request.new ≡ request.old) }
+{
     let future = next.call(alloc, request)?;
+    let rule = rule_now(asked, request);
+    Ok(of_mapped::<S, Meta, _>(future, original, rule))
+}
+
+/// The rule for the replies to what is asked, by the hint that the request has now.
+fn rule_now<Meta>(asked: &Asked, request: &Request<Meta>) -> MandatoryPost
+    ensures { let t = request.now.transport in result ≡ mand_rule t (limit (hint_of t)) asked.now }
+{
     let transport = request.transport_ctx();
-    let rule = MandatoryPost::new(asked, transport, transport.hint());
-    Ok(PostprocessingStream::new(future, original, rule))
+    MandatoryPost::new(asked, transport, transport.hint())
 }
 
 /// The response code with which the layer refuses what is asked.

@@ -1,7 +1,6 @@
 -- Each way through the layers, by the lemma on it.
-use Rattle.std.proofs.Common.{◌≡◌, ◌∙◌, sym, ap, ℕ, List, Option, None}
+use Rattle.std.proofs.Common.{◌≡◌, ◌∙◌, ap, ℕ, List, Option, None}
 use Rattle.dns_service.specs.Asked.{asked_of}
-use Rattle.dns_service.specs.Given.{message_in}
 use Rattle.dns_service.specs.Transport.{hint_of}
 use Rattle.dns_middleware.specs.Notify.{asking}
 use Rattle.dns_middleware.specs.Edns.{passed_by}
@@ -31,7 +30,7 @@ returns-in-Some-2-clause-answers g c = λ k.
     let size = size-read s r _ _ asked c.size_by-size.ensures in
     let post = rule-passed s r _ _ _ _ _ at asked size c.hint_passed.ensures c.new-post-2.ensures in
     c.alone-in-Some-2.ensures k
-    ∙ cookie-answer s (g.S.Service.answer c.args.self.now.service) (verdict_on (g.N.Notifiable.verdict c.args.self.now.target)) r k _ _ refused post (sym (ap message_in c.in-Some-2.is) ∙ c.in_ok-reply-2.ensures)
+    ∙ cookie-answer s (g.S.Service.answer c.args.self.now.service) (verdict_on (g.N.Notifiable.verdict c.args.self.now.target)) r k _ _ _ refused post c.in_ok-reply-2.ensures c.in-Some-2.is
 
 pub returns-in-Some-3-clause-answers : goal.returns-in-Some-3-clause-answers
 returns-in-Some-3-clause-answers g c = λ k.
@@ -43,8 +42,8 @@ returns-in-Some-3-clause-answers g c = λ k.
     let refused = refusal-read s r _ _ None at asked c.in_default.ensures in
     let size = size-read s r _ _ asked c.size_by-size.ensures in
     let post = rule-passed s r _ _ _ _ _ at asked size c.hint_passed.ensures c.new-post-2.ensures in
-    let own = no-own (wrap_by c.new-post-2.result) _ (sym (ap message_in c.in_default-2.is) ∙ c.in_ok-reply-2.ensures) in
-    notice-answer s (g.S.Service.answer c.args.self.now.service) tgt r k c.in-Some-3.notice _ _ refused own (sym c.in-Some-3.is ∙ c.in_ok-notice.ensures) post
+    let own = no-own (wrap_by c.new-post-2.result) _ _ c.in_ok-reply-2.ensures c.in_default-2.is in
+    notice-answer s (g.S.Service.answer c.args.self.now.service) tgt r k _ c.in-Some-3.notice _ _ refused own c.in_ok-notice.ensures c.in-Some-3.is post
         (c.in_ok-stream.ensures k ∙ ap (λ (o : List ℕ). asking o (tgt c.in-Some-3.notice) k) c.message-in-Some-3.ensures)
 
 pub returns-clause-answers : goal.returns-clause-answers
@@ -57,6 +56,6 @@ returns-clause-answers g c = λ k.
     let refused = refusal-read s r _ _ None at asked c.in_default.ensures in
     let size = size-read s r _ _ asked c.size_by-size.ensures in
     let post = rule-passed s r _ _ _ _ _ at asked size c.hint_passed.ensures c.new-post-2.ensures in
-    let own = no-own (wrap_by c.new-post-2.result) _ (sym (ap message_in c.in_default-2.is) ∙ c.in_ok-reply-2.ensures) in
-    passed-answer s svc (verdict_on (g.N.Notifiable.verdict c.args.self.now.target)) r k _ _ refused own (sym c.in_default-3.is ∙ c.in_ok-notice.ensures) post
+    let own = no-own (wrap_by c.new-post-2.result) _ _ c.in_ok-reply-2.ensures c.in_default-2.is in
+    passed-answer s svc (verdict_on (g.N.Notifiable.verdict c.args.self.now.target)) r k _ _ _ refused own c.in_ok-notice.ensures c.in_default-3.is post
         (c.in_ok-future.ensures.answers k ∙ ap (λ (n : Option ℕ). svc (passed_by n r) k) size)
