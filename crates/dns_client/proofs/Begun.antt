@@ -46,6 +46,10 @@ module _ {R F : Type 0} (answer : PolledRequest F R → ℕ → Answer) (answers
   pub called : (q : KeptRequest F R) (r : Req (Unit {0})) → ((j : ℕ) → answer q.polled j ≡ answers.answer r j) → arc_value q.message ≡ r.octets → q.limit ≡ limit_for answers r → IsKept answer answers q (asked r)
   called q r h message limit = record { going = refl; polled = λ j. h j ∙ ap (answers.answer r) (sym (zero-add j)); message = message; limit = limit }
 
+  -- the same by the request that it is
+  pub called_as : (q : KeptRequest F R) (r x : Req (Unit {0})) → ((j : ℕ) → answer q.polled j ≡ answers.answer r j) → arc_value q.message ≡ r.octets → q.limit ≡ limit_for answers r → r ≡ x → IsKept answer answers q (asked x)
+  called_as q r x h message limit is = subst (λ (y : Req (Unit {0})). IsKept answer answers q (asked y)) is (called q r h message limit)
+
   exchanged : (q : KeptRequest F R) (client : ℕ) (addr : SocketAddr) (at secs : ℕ) (o : List ℕ) (dgram : Dgram) (r : Req (Unit {0})) (s : Slate)
       → IsUnused s → IsKept answer answers q (asked r)
       → r ≡ request_of_datagram dgram addr at secs o → s.conf.dgram ≡ dgram → asks_nothing o ≡ false

@@ -1,6 +1,8 @@
 -- Frames are taken one at a time.
 use Rattle.dns_client.specs.Serving.{Serving}
-use Rattle.std.proofs.Common.{◌≡◌, ℕ, ◌+◌, ◌<◌, ◌≤◌, List, [], ◌∷◌, ◌++◌, length, Some, Bool, true, false, refl, ap, sym, ◌∙◌, subst, lt-ltb}
+use Rattle.std.proofs.Common.{◌≡◌, ◌≢◌, ℕ, ◌+◌, ◌<◌, ◌≤◌, List, [], ◌∷◌, ◌++◌, length, Some, Bool, true, false, refl, ap, sym, ◌∙◌, subst, lt-ltb, arith, length-append}
+use Rattle.std.specs.BTreeMap.{get}
+use Rattle.std.specs.Ordering.{nat_cmp}
 use Rattle.std.specs.Prelude.{nat_lt, if◌then◌else◌}
 use Rattle.std.proofs.lemmas.Bool.{le-ltb}
 use Rattle.circular_buffer.specs.Buffer.{Buffer}
@@ -17,17 +19,38 @@ use Rattle.dns_client.specs.Frames.{first_frame, framed, frames}
 use Rattle.dns_client.specs.Slate.{Slate, Told}
 use Rattle.dns_client.specs.Requests.{header_size, most_requests, request_of_frame, asked}
 use Rattle.dns_client.specs.Connections.{take_frames, take_frame, take_request, piece}
-use Rattle.dns_client.specs.Stands.{IsOpen, Leads, Asks, Refuses, TakesFrame, KeepsAll, StandsIn, outputs_of, state_behind}
+use Rattle.dns_client.specs.Stands.{IsKept, IsOpen, Leads, Asks, Refuses, TakesFrame, KeepsAll, StandsIn, outputs_of, state_behind}
 use Rattle.dns_client.specs.declared.client.State.TheVariants.{Open as Is_open}
 use Rattle.dns_client.specs.declared.connection.OpenConnection.{OpenConnection}
 use Rattle.dns_client.specs.declared.connection.Outcome.{Outcome}
 use Rattle.dns_client.specs.declared.connection.Outcome.TheVariants.{Nothing, Ends}
 use Rattle.dns_service.specs.declared.polled.PolledRequest.{PolledRequest}
+use Rattle.dns_client.specs.declared.kept.KeptRequest.{KeptRequest}
+use Rattle.dns_client.proofs.Keeping.{keeps_push}
 use Rattle.dns_client.proofs.FramesLemmas.{first_shorter, frames_some, past_next, within_next, past-append, within-append, new_frames_by_kept}
 
 queue_by : (b : Bool) (s : Slate) (m : List ℕ) → (if b then record s { queue = s.queue ++ m ∷ [] } else s).queue ≡ (if b then s.queue ++ m ∷ [] else s.queue)
 queue_by true s m = refl
 queue_by false s m = refl
+
+-- a request that was called is kept under its number
+pub asks_by : {W R F : Type 0} (answer : PolledRequest F R → ℕ → Answer) (answers : Serving) (old new : OpenConnection W R F) (r : Req (Unit {0})) (q : KeptRequest F R)
+    → old.count < most_requests
+    → get nat_cmp new.unfinished old.count ≡ Some q
+    → ((k : ℕ) → k ≢ old.count → get nat_cmp new.unfinished k ≡ get nat_cmp old.unfinished k)
+    → new ≡ record old { unfinished = new.unfinished; count = old.count + 1 }
+    → IsKept answer answers q (asked r)
+    → Asks answer answers old new r
+asks_by {W} {R} {F} answer answers old new r q few here others rest kept = record {
+  addr = ap (λ (c : OpenConnection W R F). c.addr) rest;
+  config = ap (λ (c : OpenConnection W R F). c.config) rest;
+  framer = ap (λ (c : OpenConnection W R F). c.framer) rest;
+  queue = ap (λ (c : OpenConnection W R F). c.queue) rest;
+  made = λ rs h.
+      let less : nat_lt (length rs) most_requests ≡ true = rw (← h.0) (lt-ltb old.count most_requests few) in
+      let more : new.count ≡ old.count + 1 = ap (λ (c : OpenConnection W R F). c.count) rest in
+      rw less (more ∙ omega (arith, h.0, length-append rs (asked r ∷ [])), keeps_push answer answers old.unfinished new.unfinished rs old.count (asked r) q h.0 h.1 others here kept);
+}
 
 module _ {W R F : Type 0} (answer : PolledRequest F R → ℕ → Answer) (answers : Serving) (at secs : ℕ) where
   pub none_left : (c : OpenConnection W R F) → frames c.framer ≡ [] → Leads answer answers c c Nothing (λ s. take_frames at secs (frames c.framer) s)
@@ -60,7 +83,7 @@ module _ {W R F : Type 0} (answer : PolledRequest F R → ℕ → Answer) (answe
         | false ↦ λ k. record { client = h.client; freed = h.freed; phase = h.phase; addr = ad; config = cf; kept = kept; within = within; requests = k; queue = qu; bound = bo }
       ]) k
 
-  pub taken : (c new : OpenConnection W R F) (f r : List ℕ) (q : Req (Unit {0})) → first_frame c.framer ≡ Some (f, r) → 12 ≤ length f
+  taken : (c new : OpenConnection W R F) (f r : List ℕ) (q : Req (Unit {0})) → first_frame c.framer ≡ Some (f, r) → 12 ≤ length f
       → (header_of f).qr ≡ false
       → q ≡ request_of_frame c.config c.addr at secs f
       → Asks answer answers (record c { framer = r }) new q → TakesFrame answer answers at secs c new
@@ -94,7 +117,7 @@ module _ {W R F : Type 0} (answer : PolledRequest F R → ℕ → Answer) (answe
       ]) q
 
   -- a response is taken
-  pub refused : (c new : OpenConnection W R F) (f r : List ℕ) → first_frame c.framer ≡ Some (f, r) → 12 ≤ length f → (header_of f).qr ≡ true
+  refused : (c new : OpenConnection W R F) (f r : List ℕ) → first_frame c.framer ≡ Some (f, r) → 12 ≤ length f → (header_of f).qr ≡ true
       → Refuses (record c { framer = r }) new f → TakesFrame answer answers at secs c new
   refused c new f r e l response a =
       let n : nat_lt (length f) header_size ≡ false = le-ltb (length f) 12 l in
@@ -105,6 +128,19 @@ module _ {W R F : Type 0} (answer : PolledRequest F R → ℕ → Answer) (answe
             let q = a.queue s h.queue h.bound ∙ queue_by b s (framed (wire (error_reply f 1))) in
             (take_frame at secs f s, rw response (refused_open c new f r client s h e a b q), rw (a.framer, frames_some c.framer f r e, n) refl);
       }
+
+  either_taken : (c new : OpenConnection W R F) (f r : List ℕ) → first_frame c.framer ≡ Some (f, r) → 12 ≤ length f
+      → ((header_of f).qr ≡ true → Refuses (record c { framer = r }) new f)
+      → ((header_of f).qr ≡ false → Asks answer answers (record c { framer = r }) new (request_of_frame c.config c.addr at secs f))
+      → (b : Bool) → (header_of f).qr ≡ b → TakesFrame answer answers at secs c new
+  either_taken c new f r e l refuses asks true is = refused c new f r e l is (refuses is)
+  either_taken c new f r e l refuses asks false is = taken c new f r (request_of_frame c.config c.addr at secs f) e l is refl (asks is)
+
+  pub taken_either : (c new : OpenConnection W R F) (f r : List ℕ) → first_frame c.framer ≡ Some (f, r) → 12 ≤ length f
+      → ((header_of f).qr ≡ true → Refuses (record c { framer = r }) new f)
+      → ((header_of f).qr ≡ false → Asks answer answers (record c { framer = r }) new (request_of_frame c.config c.addr at secs f))
+      → TakesFrame answer answers at secs c new
+  taken_either c new f r e l refuses asks = either_taken c new f r e l refuses asks (header_of f).qr refl
 
   pub fed : (c new : OpenConnection W R F) (p : List ℕ) (outcome : Outcome)
       → Leads answer answers (record c { framer = c.framer ++ p }) new outcome (λ s. take_frames at secs (frames (c.framer ++ p)) s)

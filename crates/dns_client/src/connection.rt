@@ -1,14 +1,17 @@
 //! A connection that is open.
 
-ghost use Rattle.std.specs.Prelude.{◌≡◌, ℕ, [], ◌∷◌, ◌++◌, IfOk, OnOk, MatchOption, length, nat_lt, if◌then◌else◌, slice_get};
+ghost use Rattle.std.specs.Prelude.{◌≡◌, ◌<◌, ℕ, [], ◌∷◌, ◌++◌, true, false, IfOk, OnOk, MatchOption, length, nat_lt, if◌then◌else◌, slice_get};
 ghost use Rattle.circular_buffer.specs.Buffer.{buffer};
+ghost use Rattle.dns_base.specs.Header.{header_of};
 ghost use Rattle.dns_client.specs.Serving.{Serving, serving};
 ghost use Rattle.dns_client.specs.Slate.{Slate, IsUnused};
 ghost use Rattle.dns_client.specs.Frames.{frames};
 ghost use Rattle.dns_client.specs.Connections.{opened, take_frames, piece, write};
+ghost use Rattle.dns_client.specs.Requests.{asked, request_of_frame};
 ghost use Rattle.dns_client.specs.Turns.{turn};
 ghost use Rattle.dns_client.specs.Rule.{rule};
 ghost use Rattle.dns_service.specs.PolledRequest.{request_answer};
+ghost use Rattle.dns_service.specs.Req.{Req};
 
 use crate::framer::Framer;
 use crate::kept::{KeptRequest, call, refused};
@@ -52,7 +55,7 @@ fn enqueue(queue: &mut HeapCircularBuffer<Octets>, octets: Octets)
 }
 
 impl<W: Served> OpenConnection<W> {
-    ghost use Rattle.dns_client.specs.Stands.{IsOpen, Leads, Asks, Refuses, TakesFrame};
+    ghost use Rattle.dns_client.specs.Stands.{IsKept, IsOpen, Leads, Asks, Refuses, TakesFrame};
 
     /// Of no requests. It takes the memory of its queue.
     pub fn open(alloc: Global, addr: SocketAddr, config: &StreamConfig) -> Result<Self, OutOfMemory>
@@ -81,6 +84,16 @@ impl<W: Served> OpenConnection<W> {
             return Ok(());
         }
         let kept = call(alloc, service, request)?;
+        self.keep(kept)?;
+        Ok(())
+    }
+
+    /// Keeps a request under its number.
+    fn keep(&mut self, kept: KeptRequest<W::Future, W::Stream>) -> Result<(), OutOfMemory>
+        requires { self.old.count < 18446744073709551615 }
+        ensures { OnOk result ((answers : Serving) (r : Req (Unit {0})) → IsKept (request_answer W.Future.answer W.Stream.answer) answers kept (asked r)
+            → Asks (request_answer W.Future.answer W.Stream.answer) answers self.old self.new r) }
+    {
         self.unfinished.insert(self.count, kept)?;
         self.count += 1;
         Ok(())
@@ -148,13 +161,30 @@ impl<W: Served> OpenConnection<W> {
         let Ok(message) = Message::from_octets(frame) else {
             return Ok(Some(Outcome::Ends(Why::Short)));
         };
+        self.take_message(alloc, service, at, secs, message)?;
+        Ok(None)
+    }
+
+    /// Takes a message: a response is refused, and a query asked.
+    fn take_message(
+        &mut self,
+        alloc: Global,
+        service: &W,
+        at: u64,
+        secs: u64,
+        message: Message,
+    ) -> Result<(), OutOfMemory>
+        requires { W.can_call service.now }
+        ensures response { OnOk result ((header_of message).qr ≡ true → Refuses self.old self.new message) }
+        ensures query { OnOk result ((header_of message).qr ≡ false
+            → Asks (request_answer W.Future.answer W.Stream.answer) (serving (W.answer service.now) (W.hint service.now)) self.old self.new (request_of_frame self.old.config self.old.addr at secs message)) }
+    {
         if message.header().qr {
-            self.refuse(alloc, &message)?;
-            return Ok(None);
+            return self.refuse(alloc, &message);
         }
         let request = frame_request(alloc, &self.config, self.addr, at, secs, message)?;
         self.ask(alloc, service, request)?;
-        Ok(None)
+        Ok(())
     }
 
     /// Octets of the stream came.

@@ -1,18 +1,21 @@
 //! An exchange: one datagram, and its request until that is done.
 
-ghost use Rattle.std.specs.Prelude.{◌≡◌, ℕ, ◌∷◌, [], IfOk, slice_get};
+ghost use Rattle.std.specs.Prelude.{◌≡◌, ◌≤◌, ℕ, ◌∷◌, [], IfOk, length, slice_get};
+ghost use Rattle.dns_base.specs.Wire.{wire};
 ghost use Rattle.dns_service.specs.PolledRequest.{request_answer};
-ghost use Rattle.dns_client.specs.Datagrams.{datagram, refused_datagram};
+ghost use Rattle.dns_service.specs.declared.event.Output.{Output};
+ghost use Rattle.dns_client.specs.Datagrams.{at_once, datagram, exchange, refused_datagram};
+ghost use Rattle.dns_client.specs.Requests.{asked, request_of_datagram};
 ghost use Rattle.dns_client.specs.Rule.{rule};
 ghost use Rattle.dns_client.specs.Serving.{Serving, serving};
 ghost use Rattle.dns_client.specs.Slate.{Slate, IsUnused};
-ghost use Rattle.dns_client.specs.Stands.{Exchanges, IsExchange};
+ghost use Rattle.dns_client.specs.Stands.{Exchanges, IsExchange, IsKept};
 ghost use Rattle.dns_client.specs.Turns.{exchange_turn};
 
 use crate::kept::{KeptRequest, call, refused};
 use crate::polling::poll_kept;
 use crate::requests::{cut, datagram_of, datagram_request};
-use dns_base::{Message, SocketAddr};
+use dns_base::{AdditionalBuilder, Message, SocketAddr};
 use dns_name::OptRcode;
 use dns_service::{
     DgramConfig, Event, EventKind, OutOfMemory, Output, ReplyFuture, ReplyStream, Served,
@@ -56,13 +59,50 @@ pub fn begin_exchange<W: Served>(
     let Ok(message) = Message::from_octets(octets) else {
         return Ok((None, Vec::new(alloc)));
     };
+    let begun = begin_message(alloc, service, client, addr, at, secs, message, config)?;
+    Ok(begun)
+}
+
+/// The same by the message that the datagram is: a response is refused, and a query asked.
+fn begin_message<W: Served>(
+    alloc: Global,
+    service: &W,
+    client: u64,
+    addr: SocketAddr,
+    at: u64,
+    secs: u64,
+    message: Message,
+    config: &DgramConfig,
+) -> Result<BegunExchange<W>, OutOfMemory>
+    requires { W.can_call service.now }
+    ensures { IfOk result (λ p. (s : Slate) → IsUnused s → s.conf.dgram ≡ config.now → 12 ≤ length message
+        → (p.1.items ≡ at_once client s.conf.dgram message)
+        × IsExchange (request_answer W.Future.answer W.Stream.answer) (serving (W.answer service.now) (W.hint service.now)) client p.0 (exchange client addr at secs message s)) }
+{
     if message.header().qr {
         let outs = refuse(alloc, client, &message, config)?;
         return Ok((None, outs));
     }
+    let kept = ask(alloc, service, addr, at, secs, message, config)?;
+    Ok((Some(kept), Vec::new(alloc)))
+}
+
+/// Asks the service a datagram's request.
+fn ask<W: Served>(
+    alloc: Global,
+    service: &W,
+    addr: SocketAddr,
+    at: u64,
+    secs: u64,
+    message: Message,
+    config: &DgramConfig,
+) -> Result<KeptRequest<W::Future, W::Stream>, OutOfMemory>
+    requires { W.can_call service.now }
+    ensures { IfOk result (λ q. IsKept (request_answer W.Future.answer W.Stream.answer) (serving (W.answer service.now) (W.hint service.now)) q (asked (request_of_datagram config.now addr at secs message))) }
+{
     let request = datagram_request(alloc, config, addr, at, secs, message)?;
     let kept = call(alloc, service, request)?;
-    Ok((Some(kept), Vec::new(alloc)))
+    Ok(kept)
 }
 
 /// What the sender of a response is sent.
@@ -76,7 +116,14 @@ fn refuse(
 {
     let limit = reply_limit(config.max_response_size()) as u16;
     let reply = refused(alloc, message, Some(limit), OptRcode::FORMERR)?;
-    let octets = datagram_of(alloc, &reply)?;
+    sent(alloc, client, &reply)
+}
+
+/// A reply as what an exchange is sent.
+fn sent(alloc: Global, client: u64, reply: &AdditionalBuilder) -> Result<Vec<Output>, OutOfMemory>
+    ensures { IfOk result (λ outs. outs.items ≡ Output.Datagram client (wire reply.now.message) ∷ []) }
+{
+    let octets = datagram_of(alloc, reply)?;
     one(alloc, Output::Datagram { client, octets })
 }
 
@@ -96,8 +143,7 @@ fn turn<F: ReplyFuture<Stream = R>, R: ReplyStream>(
     let Some(reply) = poll_kept(alloc, unfinished)? else {
         return Ok(Vec::new(alloc));
     };
-    let octets = datagram_of(alloc, &reply)?;
-    let outs = one(alloc, Output::Datagram { client, octets })?;
+    let outs = sent(alloc, client, &reply)?;
     Ok(outs)
 }
 

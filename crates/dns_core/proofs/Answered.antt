@@ -29,7 +29,7 @@ use Rattle.dns_client.specs.Rule.{by_kind, rule}
 use Rattle.dns_client.specs.Serving.{Serving}
 use Rattle.dns_client.specs.Slate.{Slate, SlateRequest, Told, Phase, Unused, Exchange, Open, Closed, fresh, in_phase}
 use Rattle.dns_client.specs.Turns.{exchange_turn, polled, sent_at_once, sent_for, turn, with_request}
-use Rattle.dns_core.specs.Out.{begins, gain, gained, is_connection, is_new, is_release, is_unused, members, out, out_after}
+use Rattle.dns_core.specs.Out.{begins, gain, gained, is_connection, is_new, is_unused, members, out, out_after}
 use Rattle.dns_core.specs.Own.{concerns}
 use Rattle.dns_core.specs.ReplyTo.{begun_by, Responds, datagram_limit, AnswersDatagram, AnswersFrame, IsReply}
 use Rattle.dns_core.specs.Sent.{slate}
@@ -86,7 +86,6 @@ module _ (answers : Serving) (settings : Settings)
     (fit : (r : Req (Unit {0})) (k : ℕ) (hint : Option ℕ) → r.transport ≡ Udp hint → IfSome (sent_for answers r (answers.answer r k)) (λ m. length (wire m) ≤ limit (answers.hint r)))
     (cut_fits : (n : ℕ) (m : Msg) → 512 ≤ n → length (wire (cut n m)) ≤ n)
     (go_on : (o p : List ℕ) → frames (o ++ p) ≡ frames o ++ frames (behind_frames o ++ p)) where
-
   abbrev Replies : List Event → List Output → Type 0
   Replies es outs = All (IsReply answers settings es) outs
 

@@ -1,5 +1,5 @@
 -- Each request and each queued frame of a connection is about one of the frames that it received.
-use Rattle.std.proofs.Common.{◌≡◌, ℕ, zero, suc, ◌+◌, Bool, true, false, List, [], ◌∷◌, ◌++◌, length, drop, Option, Some, None, refl, sym, subst}
+use Rattle.std.proofs.Common.{◌≡◌, ℕ, zero, suc, ◌+◌, true, false, List, [], ◌∷◌, ◌++◌, length, drop, Option, Some, None, refl, sym, subst}
 use Rattle.std.specs.Prelude.{IfSome, if◌then◌else◌, nat_lt, slice_get}
 use Rattle.std.specs.List.{All, Contains}
 use Rattle.std.proofs.lemmas.List.Elements.{All-nil, All-cons, All-head, All-tail, All-push, All-set, All-weaker, All-drop, All-contains_itself, Contains-append_left}
@@ -47,15 +47,15 @@ released_listens s h = record { connection = h.connection; requests = h.requests
 
 enqueue_listens : (o : List ℕ) (s : Slate) → RepliesTo (frames s.received) o → Listens s → Listens (enqueue o s)
 enqueue_listens o s r h = (elim (nat_lt (length s.queue) s.bound) as (λ b. Listens (if b then record s { queue = s.queue ++ o ∷ [] } else s)) [
-      | true ↦ record { connection = h.connection; requests = h.requests; queue = All-push (RepliesTo (frames s.received)) s.queue o h.queue r }
-      | false ↦ h
-    ])
+  | true ↦ record { connection = h.connection; requests = h.requests; queue = All-push (RepliesTo (frames s.received)) s.queue o h.queue r }
+  | false ↦ h
+])
 
 asked_listens : (at secs : ℕ) (f : List ℕ) (s : Slate) → Contains (frames s.received) f → Listens s → Listens (take_request at secs f s)
 asked_listens at secs f s c h = (elim (nat_lt (length s.requests) most_requests) as (λ b. Listens (if b then record s { taken = s.taken + 1; requests = s.requests ++ asked (request_of_frame s.connection s.addr at secs f) ∷ [] } else record s { taken = s.taken + 1 })) [
-      | true ↦ record { connection = h.connection; requests = All-push (AsksOne (frames s.received)) s.requests (asked (request_of_frame s.connection s.addr at secs f)) h.requests c; queue = h.queue }
-      | false ↦ record { connection = h.connection; requests = h.requests; queue = h.queue }
-    ])
+  | true ↦ record { connection = h.connection; requests = All-push (AsksOne (frames s.received)) s.requests (asked (request_of_frame s.connection s.addr at secs f)) h.requests c; queue = h.queue }
+  | false ↦ record { connection = h.connection; requests = h.requests; queue = h.queue }
+])
 
 refused_listens : (f : List ℕ) (s : Slate) → Contains (frames s.received) f → Listens s → Listens (enqueue (framed (wire (error_reply f 1))) (record s { taken = s.taken + 1 }))
 refused_listens f s c h =

@@ -7,7 +7,6 @@ use Rattle.std.specs.BTreeSet.{BTreeSet, contains}
 use Rattle.std.proofs.lemmas.Bool.{cases_eq}
 use Rattle.dns_service.specs.Answer.{Answer}
 use Rattle.dns_service.specs.Config.{Stream}
-use Rattle.dns_service.specs.Req.{Req}
 use Rattle.dns_service.specs.declared.event.Event.{Event}
 use Rattle.dns_service.specs.declared.event.Output.{Output}
 use Rattle.dns_service.specs.declared.event.Output.TheVariants.{TurnedAway}

@@ -1,11 +1,10 @@
 -- Each message that is sent for an answer, and each error reply, responds to the message that it answers, and fits.
-use Rattle.std.proofs.Common.{◌≡◌, ℕ, ◌≤◌, Bool, true, false, List, [], ◌∷◌, length, Option, Some, None, Result, Ok, Err, refl, sym, subst, arith}
+use Rattle.std.proofs.Common.{◌≡◌, ℕ, ◌≤◌, Bool, true, false, List, [], ◌∷◌, length, Option, Some, None, Ok, Err, refl, sym, subst, arith}
 use Rattle.std.specs.Prelude.{IfSome, if◌then◌else◌}
 use Rattle.dns_message.specs.declared.question.Question.{Question}
-use Rattle.dns_base.specs.Built.{Built, empty, with_question}
-use Rattle.dns_base.specs.Header.{header_of}
+use Rattle.dns_base.specs.Built.{Built, with_question}
 use Rattle.dns_base.specs.Msg.{Msg, ResourceRecord}
-use Rattle.dns_base.specs.Replies.{answer_header, error_by, within_limit, with_copied}
+use Rattle.dns_base.specs.Replies.{error_by, within_limit, with_copied}
 use Rattle.dns_base.specs.Wire.{wire}
 use Rattle.dns_service.specs.Drafts.{with_opt, with_opt_record}
 use Rattle.dns_service.specs.Answer.{Answer}

@@ -5,7 +5,7 @@ use Rattle.dns_base.specs.Header.{header_of}
 use Rattle.dns_base.specs.Wire.{wire}
 use Rattle.dns_service.specs.ErrorReply.{error_reply}
 use Rattle.dns_client.specs.Frames.{framed}
-use Rattle.dns_client.specs.Slate.{Slate, Phase, Conf}
+use Rattle.dns_client.specs.Slate.{Slate}
 use Rattle.dns_client.specs.Requests.{most_requests, request_of_frame, asked}
 use Rattle.dns_client.specs.Connections.{enqueue, take_request, take_frame}
 
@@ -20,15 +20,15 @@ pub record Takes (s t : Slate) : Type 0 where
 
 asked_takes : (at secs : ℕ) (f : List ℕ) (s : Slate) → Takes s (take_request at secs f s)
 asked_takes at secs f s = (elim (nat_lt (length s.requests) most_requests) as (λ b. Takes s (if b then record s { taken = s.taken + 1; requests = s.requests ++ asked (request_of_frame s.connection s.addr at secs f) ∷ [] } else record s { taken = s.taken + 1 })) [
-      | true ↦ record { client = refl; phase = refl; freed = refl; conf = refl; received = refl; taken = refl }
-      | false ↦ record { client = refl; phase = refl; freed = refl; conf = refl; received = refl; taken = refl }
-    ])
+  | true ↦ record { client = refl; phase = refl; freed = refl; conf = refl; received = refl; taken = refl }
+  | false ↦ record { client = refl; phase = refl; freed = refl; conf = refl; received = refl; taken = refl }
+])
 
 refused_takes : (m : List ℕ) (s : Slate) → Takes s (enqueue m (record s { taken = s.taken + 1 }))
 refused_takes m s = (elim (nat_lt (length s.queue) s.bound) as (λ b. Takes s (if b then record s { taken = s.taken + 1; queue = s.queue ++ m ∷ [] } else record s { taken = s.taken + 1 })) [
-      | true ↦ record { client = refl; phase = refl; freed = refl; conf = refl; received = refl; taken = refl }
-      | false ↦ record { client = refl; phase = refl; freed = refl; conf = refl; received = refl; taken = refl }
-    ])
+  | true ↦ record { client = refl; phase = refl; freed = refl; conf = refl; received = refl; taken = refl }
+  | false ↦ record { client = refl; phase = refl; freed = refl; conf = refl; received = refl; taken = refl }
+])
 
 pub takes : (at secs : ℕ) (f : List ℕ) (s : Slate) → Takes s (take_frame at secs f s)
 takes at secs f s =

@@ -2,8 +2,6 @@
 use Rattle.dns_client.specs.Serving.{Serving}
 use Rattle.std.specs.Prelude.{◌≡◌, ℕ, List, length, take, nat_eq, Bool, not, ◌&&◌}
 use Rattle.std.specs.List.{list_any}
-use Rattle.dns_service.specs.Answer.{Answer}
-use Rattle.dns_service.specs.Req.{Req}
 use Rattle.dns_service.specs.declared.event.Event.{Event}
 use Rattle.dns_service.specs.declared.event.Output.{Output}
 use Rattle.dns_service.specs.declared.event.Output.TheVariants.{Datagram, Frame, Closed, TurnedAway}

@@ -6,7 +6,6 @@ use Rattle.std.specs.Ordering.{nat_cmp}
 use Rattle.std.specs.BTreeMap.{get}
 use Rattle.std.specs.BTreeSet.{contains}
 use Rattle.dns_service.specs.Answer.{Answer}
-use Rattle.dns_service.specs.Req.{Req}
 use Rattle.dns_service.specs.declared.event.Event.{Event}
 use Rattle.dns_service.specs.declared.event.Output.{Output}
 use Rattle.dns_service.specs.declared.polled.PolledRequest.{PolledRequest}

@@ -2,7 +2,6 @@
 use Rattle.dns_client.specs.Serving.{Serving}
 use Rattle.std.specs.Prelude.{◌≡◌, ℕ, [], List, Bool, true, false, Option, Some, None, if◌then◌else◌}
 use Rattle.dns_service.specs.Answer.{Answer}
-use Rattle.dns_service.specs.Req.{Req}
 use Rattle.dns_service.specs.declared.event.Event.{Event}
 use Rattle.dns_service.specs.declared.event.Output.{Output}
 use Rattle.dns_client.specs.Slate.{Slate}

@@ -1,5 +1,4 @@
 -- The configurations that a client finds in the settings of a server.
-use Rattle.dns_client.specs.Serving.{Serving}
 use Rattle.dns_client.specs.Slate.{Conf}
 use Rattle.dns_middleware.specs.declared.settings.Settings.{Settings}
 

@@ -59,7 +59,7 @@ pub fn more_events_send_more()
 pub fn replies_answer_what_was_asked()
     ensures { (settings : Settings) (given : Req (Unit {0}) → ℕ → Answer) (verdicts : Verdicts) (es : List Event)
         → All (IsReply (serving (replies settings given (verdict_on verdicts)) (hint_left settings)) settings es)
-            (out (serving (replies settings given (verdict_on verdicts)) (hint_left settings)) settings es) }
+        (out (serving (replies settings given (verdict_on verdicts)) (hint_left settings)) settings es) }
 {
     dns_middleware::wrapped_replies_respond();
     dns_middleware::wrapped_replies_fit();

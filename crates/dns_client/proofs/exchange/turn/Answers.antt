@@ -1,5 +1,4 @@
-use Rattle.std.proofs.Common.{None, Some, ap, ◌∙◌, List, ℕ, [], ◌∷◌}
-use Rattle.dns_service.specs.declared.event.Output.TheVariants.{Datagram}
+use Rattle.std.proofs.Common.{None, Some}
 use Rattle.dns_service.specs.PolledRequest.{request_answer}
 use Rattle.dns_client.proofs.Turns.{exchange_turned}
 use Rattle.dns_client.proofs.exchange.turn.Goals as goal
@@ -10,4 +9,4 @@ returns-in_default g c = λ answers.
 
 pub returns : goal.returns
 returns g c = λ answers.
-    rw c.if-request-ne0.false (exchange_turned (request_answer g.F.ReplyFuture.answer g.R.ReplyStream.answer) answers c.args.client c.args.unfinished.now c.poll_kept.new.unfinished (Some c.in-Some.reply.message) c.in_ok-outs.outs.items (rw c.in-Some.is at c.in_ok-reply.ensures) (c.in_ok-outs.ensures ∙ ap (λ (o : List ℕ). Datagram c.args.client o ∷ []) c.in_ok-octets.ensures))
+    rw c.if-request-ne0.false (exchange_turned (request_answer g.F.ReplyFuture.answer g.R.ReplyStream.answer) answers c.args.client c.args.unfinished.now c.poll_kept.new.unfinished (Some c.in-Some.reply.message) c.in_ok-outs.outs.items (rw c.in-Some.is at c.in_ok-reply.ensures) c.in_ok-outs.ensures)

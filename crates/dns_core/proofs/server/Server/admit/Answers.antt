@@ -1,5 +1,5 @@
 use Rattle.dns_client.specs.Serving.{serving}
-use Rattle.std.proofs.Common.{◌≡◌, ◌<◌, ◌+◌, ℕ, ap, sym, ◌∙◌, true, [], ◌∷◌, ◌++◌, lt-ltb}
+use Rattle.std.proofs.Common.{◌≡◌, ◌+◌, ℕ, ap, sym, ◌∙◌, true, [], ◌∷◌, ◌++◌, lt-ltb}
 use Rattle.std.specs.Prelude.{not}
 use Rattle.dns_client.specs.Slate.{Slate, Told, Unused}
 use Rattle.dns_service.specs.PolledRequest.{request_answer}
