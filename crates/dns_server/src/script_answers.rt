@@ -1,13 +1,13 @@
 //! The answers of a script, made for a message.
 
-ghost use Rattle.std.specs.Prelude.{◌≡◌, IfOk, MatchOption, true, false};
+ghost use Rattle.std.specs.Prelude.{◌≡◌, IfOk, IsErr, MatchOption, MatchResult, Some, true, false};
 ghost use Rattle.dns_base.specs.Built.{with_answer};
 ghost use Rattle.dns_base.specs.Records.{IsLawful, record_of};
 ghost use Rattle.dns_base.specs.Replies.{answer_to, have_room};
 ghost use Rattle.dns_opt.specs.Drafts.{with_opt, with_opt_record};
-ghost use Rattle.dns_server.specs.Played.{PutsPadding, blank_reply, fill_record, fill_reply, given, new_builder, opt_reply, padded_draft, played_reply, replied_within, scripted};
+ghost use Rattle.dns_server.specs.Played.{PutsPadding, blank_reply, fill_record, fill_reply, given, new_builder, opt_reply, padded_draft, played_reply, replied_within};
 
-use crate::rule::{ScriptAnswer, ScriptReply};
+use crate::rule::ScriptAnswer;
 use dns_base::{
     AdditionalBuilder, AnswerBuilder, Message, MessageBuilder, PushError, Record, RecordData,
 };
@@ -24,28 +24,23 @@ pub fn make_answer(
 ) -> Result<Polled<Option<ServiceResult>>, OutOfMemory>
     ensures { IfOk result (λ p. p ≡ given message.now answer) }
 {
-    let item = match answer {
-        ScriptAnswer::Pend => return Ok(Polled::Pending),
-        ScriptAnswer::Error(error) => Err(error),
-        ScriptAnswer::Reply(reply) => make_reply(alloc, message, reply)?,
-    };
-    Ok(Polled::Ready(Some(item)))
+    match answer {
+        ScriptAnswer::Pend => Ok(Polled::Pending),
+        ScriptAnswer::Error(error) => ready(Ok(Err(error))),
+        ScriptAnswer::Rcode(rcode) => ready(make_reply(alloc, message, rcode)),
+        ScriptAnswer::Blank(rcode) => ready(make_blank(alloc, rcode)),
+        ScriptAnswer::Fill(len) => ready(make_filled(alloc, message, len)),
+        ScriptAnswer::Opt(len) => ready(make_padded(alloc, message, len)),
+    }
 }
 
-/// A reply to a message.
-fn make_reply(
-    alloc: Global,
-    message: &Message,
-    reply: ScriptReply,
-) -> Result<ServiceResult, OutOfMemory>
-    ensures { IfOk result (λ i. i ≡ scripted message.now reply) }
+/// The poll that gives what was made.
+fn ready(
+    made: Result<ServiceResult, OutOfMemory>,
+) -> Result<Polled<Option<ServiceResult>>, OutOfMemory>
+    ensures { MatchResult result (λ p. IfOk made (λ i. p ≡ Polled.Ready (Some i))) (λ _. IsErr made) }
 {
-    match reply {
-        ScriptReply::Rcode(rcode) => make_bare(alloc, message, rcode),
-        ScriptReply::Blank(rcode) => make_blank(alloc, rcode),
-        ScriptReply::Fill(len) => make_filled(alloc, message, len),
-        ScriptReply::Opt(len) => make_padded(alloc, message, len),
-    }
+    Ok(Polled::Ready(Some(made?)))
 }
 
 /// An answer to a message is begun; none where there is no room for the questions.
@@ -65,7 +60,7 @@ fn begin(
 }
 
 /// A reply with this response code, or the error `servfail` where the questions have no room.
-fn make_bare(alloc: Global, message: &Message, rcode: Rcode) -> Result<ServiceResult, OutOfMemory>
+fn make_reply(alloc: Global, message: &Message, rcode: Rcode) -> Result<ServiceResult, OutOfMemory>
     ensures { IfOk result (λ i. i ≡ played_reply message.now rcode) }
 {
     match begin(alloc, message, rcode)? {
