@@ -1,6 +1,6 @@
 //! The answers of a script, made for a message.
 
-ghost use Rattle.std.specs.Prelude.{◌≡◌, IfOk, IsErr, MatchOption, MatchResult, Some, true, false};
+ghost use Rattle.std.specs.Prelude.{◌≡◌, IfOk, MatchOption, Some, true, false};
 ghost use Rattle.dns_base.specs.Built.{with_answer};
 ghost use Rattle.dns_base.specs.Records.{IsLawful, record_of};
 ghost use Rattle.dns_base.specs.Replies.{answer_to, have_room};
@@ -24,23 +24,21 @@ pub fn make_answer(
 ) -> Result<Polled<Option<ServiceResult>>, OutOfMemory>
     ensures { IfOk result (λ p. p ≡ given message.now answer) }
 {
-    match answer {
-        ScriptAnswer::Pend => Ok(Polled::Pending),
-        ScriptAnswer::Error(error) => ready(Ok(Err(error))),
-        ScriptAnswer::Rcode(rcode) => ready(make_reply(alloc, message, rcode)),
-        ScriptAnswer::Blank(rcode) => ready(make_blank(alloc, rcode)),
-        ScriptAnswer::Fill(len) => ready(make_filled(alloc, message, len)),
-        ScriptAnswer::Opt(len) => ready(make_padded(alloc, message, len)),
-    }
+    Ok(match answer {
+        ScriptAnswer::Pend => Polled::Pending,
+        ScriptAnswer::Error(error) => ready(Err(error)),
+        ScriptAnswer::Rcode(rcode) => ready(make_reply(alloc, message, rcode)?),
+        ScriptAnswer::Blank(rcode) => ready(make_blank(alloc, rcode)?),
+        ScriptAnswer::Fill(len) => ready(make_filled(alloc, message, len)?),
+        ScriptAnswer::Opt(len) => ready(make_padded(alloc, message, len)?),
+    })
 }
 
-/// The poll that gives what was made.
-fn ready(
-    made: Result<ServiceResult, OutOfMemory>,
-) -> Result<Polled<Option<ServiceResult>>, OutOfMemory>
-    ensures { MatchResult result (λ p. IfOk made (λ i. p ≡ Polled.Ready (Some i))) (λ _. IsErr made) }
+/// An item that is there.
+fn ready(item: ServiceResult) -> Polled<Option<ServiceResult>>
+    ensures { result ≡ Polled.Ready (Some item) }
 {
-    Ok(Polled::Ready(Some(made?)))
+    Polled::Ready(Some(item))
 }
 
 /// An answer to a message is begun; none where there is no room for the questions.
