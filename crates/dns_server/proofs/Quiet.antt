@@ -9,10 +9,8 @@ use Rattle.dns_service.specs.Answer.{Item}
 use Rattle.dns_service.specs.declared.service.ServiceError.TheVariants.{InternalError}
 use Rattle.dns_server.specs.declared.rule.Rule.{Rule}
 use Rattle.dns_server.specs.declared.rule.ScriptAnswer.{ScriptAnswer}
-use Rattle.dns_server.specs.declared.rule.ScriptAnswer.TheVariants.{Pend, Error, Reply}
-use Rattle.dns_server.specs.declared.rule.ScriptReply.{ScriptReply}
-use Rattle.dns_server.specs.declared.rule.ScriptReply.TheVariants.{Rcode, Blank, Fill, Opt}
-use Rattle.dns_server.specs.Played.{fill_record, given, new_builder, padded_draft, played, played_from, replied, replied_within, scripted}
+use Rattle.dns_server.specs.declared.rule.ScriptAnswer.TheVariants.{Pend, Error, Rcode, Blank, Fill, Opt}
+use Rattle.dns_server.specs.Played.{fill_record, given, new_builder, padded_draft, played, played_from, replied, replied_within}
 use Rattle.dns_server.specs.Rules.{answers_for, name_asked}
 
 -- a reply without feedback, or an error
@@ -23,21 +21,18 @@ quiet_if false item h = tt
 quiet_within : (whole b : Built) → HasNoFeedback (replied_within whole b)
 quiet_within whole b = quiet_if (within_limit whole) (replied b.message) refl
 
-quiet_reply : (o : List ℕ) (r : ScriptReply) → HasNoFeedback (scripted o r)
-quiet_reply o (Rcode code) = quiet_if (have_room new_builder o code) (replied (answer_to new_builder o code).message) refl
-quiet_reply o (Blank code) = refl
-quiet_reply o (Fill n) =
-    let whole = with_answer (answer_to new_builder o 0) (fill_record n) in
-    quiet_if (have_room new_builder o 0) (replied_within whole whole) (quiet_within whole whole)
-quiet_reply o (Opt n) =
-    let begun = answer_to new_builder o 0 in
-    let draft = padded_draft begun n in
-    quiet_if (have_room new_builder o 0) (replied_within (with_opt_record draft begun) (with_opt draft begun)) (quiet_within (with_opt_record draft begun) (with_opt draft begun))
-
 quiet_answer : (o : List ℕ) (a : ScriptAnswer) → TellsNothing (given o a)
 quiet_answer o Pend = tt
 quiet_answer o (Error e) = tt
-quiet_answer o (Reply r) = quiet_reply o r
+quiet_answer o (Rcode code) = quiet_if (have_room new_builder o code) (replied (answer_to new_builder o code).message) refl
+quiet_answer o (Blank code) = refl
+quiet_answer o (Fill n) =
+    let whole = with_answer (answer_to new_builder o 0) (fill_record n) in
+    quiet_if (have_room new_builder o 0) (replied_within whole whole) (quiet_within whole whole)
+quiet_answer o (Opt n) =
+    let begun = answer_to new_builder o 0 in
+    let draft = padded_draft begun n in
+    quiet_if (have_room new_builder o 0) (replied_within (with_opt_record draft begun) (with_opt draft begun)) (quiet_within (with_opt_record draft begun) (with_opt draft begun))
 
 quiet_from : (o : List ℕ) (answers : List ScriptAnswer) (k : ℕ) → TellsNothing (played_from o answers k)
 quiet_from o [] k = tt

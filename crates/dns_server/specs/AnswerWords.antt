@@ -8,19 +8,17 @@ use Rattle.dns_trace.specs.Values.{number}
 use Rattle.dns_trace.specs.declared.reason.Reason.{Reason}
 use Rattle.dns_trace.specs.declared.reason.Reason.TheVariants.{Unbuilt}
 use Rattle.dns_server.specs.declared.rule.ScriptAnswer.{ScriptAnswer}
-use Rattle.dns_server.specs.declared.rule.ScriptAnswer.TheVariants.{Pend, Error, Reply}
-use Rattle.dns_server.specs.declared.rule.ScriptReply.{ScriptReply}
-use Rattle.dns_server.specs.declared.rule.ScriptReply.TheVariants.{Rcode, Blank, Fill, Opt}
+use Rattle.dns_server.specs.declared.rule.ScriptAnswer.TheVariants.{Pend, Error, Rcode, Blank, Fill, Opt}
 
 -- a reply with so many zeros: fill:L and opt:L with L at most 65,000
-unfoldable pub sized_reply : List ℕ → Result ScriptReply Reason
+unfoldable pub sized_reply : List ℕ → Result ScriptAnswer Reason
 sized_reply w =
     if bytes_eq (take 5 w) (codes "fill:") then (number 20 65001 (drop 5 w) >>= λ n. Ok (Fill n))
     else if bytes_eq (take 4 w) (codes "opt:") then (number 20 65001 (drop 4 w) >>= λ n. Ok (Opt n))
     else Err Unbuilt
 
 -- a reply: rcode:N and blank:N with N below 16, or one with zeros
-unfoldable pub reply_word : List ℕ → Result ScriptReply Reason
+unfoldable pub reply_word : List ℕ → Result ScriptAnswer Reason
 reply_word w =
     if bytes_eq (take 6 w) (codes "rcode:") then (number 20 16 (drop 6 w) >>= λ n. Ok (Rcode n))
     else if bytes_eq (take 6 w) (codes "blank:") then (number 20 16 (drop 6 w) >>= λ n. Ok (Blank n))
@@ -34,10 +32,9 @@ error_word w =
     else if bytes_eq w (codes "refused") then Some Refused
     else None
 
-abbrev pub or_reply : Option ServiceError → Result ScriptReply Reason → Result ScriptAnswer Reason
+abbrev pub or_reply : Option ServiceError → Result ScriptAnswer Reason → Result ScriptAnswer Reason
 or_reply (Some e) read = Ok (Error e)
-or_reply None (Ok r) = Ok (Reply r)
-or_reply None (Err why) = Err why
+or_reply None read = read
 
 -- pend, an error, or a reply
 unfoldable pub answer_of : List ℕ → Result ScriptAnswer Reason

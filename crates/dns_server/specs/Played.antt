@@ -13,9 +13,7 @@ use Rattle.dns_service.specs.declared.service.Polled.TheVariants.{Pending, Ready
 use Rattle.dns_service.specs.declared.service.ServiceError.TheVariants.{InternalError}
 use Rattle.dns_server.specs.declared.rule.Rule.{Rule}
 use Rattle.dns_server.specs.declared.rule.ScriptAnswer.{ScriptAnswer}
-use Rattle.dns_server.specs.declared.rule.ScriptAnswer.TheVariants.{Pend, Error, Reply}
-use Rattle.dns_server.specs.declared.rule.ScriptReply.{ScriptReply}
-use Rattle.dns_server.specs.declared.rule.ScriptReply.TheVariants.{Rcode, Blank, Fill, Opt}
+use Rattle.dns_server.specs.declared.rule.ScriptAnswer.TheVariants.{Pend, Error, Rcode, Blank, Fill, Opt}
 use Rattle.dns_server.specs.Rules.{answers_for, name_asked}
 
 -- a new builder: the empty message, which may take 65,535 octets
@@ -63,18 +61,14 @@ opt_reply o n =
     then replied_within (with_opt_record (padded_draft (answer_to new_builder o 0) n) (answer_to new_builder o 0)) (with_opt (padded_draft (answer_to new_builder o 0) n) (answer_to new_builder o 0))
     else Err InternalError
 
--- a rule's reply to a message of these octets
-abbrev pub scripted : List ℕ → ScriptReply → Item
-scripted o (Rcode code) = played_reply o code
-scripted o (Blank code) = blank_reply code
-scripted o (Fill n) = fill_reply o n
-scripted o (Opt n) = opt_reply o n
-
--- one answer to it
+-- one answer to a message of these octets
 abbrev pub given : List ℕ → ScriptAnswer → Answer
 given o Pend = Pending
 given o (Error e) = Ready (Some (Err e))
-given o (Reply r) = Ready (Some (scripted o r))
+given o (Rcode code) = Ready (Some (played_reply o code))
+given o (Blank code) = Ready (Some (blank_reply code))
+given o (Fill n) = Ready (Some (fill_reply o n))
+given o (Opt n) = Ready (Some (opt_reply o n))
 
 -- answers one by one, and then the end
 abbrev pub played_from : List ℕ → List ScriptAnswer → ℕ → Answer

@@ -142,14 +142,19 @@ server_line p ws =
     else if bytes_eq (word_at ws 0) (codes "stream") then first_stream_line p ws
     else next_event_line p ws
 
--- a line that sets something for the layers, by its first word; else one of those
-unfoldable pub layer_line : Plan → List (List ℕ) → Result Plan Reason
-layer_line p ws =
-    if bytes_eq (word_at ws 0) (codes "strict") then strict_line p ws
-    else if bytes_eq (word_at ws 0) (codes "edns") then edns_line p ws
-    else if bytes_eq (word_at ws 0) (codes "secret") then secret_line p ws
+-- a line of cookies, by its first word; else one of those
+unfoldable pub cookie_line : Plan → List (List ℕ) → Result Plan Reason
+cookie_line p ws =
+    if bytes_eq (word_at ws 0) (codes "secret") then secret_line p ws
     else if bytes_eq (word_at ws 0) (codes "deny") then deny_line p ws
     else server_line p ws
+
+-- a line that turns something on or off, by its first word; else one of those
+unfoldable pub switch_line : Plan → List (List ℕ) → Result Plan Reason
+switch_line p ws =
+    if bytes_eq (word_at ws 0) (codes "strict") then strict_line p ws
+    else if bytes_eq (word_at ws 0) (codes "edns") then edns_line p ws
+    else cookie_line p ws
 
 -- what a script says with the line of these words more
 unfoldable pub after_words : Plan → List (List ℕ) → Result Plan Reason
@@ -157,7 +162,7 @@ after_words p ws =
     if is_skipped ws then Ok p
     else if bytes_eq (word_at ws 0) (codes "rule") then rule_line p ws
     else if bytes_eq (word_at ws 0) (codes "notify") then notify_line p ws
-    else layer_line p ws
+    else switch_line p ws
 
 abbrev pub after_line : Plan → List ℕ → Result Plan Reason
 after_line p l = after_words p (words_of l)

@@ -1,14 +1,16 @@
 //! The answers that words spell.
 
-ghost use Rattle.std.specs.Prelude.{◌≡◌, MatchOption, take, drop, length, true, false};
+ghost use Rattle.std.specs.Prelude.{◌≡◌, [], MatchOption, take, drop, length, true, false};
 ghost use Rattle.std.specs.Str.{bytes_eq};
+ghost use Rattle.dns_trace.specs.Reading.{GivesLine};
 ghost use Rattle.dns_trace.specs.Values.{number};
-ghost use Rattle.dns_server.specs.AnswerWords.{answer_of, error_word, reply_word, sized_reply};
+ghost use Rattle.dns_server.specs.AnswerWords.{answer_of, answers_after, error_word, reply_word, sized_reply};
 
-use crate::rule::{ScriptAnswer, ScriptReply};
+use crate::rule::{ScriptAnswer, ScriptAnswers};
 use dns_name::Rcode;
 use dns_service::ServiceError;
-use dns_trace::{Reason, decimal};
+use dns_trace::{LineError, Reason, Words, decimal};
+use std::alloc::Global;
 
 /// What follows a prefix of a word.
 fn behind<'a>(word: &'a [u8], prefix: &[u8]) -> Option<&'a [u8]>
@@ -41,28 +43,28 @@ fn octets(word: &[u8]) -> Result<u16, Reason>
 
 /// A reply: `rcode:N`, `blank:N`, `fill:L` or `opt:L`.
 #[tactic(auto, unfolding(crate::specs::AnswerWords::reply_word))]
-fn reply(word: &[u8]) -> Result<ScriptReply, Reason>
+fn reply(word: &[u8]) -> Result<ScriptAnswer, Reason>
     ensures { result ≡ reply_word word.now }
 {
     if let Some(rest) = behind(word, b"rcode:".as_slice()) {
-        return Ok(ScriptReply::Rcode(rcode(rest)?));
+        return Ok(ScriptAnswer::Rcode(rcode(rest)?));
     }
     if let Some(rest) = behind(word, b"blank:".as_slice()) {
-        return Ok(ScriptReply::Blank(rcode(rest)?));
+        return Ok(ScriptAnswer::Blank(rcode(rest)?));
     }
     sized_reply(word)
 }
 
 /// A reply with so many zeros: `fill:L` or `opt:L`.
 #[tactic(auto, unfolding(crate::specs::AnswerWords::sized_reply))]
-fn sized_reply(word: &[u8]) -> Result<ScriptReply, Reason>
+fn sized_reply(word: &[u8]) -> Result<ScriptAnswer, Reason>
     ensures { result ≡ sized_reply word.now }
 {
     if let Some(rest) = behind(word, b"fill:".as_slice()) {
-        return Ok(ScriptReply::Fill(octets(rest)?));
+        return Ok(ScriptAnswer::Fill(octets(rest)?));
     }
     if let Some(rest) = behind(word, b"opt:".as_slice()) {
-        return Ok(ScriptReply::Opt(octets(rest)?));
+        return Ok(ScriptAnswer::Opt(octets(rest)?));
     }
     Err(Reason::Unbuilt)
 }
@@ -88,7 +90,7 @@ fn error(word: &[u8]) -> Option<ServiceError>
 
 /// An answer: `pend`, an error or a reply.
 #[tactic(auto, unfolding(crate::specs::AnswerWords::answer_of))]
-pub fn answer(word: &[u8]) -> Result<ScriptAnswer, Reason>
+fn answer(word: &[u8]) -> Result<ScriptAnswer, Reason>
     ensures { result ≡ answer_of word.now }
 {
     if word == b"pend".as_slice() {
@@ -97,5 +99,17 @@ pub fn answer(word: &[u8]) -> Result<ScriptAnswer, Reason>
     if let Some(error) = error(word) {
         return Ok(ScriptAnswer::Error(error));
     }
-    Ok(ScriptAnswer::Reply(reply(word)?))
+    reply(word)
+}
+
+/// The answers from the third word on.
+pub fn answers(alloc: Global, words: &Words) -> Result<ScriptAnswers, LineError>
+    ensures { GivesLine (λ a. a) result (answers_after [] (drop 2 words.now)) }
+{
+    let mut answers = Vec::new(alloc);
+    for i in 2..words.len() {
+        let given = answer(words.word(i))?;
+        answers.push(given)?;
+    }
+    Ok(ScriptAnswers::from_vec(alloc, answers)?)
 }

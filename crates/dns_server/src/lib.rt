@@ -22,7 +22,7 @@ pub use notify_rule::{NotifyRule, NotifyRules};
 pub use output_line::{line, refusal};
 pub use program::{Status, run};
 pub use reader::read_script;
-pub use rule::{Rule, Rules, ScriptAnswer, ScriptAnswers, ScriptReply};
+pub use rule::{Rule, Rules, ScriptAnswer, ScriptAnswers};
 pub use script::{Script, ScriptError};
 pub use script_service::{ScriptFuture, ScriptService, ScriptStream};
 pub use script_target::{ScriptTarget, ScriptVerdict};

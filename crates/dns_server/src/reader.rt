@@ -1,7 +1,7 @@
 //! The reader of a script.
 
 ghost use Rattle.std.specs.Prelude.{◌≡◌, ◌<◌, ◌^◌, [], drop, length};
-ghost use Rattle.dns_server.specs.Script.{after_line, after_words, layer_line, next_event_line, script, server_line};
+ghost use Rattle.dns_server.specs.Script.{after_line, after_words, cookie_line, next_event_line, script, server_line, switch_line};
 ghost use Rattle.dns_server.specs.ScriptReads.{ReadsScript, TakesLine};
 
 use crate::notify_lines::read_notify;
@@ -38,10 +38,25 @@ fn server_line(alloc: Global, script: &mut Script, words: &Words) -> Result<(), 
     event(alloc, script, words)
 }
 
-/// A line that sets something for the layers, or one of the others.
-#[tactic(auto, unfolding(crate::specs::Script::layer_line))]
-fn layer_line(alloc: Global, script: &mut Script, words: &Words) -> Result<(), LineError>
-    ensures { TakesLine result script.new (layer_line script.old words.now) }
+/// A line of cookies, or one of the others.
+#[tactic(auto, unfolding(crate::specs::Script::cookie_line))]
+fn cookie_line(alloc: Global, script: &mut Script, words: &Words) -> Result<(), LineError>
+    ensures { TakesLine result script.new (cookie_line script.old words.now) }
+{
+    let name = words.word(0);
+    if name == b"secret".as_slice() {
+        return read_secret(script, words);
+    }
+    if name == b"deny".as_slice() {
+        return read_deny(alloc, script, words);
+    }
+    server_line(alloc, script, words)
+}
+
+/// A line that turns something on or off, or one of the others.
+#[tactic(auto, unfolding(crate::specs::Script::switch_line))]
+fn switch_line(alloc: Global, script: &mut Script, words: &Words) -> Result<(), LineError>
+    ensures { TakesLine result script.new (switch_line script.old words.now) }
 {
     let name = words.word(0);
     if name == b"strict".as_slice() {
@@ -50,13 +65,7 @@ fn layer_line(alloc: Global, script: &mut Script, words: &Words) -> Result<(), L
     if name == b"edns".as_slice() {
         return read_edns(script, words);
     }
-    if name == b"secret".as_slice() {
-        return read_secret(script, words);
-    }
-    if name == b"deny".as_slice() {
-        return read_deny(alloc, script, words);
-    }
-    server_line(alloc, script, words)
+    cookie_line(alloc, script, words)
 }
 
 /// What a script says with the line of these words more.
@@ -73,7 +82,7 @@ fn after_words(alloc: Global, script: &mut Script, words: &Words) -> Result<(), 
     if words.word(0) == b"notify".as_slice() {
         return read_notify(alloc, script, words);
     }
-    layer_line(alloc, script, words)
+    switch_line(alloc, script, words)
 }
 
 /// What a script says with one line more.

@@ -15,20 +15,13 @@ pub enum ScriptAnswer {
     Pend,
     /// An error.
     Error(ServiceError),
-    /// A reply.
-    Reply(ScriptReply),
-}
-
-/// A reply of a rule.
-#[derive(Clone, Copy, Debug, PartialEq, Eq)]
-pub enum ScriptReply {
-    /// One with the request's questions and this response code.
+    /// A reply with the request's questions and this response code.
     Rcode(Rcode),
-    /// One that is a header alone, whose bits are zero but for this response code.
+    /// A reply that is a header alone, whose bits are zero but for this response code.
     Blank(Rcode),
-    /// One with the request's questions and an answer of so many zeros.
+    /// A reply with the request's questions and an answer of so many zeros.
     Fill(u16),
-    /// One with the request's questions and an OPT record with a padding of so many zeros.
+    /// A reply with the request's questions and an OPT record with a padding of so many zeros.
     Opt(u16),
 }
 

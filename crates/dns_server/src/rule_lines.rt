@@ -1,29 +1,15 @@
 //! The lines of the service's rules.
 
-ghost use Rattle.std.specs.Prelude.{◌≡◌, [], drop, option_map};
 ghost use Rattle.dns_trace.specs.Reading.{GivesLine};
-ghost use Rattle.dns_server.specs.AnswerWords.{answers_after};
 ghost use Rattle.dns_server.specs.Script.{rule_line, rule_name, rule_of};
 ghost use Rattle.dns_server.specs.ScriptReads.{TakesLine};
 
-use crate::answer_words::answer;
-use crate::rule::{Rule, ScriptAnswers};
+use crate::answer_words::answers;
+use crate::rule::Rule;
 use crate::script::Script;
 use dns_name::Name;
 use dns_trace::{LineError, Reason, Words, name};
 use std::alloc::Global;
-
-/// The answers from the third word on.
-fn answers(alloc: Global, words: &Words) -> Result<ScriptAnswers, LineError>
-    ensures { GivesLine (λ a. a) result (answers_after [] (drop 2 words.now)) }
-{
-    let mut answers = Vec::new(alloc);
-    for i in 2..words.len() {
-        let given = answer(words.word(i))?;
-        answers.push(given)?;
-    }
-    Ok(ScriptAnswers::from_vec(alloc, answers)?)
-}
 
 /// `*` for all names, or a name.
 #[tactic(auto, unfolding(crate::specs::Script::rule_name))]

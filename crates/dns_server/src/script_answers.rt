@@ -1,13 +1,14 @@
 //! The answers of a script, made for a message.
 
-ghost use Rattle.std.specs.Prelude.{◌≡◌, IfOk, MatchOption, true, false};
+ghost use Rattle.std.specs.Prelude.{◌≡◌, IfErr, IfOk, MatchOption, OnOk, Some, true, false};
+ghost use Rattle.std.specs.Result.{result_map_both};
 ghost use Rattle.dns_base.specs.Built.{with_answer};
 ghost use Rattle.dns_base.specs.Records.{IsLawful, record_of};
-ghost use Rattle.dns_base.specs.Replies.{answer_to, have_room};
+ghost use Rattle.dns_base.specs.Replies.{answer_to, have_room, within_limit};
 ghost use Rattle.dns_opt.specs.Drafts.{with_opt, with_opt_record};
-ghost use Rattle.dns_server.specs.Played.{PutsPadding, blank_reply, fill_record, fill_reply, given, new_builder, opt_reply, padded_draft, played_reply, replied_within, scripted};
+ghost use Rattle.dns_server.specs.Played.{PutsPadding, blank_reply, fill_record, fill_reply, given, new_builder, opt_reply, padded_draft, played_reply, replied_within};
 
-use crate::rule::{ScriptAnswer, ScriptReply};
+use crate::rule::ScriptAnswer;
 use dns_base::{
     AdditionalBuilder, AnswerBuilder, Message, MessageBuilder, PushError, Record, RecordData,
 };
@@ -24,28 +25,23 @@ pub fn make_answer(
 ) -> Result<Polled<Option<ServiceResult>>, OutOfMemory>
     ensures { IfOk result (λ p. p ≡ given message.now answer) }
 {
-    let item = match answer {
-        ScriptAnswer::Pend => return Ok(Polled::Pending),
-        ScriptAnswer::Error(error) => Err(error),
-        ScriptAnswer::Reply(reply) => make_reply(alloc, message, reply)?,
-    };
-    Ok(Polled::Ready(Some(item)))
+    match answer {
+        ScriptAnswer::Pend => Ok(Polled::Pending),
+        ScriptAnswer::Error(error) => Ok(Polled::Ready(Some(Err(error)))),
+        ScriptAnswer::Rcode(rcode) => ready(make_reply(alloc, message, rcode)),
+        ScriptAnswer::Blank(rcode) => ready(make_blank(alloc, rcode)),
+        ScriptAnswer::Fill(len) => ready(make_filled(alloc, message, len)),
+        ScriptAnswer::Opt(len) => ready(make_padded(alloc, message, len)),
+    }
 }
 
-/// A reply to a message.
-fn make_reply(
-    alloc: Global,
-    message: &Message,
-    reply: ScriptReply,
-) -> Result<ServiceResult, OutOfMemory>
-    ensures { IfOk result (λ i. i ≡ scripted message.now reply) }
+/// An item is there, once it was made.
+fn ready(
+    made: Result<ServiceResult, OutOfMemory>,
+) -> Result<Polled<Option<ServiceResult>>, OutOfMemory>
+    ensures { result ≡ result_map_both (λ i. Polled.Ready (Some i)) (λ e. e) made }
 {
-    match reply {
-        ScriptReply::Rcode(rcode) => make_bare(alloc, message, rcode),
-        ScriptReply::Blank(rcode) => make_blank(alloc, rcode),
-        ScriptReply::Fill(len) => make_filled(alloc, message, len),
-        ScriptReply::Opt(len) => make_padded(alloc, message, len),
-    }
+    Ok(Polled::Ready(Some(made?)))
 }
 
 /// An answer to a message is begun; none where there is no room for the questions.
@@ -65,7 +61,7 @@ fn begin(
 }
 
 /// A reply with this response code, or the error `servfail` where the questions have no room.
-fn make_bare(alloc: Global, message: &Message, rcode: Rcode) -> Result<ServiceResult, OutOfMemory>
+fn make_reply(alloc: Global, message: &Message, rcode: Rcode) -> Result<ServiceResult, OutOfMemory>
     ensures { IfOk result (λ i. i ≡ played_reply message.now rcode) }
 {
     match begin(alloc, message, rcode)? {
@@ -89,24 +85,31 @@ fn make_blank(alloc: Global, rcode: Rcode) -> Result<ServiceResult, OutOfMemory>
 fn make_filled(alloc: Global, message: &Message, len: u16) -> Result<ServiceResult, OutOfMemory>
     ensures { IfOk result (λ i. i ≡ fill_reply message.now len) }
 {
-    let record = zeros(alloc, len)?;
     match begin(alloc, message, Rcode::NOERROR)? {
-        Some(reply) => fill(alloc, reply, &record),
+        Some(reply) => fill(alloc, reply, len),
         None => Ok(Err(ServiceError::InternalError)),
     }
 }
 
-/// What is begun with an answer more.
-fn fill(alloc: Global, reply: AnswerBuilder, record: &Record) -> Result<ServiceResult, OutOfMemory>
-    requires { IsLawful record.now.rdata }
-    ensures { IfOk result (λ i. i ≡ replied_within (with_answer reply (record_of record.now)) (with_answer reply (record_of record.now))) }
+/// What is begun with an answer of so many zeros more.
+fn fill(alloc: Global, reply: AnswerBuilder, len: u16) -> Result<ServiceResult, OutOfMemory>
+    ensures { IfOk result (λ i. i ≡ replied_within (with_answer reply (fill_record len)) (with_answer reply (fill_record len))) }
 {
     let mut reply = reply;
-    match reply.push(alloc, record) {
+    match put_zeros(&mut reply, alloc, len) {
         Ok(()) => Ok(Ok(CallResult::new(reply.additional()))),
         Err(PushError::ShortBuf) => Ok(Err(ServiceError::InternalError)),
         Err(PushError::OutOfMemory) => Err(OutOfMemory),
     }
+}
+
+/// Appends an answer of so many zeros, where it has room.
+fn put_zeros(reply: &mut AnswerBuilder, alloc: Global, len: u16) -> Result<(), PushError>
+    ensures added { OnOk result ((reply.new ≡ with_answer reply.old (fill_record len)) × (within_limit (with_answer reply.old (fill_record len)) ≡ true)) }
+    ensures full { IfErr result (λ e. e ≡ PushError.ShortBuf → within_limit (with_answer reply.old (fill_record len)) ≡ false) }
+{
+    let record = zeros(alloc, len)?;
+    reply.push(alloc, &record)
 }
 
 /// The record of so many zeros.
