@@ -1,8 +1,9 @@
 //! Waits for a verdict, and then replies once.
 
-ghost use Rattle.std.specs.Prelude.{◌≡◌, ℕ, IfOk};
+ghost use Rattle.std.specs.Prelude.{◌≡◌, ℕ, suc, IfOk};
 ghost use Rattle.std.specs.Arc.{arc_value};
-ghost use Rattle.dns_middleware.specs.Notify.{ask_answer, ask_size, asking};
+ghost use Rattle.dns_service.specs.Answer.{IfPending};
+ghost use Rattle.dns_middleware.specs.Notify.{ask_answer, ask_size, asking, verdict_answer};
 ghost use Rattle.dns_middleware.specs.Verdicts.{verdict_on};
 
 use crate::notice::Notice;
@@ -28,14 +29,13 @@ impl<V: VerdictFuture> ReplyStream for AskStream<V> {
     fn poll_next(&mut self, alloc: Global) -> Result<Polled<Option<ServiceResult>>, OutOfMemory> {
         match self {
             AskStream::Answered => Ok(Polled::Ready(None)),
-            AskStream::Asking(future, request) => match future.poll(alloc)? {
-                Polled::Pending => Ok(Polled::Pending),
-                Polled::Ready(verdict) => {
-                    let reply = notify_reply(alloc, request, verdict)?;
+            AskStream::Asking(future, request) => {
+                let polled = poll_verdict(alloc, future, request)?;
+                if let Polled::Ready(_) = &polled {
                     *self = AskStream::Answered;
-                    Ok(Polled::Ready(Some(Ok(CallResult::new(reply)))))
                 }
-            },
+                Ok(polled)
+            }
         }
     }
 
@@ -43,6 +43,24 @@ impl<V: VerdictFuture> ReplyStream for AskStream<V> {
         match self {
             AskStream::Asking(_, _) => (1, Some(1)),
             AskStream::Answered => (0, Some(0)),
+        }
+    }
+}
+
+/// Polls a verdict on a message: pending as it is, and then the reply.
+fn poll_verdict<V: VerdictFuture>(
+    alloc: Global,
+    future: &mut V,
+    request: &Message,
+) -> Result<Polled<Option<ServiceResult>>, OutOfMemory>
+    ensures now { IfOk result (λ p. p ≡ verdict_answer request.now (V.verdict future.old 0)) }
+    ensures later { IfOk result (IfPending ((k : ℕ) → V.verdict future.new k ≡ V.verdict future.old (suc k))) }
+{
+    match future.poll(alloc)? {
+        Polled::Pending => Ok(Polled::Pending),
+        Polled::Ready(verdict) => {
+            let reply = notify_reply(alloc, request, verdict)?;
+            Ok(Polled::Ready(Some(Ok(CallResult::new(reply)))))
         }
     }
 }

@@ -1,7 +1,9 @@
 //! The replies of the service in its layers, as one type that nests nothing.
 
-ghost use Rattle.std.specs.Prelude.{◌≡◌, ℕ, IfOk, OnOk};
-ghost use Rattle.dns_middleware.specs.WrappedStreams.{wrapped_answer, wrapped_size};
+ghost use Rattle.std.specs.Prelude.{◌≡◌, ℕ, suc, IfOk, OnOk};
+ghost use Rattle.dns_service.specs.Answer.{mapped};
+ghost use Rattle.dns_middleware.specs.Rewritten.{rewritten};
+ghost use Rattle.dns_middleware.specs.WrappedStreams.{wrap_by, wrapped_answer, wrapped_size};
 
 use crate::ask_stream::AskStream;
 use crate::notifiable::VerdictFuture;
@@ -33,20 +35,8 @@ where
     fn poll_next(&mut self, alloc: Global) -> Result<Polled<Option<ServiceResult>>, OutOfMemory> {
         match self {
             WrappedStream::Own(stream) => stream.poll_next(alloc),
-            WrappedStream::Asking(stream, post) => {
-                let mut polled = stream.poll_next(alloc);
-                if let Ok(answer) = &mut polled {
-                    rewrite_answer(post, alloc, answer)?;
-                }
-                polled
-            }
-            WrappedStream::Passed(stream, post) => {
-                let mut polled = stream.poll_next(alloc);
-                if let Ok(answer) = &mut polled {
-                    rewrite_answer(post, alloc, answer)?;
-                }
-                polled
-            }
+            WrappedStream::Asking(stream, post) => poll_rewritten(alloc, stream, post),
+            WrappedStream::Passed(stream, post) => poll_rewritten(alloc, stream, post),
         }
     }
 
@@ -57,4 +47,20 @@ where
             WrappedStream::Passed(stream, _) => stream.size_hint(),
         }
     }
+}
+
+/// Polls a stream, and rewrites the reply that it gives.
+fn poll_rewritten<R: ReplyStream>(
+    alloc: Global,
+    stream: &mut R,
+    post: &WrapPost,
+) -> Result<Polled<Option<ServiceResult>>, OutOfMemory>
+    ensures now { IfOk result (λ p. p ≡ mapped (rewritten (wrap_by post.now)) (R.answer stream.old 0)) }
+    ensures later { OnOk result ((k : ℕ) → R.answer stream.new k ≡ R.answer stream.old (suc k)) }
+{
+    let mut polled = stream.poll_next(alloc);
+    if let Ok(answer) = &mut polled {
+        rewrite_answer(post, alloc, answer)?;
+    }
+    polled
 }
