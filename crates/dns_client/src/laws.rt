@@ -2,8 +2,6 @@
 
 ghost use Rattle.dns_client.specs.Serving.{Serving};
 ghost use Rattle.std.specs.Prelude.{◌≡◌, ℕ, List, ◌++◌};
-ghost use Rattle.dns_service.specs.Answer.{Answer};
-ghost use Rattle.dns_service.specs.Req.{Req};
 ghost use Rattle.dns_client.specs.Frames.{frames, behind_frames};
 ghost use Rattle.dns_client.specs.Pieces.{piece_of, IsCut};
 ghost use Rattle.dns_client.specs.Slate.{Slate};

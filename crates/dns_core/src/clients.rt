@@ -5,8 +5,6 @@ ghost use Rattle.std.specs.Prelude.{◌≡◌, ◌≢◌, ℕ, [], ◌∷◌, �
 ghost use Rattle.std.specs.Ordering.{nat_cmp};
 ghost use Rattle.std.specs.BTreeMap.{get};
 ghost use Rattle.std.specs.BTreeSet.{contains};
-ghost use Rattle.dns_service.specs.Answer.{Answer};
-ghost use Rattle.dns_service.specs.Req.{Req};
 ghost use Rattle.dns_service.specs.PolledRequest.{request_answer};
 ghost use Rattle.dns_client.specs.Slate.{Slate};
 ghost use Rattle.dns_client.specs.Spent.{is_spent};
@@ -78,7 +76,7 @@ fn keep<W: Served>(
 }
 
 /// A client that begins enters, unless it is finished at once.
-pub fn enter<W: Served>(
+fn enter<W: Served>(
     clients: &mut BTreeMap<u64, ClientCore<W>>,
     client: u64,
     core: ClientCore<W>,
@@ -96,10 +94,28 @@ pub fn enter<W: Served>(
 }
 
 /// A number is used from now on.
-pub fn use_number(used: &mut BTreeSet<u64>, client: u64) -> Result<(), OutOfMemory>
+fn use_number(used: &mut BTreeSet<u64>, client: u64) -> Result<(), OutOfMemory>
     ensures { OnOk result ((c : ℕ) → contains nat_cmp used.new c ≡ (if nat_eq c client then true else contains nat_cmp used.old c)) }
 {
     used.insert(client)?;
+    Ok(())
+}
+
+/// A client that begins enters, and its number is used from now on.
+pub fn begin<W: Served>(
+    clients: &mut BTreeMap<u64, ClientCore<W>>,
+    used: &mut BTreeSet<u64>,
+    client: u64,
+    core: ClientCore<W>,
+) -> Result<(), OutOfMemory>
+    ensures here { OnOk result (get nat_cmp clients.new client ≡ (if state_is_spent core.state then get nat_cmp clients.old client else Some core)) }
+    ensures others { OnOk result ((c : ℕ) → c ≢ client → get nat_cmp clients.new c ≡ get nat_cmp clients.old c) }
+    ensures spent { OnOk result ((answers : Serving) (s : Slate)
+        → Stands (request_answer W.Future.answer W.Stream.answer) answers core s → state_is_spent core.state ≡ is_spent s) }
+    ensures used { OnOk result ((c : ℕ) → contains nat_cmp used.new c ≡ (if nat_eq c client then true else contains nat_cmp used.old c)) }
+{
+    enter(clients, client, core)?;
+    use_number(used, client)?;
     Ok(())
 }
 

@@ -1,11 +1,9 @@
 //! The server over a list of events.
 
 ghost use Rattle.dns_client.specs.Serving.{Serving, serving};
-ghost use Rattle.std.specs.Prelude.{◌≡◌, ◌<◌, ◌-◌, if◌then◌else◌, ℕ, List, [], false, IfOk};
+ghost use Rattle.std.specs.Prelude.{◌≡◌, ◌<◌, ◌-◌, if◌then◌else◌, ℕ, List, [], false, IfOk, OnOk};
 ghost use Rattle.std.specs.BTreeSet.{contains};
 ghost use Rattle.std.specs.Ordering.{nat_cmp};
-ghost use Rattle.dns_service.specs.Answer.{Answer};
-ghost use Rattle.dns_service.specs.Req.{Req};
 ghost use Rattle.dns_service.specs.Config.{Dgram};
 ghost use Rattle.dns_service.specs.PolledRequest.{request_answer};
 ghost use Rattle.dns_core.specs.Out.{begins, is_release, out};
@@ -13,7 +11,7 @@ ghost use Rattle.dns_core.specs.Early.{GivesNoFeedback};
 ghost use Rattle.dns_middleware.specs.Verdicts.{verdict_on};
 ghost use Rattle.dns_middleware.specs.Wrapped.{hint_left, replies};
 
-use crate::clients::{append, enter, step_at, turn_away, use_number};
+use crate::clients::{append, begin, step_at, turn_away};
 use dns_base::SocketAddr;
 use dns_client::ClientCore;
 use dns_middleware::{Notifiable, Settings, wrap};
@@ -34,7 +32,7 @@ pub struct Server<W: Served> {
 }
 
 impl<W: Served> Server<W> {
-    ghost use Rattle.dns_core.specs.Server.{Serves, Goes};
+    ghost use Rattle.dns_core.specs.Server.{Serves, Goes, Adds};
 
     fn new(alloc: Global, settings: &Settings) -> Self
         ensures { (answers : Serving) → Serves (request_answer W.Future.answer W.Stream.answer) answers settings.now [] result }
@@ -85,8 +83,7 @@ impl<W: Served> Server<W> {
             octets,
             &self.dgram,
         )?;
-        enter(&mut self.clients, event.client, core)?;
-        use_number(&mut self.used, event.client)?;
+        begin(&mut self.clients, &mut self.used, event.client, core)?;
         Ok(outs)
     }
 
@@ -127,8 +124,7 @@ impl<W: Served> Server<W> {
         ensures { IfOk result (λ outs. Goes (request_answer W.Future.answer W.Stream.answer) (serving (W.answer service.now) (W.hint service.now)) self.old self.new event.now outs.items) }
     {
         let core = ClientCore::admit(alloc, event.client, addr, &self.stream)?;
-        enter(&mut self.clients, event.client, core)?;
-        use_number(&mut self.used, event.client)?;
+        begin(&mut self.clients, &mut self.used, event.client, core)?;
         self.taken += 1;
         Ok(Vec::new(alloc))
     }
@@ -166,6 +162,22 @@ impl<W: Served> Server<W> {
             EventKind::Write { .. } => self.own(alloc, service, event),
         }
     }
+
+    /// One event, of which what is sent is appended.
+    fn answer(
+        &mut self,
+        alloc: Global,
+        service: &W,
+        event: &Event,
+        outs: &mut Vec<Output>,
+    ) -> Result<(), OutOfMemory>
+        requires { W.can_call service.now }
+        ensures { OnOk result (Adds (request_answer W.Future.answer W.Stream.answer) (serving (W.answer service.now) (W.hint service.now)) self.old self.new event.now outs.old.items outs.new.items) }
+    {
+        let more = self.one(alloc, service, event)?;
+        append(outs, more)?;
+        Ok(())
+    }
 }
 
 /// A slot is given back where the release finishes its client.
@@ -192,8 +204,7 @@ pub fn serve<W: Served>(
     let mut server = Server::new(alloc, settings);
     let mut outs = Vec::new(alloc);
     for event in events {
-        let more = server.one(alloc, service, event)?;
-        append(&mut outs, more)?;
+        server.answer(alloc, service, event, &mut outs)?;
     }
     Ok(outs)
 }

@@ -1,8 +1,8 @@
 use Rattle.dns_client.specs.Serving.{serving}
-use Rattle.std.proofs.Common.{◌≡◌, ◌+◌, ap, sym, ◌∙◌, ◌∷◌, ◌++◌, [], take, drop, length, ◌<◌, add-one, drop-cons}
+use Rattle.std.proofs.Common.{◌≡◌, ◌+◌, refl, ap, sym, ◌∙◌, ◌∷◌, ◌++◌, [], take, drop, length, ◌<◌, add-one, drop-cons}
 use Rattle.std.proofs.lemmas.List.{take_more}
 use Rattle.dns_service.specs.declared.event.Event.{Event}
-use Rattle.dns_core.specs.Out.{out, out_after}
+use Rattle.dns_core.specs.Out.{gained, out, out_after}
 use Rattle.dns_core.proofs.OutLemmas.{told_more}
 use Rattle.dns_core.proofs.server.serve.Goals as goal
 
@@ -22,8 +22,9 @@ loop-event-preserved g c =
     let lt : i < length es = c.loop-event-test.true in
     let t : take (i + 1) es ≡ take i es ++ e ∷ [] = take_more es i e lt ∙ ap (λ (x : Event). take i es ++ x ∷ []) (sym c.event-item.is) in
     let d : drop i es ≡ e ∷ drop (i + 1) es = rw add-one (drop-cons es i e lt) ∙ ap (λ (x : Event). x ∷ drop (i + 1) es) (sym c.event-item.is) in
-    let f = c.in_ok-more.ensures c.args.settings.now (take i es) c.loop-event.invariant.serves in
+    let s = c.args.settings.now in
+    let f = c.in_ok-answer.ensures s (take i es) c.loop-event.invariant.serves in
     record {
-      told = rw (c.in_ok-append.ensures, t) (told_more b c.args.settings.now (take i es) (drop (i + 1) es) e c.loop-event.outs.items c.in_ok-more.more.items (out b c.args.settings.now es) (rw d at c.loop-event.invariant.told) f.0);
+      told = rw (f.0, t) (told_more b s (take i es) (drop (i + 1) es) e c.loop-event.outs.items (gained b s (take i es) e) (out b s es) (rw d at c.loop-event.invariant.told) refl);
       serves = rw t f.1;
     }

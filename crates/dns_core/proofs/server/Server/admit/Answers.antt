@@ -22,9 +22,9 @@ returns g c = λ settings q h.
     let p : s.phase ≡ Unused = ap (λ (t : Slate). t.phase) n.unused in
     let is = offered b e s c.args.addr c.requires.kind p in
     let held : holds_slot (slate b settings e.client (q ++ e ∷ [])) ≡ true = ap holds_slot (slate_same b settings q e) ∙ ap (λ (t : Told). holds_slot t.0) is ∙ ap (λ (x : Slate). not x.freed) n.unused in
-    begin_goes a b settings c.args.self.now c.enter.new.clients c.use_number.new.used (c.args.self.now.taken + 1) c.in_ok-core.core (state_is_spent c.in_ok-core.core.state) q e c.new.result.items n
+    begin_goes a b settings c.args.self.now c.begin.new.clients c.begin.new.used (c.args.self.now.taken + 1) c.in_ok-core.core (state_is_spent c.in_ok-core.core.state) q e c.new.result.items n
     (members_offer b settings q e true n.is_new (ap is_datagram c.requires.kind) (sym (room_is a b settings c.args.self.now q h) ∙ lt-ltb c.args.self.now.taken c.args.self.now.stream.max_concurrent_connections c.requires.room))
     (ap (λ (x : ℕ). x + 1) h.slots ∙ sym (taken_put b settings q e (members b settings q) held n.no_member))
     (rw is (c.new.ensures.items, c.in_ok-core.ensures b s n.unused n.stream))
-    (ap (λ (t : Told). is_unused t.0.phase) is) (c.in_ok-enter.ensures.spent b) c.in_ok-enter.ensures.here c.in_ok-enter.ensures.others
-    c.in_ok-use_number.ensures h
+    (ap (λ (t : Told). is_unused t.0.phase) is) (c.in_ok-begin.ensures.spent b) c.in_ok-begin.ensures.here c.in_ok-begin.ensures.others
+    c.in_ok-begin.ensures.used h

@@ -24,9 +24,9 @@ returns g c = λ settings q h.
     let p : s.phase ≡ Unused = ap (λ (t : Slate). t.phase) n.unused in
     let is = begun b e s c.args.addr c.args.octets.now c.requires.kind p in
     let free : holds_slot (slate b settings e.client (q ++ e ∷ [])) ≡ false = ap holds_slot (slate_same b settings q e) ∙ ap (λ (t : Told). holds_slot t.0) is in
-    begin_goes a b settings c.args.self.now c.enter.new.clients c.use_number.new.used c.args.self.now.taken c.in_ok-core.core (state_is_spent c.in_ok-core.core.state) q e c.in_ok-core.outs.items n
+    begin_goes a b settings c.args.self.now c.begin.new.clients c.begin.new.used c.args.self.now.taken c.in_ok-core.core (state_is_spent c.in_ok-core.core.state) q e c.in_ok-core.outs.items n
     (members_datagram b settings q e n.is_new (ap is_datagram c.requires.kind))
     (h.slots ∙ sym (taken_put_not b settings q e (members b settings q) free n.no_member))
     (rw is (c.in_ok-core.ensures s n.unused n.dgram))
-    (ap (λ (t : Told). is_unused t.0.phase) is) (c.in_ok-enter.ensures.spent b) c.in_ok-enter.ensures.here c.in_ok-enter.ensures.others
-    c.in_ok-use_number.ensures h
+    (ap (λ (t : Told). is_unused t.0.phase) is) (c.in_ok-begin.ensures.spent b) c.in_ok-begin.ensures.here c.in_ok-begin.ensures.others
+    c.in_ok-begin.ensures.used h
