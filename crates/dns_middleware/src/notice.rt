@@ -7,8 +7,8 @@ ghost use Rattle.dns_base.specs.Sections.{first_of, questions_of};
 ghost use Rattle.dns_middleware.specs.Notify.{notice_by, notice_of, serial_among, serial_read, soa_serial, told_serial};
 
 use dns_base::{
-    Class, IpAddr, Message, Name, Opcode, OutOfMemory, ParseError, QuestionRef, Record,
-    RecordData, RecordIter, RecordRef, Rtype, Serial,
+    Class, IpAddr, Message, Name, Opcode, OutOfMemory, ParseError, QuestionRef, Record, RecordData,
+    RecordIter, RecordRef, Rtype, Serial,
 };
 use dns_service::{Asked, Request};
 use std::alloc::Global;

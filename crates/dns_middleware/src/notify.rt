@@ -2,6 +2,7 @@
 
 ghost use Rattle.std.specs.Prelude.{◌≡◌, ℕ, IfOk, OnErr, OnOk};
 ghost use Rattle.dns_service.specs.declared.message.Request.{Request};
+ghost use Rattle.dns_service.specs.Transport.{hinted};
 ghost use Rattle.dns_middleware.specs.Notify.{asking, notice_of, notify, notify_hint};
 ghost use Rattle.dns_middleware.specs.Verdicts.{verdict_on};
 
@@ -59,19 +60,28 @@ where
     ) -> Result<Now<NotifyStream<S, N, Meta>>, OutOfMemory> {
         match read_notice(alloc, request)? {
             Some(notice) => of_asked::<S, N, Meta>(alloc, &self.target, request, notice),
-            None => {
-                let future = self.next.call(alloc, request)?;
-                Ok(of_inner::<S, Meta, _, _>(future))
-            }
+            None => pass::<S, N, Meta>(alloc, &self.next, request),
         }
     }
 }
 
-/// What a request asks the target.
-fn read_notice<Meta>(
+/// The replies of the service inside.
+fn pass<S: Service<Meta>, N: Notifiable, Meta>(
     alloc: Global,
-    request: &Request<Meta>,
-) -> Result<Option<Notice>, OutOfMemory>
+    next: &S,
+    request: &mut Request<Meta>,
+) -> Result<Now<NotifyStream<S, N, Meta>>, OutOfMemory>
+    requires { S.can_call next.now }
+    ensures answers { IfOk result (λ f. (k : ℕ) → ⟦<Now<NotifyStream<S, N, Meta>> as ReplyFuture>⟧.answer f k ≡ S.answer next.now request.old k) }
+    ensures kept { OnOk result (request.new ≡ record request.old { transport = hinted (S.hint next.now request.old) request.old.transport; reserved = request.new.reserved }) }
+    ensures refused { OnErr result (request.new ≡ request.old) }
+{
+    let future = next.call(alloc, request)?;
+    Ok(of_inner::<S, Meta, _, _>(future))
+}
+
+/// What a request asks the target.
+fn read_notice<Meta>(alloc: Global, request: &Request<Meta>) -> Result<Option<Notice>, OutOfMemory>
     ensures { IfOk result (λ notice. notice ≡ notice_of request.now) }
 {
     let asked = read_asked(request.message());
