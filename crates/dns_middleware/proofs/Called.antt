@@ -47,9 +47,9 @@ pub rule-passed : {Meta : Type 0} → (s : Settings) (r : Req Meta) (t : Transpo
     → t ≡ r.transport → a ≡ asked_of r.octets → size ≡ size_by s (asked_of r.octets) → hint ≡ hint_of (transport_by size t) → post ≡ wrap_rule s.edns t (limit hint) a → post ≡ rule_for s r (hint_of (passed s r).transport)
 rule-passed s r t a size hint post et ea es eh e =
     let left : hint ≡ hint_of (passed s r).transport =
-        eh
-        ∙ ap (λ (x : Option ℕ). hint_of (transport_by x t)) es
-        ∙ ap (λ (x : TransportSpecificContext). hint_of (transport_by (size_by s (asked_of r.octets)) x)) et in
+    eh
+    ∙ ap (λ (x : Option ℕ). hint_of (transport_by x t)) es
+    ∙ ap (λ (x : TransportSpecificContext). hint_of (transport_by (size_by s (asked_of r.octets)) x)) et in
     rule-made s r t a hint (hint_of (passed s r).transport) post et ea left e
 
 -- what is refused, by what was read of a request
@@ -90,7 +90,7 @@ pub cookie-answer : {Meta : Type 0} → (s : Settings) (svc : Req Meta → ℕ �
     → None ≡ refusal_of s r → post ≡ rule_for s r (hint_of (passed s r).transport) → message_in found ≡ option_map (wrap_by post) (cookie_own s.cookies s.denied r) → found ≡ Some reply → own_reply reply.message k ≡ replies s svc tgt r k
 cookie-answer s svc tgt r k found reply post x p e is =
     own-answer s svc tgt r k reply.message (cookie_own s.cookies s.denied r) x refl
-        (sym (ap message_in is) ∙ e ∙ ap (λ (q : WrapPost). option_map (wrap_by q) (cookie_own s.cookies s.denied r)) p)
+    (sym (ap message_in is) ∙ e ∙ ap (λ (q : WrapPost). option_map (wrap_by q) (cookie_own s.cookies s.denied r)) p)
 
 -- it has none
 no-message : (f : Msg → Msg) (own : Option Msg) → None ≡ option_map f own → None ≡ own

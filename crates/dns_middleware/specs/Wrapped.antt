@@ -64,13 +64,16 @@ size_by s a = if s.edns then client_size a.opt else None
 abbrev pub passed : {Meta : Type 0} → Settings → Req Meta → Req Meta
 passed s r = passed_by (size_by s (asked_of r.octets)) r
 
--- how a request is taken: the first case that fits
-abbrev pub gate : {Meta : Type 0} → Settings → Req Meta → Gate Meta
-gate s r =
-    refused_or r.octets (refusal_of s r)
-    (inner_or (cookie_own s.cookies s.denied r)
+-- how a request is taken that isn't refused: the first case that fits
+abbrev pub inner_gate : {Meta : Type 0} → Settings → Req Meta → Gate Meta
+inner_gate s r =
+    inner_or (cookie_own s.cookies s.denied r)
     (ask_or (notice_of r)
-    (Pass (passed s r))))
+    (Pass (passed s r)))
+
+-- how a request is taken
+abbrev pub gate : {Meta : Type 0} → Settings → Req Meta → Gate Meta
+gate s r = refused_or r.octets (refusal_of s r) (inner_gate s r)
 
 -- the hint that the request has after the call
 abbrev pub left_by : {Meta : Type 0} → Option Refusal → Settings → Req Meta → Option ℕ

@@ -21,6 +21,7 @@ mod rewrite;
 mod settings;
 mod wrap_post;
 mod wrapped;
+mod wrapped_calls;
 mod wrapped_future;
 mod wrapped_stream;
 

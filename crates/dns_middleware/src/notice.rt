@@ -3,11 +3,12 @@
 ghost use Rattle.std.specs.Prelude.{◌≡◌, IfOk};
 ghost use Rattle.dns_service.specs.declared.message.Request.{Request};
 ghost use Rattle.dns_service.specs.Asked.{asked_of};
-ghost use Rattle.dns_middleware.specs.Notify.{notice_of, soa_serial, told_serial};
+ghost use Rattle.dns_base.specs.Sections.{first_of, questions_of};
+ghost use Rattle.dns_middleware.specs.Notify.{notice_by, notice_of, serial_among, serial_read, soa_serial, told_serial};
 
 use dns_base::{
-    Class, IpAddr, Message, Name, Opcode, OutOfMemory, ParseError, QuestionRef, RecordData, Rtype,
-    Serial,
+    Class, IpAddr, Message, Name, Opcode, OutOfMemory, ParseError, QuestionRef, Record, RecordData,
+    RecordIter, RecordRef, Rtype, Serial,
 };
 use dns_service::{Asked, Request};
 use std::alloc::Global;
@@ -37,14 +38,24 @@ pub(crate) fn notice_of<Meta>(
     if asked.opcode != Opcode::NOTIFY {
         return Ok(None);
     }
-    let message: &Message = request.message();
+    notice_in(alloc, request.message(), request.client_addr().ip)
+}
+
+/// What a message from a sender asks, where its first question is for a zone's start.
+fn notice_in(
+    alloc: Global,
+    message: &Message,
+    source: IpAddr,
+) -> Result<Option<Notice>, OutOfMemory>
+    ensures { IfOk result (λ notice. notice ≡ notice_by message.now source (first_of (questions_of message.now).0)) }
+{
     let Some(question) = message.first_question() else {
         return Ok(None);
     };
     if question.qtype() != Rtype::SOA {
         return Ok(None);
     }
-    let notice = made_notice(alloc, message, &question, request.client_addr().ip)?;
+    let notice = made_notice(alloc, message, &question, source)?;
     Ok(Some(notice))
 }
 
@@ -71,18 +82,39 @@ fn made_notice(
 fn told_serial(alloc: Global, message: &Message) -> Result<Option<Serial>, OutOfMemory>
     ensures { IfOk result (λ s. s ≡ told_serial message.now) }
 {
-    let Ok(records) = message.answer() else {
-        return Ok(None);
-    };
+    match message.answer() {
+        Ok(records) => first_serial(alloc, records),
+        Err(_) => Ok(None),
+    }
+}
+
+/// The serial in the first of some records.
+fn first_serial(alloc: Global, records: RecordIter<'_>) -> Result<Option<Serial>, OutOfMemory>
+    ensures { IfOk result (λ s. s ≡ serial_among records.entry) }
+{
     let mut left = records;
-    let Some(Ok(record)) = left.next() else {
-        return Ok(None);
-    };
+    match left.next() {
+        Some(Ok(record)) => serial_in(alloc, &record),
+        _ => Ok(None),
+    }
+}
+
+/// The serial in a record, where that is a zone's start and can be read.
+fn serial_in(alloc: Global, record: &RecordRef<'_>) -> Result<Option<Serial>, OutOfMemory>
+    ensures { IfOk result (λ s. s ≡ serial_read record.now.content) }
+{
     match record.to_record(alloc) {
-        Ok(record) => Ok(soa_serial(&record.rdata)),
+        Ok(record) => Ok(serial_of(record)),
         Err(ParseError::OutOfMemory) => Err(OutOfMemory),
         Err(_) => Ok(None),
     }
+}
+
+/// The serial of a record, where that is a zone's start.
+fn serial_of(record: Record) -> Option<Serial>
+    ensures { result ≡ soa_serial record.rdata }
+{
+    soa_serial(&record.rdata)
 }
 
 /// The serial of a zone's start.

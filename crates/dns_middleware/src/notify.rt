@@ -1,13 +1,16 @@
 //! The NOTIFY layer (RFC 1996).
 
 ghost use Rattle.std.specs.Prelude.{◌≡◌, ℕ, IfOk, OnErr, OnOk};
-ghost use Rattle.dns_middleware.specs.Notify.{notify, notify_hint};
+ghost use Rattle.dns_service.specs.declared.message.Request.{Request};
+ghost use Rattle.dns_service.specs.Transport.{hinted};
+ghost use Rattle.dns_middleware.specs.Notify.{asking, notice_of, notify, notify_hint};
 ghost use Rattle.dns_middleware.specs.Verdicts.{verdict_on};
 
 use crate::ask_stream::{AskStream, ask};
-use crate::notice::notice_of;
+use crate::layered::of_inner;
+use crate::notice::{Notice, notice_of};
 use crate::notifiable::Notifiable;
-use dns_service::{Request, Service, read_asked};
+use dns_service::{ReplyFuture, Request, Service, read_asked};
 use dns_stream::{MiddlewareStream, Now, Once, OutOfMemory};
 use std::alloc::Global;
 
@@ -55,16 +58,45 @@ where
         alloc: Global,
         request: &mut Request<Meta>,
     ) -> Result<Now<NotifyStream<S, N, Meta>>, OutOfMemory> {
-        let asked = read_asked(request.message());
-        match notice_of(alloc, request, &asked)? {
-            Some(notice) => {
-                let stream = ask(alloc, &self.target, request.message(), &notice)?;
-                Ok(Now::new(MiddlewareStream::Result(stream)))
-            }
-            None => {
-                let future = self.next.call(alloc, request)?;
-                Ok(Now::new(MiddlewareStream::IdentityFuture(future)))
-            }
+        match read_notice(alloc, request)? {
+            Some(notice) => of_asked::<S, N, Meta>(alloc, &self.target, request, notice),
+            None => pass::<S, N, Meta>(alloc, &self.next, request),
         }
     }
+}
+
+/// The replies of the service inside.
+fn pass<S: Service<Meta>, N: Notifiable, Meta>(
+    alloc: Global,
+    next: &S,
+    request: &mut Request<Meta>,
+) -> Result<Now<NotifyStream<S, N, Meta>>, OutOfMemory>
+    requires { S.can_call next.now }
+    ensures answers { IfOk result (λ f. (k : ℕ) → ⟦<Now<NotifyStream<S, N, Meta>> as ReplyFuture>⟧.answer f k ≡ S.answer next.now request.old k) }
+    ensures kept { OnOk result (request.new ≡ record request.old { transport = hinted (S.hint next.now request.old) request.old.transport; reserved = request.new.reserved }) }
+    ensures refused { OnErr result (request.new ≡ request.old) }
+{
+    let future = next.call(alloc, request)?;
+    Ok(of_inner::<S, Meta, _, _>(future))
+}
+
+/// What a request asks the target.
+fn read_notice<Meta>(alloc: Global, request: &Request<Meta>) -> Result<Option<Notice>, OutOfMemory>
+    ensures { IfOk result (λ notice. notice ≡ notice_of request.now) }
+{
+    let asked = read_asked(request.message());
+    notice_of(alloc, request, &asked)
+}
+
+/// The reply by a target's verdict on a notice of a request.
+fn of_asked<S: Service<Meta>, N: Notifiable, Meta>(
+    alloc: Global,
+    target: &N,
+    request: &Request<Meta>,
+    notice: Notice,
+) -> Result<Now<NotifyStream<S, N, Meta>>, OutOfMemory>
+    ensures { IfOk result (λ f. (k : ℕ) → ⟦<Now<NotifyStream<S, N, Meta>> as ReplyFuture>⟧.answer f k ≡ asking request.now.octets (verdict_on (N.verdict target.now) notice) k) }
+{
+    let stream = ask(alloc, target, request.message(), &notice)?;
+    Ok(Now::new(MiddlewareStream::Result(stream)))
 }

@@ -1,7 +1,10 @@
 //! The replies of the service in its layers, which may still have to come.
 
-ghost use Rattle.std.specs.Prelude.{◌≡◌, ℕ, IfOk, OnOk};
-ghost use Rattle.dns_middleware.specs.WrappedStreams.{future_answer};
+ghost use Rattle.std.specs.Prelude.{◌≡◌, ℕ, suc, IfOk, OnOk};
+ghost use Rattle.dns_service.specs.Answer.{IfPending, IfReady, mapped};
+ghost use Rattle.dns_service.specs.Once.{now_of};
+ghost use Rattle.dns_middleware.specs.Rewritten.{rewritten};
+ghost use Rattle.dns_middleware.specs.WrappedStreams.{future_answer, wrap_by};
 
 use crate::ask_stream::AskStream;
 use crate::notifiable::VerdictFuture;
@@ -29,18 +32,44 @@ where
 
     fn poll(&mut self, alloc: Global) -> Result<Polled<WrappedStream<F::Stream, V>>, OutOfMemory> {
         match self {
-            WrappedFuture::Own(stream) => match stream.take() {
-                Some(stream) => Ok(Polled::Ready(WrappedStream::Own(stream))),
-                None => Ok(Polled::Pending),
-            },
+            WrappedFuture::Own(stream) => Ok(take_own(stream)),
             WrappedFuture::Asking(stream, post) => match stream.take() {
                 Some(stream) => Ok(Polled::Ready(WrappedStream::Asking(stream, *post))),
                 None => Ok(Polled::Pending),
             },
-            WrappedFuture::Passing(future, post) => match future.poll(alloc)? {
-                Polled::Ready(stream) => Ok(Polled::Ready(WrappedStream::Passed(stream, *post))),
-                Polled::Pending => Ok(Polled::Pending),
-            },
+            WrappedFuture::Passing(future, post) => poll_passing(alloc, future, *post),
         }
+    }
+}
+
+/// A reply of its own, where it wasn't taken before.
+fn take_own<R, V>(own: &mut Option<Once>) -> Polled<WrappedStream<R, V>>
+where
+    R: ReplyStream,
+    V: VerdictFuture,
+    ensures pending { let answer = ⟦<Once as ReplyStream>⟧.answer in IfPending (now_of answer own.old 0 ≡ Polled.Pending × ((k : ℕ) → now_of answer own.new k ≡ now_of answer own.old (suc k))) result }
+    ensures ready { IfReady (λ s. (k : ℕ) → ⟦<WrappedStream<R, V> as ReplyStream>⟧.answer s k ≡ now_of ⟦<Once as ReplyStream>⟧.answer own.old k) result }
+{
+    match own.take() {
+        Some(stream) => Polled::Ready(WrappedStream::Own(stream)),
+        None => Polled::Pending,
+    }
+}
+
+/// Polls the given service's future, whose replies are to be rewritten.
+fn poll_passing<F, V>(
+    alloc: Global,
+    future: &mut F,
+    post: WrapPost,
+) -> Result<Polled<WrappedStream<F::Stream, V>>, OutOfMemory>
+where
+    F: ReplyFuture,
+    V: VerdictFuture,
+    ensures pending { IfOk result (IfPending (F.answer future.old 0 ≡ Polled.Pending × ((k : ℕ) → F.answer future.new k ≡ F.answer future.old (suc k)))) }
+    ensures ready { IfOk result (IfReady (λ s. (k : ℕ) → ⟦<WrappedStream<F::Stream, V> as ReplyStream>⟧.answer s k ≡ mapped (rewritten (wrap_by post)) (F.answer future.old k))) }
+{
+    match future.poll(alloc)? {
+        Polled::Ready(stream) => Ok(Polled::Ready(WrappedStream::Passed(stream, post))),
+        Polled::Pending => Ok(Polled::Pending),
     }
 }

@@ -1,6 +1,6 @@
 //! The replies of the service in its layers, as one type that nests nothing.
 
-ghost use Rattle.std.specs.Prelude.{◌≡◌, ℕ, suc, IfOk, OnOk};
+ghost use Rattle.std.specs.Prelude.{◌≡◌, ℕ, suc, IfOk, OnErr, OnOk};
 ghost use Rattle.dns_service.specs.Answer.{mapped};
 ghost use Rattle.dns_middleware.specs.Rewritten.{rewritten};
 ghost use Rattle.dns_middleware.specs.WrappedStreams.{wrap_by, wrapped_answer, wrapped_size};
@@ -59,8 +59,21 @@ fn poll_rewritten<R: ReplyStream>(
     ensures later { OnOk result ((k : ℕ) → R.answer stream.new k ≡ R.answer stream.old (suc k)) }
 {
     let mut polled = stream.poll_next(alloc);
-    if let Ok(answer) = &mut polled {
-        rewrite_answer(post, alloc, answer)?;
-    }
+    rewrite_polled(alloc, &mut polled, post)?;
     polled
+}
+
+/// Rewrites in place the reply in what a poll gave.
+fn rewrite_polled(
+    alloc: Global,
+    polled: &mut Result<Polled<Option<ServiceResult>>, OutOfMemory>,
+    post: &WrapPost,
+) -> Result<(), OutOfMemory>
+    ensures given { OnOk result (IfOk polled.old (λ a. polled.new ≡ Ok (mapped (rewritten (wrap_by post.now)) a))) }
+    ensures refused { OnErr polled.old (polled.new ≡ polled.old) }
+{
+    match polled {
+        Ok(answer) => rewrite_answer(post, alloc, answer),
+        Err(_) => Ok(()),
+    }
 }

@@ -1,0 +1,147 @@
+//! How the service in its layers takes a request: refused, answered by the cookie layer, told to the target, or passed on.
+
+ghost use Rattle.std.specs.Prelude.{◌≡◌, ℕ, IfOk, OnErr, OnOk, option_map};
+ghost use Rattle.dns_service.specs.declared.message.Request.{Request};
+ghost use Rattle.dns_service.specs.Answer.{mapped};
+ghost use Rattle.dns_service.specs.Asked.{asked_of};
+ghost use Rattle.dns_service.specs.Given.{message_in};
+ghost use Rattle.dns_service.specs.Transport.{hint_of, hinted, limit};
+ghost use Rattle.dns_middleware.specs.Cookies.{cookie_own};
+ghost use Rattle.dns_middleware.specs.Edns.{passed_by, transport_by};
+ghost use Rattle.dns_middleware.specs.Notify.{asking, notice_of, notify_by};
+ghost use Rattle.dns_middleware.specs.Rewritten.{own_reply, rewritten};
+ghost use Rattle.dns_middleware.specs.Verdicts.{verdict_on};
+ghost use Rattle.dns_middleware.specs.Wrapped.{by_gate, inner_gate, passed};
+ghost use Rattle.dns_middleware.specs.WrappedStreams.{refused_reply, wrap_by, wrap_rule};
+
+use crate::ask_stream::ask;
+use crate::cookie_replies::cookie_own;
+use crate::layered::alone;
+use crate::notice::{Notice, notice_of};
+use crate::notifiable::Notifiable;
+use crate::passing::{call_passed, hint_passed, pass_on};
+use crate::refusal::{Refusal, size_by};
+use crate::rewrite::Rewrite;
+use crate::settings::Settings;
+use crate::wrap_post::WrapPost;
+use crate::wrapped::ComingReplies;
+use crate::wrapped_future::WrappedFuture;
+use dns_base::AdditionalBuilder;
+use dns_service::{Asked, OutOfMemory, ReplyFuture, Request, Service};
+use std::alloc::Global;
+
+/// The reply to a request that is refused. This was read of the request.
+pub(crate) fn refused<S: Service<Meta>, N: Notifiable, Meta>(
+    alloc: Global,
+    settings: &Settings,
+    asked: &Asked,
+    request: &Request<Meta>,
+    refused: Refusal,
+) -> Result<ComingReplies<S, N, Meta>, OutOfMemory>
+    requires { asked.now ≡ asked_of request.now.octets }
+    ensures { let r = request.now in IfOk result (λ f. (k : ℕ) → ⟦<ComingReplies<S, N, Meta> as ReplyFuture>⟧.answer f k ≡ own_reply (refused_reply (wrap_rule settings.now.edns r.transport (limit (hint_of r.transport)) (asked_of r.octets)) r.octets refused) k) }
+{
+    let transport = request.transport_ctx();
+    let post = WrapPost::new(settings.edns, asked, transport, transport.hint());
+    let reply = post.refuse(alloc, request.message(), refused)?;
+    Ok(WrappedFuture::Own(Some(alone(reply))))
+}
+
+/// The replies to a request that isn't refused. This was read of the request.
+#[tactic(auto, using(crate::proofs::EdnsLaws::passed_hinted, crate::proofs::EdnsLaws::kept_hint))]
+pub(crate) fn not_refused<S: Service<Meta>, N: Notifiable, Meta>(
+    alloc: Global,
+    settings: &Settings,
+    service: &S,
+    target: &N,
+    asked: &Asked,
+    request: &mut Request<Meta>,
+) -> Result<ComingReplies<S, N, Meta>, OutOfMemory>
+    requires can_call { S.can_call service.now }
+    requires asked { asked.now ≡ asked_of request.old.octets }
+    ensures answers { let r = request.old in IfOk result (λ f. (k : ℕ) → ⟦<ComingReplies<S, N, Meta> as ReplyFuture>⟧.answer f k ≡ by_gate settings.now (S.answer service.now) (verdict_on (N.verdict target.now)) (limit (hint_of (passed settings.now r).transport)) r (inner_gate settings.now r) k) }
+    ensures kept { OnOk result (request.new ≡ record request.old { transport = hinted (hint_of (passed settings.now request.old).transport) request.old.transport; reserved = request.new.reserved }) }
+    ensures refused { OnErr result (request.new ≡ request.old) }
+{
+    let size = size_by(settings, asked);
+    let transport = request.transport_ctx();
+    let hint = hint_passed(size, transport);
+    let post = WrapPost::new(settings.edns, asked, transport, hint);
+    match own_rewritten(alloc, settings, &post, request, asked)? {
+        Some(reply) => {
+            pass_on(size, request);
+            Ok(WrappedFuture::Own(Some(alone(reply))))
+        }
+        None => past_cookies(alloc, service, target, size, post, asked, request),
+    }
+}
+
+/// The reply of the cookie layer's own, where it has one, rewritten. This was read of the request.
+fn own_rewritten<Meta>(
+    alloc: Global,
+    settings: &Settings,
+    post: &WrapPost,
+    request: &Request<Meta>,
+    asked: &Asked,
+) -> Result<Option<AdditionalBuilder>, OutOfMemory>
+    requires { asked.now ≡ asked_of request.now.octets }
+    ensures { IfOk result (λ own. message_in own ≡ option_map (wrap_by post.now) (cookie_own settings.now.cookies settings.now.denied request.now)) }
+{
+    let own = cookie_own(
+        alloc,
+        settings.cookies,
+        settings.denied.as_slice(),
+        request,
+        asked,
+    )?;
+    let Some(reply) = own else {
+        return Ok(None);
+    };
+    let mut reply = reply;
+    post.rewrite(alloc, &mut reply)?;
+    Ok(Some(reply))
+}
+
+/// The replies of the target or of the given service, rewritten. This was read of the request.
+#[tactic(auto, using(crate::proofs::EdnsLaws::passed_hinted, crate::proofs::EdnsLaws::kept_hint))]
+fn past_cookies<S: Service<Meta>, N: Notifiable, Meta>(
+    alloc: Global,
+    service: &S,
+    target: &N,
+    size: Option<u16>,
+    post: WrapPost,
+    asked: &Asked,
+    request: &mut Request<Meta>,
+) -> Result<ComingReplies<S, N, Meta>, OutOfMemory>
+    requires can_call { S.can_call service.now }
+    requires asked { asked.now ≡ asked_of request.old.octets }
+    ensures answers { let r = request.old in IfOk result (λ f. (k : ℕ) → ⟦<ComingReplies<S, N, Meta> as ReplyFuture>⟧.answer f k ≡ mapped (rewritten (wrap_by post)) (notify_by (verdict_on (N.verdict target.now)) (λ q. S.answer service.now (passed_by size q)) r k (notice_of r))) }
+    ensures kept { OnOk result (request.new ≡ record request.old { transport = hinted (hint_of (transport_by size request.old.transport)) request.old.transport; reserved = request.new.reserved }) }
+    ensures refused { OnErr result (request.new ≡ request.old) }
+{
+    match notice_of(alloc, request, asked)? {
+        Some(notice) => {
+            let coming = told::<S, N, Meta>(alloc, target, notice, post, request)?;
+            pass_on(size, request);
+            Ok(coming)
+        }
+        None => {
+            let future = call_passed(alloc, service, size, request)?;
+            Ok(WrappedFuture::Passing(future, post))
+        }
+    }
+}
+
+/// The reply by the target's verdict, rewritten.
+fn told<S: Service<Meta>, N: Notifiable, Meta>(
+    alloc: Global,
+    target: &N,
+    notice: Notice,
+    post: WrapPost,
+    request: &Request<Meta>,
+) -> Result<ComingReplies<S, N, Meta>, OutOfMemory>
+    ensures { IfOk result (λ f. (k : ℕ) → ⟦<ComingReplies<S, N, Meta> as ReplyFuture>⟧.answer f k ≡ mapped (rewritten (wrap_by post)) (asking request.now.octets (verdict_on (N.verdict target.now) notice) k)) }
+{
+    let stream = ask(alloc, target, request.message(), &notice)?;
+    Ok(WrappedFuture::Asking(Some(stream), post))
+}
