@@ -5,7 +5,7 @@ use Rattle.std.proofs.lemmas.Slice.Eq.{bytes_eq-Decides}
 use Rattle.std.specs.Bool.{Decides, IsTrue}
 use Rattle.dns_name.specs.declared.address.IpAddr.{IpAddr}
 use Rattle.dns_name.specs.declared.serial.Serial.{Serial}
-use Rattle.dns_cookie.specs.Cookies.{Checks, ChecksStandard, Cookie, HashAgrees, IsTimely, after_last_hour, hash_octets, hash_of, standard_of, timestamp_of}
+use Rattle.dns_cookie.specs.Cookies.{Checks, ChecksStandard, Cookie, IsTimely, after_last_hour, hash_octets, hash_of, standard_of, timestamp_of}
 use Rattle.dns_middleware.specs.Cookies.{is_good, is_good_part}
 
 le_decides : (a b : ℕ) → Decides (nat_le a b) (a ≤ b)

@@ -1,12 +1,11 @@
 -- A reply with an OPT record that holds a cookie.
-use Rattle.std.proofs.Common.{◌≡◌, ℕ, ◌+◌, ◌≤◌, ◌<◌, Bool, true, false, List, [], ◌++◌, length, nat_le, Option, Some, None, refl, ap, sym, subst, ◌∙◌, arith, length-append}
+use Rattle.std.proofs.Common.{◌≡◌, ℕ, ◌+◌, ◌≤◌, ◌<◌, Bool, true, false, List, length, nat_le, Option, Some, None, refl, sym, subst, arith, length-append}
 use Rattle.std.proofs.lemmas.Bool.Decides.{nat_tests}
 use Rattle.std.proofs.lemmas.Bool.{eqb-true, leb-true}
 use Rattle.std.specs.Prelude.{⊤, ◌&&◌, ◌==◌, Result, Ok, Err}
 use Rattle.dns_name.specs.declared.opt_error.BuildDataError.{BuildDataError}
 use Rattle.dns_name.specs.declared.opt_error.BuildDataError.TheVariants.{LongOptData, WrongLength, ShortBuf, OutOfMemory as NoMemory}
 use Rattle.dns_base.specs.Built.{Built, PassesLimit}
-use Rattle.dns_base.specs.Options.{option_octets}
 use Rattle.dns_cookie.specs.CookieData.{cookie_octets, is_cookie, is_server_part, server_octets}
 use Rattle.dns_cookie.specs.Cookies.{Cookie}
 use Rattle.dns_opt.specs.Drafts.{Appended, BuiltFitting, BuiltOpt, Ends, OptDraft, PushedIn, opened_opt, room_of, with_opt_record}

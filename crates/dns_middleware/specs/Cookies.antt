@@ -1,6 +1,6 @@
 -- The cookie layer (RFC 7873, section 5.2; RFC 9018, section 4.3, for the timestamp): how a server takes a request's cookie, and
 -- which requests it answers by itself.
-use Rattle.std.specs.Prelude.{ℕ, ◌/◌, ◌%◌, ◌^◌, List, [], take, Bool, true, false, ◌&&◌, ◌||◌, nat_eq, nat_le, if◌then◌else◌, Option, Some, None, option_map}
+use Rattle.std.specs.Prelude.{ℕ, ◌/◌, ◌%◌, ◌^◌, List, take, Bool, true, false, ◌&&◌, ◌||◌, nat_eq, nat_le, if◌then◌else◌, Option, Some, None, option_map}
 use Rattle.std.specs.List.{list_any}
 use Rattle.std.specs.Str.{bytes_eq}
 use Rattle.dns_name.specs.declared.address.IpAddr.{IpAddr}
@@ -13,7 +13,6 @@ use Rattle.dns_cookie.specs.CookieData.{cookie_octets}
 use Rattle.dns_cookie.specs.Cookies.{Cookie, after_last_hour, hash_octets, hash_of, response, standard_of, timestamp_of}
 use Rattle.dns_opt.specs.Drafts.{OptDraft, opened_opt, with_opt, with_opt_record}
 use Rattle.dns_opt.specs.OptRecords.{zero_head}
-use Rattle.dns_service.specs.declared.asked.Asked.{Asked}
 use Rattle.dns_service.specs.declared.asked.AskedCookie.{AskedCookie}
 use Rattle.dns_service.specs.declared.asked.AskedCookie.TheVariants.{NoCookie, Unreadable, Sent}
 use Rattle.dns_service.specs.declared.message.TransportSpecificContext.{TransportSpecificContext}

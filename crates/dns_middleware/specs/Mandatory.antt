@@ -1,6 +1,6 @@
 -- The mandatory layer: what each server does, whatever its service (RFC 1035, sections 4.1.1 and 4.2.1; RFC 3425, section 3, for IQUERY;
 -- RFC 9619, section 4, for several questions).
-use Rattle.std.specs.Prelude.{ℕ, nat_eq, nat_lt, List, Bool, true, ◌&&◌, if◌then◌else◌, Option, Some, None}
+use Rattle.std.specs.Prelude.{ℕ, nat_eq, nat_lt, Bool, true, ◌&&◌, if◌then◌else◌, Option, Some, None}
 use Rattle.dns_message.specs.declared.header.Header.{Header}
 use Rattle.dns_base.specs.Msg.{Msg}
 use Rattle.dns_service.specs.declared.asked.Asked.{Asked}

@@ -81,8 +81,7 @@ fn refused<S: Service<Meta>, Meta>(
     requires { asked.now ≡ asked_of request.now.octets }
     ensures { let r = request.now in IfOk result (λ f. (k : ℕ) → ⟦<Now<Layered<S, Meta, MandatoryPost>> as ReplyFuture>⟧.answer f k ≡ own_reply (mand_post (limit (hint_at_entry r)) r (error_reply r.octets rcode)) k) }
 {
-    let rule = rule_now(asked, request);
-    let reply = refuse(&rule, alloc, request.message(), rcode)?;
+    let reply = refuse(&rule_now(asked, request), alloc, request.message(), rcode)?;
     Ok(of_own::<S, Meta, _>(reply))
 }
 
