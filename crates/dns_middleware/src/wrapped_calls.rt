@@ -68,12 +68,22 @@ pub(crate) fn not_refused<S: Service<Meta>, N: Notifiable, Meta>(
     let hint = hint_passed(size, transport);
     let post = WrapPost::new(settings.edns, asked, transport, hint);
     match own_rewritten(alloc, settings, &post, request, asked)? {
-        Some(reply) => {
-            pass_on(size, request);
-            Ok(WrappedFuture::Own(Some(alone(reply))))
-        }
+        Some(reply) => Ok(own::<S, N, Meta>(reply, size, request)),
         None => past_cookies(alloc, service, target, size, post, asked, request),
     }
+}
+
+/// A reply of the cookie layer's own, to a request that is left as it would be passed on.
+fn own<S: Service<Meta>, N: Notifiable, Meta>(
+    reply: AdditionalBuilder,
+    size: Option<u16>,
+    request: &mut Request<Meta>,
+) -> ComingReplies<S, N, Meta>
+    ensures answers { (k : ℕ) → ⟦<ComingReplies<S, N, Meta> as ReplyFuture>⟧.answer result k ≡ own_reply reply.message k }
+    ensures passed { request.new ≡ passed_by size request.old }
+{
+    pass_on(size, request);
+    WrappedFuture::Own(Some(alone(reply)))
 }
 
 /// The reply of the cookie layer's own, where it has one, rewritten. This was read of the request.
@@ -120,28 +130,42 @@ fn past_cookies<S: Service<Meta>, N: Notifiable, Meta>(
     ensures refused { OnErr result (request.new ≡ request.old) }
 {
     match notice_of(alloc, request, asked)? {
-        Some(notice) => {
-            let coming = told::<S, N, Meta>(alloc, target, notice, post, request)?;
-            pass_on(size, request);
-            Ok(coming)
-        }
-        None => {
-            let future = call_passed(alloc, service, size, request)?;
-            Ok(WrappedFuture::Passing(future, post))
-        }
+        Some(notice) => told::<S, N, Meta>(alloc, target, notice, size, post, request),
+        None => passed_on::<S, N, Meta>(alloc, service, size, post, request),
     }
 }
 
-/// The reply by the target's verdict, rewritten.
+/// The reply by the target's verdict, rewritten, to a request that is left as it would be passed on.
 fn told<S: Service<Meta>, N: Notifiable, Meta>(
     alloc: Global,
     target: &N,
     notice: Notice,
+    size: Option<u16>,
     post: WrapPost,
-    request: &Request<Meta>,
+    request: &mut Request<Meta>,
 ) -> Result<ComingReplies<S, N, Meta>, OutOfMemory>
-    ensures { IfOk result (λ f. (k : ℕ) → ⟦<ComingReplies<S, N, Meta> as ReplyFuture>⟧.answer f k ≡ mapped (rewritten (wrap_by post)) (asking request.now.octets (verdict_on (N.verdict target.now) notice) k)) }
+    ensures answers { IfOk result (λ f. (k : ℕ) → ⟦<ComingReplies<S, N, Meta> as ReplyFuture>⟧.answer f k ≡ mapped (rewritten (wrap_by post)) (asking request.old.octets (verdict_on (N.verdict target.now) notice) k)) }
+    ensures passed { OnOk result (request.new ≡ passed_by size request.old) }
+    ensures refused { OnErr result (request.new ≡ request.old) }
 {
     let stream = ask(alloc, target, request.message(), &notice)?;
+    pass_on(size, request);
     Ok(WrappedFuture::Asking(Some(stream), post))
+}
+
+/// The replies of the given service to the request as it is passed on, rewritten.
+fn passed_on<S: Service<Meta>, N: Notifiable, Meta>(
+    alloc: Global,
+    service: &S,
+    size: Option<u16>,
+    post: WrapPost,
+    request: &mut Request<Meta>,
+) -> Result<ComingReplies<S, N, Meta>, OutOfMemory>
+    requires { S.can_call service.now }
+    ensures answers { IfOk result (λ f. (k : ℕ) → ⟦<ComingReplies<S, N, Meta> as ReplyFuture>⟧.answer f k ≡ mapped (rewritten (wrap_by post)) (S.answer service.now (passed_by size request.old) k)) }
+    ensures kept { OnOk result (request.new ≡ record request.old { transport = hinted (hint_of (transport_by size request.old.transport)) request.old.transport; reserved = request.new.reserved }) }
+    ensures refused { OnErr result (request.new ≡ request.old) }
+{
+    let future = call_passed(alloc, service, size, request)?;
+    Ok(WrappedFuture::Passing(future, post))
 }
