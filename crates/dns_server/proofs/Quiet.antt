@@ -1,5 +1,5 @@
 -- No answer of a script's rules carries a feedback.
-use Rattle.std.proofs.Common.{◌≡◌, ℕ, zero, suc, Bool, true, false, List, [], ◌∷◌, refl}
+use Rattle.std.proofs.Common.{ℕ, zero, suc, Bool, true, false, List, [], ◌∷◌, refl}
 use Rattle.std.specs.Prelude.{if◌then◌else◌, Err}
 use Rattle.dns_base.specs.Built.{Built, with_answer}
 use Rattle.dns_base.specs.Replies.{answer_to, have_room, within_limit}

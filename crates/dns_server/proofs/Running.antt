@@ -1,7 +1,7 @@
 -- What a run has read and written, and what it answers without a fault.
 use Rattle.std.proofs.Common.{◌≡◌, ℕ, List, [], ◌≤◌, ◌+◌, length, arith, refl, length-append, ap, sym, ◌∙◌, append-nil}
 use Rattle.dns_outside.specs.Causes.{Tells, Rose}
-use Rattle.dns_outside.specs.Moves.{ReadAtMost, Cut}
+use Rattle.dns_outside.specs.Moves.{Cut}
 use Rattle.dns_server.specs.Script.{script}
 use Rattle.dns_server.specs.Status.{SourceFaults, SinkFaults}
 use Rattle.dns_server.specs.Runs.{run_text, Judges, ReplayReads, ReplayWrites, Decides}

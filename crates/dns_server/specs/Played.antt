@@ -1,8 +1,8 @@
 -- The answers of the service that plays a script's rules.
-use Rattle.std.specs.Prelude.{◌≡◌, ⊤, ℕ, zero, suc, List, [], ◌∷◌, ◌++◌, replicate, if◌then◌else◌, Some, None, Result, Ok, Err}
+use Rattle.std.specs.Prelude.{◌≡◌, ⊤, ℕ, zero, suc, List, [], ◌∷◌, replicate, if◌then◌else◌, Some, None, Result, Ok, Err}
 use Rattle.dns_name.specs.declared.opt_error.BuildDataError.{BuildDataError}
 use Rattle.dns_name.specs.declared.opt_error.BuildDataError.TheVariants.{LongOptData}
-use Rattle.dns_base.specs.Built.{Built, PassesLimit, empty, with_answer, with_header, zero_header}
+use Rattle.dns_base.specs.Built.{Built, PassesLimit, empty, with_answer, zero_header}
 use Rattle.dns_base.specs.Msg.{Msg, ResourceRecord}
 use Rattle.dns_base.specs.Options.{option_octets}
 use Rattle.dns_base.specs.Replies.{answer_to, have_room, within_limit}

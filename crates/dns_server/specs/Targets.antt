@@ -1,5 +1,5 @@
 -- The notify lines of a script: each is a zone, how often its verdict is pending, and the verdict.
-use Rattle.std.specs.Prelude.{ℕ, List, [], ◌∷◌, nat_lt, if◌then◌else◌, Option, Some, None, Result, Ok, Err}
+use Rattle.std.specs.Prelude.{ℕ, List, [], ◌∷◌, nat_lt, if◌then◌else◌, Option, Result, Err}
 use Rattle.dns_name.specs.declared.address.IpAddr.{IpAddr}
 use Rattle.dns_name.specs.declared.serial.Serial.{Serial}
 use Rattle.dns_name.specs.Canonical.{same_name}
