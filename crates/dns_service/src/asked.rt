@@ -122,9 +122,13 @@ pub fn read_asked(message: &Message) -> Asked
 }
 
 /// What a message has for an OPT record.
+#[tactic(auto, using(crate::proofs::AskedLaws::none_stated))]
 fn asked_opt(message: &Message) -> AskedOpt
     ensures { result ≡ asked_opt (opt_items message.now) }
 {
+    if message.header_counts().arcount == 0 {
+        return AskedOpt::NoItem;
+    }
     match message.additional() {
         Ok(records) => first_among(records),
         Err(_) => AskedOpt::NoItem,
