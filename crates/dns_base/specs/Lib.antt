@@ -12,6 +12,7 @@ pub use Rattle.dns_message.specs.TypedData
 pub use Rattle.dns_message.specs.Equality
 pub mod PushErrors
 pub mod Built
+pub mod OptFields
 pub mod Readers
 pub mod CopiedRecord
 pub mod Builds

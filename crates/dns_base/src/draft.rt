@@ -7,14 +7,14 @@ ghost use Rattle.dns_base.specs.Wire.{wire};
 ghost use Rattle.dns_base.specs.Sections.{field, questions_of};
 ghost use Rattle.dns_base.specs.Built.{Built, NoRecords, Pushes, empty, with_header, with_question, with_record, less_questions, less_section, IsLast};
 ghost use Rattle.dns_base.specs.Draft.{all_at, count_place, counted, moved_behind, start_in, start_of};
-ghost use Rattle.dns_base.specs.Records.{record_of, IsLawful};
 ghost use Rattle.dns_base.specs.Replies.{Copies, with_copied};
 ghost use Rattle.dns_base.specs.Replaced.{AreSpelt, less_type, other_than, records_at, spelling};
 
+use crate::compose_record::ComposeRecord;
 use crate::error::PushError;
 use crate::replace::{Others, count_others, squeeze};
 use crate::stream::StreamTarget;
-use dns_message::{ComposeQuestion, Header, HeaderCounts, Message, MessageRef, Record, number_at};
+use dns_message::{ComposeQuestion, Header, HeaderCounts, Message, MessageRef, number_at};
 use dns_name::{OutOfMemory, Rtype};
 use std::alloc::Global;
 use std::marker::Model;
@@ -123,11 +123,12 @@ impl Draft {
         })
     }
 
-    /// A copy.
+    /// A copy, with room for a small record more.
     pub(crate) fn try_clone(&self, alloc: Global) -> Result<Draft, OutOfMemory>
         ensures { IfOk result (λ b. b ≡ self.now) }
     {
-        let octets = Vec::from_slice(alloc, self.octets.as_slice())?;
+        let mut octets = Vec::with_capacity(alloc, self.octets.len() + 32)?;
+        octets.extend_from_slice(self.octets.as_slice())?;
         Ok(Draft {
             octets,
             starts: self.starts,
@@ -208,20 +209,20 @@ impl Draft {
     }
 
     /// Adds a record to the last section.
-    pub(crate) fn push_record(
+    pub(crate) fn push_record<R: ComposeRecord>(
         &mut self,
         alloc: Global,
         section: Section,
-        record: &Record,
+        record: &R,
     ) -> Result<(), PushError>
         requires last { IsLast section self.old.message }
-        requires lawful { IsLawful record.now.rdata }
-        ensures { Pushes self.old self.new (with_record section self.old (record_of record.now)) result }
+        requires lawful { R.is_lawful record.now }
+        ensures { Pushes self.old self.new (with_record section self.old (R.resource record.now)) result }
     {
-        if self.octets.len() - 2 + record.compose_len() > self.limit {
+        if self.octets.len() - 2 + record.record_len() > self.limit {
             return Err(PushError::ShortBuf);
         }
-        record.compose(alloc, &mut self.octets)?;
+        record.compose_record(alloc, &mut self.octets)?;
         count_more(&mut self.octets, count_place(section));
         let end = self.octets.len() - 2;
         self.starts = self.starts.behind(section, end);
@@ -306,20 +307,20 @@ impl Draft {
     }
 
     /// Puts a record in place of the additional records of a type.
-    pub(crate) fn replace_type(
+    pub(crate) fn replace_type<R: ComposeRecord>(
         &mut self,
         alloc: Global,
         rtype: Rtype,
-        record: &Record,
+        record: &R,
     ) -> Result<(), PushError>
-        requires { IsLawful record.now.rdata }
-        ensures { Pushes self.old self.new (with_record Section.Additional (less_type rtype self.old) (record_of record.now)) result }
+        requires { R.is_lawful record.now }
+        ensures { Pushes self.old self.new (with_record Section.Additional (less_type rtype self.old) (R.resource record.now)) result }
     {
         let others = self.others(rtype);
-        if others.start + others.size + record.compose_len() > self.limit {
+        if others.start + others.size + record.record_len() > self.limit {
             return Err(PushError::ShortBuf);
         }
-        record.compose(alloc, &mut self.octets)?;
+        record.compose_record(alloc, &mut self.octets)?;
         squeeze(&mut self.octets, others, rtype, others.kept + 1);
         Ok(())
     }

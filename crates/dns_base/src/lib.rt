@@ -2,6 +2,7 @@
 #![tactic(auto)]
 
 mod builder;
+mod compose_record;
 mod copied_record;
 mod draft;
 mod error;

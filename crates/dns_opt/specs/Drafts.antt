@@ -2,8 +2,6 @@
 use Rattle.std.specs.Prelude.{◌≡◌, ◌≢◌, ℕ, ◌+◌, ◌-◌, ◌≤◌, ◌<◌, ⊤, Bool, true, false, List, [], ◌++◌, length, Result, Ok, Err, nat_le}
 use Rattle.dns_name.specs.declared.opt_error.BuildDataError.{BuildDataError}
 use Rattle.dns_name.specs.declared.opt_error.BuildDataError.TheVariants.{LongOptData, WrongLength, ShortBuf, OutOfMemory as NoMemory}
-use Rattle.dns_base.specs.declared.error.PushError.{PushError}
-use Rattle.dns_base.specs.declared.error.PushError.TheVariants.{ShortBuf as ShortPush, OutOfMemory as NoPushMemory}
 use Rattle.dns_base.specs.Built.{Built, PassesLimit, with_additional, with_header}
 use Rattle.dns_base.specs.Options.{option_octets}
 use Rattle.dns_base.specs.Wire.{wire}
@@ -42,12 +40,6 @@ with_opt_record d b = with_additional b (opt_record (opt_state d.head d.options)
 
 abbrev pub with_opt : OptDraft → Built → Built
 with_opt d b = with_header (with_opt_record d b) (record b.message.header { rcode = d.low })
-
--- a record is pushed, where want of memory tells nothing of the limit
-abbrev pub PushesOpt : Built → Built → Built → Result ⊤ PushError → Type 0
-PushesOpt old new more (Ok _) = (new ≡ more) × (length (wire more.message) ≤ more.limit)
-PushesOpt old new more (Err ShortPush) = (new ≡ old) × PassesLimit more
-PushesOpt old new more (Err NoPushMemory) = new ≡ old
 
 -- The record is put into a message that is bare of others; ShortBuf exactly where it would pass its limit, and a refused call
 -- leaves the message as it was before.

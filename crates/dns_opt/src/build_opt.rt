@@ -2,15 +2,15 @@
 
 ghost use Rattle.std.specs.Prelude.{◌≡◌, ◌≤◌, IfOk};
 ghost use Rattle.std.specs.Fn.{FnOnceReturnsAtMut};
-ghost use Rattle.dns_base.specs.Built.{Built, with_additional, with_header};
-ghost use Rattle.dns_opt.specs.Drafts.{Appended, BuiltOpt, Ends, EndsIn, IsBuiltOpt, PushesOpt, PutInto, opened_opt, room_of};
+ghost use Rattle.dns_base.specs.Built.{Built, Pushes, with_additional, with_header};
+ghost use Rattle.dns_opt.specs.Drafts.{Appended, BuiltOpt, Ends, EndsIn, IsBuiltOpt, PutInto, opened_opt, room_of};
 ghost use Rattle.dns_opt.specs.OptRecords.{opt_record, opt_state};
 ghost use Rattle.dns_opt.specs.Reopened.{Reopens, less_opts, old_opt, reopened};
 
 use crate::builder::OptBuilder;
 use crate::header::OptHeader;
 use crate::message_opt::first_opt;
-use crate::record::{OptRecord, record_by};
+use crate::record::{OptRecord, append};
 use dns_base::{AdditionalBuilder, PushError};
 use dns_name::{BuildDataError, OutOfMemory, Rcode, Rtype};
 use dns_options::Opt;
@@ -184,22 +184,9 @@ fn appended(
         options,
         ..
     } = opt;
-    append(message, alloc, head, options)?;
+    append(message, alloc, head, &options)?;
     set_low(message, low);
     Ok(())
-}
-
-/// Appends a record of a head and options.
-fn append(
-    message: &mut AdditionalBuilder,
-    alloc: Global,
-    head: OptHeader,
-    options: Opt,
-) -> Result<(), PushError>
-    ensures { PushesOpt message.old message.new (with_additional message.old (opt_record (opt_state head options))) result }
-{
-    let record = record_by(alloc, head, options)?;
-    message.push(alloc, &record)
 }
 
 /// Puts the record in place of the OPT records, and sets the lower bits of the response code.
@@ -217,7 +204,7 @@ fn replaced(
         options,
         ..
     } = opt;
-    replace(message, alloc, head, options)?;
+    replace(message, alloc, head, &options)?;
     set_low(message, low);
     Ok(())
 }
@@ -227,12 +214,11 @@ fn replace(
     message: &mut AdditionalBuilder,
     alloc: Global,
     head: OptHeader,
-    options: Opt,
+    options: &Opt,
 ) -> Result<(), PushError>
-    ensures { PushesOpt message.old message.new (with_additional (less_opts message.old) (opt_record (opt_state head options))) result }
+    ensures { Pushes message.old message.new (with_additional (less_opts message.old) (opt_record (opt_state head options.now))) result }
 {
-    let record = record_by(alloc, head, options)?;
-    message.replace_type(alloc, Rtype::OPT, &record)
+    message.replace_opt(alloc, head.size, head.ttl(), options.as_slice())
 }
 
 /// Sets the lower four bits of the response code in the header.

@@ -4,7 +4,7 @@ ghost use Rattle.std.specs.Prelude.{◌≡◌, ◌+◌, ◌*◌, ◌/◌, ◌++�
 ghost use Rattle.dns_opt.specs.OptRecords.{head_octets, head_of, is_do, with_do, zero_head};
 
 use dns_base::Header;
-use dns_name::{OptRcode, OutOfMemory, ParseError};
+use dns_name::{OptRcode, OutOfMemory, ParseError, Ttl};
 use std::alloc::Global;
 use std::marker::Model;
 
@@ -114,6 +114,14 @@ impl OptHeader {
     {
         let others = self.flags % 32768;
         self.flags = if value { others + 32768 } else { others };
+    }
+
+    /// What stands in the place of the record's TTL: upper response code, version and flags (RFC 6891, section 6.1.3).
+    pub(crate) fn ttl(self) -> Ttl
+        ensures { result ≡ 16777216 * self.ext + 65536 * self.version + self.flags }
+    {
+        let secs = 16777216 * self.ext as u32 + 65536 * self.version as u32 + self.flags as u32;
+        Ttl::from_secs(secs)
     }
 
     /// Appends the nine octets of an OPT record before the length of its options. A refused call leaves the target.

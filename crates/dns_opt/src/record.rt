@@ -1,13 +1,14 @@
 //! OPT records.
 
 ghost use Rattle.std.specs.Prelude.{◌≡◌, ◌+◌, ◌*◌, ◌/◌, ◌%◌, [], IfOk};
+ghost use Rattle.dns_base.specs.Built.{Pushes, with_additional};
 ghost use Rattle.dns_base.specs.Records.{IsLawful, record_of};
 ghost use Rattle.dns_opt.specs.OptRecords.{from_record, head_by, is_do, opt_record, opt_state, with_do, zero_head};
 ghost use Rattle.dns_options.specs.Pushes.{Pushed, PushedRaw};
 ghost use Rattle.dns_options.specs.Writes.{Writes};
 
 use crate::header::OptHeader;
-use dns_base::{Header, Record, RecordData};
+use dns_base::{AdditionalBuilder, Header, PushError, Record, RecordData};
 use dns_name::{
     BuildDataError, Class, ComposeOptData, HoldsOctets, Name, Octets, OptRcode, OptionCode,
     OutOfMemory, Ttl,
@@ -188,20 +189,38 @@ impl OptRecord {
         let options = self.options.for_slice_ref().to_owned(alloc)?;
         record_by(alloc, self.head, options)
     }
+
+    /// Appends the record to a message, where it is written at once: no memory is taken but the message's.
+    pub fn append_to(&self, alloc: Global, message: &mut AdditionalBuilder) -> Result<(), PushError>
+        ensures { Pushes message.old message.new (with_additional message.old (opt_record self.now)) result }
+    {
+        append(message, alloc, self.head, &self.options)
+    }
+}
+
+/// Appends a record of a head and options to a message.
+pub(crate) fn append(
+    message: &mut AdditionalBuilder,
+    alloc: Global,
+    head: OptHeader,
+    options: &Opt,
+) -> Result<(), PushError>
+    ensures { Pushes message.old message.new (with_additional message.old (opt_record (opt_state head options.now))) result }
+{
+    message.push_opt(alloc, head.size, head.ttl(), options.as_slice())
 }
 
 /// A record of a head and options, which aren't copied.
-pub(crate) fn record_by(alloc: Global, head: OptHeader, options: Opt) -> Result<Record, OutOfMemory>
+fn record_by(alloc: Global, head: OptHeader, options: Opt) -> Result<Record, OutOfMemory>
     ensures value { IfOk result (λ r. record_of r ≡ opt_record (opt_state head options)) }
     ensures lawful { IfOk result (λ r. IsLawful r.rdata) }
 {
     let owner = Name::root(alloc)?;
     let octets = Octets::from_vec(options.into_octets());
-    let secs = 16777216 * head.ext as u32 + 65536 * head.version as u32 + head.flags as u32;
     Ok(Record {
         owner,
         class: Class::from_int(head.size),
-        ttl: Ttl::from_secs(secs),
+        ttl: head.ttl(),
         rdata: RecordData::Opt(octets),
     })
 }

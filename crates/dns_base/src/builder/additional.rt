@@ -1,17 +1,21 @@
 //! Message whose additional records are being built.
 
-ghost use Rattle.std.specs.Prelude.{◌≡◌, length};
+ghost use Rattle.std.specs.Prelude.{◌≡◌, ◌≤◌, length};
 ghost use Rattle.dns_base.specs.Wire.{wire};
 ghost use Rattle.dns_base.specs.Built.{Pushes, with_additional};
+ghost use Rattle.dns_base.specs.OptFields.{opt_resource};
+ghost use Rattle.dns_base.specs.Options.{IsOptionList};
 ghost use Rattle.dns_base.specs.Readers.{AreReadable, resources};
 ghost use Rattle.dns_base.specs.Records.{IsLawful, record_of};
 ghost use Rattle.dns_base.specs.Replaced.{less_type};
 ghost use Rattle.dns_base.specs.Sections.{all_of, standing_additional};
 
 use crate::builder::AdditionalBuilder;
+use crate::compose_record::OptFields;
+use crate::draft::Section;
 use crate::error::PushError;
 use dns_message::{Record, RecordIter};
-use dns_name::Rtype;
+use dns_name::{Rtype, Ttl};
 use std::alloc::Global;
 
 impl AdditionalBuilder {
@@ -50,5 +54,38 @@ impl AdditionalBuilder {
         ensures { Pushes self.old self.new (with_additional (less_type rtype self.old) (record_of record.now)) result }
     {
         self.draft.replace_type(alloc, rtype, record)
+    }
+
+    /// Adds an OPT record of these options. It is written as it is pushed, and takes no memory but the message's.
+    pub fn push_opt(
+        &mut self,
+        alloc: Global,
+        size: u16,
+        ttl: Ttl,
+        options: &[u8],
+    ) -> Result<(), PushError>
+        requires list { IsOptionList options.now }
+        requires short { length options.now ≤ 65535 }
+        ensures { Pushes self.old self.new (with_additional self.old (opt_resource size ttl options.now)) result }
+    {
+        let fields = OptFields { size, ttl, options };
+        self.draft.push_record(alloc, Section::Additional, &fields)
+    }
+
+    /// Puts an OPT record of these options in place of the OPT records; it becomes the last. Refused `ShortBuf` exactly
+    /// where the message would then pass its limit; a refused call leaves the message.
+    pub fn replace_opt(
+        &mut self,
+        alloc: Global,
+        size: u16,
+        ttl: Ttl,
+        options: &[u8],
+    ) -> Result<(), PushError>
+        requires list { IsOptionList options.now }
+        requires short { length options.now ≤ 65535 }
+        ensures { Pushes self.old self.new (with_additional (less_type 41 self.old) (opt_resource size ttl options.now)) result }
+    {
+        let fields = OptFields { size, ttl, options };
+        self.draft.replace_type(alloc, Rtype::OPT, &fields)
     }
 }

@@ -1,5 +1,5 @@
-use Rattle.std.proofs.Common.{◌-◌, ◌∙◌, arith, ap, length, length-drop, drop}
-use Rattle.dns_base.proofs.Pushed.{room, draft_wire}
+use Rattle.std.proofs.Common.{arith, ap, length, length-drop}
+use Rattle.dns_base.proofs.Pushed.{room}
 use Rattle.dns_base.proofs.draft.Draft.into_message.Goals as goal
 
 pub of-requires : goal.of-requires
