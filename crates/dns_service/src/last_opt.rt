@@ -3,7 +3,7 @@
 ghost use Rattle.std.specs.Prelude.{◌≡◌};
 ghost use Rattle.std.specs.Option.{option_copied};
 ghost use Rattle.dns_base.specs.Built.{with_additional};
-ghost use Rattle.dns_base.specs.Builds.{Becomes, Builds, KeepsLimit};
+ghost use Rattle.dns_base.specs.Builds.{Builds, KeepsLimit};
 ghost use Rattle.dns_opt.specs.OptRecords.{opt_record};
 ghost use Rattle.dns_service.specs.LastOpt.{and_opt};
 
@@ -35,18 +35,6 @@ fn opt_pushed(
     ensures { Builds (with_additional message (opt_record opt.now)) result }
 {
     let mut builder = message;
-    push_opt(&mut builder, alloc, opt)?;
+    opt.append_to(alloc, &mut builder)?;
     Ok(builder)
-}
-
-/// Adds an OPT record.
-fn push_opt(
-    builder: &mut AdditionalBuilder,
-    alloc: Global,
-    opt: &OptRecord,
-) -> Result<(), PushError>
-    ensures { Becomes builder.new (with_additional builder.old (opt_record opt.now)) result }
-{
-    let record = opt.as_record(alloc)?;
-    builder.push(alloc, &record)
 }
