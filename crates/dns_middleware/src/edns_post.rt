@@ -1,14 +1,12 @@
 //! What the EDNS layer makes of a reply (RFC 6891, section 7; RFC 7828, section 3).
 
-ghost use Rattle.std.specs.Prelude.{◌≡◌, [], IfOk, OnOk};
+ghost use Rattle.std.specs.Prelude.{◌≡◌, OnOk};
 ghost use Rattle.dns_base.specs.Readers.{resources};
-ghost use Rattle.dns_base.specs.Records.{record_of, IsLawful};
-ghost use Rattle.dns_opt.specs.OptRecords.{opt_record, opt_state, zero_head};
 ghost use Rattle.dns_middleware.specs.Edns.{and_fitting, edns_by, edns_rule, has_opt, in_kind, keepalive_over, units_of, with_keepalive, with_some_opt};
 ghost use Rattle.dns_middleware.specs.Rewritten.{rewritten};
 
 use crate::rewrite::{Rewrite, rewrite_item};
-use dns_base::{AdditionalBuilder, PushError, Record, RecordIter, Rtype};
+use dns_base::{AdditionalBuilder, PushError, RecordIter, Rtype};
 use dns_name::{BuildDataError, OutOfMemory};
 use dns_opt::{IdleTimeout, OptRecord, TcpKeepalive};
 use dns_service::{
@@ -140,34 +138,11 @@ fn and_fitting(alloc: Global, reply: &mut AdditionalBuilder) -> Result<(), OutOf
     requires { reply.old.limit ≡ 65535 }
     ensures { OnOk result (reply.new ≡ record reply.old { message = and_fitting reply.old.message }) }
 {
-    let opt = empty_opt(alloc)?;
-    push_fitting(alloc, reply, &opt)
-}
-
-/// Adds an OPT record, which is empty, where it has room.
-fn push_fitting(
-    alloc: Global,
-    reply: &mut AdditionalBuilder,
-    opt: &Record,
-) -> Result<(), OutOfMemory>
-    requires limit { reply.old.limit ≡ 65535 }
-    requires empty { record_of opt.now ≡ opt_record (opt_state zero_head []) }
-    requires lawful { IsLawful opt.now.rdata }
-    ensures { OnOk result (reply.new ≡ record reply.old { message = and_fitting reply.old.message }) }
-{
-    match reply.push(alloc, opt) {
+    match OptRecord::default(alloc).append_to(alloc, reply) {
         Ok(()) => Ok(()),
         Err(PushError::ShortBuf) => Ok(()),
         Err(PushError::OutOfMemory) => Err(OutOfMemory),
     }
-}
-
-/// An empty OPT record.
-fn empty_opt(alloc: Global) -> Result<Record, OutOfMemory>
-    ensures value { IfOk result (λ r. record_of r ≡ opt_record (opt_state zero_head [])) }
-    ensures lawful { IfOk result (λ r. IsLawful r.rdata) }
-{
-    OptRecord::default(alloc).as_record(alloc)
 }
 
 /// Whether a message has a record of type OPT.

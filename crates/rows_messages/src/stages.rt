@@ -1,13 +1,14 @@
 //! Messages under construction, and the steps that a row takes with them.
 
-ghost use Rattle.std.specs.Prelude.{IfOk};
+ghost use Rattle.std.specs.Prelude.{◌≤◌, IfOk, length};
+ghost use Rattle.dns_base.specs.Options.{IsOptionList};
 ghost use Rattle.dns_base.specs.Records.{IsLawful};
 
 use dns_base::{
     AdditionalBuilder, AnswerBuilder, AuthorityBuilder, MessageBuilder, Question, QuestionBuilder,
-    Record, StreamTarget, record_in,
+    Record, StreamTarget, is_option_list, record_in,
 };
-use dns_name::{Class, NameRef, OutOfMemory, ParseError, Parser, Rtype};
+use dns_name::{Class, NameRef, OutOfMemory, ParseError, Parser, Rtype, Ttl};
 use rows_table::{Row, RowError, Steps};
 use std::alloc::Global;
 use std::mem::replace;
@@ -226,6 +227,43 @@ fn replace_next(stage: &mut Stage, row: &mut Row<'_>) -> Result<(), RowError> {
     Ok(())
 }
 
+/// The next words as an OPT record: its size, its TTL and its options.
+#[derive(Clone, Copy)]
+struct OptWords<'a> {
+    size: u16,
+    ttl: Ttl,
+    options: &'a [u8],
+}
+
+/// The OPT record of the next words.
+fn next_opt<'a>(row: &mut Row<'a>) -> Result<OptWords<'a>, RowError>
+    ensures { IfOk result (λ o. IsOptionList o.options.now × (length o.options.now ≤ 65535)) }
+{
+    let size = row.number();
+    let ttl = Ttl::from_secs(row.number());
+    let options = row.octets();
+    if options.len() > 65535 || !is_option_list(options) {
+        return Err(RowError::OutOfForm);
+    }
+    Ok(OptWords { size, ttl, options })
+}
+
+/// Adds the OPT record of the next words, and says what that answers.
+fn push_opt(stage: &mut Stage, row: &mut Row<'_>) -> Result<(), RowError> {
+    let builder = stage.additional()?;
+    let opt = next_opt(row)?;
+    row.outcome(builder.push_opt(row.alloc(), opt.size, opt.ttl, opt.options));
+    Ok(())
+}
+
+/// Puts the OPT record of the next words in place of the OPT records, and says what that answers.
+fn replace_opt(stage: &mut Stage, row: &mut Row<'_>) -> Result<(), RowError> {
+    let builder = stage.additional()?;
+    let opt = next_opt(row)?;
+    row.outcome(builder.replace_opt(row.alloc(), opt.size, opt.ttl, opt.options));
+    Ok(())
+}
+
 /// Drops the additional records of the type of the next word.
 fn remove_next(stage: &mut Stage, row: &mut Row<'_>) -> Result<(), RowError> {
     stage
@@ -239,6 +277,8 @@ impl Steps for Stage {
         match step {
             "push" => push_next(self, row),
             "replace" => replace_next(self, row),
+            "push_opt" => push_opt(self, row),
+            "replace_opt" => replace_opt(self, row),
             "remove" => remove_next(self, row),
             "limit" => self.limit(row.number()),
             "unlimit" => self.unlimit(),

@@ -2,8 +2,8 @@
 
 use crate::said::built;
 use crate::steps::build;
-use dns_base::{AdditionalBuilder, MessageBuilder};
-use dns_opt::{BuildDataError, BuildOpt, MessageOpt, OptBuilder, OptRecordRef};
+use dns_base::{AdditionalBuilder, MessageBuilder, PushError};
+use dns_opt::{BuildDataError, BuildOpt, MessageOpt, OptBuilder, OptRecord, OptRecordRef};
 use rows_table::{Row, RowError, Steps};
 use std::alloc::Global;
 
@@ -24,6 +24,13 @@ fn take_over(
     found: &OptRecordRef<'_>,
 ) -> Result<(), BuildDataError> {
     message.opt(alloc, |opt: &mut OptBuilder| opt.clone_from(alloc, found))
+}
+
+/// Appends an OPT record of a payload size.
+fn appended(message: &mut AdditionalBuilder, alloc: Global, size: u16) -> Result<(), PushError> {
+    let mut record = OptRecord::default(alloc);
+    record.set_udp_payload_size(size);
+    record.append_to(alloc, message)
 }
 
 /// A message with nothing but an OPT record like that of another.
@@ -48,6 +55,11 @@ impl Steps for Built {
         match step {
             "limit" => self.message.set_push_limit(row.number()),
             "copy" => self.message = copied(&self.message, row.alloc())?,
+            "append" => {
+                let size = row.number();
+                let done = appended(&mut self.message, row.alloc(), size);
+                row.outcome(done);
+            }
             "opt" => {
                 let done = opened(&mut self.message, row);
                 built(row, done);
