@@ -1,6 +1,6 @@
 //! Messages under construction, and the steps that a row takes with them.
 
-ghost use Rattle.std.specs.Prelude.{◌≤◌, IfOk, length};
+ghost use Rattle.std.specs.Prelude.{◌≡◌, ◌≤◌, true, length};
 ghost use Rattle.dns_base.specs.Options.{IsOptionList};
 ghost use Rattle.dns_base.specs.Records.{IsLawful};
 
@@ -227,40 +227,34 @@ fn replace_next(stage: &mut Stage, row: &mut Row<'_>) -> Result<(), RowError> {
     Ok(())
 }
 
-/// The next words as an OPT record: its size, its TTL and its options.
-#[derive(Clone, Copy)]
-struct OptWords<'a> {
-    size: u16,
-    ttl: Ttl,
-    options: &'a [u8],
+/// Whether octets may be the data of an OPT record.
+fn are_options(octets: &[u8]) -> bool
+    ensures { result ≡ true → IsOptionList octets.now × (length octets.now ≤ 65535) }
+{
+    octets.len() <= 65535 && is_option_list(octets)
 }
 
-/// The OPT record of the next words.
-fn next_opt<'a>(row: &mut Row<'a>) -> Result<OptWords<'a>, RowError>
-    ensures { IfOk result (λ o. IsOptionList o.options.now × (length o.options.now ≤ 65535)) }
-{
-    let size = row.number();
-    let ttl = Ttl::from_secs(row.number());
+/// Adds the OPT record of the next words, its size, its TTL and its options, and says what that answers.
+fn push_opt(stage: &mut Stage, row: &mut Row<'_>) -> Result<(), RowError> {
+    let (size, ttl) = (row.number(), Ttl::from_secs(row.number()));
     let options = row.octets();
-    if options.len() > 65535 || !is_option_list(options) {
+    if !are_options(options) {
         return Err(RowError::OutOfForm);
     }
-    Ok(OptWords { size, ttl, options })
-}
-
-/// Adds the OPT record of the next words, and says what that answers.
-fn push_opt(stage: &mut Stage, row: &mut Row<'_>) -> Result<(), RowError> {
     let builder = stage.additional()?;
-    let opt = next_opt(row)?;
-    row.outcome(builder.push_opt(row.alloc(), opt.size, opt.ttl, opt.options));
+    row.outcome(builder.push_opt(row.alloc(), size, ttl, options));
     Ok(())
 }
 
 /// Puts the OPT record of the next words in place of the OPT records, and says what that answers.
 fn replace_opt(stage: &mut Stage, row: &mut Row<'_>) -> Result<(), RowError> {
+    let (size, ttl) = (row.number(), Ttl::from_secs(row.number()));
+    let options = row.octets();
+    if !are_options(options) {
+        return Err(RowError::OutOfForm);
+    }
     let builder = stage.additional()?;
-    let opt = next_opt(row)?;
-    row.outcome(builder.replace_opt(row.alloc(), opt.size, opt.ttl, opt.options));
+    row.outcome(builder.replace_opt(row.alloc(), size, ttl, options));
     Ok(())
 }
 
