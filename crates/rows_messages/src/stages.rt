@@ -1,6 +1,6 @@
 //! Messages under construction, and the steps that a row takes with them.
 
-ghost use Rattle.std.specs.Prelude.{◌≡◌, ◌≤◌, true, length};
+ghost use Rattle.std.specs.Prelude.{◌≡◌, ◌≤◌, IfOk, true, length};
 ghost use Rattle.dns_base.specs.Options.{IsOptionList};
 ghost use Rattle.dns_base.specs.Records.{IsLawful};
 
