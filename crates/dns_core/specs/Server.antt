@@ -28,5 +28,5 @@ module _ {W R F : Type 0} (answer : PolledRequest F R → ℕ → Answer) (answe
   Goes old new e outs = (settings : Settings) (q : List Event) → Serves settings q old → (outs ≡ gained answers settings q e) × Serves settings (q ++ e ∷ []) new
 
   -- the same where it is appended to what was sent
-  abbrev pub Adds : Server W R F → Server W R F → Event → List Output → List Output → Type 0
-  Adds old new e outs all = (settings : Settings) (q : List Event) → Serves settings q old → (all ≡ outs ++ gained answers settings q e) × Serves settings (q ++ e ∷ []) new
+  abbrev pub AddsOutputs : Server W R F → Server W R F → Event → List Output → List Output → Type 0
+  AddsOutputs old new e outs all = (settings : Settings) (q : List Event) → Serves settings q old → (all ≡ outs ++ gained answers settings q e) × Serves settings (q ++ e ∷ []) new

@@ -32,7 +32,7 @@ pub struct Server<W: Served> {
 }
 
 impl<W: Served> Server<W> {
-    ghost use Rattle.dns_core.specs.Server.{Serves, Goes, Adds};
+    ghost use Rattle.dns_core.specs.Server.{Serves, Goes, AddsOutputs};
 
     fn new(alloc: Global, settings: &Settings) -> Self
         ensures { (answers : Serving) → Serves (request_answer W.Future.answer W.Stream.answer) answers settings.now [] result }
@@ -172,7 +172,7 @@ impl<W: Served> Server<W> {
         outs: &mut Vec<Output>,
     ) -> Result<(), OutOfMemory>
         requires { W.can_call service.now }
-        ensures { OnOk result (Adds (request_answer W.Future.answer W.Stream.answer) (serving (W.answer service.now) (W.hint service.now)) self.old self.new event.now outs.old.items outs.new.items) }
+        ensures { OnOk result (AddsOutputs (request_answer W.Future.answer W.Stream.answer) (serving (W.answer service.now) (W.hint service.now)) self.old self.new event.now outs.old.items outs.new.items) }
     {
         let more = self.one(alloc, service, event)?;
         append(outs, more)?;

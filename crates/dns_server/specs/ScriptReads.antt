@@ -12,11 +12,11 @@ abbrev pub TakesLine : Result (Unit {0}) LineError → Plan → Result Plan Reas
 TakesLine (Ok u) said read = read ≡ Ok said
 TakesLine (Err e) said read = Fails e read
 
-abbrev pub Refuses : ScriptError → Result Plan (ℕ × Reason) → Type 0
-Refuses OutOfMemory read = Unit {0}
-Refuses (Refused n r) read = read ≡ Err (n, r)
+abbrev pub RefusesScript : ScriptError → Result Plan (ℕ × Reason) → Type 0
+RefusesScript OutOfMemory read = Unit {0}
+RefusesScript (Refused n r) read = read ≡ Err (n, r)
 
 -- what a script says, or its first bad line, unless memory was wanting
 abbrev pub ReadsScript : Result Plan ScriptError → Result Plan (ℕ × Reason) → Type 0
 ReadsScript (Ok s) read = read ≡ Ok s
-ReadsScript (Err e) read = Refuses e read
+ReadsScript (Err e) read = RefusesScript e read
