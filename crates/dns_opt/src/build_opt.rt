@@ -5,12 +5,12 @@ ghost use Rattle.std.specs.Fn.{FnOnceReturnsAtMut};
 ghost use Rattle.dns_base.specs.Built.{Built, Pushes, with_additional, with_header};
 ghost use Rattle.dns_opt.specs.Drafts.{Appended, BuiltOpt, Ends, EndsIn, IsBuiltOpt, PutInto, opened_opt, room_of};
 ghost use Rattle.dns_opt.specs.OptRecords.{opt_record, opt_state};
-ghost use Rattle.dns_opt.specs.Reopened.{Reopens, less_opts, old_opt, reopened};
+ghost use Rattle.dns_opt.specs.Reopened.{Reopens, less_opts, old_opt, opt_among, reopened};
 
 use crate::builder::OptBuilder;
 use crate::header::OptHeader;
 use crate::message_opt::first_opt;
-use crate::record::{OptRecord, append};
+use crate::record::{OptRecord, OptRecordRef, append};
 use dns_base::{AdditionalBuilder, PushError};
 use dns_name::{BuildDataError, OutOfMemory, Rcode, Rtype};
 use dns_options::Opt;
@@ -20,6 +20,10 @@ use std::alloc::Global;
 pub trait BuildOpt {
     /// The message that is under construction, and its limit.
     ghost built: { Self → Built };
+
+    /// The first OPT record; none where its data is no option list. Only the additional records are read.
+    fn opt_record(&self) -> Option<OptRecordRef<'_>>
+        ensures { result ≡ opt_among (built self.now).message.additional };
 
     /// Appends one OPT record as the closure builds it. Where anything is refused, the message is as before.
     fn opt<F: FnOnce(&mut OptBuilder) -> Result<(), BuildDataError>>(
@@ -45,6 +49,11 @@ pub trait BuildOpt {
 impl BuildOpt for AdditionalBuilder {
     ghost built = { λ b. b };
 
+    #[tactic(auto, using(crate::proofs::Opts::opt_given))]
+    fn opt_record(&self) -> Option<OptRecordRef<'_>> {
+        first_opt(self.additional_records())
+    }
+
     fn opt<F: FnOnce(&mut OptBuilder) -> Result<(), BuildDataError>>(
         &mut self,
         alloc: Global,
@@ -68,11 +77,10 @@ impl BuildOpt for AdditionalBuilder {
 }
 
 /// The first OPT record of a message, or an empty one.
-#[tactic(auto, using(crate::proofs::Opts::opt_given))]
 fn old_opt(message: &AdditionalBuilder, alloc: Global) -> Result<OptRecord, OutOfMemory>
     ensures { IfOk result (λ r. r ≡ old_opt message.now.message) }
 {
-    match first_opt(message.additional_records()) {
+    match message.opt_record() {
         Some(record) => record.to_owned(alloc),
         None => Ok(OptRecord::default(alloc)),
     }

@@ -81,8 +81,7 @@ fn message_said(row: &mut Row<'_>, message: &AdditionalBuilder) {
     row.tell("len", &message.as_slice().len());
     row.tell("header", &header.rcode.to_int());
     row.tell("arcount", &message.counts().arcount);
-    let read = message.as_message();
-    let Some(found) = read.opt() else {
+    let Some(found) = message.opt_record() else {
         return row.say("none");
     };
     row.tell("rcode", &found.rcode(header).to_int());
