@@ -21,6 +21,7 @@ pub mod ErrorReply
 pub mod WithOption
 pub mod OptIn
 pub mod Cut
+pub mod Invokers
 pub mod Lending
 pub mod Config
 pub mod Once

@@ -1,8 +1,10 @@
 //! Events of a server's clients, and what the clients are sent.
 
+use crate::config::{DgramConfig, StreamConfig};
 use dns_name::{Octets, SocketAddr};
 
-/// One event: its moment in ms, its seconds, and the number of its client.
+/// One event: its moment in ms, its seconds, and the number of its client. An event that all clients hear has no client: its
+/// number says nothing.
 #[derive(Debug, Drop)]
 pub struct Event {
     pub at: u64,
@@ -14,19 +16,41 @@ pub struct Event {
 #[derive(Debug, Drop)]
 pub enum EventKind {
     /// A datagram came from an address.
-    Datagram { addr: SocketAddr, octets: Octets },
+    Datagram {
+        addr: SocketAddr,
+        octets: Octets,
+    },
     /// The request of this number, counted from 0, is polled once.
-    Turn { request: u64 },
+    Turn {
+        request: u64,
+    },
     /// A connection from an address is offered.
-    Offer { addr: SocketAddr },
+    Offer {
+        addr: SocketAddr,
+    },
     /// Octets of the connection's stream came.
     Piece(Octets),
     /// The connection's stream ended.
     End,
+    /// The connection's stream failed.
+    Fault,
+    /// The connection is to be closed, once what waits was written.
+    Close,
     /// A queued frame is written. It waited and was written for so many ms.
-    Write { took: u64 },
+    Write {
+        took: u64,
+    },
+    /// The connection's timer is looked at.
+    Tick,
     /// The connection is gone, and gives its slot back.
     Release,
+    /// All clients hear that the configurations are replaced.
+    Reconfigure {
+        dgram: DgramConfig,
+        stream: StreamConfig,
+    },
+    /// All clients hear that the server shuts down.
+    Shutdown,
 }
 
 /// Why a connection is closed.
@@ -34,10 +58,18 @@ pub enum EventKind {
 pub enum Why {
     /// The stream ended.
     Ended,
+    /// The stream failed.
+    Fault,
     /// A frame was shorter than a header.
     Short,
+    /// Nothing came for too long.
+    Idle,
     /// A write took too long.
     WriteTimeout,
+    /// It was to be closed.
+    Commanded,
+    /// The server shuts down.
+    Shutdown,
 }
 
 /// What a client is sent.

@@ -1,6 +1,6 @@
 //! Requests that are polled: a future, and then its stream.
 
-ghost use Rattle.std.specs.Prelude.{◌≡◌, ℕ, suc, IfOk, OnOk};
+ghost use Rattle.std.specs.Prelude.{◌≡◌, ℕ, suc, IfOk};
 ghost use Rattle.dns_service.specs.Answer.{IfPending, IfReady};
 ghost use Rattle.dns_service.specs.PolledRequest.{request_answer, request_size};
 
@@ -35,17 +35,17 @@ pub enum PolledRequest<F, R> {
     Stream(R),
 }
 
-impl<F, R> PolledRequest<F, R>
+impl<F, R> ReplyStream for PolledRequest<F, R>
 where
     F: ReplyFuture<Stream = R>,
     R: ReplyStream,
 {
-    /// Takes the next answer. A future that is ready is followed by the first poll of its stream. After want of memory the
-    /// request isn't to be polled again.
-    pub fn poll_next(&mut self, alloc: Global) -> Result<Polled<Option<ServiceResult>>, OutOfMemory>
-        ensures now { IfOk result (λ p. p ≡ request_answer F.answer R.answer self.old 0) }
-        ensures later { OnOk result ((k : ℕ) → request_answer F.answer R.answer self.new k ≡ request_answer F.answer R.answer self.old (suc k)) }
-    {
+    ghost answer = { request_answer F.answer R.answer };
+
+    ghost size = { request_size R.size };
+
+    /// Takes the next answer. A future that is ready is followed by the first poll of its stream.
+    fn poll_next(&mut self, alloc: Global) -> Result<Polled<Option<ServiceResult>>, OutOfMemory> {
         match self {
             PolledRequest::Future(future) => match poll_future(alloc, future)? {
                 Polled::Pending => Ok(Polled::Pending),
@@ -58,10 +58,8 @@ where
         }
     }
 
-    /// How many items are left, at least and at most: as the stream says, and unknown before it.
-    pub fn size_hint(&self) -> (usize, Option<usize>)
-        ensures { result ≡ request_size R.size self.now }
-    {
+    /// As the stream says, and unknown before it.
+    fn size_hint(&self) -> (usize, Option<usize>) {
         match self {
             PolledRequest::Future(_) => (0, None),
             PolledRequest::Stream(stream) => stream.size_hint(),

@@ -1,0 +1,151 @@
+//! What answers go through on their way to a connection: what they tell is heard, and what they reply is queued.
+
+ghost use Rattle.std.specs.Prelude.{◌≡◌, ℕ, suc, IfOk, OnOk, Some};
+ghost use Rattle.dns_service.specs.Given.{message_in};
+ghost use Rattle.dns_service.specs.Invokers.{Invoking, dispatched_by, after_answer, after_feedback, after_item, reply_in};
+
+use crate::reply::mk_error_response;
+use crate::service::{Polled, ReplyStream, ServiceFeedback, ServiceResult};
+use dns_base::{AdditionalBuilder, Message};
+use dns_name::{OptRcode, OutOfMemory};
+use std::alloc::Global;
+
+/// How far a request is, for the connection that it came from.
+#[derive(Clone, Copy, Debug, PartialEq, Eq)]
+pub enum InvokerStatus {
+    /// Its replies are single ones.
+    Normal,
+    /// Its replies are those of a transaction, of which none is dropped.
+    InTransaction,
+    /// It ended with an error.
+    Aborting,
+}
+
+/// What became of a reply.
+#[derive(Clone, Copy, Debug, PartialEq, Eq)]
+pub enum Enqueued {
+    /// It waits to be written.
+    Queued,
+    /// It waits for room.
+    Held,
+    /// It is dropped.
+    Dropped,
+}
+
+/// What a poll led to.
+#[derive(Clone, Copy, Debug, PartialEq, Eq)]
+pub enum Dispatched {
+    /// There was no answer.
+    Pending,
+    /// An item was processed.
+    Item,
+    /// There is no item any more.
+    Ended,
+    /// An error item was processed.
+    Aborted,
+}
+
+/// Processes the answers to one request.
+pub trait ServiceInvoker {
+    /// What the calls do.
+    ghost invoking: { Invoking Self };
+
+    /// How far the request is.
+    fn status(&self) -> InvokerStatus
+        ensures { result ≡ invoking.status self.now };
+
+    /// Says how far the request is.
+    fn set_status(&mut self, status: InvokerStatus)
+        ensures does { self.new ≡ invoking.with_status self.old status }
+        ensures status { invoking.status self.new ≡ status };
+
+    /// Lets the connection be idle for so many ms, where a number is given.
+    fn reconfigure(&mut self, idle_timeout: Option<u64>)
+        ensures does { self.new ≡ invoking.reconfigured self.old idle_timeout }
+        ensures status { invoking.status self.new ≡ invoking.status self.old };
+
+    /// Queues a reply.
+    fn enqueue_response(&mut self, response: AdditionalBuilder) -> Enqueued
+        ensures does { self.new ≡ (invoking.enqueued self.old response.message).0 }
+        ensures fate { result ≡ (invoking.enqueued self.old response.message).1 }
+        ensures status { invoking.status self.new ≡ invoking.status self.old };
+
+    /// Hears a feedback.
+    fn process_feedback(&mut self, feedback: ServiceFeedback)
+        ensures { self.new ≡ after_feedback invoking feedback self.old }
+    {
+        match feedback {
+            ServiceFeedback::Reconfigure { idle_timeout } => self.reconfigure(idle_timeout),
+            ServiceFeedback::BeginTransaction => self.set_status(InvokerStatus::InTransaction),
+            ServiceFeedback::EndTransaction => self.set_status(InvokerStatus::Normal),
+        }
+    }
+
+    /// Hears the feedback of an item, and gives the reply that it has. An error item aborts the request, and its reply is an
+    /// error reply to the message. There is none exactly where the item is a feedback alone.
+    fn process_response_stream_item(
+        &mut self,
+        alloc: Global,
+        item: ServiceResult,
+        message: &Message,
+    ) -> Result<Option<AdditionalBuilder>, OutOfMemory>
+        ensures does { OnOk result (self.new ≡ after_item invoking item self.old) }
+        ensures reply { IfOk result (λ reply. message_in reply ≡ reply_in message.now item) }
+    {
+        match item {
+            Ok(given) => {
+                let (response, feedback) = given.into_inner();
+                match feedback {
+                    None => Ok(response),
+                    Some(feedback) => {
+                        self.process_feedback(feedback);
+                        Ok(response)
+                    }
+                }
+            }
+            Err(error) => {
+                self.set_status(InvokerStatus::Aborting);
+                let rcode = OptRcode::from(error.rcode());
+                let reply = mk_error_response(alloc, message, rcode)?;
+                Ok(Some(reply))
+            }
+        }
+    }
+
+    /// Polls the replies to a message once. An item is processed, and its reply is queued.
+    fn dispatch<T: ReplyStream>(
+        &mut self,
+        alloc: Global,
+        stream: &mut T,
+        message: &Message,
+    ) -> Result<Dispatched, OutOfMemory>
+        ensures does { OnOk result (self.new ≡ after_answer invoking message.now (T.answer stream.old 0) self.old) }
+        ensures answer { IfOk result (λ dispatched. dispatched ≡ dispatched_by (T.answer stream.old 0)) }
+        ensures later { OnOk result ((k : ℕ) → T.answer stream.new k ≡ T.answer stream.old (suc k)) }
+    {
+        match stream.poll_next(alloc)? {
+            Polled::Pending => Ok(Dispatched::Pending),
+            Polled::Ready(None) => Ok(Dispatched::Ended),
+            Polled::Ready(Some(item)) => {
+                let dispatched = dispatched_by(&item);
+                match self.process_response_stream_item(alloc, item, message)? {
+                    None => Ok(dispatched),
+                    Some(reply) => {
+                        let _fate = self.enqueue_response(reply);
+                        Ok(dispatched)
+                    }
+                }
+            }
+        }
+    }
+}
+
+/// What the poll that gave an item led to.
+fn dispatched_by(item: &ServiceResult) -> Dispatched
+    ensures { result ≡ dispatched_by (Polled.Ready (Some item.now)) }
+{
+    match item {
+        Ok(_) => Dispatched::Item,
+        Err(_) => Dispatched::Aborted,
+    }
+}
