@@ -3,17 +3,14 @@
 ghost use Rattle.std.specs.Prelude.{◌≡◌, OnOk};
 ghost use Rattle.dns_base.specs.Readers.{resources};
 ghost use Rattle.dns_middleware.specs.Edns.{and_fitting, edns_by, edns_rule, has_opt, in_kind, keepalive_over, units_of, with_keepalive, with_some_opt};
-ghost use Rattle.dns_middleware.specs.Rewritten.{rewritten};
 
-use crate::rewrite::{Rewrite, rewrite_item};
+use crate::rewrite::Rewrite;
 use dns_base::{AdditionalBuilder, PushError, RecordIter, Rtype};
 use dns_name::{BuildDataError, OutOfMemory};
 use dns_opt::{IdleTimeout, OptRecord, TcpKeepalive};
 use dns_service::{
-    Asked, AskedOpt, Request, ServiceResult, TransportSpecificContext, add_edns_option,
-    remove_edns_opt_record,
+    Asked, AskedOpt, TransportSpecificContext, add_edns_option, remove_edns_opt_record,
 };
-use dns_stream::Postprocess;
 use std::alloc::Global;
 
 /// How the replies to a request are given the OPT record that it asks for.
@@ -46,21 +43,6 @@ impl Rewrite for EdnsPost {
         in_kind(alloc, self.answered, reply)?;
         with_keepalive(alloc, self.keepalive, reply)?;
         with_some_opt(alloc, self.answered, reply)
-    }
-}
-
-impl Postprocess<()> for EdnsPost {
-    ghost post = { λ p _. rewritten (edns_by p) };
-
-    fn map(
-        &self,
-        alloc: Global,
-        _request: &Request<()>,
-        item: ServiceResult,
-    ) -> Result<ServiceResult, OutOfMemory> {
-        let mut item = item;
-        rewrite_item(self, alloc, &mut item)?;
-        Ok(item)
     }
 }
 

@@ -3,20 +3,20 @@
 ghost use Rattle.std.specs.Prelude.{◌≡◌, ℕ, IfOk};
 ghost use Rattle.dns_service.specs.Answer.{mapped};
 ghost use Rattle.dns_service.specs.ErrorReply.{error_reply};
-ghost use Rattle.dns_middleware.specs.Rewritten.{own_reply};
+ghost use Rattle.dns_middleware.specs.Rewritten.{own_reply, rewritten};
 
-use crate::rewrite::Rewrite;
+use crate::rewrite::{Rewrite, Rewriting};
 use dns_base::{AdditionalBuilder, Message};
 use dns_name::OptRcode;
 use dns_service::{CallResult, ReplyFuture, ReplyStream, Request, Service, mk_error_response};
-use dns_stream::{MiddlewareStream, Now, Once, OutOfMemory, Postprocess, PostprocessingStream};
+use dns_stream::{MiddlewareStream, Now, Once, OutOfMemory, PostprocessingStream};
 use std::alloc::Global;
 
 /// The stream of a layer round a service: the inner replies, mapped or not, or a reply of the layer's own.
-pub type Layered<S, Meta, P> = MiddlewareStream<
+pub type Layered<S, Meta, R> = MiddlewareStream<
     <S as Service<Meta>>::Future,
     <S as Service<Meta>>::Stream,
-    PostprocessingStream<<S as Service<Meta>>::Future, (), P>,
+    PostprocessingStream<<S as Service<Meta>>::Future, (), Rewriting<R>>,
     Once,
 >;
 
@@ -38,15 +38,16 @@ pub(crate) fn of_inner<S: Service<Meta>, Meta, M: ReplyStream, O: ReplyStream>(
     Now::new(MiddlewareStream::IdentityFuture(future))
 }
 
-/// A layer's replies that are those of the service inside, mapped by a rule for the request as it came, at once.
-pub(crate) fn of_mapped<S: Service<Meta>, Meta, P: Postprocess<()>>(
+/// A layer's replies that are those of the service inside, rewritten by a rule for the request as it came, at once.
+pub(crate) fn of_mapped<S: Service<Meta>, Meta, R: Rewrite>(
     future: S::Future,
     original: Request<()>,
-    rule: P,
-) -> Now<Layered<S, Meta, P>>
-    ensures { (k : ℕ) → ⟦<Now<Layered<S, Meta, P>> as ReplyFuture>⟧.answer result k ≡ mapped (P.post rule original) (S.Future.answer future k) }
+    rule: R,
+) -> Now<Layered<S, Meta, R>>
+    ensures { (k : ℕ) → ⟦<Now<Layered<S, Meta, R>> as ReplyFuture>⟧.answer result k ≡ mapped (rewritten (R.rewriting rule)) (S.Future.answer future k) }
 {
-    Now::new(MiddlewareStream::Map(PostprocessingStream::new(future, original, rule)))
+    let pp = Rewriting { rule };
+    Now::new(MiddlewareStream::Map(PostprocessingStream::new(future, original, pp)))
 }
 
 /// A reply and nothing else, and then the end.

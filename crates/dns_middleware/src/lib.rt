@@ -38,6 +38,7 @@ pub use notice::Notice;
 pub use notifiable::{Notifiable, NotifyError, VerdictFuture};
 pub use notify::{NotifyMiddlewareSvc, NotifyStream};
 pub use refusal::Refusal;
+pub use rewrite::{Rewrite, Rewriting};
 pub use settings::Settings;
 pub use wrap_post::WrapPost;
 pub use wrapped::{

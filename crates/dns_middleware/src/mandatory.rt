@@ -99,23 +99,6 @@ fn pass<S: Service<Meta>, Meta>(
     ensures refused { OnErr result (request.new ≡ request.old) }
 {
     let original = request.try_clone(alloc, ())?;
-    call_mapped(alloc, next, asked, original, request)
-}
-
-/// The same, where the request was copied.
-fn call_mapped<S: Service<Meta>, Meta>(
-    alloc: Global,
-    next: &S,
-    asked: &Asked,
-    original: Request<()>,
-    request: &mut Request<Meta>,
-) -> Result<Now<Layered<S, Meta, MandatoryPost>>, OutOfMemory>
-    requires can_call { S.can_call next.now }
-    requires asked { asked.now ≡ asked_of request.old.octets }
-    ensures answers { let r = request.old in IfOk result (λ f. (k : ℕ) → ⟦<Now<Layered<S, Meta, MandatoryPost>> as ReplyFuture>⟧.answer f k ≡ mapped (rewritten (mand_post (limit (S.hint next.now r)) r)) (S.answer next.now r k)) }
-    ensures kept { OnOk result (request.new ≡ record request.old { transport = hinted (S.hint next.now request.old) request.old.transport; reserved = request.new.reserved }) }
-    ensures refused { OnErr result (request.new ≡ request.old) }
-{
     let future = next.call(alloc, request)?;
     let rule = rule_now(asked, request);
     Ok(of_mapped::<S, Meta, _>(future, original, rule))

@@ -5,15 +5,12 @@ ghost use Rattle.dns_base.specs.Msg.{Msg};
 ghost use Rattle.dns_base.specs.Wire.{wire};
 ghost use Rattle.dns_service.specs.Req.{Req};
 ghost use Rattle.dns_service.specs.Transport.{limit};
-ghost use Rattle.dns_middleware.specs.Rewritten.{rewritten};
 ghost use Rattle.dns_middleware.specs.Mandatory.{as_response, mand_by, mand_post, mand_rule};
 
-use crate::rewrite::{Rewrite, rewrite_item};
+use crate::rewrite::Rewrite;
 use dns_base::AdditionalBuilder;
-use dns_service::{
-    Asked, Request, ServiceResult, TransportSpecificContext, cut_fits, fit, limit_over,
-};
-use dns_stream::{OutOfMemory, Postprocess};
+use dns_service::{Asked, TransportSpecificContext, cut_fits, fit, limit_over};
+use dns_stream::OutOfMemory;
 use std::alloc::Global;
 
 /// How the replies to a request are made to fit its transport and to answer it.
@@ -51,21 +48,6 @@ impl Rewrite for MandatoryPost {
         fit(alloc, self.limit, reply)?;
         respond(self.id, self.rd, reply);
         Ok(())
-    }
-}
-
-impl Postprocess<()> for MandatoryPost {
-    ghost post = { λ p _. rewritten (mand_by p) };
-
-    fn map(
-        &self,
-        alloc: Global,
-        _request: &Request<()>,
-        item: ServiceResult,
-    ) -> Result<ServiceResult, OutOfMemory> {
-        let mut item = item;
-        rewrite_item(self, alloc, &mut item)?;
-        Ok(item)
     }
 }
 

@@ -6,17 +6,39 @@ ghost use Rattle.dns_service.specs.Answer.{mapped};
 ghost use Rattle.dns_middleware.specs.Rewritten.{rewritten};
 
 use dns_base::AdditionalBuilder;
-use dns_service::{CallResult, OutOfMemory, Polled, ServiceResult};
+use dns_service::{CallResult, OutOfMemory, Polled, Request, ServiceResult};
+use dns_stream::Postprocess;
 use std::alloc::Global;
 
 /// A rule by which replies are rewritten.
-pub(crate) trait Rewrite: Drop {
+pub trait Rewrite: Drop {
     /// The rewritten reply.
     ghost rewriting: { Self → Msg → Msg };
 
     /// Rewrites a reply in place. After want of memory the reply isn't to be used.
     fn rewrite(&self, alloc: Global, reply: &mut AdditionalBuilder) -> Result<(), OutOfMemory>
         ensures { OnOk result (reply.new.message ≡ rewriting self.now reply.old.message) };
+}
+
+/// A rule that rewrites replies, as what maps the items of a service.
+#[derive(Drop)]
+pub struct Rewriting<R> {
+    pub(crate) rule: R,
+}
+
+impl<R: Rewrite> Postprocess<()> for Rewriting<R> {
+    ghost post = { λ p _. rewritten (R.rewriting p.rule) };
+
+    fn map(
+        &self,
+        alloc: Global,
+        _request: &Request<()>,
+        item: ServiceResult,
+    ) -> Result<ServiceResult, OutOfMemory> {
+        let mut item = item;
+        rewrite_item(&self.rule, alloc, &mut item)?;
+        Ok(item)
+    }
 }
 
 /// Rewrites the reply in an item, where it has one.

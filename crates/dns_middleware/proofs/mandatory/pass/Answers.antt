@@ -1,6 +1,6 @@
 -- The inner answers are rewritten by the hint that the inner service left.
 use Rattle.dns_middleware.proofs.MandatoryLaws.{passed_on}
-use Rattle.dns_middleware.proofs.mandatory.call_mapped.Goals as goal
+use Rattle.dns_middleware.proofs.mandatory.pass.Goals as goal
 
 pub returns-clause-answers : goal.returns-clause-answers
 returns-clause-answers g c =
