@@ -4,7 +4,7 @@ ghost use Rattle.std.specs.Prelude.{◌≤◌, ◌+◌, Err, length};
 ghost use Rattle.dns_service.specs.declared.service.Polled.TheVariants.{Ready};
 
 use dns_name::Name;
-use dns_route::{QnameRouter, ReplyMessage, SingleService};
+use dns_route::{QnameRouter, SingleService, Turned};
 use dns_service::{OutOfMemory, Polled, Request, ServiceError};
 use std::alloc::Global;
 
@@ -23,12 +23,7 @@ pub(crate) struct Refusing {
 impl SingleService for Refusing {
     ghost answer = { λ s _ _. Ready (Err s.error) };
 
-    fn turn(
-        &self,
-        _alloc: Global,
-        _request: &Request<()>,
-        _k: u64,
-    ) -> Result<Polled<Result<ReplyMessage, ServiceError>>, OutOfMemory> {
+    fn turn(&self, _alloc: Global, _request: &Request<()>, _k: u64) -> Result<Turned, OutOfMemory> {
         Ok(Polled::Ready(Err(self.error)))
     }
 }

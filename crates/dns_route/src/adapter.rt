@@ -9,7 +9,7 @@ use crate::own_reply::explained;
 use crate::reply::{ComposeReply, ReplyMessage};
 use crate::request::{Error, RequestMessage};
 use crate::send_request::{SendError, SendRequest};
-use crate::single_service::SingleService;
+use crate::single_service::{SingleService, Turned};
 use dns_base::Message;
 use dns_service::{OutOfMemory, Polled, ReplyError, Request, ServiceError};
 use std::alloc::Global;
@@ -34,12 +34,7 @@ impl<C: SendRequest> ClientTransportToSingleService<C> {
 impl<C: SendRequest> SingleService for ClientTransportToSingleService<C> {
     ghost answer = { λ s. relayed (C.answer s.conn) };
 
-    fn turn(
-        &self,
-        alloc: Global,
-        request: &Request<()>,
-        k: u64,
-    ) -> Result<Polled<Result<ReplyMessage, ServiceError>>, OutOfMemory> {
+    fn turn(&self, alloc: Global, request: &Request<()>, k: u64) -> Result<Turned, OutOfMemory> {
         let Some(sent) = readable(alloc, request)? else {
             return Ok(Polled::Ready(Err(ServiceError::InternalError)));
         };
@@ -66,12 +61,7 @@ impl BoxClientTransportToSingleService {
 impl SingleService for BoxClientTransportToSingleService {
     ghost answer = { λ s. relayed ((SendRequest-box s.conn).answer s.conn.value) };
 
-    fn turn(
-        &self,
-        alloc: Global,
-        request: &Request<()>,
-        k: u64,
-    ) -> Result<Polled<Result<ReplyMessage, ServiceError>>, OutOfMemory> {
+    fn turn(&self, alloc: Global, request: &Request<()>, k: u64) -> Result<Turned, OutOfMemory> {
         let Some(sent) = readable(alloc, request)? else {
             return Ok(Polled::Ready(Err(ServiceError::InternalError)));
         };
@@ -96,7 +86,7 @@ fn relay(
     alloc: Global,
     query: &Message,
     answer: Polled<Result<Message, SendError>>,
-) -> Result<Polled<Result<ReplyMessage, ServiceError>>, OutOfMemory>
+) -> Result<Turned, OutOfMemory>
     ensures { IfOk result (λ p. p ≡ relay_answer query.now answer) }
 {
     match answer {

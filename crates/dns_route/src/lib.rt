@@ -21,5 +21,5 @@ pub use qname_router::QnameRouter;
 pub use reply::{ComposeReply, ReplyMessage};
 pub use request::RequestMessage;
 pub use send_request::{SendError, SendRequest};
-pub use single_service::SingleService;
+pub use single_service::{SingleService, Turned};
 pub use to_service::{SingleServiceFuture, SingleServiceToService};

@@ -1,6 +1,6 @@
 //! Replies that a router and the adapters give of their own.
 
-ghost use Rattle.std.specs.Prelude.{◌≡◌, ◌<◌, ◌≤◌, ◌+◌, IfOk, OnOk, length};
+ghost use Rattle.std.specs.Prelude.{◌≡◌, ◌≤◌, ◌+◌, IfOk, OnOk, length};
 ghost use Rattle.dns_opt.specs.Extended.{extended_octets};
 ghost use Rattle.dns_route.specs.OwnReplies.{error_state, explained, no_upstream};
 ghost use Rattle.dns_route.specs.ReplyMessage.{begun, with_reply_option};
@@ -8,26 +8,20 @@ ghost use Rattle.dns_route.specs.ReplyMessage.{begun, with_reply_option};
 use crate::reply::{ComposeReply, ReplyMessage};
 use dns_base::Message;
 use dns_name::{BuildDataError, ExtendedErrorCode, OptRcode, OutOfMemory};
-use dns_opt::{ExtendedErrorRef, opts_read_back};
-use dns_service::{ReplyError, mk_error_response};
+use dns_opt::ExtendedErrorRef;
+use dns_service::mk_error_response;
 use std::alloc::Global;
 
-/// The error reply to a query. A code of four bits alone leaves nothing in its OPT record that a reply doesn't keep.
+/// The error reply to a query.
 pub(crate) fn error_begun(
     alloc: Global,
     query: &Message,
     rcode: OptRcode,
 ) -> Result<ReplyMessage, OutOfMemory>
-    requires { rcode < 16 }
     ensures { IfOk result (λ r. r ≡ error_state query.now rcode) }
 {
-    opts_read_back();
     let built = mk_error_response(alloc, query, rcode)?;
-    match ReplyMessage::from_message(alloc, &built.as_message()) {
-        Ok(reply) => Ok(reply),
-        Err(ReplyError::OutOfMemory) => Err(OutOfMemory),
-        Err(ReplyError::Service(_)) => unreachable!(),
-    }
+    ReplyMessage::from_builder(alloc, built)
 }
 
 /// SERVFAIL with an extended error of code 0 and a text.

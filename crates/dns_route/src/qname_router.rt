@@ -5,11 +5,10 @@ ghost use Rattle.std.specs.Option.{option_copied};
 ghost use Rattle.dns_route.specs.Routes.{chosen, routed};
 
 use crate::own_reply::{error_begun, no_service};
-use crate::reply::ReplyMessage;
 use crate::routes::Routes;
-use crate::single_service::SingleService;
+use crate::single_service::{SingleService, Turned};
 use dns_name::{Name, OptRcode, ParsedName};
-use dns_service::{OutOfMemory, Polled, Request, ServiceError};
+use dns_service::{OutOfMemory, Polled, Request};
 use std::alloc::Global;
 use std::marker::Model;
 
@@ -60,12 +59,7 @@ impl<S: SingleService> SingleService for QnameRouter<S> {
 
     /// The turn of the service that is chosen. Without a readable question the reply is FORMERR; without a service for
     /// it SERVFAIL, with an extended error that says so.
-    fn turn(
-        &self,
-        alloc: Global,
-        request: &Request<()>,
-        k: u64,
-    ) -> Result<Polled<Result<ReplyMessage, ServiceError>>, OutOfMemory> {
+    fn turn(&self, alloc: Global, request: &Request<()>, k: u64) -> Result<Turned, OutOfMemory> {
         let Some(question) = request.message().first_question() else {
             let reply = error_begun(alloc, request.message(), OptRcode::FORMERR)?;
             return Ok(Polled::Ready(Ok(reply)));

@@ -4,12 +4,13 @@ ghost use Rattle.std.specs.Prelude.{◌≡◌, ℕ, ⊤, IfOk, List, Result};
 ghost use Rattle.dns_name.specs.declared.error.ParseError.{ParseError};
 ghost use Rattle.dns_name.specs.declared.opt_error.BuildDataError.{BuildDataError};
 ghost use Rattle.dns_base.specs.Msg.{Msg};
+ghost use Rattle.dns_route.specs.OwnReplies.{begun_with};
 ghost use Rattle.dns_route.specs.ReplyMessage.{Adds, BeginsReply, Composes, reply_message, reply_read};
 
 use crate::kept::{Keeps, kept_opt};
 use dns_base::{AdditionalBuilder, Message, MessageRef};
 use dns_name::{BuildDataError, ComposeOptData, OutOfMemory};
-use dns_opt::{MessageOpt, OptRecord};
+use dns_opt::{BuildOpt, MessageOpt, OptRecord};
 use dns_service::{CopiedMessage, ReplyError};
 use std::alloc::Global;
 use std::marker::Model;
@@ -102,6 +103,24 @@ impl ComposeReply for ReplyMessage {
         let copied = CopiedMessage::read(alloc, &self.message.for_ref())?;
         let built = copied.build(alloc, self.opt.as_ref())?;
         Ok(built)
+    }
+}
+
+impl ReplyMessage {
+    /// A reply that is a message of our own. Its OPT record is kept whole; its octets are taken over, and only its additional
+    /// records are read.
+    pub(crate) fn from_builder(
+        alloc: Global,
+        built: AdditionalBuilder,
+    ) -> Result<ReplyMessage, OutOfMemory>
+        ensures { IfOk result (λ r. r ≡ begun_with built.message) }
+    {
+        let opt = match built.opt_record() {
+            Some(found) => Some(found.to_owned(alloc)?),
+            None => None,
+        };
+        let message = built.into_message();
+        Ok(ReplyMessage { message, opt })
     }
 }
 

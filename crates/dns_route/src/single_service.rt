@@ -8,6 +8,9 @@ use crate::reply::ReplyMessage;
 use dns_service::{OutOfMemory, Polled, Request, ServiceError};
 use std::alloc::Global;
 
+/// What a turn gives: nothing yet, or the reply, or the error.
+pub type Turned = Polled<Result<ReplyMessage, ServiceError>>;
+
 /// Answers a request with one reply or error, which may take turns: whoever asks counts them from 0, and makes none
 /// behind one that isn't pending.
 pub trait SingleService: Drop {
@@ -15,11 +18,6 @@ pub trait SingleService: Drop {
     ghost answer: { Self → Request (Unit {0}) → ℕ → TurnAnswer };
 
     /// Turn k of a request.
-    fn turn(
-        &self,
-        alloc: Global,
-        request: &Request<()>,
-        k: u64,
-    ) -> Result<Polled<Result<ReplyMessage, ServiceError>>, OutOfMemory>
+    fn turn(&self, alloc: Global, request: &Request<()>, k: u64) -> Result<Turned, OutOfMemory>
         ensures { IfOk result (λ p. p ≡ answer self.now request.now k) };
 }
