@@ -1,12 +1,12 @@
 -- Lemmas for callers: several calls of one seat, and the calls of both halves of a seat.
 use Rattle.std.proofs.Common.{◌≡◌, Bool, false, List, [], ◌∷◌, ◌++◌, refl, sym, ap, ◌∙◌, subst, ⊎_elim, append_assoc, append-nil}
-use Rattle.dns_book.specs.declared.look.Look.{Look as State}
-use Rattle.dns_book.specs.declared.call.Call.{Call}
-use Rattle.dns_book.specs.declared.call.Reply.{Reply}
+use Rattle.dns_admission.specs.declared.look.Look.{Look as State}
+use Rattle.dns_admission.specs.declared.call.Call.{Call}
+use Rattle.dns_admission.specs.declared.call.Reply.{Reply}
 use Rattle.dns_book.specs.declared.history.Entry.{Entry}
 use Rattle.dns_book.specs.declared.history.Share.{Share}
 use Rattle.dns_book.specs.declared.history.Known.{Known}
-use Rattle.dns_book.specs.Machine.{state_after, reply_of}
+use Rattle.dns_admission.specs.Machine.{state_after, reply_of}
 use Rattle.dns_book.specs.History.{Name, entry, states_after, IsLegal, Begins, calls_by, entries_in, Has, IsMap, with_entry}
 use Rattle.dns_book.specs.Seats.{IsSound, Called, Joined, first_half, second_half}
 use Rattle.dns_book.specs.Gains.{with_calls, Gained, first_name, second_name, BothMade}

@@ -1,11 +1,11 @@
 -- Names, histories and finite maps.
 use Rattle.std.proofs.Common.{◌≡◌, ◌≢◌, ◌⊎◌, Bool, true, false, if◌then◌else◌, List, [], ◌∷◌, ◌++◌, refl, sym, ◌∙◌, ap, inl, inr, ⊎_elim, true≢false, append_assoc, append-nil}
-use Rattle.dns_book.specs.declared.look.Look.{Look as State}
-use Rattle.dns_book.specs.declared.call.Call.{Call}
-use Rattle.dns_book.specs.declared.call.Reply.{Reply}
+use Rattle.dns_admission.specs.declared.look.Look.{Look as State}
+use Rattle.dns_admission.specs.declared.call.Call.{Call}
+use Rattle.dns_admission.specs.declared.call.Reply.{Reply}
 use Rattle.dns_book.specs.declared.history.Entry.{Entry}
 use Rattle.dns_book.specs.declared.history.Share.{Share}
-use Rattle.dns_book.specs.Machine.{state_after, reply_of}
+use Rattle.dns_admission.specs.Machine.{state_after, reply_of}
 use Rattle.dns_book.specs.History.{Name, same, entry, states_after, IsLegal, calls_by, entries_in, Has, with_entry, Begins, but_last}
 
 pub same_refl : (n : Name) → same n n ≡ true

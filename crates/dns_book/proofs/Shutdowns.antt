@@ -1,15 +1,16 @@
 -- A book is closed where it began so or a shutdown stands in its history.
 use Rattle.std.proofs.Common.{◌≡◌, ◌≢◌, ◌⊎◌, ◌↔◌, Bool, true, false, if◌then◌else◌, List, [], ◌∷◌, refl, sym, ◌∙◌, subst, inl, inr, ⊎_elim, true≢false}
-use Rattle.dns_book.specs.declared.look.Look.{Look as State}
-use Rattle.dns_book.specs.declared.look.Admission.{Admission}
-use Rattle.dns_book.specs.declared.look.Admission.TheVariants.{Admitted, Full, Closed}
-use Rattle.dns_book.specs.declared.call.Call.{Call}
-use Rattle.dns_book.specs.declared.call.Call.TheVariants.{Admit, Release, Reconfigure, Shutdown, Look}
+use Rattle.dns_admission.specs.declared.look.Look.{Look as State}
+use Rattle.dns_admission.specs.declared.look.Admission.{Admission}
+use Rattle.dns_admission.specs.declared.look.Admission.TheVariants.{Admitted, Full, Closed}
+use Rattle.dns_admission.specs.declared.call.Call.{Call}
+use Rattle.dns_admission.specs.declared.call.Call.TheVariants.{Admit, Release, Reconfigure, Shutdown, Look}
 use Rattle.dns_book.specs.declared.history.Entry.{Entry}
 use Rattle.dns_book.specs.declared.history.Known.{Known}
-use Rattle.dns_book.specs.Machine.{state_after, has_slot, has_version, admitted, replaced}
+use Rattle.dns_admission.specs.Machine.{state_after, has_slot, has_version, admitted, replaced}
 use Rattle.dns_book.specs.History.{states_after, but_last}
-use Rattle.dns_book.specs.Causes.{Admits, HasShutdown, WasShutDown}
+use Rattle.dns_admission.specs.Admissions.{Admits}
+use Rattle.dns_book.specs.Causes.{HasShutdown, WasShutDown}
 use Rattle.dns_book.specs.Seats.{state_met}
 
 either_closed : (b : Bool) (s x y : State) → x.closed ≡ s.closed → y.closed ≡ s.closed → (if b then x else y).closed ≡ s.closed

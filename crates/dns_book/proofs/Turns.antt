@@ -7,12 +7,12 @@ use lib.ListN.{get_elem?}
 use lib.Pointwise.{pointwise, bytes_decides}
 use Rattle.crossbeam_utils.specs.Register.{Turns, TurnsAt}
 use Rattle.atomic_table.proofs.Lists.{at_set, set_again, set_else}
-use Rattle.dns_book.specs.declared.look.Look.{Look as State}
-use Rattle.dns_book.specs.declared.call.Call.{Call}
-use Rattle.dns_book.specs.declared.call.Reply.{Reply}
+use Rattle.dns_admission.specs.declared.look.Look.{Look as State}
+use Rattle.dns_admission.specs.declared.call.Call.{Call}
+use Rattle.dns_admission.specs.declared.call.Reply.{Reply}
 use Rattle.dns_book.specs.declared.history.Entry.{Entry}
 use Rattle.dns_book.specs.declared.rule.View.{View}
-use Rattle.dns_book.specs.Machine.{state_after, reply_of}
+use Rattle.dns_admission.specs.Machine.{state_after, reply_of}
 use Rattle.dns_book.specs.Words.{state_of}
 use Rattle.dns_book.specs.History.{Name, Under, same, entry, states_after, IsLegal, calls_by, entries_in, Has, with_entry}
 use Rattle.dns_book.specs.Seats.{IsSound, Called}

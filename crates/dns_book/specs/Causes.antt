@@ -1,28 +1,9 @@
--- When each answer comes, of the state that the call meets. The cases exclude each other.
-use Rattle.std.specs.Prelude.{◌≡◌, ℕ, ◌+◌, ◌<◌, ◌≤◌, ◌⊎◌, true, false, List, [], ◌∷◌, Result, Ok, Err}
-use Rattle.dns_service.specs.declared.error.Error.{Error}
-use Rattle.dns_service.specs.declared.error.Error.TheVariants.{CommandCouldNotBeSent}
-use Rattle.dns_book.specs.declared.look.Look.{Look as State}
-use Rattle.dns_book.specs.declared.look.Admission.{Admission}
-use Rattle.dns_book.specs.declared.look.Admission.TheVariants.{Admitted, Full, Closed}
-use Rattle.dns_book.specs.declared.call.Call.TheVariants.{Shutdown}
+-- Whether a book was shut down, by what a seat knows.
+use Rattle.std.specs.Prelude.{◌≡◌, ◌⊎◌, true, List, [], ◌∷◌}
+use Rattle.dns_admission.specs.declared.call.Call.TheVariants.{Shutdown}
 use Rattle.dns_book.specs.declared.history.Entry.{Entry}
 use Rattle.dns_book.specs.declared.history.Known.{Known}
-use Rattle.dns_book.specs.Machine.{limit_of, last_version, admitted}
 use Rattle.dns_book.specs.History.{but_last}
-
--- Admitted: open, with a free slot. Full: open, with none. Closed: closed
-abbrev pub Admits : State → Admission → Type 0
-Admits s (Admitted look) = (s.closed ≡ false) × (s.taken < limit_of s) × (look ≡ admitted s)
-Admits s (Full taken limit accepted) =
-    (s.closed ≡ false) × (limit ≤ taken) × (taken ≡ s.taken) × (limit ≡ limit_of s) × (accepted ≡ s.stream.accept_connections_at_max)
-Admits s Closed = s.closed ≡ true
-
--- Ok: closed, and the version stays, or open, and it rises by one. The error: open, at the last version
-abbrev pub Reconfigures : State → Result ℕ Error → Type 0
-Reconfigures s (Ok version) =
-    ((s.closed ≡ true) × (version ≡ s.version)) ⊎ ((s.closed ≡ false) × (s.version < last_version) × (version ≡ s.version + 1))
-Reconfigures s (Err CommandCouldNotBeSent) = (s.closed ≡ false) × (s.version ≡ last_version)
 
 -- a shutdown stands in the history
 abbrev pub HasShutdown : List Entry → Type 0

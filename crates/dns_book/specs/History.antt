@@ -1,11 +1,11 @@
 -- Names of seats, histories, and finite maps from names to lists of entries.
 use Rattle.std.specs.Prelude.{◌≡◌, Bool, true, false, if◌then◌else◌, List, [], ◌∷◌, ◌++◌, ◌⊎◌}
-use Rattle.dns_book.specs.declared.look.Look.{Look as State}
-use Rattle.dns_book.specs.declared.call.Call.{Call}
-use Rattle.dns_book.specs.declared.call.Reply.{Reply}
+use Rattle.dns_admission.specs.declared.look.Look.{Look as State}
+use Rattle.dns_admission.specs.declared.call.Call.{Call}
+use Rattle.dns_admission.specs.declared.call.Reply.{Reply}
 use Rattle.dns_book.specs.declared.history.Entry.{Entry}
 use Rattle.dns_book.specs.declared.history.Share.{Share}
-use Rattle.dns_book.specs.Machine.{state_after, reply_of}
+use Rattle.dns_admission.specs.Machine.{state_after, reply_of}
 
 -- a seat's name: at each split that it comes from, whether it is the second
 abbrev pub Name : Type 0

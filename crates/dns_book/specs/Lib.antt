@@ -1,4 +1,5 @@
-pub mod Machine
+pub use Rattle.dns_admission.specs.Machine
+pub use Rattle.dns_admission.specs.Admissions
 pub mod History
 pub mod Causes
 pub mod Seats

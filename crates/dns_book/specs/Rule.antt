@@ -2,13 +2,13 @@
 use Rattle.std.specs.Prelude.{◌≡◌, ◌≢◌, ℕ, true, false, List, [], ◌∷◌, ◌++◌, ◌⊎◌, Option, Some, None}
 use mathlib.Core.Option.{some}
 use lib.ListN.{get_elem?}
-use Rattle.dns_book.specs.declared.look.Look.{Look as State}
-use Rattle.dns_book.specs.declared.call.Call.{Call}
-use Rattle.dns_book.specs.declared.call.Call.TheVariants.{Look}
+use Rattle.dns_admission.specs.declared.look.Look.{Look as State}
+use Rattle.dns_admission.specs.declared.call.Call.{Call}
+use Rattle.dns_admission.specs.declared.call.Call.TheVariants.{Look}
 use Rattle.dns_book.specs.declared.history.Entry.{Entry}
 use Rattle.dns_book.specs.declared.history.Known.{Known}
 use Rattle.dns_book.specs.declared.rule.View.{View}
-use Rattle.dns_book.specs.Machine.{reply_of}
+use Rattle.dns_admission.specs.Machine.{reply_of}
 use Rattle.dns_book.specs.Words.{state_of}
 use Rattle.dns_book.specs.History.{Name, Under, states_after, IsLegal, calls_by, entries_in, Has, IsMap, Begins}
 use Rattle.dns_book.specs.Seats.{new_known, IsSound, Called, state_met, first_half, second_half}

@@ -1,9 +1,9 @@
 -- What a seat knows, and what each call adds to it.
 use Rattle.std.specs.Prelude.{◌≡◌, true, false, List, [], ◌∷◌, ◌++◌}
 use Rattle.atomic_table.specs.Seated.{TableId}
-use Rattle.dns_book.specs.declared.look.Look.{Look as State}
-use Rattle.dns_book.specs.declared.call.Call.{Call}
-use Rattle.dns_book.specs.declared.call.Reply.{Reply}
+use Rattle.dns_admission.specs.declared.look.Look.{Look as State}
+use Rattle.dns_admission.specs.declared.call.Call.{Call}
+use Rattle.dns_admission.specs.declared.call.Reply.{Reply}
 use Rattle.dns_book.specs.declared.history.Entry.{Entry}
 use Rattle.dns_book.specs.declared.history.Known.{Known}
 use Rattle.dns_book.specs.History.{Name, Under, entry, states_after, IsLegal, Begins, but_last, calls_by, entries_in, Has, IsMap, with_entry}

@@ -2,7 +2,7 @@
 -- datagram write timeout; idle timeout; stream write timeout; bound of a queue; limit of connections.
 use Rattle.std.specs.Prelude.{ℕ, ◌/◌, ◌%◌, ◌==◌, if◌then◌else◌, List, slice_index, Option, Some, None}
 use Rattle.dns_service.specs.Config.{in_range}
-use Rattle.dns_book.specs.declared.look.Look.{Look as State}
+use Rattle.dns_admission.specs.declared.look.Look.{Look as State}
 
 -- bit 2 says that there is a response size, and it begins at bit 3
 abbrev pub size_of : ℕ → Option ℕ

@@ -3,23 +3,22 @@ ghost use Rattle.std.specs.Prelude.{◌≡◌, ◌-◌, ◌↔◌, true, false, 
 ghost use lib.Pointwise.{pointwise};
 ghost use Rattle.atomic_table.specs.Seated.{TableId};
 ghost use Rattle.crossbeam_utils.specs.Seq.{cell_view, IsSamePass};
-ghost use Rattle.dns_book.specs.Machine.{state_after, reply_of};
-ghost use Rattle.dns_book.specs.Causes.{Admits, Reconfigures, WasShutDown};
+ghost use Rattle.dns_admission.specs.Machine.{state_after, reply_of};
+ghost use Rattle.dns_admission.specs.Admissions.{Admits, Reconfigures};
+ghost use Rattle.dns_book.specs.Causes.{WasShutDown};
 ghost use Rattle.dns_book.specs.Seats.{IsSound, Called, Joined, new_known, state_met, first_half, second_half};
 ghost use Rattle.dns_book.specs.Words.{state_of};
 ghost use Rattle.crossbeam_utils.specs.Register.{Turns, Forks, Merges};
 ghost use Rattle.dns_book.specs.Rule.{KeptInOrder, CanCall, Made, Settled, view_of, IsReady};
 
-use crate::call::{Call, Reply};
-use crate::look::{Admission, Look};
 use crate::rule::{
     Asked, Halves, HandOver, Looked, OneHistory, Opened, Read, Settle, TakeIn, Try, View,
 };
-use crate::state::BookState;
 use crate::words::{COUNT, Words, look_of, words_after, words_of};
 use atomic_table::{Join, Split};
 use crossbeam_utils::atomic::seq_cell::{Pass, RuledSeqCell};
 use crossbeam_utils::rule::Outcome;
+use dns_admission::{Admission, BookState, Call, Look, Reply};
 use dns_service::{DgramConfig, Error, OutOfMemory, StreamConfig};
 use std::alloc::Global;
 use std::marker::{Brand, Model};

@@ -4,7 +4,7 @@ ghost use Rattle.dns_book.specs.History.{entry};
 ghost use Rattle.dns_book.specs.Gains.{Gained, BothMade, first_name, second_name};
 
 use crate::book::{Book, BookSeat};
-use crate::call::{Call, Reply};
+use dns_admission::{Call, Reply};
 use std::sync::Wait;
 use std::thread::{Threads, join};
 

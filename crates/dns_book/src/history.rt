@@ -1,8 +1,7 @@
 //! What a seat knows of a book's history. These types stand in clauses alone: no value of them is
 //! made when the program runs.
 
-use crate::call::{Call, Reply};
-use crate::look::Look;
+use dns_admission::{Call, Look, Reply};
 use std::collections::LinkedList;
 
 /// One call in the history, with the name of the seat that made it. No value of it is made.

@@ -4,16 +4,11 @@
 
 pub mod book;
 pub mod both;
-pub mod call;
 pub mod history;
-pub mod look;
 mod rule;
-pub mod state;
 mod words;
 
 pub use book::{Book, BookSeat};
 pub use both::call_both;
-pub use call::{Call, Reply};
+pub use dns_admission::{Admission, BookState, Call, Look, Reply};
 pub use history::{Entry, Known, Share};
-pub use look::{Admission, Look};
-pub use state::BookState;

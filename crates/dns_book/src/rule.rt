@@ -1,8 +1,8 @@
 //! The rule of the cell, and what each step of a book tells its pass. No value of these types is
 //! made when the program runs.
 ghost use Rattle.std.specs.Prelude.{[], List, ℕ};
-ghost use Rattle.dns_book.specs.declared.call.Call.{Call as TheCall};
-ghost use Rattle.dns_book.specs.declared.call.Call.TheVariants.{Look as look_call};
+ghost use Rattle.dns_admission.specs.declared.call.Call.{Call as TheCall};
+ghost use Rattle.dns_admission.specs.declared.call.Call.TheVariants.{Look as look_call};
 ghost use Rattle.dns_book.specs.Rule.{KeptInOrder, newcomer, ReadsWords, Tries, Looks, Opens, Settles, first_view, second_view, whole_of, none_of, both_of, gone};
 
 use crate::history::{Entry, Known};

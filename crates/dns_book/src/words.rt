@@ -1,11 +1,9 @@
 //! A book's state as the words of the cell. Nothing else knows how they are packed.
 ghost use Rattle.std.specs.Prelude.{◌≡◌};
-ghost use Rattle.dns_book.specs.Machine.{state_after};
+ghost use Rattle.dns_admission.specs.Machine.{state_after};
 ghost use Rattle.dns_book.specs.Words.{state_of};
 
-use crate::call::Call;
-use crate::look::Look;
-use crate::state::BookState;
+use dns_admission::{BookState, Call, Look};
 use dns_service::{ConnectionConfig, DgramConfig, StreamConfig};
 
 /// How many words there are.
