@@ -6,7 +6,7 @@ use Rattle.std.specs.List.{list_all}
 use Rattle.dns_name.specs.FromText.{text_name}
 use Rattle.dns_name.specs.declared.from_text.FromTextError.{FromTextError}
 use Rattle.dns_trace.specs.declared.reason.Reason.{Reason}
-use Rattle.dns_trace.specs.declared.reason.Reason.TheVariants.{Unbuilt}
+use Rattle.dns_trace.specs.declared.reason.Reason.TheVariants.{Value}
 
 -- a letter, a digit, `-`, `_` or the dot
 abbrev pub is_name_character : ℕ → Bool
@@ -17,7 +17,7 @@ ends_in_dot w = nat_eq (slice_index w (length w - 1)) 46
 
 abbrev pub from_name : {A : Type 0} → Result A FromTextError → Result A Reason
 from_name (Ok n) = Ok n
-from_name (Err e) = Err Unbuilt
+from_name (Err e) = Err Value
 
 unfoldable pub name_word : List ℕ → Result (List (List ℕ)) Reason
-name_word w = if ends_in_dot w && list_all is_name_character w then from_name (text_name w) else Err Unbuilt
+name_word w = if ends_in_dot w && list_all is_name_character w then from_name (text_name w) else Err Value

@@ -9,19 +9,19 @@ use Rattle.dns_name.specs.declared.address.IpAddr.TheVariants.{V4, V6}
 use Rattle.dns_trace.specs.Words.{word_at}
 use Rattle.dns_trace.specs.Reading.{◌>>=◌, unless}
 use Rattle.dns_trace.specs.declared.reason.Reason.{Reason}
-use Rattle.dns_trace.specs.declared.reason.Reason.TheVariants.{Unbuilt}
+use Rattle.dns_trace.specs.declared.reason.Reason.TheVariants.{Value}
 
 -- the number of decimal digits that follow the number n
 abbrev pub digits_after : ℕ → List ℕ → Result ℕ Reason
 digits_after n [] = Ok n
-digits_after n (c ∷ cs) = if nat_le 48 c && nat_le c 57 then digits_after (10 * n + (c - 48)) cs else Err Unbuilt
+digits_after n (c ∷ cs) = if nat_le 48 c && nat_le c 57 then digits_after (10 * n + (c - 48)) cs else Err Value
 
 -- 1 to `most` digits of a number below `top`
 unfoldable pub number : ℕ → ℕ → List ℕ → Result ℕ Reason
 number most top w = do
-  _ ← unless Unbuilt (nat_lt 0 (length w) && nat_le (length w) most)
+  _ ← unless Value (nat_lt 0 (length w) && nat_le (length w) most)
   n ← digits_after 0 w
-  _ ← unless Unbuilt (nat_lt n top)
+  _ ← unless Value (nat_lt n top)
   Ok n
 
 abbrev pub num_of : List ℕ → Result ℕ Reason
@@ -33,7 +33,7 @@ port_of w = number 20 65536 w
 -- the refusals of hexadecimal digits are one
 abbrev pub from_hex : {A : Type 0} → Result A FromHexError → Result A Reason
 from_hex (Ok x) = Ok x
-from_hex (Err e) = Err Unbuilt
+from_hex (Err e) = Err Value
 
 -- an even number of hexadecimal digits, or `-` for no octet
 unfoldable pub hex_octets_of : List ℕ → Result (List ℕ) Reason
@@ -41,7 +41,7 @@ hex_octets_of w = if bytes_eq w (codes "-") then Ok [] else from_hex (decode_of 
 
 -- `yes` or `no`
 unfoldable pub yes_no_of : List ℕ → Result Bool Reason
-yes_no_of w = if bytes_eq w (codes "yes") then Ok true else if bytes_eq w (codes "no") then Ok false else Err Unbuilt
+yes_no_of w = if bytes_eq w (codes "yes") then Ok true else if bytes_eq w (codes "no") then Ok false else Err Value
 
 -- a size in octets of at most 65,535, or none
 unfoldable pub size_or_none : List ℕ → Result (Option ℕ) Reason
@@ -54,7 +54,7 @@ secret_of w = from_hex (decode_sized w 16)
 -- the four parts of a dotted quad
 unfoldable pub quad_of : List (List ℕ) → Result IpAddr Reason
 quad_of ps = do
-  _ ← unless Unbuilt (length ps == 4)
+  _ ← unless Value (length ps == 4)
   a ← number 3 256 (word_at ps 0)
   b ← number 3 256 (word_at ps 1)
   c ← number 3 256 (word_at ps 2)

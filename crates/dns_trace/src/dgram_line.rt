@@ -1,7 +1,7 @@
 //! The line that configures the datagram server.
 
-ghost use Rattle.std.specs.Prelude.{◌≡◌};
-ghost use Rattle.dns_trace.specs.DgramLine.{dgram_line, sized_dgram};
+ghost use Rattle.std.specs.Prelude.{◌≡◌, ◌<◌};
+ghost use Rattle.dns_trace.specs.DgramLine.{dgram_line, dgram_values, sized_dgram};
 
 use crate::reason::Reason;
 use crate::values::{num, size};
@@ -18,15 +18,24 @@ fn configure(size: Option<u16>, write: u64) -> DgramConfig
     dgram
 }
 
+/// The configuration `SIZE WRITE` from a word on.
+#[tactic(auto, unfolding(crate::specs::DgramLine::dgram_values))]
+pub(crate) fn dgram_values(words: &Words, from: usize) -> Result<DgramConfig, Reason>
+    requires { from < 16 }
+    ensures { result ≡ dgram_values words.now from }
+{
+    let size = size(words.word(from))?;
+    let write = num(words.word(from + 1))?;
+    Ok(configure(size, write))
+}
+
 /// The configuration of a line `dgram SIZE WRITE`. The first word is not looked at.
 #[tactic(auto, unfolding(crate::specs::DgramLine::dgram_line))]
 pub fn read_dgram(words: &Words) -> Result<DgramConfig, Reason>
     ensures { result ≡ dgram_line words.now }
 {
     if words.len() != 3 {
-        return Err(Reason::Unbuilt);
+        return Err(Reason::Count);
     }
-    let size = size(words.word(1))?;
-    let write = num(words.word(2))?;
-    Ok(configure(size, write))
+    dgram_values(words, 1)
 }

@@ -2,22 +2,33 @@
 
 ghost use Rattle.std.specs.Prelude.{◌≡◌};
 ghost use Rattle.dns_trace.specs.Reading.{GivesLine};
-ghost use Rattle.dns_trace.specs.EventLines.{event_of, datagram_line, turn_line, offer_line, piece_line, write_line, bare_line, connection_line, event_line};
+ghost use Rattle.dns_trace.specs.EventLines.{moment_of, event_of, socket_addr_of, datagram_line, turn_line, offer_line, piece_line, write_line, bare_line, wide_event_of, reconfigure_line, shutdown_line, wide_line, named_kind, named_line, connection_line, event_line};
 
+use crate::dgram_line::dgram_values;
 use crate::reason::{LineError, Reason};
+use crate::stream_line::stream_values;
 use crate::values::{addr, num, octets, port};
 use crate::words::Words;
 use dns_name::SocketAddr;
 use dns_service::{Event, EventKind};
 use std::alloc::Global;
 
+/// The moment and the seconds of a line.
+#[tactic(auto, unfolding(crate::specs::EventLines::moment_of))]
+fn moment(words: &Words) -> Result<(u64, u64), Reason>
+    ensures { result ≡ moment_of words.now }
+{
+    let at = num(words.word(1))?;
+    let secs = num(words.word(2))?;
+    Ok((at, secs))
+}
+
 /// An event of this kind, at the moment, the seconds and of the client of a line.
 #[tactic(auto, unfolding(crate::specs::EventLines::event_of))]
 fn event(words: &Words, kind: EventKind) -> Result<Event, Reason>
     ensures { result ≡ event_of words.now kind }
 {
-    let at = num(words.word(1))?;
-    let secs = num(words.word(2))?;
+    let (at, secs) = moment(words)?;
     let client = num(words.word(3))?;
     Ok(Event {
         at,
@@ -27,18 +38,26 @@ fn event(words: &Words, kind: EventKind) -> Result<Event, Reason>
     })
 }
 
+/// The address and the port behind the client of a line.
+#[tactic(auto, unfolding(crate::specs::EventLines::socket_addr_of))]
+fn socket_addr(alloc: Global, words: &Words) -> Result<SocketAddr, LineError>
+    ensures { GivesLine (λ a. a) result (socket_addr_of words.now) }
+{
+    let ip = addr(alloc, words.word(4))?;
+    let port = port(words.word(5))?;
+    Ok(SocketAddr { ip, port })
+}
+
 /// The event of a line `datagram AT SECS CLIENT ADDR PORT HEX`. The first word is not looked at.
 #[tactic(auto, unfolding(crate::specs::EventLines::datagram_line))]
 fn read_datagram(alloc: Global, words: &Words) -> Result<Event, LineError>
     ensures { GivesLine (λ e. e) result (datagram_line words.now) }
 {
     if words.len() != 7 {
-        return Err(LineError::Refused(Reason::Unbuilt));
+        return Err(LineError::Refused(Reason::Count));
     }
-    let ip = addr(alloc, words.word(4))?;
-    let port = port(words.word(5))?;
+    let addr = socket_addr(alloc, words)?;
     let octets = octets(alloc, words.word(6))?;
-    let addr = SocketAddr { ip, port };
     Ok(event(words, EventKind::Datagram { addr, octets })?)
 }
 
@@ -48,7 +67,7 @@ fn read_turn(words: &Words) -> Result<Event, LineError>
     ensures { GivesLine (λ e. e) result (turn_line words.now) }
 {
     if words.len() != 5 {
-        return Err(LineError::Refused(Reason::Unbuilt));
+        return Err(LineError::Refused(Reason::Count));
     }
     let request = num(words.word(4))?;
     Ok(event(words, EventKind::Turn { request })?)
@@ -60,11 +79,9 @@ fn read_offer(alloc: Global, words: &Words) -> Result<Event, LineError>
     ensures { GivesLine (λ e. e) result (offer_line words.now) }
 {
     if words.len() != 6 {
-        return Err(LineError::Refused(Reason::Unbuilt));
+        return Err(LineError::Refused(Reason::Count));
     }
-    let ip = addr(alloc, words.word(4))?;
-    let port = port(words.word(5))?;
-    let addr = SocketAddr { ip, port };
+    let addr = socket_addr(alloc, words)?;
     Ok(event(words, EventKind::Offer { addr })?)
 }
 
@@ -74,7 +91,7 @@ fn read_piece(alloc: Global, words: &Words) -> Result<Event, LineError>
     ensures { GivesLine (λ e. e) result (piece_line words.now) }
 {
     if words.len() != 5 {
-        return Err(LineError::Refused(Reason::Unbuilt));
+        return Err(LineError::Refused(Reason::Count));
     }
     let octets = octets(alloc, words.word(4))?;
     Ok(event(words, EventKind::Piece(octets))?)
@@ -86,7 +103,7 @@ fn read_write(words: &Words) -> Result<Event, LineError>
     ensures { GivesLine (λ e. e) result (write_line words.now) }
 {
     if words.len() != 5 {
-        return Err(LineError::Refused(Reason::Unbuilt));
+        return Err(LineError::Refused(Reason::Count));
     }
     let took = num(words.word(4))?;
     Ok(event(words, EventKind::Write { took })?)
@@ -98,14 +115,96 @@ fn read_bare(words: &Words, kind: EventKind) -> Result<Event, LineError>
     ensures { GivesLine (λ e. e) result (bare_line words.now kind) }
 {
     if words.len() != 4 {
-        return Err(LineError::Refused(Reason::Unbuilt));
+        return Err(LineError::Refused(Reason::Count));
     }
     Ok(event(words, kind)?)
 }
 
-/// The event of a line of a connection that was offered: `piece AT SECS CLIENT HEX`, `write AT SECS CLIENT TOOK`,
-/// `end AT SECS CLIENT` or `release AT SECS CLIENT`.
-fn read_connection_event(alloc: Global, words: &Words) -> Result<Event, LineError>
+/// An event that all clients hear, at the moment and the seconds of a line.
+#[tactic(auto, unfolding(crate::specs::EventLines::wide_event_of))]
+fn wide_event(words: &Words, kind: EventKind) -> Result<Event, Reason>
+    ensures { result ≡ wide_event_of words.now kind }
+{
+    let (at, secs) = moment(words)?;
+    Ok(Event {
+        at,
+        secs,
+        client: 0,
+        kind,
+    })
+}
+
+/// The event of a line `reconfigure AT SECS SIZE WRITE IDLE WRITE QUEUE LIMIT yes|no`. The first word is not looked at.
+#[tactic(auto, unfolding(crate::specs::EventLines::reconfigure_line))]
+fn read_reconfigure(words: &Words) -> Result<Event, Reason>
+    ensures { result ≡ reconfigure_line words.now }
+{
+    if words.len() != 10 {
+        return Err(Reason::Count);
+    }
+    let dgram = dgram_values(words, 3)?;
+    let stream = stream_values(words, 5)?;
+    wide_event(words, EventKind::Reconfigure { dgram, stream })
+}
+
+/// The event of a line `shutdown AT SECS`. The first word is not looked at.
+#[tactic(auto, unfolding(crate::specs::EventLines::shutdown_line))]
+fn read_shutdown(words: &Words) -> Result<Event, Reason>
+    ensures { result ≡ shutdown_line words.now }
+{
+    if words.len() != 3 {
+        return Err(Reason::Count);
+    }
+    wide_event(words, EventKind::Shutdown)
+}
+
+/// The event of a line that all clients hear: `reconfigure AT SECS SIZE WRITE IDLE WRITE QUEUE LIMIT yes|no` or
+/// `shutdown AT SECS`.
+fn read_wide(words: &Words) -> Result<Event, Reason>
+    ensures { result ≡ wide_line words.now }
+{
+    let name = words.word(0);
+    if name == b"reconfigure".as_slice() {
+        return read_reconfigure(words);
+    }
+    if name == b"shutdown".as_slice() {
+        return read_shutdown(words);
+    }
+    Err(Reason::Word)
+}
+
+/// The event of a connection whose line says no more than this name and `AT SECS CLIENT`: `end`, `fault`, `close` or `tick`.
+fn named_kind(name: &[u8]) -> Option<EventKind>
+    ensures { result ≡ named_kind name.now }
+{
+    if name == b"end".as_slice() {
+        return Some(EventKind::End);
+    }
+    if name == b"fault".as_slice() {
+        return Some(EventKind::Fault);
+    }
+    if name == b"close".as_slice() {
+        return Some(EventKind::Close);
+    }
+    if name == b"tick".as_slice() {
+        return Some(EventKind::Tick);
+    }
+    None
+}
+
+/// The event of a line of a name and `AT SECS CLIENT`: `end`, `fault`, `close` or `tick`; or one that all clients hear.
+fn read_named(words: &Words) -> Result<Event, LineError>
+    ensures { GivesLine (λ e. e) result (named_line words.now) }
+{
+    match named_kind(words.word(0)) {
+        Some(kind) => read_bare(words, kind),
+        None => Ok(read_wide(words)?),
+    }
+}
+
+/// The event of a line of a connection that was offered: `piece AT SECS CLIENT HEX`, `write AT SECS CLIENT TOOK`, `release`,
+/// `end`, `fault`, `close` or `tick` and `AT SECS CLIENT`; or one that all clients hear.
+fn read_connection(alloc: Global, words: &Words) -> Result<Event, LineError>
     ensures { GivesLine (λ e. e) result (connection_line words.now) }
 {
     let name = words.word(0);
@@ -115,18 +214,15 @@ fn read_connection_event(alloc: Global, words: &Words) -> Result<Event, LineErro
     if name == b"write".as_slice() {
         return read_write(words);
     }
-    if name == b"end".as_slice() {
-        return read_bare(words, EventKind::End);
-    }
     if name == b"release".as_slice() {
         return read_bare(words, EventKind::Release);
     }
-    Err(LineError::Refused(Reason::Unbuilt))
+    read_named(words)
 }
 
 /// The event of a line: `datagram AT SECS CLIENT ADDR PORT HEX`, `turn AT SECS CLIENT REQUEST`,
-/// `offer AT SECS CLIENT ADDR PORT`, `piece AT SECS CLIENT HEX`, `write AT SECS CLIENT TOOK`, `end AT SECS CLIENT` or
-/// `release AT SECS CLIENT`.
+/// `offer AT SECS CLIENT ADDR PORT`, `piece AT SECS CLIENT HEX`, `write AT SECS CLIENT TOOK`; `end`, `fault`, `close`, `tick`
+/// or `release` and `AT SECS CLIENT`; or one that all clients hear.
 pub fn read_event(alloc: Global, words: &Words) -> Result<Event, LineError>
     ensures { GivesLine (λ e. e) result (event_line words.now) }
 {
@@ -140,5 +236,5 @@ pub fn read_event(alloc: Global, words: &Words) -> Result<Event, LineError>
     if name == b"offer".as_slice() {
         return read_offer(alloc, words);
     }
-    read_connection_event(alloc, words)
+    read_connection(alloc, words)
 }

@@ -12,7 +12,7 @@ mod words;
 
 pub use dgram_line::read_dgram;
 pub use event_lines::read_event;
-pub use lines::{says_nothing, split_line};
+pub use lines::{is_text, says_nothing, split_line};
 pub use name_words::name;
 pub use reason::{LineError, Reason};
 pub use stream_line::read_stream;

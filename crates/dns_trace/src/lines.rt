@@ -2,7 +2,7 @@
 
 ghost use Rattle.std.specs.Prelude.{◌≡◌, ℕ, ◌<◌, ◌≤◌, ◌∷◌, length, slice_index};
 ghost use Rattle.std.specs.Str.Lines.{lines, strip_carriage_return};
-ghost use Rattle.dns_trace.specs.Lines.{is_skipped};
+ghost use Rattle.dns_trace.specs.Lines.{is_skipped, is_text};
 
 use crate::words::Words;
 
@@ -54,4 +54,16 @@ pub fn says_nothing(words: &Words) -> bool
         Some(first) => *first == b'#',
         None => false,
     }
+}
+
+/// Whether a line has characters from the space to the tilde alone.
+pub fn is_text(line: &[u8]) -> bool
+    ensures { result ≡ is_text line.now }
+{
+    for octet in line {
+        if *octet < b' ' || *octet > b'~' {
+            return false;
+        }
+    }
+    true
 }

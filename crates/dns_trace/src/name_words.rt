@@ -47,14 +47,14 @@ pub fn name(alloc: Global, word: &[u8]) -> Result<Name, LineError>
     ensures { GivesLine (λ n. n) result (name_word word.now) }
 {
     if !ends_in_dot(word) || !all_in_names(word) {
-        return Err(LineError::Refused(Reason::Unbuilt));
+        return Err(LineError::Refused(Reason::Value));
     }
     let Ok(text) = str::from_utf8(word) else {
-        return Err(LineError::Refused(Reason::Unbuilt));
+        return Err(LineError::Refused(Reason::Value));
     };
     match Name::from_text(alloc, text) {
         Ok(name) => Ok(name),
         Err(FromTextError::OutOfMemory) => Err(LineError::OutOfMemory),
-        Err(_) => Err(LineError::Refused(Reason::Unbuilt)),
+        Err(_) => Err(LineError::Refused(Reason::Value)),
     }
 }

@@ -5,11 +5,21 @@ ghost use Rattle.std.specs.Prelude.{◌≡◌};
 use dns_name::OutOfMemory;
 use std::alloc::{AllocError, AllocFailed};
 
-/// Why a line of a script is refused.
+/// Why a line of a script is refused: the first of these that fits.
 #[derive(Clone, Copy, Debug, PartialEq, Eq)]
 pub enum Reason {
-    /// The line is none of those that are built so far.
-    Unbuilt,
+    /// An octet is no character from the space to the tilde.
+    Text,
+    /// The first word is that of no line.
+    Word,
+    /// What stands before the first event stands behind one.
+    Order,
+    /// It stands once, and stands again.
+    Repeat,
+    /// There are too few words, or too many.
+    Count,
+    /// A word spells no value.
+    Value,
 }
 
 /// Why a line gave nothing.

@@ -1,7 +1,7 @@
 //! The line that configures the stream server.
 
-ghost use Rattle.std.specs.Prelude.{◌≡◌};
-ghost use Rattle.dns_trace.specs.StreamLine.{configured, stream_line};
+ghost use Rattle.std.specs.Prelude.{◌≡◌, ◌<◌};
+ghost use Rattle.dns_trace.specs.StreamLine.{configured, stream_line, stream_values, timeouts_of};
 
 use crate::reason::Reason;
 use crate::values::{num, yes_no};
@@ -23,18 +23,37 @@ fn configure(idle: u64, write: u64, queue: u64, limit: u64, accepts: bool) -> St
     stream
 }
 
+/// How long a connection may be idle and a write may take, `IDLE WRITE`, from a word on.
+#[tactic(auto, unfolding(crate::specs::StreamLine::timeouts_of))]
+fn timeouts(words: &Words, from: usize) -> Result<(u64, u64), Reason>
+    requires { from < 16 }
+    ensures { result ≡ timeouts_of words.now from }
+{
+    let idle = num(words.word(from))?;
+    let write = num(words.word(from + 1))?;
+    Ok((idle, write))
+}
+
+/// The configuration `IDLE WRITE QUEUE LIMIT yes|no` from a word on.
+#[tactic(auto, unfolding(crate::specs::StreamLine::stream_values))]
+pub(crate) fn stream_values(words: &Words, from: usize) -> Result<StreamConfig, Reason>
+    requires { from < 16 }
+    ensures { result ≡ stream_values words.now from }
+{
+    let (idle, write) = timeouts(words, from)?;
+    let queue = num(words.word(from + 2))?;
+    let limit = num(words.word(from + 3))?;
+    let accepts = yes_no(words.word(from + 4))?;
+    Ok(configure(idle, write, queue, limit, accepts))
+}
+
 /// The configuration of a line `stream IDLE WRITE QUEUE LIMIT yes|no`. The first word is not looked at.
 #[tactic(auto, unfolding(crate::specs::StreamLine::stream_line))]
 pub fn read_stream(words: &Words) -> Result<StreamConfig, Reason>
     ensures { result ≡ stream_line words.now }
 {
     if words.len() != 6 {
-        return Err(Reason::Unbuilt);
+        return Err(Reason::Count);
     }
-    let idle = num(words.word(1))?;
-    let write = num(words.word(2))?;
-    let queue = num(words.word(3))?;
-    let limit = num(words.word(4))?;
-    let accepts = yes_no(words.word(5))?;
-    Ok(configure(idle, write, queue, limit, accepts))
+    stream_values(words, 1)
 }

@@ -18,17 +18,17 @@ pub fn decimal(word: &[u8], most: usize, top: u128) -> Result<u128, Reason>
     ensures below { IfOk result (λ n. n < top) }
 {
     if word.is_empty() || word.len() > most {
-        return Err(Reason::Unbuilt);
+        return Err(Reason::Value);
     }
     let mut value: u128 = 0;
     for digit in word {
         if *digit < b'0' || *digit > b'9' {
-            return Err(Reason::Unbuilt);
+            return Err(Reason::Value);
         }
         value = value * 10 + (*digit - b'0') as u128;
     }
     if value >= top {
-        return Err(Reason::Unbuilt);
+        return Err(Reason::Value);
     }
     Ok(value)
 }
@@ -68,7 +68,7 @@ pub fn octets(alloc: Global, word: &[u8]) -> Result<Octets, LineError>
     match hex::decode(alloc, word) {
         Ok(octets) => Ok(Octets::from_vec(octets)),
         Err(FromHexError::OutOfMemory) => Err(LineError::OutOfMemory),
-        Err(_) => Err(LineError::Refused(Reason::Unbuilt)),
+        Err(_) => Err(LineError::Refused(Reason::Value)),
     }
 }
 
@@ -83,7 +83,7 @@ pub fn yes_no(word: &[u8]) -> Result<bool, Reason>
     if word == b"no".as_slice() {
         return Ok(false);
     }
-    Err(Reason::Unbuilt)
+    Err(Reason::Value)
 }
 
 /// A size in octets of at most 65,535, or `none`.
@@ -106,7 +106,7 @@ pub fn secret(word: &[u8]) -> Result<[u8; 16], Reason>
     let mut octets = [0u8; 16];
     match hex::decode_to_slice(word, &mut octets) {
         Ok(()) => Ok(octets),
-        Err(_) => Err(Reason::Unbuilt),
+        Err(_) => Err(Reason::Value),
     }
 }
 
@@ -115,7 +115,7 @@ fn quad_parts(parts: &Words) -> Result<IpAddr, Reason>
     ensures { result ≡ quad_of parts.now }
 {
     if parts.len() != 4 {
-        return Err(Reason::Unbuilt);
+        return Err(Reason::Value);
     }
     let first = octet(parts.word(0))?;
     let second = octet(parts.word(1))?;
@@ -141,7 +141,7 @@ pub fn addr(alloc: Global, word: &[u8]) -> Result<IpAddr, LineError>
         let mut octets = [0u8; 16];
         return match hex::decode_to_slice(word, &mut octets) {
             Ok(()) => Ok(IpAddr::V6(octets)),
-            Err(_) => Err(LineError::Refused(Reason::Unbuilt)),
+            Err(_) => Err(LineError::Refused(Reason::Value)),
         };
     }
     quad(alloc, word)
