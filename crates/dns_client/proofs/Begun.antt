@@ -7,7 +7,7 @@ use Rattle.std.specs.Map.{lookup}
 use Rattle.std.specs.Ordering.{nat_cmp}
 use Rattle.std.specs.BTreeMap.{BTreeMap, get, is_at}
 use Rattle.std.proofs.lemmas.Bool.{le-ltb}
-use Rattle.circular_buffer.specs.Buffer.{Buffer, buffer}
+use Rattle.circular_buffer.specs.Buffer.{buffer}
 use Rattle.dns_name.specs.declared.address.SocketAddr.{SocketAddr}
 use Rattle.dns_base.specs.Header.{header_of}
 use Rattle.dns_service.specs.Answer.{Answer}
@@ -19,8 +19,11 @@ use Rattle.dns_client.specs.Slate.{Slate, Conf, IsUnused, fresh}
 use Rattle.dns_client.specs.Requests.{header_size, request_of_datagram, asked}
 use Rattle.dns_client.specs.Datagrams.{asks_nothing, at_once, exchange, refused_datagram}
 use Rattle.dns_client.specs.Connections.{opened}
-use Rattle.dns_client.specs.Stands.{IsExchange, IsKept, IsOpen, KeepsAll, Keeps, sole}
+use Rattle.dns_client.specs.Stands.{IsExchange, IsGoing, IsKept, IsOpen, KeepsAll, Keeps, sole}
 use Rattle.dns_client.specs.Turns.{limit_for}
+use Rattle.dns_service.specs.declared.invoker.InvokerStatus.TheVariants.{Normal}
+use Rattle.dns_client.specs.declared.connection_request.ConnectionRequest.{ConnectionRequest}
+use Rattle.dns_client.specs.declared.invoker.ConnectionInvoker.{ConnectionInvoker}
 use Rattle.dns_client.specs.declared.kept.KeptRequest.{KeptRequest}
 use Rattle.dns_client.specs.declared.connection.OpenConnection.{OpenConnection}
 use Rattle.dns_service.specs.declared.polled.PolledRequest.{PolledRequest}
@@ -87,34 +90,47 @@ module _ {R F : Type 0} (answer : PolledRequest F R → ℕ → Answer) (answers
       let l : nat_lt (length o) header_size ≡ false = le-ltb (length o) 12 long in
       (rw (l, query) none, exchanged q client addr at secs o dgram r s unused h is d (rw (l, query) refl))
 
-  none_kept : (m : BTreeMap ℕ (KeptRequest F R)) → m.entries ≡ [] → KeepsAll answer answers 0 m []
-  none_kept m e = (refl, λ k. let g : get nat_cmp m k ≡ None = ap (lookup (is_at (nat_cmp k))) e in rw g tt)
+  -- what is kept of a connection's request that was called
+  pub called_going : (q : ConnectionRequest F R) (r : Req (Unit {0})) → ((j : ℕ) → answer q.polled j ≡ answers.answer r j) → arc_value q.message ≡ r.octets → q.status ≡ Normal → q.held ≡ None → IsGoing answer answers q (asked r)
+  called_going q r h message status held = record { going = refl; polled = λ j. h j ∙ ap (answers.answer r) (sym (zero-add j)); message = message; held = held; status = status }
+
+  none_kept : (m : BTreeMap ℕ (ConnectionRequest F R)) → m.entries ≡ [] → KeepsAll answer answers 0 0 m []
+  none_kept m e = record { made = refl; held_open = refl; each = λ k. let g : get nat_cmp m k ≡ None = ap (lookup (is_at (nat_cmp k))) e in rw g tt }
+
+  -- the invoker of a connection that opens
+  abbrev pub new_invoker : Connection → ConnectionInvoker
+  new_invoker c = record { idle_timeout = c.idle_timeout; queue = buffer [] c.max_queued_responses; status = Normal; held = None }
 
   module _ {W : Type 0} where
-    opened_fresh : (c : OpenConnection W R F) (client : ℕ) (stream : Stream) (k : Conf)
-        → c.config ≡ stream.connection_config → c.framer ≡ [] → c.unfinished.entries ≡ [] → c.count ≡ 0 → c.queue ≡ buffer [] stream.connection_config.max_queued_responses
-        → k.stream ≡ stream
-        → IsOpen answer answers client c (opened client c.addr (fresh k))
+    opened_fresh : (c : OpenConnection W R F) (client at : ℕ) (stream : Stream) (k : Conf)
+        → c.invoker ≡ new_invoker stream.connection_config → c.write_timeout ≡ stream.connection_config.response_write_timeout
+        → c.timer ≡ at → c.framer ≡ [] → c.unfinished.entries ≡ [] → c.count ≡ 0 → c.transactions ≡ 0
+        → k.over ≡ false → k.stream ≡ stream
+        → IsOpen answer answers client c (opened client c.addr at (fresh k))
     unfolding frames
-    opened_fresh c client stream k config framer unfinished count queue e =
+    opened_fresh c client at stream k invoker write timer framer unfinished count transactions over e =
         let same : stream.connection_config ≡ k.stream.connection_config = ap (λ (x : Stream). x.connection_config) (sym e) in
         record {
           client = refl;
           freed = refl;
           phase = refl;
+          not_over = over;
           addr = refl;
-          config = config ∙ same;
+          idle_timeout = ap (λ (i : ConnectionInvoker). i.idle_timeout) invoker ∙ ap (λ (x : Connection). x.idle_timeout) same;
+          write_timeout = write ∙ ap (λ (x : Connection). x.response_write_timeout) same;
+          timer = timer;
           kept = framer;
           within = lit≤ tt;
-          requests = rw count (none_kept c.unfinished unfinished);
-          queue = ap (λ (q : Buffer (List ℕ)). q.items) queue;
-          bound = ap (λ (q : Buffer (List ℕ)). q.capacity) queue ∙ ap (λ (x : Connection). x.max_queued_responses) same;
+          requests = rw (count, transactions) (none_kept c.unfinished unfinished);
+          queue = ap (λ (i : ConnectionInvoker). i.queue.items) invoker;
+          bound = ap (λ (i : ConnectionInvoker). i.queue.capacity) invoker ∙ ap (λ (x : Connection). x.max_queued_responses) same;
         }
 
-    pub admitted : (c : OpenConnection W R F) (client : ℕ) (stream : Stream) (s : Slate)
-        → c.config ≡ stream.connection_config → c.framer ≡ [] → c.unfinished.entries ≡ [] → c.count ≡ 0 → c.queue ≡ buffer [] stream.connection_config.max_queued_responses
-        → IsUnused s → s.conf.stream ≡ stream
-        → IsOpen answer answers client c (opened client c.addr s)
-    admitted c client stream s config framer unfinished count queue unused e =
-        let P : Slate → Type 0 = λ s. IsOpen answer answers client c (opened client c.addr s) in
-        subst P (sym unused) (opened_fresh c client stream s.conf config framer unfinished count queue e)
+    pub admitted : (c : OpenConnection W R F) (client at : ℕ) (stream : Stream) (s : Slate)
+        → c.invoker ≡ new_invoker stream.connection_config → c.write_timeout ≡ stream.connection_config.response_write_timeout
+        → c.timer ≡ at → c.framer ≡ [] → c.unfinished.entries ≡ [] → c.count ≡ 0 → c.transactions ≡ 0
+        → IsUnused s → s.conf.over ≡ false → s.conf.stream ≡ stream
+        → IsOpen answer answers client c (opened client c.addr at s)
+    admitted c client at stream s invoker write timer framer unfinished count transactions unused over e =
+        let P : Slate → Type 0 = λ s. IsOpen answer answers client c (opened client c.addr at s) in
+        subst P (sym unused) (opened_fresh c client at stream s.conf invoker write timer framer unfinished count transactions over e)

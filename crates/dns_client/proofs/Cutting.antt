@@ -9,9 +9,10 @@ use Rattle.dns_base.specs.Header.{header_of}
 use Rattle.dns_base.specs.Wire.{wire}
 use Rattle.dns_service.specs.ErrorReply.{error_reply}
 use Rattle.dns_client.specs.Frames.{frames, framed, behind_frames}
-use Rattle.dns_client.specs.Slate.{Slate, Told, Phase, Unused, Exchange, Open, Closed, in_phase}
+use Rattle.dns_client.specs.Rule.{in_phase}
+use Rattle.dns_client.specs.Slate.{Slate, Told, Phase, Unused, Exchange, Open, Flushing, Closed}
 use Rattle.dns_client.specs.Requests.{header_size, most_requests, request_of_frame, asked}
-use Rattle.dns_client.specs.Connections.{enqueue, take_request, take_frame, take_frames, piece}
+use Rattle.dns_client.specs.Connections.{append_frame, enqueue, take_request, take_frame, take_frames, piece}
 use Rattle.dns_client.specs.Pieces.{piece_of, IsCut}
 use Rattle.dns_client.proofs.FramesLemmas.{goes}
 
@@ -30,32 +31,37 @@ record Opens (at secs : ℕ) (fs gs : List (List ℕ)) (s : Slate) (x : List ℕ
   taken : (take_frames at secs fs s).0.taken ≡ s.taken + length fs
   all : take_frames at secs (fs ++ gs) (with_received x s) ≡ take_frames at secs gs (with_received x (take_frames at secs fs s).0)
 
--- a response's reply is queued whatever was received
-refused_received : (m : List ℕ) (s : Slate) (x : List ℕ) → enqueue m (record (with_received x s) { taken = s.taken + 1 }) ≡ with_received x (enqueue m (record s { taken = s.taken + 1 }))
-refused_received m s x = (elim (nat_lt (length s.queue) s.bound) as (λ b. (if b then record (with_received x s) { taken = s.taken + 1; queue = s.queue ++ m ∷ [] } else record (with_received x s) { taken = s.taken + 1 }) ≡ with_received x (if b then record s { taken = s.taken + 1; queue = s.queue ++ m ∷ [] } else record s { taken = s.taken + 1 })) [ true ↦ refl | false ↦ refl ])
-
-asked_received : (at secs : ℕ) (f : List ℕ) (s : Slate) (x : List ℕ) → take_request at secs f (with_received x s) ≡ with_received x (take_request at secs f s)
-asked_received at secs f s x = (elim (nat_lt (length s.requests) most_requests) as (λ b. (if b then record (with_received x s) { taken = s.taken + 1; requests = s.requests ++ asked (request_of_frame s.connection s.addr at secs f) ∷ [] } else record (with_received x s) { taken = s.taken + 1 }) ≡ with_received x (if b then record s { taken = s.taken + 1; requests = s.requests ++ asked (request_of_frame s.connection s.addr at secs f) ∷ [] } else record s { taken = s.taken + 1 })) [ true ↦ refl | false ↦ refl ])
-
 abbrev refusal : List ℕ → List ℕ
 refusal f = framed (wire (error_reply f 1))
 
-frame_received : (at secs : ℕ) (f : List ℕ) (s : Slate) (x : List ℕ) → take_frame at secs f (with_received x s) ≡ with_received x (take_frame at secs f s)
-frame_received at secs f s x = (elim (header_of f).qr as (λ b. (if b then enqueue (refusal f) (record (with_received x s) { taken = s.taken + 1 }) else take_request at secs f (with_received x s)) ≡ with_received x (if b then enqueue (refusal f) (record s { taken = s.taken + 1 }) else take_request at secs f s)) [ true ↦ refused_received (refusal f) s x | false ↦ asked_received at secs f s x ])
+-- a frame that is taken, before anything else is done with it
+abbrev counted : ℕ → Slate → Slate
+counted at s = record s { taken = s.taken + 1; reset_at = at }
 
+-- what becomes of a frame doesn't depend on what was received
+refused_received : (m : List ℕ) (t : Slate) (x : List ℕ) → enqueue m (with_received x t) ≡ with_received x (enqueue m t)
+refused_received m t x = (elim (nat_lt (length t.queue) t.bound) as (λ b. (if b then append_frame m (with_received x t) else with_received x t) ≡ with_received x (if b then append_frame m t else t)) [ true ↦ refl | false ↦ refl ])
+
+asked_received : (at secs : ℕ) (f : List ℕ) (t : Slate) (x : List ℕ) → take_request at secs f (with_received x t) ≡ with_received x (take_request at secs f t)
+asked_received at secs f t x = (elim (nat_lt (length t.requests) most_requests) as (λ b. (if b then record (with_received x t) { requests = t.requests ++ asked (request_of_frame t.connection.idle_timeout t.addr at secs f) ∷ [] } else with_received x t) ≡ with_received x (if b then record t { requests = t.requests ++ asked (request_of_frame t.connection.idle_timeout t.addr at secs f) ∷ [] } else t)) [ true ↦ refl | false ↦ refl ])
+
+frame_received : (at secs : ℕ) (f : List ℕ) (s : Slate) (x : List ℕ) → take_frame at secs f (with_received x s) ≡ with_received x (take_frame at secs f s)
+frame_received at secs f s x = (elim (header_of f).qr as (λ b. (if b then enqueue (refusal f) (with_received x (counted at s)) else take_request at secs f (with_received x (counted at s))) ≡ with_received x (if b then enqueue (refusal f) (counted at s) else take_request at secs f (counted at s))) [ true ↦ refused_received (refusal f) (counted at s) x | false ↦ asked_received at secs f (counted at s) x ])
+
+-- it leaves the phase and what was received, and counts
 record Same (s t : Slate) : Type 0 where
   phase : t.phase ≡ s.phase
   received : t.received ≡ s.received
-  taken : t.taken ≡ s.taken + 1
+  taken : t.taken ≡ s.taken
 
-refused_same : (m : List ℕ) (s : Slate) → Same s (enqueue m (record s { taken = s.taken + 1 }))
-refused_same m s = (elim (nat_lt (length s.queue) s.bound) as (λ b. Same s (if b then record s { taken = s.taken + 1; queue = s.queue ++ m ∷ [] } else record s { taken = s.taken + 1 })) [ true ↦ record { phase = refl; received = refl; taken = refl } | false ↦ record { phase = refl; received = refl; taken = refl } ])
+refused_same : (m : List ℕ) (t : Slate) → Same t (enqueue m t)
+refused_same m t = (elim (nat_lt (length t.queue) t.bound) as (λ b. Same t (if b then append_frame m t else t)) [ true ↦ record { phase = refl; received = refl; taken = refl } | false ↦ record { phase = refl; received = refl; taken = refl } ])
 
-asked_same : (at secs : ℕ) (f : List ℕ) (s : Slate) → Same s (take_request at secs f s)
-asked_same at secs f s = (elim (nat_lt (length s.requests) most_requests) as (λ b. Same s (if b then record s { taken = s.taken + 1; requests = s.requests ++ asked (request_of_frame s.connection s.addr at secs f) ∷ [] } else record s { taken = s.taken + 1 })) [ true ↦ record { phase = refl; received = refl; taken = refl } | false ↦ record { phase = refl; received = refl; taken = refl } ])
+asked_same : (at secs : ℕ) (f : List ℕ) (t : Slate) → Same t (take_request at secs f t)
+asked_same at secs f t = (elim (nat_lt (length t.requests) most_requests) as (λ b. Same t (if b then record t { requests = t.requests ++ asked (request_of_frame t.connection.idle_timeout t.addr at secs f) ∷ [] } else t)) [ true ↦ record { phase = refl; received = refl; taken = refl } | false ↦ record { phase = refl; received = refl; taken = refl } ])
 
-frame_same : (at secs : ℕ) (f : List ℕ) (s : Slate) → Same s (take_frame at secs f s)
-frame_same at secs f s = (elim (header_of f).qr as (λ b. Same s (if b then enqueue (refusal f) (record s { taken = s.taken + 1 }) else take_request at secs f s)) [ true ↦ refused_same (refusal f) s | false ↦ asked_same at secs f s ])
+frame_same : (at secs : ℕ) (f : List ℕ) (s : Slate) → Same (counted at s) (take_frame at secs f s)
+frame_same at secs f s = (elim (header_of f).qr as (λ b. Same (counted at s) (if b then enqueue (refusal f) (counted at s) else take_request at secs f (counted at s))) [ true ↦ refused_same (refusal f) (counted at s) | false ↦ asked_same at secs f (counted at s) ])
 
 more_on : (at secs : ℕ) (f : List ℕ) (fs gs : List (List ℕ)) (s : Slate) (x : List ℕ) (b : Bool) → nat_lt (length f) header_size ≡ b → Ends at secs fs gs (take_frame at secs f s) x ⊎ Opens at secs fs gs (take_frame at secs f s) x → Ends at secs (f ∷ fs) gs s x ⊎ Opens at secs (f ∷ fs) gs s x
 more_on at secs f fs gs s x true h ih = inl (record { phase = rw h refl; all = rw h refl })
@@ -90,7 +96,20 @@ new_frames_join n o a b =
     rw (z, add-zero n, ← append_assoc) refl)
     (cases_lt n (length (frames (o ++ a))))
 
+-- a piece that finds the connection in this phase
+abbrev found_in : Phase → Told → Slate → Told
+found_in Open t u = t
+found_in _ t u = (u, [])
+
 module _ (answers : Serving) where
+  -- the second part finds the connection as the first left it
+  second_part : (c at secs : ℕ) (b : List ℕ) (u : Slate) (p : Phase) → u.phase ≡ p → in_phase answers (piece_of c at secs b) u.phase u ≡ found_in p (piece at secs b u) u
+  second_part c at secs b u Unused e = rw e refl
+  second_part c at secs b u Exchange e = rw e refl
+  second_part c at secs b u Open e = rw e refl
+  second_part c at secs b u (Flushing why) e = rw e refl
+  second_part c at secs b u Closed e = rw e refl
+
   cut_open : (c at secs : ℕ) (a b : List ℕ) (s : Slate) → IsCut answers (piece_of c at secs (a ++ b)) (piece_of c at secs a) (piece_of c at secs b) (record s { phase = Open })
   cut_open c at secs a b s =
       let t = record s { phase = Open; received = s.received ++ a } in
@@ -101,13 +120,13 @@ module _ (answers : Serving) where
       let whole = ap (λ (l : List (List ℕ)). take_frames at secs l (with_received x t)) (new_frames_join s.taken s.received a b) in
       ⊎_elim
       (λ (e : Ends at secs fs gs t x).
-      let second = ap (λ (p : Phase). in_phase {X = Told} p (u, []) (u, []) (piece at secs b u) (u, [])) e.phase in
+      let second = second_part c at secs b u Closed e.phase in
       record {
         slate = ap (λ (r : Told). r.0) (whole ∙ e.all) ∙ sym (ap (λ (r : Told). r.0) second);
         says = ap (λ (r : Told). r.1) (whole ∙ e.all) ∙ sym (append-nil (take_frames at secs fs t).1) ∙ sym (ap (λ (r : Told). (take_frames at secs fs t).1 ++ r.1) second);
       })
       (λ (o : Opens at secs fs gs t x).
-      let second = ap (λ (p : Phase). in_phase {X = Told} p (u, []) (u, []) (piece at secs b u) (u, [])) o.phase in
+      let second = second_part c at secs b u Open o.phase in
       let rest : take_frames at secs gs (with_received x u) ≡ piece at secs b u =
       ap (λ (y : List ℕ). take_frames at secs gs (with_received y u)) (sym (append_assoc s.received a b))
       ∙ ap (λ (r : List ℕ). take_frames at secs (drop (s.taken + length fs) (frames (r ++ b))) (with_received (r ++ b) u)) (sym o.received)
@@ -115,7 +134,7 @@ module _ (answers : Serving) where
       let all = whole ∙ o.all ∙ rest in
       record {
         slate = ap (λ (r : Told). r.0) all ∙ sym (ap (λ (r : Told). r.0) second);
-        says = ap (λ (r : Told). r.1) all ∙ sym (ap (λ (r : Told). r.1) second) ∙ sym (ap (λ (os : List Output). os ++ (in_phase {X = Told} u.phase (u, []) (u, []) (piece at secs b u) (u, [])).1) o.none);
+        says = ap (λ (r : Told). r.1) all ∙ sym (ap (λ (r : Told). r.1) second) ∙ sym (ap (λ (os : List Output). os ++ (in_phase answers (piece_of c at secs b) u.phase u).1) o.none);
       })
       (goes_on at secs fs gs t x)
 
@@ -123,4 +142,5 @@ module _ (answers : Serving) where
   cut_phase Unused c at secs a b s = record { slate = refl; says = refl }
   cut_phase Exchange c at secs a b s = record { slate = refl; says = refl }
   cut_phase Open c at secs a b s = cut_open c at secs a b s
+  cut_phase (Flushing why) c at secs a b s = record { slate = refl; says = refl }
   cut_phase Closed c at secs a b s = record { slate = refl; says = refl }

@@ -1,7 +1,16 @@
 pub mod FramesLemmas
 pub mod Keeping
 pub mod Turns
+pub mod Transactions
+pub mod Invoked
+pub mod TurnsAt
+pub mod Turned
+pub mod TurnedOpen
 pub mod Begun
 pub mod Taking
 pub mod Stepped
+pub mod Left
+pub mod Ticked
+pub mod Exchanged
+pub mod Quiet
 pub mod Cutting

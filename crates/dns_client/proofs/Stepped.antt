@@ -1,21 +1,64 @@
 -- What follows from the state of a core.
 use Rattle.dns_client.specs.Serving.{Serving}
-use Rattle.std.proofs.Common.{◌≡◌, ℕ, zero, suc, List, [], ◌∷◌, Option, Some, None, true, false, refl, sym, subst}
-use Rattle.std.specs.Prelude.{slice_get}
+use Rattle.std.proofs.Common.{◌≡◌, ℕ, zero, suc, List, [], ◌∷◌, length, Option, Some, None, Bool, true, false, refl, ap, sym, ◌∙◌, subst}
+use Rattle.std.specs.Prelude.{◌==◌, slice_get, if◌then◌else◌}
+use Rattle.std.proofs.lemmas.Bool.{eqb-false, eqb-true}
+use Rattle.std.proofs.lemmas.List.{nil_from_length}
 use Rattle.std.specs.List.{list_all}
 use Rattle.dns_service.specs.Answer.{Answer}
-use Rattle.dns_client.specs.Slate.{Slate, SlateRequest, Told, Phase, Open, in_phase}
+use Rattle.dns_service.specs.Config.{Connection, Dgram, Stream}
+use Rattle.dns_service.specs.declared.event.Event.{Event}
+use Rattle.dns_service.specs.declared.event.Output.TheVariants.{Closed as Closed_output}
+use Rattle.dns_service.specs.declared.event.Why.{Why}
+use Rattle.dns_client.specs.Connections.{close, reconfigured, wind_up}
+use Rattle.dns_client.specs.Rule.{rule, in_phase, exchange_rule, open_rule, flushing_rule, closed_rule}
+use Rattle.dns_client.specs.Slate.{Slate, SlateRequest, Told, Phase, Exchange, Open, Flushing, Closed, Conf, conf_rule, with_conf}
 use Rattle.dns_client.specs.Spent.{is_spent}
-use Rattle.dns_client.specs.Stands.{Keeps, Leads, StandsIn, outputs_of, state_behind, sole, state_is_spent}
+use Rattle.dns_client.specs.Stands.{IsLeft, IsOpen, Keeps, Leads, LeadsOn, StandsIn, outputs_of, state_behind, sole, state_is_spent}
 use Rattle.dns_client.specs.declared.client.State.{State}
-use Rattle.dns_client.specs.declared.client.State.TheVariants.{Exchange as Is_exchange, Open as Is_open, Closed as Is_closed}
+use Rattle.dns_client.specs.declared.client.State.TheVariants.{Exchange as Is_exchange, Open as Is_open, Flushing as Is_flushing, Closed as Is_closed}
 use Rattle.dns_client.specs.declared.connection.OpenConnection.{OpenConnection}
 use Rattle.dns_client.specs.declared.kept.KeptRequest.{KeptRequest}
-use Rattle.dns_client.specs.declared.connection.Outcome.{Outcome}
+use Rattle.dns_client.specs.declared.flushing.FlushingConnection.{FlushingConnection}
+use Rattle.dns_client.specs.declared.outcome.Outcome.{Outcome}
+use Rattle.dns_client.specs.declared.outcome.Outcome.TheVariants.{Nothing, WindsUp, Ends}
 use Rattle.dns_service.specs.declared.polled.PolledRequest.{PolledRequest}
 
-in_open : (p : Phase) (a b c d : Told) → p ≡ Open → in_phase p a b c d ≡ c
-in_open p a b c d e = rw e refl
+-- the rule of the phase that a client is in
+in_open : (answers : Serving) (e : Event) (p : Phase) (t : Slate) → p ≡ Open → in_phase answers e p t ≡ open_rule answers e e.kind t
+in_open answers e p t is = rw is refl
+
+in_flushing : (answers : Serving) (e : Event) (why : Why) (p : Phase) (t : Slate) → p ≡ Flushing why → in_phase answers e p t ≡ flushing_rule why e.kind t
+in_flushing answers e why p t is = rw is refl
+
+in_exchange : (answers : Serving) (e : Event) (p : Phase) (t : Slate) → p ≡ Exchange → in_phase answers e p t ≡ exchange_rule answers e.kind t
+in_exchange answers e p t is = rw is refl
+
+in_closed : (answers : Serving) (e : Event) (p : Phase) (t : Slate) → p ≡ Closed → in_phase answers e p t ≡ closed_rule e.kind t
+in_closed answers e p t is = rw is refl
+
+-- a queue that is empty, or isn't
+pub no_items : (xs : List (List ℕ)) → (length xs == 0) ≡ true → xs ≡ []
+no_items xs h = nil_from_length xs (eqb-true (length xs) 0 h)
+
+pub some_items : (xs : List (List ℕ)) → (length xs == 0) ≡ false → xs ≡ [] → ⊥
+some_items xs h e = eqb-false (length xs) 0 h (ap length e)
+
+-- the slate that an event finds
+abbrev pub met : Event → Slate → Slate
+met e s = with_conf (conf_rule e.kind s.conf) s
+
+-- a configuration that comes before a Shutdown
+not_over_yet : (over : Bool) (conf : Conf) (dgram : Dgram) (stream : Stream) → over ≡ false → conf.over ≡ false → (if over then conf else record { dgram = dgram; stream = stream; over = false }).over ≡ false
+not_over_yet true conf dgram stream e h = h
+not_over_yet false conf dgram stream e h = refl
+
+-- what one that only writes what waits does
+pub in_leads_on : (answers : Serving) (old new : FlushingConnection) (outcome : Outcome) (e : Event)
+    → LeadsOn old new outcome (λ s. flushing_rule old.why e.kind (met e s)) → LeadsOn old new outcome (rule answers e)
+in_leads_on answers old new outcome e f client s h =
+    let P : Told → Type 0 = λ t. (outputs_of client outcome ≡ t.1) × IsLeft client new outcome t.0 in
+    subst P (sym (in_flushing answers e old.why s.phase (met e s) h.phase)) (f client s h)
 
 module _ {R F : Type 0} (answer : PolledRequest F R → ℕ → Answer) (answers : Serving) where
   all_done : (rs : List SlateRequest) → ((k : ℕ) → Keeps answer answers None (slice_get rs k)) → list_all (λ (r : SlateRequest). r.done) rs ≡ true
@@ -32,15 +75,67 @@ module _ {R F : Type 0} (answer : PolledRequest F R → ℕ → Answer) (answers
 
   module _ {W : Type 0} where
     -- what an open connection does
-    pub in_leads : (old new : OpenConnection W R F) (outcome : Outcome) (x y w : Slate → Told) (after : Slate → Told)
-        → Leads answer answers old new outcome after → Leads answer answers old new outcome (λ s. in_phase s.phase (x s) (y s) (after s) (w s))
-    in_leads old new outcome x y w after f client s h =
+    pub in_leads : (old new : OpenConnection W R F) (outcome : Outcome) (e : Event)
+        → Leads answer answers old new outcome (λ s. open_rule answers e e.kind (met e s)) → Leads answer answers old new outcome (rule answers e)
+    in_leads old new outcome e f client s h =
         let P : Told → Type 0 = λ t. (outputs_of client outcome ≡ t.1) × StandsIn answer answers client (state_behind (Is_open new) outcome) t.0 in
-        subst P (sym (in_open s.phase (x s) (y s) (after s) (w s) h.phase)) (f client s h)
+        subst P (sym (in_open answers e s.phase (met e s) h.phase)) (f client s h)
+
+    pub rests : (c : OpenConnection W R F) → Leads answer answers c c Nothing (λ s. (s, []))
+    rests c client s h = (refl, h)
+
+    pub turns : (old new : OpenConnection W R F) (after : Slate → Slate) → ((client : ℕ) (s : Slate) → IsOpen answer answers client old s → IsOpen answer answers client new (after s)) → Leads answer answers old new Nothing (λ s. (after s, []))
+    turns old new after f client s h = (refl, f client s h)
+
+    pub closes : (c : OpenConnection W R F) (why : Why) → Leads answer answers c c (Ends why) (λ s. close why s)
+    closes c why client s h = (ap (λ (n : ℕ). Closed_output n why ∷ []) h.client, record { client = h.client; freed = h.freed; phase = refl })
+
+    -- the server's configurations are others
+    met_open : (client : ℕ) (c : OpenConnection W R F) (conf : Conf) (s : Slate) → conf.over ≡ false → IsOpen answer answers client c s → IsOpen answer answers client c (with_conf conf s)
+    met_open client c conf s e h = record {
+      client = h.client;
+      freed = h.freed;
+      phase = h.phase;
+      not_over = e;
+      addr = h.addr;
+      idle_timeout = h.idle_timeout;
+      write_timeout = h.write_timeout;
+      timer = h.timer;
+      kept = h.kept;
+      within = h.within;
+      requests = h.requests;
+      queue = h.queue;
+      bound = h.bound;
+    }
+
+    -- the configuration that holds from now on is one of those that the server shows
+    pub reconfigures : (old new : OpenConnection W R F) (dgram : Dgram) (stream : Stream) (connection : Connection) → connection ≡ stream.connection_config
+        → Leads answer answers old new Nothing (λ s. (reconfigured connection s, []))
+        → Leads answer answers old new Nothing (λ s. (reconfigured stream.connection_config (with_conf (if s.conf.over then s.conf else record { dgram = dgram; stream = stream; over = false }) s), []))
+    reconfigures old new dgram stream connection is f client s h =
+        let conf : Conf = if s.conf.over then s.conf else record { dgram = dgram; stream = stream; over = false } in
+        let one = f client (with_conf conf s) (met_open client old conf s (not_over_yet s.conf.over s.conf dgram stream h.not_over h.not_over) h) in
+        subst (λ (x : Connection). (outputs_of client Nothing ≡ []) × IsOpen answer answers client new (reconfigured x (with_conf conf s))) is one
+
+    -- it is to be closed
+    pub wound_at_once : (c : OpenConnection W R F) (why : Why) (conf : Slate → Conf) → c.invoker.queue.items ≡ [] → Leads answer answers c c (Ends why) (λ s. wind_up why s.queue (with_conf (conf s) s))
+    wound_at_once c why conf e client s h =
+        let none : s.queue ≡ [] = sym h.queue ∙ e in
+        let P : List (List ℕ) → Type 0 = λ q. (outputs_of client (Ends why) ≡ (wind_up why q (with_conf (conf s) s)).1) × StandsIn answer answers client (state_behind (Is_open c) (Ends why)) (wind_up why q (with_conf (conf s) s)).0 in
+        subst P (sym none) (ap (λ (n : ℕ). Closed_output n why ∷ []) h.client, record { client = h.client; freed = h.freed; phase = refl })
+
+    wound_with : (c : OpenConnection W R F) (why : Why) (conf : Conf) (client : ℕ) (s : Slate) (q : List (List ℕ)) → IsOpen answer answers client c s → (q ≡ [] → ⊥)
+        → (outputs_of client (WindsUp why) ≡ (wind_up why q (with_conf conf s)).1) × StandsIn answer answers client (state_behind (Is_open c) (WindsUp why)) (wind_up why q (with_conf conf s)).0
+    wound_with c why conf client s [] h some = absurd (some refl)
+    wound_with c why conf client s (m ∷ ms) h some = (refl, record { client = h.client; freed = h.freed; phase = refl; write_timeout = h.write_timeout; queue = h.queue })
+
+    pub wound_later : (c : OpenConnection W R F) (why : Why) (conf : Slate → Conf) → (c.invoker.queue.items ≡ [] → ⊥) → Leads answer answers c c (WindsUp why) (λ s. wind_up why s.queue (with_conf (conf s) s))
+    wound_later c why conf some client s h = wound_with c why (conf s) client s s.queue h (λ (e : s.queue ≡ []). some (h.queue ∙ e))
 
     -- by the state
     pub spent : (client : ℕ) (state : State W R F) (s : Slate) → StandsIn answer answers client state s → state_is_spent state ≡ is_spent s
     spent client (Is_exchange None) s h = rw h.phase (sym (all_done s.requests (λ k. none_sole (slice_get s.requests k) k (h.requests k))))
     spent client (Is_exchange (Some q)) s h = rw h.phase (sym (some_open q s.requests (h.requests 0)))
     spent client (Is_open c) s h = rw h.phase refl
+    spent client (Is_flushing c) s h = rw h.phase refl
     spent client (Is_closed freed) s h = rw h.phase (sym h.freed)

@@ -5,28 +5,27 @@ use Rattle.std.specs.BTreeMap.{get}
 use Rattle.std.specs.Ordering.{nat_cmp}
 use Rattle.std.specs.Prelude.{nat_lt, if◌then◌else◌}
 use Rattle.std.proofs.lemmas.Bool.{le-ltb}
-use Rattle.circular_buffer.specs.Buffer.{Buffer}
 use Rattle.dns_name.specs.declared.address.SocketAddr.{SocketAddr}
 use Rattle.dns_base.specs.Header.{header_of}
 use Rattle.dns_base.specs.Wire.{wire}
 use Rattle.dns_service.specs.Answer.{Answer}
 use Rattle.dns_service.specs.ErrorReply.{error_reply}
-use Rattle.dns_service.specs.Config.{Connection}
 use Rattle.dns_service.specs.Req.{Req}
 use Rattle.dns_service.specs.declared.event.Output.TheVariants.{Closed as Closed_output}
 use Rattle.dns_service.specs.declared.event.Why.TheVariants.{Short}
 use Rattle.dns_client.specs.Frames.{first_frame, framed, frames}
 use Rattle.dns_client.specs.Slate.{Slate, Told}
 use Rattle.dns_client.specs.Requests.{header_size, most_requests, request_of_frame, asked}
-use Rattle.dns_client.specs.Connections.{take_frames, take_frame, take_request, piece}
-use Rattle.dns_client.specs.Stands.{IsKept, IsOpen, Leads, Asks, Refuses, TakesFrame, KeepsAll, StandsIn, outputs_of, state_behind}
+use Rattle.dns_client.specs.Connections.{take_frames, take_frame, piece}
+use Rattle.dns_client.specs.Stands.{IsGoing, IsOpen, Leads, Asks, Refuses, TakesFrame, KeepsAll, StandsIn, outputs_of, state_behind}
 use Rattle.dns_client.specs.declared.client.State.TheVariants.{Open as Is_open}
 use Rattle.dns_client.specs.declared.connection.OpenConnection.{OpenConnection}
-use Rattle.dns_client.specs.declared.connection.Outcome.{Outcome}
-use Rattle.dns_client.specs.declared.connection.Outcome.TheVariants.{Nothing, Ends}
+use Rattle.dns_client.specs.declared.outcome.Outcome.{Outcome}
+use Rattle.dns_client.specs.declared.outcome.Outcome.TheVariants.{Nothing, Ends}
 use Rattle.dns_service.specs.declared.polled.PolledRequest.{PolledRequest}
-use Rattle.dns_client.specs.declared.kept.KeptRequest.{KeptRequest}
+use Rattle.dns_client.specs.declared.connection_request.ConnectionRequest.{ConnectionRequest}
 use Rattle.dns_client.proofs.Keeping.{keeps_push}
+use Rattle.dns_client.proofs.Transactions.{one_idle}
 use Rattle.dns_client.proofs.FramesLemmas.{first_shorter, frames_some, past_next, within_next, past-append, within-append, new_frames_by_kept}
 
 queue_by : (b : Bool) (s : Slate) (m : List ℕ) → (if b then record s { queue = s.queue ++ m ∷ [] } else s).queue ≡ (if b then s.queue ++ m ∷ [] else s.queue)
@@ -34,23 +33,26 @@ queue_by true s m = refl
 queue_by false s m = refl
 
 -- a request that was called is kept under its number
-pub asks_by : {W R F : Type 0} (answer : PolledRequest F R → ℕ → Answer) (answers : Serving) (old new : OpenConnection W R F) (r : Req (Unit {0})) (q : KeptRequest F R)
+pub asks_by : {W R F : Type 0} (answer : PolledRequest F R → ℕ → Answer) (answers : Serving) (old new : OpenConnection W R F) (r : Req (Unit {0})) (q : ConnectionRequest F R)
     → old.count < most_requests
     → get nat_cmp new.unfinished old.count ≡ Some q
     → ((k : ℕ) → k ≢ old.count → get nat_cmp new.unfinished k ≡ get nat_cmp old.unfinished k)
     → new ≡ record old { unfinished = new.unfinished; count = old.count + 1 }
-    → IsKept answer answers q (asked r)
+    → IsGoing answer answers q (asked r)
     → Asks answer answers old new r
-asks_by {W} {R} {F} answer answers old new r q few here others rest kept = record {
-  addr = ap (λ (c : OpenConnection W R F). c.addr) rest;
-  config = ap (λ (c : OpenConnection W R F). c.config) rest;
-  framer = ap (λ (c : OpenConnection W R F). c.framer) rest;
-  queue = ap (λ (c : OpenConnection W R F). c.queue) rest;
-  made = λ rs h.
-      let less : nat_lt (length rs) most_requests ≡ true = rw (← h.0) (lt-ltb old.count most_requests few) in
-      let more : new.count ≡ old.count + 1 = ap (λ (c : OpenConnection W R F). c.count) rest in
-      rw less (more ∙ omega (arith, h.0, length-append rs (asked r ∷ [])), keeps_push answer answers old.unfinished new.unfinished rs old.count (asked r) q h.0 h.1 others here kept);
-}
+asks_by {W} {R} {F} answer answers old new r q few here others rest kept =
+    let more : new.count ≡ old.count + 1 = ap (λ (c : OpenConnection W R F). c.count) rest in
+    let same : new.transactions ≡ old.transactions = ap (λ (c : OpenConnection W R F). c.transactions) rest in
+    record {
+      others = rest ∙ ap (λ (n : ℕ). record old { unfinished = new.unfinished; count = n }) (sym more);
+      made = λ rs h.
+          let less : nat_lt (length rs) most_requests ≡ true = rw (← h.made) (lt-ltb old.count most_requests few) in
+          rw less (record {
+            made = more ∙ omega (arith, h.made, length-append rs (asked r ∷ []));
+            held_open = same ∙ h.held_open ∙ sym (one_idle rs r);
+            each = keeps_push answer answers old.unfinished new.unfinished rs old.count (asked r) q h.made h.each others here kept;
+          });
+    }
 
 module _ {W R F : Type 0} (answer : PolledRequest F R → ℕ → Answer) (answers : Serving) (at secs : ℕ) where
   pub none_left : (c : OpenConnection W R F) → frames c.framer ≡ [] → Leads answer answers c c Nothing (λ s. take_frames at secs (frames c.framer) s)
@@ -65,80 +67,90 @@ module _ {W R F : Type 0} (answer : PolledRequest F R → ℕ → Answer) (answe
         record { client = h.client; freed = h.freed; phase = refl },
       )
 
+  -- what is kept of a connection that took a frame
+  abbrev timed : OpenConnection W R F → List ℕ → OpenConnection W R F
+  timed c r = record c { framer = r; timer = at }
+
   asked_open : (c new : OpenConnection W R F) (f r : List ℕ) (client : ℕ) (s : Slate) → IsOpen answer answers client c s → first_frame c.framer ≡ Some (f, r)
-      → Asks answer answers (record c { framer = r }) new (request_of_frame c.config c.addr at secs f)
-      → (b : Bool) → KeepsAll answer answers new.count new.unfinished (if b then s.requests ++ asked (request_of_frame s.connection s.addr at secs f) ∷ [] else s.requests)
-      → IsOpen answer answers client new (if b then record s { taken = s.taken + 1; requests = s.requests ++ asked (request_of_frame s.connection s.addr at secs f) ∷ [] } else record s { taken = s.taken + 1 })
+      → Asks answer answers (timed c r) new (request_of_frame c.invoker.idle_timeout c.addr at secs f)
+      → (b : Bool) → KeepsAll answer answers new.count new.transactions new.unfinished (if b then s.requests ++ asked (request_of_frame s.connection.idle_timeout s.addr at secs f) ∷ [] else s.requests)
+      → IsOpen answer answers client new (if b then record s { taken = s.taken + 1; reset_at = at; requests = s.requests ++ asked (request_of_frame s.connection.idle_timeout s.addr at secs f) ∷ [] } else record s { taken = s.taken + 1; reset_at = at })
   asked_open c new f r client s h e a b k =
       let e' = rw h.kept at e in
-      let kept = a.framer ∙ sym (past_next s.taken s.received f r h.within e') in
+      let ad = ap (λ (c : OpenConnection W R F). c.addr) a.others ∙ h.addr in
+      let id = ap (λ (c : OpenConnection W R F). c.invoker.idle_timeout) a.others ∙ h.idle_timeout in
+      let wr = ap (λ (c : OpenConnection W R F). c.write_timeout) a.others ∙ h.write_timeout in
+      let ti = ap (λ (c : OpenConnection W R F). c.timer) a.others in
+      let kept = ap (λ (c : OpenConnection W R F). c.framer) a.others ∙ sym (past_next s.taken s.received f r h.within e') in
       let within = within_next s.taken s.received f r h.within e' in
-      let ad = a.addr ∙ h.addr in
-      let cf = a.config ∙ h.config in
-      let qu = ap (λ (q : Buffer (List ℕ)). q.items) a.queue ∙ h.queue in
-      let bo = ap (λ (q : Buffer (List ℕ)). q.capacity) a.queue ∙ h.bound in
-      let P : Bool → Type 0 = λ b. KeepsAll answer answers new.count new.unfinished (if b then s.requests ++ asked (request_of_frame s.connection s.addr at secs f) ∷ [] else s.requests) → IsOpen answer answers client new (if b then record s { taken = s.taken + 1; requests = s.requests ++ asked (request_of_frame s.connection s.addr at secs f) ∷ [] } else record s { taken = s.taken + 1 }) in
+      let qu = ap (λ (c : OpenConnection W R F). c.invoker.queue.items) a.others ∙ h.queue in
+      let bo = ap (λ (c : OpenConnection W R F). c.invoker.queue.capacity) a.others ∙ h.bound in
+      let P : Bool → Type 0 = λ b. KeepsAll answer answers new.count new.transactions new.unfinished (if b then s.requests ++ asked (request_of_frame s.connection.idle_timeout s.addr at secs f) ∷ [] else s.requests) → IsOpen answer answers client new (if b then record s { taken = s.taken + 1; reset_at = at; requests = s.requests ++ asked (request_of_frame s.connection.idle_timeout s.addr at secs f) ∷ [] } else record s { taken = s.taken + 1; reset_at = at }) in
       (elim b as P [
-        | true ↦ λ k. record { client = h.client; freed = h.freed; phase = h.phase; addr = ad; config = cf; kept = kept; within = within; requests = k; queue = qu; bound = bo }
-        | false ↦ λ k. record { client = h.client; freed = h.freed; phase = h.phase; addr = ad; config = cf; kept = kept; within = within; requests = k; queue = qu; bound = bo }
+        | true ↦ λ k. record { client = h.client; freed = h.freed; phase = h.phase; not_over = h.not_over; addr = ad; idle_timeout = id; write_timeout = wr; timer = ti; kept = kept; within = within; requests = k; queue = qu; bound = bo }
+        | false ↦ λ k. record { client = h.client; freed = h.freed; phase = h.phase; not_over = h.not_over; addr = ad; idle_timeout = id; write_timeout = wr; timer = ti; kept = kept; within = within; requests = k; queue = qu; bound = bo }
       ]) k
 
   taken : (c new : OpenConnection W R F) (f r : List ℕ) (q : Req (Unit {0})) → first_frame c.framer ≡ Some (f, r) → 12 ≤ length f
       → (header_of f).qr ≡ false
-      → q ≡ request_of_frame c.config c.addr at secs f
-      → Asks answer answers (record c { framer = r }) new q → TakesFrame answer answers at secs c new
+      → q ≡ request_of_frame c.invoker.idle_timeout c.addr at secs f
+      → Asks answer answers (timed c r) new q → TakesFrame answer answers at secs c new
   taken c new f r q e l query is a =
       let n : nat_lt (length f) header_size ≡ false = le-ltb (length f) 12 l in
       let a' = rw is at a in
+      let framer : new.framer ≡ r = ap (λ (x : OpenConnection W R F). x.framer) a.others in
       record {
-        less = rw a.framer (first_shorter c.framer f r e);
+        less = rw framer (first_shorter c.framer f r e);
         goes = λ client s h.
-            let same : request_of_frame c.config c.addr at secs f ≡ request_of_frame s.connection s.addr at secs f = ap (λ (x : Connection). request_of_frame x c.addr at secs f) h.config ∙ ap (λ (x : SocketAddr). request_of_frame s.connection x at secs f) h.addr in
+            let same : request_of_frame c.invoker.idle_timeout c.addr at secs f ≡ request_of_frame s.connection.idle_timeout s.addr at secs f = ap (λ (x : ℕ). request_of_frame x c.addr at secs f) h.idle_timeout ∙ ap (λ (x : SocketAddr). request_of_frame s.connection.idle_timeout x at secs f) h.addr in
             let k = rw same at (a'.made s.requests h.requests) in
-            (take_request at secs f s, asked_open c new f r client s h e a' (nat_lt (length s.requests) most_requests) k, rw (a.framer, frames_some c.framer f r e, n, query) refl);
+            (take_frame at secs f s, rw query (asked_open c new f r client s h e a' (nat_lt (length s.requests) most_requests) k), rw (framer, frames_some c.framer f r e, n) refl);
       }
 
   refused_open : (c new : OpenConnection W R F) (f r : List ℕ) (client : ℕ) (s : Slate) → IsOpen answer answers client c s → first_frame c.framer ≡ Some (f, r)
-      → Refuses (record c { framer = r }) new f
-      → (b : Bool) → new.queue.items ≡ (if b then s.queue ++ framed (wire (error_reply f 1)) ∷ [] else s.queue)
-      → IsOpen answer answers client new (if b then record s { taken = s.taken + 1; queue = s.queue ++ framed (wire (error_reply f 1)) ∷ [] } else record s { taken = s.taken + 1 })
+      → Refuses (timed c r) new f
+      → (b : Bool) → new.invoker.queue.items ≡ (if b then s.queue ++ framed (wire (error_reply f 1)) ∷ [] else s.queue)
+      → IsOpen answer answers client new (if b then record s { taken = s.taken + 1; reset_at = at; queue = s.queue ++ framed (wire (error_reply f 1)) ∷ [] } else record s { taken = s.taken + 1; reset_at = at })
   refused_open c new f r client s h e a b q =
       let e' = rw h.kept at e in
-      let kept = a.framer ∙ sym (past_next s.taken s.received f r h.within e') in
+      let ad = ap (λ (c : OpenConnection W R F). c.addr) a.others ∙ h.addr in
+      let id = ap (λ (c : OpenConnection W R F). c.invoker.idle_timeout) a.others ∙ h.idle_timeout in
+      let wr = ap (λ (c : OpenConnection W R F). c.write_timeout) a.others ∙ h.write_timeout in
+      let ti = ap (λ (c : OpenConnection W R F). c.timer) a.others in
+      let kept = ap (λ (c : OpenConnection W R F). c.framer) a.others ∙ sym (past_next s.taken s.received f r h.within e') in
       let within = within_next s.taken s.received f r h.within e' in
-      let ad = a.addr ∙ h.addr in
-      let cf = a.config ∙ h.config in
       let bo = a.bound ∙ h.bound in
-      let rs : KeepsAll answer answers new.count new.unfinished s.requests = rw (a.count, a.unfinished) h.requests in
-      let P : Bool → Type 0 = λ b. new.queue.items ≡ (if b then s.queue ++ framed (wire (error_reply f 1)) ∷ [] else s.queue) → IsOpen answer answers client new (if b then record s { taken = s.taken + 1; queue = s.queue ++ framed (wire (error_reply f 1)) ∷ [] } else record s { taken = s.taken + 1 }) in
+      let rs : KeepsAll answer answers new.count new.transactions new.unfinished s.requests = rw (ap (λ (c : OpenConnection W R F). c.count) a.others, ap (λ (c : OpenConnection W R F). c.transactions) a.others, ap (λ (c : OpenConnection W R F). c.unfinished) a.others) h.requests in
+      let P : Bool → Type 0 = λ b. new.invoker.queue.items ≡ (if b then s.queue ++ framed (wire (error_reply f 1)) ∷ [] else s.queue) → IsOpen answer answers client new (if b then record s { taken = s.taken + 1; reset_at = at; queue = s.queue ++ framed (wire (error_reply f 1)) ∷ [] } else record s { taken = s.taken + 1; reset_at = at }) in
       (elim b as P [
-        | true ↦ λ q. record { client = h.client; freed = h.freed; phase = h.phase; addr = ad; config = cf; kept = kept; within = within; requests = rs; queue = q; bound = bo }
-        | false ↦ λ q. record { client = h.client; freed = h.freed; phase = h.phase; addr = ad; config = cf; kept = kept; within = within; requests = rs; queue = q; bound = bo }
+        | true ↦ λ q. record { client = h.client; freed = h.freed; phase = h.phase; not_over = h.not_over; addr = ad; idle_timeout = id; write_timeout = wr; timer = ti; kept = kept; within = within; requests = rs; queue = q; bound = bo }
+        | false ↦ λ q. record { client = h.client; freed = h.freed; phase = h.phase; not_over = h.not_over; addr = ad; idle_timeout = id; write_timeout = wr; timer = ti; kept = kept; within = within; requests = rs; queue = q; bound = bo }
       ]) q
 
   -- a response is taken
   refused : (c new : OpenConnection W R F) (f r : List ℕ) → first_frame c.framer ≡ Some (f, r) → 12 ≤ length f → (header_of f).qr ≡ true
-      → Refuses (record c { framer = r }) new f → TakesFrame answer answers at secs c new
+      → Refuses (timed c r) new f → TakesFrame answer answers at secs c new
   refused c new f r e l response a =
       let n : nat_lt (length f) header_size ≡ false = le-ltb (length f) 12 l in
+      let framer : new.framer ≡ r = ap (λ (x : OpenConnection W R F). x.framer) a.others in
       record {
-        less = rw a.framer (first_shorter c.framer f r e);
+        less = rw framer (first_shorter c.framer f r e);
         goes = λ client s h.
             let b = nat_lt (length s.queue) s.bound in
             let q = a.queue s h.queue h.bound ∙ queue_by b s (framed (wire (error_reply f 1))) in
-            (take_frame at secs f s, rw response (refused_open c new f r client s h e a b q), rw (a.framer, frames_some c.framer f r e, n) refl);
+            (take_frame at secs f s, rw response (refused_open c new f r client s h e a b q), rw (framer, frames_some c.framer f r e, n) refl);
       }
 
   either_taken : (c new : OpenConnection W R F) (f r : List ℕ) → first_frame c.framer ≡ Some (f, r) → 12 ≤ length f
-      → ((header_of f).qr ≡ true → Refuses (record c { framer = r }) new f)
-      → ((header_of f).qr ≡ false → Asks answer answers (record c { framer = r }) new (request_of_frame c.config c.addr at secs f))
+      → ((header_of f).qr ≡ true → Refuses (timed c r) new f)
+      → ((header_of f).qr ≡ false → Asks answer answers (timed c r) new (request_of_frame c.invoker.idle_timeout c.addr at secs f))
       → (b : Bool) → (header_of f).qr ≡ b → TakesFrame answer answers at secs c new
   either_taken c new f r e l refuses asks true is = refused c new f r e l is (refuses is)
-  either_taken c new f r e l refuses asks false is = taken c new f r (request_of_frame c.config c.addr at secs f) e l is refl (asks is)
+  either_taken c new f r e l refuses asks false is = taken c new f r (request_of_frame c.invoker.idle_timeout c.addr at secs f) e l is refl (asks is)
 
   pub taken_either : (c new : OpenConnection W R F) (f r : List ℕ) → first_frame c.framer ≡ Some (f, r) → 12 ≤ length f
-      → ((header_of f).qr ≡ true → Refuses (record c { framer = r }) new f)
-      → ((header_of f).qr ≡ false → Asks answer answers (record c { framer = r }) new (request_of_frame c.config c.addr at secs f))
+      → ((header_of f).qr ≡ true → Refuses (timed c r) new f)
+      → ((header_of f).qr ≡ false → Asks answer answers (timed c r) new (request_of_frame c.invoker.idle_timeout c.addr at secs f))
       → TakesFrame answer answers at secs c new
   taken_either c new f r e l refuses asks = either_taken c new f r e l refuses asks (header_of f).qr refl
 
@@ -151,8 +163,11 @@ module _ {W R F : Type 0} (answer : PolledRequest F R → ℕ → Answer) (answe
         client = h.client;
         freed = h.freed;
         phase = h.phase;
+        not_over = h.not_over;
         addr = h.addr;
-        config = h.config;
+        idle_timeout = h.idle_timeout;
+        write_timeout = h.write_timeout;
+        timer = h.timer;
         kept = ap (λ k. k ++ p) h.kept ∙ sym (past-append s.taken s.received p h.within);
         within = within-append s.taken s.received p h.within;
         requests = h.requests;

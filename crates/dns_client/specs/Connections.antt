@@ -1,44 +1,69 @@
--- A connection: it is opened, takes the frames of its octets as requests, writes its queue, and is closed (RFC 7766).
-use Rattle.std.specs.Prelude.{ℕ, ◌+◌, List, [], ◌∷◌, ◌++◌, length, drop, nat_lt, if◌then◌else◌, true}
+-- A connection: it is opened, takes the frames of its octets as requests, writes its queue, may be idle for some time, and is
+-- closed, at once or once its queue was written (RFC 7766).
+use Rattle.std.specs.Prelude.{ℕ, ◌+◌, ◌∷◌, ◌++◌, List, [], length, drop, nat_lt, if◌then◌else◌, Bool, true, false, not, ◌&&◌}
+use Rattle.std.specs.List.{list_any}
 use Rattle.dns_name.specs.declared.address.SocketAddr.{SocketAddr}
 use Rattle.dns_base.specs.Header.{header_of}
 use Rattle.dns_base.specs.Wire.{wire}
+use Rattle.dns_service.specs.Config.{Connection}
 use Rattle.dns_service.specs.ErrorReply.{error_reply}
 use Rattle.dns_service.specs.declared.event.Output.TheVariants.{Frame, Closed as Closed_output}
 use Rattle.dns_service.specs.declared.event.Why.{Why}
-use Rattle.dns_service.specs.declared.event.Why.TheVariants.{Short, WriteTimeout}
+use Rattle.dns_service.specs.declared.event.Why.TheVariants.{Short, Idle, WriteTimeout}
+use Rattle.dns_service.specs.declared.invoker.InvokerStatus.{InvokerStatus}
+use Rattle.dns_service.specs.declared.invoker.InvokerStatus.TheVariants.{InTransaction}
 use Rattle.dns_client.specs.Frames.{frames, framed}
-use Rattle.dns_client.specs.Slate.{Slate, Told, Open, Closed}
+use Rattle.dns_client.specs.Slate.{Slate, SlateRequest, Told, Open, Flushing, Closed}
 use Rattle.dns_client.specs.Requests.{header_size, most_requests, request_of_frame, asked}
+use Rattle.dns_client.specs.Timers.{is_expired}
 
--- it takes the configuration of now, and the queue's bound
-abbrev pub opened : ℕ → SocketAddr → Slate → Slate
-opened client addr s = record s {
+-- it takes the configuration of now, and the queue's bound, and its timer starts
+abbrev pub opened : ℕ → SocketAddr → ℕ → Slate → Slate
+opened client addr at s = record s {
   client = client;
   addr = addr;
   phase = Open;
   connection = s.conf.stream.connection_config;
   bound = s.conf.stream.connection_config.max_queued_responses;
+  reset_at = at;
 }
+
+-- another configuration holds from now on; the queue's bound stays
+abbrev pub reconfigured : Connection → Slate → Slate
+reconfigured connection s = record s { connection = connection }
 
 -- a closed connection keeps nothing but its number
 abbrev pub close : Why → Slate → Told
 close why s = (record s { phase = Closed; received = []; taken = 0; requests = []; queue = [] }, Closed_output s.client why ∷ [])
 
+-- one that is to be closed keeps its queue, where something waits in it
+abbrev pub wind_up : Why → List (List ℕ) → Slate → Told
+wind_up why [] s = close why s
+wind_up why (m ∷ ms) s = (record s { phase = Flushing why; received = []; taken = 0; requests = [] }, [])
+
+-- the queue has room for a frame
+abbrev pub has_space : Slate → Bool
+has_space s = nat_lt (length s.queue) s.bound
+
+abbrev pub append_frame : List ℕ → Slate → Slate
+append_frame m s = record s { queue = s.queue ++ m ∷ [] }
+
 -- a frame is queued where there is room, and else dropped
 abbrev pub enqueue : List ℕ → Slate → Slate
-enqueue m s = if nat_lt (length s.queue) s.bound then record s { queue = s.queue ++ m ∷ [] } else s
+enqueue m s = if has_space s then append_frame m s else s
 
 -- a request is made of a frame, unless most of them were made
 abbrev pub take_request : ℕ → ℕ → List ℕ → Slate → Slate
 take_request at secs f s =
     if nat_lt (length s.requests) most_requests
-    then record s { taken = s.taken + 1; requests = s.requests ++ asked (request_of_frame s.connection s.addr at secs f) ∷ [] }
-    else record s { taken = s.taken + 1 }
+    then record s { requests = s.requests ++ asked (request_of_frame s.connection.idle_timeout s.addr at secs f) ∷ [] }
+    else s
 
--- a frame is taken; a response makes no request, and is answered with FORMERR
+-- a frame resets the timer; a response makes no request, and is answered with FORMERR
 abbrev pub take_frame : ℕ → ℕ → List ℕ → Slate → Slate
-take_frame at secs f s = if (header_of f).qr then enqueue (framed (wire (error_reply f 1))) (record s { taken = s.taken + 1 }) else take_request at secs f s
+take_frame at secs f s =
+    let t = record s { taken = s.taken + 1; reset_at = at } in
+    if (header_of f).qr then enqueue (framed (wire (error_reply f 1))) t else take_request at secs f t
 
 -- the frames are taken in order, up to one that is shorter than a header
 abbrev pub take_frames : ℕ → ℕ → List (List ℕ) → Slate → Told
@@ -51,12 +76,39 @@ take_frames at secs (f ∷ fs) s =
 abbrev pub piece : ℕ → ℕ → List ℕ → Slate → Told
 piece at secs o s = take_frames at secs (drop s.taken (frames (s.received ++ o))) (record s { received = s.received ++ o })
 
--- the front frame is written, unless that took too long
-abbrev pub write : ℕ → List (List ℕ) → Slate → Told
-write took [] s = (s, [])
-write took (m ∷ ms) s =
-    if nat_lt s.connection.response_write_timeout took then close WriteTimeout s
-    else (record s { queue = ms }, Frame s.client m ∷ [])
+-- a write took longer than it may
+abbrev pub took_too_long : ℕ → Slate → Bool
+took_too_long took s = nat_lt s.connection.response_write_timeout took
+
+-- the front frame is written; an emptied queue resets the timer
+abbrev pub written : ℕ → List ℕ → List (List ℕ) → Slate → Told
+written at m [] s = (record s { queue = []; reset_at = at }, Frame s.client m ∷ [])
+written at m (n ∷ ms) s = (record s { queue = n ∷ ms }, Frame s.client m ∷ [])
+
+abbrev pub write : ℕ → ℕ → List (List ℕ) → Slate → Told
+write at took [] s = (s, [])
+write at took (m ∷ ms) s = if took_too_long took s then close WriteTimeout s else written at m ms s
+
+-- the last frame is followed by the close that it was waited for
+abbrev pub flushed : Why → List ℕ → List (List ℕ) → Slate → Told
+flushed why m [] s = ((close why s).0, Frame s.client m ∷ (close why s).1)
+flushed why m (n ∷ ms) s = (record s { queue = n ∷ ms }, Frame s.client m ∷ [])
+
+abbrev pub flush : Why → ℕ → List (List ℕ) → Slate → Told
+flush why took [] s = (s, [])
+flush why took (m ∷ ms) s = if took_too_long took s then close WriteTimeout s else flushed why m ms s
+
+-- a request that isn't done is in a transaction
+abbrev pub is_in_transaction : InvokerStatus → Bool
+is_in_transaction InTransaction = true
+is_in_transaction _ = false
+
+abbrev pub in_transaction : SlateRequest → Bool
+in_transaction r = not r.done && is_in_transaction r.status
+
+-- a connection was idle for too long, and no transaction holds it open
+abbrev pub tick : ℕ → Slate → Told
+tick at s = if is_expired s.reset_at s.connection.idle_timeout at && not (list_any in_transaction s.requests) then close Idle s else (s, [])
 
 -- the slot is given back
 abbrev pub released : Slate → Slate

@@ -1,10 +1,13 @@
+pub use Rattle.dns_admission.specs.Machine
 pub use Rattle.dns_base.specs.Wire
 pub use Rattle.dns_service.specs.Answer
 pub use Rattle.dns_service.specs.Given
+pub use Rattle.dns_service.specs.Invokers
 pub use Rattle.dns_service.specs.PolledRequest
 pub use Rattle.dns_service.specs.Req
 pub mod Frames
 pub mod Serving
+pub mod Timers
 pub mod Slate
 pub mod Requests
 pub mod Datagrams
@@ -12,6 +15,8 @@ pub mod Connections
 pub mod Turns
 pub mod Rule
 pub mod PolledAt
+pub mod Invoker
+pub mod TurnedAt
 pub mod Stands
 pub mod Spent
 pub mod Pieces

@@ -1,8 +1,9 @@
 -- The requests that messages make.
-use Rattle.std.specs.Prelude.{ℕ, List, Some, false}
+use Rattle.std.specs.Prelude.{ℕ, List, Some, None, false}
 use Rattle.dns_name.specs.declared.address.SocketAddr.{SocketAddr}
-use Rattle.dns_service.specs.Config.{Dgram, Connection}
+use Rattle.dns_service.specs.Config.{Dgram}
 use Rattle.dns_service.specs.Req.{Req}
+use Rattle.dns_service.specs.declared.invoker.InvokerStatus.TheVariants.{Normal}
 use Rattle.dns_service.specs.declared.message.TransportSpecificContext.TheVariants.{Udp, NonUdp}
 use Rattle.dns_client.specs.Slate.{SlateRequest}
 
@@ -26,18 +27,18 @@ request_of_datagram dgram addr at secs o = record {
   metadata = tt;
 }
 
--- a frame of a connection, with the idle timeout that the connection has now
-abbrev pub request_of_frame : Connection → SocketAddr → ℕ → ℕ → List ℕ → Req (Unit {0})
-request_of_frame connection addr at secs o = record {
+-- a frame of a connection, with the time that the connection may be idle as it is now
+abbrev pub request_of_frame : ℕ → SocketAddr → ℕ → ℕ → List ℕ → Req (Unit {0})
+request_of_frame idle_timeout addr at secs o = record {
   octets = o;
   client_addr = addr;
   received_at = at;
   received_secs = secs;
-  transport = NonUdp (Some connection.idle_timeout);
+  transport = NonUdp (Some idle_timeout);
   reserved = 0;
   metadata = tt;
 }
 
 -- a request that was not polled yet
 abbrev pub asked : Req (Unit {0}) → SlateRequest
-asked r = record { request = r; polls = 0; done = false }
+asked r = record { request = r; polls = 0; held = None; status = Normal; done = false }

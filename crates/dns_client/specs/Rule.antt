@@ -1,25 +1,55 @@
 -- What a client's events do to its slate, in which an Offer stands for one that is admitted. The answers are those of the
--- wrapped service, by request and poll.
+-- wrapped service, by request and poll. Where the client's state doesn't say otherwise, an event changes nothing.
 use Rattle.dns_client.specs.Serving.{Serving}
-use Rattle.std.specs.Prelude.{[], slice_get}
+use Rattle.std.specs.Prelude.{[], slice_get, if◌then◌else◌}
 use Rattle.dns_service.specs.declared.event.Event.{Event}
 use Rattle.dns_service.specs.declared.event.EventKind.{EventKind}
-use Rattle.dns_service.specs.declared.event.EventKind.TheVariants.{Datagram, Turn, Offer, Piece, End, Write, Release}
-use Rattle.dns_service.specs.declared.event.Why.TheVariants.{Ended}
-use Rattle.dns_client.specs.Slate.{Slate, Told, in_phase}
+use Rattle.dns_service.specs.declared.event.EventKind.TheVariants.{Datagram, Turn, Offer, Piece, End, Fault, Close, Write, Tick, Release, Reconfigure, Shutdown}
+use Rattle.dns_service.specs.declared.event.Why.{Why}
+use Rattle.dns_service.specs.declared.event.Why.TheVariants.{Ended, Fault as By_fault, Commanded, Shutdown as By_shutdown}
+use Rattle.dns_client.specs.Slate.{Slate, Told, Phase, Unused, Exchange, Open, Flushing, Closed, conf_rule, with_conf}
 use Rattle.dns_client.specs.Datagrams.{datagram}
-use Rattle.dns_client.specs.Connections.{opened, piece, write, close, released}
+use Rattle.dns_client.specs.Connections.{opened, reconfigured, piece, write, tick, close, wind_up, flush, released}
 use Rattle.dns_client.specs.Turns.{exchange_turn, turn}
 
--- a client begins once; before that, and where its state doesn't say otherwise, an event changes nothing
-abbrev pub by_kind : Serving → Event → EventKind → Slate → Told
-by_kind answers e (Datagram addr o) s = in_phase s.phase (datagram e.client addr e.at e.secs o s) (s, []) (s, []) (s, [])
-by_kind answers e (Turn k) s = in_phase s.phase (s, []) (exchange_turn answers k (slice_get s.requests k) s) (turn answers k (slice_get s.requests k) s, []) (s, [])
-by_kind answers e (Offer addr) s = in_phase s.phase (opened e.client addr s, []) (s, []) (s, []) (s, [])
-by_kind answers e (Piece o) s = in_phase s.phase (s, []) (s, []) (piece e.at e.secs o s) (s, [])
-by_kind answers e End s = in_phase s.phase (s, []) (s, []) (close Ended s) (s, [])
-by_kind answers e (Write took) s = in_phase s.phase (s, []) (s, []) (write took s.queue s) (s, [])
-by_kind answers e Release s = in_phase s.phase (s, []) (s, []) (s, []) (released s, [])
+-- a client begins by a datagram or an offer that comes before a Shutdown
+abbrev pub unused_rule : Event → EventKind → Slate → Told
+unused_rule e (Datagram addr o) s = if s.conf.over then (s, []) else datagram e.client addr e.at e.secs o s
+unused_rule e (Offer addr) s = if s.conf.over then (s, []) else (opened e.client addr e.at s, [])
+unused_rule e _ s = (s, [])
 
+abbrev pub exchange_rule : Serving → EventKind → Slate → Told
+exchange_rule answers (Turn k) s = exchange_turn answers k (slice_get s.requests k) s
+exchange_rule answers _ s = (s, [])
+
+abbrev pub open_rule : Serving → Event → EventKind → Slate → Told
+open_rule answers e (Piece o) s = piece e.at e.secs o s
+open_rule answers e (Turn k) s = (turn answers k (slice_get s.requests k) s, [])
+open_rule answers e (Write took) s = write e.at took s.queue s
+open_rule answers e Tick s = tick e.at s
+open_rule answers e End s = close Ended s
+open_rule answers e Fault s = close By_fault s
+open_rule answers e Close s = wind_up Commanded s.queue s
+open_rule answers e (Reconfigure dgram stream) s = (reconfigured stream.connection_config s, [])
+open_rule answers e Shutdown s = wind_up By_shutdown s.queue s
+open_rule answers e _ s = (s, [])
+
+abbrev pub flushing_rule : Why → EventKind → Slate → Told
+flushing_rule why (Write took) s = flush why took s.queue s
+flushing_rule why Fault s = close By_fault s
+flushing_rule why _ s = (s, [])
+
+abbrev pub closed_rule : EventKind → Slate → Told
+closed_rule Release s = (released s, [])
+closed_rule _ s = (s, [])
+
+abbrev pub in_phase : Serving → Event → Phase → Slate → Told
+in_phase answers e Unused s = unused_rule e e.kind s
+in_phase answers e Exchange s = exchange_rule answers e.kind s
+in_phase answers e Open s = open_rule answers e e.kind s
+in_phase answers e (Flushing why) s = flushing_rule why e.kind s
+in_phase answers e Closed s = closed_rule e.kind s
+
+-- an event that all clients hear sets the configurations that the slate shows, whatever its state
 abbrev pub rule : Serving → Event → Slate → Told
-rule answers e s = by_kind answers e e.kind s
+rule answers e s = in_phase answers e s.phase (with_conf (conf_rule e.kind s.conf) s)

@@ -1,5 +1,5 @@
 -- When a client's core stands for a slate. The answers are those of the wrapped service.
-use Rattle.std.specs.Prelude.{◌≡◌, ℕ, zero, suc, ◌+◌, ◌<◌, ◌≤◌, List, [], ◌∷◌, ◌++◌, length, slice_get, nat_lt, if◌then◌else◌, not, is_some, Bool, true, false, Option, Some, None}
+use Rattle.std.specs.Prelude.{◌≡◌, ℕ, zero, suc, ◌+◌, ◌<◌, ◌≤◌, List, [], ◌∷◌, ◌++◌, length, filter, slice_get, nat_lt, if◌then◌else◌, not, is_some, Bool, true, false, Option, Some, None}
 use Rattle.std.specs.Ordering.{nat_cmp}
 use Rattle.std.specs.Arc.{arc_value}
 use Rattle.std.specs.BTreeMap.{BTreeMap, get}
@@ -9,23 +9,26 @@ use Rattle.dns_service.specs.ErrorReply.{error_reply}
 use Rattle.dns_service.specs.Req.{Req}
 use Rattle.dns_service.specs.declared.event.Output.{Output}
 use Rattle.dns_service.specs.declared.event.Output.TheVariants.{Frame, Closed as Closed_output}
+use Rattle.dns_service.specs.declared.event.Why.{Why}
 use Rattle.dns_client.specs.Frames.{framed, frames, past}
 use Rattle.dns_client.specs.Serving.{Serving}
-use Rattle.dns_client.specs.Slate.{Slate, SlateRequest, Told, Exchange, Open, Closed}
+use Rattle.dns_client.specs.Slate.{Slate, SlateRequest, Told, Exchange, Open, Flushing, Closed}
 use Rattle.dns_client.specs.Requests.{asked, most_requests}
-use Rattle.dns_client.specs.Connections.{enqueue, take_frames}
+use Rattle.dns_client.specs.Connections.{enqueue, in_transaction, take_frames}
 use Rattle.dns_client.specs.Turns.{limit_for}
 use Rattle.dns_client.specs.declared.kept.KeptRequest.{KeptRequest}
 use Rattle.dns_client.specs.declared.client.ClientCore.{ClientCore}
 use Rattle.dns_client.specs.declared.client.State.{State}
-use Rattle.dns_client.specs.declared.client.State.TheVariants.{Exchange as Is_exchange, Open as Is_open, Closed as Is_closed}
+use Rattle.dns_client.specs.declared.client.State.TheVariants.{Exchange as Is_exchange, Open as Is_open, Flushing as Is_flushing, Closed as Is_closed}
 use Rattle.dns_client.specs.declared.connection.OpenConnection.{OpenConnection}
-use Rattle.dns_client.specs.declared.connection.Outcome.{Outcome}
-use Rattle.dns_client.specs.declared.connection.Outcome.TheVariants.{Nothing, Written, Ends}
+use Rattle.dns_client.specs.declared.connection_request.ConnectionRequest.{ConnectionRequest}
+use Rattle.dns_client.specs.declared.flushing.FlushingConnection.{FlushingConnection}
+use Rattle.dns_client.specs.declared.outcome.Outcome.{Outcome}
+use Rattle.dns_client.specs.declared.outcome.Outcome.TheVariants.{Nothing, Written, WrittenLast, WindsUp, Ends}
 use Rattle.dns_service.specs.declared.polled.PolledRequest.{PolledRequest}
 
--- what is kept of a request that isn't done: a polled state that answers from the polls made on, its message, and how many octets a
--- reply may take
+-- what is kept of an exchange's request that isn't done: a polled state that answers from the polls made on, its message, and how
+-- many octets a reply may take
 pub record IsKept {F R : Type 0} (answer : PolledRequest F R → ℕ → Answer) (answers : Serving) (q : KeptRequest F R) (r : SlateRequest) : Type 0 where
   pub going : r.done ≡ false
   pub polled : (k : ℕ) → answer q.polled k ≡ answers.answer r.request (r.polls + k)
@@ -38,6 +41,21 @@ Keeps answer answers None (Some r) = r.done ≡ true
 Keeps answer answers (Some q) None = ⊥
 Keeps answer answers (Some q) (Some r) = IsKept answer answers q r
 
+-- what is kept of a connection's request that isn't done: the same without a limit, its reply that waits for room, and whether it is
+-- in a transaction
+pub record IsGoing {F R : Type 0} (answer : PolledRequest F R → ℕ → Answer) (answers : Serving) (q : ConnectionRequest F R) (r : SlateRequest) : Type 0 where
+  pub going : r.done ≡ false
+  pub polled : (k : ℕ) → answer q.polled k ≡ answers.answer r.request (r.polls + k)
+  pub message : arc_value q.message ≡ r.request.octets
+  pub held : q.held ≡ r.held
+  pub status : q.status ≡ r.status
+
+abbrev pub KeepsGoing : {F R : Type 0} → (PolledRequest F R → ℕ → Answer) → Serving → Option (ConnectionRequest F R) → Option SlateRequest → Type 0
+KeepsGoing answer answers None None = Unit {0}
+KeepsGoing answer answers None (Some r) = r.done ≡ true
+KeepsGoing answer answers (Some q) None = ⊥
+KeepsGoing answer answers (Some q) (Some r) = IsGoing answer answers q r
+
 -- what is kept of an exchange's requests, of which there is one at most
 abbrev pub sole : {Q : Type 0} → Option Q → ℕ → Option Q
 sole kept zero = kept
@@ -45,8 +63,8 @@ sole kept (suc k) = None
 
 abbrev pub state_is_spent : {W R F : Type 0} → State W R F → Bool
 state_is_spent (Is_exchange kept) = not (is_some kept)
-state_is_spent (Is_open c) = false
 state_is_spent (Is_closed freed) = freed
+state_is_spent _ = false
 
 abbrev pub is_freed : {W R F : Type 0} → State W R F → Bool
 is_freed (Is_closed freed) = freed
@@ -56,15 +74,27 @@ abbrev pub is_closed : {W R F : Type 0} → State W R F → Bool
 is_closed (Is_closed freed) = true
 is_closed _ = false
 
+-- what an open connection keeps once it only writes what waits, and is closed then
+abbrev pub flushing_for : {W R F : Type 0} → Why → OpenConnection W R F → FlushingConnection
+flushing_for why c = record { queue = c.invoker.queue; write_timeout = c.write_timeout; why = why }
+
+abbrev pub wound_up : {W R F : Type 0} → Why → State W R F → State W R F
+wound_up why (Is_open c) = Is_flushing (flushing_for why c)
+wound_up why state = state
+
 -- what a client of this number is sent for an outcome, and its state after it
 abbrev pub outputs_of : ℕ → Outcome → List Output
 outputs_of client Nothing = []
 outputs_of client (Written m) = Frame client m ∷ []
+outputs_of client (WrittenLast m why) = Frame client m ∷ Closed_output client why ∷ []
+outputs_of client (WindsUp why) = []
 outputs_of client (Ends why) = Closed_output client why ∷ []
 
 abbrev pub state_behind : {W R F : Type 0} → State W R F → Outcome → State W R F
 state_behind state Nothing = state
 state_behind state (Written m) = state
+state_behind state (WrittenLast m why) = Is_closed false
+state_behind state (WindsUp why) = wound_up why state
 state_behind state (Ends why) = Is_closed false
 
 -- of a closed connection nothing is kept but its number, and whether it was released
@@ -73,20 +103,37 @@ pub record IsClosed (number : ℕ) (freed_now : Bool) (s : Slate) : Type 0 where
   pub freed : s.freed ≡ freed_now
   pub phase : s.phase ≡ Closed
 
+-- of one that only writes what waits, the queue, how long a write may take, and why it is closed then
+pub record IsFlushing (number : ℕ) (c : FlushingConnection) (s : Slate) : Type 0 where
+  pub client : number ≡ s.client
+  pub freed : s.freed ≡ false
+  pub phase : s.phase ≡ Flushing c.why
+  pub write_timeout : c.write_timeout ≡ s.connection.response_write_timeout
+  pub queue : c.queue.items ≡ s.queue
+
+-- what such a connection is after an outcome, and what its step does: at each of its slates, what is told is sent
+abbrev pub IsLeft : ℕ → FlushingConnection → Outcome → Slate → Type 0
+IsLeft number c Nothing s = IsFlushing number c s
+IsLeft number c (Written m) s = IsFlushing number c s
+IsLeft number c (WrittenLast m why) s = IsClosed number false s
+IsLeft number c (WindsUp why) s = IsFlushing number c s
+IsLeft number c (Ends why) s = IsClosed number false s
+
+abbrev pub LeadsOn : FlushingConnection → FlushingConnection → Outcome → (Slate → Told) → Type 0
+LeadsOn old new outcome after = (number : ℕ) (s : Slate) → IsFlushing number old s → (outputs_of number outcome ≡ (after s).1) × IsLeft number new outcome (after s).0
+
 -- a response is refused
 pub record Refuses {W R F : Type 0} (old new : OpenConnection W R F) (o : List ℕ) : Type 0 where
-  pub addr : new.addr ≡ old.addr
-  pub config : new.config ≡ old.config
-  pub framer : new.framer ≡ old.framer
-  pub count : new.count ≡ old.count
-  pub unfinished : new.unfinished ≡ old.unfinished
-  pub queue : (s : Slate) → old.queue.items ≡ s.queue → old.queue.capacity ≡ s.bound → new.queue.items ≡ (enqueue (framed (wire (error_reply o 1))) s).queue
-  pub bound : new.queue.capacity ≡ old.queue.capacity
+  pub others : new ≡ record old { invoker = record old.invoker { queue = new.invoker.queue } }
+  pub queue : (s : Slate) → old.invoker.queue.items ≡ s.queue → old.invoker.queue.capacity ≡ s.bound → new.invoker.queue.items ≡ (enqueue (framed (wire (error_reply o 1))) s).queue
+  pub bound : new.invoker.queue.capacity ≡ old.invoker.queue.capacity
 
 module _ {R F : Type 0} (answer : PolledRequest F R → ℕ → Answer) (answers : Serving) where
-  -- what is kept of a connection's requests, and how many were made
-  abbrev pub KeepsAll : ℕ → BTreeMap ℕ (KeptRequest F R) → List SlateRequest → Type 0
-  KeepsAll count unfinished rs = (count ≡ length rs) × ((k : ℕ) → Keeps answer answers (get nat_cmp unfinished k) (slice_get rs k))
+  -- what is kept of a connection's requests, how many were made, and how many are in a transaction
+  pub record KeepsAll (count : ℕ) (transactions : ℕ) (unfinished : BTreeMap ℕ (ConnectionRequest F R)) (rs : List SlateRequest) : Type 0 where
+    pub made : count ≡ length rs
+    pub held_open : transactions ≡ length (filter in_transaction rs)
+    pub each : (k : ℕ) → KeepsGoing answer answers (get nat_cmp unfinished k) (slice_get rs k)
 
   pub record IsExchange (number : ℕ) (unfinished : Option (KeptRequest F R)) (s : Slate) : Type 0 where
     pub client : number ≡ s.client
@@ -99,21 +146,26 @@ module _ {R F : Type 0} (answer : PolledRequest F R → ℕ → Answer) (answers
   Exchanges number old new outs after = (s : Slate) → IsExchange number old s → (outs ≡ (after s).1) × IsExchange number new (after s).0
 
   module _ {W : Type 0} where
+    -- what is kept of an open connection; no Shutdown came yet
     pub record IsOpen (number : ℕ) (c : OpenConnection W R F) (s : Slate) : Type 0 where
       pub client : number ≡ s.client
       pub freed : s.freed ≡ false
       pub phase : s.phase ≡ Open
+      pub not_over : s.conf.over ≡ false
       pub addr : c.addr ≡ s.addr
-      pub config : c.config ≡ s.connection
+      pub idle_timeout : c.invoker.idle_timeout ≡ s.connection.idle_timeout
+      pub write_timeout : c.write_timeout ≡ s.connection.response_write_timeout
+      pub timer : c.timer ≡ s.reset_at
       pub kept : c.framer ≡ past s.taken s.received
       pub within : s.taken ≤ length (frames s.received)
-      pub requests : KeepsAll c.count c.unfinished s.requests
-      pub queue : c.queue.items ≡ s.queue
-      pub bound : c.queue.capacity ≡ s.bound
+      pub requests : KeepsAll c.count c.transactions c.unfinished s.requests
+      pub queue : c.invoker.queue.items ≡ s.queue
+      pub bound : c.invoker.queue.capacity ≡ s.bound
 
     abbrev pub StandsIn : ℕ → State W R F → Slate → Type 0
     StandsIn number (Is_exchange unfinished) s = IsExchange number unfinished s
     StandsIn number (Is_open c) s = IsOpen number c s
+    StandsIn number (Is_flushing c) s = IsFlushing number c s
     StandsIn number (Is_closed freed) s = IsClosed number freed s
 
     abbrev pub Stands : ClientCore W R F → Slate → Type 0
@@ -129,11 +181,8 @@ module _ {R F : Type 0} (answer : PolledRequest F R → ℕ → Answer) (answers
 
     -- a request is made, unless most of them were made
     pub record Asks (old new : OpenConnection W R F) (r : Req (Unit {0})) : Type 0 where
-      pub addr : new.addr ≡ old.addr
-      pub config : new.config ≡ old.config
-      pub framer : new.framer ≡ old.framer
-      pub queue : new.queue ≡ old.queue
-      pub made : (rs : List SlateRequest) → KeepsAll old.count old.unfinished rs → KeepsAll new.count new.unfinished (if nat_lt (length rs) most_requests then rs ++ asked r ∷ [] else rs)
+      pub others : new ≡ record old { count = new.count; unfinished = new.unfinished }
+      pub made : (rs : List SlateRequest) → KeepsAll old.count old.transactions old.unfinished rs → KeepsAll new.count new.transactions new.unfinished (if nat_lt (length rs) most_requests then rs ++ asked r ∷ [] else rs)
 
     -- one frame is taken, and what is left to be taken, at some slate of the connection, is all that was
     pub record TakesFrame (at secs : ℕ) (old new : OpenConnection W R F) : Type 0 where

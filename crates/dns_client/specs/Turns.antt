@@ -3,6 +3,7 @@ use Rattle.std.specs.Prelude.{ℕ, ◌+◌, List, [], ◌∷◌, slice_set, if�
 use Rattle.dns_base.specs.Msg.{Msg}
 use Rattle.dns_base.specs.Wire.{wire}
 use Rattle.dns_service.specs.Answer.{Answer}
+use Rattle.dns_service.specs.Invokers.{answer_status, answer_timeout}
 use Rattle.dns_service.specs.Req.{Req}
 use Rattle.dns_service.specs.declared.service.Polled.TheVariants.{Pending, Ready}
 use Rattle.dns_service.specs.declared.event.Output.{Output}
@@ -14,7 +15,7 @@ use Rattle.dns_service.specs.Transport.{limit, limit_over}
 use Rattle.dns_client.specs.Frames.{framed}
 use Rattle.dns_client.specs.Serving.{Serving}
 use Rattle.dns_client.specs.Slate.{Slate, Told, SlateRequest}
-use Rattle.dns_client.specs.Connections.{enqueue}
+use Rattle.dns_client.specs.Connections.{append_frame, has_space, is_in_transaction}
 
 -- the end and an error item make a request done
 abbrev pub ends : Answer → Bool
@@ -22,10 +23,6 @@ ends Pending = false
 ends (Ready None) = true
 ends (Ready (Some (Ok given))) = false
 ends (Ready (Some (Err error))) = true
-
--- a request after a poll
-abbrev pub polled : Answer → SlateRequest → SlateRequest
-polled a r = record r { polls = r.polls + 1; done = ends a }
 
 -- the message of a reply to octets that are a message, of at most n octets where that is limited; an error item is answered by
 -- an error reply
@@ -38,15 +35,38 @@ reply_to n o (Ready (Some (Err error))) = Some (sized n (error_reply o (rcode_of
 abbrev pub with_request : ℕ → SlateRequest → Slate → Slate
 with_request k r s = record s { requests = slice_set s.requests k r }
 
+-- a request of an exchange after a poll: what an answer tells changes nothing
+abbrev pub polled : Answer → SlateRequest → SlateRequest
+polled a r = record r { polls = r.polls + 1; done = ends a }
+
 -- an exchange is sent a reply at once
 abbrev pub sent_at_once : ℕ → Option Msg → List Output
 sent_at_once client None = []
 sent_at_once client (Some m) = Datagram client (wire m) ∷ []
 
--- a connection queues it behind its length
-abbrev pub queued : Option Msg → Slate → Slate
-queued None s = s
-queued (Some m) s = enqueue (framed (wire m)) s
+-- a request of a connection after a poll: an answer tells where a transaction begins and ends
+abbrev pub answered : Answer → SlateRequest → SlateRequest
+answered a r = record r { polls = r.polls + 1; status = answer_status a r.status; done = ends a }
+
+-- and for how long the connection may be idle
+abbrev pub retimed : Answer → Slate → Slate
+retimed a s = record s { connection = record s.connection { idle_timeout = answer_timeout a s.connection.idle_timeout } }
+
+-- a frame is queued where there is room; else it is held, in a transaction, and dropped outside of one
+abbrev pub hold : List ℕ → SlateRequest → SlateRequest
+hold m r = if is_in_transaction r.status then record r { held = Some m } else r
+
+abbrev pub queue_frame : ℕ → List ℕ → SlateRequest → Slate → Slate
+queue_frame k m r s = if has_space s then append_frame m (with_request k r s) else with_request k (hold m r) s
+
+-- a reply stands behind its length
+abbrev pub queue_reply : ℕ → Option Msg → SlateRequest → Slate → Slate
+queue_reply k None r s = with_request k r s
+queue_reply k (Some m) r s = queue_frame k (framed (wire m)) r s
+
+-- a frame that was held is queued where there is room now, and else it is held on
+abbrev pub queue_held : ℕ → List ℕ → SlateRequest → Slate → Slate
+queue_held k m r s = if has_space s then append_frame m (with_request k (record r { held = None }) s) else s
 
 module _ (answers : Serving) where
   -- how many octets a reply to a request may take, where that is limited
@@ -64,9 +84,18 @@ module _ (answers : Serving) where
       if r.done then (s, [])
       else (with_request k (polled (answers.answer r.request r.polls) r) s, sent_at_once s.client (sent_for r.request (answers.answer r.request r.polls)))
 
-  -- and of a connection
+  -- one poll of a request of a connection, whose replies have no limit: what its answer tells is heard, and its reply is queued
+  abbrev pub poll_request : ℕ → SlateRequest → Slate → Slate
+  poll_request k r s =
+      let a = answers.answer r.request r.polls in
+      queue_reply k (reply_to None r.request.octets a) (answered a r) (retimed a s)
+
+  -- a request whose reply is held isn't polled
+  abbrev pub turn_request : ℕ → Option (List ℕ) → SlateRequest → Slate → Slate
+  turn_request k None r s = poll_request k r s
+  turn_request k (Some m) r s = queue_held k m r s
+
+  -- the turn of a request that isn't done
   abbrev pub turn : ℕ → Option SlateRequest → Slate → Slate
   turn k None s = s
-  turn k (Some r) s =
-      if r.done then s
-      else queued (sent_for r.request (answers.answer r.request r.polls)) (with_request k (polled (answers.answer r.request r.polls) r) s)
+  turn k (Some r) s = if r.done then s else turn_request k r.held r s

@@ -1,78 +1,98 @@
 //! A connection that is open.
 
-ghost use Rattle.std.specs.Prelude.{◌≡◌, ◌<◌, ℕ, [], ◌∷◌, ◌++◌, true, false, IfOk, OnOk, MatchOption, length, nat_lt, if◌then◌else◌, slice_get};
-ghost use Rattle.circular_buffer.specs.Buffer.{buffer};
+ghost use Rattle.std.specs.Prelude.{◌≡◌, ◌<◌, ℕ, ◌+◌, ◌-◌, min, IfOk, OnOk, [], MatchOption, slice_get, true, false, not, ◌&&◌, if◌then◌else◌};
 ghost use Rattle.dns_base.specs.Header.{header_of};
 ghost use Rattle.dns_client.specs.Serving.{Serving, serving};
-ghost use Rattle.dns_client.specs.Slate.{Slate, IsUnused};
+ghost use Rattle.dns_client.specs.Slate.{Conf, Slate, IsUnused, with_conf};
 ghost use Rattle.dns_client.specs.Frames.{frames};
-ghost use Rattle.dns_client.specs.Connections.{opened, take_frames, piece, write};
+ghost use Rattle.dns_client.specs.Connections.{opened, take_frames, piece, write, tick, wind_up, reconfigured};
 ghost use Rattle.dns_client.specs.Requests.{asked, request_of_frame};
+ghost use Rattle.dns_client.specs.Stands.{flushing_for};
 ghost use Rattle.dns_client.specs.Turns.{turn};
 ghost use Rattle.dns_client.specs.Rule.{rule};
 ghost use Rattle.dns_service.specs.PolledRequest.{request_answer};
 ghost use Rattle.dns_service.specs.Req.{Req};
 
+use crate::connection_request::{ConnectionRequest, ask, turn_at};
+use crate::flushing::FlushingConnection;
 use crate::framer::Framer;
-use crate::kept::{KeptRequest, call, refused};
-use crate::polling::poll_at;
+use crate::invoker::ConnectionInvoker;
+use crate::kept::refused;
+use crate::outcome::Outcome;
 use crate::requests::{frame_of, frame_request};
-use circular_buffer::HeapCircularBuffer;
+use crate::timer::IdleTimer;
 use dns_base::{Message, SocketAddr};
 use dns_name::OptRcode;
 use dns_service::{
-    ConnectionConfig, Event, EventKind, Octets, OutOfMemory, Request, Served, StreamConfig, Why,
+    ConnectionConfig, Event, EventKind, OutOfMemory, Request, Served, StreamConfig, Why,
 };
 use std::alloc::Global;
 use std::collections::BTreeMap;
 
-/// What an event of an open connection leads to.
-#[derive(Drop)]
-pub enum Outcome {
-    Nothing,
-    /// A frame is written.
-    Written(Octets),
-    /// The connection is to be closed.
-    Ends(Why),
-}
-
-/// What is kept of a connection while it is open.
+/// What is kept of a connection while it is open: its address, how long a write may take in ms, its timer, the octets in no
+/// frame yet, its requests that aren't done, how many were made and are in a transaction, and its queue.
 #[derive(Drop)]
 pub struct OpenConnection<W: Served> {
     addr: SocketAddr,
-    config: ConnectionConfig,
+    write_timeout: u64,
+    timer: IdleTimer,
     framer: Framer,
-    unfinished: BTreeMap<u64, KeptRequest<W::Future, W::Stream>>,
+    unfinished: BTreeMap<u64, ConnectionRequest<W::Future, W::Stream>>,
     count: u64,
-    queue: HeapCircularBuffer<Octets>,
+    transactions: u64,
+    invoker: ConnectionInvoker,
 }
 
-/// Appends where there is room, and else drops.
-fn enqueue(queue: &mut HeapCircularBuffer<Octets>, octets: Octets)
-    ensures { queue.new ≡ (if nat_lt (length queue.old.items) queue.old.capacity then buffer (queue.old.items ++ octets ∷ []) queue.old.capacity else queue.old) }
+/// How many requests of so many are in a transaction after a turn of one, which was in one before, or is in one now.
+fn recount(count: u64, transactions: u64, was: bool, now: bool) -> u64
+    ensures { result ≡ (if now && not was then min (transactions + 1) count else (if was && not now then transactions - 1 else transactions)) }
 {
-    let _ = queue.try_push_back(octets);
+    if now && !was {
+        return transactions.saturating_add(1).min(count);
+    }
+    if was && !now {
+        return transactions.saturating_sub(1);
+    }
+    transactions
 }
 
 impl<W: Served> OpenConnection<W> {
-    ghost use Rattle.dns_client.specs.Stands.{IsKept, IsOpen, Leads, Asks, Refuses, TakesFrame};
+    ghost use Rattle.dns_client.specs.Stands.{IsGoing, IsOpen, Leads, Asks, Refuses, TakesFrame};
 
-    /// Of no requests. It takes the memory of its queue.
-    pub fn open(alloc: Global, addr: SocketAddr, config: &StreamConfig) -> Result<Self, OutOfMemory>
-        ensures { IfOk result (λ c. (answers : Serving) (client : ℕ) (s : Slate) → IsUnused s → s.conf.stream ≡ config.now
-            → IsOpen (request_answer W.Future.answer W.Stream.answer) answers client c (opened client addr s)) }
+    /// Of no requests, from a moment on. It takes the memory of its queue.
+    pub fn open(
+        alloc: Global,
+        addr: SocketAddr,
+        at: u64,
+        config: &StreamConfig,
+    ) -> Result<Self, OutOfMemory>
+        ensures { IfOk result (λ c. (answers : Serving) (client : ℕ) (s : Slate) → IsUnused s → s.conf.over ≡ false → s.conf.stream ≡ config.now
+            → IsOpen (request_answer W.Future.answer W.Stream.answer) answers client c (opened client addr at s)) }
     {
         let config = config.connection_config();
-        let bound = config.max_queued_responses();
-        let queue = HeapCircularBuffer::with_capacity(alloc, bound)?;
+        let invoker = ConnectionInvoker::new(
+            alloc,
+            config.idle_timeout(),
+            config.max_queued_responses(),
+        )?;
         Ok(OpenConnection {
             addr,
-            config,
+            write_timeout: config.response_write_timeout(),
+            timer: IdleTimer::new(at),
             framer: Framer::new(alloc),
             unfinished: BTreeMap::new(alloc),
             count: 0,
-            queue,
+            transactions: 0,
+            invoker,
         })
+    }
+
+    /// Another configuration holds from now on. The queue's bound stays.
+    fn reconfigure(&mut self, config: &ConnectionConfig)
+        ensures { (answers : Serving) → Leads (request_answer W.Future.answer W.Stream.answer) answers self.old self.new Outcome.Nothing (λ s. (reconfigured config.now s, [])) }
+    {
+        self.invoker.idle_timeout = config.idle_timeout();
+        self.write_timeout = config.response_write_timeout();
     }
 
     /// Makes a request, unless 2^64 - 1 of them were made.
@@ -83,15 +103,15 @@ impl<W: Served> OpenConnection<W> {
         if self.count == u64::MAX {
             return Ok(());
         }
-        let kept = call(alloc, service, request)?;
+        let kept = ask(alloc, service, request)?;
         self.keep(kept)?;
         Ok(())
     }
 
     /// Keeps a request under its number.
-    fn keep(&mut self, kept: KeptRequest<W::Future, W::Stream>) -> Result<(), OutOfMemory>
+    fn keep(&mut self, kept: ConnectionRequest<W::Future, W::Stream>) -> Result<(), OutOfMemory>
         requires { self.old.count < 18446744073709551615 }
-        ensures { OnOk result ((answers : Serving) (r : Req (Unit {0})) → IsKept (request_answer W.Future.answer W.Stream.answer) answers kept (asked r)
+        ensures { OnOk result ((answers : Serving) (r : Req (Unit {0})) → IsGoing (request_answer W.Future.answer W.Stream.answer) answers kept (asked r)
             → Asks (request_answer W.Future.answer W.Stream.answer) answers self.old self.new r) }
     {
         self.unfinished.insert(self.count, kept)?;
@@ -104,22 +124,18 @@ impl<W: Served> OpenConnection<W> {
         ensures { OnOk result (Refuses self.old self.new message.now) }
     {
         let reply = refused(alloc, message, None, OptRcode::FORMERR)?;
-        let octets = frame_of(alloc, &reply)?;
-        enqueue(&mut self.queue, octets);
+        let _dropped = self.invoker.offer(frame_of(reply));
         Ok(())
     }
 
-    /// Polls a request once, and queues a reply.
+    /// A turn of a request: a reply that is held is queued where there is room, or else the request is polled once.
     fn turn(&mut self, alloc: Global, request: u64) -> Result<(), OutOfMemory>
         ensures { OnOk result ((answers : Serving) (client : ℕ) (s : Slate)
             → IsOpen (request_answer W.Future.answer W.Stream.answer) answers client self.old s
             → IsOpen (request_answer W.Future.answer W.Stream.answer) answers client self.new (turn answers request (slice_get s.requests request) s)) }
     {
-        let Some(reply) = poll_at(alloc, &mut self.unfinished, request)? else {
-            return Ok(());
-        };
-        let octets = frame_of(alloc, &reply)?;
-        enqueue(&mut self.queue, octets);
+        let (was, now) = turn_at(alloc, &mut self.unfinished, &mut self.invoker, request)?;
+        self.transactions = recount(self.count, self.transactions, was, now);
         Ok(())
     }
 
@@ -161,6 +177,7 @@ impl<W: Served> OpenConnection<W> {
         let Ok(message) = Message::from_octets(frame) else {
             return Ok(Some(Outcome::Ends(Why::Short)));
         };
+        self.timer.reset(at);
         self.take_message(alloc, service, at, secs, message)?;
         Ok(None)
     }
@@ -177,12 +194,28 @@ impl<W: Served> OpenConnection<W> {
         requires { W.can_call service.now }
         ensures response { OnOk result ((header_of message).qr ≡ true → Refuses self.old self.new message) }
         ensures query { OnOk result ((header_of message).qr ≡ false
-            → Asks (request_answer W.Future.answer W.Stream.answer) (serving (W.answer service.now) (W.hint service.now)) self.old self.new (request_of_frame self.old.config self.old.addr at secs message)) }
+            → Asks (request_answer W.Future.answer W.Stream.answer) (serving (W.answer service.now) (W.hint service.now)) self.old self.new (request_of_frame self.old.invoker.idle_timeout self.old.addr at secs message)) }
     {
         if message.header().qr {
             return self.refuse(alloc, &message);
         }
-        let request = frame_request(alloc, &self.config, self.addr, at, secs, message)?;
+        self.take_query(alloc, service, at, secs, message)
+    }
+
+    /// Asks the query that a message is.
+    fn take_query(
+        &mut self,
+        alloc: Global,
+        service: &W,
+        at: u64,
+        secs: u64,
+        message: Message,
+    ) -> Result<(), OutOfMemory>
+        requires { W.can_call service.now }
+        ensures { OnOk result (Asks (request_answer W.Future.answer W.Stream.answer) (serving (W.answer service.now) (W.hint service.now)) self.old self.new (request_of_frame self.old.invoker.idle_timeout self.old.addr at secs message)) }
+    {
+        let idle_timeout = self.invoker.idle_timeout;
+        let request = frame_request(alloc, idle_timeout, self.addr, at, secs, message)?;
         self.ask(alloc, service, request)?;
         Ok(())
     }
@@ -205,20 +238,64 @@ impl<W: Served> OpenConnection<W> {
         Ok(outcome)
     }
 
-    /// Writes the front frame.
-    fn write(&mut self, took: u64) -> Outcome
+    /// Writes the front frame. An emptied queue resets the timer.
+    fn write(&mut self, at: u64, took: u64) -> Outcome
         ensures { (answers : Serving)
-            → Leads (request_answer W.Future.answer W.Stream.answer) answers self.old self.new result (λ s. write took s.queue s) }
+            → Leads (request_answer W.Future.answer W.Stream.answer) answers self.old self.new result (λ s. write at took s.queue s) }
     {
-        if self.queue.is_empty() {
+        if self.invoker.queue.is_empty() {
             return Outcome::Nothing;
         }
-        if took > self.config.response_write_timeout() {
+        if took > self.write_timeout {
             return Outcome::Ends(Why::WriteTimeout);
         }
-        match self.queue.pop_front() {
-            None => Outcome::Nothing,
-            Some(octets) => Outcome::Written(octets),
+        let Some(octets) = self.invoker.queue.pop_front() else {
+            return Outcome::Nothing;
+        };
+        if self.invoker.queue.is_empty() {
+            self.timer.reset(at);
+            return Outcome::Written(octets);
+        }
+        Outcome::Written(octets)
+    }
+
+    /// Looks at the timer. A request in a transaction holds the connection open.
+    fn tick(&self, at: u64) -> Outcome
+        ensures { (answers : Serving)
+            → Leads (request_answer W.Future.answer W.Stream.answer) answers self.now self.now result (λ s. tick at s) }
+    {
+        let timeout = self.invoker.idle_timeout;
+        if self.transactions == 0 && self.timer.idle_timeout_expired(timeout, at) {
+            return Outcome::Ends(Why::Idle);
+        }
+        Outcome::Nothing
+    }
+
+    /// Is to be closed: at once, or once what waits is written, whatever the server's configurations are then.
+    fn wind_up(&self, why: Why) -> Outcome
+        ensures { (answers : Serving) (conf : Slate → Conf)
+            → Leads (request_answer W.Future.answer W.Stream.answer) answers self.now self.now result (λ s. wind_up why s.queue (with_conf (conf s) s)) }
+    {
+        if self.invoker.queue.is_empty() {
+            return Outcome::Ends(why);
+        }
+        Outcome::WindsUp(why)
+    }
+
+    /// What is kept where it only writes what waits.
+    pub fn into_flushing(self, why: Why) -> FlushingConnection
+        ensures { result ≡ flushing_for why self }
+    {
+        let OpenConnection {
+            write_timeout,
+            invoker,
+            ..
+        } = self;
+        let ConnectionInvoker { queue, .. } = invoker;
+        FlushingConnection {
+            queue,
+            write_timeout,
+            why,
         }
     }
 
@@ -236,15 +313,22 @@ impl<W: Served> OpenConnection<W> {
         match &event.kind {
             EventKind::Piece(octets) => {
                 let octets = octets.as_slice();
-                let outcome = self.piece(alloc, service, event.at, event.secs, octets)?;
-                Ok(outcome)
+                self.piece(alloc, service, event.at, event.secs, octets)
             }
             EventKind::Turn { request } => {
                 self.turn(alloc, *request)?;
                 Ok(Outcome::Nothing)
             }
-            EventKind::Write { took } => Ok(self.write(*took)),
+            EventKind::Write { took } => Ok(self.write(event.at, *took)),
+            EventKind::Tick => Ok(self.tick(event.at)),
             EventKind::End => Ok(Outcome::Ends(Why::Ended)),
+            EventKind::Fault => Ok(Outcome::Ends(Why::Fault)),
+            EventKind::Close => Ok(self.wind_up(Why::Commanded)),
+            EventKind::Shutdown => Ok(self.wind_up(Why::Shutdown)),
+            EventKind::Reconfigure { stream, .. } => {
+                self.reconfigure(&stream.connection_config());
+                Ok(Outcome::Nothing)
+            }
             EventKind::Datagram { .. } => Ok(Outcome::Nothing),
             EventKind::Offer { .. } => Ok(Outcome::Nothing),
             EventKind::Release => Ok(Outcome::Nothing),

@@ -50,6 +50,21 @@ pub fn call<W: Served>(
     })
 }
 
+impl<F, R> KeptRequest<F, R> {
+    /// The polled state and the message.
+    pub fn into_parts(self) -> (PolledRequest<F, R>, Arc<Message>)
+        ensures polled { result.0 ≡ self.polled }
+        ensures message { result.1 ≡ self.message }
+    {
+        let KeptRequest {
+            polled,
+            message,
+            ..
+        } = self;
+        (polled, message)
+    }
+}
+
 impl<F, R> KeptRequest<F, R>
 where
     F: ReplyFuture<Stream = R>,

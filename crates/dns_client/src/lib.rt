@@ -3,15 +3,23 @@
 
 mod client;
 mod connection;
+mod connection_request;
 mod exchange;
+mod flushing;
 mod framer;
+mod invoker;
 mod kept;
 mod laws;
+mod outcome;
 mod polling;
 mod requests;
+mod timer;
 
 pub use client::ClientCore;
+pub use connection_request::ConnectionRequest;
 pub use dns_service::PolledRequest;
 pub use framer::Framer;
+pub use invoker::ConnectionInvoker;
 pub use kept::KeptRequest;
-pub use laws::{frames_go_on, pieces_may_be_cut};
+pub use laws::{frames_go_on, pieces_may_be_cut, spent_clients_are_told_nothing};
+pub use timer::IdleTimer;

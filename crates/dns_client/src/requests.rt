@@ -1,6 +1,6 @@
 //! Requests of messages, and messages of replies.
 
-ghost use Rattle.std.specs.Prelude.{◌≡◌, ◌≤◌, IfOk, length};
+ghost use Rattle.std.specs.Prelude.{◌≡◌, IfOk};
 ghost use Rattle.dns_base.specs.Wire.{wire};
 ghost use Rattle.dns_client.specs.Datagrams.{cut_datagram};
 ghost use Rattle.dns_client.specs.Frames.{framed};
@@ -8,8 +8,8 @@ ghost use Rattle.dns_client.specs.Requests.{request_of_datagram, request_of_fram
 
 use dns_base::{AdditionalBuilder, Message, SocketAddr};
 use dns_service::{
-    ConnectionConfig, DgramConfig, NonUdpTransportContext, Octets, OutOfMemory, Request,
-    TransportSpecificContext, UdpTransportContext,
+    DgramConfig, NonUdpTransportContext, Octets, OutOfMemory, Request, TransportSpecificContext,
+    UdpTransportContext,
 };
 use std::alloc::Global;
 
@@ -41,18 +41,18 @@ pub fn datagram_request(
     Ok(request)
 }
 
-/// The request of a frame.
+/// The request of a frame of a connection that may be idle for so long.
 pub fn frame_request(
     alloc: Global,
-    config: &ConnectionConfig,
+    idle_timeout: u64,
     addr: SocketAddr,
     at: u64,
     secs: u64,
     message: Message,
 ) -> Result<Request<()>, OutOfMemory>
-    ensures { IfOk result (λ r. r ≡ request_of_frame config.now addr at secs message) }
+    ensures { IfOk result (λ r. r ≡ request_of_frame idle_timeout addr at secs message) }
 {
-    let context = NonUdpTransportContext::new(Some(config.idle_timeout()));
+    let context = NonUdpTransportContext::new(Some(idle_timeout));
     let transport = TransportSpecificContext::NonUdp(context);
     let request = Request::new(alloc, addr, at, secs, message, transport, ())?;
     Ok(request)
@@ -66,23 +66,9 @@ pub fn datagram_of(alloc: Global, reply: &AdditionalBuilder) -> Result<Octets, O
     Ok(octets)
 }
 
-/// A reply as a frame.
-pub fn frame_of(alloc: Global, reply: &AdditionalBuilder) -> Result<Octets, OutOfMemory>
-    ensures { IfOk result (λ o. o ≡ framed (wire reply.now.message)) }
+/// A reply as a frame, which is not copied.
+pub fn frame_of(reply: AdditionalBuilder) -> Octets
+    ensures { result ≡ framed (wire reply.message) }
 {
-    let octets = behind_length(alloc, reply.as_slice())?;
-    Ok(Octets::from_vec(octets))
-}
-
-/// A message behind its length in two octets.
-fn behind_length(alloc: Global, message: &[u8]) -> Result<Vec<u8>, OutOfMemory>
-    requires { length message.now ≤ 65535 }
-    ensures { IfOk result (λ v. v.items ≡ framed message.now) }
-{
-    let size = message.len();
-    let mut octets = Vec::with_capacity(alloc, 2 + size)?;
-    octets.push((size / 256) as u8)?;
-    octets.push((size % 256) as u8)?;
-    octets.extend_from_slice(message)?;
-    Ok(octets)
+    Octets::from_vec(reply.finish().into_octets())
 }

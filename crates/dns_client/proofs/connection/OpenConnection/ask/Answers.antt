@@ -1,10 +1,10 @@
 use Rattle.dns_client.specs.Serving.{serving}
 use Rattle.dns_service.specs.PolledRequest.{request_answer}
-use Rattle.dns_client.proofs.Begun.{called}
+use Rattle.dns_client.proofs.Begun.{called_going}
 use Rattle.dns_client.proofs.connection.OpenConnection.ask.Goals as goal
 
 pub returns : goal.returns
 returns g c =
     let a = request_answer g.W.Future.ReplyFuture.answer g.W.Stream.ReplyStream.answer in
     let b = serving (g.W.Served.answer c.args.service.now) (g.W.Served.hint c.args.service.now) in
-    c.in_ok-keep.ensures b c.args.request (called a b c.in_ok-kept.kept c.args.request c.in_ok-kept.ensures.answers c.in_ok-kept.ensures.message c.in_ok-kept.ensures.limit)
+    c.in_ok-keep.ensures b c.args.request (called_going a b c.in_ok-kept.kept c.args.request c.in_ok-kept.ensures.answers c.in_ok-kept.ensures.message c.in_ok-kept.ensures.status c.in_ok-kept.ensures.held)

@@ -24,5 +24,5 @@ returns g c =
     let h = rw c.in-Some.is at c.in_ok-frame.ensures.some in
     let f = c.in-Some.frame.items in
     let e : first_frame c.args.self.now.framer ≡ Some (f, c.next.new.self) = ap first_frame h.1 ∙ first-framed f c.next.new.self in
-    let t = rw c.in-Ok.ensures.0 at c.in_ok-take_message.ensures in
+    let t = rw (c.in-Ok.ensures.0, c.reset.ensures) at c.in_ok-take_message.ensures in
     taken_either a b c.args.at c.args.secs c.args.self.now c.take_message.new.self f c.next.new.self e c.in-Ok.ensures.1 t.response t.query

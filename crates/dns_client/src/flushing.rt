@@ -1,0 +1,53 @@
+//! A connection that only writes what waits, before it is closed.
+
+ghost use Rattle.std.specs.Prelude.{◌≡◌};
+ghost use Rattle.dns_client.specs.Connections.{flush};
+ghost use Rattle.dns_client.specs.Rule.{rule};
+ghost use Rattle.dns_client.specs.Serving.{Serving};
+
+use crate::outcome::Outcome;
+use circular_buffer::HeapCircularBuffer;
+use dns_service::{Event, EventKind, Octets, Why};
+
+/// What is kept of a connection that only writes what waits: its queue, how long a write may take in ms, and why it is closed
+/// then.
+#[derive(Drop)]
+pub struct FlushingConnection {
+    pub(crate) queue: HeapCircularBuffer<Octets>,
+    pub(crate) write_timeout: u64,
+    pub(crate) why: Why,
+}
+
+impl FlushingConnection {
+    ghost use Rattle.dns_client.specs.Stands.{LeadsOn};
+
+    /// Writes the front frame. The last one closes the connection.
+    fn write(&mut self, took: u64) -> Outcome
+        ensures { LeadsOn self.old self.new result (λ s. flush self.old.why took s.queue s) }
+    {
+        if self.queue.is_empty() {
+            return Outcome::Nothing;
+        }
+        if took > self.write_timeout {
+            return Outcome::Ends(Why::WriteTimeout);
+        }
+        let Some(octets) = self.queue.pop_front() else {
+            return Outcome::Nothing;
+        };
+        if self.queue.is_empty() {
+            return Outcome::WrittenLast(octets, self.why);
+        }
+        Outcome::Written(octets)
+    }
+
+    /// One event of the connection.
+    pub fn step(&mut self, event: &Event) -> Outcome
+        ensures { (answers : Serving) → LeadsOn self.old self.new result (rule answers event.now) }
+    {
+        match &event.kind {
+            EventKind::Write { took } => self.write(*took),
+            EventKind::Fault => Outcome::Ends(Why::Fault),
+            _ => Outcome::Nothing,
+        }
+    }
+}
