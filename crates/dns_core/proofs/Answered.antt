@@ -1,331 +1,375 @@
 -- What clients are sent answers what they asked.
-use Rattle.std.proofs.Common.{◌≡◌, ℕ, ◌≤◌, Bool, true, false, List, [], ◌∷◌, ◌++◌, length, drop, Option, Some, None, refl, ap, sym, ◌∙◌, subst, append_assoc}
-use Rattle.std.specs.Prelude.{IfSome, if◌then◌else◌, ◌&&◌, ◌||◌, nat_eq, nat_lt, slice_get}
-use Rattle.std.specs.List.{All, list_any}
+use Rattle.std.proofs.Common.{◌≡◌, ℕ, ◌≤◌, ◌⊎◌, inl, inr, Bool, true, false, List, [], ◌∷◌, ◌++◌, length, drop, take, Option, refl, ap, sym, ◌∙◌, subst, append_assoc}
+use Rattle.std.specs.Prelude.{IfSome, if◌then◌else◌, filter, not, ◌&&◌, slice_get, cond}
+use Rattle.std.specs.List.{All, Contains, flat_map, list_any}
 use Rattle.std.proofs.Math.Seq.{take-append_seam}
 use Rattle.std.proofs.lemmas.Bool.{eqb-true}
-use Rattle.std.proofs.lemmas.List.Elements.{All-nil, All-cons, All-append, All-set, All-weaker}
+use Rattle.std.proofs.lemmas.List.{append-nil}
+use Rattle.std.proofs.lemmas.List.Elements.{All-nil, All-cons, All-head, All-tail, All-append, All-weaker, All-drop, All-contains_itself}
 use Rattle.dns_name.specs.declared.address.SocketAddr.{SocketAddr}
-use Rattle.dns_base.specs.Header.{header_of}
 use Rattle.dns_base.specs.Msg.{Msg}
 use Rattle.dns_base.specs.Wire.{wire}
-use Rattle.dns_service.specs.Config.{Dgram}
 use Rattle.dns_service.specs.Cut.{cut}
-use Rattle.dns_service.specs.ErrorReply.{error_reply}
 use Rattle.dns_service.specs.Req.{Req}
-use Rattle.dns_service.specs.Transport.{hint_of, limit}
+use Rattle.dns_service.specs.Transport.{limit}
 use Rattle.dns_service.specs.declared.event.Event.{Event}
 use Rattle.dns_service.specs.declared.event.EventKind.{EventKind}
-use Rattle.dns_service.specs.declared.event.EventKind.TheVariants.{Datagram as Is_datagram, Turn, Offer, Piece, End, Write, Release}
+use Rattle.dns_service.specs.declared.event.EventKind.TheVariants.{Datagram as Is_datagram, Turn, Offer, Piece, End, Fault, Close, Write, Tick, Release, Reconfigure, Shutdown}
 use Rattle.dns_service.specs.declared.event.Output.{Output}
-use Rattle.dns_service.specs.declared.event.Output.TheVariants.{Datagram, Frame, Closed as Closed_output, TurnedAway}
-use Rattle.dns_service.specs.declared.event.Why.TheVariants.{Ended}
+use Rattle.dns_service.specs.declared.event.Output.TheVariants.{Frame, Closed as Closed_output, TurnedAway}
+use Rattle.dns_service.specs.declared.event.Why.{Why}
+use Rattle.dns_service.specs.declared.event.Why.TheVariants.{Ended, Short, Idle, WriteTimeout, Commanded, Fault as By_fault, Shutdown as By_shutdown}
 use Rattle.dns_service.specs.declared.message.TransportSpecificContext.TheVariants.{Udp}
-use Rattle.dns_client.specs.Connections.{close, opened, piece, released, write}
-use Rattle.dns_client.specs.Datagrams.{cut_datagram, datagram, refused_datagram}
-use Rattle.dns_client.specs.Frames.{behind_frames, frames}
-use Rattle.dns_client.specs.Requests.{asked, header_size, request_of_datagram}
-use Rattle.dns_client.specs.Rule.{by_kind, rule}
+use Rattle.dns_client.specs.Connections.{close, flush, flushed, in_transaction, opened, piece, reconfigured, released, tick, took_too_long, wind_up, write, written}
+use Rattle.dns_client.specs.Datagrams.{cut_datagram, datagram, exchange}
+use Rattle.dns_client.specs.Frames.{frames}
+use Rattle.dns_client.specs.Rule.{closed_rule, exchange_rule, flushing_rule, in_phase, open_rule, rule, unused_rule}
 use Rattle.dns_client.specs.Serving.{Serving}
-use Rattle.dns_client.specs.Slate.{Slate, SlateRequest, Told, Phase, Unused, Exchange, Open, Closed, fresh, in_phase}
-use Rattle.dns_client.specs.Turns.{exchange_turn, polled, sent_at_once, sent_for, turn, with_request}
-use Rattle.dns_core.specs.Out.{begins, gain, gained, is_connection, is_new, is_unused, members, out, out_after}
-use Rattle.dns_core.specs.Own.{concerns}
-use Rattle.dns_core.specs.ReplyTo.{begun_by, Responds, datagram_limit, AnswersDatagram, AnswersFrame, IsReply}
-use Rattle.dns_core.specs.Sent.{slate}
-use Rattle.dns_core.specs.Settings.{opening}
+use Rattle.dns_client.specs.Slate.{Slate, Conf, Told, Phase, Unused, Exchange, Open, Flushing, Closed, conf_rule, fresh, with_conf}
+use Rattle.dns_client.specs.Timers.{is_expired}
+use Rattle.dns_client.specs.Turns.{exchange_turn, limit_for, reply_to, sent_for, turn}
+use Rattle.dns_core.specs.Out.{gain, gained, heard, is_new, is_turned_away, is_unused, members, out, out_after, turned_away}
+use Rattle.dns_core.specs.Own.{concerns, is_wide}
+use Rattle.dns_core.specs.ReplyTo.{Responds, AnswersFrame, IsReply}
+use Rattle.dns_core.specs.Sent.{conf, slate}
 use Rattle.dns_middleware.specs.declared.settings.Settings.{Settings}
-use Rattle.dns_core.proofs.Begun.{begun_on, begun_more}
-use Rattle.dns_core.proofs.Gained.{concerns_same}
-use Rattle.dns_core.proofs.Listening.{RepliesTo, Listens, all_at, closed_listens, piece_listens, released_listens, take_sends, turn_listens, write_listens, write_sends}
+use Rattle.dns_core.proofs.Exchanged.{Exchanges, exchange_polls, first_exchanges, first_sent, later_exchanges}
+use Rattle.dns_core.proofs.Gained.{concerns_own}
+use Rattle.dns_core.proofs.Listening.{Asks, Listens, RepliesTo, Takes, listens_weaker, queue_weaker, take_listens, turn_listens}
 use Rattle.dns_core.proofs.Named.{of_client}
-use Rattle.dns_core.proofs.OutLemmas.{slate_some, slate_none}
+use Rattle.dns_core.proofs.OutLemmas.{slate_none, slate_some}
 use Rattle.dns_core.proofs.Plain.{plain}
-use Rattle.dns_core.proofs.Replied.{at_least, refused_responds}
 
--- a request of an exchange is that of a datagram of these octets, which is no response
-abbrev Made : Dgram → SocketAddr → Event → List ℕ → SlateRequest → Type 0
-Made dgram addr e o x = (x.request ≡ request_of_datagram dgram addr e.at e.secs o) × ((header_of o).qr ≡ false)
+module _ (answers : Serving) (settings : Settings) (c : ℕ) where
+  -- octets are one of the frames that the connection had received after some of its events
+  pub record AskedBefore (q : List Event) (o : List ℕ) : Type 0 where
+    pub before : List Event
+    pub behind : List Event
+    pub place : q ≡ before ++ behind
+    pub asked : Contains (frames (slate answers settings c before).received) o
 
--- the requests of an exchange are those of the datagram by which it began
-record Exchanges (settings : Settings) (c : ℕ) (q : List Event) (s : Slate) : Type 0 where
-  event : Event
-  addr : SocketAddr
-  asks : List ℕ
-  begun : begun_by c q ≡ Some event
-  kind : event.kind ≡ Is_datagram addr asks
-  requests : All (Made settings.dgram addr event (cut_datagram asks)) s.requests
+  pub later_asked : (q : List Event) (e : Event) (o : List ℕ) → AskedBefore q o → AskedBefore (q ++ e ∷ []) o
+  later_asked q e o h = record {
+    before = h.before;
+    behind = h.behind ++ e ∷ [];
+    place = ap (λ (es : List Event). es ++ e ∷ []) h.place ∙ append_assoc h.before h.behind (e ∷ []);
+    asked = h.asked;
+  }
 
--- by the state
-HasIn : Settings → Phase → ℕ → List Event → Slate → Type 0
-HasIn settings Unused c q s = begun_by c q ≡ None
-HasIn settings Exchange c q s = Exchanges settings c q s
-HasIn settings Open c q s = Listens s
-HasIn settings Closed c q s = Listens s
+  pub asked_now : (q : List Event) (received o : List ℕ) → (slate answers settings c q).received ≡ received → Contains (frames received) o → AskedBefore q o
+  asked_now q received o is h = record { before = q; behind = []; place = sym (append-nil q); asked = subst (λ (r : List ℕ). Contains (frames r) o) (sym is) h }
 
-and_false : (b : Bool) → (b && false) ≡ false
-and_false true = refl
-and_false false = refl
+  pub frame_answers : (q r : List Event) (o : List ℕ) → RepliesTo (AskedBefore q) o → AnswersFrame answers settings (q ++ r) c o
+  frame_answers q r o h =
+      let before = h.asked.before in
+      let place : q ++ r ≡ before ++ (h.asked.behind ++ r) = ap (λ (es : List Event). es ++ r) h.asked.place ∙ append_assoc before h.asked.behind r in
+      record {
+        before = before;
+        asks = h.asks;
+        message = h.message;
+        front = subst (λ (es : List Event). take (length before) es ≡ before) (sym place) (take-append_seam before (h.asked.behind ++ r));
+        asked = h.asked.asked;
+        is = h.is;
+        responds = h.responds;
+      }
 
-still_in : (settings : Settings) (p : Phase) (c : ℕ) (q : List Event) (e : Event) (s : Slate) → (p ≡ Unused → (concerns c e && begins e.kind) ≡ false) → HasIn settings p c q s → HasIn settings p c (q ++ e ∷ []) s
-unfolding HasIn
-still_in settings Unused c q e s n h = begun_more c q e h ∙ ap (λ (b : Bool). if b then Some e else None) (n refl)
-still_in settings Exchange c q e s n h = record { event = h.event; addr = h.addr; asks = h.asks; begun = begun_on c q (e ∷ []) h.event h.begun; kind = h.kind; requests = h.requests }
-still_in settings Open c q e s n h = h
-still_in settings Closed c q e s n h = h
+  -- by the state
+  abbrev pub HasIn : Phase → List Event → Slate → Type 0
+  HasIn Unused q s = Unit {0}
+  HasIn Exchange q s = Exchanges answers settings c q s
+  HasIn Open q s = Listens (AskedBefore q) s
+  HasIn (Flushing why) q s = All (RepliesTo (AskedBefore q)) s.queue
+  HasIn Closed q s = Unit {0}
 
-listens_in : (settings : Settings) (p : Phase) (c : ℕ) (q : List Event) (s : Slate) → is_connection p ≡ true → Listens s → HasIn settings p c q s
-unfolding HasIn
-listens_in settings Unused c q s is h = cc
-listens_in settings Exchange c q s is h = cc
-listens_in settings Open c q s is h = h
-listens_in settings Closed c q s is h = h
+  later_in : (p : Phase) (q : List Event) (e : Event) (s : Slate) → HasIn p q s → HasIn p (q ++ e ∷ []) s
+  later_in Unused q e s h = tt
+  later_in Exchange q e s h = later_exchanges answers settings c q e s h
+  later_in Open q e s h = listens_weaker (AskedBefore q) (AskedBefore (q ++ e ∷ [])) (later_asked q e) s h
+  later_in (Flushing why) q e s h = queue_weaker (AskedBefore q) (AskedBefore (q ++ e ∷ [])) (later_asked q e) s.queue h
+  later_in Closed q e s h = tt
 
-module _ (answers : Serving) (settings : Settings)
-    (respond : (r : Req (Unit {0})) (k : ℕ) → IfSome (sent_for answers r (answers.answer r k)) (Responds r.octets))
-    (fit : (r : Req (Unit {0})) (k : ℕ) (hint : Option ℕ) → r.transport ≡ Udp hint → IfSome (sent_for answers r (answers.answer r k)) (λ m. length (wire m) ≤ limit (answers.hint r)))
-    (cut_fits : (n : ℕ) (m : Msg) → 512 ≤ n → length (wire (cut n m)) ≤ n)
-    (go_on : (o p : List ℕ) → frames (o ++ p) ≡ frames o ++ frames (behind_frames o ++ p)) where
   abbrev Replies : List Event → List Output → Type 0
   Replies es outs = All (IsReply answers settings es) outs
 
-  -- where an event of a client leads
-  record Leads (q : List Event) (e : Event) (t : Told) : Type 0 where
-    has : HasIn settings t.0.phase e.client (q ++ e ∷ []) t.0
-    sent : (r : List Event) → Replies (q ++ e ∷ r) t.1
+  none_sent : (es : List Event) → Replies es []
+  none_sent es = All-nil (IsReply answers settings es)
 
-  none_sent : (q : List Event) (e : Event) (r : List Event) → Replies (q ++ e ∷ r) []
-  none_sent q e r = All-nil (IsReply answers settings (q ++ e ∷ r))
+  closed_sent : (es : List Event) (n : ℕ) (why : Why) → Replies es (Closed_output n why ∷ [])
+  closed_sent es n why = All-cons (IsReply answers settings es) (Closed_output n why) [] tt (none_sent es)
 
-  still : (q : List Event) (e : Event) (s : Slate) → (s.phase ≡ Unused → begins e.kind ≡ false) → HasIn settings s.phase e.client q s → Leads q e (s, [])
-  still q e s n h = record {
-    has = still_in settings s.phase e.client q e s (λ p. ap (λ (b : Bool). concerns e.client e && b) (n p) ∙ and_false (concerns e.client e)) h;
-    sent = none_sent q e;
-  }
+  frame_sent : (q r : List Event) (n : ℕ) (m : List ℕ) (outs : List Output) → n ≡ c → RepliesTo (AskedBefore q) m → Replies (q ++ r) outs → Replies (q ++ r) (Frame n m ∷ outs)
+  frame_sent q r n m outs is h rest =
+      All-cons (IsReply answers settings (q ++ r)) (Frame n m) outs (subst (λ (x : ℕ). AnswersFrame answers settings (q ++ r) x m) (sym is) (frame_answers q r m h)) rest
 
-  -- what a client's state chooses
-  at_exchange : (q : List Event) (e : Event) (p : Phase) (x y z w : Told) → p ≡ Exchange → Leads q e y → Leads q e (in_phase p x y z w)
-  at_exchange q e Unused x y z w is h = cc
-  at_exchange q e Exchange x y z w is h = h
-  at_exchange q e Open x y z w is h = cc
-  at_exchange q e Closed x y z w is h = cc
+  -- where an event that the client hears leads
+  pub record Leads (q : List Event) (e : Event) (t : Told) : Type 0 where
+    pub has : HasIn t.0.phase (q ++ e ∷ []) t.0
+    pub sent : (r : List Event) → Replies (q ++ e ∷ r) t.1
 
-  at_open : (q : List Event) (e : Event) (p : Phase) (x y z w : Told) → p ≡ Open → Leads q e z → Leads q e (in_phase p x y z w)
-  at_open q e Unused x y z w is h = cc
-  at_open q e Exchange x y z w is h = cc
-  at_open q e Open x y z w is h = h
-  at_open q e Closed x y z w is h = cc
+  silent : (q : List Event) (e : Event) (s : Slate) → HasIn s.phase (q ++ e ∷ []) s → Leads q e (s, [])
+  silent q e s h = record { has = h; sent = λ r. none_sent (q ++ e ∷ r) }
 
-  at_closed : (q : List Event) (e : Event) (p : Phase) (x y z w : Told) → p ≡ Closed → Leads q e w → Leads q e (in_phase p x y z w)
-  at_closed q e Unused x y z w is h = cc
-  at_closed q e Exchange x y z w is h = cc
-  at_closed q e Open x y z w is h = cc
-  at_closed q e Closed x y z w is h = h
+  still : (q : List Event) (e : Event) (s : Slate) → HasIn s.phase q s → Leads q e (s, [])
+  still q e s h = silent q e s (later_in s.phase q e s h)
 
-  -- ---- an exchange
+  closes : (q : List Event) (e : Event) (why : Why) (s : Slate) → Leads q e (close why s)
+  closes q e why s = record { has = tt; sent = λ r. closed_sent (q ++ e ∷ r) s.client why }
 
-  one_sent : (es : List Event) (c : ℕ) (x : Option Msg) (o : List ℕ) (n : ℕ) → ((m : Msg) → Responds o m → length (wire m) ≤ n → AnswersDatagram answers settings es c (wire m)) → IfSome x (Responds o) → IfSome x (λ m. length (wire m) ≤ n) → Replies es (sent_at_once c x)
-  one_sent es c None o n build h k = All-nil (IsReply answers settings es)
-  one_sent es c (Some m) o n build h k = All-cons (IsReply answers settings es) (Datagram c (wire m)) [] (build m h k) (All-nil (IsReply answers settings es))
-
-  query_limit : (r : Req (Unit {0})) (size : ℕ) (b : Bool) → (header_of r.octets).qr ≡ b → b ≡ false → size ≤ limit (answers.hint r) → size ≤ datagram_limit answers r
-  query_limit r size b is query h = let q : (header_of r.octets).qr ≡ false = is ∙ query in rw q h
-
-  made_sent : (q : List Event) (e : Event) (s : Slate) (h : Exchanges settings e.client q s) (x : SlateRequest) (k : ℕ) → Made settings.dgram h.addr h.event (cut_datagram h.asks) x → (r : List Event) → Replies (q ++ e ∷ r) (sent_at_once e.client (sent_for answers x.request (answers.answer x.request k)))
-  made_sent q e s h x k m r =
-      let o = cut_datagram h.asks in
-      let d = request_of_datagram settings.dgram h.addr h.event.at h.event.secs o in
-      let y = sent_for answers x.request (answers.answer x.request k) in
-      one_sent (q ++ e ∷ r) e.client y o (limit (answers.hint d))
-      (λ message responds fits. record {
-        event = h.event;
-        addr = h.addr;
-        asks = h.asks;
-        message = message;
-        begun = begun_on e.client q (e ∷ r) h.event h.begun;
-        kind = h.kind;
-        is = refl;
-        responds = responds;
-        fits = query_limit d (length (wire message)) (header_of o).qr refl m.1 fits;
-      })
-      (subst (λ (z : Req (Unit {0})). IfSome y (Responds z.octets)) m.0 (respond x.request k))
-      (subst (λ (z : Req (Unit {0})). IfSome y (λ n. length (wire n) ≤ limit (answers.hint z))) m.0 (fit x.request k settings.dgram.max_response_size (ap (λ (z : Req (Unit {0})). z.transport) m.0)))
-
-  in_exchange : (c : ℕ) (q : List Event) (s : Slate) → s.phase ≡ Exchange → Exchanges settings c q s → HasIn settings s.phase c q s
-  unfolding HasIn
-  in_exchange c q s p h = subst (λ (x : Phase). HasIn settings x c q s) (sym p) h
-
-  still_exchange : (q : List Event) (e : Event) (s : Slate) → s.phase ≡ Exchange → Exchanges settings e.client q s → Leads q e (s, [])
-  still_exchange q e s p h = still q e s (λ u. let no : Exchange ≡ Unused = sym p ∙ u in cc) (in_exchange e.client q s p h)
-
-  turn_exchange : (q : List Event) (e : Event) (k : ℕ) (x : Option SlateRequest) (s : Slate) → s.phase ≡ Exchange → s.client ≡ e.client → (h : Exchanges settings e.client q s) → IfSome x (Made settings.dgram h.addr h.event (cut_datagram h.asks)) → Leads q e (exchange_turn answers k x s)
-  turn_exchange q e k None s p is h m = still_exchange q e s p h
-  turn_exchange q e k (Some x) s p is h m =
-      let a = answers.answer x.request x.polls in
-      let t = with_request k (polled a x) s in
-      let g : Exchanges settings e.client q t = record { event = h.event; addr = h.addr; asks = h.asks; begun = h.begun; kind = h.kind; requests = All-set (Made settings.dgram h.addr h.event (cut_datagram h.asks)) s.requests k (polled a x) m h.requests } in
-      let l : Leads q e (t, sent_at_once s.client (sent_for answers x.request a)) = record {
-        has = (still_exchange q e t p g).has;
-        sent = λ r. subst (λ (c : ℕ). Replies (q ++ e ∷ r) (sent_at_once c (sent_for answers x.request a))) (sym is) (made_sent q e s h x x.polls m r);
-      } in
-      (elim x.done as (λ b. let u : Told = (if b then (s, []) else (t, sent_at_once s.client (sent_for answers x.request a))) in Leads q e u) [ true ↦ still_exchange q e s p h | false ↦ l ])
-
-  exchange_leads : (q : List Event) (e : Event) (k : EventKind) (s : Slate) → s.phase ≡ Exchange → s.client ≡ e.client → Exchanges settings e.client q s → Leads q e (by_kind answers e k s)
-  exchange_leads q e (Is_datagram addr o) s p is h = at_exchange q e s.phase (datagram e.client addr e.at e.secs o s) (s, []) (s, []) (s, []) p (still_exchange q e s p h)
-  exchange_leads q e (Turn k) s p is h = at_exchange q e s.phase (s, []) (exchange_turn answers k (slice_get s.requests k) s) (turn answers k (slice_get s.requests k) s, []) (s, []) p (turn_exchange q e k (slice_get s.requests k) s p is h (all_at (Made settings.dgram h.addr h.event (cut_datagram h.asks)) s.requests k h.requests))
-  exchange_leads q e (Offer addr) s p is h = at_exchange q e s.phase (opened e.client addr s, []) (s, []) (s, []) (s, []) p (still_exchange q e s p h)
-  exchange_leads q e (Piece o) s p is h = at_exchange q e s.phase (s, []) (s, []) (piece e.at e.secs o s) (s, []) p (still_exchange q e s p h)
-  exchange_leads q e End s p is h = at_exchange q e s.phase (s, []) (s, []) (close Ended s) (s, []) p (still_exchange q e s p h)
-  exchange_leads q e (Write took) s p is h = at_exchange q e s.phase (s, []) (s, []) (write took s.queue s) (s, []) p (still_exchange q e s p h)
-  exchange_leads q e Release s p is h = at_exchange q e s.phase (s, []) (s, []) (s, []) (released s, []) p (still_exchange q e s p h)
-
-  -- ---- a client that begins
-
-  first_made : (dgram : Dgram) (addr : SocketAddr) (e : Event) (o : List ℕ) (short qr : Bool) → (header_of o).qr ≡ qr → All (Made dgram addr e o) (if short || qr then [] else asked (request_of_datagram dgram addr e.at e.secs o) ∷ [])
-  first_made dgram addr e o true qr is = All-nil (Made dgram addr e o)
-  first_made dgram addr e o false true is = All-nil (Made dgram addr e o)
-  first_made dgram addr e o false false is = All-cons (Made dgram addr e o) (asked (request_of_datagram dgram addr e.at e.secs o)) [] (refl, is) (All-nil (Made dgram addr e o))
-
-  begun_here : (q : List Event) (e : Event) → begun_by e.client q ≡ None → begins e.kind ≡ true → begun_by e.client (q ++ e ∷ []) ≡ Some e
-  begun_here q e h b = begun_more e.client q e h ∙ ap (λ (x : Bool). if x && begins e.kind then Some e else None) (concerns_same e) ∙ ap (λ (x : Bool). if x then Some e else None) b
-
-  begun_then : (q r : List Event) (e : Event) → begun_by e.client q ≡ None → begins e.kind ≡ true → begun_by e.client (q ++ e ∷ r) ≡ Some e
-  begun_then q r e h b = subst (λ (es : List Event). begun_by e.client es ≡ Some e) (append_assoc q (e ∷ []) r) (begun_on e.client (q ++ e ∷ []) r e (begun_here q e h b))
-
-  response_limit : (r : Req (Unit {0})) (size : ℕ) → (header_of r.octets).qr ≡ true → size ≤ limit (hint_of r.transport) → size ≤ datagram_limit answers r
-  response_limit r size is h = rw is h
-
-  first_sent : (q r : List Event) (e : Event) (addr : SocketAddr) (asks : List ℕ) (short qr : Bool) → begun_by e.client q ≡ None → e.kind ≡ Is_datagram addr asks → (header_of (cut_datagram asks)).qr ≡ qr
-      → Replies (q ++ e ∷ r) (if short then [] else (if qr then refused_datagram e.client settings.dgram (cut_datagram asks) else []))
-  first_sent q r e addr asks true qr none kind is = none_sent q e r
-  first_sent q r e addr asks false false none kind is = none_sent q e r
-  first_sent q r e addr asks false true none kind is =
-      let o = cut_datagram asks in
-      let n = limit settings.dgram.max_response_size in
-      let m = cut n (error_reply o 1) in
-      All-cons (IsReply answers settings (q ++ e ∷ r)) (Datagram e.client (wire m)) []
-      (record {
-        event = e;
-        addr = addr;
-        asks = asks;
-        message = m;
-        begun = begun_then q r e none (ap begins kind);
-        kind = kind;
-        is = refl;
-        responds = refused_responds o (Some n) 1;
-        fits = response_limit (request_of_datagram settings.dgram addr e.at e.secs o) (length (wire m)) is (cut_fits n (error_reply o 1) (at_least settings.dgram.max_response_size));
-      })
-      (none_sent q e r)
-
-  idle_leads : (q : List Event) (e : Event) → begun_by e.client q ≡ None → begins e.kind ≡ false → Leads q e (fresh (opening settings), [])
-  unfolding HasIn
-  idle_leads q e none off = still q e (fresh (opening settings)) (λ p. off) none
-
-  first_leads : (q : List Event) (e : Event) (k : EventKind) → begun_by e.client q ≡ None → e.kind ≡ k → Leads q e (by_kind answers e k (fresh (opening settings)))
-  unfolding HasIn
-  first_leads q e (Is_datagram addr asks) none is =
-      let o = cut_datagram asks in
-      record {
-        has = record { event = e; addr = addr; asks = asks; begun = begun_here q e none (ap begins is); kind = is; requests = first_made settings.dgram addr e o (nat_lt (length o) header_size) (header_of o).qr refl };
-        sent = λ r. first_sent q r e addr asks (nat_lt (length o) header_size) (header_of o).qr none is refl;
-      }
-  first_leads q e (Turn k) none is = idle_leads q e none (ap begins is)
-  first_leads q e (Offer addr) none is = record { has = record { connection = refl; requests = All-nil _; queue = All-nil _ }; sent = none_sent q e }
-  first_leads q e (Piece o) none is = idle_leads q e none (ap begins is)
-  first_leads q e End none is = idle_leads q e none (ap begins is)
-  first_leads q e (Write took) none is = idle_leads q e none (ap begins is)
-  first_leads q e Release none is = idle_leads q e none (ap begins is)
+  in_phase_is : (p : Phase) (q : List Event) (s : Slate) → s.phase ≡ p → HasIn p q s → HasIn s.phase q s
+  in_phase_is p q s is h = subst (λ (x : Phase). HasIn x q s) (sym is) h
 
   -- ---- a connection
 
-  closes : (es : List Event) (client : ℕ) → (why : _) → IsReply answers settings es (Closed_output client why)
-  closes es client why = tt
+  open_still : (q : List Event) (e : Event) (s : Slate) → s.phase ≡ Open → Listens (AskedBefore q) s → Leads q e (s, [])
+  open_still q e s p h = still q e s (in_phase_is Open q s p h)
 
-  listening : (q : List Event) (e : Event) (t : Told) → Listens t.0 → ((r : List Event) → Replies (q ++ e ∷ r) t.1) → Leads q e t
-  listening q e t h sends = record { has = listens_in settings t.0.phase e.client (q ++ e ∷ []) t.0 h.connection h; sent = sends }
+  -- the first frame goes, and the others wait
+  open_gone : (q : List Event) (e : Event) (at : ℕ) (m : List ℕ) (ms : List (List ℕ)) (s : Slate) → s.phase ≡ Open → s.client ≡ c → Listens (AskedBefore q) s → All (RepliesTo (AskedBefore q)) (m ∷ ms) → Leads q e (written at m ms s)
+  open_gone q e at m [] s p is h g = record {
+    has = (open_still q e (record s { queue = []; reset_at = at }) p (record { requests = h.requests; queue = All-nil (RepliesTo (AskedBefore q)) })).has;
+    sent = λ r. frame_sent q (e ∷ r) s.client m [] is (All-head (RepliesTo (AskedBefore q)) m [] g) (none_sent (q ++ e ∷ r));
+  }
+  open_gone q e at m (n ∷ ms) s p is h g = record {
+    has = (open_still q e (record s { queue = n ∷ ms }) p (record { requests = h.requests; queue = All-tail (RepliesTo (AskedBefore q)) m (n ∷ ms) g })).has;
+    sent = λ r. frame_sent q (e ∷ r) s.client m [] is (All-head (RepliesTo (AskedBefore q)) m (n ∷ ms) g) (none_sent (q ++ e ∷ r));
+  }
 
-  frame_sent : (q r : List Event) (e : Event) (s : Slate) → slate answers settings e.client q ≡ s → s.client ≡ e.client → (o : List ℕ) → RepliesTo (frames s.received) o → IsReply answers settings (q ++ e ∷ r) (Frame s.client o)
-  frame_sent q r e s at is o h =
-      subst (λ (c : ℕ). AnswersFrame answers settings (q ++ e ∷ r) c o) (sym is) (record {
-        before = q;
-        asks = h.asks;
-        message = h.message;
-        front = take-append_seam q (e ∷ r);
-        asked = rw at h.asked;
-        is = h.is;
-        responds = h.responds;
-      })
+  write_leads : (q : List Event) (e : Event) (at took : ℕ) (ms : List (List ℕ)) (s : Slate) → s.phase ≡ Open → s.client ≡ c → Listens (AskedBefore q) s → All (RepliesTo (AskedBefore q)) ms → Leads q e (write at took ms s)
+  write_leads q e at took [] s p is h g = open_still q e s p h
+  write_leads q e at took (m ∷ ms) s p is h g =
+      (elim (took_too_long took s) as (λ b. let told : Told = (if b then close WriteTimeout s else written at m ms s) in Leads q e told) [ true ↦ closes q e WriteTimeout s | false ↦ open_gone q e at m ms s p is h g ])
 
-  open_leads : (q : List Event) (e : Event) (k : EventKind) (s : Slate) → s.phase ≡ Open → slate answers settings e.client q ≡ s → s.client ≡ e.client → Listens s → Leads q e (by_kind answers e k s)
-  open_leads q e (Is_datagram addr o) s p at is h = at_open q e s.phase (datagram e.client addr e.at e.secs o s) (s, []) (s, []) (s, []) p (listening q e (s, []) h (none_sent q e))
-  open_leads q e (Turn k) s p at is h = at_open q e s.phase (s, []) (exchange_turn answers k (slice_get s.requests k) s) (turn answers k (slice_get s.requests k) s, []) (s, []) p (listening q e (turn answers k (slice_get s.requests k) s, []) (turn_listens answers respond k s h) (none_sent q e))
-  open_leads q e (Offer addr) s p at is h = at_open q e s.phase (opened e.client addr s, []) (s, []) (s, []) (s, []) p (listening q e (s, []) h (none_sent q e))
-  open_leads q e (Piece o) s p at is h = at_open q e s.phase (s, []) (s, []) (piece e.at e.secs o s) (s, []) p (listening q e (piece e.at e.secs o s) (piece_listens go_on e.at e.secs o s h) (λ r. take_sends (IsReply answers settings (q ++ e ∷ r)) (closes (q ++ e ∷ r)) e.at e.secs (drop s.taken (frames (s.received ++ o))) (record s { received = s.received ++ o })))
-  open_leads q e End s p at is h = at_open q e s.phase (s, []) (s, []) (close Ended s) (s, []) p (listening q e (close Ended s) (closed_listens Ended s) (λ r. All-cons (IsReply answers settings (q ++ e ∷ r)) (Closed_output s.client Ended) [] tt (none_sent q e r)))
-  open_leads q e (Write took) s p at is h = at_open q e s.phase (s, []) (s, []) (write took s.queue s) (s, []) p (listening q e (write took s.queue s) (write_listens took s.queue s refl h) (λ r. write_sends (IsReply answers settings (q ++ e ∷ r)) (closes (q ++ e ∷ r)) took s.queue s (All-weaker (RepliesTo (frames s.received)) (λ o. IsReply answers settings (q ++ e ∷ r) (Frame s.client o)) (frame_sent q r e s at is) s.queue h.queue)))
-  open_leads q e Release s p at is h = at_open q e s.phase (s, []) (s, []) (s, []) (released s, []) p (listening q e (s, []) h (none_sent q e))
+  flushing_gone : (q : List Event) (e : Event) (why : Why) (m : List ℕ) (ms : List (List ℕ)) (s : Slate) → s.phase ≡ Flushing why → s.client ≡ c → All (RepliesTo (AskedBefore q)) (m ∷ ms) → Leads q e (flushed why m ms s)
+  flushing_gone q e why m [] s p is g = record {
+    has = tt;
+    sent = λ r. frame_sent q (e ∷ r) s.client m (close why s).1 is (All-head (RepliesTo (AskedBefore q)) m [] g) (closed_sent (q ++ e ∷ r) s.client why);
+  }
+  flushing_gone q e why m (n ∷ ms) s p is g =
+      let t : Slate = record s { queue = n ∷ ms } in
+      record {
+        has = later_in t.phase q e t (in_phase_is (Flushing why) q t p (All-tail (RepliesTo (AskedBefore q)) m (n ∷ ms) g));
+        sent = λ r. frame_sent q (e ∷ r) s.client m [] is (All-head (RepliesTo (AskedBefore q)) m (n ∷ ms) g) (none_sent (q ++ e ∷ r));
+      }
 
-  closed_leads : (q : List Event) (e : Event) (k : EventKind) (s : Slate) → s.phase ≡ Closed → Listens s → Leads q e (by_kind answers e k s)
-  closed_leads q e (Is_datagram addr o) s p h = at_closed q e s.phase (datagram e.client addr e.at e.secs o s) (s, []) (s, []) (s, []) p (listening q e (s, []) h (none_sent q e))
-  closed_leads q e (Turn k) s p h = at_closed q e s.phase (s, []) (exchange_turn answers k (slice_get s.requests k) s) (turn answers k (slice_get s.requests k) s, []) (s, []) p (listening q e (s, []) h (none_sent q e))
-  closed_leads q e (Offer addr) s p h = at_closed q e s.phase (opened e.client addr s, []) (s, []) (s, []) (s, []) p (listening q e (s, []) h (none_sent q e))
-  closed_leads q e (Piece o) s p h = at_closed q e s.phase (s, []) (s, []) (piece e.at e.secs o s) (s, []) p (listening q e (s, []) h (none_sent q e))
-  closed_leads q e End s p h = at_closed q e s.phase (s, []) (s, []) (close Ended s) (s, []) p (listening q e (s, []) h (none_sent q e))
-  closed_leads q e (Write took) s p h = at_closed q e s.phase (s, []) (s, []) (write took s.queue s) (s, []) p (listening q e (s, []) h (none_sent q e))
-  closed_leads q e Release s p h = at_closed q e s.phase (s, []) (s, []) (s, []) (released s, []) p (listening q e (released s, []) (released_listens s h) (none_sent q e))
+  flush_leads : (q : List Event) (e : Event) (why : Why) (took : ℕ) (ms : List (List ℕ)) (s : Slate) → s.phase ≡ Flushing why → s.client ≡ c → All (RepliesTo (AskedBefore q)) s.queue → All (RepliesTo (AskedBefore q)) ms → Leads q e (flush why took ms s)
+  flush_leads q e why took [] s p is h g = still q e s (in_phase_is (Flushing why) q s p h)
+  flush_leads q e why took (m ∷ ms) s p is h g =
+      (elim (took_too_long took s) as (λ b. let told : Told = (if b then close WriteTimeout s else flushed why m ms s) in Leads q e told) [ true ↦ closes q e WriteTimeout s | false ↦ flushing_gone q e why m ms s p is g ])
 
-  -- ---- all clients
+  wind_leads : (q : List Event) (e : Event) (why : Why) (ms : List (List ℕ)) (s : Slate) → All (RepliesTo (AskedBefore q)) s.queue → Leads q e (wind_up why ms s)
+  wind_leads q e why [] s h = closes q e why s
+  wind_leads q e why (m ∷ ms) s h = silent q e (wind_up why (m ∷ ms) s).0 (queue_weaker (AskedBefore q) (AskedBefore (q ++ e ∷ [])) (later_asked q e) s.queue h)
 
-  abbrev Has : ℕ → List Event → Type 0
-  Has c q = HasIn settings (slate answers settings c q).phase c q (slate answers settings c q)
+  tick_leads : (q : List Event) (e : Event) (at : ℕ) (s : Slate) → s.phase ≡ Open → Listens (AskedBefore q) s → Leads q e (tick at s)
+  tick_leads q e at s p h =
+      (elim (is_expired s.reset_at s.connection.idle_timeout at && not (list_any in_transaction s.requests)) as (λ b. let told : Told = (if b then close Idle s else (s, [])) in Leads q e told) [ true ↦ closes q e Idle s | false ↦ open_still q e s p h ])
 
-  leads_in : (p : Phase) (q : List Event) (e : Event) (s : Slate) → slate answers settings e.client q ≡ s → s.phase ≡ p → HasIn settings p e.client q s → Leads q e (rule answers e s)
-  unfolding HasIn
-  leads_in Unused q e s at p h =
-      let f : s ≡ fresh (opening settings) = sym at ∙ (plain answers settings e.client q).unused (ap (λ (t : Slate). is_unused t.phase) at ∙ ap is_unused p) in
-      subst (λ (t : Slate). Leads q e (rule answers e t)) (sym f) (first_leads q e e.kind h refl)
-  leads_in Exchange q e s at p h = exchange_leads q e e.kind s p (ap (λ (t : Slate). t.client) (sym at) ∙ of_client answers settings e.client q (ap (λ (t : Slate). is_unused t.phase) at ∙ ap is_unused p)) h
-  leads_in Open q e s at p h = open_leads q e e.kind s p at (ap (λ (t : Slate). t.client) (sym at) ∙ of_client answers settings e.client q (ap (λ (t : Slate). is_unused t.phase) at ∙ ap is_unused p)) h
-  leads_in Closed q e s at p h = closed_leads q e e.kind s p h
+  -- what was asked before a piece, and the frames that it completes
+  abbrev AskedSoFar : List Event → List ℕ → List ℕ → Type 0
+  AskedSoFar q received o = AskedBefore q o ⊎ Contains (frames received) o
 
-  leads : (q : List Event) (e : Event) → Has e.client q → Leads q e (rule answers e (slate answers settings e.client q))
-  leads q e h = leads_in (slate answers settings e.client q).phase q e (slate answers settings e.client q) refl refl h
+  so_far : (q : List Event) (e : Event) (received o : List ℕ) → (slate answers settings c (q ++ e ∷ [])).received ≡ received → AskedSoFar q received o → AskedBefore (q ++ e ∷ []) o
+  so_far q e received o is h = elim h [ inl before ↦ later_asked q e o before | inr new ↦ asked_now (q ++ e ∷ []) received o is new ]
 
-  more_case : (c : ℕ) (q : List Event) (e : Event) (b : Bool) → concerns c e ≡ b → Has c q → (c ≡ e.client → HasIn settings (rule answers e (slate answers settings c q)).0.phase c (q ++ e ∷ []) (rule answers e (slate answers settings c q)).0) → Has c (q ++ e ∷ [])
-  more_case c q e true is h own =
-      let same : c ≡ e.client = sym (eqb-true e.client c is) in
-      subst (λ (s : Slate). HasIn settings s.phase c (q ++ e ∷ []) s) (sym (slate_some answers settings c q e is)) (own same)
-  more_case c q e false is h own =
-      subst (λ (s : Slate). HasIn settings s.phase c (q ++ e ∷ []) s) (sym (slate_none answers settings c q e is)) (still_in settings (slate answers settings c q).phase c q e (slate answers settings c q) (λ p. ap (λ (b : Bool). b && begins e.kind) is) h)
+  piece_case : (q : List Event) (e : Event) (s : Slate) (told : Told) → s.phase ≡ Open → slate answers settings c (q ++ e ∷ []) ≡ told.0 → Takes (AskedSoFar q s.received) s told → Leads q e told
+  piece_case q e s told p now h = elim h [
+    | inl g ↦ (
+        let received : (slate answers settings c (q ++ e ∷ [])).received ≡ s.received = ap (λ (t : Slate). t.received) now ∙ g.0.received in
+        let listens = listens_weaker (AskedSoFar q s.received) (AskedBefore (q ++ e ∷ [])) (λ o a. so_far q e s.received o received a) told.0 g.0.listens in
+        record {
+          has = in_phase_is Open (q ++ e ∷ []) told.0 (g.0.phase ∙ p) listens;
+          sent = λ r. subst (Replies (q ++ e ∷ r)) (sym g.1) (none_sent (q ++ e ∷ r));
+        }
+        )
+    | inr x ↦ subst (Leads q e) (sym x.1) (closes q e Short x.0)
+  ]
 
-  has_more : (q : List Event) (e : Event) → ((c : ℕ) → Has c q) → (c : ℕ) → Has c (q ++ e ∷ [])
-  has_more q e h c =
-      more_case c q e (concerns c e) refl (h c) (λ (same : c ≡ e.client).
-      subst (λ (d : ℕ). HasIn settings (rule answers e (slate answers settings d q)).0.phase d (q ++ e ∷ []) (rule answers e (slate answers settings d q)).0) (sym same) (leads q e (h e.client)).has)
+  piece_leads : (q : List Event) (e : Event) (at secs : ℕ) (o : List ℕ) (s : Slate) → s.phase ≡ Open → slate answers settings c (q ++ e ∷ []) ≡ (piece at secs o s).0 → Listens (AskedBefore q) s → Leads q e (piece at secs o s)
+  piece_leads q e at secs o s p now h =
+      let u : Slate = record s { received = s.received ++ o } in
+      let fs = frames (s.received ++ o) in
+      let all : All (AskedSoFar q u.received) fs = All-weaker (Contains fs) (AskedSoFar q u.received) (λ x k. inr k) fs (All-contains_itself fs) in
+      let before = listens_weaker (AskedBefore q) (AskedSoFar q u.received) (λ x k. inl k) s h in
+      piece_case q e u (piece at secs o s) p now
+      (take_listens (AskedSoFar q u.received) at secs (drop s.taken fs) u (All-drop (AskedSoFar q u.received) s.taken fs all) (record { requests = before.requests; queue = before.queue }))
 
-  either : (P : Output → Type 0) (b n : Bool) (os ps : List Output) → All P os → All P ps → All P (if b then os else (if n then ps else []))
-  either P true n os ps h k = h
-  either P false true os ps h k = k
-  either P false false os ps h k = All-nil P
+  closed_leads : (q : List Event) (e : Event) (k : EventKind) (s : Slate) → s.phase ≡ Closed → Leads q e (closed_rule k s)
+  closed_leads q e Release s p = still q e (released s) (in_phase_is Closed q (released s) p tt)
+  closed_leads q e k s p = still q e s (in_phase_is Closed q s p tt)
 
-  gained_replies : (q r : List Event) (e : Event) → Has e.client q → Replies (q ++ e ∷ r) (gained answers settings q e)
+  flushing_leads : (q : List Event) (e : Event) (why : Why) (k : EventKind) (s : Slate) → s.phase ≡ Flushing why → s.client ≡ c → All (RepliesTo (AskedBefore q)) s.queue → Leads q e (flushing_rule why k s)
+  flushing_leads q e why (Write took) s p is h = flush_leads q e why took s.queue s p is h h
+  flushing_leads q e why Fault s p is h = closes q e By_fault s
+  flushing_leads q e why k s p is h = still q e s (in_phase_is (Flushing why) q s p h)
+
+  module _ (respond : (n : Option ℕ) (r : Req (Unit {0})) (k : ℕ) → IfSome (reply_to n r.octets (answers.answer r k)) (Responds r.octets))
+      (fit : (r : Req (Unit {0})) (k : ℕ) (hint : Option ℕ) → r.transport ≡ Udp hint → IfSome (sent_for answers r (answers.answer r k)) (λ m. length (wire m) ≤ limit (answers.hint r)))
+      (cut_fits : (n : ℕ) (m : Msg) → 512 ≤ n → length (wire (cut n m)) ≤ n) where
+    turn_leads : (q : List Event) (e : Event) (k : ℕ) (s : Slate) → s.phase ≡ Open → Listens (AskedBefore q) s → Leads q e (turn answers k (slice_get s.requests k) s, [])
+    turn_leads q e k s p h =
+        let g = turn_listens (AskedBefore q) answers respond k s h in
+        open_still q e (turn answers k (slice_get s.requests k) s) (g.phase ∙ p) g.listens
+
+    open_leads : (q : List Event) (e : Event) (k : EventKind) (s : Slate) → s.phase ≡ Open → s.client ≡ c → slate answers settings c (q ++ e ∷ []) ≡ (open_rule answers e k s).0 → Listens (AskedBefore q) s → Leads q e (open_rule answers e k s)
+    open_leads q e (Piece o) s p is now h = piece_leads q e e.at e.secs o s p now h
+    open_leads q e (Turn k) s p is now h = turn_leads q e k s p h
+    open_leads q e (Write took) s p is now h = write_leads q e e.at took s.queue s p is h h.queue
+    open_leads q e Tick s p is now h = tick_leads q e e.at s p h
+    open_leads q e End s p is now h = closes q e Ended s
+    open_leads q e Fault s p is now h = closes q e By_fault s
+    open_leads q e Close s p is now h = wind_leads q e Commanded s.queue s h.queue
+    open_leads q e (Reconfigure dgram stream) s p is now h = open_still q e (reconfigured stream.connection_config s) p (record { requests = h.requests; queue = h.queue })
+    open_leads q e Shutdown s p is now h = wind_leads q e By_shutdown s.queue s h.queue
+    open_leads q e k s p is now h = open_still q e s p h
+
+    -- ---- an exchange
+
+    exchange_leads : (q : List Event) (e : Event) (k : EventKind) (s : Slate) → s.phase ≡ Exchange → s.client ≡ c → Exchanges answers settings c q s → Leads q e (exchange_rule answers k s)
+    exchange_leads q e (Turn k) s p is h =
+        let g = exchange_polls answers settings (λ r n. respond (limit_for answers r) r n) fit c q k s is h in
+        let t = (exchange_turn answers k (slice_get s.requests k) s).0 in
+        record {
+          has = later_in t.phase q e t (in_phase_is Exchange q t (g.phase ∙ p) g.exchanges);
+          sent = λ r. g.sent (e ∷ r);
+        }
+    exchange_leads q e k s p is h = still q e s (in_phase_is Exchange q s p h)
+
+    -- ---- a client that begins
+
+    begins : (q : List Event) (e : Event) → is_unused (slate answers settings e.client q).phase ≡ true → is_unused (slate answers settings e.client (q ++ e ∷ [])).phase ≡ false → is_new answers settings q e ≡ true
+    unfolding is_new
+    begins q e was now = rw (was, now) refl
+
+    datagram_leads : (q : List Event) (e : Event) (addr : SocketAddr) (o : List ℕ) (s : Slate) → e.kind ≡ Is_datagram addr o → e.client ≡ c → is_unused (slate answers settings c q).phase ≡ true → s.conf ≡ conf settings q
+        → slate answers settings c (q ++ e ∷ []) ≡ (datagram e.client addr e.at e.secs o s).0 → Leads q e (datagram e.client addr e.at e.secs o s)
+    datagram_leads q e addr o s kind is was same now =
+        let new : is_new answers settings q e ≡ true = begins q e (ap (λ (d : ℕ). is_unused (slate answers settings d q).phase) is ∙ was) (ap (λ (d : ℕ). is_unused (slate answers settings d (q ++ e ∷ [])).phase) is ∙ ap (λ (t : Slate). is_unused t.phase) now) in
+        record {
+          has = subst (λ (d : ℕ). Exchanges answers settings d (q ++ e ∷ []) (exchange e.client addr e.at e.secs (cut_datagram o) s)) is (first_exchanges answers settings q e addr o s kind new same);
+          sent = λ r. first_sent answers settings cut_fits q r e addr o s kind new same;
+        }
+
+    opened_leads : (q : List Event) (e : Event) (addr : SocketAddr) (s : Slate) → s ≡ fresh s.conf → Leads q e (opened e.client addr e.at s, [])
+    opened_leads q e addr s is =
+        let requests : s.requests ≡ [] = ap (λ (t : Slate). t.requests) is in
+        let queue : s.queue ≡ [] = ap (λ (t : Slate). t.queue) is in
+        silent q e (opened e.client addr e.at s) (record {
+          requests = subst (All (Asks (AskedBefore (q ++ e ∷ [])))) (sym requests) (All-nil (Asks (AskedBefore (q ++ e ∷ []))));
+          queue = subst (All (RepliesTo (AskedBefore (q ++ e ∷ [])))) (sym queue) (All-nil (RepliesTo (AskedBefore (q ++ e ∷ []))));
+        })
+
+    -- what is known of a slate before an event, which has its configurations
+    record Known (q : List Event) (e : Event) (s : Slate) : Type 0 where
+      heard : concerns c e ≡ true
+      conf : s.conf ≡ conf_rule e.kind (conf settings q)
+      unused : is_unused s.phase ≡ true → s ≡ fresh s.conf
+      client : is_unused s.phase ≡ false → s.client ≡ c
+      was : is_unused (slate answers settings c q).phase ≡ is_unused s.phase
+
+    own_client : (q : List Event) (e : Event) (s : Slate) → is_wide e.kind ≡ false → Known q e s → e.client ≡ c
+    own_client q e s narrow k = eqb-true e.client c (sym (concerns_own c e narrow) ∙ k.heard)
+
+    unused_still : (q : List Event) (e : Event) (s : Slate) → s.phase ≡ Unused → Leads q e (s, [])
+    unused_still q e s p = still q e s (in_phase_is Unused q s p tt)
+
+    datagram_case : (q : List Event) (e : Event) (addr : SocketAddr) (o : List ℕ) (s : Slate) (over : Bool) → e.kind ≡ Is_datagram addr o → s.phase ≡ Unused → Known q e s
+        → let told : Told = (if over then (s, []) else datagram e.client addr e.at e.secs o s) in slate answers settings c (q ++ e ∷ []) ≡ told.0 → Leads q e told
+    datagram_case q e addr o s true kind p k now = unused_still q e s p
+    datagram_case q e addr o s false kind p k now =
+        datagram_leads q e addr o s kind (own_client q e s (ap is_wide kind) k) (k.was ∙ ap is_unused p) (k.conf ∙ ap (λ (x : EventKind). conf_rule x (conf settings q)) kind) now
+
+    unused_leads : (q : List Event) (e : Event) (k : EventKind) (s : Slate) → e.kind ≡ k → s.phase ≡ Unused → Known q e s → slate answers settings c (q ++ e ∷ []) ≡ (unused_rule e k s).0 → Leads q e (unused_rule e k s)
+    unused_leads q e (Is_datagram addr o) s kind p k now = datagram_case q e addr o s s.conf.over kind p k now
+    unused_leads q e (Offer addr) s kind p k now =
+        (elim s.conf.over as (λ b. let told : Told = (if b then (s, []) else (opened e.client addr e.at s, [])) in Leads q e told) [ true ↦ unused_still q e s p | false ↦ opened_leads q e addr s (k.unused (ap is_unused p)) ])
+    unused_leads q e x s kind p k now = unused_still q e s p
+
+    phase_leads : (p : Phase) (q : List Event) (e : Event) (s : Slate) → s.phase ≡ p → Known q e s → slate answers settings c (q ++ e ∷ []) ≡ (in_phase answers e p s).0 → HasIn p q s → Leads q e (in_phase answers e p s)
+    phase_leads Unused q e s p k now h = unused_leads q e e.kind s refl p k now
+    phase_leads Exchange q e s p k now h = exchange_leads q e e.kind s p (k.client (ap is_unused p)) h
+    phase_leads Open q e s p k now h = open_leads q e e.kind s p (k.client (ap is_unused p)) now h
+    phase_leads (Flushing why) q e s p k now h = flushing_leads q e why e.kind s p (k.client (ap is_unused p)) h
+    phase_leads Closed q e s p k now h = closed_leads q e e.kind s p
+
+    -- the configurations change nothing of it
+    conf_in : (p : Phase) (q : List Event) (x : Conf) (s : Slate) → HasIn p q s → HasIn p q (with_conf x s)
+    conf_in Unused q x s h = tt
+    conf_in Exchange q x s h = record { before = h.before; event = h.event; behind = h.behind; addr = h.addr; asks = h.asks; place = h.place; client = h.client; begun = h.begun; kind = h.kind; requests = h.requests }
+    conf_in Open q x s h = record { requests = h.requests; queue = h.queue }
+    conf_in (Flushing why) q x s h = h
+    conf_in Closed q x s h = tt
+
+    abbrev pub Has : List Event → Type 0
+    Has q = HasIn (slate answers settings c q).phase q (slate answers settings c q)
+
+    pub leads : (q : List Event) (e : Event) → concerns c e ≡ true → Has q → Leads q e (rule answers e (slate answers settings c q))
+    leads q e heard h =
+        let s = slate answers settings c q in
+        let x = conf_rule e.kind s.conf in
+        let k = plain answers settings c q in
+        phase_leads s.phase q e (with_conf x s) refl
+        (record {
+          heard = heard;
+          conf = ap (conf_rule e.kind) k.conf;
+          unused = λ u. ap (with_conf x) (k.unused u);
+          client = of_client answers settings c q;
+          was = refl;
+        })
+        (slate_some answers settings c q e heard) (conf_in s.phase q x s h)
+
+    more_case : (q : List Event) (e : Event) (b : Bool) → concerns c e ≡ b → Has q → Has (q ++ e ∷ [])
+    more_case q e true is h = subst (λ (s : Slate). HasIn s.phase (q ++ e ∷ []) s) (sym (slate_some answers settings c q e is)) (leads q e is h).has
+    more_case q e false is h = subst (λ (s : Slate). HasIn s.phase (q ++ e ∷ []) s) (sym (slate_none answers settings c q e is)) (later_in (slate answers settings c q).phase q e (slate answers settings c q) h)
+
+    pub has_more : (q : List Event) (e : Event) → Has q → Has (q ++ e ∷ [])
+    has_more q e h = more_case q e (concerns c e) refl h
+
+    pub has_none : Has []
+    unfolding slate
+    has_none = tt
+
+-- ---- all clients
+
+module _ (answers : Serving) (settings : Settings)
+    (respond : (n : Option ℕ) (r : Req (Unit {0})) (k : ℕ) → IfSome (reply_to n r.octets (answers.answer r k)) (Responds r.octets))
+    (fit : (r : Req (Unit {0})) (k : ℕ) (hint : Option ℕ) → r.transport ≡ Udp hint → IfSome (sent_for answers r (answers.answer r k)) (λ m. length (wire m) ≤ limit (answers.hint r)))
+    (cut_fits : (n : ℕ) (m : Msg) → 512 ≤ n → length (wire (cut n m)) ≤ n) where
+  abbrev AllReply : List Event → List Output → Type 0
+  AllReply es outs = All (IsReply answers settings es) outs
+
+  abbrev HasAll : List Event → Type 0
+  HasAll q = (c : ℕ) → Has answers settings c respond fit cut_fits q
+
+  flat_case : (es q : List Event) (e : Event) (m : ℕ) (ms : List ℕ) (b : Bool) → concerns m e ≡ b → ((d : ℕ) → concerns d e ≡ true → AllReply es (gain answers settings d q e)) → AllReply es (flat_map (λ d. gain answers settings d q e) ms) → AllReply es (flat_map (λ d. gain answers settings d q e) (cond b (m ∷ ms) ms))
+  flat_case es q e m ms true is each rest = All-append (IsReply answers settings es) (gain answers settings m q e) (flat_map (λ d. gain answers settings d q e) ms) (each m is) rest
+  flat_case es q e m ms false is each rest = rest
+
+  flat_replies : (es q : List Event) (e : Event) (ms : List ℕ) → ((d : ℕ) → concerns d e ≡ true → AllReply es (gain answers settings d q e)) → AllReply es (flat_map (λ d. gain answers settings d q e) (filter (λ d. concerns d e) ms))
+  flat_replies es q e [] each = All-nil (IsReply answers settings es)
+  flat_replies es q e (m ∷ ms) each = flat_case es q e m (filter (λ d. concerns d e) ms) (concerns m e) refl each (flat_replies es q e ms each)
+
+  away_replies : (es q : List Event) (e : Event) → AllReply es (turned_away answers settings q e)
+  away_replies es q e =
+      let P = IsReply answers settings es in
+      let x = TurnedAway e.client (conf settings q).stream.accept_connections_at_max in
+      (elim (is_turned_away answers settings q e) as (λ b. All P (if b then x ∷ [] else [])) [ true ↦ All-cons P x [] tt (All-nil P) | false ↦ All-nil P ])
+
+  gained_replies : (q r : List Event) (e : Event) → HasAll q → AllReply (q ++ e ∷ r) (gained answers settings q e)
   gained_replies q r e h =
-      let P = IsReply answers settings (q ++ e ∷ r) in
-      let away = TurnedAway e.client settings.stream.accept_connections_at_max in
-      either P (list_any (nat_eq e.client) (members answers settings (q ++ e ∷ []))) (is_new answers settings q e) (gain answers settings e.client q e) (away ∷ []) ((leads q e h).sent r) (All-cons P away [] tt (All-nil P))
+      let es : List Event = q ++ e ∷ r in
+      All-append (IsReply answers settings es) (flat_map (λ c. gain answers settings c q e) (heard answers settings q e)) (turned_away answers settings q e)
+      (flat_replies es q e (members answers settings (q ++ e ∷ [])) (λ d is. (leads answers settings d respond fit cut_fits q e is (h d)).sent r))
+      (away_replies es q e)
 
-  out_replies : (r q : List Event) → ((c : ℕ) → Has c q) → Replies (q ++ r) (out_after answers settings q r)
+  out_replies : (r q : List Event) → HasAll q → AllReply (q ++ r) (out_after answers settings q r)
   out_replies [] q h = All-nil (IsReply answers settings (q ++ []))
   out_replies (e ∷ r) q h =
-      let P = IsReply answers settings (q ++ e ∷ r) in
-      let rest : Replies (q ++ e ∷ r) (out_after answers settings (q ++ e ∷ []) r) = subst (λ (es : List Event). Replies es (out_after answers settings (q ++ e ∷ []) r)) (append_assoc q (e ∷ []) r) (out_replies r (q ++ e ∷ []) (has_more q e h)) in
-      All-append P (gained answers settings q e) (out_after answers settings (q ++ e ∷ []) r) (gained_replies q r e (h e.client)) rest
-
-  has_none : (c : ℕ) → Has c []
-  unfolding slate HasIn
-  has_none c = refl
+      let es : List Event = q ++ e ∷ r in
+      let more = out_replies r (q ++ e ∷ []) (λ c. has_more answers settings c respond fit cut_fits q e (h c)) in
+      All-append (IsReply answers settings es) (gained answers settings q e) (out_after answers settings (q ++ e ∷ []) r) (gained_replies q r e h)
+      (subst (λ (fs : List Event). AllReply fs (out_after answers settings (q ++ e ∷ []) r)) (append_assoc q (e ∷ []) r) more)
 
   -- each output that is a reply answers what its client asked
-  pub all_reply : (es : List Event) → Replies es (out answers settings es)
+  pub all_reply : (es : List Event) → AllReply es (out answers settings es)
   unfolding out
-  all_reply es = out_replies es [] has_none
+  all_reply es = out_replies es [] (λ c. has_none answers settings c respond fit cut_fits)

@@ -1,185 +1,283 @@
 -- What one client is sent, read off what all are sent.
 use Rattle.dns_client.specs.Serving.{Serving}
-use Rattle.std.proofs.Common.{◌≡◌, ◌≢◌, ℕ, List, [], ◌∷◌, ◌++◌, Bool, true, false, refl, ap, sym, ◌∙◌, subst, append_assoc, ⊎_elim}
+use Rattle.std.proofs.Common.{◌≡◌, ◌≢◌, ℕ, List, [], ◌∷◌, ◌++◌, Bool, true, false, cond, refl, ap, sym, ◌∙◌, subst, append_assoc, ⊎_elim}
 use Rattle.std.proofs.lemmas.List.{append-nil}
-use Rattle.std.proofs.lemmas.Bool.{cases_eq}
+use Rattle.std.proofs.lemmas.Bool.{cases_eq, eq-eqb, eqb-true, ne_eqb}
 use Rattle.std.proofs.lemmas.List.Elements.{filter-append}
+use Rattle.std.proofs.lemmas.Map.Keys.{sorted_head, sorted_tail}
 use Rattle.std.specs.Prelude.{nat_eq, filter, if◌then◌else◌, not, ◌&&◌}
-use Rattle.std.specs.List.{list_any}
+use Rattle.std.specs.List.{list_any, flat_map}
+use Rattle.std.specs.List.Sorted.{IsStrictlySortedBy}
+use Rattle.std.specs.Ordering.{nat_cmp}
 use Rattle.dns_service.specs.declared.event.Event.{Event}
 use Rattle.dns_service.specs.declared.event.Output.{Output}
 use Rattle.dns_service.specs.declared.event.Output.TheVariants.{TurnedAway}
 use Rattle.dns_client.specs.Slate.{Slate}
-use Rattle.dns_client.specs.Rule.{rule}
-use Rattle.dns_core.specs.Own.{concerns, own}
-use Rattle.dns_core.specs.Sent.{sent, slate}
-use Rattle.dns_core.specs.Out.{is_unused, begins, is_new, members, gained, out_after, out}
+use Rattle.dns_core.specs.Own.{is_wide, concerns, own}
+use Rattle.dns_core.specs.Sent.{conf, sent, slate}
+use Rattle.dns_core.specs.Out.{is_unused, is_new, is_turned_away, joins, members, gain, heard, turned_away, gained, out_after, out}
 use Rattle.dns_core.specs.ByClient.{is_for, is_member, was_turned_away}
 use Rattle.dns_middleware.specs.declared.settings.Settings.{Settings}
-use Rattle.dns_core.proofs.OutLemmas.{sent_more, sent_still}
+use Rattle.dns_core.proofs.Counted.{less_absent, or_true}
+use Rattle.dns_core.proofs.OutLemmas.{slate_some, sent_more, sent_still}
 use Rattle.dns_core.proofs.Plain.{unused_is}
-use Rattle.dns_core.proofs.Gained.{concerns_same, concerns_other, slate_same, slate_other, members_kept, gained_own}
-use Rattle.dns_core.proofs.Nothing.{member_other, unused_alike}
-use Rattle.dns_core.proofs.Named.{AreFor, filter_for, filter_others, rule_for, first_for, begins_used, of_client, silent}
+use Rattle.dns_core.proofs.Gained.{and_true, concerns_own, used_more, new_was, new_became, used_not_new, members_kept, members_away}
+use Rattle.dns_core.proofs.Rising.{rises, members_used, new_joins}
+use Rattle.dns_core.proofs.Nothing.{member_other}
+use Rattle.dns_core.proofs.Named.{AreFor, filter_for, filter_others, rule_for, first_for, wide_begins_nobody, of_client, sent_nothing}
+
+-- of what is told by number, what is for one is what that one is told
+flat_case : (p : ℕ → Bool) (f : ℕ → List Output) (c m : ℕ) (ms : List ℕ) (rest : List Output) → filter (is_for c) (flat_map f (filter p ms)) ≡ rest → (b : Bool) → p m ≡ b
+    → filter (is_for c) (flat_map f (cond b (m ∷ filter p ms) (filter p ms))) ≡ filter (is_for c) (if b then f m else []) ++ rest
+flat_case p f c m ms rest more true h = filter-append (is_for c) (f m) (flat_map f (filter p ms)) ∙ ap (λ (os : List Output). filter (is_for c) (f m) ++ os) more
+flat_case p f c m ms rest more false h = more
+
+flat_absent : (p : ℕ → Bool) (f : ℕ → List Output) (c : ℕ) (ms : List ℕ) → ((d : ℕ) → p d ≡ true → list_any (nat_eq d) ms ≡ true → AreFor d (f d)) → list_any (nat_eq c) ms ≡ false → filter (is_for c) (flat_map f (filter p ms)) ≡ []
+flat_absent p f c [] each absent = refl
+flat_absent p f c (m ∷ ms) each absent =
+    let apart : c ≢ m = λ (e : c ≡ m). let here = eq-eqb c m e in cc in
+    let ne = ne_eqb c m apart in
+    let rest = flat_absent p f c ms (λ d passes there. each d passes (rw there (or_true (nat_eq d m)))) (rw ne at absent) in
+    flat_case p f c m ms [] rest (p m) refl ∙ (append-nil (filter (is_for c) (if p m then f m else [])) ∙ others c m (f m) apart (p m) (λ passes. each m passes (rw (eq-eqb m m refl) refl)))
+  where
+    others : (c m : ℕ) (os : List Output) → c ≢ m → (b : Bool) → (b ≡ true → AreFor m os) → filter (is_for c) (if b then os else []) ≡ []
+    others c m os apart true h = filter_others c m os (h refl) apart
+    others c m os apart false h = refl
+
+-- of numbers that rise each is told once
+flat_of : (p : ℕ → Bool) (f : ℕ → List Output) (c : ℕ) (ms : List ℕ) → IsStrictlySortedBy nat_cmp ms → ((d : ℕ) → p d ≡ true → list_any (nat_eq d) ms ≡ true → AreFor d (f d)) → list_any (nat_eq c) ms ≡ true → filter (is_for c) (flat_map f (filter p ms)) ≡ (if p c then f c else [])
+flat_of p f c [] so each there = cc
+flat_of p f c (m ∷ ms) so each there =
+    let later : (d : ℕ) → p d ≡ true → list_any (nat_eq d) ms ≡ true → AreFor d (f d) = λ d passes is. each d passes (rw is (or_true (nat_eq d m))) in
+    ⊎_elim
+    (λ (same : m ≡ c).
+    let absent : list_any (nat_eq c) ms ≡ false = ap (λ (x : ℕ). list_any (nat_eq x) ms) (sym same) ∙ less_absent m ms (sorted_head nat_cmp m ms so) in
+    flat_case p f c m ms [] (flat_absent p f c ms later absent) (p m) refl
+    ∙ (append-nil (filter (is_for c) (if p m then f m else []))
+    ∙ (ap (λ (x : ℕ). filter (is_for c) (if p x then f x else [])) same
+    ∙ own_case c (f c) (p c) (λ passes. each c passes (rw (eq-eqb c m (sym same)) refl)))))
+    (λ (apart : m ≢ c).
+    let ne = ne_eqb c m (λ (e : c ≡ m). apart (sym e)) in
+    let rest = flat_of p f c ms (sorted_tail nat_cmp m ms so) later (rw ne at there) in
+    flat_case p f c m ms (if p c then f c else []) rest (p m) refl
+    ∙ ap (λ (os : List Output). os ++ (if p c then f c else [])) (other_case c m (f m) (λ (e : c ≡ m). apart (sym e)) (p m) (λ passes. each m passes (rw (eq-eqb m m refl) refl))))
+    (cases_eq m c)
+  where
+    own_case : (c : ℕ) (os : List Output) (b : Bool) → (b ≡ true → AreFor c os) → filter (is_for c) (if b then os else []) ≡ (if b then os else [])
+    own_case c os true h = filter_for c os (h refl)
+    own_case c os false h = refl
+
+    other_case : (c m : ℕ) (os : List Output) → c ≢ m → (b : Bool) → (b ≡ true → AreFor m os) → filter (is_for c) (if b then os else []) ≡ []
+    other_case c m os apart true h = filter_others c m os (h refl) apart
+    other_case c m os apart false h = refl
 
 module _ (answers : Serving) (settings : Settings) where
-  -- what the rules for a client alone give: of an exchange or a connection all that it is sent, of one that was turned away that
-  abbrev pub of_own : Bool → Bool → ℕ → List Event → List Output
-  of_own member unused c q = if member then sent answers settings (own c q) else (if unused then [] else TurnedAway c settings.stream.accept_connections_at_max ∷ [])
+  -- a member is told what is for it, at the event by which it begins and after
+  gain_unused : (d : ℕ) (q : List Event) (e : Event) → concerns d e ≡ true → is_unused (slate answers settings d q).phase ≡ true → is_unused (slate answers settings d (q ++ e ∷ [])).phase ≡ false → (w : Bool) → is_wide e.kind ≡ w → AreFor d (gain answers settings d q e)
+  gain_unused d q e hears u used true w =
+      let still = ap (λ (s : Slate). is_unused s.phase) (slate_some answers settings d q e hears) ∙ wide_begins_nobody answers e (slate answers settings d q) w u in cc
+  gain_unused d q e hears u used false w =
+      let same : e.client ≡ d = eqb-true e.client d (sym (concerns_own d e w) ∙ hears) in
+      subst (λ (c : ℕ). AreFor c (gain answers settings d q e)) same (first_for answers e (slate answers settings d q) (unused_is (slate answers settings d q).phase u))
 
-  pub told : ℕ → List Event → List Output
-  told c q = of_own (is_member answers settings c q) (is_unused (slate answers settings c q).phase) c q
+  gain_case : (d : ℕ) (q : List Event) (e : Event) → concerns d e ≡ true → list_any (nat_eq d) (members answers settings (q ++ e ∷ [])) ≡ true → (u : Bool) → is_unused (slate answers settings d q).phase ≡ u → AreFor d (gain answers settings d q e)
+  gain_case d q e hears there true u = gain_unused d q e hears u (members_used answers settings (q ++ e ∷ []) d there) (is_wide e.kind) refl
+  gain_case d q e hears there false u = subst (λ (c : ℕ). AreFor c (gain answers settings d q e)) (of_client answers settings d q u) (rule_for answers e (slate answers settings d q) u)
 
-  pub new_unused : (q : List Event) (e : Event) → is_new answers settings q e ≡ true → (begins e.kind ≡ true) × (is_unused (slate answers settings e.client q).phase ≡ true)
-  unfolding is_new
-  new_unused q e n = both (begins e.kind) (is_unused (slate answers settings e.client q).phase) n
-    where
-      both : (a b : Bool) → (a && b) ≡ true → (a ≡ true) × (b ≡ true)
-      both true true h = (refl, refl)
-      both true false h = cc
-      both false b h = cc
+  gain_for : (q : List Event) (e : Event) (d : ℕ) → concerns d e ≡ true → list_any (nat_eq d) (members answers settings (q ++ e ∷ [])) ≡ true → AreFor d (gain answers settings d q e)
+  gain_for q e d hears there = gain_case d q e hears there (is_unused (slate answers settings d q).phase) refl
 
-  -- a member's number is used
-  abbrev MembersUsed : List Event → Type 0
-  MembersUsed q = (c : ℕ) → is_member answers settings c q ≡ true → is_unused (slate answers settings c q).phase ≡ false
+  away_case : (c : ℕ) (q : List Event) (e : Event) (b : Bool) → is_turned_away answers settings q e ≡ b → (b ≡ true → c ≢ e.client) → filter (is_for c) (turned_away answers settings q e) ≡ []
+  away_case c q e true h apart = rw h (filter_others c e.client (TurnedAway e.client (conf settings q).stream.accept_connections_at_max ∷ []) (refl, tt) (apart refl))
+  away_case c q e false h apart = rw h refl
 
-  used_more : (q : List Event) (e : Event) → MembersUsed q → (b : Bool) → is_new answers settings q e ≡ b → is_member answers settings e.client (q ++ e ∷ []) ≡ true → is_unused (slate answers settings e.client (q ++ e ∷ [])).phase ≡ false
-  used_more q e h true n there = ap (λ (s : Slate). is_unused s.phase) (slate_same answers settings q e) ∙ begins_used answers e (slate answers settings e.client q) (new_unused q e n).0
-  used_more q e h false n there = unused_alike answers settings q e (begins e.kind) refl n e.client ∙ h e.client (ap (list_any (nat_eq e.client)) (sym (members_kept answers settings q e n)) ∙ there)
+  -- one that isn't turned away by this event
+  gained_member : (c : ℕ) (q : List Event) (e : Event) → (is_turned_away answers settings q e ≡ true → c ≢ e.client) → list_any (nat_eq c) (members answers settings (q ++ e ∷ [])) ≡ true → filter (is_for c) (gained answers settings q e) ≡ (if concerns c e then gain answers settings c q e else [])
+  gained_member c q e apart there =
+      let ms = members answers settings (q ++ e ∷ []) in
+      let f : ℕ → List Output = λ d. gain answers settings d q e in
+      filter-append (is_for c) (flat_map f (heard answers settings q e)) (turned_away answers settings q e)
+      ∙ (ap (λ (os : List Output). filter (is_for c) (flat_map f (heard answers settings q e)) ++ os) (away_case c q e (is_turned_away answers settings q e) refl apart)
+      ∙ (append-nil (filter (is_for c) (flat_map f (heard answers settings q e)))
+      ∙ flat_of (λ d. concerns d e) f c ms (rises answers settings (q ++ e ∷ [])) (gain_for q e) there))
 
-  members_used_more : (q : List Event) (e : Event) → MembersUsed q → MembersUsed (q ++ e ∷ [])
-  members_used_more q e h c there =
-      ⊎_elim
-      (λ (same : c ≡ e.client). let t : is_member answers settings e.client (q ++ e ∷ []) ≡ true = rw same at there in rw same (used_more q e h (is_new answers settings q e) refl t))
-      (λ (apart : c ≢ e.client). ap (λ (s : Slate). is_unused s.phase) (slate_other answers settings c q e apart) ∙ h c (sym (member_other answers settings q e c apart) ∙ there))
-      (cases_eq c e.client)
+  gained_stranger : (c : ℕ) (q : List Event) (e : Event) → list_any (nat_eq c) (members answers settings (q ++ e ∷ [])) ≡ false → filter (is_for c) (gained answers settings q e) ≡ filter (is_for c) (turned_away answers settings q e)
+  gained_stranger c q e absent =
+      let f : ℕ → List Output = λ d. gain answers settings d q e in
+      filter-append (is_for c) (flat_map f (heard answers settings q e)) (turned_away answers settings q e)
+      ∙ ap (λ (os : List Output). os ++ filter (is_for c) (turned_away answers settings q e)) (flat_absent (λ d. concerns d e) f c (members answers settings (q ++ e ∷ [])) (gain_for q e) absent)
 
-  members_used_on : (r q : List Event) → MembersUsed q → MembersUsed (q ++ r)
-  members_used_on [] q h = subst MembersUsed (sym (append-nil q)) h
-  members_used_on (x ∷ r) q h = subst MembersUsed (append_assoc q (x ∷ []) r) (members_used_on r (q ++ x ∷ []) (members_used_more q x h))
+  out_after_snoc : (p q : List Event) (e : Event) → out_after answers settings p (q ++ e ∷ []) ≡ out_after answers settings p q ++ gained answers settings (p ++ q) e
+  out_after_snoc p [] e = append-nil (gained answers settings p e) ∙ ap (λ (x : List Event). gained answers settings x e) (sym (append-nil p))
+  out_after_snoc p (x ∷ q) e = ap (λ (os : List Output). gained answers settings p x ++ os) (out_after_snoc (p ++ x ∷ []) q e ∙ ap (λ (y : List Event). out_after answers settings (p ++ x ∷ []) q ++ gained answers settings y e) (append_assoc p (x ∷ []) q)) ∙ sym (append_assoc (gained answers settings p x) (out_after answers settings (p ++ x ∷ []) q) (gained answers settings (p ++ x ∷ q) e))
 
-  no_members : (c : ℕ) → is_member answers settings c [] ≡ false
+  out_more : (q : List Event) (e : Event) → out answers settings (q ++ e ∷ []) ≡ out answers settings q ++ gained answers settings q e
+  unfolding out
+  out_more q e = out_after_snoc [] q e
+
+  for_more : (c : ℕ) (q : List Event) (e : Event) → filter (is_for c) (out answers settings (q ++ e ∷ [])) ≡ filter (is_for c) (out answers settings q) ++ filter (is_for c) (gained answers settings q e)
+  for_more c q e = ap (filter (is_for c)) (out_more q e) ∙ filter-append (is_for c) (out answers settings q) (gained answers settings q e)
+
+  abbrev sent_to : ℕ → List Event → List Output
+  sent_to c q = filter (is_for c) (out answers settings q)
+
+  no_out : (c : ℕ) → sent_to c [] ≡ []
+  unfolding out
+  no_out c = refl
+
+  no_members : (c : ℕ) → list_any (nat_eq c) (members answers settings []) ≡ false
   unfolding members
   no_members c = refl
 
-  pub members_used : (q : List Event) → MembersUsed q
-  members_used q = members_used_on q [] (λ c there. let n = no_members c in cc)
+  was_case : (c : ℕ) (q : List Event) (e : Event) → is_unused (slate answers settings c (q ++ e ∷ [])).phase ≡ true → (b : Bool) → is_unused (slate answers settings c q).phase ≡ b → is_unused (slate answers settings c q).phase ≡ true
+  was_case c q e u true is = is
+  was_case c q e u false is = let used = used_more answers settings c q e is in cc
 
-  -- the client of an event alone is sent anything for it
-  rule_own : (q : List Event) (e : Event) (b : Bool) → is_unused (slate answers settings e.client q).phase ≡ b → AreFor e.client (rule answers e (slate answers settings e.client q)).1
-  rule_own q e true u = first_for answers e (slate answers settings e.client q) (unused_is (slate answers settings e.client q).phase u)
-  rule_own q e false u = subst (λ (c : ℕ). AreFor c (rule answers e (slate answers settings e.client q)).1) (of_client answers settings e.client q u) (rule_for answers e (slate answers settings e.client q) u)
+  absent_case : (b : Bool) → (b ≡ true → ⊥) → b ≡ false
+  absent_case true h = absurd (h refl)
+  absent_case false h = refl
 
-  either_own : (c : ℕ) (b n : Bool) (os ps : List Output) → AreFor c os → AreFor c ps → AreFor c (if b then os else (if n then ps else []))
-  either_own c true n os ps h k = h
-  either_own c false true os ps h k = k
-  either_own c false false os ps h k = tt
+  -- a client whose number is unused is no member, and begins with nothing that turns it away
+  unused_absent : (c : ℕ) (q : List Event) → is_unused (slate answers settings c q).phase ≡ true → list_any (nat_eq c) (members answers settings q) ≡ false
+  unused_absent c q u = absent_case (list_any (nat_eq c) (members answers settings q)) (λ there. let used = members_used answers settings q c there in let no : ⊥ = cc in no)
 
-  gained_for : (q : List Event) (e : Event) → AreFor e.client (gained answers settings q e)
-  gained_for q e = either_own e.client (is_member answers settings e.client (q ++ e ∷ [])) (is_new answers settings q e) (rule answers e (slate answers settings e.client q)).1 (TurnedAway e.client settings.stream.accept_connections_at_max ∷ []) (rule_own q e (is_unused (slate answers settings e.client q).phase) refl) (refl, tt)
+  away_new : (q : List Event) (e : Event) → is_turned_away answers settings q e ≡ true → is_new answers settings q e ≡ true
+  away_new q e h = (and_true (is_new answers settings q e) (not (joins answers settings q (members answers settings q) e)) h).0
 
-  -- one event more of a client that goes on as it was
-  own_more : (c : ℕ) (os more : List Output) (all : List Output) (m u : Bool) → all ≡ os ++ more → (if m then all else (if u then [] else TurnedAway c settings.stream.accept_connections_at_max ∷ [])) ≡ (if m then os else (if u then [] else TurnedAway c settings.stream.accept_connections_at_max ∷ [])) ++ (if m then more else [])
-  own_more c os more all true u h = h
-  own_more c os more all false u h = sym (append-nil (if u then [] else TurnedAway c settings.stream.accept_connections_at_max ∷ []))
+  unused_apart : (c : ℕ) (q : List Event) (e : Event) → is_unused (slate answers settings c (q ++ e ∷ [])).phase ≡ true → is_turned_away answers settings q e ≡ true → c ≢ e.client
+  unused_apart c q e u away same = let became = new_became answers settings q e (away_new q e away) in let u' : is_unused (slate answers settings e.client (q ++ e ∷ [])).phase ≡ true = rw same at u in let no : ⊥ = cc in no
 
-  told_own : (q : List Event) (e : Event) → is_new answers settings q e ≡ false → told e.client (q ++ e ∷ []) ≡ told e.client q ++ gained answers settings q e
-  unfolding told
-  told_own q e n =
-      rw (gained_own answers settings q e n, members_kept answers settings q e n, unused_alike answers settings q e (begins e.kind) refl n e.client)
-      (own_more e.client (sent answers settings (own e.client q)) (rule answers e (slate answers settings e.client q)).1 (sent answers settings (own e.client (q ++ e ∷ []))) (is_member answers settings e.client q) (is_unused (slate answers settings e.client q).phase) (sent_more answers settings e.client q e (concerns_same e)))
+  member_apart : (c : ℕ) (q : List Event) (e : Event) → list_any (nat_eq c) (members answers settings q) ≡ true → is_turned_away answers settings q e ≡ true → c ≢ e.client
+  member_apart c q e there away same = let was = new_was answers settings q e (away_new q e away) in let t : list_any (nat_eq e.client) (members answers settings q) ≡ true = rw same at there in let used = members_used answers settings q e.client t in let no : ⊥ = cc in no
 
-  -- and of one that begins
-  told_none : (c : ℕ) (q : List Event) (m : Bool) → is_member answers settings c q ≡ m → is_unused (slate answers settings c q).phase ≡ true → told c q ≡ []
-  unfolding told
-  told_none c q true is u = let used = members_used q c is in cc
-  told_none c q false is u = rw (is, u) refl
+  -- to a client that didn't begin nothing is sent
+  abbrev Untold : List Event → Type 0
+  Untold q = (c : ℕ) → is_unused (slate answers settings c q).phase ≡ true → sent_to c q ≡ []
 
-  begun_case : (q : List Event) (e : Event) (m : Bool) → is_new answers settings q e ≡ true → is_member answers settings e.client (q ++ e ∷ []) ≡ m → told e.client (q ++ e ∷ []) ≡ gained answers settings q e
-  unfolding told
-  begun_case q e true n is =
-      let u = (new_unused q e n).1 in
-      rw (is) (sent_more answers settings e.client q e (concerns_same e) ∙ ap (λ (os : List Output). os ++ (rule answers e (slate answers settings e.client q)).1) (silent answers settings e.client q u))
-  begun_case q e false n is =
-      let used = ap (λ (s : Slate). is_unused s.phase) (slate_same answers settings q e) ∙ begins_used answers e (slate answers settings e.client q) (new_unused q e n).0 in
-      rw (is, used, n) refl
+  untold_more : (q : List Event) (e : Event) → Untold q → Untold (q ++ e ∷ [])
+  untold_more q e h c u =
+      for_more c q e
+      ∙ (ap (λ (os : List Output). os ++ filter (is_for c) (gained answers settings q e)) (h c (was_case c q e u (is_unused (slate answers settings c q).phase) refl))
+      ∙ (gained_stranger c q e (unused_absent c (q ++ e ∷ []) u)
+      ∙ away_case c q e (is_turned_away answers settings q e) refl (unused_apart c q e u)))
 
-  told_begun : (q : List Event) (e : Event) → is_new answers settings q e ≡ true → told e.client (q ++ e ∷ []) ≡ told e.client q ++ gained answers settings q e
-  told_begun q e n = rw (told_none e.client q (is_member answers settings e.client q) refl (new_unused q e n).1) (begun_case q e (is_member answers settings e.client (q ++ e ∷ [])) n refl)
+  untold_on : (r q : List Event) → Untold q → Untold (q ++ r)
+  untold_on [] q h = subst Untold (sym (append-nil q)) h
+  untold_on (x ∷ r) q h = subst Untold (append_assoc q (x ∷ []) r) (untold_on r (q ++ x ∷ []) (untold_more q x h))
 
-  told_same : (q : List Event) (e : Event) (b : Bool) → is_new answers settings q e ≡ b → told e.client (q ++ e ∷ []) ≡ told e.client q ++ filter (is_for e.client) (gained answers settings q e)
-  told_same q e true n = rw (filter_for e.client (gained answers settings q e) (gained_for q e)) (told_begun q e n)
-  told_same q e false n = rw (filter_for e.client (gained answers settings q e) (gained_for q e)) (told_own q e n)
+  untold : (q : List Event) → Untold q
+  untold q = untold_on q [] (λ c u. no_out c)
 
-  told_apart : (c : ℕ) (q : List Event) (e : Event) → c ≢ e.client → told c (q ++ e ∷ []) ≡ told c q ++ filter (is_for c) (gained answers settings q e)
-  unfolding told
-  told_apart c q e apart =
-      let other : concerns c e ≡ false = concerns_other c e apart in
-      rw (filter_others c e.client (gained answers settings q e) (gained_for q e) apart, member_other answers settings q e c apart, slate_other answers settings c q e apart, sent_still answers settings c q e other)
-      (sym (append-nil (told c q)))
+  -- to a member what its own events send
+  abbrev Owns : List Event → Type 0
+  Owns q = (c : ℕ) → list_any (nat_eq c) (members answers settings q) ≡ true → sent_to c q ≡ sent answers settings (own c q)
 
-  told_more : (c : ℕ) (q : List Event) (e : Event) → told c (q ++ e ∷ []) ≡ told c q ++ filter (is_for c) (gained answers settings q e)
-  told_more c q e =
+  goes_on : (c : ℕ) (q : List Event) (e : Event) → sent_to c q ≡ sent answers settings (own c q) → (is_turned_away answers settings q e ≡ true → c ≢ e.client) → list_any (nat_eq c) (members answers settings (q ++ e ∷ [])) ≡ true → (b : Bool) → concerns c e ≡ b → sent_to c (q ++ e ∷ []) ≡ sent answers settings (own c (q ++ e ∷ []))
+  goes_on c q e so apart there true hears =
+      for_more c q e
+      ∙ (ap (λ (os : List Output). os ++ filter (is_for c) (gained answers settings q e)) so
+      ∙ (ap (λ (os : List Output). sent answers settings (own c q) ++ os) (gained_member c q e apart there ∙ rw hears refl)
+      ∙ sym (sent_more answers settings c q e hears)))
+  goes_on c q e so apart there false hears =
+      for_more c q e
+      ∙ (ap (λ (os : List Output). os ++ filter (is_for c) (gained answers settings q e)) so
+      ∙ (ap (λ (os : List Output). sent answers settings (own c q) ++ os) (gained_member c q e apart there ∙ rw hears refl)
+      ∙ (append-nil (sent answers settings (own c q))
+      ∙ sym (sent_still answers settings c q e hears))))
+
+  -- one that is a member since this event
+  began : (c : ℕ) (q : List Event) (e : Event) → list_any (nat_eq c) (members answers settings q) ≡ false → list_any (nat_eq c) (members answers settings (q ++ e ∷ [])) ≡ true → (b : Bool) → joins answers settings q (members answers settings q) e ≡ b → (joins answers settings q (members answers settings q) e ≡ true) × (c ≡ e.client)
+  began c q e absent there false j = let same = ap (list_any (nat_eq c)) (members_away answers settings q e j) in cc
+  began c q e absent there true j =
       ⊎_elim
-      (λ (same : c ≡ e.client). rw same (told_same q e (is_new answers settings q e) refl))
-      (λ (apart : c ≢ e.client). told_apart c q e apart)
+      (λ (same : c ≡ e.client). (j, same))
+      (λ (apart : c ≢ e.client). let other = member_other answers settings q e c apart in cc)
       (cases_eq c e.client)
 
-  told_on : (c : ℕ) (r q : List Event) → told c (q ++ r) ≡ told c q ++ filter (is_for c) (out_after answers settings q r)
-  told_on c [] q = ap (told c) (append-nil q) ∙ sym (append-nil (told c q))
-  told_on c (x ∷ r) q =
-      ap (told c) (sym (append_assoc q (x ∷ []) r))
-      ∙ told_on c r (q ++ x ∷ [])
-      ∙ ap (λ (os : List Output). os ++ filter (is_for c) (out_after answers settings (q ++ x ∷ []) r)) (told_more c q x)
-      ∙ append_assoc (told c q) (filter (is_for c) (gained answers settings q x)) (filter (is_for c) (out_after answers settings (q ++ x ∷ []) r))
-      ∙ ap (λ (os : List Output). told c q ++ os) (sym (filter-append (is_for c) (gained answers settings q x) (out_after answers settings (q ++ x ∷ []) r)))
+  owns_case : (q : List Event) (e : Event) → Owns q → (c : ℕ) → list_any (nat_eq c) (members answers settings (q ++ e ∷ [])) ≡ true → (b : Bool) → list_any (nat_eq c) (members answers settings q) ≡ b → sent_to c (q ++ e ∷ []) ≡ sent answers settings (own c (q ++ e ∷ []))
+  owns_case q e h c there true is = goes_on c q e (h c is) (member_apart c q e is) there (concerns c e) refl
+  owns_case q e h c there false is =
+      let b = began c q e is there (joins answers settings q (members answers settings q) e) refl in
+      let was : is_unused (slate answers settings c q).phase ≡ true = ap (λ (x : ℕ). is_unused (slate answers settings x q).phase) b.1 ∙ new_was answers settings q e (new_joins answers settings q e (members answers settings q) b.0) in
+      let so : sent_to c q ≡ sent answers settings (own c q) = untold q c was ∙ sym (sent_nothing answers settings c q was) in
+      goes_on c q e so (λ away. let not_joined = and_true (is_new answers settings q e) (not (joins answers settings q (members answers settings q) e)) away in let joined = b.0 in cc) there (concerns c e) refl
 
-  nothing_yet : (c : ℕ) → is_unused (slate answers settings c []).phase ≡ true
-  unfolding slate
-  nothing_yet c = refl
+  owns_on : (r q : List Event) → Owns q → Owns (q ++ r)
+  owns_on [] q h = subst Owns (sym (append-nil q)) h
+  owns_on (x ∷ r) q h = subst Owns (append_assoc q (x ∷ []) r) (owns_on r (q ++ x ∷ []) (λ c there. owns_case q x h c there (list_any (nat_eq c) (members answers settings q)) refl))
 
-  -- of all that is sent, what is for a client is what the rules for it alone give
-  pub by_client : (c : ℕ) (es : List Event) → filter (is_for c) (out answers settings es) ≡ told c es
-  unfolding out
-  by_client c es = sym (told_on c es [] ∙ ap (λ (os : List Output). os ++ filter (is_for c) (out_after answers settings [] es)) (told_none c [] false (no_members c) (nothing_yet c)))
+  pub owns : (q : List Event) → Owns q
+  owns q = owns_on q [] (λ c there. let none = no_members c in cc)
 
-  pub told_member : (c : ℕ) (es : List Event) → is_member answers settings c es ≡ true → told c es ≡ sent answers settings (own c es)
-  unfolding told
-  told_member c es is = rw is refl
+  -- one that was turned away stays so
+  record Away (c : ℕ) (q : List Event) (os : List Output) : Type 0 where
+    used : is_unused (slate answers settings c q).phase ≡ false
+    absent : list_any (nat_eq c) (members answers settings q) ≡ false
+    told : sent_to c q ≡ os
 
-  away_case : (c : ℕ) (es : List Event) (m u : Bool) → (not u && not m) ≡ true → of_own m u c es ≡ TurnedAway c settings.stream.accept_connections_at_max ∷ []
-  away_case c es true true h = cc
-  away_case c es true false h = cc
-  away_case c es false true h = cc
-  away_case c es false false h = refl
+  still_absent : (c : ℕ) (q : List Event) (x : Event) → is_unused (slate answers settings c q).phase ≡ false → list_any (nat_eq c) (members answers settings q) ≡ false → list_any (nat_eq c) (members answers settings (q ++ x ∷ [])) ≡ false
+  still_absent c q x used absent =
+      ⊎_elim
+      (λ (same : c ≡ x.client).
+      let u : is_unused (slate answers settings x.client q).phase ≡ false = rw same at used in
+      ap (list_any (nat_eq c)) (members_kept answers settings q x (used_not_new answers settings q x u)) ∙ absent)
+      (λ (apart : c ≢ x.client). member_other answers settings q x c apart ∙ absent)
+      (cases_eq c x.client)
 
-  pub told_away : (c : ℕ) (es : List Event) → was_turned_away answers settings c es ≡ true → told c es ≡ TurnedAway c settings.stream.accept_connections_at_max ∷ []
-  unfolding told
-  told_away c es is = away_case c es (is_member answers settings c es) (is_unused (slate answers settings c es).phase) is
+  used_apart : (c : ℕ) (q : List Event) (x : Event) → is_unused (slate answers settings c q).phase ≡ false → is_turned_away answers settings q x ≡ true → c ≢ x.client
+  used_apart c q x used away same = let was = new_was answers settings q x (away_new q x away) in let u : is_unused (slate answers settings x.client q).phase ≡ false = rw same at used in let no : ⊥ = cc in no
 
-  stranger_case : (c : ℕ) (es : List Event) (m u : Bool) → m ≡ false → (not u && not m) ≡ false → of_own m u c es ≡ []
-  stranger_case c es true u absent h = cc
-  stranger_case c es false true absent h = refl
-  stranger_case c es false false absent h = cc
+  away_more : (c : ℕ) (q : List Event) (os : List Output) (x : Event) → Away c q os → Away c (q ++ x ∷ []) os
+  away_more c q os x a =
+      let absent = still_absent c q x a.used a.absent in
+      record {
+        used = used_more answers settings c q x a.used;
+        absent = absent;
+        told = for_more c q x
+            ∙ (ap (λ (ps : List Output). ps ++ filter (is_for c) (gained answers settings q x)) a.told
+            ∙ (ap (λ (ps : List Output). os ++ ps) (gained_stranger c q x absent ∙ away_case c q x (is_turned_away answers settings q x) refl (used_apart c q x a.used))
+            ∙ append-nil os));
+      }
 
-  pub told_stranger : (c : ℕ) (es : List Event) → is_member answers settings c es ≡ false → was_turned_away answers settings c es ≡ false → told c es ≡ []
-  unfolding told
-  told_stranger c es absent is = stranger_case c es (is_member answers settings c es) (is_unused (slate answers settings c es).phase) absent is
+  away_on : (c : ℕ) (os : List Output) (r q : List Event) → Away c q os → Away c (q ++ r) os
+  away_on c os [] q a = subst (λ (p : List Event). Away c p os) (sym (append-nil q)) a
+  away_on c os (x ∷ r) q a = subst (λ (p : List Event). Away c p os) (append_assoc q (x ∷ []) r) (away_on c os r (q ++ x ∷ []) (away_more c q os x a))
+
+  no_joins : (b : Bool) → not b ≡ true → b ≡ false
+  no_joins true h = cc
+  no_joins false h = refl
+
+  pub turned : (q r : List Event) (e : Event) → is_turned_away answers settings q e ≡ true → sent_to e.client (q ++ e ∷ r) ≡ TurnedAway e.client (conf settings q).stream.accept_connections_at_max ∷ []
+  turned q r e away =
+      let both = and_true (is_new answers settings q e) (not (joins answers settings q (members answers settings q) e)) away in
+      let out_of = no_joins (joins answers settings q (members answers settings q) e) both.1 in
+      let was = new_was answers settings q e both.0 in
+      let absent = ap (list_any (nat_eq e.client)) (members_away answers settings q e out_of) ∙ unused_absent e.client q was in
+      let line = TurnedAway e.client (conf settings q).stream.accept_connections_at_max ∷ [] in
+      let says : filter (is_for e.client) (turned_away answers settings q e) ≡ line = rw away (filter_for e.client line (refl, tt)) in
+      let first : Away e.client (q ++ e ∷ []) line = record {
+        used = new_became answers settings q e both.0;
+        absent = absent;
+        told = for_more e.client q e ∙ (ap (λ (os : List Output). os ++ filter (is_for e.client) (gained answers settings q e)) (untold q e.client was) ∙ (gained_stranger e.client q e absent ∙ says));
+      } in
+      ap (sent_to e.client) (sym (append_assoc q (e ∷ []) r)) ∙ (away_on e.client line r (q ++ e ∷ []) first).told
+
+  -- neither a member nor turned away: it didn't begin
+  didnt_begin : (u m : Bool) → m ≡ false → (not u && not m) ≡ false → u ≡ true
+  didnt_begin true m absent h = refl
+  didnt_begin false true absent h = cc
+  didnt_begin false false absent h = cc
+
+  pub strangers : (c : ℕ) (es : List Event) → is_member answers settings c es ≡ false → was_turned_away answers settings c es ≡ false → sent_to c es ≡ []
+  strangers c es absent h = untold es c (didnt_begin (is_unused (slate answers settings c es).phase) (is_member answers settings c es) absent h)
 
   -- a client that wasn't turned away is sent what its own events alone give
-  not_away : (c : ℕ) (es : List Event) (u m : Bool) → is_unused (slate answers settings c es).phase ≡ u → is_member answers settings c es ≡ m → (not u && not m) ≡ false → told c es ≡ (if u then [] else sent answers settings (own c es))
-  unfolding told
-  not_away c es true true is there h = let used = members_used es c there in cc
-  not_away c es true false is there h = rw (is, there) refl
-  not_away c es false true is there h = rw there refl
-  not_away c es false false is there h = cc
+  not_away : (c : ℕ) (es : List Event) (m : Bool) → is_member answers settings c es ≡ m → was_turned_away answers settings c es ≡ false → sent_to c es ≡ sent answers settings (own c es)
+  not_away c es true there h = owns es c there
+  not_away c es false there h =
+      let u = didnt_begin (is_unused (slate answers settings c es).phase) (is_member answers settings c es) there h in
+      untold es c u ∙ sym (sent_nothing answers settings c es u)
 
-  by_own : (c : ℕ) (es fs : List Event) → own c es ≡ own c fs → (if is_unused (slate answers settings c es).phase then [] else sent answers settings (own c es)) ≡ (if is_unused (slate answers settings c fs).phase then [] else sent answers settings (own c fs))
-  unfolding slate
-  by_own c es fs same = rw same refl
-
-  pub told_alike : (c : ℕ) (es fs : List Event) → own c es ≡ own c fs → was_turned_away answers settings c es ≡ false → was_turned_away answers settings c fs ≡ false → told c es ≡ told c fs
-  told_alike c es fs same e f =
-      not_away c es (is_unused (slate answers settings c es).phase) (is_member answers settings c es) refl refl e
-      ∙ by_own c es fs same
-      ∙ sym (not_away c fs (is_unused (slate answers settings c fs).phase) (is_member answers settings c fs) refl refl f)
+  pub alike : (c : ℕ) (es fs : List Event) → own c es ≡ own c fs → was_turned_away answers settings c es ≡ false → was_turned_away answers settings c fs ≡ false → sent_to c es ≡ sent_to c fs
+  alike c es fs same e f =
+      not_away c es (is_member answers settings c es) refl e ∙ (ap (sent answers settings) same ∙ sym (not_away c fs (is_member answers settings c fs) refl f))

@@ -9,7 +9,7 @@ use Rattle.std.proofs.lemmas.Bool.Decides.{nat_tests}
 use Rattle.std.proofs.lemmas.Map.Keys.{sorted_head, sorted_tail}
 use Rattle.dns_core.specs.Out.{put}
 
-or_true : (b : Bool) → (b || true) ≡ true
+pub or_true : (b : Bool) → (b || true) ≡ true
 or_true true = refl
 or_true false = refl
 
@@ -29,7 +29,7 @@ put_there c (m ∷ ms) =
       | false ↦ rw (put_there c ms) (or_true (nat_eq c m))
     ])
 
-less_absent : (c : ℕ) (ns : List ℕ) → AllByRecursion (λ y. nat_cmp c y ≡ Less) ns → list_any (nat_eq c) ns ≡ false
+pub less_absent : (c : ℕ) (ns : List ℕ) → AllByRecursion (λ y. nat_cmp c y ≡ Less) ns → list_any (nat_eq c) ns ≡ false
 less_absent c [] h = refl
 less_absent c (n ∷ ns) h =
     let ne : nat_eq c n ≡ false = grind (arith, nat_tests, h.0) in
@@ -77,4 +77,13 @@ filter_put_not p c (m ∷ ms) fails =
     (elim (nat_lt c m) as (λ b. length (filter p (if b then c ∷ m ∷ ms else m ∷ put c ms)) ≡ length (filter p (m ∷ ms))) [
       | true ↦ rw fails refl
       | false ↦ (elim (p m) as (λ b. length (cond b (m ∷ filter p (put c ms)) (filter p (put c ms))) ≡ length (cond b (m ∷ filter p ms) (filter p ms))) [ true ↦ omega (arith, more) | false ↦ more ])
+    ])
+
+-- a number is put, and of another it is told as before
+pub put_other : (c x : ℕ) (ms : List ℕ) → c ≢ x → list_any (nat_eq c) (put x ms) ≡ list_any (nat_eq c) ms
+put_other c x [] apart = rw (ne_eqb c x apart) refl
+put_other c x (m ∷ ms) apart =
+    (elim (nat_lt x m) as (λ b. list_any (nat_eq c) (if b then x ∷ m ∷ ms else m ∷ put x ms) ≡ list_any (nat_eq c) (m ∷ ms)) [
+      | true ↦ rw (ne_eqb c x apart) refl
+      | false ↦ ap (λ (b : Bool). nat_eq c m || b) (put_other c x ms apart)
     ])

@@ -1,89 +1,142 @@
--- What is sent for one event more, and who are members then.
+-- Who hears an event, who begins with it, and who are members then.
 use Rattle.dns_client.specs.Serving.{Serving}
 use Rattle.std.proofs.Common.{◌≡◌, ◌≢◌, ℕ, List, [], ◌∷◌, ◌++◌, ◌+◌, length, Bool, true, false, refl, ap, sym, ◌∙◌}
-use Rattle.std.specs.Prelude.{nat_eq, if◌then◌else◌}
+use Rattle.std.specs.Prelude.{nat_eq, not, ◌&&◌}
 use Rattle.std.specs.List.{list_any}
 use Rattle.std.proofs.lemmas.Bool.{eq-eqb, ne_eqb}
 use Rattle.dns_service.specs.declared.event.Event.{Event}
-use Rattle.dns_service.specs.declared.event.Output.TheVariants.{TurnedAway}
-use Rattle.dns_client.specs.Slate.{Slate}
+use Rattle.dns_client.specs.Slate.{Slate, Told, Conf, conf_rule}
 use Rattle.dns_client.specs.Rule.{rule}
-use Rattle.dns_core.specs.Own.{concerns}
-use Rattle.dns_core.specs.Sent.{slate}
-use Rattle.dns_core.specs.Out.{is_unused, begins, is_datagram, is_release, holds_slot, is_new, taken, has_room, members, put, gained}
+use Rattle.dns_core.specs.Own.{is_wide, concerns}
+use Rattle.dns_core.specs.Settings.{opening}
+use Rattle.dns_core.specs.Sent.{conf, conf_after, slate}
+use Rattle.dns_core.specs.Out.{is_unused, holds_slot, is_new, taken, joins, members, put, turned_away}
 use Rattle.dns_middleware.specs.declared.settings.Settings.{Settings}
 use Rattle.dns_core.proofs.OutLemmas.{slate_some, slate_none, members_more}
-use Rattle.dns_core.proofs.Counted.{put_there, filter_same, absent_other, filter_put, filter_put_not}
-use Rattle.dns_core.proofs.Plain.{unused_kept, slot_kept}
+use Rattle.dns_core.proofs.Counted.{filter_same, absent_other, filter_put, filter_put_not, or_true}
+use Rattle.dns_core.proofs.Plain.{narrow_conf, rule_used}
+
+pub and_true : (a b : Bool) → (a && b) ≡ true → (a ≡ true) × (b ≡ true)
+and_true true b h = (refl, h)
+and_true false b h = cc
+
+not_true : (b : Bool) → not b ≡ true → b ≡ false
+not_true true h = cc
+not_true false h = refl
+
+and_false : (b : Bool) → (b && false) ≡ false
+and_false true = refl
+and_false false = refl
+
+and_not : (b : Bool) → (b && not b) ≡ false
+and_not true = refl
+and_not false = refl
 
 pub concerns_same : (e : Event) → concerns e.client e ≡ true
-concerns_same e = eq-eqb e.client e.client refl
+concerns_same e = rw (eq-eqb e.client e.client refl) (or_true (is_wide e.kind))
 
-pub concerns_other : (c : ℕ) (e : Event) → c ≢ e.client → concerns c e ≡ false
-concerns_other c e ne = ne_eqb e.client c (λ h. ne (sym h))
+pub concerns_all : (c : ℕ) (e : Event) → is_wide e.kind ≡ true → concerns c e ≡ true
+concerns_all c e w = rw w refl
+
+pub concerns_own : (c : ℕ) (e : Event) → is_wide e.kind ≡ false → concerns c e ≡ nat_eq e.client c
+concerns_own c e w = rw w refl
+
+pub concerns_other : (c : ℕ) (e : Event) → is_wide e.kind ≡ false → c ≢ e.client → concerns c e ≡ false
+concerns_other c e w ne = concerns_own c e w ∙ ne_eqb e.client c (λ h. ne (sym h))
+
+conf_after_snoc : (k : Conf) (q : List Event) (e : Event) → conf_after k (q ++ e ∷ []) ≡ conf_rule e.kind (conf_after k q)
+conf_after_snoc k [] e = refl
+conf_after_snoc k (x ∷ q) e = conf_after_snoc (conf_rule x.kind k) q e
+
+pub conf_more : (settings : Settings) (q : List Event) (e : Event) → conf settings (q ++ e ∷ []) ≡ conf_rule e.kind (conf settings q)
+unfolding conf
+conf_more settings q e = conf_after_snoc (opening settings) q e
+
+pub conf_kept : (settings : Settings) (q : List Event) (e : Event) → is_wide e.kind ≡ false → conf settings (q ++ e ∷ []) ≡ conf settings q
+conf_kept settings q e w = conf_more settings q e ∙ narrow_conf e.kind (conf settings q) w
 
 module _ (answers : Serving) (settings : Settings) where
   pub slate_same : (q : List Event) (e : Event) → slate answers settings e.client (q ++ e ∷ []) ≡ (rule answers e (slate answers settings e.client q)).0
   slate_same q e = slate_some answers settings e.client q e (concerns_same e)
 
-  pub slate_other : (c : ℕ) (q : List Event) (e : Event) → c ≢ e.client → slate answers settings c (q ++ e ∷ []) ≡ slate answers settings c q
-  slate_other c q e ne = slate_none answers settings c q e (concerns_other c e ne)
+  pub slate_other : (c : ℕ) (q : List Event) (e : Event) → is_wide e.kind ≡ false → c ≢ e.client → slate answers settings c (q ++ e ∷ []) ≡ slate answers settings c q
+  slate_other c q e w ne = slate_none answers settings c q e (concerns_other c e w ne)
 
-  pub not_new : (q : List Event) (e : Event) → begins e.kind ≡ false → is_new answers settings q e ≡ false
-  unfolding is_new
-  not_new q e n = rw n refl
+  -- slates that are alike stay so
+  slate_alike_case : (c : ℕ) (q p : List Event) (e : Event) → slate answers settings c q ≡ slate answers settings c p → (b : Bool) → concerns c e ≡ b → slate answers settings c (q ++ e ∷ []) ≡ slate answers settings c (p ++ e ∷ [])
+  slate_alike_case c q p e same true h = slate_some answers settings c q e h ∙ ap (λ (s : Slate). (rule answers e s).0) same ∙ sym (slate_some answers settings c p e h)
+  slate_alike_case c q p e same false h = slate_none answers settings c q e h ∙ same ∙ sym (slate_none answers settings c p e h)
 
-  pub new_is : (q : List Event) (e : Event) → begins e.kind ≡ true → is_new answers settings q e ≡ is_unused (slate answers settings e.client q).phase
+  pub slate_alike : (c : ℕ) (q p : List Event) (e : Event) → slate answers settings c q ≡ slate answers settings c p → slate answers settings c (q ++ e ∷ []) ≡ slate answers settings c (p ++ e ∷ [])
+  slate_alike c q p e same = slate_alike_case c q p e same (concerns c e) refl
+
+  -- a used number stays used
+  used_case : (c : ℕ) (q : List Event) (e : Event) → is_unused (slate answers settings c q).phase ≡ false → (b : Bool) → concerns c e ≡ b → is_unused (slate answers settings c (q ++ e ∷ [])).phase ≡ false
+  used_case c q e u true h = ap (λ (s : Slate). is_unused s.phase) (slate_some answers settings c q e h) ∙ rule_used answers e (slate answers settings c q) u
+  used_case c q e u false h = ap (λ (s : Slate). is_unused s.phase) (slate_none answers settings c q e h) ∙ u
+
+  pub used_more : (c : ℕ) (q : List Event) (e : Event) → is_unused (slate answers settings c q).phase ≡ false → is_unused (slate answers settings c (q ++ e ∷ [])).phase ≡ false
+  used_more c q e u = used_case c q e u (concerns c e) refl
+
+  -- a client begins where its number was unused before, and is used after
+  pub new_was : (q : List Event) (e : Event) → is_new answers settings q e ≡ true → is_unused (slate answers settings e.client q).phase ≡ true
   unfolding is_new
-  new_is q e b = rw b refl
+  new_was q e n = (and_true (is_unused (slate answers settings e.client q).phase) (not (is_unused (slate answers settings e.client (q ++ e ∷ [])).phase)) n).0
+
+  pub new_became : (q : List Event) (e : Event) → is_new answers settings q e ≡ true → is_unused (slate answers settings e.client (q ++ e ∷ [])).phase ≡ false
+  unfolding is_new
+  new_became q e n = not_true (is_unused (slate answers settings e.client (q ++ e ∷ [])).phase) (and_true (is_unused (slate answers settings e.client q).phase) (not (is_unused (slate answers settings e.client (q ++ e ∷ [])).phase)) n).1
+
+  pub used_not_new : (q : List Event) (e : Event) → is_unused (slate answers settings e.client q).phase ≡ false → is_new answers settings q e ≡ false
+  unfolding is_new
+  used_not_new q e u = rw u refl
+
+  pub unused_not_new : (q : List Event) (e : Event) → is_unused (slate answers settings e.client (q ++ e ∷ [])).phase ≡ true → is_new answers settings q e ≡ false
+  unfolding is_new
+  unused_not_new q e u = rw u (and_false (is_unused (slate answers settings e.client q).phase))
+
+  pub idle_not_new : (q : List Event) (e : Event) → rule answers e (slate answers settings e.client q) ≡ (slate answers settings e.client q, []) → is_new answers settings q e ≡ false
+  unfolding is_new
+  idle_not_new q e idle =
+      let same : slate answers settings e.client (q ++ e ∷ []) ≡ slate answers settings e.client q = slate_same q e ∙ ap (λ (t : Told). t.0) idle in
+      rw same (and_not (is_unused (slate answers settings e.client q).phase))
+
+  -- with an event by which it doesn't begin, the number of its client is as used as before
+  unused_as_before : (a b : Bool) → (a && not b) ≡ false → (a ≡ false → b ≡ false) → b ≡ a
+  unused_as_before true true n h = refl
+  unused_as_before true false n h = cc
+  unused_as_before false b n h = h refl
+
+  pub unused_kept : (q : List Event) (e : Event) → is_new answers settings q e ≡ false → is_unused (slate answers settings e.client (q ++ e ∷ [])).phase ≡ is_unused (slate answers settings e.client q).phase
+  unfolding is_new
+  unused_kept q e n = unused_as_before (is_unused (slate answers settings e.client q).phase) (is_unused (slate answers settings e.client (q ++ e ∷ [])).phase) n (used_more e.client q e)
 
   pub members_kept : (q : List Event) (e : Event) → is_new answers settings q e ≡ false → members answers settings (q ++ e ∷ []) ≡ members answers settings q
   members_kept q e n = members_more answers settings q e ∙ rw n refl
 
-  pub members_datagram : (q : List Event) (e : Event) → is_new answers settings q e ≡ true → is_datagram e.kind ≡ true → members answers settings (q ++ e ∷ []) ≡ put e.client (members answers settings q)
-  members_datagram q e n d = members_more answers settings q e ∙ rw (n, d) refl
+  pub members_joined : (q : List Event) (e : Event) → joins answers settings q (members answers settings q) e ≡ true → members answers settings (q ++ e ∷ []) ≡ put e.client (members answers settings q)
+  members_joined q e j = members_more answers settings q e ∙ rw j refl
 
-  pub members_offer : (q : List Event) (e : Event) (b : Bool) → is_new answers settings q e ≡ true → is_datagram e.kind ≡ false → has_room answers settings q (members answers settings q) ≡ b → members answers settings (q ++ e ∷ []) ≡ (if b then put e.client (members answers settings q) else members answers settings q)
-  members_offer q e b n d r = members_more answers settings q e ∙ rw (n, d, r) refl
+  pub members_away : (q : List Event) (e : Event) → joins answers settings q (members answers settings q) e ≡ false → members answers settings (q ++ e ∷ []) ≡ members answers settings q
+  members_away q e j = members_more answers settings q e ∙ rw j refl
 
-  pub gained_own : (q : List Event) (e : Event) → is_new answers settings q e ≡ false → gained answers settings q e ≡ (if list_any (nat_eq e.client) (members answers settings q) then (rule answers e (slate answers settings e.client q)).1 else [])
-  gained_own q e n = rw (members_kept q e n, n) refl
-
-  pub gained_new : (q : List Event) (e : Event) → members answers settings (q ++ e ∷ []) ≡ put e.client (members answers settings q) → gained answers settings q e ≡ (rule answers e (slate answers settings e.client q)).1
-  gained_new q e m = rw (m, put_there e.client (members answers settings q)) refl
-
-  pub gained_away : (q : List Event) (e : Event) → is_new answers settings q e ≡ true → members answers settings (q ++ e ∷ []) ≡ members answers settings q → list_any (nat_eq e.client) (members answers settings q) ≡ false → gained answers settings q e ≡ TurnedAway e.client settings.stream.accept_connections_at_max ∷ []
-  gained_away q e n m absent = rw (m, absent, n) refl
-
-  one_case : (c : ℕ) (q : List Event) (e : Event) (X : Type 0) (f : Slate → X) → f (rule answers e (slate answers settings c q)).0 ≡ f (slate answers settings c q) → (b : Bool) → concerns c e ≡ b → f (slate answers settings c (q ++ e ∷ [])) ≡ f (slate answers settings c q)
-  one_case c q e X f h true is = ap f (slate_some answers settings c q e is) ∙ h
-  one_case c q e X f h false is = ap f (slate_none answers settings c q e is)
-
-  pub unused_same : (c : ℕ) (q : List Event) (e : Event) → begins e.kind ≡ false → is_unused (slate answers settings c (q ++ e ∷ [])).phase ≡ is_unused (slate answers settings c q).phase
-  unused_same c q e n = one_case c q e Bool (λ (s : Slate). is_unused s.phase) (unused_kept answers e (slate answers settings c q) n) (concerns c e) refl
-
-  slot_same : (c : ℕ) (q : List Event) (e : Event) → begins e.kind ≡ false → is_release e.kind ≡ false → holds_slot (slate answers settings c (q ++ e ∷ [])) ≡ holds_slot (slate answers settings c q)
-  slot_same c q e n r = one_case c q e Bool holds_slot (slot_kept answers e (slate answers settings c q) n r) (concerns c e) refl
-
-  pub taken_same : (q : List Event) (e : Event) (ms : List ℕ) → begins e.kind ≡ false → is_release e.kind ≡ false → taken answers settings (q ++ e ∷ []) ms ≡ taken answers settings q ms
-  unfolding taken
-  taken_same q e ms n r = ap length (filter_same (λ c. holds_slot (slate answers settings c (q ++ e ∷ []))) (λ c. holds_slot (slate answers settings c q)) ms (λ c there. slot_same c q e n r))
+  pub none_away : (q : List Event) (e : Event) → is_new answers settings q e ≡ false → turned_away answers settings q e ≡ []
+  none_away q e n = rw n refl
 
   -- slates that stay hold the same slots
-  pub taken_still : (q : List Event) (e : Event) (ms : List ℕ) → ((c : ℕ) → slate answers settings c (q ++ e ∷ []) ≡ slate answers settings c q) → taken answers settings (q ++ e ∷ []) ms ≡ taken answers settings q ms
+  pub taken_still : (q : List Event) (e : Event) (ms : List ℕ) → ((c : ℕ) → list_any (nat_eq c) ms ≡ true → holds_slot (slate answers settings c (q ++ e ∷ [])) ≡ holds_slot (slate answers settings c q)) → taken answers settings (q ++ e ∷ []) ms ≡ taken answers settings q ms
   unfolding taken
-  taken_still q e ms still = ap length (filter_same (λ c. holds_slot (slate answers settings c (q ++ e ∷ []))) (λ c. holds_slot (slate answers settings c q)) ms (λ c there. ap holds_slot (still c)))
+  taken_still q e ms still = ap length (filter_same (λ c. holds_slot (slate answers settings c (q ++ e ∷ []))) (λ c. holds_slot (slate answers settings c q)) ms still)
 
   -- and so do those of others
-  pub taken_absent : (q : List Event) (e : Event) (ms : List ℕ) → list_any (nat_eq e.client) ms ≡ false → taken answers settings (q ++ e ∷ []) ms ≡ taken answers settings q ms
-  unfolding taken
-  taken_absent q e ms absent = ap length (filter_same (λ c. holds_slot (slate answers settings c (q ++ e ∷ []))) (λ c. holds_slot (slate answers settings c q)) ms (λ c there. ap holds_slot (slate_other c q e (absent_other e.client c ms absent there))))
+  pub taken_absent : (q : List Event) (e : Event) (ms : List ℕ) → is_wide e.kind ≡ false → list_any (nat_eq e.client) ms ≡ false → taken answers settings (q ++ e ∷ []) ms ≡ taken answers settings q ms
+  taken_absent q e ms w absent = taken_still q e ms (λ c there. ap holds_slot (slate_other c q e w (absent_other e.client c ms absent there)))
 
   -- one more member, which holds a slot or doesn't
-  pub taken_put : (q : List Event) (e : Event) (ms : List ℕ) → holds_slot (slate answers settings e.client (q ++ e ∷ [])) ≡ true → list_any (nat_eq e.client) ms ≡ false → taken answers settings (q ++ e ∷ []) (put e.client ms) ≡ taken answers settings q ms + 1
+  pub taken_put : (q : List Event) (e : Event) (ms : List ℕ) → is_wide e.kind ≡ false → holds_slot (slate answers settings e.client (q ++ e ∷ [])) ≡ true → list_any (nat_eq e.client) ms ≡ false → taken answers settings (q ++ e ∷ []) (put e.client ms) ≡ taken answers settings q ms + 1
   unfolding taken
-  taken_put q e ms held absent = filter_put (λ c. holds_slot (slate answers settings c (q ++ e ∷ []))) e.client ms held ∙ ap (λ (n : ℕ). n + 1) (taken_absent q e ms absent)
+  taken_put q e ms w held absent = filter_put (λ c. holds_slot (slate answers settings c (q ++ e ∷ []))) e.client ms held ∙ ap (λ (n : ℕ). n + 1) (taken_absent q e ms w absent)
 
-  pub taken_put_not : (q : List Event) (e : Event) (ms : List ℕ) → holds_slot (slate answers settings e.client (q ++ e ∷ [])) ≡ false → list_any (nat_eq e.client) ms ≡ false → taken answers settings (q ++ e ∷ []) (put e.client ms) ≡ taken answers settings q ms
+  pub taken_put_not : (q : List Event) (e : Event) (ms : List ℕ) → is_wide e.kind ≡ false → holds_slot (slate answers settings e.client (q ++ e ∷ [])) ≡ false → list_any (nat_eq e.client) ms ≡ false → taken answers settings (q ++ e ∷ []) (put e.client ms) ≡ taken answers settings q ms
   unfolding taken
-  taken_put_not q e ms free absent = filter_put_not (λ c. holds_slot (slate answers settings c (q ++ e ∷ []))) e.client ms free ∙ taken_absent q e ms absent
+  taken_put_not q e ms w free absent = filter_put_not (λ c. holds_slot (slate answers settings c (q ++ e ∷ []))) e.client ms free ∙ taken_absent q e ms w absent

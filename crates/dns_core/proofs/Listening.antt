@@ -1,105 +1,23 @@
--- Each request and each queued frame of a connection is about one of the frames that it received.
-use Rattle.std.proofs.Common.{◌≡◌, ℕ, zero, suc, ◌+◌, true, false, List, [], ◌∷◌, ◌++◌, length, drop, Option, Some, None, refl, sym, subst}
+-- What a connection keeps of what it was asked: each of its requests was asked, and each frame that it holds or queues is a reply.
+use Rattle.std.proofs.Common.{◌≡◌, ℕ, zero, suc, ◌+◌, ◌⊎◌, inl, inr, true, false, List, [], ◌∷◌, ◌++◌, length, Option, Some, None, refl, ◌∙◌}
 use Rattle.std.specs.Prelude.{IfSome, if◌then◌else◌, nat_lt, slice_get}
-use Rattle.std.specs.List.{All, Contains}
-use Rattle.std.proofs.lemmas.List.Elements.{All-nil, All-cons, All-head, All-tail, All-push, All-set, All-weaker, All-drop, All-contains_itself, Contains-append_left}
+use Rattle.std.specs.List.{All}
+use Rattle.std.proofs.lemmas.List.Elements.{All-head, All-tail, All-push, All-set, All-weaker}
 use Rattle.dns_base.specs.Header.{header_of}
 use Rattle.dns_base.specs.Msg.{Msg}
 use Rattle.dns_base.specs.Wire.{wire}
 use Rattle.dns_service.specs.ErrorReply.{error_reply}
 use Rattle.dns_service.specs.Req.{Req}
-use Rattle.dns_service.specs.declared.event.Output.{Output}
-use Rattle.dns_service.specs.declared.event.Output.TheVariants.{Frame, Closed as Closed_output}
-use Rattle.dns_service.specs.declared.event.Why.{Why}
-use Rattle.dns_service.specs.declared.event.Why.TheVariants.{Short, WriteTimeout}
-use Rattle.dns_client.specs.Connections.{close, enqueue, piece, released, take_frame, take_frames, take_request, write}
-use Rattle.dns_client.specs.Frames.{behind_frames, frames, framed}
+use Rattle.dns_service.specs.declared.event.Why.TheVariants.{Short}
+use Rattle.dns_client.specs.Connections.{append_frame, close, enqueue, has_space, is_in_transaction, take_frame, take_frames, take_request}
+use Rattle.dns_client.specs.Frames.{framed}
 use Rattle.dns_client.specs.Requests.{asked, header_size, most_requests, request_of_frame}
 use Rattle.dns_client.specs.Serving.{Serving}
 use Rattle.dns_client.specs.Slate.{Slate, SlateRequest, Told}
-use Rattle.dns_client.specs.Turns.{polled, queued, sent_for, turn, with_request}
-use Rattle.dns_core.specs.Out.{is_connection}
+use Rattle.dns_client.specs.Turns.{answered, hold, queue_frame, queue_held, queue_reply, reply_to, retimed, turn, turn_request, with_request}
 use Rattle.dns_core.specs.ReplyTo.{Responds}
 use Rattle.dns_core.proofs.Replied.{refused_responds}
 use Rattle.dns_core.proofs.Taken.{takes}
-
--- octets are a reply to one of these frames
-pub record RepliesTo (fs : List (List ℕ)) (o : List ℕ) : Type 0 where
-  pub asks : List ℕ
-  pub message : Msg
-  pub asked : Contains fs asks
-  pub is : o ≡ framed (wire message)
-  pub responds : Responds asks message
-
-abbrev pub AsksOne : List (List ℕ) → SlateRequest → Type 0
-AsksOne fs r = Contains fs r.request.octets
-
-pub record Listens (s : Slate) : Type 0 where
-  pub connection : is_connection s.phase ≡ true
-  pub requests : All (AsksOne (frames s.received)) s.requests
-  pub queue : All (RepliesTo (frames s.received)) s.queue
-
-pub closed_listens : (why : Why) (s : Slate) → Listens (close why s).0
-closed_listens why s = record { connection = refl; requests = All-nil (AsksOne (frames [])); queue = All-nil (RepliesTo (frames [])) }
-
-pub released_listens : (s : Slate) → Listens s → Listens (released s)
-released_listens s h = record { connection = h.connection; requests = h.requests; queue = h.queue }
-
-enqueue_listens : (o : List ℕ) (s : Slate) → RepliesTo (frames s.received) o → Listens s → Listens (enqueue o s)
-enqueue_listens o s r h = (elim (nat_lt (length s.queue) s.bound) as (λ b. Listens (if b then record s { queue = s.queue ++ o ∷ [] } else s)) [
-  | true ↦ record { connection = h.connection; requests = h.requests; queue = All-push (RepliesTo (frames s.received)) s.queue o h.queue r }
-  | false ↦ h
-])
-
-asked_listens : (at secs : ℕ) (f : List ℕ) (s : Slate) → Contains (frames s.received) f → Listens s → Listens (take_request at secs f s)
-asked_listens at secs f s c h = (elim (nat_lt (length s.requests) most_requests) as (λ b. Listens (if b then record s { taken = s.taken + 1; requests = s.requests ++ asked (request_of_frame s.connection s.addr at secs f) ∷ [] } else record s { taken = s.taken + 1 })) [
-  | true ↦ record { connection = h.connection; requests = All-push (AsksOne (frames s.received)) s.requests (asked (request_of_frame s.connection s.addr at secs f)) h.requests c; queue = h.queue }
-  | false ↦ record { connection = h.connection; requests = h.requests; queue = h.queue }
-])
-
-refused_listens : (f : List ℕ) (s : Slate) → Contains (frames s.received) f → Listens s → Listens (enqueue (framed (wire (error_reply f 1))) (record s { taken = s.taken + 1 }))
-refused_listens f s c h =
-    enqueue_listens (framed (wire (error_reply f 1))) (record s { taken = s.taken + 1 })
-    (record { asks = f; message = error_reply f 1; asked = c; is = refl; responds = refused_responds f None 1 })
-    (record { connection = h.connection; requests = h.requests; queue = h.queue })
-
-frame_listens : (at secs : ℕ) (f : List ℕ) (s : Slate) → Contains (frames s.received) f → Listens s → Listens (take_frame at secs f s)
-frame_listens at secs f s c h =
-    (elim (header_of f).qr as (λ b. Listens (if b then enqueue (framed (wire (error_reply f 1))) (record s { taken = s.taken + 1 }) else take_request at secs f s)) [ true ↦ refused_listens f s c h | false ↦ asked_listens at secs f s c h ])
-
-take_listens : (at secs : ℕ) (fs : List (List ℕ)) (s : Slate) → All (Contains (frames s.received)) fs → Listens s → Listens (take_frames at secs fs s).0
-take_listens at secs [] s c h = h
-take_listens at secs (f ∷ fs) s c h =
-    let rest = subst (λ (r : List ℕ). All (Contains (frames r)) fs) (sym (takes at secs f s).received) (All-tail (Contains (frames s.received)) f fs c) in
-    let more = take_listens at secs fs (take_frame at secs f s) rest (frame_listens at secs f s (All-head (Contains (frames s.received)) f fs c) h) in
-    (elim (nat_lt (length f) header_size) as (λ b. let t : Told = (if b then close Short s else take_frames at secs fs (take_frame at secs f s)) in Listens t.0) [ true ↦ closed_listens Short s | false ↦ more ])
-
-pub write_listens : (took : ℕ) (q : List (List ℕ)) (s : Slate) → s.queue ≡ q → Listens s → Listens (write took q s).0
-write_listens took [] s is h = h
-write_listens took (m ∷ ms) s is h =
-    let rest = All-tail (RepliesTo (frames s.received)) m ms (subst (All (RepliesTo (frames s.received))) is h.queue) in
-    (elim (nat_lt s.connection.response_write_timeout took) as (λ b. let t : Told = (if b then close WriteTimeout s else (record s { queue = ms }, Frame s.client m ∷ [])) in Listens t.0) [
-      | true ↦ closed_listens WriteTimeout s
-      | false ↦ record { connection = h.connection; requests = h.requests; queue = rest }
-    ])
-
--- what holds of each frame that may be written holds of what is sent
-pub write_sends : (P : Output → Type 0) → ((client : ℕ) (why : Why) → P (Closed_output client why)) → (took : ℕ) (q : List (List ℕ)) (s : Slate) → All (λ o. P (Frame s.client o)) q → All P (write took q s).1
-write_sends P closes took [] s h = All-nil P
-write_sends P closes took (m ∷ ms) s h =
-    (elim (nat_lt s.connection.response_write_timeout took) as (λ b. let t : Told = (if b then close WriteTimeout s else (record s { queue = ms }, Frame s.client m ∷ [])) in All P t.1) [
-      | true ↦ All-cons P (Closed_output s.client WriteTimeout) [] (closes s.client WriteTimeout) (All-nil P)
-      | false ↦ All-cons P (Frame s.client m) [] (All-head (λ o. P (Frame s.client o)) m ms h) (All-nil P)
-    ])
-
-pub take_sends : (P : Output → Type 0) → ((client : ℕ) (why : Why) → P (Closed_output client why)) → (at secs : ℕ) (fs : List (List ℕ)) (s : Slate) → All P (take_frames at secs fs s).1
-take_sends P closes at secs [] s = All-nil P
-take_sends P closes at secs (f ∷ fs) s =
-    let more = take_sends P closes at secs fs (take_frame at secs f s) in
-    (elim (nat_lt (length f) header_size) as (λ b. let t : Told = (if b then close Short s else take_frames at secs fs (take_frame at secs f s)) in All P t.1) [
-      | true ↦ All-cons P (Closed_output s.client Short) [] (closes s.client Short) (All-nil P)
-      | false ↦ more
-    ])
 
 -- the element at a place
 pub all_at : {X : Type 0} (P : X → Type 0) (xs : List X) (k : ℕ) → All P xs → IfSome (slice_get xs k) P
@@ -107,34 +25,129 @@ all_at P [] k h = tt
 all_at P (x ∷ xs) zero h = All-head P x xs h
 all_at P (x ∷ xs) (suc k) h = all_at P xs k (All-tail P x xs h)
 
-module _ (go_on : (o p : List ℕ) → frames (o ++ p) ≡ frames o ++ frames (behind_frames o ++ p)) where
-  grown : (o p x : List ℕ) → Contains (frames o) x → Contains (frames (o ++ p)) x
-  grown o p x h = subst (λ (fs : List (List ℕ)). Contains fs x) (sym (go_on o p)) (Contains-append_left (frames o) (frames (behind_frames o ++ p)) x h)
+some_weaker : {X : Type 0} (P Q : X → Type 0) (x : Option X) → ((y : X) → P y → Q y) → IfSome x P → IfSome x Q
+some_weaker P Q None f h = tt
+some_weaker P Q (Some y) f h = f y h
 
-  received_listens : (o : List ℕ) (s : Slate) → Listens s → Listens (record s { received = s.received ++ o })
-  received_listens o s h = record {
-    connection = h.connection;
-    requests = All-weaker (AsksOne (frames s.received)) (AsksOne (frames (s.received ++ o))) (λ r k. grown s.received o r.request.octets k) s.requests h.requests;
-    queue = All-weaker (RepliesTo (frames s.received)) (RepliesTo (frames (s.received ++ o))) (λ m k. record { asks = k.asks; message = k.message; asked = grown s.received o k.asks k.asked; is = k.is; responds = k.responds }) s.queue h.queue;
-  }
+-- by what it means that octets were asked
+module _ (Asked : List ℕ → Type 0) where
+  -- a frame is a reply to such octets
+  pub record RepliesTo (o : List ℕ) : Type 0 where
+    pub asks : List ℕ
+    pub message : Msg
+    pub asked : Asked asks
+    pub is : o ≡ framed (wire message)
+    pub responds : Responds asks message
 
-  pub piece_listens : (at secs : ℕ) (o : List ℕ) (s : Slate) → Listens s → Listens (piece at secs o s).0
-  piece_listens at secs o s h =
-      let fs = frames (s.received ++ o) in
-      take_listens at secs (drop s.taken fs) (record s { received = s.received ++ o }) (All-drop (Contains fs) s.taken fs (All-contains_itself fs)) (received_listens o s h)
+  pub record Asks (r : SlateRequest) : Type 0 where
+    pub asked : Asked r.request.octets
+    pub held : IfSome r.held RepliesTo
 
-module _ (answers : Serving) (respond : (r : Req (Unit {0})) (k : ℕ) → IfSome (sent_for answers r (answers.answer r k)) (Responds r.octets)) where
-  queued_listens : (x : Option Msg) (query : List ℕ) (s : Slate) → Contains (frames s.received) query → IfSome x (Responds query) → Listens s → Listens (queued x s)
-  queued_listens None query s c k h = h
-  queued_listens (Some m) query s c k h = enqueue_listens (framed (wire m)) s (record { asks = query; message = m; asked = c; is = refl; responds = k }) h
+  pub record Listens (s : Slate) : Type 0 where
+    pub requests : All Asks s.requests
+    pub queue : All RepliesTo s.queue
 
-  turn_case : (k : ℕ) (x : Option SlateRequest) (s : Slate) → IfSome x (AsksOne (frames s.received)) → Listens s → Listens (turn answers k x s)
-  turn_case k None s c h = h
-  turn_case k (Some r) s c h =
-      let a = answers.answer r.request r.polls in
-      let t = with_request k (polled a r) s in
-      let g : Listens t = record { connection = h.connection; requests = All-set (AsksOne (frames s.received)) s.requests k (polled a r) c h.requests; queue = h.queue } in
-      (elim r.done as (λ b. Listens (if b then s else queued (sent_for answers r.request a) t)) [ true ↦ h | false ↦ queued_listens (sent_for answers r.request a) r.request.octets t c (respond r.request r.polls) g ])
+  -- it goes on so, with what it received
+  pub record GoesOn (s u : Slate) : Type 0 where
+    pub phase : u.phase ≡ s.phase
+    pub received : u.received ≡ s.received
+    pub listens : Listens u
 
-  pub turn_listens : (k : ℕ) (s : Slate) → Listens s → Listens (turn answers k (slice_get s.requests k) s)
-  turn_listens k s h = turn_case k (slice_get s.requests k) s (all_at (AsksOne (frames s.received)) s.requests k h.requests) h
+  -- and after a piece, or is closed
+  abbrev pub Takes : Slate → Told → Type 0
+  Takes s t = (GoesOn s t.0 × (t.1 ≡ [])) ⊎ ((u : Slate) × (t ≡ close Short u))
+
+  reply : (o : List ℕ) (m : Msg) → Asked o → Responds o m → RepliesTo (framed (wire m))
+  reply o m a h = record { asks = o; message = m; asked = a; is = refl; responds = h }
+
+  -- ---- a piece
+
+  enqueue_listens : (m : List ℕ) (s : Slate) → RepliesTo m → Listens s → Listens (enqueue m s)
+  enqueue_listens m s r h =
+      (elim (has_space s) as (λ b. Listens (if b then append_frame m s else s)) [
+        | true ↦ record { requests = h.requests; queue = All-push RepliesTo s.queue m h.queue r }
+        | false ↦ h
+      ])
+
+  request_listens : (at secs : ℕ) (f : List ℕ) (s : Slate) → Asked f → Listens s → Listens (take_request at secs f s)
+  request_listens at secs f s c h =
+      let r = asked (request_of_frame s.connection.idle_timeout s.addr at secs f) in
+      (elim (nat_lt (length s.requests) most_requests) as (λ b. Listens (if b then record s { requests = s.requests ++ r ∷ [] } else s)) [
+        | true ↦ record { requests = All-push Asks s.requests r h.requests (record { asked = c; held = tt }); queue = h.queue }
+        | false ↦ h
+      ])
+
+  frame_listens : (at secs : ℕ) (f : List ℕ) (s : Slate) → Asked f → Listens s → Listens (take_frame at secs f s)
+  frame_listens at secs f s c h =
+      let t : Slate = record s { taken = s.taken + 1; reset_at = at } in
+      let g : Listens t = record { requests = h.requests; queue = h.queue } in
+      (elim (header_of f).qr as (λ b. Listens (if b then enqueue (framed (wire (error_reply f 1))) t else take_request at secs f t)) [
+        | true ↦ enqueue_listens (framed (wire (error_reply f 1))) t (reply f (error_reply f 1) c (refused_responds f None 1)) g
+        | false ↦ request_listens at secs f t c g
+      ])
+
+  later_takes : (s t : Slate) (told : Told) → t.phase ≡ s.phase → t.received ≡ s.received → Takes t told → Takes s told
+  later_takes s t told p r h = elim h [ inl g ↦ inl (record { phase = g.0.phase ∙ p; received = g.0.received ∙ r; listens = g.0.listens }, g.1) | inr c ↦ inr c ]
+
+  pub take_listens : (at secs : ℕ) (fs : List (List ℕ)) (s : Slate) → All Asked fs → Listens s → Takes s (take_frames at secs fs s)
+  take_listens at secs [] s c h = inl (record { phase = refl; received = refl; listens = h }, refl)
+  take_listens at secs (f ∷ fs) s c h =
+      let u = take_frame at secs f s in
+      let k = takes at secs f s in
+      let more = later_takes s u (take_frames at secs fs u) k.phase k.received (take_listens at secs fs u (All-tail Asked f fs c) (frame_listens at secs f s (All-head Asked f fs c) h)) in
+      (elim (nat_lt (length f) header_size) as (λ b. let told : Told = (if b then close Short s else take_frames at secs fs u) in Takes s told) [ true ↦ inr (s, refl) | false ↦ more ])
+
+  -- ---- a request turns
+
+  set_on : (k : ℕ) (r : SlateRequest) (s : Slate) → Asks r → Listens s → GoesOn s (with_request k r s)
+  set_on k r s a h = record { phase = refl; received = refl; listens = record { requests = All-set Asks s.requests k r a h.requests; queue = h.queue } }
+
+  append_on : (k : ℕ) (m : List ℕ) (r : SlateRequest) (s : Slate) → RepliesTo m → Asks r → Listens s → GoesOn s (append_frame m (with_request k r s))
+  append_on k m r s p a h = record { phase = refl; received = refl; listens = record { requests = All-set Asks s.requests k r a h.requests; queue = All-push RepliesTo s.queue m h.queue p } }
+
+  hold_asks : (m : List ℕ) (r : SlateRequest) → RepliesTo m → Asks r → Asks (hold m r)
+  hold_asks m r p a = (elim (is_in_transaction r.status) as (λ b. Asks (if b then record r { held = Some m } else r)) [ true ↦ record { asked = a.asked; held = p } | false ↦ a ])
+
+  queue_on : (k : ℕ) (m : List ℕ) (r : SlateRequest) (s : Slate) → RepliesTo m → Asks r → Listens s → GoesOn s (queue_frame k m r s)
+  queue_on k m r s p a h =
+      (elim (has_space s) as (λ b. GoesOn s (if b then append_frame m (with_request k r s) else with_request k (hold m r) s)) [ true ↦ append_on k m r s p a h | false ↦ set_on k (hold m r) s (hold_asks m r p a) h ])
+
+  reply_on : (k : ℕ) (x : Option Msg) (r : SlateRequest) (s : Slate) → IfSome x (Responds r.request.octets) → Asks r → Listens s → GoesOn s (queue_reply k x r s)
+  reply_on k None r s p a h = set_on k r s a h
+  reply_on k (Some m) r s p a h = queue_on k (framed (wire m)) r s (reply r.request.octets m a.asked p) a h
+
+  held_on : (k : ℕ) (m : List ℕ) (r : SlateRequest) (s : Slate) → RepliesTo m → Asks r → Listens s → GoesOn s (queue_held k m r s)
+  held_on k m r s p a h =
+      (elim (has_space s) as (λ b. GoesOn s (if b then append_frame m (with_request k (record r { held = None }) s) else s)) [
+        | true ↦ append_on k m (record r { held = None }) s p (record { asked = a.asked; held = tt }) h
+        | false ↦ record { phase = refl; received = refl; listens = h }
+      ])
+
+  module _ (answers : Serving) (respond : (n : Option ℕ) (r : Req (Unit {0})) (k : ℕ) → IfSome (reply_to n r.octets (answers.answer r k)) (Responds r.octets)) where
+    request_on : (k : ℕ) (x : Option (List ℕ)) (r : SlateRequest) (s : Slate) → IfSome x RepliesTo → Asks r → Listens s → GoesOn s (turn_request answers k x r s)
+    request_on k None r s p a h =
+        let y = answers.answer r.request r.polls in
+        let g = reply_on k (reply_to None r.request.octets y) (answered y r) (retimed y s) (respond None r.request r.polls) (record { asked = a.asked; held = a.held }) (record { requests = h.requests; queue = h.queue }) in
+        record { phase = g.phase; received = g.received; listens = g.listens }
+    request_on k (Some m) r s p a h = held_on k m r s p a h
+
+    turn_case : (k : ℕ) (x : Option SlateRequest) (s : Slate) → IfSome x Asks → Listens s → GoesOn s (turn answers k x s)
+    turn_case k None s a h = record { phase = refl; received = refl; listens = h }
+    turn_case k (Some r) s a h = (elim r.done as (λ b. GoesOn s (if b then s else turn_request answers k r.held r s)) [ true ↦ record { phase = refl; received = refl; listens = h } | false ↦ request_on k r.held r s a.held a h ])
+
+    pub turn_listens : (k : ℕ) (s : Slate) → Listens s → GoesOn s (turn answers k (slice_get s.requests k) s)
+    turn_listens k s h = turn_case k (slice_get s.requests k) s (all_at Asks s.requests k h.requests) h
+
+-- ---- what was asked by one meaning was asked by another
+
+pub replies_weaker : (A B : List ℕ → Type 0) → ((o : List ℕ) → A o → B o) → (o : List ℕ) → RepliesTo A o → RepliesTo B o
+replies_weaker A B f o h = record { asks = h.asks; message = h.message; asked = f h.asks h.asked; is = h.is; responds = h.responds }
+
+asks_weaker : (A B : List ℕ → Type 0) → ((o : List ℕ) → A o → B o) → (r : SlateRequest) → Asks A r → Asks B r
+asks_weaker A B f r h = record { asked = f r.request.octets h.asked; held = some_weaker (RepliesTo A) (RepliesTo B) r.held (replies_weaker A B f) h.held }
+
+pub queue_weaker : (A B : List ℕ → Type 0) → ((o : List ℕ) → A o → B o) → (os : List (List ℕ)) → All (RepliesTo A) os → All (RepliesTo B) os
+queue_weaker A B f os h = All-weaker (RepliesTo A) (RepliesTo B) (replies_weaker A B f) os h
+
+pub listens_weaker : (A B : List ℕ → Type 0) → ((o : List ℕ) → A o → B o) → (s : Slate) → Listens A s → Listens B s
+listens_weaker A B f s h = record { requests = All-weaker (Asks A) (Asks B) (asks_weaker A B f) s.requests h.requests; queue = queue_weaker A B f s.queue h.queue }

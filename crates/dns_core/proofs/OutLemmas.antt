@@ -10,7 +10,7 @@ use Rattle.dns_client.specs.Rule.{rule}
 use Rattle.dns_core.specs.Settings.{opening}
 use Rattle.dns_core.specs.Own.{concerns, own}
 use Rattle.dns_core.specs.Sent.{slate_after, sent_after, sent, slate}
-use Rattle.dns_core.specs.Out.{joined, members_after, members, gained, out_after}
+use Rattle.dns_core.specs.Out.{joined, members_after, members, gained, out_after, out}
 use Rattle.dns_core.specs.ByClient.{IsPrefix}
 use Rattle.dns_middleware.specs.declared.settings.Settings.{Settings}
 
@@ -31,7 +31,7 @@ module _ (answers : Serving) where
   sent_after_snoc s [] e = append-nil (rule answers e s).1
   sent_after_snoc s (x ∷ q) e = ap (λ os. (rule answers x s).1 ++ os) (sent_after_snoc (rule answers x s).0 q e) ∙ sym (append_assoc (rule answers x s).1 (sent_after answers (rule answers x s).0 q) (rule answers e (slate_after answers (rule answers x s).0 q)).1)
 
-  sent_after_append : (s : Slate) (p r : List Event) → sent_after answers s (p ++ r) ≡ sent_after answers s p ++ sent_after answers (slate_after answers s p) r
+  pub sent_after_append : (s : Slate) (p r : List Event) → sent_after answers s (p ++ r) ≡ sent_after answers s p ++ sent_after answers (slate_after answers s p) r
   sent_after_append s [] r = refl
   sent_after_append s (x ∷ p) r = ap (λ os. (rule answers x s).1 ++ os) (sent_after_append (rule answers x s).0 p r) ∙ sym (append_assoc (rule answers x s).1 (sent_after answers (rule answers x s).0 p) (sent_after answers (slate_after answers (rule answers x s).0 p) r))
 
@@ -70,6 +70,13 @@ module _ (answers : Serving) where
     unfolding members
     members_more q e = members_after_snoc [] [] q e
 
-    -- what was sent so far, with what is sent for one event more
-    pub told_more : (q rest : List Event) (e : Event) (outs more all : List Output) → outs ++ out_after answers settings q (e ∷ rest) ≡ all → more ≡ gained answers settings q e → (outs ++ more) ++ out_after answers settings (q ++ e ∷ []) rest ≡ all
-    told_more q rest e outs more all told says = append_assoc outs more (out_after answers settings (q ++ e ∷ []) rest) ∙ rw says told
+    out_after_snoc : (p q : List Event) (e : Event) → out_after answers settings p (q ++ e ∷ []) ≡ out_after answers settings p q ++ gained answers settings (p ++ q) e
+    out_after_snoc p [] e = append-nil (gained answers settings p e) ∙ ap (λ x. gained answers settings x e) (sym (append-nil p))
+    out_after_snoc p (x ∷ q) e =
+        ap (λ os. gained answers settings p x ++ os) (out_after_snoc (p ++ x ∷ []) q e ∙ ap (λ y. out_after answers settings (p ++ x ∷ []) q ++ gained answers settings y e) (append_assoc p (x ∷ []) q))
+        ∙ sym (append_assoc (gained answers settings p x) (out_after answers settings (p ++ x ∷ []) q) (gained answers settings (p ++ x ∷ q) e))
+
+    -- what is sent with one event more
+    pub out_more : (q : List Event) (e : Event) → out answers settings (q ++ e ∷ []) ≡ out answers settings q ++ gained answers settings q e
+    unfolding out
+    out_more q e = out_after_snoc [] q e

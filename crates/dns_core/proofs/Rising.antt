@@ -1,18 +1,20 @@
 -- The members stand by rising number.
 use Rattle.dns_client.specs.Serving.{Serving}
-use Rattle.std.proofs.Common.{◌≡◌, ℕ, List, [], ◌∷◌, ◌++◌, Bool, true, false, refl, sym, subst, append_assoc, arith, Less}
+use Rattle.std.proofs.Common.{◌≡◌, ◌≢◌, ℕ, List, [], ◌∷◌, ◌++◌, ◌∙◌, Bool, true, false, refl, ap, sym, subst, append_assoc, arith, Less, ⊎_elim}
 use Rattle.std.proofs.lemmas.List.{append-nil}
+use Rattle.std.proofs.lemmas.Bool.{cases_eq}
 use Rattle.std.proofs.lemmas.Bool.Decides.{nat_tests}
 use Rattle.std.proofs.lemmas.Map.Keys.{sorted_head, sorted_tail}
-use Rattle.std.specs.Prelude.{nat_eq, nat_lt, if◌then◌else◌, ◌&&◌, ◌||◌}
+use Rattle.std.specs.Prelude.{nat_eq, nat_lt, if◌then◌else◌, not, ◌||◌}
 use Rattle.std.specs.List.{list_any, AllByRecursion}
 use Rattle.std.specs.List.Sorted.{IsStrictlySortedBy}
 use Rattle.std.specs.Ordering.{nat_cmp}
 use Rattle.dns_service.specs.declared.event.Event.{Event}
-use Rattle.dns_core.specs.Out.{put, is_datagram, is_new, has_room, members}
+use Rattle.dns_core.specs.Sent.{slate}
+use Rattle.dns_core.specs.Out.{is_unused, holds_slot, has_room, put, is_new, joins, members}
 use Rattle.dns_middleware.specs.declared.settings.Settings.{Settings}
-use Rattle.dns_core.proofs.OutLemmas.{members_more}
-use Rattle.dns_core.proofs.ByClient.{new_unused, members_used}
+use Rattle.dns_core.proofs.Gained.{and_true, members_joined, members_away, new_was, new_became, used_more}
+use Rattle.dns_core.proofs.Counted.{put_other}
 
 abbrev AllAbove : ℕ → List ℕ → Type 0
 AllAbove c ns = AllByRecursion (λ y. nat_cmp c y ≡ Less) ns
@@ -60,28 +62,47 @@ module _ (answers : Serving) (settings : Settings) where
   abbrev Rises : List Event → Type 0
   Rises q = IsStrictlySortedBy nat_cmp (members answers settings q)
 
+  -- the number of a member is used
+  abbrev MembersUsed : List Event → Type 0
+  MembersUsed q = (c : ℕ) → list_any (nat_eq c) (members answers settings q) ≡ true → is_unused (slate answers settings c q).phase ≡ false
+
+  pub new_joins : (q : List Event) (e : Event) (ms : List ℕ) → joins answers settings q ms e ≡ true → is_new answers settings q e ≡ true
+  new_joins q e ms j = (and_true (is_new answers settings q e) (not (holds_slot (slate answers settings e.client (q ++ e ∷ []))) || has_room answers settings q ms) j).0
+
+  used_case : (q : List Event) (e : Event) → MembersUsed q → (b : Bool) → joins answers settings q (members answers settings q) e ≡ b → MembersUsed (q ++ e ∷ [])
+  used_case q e h true j = λ c there.
+      ⊎_elim
+      (λ (same : c ≡ e.client). rw same (new_became answers settings q e (new_joins q e (members answers settings q) j)))
+      (λ (apart : c ≢ e.client). used_more answers settings c q e (h c (sym (put_other c e.client (members answers settings q) apart) ∙ ap (list_any (nat_eq c)) (sym (members_joined answers settings q e j)) ∙ there)))
+      (cases_eq c e.client)
+  used_case q e h false j = λ c there. used_more answers settings c q e (h c (ap (list_any (nat_eq c)) (sym (members_away answers settings q e j)) ∙ there))
+
+  used_on : (r q : List Event) → MembersUsed q → MembersUsed (q ++ r)
+  used_on [] q h = subst MembersUsed (sym (append-nil q)) h
+  used_on (x ∷ r) q h = subst MembersUsed (append_assoc q (x ∷ []) r) (used_on r (q ++ x ∷ []) (used_case q x h (joins answers settings q (members answers settings q) x) refl))
+
+  used_none : MembersUsed []
+  unfolding members
+  used_none = λ c there. cc
+
+  pub members_used : (q : List Event) → MembersUsed q
+  members_used q = used_on q [] used_none
+
   absent_case : (b : Bool) → (b ≡ true → ⊥) → b ≡ false
   absent_case true h = absurd (h refl)
   absent_case false h = refl
 
   -- a client that begins is no member yet
-  new_absent : (q : List Event) (e : Event) → is_new answers settings q e ≡ true → list_any (nat_eq e.client) (members answers settings q) ≡ false
-  new_absent q e n = absent_case (list_any (nat_eq e.client) (members answers settings q)) (λ there. let used = members_used answers settings q e.client there in let fresh = (new_unused answers settings q e n).1 in let no : ⊥ = cc in no)
+  pub new_absent : (q : List Event) (e : Event) → is_new answers settings q e ≡ true → list_any (nat_eq e.client) (members answers settings q) ≡ false
+  new_absent q e n = absent_case (list_any (nat_eq e.client) (members answers settings q)) (λ there. let used = members_used q e.client there in let fresh = new_was answers settings q e n in let no : ⊥ = cc in no)
 
-  joins : (a b : Bool) → (a && b) ≡ true → a ≡ true
-  joins true b h = refl
-  joins false b h = cc
-
-  rises_case : (q : List Event) (e : Event) → Rises q → (b : Bool) → (is_new answers settings q e && (is_datagram e.kind || has_room answers settings q (members answers settings q))) ≡ b → IsStrictlySortedBy nat_cmp (if b then put e.client (members answers settings q) else members answers settings q)
-  rises_case q e h true n = sorted_put e.client (members answers settings q) h (new_absent q e (joins (is_new answers settings q e) (is_datagram e.kind || has_room answers settings q (members answers settings q)) n))
-  rises_case q e h false n = h
-
-  rises_more : (q : List Event) (e : Event) → Rises q → Rises (q ++ e ∷ [])
-  rises_more q e h = subst (IsStrictlySortedBy nat_cmp) (sym (members_more answers settings q e)) (rises_case q e h (is_new answers settings q e && (is_datagram e.kind || has_room answers settings q (members answers settings q))) refl)
+  rises_case : (q : List Event) (e : Event) → Rises q → (b : Bool) → joins answers settings q (members answers settings q) e ≡ b → Rises (q ++ e ∷ [])
+  rises_case q e h true j = subst (IsStrictlySortedBy nat_cmp) (sym (members_joined answers settings q e j)) (sorted_put e.client (members answers settings q) h (new_absent q e (new_joins q e (members answers settings q) j)))
+  rises_case q e h false j = subst (IsStrictlySortedBy nat_cmp) (sym (members_away answers settings q e j)) h
 
   rises_on : (r q : List Event) → Rises q → Rises (q ++ r)
   rises_on [] q h = subst Rises (sym (append-nil q)) h
-  rises_on (x ∷ r) q h = subst Rises (append_assoc q (x ∷ []) r) (rises_on r (q ++ x ∷ []) (rises_more q x h))
+  rises_on (x ∷ r) q h = subst Rises (append_assoc q (x ∷ []) r) (rises_on r (q ++ x ∷ []) (rises_case q x h (joins answers settings q (members answers settings q) x) refl))
 
   rises_none : Rises []
   unfolding members

@@ -1,22 +1,29 @@
--- At a spent slate an event tells nothing and changes nothing, and no client is spent before it begins.
+-- At a spent slate an event says nothing and leaves all but the configurations, and no client is spent before it begins.
 use Rattle.dns_client.specs.Serving.{Serving}
-use Rattle.std.proofs.Common.{◌≡◌, ℕ, zero, suc, List, [], ◌∷◌, Bool, true, false, refl, ap}
+use Rattle.std.proofs.Common.{◌≡◌, ℕ, zero, suc, List, [], ◌∷◌, Bool, true, false, refl, ap, ◌∙◌}
 use Rattle.std.specs.Prelude.{slice_get, ◌&&◌}
 use Rattle.std.specs.List.{list_all}
+use Rattle.dns_service.specs.Answer.{Answer}
 use Rattle.dns_service.specs.declared.event.Event.{Event}
 use Rattle.dns_service.specs.declared.event.EventKind.{EventKind}
-use Rattle.dns_service.specs.declared.event.EventKind.TheVariants.{Datagram, Turn, Offer, Piece, End, Write, Release}
-use Rattle.dns_service.specs.declared.event.Why.TheVariants.{Ended}
-use Rattle.dns_client.specs.Slate.{Slate, SlateRequest, Told, Phase, Unused, Exchange, Open, Closed, in_phase}
-use Rattle.dns_client.specs.Datagrams.{datagram}
-use Rattle.dns_client.specs.Connections.{opened, close, piece, write, released}
-use Rattle.dns_client.specs.Turns.{exchange_turn, turn}
-use Rattle.dns_client.specs.Rule.{rule, by_kind}
-use Rattle.dns_client.specs.Spent.{is_spent}
+use Rattle.dns_service.specs.declared.event.EventKind.TheVariants.{Turn, Release, Reconfigure, Shutdown}
+use Rattle.dns_service.specs.declared.event.Why.{Why}
+use Rattle.dns_service.specs.declared.event.Why.TheVariants.{Shutdown as By_shutdown}
+use Rattle.dns_service.specs.declared.polled.PolledRequest.{PolledRequest}
+use Rattle.dns_client.specs.Slate.{Slate, SlateRequest, Conf, Told, Phase, Unused, Exchange, Open, Flushing, Closed, conf_rule, with_conf}
+use Rattle.dns_client.specs.Connections.{wind_up, reconfigured}
+use Rattle.dns_client.specs.Rule.{rule, in_phase, exchange_rule, open_rule, closed_rule}
+use Rattle.dns_client.specs.Spent.{is_spent, is_spent_in}
+use Rattle.dns_client.specs.Stands.{StandsIn}
+use Rattle.dns_client.specs.declared.client.State.{State}
+use Rattle.dns_client.specs.declared.client.State.TheVariants.{Exchange as Is_exchange, Open as Is_open, Flushing as Is_flushing, Closed as Is_closed}
 use Rattle.dns_core.specs.Finished.{IsFinished}
 use Rattle.dns_core.specs.Out.{is_unused}
+use Rattle.dns_core.specs.Own.{is_wide}
+use Rattle.dns_core.specs.Trails.{is_open}
 use Rattle.dns_core.proofs.Plain.{exchange_done, unused_is}
 use Rattle.dns_core.proofs.Settled.{released_again}
+use Rattle.dns_core.proofs.Wide.{wide_idle}
 
 both : (a b : Bool) → (a && b) ≡ true → (a ≡ true) × (b ≡ true)
 both true b h = (refl, h)
@@ -27,31 +34,56 @@ all_finished [] k h = tt
 all_finished (r ∷ rs) zero h = (both r.done (list_all (λ (r : SlateRequest). r.done) rs) h).0
 all_finished (r ∷ rs) (suc k) h = all_finished rs k (both r.done (list_all (λ (r : SlateRequest). r.done) rs) h).1
 
-abbrev pub spent_in : Phase → Slate → Bool
-spent_in p s = in_phase p false (list_all (λ (r : SlateRequest). r.done) s.requests) false s.freed
+closed_spent : (k : EventKind) (s : Slate) → s.freed ≡ true → closed_rule k s ≡ (s, [])
+closed_spent Release s h = ap (λ (t : Slate). (t, [])) (released_again s h)
+closed_spent _ s h = refl
 
-spent_case : (p : Phase) (s : Slate) (x y z w : Told) → spent_in p s ≡ true → (list_all (λ (r : SlateRequest). r.done) s.requests ≡ true → y ≡ (s, [])) → (s.freed ≡ true → w ≡ (s, [])) → in_phase p x y z w ≡ (s, [])
-spent_case Unused s x y z w h hy hw = cc
-spent_case Exchange s x y z w h hy hw = hy h
-spent_case Open s x y z w h hy hw = cc
-spent_case Closed s x y z w h hy hw = hw h
+conf_spent : (p : Phase) (s : Slate) (k : Conf) → is_spent_in p (with_conf k s) ≡ is_spent_in p s
+conf_spent Exchange s k = refl
+conf_spent Closed s k = refl
+conf_spent _ s k = refl
+
+wound_unspent : (why : Why) (q : List (List ℕ)) (s : Slate) → s.freed ≡ false → is_spent (wind_up why q s).0 ≡ false
+wound_unspent why [] s h = h
+wound_unspent why (m ∷ ms) s h = refl
 
 module _ (answers : Serving) where
-  spent_kind : (e : Event) (k : EventKind) (s : Slate) → is_spent s ≡ true → by_kind answers e k s ≡ (s, [])
-  spent_kind e (Datagram addr o) s h = spent_case s.phase s (datagram e.client addr e.at e.secs o s) (s, []) (s, []) (s, []) h (λ _. refl) (λ _. refl)
-  spent_kind e (Turn k) s h = spent_case s.phase s (s, []) (exchange_turn answers k (slice_get s.requests k) s) (turn answers k (slice_get s.requests k) s, []) (s, []) h (λ d. exchange_done answers k (slice_get s.requests k) s (all_finished s.requests k d)) (λ _. refl)
-  spent_kind e (Offer addr) s h = spent_case s.phase s (opened e.client addr s, []) (s, []) (s, []) (s, []) h (λ _. refl) (λ _. refl)
-  spent_kind e (Piece o) s h = spent_case s.phase s (s, []) (s, []) (piece e.at e.secs o s) (s, []) h (λ _. refl) (λ _. refl)
-  spent_kind e End s h = spent_case s.phase s (s, []) (s, []) (close Ended s) (s, []) h (λ _. refl) (λ _. refl)
-  spent_kind e (Write took) s h = spent_case s.phase s (s, []) (s, []) (write took s.queue s) (s, []) h (λ _. refl) (λ _. refl)
-  spent_kind e Release s h = spent_case s.phase s (s, []) (s, []) (s, []) (released s, []) h (λ _. refl) (λ f. ap (λ (t : Slate). (t, [])) (released_again answers s f))
+  exchange_spent : (k : EventKind) (s : Slate) → list_all (λ (r : SlateRequest). r.done) s.requests ≡ true → exchange_rule answers k s ≡ (s, [])
+  exchange_spent (Turn k) s h = exchange_done answers k (slice_get s.requests k) s (all_finished s.requests k h)
+  exchange_spent _ s h = refl
 
-  pub spent_idle : (e : Event) (s : Slate) → is_spent s ≡ true → rule answers e s ≡ (s, [])
-  spent_idle e s h = spent_kind e e.kind s h
+  spent_phase : (e : Event) (p : Phase) (s : Slate) (k : Conf) → is_spent_in p s ≡ true → in_phase answers e p (with_conf k s) ≡ (with_conf k s, [])
+  spent_phase e Unused s k h = cc
+  spent_phase e Exchange s k h = exchange_spent e.kind (with_conf k s) h
+  spent_phase e Open s k h = cc
+  spent_phase e (Flushing why) s k h = cc
+  spent_phase e Closed s k h = closed_spent e.kind (with_conf k s) h
 
-unspent_case : (p : Phase) (s : Slate) → p ≡ Unused → spent_in p s ≡ false
-unspent_case p s e = rw e refl
+  pub spent_idle : (e : Event) (s : Slate) → is_spent s ≡ true → rule answers e s ≡ (with_conf (conf_rule e.kind s.conf) s, [])
+  spent_idle e s h = spent_phase e s.phase s (conf_rule e.kind s.conf) h
+
+  -- what is spent stays so
+  pub spent_kept : (e : Event) (s : Slate) → is_spent s ≡ true → is_spent (rule answers e s).0 ≡ true
+  spent_kept e s h = ap (λ (t : Told). is_spent t.0) (spent_idle e s h) ∙ (conf_spent s.phase s (conf_rule e.kind s.conf) ∙ h)
+
+  open_unspent : (e : Event) (k : EventKind) (s : Slate) → s.phase ≡ Open → s.freed ≡ false → is_wide k ≡ true → is_spent (open_rule answers e k s).0 ≡ false
+  open_unspent e (Reconfigure dgram stream) s p f w = ap (λ (x : Phase). is_spent_in x (reconfigured stream.connection_config s)) p
+  open_unspent e Shutdown s p f w = wound_unspent By_shutdown s.queue s f
+  open_unspent e _ s p f w = cc
+
+  idle_unspent : (e : Event) (s : Slate) → is_wide e.kind ≡ true → is_open s.phase ≡ false → is_spent s ≡ false → is_spent (rule answers e s).0 ≡ false
+  idle_unspent e s w o h = ap (λ (t : Told). is_spent t.0) (wide_idle answers e s w o) ∙ (conf_spent s.phase s (conf_rule e.kind s.conf) ∙ h)
+
+-- an event that all hear leaves no client spent that wasn't
+pub wide_unspent : {W R F : Type 0} (answer : PolledRequest F R → ℕ → Answer) (answers : Serving) (n : ℕ) (state : State W R F) (e : Event) (s : Slate)
+    → StandsIn answer answers n state s → is_wide e.kind ≡ true → is_spent s ≡ false → is_spent (rule answers e s).0 ≡ false
+wide_unspent answer answers n (Is_exchange kept) e s h w u = idle_unspent answers e s w (ap is_open h.phase) u
+wide_unspent answer answers n (Is_open c) e s h w u =
+    let t = with_conf (conf_rule e.kind s.conf) s in
+    ap (λ (p : Phase). is_spent (in_phase answers e p t).0) h.phase ∙ open_unspent answers e e.kind t h.phase h.freed w
+wide_unspent answer answers n (Is_flushing c) e s h w u = idle_unspent answers e s w (ap is_open h.phase) u
+wide_unspent answer answers n (Is_closed freed) e s h w u = idle_unspent answers e s w (ap is_open h.phase) u
 
 -- an unused slate isn't spent
 pub unused_unspent : (s : Slate) → is_unused s.phase ≡ true → is_spent s ≡ false
-unused_unspent s u = unspent_case s.phase s (unused_is s.phase u)
+unused_unspent s u = ap (λ (p : Phase). is_spent_in p s) (unused_is s.phase u)

@@ -7,9 +7,9 @@ use Rattle.dns_service.specs.ErrorReply.{error_reply}
 use Rattle.dns_client.specs.Frames.{framed}
 use Rattle.dns_client.specs.Slate.{Slate}
 use Rattle.dns_client.specs.Requests.{most_requests, request_of_frame, asked}
-use Rattle.dns_client.specs.Connections.{enqueue, take_request, take_frame}
+use Rattle.dns_client.specs.Connections.{append_frame, enqueue, take_request, take_frame}
 
--- all but the requests and the queue stays
+-- all but the requests, the queue and the timer stays
 pub record Takes (s t : Slate) : Type 0 where
   pub client : t.client ≡ s.client
   pub phase : t.phase ≡ s.phase
@@ -18,14 +18,18 @@ pub record Takes (s t : Slate) : Type 0 where
   pub received : t.received ≡ s.received
   pub taken : t.taken ≡ s.taken + 1
 
-asked_takes : (at secs : ℕ) (f : List ℕ) (s : Slate) → Takes s (take_request at secs f s)
-asked_takes at secs f s = (elim (nat_lt (length s.requests) most_requests) as (λ b. Takes s (if b then record s { taken = s.taken + 1; requests = s.requests ++ asked (request_of_frame s.connection s.addr at secs f) ∷ [] } else record s { taken = s.taken + 1 })) [
+-- a frame that is taken, before anything else is done with it
+abbrev counted : ℕ → Slate → Slate
+counted at s = record s { taken = s.taken + 1; reset_at = at }
+
+asked_takes : (at secs : ℕ) (f : List ℕ) (s : Slate) → Takes s (take_request at secs f (counted at s))
+asked_takes at secs f s = (elim (nat_lt (length s.requests) most_requests) as (λ b. Takes s (if b then record (counted at s) { requests = s.requests ++ asked (request_of_frame s.connection.idle_timeout s.addr at secs f) ∷ [] } else counted at s)) [
   | true ↦ record { client = refl; phase = refl; freed = refl; conf = refl; received = refl; taken = refl }
   | false ↦ record { client = refl; phase = refl; freed = refl; conf = refl; received = refl; taken = refl }
 ])
 
-refused_takes : (m : List ℕ) (s : Slate) → Takes s (enqueue m (record s { taken = s.taken + 1 }))
-refused_takes m s = (elim (nat_lt (length s.queue) s.bound) as (λ b. Takes s (if b then record s { taken = s.taken + 1; queue = s.queue ++ m ∷ [] } else record s { taken = s.taken + 1 })) [
+refused_takes : (at : ℕ) (m : List ℕ) (s : Slate) → Takes s (enqueue m (counted at s))
+refused_takes at m s = (elim (nat_lt (length s.queue) s.bound) as (λ b. Takes s (if b then append_frame m (counted at s) else counted at s)) [
   | true ↦ record { client = refl; phase = refl; freed = refl; conf = refl; received = refl; taken = refl }
   | false ↦ record { client = refl; phase = refl; freed = refl; conf = refl; received = refl; taken = refl }
 ])
@@ -33,4 +37,4 @@ refused_takes m s = (elim (nat_lt (length s.queue) s.bound) as (λ b. Takes s (i
 pub takes : (at secs : ℕ) (f : List ℕ) (s : Slate) → Takes s (take_frame at secs f s)
 takes at secs f s =
     let m = framed (wire (error_reply f 1)) in
-    (elim (header_of f).qr as (λ b. Takes s (if b then enqueue m (record s { taken = s.taken + 1 }) else take_request at secs f s)) [ true ↦ refused_takes m s | false ↦ asked_takes at secs f s ])
+    (elim (header_of f).qr as (λ b. Takes s (if b then enqueue m (counted at s) else take_request at secs f (counted at s))) [ true ↦ refused_takes at m s | false ↦ asked_takes at secs f s ])

@@ -1,3 +1,4 @@
+pub use Rattle.dns_admission.specs.Machine
 pub use Rattle.dns_client.specs.Pieces
 pub use Rattle.dns_client.specs.Serving
 pub use Rattle.dns_client.specs.PolledAt
@@ -12,8 +13,10 @@ pub mod Own
 pub mod Sent
 pub mod Out
 pub mod ByClient
+pub mod Books
+pub mod Runs
 pub mod ReplyTo
-pub mod Early
+pub mod Trails
 pub mod Serves
 pub mod Server
 pub mod Finished

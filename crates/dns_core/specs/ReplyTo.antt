@@ -1,5 +1,5 @@
 -- What each reply that is sent has to do with the message that it answers (RFC 1035, sections 4.1.1 and 4.2.1).
-use Rattle.std.specs.Prelude.{◌≡◌, ℕ, ◌≤◌, List, [], ◌∷◌, length, true, ◌&&◌, if◌then◌else◌, Option, Some, None}
+use Rattle.std.specs.Prelude.{◌≡◌, ℕ, ◌≤◌, List, ◌∷◌, ◌++◌, length, true, if◌then◌else◌}
 use Rattle.std.specs.List.{Contains}
 use Rattle.dns_name.specs.declared.address.SocketAddr.{SocketAddr}
 use Rattle.dns_base.specs.Header.{header_of}
@@ -16,15 +16,9 @@ use Rattle.dns_client.specs.Frames.{frames, framed}
 use Rattle.dns_client.specs.Requests.{request_of_datagram}
 use Rattle.dns_client.specs.Serving.{Serving}
 use Rattle.dns_core.specs.ByClient.{IsPrefix}
-use Rattle.dns_core.specs.Out.{begins}
-use Rattle.dns_core.specs.Own.{concerns}
-use Rattle.dns_core.specs.Sent.{slate}
+use Rattle.dns_core.specs.Out.{is_new}
+use Rattle.dns_core.specs.Sent.{conf, slate}
 use Rattle.dns_middleware.specs.declared.settings.Settings.{Settings}
-
--- the event by which a client begins
-abbrev pub begun_by : ℕ → List Event → Option Event
-begun_by c [] = None
-begun_by c (e ∷ es) = if concerns c e && begins e.kind then Some e else begun_by c es
 
 -- a message answers one of these octets: it carries its identifier, and QR
 abbrev pub Responds : List ℕ → Msg → Type 0
@@ -37,17 +31,21 @@ module _ (answers : Serving) where
   datagram_limit r = if (header_of r.octets).qr then limit (hint_of r.transport) else limit (answers.hint r)
 
   module _ (settings : Settings) (es : List Event) where
-    -- octets that a client is sent answer the datagram by which it began
+    -- octets that a client is sent answer the datagram by which it began, under the configuration that was in force then
     pub record AnswersDatagram (c : ℕ) (o : List ℕ) : Type 0 where
+      pub before : List Event
       pub event : Event
+      pub behind : List Event
       pub addr : SocketAddr
       pub asks : List ℕ
       pub message : Msg
-      pub begun : begun_by c es ≡ Some event
+      pub place : es ≡ before ++ event ∷ behind
+      pub client : event.client ≡ c
+      pub begun : is_new answers settings before event ≡ true
       pub kind : event.kind ≡ Is_datagram addr asks
       pub is : o ≡ wire message
       pub responds : Responds (cut_datagram asks) message
-      pub fits : length o ≤ datagram_limit (request_of_datagram settings.dgram addr event.at event.secs (cut_datagram asks))
+      pub fits : length o ≤ datagram_limit (request_of_datagram (conf settings before).dgram addr event.at event.secs (cut_datagram asks))
 
     -- a frame that a client is sent answers one of the frames that it sent before
     pub record AnswersFrame (c : ℕ) (o : List ℕ) : Type 0 where

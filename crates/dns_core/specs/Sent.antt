@@ -1,13 +1,21 @@
--- What one client is sent for its events, from the oldest to the newest, and the slate that it has after them.
+-- What one client is sent for the events that it hears, from the oldest to the newest, and the slate that it has after them.
 use Rattle.dns_client.specs.Serving.{Serving}
 use Rattle.std.specs.Prelude.{ℕ, List, [], ◌∷◌, ◌++◌}
 use Rattle.dns_service.specs.declared.event.Event.{Event}
 use Rattle.dns_service.specs.declared.event.Output.{Output}
-use Rattle.dns_client.specs.Slate.{Slate, fresh}
+use Rattle.dns_client.specs.Slate.{Slate, Conf, conf_rule, fresh}
 use Rattle.dns_client.specs.Rule.{rule}
 use Rattle.dns_core.specs.Settings.{opening}
 use Rattle.dns_core.specs.Own.{own}
 use Rattle.dns_middleware.specs.declared.settings.Settings.{Settings}
+
+-- the configurations that are in force after some events
+abbrev pub conf_after : Conf → List Event → Conf
+conf_after c [] = c
+conf_after c (e ∷ es) = conf_after (conf_rule e.kind c) es
+
+unfoldable pub conf : Settings → List Event → Conf
+conf settings es = conf_after (opening settings) es
 
 -- the answers are those of the wrapped service, by request and poll
 module _ (answers : Serving) where

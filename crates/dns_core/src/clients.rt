@@ -3,35 +3,53 @@
 ghost use Rattle.dns_client.specs.Serving.{Serving, serving};
 ghost use Rattle.std.specs.Prelude.{◌≡◌, ◌≢◌, ℕ, [], ◌∷◌, ◌++◌, IfOk, OnOk, None, Some, true, nat_eq, if◌then◌else◌};
 ghost use Rattle.std.specs.Ordering.{nat_cmp};
-ghost use Rattle.std.specs.BTreeMap.{get};
+ghost use Rattle.std.specs.BTreeMap.{get, keys, IsOrdered};
 ghost use Rattle.std.specs.BTreeSet.{contains};
 ghost use Rattle.dns_service.specs.PolledRequest.{request_answer};
 ghost use Rattle.dns_client.specs.Slate.{Slate};
 ghost use Rattle.dns_client.specs.Spent.{is_spent};
 ghost use Rattle.dns_client.specs.Stands.{Stands, state_is_spent};
-ghost use Rattle.dns_core.specs.Serves.{Steps, StepsKey};
+ghost use Rattle.dns_core.specs.Serves.{Steps, StepsKey, StepsAll};
 
 use dns_client::ClientCore;
 use dns_service::{Event, OutOfMemory, Output, Served};
 use std::alloc::Global;
 use std::collections::{BTreeMap, BTreeSet};
 
-/// One client's event, and whether the client is finished after it.
+/// What a client is sent for an event, whether it is finished after it, and whether it gave its slot back.
+#[derive(Drop)]
+pub struct Stepped {
+    pub outs: Vec<Output>,
+    pub finished: bool,
+    pub freed: bool,
+}
+
+/// One event that a client hears.
 fn step_there<W: Served>(
     alloc: Global,
     service: &W,
     clients: &mut BTreeMap<u64, ClientCore<W>>,
+    client: u64,
     event: &Event,
-) -> Result<(Vec<Output>, bool), OutOfMemory>
+) -> Result<Stepped, OutOfMemory>
     requires { W.can_call service.now }
-    ensures here { IfOk result (λ p. Steps (request_answer W.Future.answer W.Stream.answer) (serving (W.answer service.now) (W.hint service.now)) (get nat_cmp clients.old event.now.client) event.now p.0.items p.1 (get nat_cmp clients.new event.now.client)) }
-    ensures others { OnOk result ((c : ℕ) → c ≢ event.now.client → get nat_cmp clients.new c ≡ get nat_cmp clients.old c) }
+    ensures here { IfOk result (λ p. Steps (request_answer W.Future.answer W.Stream.answer) (serving (W.answer service.now) (W.hint service.now)) (get nat_cmp clients.old client) event.now p.outs.items p.finished p.freed (get nat_cmp clients.new client)) }
+    ensures others { OnOk result ((c : ℕ) → c ≢ client → get nat_cmp clients.new c ≡ get nat_cmp clients.old c) }
+    ensures same_keys { OnOk result (keys clients.new ≡ keys clients.old) }
 {
-    match clients.get_mut(&event.client) {
-        None => Ok((Vec::new(alloc), false)),
+    match clients.get_mut(&client) {
+        None => Ok(Stepped {
+            outs: Vec::new(alloc),
+            finished: false,
+            freed: false,
+        }),
         Some(core) => {
             let outs = core.step(alloc, service, event)?;
-            Ok((outs, core.is_spent()))
+            Ok(Stepped {
+                outs,
+                finished: core.is_spent(),
+                freed: core.is_freed(),
+            })
         }
     }
 }
@@ -46,7 +64,7 @@ fn leave<W: Served>(clients: &mut BTreeMap<u64, ClientCore<W>>, client: u64, fin
     }
 }
 
-/// One client's event, by which it leaves if it is finished after it. Then `true` is answered.
+/// One client's event, by which it leaves if it is finished after it. Whether it gave its slot back is answered too.
 pub fn step_at<W: Served>(
     alloc: Global,
     service: &W,
@@ -57,9 +75,61 @@ pub fn step_at<W: Served>(
     ensures here { IfOk result (λ p. StepsKey (request_answer W.Future.answer W.Stream.answer) (serving (W.answer service.now) (W.hint service.now)) (get nat_cmp clients.old event.now.client) event.now p.0.items p.1 (get nat_cmp clients.new event.now.client)) }
     ensures others { OnOk result ((c : ℕ) → c ≢ event.now.client → get nat_cmp clients.new c ≡ get nat_cmp clients.old c) }
 {
-    let (outs, finished) = step_there(alloc, service, clients, event)?;
+    let Stepped {
+        outs,
+        finished,
+        freed,
+    } = step_there(alloc, service, clients, event.client, event)?;
     leave(clients, event.client, finished);
-    Ok((outs, finished))
+    Ok((outs, freed))
+}
+
+/// The numbers of the clients, rising.
+fn numbers_of<V>(alloc: Global, clients: &BTreeMap<u64, V>) -> Result<Vec<u64>, OutOfMemory>
+    ensures numbers { IfOk result (λ v. v.items ≡ keys clients.now) }
+    ensures rising { OnOk result (IsOrdered nat_cmp clients.now) }
+{
+    let numbers: Vec<u64> = clients.keys().copied().collect(alloc)?;
+    Ok(numbers)
+}
+
+/// One event that the clients of these numbers hear, in their order.
+fn step_each<W: Served>(
+    alloc: Global,
+    service: &W,
+    clients: &mut BTreeMap<u64, ClientCore<W>>,
+    numbers: &[u64],
+    event: &Event,
+) -> Result<Vec<Output>, OutOfMemory>
+    requires can_call { W.can_call service.now }
+    requires all { numbers.now ≡ keys clients.old }
+    requires rising { IsOrdered nat_cmp clients.old }
+    ensures stepped { IfOk result (λ outs. StepsAll (request_answer W.Future.answer W.Stream.answer) (serving (W.answer service.now) (W.hint service.now)) clients.old clients.new event.now outs.items) }
+    ensures same_keys { OnOk result (keys clients.new ≡ keys clients.old) }
+{
+    let mut outs = Vec::new(alloc);
+    for number in numbers {
+        let stepped = step_there(alloc, service, clients, *number, event)?;
+        append(&mut outs, stepped.outs)?;
+    }
+    Ok(outs)
+}
+
+/// One event that all clients hear, by rising number.
+pub fn step_all<W: Served>(
+    alloc: Global,
+    service: &W,
+    clients: &mut BTreeMap<u64, ClientCore<W>>,
+    event: &Event,
+) -> Result<Vec<Output>, OutOfMemory>
+    requires { W.can_call service.now }
+    ensures stepped { IfOk result (λ outs. StepsAll (request_answer W.Future.answer W.Stream.answer) (serving (W.answer service.now) (W.hint service.now)) clients.old clients.new event.now outs.items) }
+    ensures same_keys { OnOk result (keys clients.new ≡ keys clients.old) }
+    ensures rising { OnOk result (IsOrdered nat_cmp clients.old) }
+{
+    let numbers = numbers_of(alloc, clients)?;
+    let outs = step_each(alloc, service, clients, numbers.as_slice(), event)?;
+    Ok(outs)
 }
 
 /// A core is kept under the number of its client.

@@ -1,7 +1,7 @@
 //! Laws of what is sent.
 
 ghost use Rattle.dns_client.specs.Serving.{Serving, serving};
-ghost use Rattle.std.specs.Prelude.{◌≡◌, ℕ, List, [], ◌∷◌, ◌++◌, true, false, Option, Some, None, slice_get, nat_eq, filter, All};
+ghost use Rattle.std.specs.Prelude.{◌≡◌, ◌≢◌, ◌<◌, ℕ, List, [], ◌∷◌, ◌++◌, true, false, Option, Some, None, slice_get, nat_eq, filter, All};
 ghost use Rattle.std.specs.List.{list_any};
 ghost use Rattle.dns_service.specs.Answer.{Answer};
 ghost use Rattle.dns_service.specs.Req.{Req};
@@ -10,25 +10,32 @@ ghost use Rattle.dns_service.specs.declared.event.EventKind.{EventKind};
 ghost use Rattle.dns_client.specs.Pieces.{piece_of};
 ghost use Rattle.dns_client.specs.Slate.{Closed};
 ghost use Rattle.dns_service.specs.declared.event.Output.{Output};
-ghost use Rattle.dns_core.specs.Own.{own};
-ghost use Rattle.dns_core.specs.Sent.{sent, slate};
-ghost use Rattle.dns_core.specs.Out.{begins, gain, is_release, is_unused, members, out};
+ghost use Rattle.dns_name.specs.declared.address.SocketAddr.{SocketAddr};
+ghost use Rattle.dns_service.specs.Config.{Dgram, Stream};
+ghost use Rattle.dns_core.specs.Own.{is_wide, own};
+ghost use Rattle.dns_core.specs.Runs.{IsReconfigure};
+ghost use Rattle.dns_core.specs.Sent.{conf, sent, slate};
+ghost use Rattle.dns_core.specs.Out.{gain, is_new, is_turned_away, is_unused, members, out};
 ghost use Rattle.dns_core.specs.ByClient.{IsPrefix, is_for, is_member, was_turned_away};
 ghost use Rattle.dns_core.specs.Finished.{IsFinished};
+ghost use Rattle.dns_client.specs.Slate.{SlateRequest, fresh};
 ghost use Rattle.dns_core.specs.ReplyTo.{IsReply};
+ghost use Rattle.dns_core.specs.Settings.{opening};
+ghost use Rattle.dns_core.specs.Trails.{AreMarked, IsRising, IsSomewhere, in_order, no_trail, octets_sent, poll_of, polls_of, reply_at, trail_after};
 ghost use Rattle.dns_middleware.specs.Verdicts.{Verdicts, verdict_on};
 ghost use Rattle.dns_middleware.specs.Wrapped.{hint_left, replies};
 ghost use Rattle.dns_middleware.specs.declared.settings.Settings.{Settings};
 
 /// The headline, read by client. Of all that is sent, what is for an exchange or a connection is what the rules for it
-/// alone send for its own events; to a client that was turned away it is told so, once; and nothing is for any other.
+/// alone send for the events that it hears; to a client that was turned away it is told so, once; and nothing is for any
+/// other.
 pub fn clients_are_sent_their_own()
     ensures own { (answers : Serving) (settings : Settings) (c : ℕ) (es : List Event)
         → is_member answers settings c es ≡ true
         → filter (is_for c) (out answers settings es) ≡ sent answers settings (own c es) }
-    ensures away { (answers : Serving) (settings : Settings) (c : ℕ) (es : List Event)
-        → was_turned_away answers settings c es ≡ true
-        → filter (is_for c) (out answers settings es) ≡ Output.TurnedAway c settings.stream.accept_connections_at_max ∷ [] }
+    ensures away { (answers : Serving) (settings : Settings) (q r : List Event) (e : Event)
+        → is_turned_away answers settings q e ≡ true
+        → filter (is_for e.client) (out answers settings (q ++ e ∷ r)) ≡ Output.TurnedAway e.client (conf settings q).stream.accept_connections_at_max ∷ [] }
     ensures stranger { (answers : Serving) (settings : Settings) (c : ℕ) (es : List Event)
         → is_member answers settings c es ≡ false → was_turned_away answers settings c es ≡ false
         → filter (is_for c) (out answers settings es) ≡ [] }
@@ -64,8 +71,22 @@ pub fn replies_answer_what_was_asked()
     dns_middleware::wrapped_replies_respond();
     dns_middleware::wrapped_replies_fit();
     dns_service::cut_fits();
-    dns_client::frames_go_on();
 }
+
+/// A client is sent its replies in order: each message that it is sent is the reply to one poll of one of its requests, or
+/// refuses a response, and those of one request are sent in the order of its polls, each at most once. Of what its requests were
+/// polled for, a reply was sent unless it waits in the queue, is held, or was dropped, since the queue stood full outside of a
+/// transaction; a connection that closes forgets its requests.
+pub fn replies_keep_their_order()
+    ensures sent { (answers : Serving) (settings : Settings) (c : ℕ) (es : List Event)
+        → AreMarked answers (trail_after answers (fresh (opening settings)) no_trail (own c es)).went (octets_sent (sent answers settings (own c es))) }
+    ensures order { (answers : Serving) (settings : Settings) (c k : ℕ) (es : List Event)
+        → IsRising (polls_of k (in_order (trail_after answers (fresh (opening settings)) no_trail (own c es)))) }
+    ensures missing { (answers : Serving) (settings : Settings) (c k n : ℕ) (es : List Event) (r : SlateRequest)
+        → slice_get (slate answers settings c es).requests k ≡ Some r → n < r.polls
+        → reply_at answers (poll_of k r n) ≢ None
+        → IsSomewhere k r (trail_after answers (fresh (opening settings)) no_trail (own c es)) (poll_of k r n) }
+{}
 
 /// A piece cut in two, both parts at its moment and seconds and next to each other, changes nothing, wherever it is cut.
 pub fn pieces_may_be_cut()
@@ -75,17 +96,17 @@ pub fn pieces_may_be_cut()
     dns_client::pieces_may_be_cut();
 }
 
-/// An event of a client that is no exchange and no connection, by which none begins, changes nothing for anybody.
+/// An event of a client that is no exchange and no connection, and doesn't begin with it, changes nothing for anybody.
 pub fn strangers_change_nothing()
     ensures { (answers : Serving) (settings : Settings) (q r : List Event) (e : Event)
-        → begins e.kind ≡ false → list_any (nat_eq e.client) (members answers settings q) ≡ false
+        → is_wide e.kind ≡ false → is_new answers settings q e ≡ false → list_any (nat_eq e.client) (members answers settings q) ≡ false
         → out answers settings (q ++ e ∷ r) ≡ out answers settings (q ++ r) }
 {}
 
 /// Once a connection is closed, an event that is no release changes nothing for anybody.
 pub fn closed_connections_change_nothing()
     ensures { (answers : Serving) (settings : Settings) (q r : List Event) (e : Event)
-        → is_release e.kind ≡ false → (slate answers settings e.client q).phase ≡ Closed
+        → is_wide e.kind ≡ false → e.kind ≢ EventKind.Release → (slate answers settings e.client q).phase ≡ Closed
         → out answers settings (q ++ e ∷ r) ≡ out answers settings (q ++ r) }
 {}
 
@@ -98,8 +119,11 @@ pub fn finished_requests_change_nothing()
 
 /// A datagram and an offer under a used number change nothing for anybody.
 pub fn used_numbers_change_nothing()
-    ensures { (answers : Serving) (settings : Settings) (q r : List Event) (e : Event)
-        → begins e.kind ≡ true → is_unused (slate answers settings e.client q).phase ≡ false
+    ensures datagram { (answers : Serving) (settings : Settings) (q r : List Event) (e : Event) (addr : SocketAddr) (o : List ℕ)
+        → e.kind ≡ EventKind.Datagram addr o → is_unused (slate answers settings e.client q).phase ≡ false
+        → out answers settings (q ++ e ∷ r) ≡ out answers settings (q ++ r) }
+    ensures offer { (answers : Serving) (settings : Settings) (q r : List Event) (e : Event) (addr : SocketAddr)
+        → e.kind ≡ EventKind.Offer addr → is_unused (slate answers settings e.client q).phase ≡ false
         → out answers settings (q ++ e ∷ r) ≡ out answers settings (q ++ r) }
 {}
 
@@ -115,4 +139,27 @@ pub fn empty_pieces_change_nothing()
     ensures { (answers : Serving) (settings : Settings) (q r : List Event) (e : Event)
         → e.kind ≡ EventKind.Piece []
         → out answers settings (q ++ e ∷ r) ≡ out answers settings (q ++ r) }
+{}
+
+/// Once the server shut down, a datagram, an offer, and another reconfigure and shutdown change nothing for anybody.
+pub fn late_events_change_nothing()
+    ensures datagram { (answers : Serving) (settings : Settings) (q r : List Event) (e : Event) (addr : SocketAddr) (o : List ℕ)
+        → e.kind ≡ EventKind.Datagram addr o → (conf settings q).over ≡ true
+        → out answers settings (q ++ e ∷ r) ≡ out answers settings (q ++ r) }
+    ensures offer { (answers : Serving) (settings : Settings) (q r : List Event) (e : Event) (addr : SocketAddr)
+        → e.kind ≡ EventKind.Offer addr → (conf settings q).over ≡ true
+        → out answers settings (q ++ e ∷ r) ≡ out answers settings (q ++ r) }
+    ensures reconfigure { (answers : Serving) (settings : Settings) (q r : List Event) (e : Event) (dgram : Dgram) (stream : Stream)
+        → e.kind ≡ EventKind.Reconfigure dgram stream → (conf settings q).over ≡ true
+        → out answers settings (q ++ e ∷ r) ≡ out answers settings (q ++ r) }
+    ensures shutdown { (answers : Serving) (settings : Settings) (q r : List Event) (e : Event)
+        → e.kind ≡ EventKind.Shutdown → (conf settings q).over ≡ true
+        → out answers settings (q ++ e ∷ r) ≡ out answers settings (q ++ r) }
+{}
+
+/// Of a run of reconfigures the last alone counts, for what one client is sent.
+pub fn reconfigures_count_as_their_last()
+    ensures { (answers : Serving) (settings : Settings) (p run r : List Event) (last : Event)
+        → All IsReconfigure run → IsReconfigure last
+        → sent answers settings (p ++ (run ++ last ∷ r)) ≡ sent answers settings (p ++ last ∷ r) }
 {}

@@ -1,63 +1,122 @@
 //! The server over a list of events.
 
 ghost use Rattle.dns_client.specs.Serving.{Serving, serving};
-ghost use Rattle.std.specs.Prelude.{◌≡◌, ◌<◌, ◌-◌, if◌then◌else◌, ℕ, List, [], false, IfOk, OnOk};
+ghost use Rattle.std.specs.Prelude.{◌≡◌, ℕ, List, [], true, false, IfOk, OnOk, if◌then◌else◌};
 ghost use Rattle.std.specs.BTreeSet.{contains};
 ghost use Rattle.std.specs.Ordering.{nat_cmp};
-ghost use Rattle.dns_service.specs.Config.{Dgram};
+ghost use Rattle.dns_admission.specs.Machine.{state_after};
+ghost use Rattle.dns_admission.specs.Admissions.{Admits};
+ghost use Rattle.dns_admission.specs.declared.call.Call.TheVariants.{Admit, Release};
+ghost use Rattle.dns_admission.specs.declared.look.Look.{Look as TheLook};
 ghost use Rattle.dns_service.specs.PolledRequest.{request_answer};
-ghost use Rattle.dns_core.specs.Out.{begins, is_release, out};
-ghost use Rattle.dns_core.specs.Early.{GivesNoFeedback};
+ghost use Rattle.dns_core.specs.Own.{is_wide};
+ghost use Rattle.dns_core.specs.Out.{out};
+ghost use Rattle.dns_core.specs.Books.{book_rule};
+ghost use Rattle.dns_core.specs.Server.{BeginsNobody};
 ghost use Rattle.dns_middleware.specs.Verdicts.{verdict_on};
 ghost use Rattle.dns_middleware.specs.Wrapped.{hint_left, replies};
 
-use crate::clients::{append, begin, step_at, turn_away};
+use crate::clients::{append, begin, step_all, step_at, turn_away};
+use dns_admission::{Admission, BookState, Look};
 use dns_base::SocketAddr;
 use dns_client::ClientCore;
 use dns_middleware::{Notifiable, Settings, wrap};
-use dns_service::{
-    DgramConfig, Event, EventKind, OutOfMemory, Output, Plainly, Served, Service, StreamConfig,
-};
+use dns_service::{Event, EventKind, OutOfMemory, Output, Plainly, Served, Service};
 use std::alloc::Global;
 use std::collections::{BTreeMap, BTreeSet};
 
-/// The cores of the clients that aren't finished, and the numbers that were used.
+/// A server of a wrapped service, which is stepped through events: the cores of the clients that aren't finished, the numbers
+/// that were used, and the book.
 #[derive(Drop)]
 pub struct Server<W: Served> {
     clients: BTreeMap<u64, ClientCore<W>>,
     used: BTreeSet<u64>,
-    taken: u64,
-    dgram: DgramConfig,
-    stream: StreamConfig,
+    book: BookState,
+}
+
+/// A slot is given back to the book, where a client freed it.
+fn give_back(book: &mut BookState, freed: bool)
+    ensures { book.new ≡ (if freed then state_after book.old Release else book.old) }
+{
+    if freed {
+        book.release();
+    }
 }
 
 impl<W: Served> Server<W> {
     ghost use Rattle.dns_core.specs.Server.{Serves, Goes, AddsOutputs};
 
-    fn new(alloc: Global, settings: &Settings) -> Self
+    /// A server that served no event.
+    pub fn new(alloc: Global, settings: &Settings) -> Self
         ensures { (answers : Serving) → Serves (request_answer W.Future.answer W.Stream.answer) answers settings.now [] result }
     {
         Server {
             clients: BTreeMap::new(alloc),
             used: BTreeSet::new(alloc),
-            taken: 0,
-            dgram: settings.dgram,
-            stream: settings.stream,
+            book: BookState::new(settings.dgram, settings.stream),
         }
     }
 
-    /// An event of a client that is there, or of none.
+    /// An event of one client, which is there or isn't. A slot that it frees is given back.
     fn own(&mut self, alloc: Global, service: &W, event: &Event) -> Result<Vec<Output>, OutOfMemory>
         requires can_call { W.can_call service.now }
-        requires begins { begins event.now.kind ≡ false }
-        requires release { is_release event.now.kind ≡ false }
+        requires own { is_wide event.now.kind ≡ false }
+        requires begins { BeginsNobody event.now }
         ensures { IfOk result (λ outs. Goes (request_answer W.Future.answer W.Stream.answer) (serving (W.answer service.now) (W.hint service.now)) self.old self.new event.now outs.items) }
     {
-        let (outs, _) = step_at(alloc, service, &mut self.clients, event)?;
+        let (outs, freed) = step_at(alloc, service, &mut self.clients, event)?;
+        give_back(&mut self.book, freed);
         Ok(outs)
     }
 
-    /// An exchange begins, unless its number is used.
+    /// An event that all clients hear, by rising number, once it acted on the book.
+    fn wide(
+        &mut self,
+        alloc: Global,
+        service: &W,
+        event: &Event,
+    ) -> Result<Vec<Output>, OutOfMemory>
+        requires can_call { W.can_call service.now }
+        requires wide { is_wide event.now.kind ≡ true }
+        ensures { IfOk result (λ outs. Goes (request_answer W.Future.answer W.Stream.answer) (serving (W.answer service.now) (W.hint service.now)) self.old self.new event.now outs.items) }
+    {
+        note(&mut self.book, &event.kind);
+        let outs = step_all(alloc, service, &mut self.clients, event)?;
+        Ok(outs)
+    }
+
+    /// An exchange begins by its datagram, by a look at the book.
+    fn exchange(
+        &mut self,
+        alloc: Global,
+        service: &W,
+        event: &Event,
+        addr: SocketAddr,
+        octets: &[u8],
+        look: &Look,
+    ) -> Result<Vec<Output>, OutOfMemory>
+        requires can_call { W.can_call service.now }
+        requires kind { event.now.kind ≡ EventKind.Datagram addr octets.now }
+        requires shown { look.now ≡ self.old.book }
+        requires running { look.now.closed ≡ false }
+        requires unused { contains nat_cmp self.old.used event.now.client ≡ false }
+        ensures { IfOk result (λ outs. Goes (request_answer W.Future.answer W.Stream.answer) (serving (W.answer service.now) (W.hint service.now)) self.old self.new event.now outs.items) }
+    {
+        let (core, outs) = ClientCore::datagram(
+            alloc,
+            service,
+            event.client,
+            addr,
+            event.at,
+            event.secs,
+            octets,
+            look,
+        )?;
+        begin(&mut self.clients, &mut self.used, event.client, core)?;
+        Ok(outs)
+    }
+
+    /// An exchange begins, unless its number is used or the server shut down.
     fn datagram(
         &mut self,
         alloc: Global,
@@ -70,79 +129,55 @@ impl<W: Served> Server<W> {
         requires kind { event.now.kind ≡ EventKind.Datagram addr octets.now }
         ensures { IfOk result (λ outs. Goes (request_answer W.Future.answer W.Stream.answer) (serving (W.answer service.now) (W.hint service.now)) self.old self.new event.now outs.items) }
     {
-        if self.used.contains(&event.client) {
+        let look = self.book.shown();
+        if look.closed || self.used.contains(&event.client) {
             return Ok(Vec::new(alloc));
         }
-        let (core, outs) = ClientCore::datagram(
-            alloc,
-            service,
-            event.client,
-            addr,
-            event.at,
-            event.secs,
-            octets,
-            &self.dgram,
-        )?;
-        begin(&mut self.clients, &mut self.used, event.client, core)?;
-        Ok(outs)
+        self.exchange(alloc, service, event, addr, octets, &look)
     }
 
-    /// A connection begins, where a slot is free, and else is turned away.
+    /// A connection begins in the slot that it was admitted to, from the book before that.
+    fn connect(
+        &mut self,
+        alloc: Global,
+        event: &Event,
+        addr: SocketAddr,
+        look: &Look,
+    ) -> Result<Vec<Output>, OutOfMemory>
+        requires kind { event.now.kind ≡ EventKind.Offer addr }
+        requires running { look.now.closed ≡ false }
+        requires unused { contains nat_cmp self.old.used event.now.client ≡ false }
+        ensures { (answers : Serving) (before : TheLook)
+            → Admits before (Admission.Admitted look.now) → self.old.book ≡ state_after before Admit
+            → IfOk result (λ outs. Goes (request_answer W.Future.answer W.Stream.answer) answers (record self.old { book = before }) self.new event.now outs.items) }
+    {
+        let core = ClientCore::admit(alloc, event.client, addr, event.at, look)?;
+        begin(&mut self.clients, &mut self.used, event.client, core)?;
+        Ok(Vec::new(alloc))
+    }
+
+    /// A connection begins, where a slot is free, and else is turned away. Nothing happens where its number is used or the
+    /// server shut down.
     fn offer(
         &mut self,
         alloc: Global,
-        service: &W,
         event: &Event,
         addr: SocketAddr,
     ) -> Result<Vec<Output>, OutOfMemory>
         requires { event.now.kind ≡ EventKind.Offer addr }
-        ensures { IfOk result (λ outs. Goes (request_answer W.Future.answer W.Stream.answer) (serving (W.answer service.now) (W.hint service.now)) self.old self.new event.now outs.items) }
+        ensures { (answers : Serving) → IfOk result (λ outs. Goes (request_answer W.Future.answer W.Stream.answer) answers self.old self.new event.now outs.items) }
     {
         if self.used.contains(&event.client) {
             return Ok(Vec::new(alloc));
         }
-        if self.taken >= self.stream.max_concurrent_connections() as u64 {
-            let accepted = self.stream.accept_connections_at_max();
-            let outs = turn_away(alloc, &mut self.used, event.client, accepted)?;
-            return Ok(outs);
+        match self.book.admit() {
+            Admission::Closed => Ok(Vec::new(alloc)),
+            Admission::Full { accepted, .. } => {
+                let outs = turn_away(alloc, &mut self.used, event.client, accepted)?;
+                Ok(outs)
+            }
+            Admission::Admitted(look) => self.connect(alloc, event, addr, &look),
         }
-        self.admit(alloc, service, event, addr)
-    }
-
-    /// A connection is admitted: its number isn't used, and a slot is free.
-    fn admit(
-        &mut self,
-        alloc: Global,
-        service: &W,
-        event: &Event,
-        addr: SocketAddr,
-    ) -> Result<Vec<Output>, OutOfMemory>
-        requires kind { event.now.kind ≡ EventKind.Offer addr }
-        requires unused { contains nat_cmp self.old.used event.now.client ≡ false }
-        requires room { self.old.taken < self.old.stream.max_concurrent_connections }
-        requires few { self.old.taken < 100000 }
-        ensures { IfOk result (λ outs. Goes (request_answer W.Future.answer W.Stream.answer) (serving (W.answer service.now) (W.hint service.now)) self.old self.new event.now outs.items) }
-    {
-        let core = ClientCore::admit(alloc, event.client, addr, &self.stream)?;
-        begin(&mut self.clients, &mut self.used, event.client, core)?;
-        self.taken += 1;
-        Ok(Vec::new(alloc))
-    }
-
-    /// A connection that is closed gives its slot back, once.
-    fn release(
-        &mut self,
-        alloc: Global,
-        service: &W,
-        event: &Event,
-    ) -> Result<Vec<Output>, OutOfMemory>
-        requires can_call { W.can_call service.now }
-        requires kind { event.now.kind ≡ EventKind.Release }
-        ensures { IfOk result (λ outs. Goes (request_answer W.Future.answer W.Stream.answer) (serving (W.answer service.now) (W.hint service.now)) self.old self.new event.now outs.items) }
-    {
-        let (outs, finished) = step_at(alloc, service, &mut self.clients, event)?;
-        self.taken = slots_left(self.taken, finished);
-        Ok(outs)
     }
 
     /// One event of any kind.
@@ -154,17 +189,16 @@ impl<W: Served> Server<W> {
             EventKind::Datagram { addr, octets } => {
                 self.datagram(alloc, service, event, *addr, octets.as_slice())
             }
-            EventKind::Offer { addr } => self.offer(alloc, service, event, *addr),
-            EventKind::Release => self.release(alloc, service, event),
-            EventKind::Turn { .. } => self.own(alloc, service, event),
-            EventKind::Piece(_) => self.own(alloc, service, event),
-            EventKind::End => self.own(alloc, service, event),
-            EventKind::Write { .. } => self.own(alloc, service, event),
+            EventKind::Offer { addr } => self.offer(alloc, event, *addr),
+            EventKind::Reconfigure { .. } | EventKind::Shutdown => {
+                self.wide(alloc, service, event)
+            }
+            _ => self.own(alloc, service, event),
         }
     }
 
-    /// One event, of which what is sent is appended.
-    fn answer(
+    /// Serves one event more: what is sent for it is appended to the outputs. The service is the same at each event.
+    pub fn step(
         &mut self,
         alloc: Global,
         service: &W,
@@ -180,14 +214,18 @@ impl<W: Served> Server<W> {
     }
 }
 
-/// A slot is given back where the release finishes its client.
-fn slots_left(taken: u64, finished: bool) -> u64
-    ensures { result ≡ (if finished then taken - 1 else taken) }
+/// An event that all clients hear acts on the book.
+fn note(book: &mut BookState, kind: &EventKind)
+    ensures { book.new ≡ book_rule book.old kind.now }
 {
-    if finished {
-        taken.saturating_sub(1)
-    } else {
-        taken
+    match kind {
+        EventKind::Reconfigure { dgram, stream } => {
+            let _version = book.reconfigure(*dgram, *stream);
+        }
+        EventKind::Shutdown => {
+            let _look = book.shutdown();
+        }
+        _ => {}
     }
 }
 
@@ -204,7 +242,7 @@ pub fn serve<W: Served>(
     let mut server = Server::new(alloc, settings);
     let mut outs = Vec::new(alloc);
     for event in events {
-        server.answer(alloc, service, event, &mut outs)?;
+        server.step(alloc, service, event, &mut outs)?;
     }
     Ok(outs)
 }
@@ -218,8 +256,7 @@ pub fn serve_events<S: Service<()>, N: Notifiable>(
     target: N,
     events: &[Event],
 ) -> Result<Vec<Output>, OutOfMemory>
-    requires can_call { S.can_call service }
-    requires early { GivesNoFeedback (S.answer service) }
+    requires { S.can_call service }
     ensures { IfOk result (λ outs. outs.items ≡ out (serving (replies settings.now (S.answer service) (verdict_on (N.verdict target))) (hint_left settings.now)) settings.now events.now) }
 {
     let service = wrap(alloc, settings, service, target)?;

@@ -17,6 +17,6 @@ returns c = λ settings given verdicts es.
     let target = verdict_on verdicts in
     let a = serving (replies settings given target) (hint_left settings) in
     all_reply a settings
-    (λ r k. reply_has (Responds r.octets) (limit_for a r) r.octets (a.answer r k) (c.wrapped_replies_respond.ensures settings given target r k) (refused_responds r.octets (limit_for a r)))
+    (λ n r k. reply_has (Responds r.octets) n r.octets (a.answer r k) (c.wrapped_replies_respond.ensures settings given target r k) (refused_responds r.octets n))
     (λ r k hint udp. reply_has (λ (m : Msg). length (wire m) ≤ limit (a.hint r)) (limit_for a r) r.octets (a.answer r k) (c.wrapped_replies_fit.ensures settings given target r k hint udp) (λ code. refused_fits c.cut_fits.ensures.fits r.transport hint (a.hint r) (error_reply r.octets code) udp))
-    c.cut_fits.ensures.fits c.frames_go_on.ensures es
+    c.cut_fits.ensures.fits es

@@ -1,18 +1,20 @@
-use Rattle.std.proofs.Common.{◌≡◌, refl, ap, None}
+use Rattle.std.proofs.Common.{◌≡◌, ap, None, arith}
 use Rattle.std.specs.Map.{lookup}
 use Rattle.std.specs.Ordering.{nat_cmp}
 use Rattle.std.specs.BTreeMap.{get, is_at}
 use Rattle.std.specs.List.{list_any}
-use Rattle.dns_core.specs.Sent.{slate}
+use Rattle.dns_admission.specs.declared.look.Look.{Look}
+use Rattle.dns_client.specs.Slate.{conf_of}
+use Rattle.dns_core.specs.Sent.{conf, slate}
 use Rattle.dns_core.specs.Out.{members, taken}
 use Rattle.dns_core.proofs.server.Server.new.Goals as goal
 
 pub returns : goal.returns
-unfolding members slate taken
+unfolding members slate taken conf
 returns g c = λ answers. record {
   clients = λ n. let e : get nat_cmp c.new.result n ≡ None = ap (lookup (is_at (nat_cmp n))) c.new.ensures.empty in rw e tt;
   used = λ n. ap (list_any (is_at (nat_cmp n))) c.new-2.ensures.empty;
-  slots = refl;
-  dgram = refl;
-  stream = refl;
+  slots = ap (λ (b : Look). b.taken) c.new-3.ensures;
+  shown = ap conf_of c.new-3.ensures;
+  few = let v : c.new-3.result.version ≡ 0 = ap (λ (b : Look). b.version) c.new-3.ensures in omega arith;
 }

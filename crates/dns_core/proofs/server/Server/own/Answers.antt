@@ -4,4 +4,4 @@ use Rattle.dns_core.proofs.Served.{own_goes}
 use Rattle.dns_core.proofs.server.Server.own.Goals as goal
 
 pub returns : goal.returns
-returns g c = λ settings q h. own_goes (request_answer g.W.Future.ReplyFuture.answer g.W.Stream.ReplyStream.answer) (serving (g.W.Served.answer c.args.service.now) (g.W.Served.hint c.args.service.now)) settings c.args.self.now c.step_at.new.clients q c.args.event.now c.in_ok-outs.outs.items c.in_ok-outs.field-0-1 c.requires.begins c.requires.release c.in_ok-outs.ensures.here c.in_ok-outs.ensures.others h
+returns g c = λ settings q lt h. own_goes (request_answer g.W.Future.ReplyFuture.answer g.W.Stream.ReplyStream.answer) (serving (g.W.Served.answer c.args.service.now) (g.W.Served.hint c.args.service.now)) settings c.args.self.now c.step_at.new.clients c.give_back.new.book q c.args.event.now c.in_ok-outs.outs.items c.in_ok-outs.freed c.requires.own c.requires.begins c.in_ok-outs.ensures.here c.in_ok-outs.ensures.others c.give_back.ensures h

@@ -1,0 +1,131 @@
+-- Lists of marks: the polls of one request among them, and the messages that they mark.
+use Rattle.std.proofs.Common.{◌≡◌, ◌≢◌, ℕ, zero, suc, ◌+◌, ◌<◌, ◌≤◌, ◌⊎◌, inl, inr, true, false, Bool, List, [], ◌∷◌, ◌++◌, length, take, replicate, Option, Some, None, refl, ap, ◌∙◌, arith}
+use Rattle.std.specs.Prelude.{slice_get, slice_set, if◌then◌else◌, ◌==◌}
+use Rattle.std.specs.List.{All}
+use Rattle.std.proofs.Math.Seq.{take-append-add}
+use Rattle.std.proofs.lemmas.Bool.{eq-eqb, ne_eqb}
+use Rattle.std.proofs.lemmas.List.Elements.{All-nil, All-cons, All-head, All-tail}
+use Rattle.dns_client.specs.Serving.{Serving}
+use Rattle.dns_core.specs.Trails.{Mark, AreMarked, IsMarked, IsRising, polls_of}
+
+-- ---- places
+
+-- x stands somewhere in a list
+abbrev pub At : {X : Type 0} → List X → X → Type 0
+At xs x = (i : ℕ) × (slice_get xs i ≡ Some x)
+
+get_left : {X : Type 0} (xs ys : List X) (i : ℕ) (x : X) → slice_get xs i ≡ Some x → slice_get (xs ++ ys) i ≡ Some x
+get_left [] ys i x h = cc
+get_left (y ∷ xs) ys zero x h = h
+get_left (y ∷ xs) ys (suc i) x h = get_left xs ys i x h
+
+pub at_left : {X : Type 0} (xs ys : List X) (x : X) → At xs x → At (xs ++ ys) x
+at_left xs ys x h = (h.0, get_left xs ys h.0 x h.1)
+
+pub at_right : {X : Type 0} (xs ys : List X) (x : X) → At ys x → At (xs ++ ys) x
+at_right [] ys x h = h
+at_right (y ∷ xs) ys x h = let more = at_right xs ys x h in (suc more.0, more.1)
+
+pub at_first : {X : Type 0} (xs : List X) (x : X) → At (x ∷ xs) x
+at_first xs x = (0, refl)
+
+at_split_case : {X : Type 0} (xs : List X) (y x : X) (i : ℕ) → slice_get (y ∷ xs) i ≡ Some x → (y ≡ x) ⊎ At xs x
+at_split_case xs y x zero h = inl (cc)
+at_split_case xs y x (suc i) h = inr (i, h)
+
+pub at_split : {X : Type 0} (xs : List X) (y x : X) → At (y ∷ xs) x → (y ≡ x) ⊎ At xs x
+at_split xs y x h = at_split_case xs y x h.0 h.1
+
+-- the element that is set, and the others
+pub get_set_same : {X : Type 0} (xs : List X) (k : ℕ) (x y : X) → slice_get xs k ≡ Some x → slice_get (slice_set xs k y) k ≡ Some y
+get_set_same [] k x y h = cc
+get_set_same (z ∷ xs) zero x y h = refl
+get_set_same (z ∷ xs) (suc k) x y h = get_set_same xs k x y h
+
+pub get_set_other : {X : Type 0} (xs : List X) (k j : ℕ) (y : X) → j ≢ k → slice_get (slice_set xs k y) j ≡ slice_get xs j
+get_set_other [] k j y ne = refl
+get_set_other (z ∷ xs) zero zero y ne = absurd (ne refl)
+get_set_other (z ∷ xs) zero (suc j) y ne = refl
+get_set_other (z ∷ xs) (suc k) zero y ne = refl
+get_set_other (z ∷ xs) (suc k) (suc j) y ne = get_set_other xs k j y (λ (e : j ≡ k). ne (ap suc e))
+
+-- the element that is pushed, where there was none
+pub push_cases : {X : Type 0} (xs : List X) (y : X) (j : ℕ) → (slice_get (xs ++ y ∷ []) j ≡ slice_get xs j) ⊎ ((slice_get (xs ++ y ∷ []) j ≡ Some y) × (slice_get xs j ≡ None))
+push_cases [] y zero = inr (refl, refl)
+push_cases [] y (suc j) = inl refl
+push_cases (x ∷ xs) y zero = inl refl
+push_cases (x ∷ xs) y (suc j) = push_cases xs y j
+
+-- ---- as many of one
+
+take_some : {X : Type 0} (n m : ℕ) (x : X) → n ≤ m → take n (replicate m x) ≡ replicate n x
+take_some zero m x h = refl
+take_some (suc n) zero x h = absurd (omega arith)
+take_some (suc n) (suc m) x h = ap {B = List _} (λ r. x ∷ r) (take_some n m x (omega arith))
+
+-- those that stay, with n more
+pub take_joined : {X : Type 0} (xs : List X) (n m : ℕ) (x : X) → m ≡ length xs + n → take m (xs ++ replicate m x) ≡ xs ++ replicate n x
+take_joined xs n m x h =
+    ap (λ (l : ℕ). take l (xs ++ replicate m x)) h ∙ take-append-add xs (replicate m x) n ∙ ap (λ (ys : List _). xs ++ ys) (take_some n m x (omega arith))
+
+-- ---- numbers that rise
+
+all_front : {X : Type 0} (P : X → Type 0) (xs ys : List X) → All P (xs ++ ys) → All P xs
+all_front P [] ys h = All-nil P
+all_front P (x ∷ xs) ys h = All-cons P x xs (All-head P x (xs ++ ys) h) (all_front P xs ys (All-tail P x (xs ++ ys) h))
+
+all_push : {X : Type 0} (P : X → Type 0) (xs : List X) (x : X) → All P xs → P x → All P (xs ++ x ∷ [])
+all_push P [] x h k = All-cons P x [] k (All-nil P)
+all_push P (y ∷ xs) x h k = All-cons P y (xs ++ x ∷ []) (All-head P y xs h) (all_push P xs x (All-tail P y xs h) k)
+
+pub rising_front : (ns ms : List ℕ) → IsRising (ns ++ ms) → IsRising ns
+rising_front [] ms h = tt
+rising_front (n ∷ ns) ms h = (all_front (λ m. n < m) ns ms h.0, rising_front ns ms h.1)
+
+pub rising_push : (ns : List ℕ) (n : ℕ) → IsRising ns → All (λ m. m < n) ns → IsRising (ns ++ n ∷ [])
+rising_push [] n h k = (All-nil (λ m. n < m), tt)
+rising_push (m ∷ ns) n h k = (all_push (λ l. m < l) ns n h.0 (All-head (λ l. l < n) m ns k), rising_push ns n h.1 (All-tail (λ l. l < n) m ns k))
+
+-- ---- the polls of a request
+
+polls_case : (k : ℕ) (m : Mark) (b : Bool) (xs ys : List ℕ) → (if b then m.poll ∷ (xs ++ ys) else xs ++ ys) ≡ (if b then m.poll ∷ xs else xs) ++ ys
+polls_case k m true xs ys = refl
+polls_case k m false xs ys = refl
+
+pub polls_append : (k : ℕ) (ms ns : List (Option Mark)) → polls_of k (ms ++ ns) ≡ polls_of k ms ++ polls_of k ns
+polls_append k [] ns = refl
+polls_append k (None ∷ ms) ns = polls_append k ms ns
+polls_append k (Some m ∷ ms) ns =
+    ap (λ (xs : List ℕ). if m.request == k then m.poll ∷ xs else xs) (polls_append k ms ns) ∙ polls_case k m (m.request == k) (polls_of k ms) (polls_of k ns)
+
+pub polls_none : (k n : ℕ) → polls_of k (replicate n None) ≡ []
+polls_none k zero = refl
+polls_none k (suc n) = polls_none k n
+
+pub polls_same : (k : ℕ) (m : Mark) → m.request ≡ k → polls_of k (Some m ∷ []) ≡ m.poll ∷ []
+polls_same k m h = ap (λ (b : Bool). if b then m.poll ∷ [] else []) (eq-eqb m.request k h)
+
+pub polls_other : (k : ℕ) (m : Mark) → m.request ≢ k → polls_of k (Some m ∷ []) ≡ []
+polls_other k m h = ap (λ (b : Bool). if b then m.poll ∷ [] else []) (ne_eqb m.request k h)
+
+-- ---- the messages that marks mark
+
+module _ (answers : Serving) where
+  pub marked_length : (ms : List (Option Mark)) (os : List (List ℕ)) → AreMarked answers ms os → length ms ≡ length os
+  marked_length [] [] h = refl
+  marked_length [] (o ∷ os) h = absurd h
+  marked_length (m ∷ ms) [] h = absurd h
+  marked_length (m ∷ ms) (o ∷ os) h = ap suc (marked_length ms os h.1)
+
+  pub marked_append : (ms ns : List (Option Mark)) (os ps : List (List ℕ)) → AreMarked answers ms os → AreMarked answers ns ps → AreMarked answers (ms ++ ns) (os ++ ps)
+  marked_append [] ns [] ps h k = k
+  marked_append [] ns (o ∷ os) ps h k = absurd h
+  marked_append (m ∷ ms) ns [] ps h k = absurd h
+  marked_append (m ∷ ms) ns (o ∷ os) ps h k = (h.0, marked_append ms ns os ps h.1 k)
+
+  pub marked_none : (os : List (List ℕ)) → AreMarked answers (replicate (length os) None) os
+  marked_none [] = tt
+  marked_none (o ∷ os) = (tt, marked_none os)
+
+  pub marked_one : (m : Option Mark) (o : List ℕ) → IsMarked answers m o → AreMarked answers (m ∷ []) (o ∷ [])
+  marked_one m o h = (h, tt)

@@ -1,0 +1,94 @@
+-- A piece of a connection's stream keeps its trail: its frames make requests, or are refused.
+use Rattle.std.proofs.Common.{◌≡◌, ℕ, ◌+◌, ◌<◌, ⊎_elim, true, false, Bool, List, [], ◌∷◌, ◌++◌, length, drop, replicate, Option, Some, None, refl, ap, sym, ◌∙◌, subst, append_assoc, arith}
+use Rattle.std.specs.Prelude.{nat_lt, slice_get, if◌then◌else◌}
+use Rattle.std.specs.List.{All}
+use Rattle.std.proofs.lemmas.List.{append-nil}
+use Rattle.std.proofs.lemmas.List.Elements.{All-nil}
+use Rattle.dns_base.specs.Header.{header_of}
+use Rattle.dns_base.specs.Wire.{wire}
+use Rattle.dns_service.specs.ErrorReply.{error_reply}
+use Rattle.dns_service.specs.Req.{Req}
+use Rattle.dns_service.specs.Transport.{is_stream}
+use Rattle.dns_service.specs.declared.event.Why.TheVariants.{Short}
+use Rattle.dns_client.specs.Connections.{append_frame, close, enqueue, has_space, piece, take_frame, take_frames, take_request}
+use Rattle.dns_client.specs.Frames.{frames, framed}
+use Rattle.dns_client.specs.Requests.{asked, header_size, most_requests, request_of_frame}
+use Rattle.dns_client.specs.Serving.{Serving}
+use Rattle.dns_client.specs.Slate.{Slate, SlateRequest, Told, Phase, Open}
+use Rattle.dns_core.specs.Trails.{Mark, Trail, IsRising, in_order, polls_of}
+use Rattle.dns_core.proofs.Marks.{marked_none, polls_none, push_cases}
+use Rattle.dns_core.proofs.Trailing.{Asks, AsksAll, AsksAt, Has, Keeps, Kept, asks_on, closes, joined_on, joins, polls_joined, waits_with}
+
+module _ (answers : Serving) where
+  -- a request that was not polled yet
+  pub asks_new : (stream : Bool) (k : ℕ) (q : Req (Unit {0})) (t : Trail) → is_stream q.transport ≡ stream → polls_of k (in_order t) ≡ [] → Asks answers stream k (asked q) t
+  asks_new stream k q t is none = record {
+    transport = is;
+    unheld = λ e. refl;
+    below = subst (All (λ n. n < 0)) (sym none) (All-nil (λ n. n < 0));
+    held = λ m e. cc;
+    somewhere = λ n lt ne. absurd (omega arith);
+  }
+
+  push_case : (stream : Bool) (rs : List SlateRequest) (q : Req (Unit {0})) (t : Trail) → is_stream q.transport ≡ stream → AsksAll answers stream rs t → (k : ℕ) → AsksAt answers stream k (slice_get (rs ++ asked q ∷ []) k) t
+  push_case stream rs q t is h k =
+      ⊎_elim
+      (λ (old : slice_get (rs ++ asked q ∷ []) k ≡ slice_get rs k). subst (λ (x : Option SlateRequest). AsksAt answers stream k x t) (sym old) (h k))
+      (λ (new : (slice_get (rs ++ asked q ∷ []) k ≡ Some (asked q)) × (slice_get rs k ≡ None)).
+      subst (λ (x : Option SlateRequest). AsksAt answers stream k x t) (sym new.0) (asks_new stream k q t is (subst (λ (x : Option SlateRequest). AsksAt answers stream k x t) new.1 (h k))))
+      (push_cases rs (asked q) k)
+
+  pub asks_push : (stream : Bool) (rs : List SlateRequest) (q : Req (Unit {0})) (t : Trail) → is_stream q.transport ≡ stream → AsksAll answers stream rs t → AsksAll answers stream (rs ++ asked q ∷ []) t
+  asks_push stream rs q t is h = push_case stream rs q t is h
+
+  -- a connection behind some frames: its queue has more, and its requests are those that were made
+  record Takes (front : List (List ℕ)) (t : Trail) (s : Slate) : Type 0 where
+    phase : s.phase ≡ Open
+    news : List (List ℕ)
+    queue : s.queue ≡ front ++ news
+    asks : AsksAll answers true s.requests t
+
+  request_takes : (q : List (List ℕ)) (t : Trail) (at secs : ℕ) (f : List ℕ) (s : Slate) → Takes q t s → Takes q t (take_request at secs f s)
+  request_takes q t at secs f s h =
+      let r = request_of_frame s.connection.idle_timeout s.addr at secs f in
+      (elim (nat_lt (length s.requests) most_requests) as (λ b. Takes q t (if b then record s { requests = s.requests ++ asked r ∷ [] } else s)) [
+        | true ↦ record { phase = h.phase; news = h.news; queue = h.queue; asks = asks_push true s.requests r t refl h.asks }
+        | false ↦ h
+      ])
+
+  refused_takes : (q : List (List ℕ)) (t : Trail) (m : List ℕ) (s : Slate) → Takes q t s → Takes q t (enqueue m s)
+  refused_takes q t m s h =
+      (elim (has_space s) as (λ b. Takes q t (if b then append_frame m s else s)) [
+        | true ↦ record { phase = h.phase; news = h.news ++ m ∷ []; queue = ap (λ (ms : List (List ℕ)). ms ++ m ∷ []) h.queue ∙ append_assoc q h.news (m ∷ []); asks = h.asks }
+        | false ↦ h
+      ])
+
+  frame_takes : (q : List (List ℕ)) (t : Trail) (at secs : ℕ) (f : List ℕ) (s : Slate) → Takes q t s → Takes q t (take_frame at secs f s)
+  frame_takes q t at secs f s h =
+      let u : Slate = record s { taken = s.taken + 1; reset_at = at } in
+      let g : Takes q t u = record { phase = h.phase; news = h.news; queue = h.queue; asks = h.asks } in
+      (elim (header_of f).qr as (λ b. Takes q t (if b then enqueue (framed (wire (error_reply f 1))) u else take_request at secs f u)) [ true ↦ refused_takes q t (framed (wire (error_reply f 1))) u g | false ↦ request_takes q t at secs f u g ])
+
+  none_polls : (k n : ℕ) (ds : List Mark) (t : Trail) → polls_of k (in_order (waits_with (replicate n None) ds t)) ≡ polls_of k (in_order t)
+  none_polls k n ds t = polls_joined k (replicate n None) ds t ∙ ap (λ (ns : List ℕ). polls_of k (in_order t) ++ ns) (polls_none k n) ∙ append-nil (polls_of k (in_order t))
+
+  -- what is queued refuses responses
+  taken_keeps : (s u : Slate) (t : Trail) (os : List (List ℕ)) (ds : List Mark) → Kept answers s t os → Takes s.queue t u → Keeps answers (u, []) None ds t os
+  taken_keeps s u t os ds h g =
+      let n = length g.news in
+      let v = waits_with (replicate n None) ds t in
+      joins answers s u t os g.news None ds h g.queue (marked_none answers g.news)
+      (λ k. subst (λ (ns : List ℕ). IsRising (polls_of k (in_order t) ++ ns)) (sym (polls_none k n)) (subst IsRising (sym (append-nil (polls_of k (in_order t)))) (h.order k)))
+      (subst (λ (p : Phase). Has answers p u.requests v) (sym g.phase) (λ k. asks_on answers true k (slice_get u.requests k) t v (none_polls k n ds t) (joined_on (replicate n None) ds t) (g.asks k)))
+
+  take_keeps : (s : Slate) (t : Trail) (os : List (List ℕ)) (ds : List Mark) → Kept answers s t os → (at secs : ℕ) (fs : List (List ℕ)) (u : Slate) → Takes s.queue t u → Keeps answers (take_frames at secs fs u) None ds t os
+  take_keeps s t os ds h at secs [] u g = taken_keeps s u t os ds h g
+  take_keeps s t os ds h at secs (f ∷ fs) u g =
+      let more = take_keeps s t os ds h at secs fs (take_frame at secs f u) (frame_takes s.queue t at secs f u g) in
+      (elim (nat_lt (length f) header_size) as (λ b. let told : Told = (if b then close Short u else take_frames at secs fs (take_frame at secs f u)) in Keeps answers told None ds t os) [ true ↦ closes answers Short s u t os None ds h | false ↦ more ])
+
+  pub piece_keeps : (at secs : ℕ) (o : List ℕ) (s : Slate) (t : Trail) (os : List (List ℕ)) (ds : List Mark) → s.phase ≡ Open → Kept answers s t os → Keeps answers (piece at secs o s) None ds t os
+  piece_keeps at secs o s t os ds p h =
+      let u : Slate = record s { received = s.received ++ o } in
+      take_keeps s t os ds h at secs (drop s.taken (frames (s.received ++ o))) u
+      (record { phase = p; news = []; queue = sym (append-nil s.queue); asks = subst (λ (x : Phase). Has answers x s.requests t) p h.has })

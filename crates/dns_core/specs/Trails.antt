@@ -1,0 +1,138 @@
+-- Which replies a client was sent, which wait in its queue, and which were dropped: of each, to which poll of which request it is.
+-- Lists go from the oldest to the newest.
+use Rattle.std.specs.Prelude.{◌≡◌, ◌≢◌, ℕ, ◌-◌, ◌<◌, ◌==◌, ◌⊎◌, List, [], ◌∷◌, ◌++◌, length, filter, take, drop, replicate, slice_get, if◌then◌else◌, Bool, true, false, not, ◌&&◌, is_some, Option, Some, None, option_map, All}
+use Rattle.dns_base.specs.Msg.{Msg}
+use Rattle.dns_base.specs.Wire.{wire}
+use Rattle.dns_service.specs.Req.{Req}
+use Rattle.dns_service.specs.declared.event.Event.{Event}
+use Rattle.dns_service.specs.declared.event.EventKind.{EventKind}
+use Rattle.dns_service.specs.declared.event.EventKind.TheVariants.{Turn}
+use Rattle.dns_service.specs.declared.event.Output.{Output}
+use Rattle.dns_service.specs.declared.event.Output.TheVariants.{Datagram, Frame}
+use Rattle.dns_service.specs.declared.message.TransportSpecificContext.{TransportSpecificContext}
+use Rattle.dns_service.specs.declared.message.TransportSpecificContext.TheVariants.{Udp, NonUdp}
+use Rattle.dns_client.specs.Connections.{has_space, is_in_transaction}
+use Rattle.dns_client.specs.Frames.{framed}
+use Rattle.dns_client.specs.Rule.{rule}
+use Rattle.dns_client.specs.Serving.{Serving}
+use Rattle.dns_client.specs.Slate.{Slate, SlateRequest, Phase, Open}
+use Rattle.dns_client.specs.Turns.{answered, sent_for}
+
+-- the number of a request, the request, and the number of its poll
+pub record Mark : Type 0 where
+  pub request : ℕ
+  pub asked : Req (Unit {0})
+  pub poll : ℕ
+
+-- the replies that went and that wait, of which those that refuse a response are to no request, and the replies that were dropped
+pub record Trail : Type 0 where
+  pub went : List (Option Mark)
+  pub waiting : List (Option Mark)
+  pub dropped : List Mark
+
+abbrev pub no_trail : Trail
+no_trail = record { went = []; waiting = []; dropped = [] }
+
+-- those that went, and then those that wait
+abbrev pub in_order : Trail → List (Option Mark)
+in_order t = t.went ++ t.waiting
+
+-- poll n of a request
+abbrev pub poll_of : ℕ → SlateRequest → ℕ → Mark
+poll_of k r n = record { request = k; asked = r.request; poll = n }
+
+-- the poll whose reply a turn is to queue: the next one, or the last one where its reply is held
+abbrev pub mark : ℕ → SlateRequest → Mark
+mark k r = poll_of k r (if is_some r.held then r.polls - 1 else r.polls)
+
+abbrev pub marks : EventKind → Slate → Option Mark
+marks (Turn k) s = option_map (λ r. mark k r) (slice_get s.requests k)
+marks _ s = None
+
+abbrev pub is_frame : Output → Bool
+is_frame (Frame client octets) = true
+is_frame _ = false
+
+abbrev pub is_datagram_sent : Output → Bool
+is_datagram_sent (Datagram client octets) = true
+is_datagram_sent _ = false
+
+-- what the messages that are sent are
+abbrev pub octets_sent : List Output → List (List ℕ)
+octets_sent [] = []
+octets_sent (Frame client o ∷ outs) = o ∷ octets_sent outs
+octets_sent (Datagram client o ∷ outs) = o ∷ octets_sent outs
+octets_sent (out ∷ outs) = octets_sent outs
+
+abbrev pub is_open : Phase → Bool
+is_open Open = true
+is_open _ = false
+
+-- a message as it is sent: on a connection behind its length
+abbrev pub on_wire : TransportSpecificContext → Msg → List ℕ
+on_wire (Udp hint) m = wire m
+on_wire (NonUdp timeout) m = framed (wire m)
+
+module _ (answers : Serving) where
+  -- a poll gives a reply that finds no room, outside of a transaction
+  abbrev pub drops : SlateRequest → Slate → Bool
+  drops r s =
+      let a = answers.answer r.request r.polls in
+      not r.done && (not (is_some r.held) && (is_some (sent_for answers r.request a) && (not (has_space s) && not (is_in_transaction (answered a r).status))))
+
+  abbrev pub dropped_of : ℕ → Option SlateRequest → Slate → List Mark
+  dropped_of k None s = []
+  dropped_of k (Some r) s = if drops r s then mark k r ∷ [] else []
+
+  abbrev pub dropped_by : EventKind → Slate → List Mark
+  dropped_by (Turn k) s = if is_open s.phase then dropped_of k (slice_get s.requests k) s else []
+  dropped_by _ s = []
+
+  -- an event at a slate: frames go from the front of the queue, and others join at its back; datagrams go at once
+  abbrev pub trailed : Event → Slate → Trail → Trail
+  trailed e s t =
+      let after = (rule answers e s).0 in
+      let outs = (rule answers e s).1 in
+      let gone = length (filter is_frame outs) in
+      record {
+        went = t.went ++ (take gone t.waiting ++ replicate (length (filter is_datagram_sent outs)) (marks e.kind s));
+        waiting = take (length after.queue) (drop gone t.waiting ++ replicate (length after.queue) (marks e.kind s));
+        dropped = t.dropped ++ dropped_by e.kind s;
+      }
+
+  abbrev pub trail_after : Slate → Trail → List Event → Trail
+  trail_after s t [] = t
+  trail_after s t (e ∷ es) = trail_after (rule answers e s).0 (trailed e s t) es
+
+  -- the reply to a poll
+  abbrev pub reply_at : Mark → Option (List ℕ)
+  reply_at m = option_map (on_wire m.asked.transport) (sent_for answers m.asked (answers.answer m.asked m.poll))
+
+  abbrev pub IsMarked : Option Mark → List ℕ → Type 0
+  IsMarked None o = Unit {0}
+  IsMarked (Some m) o = reply_at m ≡ Some o
+
+  -- the messages are the replies that the marks say, one for one
+  abbrev pub AreMarked : List (Option Mark) → List (List ℕ) → Type 0
+  AreMarked [] [] = Unit {0}
+  AreMarked [] (o ∷ os) = ⊥
+  AreMarked (m ∷ ms) [] = ⊥
+  AreMarked (m ∷ ms) (o ∷ os) = IsMarked m o × AreMarked ms os
+
+-- the polls of one request among marks
+abbrev pub polls_of : ℕ → List (Option Mark) → List ℕ
+polls_of k [] = []
+polls_of k (None ∷ ms) = polls_of k ms
+polls_of k (Some m ∷ ms) = if m.request == k then m.poll ∷ polls_of k ms else polls_of k ms
+
+abbrev pub IsRising : List ℕ → Type 0
+IsRising [] = Unit {0}
+IsRising (n ∷ ns) = All (λ m. n < m) ns × IsRising ns
+
+-- a reply to a poll of a request was sent, waits in the queue, is held, or was dropped
+abbrev pub IsSomewhere : ℕ → SlateRequest → Trail → Mark → Type 0
+IsSomewhere k r t m =
+    ((i : ℕ) × (slice_get t.went i ≡ Some (Some m)))
+    ⊎ (((i : ℕ) × (slice_get t.waiting i ≡ Some (Some m)))
+    ⊎ (((r.held ≢ None) × (m ≡ mark k r))
+    ⊎ ((i : ℕ) × (slice_get t.dropped i ≡ Some m))))
