@@ -1,6 +1,6 @@
 pub mod Batches
 pub mod Between
+pub mod Flooded
 pub mod Names
-pub mod Quiet
 pub mod Running
 mod Padded

@@ -4,7 +4,7 @@ use Rattle.dns_outside.specs.Causes.{Tells, Rose}
 use Rattle.dns_outside.specs.Moves.{Cut}
 use Rattle.dns_server.specs.Script.{script}
 use Rattle.dns_server.specs.Status.{SourceFaults, SinkFaults}
-use Rattle.dns_server.specs.Runs.{run_text, Judges, ReplayReads, ReplayWrites, Decides}
+use Rattle.dns_server.specs.Runs.{run_text, Judges, ReplayReads, WritesText, Decides, EndsFlood, FloodDecides}
 use Rattle.dns_server.specs.declared.program.Status.{Status}
 use Rattle.dns_server.specs.declared.program.Status.TheVariants.{Done, Usage, Refused, ReadFault, WriteFault, OutOfMemory, TooLong}
 
@@ -29,7 +29,7 @@ whole_read s text a b r0 r1 read le h = record {
 
 -- what was written for its text
 pub whole_answered : (s : Status) (text a b c d : List ℕ) (r0 r1 w0 w1 : Type 0) → Tells r1 r0 ((a ≡ text) × (b ≡ []))
-    → Tells w1 w0 (ReplayWrites s (run_text (script text)) c d) → Tells (r1 × w1) (r0 × w0) (ReplayWrites s (run_text (script a)) c d)
+    → Tells w1 w0 (WritesText s (run_text (script text)) c d) → Tells (r1 × w1) (r0 × w0) (WritesText s (run_text (script a)) c d)
 whole_answered s text a b c d r0 r1 w0 w1 read wrote = record {
   told = λ x. let r = read.told x.0 in let w = wrote.told x.1 in ((r.0, w.0), rw r.1.0 w.1);
 }
@@ -48,7 +48,16 @@ decided TooLong a b r0 r1 w0 w1 t r w nr nw le =
 decided Usage a b r0 r1 w0 w1 t r w nr nw le = t
 
 pub replay_completes : (s : Status) (a b : List ℕ) (r0 r1 w0 w1 : ℕ) (now before : Type 0) → Tells now before (ReplayReads s a b) → SourceFaults s r0 r1 → SinkFaults s w0 w1
-    → Tells now before ((Rose r0 r1 → ⊥) → (Rose w0 w1 → ⊥) → length a ≤ 67108864 → Decides s (script a))
-replay_completes s a b r0 r1 w0 w1 now before t r w = record {
-  told = λ x. let y = t.told x in (y.0, λ nr nw le. decided s a b r0 r1 w0 w1 y.1 r w nr nw le);
+    → (Rose r0 r1 → ⊥) → (Rose w0 w1 → ⊥) → Tells now before (length a ≤ 67108864 → Decides s (script a))
+replay_completes s a b r0 r1 w0 w1 now before t r w nr nw = record {
+  told = λ x. let y = t.told x in (y.0, λ le. decided s a b r0 r1 w0 w1 y.1 r w nr nw le);
 }
+
+pub flood_completes : (s : Status) (w0 w1 : ℕ) → EndsFlood s → SinkFaults s w0 w1 → (Rose w0 w1 → ⊥) → FloodDecides s
+flood_completes Done w0 w1 e w nw = tt
+flood_completes OutOfMemory w0 w1 e w nw = tt
+flood_completes WriteFault w0 w1 e w nw = absurd (nw w)
+flood_completes Refused w0 w1 e w nw = absurd e
+flood_completes ReadFault w0 w1 e w nw = absurd e
+flood_completes TooLong w0 w1 e w nw = absurd e
+flood_completes Usage w0 w1 e w nw = absurd e

@@ -5,6 +5,8 @@ pub use Rattle.dns_trace.specs.EventLines
 pub use Rattle.dns_trace.specs.Reading
 pub mod AnswerWords
 pub mod Command
+pub mod Counts
+pub mod Flood
 pub mod Line
 pub mod Plan
 pub mod Played

@@ -4,14 +4,18 @@ use Rattle.hex.specs.Hex.{encode_lower}
 use Rattle.dns_service.specs.declared.event.Output.{Output}
 use Rattle.dns_service.specs.declared.event.Output.TheVariants.{Datagram, Frame, Closed, TurnedAway}
 use Rattle.dns_service.specs.declared.event.Why.{Why}
-use Rattle.dns_service.specs.declared.event.Why.TheVariants.{Ended, Short, WriteTimeout}
+use Rattle.dns_service.specs.declared.event.Why.TheVariants.{Ended, Fault, Short, Idle, WriteTimeout, Commanded, Shutdown}
 use Rattle.dns_trace.specs.declared.reason.Reason.{Reason}
-use Rattle.dns_trace.specs.declared.reason.Reason.TheVariants.{Unbuilt}
+use Rattle.dns_trace.specs.declared.reason.Reason.TheVariants.{Text, Word, Order, Repeat, Count, Value}
 
 abbrev pub why_word : Why → List ℕ
 why_word Ended = codes "ended"
+why_word Fault = codes "fault"
 why_word Short = codes "short"
+why_word Idle = codes "idle"
 why_word WriteTimeout = codes "writetimeout"
+why_word Commanded = codes "commanded"
+why_word Shutdown = codes "shutdown"
 
 abbrev pub yes_no : Bool → List ℕ
 yes_no true = codes "yes"
@@ -28,7 +32,12 @@ abbrev pub lines_of : List Output → List ℕ
 lines_of os = flat_map line_of os
 
 abbrev pub reason_word : Reason → List ℕ
-reason_word Unbuilt = codes "unbuilt"
+reason_word Text = codes "text"
+reason_word Word = codes "word"
+reason_word Order = codes "order"
+reason_word Repeat = codes "repeat"
+reason_word Count = codes "count"
+reason_word Value = codes "value"
 
 -- refused LINE REASON
 unfoldable pub refused_line : ℕ → Reason → List ℕ

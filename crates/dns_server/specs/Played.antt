@@ -11,9 +11,12 @@ use Rattle.dns_service.specs.Answer.{Answer, Item}
 use Rattle.dns_service.specs.Req.{Req}
 use Rattle.dns_service.specs.declared.service.Polled.TheVariants.{Pending, Ready}
 use Rattle.dns_service.specs.declared.service.ServiceError.TheVariants.{InternalError}
+use Rattle.dns_service.specs.declared.service.ServiceFeedback.{ServiceFeedback}
 use Rattle.dns_server.specs.declared.rule.Rule.{Rule}
 use Rattle.dns_server.specs.declared.rule.ScriptAnswer.{ScriptAnswer}
-use Rattle.dns_server.specs.declared.rule.ScriptAnswer.TheVariants.{Pend, Error, Rcode, Blank, Fill, Opt}
+use Rattle.dns_server.specs.declared.rule.ScriptAnswer.TheVariants.{Pend, Error, Feedback, Reply, Both}
+use Rattle.dns_server.specs.declared.rule.ScriptReply.{ScriptReply}
+use Rattle.dns_server.specs.declared.rule.ScriptReply.TheVariants.{Rcode, Blank, Fill, Opt}
 use Rattle.dns_server.specs.Rules.{answers_for, name_asked}
 
 -- a new builder: the empty message, which may take 65,535 octets
@@ -61,14 +64,28 @@ opt_reply o n =
     then replied_within (with_opt_record (padded_draft (answer_to new_builder o 0) n) (answer_to new_builder o 0)) (with_opt (padded_draft (answer_to new_builder o 0) n) (answer_to new_builder o 0))
     else Err InternalError
 
+abbrev pub reply_item : List ℕ → ScriptReply → Item
+reply_item o (Rcode code) = played_reply o code
+reply_item o (Blank code) = blank_reply code
+reply_item o (Fill n) = fill_reply o n
+reply_item o (Opt n) = opt_reply o n
+
+-- a reply with a feedback; an error has none
+abbrev pub told_with : ServiceFeedback → Item → Item
+told_with feedback (Ok given) = Ok (record given { feedback = Some feedback })
+told_with feedback (Err error) = Err error
+
+-- a feedback, and nothing else
+abbrev pub told : ServiceFeedback → Item
+told feedback = Ok (record { response = None; feedback = Some feedback })
+
 -- one answer to a message of these octets
 abbrev pub given : List ℕ → ScriptAnswer → Answer
 given o Pend = Pending
 given o (Error e) = Ready (Some (Err e))
-given o (Rcode code) = Ready (Some (played_reply o code))
-given o (Blank code) = Ready (Some (blank_reply code))
-given o (Fill n) = Ready (Some (fill_reply o n))
-given o (Opt n) = Ready (Some (opt_reply o n))
+given o (Feedback feedback) = Ready (Some (told feedback))
+given o (Reply reply) = Ready (Some (reply_item o reply))
+given o (Both feedback reply) = Ready (Some (told_with feedback (reply_item o reply)))
 
 -- answers one by one, and then the end
 abbrev pub played_from : List ℕ → List ScriptAnswer → ℕ → Answer

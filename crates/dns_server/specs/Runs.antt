@@ -1,6 +1,8 @@
 -- What a run answers, by what was read and written. In each, a and b are what is left of the source before and after the call,
--- and c and d what the sink has taken before and after it.
+-- and c and d what the sink has taken before and after it; where tells, left and taken stand before them, they are the source and
+-- the sink themselves.
 use Rattle.std.specs.Prelude.{◌≡◌, ℕ, ◌+◌, ◌≤◌, List, [], ◌++◌, length, Result, Ok, Err, IsOk, IsErr}
+use Rattle.dns_outside.specs.Causes.{Tells}
 use Rattle.dns_outside.specs.Moves.{ReadExactly, ReadAtMost, Cut}
 use Rattle.dns_outside.specs.declared.source.TheConstants.{LIMIT}
 use Rattle.dns_service.specs.declared.event.Output.{Output}
@@ -9,13 +11,15 @@ use Rattle.dns_client.specs.Serving.{serving}
 use Rattle.dns_core.specs.Out.{out}
 use Rattle.dns_middleware.specs.Verdicts.{verdict_on}
 use Rattle.dns_middleware.specs.Wrapped.{hint_left, replies}
+use Rattle.dns_server.specs.Counts.{counts_of, summary_line}
+use Rattle.dns_server.specs.Flood.{flood_plan}
 use Rattle.dns_server.specs.Plan.{Plan, settings_of}
 use Rattle.dns_server.specs.Played.{played}
 use Rattle.dns_server.specs.Targets.{script_verdicts}
 use Rattle.dns_server.specs.Script.{script}
 use Rattle.dns_server.specs.Line.{lines_of, refused_line}
 use Rattle.dns_server.specs.declared.command.Command.{Command}
-use Rattle.dns_server.specs.declared.command.Command.TheVariants.{Replay}
+use Rattle.dns_server.specs.declared.command.Command.TheVariants.{Replay, Flood}
 use Rattle.dns_server.specs.declared.program.Status.{Status}
 use Rattle.dns_server.specs.declared.program.Status.TheVariants.{Done, Usage, Refused, ReadFault, WriteFault, OutOfMemory, TooLong}
 
@@ -27,6 +31,10 @@ plan_outputs p = out (serving (replies (settings_of p) (played p.rules) (verdict
 abbrev pub run_text : Result Plan (ℕ × Reason) → List ℕ
 run_text (Ok p) = lines_of (plan_outputs p)
 run_text (Err e) = refused_line e.0 e.1
+
+-- what is written for a flood
+unfoldable pub flood_text : ℕ → ℕ → List ℕ
+flood_text seed count = summary_line count (counts_of (plan_outputs (flood_plan seed count)))
 
 -- all of the source was read, and it was not too long
 abbrev pub Whole : List ℕ → List ℕ → Type 0
@@ -51,18 +59,29 @@ ReplayReads TooLong a b = ReadExactly (LIMIT + 1) a b
 ReplayReads Usage a b = ⊥
 
 -- what was written, by the status: a text, a front of it, or nothing
-abbrev pub ReplayWrites : Status → List ℕ → List ℕ → List ℕ → Type 0
-ReplayWrites Done text c d = d ≡ c ++ text
-ReplayWrites Refused text c d = d ≡ c ++ text
-ReplayWrites WriteFault text c d = Cut text c d
-ReplayWrites OutOfMemory text c d = Cut text c d
-ReplayWrites _ text c d = d ≡ c
+abbrev pub WritesText : Status → List ℕ → List ℕ → List ℕ → Type 0
+WritesText Done text c d = d ≡ c ++ text
+WritesText Refused text c d = d ≡ c ++ text
+WritesText WriteFault text c d = Cut text c d
+WritesText OutOfMemory text c d = Cut text c d
+WritesText _ text c d = d ≡ c
 
-abbrev pub RunReads : Command → Status → List ℕ → List ℕ → Type 0
-RunReads Replay s a b = ReplayReads s a b
+-- the statuses of a flood
+abbrev pub EndsFlood : Status → Type 0
+EndsFlood Done = Unit {0}
+EndsFlood WriteFault = Unit {0}
+EndsFlood OutOfMemory = Unit {0}
+EndsFlood _ = ⊥
 
-abbrev pub RunWrites : Command → Status → List ℕ → List ℕ → List ℕ → Type 0
-RunWrites Replay s a c d = ReplayWrites s (run_text (script a)) c d
+-- for a flood the source isn't touched
+abbrev pub RunReads : {R : Type 0} → (R → Type 0) → (R → List ℕ) → Command → Status → R → R → Type 0
+RunReads tells left Replay s a b = Tells (tells b) (tells a) (ReplayReads s (left a) (left b))
+RunReads tells left (Flood seed count) s a b = (b ≡ a) × EndsFlood s
+
+-- of a script the source has to tell its text
+abbrev pub RunWrites : {R : Type 0} → (R → Type 0) → (R → List ℕ) → Command → Status → R → R → Type 0 → Type 0 → List ℕ → List ℕ → Type 0
+RunWrites tells left Replay s a b told tell c d = Tells (tells b × told) (tells a × tell) (WritesText s (run_text (script (left a))) c d)
+RunWrites tells left (Flood seed count) s a b told tell c d = Tells told tell (WritesText s (flood_text seed count) c d)
 
 -- a script gives Done, and another text Refused, save for want of memory
 abbrev pub Decides : Status → Result Plan (ℕ × Reason) → Type 0
@@ -71,6 +90,13 @@ Decides Refused read = IsErr read
 Decides OutOfMemory read = Unit {0}
 Decides _ read = ⊥
 
--- a run without a fault: octets that are not too many decide
-abbrev pub Completes : Command → Status → List ℕ → Type 0
-Completes Replay s a = length a ≤ LIMIT → Decides s (script a)
+-- a flood is done, save for want of memory
+abbrev pub FloodDecides : Status → Type 0
+FloodDecides Done = Unit {0}
+FloodDecides OutOfMemory = Unit {0}
+FloodDecides _ = ⊥
+
+-- a run without a fault: octets that are not too many decide, and a flood needs none
+abbrev pub Completes : {R : Type 0} → (R → Type 0) → (R → List ℕ) → Command → Status → R → R → Type 0
+Completes tells left Replay s a b = Tells (tells b) (tells a) (length (left a) ≤ LIMIT → Decides s (script (left a)))
+Completes tells left (Flood seed count) s a b = FloodDecides s

@@ -1,9 +1,12 @@
 -- The grammar of a script, line by line: the settings and the rules of the service and of the target stand before the first event.
-use Rattle.std.specs.Prelude.{ℕ, ◌+◌, ◌-◌, ◌==◌, nat_le, not, is_some, Option, Some, None, List, [], ◌∷◌, ◌++◌, length, take, drop, Result, Ok, Err, codes, if◌then◌else◌}
+-- A line is refused for the first of these reasons that fits: it has an octet that is no character; its first word is that of no
+-- line; it stands behind an event, and may not; it stands twice, and may not; it has too few words or too many; a word spells no
+-- value. Each definition goes through them in this order.
+use Rattle.std.specs.Prelude.{ℕ, ◌+◌, ◌-◌, ◌==◌, nat_le, not, is_some, Bool, Option, Some, None, List, [], ◌∷◌, ◌++◌, length, take, drop, Result, Ok, Err, codes, if◌then◌else◌}
 use Rattle.std.specs.List.{list_all}
 use Rattle.std.specs.Str.{bytes_eq}
 use Rattle.std.specs.Str.Lines.{lines}
-use Rattle.dns_trace.specs.Lines.{is_skipped}
+use Rattle.dns_trace.specs.Lines.{is_skipped, is_text}
 use Rattle.dns_trace.specs.Words.{words_of, word_at}
 use Rattle.dns_trace.specs.Reading.{◌>>=◌, unless}
 use Rattle.dns_trace.specs.Values.{addr_of, secret_of, yes_no_of}
@@ -12,7 +15,7 @@ use Rattle.dns_trace.specs.EventLines.{event_line}
 use Rattle.dns_trace.specs.NameWords.{name_word}
 use Rattle.dns_trace.specs.StreamLine.{stream_line}
 use Rattle.dns_trace.specs.declared.reason.Reason.{Reason}
-use Rattle.dns_trace.specs.declared.reason.Reason.TheVariants.{Unbuilt}
+use Rattle.dns_trace.specs.declared.reason.Reason.TheVariants.{Text, Order, Repeat, Count, Value}
 use Rattle.dns_middleware.specs.declared.notifiable.NotifyError.{NotifyError}
 use Rattle.dns_middleware.specs.declared.notifiable.NotifyError.TheVariants.{NotAuthForZone, Other}
 use Rattle.dns_server.specs.declared.notify_rule.NotifyRule.{NotifyRule}
@@ -22,14 +25,14 @@ use Rattle.dns_server.specs.Plan.{Plan, empty_plan}
 
 -- before the first event
 abbrev pub before_events : Plan → Result (Unit {0}) Reason
-before_events p = unless Unbuilt (length p.events == 0)
+before_events p = unless Order (length p.events == 0)
 
 -- what isn't said yet
 abbrev pub unsaid : {A : Type 0} → Option A → Result (Unit {0}) Reason
-unsaid said = unless Unbuilt (not (is_some said))
+unsaid said = unless Repeat (not (is_some said))
 
 abbrev pub of_words : ℕ → List (List ℕ) → Result (Unit {0}) Reason
-of_words n ws = unless Unbuilt (length ws == n)
+of_words n ws = unless Count (length ws == n)
 
 -- strict yes|no
 unfoldable pub strict_line : Plan → List (List ℕ) → Result Plan Reason
@@ -93,7 +96,7 @@ rule_name w = if bytes_eq w (codes "*") then Ok None else for_name (name_word w)
 -- rule NAME|* ANSWER ..
 unfoldable pub rule_of : List (List ℕ) → Result Rule Reason
 rule_of ws = do
-  _ ← unless Unbuilt (nat_le 3 (length ws))
+  _ ← unless Count (nat_le 3 (length ws))
   name ← rule_name (word_at ws 1)
   answers ← answers_after [] (drop 2 ws)
   Ok (record { name = name; answers = answers })
@@ -110,7 +113,7 @@ verdict_word w =
     if bytes_eq w (codes "ok") then Ok (Ok tt)
     else if bytes_eq w (codes "notauth") then Ok (Err NotAuthForZone)
     else if bytes_eq w (codes "other") then Ok (Err Other)
-    else Err Unbuilt
+    else Err Value
 
 -- the words between the name and the last are `pend`
 abbrev pub words_between : List (List ℕ) → List (List ℕ)
@@ -119,9 +122,9 @@ words_between ws = take (length ws - 3) (drop 2 ws)
 -- notify NAME pend .. ok|notauth|other
 unfoldable pub notify_of : List (List ℕ) → Result NotifyRule Reason
 notify_of ws = do
-  _ ← unless Unbuilt (nat_le 3 (length ws))
+  _ ← unless Count (nat_le 3 (length ws))
   apex ← name_word (word_at ws 1)
-  _ ← unless Unbuilt (list_all (λ w. bytes_eq w (codes "pend")) (words_between ws))
+  _ ← unless Value (list_all (λ w. bytes_eq w (codes "pend")) (words_between ws))
   verdict ← verdict_word (word_at ws (length ws - 1))
   Ok (record { apex = apex; pends = length ws - 3; verdict = verdict })
 
@@ -156,16 +159,19 @@ switch_line p ws =
     else if bytes_eq (word_at ws 0) (codes "edns") then edns_line p ws
     else cookie_line p ws
 
--- what a script says with the line of these words more
-unfoldable pub after_words : Plan → List (List ℕ) → Result Plan Reason
-after_words p ws =
-    if is_skipped ws then Ok p
-    else if bytes_eq (word_at ws 0) (codes "rule") then rule_line p ws
+-- a line that says something, by its first word
+unfoldable pub said_line : Plan → List (List ℕ) → Result Plan Reason
+said_line p ws =
+    if bytes_eq (word_at ws 0) (codes "rule") then rule_line p ws
     else if bytes_eq (word_at ws 0) (codes "notify") then notify_line p ws
     else switch_line p ws
 
+-- what a script says with the line of these words more, which is text or isn't
+unfoldable pub after_words : Plan → Bool → List (List ℕ) → Result Plan Reason
+after_words p text ws = if is_skipped ws then Ok p else (unless Text text >>= λ _. said_line p ws)
+
 abbrev pub after_line : Plan → List ℕ → Result Plan Reason
-after_line p l = after_words p (words_of l)
+after_line p l = after_words p (is_text l) (words_of l)
 
 abbrev pub numbered : {A : Type 0} → ℕ → Result A Reason → Result A (ℕ × Reason)
 numbered n (Ok x) = Ok x

@@ -9,6 +9,7 @@ ghost use Rattle.dns_server.specs.ScriptReads.{TakesLine};
 
 use crate::notify_rule::NotifyRule;
 use crate::script::Script;
+use crate::setting_lines::{before_events, of_more_words};
 use dns_core::NotifyError;
 use dns_trace::{LineError, Reason, Words, name};
 use std::alloc::Global;
@@ -27,7 +28,7 @@ fn verdict(word: &[u8]) -> Result<Result<(), NotifyError>, Reason>
     if word == b"other".as_slice() {
         return Ok(Err(NotifyError::Other));
     }
-    Err(Reason::Unbuilt)
+    Err(Reason::Value)
 }
 
 /// Whether the words between the name and the last one are `pend`.
@@ -48,12 +49,10 @@ fn all_pend(words: &Words) -> bool
 fn notify_of(alloc: Global, words: &Words) -> Result<NotifyRule, LineError>
     ensures { GivesLine (λ r. r) result (notify_of words.now) }
 {
-    if words.len() < 3 {
-        return Err(LineError::Refused(Reason::Unbuilt));
-    }
+    of_more_words(words)?;
     let apex = name(alloc, words.word(1))?;
     if !all_pend(words) {
-        return Err(LineError::Refused(Reason::Unbuilt));
+        return Err(LineError::Refused(Reason::Value));
     }
     let verdict = verdict(words.word(words.len() - 1))?;
     let pends = words.len() - 3;
@@ -69,9 +68,7 @@ fn notify_of(alloc: Global, words: &Words) -> Result<NotifyRule, LineError>
 pub fn read_notify(alloc: Global, script: &mut Script, words: &Words) -> Result<(), LineError>
     ensures { TakesLine result script.new (notify_line script.old words.now) }
 {
-    if !script.events().is_empty() {
-        return Err(LineError::Refused(Reason::Unbuilt));
-    }
+    before_events(script)?;
     let zone = notify_of(alloc, words)?;
     script.push_zone(zone)?;
     Ok(())

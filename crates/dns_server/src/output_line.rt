@@ -50,8 +50,12 @@ fn why_text(why: Why) -> &'static str
 {
     match why {
         Why::Ended => "ended",
+        Why::Fault => "fault",
         Why::Short => "short",
+        Why::Idle => "idle",
         Why::WriteTimeout => "writetimeout",
+        Why::Commanded => "commanded",
+        Why::Shutdown => "shutdown",
     }
 }
 
@@ -65,7 +69,12 @@ fn reason_text(reason: Reason) -> &'static str
     ensures { result.now ≡ reason_word reason }
 {
     match reason {
-        Reason::Unbuilt => "unbuilt",
+        Reason::Text => "text",
+        Reason::Word => "word",
+        Reason::Order => "order",
+        Reason::Repeat => "repeat",
+        Reason::Count => "count",
+        Reason::Value => "value",
     }
 }
 

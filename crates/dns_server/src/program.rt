@@ -8,9 +8,10 @@ ghost use Rattle.dns_server.specs.Status.{status_number, SourceFaults, SinkFault
 ghost use Rattle.dns_server.specs.Line.{lines_of};
 ghost use Rattle.dns_server.specs.Script.{script};
 ghost use Rattle.dns_server.specs.Writes.{Wrote, WroteFaults};
-ghost use Rattle.dns_server.specs.Runs.{plan_outputs, run_text, Judges, ReplayReads, ReplayWrites, RunReads, RunWrites, Completes};
+ghost use Rattle.dns_server.specs.Runs.{plan_outputs, run_text, flood_text, Judges, ReplayReads, WritesText, EndsFlood, RunReads, RunWrites, Completes};
 
 use crate::command::{Command, read_command};
+use crate::flood::write_flood;
 use crate::reader::read_script;
 use crate::script::{Script, ScriptError};
 use crate::script_service::ScriptService;
@@ -60,7 +61,7 @@ impl Status {
 }
 
 /// What the clients of a script are sent.
-#[tactic(auto, using(crate::proofs::Quiet::rules_are_quiet), unfolding(crate::specs::Runs::plan_outputs))]
+#[tactic(auto, unfolding(crate::specs::Runs::plan_outputs))]
 fn outputs(alloc: Global, script: Script) -> Result<Vec<Output>, OutOfMemory>
     ensures { IfOk result (λ v. v.items ≡ plan_outputs script) }
 {
@@ -88,7 +89,7 @@ fn answer_script<W: Sink>(alloc: Global, script: Script, sink: &mut W) -> Result
 fn answer_text<W: Sink>(alloc: Global, text: &[u8], sink: &mut W) -> Status
     requires { length text.now ≤ LIMIT }
     ensures judged { Judges result (script text.now) }
-    ensures told { Tells (W.tells sink.new) (W.tells sink.old) (ReplayWrites result (run_text (script text.now)) (W.taken sink.old) (W.taken sink.new)) }
+    ensures told { Tells (W.tells sink.new) (W.tells sink.old) (WritesText result (run_text (script text.now)) (W.taken sink.old) (W.taken sink.new)) }
     ensures faults { SinkFaults result (W.faults sink.old) (W.faults sink.new) }
     ensures read { (result ≢ Status.Usage) × (result ≢ Status.ReadFault) × (result ≢ Status.TooLong) }
 {
@@ -114,7 +115,7 @@ fn answer_text<W: Sink>(alloc: Global, text: &[u8], sink: &mut W) -> Status
 fn replay<R: Source, W: Sink>(alloc: Global, source: &mut R, sink: &mut W) -> Status
     ensures read { Tells (R.tells source.new) (R.tells source.old) (ReplayReads result (R.left source.old) (R.left source.new)) }
     ensures written { Tells (R.tells source.new × W.tells sink.new) (R.tells source.old × W.tells sink.old)
-        (ReplayWrites result (run_text (script (R.left source.old))) (W.taken sink.old) (W.taken sink.new)) }
+        (WritesText result (run_text (script (R.left source.old))) (W.taken sink.old) (W.taken sink.new)) }
     ensures source_faults { SourceFaults result (R.faults source.old) (R.faults source.new) }
     ensures sink_faults { SinkFaults result (W.faults sink.old) (W.faults sink.new) }
     ensures too_long { result ≡ Status.TooLong → sink.new ≡ sink.old }
@@ -129,8 +130,22 @@ fn replay<R: Source, W: Sink>(alloc: Global, source: &mut R, sink: &mut W) -> St
     }
 }
 
-/// Does what the words ask for. Nothing but the lines of outputs and the line of a refusal is written.
-#[tactic(auto, using(crate::proofs::Running::replay_completes))]
+/// Serves a flood, and writes how much was sent.
+#[tactic(auto, using(crate::proofs::Running::nothing_written))]
+fn answer_flood<W: Sink>(alloc: Global, sink: &mut W, seed: u64, count: u32) -> Status
+    ensures written { Tells (W.tells sink.new) (W.tells sink.old) (WritesText result (flood_text seed count) (W.taken sink.old) (W.taken sink.new)) }
+    ensures faults { SinkFaults result (W.faults sink.old) (W.faults sink.new) }
+    ensures ends { EndsFlood result }
+{
+    match write_flood(alloc, sink, seed, count) {
+        Ok(()) => Status::Done,
+        Err(WriteError::OutOfMemory) => Status::OutOfMemory,
+        Err(WriteError::Fault) => Status::WriteFault,
+    }
+}
+
+/// Does what the words ask for. Nothing but the lines of outputs, the line of a refusal and that of a flood is written.
+#[tactic(auto, using(crate::proofs::Running::replay_completes, crate::proofs::Running::flood_completes))]
 pub fn run<R: Source, W: Sink>(
     alloc: Global,
     words: &[String],
@@ -146,19 +161,18 @@ pub fn run<R: Source, W: Sink>(
     // Where the source is too long or can't be read, nothing is written.
     ensures too_long { result ≡ Status.TooLong → sink.new ≡ sink.old }
     ensures unread { result ≡ Status.ReadFault → sink.new ≡ sink.old }
-    // What was read, by the status, where the source tells.
-    ensures read { Tells (R.tells source.new) (R.tells source.old)
-        (IfSome (command_of (map string_bytes words.now)) (λ k. RunReads k result (R.left source.old) (R.left source.new))) }
+    // What was read, by the status: for a script where the source tells, and for a flood nothing.
+    ensures read { IfSome (command_of (map string_bytes words.now)) (λ k. RunReads R.tells R.left k result source.old source.new) }
     // What was written for it, where the sink tells too.
-    ensures written { Tells (R.tells source.new × W.tells sink.new) (R.tells source.old × W.tells sink.old)
-        (IfSome (command_of (map string_bytes words.now)) (λ k. RunWrites k result (R.left source.old) (W.taken sink.old) (W.taken sink.new))) }
+    ensures written { IfSome (command_of (map string_bytes words.now)) (λ k. RunWrites R.tells R.left k result source.old source.new
+        (W.tells sink.new) (W.tells sink.old) (W.taken sink.old) (W.taken sink.new)) }
     // Without a fault the words and the script decide.
-    ensures complete { Tells (R.tells source.new) (R.tells source.old)
-        ((Rose (R.faults source.old) (R.faults source.new) → ⊥) → (Rose (W.faults sink.old) (W.faults sink.new) → ⊥) →
-        IfSome (command_of (map string_bytes words.now)) (λ k. Completes k result (R.left source.old))) }
+    ensures complete { (Rose (R.faults source.old) (R.faults source.new) → ⊥) → (Rose (W.faults sink.old) (W.faults sink.new) → ⊥)
+        → IfSome (command_of (map string_bytes words.now)) (λ k. Completes R.tells R.left k result source.old source.new) }
 {
     match read_command(words) {
         None => Status::Usage,
         Some(Command::Replay) => replay(alloc, source, sink),
+        Some(Command::Flood { seed, count }) => answer_flood(alloc, sink, seed, count),
     }
 }

@@ -1,7 +1,7 @@
 //! The reader of a script.
 
 ghost use Rattle.std.specs.Prelude.{◌≡◌, ◌<◌, ◌^◌, [], drop, length};
-ghost use Rattle.dns_server.specs.Script.{after_line, after_words, cookie_line, next_event_line, script, server_line, switch_line};
+ghost use Rattle.dns_server.specs.Script.{after_line, after_words, cookie_line, next_event_line, said_line, script, server_line, switch_line};
 ghost use Rattle.dns_server.specs.ScriptReads.{ReadsScript, TakesLine};
 
 use crate::notify_lines::read_notify;
@@ -10,7 +10,7 @@ use crate::script::{Script, ScriptError};
 use crate::setting_lines::{
     read_deny, read_dgram_line, read_edns, read_secret, read_stream_line, read_strict,
 };
-use dns_trace::{LineError, Words, read_event, says_nothing, split_line};
+use dns_trace::{LineError, Reason, Words, is_text, read_event, says_nothing, split_line};
 use std::alloc::Global;
 
 /// The line of an event.
@@ -68,14 +68,11 @@ fn switch_line(alloc: Global, script: &mut Script, words: &Words) -> Result<(), 
     cookie_line(alloc, script, words)
 }
 
-/// What a script says with the line of these words more.
-#[tactic(auto, unfolding(crate::specs::Script::after_words))]
-fn after_words(alloc: Global, script: &mut Script, words: &Words) -> Result<(), LineError>
-    ensures { TakesLine result script.new (after_words script.old words.now) }
+/// A line that says something.
+#[tactic(auto, unfolding(crate::specs::Script::said_line))]
+fn said_line(alloc: Global, script: &mut Script, words: &Words) -> Result<(), LineError>
+    ensures { TakesLine result script.new (said_line script.old words.now) }
 {
-    if says_nothing(words) {
-        return Ok(());
-    }
     if words.word(0) == b"rule".as_slice() {
         return read_rule(alloc, script, words);
     }
@@ -85,12 +82,31 @@ fn after_words(alloc: Global, script: &mut Script, words: &Words) -> Result<(), 
     switch_line(alloc, script, words)
 }
 
+/// What a script says with the line of these words more, which is text or isn't.
+#[tactic(auto, unfolding(crate::specs::Script::after_words))]
+fn after_words(
+    alloc: Global,
+    script: &mut Script,
+    text: bool,
+    words: &Words,
+) -> Result<(), LineError>
+    ensures { TakesLine result script.new (after_words script.old text words.now) }
+{
+    if says_nothing(words) {
+        return Ok(());
+    }
+    if !text {
+        return Err(LineError::Refused(Reason::Text));
+    }
+    said_line(alloc, script, words)
+}
+
 /// What a script says with one line more.
 fn after(alloc: Global, script: &mut Script, line: &[u8]) -> Result<(), LineError>
     ensures { TakesLine result script.new (after_line script.old line.now) }
 {
     let words = Words::of(alloc, line)?;
-    after_words(alloc, script, &words)
+    after_words(alloc, script, is_text(line), &words)
 }
 
 /// What a text says, or its first bad line and the reason.

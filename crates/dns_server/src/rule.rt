@@ -3,18 +3,14 @@
 ghost use Rattle.std.specs.Prelude.{◌≡◌, ◌++◌, ◌∷◌, [], OnOk, OnErr, IfOk, List};
 
 use dns_name::{Name, OutOfMemory, Rcode};
-use dns_service::ServiceError;
+use dns_service::{ServiceError, ServiceFeedback};
 use std::alloc::Global;
 use std::marker::Model;
 use std::sync::Arc;
 
-/// The answer of one poll.
+/// A reply.
 #[derive(Clone, Copy, Debug, PartialEq, Eq)]
-pub enum ScriptAnswer {
-    /// Nothing yet.
-    Pend,
-    /// An error.
-    Error(ServiceError),
+pub enum ScriptReply {
     /// A reply with the request's questions and this response code.
     Rcode(Rcode),
     /// A reply that is a header alone, whose bits are zero but for this response code.
@@ -23,6 +19,21 @@ pub enum ScriptAnswer {
     Fill(u16),
     /// A reply with the request's questions and an OPT record with a padding of so many zeros.
     Opt(u16),
+}
+
+/// The answer of one poll.
+#[derive(Clone, Copy, Debug, PartialEq, Eq)]
+pub enum ScriptAnswer {
+    /// Nothing yet.
+    Pend,
+    /// An error.
+    Error(ServiceError),
+    /// A feedback.
+    Feedback(ServiceFeedback),
+    /// A reply.
+    Reply(ScriptReply),
+    /// A feedback, and a reply.
+    Both(ServiceFeedback, ScriptReply),
 }
 
 /// Poll answers, in order, which all requests that play them share.

@@ -7,8 +7,9 @@ ghost use Rattle.dns_server.specs.ScriptReads.{TakesLine};
 use crate::answer_words::answers;
 use crate::rule::Rule;
 use crate::script::Script;
+use crate::setting_lines::{before_events, of_more_words};
 use dns_name::Name;
-use dns_trace::{LineError, Reason, Words, name};
+use dns_trace::{LineError, Words, name};
 use std::alloc::Global;
 
 /// `*` for all names, or a name.
@@ -27,9 +28,7 @@ fn rule_name(alloc: Global, word: &[u8]) -> Result<Option<Name>, LineError>
 fn rule_of(alloc: Global, words: &Words) -> Result<Rule, LineError>
     ensures { GivesLine (λ r. r) result (rule_of words.now) }
 {
-    if words.len() < 3 {
-        return Err(LineError::Refused(Reason::Unbuilt));
-    }
+    of_more_words(words)?;
     let name = rule_name(alloc, words.word(1))?;
     let answers = answers(alloc, words)?;
     Ok(Rule { name, answers })
@@ -40,9 +39,7 @@ fn rule_of(alloc: Global, words: &Words) -> Result<Rule, LineError>
 pub fn read_rule(alloc: Global, script: &mut Script, words: &Words) -> Result<(), LineError>
     ensures { TakesLine result script.new (rule_line script.old words.now) }
 {
-    if !script.events().is_empty() {
-        return Err(LineError::Refused(Reason::Unbuilt));
-    }
+    before_events(script)?;
     let rule = rule_of(alloc, words)?;
     script.push_rule(rule)?;
     Ok(())

@@ -6,15 +6,15 @@ ghost use Rattle.dns_base.specs.Built.{with_answer};
 ghost use Rattle.dns_base.specs.Records.{IsLawful, record_of};
 ghost use Rattle.dns_base.specs.Replies.{answer_to, have_room, within_limit};
 ghost use Rattle.dns_opt.specs.Drafts.{with_opt, with_opt_record};
-ghost use Rattle.dns_server.specs.Played.{PutsPadding, blank_reply, fill_record, fill_reply, given, new_builder, opt_reply, padded_draft, played_reply, replied_within};
+ghost use Rattle.dns_server.specs.Played.{PutsPadding, blank_reply, fill_record, fill_reply, given, new_builder, opt_reply, padded_draft, played_reply, replied_within, reply_item, told_with};
 
-use crate::rule::ScriptAnswer;
+use crate::rule::{ScriptAnswer, ScriptReply};
 use dns_base::{
     AdditionalBuilder, AnswerBuilder, Message, MessageBuilder, PushError, Record, RecordData,
 };
 use dns_name::{BuildDataError, Class, Name, Octets, OutOfMemory, Rcode, Rtype, Ttl};
 use dns_opt::{BuildOpt, OptBuilder};
-use dns_service::{CallResult, Polled, ServiceError, ServiceResult};
+use dns_service::{CallResult, Polled, ServiceError, ServiceFeedback, ServiceResult};
 use std::alloc::Global;
 
 /// One answer to a message.
@@ -28,10 +28,42 @@ pub fn make_answer(
     match answer {
         ScriptAnswer::Pend => Ok(Polled::Pending),
         ScriptAnswer::Error(error) => Ok(Polled::Ready(Some(Err(error)))),
-        ScriptAnswer::Rcode(rcode) => ready(make_reply(alloc, message, rcode)),
-        ScriptAnswer::Blank(rcode) => ready(make_blank(alloc, rcode)),
-        ScriptAnswer::Fill(len) => ready(make_filled(alloc, message, len)),
-        ScriptAnswer::Opt(len) => ready(make_padded(alloc, message, len)),
+        ScriptAnswer::Feedback(feedback) => {
+            Ok(Polled::Ready(Some(Ok(CallResult::feedback_only(feedback)))))
+        }
+        ScriptAnswer::Reply(reply) => ready(make_item(alloc, message, reply)),
+        ScriptAnswer::Both(feedback, reply) => ready(make_both(alloc, message, feedback, reply)),
+    }
+}
+
+/// A reply to a message, or the error `servfail` where something has no room.
+fn make_item(
+    alloc: Global,
+    message: &Message,
+    reply: ScriptReply,
+) -> Result<ServiceResult, OutOfMemory>
+    ensures { IfOk result (λ i. i ≡ reply_item message.now reply) }
+{
+    match reply {
+        ScriptReply::Rcode(rcode) => make_reply(alloc, message, rcode),
+        ScriptReply::Blank(rcode) => make_blank(alloc, rcode),
+        ScriptReply::Fill(len) => make_filled(alloc, message, len),
+        ScriptReply::Opt(len) => make_padded(alloc, message, len),
+    }
+}
+
+/// A reply to a message with a feedback. An error has none.
+fn make_both(
+    alloc: Global,
+    message: &Message,
+    feedback: ServiceFeedback,
+    reply: ScriptReply,
+) -> Result<ServiceResult, OutOfMemory>
+    ensures { IfOk result (λ i. i ≡ told_with feedback (reply_item message.now reply)) }
+{
+    match make_item(alloc, message, reply)? {
+        Ok(given) => Ok(Ok(given.with_feedback(feedback))),
+        Err(error) => Ok(Err(error)),
     }
 }
 
