@@ -7,35 +7,36 @@ use std::process::ExitCode;
 use std::{env, io};
 
 const HELP: &str = "\
-Usage: nutscythe replay < SCRIPT    (or --help, or --version)
-Reads a script, serves its events by its rules, writes a line for each output.
+Usage: nutscythe replay < SCRIPT, or flood SEED COUNT, or --help, or --version
+replay reads a script, serves its events by its rules, writes a line for each
+output; flood makes COUNT events, at most 4000000, and writes how much is sent.
 
 strict yes|no, edns yes|no   settings, once; secret HEX   of cookies; deny ADDR
 dgram none|SIZE WRITE, stream IDLE WRITE QUEUE LIMIT yes|no   the two servers
 rule NAME|* ANSWER ..   a request's polls: pend, rcode:0 to 15, blank:0 to 15,
-                        fill:LEN, opt:LEN, formerr, servfail, notimp, refused
+           fill:LEN, opt:LEN, an error (formerr, servfail, notimp, refused), or
+           begin, end, idle:MS, alone or with + before one of the four replies
 notify NAME pend .. ok|notauth|other   what is answered to a NOTIFY
 datagram AT SECS CLIENT ADDR PORT HEX  a query came from an address
 offer AT SECS CLIENT ADDR PORT         a connection is offered
 piece AT SECS CLIENT HEX               octets of its stream came
 turn AT SECS CLIENT REQUEST            a request, from number 0, is polled once
 write AT SECS CLIENT TOOK              its front frame is written, in TOOK ms
-end AT SECS CLIENT                     its stream ended
-release AT SECS CLIENT                 its slot is free again
-The first five lines stand before the others. Numbers are decimal, ADDR a
-dotted quad or 32 hex digits, HEX pairs of digits or -, and a line that begins
-with # says nothing. docs/scripts.md explains each line.
+tick, end, fault, close, release, each AT SECS CLIENT   of a connection
+reconfigure AT SECS .., shutdown AT SECS   all hear it; .. as dgram and stream
+What is above datagram stands before all events. Numbers are decimal, ADDR a
+dotted quad or 32 hex digits, HEX pairs of digits or -. docs/scripts.md has all.
 
 Written are datagram CLIENT HEX, frame CLIENT HEX (with its length in front),
-closed CLIENT ended|short|writetimeout and turned CLIENT yes|no, or for what is
-no script the one line refused LINE REASON. Exit status: 0 done, 2 faulty
-command line, 3 refused, 4 a read failed, 5 a write failed, 6 out of memory,
-7 a script of more than 67108864 octets.
+closed CLIENT WHY and turned CLIENT yes|no, or for what is no script the one
+line refused LINE REASON. Exit status: 0 done, 2 faulty command line, 3 refused,
+4 a read failed, 5 a write failed, 6 out of memory, 7 a script too long.
 ";
 
 const VERSION: &str = "nutscythe 0.1.0\n";
 
-const USAGE: &str = "usage: nutscythe replay < SCRIPT, or nutscythe --help or --version";
+const USAGE: &str =
+    "usage: nutscythe replay < SCRIPT, nutscythe flood SEED COUNT, nutscythe --help or --version";
 
 /// Prints a text, and says how that went.
 fn printed(rt: &impl Print, text: &str) -> ExitCode {

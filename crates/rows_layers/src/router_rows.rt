@@ -11,6 +11,7 @@ use dns_name::Name;
 use dns_route::{
     BoxClientTransportToSingleService, ClientTransportToSingleService, ComposeReply, QnameRouter,
     ReplyMessage, RequestMessage, SendError, SendRequest, SingleService, SingleServiceToService,
+    Turned,
 };
 use dns_service::{OutOfMemory, Polled, ReplyFuture, ReplyStream, Request, Service, ServiceError};
 use rows_table::{Calls, Row, RowError};
@@ -42,12 +43,7 @@ struct Refusing {
 impl SingleService for Refusing {
     ghost answer = { λ s _ _. Ready (Err s.error) };
 
-    fn turn(
-        &self,
-        _alloc: Global,
-        _request: &Request<()>,
-        _k: u64,
-    ) -> Result<Polled<Result<ReplyMessage, ServiceError>>, OutOfMemory> {
+    fn turn(&self, _alloc: Global, _request: &Request<()>, _k: u64) -> Result<Turned, OutOfMemory> {
         Ok(Polled::Ready(Err(self.error)))
     }
 }

@@ -1,9 +1,11 @@
-//! Rows of frames, of one client's core, and of the settings of a server.
+//! Rows of frames, of the idle timer, of one client's core, and of the settings of a server.
+
+ghost use Rattle.std.specs.Prelude.{◌≡◌, false};
 
 use crate::event_rows::events_of;
 use crate::line_rows::say_lines;
 use crate::service_rows::rules;
-use dns_core::{ClientCore, Event, EventKind, Framer, Settings};
+use dns_core::{BookState, ClientCore, Event, EventKind, Framer, IdleTimer, Look, Settings};
 use dns_server::ScriptService;
 use dns_service::{DgramConfig, Plainly, Served, StreamConfig};
 use rows_table::{Calls, Row, RowError};
@@ -16,6 +18,7 @@ impl Calls for ClientRows {
     fn answer(&self, call: &str, row: &mut Row<'_>) -> Result<(), RowError> {
         match call {
             "framer" => frames(row),
+            "idle_timer" => timer(row),
             "client_core" => client(row),
             "settings" => settings(row),
             _ => Err(RowError::NoSuchCall),
@@ -40,6 +43,26 @@ fn say_next(row: &mut Row<'_>, framer: &mut Framer) -> Result<(), RowError> {
         None => row.say("none"),
     }
     Ok(())
+}
+
+/// The deadline of a timer that was reset at a moment, for a timeout and another moment, and whether it is expired then; and
+/// whether it is once it was reset at that moment.
+fn timer(row: &mut Row<'_>) -> Result<(), RowError> {
+    let mut timer = IdleTimer::new(row.number());
+    let timeout = row.number();
+    let now = row.number();
+    row.show(&timer.idle_timeout_deadline(timeout, now));
+    row.show(&timer.idle_timeout_expired(timeout, now));
+    timer.reset(now);
+    row.show(&timer.idle_timeout_expired(timeout, now));
+    Ok(())
+}
+
+/// What an open book with the default configurations shows.
+fn shown() -> Look
+    ensures { result.closed ≡ false }
+{
+    BookState::new(DgramConfig::new(), StreamConfig::new()).shown()
 }
 
 /// What one client is sent for its events, whose service answers each request with NXDOMAIN at its second poll.
@@ -83,12 +106,14 @@ fn stepped<S: Served>(
 fn core_of<S: Served>(alloc: Global, service: &S, event: &Event) -> Result<ClientCore<S>, RowError>
     requires { S.can_call service.now }
 {
+    let look = shown();
     match &event.kind {
         EventKind::Offer { addr } => Ok(ClientCore::admit(
             alloc,
             event.client,
             *addr,
-            &StreamConfig::new(),
+            event.at,
+            &look,
         )?),
         EventKind::Datagram { addr, octets } => {
             let (core, _) = ClientCore::datagram(
@@ -99,7 +124,7 @@ fn core_of<S: Served>(alloc: Global, service: &S, event: &Event) -> Result<Clien
                 event.at,
                 event.secs,
                 octets.as_slice(),
-                &DgramConfig::new(),
+                &look,
             )?;
             Ok(core)
         }

@@ -3,7 +3,7 @@
 use crate::texts::next_text;
 use crate::value_rows::say_size;
 use dns_name::SocketAddr;
-use dns_service::{Event, EventKind, StreamConfig};
+use dns_service::{DgramConfig, Event, EventKind, StreamConfig};
 use dns_trace::{LineError, Words, read_dgram, read_event, read_stream};
 use rows_table::{Calls, Row, RowError};
 use std::alloc::Global;
@@ -41,7 +41,7 @@ fn event(row: &mut Row<'_>) -> Result<(), RowError> {
 }
 
 /// The moment, the seconds, the client and what happens.
-fn event_said(row: &mut Row<'_>, event: &Event) {
+pub(crate) fn event_said(row: &mut Row<'_>, event: &Event) {
     row.show(&event.at);
     row.show(&event.secs);
     row.show(&event.client);
@@ -67,8 +67,17 @@ fn kind_said(row: &mut Row<'_>, kind: &EventKind) {
             row.say("write");
             row.show(took)
         }
+        EventKind::Reconfigure { dgram, stream } => {
+            row.say("reconfigure");
+            dgram_said(row, dgram);
+            stream_said(row, stream)
+        }
         EventKind::End => row.say("end"),
+        EventKind::Fault => row.say("fault"),
+        EventKind::Close => row.say("close"),
+        EventKind::Tick => row.say("tick"),
         EventKind::Release => row.say("release"),
+        EventKind::Shutdown => row.say("shutdown"),
     }
 }
 
@@ -88,18 +97,21 @@ fn stream(row: &mut Row<'_>) -> Result<(), RowError> {
     Ok(())
 }
 
-/// The largest response, and how long a write may take.
+/// The configuration of a line.
 fn dgram(row: &mut Row<'_>) -> Result<(), RowError> {
     let line = next_text(row);
     let words = Words::of(row.alloc(), &line)?;
     match read_dgram(&words) {
-        Ok(dgram) => {
-            say_size(row, dgram.max_response_size());
-            row.show(&dgram.write_timeout());
-        }
+        Ok(dgram) => dgram_said(row, &dgram),
         Err(_) => row.say("refused"),
     }
     Ok(())
+}
+
+/// The largest response, and how long a write may take.
+fn dgram_said(row: &mut Row<'_>, dgram: &DgramConfig) {
+    say_size(row, dgram.max_response_size());
+    row.show(&dgram.write_timeout())
 }
 
 /// Both timeouts, the queue's bound, the limit of connections and whether more are accepted.

@@ -56,8 +56,24 @@ fn octets(row: &mut Row<'_>) -> Result<Octets, RowError> {
 fn why(name: &str) -> Result<Why, RowError> {
     match name {
         "Ended" => Ok(Why::Ended),
+        "Fault" => Ok(Why::Fault),
         "Short" => Ok(Why::Short),
+        "Idle" => Ok(Why::Idle),
         "WriteTimeout" => Ok(Why::WriteTimeout),
+        "Commanded" => Ok(Why::Commanded),
+        "Shutdown" => Ok(Why::Shutdown),
+        _ => Err(RowError::OutOfForm),
+    }
+}
+
+fn reason(name: &str) -> Result<Reason, RowError> {
+    match name {
+        "Text" => Ok(Reason::Text),
+        "Word" => Ok(Reason::Word),
+        "Order" => Ok(Reason::Order),
+        "Repeat" => Ok(Reason::Repeat),
+        "Count" => Ok(Reason::Count),
+        "Value" => Ok(Reason::Value),
         _ => Err(RowError::OutOfForm),
     }
 }
@@ -69,7 +85,8 @@ fn output_line(row: &mut Row<'_>) -> Result<(), RowError> {
 }
 
 fn refusal_line(row: &mut Row<'_>) -> Result<(), RowError> {
-    let line = refusal(row.alloc(), row.number(), Reason::Unbuilt)?;
+    let number = row.number();
+    let line = refusal(row.alloc(), number, reason(row.word())?)?;
     say_text(row, line.as_bytes());
     Ok(())
 }
@@ -109,7 +126,9 @@ fn written_output(row: &mut Row<'_>) -> Result<(), RowError> {
 
 fn written_refusal(row: &mut Row<'_>) -> Result<(), RowError> {
     let mut sink = empty_sink(row.alloc());
-    let ended = write_refusal(row.alloc(), &mut sink, row.number(), Reason::Unbuilt);
+    let number = row.number();
+    let reason = reason(row.word())?;
+    let ended = write_refusal(row.alloc(), &mut sink, number, reason);
     sink_said(row, ended, &sink);
     Ok(())
 }

@@ -1,10 +1,12 @@
-//! Rows over the book, frames, sources and sinks, lines of scripts and the program's run: the table on standard input is
+//! Rows over the book, frames, sources and sinks, lines of scripts, floods and the program's run: the table on standard input is
 //! judged row by row.
 #![tactic(auto)]
 
 mod book_rows;
 mod client_rows;
 mod event_rows;
+mod flood_rows;
+mod invoker_rows;
 mod line_rows;
 mod outside_rows;
 mod run_rows;
@@ -15,6 +17,8 @@ mod value_rows;
 use book_rows::BookRows;
 use client_rows::ClientRows;
 use event_rows::EventRows;
+use flood_rows::FloodRows;
+use invoker_rows::InvokerRows;
 use line_rows::LineRows;
 use outside_rows::OutsideRows;
 use run_rows::RunRows;
@@ -27,8 +31,11 @@ fn main(rt: HostRuntime) -> io::Result<ExitCode> {
     rows_table::run(
         &rt,
         &(
-            ((BookRows, ClientRows), (OutsideRows, EventRows)),
-            ((LineRows, ServiceRows), (RunRows, ValueRows)),
+            (
+                (BookRows, (ClientRows, InvokerRows)),
+                (OutsideRows, EventRows),
+            ),
+            ((LineRows, ServiceRows), ((RunRows, FloodRows), ValueRows)),
         ),
     )
 }

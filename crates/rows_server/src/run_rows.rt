@@ -47,6 +47,30 @@ fn ran<S: Source>(
     Ok(())
 }
 
+/// How the run of words ends where the write of this number fails, or none, whether anything was read, and what it writes.
+pub(crate) fn said_of_run(
+    row: &mut Row<'_>,
+    words: &[String],
+    failing_write: Option<u64>,
+    source: &mut MemorySource,
+) -> Result<(), RowError> {
+    let mut sink = sink(row.alloc(), failing_write)?;
+    let size = source.left().len();
+    row.debug(&run(row.alloc(), words, source, &mut sink));
+    row.say(untouched(source, size));
+    say_text(row, sink.written());
+    Ok(())
+}
+
+/// Whether a source that had so many octets has them still.
+fn untouched(source: &MemorySource, size: usize) -> &'static str {
+    if source.left().len() == size {
+        "untouched"
+    } else {
+        "read"
+    }
+}
+
 /// How the run of a word over a source ends, and what it writes.
 fn written<S: Source>(row: &mut Row<'_>, word: &str, source: &mut S) -> Result<(), RowError> {
     let mut sink = sink(row.alloc(), None)?;
@@ -63,19 +87,11 @@ fn replay(row: &mut Row<'_>) -> Result<(), RowError> {
 
 /// How the run of a word ends where one read and one write fail, or none, whether anything was read, and what it writes.
 fn with_faults(row: &mut Row<'_>) -> Result<(), RowError> {
-    let word = row.word();
+    let words = words(row.alloc(), row.word())?;
     let read = failing(row.alloc(), row.optional())?;
-    let mut sink = sink(row.alloc(), row.optional())?;
+    let write = row.optional();
     let mut source = MemorySource::new(next_text(row), read, 40);
-    let size = source.left().len();
-    ran(row, word, &mut source, &mut sink)?;
-    row.say(if source.left().len() == size {
-        "untouched"
-    } else {
-        "read"
-    });
-    say_text(row, sink.written());
-    Ok(())
+    said_of_run(row, &words, write, &mut source)
 }
 
 /// How the run of a word ends over octets without an end, and what it writes.

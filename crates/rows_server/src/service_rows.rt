@@ -4,8 +4,8 @@ use dns_base::Message;
 use dns_core::{Notifiable, PolledRequest, VerdictFuture};
 use dns_name::{Class, IpAddr, Name, Rcode, SocketAddr};
 use dns_server::{
-    NotifyRules, Rule, Rules, ScriptAnswer, ScriptAnswers, ScriptFuture, ScriptService,
-    ScriptTarget,
+    NotifyRules, Rule, Rules, ScriptAnswer, ScriptAnswers, ScriptFuture, ScriptReply,
+    ScriptService, ScriptTarget,
 };
 use dns_service::{
     CallResult, OutOfMemory, Polled, ReplyFuture, ReplyStream, Request, Service, ServiceResult,
@@ -33,7 +33,10 @@ impl Calls for ServiceRows {
 /// One rule: pending, and then a reply with this response code.
 pub(crate) fn rules(alloc: Global, rcode: u8) -> Result<Rules, RowError> {
     let rcode = Rcode::checked_from_int(rcode).ok_or(RowError::OutOfForm)?;
-    let answers = [ScriptAnswer::Pend, ScriptAnswer::Rcode(rcode)];
+    let answers = [
+        ScriptAnswer::Pend,
+        ScriptAnswer::Reply(ScriptReply::Rcode(rcode)),
+    ];
     let answers = ScriptAnswers::from_slice(alloc, answers.as_slice())?;
     let mut rules = Rules::from_vec(Vec::new(alloc));
     rules.push(Rule {
