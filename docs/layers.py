@@ -16,7 +16,7 @@ ROWS = [
     ("#f6d6c4", [("dns_server", "scripts, the lines written, run"), ("dns_outside", "sources and sinks")]),
     ("#f8e7b9", [("dns_core", "all clients: serve_events"), ("dns_trace", "the lines of a script"), ("dns_book", "what servers share")]),
     ("#f8e7b9", [("dns_client", "one client: frames, requests, queue"), ("dns_middleware", "the mandatory and the EDNS layer"), ("dns_route", "routers, single services")]),
-    ("#d7e8c8", [("dns_service", "requests, services, replies, events, outputs"), ("dns_stream", "polled streams")]),
+    ("#d7e8c8", [("dns_service", "requests, services, replies, events, outputs"), ("dns_stream", "polled streams"), ("dns_admission", "slots, configurations")]),
     ("#c9e2e6", [("dns_opt", "OPT records, read and built"), ("dns_options", "lists of options")]),
     ("#c9e2e6", [("dns_lists", "NSID, PADDING, KEY-TAG"), ("dns_algs", "DAU, DHU, N3U"), ("dns_kinds", "the other kinds"), ("dns_cookie", "server cookies")]),
     ("#d5d3ea", [("dns_base", "messages, built"), ("dns_message", "messages, read")]),
