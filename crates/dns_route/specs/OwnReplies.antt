@@ -11,12 +11,12 @@ use Rattle.dns_route.specs.declared.send_request.SendError.{SendError}
 use Rattle.dns_route.specs.declared.send_request.SendError.TheVariants.{Closed, Timeout, Unreachable}
 
 -- the reply that is a message of our own: its octets, and what it has of OPT records
-abbrev pub begun_with : Msg → ReplyState
-begun_with m = record { octets = wire m; opt = opt_among m.additional }
+abbrev pub kept_whole : Msg → ReplyState
+kept_whole m = record { octets = wire m; opt = opt_among m.additional }
 
 -- the error reply to a query
 abbrev pub error_state : List ℕ → ℕ → ReplyState
-error_state query code = begun_with (error_reply query code)
+error_state query code = kept_whole (error_reply query code)
 
 -- SERVFAIL with an extended error of code 0, which is another reason than those that have codes, and a text
 abbrev pub explained : List ℕ → List ℕ → ReplyState

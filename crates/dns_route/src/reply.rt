@@ -4,7 +4,7 @@ ghost use Rattle.std.specs.Prelude.{◌≡◌, ℕ, ⊤, IfOk, List, Result};
 ghost use Rattle.dns_name.specs.declared.error.ParseError.{ParseError};
 ghost use Rattle.dns_name.specs.declared.opt_error.BuildDataError.{BuildDataError};
 ghost use Rattle.dns_base.specs.Msg.{Msg};
-ghost use Rattle.dns_route.specs.OwnReplies.{begun_with};
+ghost use Rattle.dns_route.specs.OwnReplies.{kept_whole};
 ghost use Rattle.dns_route.specs.ReplyMessage.{Adds, BeginsReply, Composes, reply_message, reply_read};
 
 use crate::kept::{Keeps, kept_opt};
@@ -113,7 +113,7 @@ impl ReplyMessage {
         alloc: Global,
         built: AdditionalBuilder,
     ) -> Result<ReplyMessage, OutOfMemory>
-        ensures { IfOk result (λ r. r ≡ begun_with built.message) }
+        ensures { IfOk result (λ r. r ≡ kept_whole built.message) }
     {
         let opt = match built.opt_record() {
             Some(found) => Some(found.to_owned(alloc)?),

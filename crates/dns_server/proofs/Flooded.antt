@@ -5,7 +5,7 @@ use Rattle.std.specs.Prelude.{count_by}
 use Rattle.dns_service.specs.declared.event.Event.{Event}
 use Rattle.dns_service.specs.declared.event.Output.{Output}
 use Rattle.dns_core.specs.Trails.{is_datagram_sent, is_frame}
-use Rattle.dns_server.specs.Counts.{IsAtMost, closes, counts_of, sum_of, turns_away}
+use Rattle.dns_server.specs.Counts.{IsAtMost, closes, output_counts, sum_of, turns_away}
 use Rattle.dns_server.specs.Flood.{drawn, flood_event, flood_events, next_number, number_at}
 use Rattle.dns_server.specs.declared.counts.Counts.{Counts}
 
@@ -26,8 +26,8 @@ length-flood_events seed (suc n) =
 count_by_more : (p : Output → Bool) (a b : List Output) → count_by p (a ++ b) ≡ count_by p a + count_by p b
 count_by_more p a b = sum_by-append (λ o. cond (p o) 1 0) a b
 
-pub counts_more : (a b : List Output) → counts_of (a ++ b) ≡ sum_of (counts_of a) (counts_of b)
-unfolding counts_of
+pub counts_more : (a b : List Output) → output_counts (a ++ b) ≡ sum_of (output_counts a) (output_counts b)
+unfolding output_counts
 counts_more a b = rw (count_by_more is_datagram_sent a b, count_by_more is_frame a b, count_by_more closes a b, count_by_more turns_away a b) refl
 
 pub still_few : (most more : ℕ) (c : Counts) → most ≤ more → IsAtMost most c → IsAtMost more c

@@ -22,8 +22,8 @@ abbrev pub turns_away : Output → Bool
 turns_away (TurnedAway client accepted) = true
 turns_away _ = false
 
-unfoldable pub counts_of : List Output → Counts
-counts_of outs = record {
+unfoldable pub output_counts : List Output → Counts
+output_counts outs = record {
   datagrams = count_by is_datagram_sent outs;
   frames = count_by is_frame outs;
   closed = count_by closes outs;
@@ -50,8 +50,8 @@ pub record IsAtMost (most : ℕ) (c : Counts) : Type 0 where
 -- so is what is sent with e behind them, which was served too
 abbrev pub CountsEvent : {W R F : Type 0} → (PolledRequest F R → ℕ → Answer) → Serving → Server W R F → Server W R F → Event → Counts → Counts → Type 0
 CountsEvent answer answers old new e counts more = (settings : Settings) (q : List Event) → length q < last_version
-    → Serves answer answers settings q old → counts ≡ counts_of (out answers settings q)
-    → Serves answer answers settings (q ++ e ∷ []) new × (more ≡ counts_of (out answers settings (q ++ e ∷ [])))
+    → Serves answer answers settings q old → counts ≡ output_counts (out answers settings q)
+    → Serves answer answers settings (q ++ e ∷ []) new × (more ≡ output_counts (out answers settings (q ++ e ∷ [])))
 
 -- events N datagrams A frames B closed C turned D
 unfoldable pub summary_line : ℕ → Counts → List ℕ

@@ -11,7 +11,7 @@ use Rattle.dns_client.specs.Serving.{serving}
 use Rattle.dns_core.specs.Out.{out}
 use Rattle.dns_middleware.specs.Verdicts.{verdict_on}
 use Rattle.dns_middleware.specs.Wrapped.{hint_left, replies}
-use Rattle.dns_server.specs.Counts.{counts_of, summary_line}
+use Rattle.dns_server.specs.Counts.{output_counts, summary_line}
 use Rattle.dns_server.specs.Flood.{flood_plan}
 use Rattle.dns_server.specs.Plan.{Plan, settings_of}
 use Rattle.dns_server.specs.Played.{played}
@@ -34,7 +34,7 @@ run_text (Err e) = refused_line e.0 e.1
 
 -- what is written for a flood
 unfoldable pub flood_text : ℕ → ℕ → List ℕ
-flood_text seed count = summary_line count (counts_of (plan_outputs (flood_plan seed count)))
+flood_text seed count = summary_line count (output_counts (plan_outputs (flood_plan seed count)))
 
 -- all of the source was read, and it was not too long
 abbrev pub Whole : List ℕ → List ℕ → Type 0

@@ -2,7 +2,7 @@
 
 ghost use Rattle.std.specs.Prelude.{◌≡◌, ◌+◌, ◌^◌, ℕ, [], IfOk, count_by, string_bytes};
 ghost use Rattle.dns_core.specs.Trails.{is_datagram_sent, is_frame};
-ghost use Rattle.dns_server.specs.Counts.{IsAtMost, closes, counts_of, sum_of, summary_line, turns_away};
+ghost use Rattle.dns_server.specs.Counts.{IsAtMost, closes, output_counts, sum_of, summary_line, turns_away};
 
 use dns_name::OutOfMemory;
 use dns_service::Output;
@@ -54,9 +54,9 @@ fn turned_away(outputs: &[Output]) -> usize
 }
 
 /// How many of the outputs there are of each kind.
-#[tactic(auto, unfolding(crate::specs::Counts::counts_of))]
+#[tactic(auto, unfolding(crate::specs::Counts::output_counts))]
 fn count(outputs: &[Output]) -> Counts
-    ensures counts { result ≡ counts_of outputs.now }
+    ensures counts { result ≡ output_counts outputs.now }
     ensures few { IsAtMost (2 ^ 64) result }
 {
     Counts {
@@ -69,9 +69,9 @@ fn count(outputs: &[Output]) -> Counts
 
 impl Counts {
     /// None.
-    #[tactic(auto, unfolding(crate::specs::Counts::counts_of))]
+    #[tactic(auto, unfolding(crate::specs::Counts::output_counts))]
     pub fn new() -> Counts
-        ensures { result ≡ counts_of [] }
+        ensures { result ≡ output_counts [] }
     {
         Counts {
             datagrams: 0,
@@ -84,7 +84,7 @@ impl Counts {
     /// Outputs more.
     pub fn add(&mut self, outputs: &[Output])
         requires { IsAtMost (2 ^ 127) self.old }
-        ensures sum { self.new ≡ sum_of self.old (counts_of outputs.now) }
+        ensures sum { self.new ≡ sum_of self.old (output_counts outputs.now) }
         ensures few { (most : ℕ) → IsAtMost most self.old → IsAtMost (most + 2 ^ 64) self.new }
     {
         let more = count(outputs);

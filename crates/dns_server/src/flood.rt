@@ -9,7 +9,7 @@ ghost use Rattle.dns_middleware.specs.declared.settings.Settings.{Settings};
 ghost use Rattle.dns_middleware.specs.Verdicts.{verdict_on};
 ghost use Rattle.dns_middleware.specs.Wrapped.{hint_left, replies};
 ghost use Rattle.dns_service.specs.PolledRequest.{request_answer};
-ghost use Rattle.dns_server.specs.Counts.{CountsEvent, IsAtMost, counts_of};
+ghost use Rattle.dns_server.specs.Counts.{CountsEvent, IsAtMost, output_counts};
 ghost use Rattle.dns_server.specs.Flood.{drawn, flood_event, flood_events, flood_plan, flood_rule, flood_stream, next_number};
 ghost use Rattle.dns_server.specs.Plan.{empty_plan, settings_of};
 ghost use Rattle.dns_server.specs.Runs.{flood_text, plan_outputs};
@@ -119,7 +119,7 @@ fn count_each<W: Served>(
     requires { W.can_call service.now }
     ensures { IfOk result (λ c. (settings : Settings)
         → Serves (request_answer W.Future.answer W.Stream.answer) (serving (W.answer service.now) (W.hint service.now)) settings [] server.old
-        → c ≡ counts_of (out (serving (W.answer service.now) (W.hint service.now)) settings (flood_events seed count))) }
+        → c ≡ output_counts (out (serving (W.answer service.now) (W.hint service.now)) settings (flood_events seed count))) }
 {
     let mut counts = Counts::new();
     let mut number = seed;
@@ -145,7 +145,7 @@ fn count_events<W: Served>(
     count: u32,
 ) -> Result<Counts, OutOfMemory>
     requires { W.can_call service.now }
-    ensures { IfOk result (λ c. c ≡ counts_of (out (serving (W.answer service.now) (W.hint service.now)) settings.now (flood_events seed count))) }
+    ensures { IfOk result (λ c. c ≡ output_counts (out (serving (W.answer service.now) (W.hint service.now)) settings.now (flood_events seed count))) }
 {
     let mut server = Server::new(alloc, settings);
     count_each(alloc, &mut server, service, seed, count)
@@ -161,7 +161,7 @@ fn count_served<S: Service<()>, N: Notifiable>(
     count: u32,
 ) -> Result<Counts, OutOfMemory>
     requires { S.can_call service }
-    ensures { IfOk result (λ c. c ≡ counts_of (out (serving (replies settings.now (S.answer service) (verdict_on (N.verdict target))) (hint_left settings.now)) settings.now (flood_events seed count))) }
+    ensures { IfOk result (λ c. c ≡ output_counts (out (serving (replies settings.now (S.answer service) (verdict_on (N.verdict target))) (hint_left settings.now)) settings.now (flood_events seed count))) }
 {
     let service = wrap(alloc, settings, service, target)?;
     count_events(alloc, settings, &Plainly { service }, seed, count)
@@ -170,7 +170,7 @@ fn count_served<S: Service<()>, N: Notifiable>(
 /// How much the clients of a flood are sent.
 #[tactic(auto, unfolding(crate::specs::Runs::plan_outputs))]
 pub fn count_flood(alloc: Global, seed: u64, count: u32) -> Result<Counts, OutOfMemory>
-    ensures { IfOk result (λ c. c ≡ counts_of (plan_outputs (flood_plan seed count))) }
+    ensures { IfOk result (λ c. c ≡ output_counts (plan_outputs (flood_plan seed count))) }
 {
     let settings = flood_settings(alloc);
     let service = ScriptService::new(flood_rules(alloc)?);

@@ -1,13 +1,13 @@
 use Rattle.std.proofs.Common.{◌≡◌, ◌+◌, ◌*◌, ◌^◌, ◌<◌, ap, ◌∙◌, refl, [], ◌∷◌, ◌++◌, length, arith}
 use Rattle.dns_core.specs.Machine.{last_version}
 use Rattle.dns_core.specs.Out.{out}
-use Rattle.dns_server.specs.Counts.{counts_of}
+use Rattle.dns_server.specs.Counts.{output_counts}
 use Rattle.dns_server.specs.Flood.{drawn, flood_event, flood_events, next_number, number_at}
 use Rattle.dns_server.proofs.Flooded.{events_more, length-flood_events, number_more, still_few}
 use Rattle.dns_server.proofs.flood.count_each.Goals as goal
 
 pub loop-made-init : goal.loop-made-init
-unfolding out counts_of
+unfolding out output_counts
 loop-made-init g c = record {
   number = refl;
   counted = λ s h. (h, c.new-counts.ensures);

@@ -4,7 +4,7 @@ use Rattle.dns_service.specs.PolledRequest.{request_answer}
 use Rattle.dns_core.specs.Out.{out}
 use Rattle.dns_core.specs.Server.{Serves}
 use Rattle.dns_middleware.specs.declared.settings.Settings.{Settings}
-use Rattle.dns_server.specs.Counts.{IsAtMost, counts_of}
+use Rattle.dns_server.specs.Counts.{IsAtMost, output_counts}
 use Rattle.dns_server.specs.Flood.{flood_events, number_at}
 use Rattle.dns_server.proofs.flood.count_each.Given as goal
 
@@ -16,6 +16,6 @@ invariant-loop-made g l =
     record {
       number : l.number ≡ number_at l.seed l.made;
       counted : (s : Settings) → Serves answer answers s [] l.fn.server
-          → Serves answer answers s (flood_events l.seed l.made) l.server × (l.counts ≡ counts_of (out answers s (flood_events l.seed l.made)));
+          → Serves answer answers s (flood_events l.seed l.made) l.server × (l.counts ≡ output_counts (out answers s (flood_events l.seed l.made)));
       few : IsAtMost (l.made * 2 ^ 64) l.counts;
     }

@@ -2,7 +2,7 @@ use Rattle.dns_client.specs.Serving.{serving}
 use Rattle.std.proofs.Common.{ap, sym, ◌∙◌, ◌++◌, List}
 use Rattle.dns_service.specs.declared.event.Output.{Output}
 use Rattle.dns_core.specs.Out.{out}
-use Rattle.dns_server.specs.Counts.{counts_of, sum_of}
+use Rattle.dns_server.specs.Counts.{output_counts, sum_of}
 use Rattle.dns_server.specs.declared.counts.Counts.{Counts}
 use Rattle.dns_server.proofs.Flooded.{counts_more}
 use Rattle.dns_server.proofs.flood.count_event.Goals as goal
@@ -15,7 +15,7 @@ returns-clause-counted g c = λ s q lt h counted.
     let before = out answers s q in (
       f.1,
       c.add.ensures.sum
-          ∙ ap (λ (x : Counts). sum_of x (counts_of c.deref.result.now)) counted
-          ∙ ap (λ (os : List Output). sum_of (counts_of before) (counts_of os)) sent
-          ∙ sym (ap counts_of f.0.sent ∙ counts_more before f.0.more),
+          ∙ ap (λ (x : Counts). sum_of x (output_counts c.deref.result.now)) counted
+          ∙ ap (λ (os : List Output). sum_of (output_counts before) (output_counts os)) sent
+          ∙ sym (ap output_counts f.0.sent ∙ counts_more before f.0.more),
     )
