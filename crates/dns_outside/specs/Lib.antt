@@ -1,4 +1,11 @@
 pub mod Causes
+pub mod Doors
+pub mod ListedCalls
+pub mod Mail
 pub mod Memory
+pub mod MemoryForms
 pub mod Moves
 pub mod Standard
+pub mod Starts
+pub mod SteadyForms
+pub mod Traffic

@@ -1,58 +1,14 @@
 //! Sources and sinks in memory, with calls that fail.
 
-ghost use Rattle.std.specs.Prelude.{◌≡◌, ◌≤◌, ◌↔◌, if◌then◌else◌, length, Contains, IsTrue};
+ghost use Rattle.std.specs.Prelude.{◌≡◌, ◌≤◌, ◌↔◌, length, Contains};
 ghost use Rattle.dns_outside.specs.Causes.{Tells};
 ghost use Rattle.dns_outside.specs.Moves.{ReadMoves, ReadBound, ReadCause, WriteMoves, WriteBound, WriteCause};
 ghost use Rattle.dns_outside.specs.Memory.{Supplies, Stores, next};
 
+use crate::listed_calls::FailingCalls;
 use crate::sink::{Sink, SinkWrite};
 use crate::source::{Source, SourceRead};
 use std::marker::Model;
-
-/// Calls, of which those fail whose numbers are listed.
-#[derive(Drop)]
-struct FailingCalls {
-    listed: Vec<u64>,
-    made: u64,
-    faults: u64,
-}
-
-impl FailingCalls {
-    /// No call so far. `listed` holds the numbers of those that fail, from 0.
-    fn of(listed: Vec<u64>) -> FailingCalls
-        ensures { result ≡ record { listed = listed; made = 0; faults = 0 } }
-    {
-        FailingCalls {
-            listed,
-            made: 0,
-            faults: 0,
-        }
-    }
-
-    /// One call more: whether it is a listed one, which is a fault.
-    fn fails(&mut self) -> bool
-        ensures listed { IsTrue result ↔ Contains self.old.listed.items self.old.made }
-        ensures made { self.new.made ≡ next self.old.made }
-        ensures faults { self.new.faults ≡ (if result then next self.old.faults else self.old.faults) }
-        ensures later { self.old.faults ≤ self.new.faults }
-        ensures kept { self.new.listed ≡ self.old.listed }
-    {
-        let fails = self.listed.contains(&self.made);
-        self.made = self.made.saturating_add(1);
-        if fails {
-            self.fault();
-        }
-        fails
-    }
-
-    /// One fault more.
-    fn fault(&mut self)
-        ensures value { self.new ≡ record self.old { faults = next self.old.faults } }
-        ensures later { self.old.faults ≤ self.new.faults }
-    {
-        self.faults = self.faults.saturating_add(1);
-    }
-}
 
 /// A source over a vector, which tells what is left. The calls whose numbers are listed fail, and no others.
 #[derive(Drop)]

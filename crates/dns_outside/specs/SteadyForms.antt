@@ -1,0 +1,55 @@
+-- Links, sockets and accept objects in memory of which no call fails, as contracts see them.
+use Rattle.std.specs.Prelude.{ℕ, List, Bool, IsTrue}
+use Rattle.dns_name.specs.declared.address.SocketAddr.{SocketAddr}
+use Rattle.dns_outside.specs.Traffic.{Traffic}
+use Rattle.dns_outside.specs.Mail.{Mail}
+use Rattle.dns_outside.specs.Doors.{Door}
+use Rattle.dns_outside.specs.MemoryForms.{Counts}
+use Rattle.dns_outside.specs.declared.sock.Letter.{Letter}
+
+-- a link of which no call fails
+pub record SteadyCable : Type 0 where
+  pub left : List ℕ  -- the octets that are still to be read
+  pub came : List ℕ
+  pub went : List ℕ
+  pub whole : Bool  -- all that was written is kept
+  pub ends : ℕ  -- the reads that answered End
+
+-- what it tells
+abbrev pub steady_traffic : SteadyCable → Traffic
+steady_traffic c = record { came = c.came; went = c.went; ends = c.ends; empty_reads = 0; full_writes = 0 }
+
+-- that it tells
+abbrev pub SteadyCableTells : SteadyCable → Type 0
+SteadyCableTells c = IsTrue c.whole × Counts c.ends
+
+-- a socket of which no call fails
+pub record SteadyTray : Type 0 where
+  pub left : List Letter  -- the datagrams that are still to be received
+  pub received : List Letter
+  pub sent : List Letter
+  pub whole : Bool  -- all that was sent is kept
+  pub empty_receives : ℕ  -- the receives that answered Again
+
+-- what it tells
+abbrev pub steady_mail : SteadyTray → Mail
+steady_mail t = record { received = t.received; sent = t.sent; empty_receives = t.empty_receives; full_sends = 0 }
+
+-- that it tells
+abbrev pub SteadyTrayTells : SteadyTray → Type 0
+SteadyTrayTells t = IsTrue t.whole × Counts t.empty_receives
+
+-- an accept object of which no call fails, of links of type L
+pub record SteadyLobby (L : Type 0) : Type 0 where
+  pub left : List (L × SocketAddr)  -- the connections that are still to come
+  pub callers : List SocketAddr
+  pub whole : Bool  -- the addresses of all that came are kept
+  pub empty_accepts : ℕ  -- the calls that answered Again
+
+-- what it tells
+abbrev pub steady_door : {L : Type 0} → SteadyLobby L → Door
+steady_door l = record { callers = l.callers; empty_accepts = l.empty_accepts }
+
+-- that it tells
+abbrev pub SteadyLobbyTells : {L : Type 0} → SteadyLobby L → Type 0
+SteadyLobbyTells l = IsTrue l.whole × Counts l.empty_accepts

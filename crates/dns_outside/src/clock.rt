@@ -1,0 +1,24 @@
+//! Clocks.
+
+ghost use Rattle.std.specs.Prelude.{◌≡◌, ℕ, List, [], ◌∷◌, ◌++◌, IfOk};
+ghost use Rattle.dns_outside.specs.Causes.{Tells};
+
+use dns_name::OutOfMemory;
+use std::alloc::Global;
+
+/// A clock, known by the readings that it gave. No call fails.
+pub trait Clock: Sized {
+    /// That the readings are known. They are of a clock in memory, and are not of the machine's.
+    ghost tells: { Self → Type 0 };
+
+    /// The readings given so far, where the clock tells: milliseconds, and seconds.
+    ghost readings: { Self → List (ℕ × ℕ) };
+
+    /// One reading: the time in milliseconds and in whole seconds. It may be less than an earlier one.
+    fn now(&mut self) -> (u64, u64)
+        ensures { Tells (tells self.new) (tells self.old) (readings self.new ≡ readings self.old ++ result ∷ []) };
+
+    /// Another clock of this kind, which has given no reading yet.
+    fn another(&self, alloc: Global) -> Result<Self, OutOfMemory>
+        ensures { IfOk result (λ other. readings other ≡ []) };
+}

@@ -1,0 +1,56 @@
+//! The threads that a spawner started.
+
+ghost use Rattle.std.specs.Prelude.{◌≤◌};
+
+use crate::work::Started;
+use dns_name::OutOfMemory;
+use std::alloc::Global;
+
+/// Threads that were started, each until it is joined. One after the other is looked at for its end.
+#[derive(Drop)]
+pub(crate) struct KeptThreads<D: Drop> {
+    threads: Vec<Started<D>>,
+    place: usize,
+}
+
+impl<D: Drop> KeptThreads<D> {
+    pub(crate) fn new(alloc: Global) -> KeptThreads<D> {
+        KeptThreads {
+            threads: Vec::new(alloc),
+            place: 0,
+        }
+    }
+
+    /// Takes memory for one thread more.
+    pub(crate) fn reserve(&mut self) -> Result<(), OutOfMemory> {
+        Ok(self.threads.reserve(1)?)
+    }
+
+    /// Keeps a thread, or hands it back where there is no memory.
+    pub(crate) fn keep(&mut self, thread: Started<D>) -> Option<Started<D>> {
+        match self.threads.push(thread) {
+            Ok(()) => None,
+            Err(refused) => Some(refused.value),
+        }
+    }
+
+    /// Looks at one thread more, and gives it where its work is done.
+    pub(crate) fn ended(&mut self) -> Option<Started<D>> {
+        if self.place >= self.threads.len() {
+            self.place = 0;
+        }
+        if self.place >= self.threads.len() {
+            return None;
+        }
+        if self.threads[self.place].has_ended() {
+            return Some(self.threads.swap_remove(self.place));
+        }
+        self.place += 1;
+        None
+    }
+
+    /// Gives a thread, until none is left.
+    pub(crate) fn next(&mut self) -> Option<Started<D>> {
+        self.threads.pop()
+    }
+}

@@ -1,0 +1,89 @@
+//! A UDP socket over `mio`.
+
+ghost use Rattle.std.specs.Prelude.{[]};
+
+use crate::mio_addr::{from_std, to_std};
+use crate::sock::{AsyncDgramSock, DgramRecv, DgramSend};
+use dns_name::SocketAddr;
+use mio::net::UdpSocket;
+use mio::{Events, Interest, Poll, Token};
+use std::alloc::Global;
+use std::io;
+use std::io::ErrorKind;
+use std::net::Net;
+use std::sync::Wait;
+use std::time::Duration;
+
+/// A UDP socket, which tells nothing and counts its failed calls. A send of less than the datagram is a failed call.
+#[derive(Drop)]
+pub struct MioSock {
+    socket: UdpSocket,
+    poll: Poll,
+    events: Events,
+    failed_receives: u64,
+    failed_sends: u64,
+}
+
+impl MioSock {
+    /// A socket at this address; at port 0 the system picks the port.
+    pub fn bind<N: Net>(net: &N, alloc: Global, addr: SocketAddr) -> io::Result<MioSock> {
+        let mut socket = UdpSocket::bind(net, to_std(addr))?;
+        let poll = Poll::new(net)?;
+        let events = Events::with_capacity(alloc, 1)?;
+        poll.registry().register(
+            &mut socket,
+            Token(0),
+            Interest::READABLE | Interest::WRITABLE,
+        )?;
+        Ok(MioSock {
+            socket,
+            poll,
+            events,
+            failed_receives: 0,
+            failed_sends: 0,
+        })
+    }
+
+    /// The socket's own address.
+    pub fn local_addr(&self) -> io::Result<SocketAddr> {
+        Ok(from_std(self.socket.local_addr()?))
+    }
+}
+
+impl AsyncDgramSock for MioSock {
+    ghost tells = { λ _. ⊥ };
+
+    ghost mail = { λ _. record { received = []; sent = []; empty_receives = 0; full_sends = 0 } };
+
+    ghost failed_receives = { λ s. s.failed_receives };
+
+    ghost failed_sends = { λ s. s.failed_sends };
+
+    fn poll_send_to(&mut self, data: &[u8], to: SocketAddr) -> DgramSend {
+        match self.socket.send_to(data, to_std(to)) {
+            Ok(count) if count == data.len() => DgramSend::Took(count),
+            Err(error) if error.kind() == ErrorKind::WouldBlock => DgramSend::Again,
+            _ => {
+                self.failed_sends = self.failed_sends.saturating_add(1);
+                DgramSend::Failed
+            }
+        }
+    }
+
+    fn readable<R: Wait>(&mut self, _rt: &R, millis: u64) {
+        let _ = self
+            .poll
+            .poll(&mut self.events, Some(Duration::from_millis(millis)));
+    }
+
+    fn try_recv_buf_from(&mut self, buf: &mut [u8]) -> DgramRecv {
+        match self.socket.recv_from(buf) {
+            Ok((count, from)) => DgramRecv::Got(count, from_std(from)),
+            Err(error) if error.kind() == ErrorKind::WouldBlock => DgramRecv::Again,
+            Err(_) => {
+                self.failed_receives = self.failed_receives.saturating_add(1);
+                DgramRecv::Failed
+            }
+        }
+    }
+}

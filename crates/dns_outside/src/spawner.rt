@@ -1,0 +1,123 @@
+//! What starts work in threads.
+
+ghost use Rattle.std.specs.Prelude.{◌≡◌, ℕ, List, ◌≤◌};
+ghost use Rattle.dns_name.specs.declared.address.SocketAddr.{SocketAddr};
+ghost use Rattle.dns_outside.specs.Causes.{Rose, Tells};
+ghost use Rattle.dns_outside.specs.Starts.{StartMoves, StartCause, PermitMoves, PermitCause};
+
+use crate::work::{Started, Work, start_work};
+use dns_name::{OutOfMemory, SocketAddr};
+use std::alloc::Global;
+use std::sync::Wait;
+use std::thread::Threads;
+
+/// The answer of one start.
+#[derive(Clone, Copy, Debug, PartialEq, Eq)]
+pub enum Start {
+    /// The work is done in a thread.
+    Started,
+    /// The work was given up.
+    Failed,
+}
+
+/// What starts work, known by the addresses of the works that it was given. An implementor writes five small calls,
+/// which keep addresses, counts and threads; `start` and `join_all` stand on these.
+pub trait Spawner<W: Work> {
+    /// That the works are known.
+    ghost tells: { Self → Type 0 };
+
+    /// The addresses of the works that were given to `start` so far, refused ones among them, where the spawner tells.
+    ghost given: { Self → List SocketAddr };
+
+    /// The number of refused starts so far, up to 2^64 - 1.
+    ghost faults: { Self → ℕ };
+
+    /// For `start`: keeps the address, and says whether a thread may be started.
+    fn permit(&mut self, addr: SocketAddr) -> Result<bool, OutOfMemory>
+        ensures given { Tells (tells self.new) (tells self.old) (PermitMoves result addr (given self.old) (given self.new)) }
+        ensures later { faults self.old ≤ faults self.new }
+        ensures cause { PermitCause result (faults self.old) (faults self.new) };
+
+    /// For `start`: counts a thread that could not be made.
+    fn refuse(&mut self)
+        ensures given { Tells (tells self.new) (tells self.old) (given self.new ≡ given self.old) }
+        ensures later { faults self.old ≤ faults self.new }
+        ensures cause { Rose (faults self.old) (faults self.new) };
+
+    /// For `start`: keeps a thread, or hands it back.
+    fn keep(&mut self, thread: Started<W::Done>) -> Option<Started<W::Done>>
+        ensures given { Tells (tells self.new) (tells self.old) (given self.new ≡ given self.old) }
+        ensures same { faults self.new ≡ faults self.old };
+
+    /// For `start`: a kept thread whose work is done, if one is found.
+    fn ended(&mut self) -> Option<Started<W::Done>>
+        ensures given { Tells (tells self.new) (tells self.old) (given self.new ≡ given self.old) }
+        ensures same { faults self.new ≡ faults self.old };
+
+    /// For `join_all`: a kept thread, until none is left.
+    fn next(&mut self) -> Option<Started<W::Done>>
+        ensures given { Tells (tells self.new) (tells self.old) (given self.new ≡ given self.old) }
+        ensures same { faults self.new ≡ faults self.old };
+
+    /// Waits for the end of a thread whose work is done, if one is found.
+    final fn join_ended<R: Threads>(&mut self, rt: &R)
+        ensures given { Tells (tells self.new) (tells self.old) (given self.new ≡ given self.old) }
+        ensures same { faults self.new ≡ faults self.old }
+    {
+        if let Some(thread) = self.ended() {
+            let _ = thread.join(rt);
+        }
+    }
+
+    /// Starts the work in a thread of its own. Where it answers `Failed` or finds no memory the work was given up. It
+    /// first joins two threads at most whose work is done, so that no more are kept than twice those that work.
+    final fn start<R: Threads + Wait + Copy + Send + 'static>(
+        &mut self,
+        rt: &R,
+        alloc: Global,
+        work: W,
+    ) -> Result<Start, OutOfMemory>
+        requires { W.ready work }
+        ensures given { Tells (tells self.new) (tells self.old) (StartMoves result (W.addr work) (given self.old) (given self.new)) }
+        ensures later { faults self.old ≤ faults self.new }
+        ensures cause { StartCause result (faults self.old) (faults self.new) }
+    {
+        self.join_ended(rt);
+        self.join_ended(rt);
+        match self.permit(work.client_addr()) {
+            Err(_) => {
+                work.give_up(rt);
+                Err(OutOfMemory)
+            }
+            Ok(false) => {
+                work.give_up(rt);
+                Ok(Start::Failed)
+            }
+            Ok(true) => match start_work(rt, alloc, work)? {
+                None => {
+                    self.refuse();
+                    Ok(Start::Failed)
+                }
+                Some(thread) => {
+                    if let Some(thread) = self.keep(thread) {
+                        let _ = thread.join(rt);
+                    }
+                    Ok(Start::Started)
+                }
+            },
+        }
+    }
+
+    /// Waits for the end of all threads that were started.
+    final fn join_all<R: Threads + Wait>(&mut self, rt: &R)
+        ensures given { Tells (tells self.new) (tells self.old) (given self.new ≡ given self.old) }
+        ensures same { faults self.new ≡ faults self.old }
+    {
+        for _ in rt.forever() {
+            let Some(thread) = self.next() else {
+                break;
+            };
+            let _ = thread.join(rt);
+        }
+    }
+}

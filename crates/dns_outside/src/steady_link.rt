@@ -1,0 +1,84 @@
+//! A link in memory of which no call fails.
+
+ghost use Rattle.std.specs.Prelude.{◌≡◌, ◌≤◌, [], true};
+
+use crate::link::{Link, LinkRead, LinkWrite};
+use std::marker::Model;
+use std::sync::Wait;
+
+/// A link over vectors. No call fails or answers Again, so its count of faults is 0 for ever. It tells what came and
+/// went as long as there is memory for it and it can count its ends: afterwards it takes octets and tells nothing.
+#[derive(Drop)]
+pub struct SteadyLink {
+    input: Vec<u8>,
+    place: usize,
+    output: Vec<u8>,
+    whole: bool,
+    ends: u64,
+}
+
+impl Model for SteadyLink {
+    ghost use Rattle.std.specs.Prelude.{◌≤◌, take, drop, length};
+    ghost use Rattle.dns_outside.specs.SteadyForms.{SteadyCable};
+
+    ghost Value = { SteadyCable };
+
+    ghost view = { λ s. record { left = drop s.place s.input.items; came = take s.place s.input.items; went = s.output.items; whole = s.whole; ends = s.ends } };
+
+    ghost invariant = { λ s. s.place ≤ length s.input.items };
+}
+
+impl SteadyLink {
+    /// Gives the octets of `input`, and keeps what is written after those of `output`.
+    pub fn new(input: Vec<u8>, output: Vec<u8>) -> SteadyLink
+        ensures { result ≡ record { left = input.items; came = []; went = output.items; whole = true; ends = 0 } }
+    {
+        SteadyLink {
+            input,
+            place: 0,
+            output,
+            whole: true,
+            ends: 0,
+        }
+    }
+
+    /// The octets written, as far as they were kept.
+    pub fn written(&self) -> &[u8]
+        ensures { result.now ≡ self.now.went }
+    {
+        self.output.as_slice()
+    }
+}
+
+impl Link for SteadyLink {
+    ghost use Rattle.dns_outside.specs.SteadyForms.{SteadyCableTells, steady_traffic};
+
+    ghost tells = { λ s. SteadyCableTells s };
+
+    ghost traffic = { λ s. steady_traffic s };
+
+    ghost faults = { λ _. 0 };
+
+    fn read(&mut self, buf: &mut [u8]) -> LinkRead {
+        let left = self.input.len() - self.place;
+        if left == 0 {
+            self.ends = self.ends.saturating_add(1);
+            return LinkRead::End;
+        }
+        let count = left.min(buf.len());
+        buf[..count].copy_from_slice(&self.input[self.place..self.place + count]);
+        self.place += count;
+        LinkRead::Got(count)
+    }
+
+    fn write(&mut self, piece: &[u8]) -> LinkWrite {
+        if self.whole && self.output.extend_from_slice(piece).is_err() {
+            self.whole = false;
+        }
+        LinkWrite::Took(piece.len())
+    }
+
+    fn wait<R: Wait>(&mut self, _rt: &R, _millis: u64) {}
+
+    fn close(&mut self) {}
+}

@@ -1,0 +1,97 @@
+//! A socket for datagrams in memory of which no call fails.
+
+ghost use Rattle.std.specs.Prelude.{◌≡◌, ◌≤◌, [], true};
+
+use crate::sock::{AsyncDgramSock, DgramRecv, DgramSend, Letter};
+use dns_name::{Octets, SocketAddr};
+use std::alloc::Global;
+use std::marker::Model;
+use std::sync::Wait;
+
+/// A socket over vectors. No call fails, so its counts of faults are 0 for ever; a receive answers Again where no
+/// datagram is left. It tells what it received and sent as long as there is memory for it and it can count the receives
+/// that answered Again: afterwards it takes datagrams and tells nothing.
+#[derive(Drop)]
+pub struct SteadySock {
+    alloc: Global,
+    incoming: Vec<Letter>,
+    place: usize,
+    outgoing: Vec<Letter>,
+    whole: bool,
+    empty_receives: u64,
+}
+
+impl Model for SteadySock {
+    ghost use Rattle.std.specs.Prelude.{◌≤◌, take, drop, length};
+    ghost use Rattle.dns_outside.specs.SteadyForms.{SteadyTray};
+
+    ghost Value = { SteadyTray };
+
+    ghost view = { λ s. record { left = drop s.place s.incoming.items; received = take s.place s.incoming.items; sent = s.outgoing.items; whole = s.whole; empty_receives = s.empty_receives } };
+
+    ghost invariant = { λ s. s.place ≤ length s.incoming.items };
+}
+
+impl SteadySock {
+    /// Gives the datagrams of `incoming`, and keeps what is sent.
+    pub fn new(alloc: Global, incoming: Vec<Letter>) -> SteadySock
+        ensures { result ≡ record { left = incoming.items; received = []; sent = []; whole = true; empty_receives = 0 } }
+    {
+        SteadySock {
+            alloc,
+            incoming,
+            place: 0,
+            outgoing: Vec::new(alloc),
+            whole: true,
+            empty_receives: 0,
+        }
+    }
+
+    /// The datagrams sent, as far as they were kept.
+    pub fn sent(&self) -> &[Letter]
+        ensures { result.now ≡ self.now.sent }
+    {
+        self.outgoing.as_slice()
+    }
+}
+
+impl AsyncDgramSock for SteadySock {
+    ghost use Rattle.dns_outside.specs.SteadyForms.{SteadyTrayTells, steady_mail};
+
+    ghost tells = { λ s. SteadyTrayTells s };
+
+    ghost mail = { λ s. steady_mail s };
+
+    ghost failed_receives = { λ _. 0 };
+
+    ghost failed_sends = { λ _. 0 };
+
+    fn poll_send_to(&mut self, octets: &[u8], to: SocketAddr) -> DgramSend {
+        if let Ok(copy) = Octets::from_slice(self.alloc, octets)
+            && let Ok(()) = self.outgoing.push(Letter {
+                octets: copy,
+                addr: to,
+            })
+        {
+            return DgramSend::Took(octets.len());
+        }
+        self.whole = false;
+        DgramSend::Took(octets.len())
+    }
+
+    fn readable<R: Wait>(&mut self, _rt: &R, _millis: u64) {}
+
+    fn try_recv_buf_from(&mut self, buf: &mut [u8]) -> DgramRecv {
+        if self.place >= self.incoming.len() {
+            self.empty_receives = self.empty_receives.saturating_add(1);
+            return DgramRecv::Again;
+        }
+        let letter = &self.incoming[self.place];
+        let octets = letter.octets.as_slice();
+        let count = octets.len().min(buf.len());
+        buf[..count].copy_from_slice(&octets[..count]);
+        let from = letter.addr;
+        self.place += 1;
+        DgramRecv::Got(count, from)
+    }
+}

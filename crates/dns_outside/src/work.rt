@@ -1,0 +1,109 @@
+//! Work for threads.
+
+ghost use Rattle.std.specs.Prelude.{◌≡◌};
+ghost use Rattle.dns_name.specs.declared.address.SocketAddr.{SocketAddr};
+
+use dns_name::{OutOfMemory, SocketAddr};
+use std::alloc::Global;
+use std::sync::atomic::{AtomicBool, Ordering};
+use std::sync::{Arc, Wait};
+use std::thread;
+use std::thread::{JoinHandle, Threads};
+
+/// Work for a thread of its own: a connection to be served.
+pub trait Work: Send + Drop + 'static {
+    /// What the work gives when it is done.
+    type Done: Send + Drop + 'static;
+
+    /// The address of the client that it is done for.
+    ghost addr: { Self → SocketAddr };
+
+    /// That the work may be done, or given up.
+    ghost ready: { Self → Type 0 };
+
+    /// What the work gives.
+    ghost gives: { Self → Self.Done → Type 0 };
+
+    /// The address of the client that it is done for.
+    fn client_addr(&self) -> SocketAddr
+        ensures { result ≡ addr self.now };
+
+    /// Does the work.
+    fn run<R: Wait>(self, rt: &R, alloc: Global) -> Self::Done
+        requires { ready self }
+        ensures { gives self result };
+
+    /// Ends the work before it began.
+    fn give_up<R: Wait>(self, rt: &R)
+        requires { ready self };
+}
+
+/// What a thread and its starter say to each other.
+#[derive(Drop)]
+struct Flags {
+    refused: AtomicBool,
+    ended: AtomicBool,
+}
+
+/// A thread that was started for work.
+#[derive(Drop)]
+pub struct Started<D: Drop> {
+    handle: JoinHandle<Option<D>>,
+    flags: Arc<Flags>,
+}
+
+impl<D: Drop> Started<D> {
+    /// Whether the work is done. The thread then ends at once.
+    pub fn has_ended(&self) -> bool {
+        self.flags.ended.load(Ordering::SeqCst)
+    }
+
+    /// Waits for the thread's end. What the work gave is `None` where it was given up.
+    pub fn join<R: Threads>(self, rt: &R) -> Option<D> {
+        let Started { handle, flags: _ } = self;
+        handle.join(rt)
+    }
+}
+
+/// Starts the work in a thread. Where no thread can be made the answer is `None`, and the work was given up, as it was
+/// where there is no memory.
+pub fn start_work<R: Threads + Wait + Copy + Send + 'static, W: Work>(
+    rt: &R,
+    alloc: Global,
+    work: W,
+) -> Result<Option<Started<W::Done>>, OutOfMemory>
+    requires { W.ready work }
+{
+    let both = Flags {
+        refused: AtomicBool::new(false),
+        ended: AtomicBool::new(false),
+    };
+    let Ok(flags) = Arc::new(alloc, both) else {
+        work.give_up(rt);
+        return Err(OutOfMemory);
+    };
+    let Ok(theirs) = Arc::try_clone(&flags) else {
+        work.give_up(rt);
+        return Err(OutOfMemory);
+    };
+    let mine = *rt;
+    let body = move || -> Option<W::Done>
+        requires { W.ready work }
+    {
+        if theirs.refused.load(Ordering::SeqCst) {
+            work.give_up(&mine);
+            return None;
+        }
+        let done = work.run(&mine, alloc);
+        theirs.ended.store(true, Ordering::SeqCst);
+        Some(done)
+    };
+    match thread::spawn(rt, body) {
+        Ok(handle) => Ok(Some(Started { handle, flags })),
+        Err(refused) => {
+            flags.refused.store(true, Ordering::SeqCst);
+            let _ = (refused.value)();
+            Ok(None)
+        }
+    }
+}
