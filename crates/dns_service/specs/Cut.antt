@@ -47,6 +47,15 @@ abbrev pub Added : Built → Built → Built → Bool → Type 0
 Added old new more true = (new ≡ more) × (length (wire more.message) ≤ more.limit)
 Added old new more false = (new ≡ old) × PassesLimit more
 
+-- what is built, where it fits
+abbrev pub where_fitting : Built → Option Built
+where_fitting b = built_fitting b.limit b.message
+
+-- the first of two that fits was built, or neither fits
+abbrev pub AddedEither : Built → Option Built → Option Built → Bool → Type 0
+AddedEither new first second true = Some new ≡ or_else first second
+AddedEither new first second false = None ≡ or_else first second
+
 -- a message that is cut where there is a limit
 abbrev pub sized : Option ℕ → Msg → Msg
 sized None m = m

@@ -1,6 +1,6 @@
 //! The configurations of the servers. Each setter limits its value to a range.
 ghost use Rattle.std.specs.Prelude.{◌≡◌, ◌≤◌};
-ghost use Rattle.dns_service.specs.Config.{in_range, limited_size, IsBetween, IsResponseSize, Dgram, Connection, Stream, IsDgram, IsConnection, IsStream, default_dgram, default_connection, default_stream};
+ghost use Rattle.dns_service.specs.Config.{in_range, limited_size, limited_budget, IsBetween, IsResponseSize, IsBudget, Dgram, Connection, Stream, IsDgram, IsConnection, IsStream, default_dgram, default_connection, default_stream};
 
 use std::marker::Model;
 
@@ -79,20 +79,22 @@ pub struct ConnectionConfig {
     idle_timeout: u64,
     response_write_timeout: u64,
     max_queued_responses: usize,
+    response_budget: Option<u32>,
+    budget_window: u64,
 }
 
 impl Model for ConnectionConfig {
     ghost Value = { Connection };
 
-    ghost view = { λ c. record { idle_timeout = c.idle_timeout; response_write_timeout = c.response_write_timeout; max_queued_responses = c.max_queued_responses } };
+    ghost view = { λ c. record { idle_timeout = c.idle_timeout; response_write_timeout = c.response_write_timeout; max_queued_responses = c.max_queued_responses; response_budget = c.response_budget; budget_window = c.budget_window } };
 
-    ghost invariant = { λ c. IsBetween 200 2592000000 c.idle_timeout × IsBetween 1 3600000 c.response_write_timeout × IsBetween 1 1024 c.max_queued_responses };
+    ghost invariant = { λ c. IsBetween 200 2592000000 c.idle_timeout × IsBetween 1 3600000 c.response_write_timeout × IsBetween 1 1024 c.max_queued_responses × IsBudget c.response_budget × IsBetween 1 3600000 c.budget_window };
 
-    ghost inverse = { λ c. record { idle_timeout = c.idle_timeout; response_write_timeout = c.response_write_timeout; max_queued_responses = c.max_queued_responses } };
+    ghost inverse = { λ c. record { idle_timeout = c.idle_timeout; response_write_timeout = c.response_write_timeout; max_queued_responses = c.max_queued_responses; response_budget = c.response_budget; budget_window = c.budget_window } };
 }
 
 impl ConnectionConfig {
-    /// 30 s idle, 30 s for a write, and ten responses that wait.
+    /// 30 s idle, 30 s for a write, ten responses that wait, and any number of them in a window of 1 s.
     pub fn new() -> Self
         ensures { result ≡ default_connection }
     {
@@ -100,6 +102,8 @@ impl ConnectionConfig {
             idle_timeout: 30_000,
             response_write_timeout: 30_000,
             max_queued_responses: 10,
+            response_budget: None,
+            budget_window: 1_000,
         }
     }
 
@@ -149,6 +153,38 @@ impl ConnectionConfig {
         ensures limits { IsConnection self.now }
     {
         self.max_queued_responses
+    }
+
+    /// How many responses may be queued in one window of time, from 1 to 1,000,000, or any number.
+    pub fn set_response_budget(&mut self, count: Option<u32>)
+        ensures { self.new ≡ record self.old { response_budget = limited_budget count } }
+    {
+        self.response_budget = count.map(|count| count.clamp(1, 1_000_000));
+    }
+
+    /// How many responses may be queued in one window of time, where that is limited.
+    pub fn response_budget(&self) -> Option<u32>
+        ensures value { result ≡ self.now.response_budget }
+        ensures range { IsBudget result }
+        ensures limits { IsConnection self.now }
+    {
+        self.response_budget
+    }
+
+    /// How long a window of the budget is, from 1 ms to 3,600,000 ms.
+    pub fn set_budget_window(&mut self, millis: u64)
+        ensures { self.new ≡ record self.old { budget_window = in_range 1 3600000 millis } }
+    {
+        self.budget_window = millis.clamp(1, 3_600_000);
+    }
+
+    /// How long a window of the budget is, in milliseconds.
+    pub fn budget_window(&self) -> u64
+        ensures value { result ≡ self.now.budget_window }
+        ensures range { IsBetween 1 3600000 result }
+        ensures limits { IsConnection self.now }
+    {
+        self.budget_window
     }
 }
 

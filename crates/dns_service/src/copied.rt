@@ -3,16 +3,17 @@
 ghost use Rattle.std.specs.Prelude.{◌≡◌};
 ghost use Rattle.std.specs.Option.{option_copied};
 ghost use Rattle.dns_base.specs.Builds.{Builds, unlimited};
+ghost use Rattle.dns_base.specs.Header.{header_of};
 ghost use Rattle.dns_base.specs.Replaced.{other_than};
 ghost use Rattle.dns_base.specs.Sections.{all_of, questions_of, standing_additional, standing_answers, standing_authority};
 ghost use Rattle.dns_base.specs.Standing.{Gives};
-ghost use Rattle.dns_service.specs.Copied.{GivesAll, copied, copied_records, others_of, whole_list};
+ghost use Rattle.dns_service.specs.Copied.{GivesAll, copied, copied_item, copied_records, gathered, others_of, whole_list};
 ghost use Rattle.dns_service.specs.LastOpt.{and_opt};
 
 use crate::last_opt::opt_built;
 use dns_base::{
     AdditionalBuilder, CopiedRecord, Header, MessageRef, ParseError, PushError, Question,
-    RecordIter, Rtype, assemble,
+    QuestionRef, RecordIter, RecordRef, Rtype, assemble,
 };
 use dns_opt::OptRecord;
 use std::alloc::Global;
@@ -50,6 +51,18 @@ impl CopiedMessage {
     {
         let questions = questions_in(alloc, message)?;
         let answers = answers_in(alloc, message)?;
+        Self::read_on(alloc, message, questions, answers)
+    }
+
+    /// Reads the sections behind the answers.
+    fn read_on(
+        alloc: Global,
+        message: &MessageRef<'_>,
+        questions: Vec<Question>,
+        answers: Vec<CopiedRecord>,
+    ) -> Result<CopiedMessage, ParseError>
+        ensures { Gives result (gathered (header_of message.now) (Ok questions.items) (Ok answers.items) (copied_records (all_of (standing_authority message.now))) (others_of (copied_records (all_of (standing_additional message.now))))) }
+    {
         let authority = authority_in(alloc, message)?;
         let additional = others_in(alloc, message)?;
         Ok(CopiedMessage {
@@ -102,10 +115,21 @@ fn questions_in(alloc: Global, message: &MessageRef<'_>) -> Result<Vec<Question>
     let mut left = message.question();
     let mut questions = Vec::new(alloc);
     'each: while let Some(item) = left.next() {
-        let question = item?.to_question(alloc)?;
+        let question = owned_question(alloc, item)?;
         questions.push(question)?;
     }
     Ok(questions)
+}
+
+/// A question that a section gives, owned.
+fn owned_question(
+    alloc: Global,
+    item: Result<QuestionRef<'_>, ParseError>,
+) -> Result<Question, ParseError>
+    ensures { Gives result item.entry }
+{
+    let question = item?.to_question(alloc)?;
+    Ok(question)
 }
 
 /// The records that a section gives.
@@ -115,10 +139,20 @@ fn records_in(alloc: Global, items: RecordIter<'_>) -> Result<Vec<CopiedRecord>,
     let mut left = items;
     let mut records = Vec::new(alloc);
     'each: while let Some(item) = left.next() {
-        let record = CopiedRecord::read(alloc, &item?)?;
+        let record = copied_record(alloc, item)?;
         records.push(record)?;
     }
     Ok(records)
+}
+
+/// A record that a section gives, copied.
+fn copied_record(
+    alloc: Global,
+    item: Result<RecordRef<'_>, ParseError>,
+) -> Result<CopiedRecord, ParseError>
+    ensures { Gives result (copied_item item.entry) }
+{
+    CopiedRecord::read(alloc, &item?)
 }
 
 /// The answer records of a message.

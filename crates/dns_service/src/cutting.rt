@@ -1,18 +1,19 @@
 //! Truncation of a message that has too many octets.
 
 ghost use Rattle.std.specs.Prelude.{◌≡◌, ◌≤◌, [], ◌∷◌, ℕ, IfOk, OnOk, OnErr, length};
-ghost use Rattle.dns_base.specs.Built.{with_additional};
+ghost use Rattle.dns_base.specs.Built.{with_additional, with_question};
 ghost use Rattle.dns_base.specs.Msg.{IsMessage, Msg};
 ghost use Rattle.dns_base.specs.Readers.{readable_items};
 ghost use Rattle.dns_base.specs.Records.{record_of, IsLawful};
 ghost use Rattle.dns_base.specs.Replies.{with_copied};
 ghost use Rattle.dns_base.specs.Wire.{wire};
-ghost use Rattle.dns_service.specs.Cut.{cut, cut_built, built_fitting, or_else, shortened, truncated, Added};
+ghost use Rattle.dns_service.specs.Cut.{cut, cut_built, built_fitting, or_else, shortened, truncated, where_fitting, Added, AddedEither};
 ghost use Rattle.dns_service.specs.OptIn.{minimal, opt_record_in};
 
 use crate::opt_in::{minimal, opt_record_in};
 use dns_base::{
-    AdditionalBuilder, MessageBuilder, PushError, QuestionBuilder, QuestionIter, Record,
+    AdditionalBuilder, MessageBuilder, PushError, QuestionBuilder, QuestionIter, QuestionRef,
+    Record,
 };
 use dns_name::OutOfMemory;
 use std::alloc::Global;
@@ -41,9 +42,23 @@ fn shortened(
     ensures { IfOk result (λ b. b.message ≡ shortened limit message.now.message (opt_record_in message.now.message)) }
 {
     match opt_record_in(alloc, message)? {
-        Some(opt) => with_opt(alloc, message, &opt, limit),
+        Some(opt) => with_own_opt(alloc, message, opt, limit),
         None => without_opt(alloc, message, limit),
     }
+}
+
+/// The same, with the message's OPT record.
+fn with_own_opt(
+    alloc: Global,
+    message: &AdditionalBuilder,
+    opt: Record,
+    limit: usize,
+) -> Result<AdditionalBuilder, OutOfMemory>
+    requires limit { limit ≤ 65535 }
+    requires lawful { IsLawful opt.rdata }
+    ensures { IfOk result (λ b. b.message ≡ shortened limit message.now.message (Some (record_of opt))) }
+{
+    with_opt(alloc, message, &opt, limit)
 }
 
 /// The questions, or the header alone.
@@ -90,17 +105,42 @@ fn asked_with(
     requires lawful { IsLawful opt.now.rdata }
     ensures { let m = message.now.message in IfOk result (λ o. o ≡ or_else (built_fitting limit (truncated m m.questions (record_of opt.now ∷ []))) (built_fitting limit (truncated m m.questions (minimal (record_of opt.now) ∷ [])))) }
 {
-    let mut shorter = match asked(alloc, message, limit)? {
-        Some(shorter) => shorter,
-        None => return Ok(None),
-    };
-    if added(alloc, &mut shorter, opt)? {
-        return Ok(Some(shorter));
+    match asked(alloc, message, limit)? {
+        Some(shorter) => either_built(alloc, shorter, opt),
+        None => Ok(None),
     }
-    if minimal_added(alloc, &mut shorter, opt)? {
-        return Ok(Some(shorter));
+}
+
+/// The message with the OPT record, or with a minimal one, where it has room.
+fn either_built(
+    alloc: Global,
+    message: AdditionalBuilder,
+    opt: &Record,
+) -> Result<Option<AdditionalBuilder>, OutOfMemory>
+    requires { IsLawful opt.now.rdata }
+    ensures { let r = record_of opt.now in IfOk result (λ o. o ≡ or_else (where_fitting (with_additional message r)) (where_fitting (with_additional message (minimal r)))) }
+{
+    let mut shorter = message;
+    if either_added(alloc, &mut shorter, opt)? {
+        Ok(Some(shorter))
+    } else {
+        Ok(None)
     }
-    Ok(None)
+}
+
+/// Adds the OPT record, or a minimal one, where it has room, and says whether one had.
+fn either_added(
+    alloc: Global,
+    message: &mut AdditionalBuilder,
+    opt: &Record,
+) -> Result<bool, OutOfMemory>
+    requires { IsLawful opt.now.rdata }
+    ensures { let r = record_of opt.now in IfOk result (AddedEither message.new (where_fitting (with_additional message.old r)) (where_fitting (with_additional message.old (minimal r)))) }
+{
+    if added(alloc, message, opt)? {
+        return Ok(true);
+    }
+    minimal_added(alloc, message, opt)
 }
 
 /// A minimal OPT record alone.
@@ -125,7 +165,19 @@ fn minimal_added(
     ensures { IfOk result (Added message.old message.new (with_additional message.old (minimal (record_of opt.now)))) }
 {
     let small = minimal(alloc, opt)?;
-    added(alloc, message, &small)
+    owned_added(alloc, message, small)
+}
+
+/// Adds a record of its own where it has room, and says whether it had.
+fn owned_added(
+    alloc: Global,
+    message: &mut AdditionalBuilder,
+    own: Record,
+) -> Result<bool, OutOfMemory>
+    requires { IsLawful own.rdata }
+    ensures { IfOk result (Added message.old message.new (with_additional message.old (record_of own))) }
+{
+    added(alloc, message, &own)
 }
 
 /// The header with TC and the questions, where they fit.
@@ -183,14 +235,27 @@ fn copy_questions(
 {
     let mut left = source;
     'walk: while let Some(Ok(question)) = left.next() {
-        let question = question.to_question(alloc)?;
-        match target.push(alloc, &question) {
-            Ok(()) => {}
-            Err(PushError::ShortBuf) => return Ok(false),
-            Err(PushError::OutOfMemory) => return Err(OutOfMemory),
+        if !question_added(alloc, target, &question)? {
+            return Ok(false);
         }
     }
     Ok(true)
+}
+
+/// Adds a question where it has room, and says whether it had.
+fn question_added(
+    alloc: Global,
+    target: &mut QuestionBuilder,
+    question: &QuestionRef<'_>,
+) -> Result<bool, OutOfMemory>
+    ensures { IfOk result (Added target.old target.new (with_question target.old question.now)) }
+{
+    let question = question.to_question(alloc)?;
+    match target.push(alloc, &question) {
+        Ok(()) => Ok(true),
+        Err(PushError::ShortBuf) => Ok(false),
+        Err(PushError::OutOfMemory) => Err(OutOfMemory),
+    }
 }
 
 /// Adds a record where it has room, and says whether it had.

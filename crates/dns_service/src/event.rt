@@ -1,4 +1,4 @@
-//! Events of a server's clients, and what the clients are sent.
+//! Events of a server's clients, looks of these, and what the clients are sent.
 
 use crate::config::{DgramConfig, StreamConfig};
 use dns_name::{Octets, SocketAddr};
@@ -13,7 +13,7 @@ pub struct Event {
     pub kind: EventKind,
 }
 
-#[derive(Debug, Drop)]
+#[derive(Drop)]
 pub enum EventKind {
     /// A datagram came from an address.
     Datagram {
@@ -51,6 +51,15 @@ pub enum EventKind {
     },
     /// All clients hear that the server shuts down.
     Shutdown,
+}
+
+/// One step of a server whose clients look for themselves: an event, or a look of a client at what the server's book shows.
+#[derive(Debug, Drop)]
+pub enum Step {
+    /// An event. One that all clients hear acts on the book alone, and each client hears of it when it looks.
+    Own(Event),
+    /// A client looks. Its moment and seconds say nothing.
+    Look { at: u64, secs: u64, client: u64 },
 }
 
 /// Why a connection is closed.

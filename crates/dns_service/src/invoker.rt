@@ -123,19 +123,21 @@ pub trait ServiceInvoker {
         ensures answer { IfOk result (λ dispatched. dispatched ≡ dispatched_by (T.answer stream.old 0)) }
         ensures later { OnOk result ((k : ℕ) → T.answer stream.new k ≡ T.answer stream.old (suc k)) }
     {
-        match stream.poll_next(alloc)? {
-            Polled::Pending => Ok(Dispatched::Pending),
-            Polled::Ready(None) => Ok(Dispatched::Ended),
-            Polled::Ready(Some(item)) => {
+        match stream.poll_next(alloc) {
+            Ok(Polled::Pending) => Ok(Dispatched::Pending),
+            Ok(Polled::Ready(None)) => Ok(Dispatched::Ended),
+            Ok(Polled::Ready(Some(item))) => {
                 let dispatched = dispatched_by(&item);
-                match self.process_response_stream_item(alloc, item, message)? {
-                    None => Ok(dispatched),
-                    Some(reply) => {
+                match self.process_response_stream_item(alloc, item, message) {
+                    Ok(None) => Ok(dispatched),
+                    Ok(Some(reply)) => {
                         let _fate = self.enqueue_response(reply);
                         Ok(dispatched)
                     }
+                    Err(error) => Err(error),
                 }
             }
+            Err(error) => Err(error),
         }
     }
 }

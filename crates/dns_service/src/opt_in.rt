@@ -54,13 +54,29 @@ fn listed(alloc: Global, record: &RecordRef<'_>) -> Result<Option<Record>, OutOf
 fn owned(alloc: Global, record: &RecordRef<'_>, rdata: RecordData) -> Result<Record, OutOfMemory>
     ensures { IfOk result (λ r. r ≡ record { owner = record.now.resource.owner; class = record.now.resource.class; ttl = record.now.resource.ttl; rdata = rdata }) }
 {
-    let owner = record.owner().to_name(alloc)?;
-    Ok(Record {
+    match owner_of(alloc, record) {
+        Ok(owner) => Ok(with_data(record, owner, rdata)),
+        Err(error) => Err(error),
+    }
+}
+
+/// The record's owner.
+fn owner_of(alloc: Global, record: &RecordRef<'_>) -> Result<Name, OutOfMemory>
+    ensures { IfOk result (λ n. n ≡ record.now.resource.owner) }
+{
+    record.owner().to_name(alloc)
+}
+
+/// A record of this owner and data, and otherwise as another.
+fn with_data(record: &RecordRef<'_>, owner: Name, rdata: RecordData) -> Record
+    ensures { result ≡ record { owner = owner; class = record.now.resource.class; ttl = record.now.resource.ttl; rdata = rdata } }
+{
+    Record {
         owner,
         class: record.class(),
         ttl: record.ttl(),
         rdata,
-    })
+    }
 }
 
 /// No options.

@@ -47,12 +47,13 @@ where
     /// Takes the next answer. A future that is ready is followed by the first poll of its stream.
     fn poll_next(&mut self, alloc: Global) -> Result<Polled<Option<ServiceResult>>, OutOfMemory> {
         match self {
-            PolledRequest::Future(future) => match poll_future(alloc, future)? {
-                Polled::Pending => Ok(Polled::Pending),
-                Polled::Ready((stream, answer)) => {
+            PolledRequest::Future(future) => match poll_future(alloc, future) {
+                Ok(Polled::Pending) => Ok(Polled::Pending),
+                Ok(Polled::Ready((stream, answer))) => {
                     *self = PolledRequest::Stream(stream);
                     Ok(answer)
                 }
+                Err(error) => Err(error),
             },
             PolledRequest::Stream(stream) => stream.poll_next(alloc),
         }
