@@ -65,8 +65,20 @@ fn poll_verdict<V: VerdictFuture>(
     }
 }
 
+/// Asks a target on behalf of a request what a notice of its own says.
+pub(crate) fn ask_owned<N: Notifiable>(
+    alloc: Global,
+    target: &N,
+    request: &Arc<Message>,
+    notice: Notice,
+) -> Result<AskStream<N::Future>, OutOfMemory>
+    ensures { IfOk result (λ s. (k : ℕ) → ⟦<AskStream<N::Future> as ReplyStream>⟧.answer s k ≡ asking (arc_value request.now) (verdict_on (N.verdict target.now) notice) k) }
+{
+    ask(alloc, target, request, &notice)
+}
+
 /// Asks a target on behalf of a request.
-pub(crate) fn ask<N: Notifiable>(
+fn ask<N: Notifiable>(
     alloc: Global,
     target: &N,
     request: &Arc<Message>,

@@ -6,7 +6,7 @@ ghost use Rattle.dns_service.specs.Transport.{hinted};
 ghost use Rattle.dns_middleware.specs.Notify.{asking, notice_of, notify, notify_hint};
 ghost use Rattle.dns_middleware.specs.Verdicts.{verdict_on};
 
-use crate::ask_stream::{AskStream, ask};
+use crate::ask_stream::{AskStream, ask_owned};
 use crate::layered::of_inner;
 use crate::notice::{Notice, notice_of};
 use crate::notifiable::Notifiable;
@@ -58,9 +58,10 @@ where
         alloc: Global,
         request: &mut Request<Meta>,
     ) -> Result<Now<NotifyStream<S, N, Meta>>, OutOfMemory> {
-        match read_notice(alloc, request)? {
-            Some(notice) => of_asked::<S, N, Meta>(alloc, &self.target, request, notice),
-            None => pass::<S, N, Meta>(alloc, &self.next, request),
+        match read_notice(alloc, request) {
+            Ok(Some(notice)) => of_asked::<S, N, Meta>(alloc, &self.target, request, notice),
+            Ok(None) => pass::<S, N, Meta>(alloc, &self.next, request),
+            Err(error) => Err(error),
         }
     }
 }
@@ -97,6 +98,6 @@ fn of_asked<S: Service<Meta>, N: Notifiable, Meta>(
 ) -> Result<Now<NotifyStream<S, N, Meta>>, OutOfMemory>
     ensures { IfOk result (λ f. (k : ℕ) → ⟦<Now<NotifyStream<S, N, Meta>> as ReplyFuture>⟧.answer f k ≡ asking request.now.octets (verdict_on (N.verdict target.now) notice) k) }
 {
-    let stream = ask(alloc, target, request.message(), &notice)?;
+    let stream = ask_owned(alloc, target, request.message(), notice)?;
     Ok(Now::new(MiddlewareStream::Result(stream)))
 }

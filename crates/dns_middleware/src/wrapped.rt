@@ -4,15 +4,15 @@ ghost use Rattle.std.specs.Prelude.{◌≡◌, ℕ, IfOk, OnErr, OnOk};
 ghost use Rattle.dns_middleware.specs.Nested.{HintIsNested, RepliesAreNested};
 ghost use Rattle.dns_middleware.specs.ReplyLaws.{RepliesFit, RepliesRespond};
 ghost use Rattle.dns_middleware.specs.Verdicts.{verdict_on};
-ghost use Rattle.dns_middleware.specs.Wrapped.{hint_left, replies};
+ghost use Rattle.dns_middleware.specs.Wrapped.{hint_left, refusal_by, replies};
 
 use crate::notifiable::Notifiable;
-use crate::refusal::refusal_by;
+use crate::refusal::{Refusal, refusal_by};
 use crate::settings::Settings;
 use crate::wrapped_calls::{not_refused, refused};
 use crate::wrapped_future::WrappedFuture;
 use crate::wrapped_stream::WrappedStream;
-use dns_service::{OutOfMemory, Request, Service, cut_fits, read_asked};
+use dns_service::{Asked, OutOfMemory, Request, Service, cut_fits, read_asked};
 use std::alloc::Global;
 
 /// A service in its layers.
@@ -58,7 +58,7 @@ where
     ) -> Result<ComingReplies<S, N, Meta>, OutOfMemory> {
         let settings = &self.settings;
         let asked = read_asked(request.message());
-        match refusal_by(settings, request.transport_ctx(), &asked) {
+        match refusal_of(settings, request, &asked) {
             Some(refusal) => refused::<S, N, Meta>(alloc, settings, &asked, request, refusal),
             None => not_refused(
                 alloc,
@@ -70,6 +70,13 @@ where
             ),
         }
     }
+}
+
+/// What a request is refused with. This was read of it.
+fn refusal_of<Meta>(settings: &Settings, request: &Request<Meta>, asked: &Asked) -> Option<Refusal>
+    ensures { result ≡ refusal_by settings.now request.now.transport asked.now }
+{
+    refusal_by(settings, request.transport_ctx(), asked)
 }
 
 /// A service in the layers of the settings: mandatory over EDNS over cookies over NOTIFY.

@@ -14,7 +14,7 @@ ghost use Rattle.dns_middleware.specs.Verdicts.{verdict_on};
 ghost use Rattle.dns_middleware.specs.Wrapped.{by_gate, inner_gate, passed};
 ghost use Rattle.dns_middleware.specs.WrappedStreams.{refused_reply, wrap_by, wrap_rule};
 
-use crate::ask_stream::ask;
+use crate::ask_stream::ask_owned;
 use crate::cookie_replies::cookie_own;
 use crate::layered::alone;
 use crate::notice::{Notice, notice_of};
@@ -64,13 +64,25 @@ pub(crate) fn not_refused<S: Service<Meta>, N: Notifiable, Meta>(
     ensures refused { OnErr result (request.new ≡ request.old) }
 {
     let size = size_by(settings, asked);
-    let transport = request.transport_ctx();
-    let hint = hint_passed(size, transport);
-    let post = WrapPost::new(settings.edns, asked, transport, hint);
+    let post = post_passed(settings, asked, size, request);
     match own_rewritten(alloc, settings, &post, request, asked)? {
         Some(reply) => Ok(own::<S, N, Meta>(reply, size, request)),
         None => past_cookies(alloc, service, target, size, post, asked, request),
     }
+}
+
+/// The rule for the replies to a request that is passed on by this size.
+fn post_passed<Meta>(
+    settings: &Settings,
+    asked: &Asked,
+    size: Option<u16>,
+    request: &Request<Meta>,
+) -> WrapPost
+    ensures { let t = request.now.transport in result ≡ wrap_rule settings.now.edns t (limit (hint_of (transport_by size t))) asked.now }
+{
+    let transport = request.transport_ctx();
+    let hint = hint_passed(size, transport);
+    WrapPost::new(settings.edns, asked, transport, hint)
 }
 
 /// A reply of the cookie layer's own, to a request that is left as it would be passed on.
@@ -129,9 +141,10 @@ fn past_cookies<S: Service<Meta>, N: Notifiable, Meta>(
     ensures kept { OnOk result (request.new ≡ record request.old { transport = hinted (hint_of (transport_by size request.old.transport)) request.old.transport; reserved = request.new.reserved }) }
     ensures refused { OnErr result (request.new ≡ request.old) }
 {
-    match notice_of(alloc, request, asked)? {
-        Some(notice) => told::<S, N, Meta>(alloc, target, notice, size, post, request),
-        None => passed_on::<S, N, Meta>(alloc, service, size, post, request),
+    match notice_of(alloc, request, asked) {
+        Ok(Some(notice)) => told::<S, N, Meta>(alloc, target, notice, size, post, request),
+        Ok(None) => passed_on::<S, N, Meta>(alloc, service, size, post, request),
+        Err(error) => Err(error),
     }
 }
 
@@ -148,7 +161,7 @@ fn told<S: Service<Meta>, N: Notifiable, Meta>(
     ensures passed { OnOk result (request.new ≡ passed_by size request.old) }
     ensures refused { OnErr result (request.new ≡ request.old) }
 {
-    let stream = ask(alloc, target, request.message(), &notice)?;
+    let stream = ask_owned(alloc, target, request.message(), notice)?;
     pass_on(size, request);
     Ok(WrappedFuture::Asking(Some(stream), post))
 }

@@ -1,7 +1,7 @@
 //! The stream of a service over another: the inner replies as they are, the inner replies mapped, or replies of its own.
 
 ghost use Rattle.std.specs.Prelude.{◌≡◌};
-ghost use Rattle.dns_stream.specs.Streams.{middleware_answer, middleware_size};
+ghost use Rattle.dns_stream.specs.Streams.{Follows, middleware_answer, middleware_size};
 
 use dns_service::{OutOfMemory, Polled, ReplyFuture, ReplyStream, ServiceResult, poll_future};
 use std::alloc::Global;
@@ -19,6 +19,25 @@ pub enum MiddlewareStream<F, R, M, O> {
     Result(O),
 }
 
+impl<F: Drop, R: Drop, M: Drop, O: Drop> MiddlewareStream<F, R, M, O> {
+    /// Answers as a future that was polled, and goes on as its stream where it was ready.
+    fn follow(
+        &mut self,
+        polled: Result<Polled<(R, Polled<Option<ServiceResult>>)>, OutOfMemory>,
+    ) -> Result<Polled<Option<ServiceResult>>, OutOfMemory>
+        ensures { Follows polled self.old self.new result }
+    {
+        match polled {
+            Ok(Polled::Pending) => Ok(Polled::Pending),
+            Ok(Polled::Ready((stream, answer))) => {
+                *self = MiddlewareStream::IdentityStream(stream);
+                Ok(answer)
+            }
+            Err(error) => Err(error),
+        }
+    }
+}
+
 impl<F, R, M, O> ReplyStream for MiddlewareStream<F, R, M, O>
 where
     F: ReplyFuture<Stream = R>,
@@ -32,13 +51,10 @@ where
 
     fn poll_next(&mut self, alloc: Global) -> Result<Polled<Option<ServiceResult>>, OutOfMemory> {
         match self {
-            MiddlewareStream::IdentityFuture(future) => match poll_future(alloc, future)? {
-                Polled::Pending => Ok(Polled::Pending),
-                Polled::Ready((stream, answer)) => {
-                    *self = MiddlewareStream::IdentityStream(stream);
-                    Ok(answer)
-                }
-            },
+            MiddlewareStream::IdentityFuture(future) => {
+                let polled = poll_future(alloc, future);
+                self.follow(polled)
+            }
             MiddlewareStream::IdentityStream(stream) => stream.poll_next(alloc),
             MiddlewareStream::Map(stream) => stream.poll_next(alloc),
             MiddlewareStream::Result(stream) => stream.poll_next(alloc),

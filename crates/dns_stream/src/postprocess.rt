@@ -2,7 +2,7 @@
 
 ghost use Rattle.std.specs.Prelude.{◌≡◌, IfOk};
 ghost use Rattle.dns_service.specs.declared.message.Request.{Request};
-ghost use Rattle.dns_service.specs.Answer.{Item};
+ghost use Rattle.dns_service.specs.Answer.{Item, mapped};
 ghost use Rattle.dns_service.specs.PolledRequest.{request_answer, request_size, unknown_size};
 ghost use Rattle.dns_stream.specs.Streams.{each_mapped};
 
@@ -45,6 +45,24 @@ impl<F: ReplyFuture, Meta: Drop, P: Postprocess<Meta>> PostprocessingStream<F, M
             pp,
         }
     }
+
+    /// The answer with its item mapped.
+    fn mapped(
+        &self,
+        alloc: Global,
+        answer: Polled<Option<ServiceResult>>,
+    ) -> Result<Polled<Option<ServiceResult>>, OutOfMemory>
+        ensures { IfOk result (λ a. a ≡ mapped (P.post self.now.pp self.now.request) answer) }
+    {
+        match answer {
+            Polled::Pending => Ok(Polled::Pending),
+            Polled::Ready(None) => Ok(Polled::Ready(None)),
+            Polled::Ready(Some(item)) => {
+                let item = self.pp.map(alloc, &self.request, item)?;
+                Ok(Polled::Ready(Some(item)))
+            }
+        }
+    }
 }
 
 impl<F: ReplyFuture, Meta: Drop, P: Postprocess<Meta>> ReplyStream
@@ -54,14 +72,8 @@ impl<F: ReplyFuture, Meta: Drop, P: Postprocess<Meta>> ReplyStream
     ghost size = { λ s. request_size F.Stream.size s.inner };
 
     fn poll_next(&mut self, alloc: Global) -> Result<Polled<Option<ServiceResult>>, OutOfMemory> {
-        match self.inner.poll_next(alloc)? {
-            Polled::Pending => Ok(Polled::Pending),
-            Polled::Ready(None) => Ok(Polled::Ready(None)),
-            Polled::Ready(Some(item)) => {
-                let item = self.pp.map(alloc, &self.request, item)?;
-                Ok(Polled::Ready(Some(item)))
-            }
-        }
+        let answer = self.inner.poll_next(alloc)?;
+        self.mapped(alloc, answer)
     }
 
     fn size_hint(&self) -> (usize, Option<usize>) {

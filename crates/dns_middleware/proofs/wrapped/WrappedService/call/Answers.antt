@@ -1,5 +1,5 @@
 -- A request that isn't refused is taken as the others are.
-use Rattle.std.proofs.Common.{◌≡◌, ◌∙◌, ap, None}
+use Rattle.std.proofs.Common.{◌≡◌, ◌∙◌, ap, refl, None}
 use Rattle.dns_service.specs.Asked.{asked_of}
 use Rattle.dns_middleware.specs.Verdicts.{verdict_on}
 use Rattle.dns_middleware.proofs.Called.{if-ok, refusal-read, unrefused}
@@ -10,5 +10,5 @@ returns-in-None-clause-answers g c =
     let r = c.args.request.now in
     let s = c.args.self.now.settings in
     let asked : c.read_asked-asked.result ≡ asked_of r.octets = c.read_asked-asked.ensures ∙ ap asked_of (c.deref.ensures ∙ c.message.ensures) in
-    let refused = refusal-read s r _ _ None c.transport_ctx.ensures asked c.in-None.ensures in
+    let refused = refusal-read s r r.transport _ None refl asked c.in-None.ensures in
     if-ok c.not_refused.result (λ f h k. h k ∙ unrefused s (g.S.Service.answer c.args.self.now.service) (verdict_on (g.N.Notifiable.verdict c.args.self.now.target)) r k refused) c.not_refused.ensures.answers
