@@ -8,7 +8,7 @@ use Rattle.dns_opt.specs.OptRecords.{OptState, opt_of}
 use Rattle.dns_service.specs.ReplyErrors.{parse_refused}
 use Rattle.dns_route.specs.declared.kept.Keeps.TheVariants.{SubnetsAndErrors}
 use Rattle.dns_route.specs.Kept.{kept_opt}
-use Rattle.dns_route.specs.ReplyMessage.{BeginsReply, Composes, reply_by, reply_read, reply_with, reply_with_opt}
+use Rattle.dns_route.specs.ReplyMessage.{BeginsReply, Composes, ReplyState, reply_by, reply_read, reply_with, reply_with_opt}
 
 -- a copy that is refused is so as a reply
 pub copy_refused : (opt : Option OptState) (read : Result Msg ParseError) (e : ParseError) → Gives (Err e) read → Composes (reply_with_opt opt read) (Err (parse_refused e))
@@ -16,13 +16,18 @@ copy_refused opt read ShortInput g = (ShortInput, ap (reply_with_opt opt) g)
 copy_refused opt read (Form f) g = (Form f, ap (reply_with_opt opt) g)
 copy_refused opt read NoMemory g = tt
 
-kept_refused : (o : List ℕ) (read : Result OptState ParseError) (e : ParseError) → Gives (Err e) read → BeginsReply (reply_with o read) (Err (parse_refused e))
-kept_refused o read ShortInput g = (ShortInput, ap (reply_with o) g)
-kept_refused o read (Form f) g = (Form f, ap (reply_with o) g)
-kept_refused o read NoMemory g = tt
+-- what is refused isn't begun
+refused_so : (read : Result ReplyState ParseError) (e : ParseError) → Gives (Err e) read → BeginsReply read (Err (parse_refused e))
+refused_so read ShortInput g = (ShortInput, g)
+refused_so read (Form f) g = (Form f, g)
+refused_so read NoMemory g = tt
 
 -- options that are refused are so as a reply
-pub options_refused : (o : List ℕ) (s : OptState) (size : ℕ) (e : ParseError) → opt_of o ≡ Some s → size ≡ s.head.size → Gives (Err e) (kept_opt size SubnetsAndErrors s) → BeginsReply (reply_read o) (Err (parse_refused e))
-options_refused o s size e h i g =
-    let k = subst (λ (n : ℕ). Gives (Err e) (kept_opt n SubnetsAndErrors s)) i g in
-    subst (λ r. BeginsReply r (Err (parse_refused e))) (sym (ap (reply_by o) h)) (kept_refused o (kept_opt s.head.size SubnetsAndErrors s) e k)
+pub options_refused : (o : List ℕ) (s : OptState) (e : ParseError) → opt_of o ≡ Some s → Gives (Err e) (reply_with o (kept_opt s.head.size SubnetsAndErrors s)) → BeginsReply (reply_read o) (Err (parse_refused e))
+options_refused o s e h g = subst (λ r. BeginsReply r (Err (parse_refused e))) (sym (ap (reply_by o) h)) (refused_so (reply_with o (kept_opt s.head.size SubnetsAndErrors s)) e g)
+
+-- so are they as what is kept
+pub kept_refused : (o : List ℕ) (read : Result OptState ParseError) (e : ParseError) → Gives (Err e) read → Gives (Err e) (reply_with o read)
+kept_refused o read ShortInput g = ap (reply_with o) g
+kept_refused o read (Form f) g = ap (reply_with o) g
+kept_refused o read NoMemory g = tt

@@ -14,6 +14,9 @@ use dns_base::Message;
 use dns_service::{OutOfMemory, Polled, ReplyError, Request, ServiceError};
 use std::alloc::Global;
 
+/// What a transport answers.
+type Answered = Polled<Result<Message, SendError>>;
+
 /// A single service over a transport. A request that can't be read is InternalError and isn't sent; a message that is
 /// answered begins the reply, or is FormatError where an option of its OPT record is unreadable; an error of the transport
 /// is SERVFAIL, with an extended error of its text.
@@ -29,17 +32,24 @@ impl<C: SendRequest> ClientTransportToSingleService<C> {
     {
         ClientTransportToSingleService { conn }
     }
+
+    /// What the transport answers.
+    fn answered(&self, alloc: Global, sent: RequestMessage, k: u64) -> Result<Answered, OutOfMemory>
+        ensures { IfOk result (λ p. p ≡ C.answer self.now.conn sent k) }
+    {
+        self.conn.poll_response(alloc, &sent, k)
+    }
 }
 
 impl<C: SendRequest> SingleService for ClientTransportToSingleService<C> {
     ghost answer = { λ s. relayed (C.answer s.conn) };
 
     fn turn(&self, alloc: Global, request: &Request<()>, k: u64) -> Result<Turned, OutOfMemory> {
-        let Some(sent) = readable(alloc, request)? else {
-            return Ok(Polled::Ready(Err(ServiceError::InternalError)));
-        };
-        let answer = self.conn.poll_response(alloc, &sent, k)?;
-        relay(alloc, request.message(), answer)
+        match readable(alloc, request) {
+            Ok(Some(sent)) => relay(alloc, request.message(), self.answered(alloc, sent, k)?),
+            Ok(None) => Ok(Polled::Ready(Err(ServiceError::InternalError))),
+            Err(error) => Err(error),
+        }
     }
 }
 
@@ -56,17 +66,24 @@ impl BoxClientTransportToSingleService {
     {
         BoxClientTransportToSingleService { conn }
     }
+
+    /// What the transport answers.
+    fn answered(&self, alloc: Global, sent: RequestMessage, k: u64) -> Result<Answered, OutOfMemory>
+        ensures { IfOk result (λ p. p ≡ (SendRequest-box self.now.conn).answer self.now.conn.value sent k) }
+    {
+        self.conn.poll_response(alloc, &sent, k)
+    }
 }
 
 impl SingleService for BoxClientTransportToSingleService {
     ghost answer = { λ s. relayed ((SendRequest-box s.conn).answer s.conn.value) };
 
     fn turn(&self, alloc: Global, request: &Request<()>, k: u64) -> Result<Turned, OutOfMemory> {
-        let Some(sent) = readable(alloc, request)? else {
-            return Ok(Polled::Ready(Err(ServiceError::InternalError)));
-        };
-        let answer = self.conn.poll_response(alloc, &sent, k)?;
-        relay(alloc, request.message(), answer)
+        match readable(alloc, request) {
+            Ok(Some(sent)) => relay(alloc, request.message(), self.answered(alloc, sent, k)?),
+            Ok(None) => Ok(Polled::Ready(Err(ServiceError::InternalError))),
+            Err(error) => Err(error),
+        }
     }
 }
 
@@ -82,11 +99,7 @@ fn readable(alloc: Global, request: &Request<()>) -> Result<Option<RequestMessag
 }
 
 /// What a turn answers where a transport gave this answer to the query.
-fn relay(
-    alloc: Global,
-    query: &Message,
-    answer: Polled<Result<Message, SendError>>,
-) -> Result<Turned, OutOfMemory>
+fn relay(alloc: Global, query: &Message, answer: Answered) -> Result<Turned, OutOfMemory>
     ensures { IfOk result (λ p. p ≡ relay_answer query.now answer) }
 {
     match answer {

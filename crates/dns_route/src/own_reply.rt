@@ -1,7 +1,7 @@
 //! Replies that a router and the adapters give of their own.
 
-ghost use Rattle.std.specs.Prelude.{◌≡◌, ◌≤◌, ◌+◌, IfOk, OnOk, length};
-ghost use Rattle.dns_opt.specs.Extended.{extended_octets};
+ghost use Rattle.std.specs.Prelude.{◌≡◌, ◌≤◌, ◌+◌, IfOk, OnOk, Some, length};
+ghost use Rattle.dns_opt.specs.Extended.{extended, extended_octets};
 ghost use Rattle.dns_route.specs.OwnReplies.{error_state, explained, no_upstream};
 ghost use Rattle.dns_route.specs.ReplyMessage.{begun, with_reply_option};
 
@@ -34,12 +34,21 @@ pub(crate) fn explained(
     ensures { IfOk result (λ r. r ≡ explained query.now text.now) }
 {
     let mut reply = error_begun(alloc, query, OptRcode::SERVFAIL)?;
+    push_text(&mut reply, alloc, text)?;
+    Ok(reply)
+}
+
+/// Adds an extended error of code 0 and a text that has room.
+fn push_text(reply: &mut ReplyMessage, alloc: Global, text: &str) -> Result<(), OutOfMemory>
+    requires short { length text.now ≤ 65000 }
+    requires room { length (begun reply.old.opt).options + 4 + length (extended_octets (extended 0 (Some text.now))) ≤ 65535 }
+    ensures { OnOk result (reply.new ≡ with_reply_option 15 (extended_octets (extended 0 (Some text.now))) reply.old) }
+{
     let why = ExtendedErrorRef::new(ExtendedErrorCode::OTHER, Some(text.as_bytes()));
     let Ok(why) = why else {
         unreachable!();
     };
-    push_why(&mut reply, alloc, &why)?;
-    Ok(reply)
+    push_why(reply, alloc, &why)
 }
 
 /// Adds an extended error that has room.

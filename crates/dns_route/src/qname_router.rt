@@ -1,12 +1,15 @@
 //! A router of requests by the name of their question.
 
-ghost use Rattle.std.specs.Prelude.{◌≡◌, ◌++◌, ◌∷◌, [], IfOk, OnOk, OnErr};
+ghost use Rattle.std.specs.Prelude.{◌≡◌, ◌++◌, ◌∷◌, [], IfOk, Ok, OnOk, OnErr};
 ghost use Rattle.std.specs.Option.{option_copied};
-ghost use Rattle.dns_route.specs.Routes.{chosen, routed};
+ghost use Rattle.dns_service.specs.declared.service.Polled.TheVariants.{Ready};
+ghost use Rattle.dns_route.specs.OwnReplies.{error_state, explained, no_upstream};
+ghost use Rattle.dns_route.specs.Routes.{chosen, routed, served_by};
 
 use crate::own_reply::{error_begun, no_service};
 use crate::routes::Routes;
 use crate::single_service::{SingleService, Turned};
+use dns_base::Message;
 use dns_name::{Name, OptRcode, ParsedName};
 use dns_service::{OutOfMemory, Polled, Request};
 use std::alloc::Global;
@@ -52,6 +55,22 @@ impl<S: SingleService> QnameRouter<S> {
     {
         self.routes.for_name(alloc, name)
     }
+
+    /// Turn k of a request whose question has a name.
+    fn turn_for(
+        &self,
+        alloc: Global,
+        request: &Request<()>,
+        name: &ParsedName<'_>,
+        k: u64,
+    ) -> Result<Turned, OutOfMemory>
+        ensures { IfOk result (λ p. p ≡ served_by S.answer request.now k (chosen name.now self.now)) }
+    {
+        match self.service_for(alloc, name)? {
+            Some(service) => service.turn(alloc, request, k),
+            None => unserved(alloc, request.message()),
+        }
+    }
 }
 
 impl<S: SingleService> SingleService for QnameRouter<S> {
@@ -60,16 +79,25 @@ impl<S: SingleService> SingleService for QnameRouter<S> {
     /// The turn of the service that is chosen. Without a readable question the reply is FORMERR; without a service for
     /// it SERVFAIL, with an extended error that says so.
     fn turn(&self, alloc: Global, request: &Request<()>, k: u64) -> Result<Turned, OutOfMemory> {
-        let Some(question) = request.message().first_question() else {
-            let reply = error_begun(alloc, request.message(), OptRcode::FORMERR)?;
-            return Ok(Polled::Ready(Ok(reply)));
-        };
-        match self.service_for(alloc, &question.qname())? {
-            Some(service) => service.turn(alloc, request, k),
-            None => {
-                let reply = no_service(alloc, request.message())?;
-                Ok(Polled::Ready(Ok(reply)))
-            }
+        match request.message().first_question() {
+            Some(question) => self.turn_for(alloc, request, &question.qname(), k),
+            None => unreadable(alloc, request.message()),
         }
     }
+}
+
+/// FORMERR, since a query has no readable question.
+fn unreadable(alloc: Global, query: &Message) -> Result<Turned, OutOfMemory>
+    ensures { IfOk result (λ p. p ≡ Ready (Ok (error_state query.now 1))) }
+{
+    let reply = error_begun(alloc, query, OptRcode::FORMERR)?;
+    Ok(Polled::Ready(Ok(reply)))
+}
+
+/// SERVFAIL, since there is no service for a query's name.
+fn unserved(alloc: Global, query: &Message) -> Result<Turned, OutOfMemory>
+    ensures { IfOk result (λ p. p ≡ Ready (Ok (explained query.now no_upstream))) }
+{
+    let reply = no_service(alloc, query)?;
+    Ok(Polled::Ready(Ok(reply)))
 }

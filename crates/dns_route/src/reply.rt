@@ -1,16 +1,21 @@
 //! Replies that are composed of other messages.
 
-ghost use Rattle.std.specs.Prelude.{◌≡◌, ℕ, ⊤, IfOk, List, Result};
+ghost use Rattle.std.specs.Prelude.{◌≡◌, ℕ, ⊤, IfOk, List, None, Ok, Result};
+ghost use Rattle.std.specs.Option.{option_copied};
 ghost use Rattle.dns_name.specs.declared.error.ParseError.{ParseError};
 ghost use Rattle.dns_name.specs.declared.opt_error.BuildDataError.{BuildDataError};
 ghost use Rattle.dns_base.specs.Msg.{Msg};
 ghost use Rattle.dns_route.specs.OwnReplies.{kept_whole};
-ghost use Rattle.dns_route.specs.ReplyMessage.{Adds, BeginsReply, Composes, reply_message, reply_read};
+ghost use Rattle.dns_base.specs.Standing.{Gives};
+ghost use Rattle.dns_service.specs.LastOpt.{and_opt};
+ghost use Rattle.dns_route.specs.declared.kept.Keeps.TheVariants.{SubnetsAndErrors};
+ghost use Rattle.dns_route.specs.Kept.{kept_opt};
+ghost use Rattle.dns_route.specs.ReplyMessage.{Adds, BeginsReply, Composes, reply_message, reply_read, reply_with};
 
 use crate::kept::{Keeps, kept_opt};
-use dns_base::{AdditionalBuilder, Message, MessageRef};
+use dns_base::{AdditionalBuilder, Message, MessageRef, ParseError};
 use dns_name::{BuildDataError, ComposeOptData, OutOfMemory};
-use dns_opt::{BuildOpt, MessageOpt, OptRecord};
+use dns_opt::{BuildOpt, MessageOpt, OptRecord, OptRecordRef};
 use dns_service::{CopiedMessage, ReplyError};
 use std::alloc::Global;
 use std::marker::Model;
@@ -67,17 +72,10 @@ impl ComposeReply for ReplyMessage {
 
     /// Keeps the octets, and of a readable OPT record the size, the DO bit, the client subnets and the extended errors.
     fn from_message(alloc: Global, message: &MessageRef<'_>) -> Result<Self, ReplyError> {
-        let opt = match message.opt() {
-            Some(found) => Some(kept_opt(
-                alloc,
-                found.udp_payload_size(),
-                Keeps::SubnetsAndErrors,
-                &found,
-            )?),
-            None => None,
-        };
-        let message = owned(alloc, message)?;
-        Ok(ReplyMessage { message, opt })
+        match message.opt() {
+            Some(found) => Ok(kept_reply(alloc, message, &found)?),
+            None => Ok(reply_of(alloc, message, None)?),
+        }
     }
 
     /// An OPT record whose numbers are all 0 is begun where there was none. Refused LongOptData exactly where its options
@@ -85,12 +83,7 @@ impl ComposeReply for ReplyMessage {
     fn add_opt<D: ComposeOptData>(&mut self, alloc: Global, opt: &D) -> Result<(), BuildDataError> {
         match &mut self.opt {
             Some(kept) => kept.push(alloc, opt),
-            None => {
-                let mut begun = OptRecord::default(alloc);
-                begun.push(alloc, opt)?;
-                self.opt = Some(begun);
-                Ok(())
-            }
+            None => self.begin_opt(alloc, opt),
         }
     }
 
@@ -101,12 +94,22 @@ impl ComposeReply for ReplyMessage {
         alloc: Global,
     ) -> Result<AdditionalBuilder, ReplyError> {
         let copied = CopiedMessage::read(alloc, &self.message.for_ref())?;
-        let built = copied.build(alloc, self.opt.as_ref())?;
-        Ok(built)
+        composed(alloc, copied, self.opt.as_ref())
     }
 }
 
 impl ReplyMessage {
+    /// Adds an option to an OPT record that is begun, all of whose numbers are 0.
+    fn begin_opt<D: ComposeOptData>(&mut self, alloc: Global, opt: &D) -> Result<(), BuildDataError>
+        requires { self.old.opt ≡ None }
+        ensures { Adds (D.code_of opt.now) (D.octets opt.now) self.old self.new result }
+    {
+        let mut begun = OptRecord::default(alloc);
+        begun.push(alloc, opt)?;
+        self.opt = Some(begun);
+        Ok(())
+    }
+
     /// A reply that is a message of our own. Its OPT record is kept whole; its octets are taken over, and only its additional
     /// records are read.
     pub(crate) fn from_builder(
@@ -122,6 +125,48 @@ impl ReplyMessage {
         let message = built.into_message();
         Ok(ReplyMessage { message, opt })
     }
+}
+
+/// A copy of a message with this OPT record as its last.
+fn composed(
+    alloc: Global,
+    copied: CopiedMessage,
+    opt: Option<&OptRecord>,
+) -> Result<AdditionalBuilder, ReplyError>
+    ensures { Composes (Ok (and_opt copied (option_copied opt.entry))) result }
+{
+    let built = copied.build(alloc, opt)?;
+    Ok(built)
+}
+
+/// The reply that a message with an OPT record begins.
+fn kept_reply(
+    alloc: Global,
+    message: &MessageRef<'_>,
+    found: &OptRecordRef<'_>,
+) -> Result<ReplyMessage, ParseError>
+    ensures { Gives result (reply_with message.now (kept_opt found.now.head.size SubnetsAndErrors found.now)) }
+{
+    let opt = kept_opt(
+        alloc,
+        found.udp_payload_size(),
+        Keeps::SubnetsAndErrors,
+        found,
+    )?;
+    let reply = reply_of(alloc, message, Some(opt))?;
+    Ok(reply)
+}
+
+/// The same message, owned, as a reply with an OPT record or without.
+fn reply_of(
+    alloc: Global,
+    message: &MessageRef<'_>,
+    opt: Option<OptRecord>,
+) -> Result<ReplyMessage, OutOfMemory>
+    ensures { IfOk result (λ r. r ≡ record { octets = message.now; opt = opt }) }
+{
+    let message = owned(alloc, message)?;
+    Ok(ReplyMessage { message, opt })
 }
 
 /// The same message, owned.

@@ -1,13 +1,15 @@
 //! Requests that are asked again elsewhere.
 
-ghost use Rattle.std.specs.Prelude.{◌≡◌, ◌≤◌, IfOk, length};
+ghost use Rattle.std.specs.Prelude.{◌≡◌, ◌≤◌, [], IfOk, false, length};
 ghost use Rattle.std.specs.Option.{option_copied};
-ghost use Rattle.dns_route.specs.RequestMessage.{AddsTo, ReadsRequest, Sends, request_of, request_sent, sent_opt};
+ghost use Rattle.dns_route.specs.declared.kept.Keeps.TheVariants.{Subnets};
+ghost use Rattle.dns_route.specs.Kept.{kept_opt};
+ghost use Rattle.dns_route.specs.RequestMessage.{AddsTo, ReadsRequest, Sends, request_of, request_opt, request_sent, sent_opt};
 
 use crate::kept::{Keeps, kept_opt, plain};
 use dns_base::{Message, ParseError, PushError};
 use dns_name::{BuildDataError, ComposeOptData, OutOfMemory};
-use dns_opt::{MessageOpt, OptRecord};
+use dns_opt::{MessageOpt, OptRecord, OptRecordRef};
 use dns_service::{CopiedMessage, Request};
 use std::alloc::Global;
 use std::marker::Model;
@@ -66,11 +68,30 @@ impl RequestMessage {
     {
         let source = request.message();
         let message = CopiedMessage::read(alloc, &source.for_ref())?;
-        let opt = match source.opt() {
-            Some(found) => kept_opt(alloc, SIZE, Keeps::Subnets, &found)?,
-            None => plain(OptRecord::default(alloc), SIZE, false),
-        };
+        match source.opt() {
+            Some(found) => Self::kept(alloc, message, &found),
+            None => Ok(Self::without_opt(alloc, message)),
+        }
+    }
+
+    /// Keeps the DO bit and the client subnets of an OPT record.
+    fn kept(
+        alloc: Global,
+        message: CopiedMessage,
+        found: &OptRecordRef<'_>,
+    ) -> Result<RequestMessage, Error>
+        ensures { ReadsRequest (request_opt message (kept_opt 1232 Subnets found.now)) result }
+    {
+        let opt = kept_opt(alloc, SIZE, Keeps::Subnets, found)?;
         Ok(RequestMessage { message, opt })
+    }
+
+    /// Nothing is kept of an OPT record where there is none.
+    fn without_opt(alloc: Global, message: CopiedMessage) -> RequestMessage
+        ensures { result ≡ record { message = message; dnssec_ok = false; options = [] } }
+    {
+        let opt = plain(OptRecord::default(alloc), SIZE, false);
+        RequestMessage { message, opt }
     }
 
     /// Says whether DNSSEC records are wanted.

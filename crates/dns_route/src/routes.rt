@@ -2,10 +2,10 @@
 
 ghost use Rattle.std.specs.Prelude.{◌≡◌, ◌++◌, ◌∷◌, ◌-◌, ◌≤◌, [], length, drop, IfOk, OnOk, OnErr, option_map};
 ghost use Rattle.std.specs.Option.{option_copied};
-ghost use Rattle.dns_route.specs.Places.{last_under};
+ghost use Rattle.dns_route.specs.Places.{last_under, name_key};
 ghost use Rattle.dns_route.specs.Routes.{chosen, most_labels};
 
-use crate::places::{Key, folded_octets, put_route};
+use crate::places::{Key, folded_octets, key_of, put_route};
 use dns_name::{Labels, Name, OutOfMemory, ParsedName};
 use std::alloc::Global;
 use std::collections::HashMap;
@@ -61,13 +61,22 @@ impl<S: Drop> Routes<S> {
         ensures ok { OnOk result (self.new ≡ self.old ++ (name, service) ∷ []) }
         ensures err { OnErr result (self.new ≡ self.old) }
     {
+        let key = key_of(alloc, &name)?;
+        self.put(key, name, service)
+    }
+
+    /// The same, where these are the octets by which the name is found.
+    fn put(&mut self, key: Key, name: Name, service: S) -> Result<(), OutOfMemory>
+        requires { key.items ≡ name_key name }
+        ensures ok { OnOk result (self.new ≡ self.old ++ (name, service) ∷ []) }
+        ensures err { OnErr result (self.new ≡ self.old) }
+    {
         let labels = name.label_count() - 1;
-        let octets = folded_octets(alloc, name.labels(), name.compose_len() as usize)?;
         put_route(
             &mut self.names,
             &mut self.services,
             &mut self.places,
-            Key::from_vec(octets),
+            key,
             (name, service),
         )?;
         self.most = self.most.max(labels);
@@ -79,9 +88,16 @@ impl<S: Drop> Routes<S> {
         ensures { IfOk result (λ s. option_copied s ≡ option_map (λ r. r.1) (last_under octets.now self.now)) }
     {
         let key = Key::from_slice(alloc, octets)?;
-        match self.places.get(&key) {
-            Some(place) => Ok(self.services.get(*place)),
-            None => Ok(None),
+        Ok(self.under(&key))
+    }
+
+    /// The service that is kept under octets.
+    fn under(&self, key: &Key) -> Option<&S>
+        ensures { option_copied result ≡ option_map (λ r. r.1) (last_under key.now.items self.now) }
+    {
+        match self.places.get(key) {
+            Some(place) => self.services.get(*place),
+            None => None,
         }
     }
 
@@ -97,7 +113,25 @@ impl<S: Drop> Routes<S> {
         ensures { IfOk result (λ s. option_copied s ≡ chosen name.now self.now) }
     {
         let octets = folded_octets(alloc, behind(name.labels(), skipped), 255)?;
-        let mut left = behind(name.labels(), skipped);
+        let left = behind(name.labels(), skipped);
+        self.deepest_in(alloc, name, skipped, left, &octets)
+    }
+
+    /// The same, where this is left of the name without so many first labels, and these are its octets.
+    fn deepest_in(
+        &self,
+        alloc: Global,
+        name: &ParsedName<'_>,
+        skipped: usize,
+        rest: Labels<'_>,
+        octets: &[u8],
+    ) -> Result<Option<&S>, OutOfMemory>
+        requires skipped { skipped ≤ length name.now - most_labels self.now }
+        requires rest { rest ≡ drop skipped name.now }
+        requires octets { octets.now ≡ name_key (drop skipped name.now) }
+        ensures { IfOk result (λ s. option_copied s ≡ chosen name.now self.now) }
+    {
+        let mut left = rest;
         let mut at = 0;
         'suffixes: loop {
             if let Some(service) = self.named(alloc, &octets[at..])? {

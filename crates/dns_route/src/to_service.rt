@@ -1,15 +1,18 @@
 //! A service that is made of a single one.
 
-ghost use Rattle.std.specs.Prelude.{◌≡◌, IfOk};
+ghost use Rattle.std.specs.Prelude.{◌≡◌, Err, IfOk};
 ghost use Rattle.std.specs.Arc.{arc_value};
+ghost use Rattle.dns_service.specs.Once.{once};
+ghost use Rattle.dns_service.specs.declared.service.ServiceError.TheVariants.{InternalError};
 ghost use Rattle.dns_service.specs.ServiceFn.{hint_at_entry};
-ghost use Rattle.dns_route.specs.Turns.{turn_item, turned_over, turns_answer};
+ghost use Rattle.dns_route.specs.ReplyMessage.{reply_message};
+ghost use Rattle.dns_route.specs.Turns.{built_item, turn_item, turned_over, turns_answer};
 
 use crate::reply::{ComposeReply, ReplyMessage};
 use crate::single_service::SingleService;
 use dns_service::{
-    CallResult, Once, OutOfMemory, Polled, ReplyError, ReplyFuture, Request, Service, ServiceError,
-    ServiceResult,
+    CallResult, Once, OutOfMemory, Polled, ReplyError, ReplyFuture, ReplyStream, Request, Service,
+    ServiceError, ServiceResult,
 };
 use std::alloc::Global;
 use std::sync::Arc;
@@ -69,17 +72,36 @@ impl<S: SingleService> ReplyFuture for SingleServiceFuture<S> {
     ghost answer = { λ f. turns_answer (S.answer (arc_value f.service) f.request) f.turn };
 
     fn poll(&mut self, alloc: Global) -> Result<Polled<Once>, OutOfMemory> {
-        match self.service.turn(alloc, &self.request, self.turn)? {
-            Polled::Ready(turned) => Ok(Polled::Ready(Once::new(item(alloc, turned)?))),
-            Polled::Pending => match self.turn.checked_add(1) {
+        match self.service.turn(alloc, &self.request, self.turn) {
+            Ok(Polled::Ready(turned)) => match given(alloc, turned) {
+                Ok(stream) => Ok(Polled::Ready(stream)),
+                Err(OutOfMemory) => Err(OutOfMemory),
+            },
+            Ok(Polled::Pending) => match self.turn.checked_add(1) {
                 Some(next) => {
                     self.turn = next;
                     Ok(Polled::Pending)
                 }
-                None => Ok(Polled::Ready(Once::new(Err(ServiceError::InternalError)))),
+                None => Ok(Polled::Ready(failed())),
             },
+            Err(OutOfMemory) => Err(OutOfMemory),
         }
     }
+}
+
+/// The stream of InternalError.
+fn failed() -> Once
+    ensures { ⟦<Once as ReplyStream>⟧.answer result ≡ once (Err InternalError) }
+{
+    Once::new(Err(ServiceError::InternalError))
+}
+
+/// The stream of the item that a turn's reply or error becomes.
+fn given(alloc: Global, turned: Result<ReplyMessage, ServiceError>) -> Result<Once, OutOfMemory>
+    ensures { IfOk result (λ s. ⟦<Once as ReplyStream>⟧.answer s ≡ once (turn_item turned)) }
+{
+    let item = item(alloc, turned)?;
+    Ok(Once::new(item))
 }
 
 /// The item that a turn's reply or error becomes.
@@ -89,9 +111,16 @@ fn item(
 ) -> Result<ServiceResult, OutOfMemory>
     ensures { IfOk result (λ i. i ≡ turn_item turned) }
 {
-    let Ok(reply) = turned else {
-        return Ok(Err(ServiceError::InternalError));
-    };
+    match turned {
+        Ok(reply) => built_item(alloc, &reply),
+        Err(_) => Ok(Err(ServiceError::InternalError)),
+    }
+}
+
+/// The item that a reply becomes.
+fn built_item(alloc: Global, reply: &ReplyMessage) -> Result<ServiceResult, OutOfMemory>
+    ensures { IfOk result (λ i. i ≡ built_item (reply_message reply.now)) }
+{
     match reply.additional_builder_stream_target(alloc) {
         Ok(built) => Ok(Ok(CallResult::new(built))),
         Err(ReplyError::Service(_)) => Ok(Err(ServiceError::InternalError)),

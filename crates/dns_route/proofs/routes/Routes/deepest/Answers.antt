@@ -1,55 +1,16 @@
-use Rattle.std.proofs.Common.{◌≡◌, ◌+◌, length, drop, ap, sym, ◌∙◌, subst, arith}
-use Rattle.std.specs.Option.{option_copied}
+use Rattle.std.proofs.Common.{◌≡◌, drop, ap, ◌∙◌}
 use Rattle.dns_route.specs.Places.{name_key}
-use Rattle.dns_route.proofs.PairLaws.{labels_behind, tail_behind, under_behind}
-use Rattle.dns_route.proofs.RouteLaws.{AllUnder, IsTail, found, missed, none_chosen}
-use Rattle.dns_route.proofs.SuffixLaws.{in_octets, next_octets, next_tail, rest_octets}
+use Rattle.dns_route.proofs.PairLaws.{labels_behind}
 use Rattle.dns_route.proofs.routes.Routes.deepest.Goals as goal
 
 pub folded_octets-requires : goal.folded_octets-requires
 folded_octets-requires g c =
     labels_behind c.args.name.now c.behind.result c.args.skipped (c.behind.ensures ∙ ap (drop c.args.skipped) c.labels.ensures.value) c.labels.ensures.named.labels
 
-pub suffixes-init : goal.suffixes-init
-suffixes-init g c =
-    let q = c.args.name.now in
-    let k = c.args.skipped in
-    let d : c.behind.result ≡ drop k q = c.behind.ensures ∙ ap (drop k) c.labels.ensures.value in
-    let e : c.behind-left.result ≡ drop k q = c.behind-left.ensures ∙ ap (drop k) c.labels-2.ensures.value in
-    record {
-      tail = tail_behind q c.behind-left.result k e (omega (arith, c.requires));
-      octets = c.in_ok-octets.ensures ∙ ap name_key (d ∙ sym e);
-      under = under_behind q c.behind-left.result k c.args.self.now e c.requires;
-    }
+pub deepest_in-requires-clause-octets : goal.deepest_in-requires-clause-octets
+deepest_in-requires-clause-octets g c =
+    let d : c.behind.result ≡ drop c.args.skipped c.args.name.now = c.behind.ensures ∙ ap (drop c.args.skipped) c.labels.ensures.value in
+    c.deref.ensures.value ∙ (c.in_ok-octets.ensures ∙ ap name_key d)
 
-pub slice_bounds-named-count : goal.slice_bounds-named-count
-slice_bounds-named-count g c =
-    omega (arith, in_octets c.in_ok-octets.octets.items c.suffixes.at c.suffixes.left c.suffixes.invariant.octets, ap length c.deref.ensures.value)
-
-pub slice_bounds-named-start : goal.slice_bounds-named-start
-slice_bounds-named-start g c =
-    omega (arith, in_octets c.in_ok-octets.octets.items c.suffixes.at c.suffixes.left c.suffixes.invariant.octets, ap length c.deref.ensures.value)
-
-pub returns-in-Some : goal.returns-in-Some
-returns-in-Some g c =
-    found c.args.name.now c.suffixes.left c.suffixes.invariant.tail c.args.self.now _ c.in-Some.service.now c.suffixes.invariant.under (rest_octets c.in_ok-octets.octets.items c.deref.result.now c.suffixes.at c.suffixes.left c.deref.ensures.value c.suffixes.invariant.octets) (ap option_copied (sym c.in-Some.is) ∙ c.in_ok-service.ensures)
-
-pub returns-in_default-next : goal.returns-in_default-next
-returns-in_default-next g c =
-    let q = c.args.name.now in
-    let rs = c.args.self.now in
-    let u = missed q c.suffixes.left c.suffixes.invariant.tail rs _ c.suffixes.invariant.under (rest_octets c.in_ok-octets.octets.items c.deref.result.now c.suffixes.at c.suffixes.left c.deref.ensures.value c.suffixes.invariant.octets) (ap option_copied (sym c.in_default.is) ∙ c.in_ok-service.ensures) in
-    none_chosen q rs (subst (λ s. AllUnder (length s) q rs) c.in_default-next.ensures.steps.0 u)
-
-pub suffixes-preserved : goal.suffixes-preserved
-suffixes-preserved g c =
-    let q = c.args.name.now in
-    let rs = c.args.self.now in
-    let e = c.in-Some-next.ensures.steps in
-    let n : length c.suffixes.left ≡ length c.next.new.self + 1 = omega (arith, ap length e) in
-    let u = missed q c.suffixes.left c.suffixes.invariant.tail rs _ c.suffixes.invariant.under (rest_octets c.in_ok-octets.octets.items c.deref.result.now c.suffixes.at c.suffixes.left c.deref.ensures.value c.suffixes.invariant.octets) (ap option_copied (sym c.in_default.is) ∙ c.in_ok-service.ensures) in
-    record {
-      tail = next_tail q c.suffixes.left c.next.new.self c.in-Some-next.label.now e c.suffixes.invariant.tail;
-      octets = next_octets c.in_ok-octets.octets.items c.suffixes.at c.suffixes.left c.next.new.self c.in-Some-next.label.now e c.suffixes.invariant.octets;
-      under = subst (λ k. AllUnder k q rs) n u;
-    }
+pub deepest_in-requires-clause-rest : goal.deepest_in-requires-clause-rest
+deepest_in-requires-clause-rest g c = c.behind-left.ensures ∙ ap (drop c.args.skipped) c.labels-2.ensures.value

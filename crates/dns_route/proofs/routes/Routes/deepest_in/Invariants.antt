@@ -1,12 +1,12 @@
 use Rattle.std.proofs.Common.{◌≡◌, ◌+◌, length, drop}
 use Rattle.dns_route.specs.Places.{name_key}
 use Rattle.dns_route.proofs.RouteLaws.{AllUnder, IsTail}
-use Rattle.dns_route.proofs.routes.Routes.deepest.Given as goal
+use Rattle.dns_route.proofs.routes.Routes.deepest_in.Given as goal
 
 abbrev pub invariant-suffixes : goal.invariant-suffixes
 invariant-suffixes g l = record {
   tail : IsTail l.name l.left;
-  octets : drop l.at l.octets.items ≡ name_key l.left;
+  octets : drop l.at l.octets ≡ name_key l.left;
   under : AllUnder (length l.left + 1) l.name l.self;
 }
 

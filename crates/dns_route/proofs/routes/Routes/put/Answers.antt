@@ -1,7 +1,7 @@
 use Rattle.std.proofs.Common.{◌≡◌, ◌-◌, ◌++◌, ◌∷◌, [], length, ap, ◌∙◌, arith}
 use Rattle.std.specs.Prelude.{max}
 use Rattle.dns_route.proofs.PairLaws.{routes_grown, zip_grown}
-use Rattle.dns_route.proofs.routes.Routes.add.Goals as goal
+use Rattle.dns_route.proofs.routes.Routes.put.Goals as goal
 
 pub invariant_of-self-2 : goal.invariant_of-self-2
 invariant_of-self-2 g c =
