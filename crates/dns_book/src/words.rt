@@ -1,17 +1,39 @@
 //! A book's state as the words of the cell. Nothing else knows how they are packed.
 ghost use Rattle.std.specs.Prelude.{◌≡◌};
 ghost use Rattle.dns_admission.specs.Machine.{state_after};
-ghost use Rattle.dns_book.specs.Words.{state_of};
+ghost use Rattle.dns_book.specs.Words.{state_of, budget_of};
+ghost use Rattle.dns_service.specs.Config.{limited_budget, IsBudget};
 
 use dns_admission::{BookState, Call, Look};
 use dns_service::{ConnectionConfig, DgramConfig, StreamConfig};
 
 /// How many words there are.
-pub const COUNT: usize = 8;
+pub const COUNT: usize = 10;
 
 /// Slots taken; version; flags and response size; datagram write timeout; idle timeout; stream write
-/// timeout; bound of a connection's queue; limit of connections.
+/// timeout; bound of a connection's queue; limit of connections; its budget, 0 for none; the budget's window.
 pub type Words = [u64; COUNT];
+
+/// The word for a budget.
+fn budget_word(budget: Option<u32>) -> u64
+    requires { IsBudget budget }
+    ensures { budget_of result ≡ budget }
+{
+    match budget {
+        Some(count) => u64::from(count),
+        None => 0,
+    }
+}
+
+/// The budget that a word stands for: none, or a number of responses.
+fn budget_in(word: u64) -> Option<u32>
+    ensures { limited_budget result ≡ budget_of word }
+{
+    if word == 0 {
+        return None;
+    }
+    Some(word.min(1_000_000) as u32)
+}
 
 /// Of the flags: bit 0 says closed, bit 1 that connections at the limit are accepted, bit 2 that there
 /// is a response size, which begins at bit 3.
@@ -40,6 +62,8 @@ pub fn words_of(look: &Look) -> Words
         connection.response_write_timeout(),
         connection.max_queued_responses() as u64,
         stream.max_concurrent_connections() as u64,
+        budget_word(connection.response_budget()),
+        connection.budget_window(),
     ]
 }
 
@@ -60,6 +84,8 @@ pub fn look_of(words: &Words) -> Look
     connection.set_idle_timeout(words[4]);
     connection.set_response_write_timeout(words[5]);
     connection.set_max_queued_responses(words[6] as usize);
+    connection.set_response_budget(budget_in(words[8]));
+    connection.set_budget_window(words[9]);
     let mut stream = StreamConfig::new();
     stream.set_accept_connections_at_max(flags / 2 % 2 == 1);
     stream.set_max_concurrent_connections(words[7] as usize);

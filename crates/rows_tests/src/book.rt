@@ -38,6 +38,33 @@ fn the_last_version(rt: HostRuntime) -> Result<(), OutOfMemory> {
     Ok(())
 }
 
+/// Whether a book shows the configuration that it is given, where each connection has this budget.
+fn shows_budget<R: Wait>(
+    rt: &R,
+    alloc: Global,
+    count: Option<u32>,
+    window: u64,
+) -> Result<bool, OutOfMemory> {
+    let (dgram, stream) = with_limit(2);
+    let mut connection = stream.connection_config();
+    connection.set_response_budget(count);
+    connection.set_budget_window(window);
+    let mut next = stream;
+    next.set_connection_config(connection);
+    let (book, mut seat) = Book::new(alloc, BookState::new(dgram, stream))?;
+    let version = book.reconfigure(rt, &mut seat, dgram, next);
+    Ok(version == Ok(1) && book.look(rt, &mut seat).stream == next)
+}
+
+/// At both ends of a budget and of its window, and without a budget.
+#[test]
+fn budgets_are_shown(rt: HostRuntime) -> Result<(), OutOfMemory> {
+    assert!(&rt; shows_budget(&rt, rt.alloc(), Some(1), 3_600_000)?);
+    assert!(&rt; shows_budget(&rt, rt.alloc(), Some(1_000_000), 1)?);
+    assert!(&rt; shows_budget(&rt, rt.alloc(), None, 7)?);
+    Ok(())
+}
+
 /// With a limit of one the second admit finds no slot.
 #[test]
 fn one_slot(rt: HostRuntime) -> Result<(), OutOfMemory> {
