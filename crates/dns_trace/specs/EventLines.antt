@@ -1,16 +1,20 @@
--- The lines of events, by their words: the first is the line's name, and the others are its values in order. The second to
+-- The lines of events and of looks, by their words: the first is the line's name, and the others are its values in order. The second to
 -- the fourth are the moment, the seconds and the client of each.
-use Rattle.std.specs.Prelude.{ℕ, ◌==◌, List, length, Option, Some, None, Result, Ok, Err, codes, if◌then◌else◌}
+use Rattle.std.specs.Prelude.{ℕ, ◌==◌, ◌||◌, List, length, Option, Some, None, Result, Ok, Err, codes, if◌then◌else◌}
 use Rattle.std.specs.Str.{bytes_eq}
 use Rattle.dns_name.specs.declared.address.SocketAddr.{SocketAddr}
 use Rattle.dns_service.specs.declared.event.Event.{Event}
 use Rattle.dns_service.specs.declared.event.EventKind.{EventKind}
 use Rattle.dns_service.specs.declared.event.EventKind.TheVariants.{Datagram, Turn, Offer, Piece, End, Fault, Close, Write, Tick, Release, Reconfigure, Shutdown}
+use Rattle.dns_service.specs.declared.event.Step.{Step}
+use Rattle.dns_service.specs.declared.event.Step.TheVariants.{Own, Look}
 use Rattle.dns_trace.specs.Words.{word_at}
 use Rattle.dns_trace.specs.Reading.{◌>>=◌, unless}
+use Rattle.dns_trace.specs.BudgetLine.{budget_values, budgeted}
 use Rattle.dns_trace.specs.DgramLine.{dgram_values}
 use Rattle.dns_trace.specs.StreamLine.{stream_values}
 use Rattle.dns_trace.specs.Values.{num_of, port_of, hex_octets_of, addr_of}
+use Rattle.dns_trace.specs.declared.budget_line.Budget.{Budget}
 use Rattle.dns_trace.specs.declared.reason.Reason.{Reason}
 use Rattle.dns_trace.specs.declared.reason.Reason.TheVariants.{Count, Word}
 
@@ -83,13 +87,18 @@ wide_event_of ws kind = do
   moment ← moment_of ws
   Ok (record { at = moment.0; secs = moment.1; client = 0; kind = kind })
 
--- reconfigure AT SECS SIZE WRITE IDLE WRITE QUEUE LIMIT yes|no
+-- BUDGET WINDOW, the two last words of twelve, which ten words lack
+unfoldable pub last_budget : List (List ℕ) → Result (Option Budget) Reason
+last_budget ws = if length ws == 12 then (budget_values ws 10 >>= λ b. Ok (Some b)) else Ok None
+
+-- reconfigure AT SECS SIZE WRITE IDLE WRITE QUEUE LIMIT yes|no, and then BUDGET WINDOW or nothing
 unfoldable pub reconfigure_line : List (List ℕ) → Result Event Reason
 reconfigure_line ws = do
-  _ ← unless Count (length ws == 10)
+  _ ← unless Count ((length ws == 10) || (length ws == 12))
   dgram ← dgram_values ws 3
   stream ← stream_values ws 5
-  wide_event_of ws (Reconfigure dgram stream)
+  budget ← last_budget ws
+  wide_event_of ws (Reconfigure dgram (budgeted budget stream))
 
 -- shutdown AT SECS
 unfoldable pub shutdown_line : List (List ℕ) → Result Event Reason
@@ -135,3 +144,15 @@ event_line ws =
     else if bytes_eq (word_at ws 0) (codes "turn") then turn_line ws
     else if bytes_eq (word_at ws 0) (codes "offer") then offer_line ws
     else connection_line ws
+
+-- look AT SECS CLIENT
+unfoldable pub look_line : List (List ℕ) → Result Step Reason
+look_line ws = do
+  _ ← unless Count (length ws == 4)
+  moment ← moment_of ws
+  client ← num_of (word_at ws 3)
+  Ok (Look moment.0 moment.1 client)
+
+-- the line of a look, or of an event
+unfoldable pub step_line : List (List ℕ) → Result Step Reason
+step_line ws = if bytes_eq (word_at ws 0) (codes "look") then look_line ws else (event_line ws >>= λ e. Ok (Own e))

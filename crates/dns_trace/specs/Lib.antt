@@ -1,3 +1,4 @@
+pub mod BudgetLine
 pub mod DgramLine
 pub mod EventLines
 pub mod Lines

@@ -1,6 +1,6 @@
--- The line that configures the stream server: each number is limited to its range.
+-- The line that configures the stream server: each number is limited to its range. Of a budget it says nothing.
 use Rattle.std.specs.Prelude.{ℕ, ◌+◌, Bool, ◌==◌, List, length, Result, Ok}
-use Rattle.dns_service.specs.Config.{Stream, in_range}
+use Rattle.dns_service.specs.Config.{Stream, in_range, default_connection}
 use Rattle.dns_trace.specs.Words.{word_at}
 use Rattle.dns_trace.specs.Reading.{◌>>=◌, unless}
 use Rattle.dns_trace.specs.Values.{num_of, yes_no_of}
@@ -11,7 +11,7 @@ abbrev pub configured : ℕ → ℕ → ℕ → ℕ → Bool → Stream
 configured idle write queue limit accepts = record {
   accept_connections_at_max = accepts;
   max_concurrent_connections = in_range 1 100000 limit;
-  connection_config = record {
+  connection_config = record default_connection {
     idle_timeout = in_range 200 2592000000 idle;
     response_write_timeout = in_range 1 3600000 write;
     max_queued_responses = in_range 1 1024 queue;

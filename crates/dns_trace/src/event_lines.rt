@@ -1,16 +1,17 @@
-//! The lines of events.
+//! The lines of events and of looks.
 
 ghost use Rattle.std.specs.Prelude.{◌≡◌};
 ghost use Rattle.dns_trace.specs.Reading.{GivesLine};
-ghost use Rattle.dns_trace.specs.EventLines.{moment_of, event_of, socket_addr_of, datagram_line, turn_line, offer_line, piece_line, write_line, bare_line, wide_event_of, reconfigure_line, shutdown_line, wide_line, named_kind, named_line, connection_line, event_line};
+ghost use Rattle.dns_trace.specs.EventLines.{moment_of, event_of, socket_addr_of, datagram_line, turn_line, offer_line, piece_line, write_line, bare_line, wide_event_of, last_budget, reconfigure_line, shutdown_line, wide_line, named_kind, named_line, connection_line, event_line, look_line, step_line};
 
+use crate::budget_line::{Budget, budget_values, with_budget};
 use crate::dgram_line::dgram_values;
 use crate::reason::{LineError, Reason};
 use crate::stream_line::stream_values;
 use crate::values::{addr, num, octets, port};
 use crate::words::Words;
 use dns_name::SocketAddr;
-use dns_service::{Event, EventKind};
+use dns_service::{Event, EventKind, Step};
 use std::alloc::Global;
 
 /// The moment and the seconds of a line.
@@ -134,16 +135,30 @@ fn wide_event(words: &Words, kind: EventKind) -> Result<Event, Reason>
     })
 }
 
-/// The event of a line `reconfigure AT SECS SIZE WRITE IDLE WRITE QUEUE LIMIT yes|no`. The first word is not looked at.
+/// The budget `BUDGET WINDOW` that the two last words of twelve say, which ten words lack.
+#[tactic(auto, unfolding(crate::specs::EventLines::last_budget))]
+fn last_budget(words: &Words) -> Result<Option<Budget>, Reason>
+    ensures { result ≡ last_budget words.now }
+{
+    if words.len() != 12 {
+        return Ok(None);
+    }
+    let budget = budget_values(words, 10)?;
+    Ok(Some(budget))
+}
+
+/// The event of a line `reconfigure AT SECS SIZE WRITE IDLE WRITE QUEUE LIMIT yes|no`, with the two last words
+/// `BUDGET WINDOW` or without. The first word is not looked at.
 #[tactic(auto, unfolding(crate::specs::EventLines::reconfigure_line))]
 fn read_reconfigure(words: &Words) -> Result<Event, Reason>
     ensures { result ≡ reconfigure_line words.now }
 {
-    if words.len() != 10 {
+    if words.len() != 10 && words.len() != 12 {
         return Err(Reason::Count);
     }
     let dgram = dgram_values(words, 3)?;
     let stream = stream_values(words, 5)?;
+    let stream = with_budget(last_budget(words)?, stream);
     wide_event(words, EventKind::Reconfigure { dgram, stream })
 }
 
@@ -158,8 +173,8 @@ fn read_shutdown(words: &Words) -> Result<Event, Reason>
     wide_event(words, EventKind::Shutdown)
 }
 
-/// The event of a line that all clients hear: `reconfigure AT SECS SIZE WRITE IDLE WRITE QUEUE LIMIT yes|no` or
-/// `shutdown AT SECS`.
+/// The event of a line that all clients hear: `reconfigure AT SECS SIZE WRITE IDLE WRITE QUEUE LIMIT yes|no`, and then
+/// `BUDGET WINDOW` or nothing; or `shutdown AT SECS`.
 fn read_wide(words: &Words) -> Result<Event, Reason>
     ensures { result ≡ wide_line words.now }
 {
@@ -237,4 +252,29 @@ pub fn read_event(alloc: Global, words: &Words) -> Result<Event, LineError>
         return read_offer(alloc, words);
     }
     read_connection(alloc, words)
+}
+
+/// The look of a line `look AT SECS CLIENT`. The first word is not looked at.
+#[tactic(auto, unfolding(crate::specs::EventLines::look_line))]
+fn read_look(words: &Words) -> Result<Step, Reason>
+    ensures { result ≡ look_line words.now }
+{
+    if words.len() == 4 {
+        let (at, secs) = moment(words)?;
+        let client = num(words.word(3))?;
+        return Ok(Step::Look { at, secs, client });
+    }
+    Err(Reason::Count)
+}
+
+/// The step of a line: `look AT SECS CLIENT`, or the line of an event.
+#[tactic(auto, unfolding(crate::specs::EventLines::step_line))]
+pub fn read_step(alloc: Global, words: &Words) -> Result<Step, LineError>
+    ensures { GivesLine (λ s. s) result (step_line words.now) }
+{
+    if words.word(0) == b"look".as_slice() {
+        return Ok(read_look(words)?);
+    }
+    let event = read_event(alloc, words)?;
+    Ok(Step::Own(event))
 }

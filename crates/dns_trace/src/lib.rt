@@ -1,6 +1,7 @@
 //! The text of a script: its lines, their words, and the values and events that the words spell.
 #![tactic(auto)]
 
+mod budget_line;
 mod dgram_line;
 mod event_lines;
 mod lines;
@@ -10,8 +11,9 @@ mod stream_line;
 mod values;
 mod words;
 
+pub use budget_line::{Budget, read_budget, with_budget};
 pub use dgram_line::read_dgram;
-pub use event_lines::read_event;
+pub use event_lines::{read_event, read_step};
 pub use lines::{is_text, says_nothing, split_line};
 pub use name_words::name;
 pub use reason::{LineError, Reason};
