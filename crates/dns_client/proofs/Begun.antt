@@ -14,6 +14,7 @@ use Rattle.dns_service.specs.Answer.{Answer}
 use Rattle.dns_service.specs.Config.{Dgram, Connection, Stream}
 use Rattle.dns_service.specs.Req.{Req}
 use Rattle.dns_service.specs.declared.event.Output.{Output}
+use Rattle.dns_client.specs.Budget.{unspent}
 use Rattle.dns_client.specs.Frames.{frames}
 use Rattle.dns_client.specs.Slate.{Slate, Conf, IsUnused, fresh}
 use Rattle.dns_client.specs.Requests.{header_size, request_of_datagram, asked}
@@ -39,6 +40,7 @@ module _ {R F : Type 0} (answer : PolledRequest F R → ℕ → Answer) (answers
         freed = ap (λ (s : Slate). s.freed) unused;
         phase = refl;
         requests = none_sole answer answers;
+        queue = ap (λ (s : Slate). s.queue) unused;
       })
 
   kept_first : (q : KeptRequest F R) (r : Req (Unit {0})) → IsKept answer answers q (asked r) → (k : ℕ) → Keeps answer answers (sole (Some q) k) (slice_get (asked r ∷ []) k)
@@ -64,6 +66,7 @@ module _ {R F : Type 0} (answer : PolledRequest F R → ℕ → Answer) (answers
         freed = ap (λ (s : Slate). s.freed) unused;
         phase = refl;
         requests = kept_first q r h;
+        queue = ap (λ (s : Slate). s.queue) unused;
       })
 
   -- what is shorter than a header makes no request, and is answered with nothing
@@ -98,12 +101,12 @@ module _ {R F : Type 0} (answer : PolledRequest F R → ℕ → Answer) (answers
   none_kept m e = record { made = refl; held_open = refl; each = λ k. let g : get nat_cmp m k ≡ None = ap (lookup (is_at (nat_cmp k))) e in rw g tt }
 
   -- the invoker of a connection that opens
-  abbrev pub new_invoker : Connection → ConnectionInvoker
-  new_invoker c = record { idle_timeout = c.idle_timeout; queue = buffer [] c.max_queued_responses; status = Normal; held = None }
+  abbrev pub new_invoker : ℕ → Connection → ConnectionInvoker
+  new_invoker at c = record { at = at; idle_timeout = c.idle_timeout; budget = unspent c; queue = buffer [] c.max_queued_responses; status = Normal; held = None }
 
   module _ {W : Type 0} where
     opened_fresh : (c : OpenConnection W R F) (client at : ℕ) (stream : Stream) (k : Conf)
-        → c.invoker ≡ new_invoker stream.connection_config → c.write_timeout ≡ stream.connection_config.response_write_timeout
+        → c.invoker ≡ new_invoker at stream.connection_config → c.write_timeout ≡ stream.connection_config.response_write_timeout
         → c.timer ≡ at → c.framer ≡ [] → c.unfinished.entries ≡ [] → c.count ≡ 0 → c.transactions ≡ 0
         → k.over ≡ false → k.stream ≡ stream
         → IsOpen answer answers client c (opened client c.addr at (fresh k))
@@ -124,10 +127,11 @@ module _ {R F : Type 0} (answer : PolledRequest F R → ℕ → Answer) (answers
           requests = rw (count, transactions) (none_kept c.unfinished unfinished);
           queue = ap (λ (i : ConnectionInvoker). i.queue.items) invoker;
           bound = ap (λ (i : ConnectionInvoker). i.queue.capacity) invoker ∙ ap (λ (x : Connection). x.max_queued_responses) same;
+          budget = ap (λ (i : ConnectionInvoker). i.budget) invoker ∙ ap unspent same;
         }
 
     pub admitted : (c : OpenConnection W R F) (client at : ℕ) (stream : Stream) (s : Slate)
-        → c.invoker ≡ new_invoker stream.connection_config → c.write_timeout ≡ stream.connection_config.response_write_timeout
+        → c.invoker ≡ new_invoker at stream.connection_config → c.write_timeout ≡ stream.connection_config.response_write_timeout
         → c.timer ≡ at → c.framer ≡ [] → c.unfinished.entries ≡ [] → c.count ≡ 0 → c.transactions ≡ 0
         → IsUnused s → s.conf.over ≡ false → s.conf.stream ≡ stream
         → IsOpen answer answers client c (opened client c.addr at s)

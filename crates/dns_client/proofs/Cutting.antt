@@ -12,7 +12,7 @@ use Rattle.dns_client.specs.Frames.{frames, framed, behind_frames}
 use Rattle.dns_client.specs.Rule.{in_phase}
 use Rattle.dns_client.specs.Slate.{Slate, Told, Phase, Unused, Exchange, Open, Flushing, Closed}
 use Rattle.dns_client.specs.Requests.{header_size, most_requests, request_of_frame, asked}
-use Rattle.dns_client.specs.Connections.{append_frame, enqueue, take_request, take_frame, take_frames, piece}
+use Rattle.dns_client.specs.Connections.{append_frame, enqueue, room, take_request, take_frame, take_frames, piece}
 use Rattle.dns_client.specs.Pieces.{piece_of, IsCut}
 use Rattle.dns_client.proofs.FramesLemmas.{goes}
 
@@ -39,14 +39,14 @@ abbrev counted : ℕ → Slate → Slate
 counted at s = record s { taken = s.taken + 1; reset_at = at }
 
 -- what becomes of a frame doesn't depend on what was received
-refused_received : (m : List ℕ) (t : Slate) (x : List ℕ) → enqueue m (with_received x t) ≡ with_received x (enqueue m t)
-refused_received m t x = (elim (nat_lt (length t.queue) t.bound) as (λ b. (if b then append_frame m (with_received x t) else with_received x t) ≡ with_received x (if b then append_frame m t else t)) [ true ↦ refl | false ↦ refl ])
+refused_received : (at : ℕ) (m : List ℕ) (t : Slate) (x : List ℕ) → enqueue at m (with_received x t) ≡ with_received x (enqueue at m t)
+refused_received at m t x = (elim (room at t) as (λ b. (if b then append_frame at m (with_received x t) else with_received x t) ≡ with_received x (if b then append_frame at m t else t)) [ true ↦ refl | false ↦ refl ])
 
 asked_received : (at secs : ℕ) (f : List ℕ) (t : Slate) (x : List ℕ) → take_request at secs f (with_received x t) ≡ with_received x (take_request at secs f t)
 asked_received at secs f t x = (elim (nat_lt (length t.requests) most_requests) as (λ b. (if b then record (with_received x t) { requests = t.requests ++ asked (request_of_frame t.connection.idle_timeout t.addr at secs f) ∷ [] } else with_received x t) ≡ with_received x (if b then record t { requests = t.requests ++ asked (request_of_frame t.connection.idle_timeout t.addr at secs f) ∷ [] } else t)) [ true ↦ refl | false ↦ refl ])
 
 frame_received : (at secs : ℕ) (f : List ℕ) (s : Slate) (x : List ℕ) → take_frame at secs f (with_received x s) ≡ with_received x (take_frame at secs f s)
-frame_received at secs f s x = (elim (header_of f).qr as (λ b. (if b then enqueue (refusal f) (with_received x (counted at s)) else take_request at secs f (with_received x (counted at s))) ≡ with_received x (if b then enqueue (refusal f) (counted at s) else take_request at secs f (counted at s))) [ true ↦ refused_received (refusal f) (counted at s) x | false ↦ asked_received at secs f (counted at s) x ])
+frame_received at secs f s x = (elim (header_of f).qr as (λ b. (if b then enqueue at (refusal f) (with_received x (counted at s)) else take_request at secs f (with_received x (counted at s))) ≡ with_received x (if b then enqueue at (refusal f) (counted at s) else take_request at secs f (counted at s))) [ true ↦ refused_received at (refusal f) (counted at s) x | false ↦ asked_received at secs f (counted at s) x ])
 
 -- it leaves the phase and what was received, and counts
 record Same (s t : Slate) : Type 0 where
@@ -54,14 +54,14 @@ record Same (s t : Slate) : Type 0 where
   received : t.received ≡ s.received
   taken : t.taken ≡ s.taken
 
-refused_same : (m : List ℕ) (t : Slate) → Same t (enqueue m t)
-refused_same m t = (elim (nat_lt (length t.queue) t.bound) as (λ b. Same t (if b then append_frame m t else t)) [ true ↦ record { phase = refl; received = refl; taken = refl } | false ↦ record { phase = refl; received = refl; taken = refl } ])
+refused_same : (at : ℕ) (m : List ℕ) (t : Slate) → Same t (enqueue at m t)
+refused_same at m t = (elim (room at t) as (λ b. Same t (if b then append_frame at m t else t)) [ true ↦ record { phase = refl; received = refl; taken = refl } | false ↦ record { phase = refl; received = refl; taken = refl } ])
 
 asked_same : (at secs : ℕ) (f : List ℕ) (t : Slate) → Same t (take_request at secs f t)
 asked_same at secs f t = (elim (nat_lt (length t.requests) most_requests) as (λ b. Same t (if b then record t { requests = t.requests ++ asked (request_of_frame t.connection.idle_timeout t.addr at secs f) ∷ [] } else t)) [ true ↦ record { phase = refl; received = refl; taken = refl } | false ↦ record { phase = refl; received = refl; taken = refl } ])
 
 frame_same : (at secs : ℕ) (f : List ℕ) (s : Slate) → Same (counted at s) (take_frame at secs f s)
-frame_same at secs f s = (elim (header_of f).qr as (λ b. Same (counted at s) (if b then enqueue (refusal f) (counted at s) else take_request at secs f (counted at s))) [ true ↦ refused_same (refusal f) (counted at s) | false ↦ asked_same at secs f (counted at s) ])
+frame_same at secs f s = (elim (header_of f).qr as (λ b. Same (counted at s) (if b then enqueue at (refusal f) (counted at s) else take_request at secs f (counted at s))) [ true ↦ refused_same at (refusal f) (counted at s) | false ↦ asked_same at secs f (counted at s) ])
 
 more_on : (at secs : ℕ) (f : List ℕ) (fs gs : List (List ℕ)) (s : Slate) (x : List ℕ) (b : Bool) → nat_lt (length f) header_size ≡ b → Ends at secs fs gs (take_frame at secs f s) x ⊎ Opens at secs fs gs (take_frame at secs f s) x → Ends at secs (f ∷ fs) gs s x ⊎ Opens at secs (f ∷ fs) gs s x
 more_on at secs f fs gs s x true h ih = inl (record { phase = rw h refl; all = rw h refl })

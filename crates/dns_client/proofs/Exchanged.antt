@@ -17,7 +17,7 @@ in_exchange answers e p t is = rw is refl
 module _ {R F : Type 0} (answer : PolledRequest F R → ℕ → Answer) (answers : Serving) where
   -- the server's configurations are others
   met_exchange : (number : ℕ) (unfinished : Option (KeptRequest F R)) (conf : Conf) (s : Slate) → IsExchange answer answers number unfinished s → IsExchange answer answers number unfinished (with_conf conf s)
-  met_exchange number unfinished conf s h = record { client = h.client; freed = h.freed; phase = h.phase; requests = h.requests }
+  met_exchange number unfinished conf s h = record { client = h.client; freed = h.freed; phase = h.phase; requests = h.requests; queue = h.queue }
 
   pub in_exchanges : (number : ℕ) (old new : Option (KeptRequest F R)) (outs : List Output) (e : Event)
       → Exchanges answer answers number old new outs (exchange_rule answers e.kind) → Exchanges answer answers number old new outs (rule answers e)

@@ -5,7 +5,7 @@ use Rattle.dns_service.specs.Answer.{Answer}
 use Rattle.dns_service.specs.declared.event.Output.{Output}
 use Rattle.dns_service.specs.declared.polled.PolledRequest.{PolledRequest}
 use Rattle.dns_client.specs.Slate.{Slate, Told}
-use Rattle.dns_client.specs.Stands.{Follows, IsFlushing, IsLeft, LeadsOn, StandsIn, outputs_of, state_behind}
+use Rattle.dns_client.specs.Stands.{GoesAs, IsFlushing, IsLeft, LeadsOn, StandsIn, outputs_of, state_behind}
 use Rattle.dns_client.specs.declared.client.ClientCore.{ClientCore}
 use Rattle.dns_client.specs.declared.client.State.{State}
 use Rattle.dns_client.specs.declared.client.State.TheVariants.{Flushing as Is_flushing}
@@ -25,7 +25,7 @@ module _ {R F : Type 0} (answer : PolledRequest F R → ℕ → Answer) (answers
     pub left_follows : (old new : ClientCore W R F) (c c' : FlushingConnection) (outcome : Outcome) (outs : List Output) (after : Slate → Told)
         → old.state ≡ Is_flushing c → LeadsOn c c' outcome after
         → outs ≡ outputs_of old.client outcome → new.client ≡ old.client → new.state ≡ state_behind (Is_flushing c') outcome
-        → Follows answer answers old new outs after
+        → GoesAs answer answers old new outs after
     left_follows old new c c' outcome outs after is leads said same state s stands =
         let h : IsFlushing old.client c s = subst (λ (x : State W R F). StandsIn answer answers old.client x s) is stands in
         let r = leads old.client s h in

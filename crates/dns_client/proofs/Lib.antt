@@ -14,3 +14,5 @@ pub mod Ticked
 pub mod Exchanged
 pub mod Quiet
 pub mod Cutting
+pub mod Sights
+pub mod Unfinished

@@ -16,7 +16,7 @@ use Rattle.dns_client.specs.Slate.{Slate, SlateRequest, Told, Phase, Exchange, O
 use Rattle.dns_client.specs.Spent.{is_spent}
 use Rattle.dns_client.specs.Stands.{IsLeft, IsOpen, Keeps, Leads, LeadsOn, StandsIn, outputs_of, state_behind, sole, state_is_spent}
 use Rattle.dns_client.specs.declared.client.State.{State}
-use Rattle.dns_client.specs.declared.client.State.TheVariants.{Exchange as Is_exchange, Open as Is_open, Flushing as Is_flushing, Closed as Is_closed}
+use Rattle.dns_client.specs.declared.client.State.TheVariants.{Exchange as Is_exchange, Open as Is_open, Flushing as Is_flushing, Closed as Is_closed, Lost as Is_lost}
 use Rattle.dns_client.specs.declared.connection.OpenConnection.{OpenConnection}
 use Rattle.dns_client.specs.declared.kept.KeptRequest.{KeptRequest}
 use Rattle.dns_client.specs.declared.flushing.FlushingConnection.{FlushingConnection}
@@ -88,7 +88,7 @@ module _ {R F : Type 0} (answer : PolledRequest F R → ℕ → Answer) (answers
     turns old new after f client s h = (refl, f client s h)
 
     pub closes : (c : OpenConnection W R F) (why : Why) → Leads answer answers c c (Ends why) (λ s. close why s)
-    closes c why client s h = (ap (λ (n : ℕ). Closed_output n why ∷ []) h.client, record { client = h.client; freed = h.freed; phase = refl })
+    closes c why client s h = (ap (λ (n : ℕ). Closed_output n why ∷ []) h.client, record { client = h.client; freed = h.freed; phase = refl; requests = refl; queue = refl })
 
     -- the server's configurations are others
     met_open : (client : ℕ) (c : OpenConnection W R F) (conf : Conf) (s : Slate) → conf.over ≡ false → IsOpen answer answers client c s → IsOpen answer answers client c (with_conf conf s)
@@ -106,6 +106,7 @@ module _ {R F : Type 0} (answer : PolledRequest F R → ℕ → Answer) (answers
       requests = h.requests;
       queue = h.queue;
       bound = h.bound;
+      budget = h.budget;
     }
 
     -- the configuration that holds from now on is one of those that the server shows
@@ -122,12 +123,12 @@ module _ {R F : Type 0} (answer : PolledRequest F R → ℕ → Answer) (answers
     wound_at_once c why conf e client s h =
         let none : s.queue ≡ [] = sym h.queue ∙ e in
         let P : List (List ℕ) → Type 0 = λ q. (outputs_of client (Ends why) ≡ (wind_up why q (with_conf (conf s) s)).1) × StandsIn answer answers client (state_behind (Is_open c) (Ends why)) (wind_up why q (with_conf (conf s) s)).0 in
-        subst P (sym none) (ap (λ (n : ℕ). Closed_output n why ∷ []) h.client, record { client = h.client; freed = h.freed; phase = refl })
+        subst P (sym none) (ap (λ (n : ℕ). Closed_output n why ∷ []) h.client, record { client = h.client; freed = h.freed; phase = refl; requests = refl; queue = refl })
 
     wound_with : (c : OpenConnection W R F) (why : Why) (conf : Conf) (client : ℕ) (s : Slate) (q : List (List ℕ)) → IsOpen answer answers client c s → (q ≡ [] → ⊥)
         → (outputs_of client (WindsUp why) ≡ (wind_up why q (with_conf conf s)).1) × StandsIn answer answers client (state_behind (Is_open c) (WindsUp why)) (wind_up why q (with_conf conf s)).0
     wound_with c why conf client s [] h some = absurd (some refl)
-    wound_with c why conf client s (m ∷ ms) h some = (refl, record { client = h.client; freed = h.freed; phase = refl; write_timeout = h.write_timeout; queue = h.queue })
+    wound_with c why conf client s (m ∷ ms) h some = (refl, record { client = h.client; freed = h.freed; phase = refl; write_timeout = h.write_timeout; requests = refl; queue = h.queue })
 
     pub wound_later : (c : OpenConnection W R F) (why : Why) (conf : Slate → Conf) → (c.invoker.queue.items ≡ [] → ⊥) → Leads answer answers c c (WindsUp why) (λ s. wind_up why s.queue (with_conf (conf s) s))
     wound_later c why conf some client s h = wound_with c why (conf s) client s s.queue h (λ (e : s.queue ≡ []). some (h.queue ∙ e))
@@ -139,3 +140,4 @@ module _ {R F : Type 0} (answer : PolledRequest F R → ℕ → Answer) (answers
     spent client (Is_open c) s h = rw h.phase refl
     spent client (Is_flushing c) s h = rw h.phase refl
     spent client (Is_closed freed) s h = rw h.phase (sym h.freed)
+    spent client Is_lost s h = absurd h

@@ -16,8 +16,8 @@ use Rattle.dns_service.specs.declared.event.Why.TheVariants.{Short}
 use Rattle.dns_client.specs.Frames.{first_frame, framed, frames}
 use Rattle.dns_client.specs.Slate.{Slate, Told}
 use Rattle.dns_client.specs.Requests.{header_size, most_requests, request_of_frame, asked}
-use Rattle.dns_client.specs.Connections.{take_frames, take_frame, piece}
-use Rattle.dns_client.specs.Stands.{IsGoing, IsOpen, Leads, Asks, Refuses, TakesFrame, KeepsAll, StandsIn, outputs_of, state_behind}
+use Rattle.dns_client.specs.Connections.{enqueue, take_frames, take_frame, piece}
+use Rattle.dns_client.specs.Stands.{IsGoing, IsOpen, Leads, Asks, TakesFrame, KeepsAll, StandsIn, outputs_of, refusing, state_behind}
 use Rattle.dns_client.specs.declared.client.State.TheVariants.{Open as Is_open}
 use Rattle.dns_client.specs.declared.connection.OpenConnection.{OpenConnection}
 use Rattle.dns_client.specs.declared.outcome.Outcome.{Outcome}
@@ -26,11 +26,8 @@ use Rattle.dns_service.specs.declared.polled.PolledRequest.{PolledRequest}
 use Rattle.dns_client.specs.declared.connection_request.ConnectionRequest.{ConnectionRequest}
 use Rattle.dns_client.proofs.Keeping.{keeps_push}
 use Rattle.dns_client.proofs.Transactions.{one_idle}
+use Rattle.dns_client.proofs.Turned.{moved_open, offered_open}
 use Rattle.dns_client.proofs.FramesLemmas.{first_shorter, frames_some, past_next, within_next, past-append, within-append, new_frames_by_kept}
-
-queue_by : (b : Bool) (s : Slate) (m : List ℕ) → (if b then record s { queue = s.queue ++ m ∷ [] } else s).queue ≡ (if b then s.queue ++ m ∷ [] else s.queue)
-queue_by true s m = refl
-queue_by false s m = refl
 
 -- a request that was called is kept under its number
 pub asks_by : {W R F : Type 0} (answer : PolledRequest F R → ℕ → Answer) (answers : Serving) (old new : OpenConnection W R F) (r : Req (Unit {0})) (q : ConnectionRequest F R)
@@ -64,7 +61,7 @@ module _ {W R F : Type 0} (answer : PolledRequest F R → ℕ → Answer) (answe
       let t : nat_lt (length f) header_size ≡ true = lt-ltb (length f) 12 l in
       rw (frames_some c.framer f r e, t) (
         ap (λ n. Closed_output n Short ∷ []) h.client,
-        record { client = h.client; freed = h.freed; phase = refl },
+        record { client = h.client; freed = h.freed; phase = refl; requests = refl; queue = refl },
       )
 
   -- what is kept of a connection that took a frame
@@ -85,10 +82,11 @@ module _ {W R F : Type 0} (answer : PolledRequest F R → ℕ → Answer) (answe
       let within = within_next s.taken s.received f r h.within e' in
       let qu = ap (λ (c : OpenConnection W R F). c.invoker.queue.items) a.others ∙ h.queue in
       let bo = ap (λ (c : OpenConnection W R F). c.invoker.queue.capacity) a.others ∙ h.bound in
+      let bu = ap (λ (c : OpenConnection W R F). c.invoker.budget) a.others ∙ h.budget in
       let P : Bool → Type 0 = λ b. KeepsAll answer answers new.count new.transactions new.unfinished (if b then s.requests ++ asked (request_of_frame s.connection.idle_timeout s.addr at secs f) ∷ [] else s.requests) → IsOpen answer answers client new (if b then record s { taken = s.taken + 1; reset_at = at; requests = s.requests ++ asked (request_of_frame s.connection.idle_timeout s.addr at secs f) ∷ [] } else record s { taken = s.taken + 1; reset_at = at }) in
       (elim b as P [
-        | true ↦ λ k. record { client = h.client; freed = h.freed; phase = h.phase; not_over = h.not_over; addr = ad; idle_timeout = id; write_timeout = wr; timer = ti; kept = kept; within = within; requests = k; queue = qu; bound = bo }
-        | false ↦ λ k. record { client = h.client; freed = h.freed; phase = h.phase; not_over = h.not_over; addr = ad; idle_timeout = id; write_timeout = wr; timer = ti; kept = kept; within = within; requests = k; queue = qu; bound = bo }
+        | true ↦ λ k. record { client = h.client; freed = h.freed; phase = h.phase; not_over = h.not_over; addr = ad; idle_timeout = id; write_timeout = wr; timer = ti; kept = kept; within = within; requests = k; queue = qu; bound = bo; budget = bu }
+        | false ↦ λ k. record { client = h.client; freed = h.freed; phase = h.phase; not_over = h.not_over; addr = ad; idle_timeout = id; write_timeout = wr; timer = ti; kept = kept; within = within; requests = k; queue = qu; bound = bo; budget = bu }
       ]) k
 
   taken : (c new : OpenConnection W R F) (f r : List ℕ) (q : Req (Unit {0})) → first_frame c.framer ≡ Some (f, r) → 12 ≤ length f
@@ -107,49 +105,54 @@ module _ {W R F : Type 0} (answer : PolledRequest F R → ℕ → Answer) (answe
             (take_frame at secs f s, rw query (asked_open c new f r client s h e a' (nat_lt (length s.requests) most_requests) k), rw (framer, frames_some c.framer f r e, n) refl);
       }
 
-  refused_open : (c new : OpenConnection W R F) (f r : List ℕ) (client : ℕ) (s : Slate) → IsOpen answer answers client c s → first_frame c.framer ≡ Some (f, r)
-      → Refuses (timed c r) new f
-      → (b : Bool) → new.invoker.queue.items ≡ (if b then s.queue ++ framed (wire (error_reply f 1)) ∷ [] else s.queue)
-      → IsOpen answer answers client new (if b then record s { taken = s.taken + 1; reset_at = at; queue = s.queue ++ framed (wire (error_reply f 1)) ∷ [] } else record s { taken = s.taken + 1; reset_at = at })
-  refused_open c new f r client s h e a b q =
+  -- it stands for the slate that counts the frame
+  timed_open : (c : OpenConnection W R F) (f r : List ℕ) (client : ℕ) (s : Slate) → IsOpen answer answers client c s → first_frame c.framer ≡ Some (f, r)
+      → IsOpen answer answers client (timed c r) (record s { taken = s.taken + 1; reset_at = at })
+  timed_open c f r client s h e =
       let e' = rw h.kept at e in
-      let ad = ap (λ (c : OpenConnection W R F). c.addr) a.others ∙ h.addr in
-      let id = ap (λ (c : OpenConnection W R F). c.invoker.idle_timeout) a.others ∙ h.idle_timeout in
-      let wr = ap (λ (c : OpenConnection W R F). c.write_timeout) a.others ∙ h.write_timeout in
-      let ti = ap (λ (c : OpenConnection W R F). c.timer) a.others in
-      let kept = ap (λ (c : OpenConnection W R F). c.framer) a.others ∙ sym (past_next s.taken s.received f r h.within e') in
-      let within = within_next s.taken s.received f r h.within e' in
-      let bo = a.bound ∙ h.bound in
-      let rs : KeepsAll answer answers new.count new.transactions new.unfinished s.requests = rw (ap (λ (c : OpenConnection W R F). c.count) a.others, ap (λ (c : OpenConnection W R F). c.transactions) a.others, ap (λ (c : OpenConnection W R F). c.unfinished) a.others) h.requests in
-      let P : Bool → Type 0 = λ b. new.invoker.queue.items ≡ (if b then s.queue ++ framed (wire (error_reply f 1)) ∷ [] else s.queue) → IsOpen answer answers client new (if b then record s { taken = s.taken + 1; reset_at = at; queue = s.queue ++ framed (wire (error_reply f 1)) ∷ [] } else record s { taken = s.taken + 1; reset_at = at }) in
-      (elim b as P [
-        | true ↦ λ q. record { client = h.client; freed = h.freed; phase = h.phase; not_over = h.not_over; addr = ad; idle_timeout = id; write_timeout = wr; timer = ti; kept = kept; within = within; requests = rs; queue = q; bound = bo }
-        | false ↦ λ q. record { client = h.client; freed = h.freed; phase = h.phase; not_over = h.not_over; addr = ad; idle_timeout = id; write_timeout = wr; timer = ti; kept = kept; within = within; requests = rs; queue = q; bound = bo }
-      ]) q
+      record {
+        client = h.client;
+        freed = h.freed;
+        phase = h.phase;
+        not_over = h.not_over;
+        addr = h.addr;
+        idle_timeout = h.idle_timeout;
+        write_timeout = h.write_timeout;
+        timer = refl;
+        kept = sym (past_next s.taken s.received f r h.within e');
+        within = within_next s.taken s.received f r h.within e';
+        requests = h.requests;
+        queue = h.queue;
+        bound = h.bound;
+        budget = h.budget;
+      }
 
   -- a response is taken
   refused : (c new : OpenConnection W R F) (f r : List ℕ) → first_frame c.framer ≡ Some (f, r) → 12 ≤ length f → (header_of f).qr ≡ true
-      → Refuses (timed c r) new f → TakesFrame answer answers at secs c new
-  refused c new f r e l response a =
+      → new ≡ refusing at (timed c r) f → TakesFrame answer answers at secs c new
+  refused c new f r e l response is =
       let n : nat_lt (length f) header_size ≡ false = le-ltb (length f) 12 l in
-      let framer : new.framer ≡ r = ap (λ (x : OpenConnection W R F). x.framer) a.others in
+      let framer : new.framer ≡ r = ap (λ (x : OpenConnection W R F). x.framer) is in
+      let m = framed (wire (error_reply f 1)) in
       record {
         less = rw framer (first_shorter c.framer f r e);
         goes = λ client s h.
-            let b = nat_lt (length s.queue) s.bound in
-            let q = a.queue s h.queue h.bound ∙ queue_by b s (framed (wire (error_reply f 1))) in
-            (take_frame at secs f s, rw response (refused_open c new f r client s h e a b q), rw (framer, frames_some c.framer f r e, n) refl);
+            let t : Slate = record s { taken = s.taken + 1; reset_at = at } in
+            let timed_now = moved_open answer answers client at (timed c r) t (timed_open c f r client s h e) in
+            let open_now = offered_open answer answers client (record (timed c r) { invoker = record c.invoker { at = at } }) m t timed_now in
+            let P : OpenConnection W R F → Type 0 = λ x. IsOpen answer answers client x (enqueue at m t) in
+            (take_frame at secs f s, rw response (subst P (sym is) open_now), rw (framer, frames_some c.framer f r e, n) refl);
       }
 
   either_taken : (c new : OpenConnection W R F) (f r : List ℕ) → first_frame c.framer ≡ Some (f, r) → 12 ≤ length f
-      → ((header_of f).qr ≡ true → Refuses (timed c r) new f)
+      → ((header_of f).qr ≡ true → new ≡ refusing at (timed c r) f)
       → ((header_of f).qr ≡ false → Asks answer answers (timed c r) new (request_of_frame c.invoker.idle_timeout c.addr at secs f))
       → (b : Bool) → (header_of f).qr ≡ b → TakesFrame answer answers at secs c new
   either_taken c new f r e l refuses asks true is = refused c new f r e l is (refuses is)
   either_taken c new f r e l refuses asks false is = taken c new f r (request_of_frame c.invoker.idle_timeout c.addr at secs f) e l is refl (asks is)
 
   pub taken_either : (c new : OpenConnection W R F) (f r : List ℕ) → first_frame c.framer ≡ Some (f, r) → 12 ≤ length f
-      → ((header_of f).qr ≡ true → Refuses (timed c r) new f)
+      → ((header_of f).qr ≡ true → new ≡ refusing at (timed c r) f)
       → ((header_of f).qr ≡ false → Asks answer answers (timed c r) new (request_of_frame c.invoker.idle_timeout c.addr at secs f))
       → TakesFrame answer answers at secs c new
   taken_either c new f r e l refuses asks = either_taken c new f r e l refuses asks (header_of f).qr refl
@@ -173,6 +176,7 @@ module _ {W R F : Type 0} (answer : PolledRequest F R → ℕ → Answer) (answe
         requests = h.requests;
         queue = h.queue;
         bound = h.bound;
+        budget = h.budget;
       }))
 
   -- what is left to be taken, at some slate of the connection, is all that was

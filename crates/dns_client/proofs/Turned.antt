@@ -1,16 +1,16 @@
 -- What a connection is after a turn of one of its requests.
 use Rattle.dns_client.specs.Serving.{Serving}
-use Rattle.std.proofs.Common.{◌≡◌, ◌≢◌, ℕ, suc, ◌+◌, List, length, Option, Some, None, Bool, true, false, refl, ap, sym, ◌∙◌, arith, set, length-set}
+use Rattle.std.proofs.Common.{◌≡◌, ◌≢◌, ℕ, suc, ◌+◌, List, [], ◌∷◌, ◌++◌, length, Option, Some, None, Bool, true, false, refl, ap, sym, ◌∙◌, arith, set, length-set, subst}
 use Rattle.std.specs.Arc.{arc_value}
-use Rattle.std.specs.Prelude.{slice_get, nat_lt}
+use Rattle.std.specs.Prelude.{slice_get, nat_lt, ◌&&◌, if◌then◌else◌}
 use Rattle.std.specs.Ordering.{nat_cmp}
 use Rattle.std.specs.BTreeMap.{BTreeMap, get}
-use Rattle.circular_buffer.specs.Buffer.{Buffer}
 use Rattle.dns_service.specs.Answer.{Answer}
 use Rattle.dns_service.specs.declared.invoker.InvokerStatus.{InvokerStatus}
 use Rattle.dns_service.specs.declared.polled.PolledRequest.{PolledRequest}
-use Rattle.dns_client.specs.Connections.{has_space, in_transaction}
-use Rattle.dns_client.specs.Invoker.{is_short}
+use Rattle.dns_client.specs.Budget.{Spending, allows, spend}
+use Rattle.dns_client.specs.Connections.{append_frame, enqueue, in_transaction, room, spending}
+use Rattle.dns_client.specs.Invoker.{finds_room, offered, queued_behind}
 use Rattle.dns_client.specs.Slate.{Slate, SlateRequest}
 use Rattle.dns_client.specs.Stands.{IsGoing, IsOpen, KeepsGoing}
 use Rattle.dns_client.specs.TurnedAt.{LetGo}
@@ -27,9 +27,9 @@ past_poll r held status done = record { request = r.request; polls = r.polls + 1
 
 module _ {R F : Type 0} (answer : PolledRequest F R → ℕ → Answer) (answers : Serving) where
   -- a turn of a request of which nothing is kept
-  pub nothing_turned : (k : ℕ) (x : Option SlateRequest) (s : Slate) → KeepsGoing answer answers None x → turn answers k x s ≡ s
-  nothing_turned k None s h = refl
-  nothing_turned k (Some r) s h = rw h refl
+  pub nothing_turned : (at k : ℕ) (x : Option SlateRequest) (s : Slate) → KeepsGoing answer answers None x → turn answers at k x s ≡ s
+  nothing_turned at k None s h = refl
+  nothing_turned at k (Some r) s h = rw h refl
 
   later : (q q' : ConnectionRequest F R) (r : SlateRequest) → ((k : ℕ) → answer q'.polled k ≡ answer q.polled (suc k)) → IsGoing answer answers q r → (j : ℕ) → answer q'.polled j ≡ answers.answer r.request (r.polls + 1 + j)
   later q q' r p h j = let e : r.polls + suc j ≡ r.polls + 1 + j = omega arith in p j ∙ h.polled (suc j) ∙ ap (answers.answer r.request) e
@@ -50,16 +50,17 @@ module _ {R F : Type 0} (answer : PolledRequest F R → ℕ → Answer) (answers
       rw l (record { going = refl; polled = later q after r polled h; message = ap arc_value message ∙ h.message; held = a; status = b })
 
   module _ {W : Type 0} where
-    -- one request, the queue and the time that it may be idle are others
-    pub with_turn : (client : ℕ) (old : OpenConnection W R F) (m : BTreeMap ℕ (ConnectionRequest F R)) (i : ConnectionInvoker) (n k : ℕ) (r r' : SlateRequest) (frames : List (List ℕ)) (timeout : ℕ) (s : Slate)
+    -- one request, the queue, what is spent and the time that it may be idle are others
+    pub with_turn : (client : ℕ) (old : OpenConnection W R F) (m : BTreeMap ℕ (ConnectionRequest F R)) (i : ConnectionInvoker) (n k : ℕ) (r r' : SlateRequest) (frames : List (List ℕ)) (b : Spending) (timeout : ℕ) (s : Slate)
         → IsOpen answer answers client old s
         → slice_get s.requests k ≡ Some r
         → ((q : ℕ) → q ≢ k → get nat_cmp m q ≡ get nat_cmp old.unfinished q)
         → KeepsGoing answer answers (get nat_cmp m k) (Some r')
         → n ≡ passing in_transaction (set s.requests k r')
         → i.idle_timeout ≡ timeout → i.queue.items ≡ frames → i.queue.capacity ≡ s.bound
-        → IsOpen answer answers client (record old { unfinished = m; invoker = i; transactions = n }) (record s { requests = set s.requests k r'; queue = frames; connection = record s.connection { idle_timeout = timeout } })
-    with_turn client old m i n k r r' frames timeout s h is others keeps count idle items capacity = record {
+        → i.budget ≡ record (spending s) { mark = b.mark; spent = b.spent }
+        → IsOpen answer answers client (record old { unfinished = m; invoker = i; transactions = n }) (record s { requests = set s.requests k r'; queue = frames; mark = b.mark; spent = b.spent; connection = record s.connection { idle_timeout = timeout } })
+    with_turn client old m i n k r r' frames b timeout s h is others keeps count idle items capacity budget = record {
       client = h.client;
       freed = h.freed;
       phase = h.phase;
@@ -77,29 +78,81 @@ module _ {R F : Type 0} (answer : PolledRequest F R → ℕ → Answer) (answers
       };
       queue = items;
       bound = capacity;
+      budget = budget;
     }
 
-    -- the queue of the slate has room where that of the connection has
-    pub same_room : (client : ℕ) (old : OpenConnection W R F) (s : Slate) → IsOpen answer answers client old s → is_short old.invoker.queue ≡ has_space s
-    same_room client old s h = ap (λ (xs : List (List ℕ)). nat_lt (length xs) old.invoker.queue.capacity) h.queue ∙ ap (λ (n : ℕ). nat_lt (length s.queue) n) h.bound
+    -- there is room at the slate where the connection has room, at the moment that it is at
+    pub same_room : (client : ℕ) (old : OpenConnection W R F) (s : Slate) → IsOpen answer answers client old s → finds_room old.invoker ≡ room old.invoker.at s
+    same_room client old s h =
+        ap (λ (xs : List (List ℕ)). nat_lt (length xs) old.invoker.queue.capacity && allows old.invoker.at old.invoker.budget) h.queue
+        ∙ (ap (λ (n : ℕ). nat_lt (length s.queue) n && allows old.invoker.at old.invoker.budget) h.bound
+        ∙ ap (λ (b : Spending). nat_lt (length s.queue) s.bound && allows old.invoker.at b) h.budget)
 
-    -- the same requests in another map, and the same queue
-    pub same_requests : (client : ℕ) (old : OpenConnection W R F) (m : BTreeMap ℕ (ConnectionRequest F R)) (i : ConnectionInvoker) (n : ℕ) (s : Slate)
-        → ((q : ℕ) → get nat_cmp m q ≡ get nat_cmp old.unfinished q)
-        → i.idle_timeout ≡ old.invoker.idle_timeout → i.queue ≡ old.invoker.queue → n ≡ old.transactions
-        → IsOpen answer answers client old s → IsOpen answer answers client (record old { unfinished = m; invoker = i; transactions = n }) s
-    same_requests client old m i n s same idle queue count h = record {
+    -- it is at another moment
+    pub moved_open : (client at : ℕ) (c : OpenConnection W R F) (s : Slate) → IsOpen answer answers client c s → IsOpen answer answers client (record c { invoker = record c.invoker { at = at } }) s
+    moved_open client at c s h = record {
       client = h.client;
       freed = h.freed;
       phase = h.phase;
       not_over = h.not_over;
       addr = h.addr;
-      idle_timeout = idle ∙ h.idle_timeout;
+      idle_timeout = h.idle_timeout;
+      write_timeout = h.write_timeout;
+      timer = h.timer;
+      kept = h.kept;
+      within = h.within;
+      requests = h.requests;
+      queue = h.queue;
+      bound = h.bound;
+      budget = h.budget;
+    }
+
+    -- a frame is queued
+    queued_open : (client : ℕ) (c : OpenConnection W R F) (m : List ℕ) (s : Slate) → IsOpen answer answers client c s
+        → IsOpen answer answers client (record c { invoker = queued_behind c.invoker m }) (append_frame c.invoker.at m s)
+    queued_open client c m s h = record {
+      client = h.client;
+      freed = h.freed;
+      phase = h.phase;
+      not_over = h.not_over;
+      addr = h.addr;
+      idle_timeout = h.idle_timeout;
+      write_timeout = h.write_timeout;
+      timer = h.timer;
+      kept = h.kept;
+      within = h.within;
+      requests = h.requests;
+      queue = ap (λ (xs : List (List ℕ)). xs ++ m ∷ []) h.queue;
+      bound = h.bound;
+      budget = ap (spend c.invoker.at) h.budget;
+    }
+
+    -- a frame is queued where there is room
+    pub offered_open : (client : ℕ) (c : OpenConnection W R F) (m : List ℕ) (s : Slate) → IsOpen answer answers client c s
+        → IsOpen answer answers client (record c { invoker = offered c.invoker m }) (enqueue c.invoker.at m s)
+    offered_open client c m s h =
+        let P : Bool → Type 0 = λ b. IsOpen answer answers client (record c { invoker = (if b then queued_behind c.invoker m else c.invoker) }) (if b then append_frame c.invoker.at m s else s) in
+        let Q : Bool → Type 0 = λ b. IsOpen answer answers client (record c { invoker = (if b then queued_behind c.invoker m else c.invoker) }) (enqueue c.invoker.at m s) in
+        subst Q (sym (same_room client c s h)) (elim (room c.invoker.at s) as P [ true ↦ queued_open client c m s h | false ↦ h ])
+
+    -- the same requests in another map, and the same invoker
+    pub same_requests : (client : ℕ) (old : OpenConnection W R F) (m : BTreeMap ℕ (ConnectionRequest F R)) (i : ConnectionInvoker) (n : ℕ) (s : Slate)
+        → ((q : ℕ) → get nat_cmp m q ≡ get nat_cmp old.unfinished q)
+        → i ≡ old.invoker → n ≡ old.transactions
+        → IsOpen answer answers client old s → IsOpen answer answers client (record old { unfinished = m; invoker = i; transactions = n }) s
+    same_requests client old m i n s same invoker count h = record {
+      client = h.client;
+      freed = h.freed;
+      phase = h.phase;
+      not_over = h.not_over;
+      addr = h.addr;
+      idle_timeout = ap (λ (x : ConnectionInvoker). x.idle_timeout) invoker ∙ h.idle_timeout;
       write_timeout = h.write_timeout;
       timer = h.timer;
       kept = h.kept;
       within = h.within;
       requests = record { made = h.requests.made; held_open = count ∙ h.requests.held_open; each = λ q. rw (same q) (h.requests.each q) };
-      queue = ap (λ (b : Buffer (List ℕ)). b.items) queue ∙ h.queue;
-      bound = ap (λ (b : Buffer (List ℕ)). b.capacity) queue ∙ h.bound;
+      queue = ap (λ (x : ConnectionInvoker). x.queue.items) invoker ∙ h.queue;
+      bound = ap (λ (x : ConnectionInvoker). x.queue.capacity) invoker ∙ h.bound;
+      budget = ap (λ (x : ConnectionInvoker). x.budget) invoker ∙ h.budget;
     }

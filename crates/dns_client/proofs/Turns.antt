@@ -35,5 +35,6 @@ module _ {R F : Type 0} (answer : PolledRequest F R → ℕ → Answer) (answers
           freed = h.freed;
           phase = h.phase;
           requests = sole_set answer answers (Some q) new s.requests f.r (polled (answers.answer f.r.request f.r.polls) f.r) f.is h.requests f.keeps;
+          queue = h.queue;
         },
       )

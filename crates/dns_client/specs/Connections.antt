@@ -12,6 +12,7 @@ use Rattle.dns_service.specs.declared.event.Why.{Why}
 use Rattle.dns_service.specs.declared.event.Why.TheVariants.{Short, Idle, WriteTimeout}
 use Rattle.dns_service.specs.declared.invoker.InvokerStatus.{InvokerStatus}
 use Rattle.dns_service.specs.declared.invoker.InvokerStatus.TheVariants.{InTransaction}
+use Rattle.dns_client.specs.Budget.{Spending, allows, spend}
 use Rattle.dns_client.specs.Frames.{frames, framed}
 use Rattle.dns_client.specs.Slate.{Slate, SlateRequest, Told, Open, Flushing, Closed}
 use Rattle.dns_client.specs.Requests.{header_size, most_requests, request_of_frame, asked}
@@ -28,7 +29,7 @@ opened client addr at s = record s {
   reset_at = at;
 }
 
--- another configuration holds from now on; the queue's bound stays
+-- another configuration holds from now on; the queue's bound stays, and so do the mark and the number spent
 abbrev pub reconfigured : Connection → Slate → Slate
 reconfigured connection s = record s { connection = connection }
 
@@ -41,16 +42,23 @@ abbrev pub wind_up : Why → List (List ℕ) → Slate → Told
 wind_up why [] s = close why s
 wind_up why (m ∷ ms) s = (record s { phase = Flushing why; received = []; taken = 0; requests = [] }, [])
 
--- the queue has room for a frame
-abbrev pub has_space : Slate → Bool
-has_space s = nat_lt (length s.queue) s.bound
+-- what the connection may queue, and what it spent
+abbrev pub spending : Slate → Spending
+spending s = record { allowed = s.connection.response_budget; window = s.connection.budget_window; mark = s.mark; spent = s.spent }
 
-abbrev pub append_frame : List ℕ → Slate → Slate
-append_frame m s = record s { queue = s.queue ++ m ∷ [] }
+-- there is room for a frame: the queue is shorter than its bound, and the budget allows a reply more at this moment
+abbrev pub room : ℕ → Slate → Bool
+room at s = nat_lt (length s.queue) s.bound && allows at (spending s)
+
+-- a frame that is queued is spent
+abbrev pub append_frame : ℕ → List ℕ → Slate → Slate
+append_frame at m s =
+    let after = spend at (spending s) in
+    record s { queue = s.queue ++ m ∷ []; mark = after.mark; spent = after.spent }
 
 -- a frame is queued where there is room, and else dropped
-abbrev pub enqueue : List ℕ → Slate → Slate
-enqueue m s = if has_space s then append_frame m s else s
+abbrev pub enqueue : ℕ → List ℕ → Slate → Slate
+enqueue at m s = if room at s then append_frame at m s else s
 
 -- a request is made of a frame, unless most of them were made
 abbrev pub take_request : ℕ → ℕ → List ℕ → Slate → Slate
@@ -59,11 +67,11 @@ take_request at secs f s =
     then record s { requests = s.requests ++ asked (request_of_frame s.connection.idle_timeout s.addr at secs f) ∷ [] }
     else s
 
--- a frame resets the timer; a response makes no request, and is answered with FORMERR
+-- a frame resets the timer; a response makes no request, and is answered with FORMERR where there is room
 abbrev pub take_frame : ℕ → ℕ → List ℕ → Slate → Slate
 take_frame at secs f s =
     let t = record s { taken = s.taken + 1; reset_at = at } in
-    if (header_of f).qr then enqueue (framed (wire (error_reply f 1))) t else take_request at secs f t
+    if (header_of f).qr then enqueue at (framed (wire (error_reply f 1))) t else take_request at secs f t
 
 -- the frames are taken in order, up to one that is shorter than a header
 abbrev pub take_frames : ℕ → ℕ → List (List ℕ) → Slate → Told

@@ -8,12 +8,16 @@ pub use Rattle.dns_service.specs.Req
 pub mod Frames
 pub mod Serving
 pub mod Timers
+pub mod Budget
 pub mod Slate
 pub mod Requests
 pub mod Datagrams
 pub mod Connections
 pub mod Turns
 pub mod Rule
+pub mod After
+pub mod News
+pub mod Waiting
 pub mod PolledAt
 pub mod Invoker
 pub mod TurnedAt

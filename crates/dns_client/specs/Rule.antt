@@ -24,7 +24,7 @@ exchange_rule answers _ s = (s, [])
 
 abbrev pub open_rule : Serving → Event → EventKind → Slate → Told
 open_rule answers e (Piece o) s = piece e.at e.secs o s
-open_rule answers e (Turn k) s = (turn answers k (slice_get s.requests k) s, [])
+open_rule answers e (Turn k) s = (turn answers e.at k (slice_get s.requests k) s, [])
 open_rule answers e (Write took) s = write e.at took s.queue s
 open_rule answers e Tick s = tick e.at s
 open_rule answers e End s = close Ended s

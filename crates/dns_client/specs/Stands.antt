@@ -14,12 +14,13 @@ use Rattle.dns_client.specs.Frames.{framed, frames, past}
 use Rattle.dns_client.specs.Serving.{Serving}
 use Rattle.dns_client.specs.Slate.{Slate, SlateRequest, Told, Exchange, Open, Flushing, Closed}
 use Rattle.dns_client.specs.Requests.{asked, most_requests}
-use Rattle.dns_client.specs.Connections.{enqueue, in_transaction, take_frames}
+use Rattle.dns_client.specs.Connections.{in_transaction, spending, take_frames}
+use Rattle.dns_client.specs.Invoker.{offered}
 use Rattle.dns_client.specs.Turns.{limit_for}
 use Rattle.dns_client.specs.declared.kept.KeptRequest.{KeptRequest}
 use Rattle.dns_client.specs.declared.client.ClientCore.{ClientCore}
 use Rattle.dns_client.specs.declared.client.State.{State}
-use Rattle.dns_client.specs.declared.client.State.TheVariants.{Exchange as Is_exchange, Open as Is_open, Flushing as Is_flushing, Closed as Is_closed}
+use Rattle.dns_client.specs.declared.client.State.TheVariants.{Exchange as Is_exchange, Open as Is_open, Flushing as Is_flushing, Closed as Is_closed, Lost as Is_lost}
 use Rattle.dns_client.specs.declared.connection.OpenConnection.{OpenConnection}
 use Rattle.dns_client.specs.declared.connection_request.ConnectionRequest.{ConnectionRequest}
 use Rattle.dns_client.specs.declared.flushing.FlushingConnection.{FlushingConnection}
@@ -61,9 +62,15 @@ abbrev pub sole : {Q : Type 0} → Option Q → ℕ → Option Q
 sole kept zero = kept
 sole kept (suc k) = None
 
+-- and of the one that is kept the number
+abbrev pub sole_number : {Q : Type 0} → Option Q → Option ℕ
+sole_number None = None
+sole_number (Some q) = Some 0
+
 abbrev pub state_is_spent : {W R F : Type 0} → State W R F → Bool
 state_is_spent (Is_exchange kept) = not (is_some kept)
 state_is_spent (Is_closed freed) = freed
+state_is_spent Is_lost = true
 state_is_spent _ = false
 
 abbrev pub is_freed : {W R F : Type 0} → State W R F → Bool
@@ -72,7 +79,18 @@ is_freed _ = false
 
 abbrev pub is_closed : {W R F : Type 0} → State W R F → Bool
 is_closed (Is_closed freed) = true
+is_closed Is_lost = true
 is_closed _ = false
+
+-- a call of the core found no memory: nothing is kept any more, and the core stands for no slate
+abbrev pub IsLost : {W R F : Type 0} → ClientCore W R F → Type 0
+IsLost core = core.state ≡ Is_lost
+
+-- the frames that wait to be written
+abbrev pub waiting : {W R F : Type 0} → State W R F → List (List ℕ)
+waiting (Is_open c) = c.invoker.queue.items
+waiting (Is_flushing c) = c.queue.items
+waiting _ = []
 
 -- what an open connection keeps once it only writes what waits, and is closed then
 abbrev pub flushing_for : {W R F : Type 0} → Why → OpenConnection W R F → FlushingConnection
@@ -102,6 +120,8 @@ pub record IsClosed (number : ℕ) (freed_now : Bool) (s : Slate) : Type 0 where
   pub client : number ≡ s.client
   pub freed : s.freed ≡ freed_now
   pub phase : s.phase ≡ Closed
+  pub requests : s.requests ≡ []
+  pub queue : s.queue ≡ []
 
 -- of one that only writes what waits, the queue, how long a write may take, and why it is closed then
 pub record IsFlushing (number : ℕ) (c : FlushingConnection) (s : Slate) : Type 0 where
@@ -109,6 +129,7 @@ pub record IsFlushing (number : ℕ) (c : FlushingConnection) (s : Slate) : Type
   pub freed : s.freed ≡ false
   pub phase : s.phase ≡ Flushing c.why
   pub write_timeout : c.write_timeout ≡ s.connection.response_write_timeout
+  pub requests : s.requests ≡ []
   pub queue : c.queue.items ≡ s.queue
 
 -- what such a connection is after an outcome, and what its step does: at each of its slates, what is told is sent
@@ -122,11 +143,9 @@ IsLeft number c (Ends why) s = IsClosed number false s
 abbrev pub LeadsOn : FlushingConnection → FlushingConnection → Outcome → (Slate → Told) → Type 0
 LeadsOn old new outcome after = (number : ℕ) (s : Slate) → IsFlushing number old s → (outputs_of number outcome ≡ (after s).1) × IsLeft number new outcome (after s).0
 
--- a response is refused
-pub record Refuses {W R F : Type 0} (old new : OpenConnection W R F) (o : List ℕ) : Type 0 where
-  pub others : new ≡ record old { invoker = record old.invoker { queue = new.invoker.queue } }
-  pub queue : (s : Slate) → old.invoker.queue.items ≡ s.queue → old.invoker.queue.capacity ≡ s.bound → new.invoker.queue.items ≡ (enqueue (framed (wire (error_reply o 1))) s).queue
-  pub bound : new.invoker.queue.capacity ≡ old.invoker.queue.capacity
+-- a response is refused at a moment
+abbrev pub refusing : {W R F : Type 0} → ℕ → OpenConnection W R F → List ℕ → OpenConnection W R F
+refusing at c o = record c { invoker = offered (record c.invoker { at = at }) (framed (wire (error_reply o 1))) }
 
 module _ {R F : Type 0} (answer : PolledRequest F R → ℕ → Answer) (answers : Serving) where
   -- what is kept of a connection's requests, how many were made, and how many are in a transaction
@@ -140,6 +159,7 @@ module _ {R F : Type 0} (answer : PolledRequest F R → ℕ → Answer) (answers
     pub freed : s.freed ≡ false
     pub phase : s.phase ≡ Exchange
     pub requests : (k : ℕ) → Keeps answer answers (sole unfinished k) (slice_get s.requests k)
+    pub queue : s.queue ≡ []
 
   -- at every slate of the exchange, the outputs are those that are told, and it is the exchange of the slate after
   abbrev pub Exchanges : ℕ → Option (KeptRequest F R) → Option (KeptRequest F R) → List Output → (Slate → Told) → Type 0
@@ -161,19 +181,21 @@ module _ {R F : Type 0} (answer : PolledRequest F R → ℕ → Answer) (answers
       pub requests : KeepsAll c.count c.transactions c.unfinished s.requests
       pub queue : c.invoker.queue.items ≡ s.queue
       pub bound : c.invoker.queue.capacity ≡ s.bound
+      pub budget : c.invoker.budget ≡ spending s
 
     abbrev pub StandsIn : ℕ → State W R F → Slate → Type 0
     StandsIn number (Is_exchange unfinished) s = IsExchange number unfinished s
     StandsIn number (Is_open c) s = IsOpen number c s
     StandsIn number (Is_flushing c) s = IsFlushing number c s
     StandsIn number (Is_closed freed) s = IsClosed number freed s
+    StandsIn number Is_lost s = ⊥
 
     abbrev pub Stands : ClientCore W R F → Slate → Type 0
     Stands core s = StandsIn core.client core.state s
 
     -- at every slate that the core stands for, the outputs are those that are told, and it stands for the slate after
-    abbrev pub Follows : ClientCore W R F → ClientCore W R F → List Output → (Slate → Told) → Type 0
-    Follows old new outs after = (s : Slate) → Stands old s → (outs ≡ (after s).1) × Stands new (after s).0
+    abbrev pub GoesAs : ClientCore W R F → ClientCore W R F → List Output → (Slate → Told) → Type 0
+    GoesAs old new outs after = (s : Slate) → Stands old s → (outs ≡ (after s).1) × Stands new (after s).0
 
     -- the same of a connection that was open, by the outcome
     abbrev pub Leads : OpenConnection W R F → OpenConnection W R F → Outcome → (Slate → Told) → Type 0

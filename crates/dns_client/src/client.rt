@@ -1,13 +1,17 @@
 //! One client's core.
 
-ghost use Rattle.std.specs.Prelude.{◌≡◌, ℕ, [], ◌∷◌, false, IfOk};
+ghost use Rattle.std.specs.Prelude.{◌≡◌, ℕ, [], ◌∷◌, true, false, length, slice_get, option_map, None, IfOk, OnOk, OnErr};
+ghost use Rattle.std.specs.Result.{IsOkAnd};
 ghost use Rattle.dns_client.specs.Serving.{Serving, serving};
-ghost use Rattle.dns_client.specs.Slate.{Slate, IsUnused, conf_of};
+ghost use Rattle.dns_client.specs.Slate.{Slate, IsUnused, conf_of, phase_is_closed};
 ghost use Rattle.dns_client.specs.Datagrams.{datagram};
 ghost use Rattle.dns_client.specs.Connections.{opened};
 ghost use Rattle.dns_client.specs.Rule.{rule};
+ghost use Rattle.dns_client.specs.After.{slate_after};
+ghost use Rattle.dns_client.specs.News.{told_of, new_configurations, wide};
 ghost use Rattle.dns_client.specs.Spent.{is_spent};
-ghost use Rattle.dns_client.specs.Stands.{IsClosed, wound_up};
+ghost use Rattle.dns_client.specs.Stands.{IsClosed, sole_number, wound_up};
+ghost use Rattle.dns_client.specs.Waiting.{first_unfinished, next_unfinished};
 ghost use Rattle.dns_service.specs.PolledRequest.{request_answer};
 
 use crate::connection::OpenConnection;
@@ -32,13 +36,16 @@ enum State<W: Served> {
     Flushing(FlushingConnection),
     /// A connection that is closed, and whether it gave its slot back.
     Closed { freed: bool },
+    /// A call found no memory, and nothing is kept any more.
+    Lost,
 }
 
-/// What is kept of one client of a service.
+/// What is kept of one client of a service: its number, what it is, and the version of the configurations that it heard last.
 #[derive(Drop)]
 pub struct ClientCore<W: Served> {
     client: u64,
     state: State<W>,
+    version: u64,
 }
 
 /// The state of a connection that only writes what waits from now on, where it is open.
@@ -61,6 +68,16 @@ fn step_closed(freed: &mut bool, event: &Event)
     }
 }
 
+/// The number of an exchange's request, where that is kept.
+fn sole_number<F, R>(unfinished: &Option<KeptRequest<F, R>>) -> Option<u64>
+    ensures { result ≡ sole_number unfinished.now }
+{
+    match unfinished {
+        Some(_) => Some(0),
+        None => None,
+    }
+}
+
 /// A last frame, and why the connection is closed behind it.
 fn last(alloc: Global, client: u64, octets: Octets, why: Why) -> Result<Vec<Output>, OutOfMemory>
     ensures { IfOk result (λ outs. outs.items ≡ Output.Frame client octets ∷ Output.Closed client why ∷ []) }
@@ -71,7 +88,7 @@ fn last(alloc: Global, client: u64, octets: Octets, why: Why) -> Result<Vec<Outp
 }
 
 impl<W: Served> ClientCore<W> {
-    ghost use Rattle.dns_client.specs.Stands.{Stands, Follows, outputs_of, state_behind, state_is_spent, is_freed, is_closed};
+    ghost use Rattle.dns_client.specs.Stands.{Stands, GoesAs, IsLost, outputs_of, state_behind, state_is_spent, is_freed, is_closed, waiting};
 
     /// An exchange by its datagram, at a moment in ms and seconds and by a look that shows no shutdown, and what the client is
     /// sent for it. What is longer than 1,024 octets is cut. Below 12 octets no request is made, and a response is refused at
@@ -88,16 +105,21 @@ impl<W: Served> ClientCore<W> {
     ) -> Result<(Self, Vec<Output>), OutOfMemory>
         requires can_call { W.can_call service.now }
         requires running { look.now.closed ≡ false }
-        ensures { IfOk result (λ p. (s : Slate) → IsUnused s → s.conf ≡ conf_of look.now
+        ensures begun { IfOk result (λ p. (s : Slate) → IsUnused s → s.conf ≡ conf_of look.now
             → (p.1.items ≡ (datagram client addr at secs octets.now s).1)
             × Stands (request_answer W.Future.answer W.Stream.answer) (serving (W.answer service.now) (W.hint service.now)) p.0 (datagram client addr at secs octets.now s).0) }
+        ensures version { IfOk result (λ p. p.0.version ≡ look.now.version) }
     {
         let config = &look.dgram;
         let (unfinished, outs) = begin_exchange(
             alloc, service, client, addr, at, secs, octets, config,
         )?;
-        let state = State::Exchange(unfinished);
-        Ok((ClientCore { client, state }, outs))
+        let core = ClientCore {
+            client,
+            state: State::Exchange(unfinished),
+            version: look.version,
+        };
+        Ok((core, outs))
     }
 
     /// An open connection from a moment on, by a look that shows no shutdown. It takes the memory of its queue.
@@ -109,17 +131,22 @@ impl<W: Served> ClientCore<W> {
         look: &Look,
     ) -> Result<Self, OutOfMemory>
         requires { look.now.closed ≡ false }
-        ensures { IfOk result (λ core. (answers : Serving) (s : Slate) → IsUnused s → s.conf ≡ conf_of look.now
+        ensures begun { IfOk result (λ core. (answers : Serving) (s : Slate) → IsUnused s → s.conf ≡ conf_of look.now
             → Stands (request_answer W.Future.answer W.Stream.answer) answers core (opened client addr at s)) }
+        ensures version { IfOk result (λ core. core.version ≡ look.now.version) }
     {
         let connection = OpenConnection::open(alloc, addr, at, &look.stream)?;
-        let state = State::Open(connection);
-        Ok(ClientCore { client, state })
+        Ok(ClientCore {
+            client,
+            state: State::Open(connection),
+            version: look.version,
+        })
     }
 
     /// A connection that is open only writes what waits from now on.
     fn wind_up(&mut self, why: Why)
         ensures client { self.new.client ≡ self.old.client }
+        ensures version { self.new.version ≡ self.old.version }
         ensures state { self.new.state ≡ wound_up why self.old.state }
     {
         let state = replace(&mut self.state, State::Closed { freed: false });
@@ -129,6 +156,7 @@ impl<W: Served> ClientCore<W> {
     /// The connection is closed from now on.
     fn close(&mut self)
         ensures client { self.new.client ≡ self.old.client }
+        ensures version { self.new.version ≡ self.old.version }
         ensures state { self.new.state ≡ State.Closed false }
     {
         self.state = State::Closed { freed: false };
@@ -138,6 +166,7 @@ impl<W: Served> ClientCore<W> {
     fn carry_out(&mut self, alloc: Global, outcome: Outcome) -> Result<Vec<Output>, OutOfMemory>
         ensures outs { IfOk result (λ outs. outs.items ≡ outputs_of self.old.client outcome) }
         ensures client { self.new.client ≡ self.old.client }
+        ensures version { self.new.version ≡ self.old.version }
         ensures state { self.new.state ≡ state_behind self.old.state outcome }
     {
         let client = self.client;
@@ -159,16 +188,29 @@ impl<W: Served> ClientCore<W> {
         }
     }
 
-    /// One event of the client.
-    pub fn step(
+    /// A call found no memory: nothing is kept any more.
+    fn lose(&mut self, error: OutOfMemory) -> OutOfMemory
+        ensures client { self.new.client ≡ self.old.client }
+        ensures version { self.new.version ≡ self.old.version }
+        ensures state { IsLost self.new }
+    {
+        self.state = State::Lost;
+        error
+    }
+
+    /// What an event of a client leads to, which is that of its state.
+    fn do_step(
         &mut self,
         alloc: Global,
         service: &W,
         event: &Event,
     ) -> Result<Vec<Output>, OutOfMemory>
         requires { W.can_call service.now }
-        ensures { IfOk result (λ outs. Follows (request_answer W.Future.answer W.Stream.answer) (serving (W.answer service.now) (W.hint service.now)) self.old self.new outs.items
+        ensures told { IfOk result (λ outs. GoesAs (request_answer W.Future.answer W.Stream.answer) (serving (W.answer service.now) (W.hint service.now)) self.old self.new outs.items
             (rule (serving (W.answer service.now) (W.hint service.now)) event.now)) }
+        ensures client { self.new.client ≡ self.old.client }
+        ensures version { self.new.version ≡ self.old.version }
+        ensures lost { IsLost self.old → IsOkAnd result (λ outs. outs.items ≡ []) × IsLost self.new }
     {
         match &mut self.state {
             State::Exchange(unfinished) => exchange_step(alloc, self.client, unfinished, event),
@@ -186,6 +228,85 @@ impl<W: Served> ClientCore<W> {
                 step_closed(freed, event);
                 Ok(Vec::new(alloc))
             }
+            State::Lost => Ok(Vec::new(alloc)),
+        }
+    }
+
+    /// One event of the client. Where it finds no memory, nothing is kept any more, and every later call gives nothing.
+    pub fn step(
+        &mut self,
+        alloc: Global,
+        service: &W,
+        event: &Event,
+    ) -> Result<Vec<Output>, OutOfMemory>
+        requires { W.can_call service.now }
+        // At each slate that the core stands for it sends what the rule says, and stands for the slate that the rule says.
+        ensures told { IfOk result (λ outs. GoesAs (request_answer W.Future.answer W.Stream.answer) (serving (W.answer service.now) (W.hint service.now)) self.old self.new outs.items
+            (rule (serving (W.answer service.now) (W.hint service.now)) event.now)) }
+        ensures client { self.new.client ≡ self.old.client }
+        ensures version { self.new.version ≡ self.old.version }
+        // Want of memory, and what comes after it.
+        ensures loses { OnErr result (IsLost self.new) }
+        ensures lost { IsLost self.old → IsOkAnd result (λ outs. outs.items ≡ []) × IsLost self.new }
+    {
+        match self.do_step(alloc, service, event) {
+            Ok(outs) => Ok(outs),
+            Err(error) => Err(self.lose(error)),
+        }
+    }
+
+    /// An open connection hears configurations, where their version is new.
+    fn hear(&mut self, look: &Look)
+        ensures told { (answers : Serving)
+            → GoesAs (request_answer W.Future.answer W.Stream.answer) answers self.old self.new [] (λ s. (slate_after answers s (new_configurations self.old.version look.now), [])) }
+        ensures client { self.new.client ≡ self.old.client }
+        ensures version { self.new.version ≡ look.now.version }
+        ensures lost { IsLost self.old → IsLost self.new }
+    {
+        if look.version == self.version {
+            return;
+        }
+        self.version = look.version;
+        if let State::Open(connection) = &mut self.state {
+            connection.reconfigure(&look.stream.connection_config());
+        }
+    }
+
+    /// An open connection is to be closed, since the server shuts down.
+    fn shut_down(&mut self, alloc: Global) -> Result<Vec<Output>, OutOfMemory>
+        ensures told { IfOk result (λ outs. (answers : Serving)
+            → GoesAs (request_answer W.Future.answer W.Stream.answer) answers self.old self.new outs.items (rule answers (wide EventKind.Shutdown))) }
+        ensures client { self.new.client ≡ self.old.client }
+        ensures version { self.new.version ≡ self.old.version }
+        ensures lost { IsLost self.old → IsOkAnd result (λ outs. outs.items ≡ []) × IsLost self.new }
+    {
+        let State::Open(connection) = &self.state else {
+            return Ok(Vec::new(alloc));
+        };
+        let outcome = connection.wind_up(Why::Shutdown);
+        let outs = self.carry_out(alloc, outcome)?;
+        Ok(outs)
+    }
+
+    /// A look at the book: the client hears of what is new to it, the configurations and then the shutdown. Where it finds no
+    /// memory, nothing is kept any more, and every later call gives nothing.
+    pub fn saw(&mut self, alloc: Global, look: &Look) -> Result<Vec<Output>, OutOfMemory>
+        // At each slate that the core stands for, the look's news do what the rules say.
+        ensures told { IfOk result (λ outs. (answers : Serving)
+            → GoesAs (request_answer W.Future.answer W.Stream.answer) answers self.old self.new outs.items (told_of answers self.old.version look.now)) }
+        ensures client { self.new.client ≡ self.old.client }
+        ensures version { self.new.version ≡ look.now.version }
+        // Want of memory, and what comes after it.
+        ensures loses { OnErr result (IsLost self.new) }
+        ensures lost { IsLost self.old → IsOkAnd result (λ outs. outs.items ≡ []) × IsLost self.new }
+    {
+        self.hear(look);
+        if !look.closed {
+            return Ok(Vec::new(alloc));
+        }
+        match self.shut_down(alloc) {
+            Ok(outs) => Ok(outs),
+            Err(error) => Err(self.lose(error)),
         }
     }
 
@@ -199,6 +320,7 @@ impl<W: Served> ClientCore<W> {
             State::Exchange(unfinished) => unfinished.is_none(),
             State::Open(_) | State::Flushing(_) => false,
             State::Closed { freed } => *freed,
+            State::Lost => true,
         }
     }
 
@@ -214,10 +336,68 @@ impl<W: Served> ClientCore<W> {
         }
     }
 
-    /// Whether the connection is closed.
+    /// Whether the connection is closed, or a call found no memory.
     pub fn is_closed(&self) -> bool
-        ensures { result ≡ is_closed self.now.state }
+        ensures value { result ≡ is_closed self.now.state }
+        ensures closed { (answers : Serving) (s : Slate)
+            → Stands (request_answer W.Future.answer W.Stream.answer) answers self.now s → result ≡ phase_is_closed s.phase }
+        ensures lost { IsLost self.now → result ≡ true }
     {
-        matches!(&self.state, State::Closed { .. })
+        matches!(&self.state, State::Closed { .. } | State::Lost)
+    }
+
+    /// How many frames wait to be written.
+    pub fn queued(&self) -> usize
+        ensures value { result ≡ length (waiting self.now.state) }
+        ensures queue { (answers : Serving) (s : Slate)
+            → Stands (request_answer W.Future.answer W.Stream.answer) answers self.now s → result ≡ length s.queue }
+        ensures lost { IsLost self.now → result ≡ 0 }
+    {
+        match &self.state {
+            State::Open(connection) => connection.queued(),
+            State::Flushing(connection) => connection.queued(),
+            State::Exchange(_) | State::Closed { .. } | State::Lost => 0,
+        }
+    }
+
+    /// The frame that is written next, where one waits.
+    pub fn front_frame(&self) -> Option<&[u8]>
+        ensures value { option_map (λ m. m.now) result ≡ slice_get (waiting self.now.state) 0 }
+        ensures queue { (answers : Serving) (s : Slate)
+            → Stands (request_answer W.Future.answer W.Stream.answer) answers self.now s → option_map (λ m. m.now) result ≡ slice_get s.queue 0 }
+        ensures lost { IsLost self.now → result ≡ None }
+    {
+        match &self.state {
+            State::Open(connection) => connection.front_frame(),
+            State::Flushing(connection) => connection.front_frame(),
+            State::Exchange(_) | State::Closed { .. } | State::Lost => None,
+        }
+    }
+
+    /// The number of the first request that isn't done, where there is one.
+    pub fn first_unfinished(&self) -> Option<u64>
+        ensures requests { (answers : Serving) (s : Slate)
+            → Stands (request_answer W.Future.answer W.Stream.answer) answers self.now s → result ≡ first_unfinished s.requests }
+        ensures lost { IsLost self.now → result ≡ None }
+    {
+        match &self.state {
+            State::Exchange(unfinished) => sole_number(unfinished),
+            State::Open(connection) => connection.first_unfinished(),
+            State::Flushing(_) | State::Closed { .. } | State::Lost => None,
+        }
+    }
+
+    /// The number of the first request behind the one of a number that isn't done, where there is one.
+    #[tactic(auto, using(crate::proofs::Unfinished::exchange_behind))]
+    pub fn next_unfinished(&self, request: u64) -> Option<u64>
+        ensures requests { (answers : Serving) (s : Slate)
+            → Stands (request_answer W.Future.answer W.Stream.answer) answers self.now s → result ≡ next_unfinished request s.requests }
+        ensures lost { IsLost self.now → result ≡ None }
+    {
+        match &self.state {
+            State::Open(connection) => connection.next_unfinished(request),
+            State::Exchange(_) => None,
+            State::Flushing(_) | State::Closed { .. } | State::Lost => None,
+        }
     }
 }

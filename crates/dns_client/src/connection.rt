@@ -1,6 +1,6 @@
 //! A connection that is open.
 
-ghost use Rattle.std.specs.Prelude.{◌≡◌, ◌<◌, ℕ, ◌+◌, ◌-◌, min, IfOk, OnOk, [], MatchOption, slice_get, true, false, not, ◌&&◌, if◌then◌else◌};
+ghost use Rattle.std.specs.Prelude.{◌≡◌, ◌<◌, ℕ, ◌+◌, ◌-◌, min, IfOk, OnOk, [], MatchOption, length, option_map, slice_get, true, false, not, ◌&&◌, if◌then◌else◌};
 ghost use Rattle.dns_base.specs.Header.{header_of};
 ghost use Rattle.dns_client.specs.Serving.{Serving, serving};
 ghost use Rattle.dns_client.specs.Slate.{Conf, Slate, IsUnused, with_conf};
@@ -9,6 +9,7 @@ ghost use Rattle.dns_client.specs.Connections.{opened, take_frames, piece, write
 ghost use Rattle.dns_client.specs.Requests.{asked, request_of_frame};
 ghost use Rattle.dns_client.specs.Stands.{flushing_for};
 ghost use Rattle.dns_client.specs.Turns.{turn};
+ghost use Rattle.dns_client.specs.Waiting.{first_unfinished, next_unfinished};
 ghost use Rattle.dns_client.specs.Rule.{rule};
 ghost use Rattle.dns_service.specs.PolledRequest.{request_answer};
 ghost use Rattle.dns_service.specs.Req.{Req};
@@ -28,6 +29,7 @@ use dns_service::{
 };
 use std::alloc::Global;
 use std::collections::BTreeMap;
+use std::ops::Bound;
 
 /// What is kept of a connection while it is open: its address, how long a write may take in ms, its timer, the octets in no
 /// frame yet, its requests that aren't done, how many were made and are in a transaction, and its queue.
@@ -57,7 +59,7 @@ fn recount(count: u64, transactions: u64, was: bool, now: bool) -> u64
 }
 
 impl<W: Served> OpenConnection<W> {
-    ghost use Rattle.dns_client.specs.Stands.{IsGoing, IsOpen, Leads, Asks, Refuses, TakesFrame};
+    ghost use Rattle.dns_client.specs.Stands.{IsGoing, IsOpen, Leads, Asks, TakesFrame, refusing};
 
     /// Of no requests, from a moment on. It takes the memory of its queue.
     pub fn open(
@@ -70,11 +72,7 @@ impl<W: Served> OpenConnection<W> {
             → IsOpen (request_answer W.Future.answer W.Stream.answer) answers client c (opened client addr at s)) }
     {
         let config = config.connection_config();
-        let invoker = ConnectionInvoker::new(
-            alloc,
-            config.idle_timeout(),
-            config.max_queued_responses(),
-        )?;
+        let invoker = ConnectionInvoker::new(alloc, at, &config)?;
         Ok(OpenConnection {
             addr,
             write_timeout: config.response_write_timeout(),
@@ -87,11 +85,12 @@ impl<W: Served> OpenConnection<W> {
         })
     }
 
-    /// Another configuration holds from now on. The queue's bound stays.
-    fn reconfigure(&mut self, config: &ConnectionConfig)
+    /// Another configuration holds from now on. The queue's bound stays, and so does what was spent of the response budget.
+    pub fn reconfigure(&mut self, config: &ConnectionConfig)
         ensures { (answers : Serving) → Leads (request_answer W.Future.answer W.Stream.answer) answers self.old self.new Outcome.Nothing (λ s. (reconfigured config.now s, [])) }
     {
         self.invoker.idle_timeout = config.idle_timeout();
+        self.invoker.budget.reconfigure(config);
         self.write_timeout = config.response_write_timeout();
     }
 
@@ -119,21 +118,23 @@ impl<W: Served> OpenConnection<W> {
         Ok(())
     }
 
-    /// Answers a response, of which no request is made.
-    fn refuse(&mut self, alloc: Global, message: &Message) -> Result<(), OutOfMemory>
-        ensures { OnOk result (Refuses self.old self.new message.now) }
+    /// Answers a response, of which no request is made, where there is room.
+    fn refuse(&mut self, alloc: Global, at: u64, message: &Message) -> Result<(), OutOfMemory>
+        ensures { OnOk result (self.new ≡ refusing at self.old message.now) }
     {
         let reply = refused(alloc, message, None, OptRcode::FORMERR)?;
+        self.invoker.set_moment(at);
         let _dropped = self.invoker.offer(frame_of(reply));
         Ok(())
     }
 
-    /// A turn of a request: a reply that is held is queued where there is room, or else the request is polled once.
-    fn turn(&mut self, alloc: Global, request: u64) -> Result<(), OutOfMemory>
+    /// A turn of a request at a moment: a reply that is held is queued where there is room, or else the request is polled once.
+    fn turn(&mut self, alloc: Global, at: u64, request: u64) -> Result<(), OutOfMemory>
         ensures { OnOk result ((answers : Serving) (client : ℕ) (s : Slate)
             → IsOpen (request_answer W.Future.answer W.Stream.answer) answers client self.old s
-            → IsOpen (request_answer W.Future.answer W.Stream.answer) answers client self.new (turn answers request (slice_get s.requests request) s)) }
+            → IsOpen (request_answer W.Future.answer W.Stream.answer) answers client self.new (turn answers at request (slice_get s.requests request) s)) }
     {
+        self.invoker.set_moment(at);
         let (was, now) = turn_at(alloc, &mut self.unfinished, &mut self.invoker, request)?;
         self.transactions = recount(self.count, self.transactions, was, now);
         Ok(())
@@ -192,12 +193,12 @@ impl<W: Served> OpenConnection<W> {
         message: Message,
     ) -> Result<(), OutOfMemory>
         requires { W.can_call service.now }
-        ensures response { OnOk result ((header_of message).qr ≡ true → Refuses self.old self.new message) }
+        ensures response { OnOk result ((header_of message).qr ≡ true → self.new ≡ refusing at self.old message) }
         ensures query { OnOk result ((header_of message).qr ≡ false
             → Asks (request_answer W.Future.answer W.Stream.answer) (serving (W.answer service.now) (W.hint service.now)) self.old self.new (request_of_frame self.old.invoker.idle_timeout self.old.addr at secs message)) }
     {
         if message.header().qr {
-            return self.refuse(alloc, &message);
+            return self.refuse(alloc, at, &message);
         }
         self.take_query(alloc, service, at, secs, message)
     }
@@ -272,7 +273,7 @@ impl<W: Served> OpenConnection<W> {
     }
 
     /// Is to be closed: at once, or once what waits is written, whatever the server's configurations are then.
-    fn wind_up(&self, why: Why) -> Outcome
+    pub fn wind_up(&self, why: Why) -> Outcome
         ensures { (answers : Serving) (conf : Slate → Conf)
             → Leads (request_answer W.Future.answer W.Stream.answer) answers self.now self.now result (λ s. wind_up why s.queue (with_conf (conf s) s)) }
     {
@@ -299,6 +300,46 @@ impl<W: Served> OpenConnection<W> {
         }
     }
 
+    /// How many frames wait to be written.
+    pub fn queued(&self) -> usize
+        ensures { result ≡ length self.now.invoker.queue.items }
+    {
+        self.invoker.queue.len()
+    }
+
+    /// The frame that is written next.
+    pub fn front_frame(&self) -> Option<&[u8]>
+        ensures { option_map (λ m. m.now) result ≡ slice_get self.now.invoker.queue.items 0 }
+    {
+        match self.invoker.queue.front() {
+            Some(octets) => Some(octets.as_slice()),
+            None => None,
+        }
+    }
+
+    /// The number of the first request that isn't done.
+    pub fn first_unfinished(&self) -> Option<u64>
+        ensures { (answers : Serving) (client : ℕ) (s : Slate)
+            → IsOpen (request_answer W.Future.answer W.Stream.answer) answers client self.now s → result ≡ first_unfinished s.requests }
+    {
+        match self.unfinished.first_key_value() {
+            Some((number, _)) => Some(*number),
+            None => None,
+        }
+    }
+
+    /// The number of the first request behind the one of a number that isn't done.
+    pub fn next_unfinished(&self, request: u64) -> Option<u64>
+        ensures { (answers : Serving) (client : ℕ) (s : Slate)
+            → IsOpen (request_answer W.Future.answer W.Stream.answer) answers client self.now s → result ≡ next_unfinished request s.requests }
+    {
+        let behind = (Bound::Excluded(request), Bound::Unbounded);
+        match self.unfinished.range(behind).next() {
+            Some((number, _)) => Some(*number),
+            None => None,
+        }
+    }
+
     /// One event of the connection.
     pub fn step(
         &mut self,
@@ -316,7 +357,7 @@ impl<W: Served> OpenConnection<W> {
                 self.piece(alloc, service, event.at, event.secs, octets)
             }
             EventKind::Turn { request } => {
-                self.turn(alloc, *request)?;
+                self.turn(alloc, event.at, *request)?;
                 Ok(Outcome::Nothing)
             }
             EventKind::Write { took } => Ok(self.write(event.at, *took)),

@@ -1,6 +1,6 @@
 //! A connection that only writes what waits, before it is closed.
 
-ghost use Rattle.std.specs.Prelude.{◌≡◌};
+ghost use Rattle.std.specs.Prelude.{◌≡◌, length, slice_get, option_map};
 ghost use Rattle.dns_client.specs.Connections.{flush};
 ghost use Rattle.dns_client.specs.Rule.{rule};
 ghost use Rattle.dns_client.specs.Serving.{Serving};
@@ -38,6 +38,23 @@ impl FlushingConnection {
             return Outcome::WrittenLast(octets, self.why);
         }
         Outcome::Written(octets)
+    }
+
+    /// How many frames wait to be written.
+    pub fn queued(&self) -> usize
+        ensures { result ≡ length self.now.queue.items }
+    {
+        self.queue.len()
+    }
+
+    /// The frame that is written next.
+    pub fn front_frame(&self) -> Option<&[u8]>
+        ensures { option_map (λ m. m.now) result ≡ slice_get self.now.queue.items 0 }
+    {
+        match self.queue.front() {
+            Some(octets) => Some(octets.as_slice()),
+            None => None,
+        }
     }
 
     /// One event of the connection.

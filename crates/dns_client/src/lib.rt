@@ -1,6 +1,7 @@
 //! Clients of a server: what is kept of one, and what its events do to that.
 #![tactic(auto)]
 
+mod budget;
 mod client;
 mod connection;
 mod connection_request;

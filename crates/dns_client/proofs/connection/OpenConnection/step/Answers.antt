@@ -21,7 +21,7 @@ pub returns-in_ok-turn-in-Turn : goal.returns-in_ok-turn-in-Turn
 returns-in_ok-turn-in-Turn g c =
     let a = request_answer g.W.Future.ReplyFuture.answer g.W.Stream.ReplyStream.answer in
     let b = serving (g.W.Served.answer c.args.service.now) (g.W.Served.hint c.args.service.now) in
-    in_leads a b c.args.self.now c.turn.new.self Nothing c.args.event.now (rw c.in-Turn.is (turns a b c.args.self.now c.turn.new.self (λ (s : Slate). turn b c.in-Turn.request (slice_get s.requests c.in-Turn.request) s) (c.in_ok-turn-in-Turn.ensures b)))
+    in_leads a b c.args.self.now c.turn.new.self Nothing c.args.event.now (rw c.in-Turn.is (turns a b c.args.self.now c.turn.new.self (λ (s : Slate). turn b c.args.event.now.at c.in-Turn.request (slice_get s.requests c.in-Turn.request) s) (c.in_ok-turn-in-Turn.ensures b)))
 
 pub returns-in-Write : goal.returns-in-Write
 returns-in-Write g c =
