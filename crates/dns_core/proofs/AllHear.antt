@@ -7,7 +7,7 @@ use Rattle.std.specs.List.{flat_map, list_any}
 use Rattle.std.specs.Ordering.{nat_cmp}
 use Rattle.std.specs.BTreeMap.{BTreeMap, get, keys, IsOrdered}
 use Rattle.dns_admission.specs.declared.look.Look.{Look}
-use Rattle.dns_admission.specs.Machine.{last_version}
+use Rattle.dns_admission.specs.Machine.{has_version, last_version}
 use Rattle.dns_service.specs.Answer.{Answer}
 use Rattle.dns_service.specs.declared.event.Event.{Event}
 use Rattle.dns_service.specs.declared.event.EventKind.{EventKind}
@@ -15,6 +15,7 @@ use Rattle.dns_service.specs.declared.event.EventKind.TheVariants.{Reconfigure, 
 use Rattle.dns_service.specs.declared.event.Output.{Output}
 use Rattle.dns_service.specs.declared.polled.PolledRequest.{PolledRequest}
 use Rattle.dns_client.specs.Slate.{Slate, Told, conf_of, conf_rule}
+use Rattle.dns_client.specs.News.{told_of as heard_news}
 use Rattle.dns_client.specs.Rule.{rule}
 use Rattle.dns_client.specs.Stands.{Stands}
 use Rattle.dns_client.specs.declared.client.ClientCore.{ClientCore}
@@ -22,13 +23,16 @@ use Rattle.dns_core.specs.Books.{book_rule}
 use Rattle.dns_core.specs.Own.{is_wide, concerns}
 use Rattle.dns_core.specs.Sent.{slate}
 use Rattle.dns_core.specs.Out.{is_unused, holds_slot, taken, members, gain, heard, gained}
-use Rattle.dns_core.specs.Serves.{Holds, StepsAll}
+use Rattle.dns_core.specs.Serves.{Holds, IsAt, LooksAll}
 use Rattle.dns_core.specs.Server.{Serves}
 use Rattle.dns_middleware.specs.declared.settings.Settings.{Settings}
 use Rattle.dns_core.specs.declared.server.Server.{Server}
 use Rattle.dns_core.proofs.Gained.{concerns_all, conf_more, members_kept, none_away, taken_still}
 use Rattle.dns_core.proofs.OutLemmas.{slate_some}
 use Rattle.dns_core.proofs.Keys.{flat_among, has_key}
+use Rattle.dns_core.proofs.Late.{not_over}
+use Rattle.dns_core.proofs.Looked.{heard_one}
+use Rattle.dns_core.proofs.Plain.{plain}
 use Rattle.dns_core.proofs.Rising.{rises}
 use Rattle.dns_core.proofs.Spent.{spent_idle, spent_kept, wide_unspent}
 use Rattle.dns_core.proofs.Wide.{wide_use, wide_slot, wide_not_new}
@@ -36,6 +40,10 @@ use Rattle.dns_core.proofs.Wide.{wide_use, wide_slot, wide_not_new}
 all_pass : (p : ℕ → Bool) (ms : List ℕ) → ((c : ℕ) → p c ≡ true) → filter p ms ≡ ms
 all_pass p [] h = refl
 all_pass p (m ∷ ms) h = rw (h m, all_pass p ms h) refl
+
+flat_same : (f g : ℕ → List Output) (ks : List ℕ) → ((c : ℕ) → f c ≡ g c) → flat_map f ks ≡ flat_map g ks
+flat_same f g [] h = refl
+flat_same f g (k ∷ ks) h = rw (h k, flat_same f g ks h) refl
 
 -- what such an event does to a book that has versions left
 record Noted (old new : Look) (k : EventKind) : Type 0 where
@@ -59,6 +67,14 @@ module _ {W R F : Type 0} (answer : PolledRequest F R → ℕ → Answer) (answe
   held_stands None b s core h is = cc
   held_stands (Some x) true s core h is = let i : x ≡ core = cc in subst (λ (y : ClientCore W R F). Stands answer answers y s) i h.0
   held_stands (Some x) false s core h is = absurd h
+
+  kept_at : (o : Option (ClientCore W R F)) (v : ℕ) (core : ClientCore W R F) → IsAt o v → o ≡ Some core → core.version ≡ v
+  kept_at None v core h is = cc
+  kept_at (Some x) v core h is = let i : x ≡ core = cc in subst (λ (y : ClientCore W R F). y.version ≡ v) i h
+
+  all_at : (o : Option (ClientCore W R F)) (v : ℕ) → ((core : ClientCore W R F) → o ≡ Some core → core.version ≡ v) → IsAt o v
+  all_at None v h = tt
+  all_at (Some x) v h = h x refl
 
   -- a client of which something is kept is a member, and one of which nothing is kept is told nothing
   kept_there : (o : Option (ClientCore W R F)) (b : Bool) (s : Slate) → Holds answer answers o b s → is_some o ≡ true → b ≡ true
@@ -95,7 +111,7 @@ module _ {W R F : Type 0} (answer : PolledRequest F R → ℕ → Answer) (answe
     pub wide_goes : (old : Server W R F) (m : BTreeMap ℕ (ClientCore W R F)) (b : Look) (q : List Event) (e : Event) (outs : List Output)
         → is_wide e.kind ≡ true
         → length q < last_version
-        → StepsAll answer answers old.clients m e outs
+        → LooksAll answer answers old.clients m b outs
         → keys m ≡ keys old.clients
         → IsOrdered nat_cmp old.clients
         → b ≡ book_rule old.book e.kind
@@ -108,11 +124,16 @@ module _ {W R F : Type 0} (answer : PolledRequest F R → ℕ → Answer) (answe
         let few = h.few in
         let n : Noted old.book b e.kind = rw is (noted old.book e.kind (omega arith)) in
         let version = n.version in
-        let a = all (λ c. slate answers settings c q) (λ c core kept. held_stands (get nat_cmp old.clients c) (list_any (nat_eq c) (members answers settings q)) (slate answers settings c q) core (h.clients c) kept) in
+        let has : has_version old.book ≡ true = lt-ltb old.book.version last_version (omega (arith, few, lt)) in
+        let tells : (c : ℕ) → heard_news answers old.book.version b (slate answers settings c q) ≡ rule answers e (slate answers settings c q) = λ c.
+        ap (λ (x : Look). heard_news answers old.book.version x (slate answers settings c q)) is ∙ heard_one answers e old.book (slate answers settings c q) wide has ((plain answers settings c q).conf ∙ sym h.shown) (not_over answers settings c q) in
+        let a = all (λ c. slate answers settings c q) (λ c. old.book.version) (λ c core kept. (held_stands (get nat_cmp old.clients c) (list_any (nat_eq c) (members answers settings q)) (slate answers settings c q) core (h.clients c) kept, kept_at (get nat_cmp old.clients c) old.book.version core (h.versions c) kept)) in
+        let said : outs ≡ flat_map (λ c. (rule answers e (slate answers settings c q)).1) (keys old.clients) = a.0 ∙ flat_same (λ c. (heard_news answers old.book.version b (slate answers settings c q)).1) (λ c. (rule answers e (slate answers settings c q)).1) (keys old.clients) (λ c. ap (λ (t : Told). t.1) (tells c)) in
         let same : (c : ℕ) → is_some (get nat_cmp m c) ≡ is_some (get nat_cmp old.clients c) = λ c. has_key m c ∙ (ap (list_any (nat_eq c)) ks ∙ sym (has_key old.clients c)) in (
-          wide_says old q e outs wide rising h a.0,
+          wide_says old q e outs wide rising h said,
           record {
-            clients = λ c. rw (ms, after c) (wide_leaves (get nat_cmp old.clients c) (get nat_cmp m c) (list_any (nat_eq c) (members answers settings q)) e (slate answers settings c q) wide (same c) (h.clients c) (λ core kept. a.1 c core kept));
+            clients = λ c. rw (ms, after c) (wide_leaves (get nat_cmp old.clients c) (get nat_cmp m c) (list_any (nat_eq c) (members answers settings q)) e (slate answers settings c q) wide (same c) (h.clients c) (λ core kept. subst (λ (t : Told). Stands answer answers core t.0) (tells c) (a.1 c core kept).0));
+            versions = λ c. all_at (get nat_cmp m c) b.version (λ core kept. (a.1 c core kept).1);
             used = λ c. h.used c ∙ ap not (sym (ap (λ (s : Slate). is_unused s.phase) (after c) ∙ wide_use answers e (slate answers settings c q) wide));
             slots = n.taken ∙ (h.slots ∙ sym (ap (taken answers settings (q ++ e ∷ [])) ms ∙ taken_still answers settings q e (members answers settings q) (λ c there. ap holds_slot (after c) ∙ wide_slot answers e (slate answers settings c q) wide)));
             shown = n.shown ∙ (ap (conf_rule e.kind) h.shown ∙ sym (conf_more settings q e));

@@ -205,10 +205,10 @@ module _ (answers : Serving) (settings : Settings) (c : ℕ) where
   module _ (respond : (n : Option ℕ) (r : Req (Unit {0})) (k : ℕ) → IfSome (reply_to n r.octets (answers.answer r k)) (Responds r.octets))
       (fit : (r : Req (Unit {0})) (k : ℕ) (hint : Option ℕ) → r.transport ≡ Udp hint → IfSome (sent_for answers r (answers.answer r k)) (λ m. length (wire m) ≤ limit (answers.hint r)))
       (cut_fits : (n : ℕ) (m : Msg) → 512 ≤ n → length (wire (cut n m)) ≤ n) where
-    turn_leads : (q : List Event) (e : Event) (k : ℕ) (s : Slate) → s.phase ≡ Open → Listens (AskedBefore q) s → Leads q e (turn answers k (slice_get s.requests k) s, [])
+    turn_leads : (q : List Event) (e : Event) (k : ℕ) (s : Slate) → s.phase ≡ Open → Listens (AskedBefore q) s → Leads q e (turn answers e.at k (slice_get s.requests k) s, [])
     turn_leads q e k s p h =
-        let g = turn_listens (AskedBefore q) answers respond k s h in
-        open_still q e (turn answers k (slice_get s.requests k) s) (g.phase ∙ p) g.listens
+        let g = turn_listens (AskedBefore q) answers respond e.at k s h in
+        open_still q e (turn answers e.at k (slice_get s.requests k) s) (g.phase ∙ p) g.listens
 
     open_leads : (q : List Event) (e : Event) (k : EventKind) (s : Slate) → s.phase ≡ Open → s.client ≡ c → slate answers settings c (q ++ e ∷ []) ≡ (open_rule answers e k s).0 → Listens (AskedBefore q) s → Leads q e (open_rule answers e k s)
     open_leads q e (Piece o) s p is now h = piece_leads q e e.at e.secs o s p now h

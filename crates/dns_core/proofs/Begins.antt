@@ -29,7 +29,7 @@ use Rattle.dns_core.proofs.Counted.{put_there, put_other}
 use Rattle.dns_core.proofs.Gained.{conf_kept, slate_same, slate_other, members_joined, members_away, taken_absent, taken_put, taken_put_not}
 use Rattle.dns_core.proofs.Heard.{gained_joined, gained_away}
 use Rattle.dns_core.proofs.Plain.{plain}
-use Rattle.dns_core.proofs.Served.{not_false, one_longer, nothing_held, none_stands, entered}
+use Rattle.dns_core.proofs.Served.{not_false, one_longer, nothing_held, none_stands, entered, entered_at}
 
 -- a slot is free, or none is needed
 may_join : (held room : Bool) → held ≡ false → (not held || room) ≡ true
@@ -87,6 +87,7 @@ module _ {W R F : Type 0} (answer : PolledRequest F R → ℕ → Answer) (answe
       → b.taken ≡ taken answers settings (q ++ e ∷ []) (put e.client (members answers settings q))
       → conf_of b ≡ conf_of old.book
       → b.version ≡ old.book.version
+      → core.version ≡ b.version
       → (outs ≡ (rule answers e (slate answers settings e.client q)).1) × Stands answer answers core (rule answers e (slate answers settings e.client q)).0
       → ((s : Slate) → Stands answer answers core s → finished ≡ is_spent s)
       → get nat_cmp m e.client ≡ (if finished then get nat_cmp old.clients e.client else Some core)
@@ -94,7 +95,7 @@ module _ {W R F : Type 0} (answer : PolledRequest F R → ℕ → Answer) (answe
       → ((c : ℕ) → contains nat_cmp u c ≡ (if nat_eq c e.client then true else contains nat_cmp old.used c))
       → Serves answer answers settings q old
       → (outs ≡ gained answers settings q e) × Serves answer answers settings (q ++ e ∷ []) (record { clients = m; used = u; book = b })
-  begin_goes old m u b core finished q e outs new joins slots shown version st spent here others hu h =
+  begin_goes old m u b core finished q e outs new joins slots shown version begun st spent here others hu h =
       let s = slate answers settings e.client q in
       let ms = members_joined answers settings q e joins in (
         st.0 ∙ sym (gained_joined answers settings q e new.narrow joins),
@@ -102,6 +103,10 @@ module _ {W R F : Type 0} (answer : PolledRequest F R → ℕ → Answer) (answe
           clients = λ c. ⊎_elim
               (λ (same : c ≡ e.client). rw (same, ms, put_there e.client (members answers settings q), slate_same answers settings q e, here) (entered answer answers (get nat_cmp old.clients e.client) core (rule answers e s).0 finished (spent (rule answers e s).0 st.1) st.1 new.no_core))
               (λ (apart : c ≢ e.client). rw (ms, put_other c e.client (members answers settings q) apart, slate_other answers settings c q e new.narrow apart, others c apart) (h.clients c))
+              (cases_eq c e.client);
+          versions = λ c. ⊎_elim
+              (λ (same : c ≡ e.client). rw (same, here) (entered_at answer answers (get nat_cmp old.clients e.client) core b.version finished begun new.no_core))
+              (λ (apart : c ≢ e.client). rw (others c apart, version) (h.versions c))
               (cases_eq c e.client);
           used = used_goes old u q e new hu h;
           slots = slots ∙ ap (taken answers settings (q ++ e ∷ [])) (sym ms);
@@ -155,6 +160,7 @@ module _ {W R F : Type 0} (answer : PolledRequest F R → ℕ → Answer) (answe
               (λ (same : c ≡ e.client). rw (same, ms, new.no_member) (none_stands answer answers (get nat_cmp old.clients e.client) (slate answers settings e.client (q ++ e ∷ [])) new.no_core))
               (λ (apart : c ≢ e.client). rw (ms, slate_other answers settings c q e new.narrow apart) (h.clients c))
               (cases_eq c e.client);
+          versions = λ c. rw is (h.versions c);
           used = used_goes old u q e new hu h;
           slots = ap (λ (x : Look). x.taken) is ∙ (h.slots ∙ sym (ap (taken answers settings (q ++ e ∷ [])) ms ∙ taken_absent answers settings q e (members answers settings q) new.narrow new.no_member));
           shown = ap conf_of is ∙ (h.shown ∙ sym (conf_kept settings q e new.narrow));

@@ -169,17 +169,17 @@ module _ (answers : Serving) where
   phase_over e (Flushing why) s p h is = shut (s.conf.over ≡ false) (flushing_rule why e.kind s).0 (flushing_shut why e.kind s (ap is_open p)) is
   phase_over e Closed s p h is = shut (s.conf.over ≡ false) (closed_rule e.kind s).0 (closed_shut e.kind s (ap is_open p)) is
 
-  rule_over : (e : Event) (s : Slate) → NotOver s → NotOver (rule answers e s).0
+  pub rule_over : (e : Event) (s : Slate) → NotOver s → NotOver (rule answers e s).0
   unfolding NotOver
   rule_over e s h is =
       let t = with_conf (conf_rule e.kind s.conf) s in
       ap (λ (c : Conf). c.over) (rule_conf answers e s) ∙ phase_over e s.phase t refl (λ o n. not_over_kept e.kind s.conf n (h o)) is
 
-  over_after : (es : List Event) (s : Slate) → NotOver s → NotOver (slate_after answers s es)
+  pub over_after : (es : List Event) (s : Slate) → NotOver s → NotOver (slate_after answers s es)
   over_after [] s h = h
   over_after (x ∷ es) s h = over_after es (rule answers x s).0 (rule_over x s h)
 
-  never_open : (k : Conf) → NotOver (fresh k)
+  pub never_open : (k : Conf) → NotOver (fresh k)
   unfolding NotOver
   never_open k o = cc
 

@@ -9,7 +9,7 @@ use Rattle.dns_base.specs.Wire.{wire}
 use Rattle.dns_service.specs.ErrorReply.{error_reply}
 use Rattle.dns_service.specs.Req.{Req}
 use Rattle.dns_service.specs.declared.event.Why.TheVariants.{Short}
-use Rattle.dns_client.specs.Connections.{append_frame, close, enqueue, has_space, is_in_transaction, take_frame, take_frames, take_request}
+use Rattle.dns_client.specs.Connections.{append_frame, close, enqueue, room, is_in_transaction, take_frame, take_frames, take_request}
 use Rattle.dns_client.specs.Frames.{framed}
 use Rattle.dns_client.specs.Requests.{asked, header_size, most_requests, request_of_frame}
 use Rattle.dns_client.specs.Serving.{Serving}
@@ -62,9 +62,9 @@ module _ (Asked : List ℕ → Type 0) where
 
   -- ---- a piece
 
-  enqueue_listens : (m : List ℕ) (s : Slate) → RepliesTo m → Listens s → Listens (enqueue m s)
-  enqueue_listens m s r h =
-      (elim (has_space s) as (λ b. Listens (if b then append_frame m s else s)) [
+  enqueue_listens : (at : ℕ) (m : List ℕ) (s : Slate) → RepliesTo m → Listens s → Listens (enqueue at m s)
+  enqueue_listens at m s r h =
+      (elim (room at s) as (λ b. Listens (if b then append_frame at m s else s)) [
         | true ↦ record { requests = h.requests; queue = All-push RepliesTo s.queue m h.queue r }
         | false ↦ h
       ])
@@ -81,8 +81,8 @@ module _ (Asked : List ℕ → Type 0) where
   frame_listens at secs f s c h =
       let t : Slate = record s { taken = s.taken + 1; reset_at = at } in
       let g : Listens t = record { requests = h.requests; queue = h.queue } in
-      (elim (header_of f).qr as (λ b. Listens (if b then enqueue (framed (wire (error_reply f 1))) t else take_request at secs f t)) [
-        | true ↦ enqueue_listens (framed (wire (error_reply f 1))) t (reply f (error_reply f 1) c (refused_responds f None 1)) g
+      (elim (header_of f).qr as (λ b. Listens (if b then enqueue at (framed (wire (error_reply f 1))) t else take_request at secs f t)) [
+        | true ↦ enqueue_listens at (framed (wire (error_reply f 1))) t (reply f (error_reply f 1) c (refused_responds f None 1)) g
         | false ↦ request_listens at secs f t c g
       ])
 
@@ -102,41 +102,41 @@ module _ (Asked : List ℕ → Type 0) where
   set_on : (k : ℕ) (r : SlateRequest) (s : Slate) → Asks r → Listens s → GoesOn s (with_request k r s)
   set_on k r s a h = record { phase = refl; received = refl; listens = record { requests = All-set Asks s.requests k r a h.requests; queue = h.queue } }
 
-  append_on : (k : ℕ) (m : List ℕ) (r : SlateRequest) (s : Slate) → RepliesTo m → Asks r → Listens s → GoesOn s (append_frame m (with_request k r s))
-  append_on k m r s p a h = record { phase = refl; received = refl; listens = record { requests = All-set Asks s.requests k r a h.requests; queue = All-push RepliesTo s.queue m h.queue p } }
+  append_on : (at k : ℕ) (m : List ℕ) (r : SlateRequest) (s : Slate) → RepliesTo m → Asks r → Listens s → GoesOn s (append_frame at m (with_request k r s))
+  append_on at k m r s p a h = record { phase = refl; received = refl; listens = record { requests = All-set Asks s.requests k r a h.requests; queue = All-push RepliesTo s.queue m h.queue p } }
 
   hold_asks : (m : List ℕ) (r : SlateRequest) → RepliesTo m → Asks r → Asks (hold m r)
   hold_asks m r p a = (elim (is_in_transaction r.status) as (λ b. Asks (if b then record r { held = Some m } else r)) [ true ↦ record { asked = a.asked; held = p } | false ↦ a ])
 
-  queue_on : (k : ℕ) (m : List ℕ) (r : SlateRequest) (s : Slate) → RepliesTo m → Asks r → Listens s → GoesOn s (queue_frame k m r s)
-  queue_on k m r s p a h =
-      (elim (has_space s) as (λ b. GoesOn s (if b then append_frame m (with_request k r s) else with_request k (hold m r) s)) [ true ↦ append_on k m r s p a h | false ↦ set_on k (hold m r) s (hold_asks m r p a) h ])
+  queue_on : (at k : ℕ) (m : List ℕ) (r : SlateRequest) (s : Slate) → RepliesTo m → Asks r → Listens s → GoesOn s (queue_frame at k m r s)
+  queue_on at k m r s p a h =
+      (elim (room at s) as (λ b. GoesOn s (if b then append_frame at m (with_request k r s) else with_request k (hold m r) s)) [ true ↦ append_on at k m r s p a h | false ↦ set_on k (hold m r) s (hold_asks m r p a) h ])
 
-  reply_on : (k : ℕ) (x : Option Msg) (r : SlateRequest) (s : Slate) → IfSome x (Responds r.request.octets) → Asks r → Listens s → GoesOn s (queue_reply k x r s)
-  reply_on k None r s p a h = set_on k r s a h
-  reply_on k (Some m) r s p a h = queue_on k (framed (wire m)) r s (reply r.request.octets m a.asked p) a h
+  reply_on : (at k : ℕ) (x : Option Msg) (r : SlateRequest) (s : Slate) → IfSome x (Responds r.request.octets) → Asks r → Listens s → GoesOn s (queue_reply at k x r s)
+  reply_on at k None r s p a h = set_on k r s a h
+  reply_on at k (Some m) r s p a h = queue_on at k (framed (wire m)) r s (reply r.request.octets m a.asked p) a h
 
-  held_on : (k : ℕ) (m : List ℕ) (r : SlateRequest) (s : Slate) → RepliesTo m → Asks r → Listens s → GoesOn s (queue_held k m r s)
-  held_on k m r s p a h =
-      (elim (has_space s) as (λ b. GoesOn s (if b then append_frame m (with_request k (record r { held = None }) s) else s)) [
-        | true ↦ append_on k m (record r { held = None }) s p (record { asked = a.asked; held = tt }) h
+  held_on : (at k : ℕ) (m : List ℕ) (r : SlateRequest) (s : Slate) → RepliesTo m → Asks r → Listens s → GoesOn s (queue_held at k m r s)
+  held_on at k m r s p a h =
+      (elim (room at s) as (λ b. GoesOn s (if b then append_frame at m (with_request k (record r { held = None }) s) else s)) [
+        | true ↦ append_on at k m (record r { held = None }) s p (record { asked = a.asked; held = tt }) h
         | false ↦ record { phase = refl; received = refl; listens = h }
       ])
 
   module _ (answers : Serving) (respond : (n : Option ℕ) (r : Req (Unit {0})) (k : ℕ) → IfSome (reply_to n r.octets (answers.answer r k)) (Responds r.octets)) where
-    request_on : (k : ℕ) (x : Option (List ℕ)) (r : SlateRequest) (s : Slate) → IfSome x RepliesTo → Asks r → Listens s → GoesOn s (turn_request answers k x r s)
-    request_on k None r s p a h =
+    request_on : (at k : ℕ) (x : Option (List ℕ)) (r : SlateRequest) (s : Slate) → IfSome x RepliesTo → Asks r → Listens s → GoesOn s (turn_request answers at k x r s)
+    request_on at k None r s p a h =
         let y = answers.answer r.request r.polls in
-        let g = reply_on k (reply_to None r.request.octets y) (answered y r) (retimed y s) (respond None r.request r.polls) (record { asked = a.asked; held = a.held }) (record { requests = h.requests; queue = h.queue }) in
+        let g = reply_on at k (reply_to None r.request.octets y) (answered y r) (retimed y s) (respond None r.request r.polls) (record { asked = a.asked; held = a.held }) (record { requests = h.requests; queue = h.queue }) in
         record { phase = g.phase; received = g.received; listens = g.listens }
-    request_on k (Some m) r s p a h = held_on k m r s p a h
+    request_on at k (Some m) r s p a h = held_on at k m r s p a h
 
-    turn_case : (k : ℕ) (x : Option SlateRequest) (s : Slate) → IfSome x Asks → Listens s → GoesOn s (turn answers k x s)
-    turn_case k None s a h = record { phase = refl; received = refl; listens = h }
-    turn_case k (Some r) s a h = (elim r.done as (λ b. GoesOn s (if b then s else turn_request answers k r.held r s)) [ true ↦ record { phase = refl; received = refl; listens = h } | false ↦ request_on k r.held r s a.held a h ])
+    turn_case : (at k : ℕ) (x : Option SlateRequest) (s : Slate) → IfSome x Asks → Listens s → GoesOn s (turn answers at k x s)
+    turn_case at k None s a h = record { phase = refl; received = refl; listens = h }
+    turn_case at k (Some r) s a h = (elim r.done as (λ b. GoesOn s (if b then s else turn_request answers at k r.held r s)) [ true ↦ record { phase = refl; received = refl; listens = h } | false ↦ request_on at k r.held r s a.held a h ])
 
-    pub turn_listens : (k : ℕ) (s : Slate) → Listens s → GoesOn s (turn answers k (slice_get s.requests k) s)
-    turn_listens k s h = turn_case k (slice_get s.requests k) s (all_at Asks s.requests k h.requests) h
+    pub turn_listens : (at k : ℕ) (s : Slate) → Listens s → GoesOn s (turn answers at k (slice_get s.requests k) s)
+    turn_listens at k s h = turn_case at k (slice_get s.requests k) s (all_at Asks s.requests k h.requests) h
 
 -- ---- what was asked by one meaning was asked by another
 

@@ -20,7 +20,7 @@ use Rattle.dns_client.specs.Slate.{Slate, SlateRequest, Told, Phase, Unused, Exc
 use Rattle.dns_client.specs.Requests.{header_size}
 use Rattle.dns_client.specs.Datagrams.{cut_datagram, refused_datagram, datagram}
 use Rattle.dns_client.specs.Timers.{is_expired}
-use Rattle.dns_client.specs.Connections.{opened, close, wind_up, append_frame, has_space, in_transaction, take_frame, take_frames, piece, took_too_long, written, write, flushed, flush, tick, released}
+use Rattle.dns_client.specs.Connections.{opened, close, wind_up, append_frame, room, in_transaction, take_frame, take_frames, piece, took_too_long, written, write, flushed, flush, tick, released}
 use Rattle.dns_client.specs.Turns.{exchange_turn, turn, turn_request, polled, answered, retimed, with_request, reply_to, sent_at_once, sent_for, hold, queue_frame, queue_reply, queue_held}
 use Rattle.dns_client.specs.Rule.{rule, in_phase, unused_rule, exchange_rule, open_rule, flushing_rule, closed_rule}
 use Rattle.dns_core.specs.Settings.{opening}
@@ -95,15 +95,15 @@ flush_names why took (m ∷ ms) s = (elim (took_too_long took s) as (λ b. Names
 tick_names : (at : ℕ) (s : Slate) → Names s (tick at s)
 tick_names at s = (elim (is_expired s.reset_at s.connection.idle_timeout at && not (list_any in_transaction s.requests)) as (λ b. Names s (if b then close Idle s else (s, []))) [ true ↦ close_names Idle s | false ↦ silent s s refl ])
 
-queue_frame_client : (k : ℕ) (m : List ℕ) (r : SlateRequest) (s : Slate) → (queue_frame k m r s).client ≡ s.client
-queue_frame_client k m r s = (elim (has_space s) as (λ b. let t : Slate = (if b then append_frame m (with_request k r s) else with_request k (hold m r) s) in t.client ≡ s.client) [ true ↦ refl | false ↦ refl ])
+queue_frame_client : (at k : ℕ) (m : List ℕ) (r : SlateRequest) (s : Slate) → (queue_frame at k m r s).client ≡ s.client
+queue_frame_client at k m r s = (elim (room at s) as (λ b. let t : Slate = (if b then append_frame at m (with_request k r s) else with_request k (hold m r) s) in t.client ≡ s.client) [ true ↦ refl | false ↦ refl ])
 
-queue_reply_client : (k : ℕ) (x : Option Msg) (r : SlateRequest) (s : Slate) → (queue_reply k x r s).client ≡ s.client
-queue_reply_client k None r s = refl
-queue_reply_client k (Some m) r s = queue_frame_client k (framed (wire m)) r s
+queue_reply_client : (at k : ℕ) (x : Option Msg) (r : SlateRequest) (s : Slate) → (queue_reply at k x r s).client ≡ s.client
+queue_reply_client at k None r s = refl
+queue_reply_client at k (Some m) r s = queue_frame_client at k (framed (wire m)) r s
 
-queue_held_client : (k : ℕ) (m : List ℕ) (r : SlateRequest) (s : Slate) → (queue_held k m r s).client ≡ s.client
-queue_held_client k m r s = (elim (has_space s) as (λ b. let t : Slate = (if b then append_frame m (with_request k (record r { held = None }) s) else s) in t.client ≡ s.client) [ true ↦ refl | false ↦ refl ])
+queue_held_client : (at k : ℕ) (m : List ℕ) (r : SlateRequest) (s : Slate) → (queue_held at k m r s).client ≡ s.client
+queue_held_client at k m r s = (elim (room at s) as (λ b. let t : Slate = (if b then append_frame at m (with_request k (record r { held = None }) s) else s) in t.client ≡ s.client) [ true ↦ refl | false ↦ refl ])
 
 at_once_for : (client : ℕ) (x : Option Msg) → AreFor client (sent_at_once client x)
 at_once_for client None = tt
@@ -149,15 +149,15 @@ module _ (answers : Serving) where
   exchange_turn_names k (Some r) s =
       (elim r.done as (λ b. Names s (if b then (s, []) else (with_request k (polled (answers.answer r.request r.polls) r) s, sent_at_once s.client (sent_for answers r.request (answers.answer r.request r.polls))))) [ true ↦ silent s s refl | false ↦ record { client = refl; told = at_once_for s.client (sent_for answers r.request (answers.answer r.request r.polls)) } ])
 
-  turn_request_client : (k : ℕ) (x : Option (List ℕ)) (r : SlateRequest) (s : Slate) → (turn_request answers k x r s).client ≡ s.client
-  turn_request_client k None r s =
+  turn_request_client : (at k : ℕ) (x : Option (List ℕ)) (r : SlateRequest) (s : Slate) → (turn_request answers at k x r s).client ≡ s.client
+  turn_request_client at k None r s =
       let a = answers.answer r.request r.polls in
-      queue_reply_client k (reply_to None r.request.octets a) (answered a r) (retimed a s)
-  turn_request_client k (Some m) r s = queue_held_client k m r s
+      queue_reply_client at k (reply_to None r.request.octets a) (answered a r) (retimed a s)
+  turn_request_client at k (Some m) r s = queue_held_client at k m r s
 
-  turn_client : (k : ℕ) (x : Option SlateRequest) (s : Slate) → (turn answers k x s).client ≡ s.client
-  turn_client k None s = refl
-  turn_client k (Some r) s = (elim r.done as (λ b. let t : Slate = (if b then s else turn_request answers k r.held r s) in t.client ≡ s.client) [ true ↦ refl | false ↦ turn_request_client k r.held r s ])
+  turn_client : (at k : ℕ) (x : Option SlateRequest) (s : Slate) → (turn answers at k x s).client ≡ s.client
+  turn_client at k None s = refl
+  turn_client at k (Some r) s = (elim r.done as (λ b. let t : Slate = (if b then s else turn_request answers at k r.held r s) in t.client ≡ s.client) [ true ↦ refl | false ↦ turn_request_client at k r.held r s ])
 
   exchange_names : (k : EventKind) (s : Slate) → Names s (exchange_rule answers k s)
   exchange_names (Datagram addr o) s = silent s s refl
@@ -175,7 +175,7 @@ module _ (answers : Serving) where
 
   open_names : (e : Event) (k : EventKind) (s : Slate) → Names s (open_rule answers e k s)
   open_names e (Datagram addr o) s = silent s s refl
-  open_names e (Turn k) s = silent s (turn answers k (slice_get s.requests k) s) (turn_client k (slice_get s.requests k) s)
+  open_names e (Turn k) s = silent s (turn answers e.at k (slice_get s.requests k) s) (turn_client e.at k (slice_get s.requests k) s)
   open_names e (Offer addr) s = silent s s refl
   open_names e (Piece o) s = piece_names e.at e.secs o s
   open_names e End s = close_names Ended s
@@ -274,7 +274,7 @@ module _ (answers : Serving) where
       let nobody : IsOf e.client (with_conf (conf_rule e.kind s.conf) s) = λ v. cc in
       subst (λ (d : ℕ). IsOf d (rule answers e s).0) same ((unused_for e s (unused_is s.phase u)).of nobody)
 
-  of_step : (c : ℕ) (e : Event) (s : Slate) → concerns c e ≡ true → IsOf c s → (u : Bool) → is_unused s.phase ≡ u → IsOf c (rule answers e s).0
+  pub of_step : (c : ℕ) (e : Event) (s : Slate) → concerns c e ≡ true → IsOf c s → (u : Bool) → is_unused s.phase ≡ u → IsOf c (rule answers e s).0
   of_step c e s hears h true u = of_unused c e s hears u (is_wide e.kind) refl
   of_step c e s hears h false u = of_used c e s h u
 
@@ -290,7 +290,7 @@ module _ (answers : Serving) where
   unfolding slate
   of_client settings c q = of_client_after c q (fresh (opening settings)) (λ u. cc)
 
-  still_used : (es : List Event) (s : Slate) → is_unused s.phase ≡ false → is_unused (slate_after answers s es).phase ≡ false
+  pub still_used : (es : List Event) (s : Slate) → is_unused s.phase ≡ false → is_unused (slate_after answers s es).phase ≡ false
   still_used [] s u = u
   still_used (x ∷ es) s u = still_used es (rule answers x s).0 (rule_used answers x s u)
 
@@ -298,7 +298,7 @@ module _ (answers : Serving) where
   silent_case x es s more u v true is = rw (quiet x s (unused_is s.phase u) is, more (rule answers x s).0 is v) refl
   silent_case x es s more u v false is = let used = still_used es (rule answers x s).0 is in cc
 
-  silent_after : (es : List Event) (s : Slate) → is_unused s.phase ≡ true → is_unused (slate_after answers s es).phase ≡ true → sent_after answers s es ≡ []
+  pub silent_after : (es : List Event) (s : Slate) → is_unused s.phase ≡ true → is_unused (slate_after answers s es).phase ≡ true → sent_after answers s es ≡ []
   silent_after [] s u v = refl
   silent_after (x ∷ es) s u v = silent_case x es s (silent_after es) u v (is_unused (rule answers x s).0.phase) refl
 

@@ -79,13 +79,14 @@ module _ {W R F : Type 0} (answer : PolledRequest F R → ℕ → Answer) (answe
   pub datagram_goes : (old : Server W R F) (m : BTreeMap ℕ (ClientCore W R F)) (u : BTreeSet ℕ) (core : ClientCore W R F) (finished : Bool) (q : List Event) (e : Event) (addr : SocketAddr) (o : List ℕ) (outs : List Output) → e.kind ≡ Datagram addr o
       → old.book.closed ≡ false → contains nat_cmp old.used e.client ≡ false
       → ((s : Slate) → IsUnused s → s.conf ≡ conf_of old.book → (outs ≡ (datagram e.client addr e.at e.secs o s).1) × Stands answer answers core (datagram e.client addr e.at e.secs o s).0)
+      → core.version ≡ old.book.version
       → ((s : Slate) → Stands answer answers core s → finished ≡ is_spent s)
       → get nat_cmp m e.client ≡ (if finished then get nat_cmp old.clients e.client else Some core)
       → ((c : ℕ) → c ≢ e.client → get nat_cmp m c ≡ get nat_cmp old.clients c)
       → ((c : ℕ) → contains nat_cmp u c ≡ (if nat_eq c e.client then true else contains nat_cmp old.used c))
       → Serves answer answers settings q old
       → (outs ≡ gained answers settings q e) × Serves answer answers settings (q ++ e ∷ []) (record old { clients = m; used = u })
-  datagram_goes old m u core finished q e addr o outs kind running free st spent here others hu h =
+  datagram_goes old m u core finished q e addr o outs kind running free st version spent here others hu h =
       let s = slate answers settings e.client q in
       let f = fresh_from answer answers settings old q e free h in
       let not_over : s.conf.over ≡ false = ap (λ (k : Conf). k.over) f.shown ∙ running in
@@ -94,20 +95,21 @@ module _ {W R F : Type 0} (answer : PolledRequest F R → ℕ → Answer) (answe
       let new = new_from answer answers settings old q e (ap is_wide kind) f opens h in
       let no_slot : holds_slot (rule answers e s).0 ≡ false = ap (λ (t : Told). holds_slot t.0) is in
       begin_goes answer answers settings old m u old.book core finished q e outs new (exchange_joins answer answers settings old q e new no_slot)
-      (exchange_slots answer answers settings old q e new no_slot h) refl refl
+      (exchange_slots answer answers settings old q e new no_slot h) refl refl version
       (subst (λ (t : Told). (outs ≡ t.1) × Stands answer answers core t.0) (sym is) (st s f.fresh f.shown)) spent here others hu h
 
   -- an offer makes a connection, where a slot is free
   pub offer_goes : (old : Server W R F) (m : BTreeMap ℕ (ClientCore W R F)) (u : BTreeSet ℕ) (b look : Look) (core : ClientCore W R F) (finished : Bool) (q : List Event) (e : Event) (addr : SocketAddr) (outs : List Output) → e.kind ≡ Offer addr
       → contains nat_cmp old.used e.client ≡ false → Admits old.book (Admitted look) → b ≡ state_after old.book Admit → outs ≡ []
       → ((s : Slate) → IsUnused s → s.conf ≡ conf_of look → Stands answer answers core (opened e.client addr e.at s))
+      → core.version ≡ look.version
       → ((s : Slate) → Stands answer answers core s → finished ≡ is_spent s)
       → get nat_cmp m e.client ≡ (if finished then get nat_cmp old.clients e.client else Some core)
       → ((c : ℕ) → c ≢ e.client → get nat_cmp m c ≡ get nat_cmp old.clients c)
       → ((c : ℕ) → contains nat_cmp u c ≡ (if nat_eq c e.client then true else contains nat_cmp old.used c))
       → Serves answer answers settings q old
       → (outs ≡ gained answers settings q e) × Serves answer answers settings (q ++ e ∷ []) (record { clients = m; used = u; book = b })
-  offer_goes old m u b look core finished q e addr outs kind free admits after none st spent here others hu h =
+  offer_goes old m u b look core finished q e addr outs kind free admits after none st version spent here others hu h =
       let s = slate answers settings e.client q in
       let f = fresh_from answer answers settings old q e free h in
       let running : old.book.closed ≡ false = admits.0 in
@@ -119,7 +121,7 @@ module _ {W R F : Type 0} (answer : PolledRequest F R → ℕ → Answer) (answe
       let new = new_from answer answers settings old q e (ap is_wide kind) f opens h in
       let held : holds_slot (rule answers e s).0 ≡ true = ap (λ (t : Told). holds_slot t.0) is ∙ ap (λ (x : Slate). not x.freed) f.fresh in
       begin_goes answer answers settings old m u b core finished q e outs new (connection_room answer answers settings old q e new held room h)
-      (ap (λ (x : Look). x.taken) same ∙ connection_slots answer answers settings old q e new held h) (ap conf_of same) (ap (λ (x : Look). x.version) same)
+      (ap (λ (x : Look). x.taken) same ∙ connection_slots answer answers settings old q e new held h) (ap conf_of same) (ap (λ (x : Look). x.version) same) (version ∙ ap (λ (x : Look). x.version) (admits.2 ∙ sym same))
       (subst (λ (t : Told). (outs ≡ t.1) × Stands answer answers core t.0) (sym is) (none, st s f.fresh (f.shown ∙ sym (ap conf_of admits.2)))) spent here others hu h
 
   -- and else it is turned away

@@ -4,7 +4,6 @@ use Rattle.std.proofs.Common.{◌≡◌, ℕ, List, [], ◌∷◌, ◌++◌, tru
 use Rattle.std.proofs.lemmas.List.{append-nil}
 use Rattle.std.proofs.Math.Seq.{take-append_seam}
 use Rattle.dns_service.specs.declared.event.Event.{Event}
-use Rattle.dns_service.specs.declared.event.Output.{Output}
 use Rattle.dns_client.specs.Slate.{Slate, fresh}
 use Rattle.dns_client.specs.Rule.{rule}
 use Rattle.dns_core.specs.Settings.{opening}

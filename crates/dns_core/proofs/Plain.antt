@@ -17,7 +17,7 @@ use Rattle.dns_client.specs.Slate.{Slate, SlateRequest, Conf, Told, Phase, Unuse
 use Rattle.dns_client.specs.Requests.{header_size}
 use Rattle.dns_client.specs.Datagrams.{datagram}
 use Rattle.dns_client.specs.Timers.{is_expired}
-use Rattle.dns_client.specs.Connections.{opened, close, wind_up, append_frame, has_space, in_transaction, take_frame, take_frames, piece, took_too_long, written, write, flushed, flush, tick}
+use Rattle.dns_client.specs.Connections.{opened, close, wind_up, append_frame, room, in_transaction, take_frame, take_frames, piece, took_too_long, written, write, flushed, flush, tick}
 use Rattle.dns_client.specs.Turns.{exchange_turn, turn, turn_request, poll_request, polled, answered, retimed, with_request, reply_to, sent_at_once, sent_for, hold, queue_frame, queue_reply, queue_held}
 use Rattle.dns_client.specs.Rule.{rule, in_phase, unused_rule, exchange_rule, open_rule, flushing_rule, closed_rule}
 use Rattle.dns_core.specs.Finished.{IsFinished}
@@ -97,15 +97,15 @@ flush_on why took (m ∷ ms) s h = (elim (took_too_long took s) as (λ b. let t 
 tick_on : (at : ℕ) (s : Slate) → is_connection s.phase ≡ true → GoesOn s (tick at s).0
 tick_on at s h = (elim (is_expired s.reset_at s.connection.idle_timeout at && not (list_any in_transaction s.requests)) as (λ b. let t : Told = (if b then close Idle s else (s, [])) in GoesOn s t.0) [ true ↦ close_on Idle s h | false ↦ same s ])
 
-queue_frame_on : (k : ℕ) (m : List ℕ) (r : SlateRequest) (s : Slate) → GoesOn s (queue_frame k m r s)
-queue_frame_on k m r s = (elim (has_space s) as (λ b. GoesOn s (if b then append_frame m (with_request k r s) else with_request k (hold m r) s)) [ true ↦ record { conf = refl; used = λ h. h; slot = refl } | false ↦ record { conf = refl; used = λ h. h; slot = refl } ])
+queue_frame_on : (at k : ℕ) (m : List ℕ) (r : SlateRequest) (s : Slate) → GoesOn s (queue_frame at k m r s)
+queue_frame_on at k m r s = (elim (room at s) as (λ b. GoesOn s (if b then append_frame at m (with_request k r s) else with_request k (hold m r) s)) [ true ↦ record { conf = refl; used = λ h. h; slot = refl } | false ↦ record { conf = refl; used = λ h. h; slot = refl } ])
 
-queue_reply_on : (k : ℕ) (x : Option Msg) (r : SlateRequest) (s : Slate) → GoesOn s (queue_reply k x r s)
-queue_reply_on k None r s = record { conf = refl; used = λ h. h; slot = refl }
-queue_reply_on k (Some m) r s = queue_frame_on k (framed (wire m)) r s
+queue_reply_on : (at k : ℕ) (x : Option Msg) (r : SlateRequest) (s : Slate) → GoesOn s (queue_reply at k x r s)
+queue_reply_on at k None r s = record { conf = refl; used = λ h. h; slot = refl }
+queue_reply_on at k (Some m) r s = queue_frame_on at k (framed (wire m)) r s
 
-queue_held_on : (k : ℕ) (m : List ℕ) (r : SlateRequest) (s : Slate) → GoesOn s (queue_held k m r s)
-queue_held_on k m r s = (elim (has_space s) as (λ b. GoesOn s (if b then append_frame m (with_request k (record r { held = None }) s) else s)) [ true ↦ record { conf = refl; used = λ h. h; slot = refl } | false ↦ same s ])
+queue_held_on : (at k : ℕ) (m : List ℕ) (r : SlateRequest) (s : Slate) → GoesOn s (queue_held at k m r s)
+queue_held_on at k m r s = (elim (room at s) as (λ b. GoesOn s (if b then append_frame at m (with_request k (record r { held = None }) s) else s)) [ true ↦ record { conf = refl; used = λ h. h; slot = refl } | false ↦ same s ])
 
 -- an event that its client alone hears leaves the configurations
 pub narrow_conf : (k : EventKind) (c : Conf) → is_wide k ≡ false → conf_rule k c ≡ c
@@ -136,18 +136,18 @@ module _ (answers : Serving) where
   exchange_turn_on k (Some r) s =
       (elim r.done as (λ b. let t : Told = (if b then (s, []) else (with_request k (polled (answers.answer r.request r.polls) r) s, sent_at_once s.client (sent_for answers r.request (answers.answer r.request r.polls)))) in GoesOn s t.0) [ true ↦ same s | false ↦ record { conf = refl; used = λ h. h; slot = refl } ])
 
-  poll_on : (k : ℕ) (r : SlateRequest) (s : Slate) → GoesOn s (poll_request answers k r s)
-  poll_on k r s =
+  poll_on : (at k : ℕ) (r : SlateRequest) (s : Slate) → GoesOn s (poll_request answers at k r s)
+  poll_on at k r s =
       let a = answers.answer r.request r.polls in
-      then_on s (retimed a s) (poll_request answers k r s) (record { conf = refl; used = λ h. h; slot = refl }) (queue_reply_on k (reply_to None r.request.octets a) (answered a r) (retimed a s))
+      then_on s (retimed a s) (poll_request answers at k r s) (record { conf = refl; used = λ h. h; slot = refl }) (queue_reply_on at k (reply_to None r.request.octets a) (answered a r) (retimed a s))
 
-  turn_request_on : (k : ℕ) (x : Option (List ℕ)) (r : SlateRequest) (s : Slate) → GoesOn s (turn_request answers k x r s)
-  turn_request_on k None r s = poll_on k r s
-  turn_request_on k (Some m) r s = queue_held_on k m r s
+  turn_request_on : (at k : ℕ) (x : Option (List ℕ)) (r : SlateRequest) (s : Slate) → GoesOn s (turn_request answers at k x r s)
+  turn_request_on at k None r s = poll_on at k r s
+  turn_request_on at k (Some m) r s = queue_held_on at k m r s
 
-  turn_on : (k : ℕ) (x : Option SlateRequest) (s : Slate) → GoesOn s (turn answers k x s)
-  turn_on k None s = same s
-  turn_on k (Some r) s = (elim r.done as (λ b. GoesOn s (if b then s else turn_request answers k r.held r s)) [ true ↦ same s | false ↦ turn_request_on k r.held r s ])
+  turn_on : (at k : ℕ) (x : Option SlateRequest) (s : Slate) → GoesOn s (turn answers at k x s)
+  turn_on at k None s = same s
+  turn_on at k (Some r) s = (elim r.done as (λ b. GoesOn s (if b then s else turn_request answers at k r.held r s)) [ true ↦ same s | false ↦ turn_request_on at k r.held r s ])
 
   -- by state
   unused_use : (e : Event) (k : EventKind) (s : Slate) → KeepsUse s (unused_rule e k s).0
@@ -180,7 +180,7 @@ module _ (answers : Serving) where
 
   open_on : (e : Event) (k : EventKind) (s : Slate) → is_connection s.phase ≡ true → GoesOn s (open_rule answers e k s).0
   open_on e (Datagram addr o) s h = same s
-  open_on e (Turn k) s h = turn_on k (slice_get s.requests k) s
+  open_on e (Turn k) s h = turn_on e.at k (slice_get s.requests k) s
   open_on e (Offer addr) s h = same s
   open_on e (Piece o) s h = piece_on e.at e.secs o s h
   open_on e End s h = close_on Ended s h
@@ -302,14 +302,14 @@ module _ (answers : Serving) where
   exchange_done k None s h = refl
   exchange_done k (Some r) s h = rw h refl
 
-  turn_done : (k : ℕ) (x : Option SlateRequest) (s : Slate) → IsFinished x → turn answers k x s ≡ s
-  turn_done k None s h = refl
-  turn_done k (Some r) s h = rw h refl
+  turn_done : (at k : ℕ) (x : Option SlateRequest) (s : Slate) → IsFinished x → turn answers at k x s ≡ s
+  turn_done at k None s h = refl
+  turn_done at k (Some r) s h = rw h refl
 
   done_phase : (p : Phase) (e : Event) (s : Slate) (k : ℕ) → e.kind ≡ Turn k → IsFinished (slice_get s.requests k) → in_phase answers e p s ≡ (s, [])
   done_phase Unused e s k is h = rw is refl
   done_phase Exchange e s k is h = rw (is, exchange_done k (slice_get s.requests k) s h) refl
-  done_phase Open e s k is h = rw (is, turn_done k (slice_get s.requests k) s h) refl
+  done_phase Open e s k is h = rw (is, turn_done e.at k (slice_get s.requests k) s h) refl
   done_phase (Flushing why) e s k is h = rw is refl
   done_phase Closed e s k is h = rw is refl
 
@@ -362,7 +362,7 @@ module _ (answers : Serving) where
   plain_case e k s p false is h =
       let g = rule_used e s is in cc
 
-  plain_rule : (e : Event) (k : Conf) (s : Slate) → Plain k s → Plain (conf_rule e.kind k) (rule answers e s).0
+  pub plain_rule : (e : Event) (k : Conf) (s : Slate) → Plain k s → Plain (conf_rule e.kind k) (rule answers e s).0
   plain_rule e k s p = record {
     conf = rule_conf e s ∙ ap (conf_rule e.kind) p.conf;
     unused = plain_case e k s p (is_unused s.phase) refl;

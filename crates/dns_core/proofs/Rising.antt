@@ -23,7 +23,7 @@ sorted_cons : (n : ℕ) (ns : List ℕ) → AllAbove n ns → IsStrictlySortedBy
 unfolding IsStrictlySortedBy
 sorted_cons n ns a so = (a, so)
 
-sorted_none : IsStrictlySortedBy nat_cmp []
+pub sorted_none : IsStrictlySortedBy nat_cmp []
 unfolding IsStrictlySortedBy
 sorted_none = tt
 

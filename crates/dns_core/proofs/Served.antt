@@ -17,21 +17,23 @@ use Rattle.dns_service.specs.declared.polled.PolledRequest.{PolledRequest}
 use Rattle.dns_client.specs.Slate.{Slate, Told, conf_of}
 use Rattle.dns_client.specs.Rule.{rule}
 use Rattle.dns_client.specs.Spent.{is_spent}
-use Rattle.dns_client.specs.Stands.{Stands, StandsIn, Follows}
+use Rattle.dns_client.specs.Stands.{Stands, StandsIn, GoesAs}
 use Rattle.dns_client.specs.declared.client.ClientCore.{ClientCore}
 use Rattle.dns_client.specs.declared.client.State.{State}
-use Rattle.dns_client.specs.declared.client.State.TheVariants.{Exchange as Is_exchange, Open as Is_open, Flushing as Is_flushing, Closed as Is_closed}
+use Rattle.dns_client.specs.declared.client.State.TheVariants.{Exchange as Is_exchange, Open as Is_open, Flushing as Is_flushing, Closed as Is_closed, Lost as Is_lost}
 use Rattle.dns_core.specs.Own.{is_wide}
 use Rattle.dns_core.specs.Sent.{slate}
 use Rattle.dns_core.specs.Out.{is_unused, holds_slot, is_new, taken, members, gained}
-use Rattle.dns_core.specs.Serves.{IsOver, Holds, Steps, StepsKey}
-use Rattle.dns_core.specs.Server.{BeginsNobody, Serves}
+use Rattle.dns_core.specs.Serves.{IsOver, IsAt, Holds, Steps, StepsKey}
+use Rattle.dns_core.specs.Placed.{is_beginning}
+use Rattle.dns_core.specs.Server.{Serves}
 use Rattle.dns_middleware.specs.declared.settings.Settings.{Settings}
 use Rattle.dns_core.specs.declared.server.Server.{Server}
 use Rattle.dns_core.proofs.Gained.{conf_kept, slate_same, slate_other, used_not_new, unused_not_new, idle_not_new, unused_kept, members_kept, taken_still}
 use Rattle.dns_core.proofs.Heard.{gained_own}
 use Rattle.dns_core.proofs.Rising.{rises}
 use Rattle.dns_core.proofs.Slots.{slots_case}
+use Rattle.dns_core.proofs.Tied.{unused_kept as unused_stays}
 use Rattle.dns_core.proofs.Spent.{spent_idle, spent_kept, unused_unspent}
 
 pub not_true : (b : Bool) → not b ≡ true → b ≡ false
@@ -65,17 +67,17 @@ gave_back old new true is = record { taken = ap (λ (b : Look). b.taken) is; sho
 gave_back old new false is = record { taken = ap (λ (b : Look). b.taken) is; shown = ap conf_of is; version = ap (λ (b : Look). b.version) is }
 
 module _ (answers : Serving) (settings : Settings) where
-  own_new_case : (q : List Event) (e : Event) (b : Bool) → BeginsNobody e → is_unused (slate answers settings e.client q).phase ≡ b → is_new answers settings q e ≡ false
-  own_new_case q e true begins u = unused_not_new answers settings q e (ap (λ (s : Slate). is_unused s.phase) (slate_same answers settings q e) ∙ begins answers (slate answers settings e.client q) u)
+  own_new_case : (q : List Event) (e : Event) (b : Bool) → is_beginning e.kind ≡ false → is_unused (slate answers settings e.client q).phase ≡ b → is_new answers settings q e ≡ false
+  own_new_case q e true begins u = unused_not_new answers settings q e (ap (λ (s : Slate). is_unused s.phase) (slate_same answers settings q e) ∙ unused_stays answers e (slate answers settings e.client q) begins ∙ u)
   own_new_case q e false begins u = used_not_new answers settings q e u
 
-  own_not_new : (q : List Event) (e : Event) → BeginsNobody e → is_new answers settings q e ≡ false
+  own_not_new : (q : List Event) (e : Event) → is_beginning e.kind ≡ false → is_new answers settings q e ≡ false
   own_not_new q e begins = own_new_case q e (is_unused (slate answers settings e.client q).phase) begins refl
 
 module _ {W R F : Type 0} (answer : PolledRequest F R → ℕ → Answer) (answers : Serving) where
   -- the event of a client of which a core is kept
   pub steps_there : (o w : Option (ClientCore W R F)) (core new : ClientCore W R F) (e : Event) (outs : List Output) (finished freed : Bool) → o ≡ Some core → w ≡ Some new
-      → Follows answer answers core new outs (rule answers e) → ((s : Slate) → Stands answer answers new s → IsOver finished freed s) → Steps answer answers o e outs finished freed w
+      → GoesAs answer answers core new outs (rule answers e) → ((s : Slate) → Stands answer answers new s → IsOver finished freed s) → Steps answer answers o e outs finished freed w
   steps_there o w core new e outs finished freed is now f over = rw (is, now) (f, over)
 
   -- what one client's event says
@@ -114,6 +116,7 @@ module _ {W R F : Type 0} (answer : PolledRequest F R → ℕ → Answer) (answe
   used_state n (Is_open c) s h = ap is_unused h.phase
   used_state n (Is_flushing c) s h = ap is_unused h.phase
   used_state n (Is_closed freed) s h = ap is_unused h.phase
+  used_state n Is_lost s h = absurd h
 
   pub nothing_held : (o : Option (ClientCore W R F)) (b : Bool) (s : Slate) → is_unused s.phase ≡ true → Holds answer answers o b s → (o ≡ None) × (b ≡ false)
   nothing_held None true s u h = let n = unused_unspent s u in cc
@@ -125,6 +128,14 @@ module _ {W R F : Type 0} (answer : PolledRequest F R → ℕ → Answer) (answe
   pub entered : (o : Option (ClientCore W R F)) (core : ClientCore W R F) (s : Slate) (finished : Bool) → finished ≡ is_spent s → Stands answer answers core s → o ≡ None → Holds answer answers (if finished then o else Some core) true s
   entered o core s true is h none = none_holds o s none (sym is)
   entered o core s false is h none = (h, sym is)
+
+  none_at : (o : Option (ClientCore W R F)) (v : ℕ) → o ≡ None → IsAt o v
+  none_at None v is = tt
+  none_at (Some core) v is = cc
+
+  pub entered_at : (o : Option (ClientCore W R F)) (core : ClientCore W R F) (v : ℕ) (finished : Bool) → core.version ≡ v → o ≡ None → IsAt (if finished then o else Some core) v
+  entered_at o core v true is none = none_at o v none
+  entered_at o core v false is none = is
 
   module _ (settings : Settings) where
     own_says : (old : Server W R F) (w : Option (ClientCore W R F)) (q : List Event) (e : Event) (outs : List Output) (freed : Bool) → is_wide e.kind ≡ false → is_new answers settings q e ≡ false → StepsKey answer answers (get nat_cmp old.clients e.client) e outs freed w → Serves answer answers settings q old → outs ≡ gained answers settings q e
@@ -152,13 +163,14 @@ module _ {W R F : Type 0} (answer : PolledRequest F R → ℕ → Answer) (answe
 
     -- an event of one client by which it doesn't begin
     pub own_goes : (old : Server W R F) (m : BTreeMap ℕ (ClientCore W R F)) (b : Look) (q : List Event) (e : Event) (outs : List Output) (freed : Bool)
-        → is_wide e.kind ≡ false → BeginsNobody e
+        → is_wide e.kind ≡ false → is_beginning e.kind ≡ false
         → StepsKey answer answers (get nat_cmp old.clients e.client) e outs freed (get nat_cmp m e.client)
         → ((c : ℕ) → c ≢ e.client → get nat_cmp m c ≡ get nat_cmp old.clients c)
+        → ((v : ℕ) → IsAt (get nat_cmp old.clients e.client) v → IsAt (get nat_cmp m e.client) v)
         → b ≡ (if freed then state_after old.book Release else old.book)
         → Serves answer answers settings q old
         → (outs ≡ gained answers settings q e) × Serves answer answers settings (q ++ e ∷ []) (record old { clients = m; book = b })
-    own_goes old m b q e outs freed n begins k others is h =
+    own_goes old m b q e outs freed n begins k others versions is h =
         let nw = own_not_new answers settings q e begins in
         let ms = members_kept answers settings q e nw in
         let g = gave_back old.book b freed is in
@@ -166,6 +178,10 @@ module _ {W R F : Type 0} (answer : PolledRequest F R → ℕ → Answer) (answe
           own_says old (get nat_cmp m e.client) q e outs freed n nw k h,
           record {
             clients = own_holds old m q e outs freed n nw k others h;
+            versions = λ c. ⊎_elim
+                (λ (same : c ≡ e.client). rw (same, g.version) (versions old.book.version (h.versions e.client)))
+                (λ (apart : c ≢ e.client). rw (others c apart, g.version) (h.versions c))
+                (cases_eq c e.client);
             used = own_used old q e n nw h;
             slots = g.taken ∙ (ap (λ (x : ℕ). if freed then x - 1 else x) h.slots ∙ (sym sl ∙ ap (taken answers settings (q ++ e ∷ [])) (sym ms)));
             shown = g.shown ∙ (h.shown ∙ sym (conf_kept settings q e n));
@@ -188,6 +204,7 @@ module _ {W R F : Type 0} (answer : PolledRequest F R → ℕ → Answer) (answe
           none ∙ (nothing_either_way (list_any (nat_eq e.client) (members answers settings q)) (rule answers e s).1 (ap (λ (t : Told). t.1) idle) ∙ sym (gained_own answers settings q e n nw)),
           record {
             clients = λ c. rw (ms, still c) (h.clients c);
+            versions = λ c. rw same (h.versions c);
             used = λ c. h.used c ∙ ap (λ (s : Slate). not (is_unused s.phase)) (sym (still c));
             slots = ap (λ (x : Look). x.taken) same ∙ (h.slots ∙ sym (ap (taken answers settings (q ++ e ∷ [])) ms ∙ taken_still answers settings q e (members answers settings q) (λ c there. ap (λ (s : Slate). holds_slot s) (still c))));
             shown = ap conf_of same ∙ (h.shown ∙ sym (conf_kept settings q e n));

@@ -16,7 +16,7 @@ use Rattle.dns_client.specs.Slate.{Slate, SlateRequest, Told, Phase, Unused, Exc
 use Rattle.dns_client.specs.Requests.{header_size}
 use Rattle.dns_client.specs.Datagrams.{datagram}
 use Rattle.dns_client.specs.Timers.{is_expired}
-use Rattle.dns_client.specs.Connections.{opened, close, wind_up, append_frame, has_space, in_transaction, take_frame, take_frames, piece, took_too_long, written, write, flushed, flush, tick, released}
+use Rattle.dns_client.specs.Connections.{opened, close, wind_up, append_frame, room, in_transaction, take_frame, take_frames, piece, took_too_long, written, write, flushed, flush, tick, released}
 use Rattle.dns_client.specs.Turns.{exchange_turn, turn, turn_request, poll_request, polled, answered, retimed, with_request, reply_to, sent_at_once, sent_for, hold, queue_frame, queue_reply, queue_held}
 use Rattle.dns_client.specs.Rule.{rule, in_phase, unused_rule, exchange_rule, open_rule, flushing_rule, closed_rule}
 use Rattle.dns_core.specs.Settings.{opening}
@@ -35,7 +35,7 @@ unfolding frames
 no_frames = refl
 
 -- of no octets there are no frames
-nothing_received : (s : Slate) → s.received ≡ [] → Settled s
+pub nothing_received : (s : Slate) → s.received ≡ [] → Settled s
 unfolding Settled
 nothing_received s r = rw (r, no_frames) (omega arith)
 
@@ -90,15 +90,15 @@ pub record Turned (s t : Slate) : Type 0 where
   pub received : t.received ≡ s.received
   pub taken : t.taken ≡ s.taken
 
-queue_frame_turned : (k : ℕ) (m : List ℕ) (r : SlateRequest) (s : Slate) → Turned s (queue_frame k m r s)
-queue_frame_turned k m r s = (elim (has_space s) as (λ b. Turned s (if b then append_frame m (with_request k r s) else with_request k (hold m r) s)) [ true ↦ record { phase = refl; freed = refl; received = refl; taken = refl } | false ↦ record { phase = refl; freed = refl; received = refl; taken = refl } ])
+queue_frame_turned : (at k : ℕ) (m : List ℕ) (r : SlateRequest) (s : Slate) → Turned s (queue_frame at k m r s)
+queue_frame_turned at k m r s = (elim (room at s) as (λ b. Turned s (if b then append_frame at m (with_request k r s) else with_request k (hold m r) s)) [ true ↦ record { phase = refl; freed = refl; received = refl; taken = refl } | false ↦ record { phase = refl; freed = refl; received = refl; taken = refl } ])
 
-queue_reply_turned : (k : ℕ) (x : Option Msg) (r : SlateRequest) (s : Slate) → Turned s (queue_reply k x r s)
-queue_reply_turned k None r s = record { phase = refl; freed = refl; received = refl; taken = refl }
-queue_reply_turned k (Some m) r s = queue_frame_turned k (framed (wire m)) r s
+queue_reply_turned : (at k : ℕ) (x : Option Msg) (r : SlateRequest) (s : Slate) → Turned s (queue_reply at k x r s)
+queue_reply_turned at k None r s = record { phase = refl; freed = refl; received = refl; taken = refl }
+queue_reply_turned at k (Some m) r s = queue_frame_turned at k (framed (wire m)) r s
 
-queue_held_turned : (k : ℕ) (m : List ℕ) (r : SlateRequest) (s : Slate) → Turned s (queue_held k m r s)
-queue_held_turned k m r s = (elim (has_space s) as (λ b. Turned s (if b then append_frame m (with_request k (record r { held = None }) s) else s)) [ true ↦ record { phase = refl; freed = refl; received = refl; taken = refl } | false ↦ record { phase = refl; freed = refl; received = refl; taken = refl } ])
+queue_held_turned : (at k : ℕ) (m : List ℕ) (r : SlateRequest) (s : Slate) → Turned s (queue_held at k m r s)
+queue_held_turned at k m r s = (elim (room at s) as (λ b. Turned s (if b then append_frame at m (with_request k (record r { held = None }) s) else s)) [ true ↦ record { phase = refl; freed = refl; received = refl; taken = refl } | false ↦ record { phase = refl; freed = refl; received = refl; taken = refl } ])
 
 pub released_again : (s : Slate) → s.freed ≡ true → released s ≡ s
 released_again s h = ap (λ (b : Bool). record s { freed = b }) (sym h)
@@ -109,19 +109,19 @@ module _ (answers : Serving) where
   exchange_turned k (Some r) s =
       (elim r.done as (λ b. let u : Told = (if b then (s, []) else (with_request k (polled (answers.answer r.request r.polls) r) s, sent_at_once s.client (sent_for answers r.request (answers.answer r.request r.polls)))) in Turned s u.0) [ true ↦ record { phase = refl; freed = refl; received = refl; taken = refl } | false ↦ record { phase = refl; freed = refl; received = refl; taken = refl } ])
 
-  poll_turned : (k : ℕ) (r : SlateRequest) (s : Slate) → Turned s (poll_request answers k r s)
-  poll_turned k r s =
+  poll_turned : (at k : ℕ) (r : SlateRequest) (s : Slate) → Turned s (poll_request answers at k r s)
+  poll_turned at k r s =
       let a = answers.answer r.request r.polls in
-      let t = queue_reply_turned k (reply_to None r.request.octets a) (answered a r) (retimed a s) in
+      let t = queue_reply_turned at k (reply_to None r.request.octets a) (answered a r) (retimed a s) in
       record { phase = t.phase; freed = t.freed; received = t.received; taken = t.taken }
 
-  turn_request_turned : (k : ℕ) (x : Option (List ℕ)) (r : SlateRequest) (s : Slate) → Turned s (turn_request answers k x r s)
-  turn_request_turned k None r s = poll_turned k r s
-  turn_request_turned k (Some m) r s = queue_held_turned k m r s
+  turn_request_turned : (at k : ℕ) (x : Option (List ℕ)) (r : SlateRequest) (s : Slate) → Turned s (turn_request answers at k x r s)
+  turn_request_turned at k None r s = poll_turned at k r s
+  turn_request_turned at k (Some m) r s = queue_held_turned at k m r s
 
-  turn_turned : (k : ℕ) (x : Option SlateRequest) (s : Slate) → Turned s (turn answers k x s)
-  turn_turned k None s = record { phase = refl; freed = refl; received = refl; taken = refl }
-  turn_turned k (Some r) s = (elim r.done as (λ b. Turned s (if b then s else turn_request answers k r.held r s)) [ true ↦ record { phase = refl; freed = refl; received = refl; taken = refl } | false ↦ turn_request_turned k r.held r s ])
+  turn_turned : (at k : ℕ) (x : Option SlateRequest) (s : Slate) → Turned s (turn answers at k x s)
+  turn_turned at k None s = record { phase = refl; freed = refl; received = refl; taken = refl }
+  turn_turned at k (Some r) s = (elim r.done as (λ b. Turned s (if b then s else turn_request answers at k r.held r s)) [ true ↦ record { phase = refl; freed = refl; received = refl; taken = refl } | false ↦ turn_request_turned at k r.held r s ])
 
   unused_settled : (e : Event) (k : EventKind) (s : Slate) → Settled s → Settled (unused_rule e k s).0
   unused_settled e (Datagram addr o) s h = (elim s.conf.over as (λ b. let t : Told = (if b then (s, []) else datagram e.client addr e.at e.secs o s) in Settled t.0) [ true ↦ h | false ↦ same_frames s (datagram e.client addr e.at e.secs o s).0 refl refl h ])
@@ -153,7 +153,7 @@ module _ (answers : Serving) where
 
   open_settled : (e : Event) (k : EventKind) (s : Slate) → Settled s → Settled (open_rule answers e k s).0
   open_settled e (Datagram addr o) s h = h
-  open_settled e (Turn k) s h = let t = turn_turned k (slice_get s.requests k) s in same_frames s (turn answers k (slice_get s.requests k) s) t.received t.taken h
+  open_settled e (Turn k) s h = let t = turn_turned e.at k (slice_get s.requests k) s in same_frames s (turn answers e.at k (slice_get s.requests k) s) t.received t.taken h
   open_settled e (Offer addr) s h = h
   open_settled e (Piece o) s h = piece_settled e.at e.secs o s
   open_settled e End s h = closed_settled Ended s
@@ -205,7 +205,7 @@ module _ (answers : Serving) where
       let t = with_conf (conf_rule e.kind s.conf) s in
       phase_settled e s.phase t (same_frames s t refl refl h)
 
-  settled_after : (es : List Event) (s : Slate) → Settled s → Settled (slate_after answers s es)
+  pub settled_after : (es : List Event) (s : Slate) → Settled s → Settled (slate_after answers s es)
   settled_after [] s h = h
   settled_after (x ∷ es) s h = settled_after es (rule answers x s).0 (rule_settled x s h)
 

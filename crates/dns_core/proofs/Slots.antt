@@ -17,7 +17,7 @@ use Rattle.dns_client.specs.Spent.{is_spent, is_spent_in}
 use Rattle.dns_client.specs.Stands.{StandsIn}
 use Rattle.dns_client.specs.declared.client.ClientCore.{ClientCore}
 use Rattle.dns_client.specs.declared.client.State.{State}
-use Rattle.dns_client.specs.declared.client.State.TheVariants.{Exchange as Is_exchange, Open as Is_open, Flushing as Is_flushing, Closed as Is_closed}
+use Rattle.dns_client.specs.declared.client.State.TheVariants.{Exchange as Is_exchange, Open as Is_open, Flushing as Is_flushing, Closed as Is_closed, Lost as Is_lost}
 use Rattle.dns_core.specs.Own.{is_wide}
 use Rattle.dns_core.specs.Out.{is_connection, holds_slot, taken}
 use Rattle.dns_core.specs.Sent.{slate}
@@ -56,7 +56,7 @@ shown_slot : (s u t : Slate) (freed : Bool) → holds_slot u ≡ holds_slot s �
 shown_slot s u t freed same h = record { gone = λ g. let k = h.gone g in (sym same ∙ k.0, k.1); kept = λ g. h.kept g ∙ same }
 
 module _ (answers : Serving) where
-  exchange_freed : (k : EventKind) (s : Slate) → (exchange_rule answers k s).0.freed ≡ s.freed
+  pub exchange_freed : (k : EventKind) (s : Slate) → (exchange_rule answers k s).0.freed ≡ s.freed
   exchange_freed (Turn k) s = (exchange_turned answers k (slice_get s.requests k) s).freed
   exchange_freed _ s = refl
 
@@ -74,6 +74,7 @@ state_slot answer answers n (Is_closed gone) e s freed h u is =
     let at : rule answers e s ≡ closed_rule e.kind t = ap (λ (p : Phase). in_phase answers e p t) h.phase in
     let sl : Slot t (closed_rule e.kind t).0 freed = closed_slot e.kind t freed h.phase free (is ∙ ap (λ (x : Told). x.0.freed) at) in
     rw at (shown_slot s t (closed_rule e.kind t).0 freed refl sl)
+state_slot answer answers n Is_lost e s freed h u is = absurd h
 
 module _ {W R F : Type 0} (answer : PolledRequest F R → ℕ → Answer) (answers : Serving) where
   -- of a member

@@ -16,7 +16,7 @@ use Rattle.dns_client.specs.Rule.{rule, in_phase, exchange_rule, open_rule, clos
 use Rattle.dns_client.specs.Spent.{is_spent, is_spent_in}
 use Rattle.dns_client.specs.Stands.{StandsIn}
 use Rattle.dns_client.specs.declared.client.State.{State}
-use Rattle.dns_client.specs.declared.client.State.TheVariants.{Exchange as Is_exchange, Open as Is_open, Flushing as Is_flushing, Closed as Is_closed}
+use Rattle.dns_client.specs.declared.client.State.TheVariants.{Exchange as Is_exchange, Open as Is_open, Flushing as Is_flushing, Closed as Is_closed, Lost as Is_lost}
 use Rattle.dns_core.specs.Finished.{IsFinished}
 use Rattle.dns_core.specs.Out.{is_unused}
 use Rattle.dns_core.specs.Own.{is_wide}
@@ -66,12 +66,12 @@ module _ (answers : Serving) where
   pub spent_kept : (e : Event) (s : Slate) → is_spent s ≡ true → is_spent (rule answers e s).0 ≡ true
   spent_kept e s h = ap (λ (t : Told). is_spent t.0) (spent_idle e s h) ∙ (conf_spent s.phase s (conf_rule e.kind s.conf) ∙ h)
 
-  open_unspent : (e : Event) (k : EventKind) (s : Slate) → s.phase ≡ Open → s.freed ≡ false → is_wide k ≡ true → is_spent (open_rule answers e k s).0 ≡ false
+  pub open_unspent : (e : Event) (k : EventKind) (s : Slate) → s.phase ≡ Open → s.freed ≡ false → is_wide k ≡ true → is_spent (open_rule answers e k s).0 ≡ false
   open_unspent e (Reconfigure dgram stream) s p f w = ap (λ (x : Phase). is_spent_in x (reconfigured stream.connection_config s)) p
   open_unspent e Shutdown s p f w = wound_unspent By_shutdown s.queue s f
   open_unspent e _ s p f w = cc
 
-  idle_unspent : (e : Event) (s : Slate) → is_wide e.kind ≡ true → is_open s.phase ≡ false → is_spent s ≡ false → is_spent (rule answers e s).0 ≡ false
+  pub idle_unspent : (e : Event) (s : Slate) → is_wide e.kind ≡ true → is_open s.phase ≡ false → is_spent s ≡ false → is_spent (rule answers e s).0 ≡ false
   idle_unspent e s w o h = ap (λ (t : Told). is_spent t.0) (wide_idle answers e s w o) ∙ (conf_spent s.phase s (conf_rule e.kind s.conf) ∙ h)
 
 -- an event that all hear leaves no client spent that wasn't
@@ -83,6 +83,7 @@ wide_unspent answer answers n (Is_open c) e s h w u =
     ap (λ (p : Phase). is_spent (in_phase answers e p t).0) h.phase ∙ open_unspent answers e e.kind t h.phase h.freed w
 wide_unspent answer answers n (Is_flushing c) e s h w u = idle_unspent answers e s w (ap is_open h.phase) u
 wide_unspent answer answers n (Is_closed freed) e s h w u = idle_unspent answers e s w (ap is_open h.phase) u
+wide_unspent answer answers n Is_lost e s h w u = absurd h
 
 -- an unused slate isn't spent
 pub unused_unspent : (s : Slate) → is_unused s.phase ≡ true → is_spent s ≡ false

@@ -7,9 +7,9 @@ use Rattle.dns_service.specs.ErrorReply.{error_reply}
 use Rattle.dns_client.specs.Frames.{framed}
 use Rattle.dns_client.specs.Slate.{Slate}
 use Rattle.dns_client.specs.Requests.{most_requests, request_of_frame, asked}
-use Rattle.dns_client.specs.Connections.{append_frame, enqueue, take_request, take_frame}
+use Rattle.dns_client.specs.Connections.{append_frame, enqueue, room, take_request, take_frame}
 
--- all but the requests, the queue and the timer stays
+-- all but the requests, the queue, what is spent and the timer stays
 pub record Takes (s t : Slate) : Type 0 where
   pub client : t.client ≡ s.client
   pub phase : t.phase ≡ s.phase
@@ -28,8 +28,8 @@ asked_takes at secs f s = (elim (nat_lt (length s.requests) most_requests) as (�
   | false ↦ record { client = refl; phase = refl; freed = refl; conf = refl; received = refl; taken = refl }
 ])
 
-refused_takes : (at : ℕ) (m : List ℕ) (s : Slate) → Takes s (enqueue m (counted at s))
-refused_takes at m s = (elim (nat_lt (length s.queue) s.bound) as (λ b. Takes s (if b then append_frame m (counted at s) else counted at s)) [
+refused_takes : (at : ℕ) (m : List ℕ) (s : Slate) → Takes s (enqueue at m (counted at s))
+refused_takes at m s = (elim (room at s) as (λ b. Takes s (if b then append_frame at m (counted at s) else counted at s)) [
   | true ↦ record { client = refl; phase = refl; freed = refl; conf = refl; received = refl; taken = refl }
   | false ↦ record { client = refl; phase = refl; freed = refl; conf = refl; received = refl; taken = refl }
 ])
@@ -37,4 +37,4 @@ refused_takes at m s = (elim (nat_lt (length s.queue) s.bound) as (λ b. Takes s
 pub takes : (at secs : ℕ) (f : List ℕ) (s : Slate) → Takes s (take_frame at secs f s)
 takes at secs f s =
     let m = framed (wire (error_reply f 1)) in
-    (elim (header_of f).qr as (λ b. Takes s (if b then enqueue m (counted at s) else take_request at secs f (counted at s))) [ true ↦ refused_takes at m s | false ↦ asked_takes at secs f s ])
+    (elim (header_of f).qr as (λ b. Takes s (if b then enqueue at m (counted at s) else take_request at secs f (counted at s))) [ true ↦ refused_takes at m s | false ↦ asked_takes at secs f s ])

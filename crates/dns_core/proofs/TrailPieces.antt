@@ -10,7 +10,7 @@ use Rattle.dns_service.specs.ErrorReply.{error_reply}
 use Rattle.dns_service.specs.Req.{Req}
 use Rattle.dns_service.specs.Transport.{is_stream}
 use Rattle.dns_service.specs.declared.event.Why.TheVariants.{Short}
-use Rattle.dns_client.specs.Connections.{append_frame, close, enqueue, has_space, piece, take_frame, take_frames, take_request}
+use Rattle.dns_client.specs.Connections.{append_frame, close, enqueue, piece, room, take_frame, take_frames, take_request}
 use Rattle.dns_client.specs.Frames.{frames, framed}
 use Rattle.dns_client.specs.Requests.{asked, header_size, most_requests, request_of_frame}
 use Rattle.dns_client.specs.Serving.{Serving}
@@ -56,9 +56,9 @@ module _ (answers : Serving) where
         | false ↦ h
       ])
 
-  refused_takes : (q : List (List ℕ)) (t : Trail) (m : List ℕ) (s : Slate) → Takes q t s → Takes q t (enqueue m s)
-  refused_takes q t m s h =
-      (elim (has_space s) as (λ b. Takes q t (if b then append_frame m s else s)) [
+  refused_takes : (q : List (List ℕ)) (t : Trail) (at : ℕ) (m : List ℕ) (s : Slate) → Takes q t s → Takes q t (enqueue at m s)
+  refused_takes q t at m s h =
+      (elim (room at s) as (λ b. Takes q t (if b then append_frame at m s else s)) [
         | true ↦ record { phase = h.phase; news = h.news ++ m ∷ []; queue = ap (λ (ms : List (List ℕ)). ms ++ m ∷ []) h.queue ∙ append_assoc q h.news (m ∷ []); asks = h.asks }
         | false ↦ h
       ])
@@ -67,7 +67,7 @@ module _ (answers : Serving) where
   frame_takes q t at secs f s h =
       let u : Slate = record s { taken = s.taken + 1; reset_at = at } in
       let g : Takes q t u = record { phase = h.phase; news = h.news; queue = h.queue; asks = h.asks } in
-      (elim (header_of f).qr as (λ b. Takes q t (if b then enqueue (framed (wire (error_reply f 1))) u else take_request at secs f u)) [ true ↦ refused_takes q t (framed (wire (error_reply f 1))) u g | false ↦ request_takes q t at secs f u g ])
+      (elim (header_of f).qr as (λ b. Takes q t (if b then enqueue at (framed (wire (error_reply f 1))) u else take_request at secs f u)) [ true ↦ refused_takes q t at (framed (wire (error_reply f 1))) u g | false ↦ request_takes q t at secs f u g ])
 
   none_polls : (k n : ℕ) (ds : List Mark) (t : Trail) → polls_of k (in_order (waits_with (replicate n None) ds t)) ≡ polls_of k (in_order t)
   none_polls k n ds t = polls_joined k (replicate n None) ds t ∙ ap (λ (ns : List ℕ). polls_of k (in_order t) ++ ns) (polls_none k n) ∙ append-nil (polls_of k (in_order t))

@@ -39,13 +39,13 @@ marks_conf (Turn k) c s = refl
 marks_conf k c s = refl
 
 module _ (answers : Serving) where
-  drops_conf_case : (k : ℕ) (x : Option SlateRequest) (c : Conf) (s : Slate) → dropped_of answers k x s ≡ dropped_of answers k x (with_conf c s)
-  drops_conf_case k None c s = refl
-  drops_conf_case k (Some r) c s = refl
+  drops_conf_case : (at k : ℕ) (x : Option SlateRequest) (c : Conf) (s : Slate) → dropped_of answers at k x s ≡ dropped_of answers at k x (with_conf c s)
+  drops_conf_case at k None c s = refl
+  drops_conf_case at k (Some r) c s = refl
 
-  drops_conf : (k : EventKind) (c : Conf) (s : Slate) → dropped_by answers k s ≡ dropped_by answers k (with_conf c s)
-  drops_conf (Turn k) c s = ap (λ (ds : List Mark). if is_open s.phase then ds else []) (drops_conf_case k (slice_get s.requests k) c s)
-  drops_conf k c s = refl
+  drops_conf : (at : ℕ) (k : EventKind) (c : Conf) (s : Slate) → dropped_by answers at k s ≡ dropped_by answers at k (with_conf c s)
+  drops_conf at (Turn k) c s = ap (λ (ds : List Mark). if is_open s.phase then ds else []) (drops_conf_case at k (slice_get s.requests k) c s)
+  drops_conf at k c s = refl
 
   opened_keeps : (client : ℕ) (addr : SocketAddr) (at : ℕ) (s : Slate) (t : Trail) (os : List (List ℕ)) (ds : List Mark) → s.phase ≡ Unused → Kept answers s t os → Keeps answers (opened client addr at s, []) None ds t os
   opened_keeps client addr at s t os ds p h =
@@ -64,9 +64,9 @@ module _ (answers : Serving) where
   in_exchange_keeps (Turn k) s t os ds p h = exchange_keeps answers k (slice_get s.requests k) s t os ds p refl h
   in_exchange_keeps k s t os ds p h = still answers s t os (marks k s) ds h
 
-  open_keeps : (e : Event) (k : EventKind) (s : Slate) (t : Trail) (os : List (List ℕ)) (ds : List Mark) → s.phase ≡ Open → ds ≡ dropped_by answers k s → Kept answers s t os → Keeps answers (open_rule answers e k s) (marks k s) ds t os
+  open_keeps : (e : Event) (k : EventKind) (s : Slate) (t : Trail) (os : List (List ℕ)) (ds : List Mark) → s.phase ≡ Open → ds ≡ dropped_by answers e.at k s → Kept answers s t os → Keeps answers (open_rule answers e k s) (marks k s) ds t os
   open_keeps e (Piece o) s t os ds p d h = piece_keeps answers e.at e.secs o s t os ds p h
-  open_keeps e (Turn k) s t os ds p d h = turn_keeps answers k (slice_get s.requests k) s t os ds p refl h (d ∙ ap (λ (x : Phase). if is_open x then dropped_of answers k (slice_get s.requests k) s else []) p)
+  open_keeps e (Turn k) s t os ds p d h = turn_keeps answers e.at k (slice_get s.requests k) s t os ds p refl h (d ∙ ap (λ (x : Phase). if is_open x then dropped_of answers e.at k (slice_get s.requests k) s else []) p)
   open_keeps e (Write took) s t os ds p d h = write_keeps answers e.at took s.queue s t os None ds refl h
   open_keeps e Tick s t os ds p d h = tick_keeps answers e.at s t os None ds h
   open_keeps e End s t os ds p d h = closes answers Ended s s t os None ds h
@@ -85,7 +85,7 @@ module _ (answers : Serving) where
   closed_keeps Release s t os ds h = stays answers s (released s) t os None ds h refl (has_still answers s.phase s.requests ds t h.has)
   closed_keeps k s t os ds h = still answers s t os (marks k s) ds h
 
-  phase_keeps : (e : Event) (p : Phase) (s : Slate) (t : Trail) (os : List (List ℕ)) (ds : List Mark) → s.phase ≡ p → ds ≡ dropped_by answers e.kind s → Kept answers s t os → Keeps answers (in_phase answers e p s) (marks e.kind s) ds t os
+  phase_keeps : (e : Event) (p : Phase) (s : Slate) (t : Trail) (os : List (List ℕ)) (ds : List Mark) → s.phase ≡ p → ds ≡ dropped_by answers e.at e.kind s → Kept answers s t os → Keeps answers (in_phase answers e p s) (marks e.kind s) ds t os
   phase_keeps e Unused s t os ds p d h = unused_keeps e e.kind s t os ds p h
   phase_keeps e Exchange s t os ds p d h = in_exchange_keeps e.kind s t os ds p h
   phase_keeps e Open s t os ds p d h = open_keeps e e.kind s t os ds p d h
@@ -98,11 +98,11 @@ module _ (answers : Serving) where
   rule_keeps : (e : Event) (s : Slate) (t : Trail) (os : List (List ℕ)) → Kept answers s t os → Kept answers (rule answers e s).0 (trailed answers e s t) (os ++ octets_sent (rule answers e s).1)
   rule_keeps e s t os h =
       let c = conf_rule e.kind s.conf in
-      let ds = dropped_by answers e.kind s in
+      let ds = dropped_by answers e.at e.kind s in
       subst (λ (x : Option Mark). Keeps answers (rule answers e s) x ds t os) (sym (marks_conf e.kind c s))
-      (phase_keeps e s.phase (with_conf c s) t os ds refl (drops_conf e.kind c s) (conf_kept c s t os h))
+      (phase_keeps e s.phase (with_conf c s) t os ds refl (drops_conf e.at e.kind c s) (conf_kept c s t os h))
 
-  kept_after : (es : List Event) (s : Slate) (t : Trail) (os : List (List ℕ)) → Kept answers s t os → Kept answers (slate_after answers s es) (trail_after answers s t es) (os ++ octets_sent (sent_after answers s es))
+  pub kept_after : (es : List Event) (s : Slate) (t : Trail) (os : List (List ℕ)) → Kept answers s t os → Kept answers (slate_after answers s es) (trail_after answers s t es) (os ++ octets_sent (sent_after answers s es))
   kept_after [] s t os h = subst (Kept answers s t) (sym (append-nil os)) h
   kept_after (e ∷ es) s t os h =
       let told : Told = rule answers e s in
@@ -110,7 +110,7 @@ module _ (answers : Serving) where
       (append_assoc os (octets_sent told.1) (octets_sent (sent_after answers told.0 es)) ∙ ap (λ (ps : List (List ℕ)). os ++ ps) (sym (octets_append told.1 (sent_after answers told.0 es))))
       (kept_after es told.0 (trailed answers e s t) (os ++ octets_sent told.1) (rule_keeps e s t os h))
 
-  first_kept : (c : Conf) → Kept answers (fresh c) no_trail []
+  pub first_kept : (c : Conf) → Kept answers (fresh c) no_trail []
   first_kept c = record { went = tt; waiting = tt; order = λ k. tt; has = (refl, refl, λ k. refl) }
 
   -- the events of a client keep its trail

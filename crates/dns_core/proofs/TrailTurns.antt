@@ -9,7 +9,7 @@ use Rattle.dns_service.specs.Config.{Connection}
 use Rattle.dns_service.specs.Transport.{is_stream, limit, limit_over}
 use Rattle.dns_service.specs.declared.message.TransportSpecificContext.{TransportSpecificContext}
 use Rattle.dns_service.specs.declared.message.TransportSpecificContext.TheVariants.{Udp, NonUdp}
-use Rattle.dns_client.specs.Connections.{append_frame, has_space, is_in_transaction}
+use Rattle.dns_client.specs.Connections.{append_frame, is_in_transaction, room}
 use Rattle.dns_client.specs.Frames.{framed}
 use Rattle.dns_client.specs.Serving.{Serving}
 use Rattle.dns_client.specs.Slate.{Slate, SlateRequest, Phase, Open}
@@ -35,14 +35,14 @@ module _ (answers : Serving) where
   open_asks s t os e h = subst (λ (p : Phase). Has answers p s.requests t) e h.has
 
   -- a request that isn't done, at its turn
-  pub record AtTurn (k : ℕ) (r : SlateRequest) (s : Slate) (t : Trail) (os : List (List ℕ)) (ds : List Mark) : Type 0 where
+  pub record AtTurn (at k : ℕ) (r : SlateRequest) (s : Slate) (t : Trail) (os : List (List ℕ)) (ds : List Mark) : Type 0 where
     pub phase : s.phase ≡ Open
     pub here : slice_get s.requests k ≡ Some r
     pub kept : Kept answers s t os
     pub undone : r.done ≡ false
-    pub dropped : drops answers r s ≡ true → ds ≡ mark k r ∷ []
+    pub dropped : drops answers at r s ≡ true → ds ≡ mark k r ∷ []
 
-  module _ (k : ℕ) (r : SlateRequest) (s : Slate) (t : Trail) (os : List (List ℕ)) (ds : List Mark) (h : AtTurn k r s t os ds) where
+  module _ (at k : ℕ) (r : SlateRequest) (s : Slate) (t : Trail) (os : List (List ℕ)) (ds : List Mark) (h : AtTurn at k r s t os ds) where
     asks_all : AsksAll answers true s.requests t
     asks_all = open_asks s t os h.phase h.kept
 
@@ -63,9 +63,9 @@ module _ (answers : Serving) where
     still_others : (j : ℕ) → j ≢ k → polls_of j (in_order (waits_with (Some (mark k r) ∷ []) ds t)) ≡ polls_of j (in_order t)
     still_others j ne = polls_joined j (Some (mark k r) ∷ []) ds t ∙ ap (λ (ns : List ℕ). polls_of j (in_order t) ++ ns) (others_none k j r ne) ∙ append-nil (polls_of j (in_order t))
 
-    queues : (c : Connection) (r' : SlateRequest) (o : List ℕ) → reply_at answers (mark k r) ≡ Some o → Asks answers true k r' (waits_with (Some (mark k r) ∷ []) ds t) → Keeps answers (append_frame o (with_request k r' (record s { connection = c })), []) (Some (mark k r)) ds t os
+    queues : (c : Connection) (r' : SlateRequest) (o : List ℕ) → reply_at answers (mark k r) ≡ Some o → Asks answers true k r' (waits_with (Some (mark k r) ∷ []) ds t) → Keeps answers (append_frame at o (with_request k r' (record s { connection = c })), []) (Some (mark k r)) ds t os
     queues c r' o reply asks =
-        let u = append_frame o (with_request k r' (record s { connection = c })) in
+        let u = append_frame at o (with_request k r' (record s { connection = c })) in
         let v = waits_with (Some (mark k r) ∷ []) ds t in
         joins answers s u t os (o ∷ []) (Some (mark k r)) ds h.kept refl (reply, tt) (rises_with answers true k r t asks_here h.kept.order)
         (has_turned u.requests v (turned answers true k s.requests r r' t v h.here asks_all asks still_others (joined_on (Some (mark k r) ∷ []) ds t)))
@@ -79,12 +79,12 @@ module _ (answers : Serving) where
       reply_here : reply_at answers (poll_of k r r.polls) ≡ option_map (λ m. framed (wire m)) (reply_to None r.request.octets answer)
       reply_here = stream_reply r.request.transport (limit (answers.hint r.request)) (λ (n : Option ℕ). reply_to n r.request.octets answer) asks_here.transport
 
-      dropped_here : (m : Msg) → reply_to None r.request.octets answer ≡ Some m → has_space s ≡ false → is_in_transaction (answered answer r).status ≡ false → ds ≡ mark k r ∷ []
+      dropped_here : (m : Msg) → reply_to None r.request.octets answer ≡ Some m → room at s ≡ false → is_in_transaction (answered answer r).status ≡ false → ds ≡ mark k r ∷ []
       dropped_here m is full out =
-          h.dropped (drops_case r.done (is_some r.held) (is_some (sent_for answers r.request answer)) (has_space s) (is_in_transaction (answered answer r).status) h.undone (ap is_some free)
+          h.dropped (drops_case r.done (is_some r.held) (is_some (sent_for answers r.request answer)) (room at s) (is_in_transaction (answered answer r).status) h.undone (ap is_some free)
           (ap is_some (stream_sent r.request.transport (limit (answers.hint r.request)) (λ (n : Option ℕ). reply_to n r.request.octets answer) asks_here.transport ∙ is)) full out)
 
-      hold_case : (m : Msg) (b : Bool) → reply_to None r.request.octets answer ≡ Some m → has_space s ≡ false → is_in_transaction (answered answer r).status ≡ b
+      hold_case : (m : Msg) (b : Bool) → reply_to None r.request.octets answer ≡ Some m → room at s ≡ false → is_in_transaction (answered answer r).status ≡ b
           → let x : SlateRequest = (if b then record (answered answer r) { held = Some (framed (wire m)) } else answered answer r) in Keeps answers (with_request k x (retimed answer s), []) (Some (mark k r)) ds t os
       hold_case m true is full through =
           quietly (retimed answer s).connection (record (answered answer r) { held = Some (framed (wire m)) })
@@ -94,40 +94,40 @@ module _ (answers : Serving) where
           quietly (retimed answer s).connection (answered answer r)
           (subst (λ (x : List Mark). Asks answers true k (answered answer r) (waits_with [] x t)) (sym (dropped_here m is full out)) asks)
 
-      frame_case : (m : Msg) (b : Bool) → reply_to None r.request.octets answer ≡ Some m → has_space s ≡ b
-          → let u : Slate = (if b then append_frame (framed (wire m)) (with_request k (answered answer r) (retimed answer s)) else with_request k (hold (framed (wire m)) (answered answer r)) (retimed answer s)) in Keeps answers (u, []) (Some (mark k r)) ds t os
+      frame_case : (m : Msg) (b : Bool) → reply_to None r.request.octets answer ≡ Some m → room at s ≡ b
+          → let u : Slate = (if b then append_frame at (framed (wire m)) (with_request k (answered answer r) (retimed answer s)) else with_request k (hold (framed (wire m)) (answered answer r)) (retimed answer s)) in Keeps answers (u, []) (Some (mark k r)) ds t os
       frame_case m true is space =
           queues (retimed answer s).connection (answered answer r) (framed (wire m)) (ap (reply_at answers) (mark_free k r free) ∙ reply_here ∙ ap (option_map (λ x. framed (wire x))) is)
           (polls_queued answers k r r.held (answered answer r).status (answered answer r).done ds t free free asks_here)
       frame_case m false is full = hold_case m (is_in_transaction (answered answer r).status) is full refl
 
-      reply_case : (x : Option Msg) → reply_to None r.request.octets answer ≡ x → Keeps answers (queue_reply k x (answered answer r) (retimed answer s), []) (Some (mark k r)) ds t os
+      reply_case : (x : Option Msg) → reply_to None r.request.octets answer ≡ x → Keeps answers (queue_reply at k x (answered answer r) (retimed answer s), []) (Some (mark k r)) ds t os
       reply_case None is =
           quietly (retimed answer s).connection (answered answer r)
           (polls_silent answers true k r r.held (answered answer r).status (answered answer r).done ds t free free asks_here (reply_here ∙ ap (option_map (λ x. framed (wire x))) is))
-      reply_case (Some m) is = frame_case m (has_space s) is refl
+      reply_case (Some m) is = frame_case m (room at s) is refl
 
     -- ---- one whose reply is held isn't
 
-    held_case : (o : List ℕ) (b : Bool) → r.held ≡ Some o → let u : Slate = (if b then append_frame o (with_request k (record r { held = None }) s) else s) in Keeps answers (u, []) (Some (mark k r)) ds t os
+    held_case : (o : List ℕ) (b : Bool) → r.held ≡ Some o → let u : Slate = (if b then append_frame at o (with_request k (record r { held = None }) s) else s) in Keeps answers (u, []) (Some (mark k r)) ds t os
     held_case o true is = queues s.connection (record r { held = None }) o (asks_here.held o is).1 (held_queued answers k r o ds t is asks_here)
     held_case o false is = still answers s t os (Some (mark k r)) ds h.kept
 
-    request_turn : (x : Option (List ℕ)) → r.held ≡ x → Keeps answers (turn_request answers k x r s, []) (Some (mark k r)) ds t os
+    request_turn : (x : Option (List ℕ)) → r.held ≡ x → Keeps answers (turn_request answers at k x r s, []) (Some (mark k r)) ds t os
     request_turn None is = reply_case is (reply_to None r.request.octets (answers.answer r.request r.polls)) refl
-    request_turn (Some o) is = held_case o (has_space s) is
+    request_turn (Some o) is = held_case o (room at s) is
 
-    pub turns_on : Keeps answers (turn_request answers k r.held r s, []) (Some (mark k r)) ds t os
+    pub turns_on : Keeps answers (turn_request answers at k r.held r s, []) (Some (mark k r)) ds t os
     turns_on = request_turn r.held refl
 
-  done_case : (k : ℕ) (r : SlateRequest) (s : Slate) (t : Trail) (os : List (List ℕ)) (ds : List Mark) (b : Bool) → Kept answers s t os → (b ≡ false → Keeps answers (turn_request answers k r.held r s, []) (Some (mark k r)) ds t os)
-      → let u : Slate = (if b then s else turn_request answers k r.held r s) in Keeps answers (u, []) (Some (mark k r)) ds t os
-  done_case k r s t os ds true h more = still answers s t os (Some (mark k r)) ds h
-  done_case k r s t os ds false h more = more refl
+  done_case : (at k : ℕ) (r : SlateRequest) (s : Slate) (t : Trail) (os : List (List ℕ)) (ds : List Mark) (b : Bool) → Kept answers s t os → (b ≡ false → Keeps answers (turn_request answers at k r.held r s, []) (Some (mark k r)) ds t os)
+      → let u : Slate = (if b then s else turn_request answers at k r.held r s) in Keeps answers (u, []) (Some (mark k r)) ds t os
+  done_case at k r s t os ds true h more = still answers s t os (Some (mark k r)) ds h
+  done_case at k r s t os ds false h more = more refl
 
   -- whichever request is named
-  pub turn_keeps : (k : ℕ) (x : Option SlateRequest) (s : Slate) (t : Trail) (os : List (List ℕ)) (ds : List Mark) → s.phase ≡ Open → slice_get s.requests k ≡ x → Kept answers s t os → ds ≡ dropped_of answers k x s
-      → Keeps answers (turn answers k x s, []) (option_map (λ r. mark k r) x) ds t os
-  turn_keeps k None s t os ds p at h d = still answers s t os None ds h
-  turn_keeps k (Some r) s t os ds p at h d =
-      done_case k r s t os ds r.done h (λ undone. turns_on k r s t os ds (record { phase = p; here = at; kept = h; undone = undone; dropped = λ yes. d ∙ ap (λ (b : Bool). if b then mark k r ∷ [] else []) yes }))
+  pub turn_keeps : (at k : ℕ) (x : Option SlateRequest) (s : Slate) (t : Trail) (os : List (List ℕ)) (ds : List Mark) → s.phase ≡ Open → slice_get s.requests k ≡ x → Kept answers s t os → ds ≡ dropped_of answers at k x s
+      → Keeps answers (turn answers at k x s, []) (option_map (λ r. mark k r) x) ds t os
+  turn_keeps at k None s t os ds p here h d = still answers s t os None ds h
+  turn_keeps at k (Some r) s t os ds p here h d =
+      done_case at k r s t os ds r.done h (λ undone. turns_on at k r s t os ds (record { phase = p; here = here; kept = h; undone = undone; dropped = λ yes. d ∙ ap (λ (b : Bool). if b then mark k r ∷ [] else []) yes }))

@@ -14,6 +14,13 @@ pub mod Sent
 pub mod Out
 pub mod ByClient
 pub mod Books
+pub mod Placed
+pub mod Outs
+pub mod AtOnce
+pub mod Changes
+pub mod SlateBy
+pub mod StepsByClient
+pub mod SplitServer
 pub mod Runs
 pub mod ReplyTo
 pub mod Trails

@@ -1,10 +1,10 @@
 -- What one client is sent for the events that it hears, from the oldest to the newest, and the slate that it has after them.
 use Rattle.dns_client.specs.Serving.{Serving}
-use Rattle.std.specs.Prelude.{ℕ, List, [], ◌∷◌, ◌++◌}
+use Rattle.std.specs.Prelude.{ℕ, List, [], ◌∷◌}
 use Rattle.dns_service.specs.declared.event.Event.{Event}
 use Rattle.dns_service.specs.declared.event.Output.{Output}
 use Rattle.dns_client.specs.Slate.{Slate, Conf, conf_rule, fresh}
-use Rattle.dns_client.specs.Rule.{rule}
+pub use Rattle.dns_client.specs.After.{slate_after, sent_after}
 use Rattle.dns_core.specs.Settings.{opening}
 use Rattle.dns_core.specs.Own.{own}
 use Rattle.dns_middleware.specs.declared.settings.Settings.{Settings}
@@ -18,19 +18,10 @@ unfoldable pub conf : Settings → List Event → Conf
 conf settings es = conf_after (opening settings) es
 
 -- the answers are those of the wrapped service, by request and poll
-module _ (answers : Serving) where
-  abbrev pub slate_after : Slate → List Event → Slate
-  slate_after s [] = s
-  slate_after s (e ∷ es) = slate_after (rule answers e s).0 es
+module _ (answers : Serving) (settings : Settings) where
+  unfoldable pub sent : List Event → List Output
+  sent es = sent_after answers (fresh (opening settings)) es
 
-  abbrev pub sent_after : Slate → List Event → List Output
-  sent_after s [] = []
-  sent_after s (e ∷ es) = (rule answers e s).1 ++ sent_after (rule answers e s).0 es
-
-  module _ (settings : Settings) where
-    unfoldable pub sent : List Event → List Output
-    sent es = sent_after (fresh (opening settings)) es
-
-    -- the slate of a client after the events of all
-    unfoldable pub slate : ℕ → List Event → Slate
-    slate c q = slate_after (fresh (opening settings)) (own c q)
+  -- the slate of a client after the events of all
+  unfoldable pub slate : ℕ → List Event → Slate
+  slate c q = slate_after answers (fresh (opening settings)) (own c q)

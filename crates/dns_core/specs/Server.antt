@@ -1,6 +1,6 @@
 -- What a server keeps after some events.
 use Rattle.dns_client.specs.Serving.{Serving}
-use Rattle.std.specs.Prelude.{◌≡◌, ◌<◌, ◌≤◌, ℕ, List, [], ◌∷◌, ◌++◌, length, not, nat_eq, true}
+use Rattle.std.specs.Prelude.{◌≡◌, ◌<◌, ◌≤◌, ℕ, List, [], ◌∷◌, ◌++◌, length, not, nat_eq}
 use Rattle.std.specs.List.{list_any}
 use Rattle.std.specs.Ordering.{nat_cmp}
 use Rattle.std.specs.BTreeMap.{get}
@@ -10,17 +10,12 @@ use Rattle.dns_service.specs.Answer.{Answer}
 use Rattle.dns_service.specs.declared.event.Event.{Event}
 use Rattle.dns_service.specs.declared.event.Output.{Output}
 use Rattle.dns_service.specs.declared.polled.PolledRequest.{PolledRequest}
-use Rattle.dns_client.specs.Rule.{rule}
-use Rattle.dns_client.specs.Slate.{Slate, conf_of}
+use Rattle.dns_client.specs.Slate.{conf_of}
 use Rattle.dns_core.specs.Sent.{conf, slate}
 use Rattle.dns_core.specs.Out.{members, taken, gained, is_unused, out}
-use Rattle.dns_core.specs.Serves.{Holds}
+use Rattle.dns_core.specs.Serves.{Holds, IsAt}
 use Rattle.dns_middleware.specs.declared.settings.Settings.{Settings}
 use Rattle.dns_core.specs.declared.server.Server.{Server}
-
--- no client begins with an event of this kind
-abbrev pub BeginsNobody : Event → Type 0
-BeginsNobody e = (answers : Serving) (s : Slate) → is_unused s.phase ≡ true → is_unused (rule answers e s).0.phase ≡ true
 
 -- what is appended to outputs is what is sent for q and e, behind what is sent for q
 pub record SendsFor (answers : Serving) (settings : Settings) (q : List Event) (e : Event) (outs all : List Output) : Type 0 where
@@ -29,9 +24,11 @@ pub record SendsFor (answers : Serving) (settings : Settings) (q : List Event) (
   pub sent : out answers settings (q ++ e ∷ []) ≡ out answers settings q ++ more
 
 module _ {W R F : Type 0} (answer : PolledRequest F R → ℕ → Answer) (answers : Serving) where
-  -- the cores of the members that aren't spent, the numbers that were used, and the book, whose version counts the events at most
+  -- the cores of the members that aren't spent, which heard the book's version, the numbers that were used, and the book, whose
+  -- version counts the events at most
   pub record Serves (settings : Settings) (q : List Event) (server : Server W R F) : Type 0 where
     pub clients : (c : ℕ) → Holds answer answers (get nat_cmp server.clients c) (list_any (nat_eq c) (members answers settings q)) (slate answers settings c q)
+    pub versions : (c : ℕ) → IsAt (get nat_cmp server.clients c) server.book.version
     pub used : (c : ℕ) → contains nat_cmp server.used c ≡ not (is_unused (slate answers settings c q).phase)
     pub slots : server.book.taken ≡ taken answers settings q (members answers settings q)
     pub shown : conf_of server.book ≡ conf settings q

@@ -4,13 +4,15 @@ use Rattle.std.specs.Prelude.{◌≡◌, ℕ, [], List, Bool, true, false, Optio
 use Rattle.std.specs.List.{flat_map}
 use Rattle.std.specs.Ordering.{nat_cmp}
 use Rattle.std.specs.BTreeMap.{BTreeMap, get, keys}
+use Rattle.dns_admission.specs.declared.look.Look.{Look as State}
 use Rattle.dns_service.specs.Answer.{Answer}
 use Rattle.dns_service.specs.declared.event.Event.{Event}
 use Rattle.dns_service.specs.declared.event.Output.{Output}
+use Rattle.dns_client.specs.News.{told_of}
 use Rattle.dns_client.specs.Slate.{Slate}
 use Rattle.dns_client.specs.Spent.{is_spent}
 use Rattle.dns_client.specs.Rule.{rule}
-use Rattle.dns_client.specs.Stands.{Stands, Follows}
+use Rattle.dns_client.specs.Stands.{Stands, GoesAs}
 use Rattle.dns_client.specs.declared.client.ClientCore.{ClientCore}
 use Rattle.dns_service.specs.declared.polled.PolledRequest.{PolledRequest}
 
@@ -18,6 +20,11 @@ use Rattle.dns_service.specs.declared.polled.PolledRequest.{PolledRequest}
 pub record IsOver (finished freed : Bool) (s : Slate) : Type 0 where
   pub over : finished ≡ is_spent s
   pub free : freed ≡ s.freed
+
+-- a core that is kept heard this version of the configurations
+abbrev pub IsAt : {W R F : Type 0} → Option (ClientCore W R F) → ℕ → Type 0
+IsAt None v = Unit {0}
+IsAt (Some core) v = core.version ≡ v
 
 module _ {W R F : Type 0} (answer : PolledRequest F R → ℕ → Answer) (answers : Serving) where
   -- of a member a core is kept as long as its slate isn't spent; nothing is of a client that is no member
@@ -32,7 +39,7 @@ module _ {W R F : Type 0} (answer : PolledRequest F R → ℕ → Answer) (answe
   Steps None e outs finished freed new = (outs ≡ []) × (finished ≡ false) × (freed ≡ false) × (new ≡ None)
   Steps (Some core) e outs finished freed None = ⊥
   Steps (Some core) e outs finished freed (Some new) =
-      Follows answer answers core new outs (rule answers e) × ((s : Slate) → Stands answer answers new s → IsOver finished freed s)
+      GoesAs answer answers core new outs (rule answers e) × ((s : Slate) → Stands answer answers new s → IsOver finished freed s)
 
   -- a client that is finished leaves
   pub record StepsKey (old : Option (ClientCore W R F)) (e : Event) (outs : List Output) (freed : Bool) (new : Option (ClientCore W R F)) : Type 0 where
@@ -41,11 +48,17 @@ module _ {W R F : Type 0} (answer : PolledRequest F R → ℕ → Answer) (answe
     pub steps : Steps old e outs finished freed stepped
     pub left : new ≡ (if finished then None else stepped)
 
-  -- the cores stand for slates, by number
-  abbrev pub StandAll : BTreeMap ℕ (ClientCore W R F) → (ℕ → Slate) → Type 0
-  StandAll m slates = (c : ℕ) (core : ClientCore W R F) → get nat_cmp m c ≡ Some core → Stands answer answers core (slates c)
+  -- a look of one client, of which a core is kept or isn't
+  abbrev pub LooksOne : Option (ClientCore W R F) → State → List Output → Option (ClientCore W R F) → Type 0
+  LooksOne None look outs new = (outs ≡ []) × (new ≡ None)
+  LooksOne (Some core) look outs None = ⊥
+  LooksOne (Some core) look outs (Some new) = GoesAs answer answers core new outs (told_of answers core.version look) × (new.version ≡ look.version)
 
-  -- one event that all of them hear, by rising number
-  abbrev pub StepsAll : BTreeMap ℕ (ClientCore W R F) → BTreeMap ℕ (ClientCore W R F) → Event → List Output → Type 0
-  StepsAll old new e outs = (slates : ℕ → Slate) → StandAll old slates
-      → (outs ≡ flat_map (λ c. (rule answers e (slates c)).1) (keys old)) × StandAll new (λ c. (rule answers e (slates c)).0)
+  -- the cores stand for slates, by number, and heard these versions of the configurations
+  abbrev pub StandAll : BTreeMap ℕ (ClientCore W R F) → (ℕ → Slate) → (ℕ → ℕ) → Type 0
+  StandAll m slates versions = (c : ℕ) (core : ClientCore W R F) → get nat_cmp m c ≡ Some core → Stands answer answers core (slates c) × (core.version ≡ versions c)
+
+  -- all of them look, by rising number
+  abbrev pub LooksAll : BTreeMap ℕ (ClientCore W R F) → BTreeMap ℕ (ClientCore W R F) → State → List Output → Type 0
+  LooksAll old new look outs = (slates : ℕ → Slate) (versions : ℕ → ℕ) → StandAll old slates versions
+      → (outs ≡ flat_map (λ c. (told_of answers (versions c) look (slates c)).1) (keys old)) × StandAll new (λ c. (told_of answers (versions c) look (slates c)).0) (λ c. look.version)

@@ -11,7 +11,7 @@ use Rattle.dns_service.specs.declared.event.Output.{Output}
 use Rattle.dns_service.specs.declared.event.Output.TheVariants.{Datagram, Frame}
 use Rattle.dns_service.specs.declared.message.TransportSpecificContext.{TransportSpecificContext}
 use Rattle.dns_service.specs.declared.message.TransportSpecificContext.TheVariants.{Udp, NonUdp}
-use Rattle.dns_client.specs.Connections.{has_space, is_in_transaction}
+use Rattle.dns_client.specs.Connections.{is_in_transaction, room}
 use Rattle.dns_client.specs.Frames.{framed}
 use Rattle.dns_client.specs.Rule.{rule}
 use Rattle.dns_client.specs.Serving.{Serving}
@@ -74,19 +74,19 @@ on_wire (Udp hint) m = wire m
 on_wire (NonUdp timeout) m = framed (wire m)
 
 module _ (answers : Serving) where
-  -- a poll gives a reply that finds no room, outside of a transaction
-  abbrev pub drops : SlateRequest → Slate → Bool
-  drops r s =
+  -- a poll at a moment gives a reply that finds no room, outside of a transaction
+  abbrev pub drops : ℕ → SlateRequest → Slate → Bool
+  drops at r s =
       let a = answers.answer r.request r.polls in
-      not r.done && (not (is_some r.held) && (is_some (sent_for answers r.request a) && (not (has_space s) && not (is_in_transaction (answered a r).status))))
+      not r.done && (not (is_some r.held) && (is_some (sent_for answers r.request a) && (not (room at s) && not (is_in_transaction (answered a r).status))))
 
-  abbrev pub dropped_of : ℕ → Option SlateRequest → Slate → List Mark
-  dropped_of k None s = []
-  dropped_of k (Some r) s = if drops r s then mark k r ∷ [] else []
+  abbrev pub dropped_of : ℕ → ℕ → Option SlateRequest → Slate → List Mark
+  dropped_of at k None s = []
+  dropped_of at k (Some r) s = if drops at r s then mark k r ∷ [] else []
 
-  abbrev pub dropped_by : EventKind → Slate → List Mark
-  dropped_by (Turn k) s = if is_open s.phase then dropped_of k (slice_get s.requests k) s else []
-  dropped_by _ s = []
+  abbrev pub dropped_by : ℕ → EventKind → Slate → List Mark
+  dropped_by at (Turn k) s = if is_open s.phase then dropped_of at k (slice_get s.requests k) s else []
+  dropped_by at _ s = []
 
   -- an event at a slate: frames go from the front of the queue, and others join at its back; datagrams go at once
   abbrev pub trailed : Event → Slate → Trail → Trail
@@ -97,7 +97,7 @@ module _ (answers : Serving) where
       record {
         went = t.went ++ (take gone t.waiting ++ replicate (length (filter is_datagram_sent outs)) (marks e.kind s));
         waiting = take (length after.queue) (drop gone t.waiting ++ replicate (length after.queue) (marks e.kind s));
-        dropped = t.dropped ++ dropped_by e.kind s;
+        dropped = t.dropped ++ dropped_by e.at e.kind s;
       }
 
   abbrev pub trail_after : Slate → Trail → List Event → Trail

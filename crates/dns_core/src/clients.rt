@@ -9,8 +9,9 @@ ghost use Rattle.dns_service.specs.PolledRequest.{request_answer};
 ghost use Rattle.dns_client.specs.Slate.{Slate};
 ghost use Rattle.dns_client.specs.Spent.{is_spent};
 ghost use Rattle.dns_client.specs.Stands.{Stands, state_is_spent};
-ghost use Rattle.dns_core.specs.Serves.{Steps, StepsKey, StepsAll};
+ghost use Rattle.dns_core.specs.Serves.{IsAt, LooksOne, LooksAll, Steps, StepsKey};
 
+use dns_admission::Look;
 use dns_client::ClientCore;
 use dns_service::{Event, OutOfMemory, Output, Served};
 use std::alloc::Global;
@@ -36,6 +37,7 @@ fn step_there<W: Served>(
     ensures here { IfOk result (λ p. Steps (request_answer W.Future.answer W.Stream.answer) (serving (W.answer service.now) (W.hint service.now)) (get nat_cmp clients.old client) event.now p.outs.items p.finished p.freed (get nat_cmp clients.new client)) }
     ensures others { OnOk result ((c : ℕ) → c ≢ client → get nat_cmp clients.new c ≡ get nat_cmp clients.old c) }
     ensures same_keys { OnOk result (keys clients.new ≡ keys clients.old) }
+    ensures version { OnOk result ((v : ℕ) → IsAt (get nat_cmp clients.old client) v → IsAt (get nat_cmp clients.new client) v) }
 {
     match clients.get_mut(&client) {
         None => Ok(Stepped {
@@ -50,6 +52,27 @@ fn step_there<W: Served>(
                 finished: core.is_spent(),
                 freed: core.is_freed(),
             })
+        }
+    }
+}
+
+/// A look of one client at what the book shows. A client that isn't there is told nothing.
+pub fn look_at<W: Served>(
+    alloc: Global,
+    clients: &mut BTreeMap<u64, ClientCore<W>>,
+    number: u64,
+    look: &Look,
+) -> Result<Vec<Output>, OutOfMemory>
+    ensures here { IfOk result (λ outs. (answers : Serving)
+        → LooksOne (request_answer W.Future.answer W.Stream.answer) answers (get nat_cmp clients.old number) look.now outs.items (get nat_cmp clients.new number)) }
+    ensures others { OnOk result ((c : ℕ) → c ≢ number → get nat_cmp clients.new c ≡ get nat_cmp clients.old c) }
+    ensures same_keys { OnOk result (keys clients.new ≡ keys clients.old) }
+{
+    match clients.get_mut(&number) {
+        None => Ok(Vec::new(alloc)),
+        Some(core) => {
+            let outs = core.saw(alloc, look)?;
+            Ok(outs)
         }
     }
 }
@@ -74,6 +97,7 @@ pub fn step_at<W: Served>(
     requires { W.can_call service.now }
     ensures here { IfOk result (λ p. StepsKey (request_answer W.Future.answer W.Stream.answer) (serving (W.answer service.now) (W.hint service.now)) (get nat_cmp clients.old event.now.client) event.now p.0.items p.1 (get nat_cmp clients.new event.now.client)) }
     ensures others { OnOk result ((c : ℕ) → c ≢ event.now.client → get nat_cmp clients.new c ≡ get nat_cmp clients.old c) }
+    ensures version { OnOk result ((v : ℕ) → IsAt (get nat_cmp clients.old event.now.client) v → IsAt (get nat_cmp clients.new event.now.client) v) }
 {
     let Stepped {
         outs,
@@ -93,42 +117,38 @@ fn numbers_of<V>(alloc: Global, clients: &BTreeMap<u64, V>) -> Result<Vec<u64>, 
     Ok(numbers)
 }
 
-/// One event that the clients of these numbers hear, in their order.
-fn step_each<W: Served>(
+/// The clients of these numbers look at what the book shows, in their order.
+fn look_each<W: Served>(
     alloc: Global,
-    service: &W,
     clients: &mut BTreeMap<u64, ClientCore<W>>,
     numbers: &[u64],
-    event: &Event,
+    look: &Look,
 ) -> Result<Vec<Output>, OutOfMemory>
-    requires can_call { W.can_call service.now }
     requires all { numbers.now ≡ keys clients.old }
     requires rising { IsOrdered nat_cmp clients.old }
-    ensures stepped { IfOk result (λ outs. StepsAll (request_answer W.Future.answer W.Stream.answer) (serving (W.answer service.now) (W.hint service.now)) clients.old clients.new event.now outs.items) }
+    ensures looked { IfOk result (λ outs. (answers : Serving) → LooksAll (request_answer W.Future.answer W.Stream.answer) answers clients.old clients.new look.now outs.items) }
     ensures same_keys { OnOk result (keys clients.new ≡ keys clients.old) }
 {
     let mut outs = Vec::new(alloc);
     for number in numbers {
-        let stepped = step_there(alloc, service, clients, *number, event)?;
-        append(&mut outs, stepped.outs)?;
+        let more = look_at(alloc, clients, *number, look)?;
+        append(&mut outs, more)?;
     }
     Ok(outs)
 }
 
-/// One event that all clients hear, by rising number.
-pub fn step_all<W: Served>(
+/// All clients look at what the book shows, by rising number.
+pub fn look_all<W: Served>(
     alloc: Global,
-    service: &W,
     clients: &mut BTreeMap<u64, ClientCore<W>>,
-    event: &Event,
+    look: &Look,
 ) -> Result<Vec<Output>, OutOfMemory>
-    requires { W.can_call service.now }
-    ensures stepped { IfOk result (λ outs. StepsAll (request_answer W.Future.answer W.Stream.answer) (serving (W.answer service.now) (W.hint service.now)) clients.old clients.new event.now outs.items) }
+    ensures looked { IfOk result (λ outs. (answers : Serving) → LooksAll (request_answer W.Future.answer W.Stream.answer) answers clients.old clients.new look.now outs.items) }
     ensures same_keys { OnOk result (keys clients.new ≡ keys clients.old) }
     ensures rising { OnOk result (IsOrdered nat_cmp clients.old) }
 {
     let numbers = numbers_of(alloc, clients)?;
-    let outs = step_each(alloc, service, clients, numbers.as_slice(), event)?;
+    let outs = look_each(alloc, clients, numbers.as_slice(), look)?;
     Ok(outs)
 }
 

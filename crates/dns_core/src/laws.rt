@@ -1,18 +1,20 @@
 //! Laws of what is sent.
 
 ghost use Rattle.dns_client.specs.Serving.{Serving, serving};
-ghost use Rattle.std.specs.Prelude.{◌≡◌, ◌≢◌, ◌<◌, ℕ, List, [], ◌∷◌, ◌++◌, true, false, Option, Some, None, slice_get, nat_eq, filter, All};
+ghost use Rattle.std.specs.Prelude.{◌≡◌, ◌≢◌, ◌<◌, ◌≤◌, ℕ, List, length, [], ◌∷◌, ◌++◌, true, false, Option, Some, None, slice_get, nat_eq, filter, All};
 ghost use Rattle.std.specs.List.{list_any};
 ghost use Rattle.dns_service.specs.Answer.{Answer};
 ghost use Rattle.dns_service.specs.Req.{Req};
 ghost use Rattle.dns_service.specs.declared.event.Event.{Event};
 ghost use Rattle.dns_service.specs.declared.event.EventKind.{EventKind};
 ghost use Rattle.dns_client.specs.Pieces.{piece_of};
+ghost use Rattle.dns_client.specs.Rule.{rule};
 ghost use Rattle.dns_client.specs.Slate.{Closed};
 ghost use Rattle.dns_service.specs.declared.event.Output.{Output};
 ghost use Rattle.dns_name.specs.declared.address.SocketAddr.{SocketAddr};
 ghost use Rattle.dns_service.specs.Config.{Dgram, Stream};
 ghost use Rattle.dns_core.specs.Own.{is_wide, own};
+ghost use Rattle.dns_core.specs.Placed.{is_beginning};
 ghost use Rattle.dns_core.specs.Runs.{IsReconfigure};
 ghost use Rattle.dns_core.specs.Sent.{conf, sent, slate};
 ghost use Rattle.dns_core.specs.Out.{gain, is_new, is_turned_away, is_unused, members, out};
@@ -21,6 +23,7 @@ ghost use Rattle.dns_core.specs.Finished.{IsFinished};
 ghost use Rattle.dns_client.specs.Slate.{SlateRequest, fresh};
 ghost use Rattle.dns_core.specs.ReplyTo.{IsReply};
 ghost use Rattle.dns_core.specs.Settings.{opening};
+ghost use Rattle.dns_core.specs.SlateBy.{slate_by};
 ghost use Rattle.dns_core.specs.Trails.{AreMarked, IsRising, IsSomewhere, in_order, no_trail, octets_sent, poll_of, polls_of, reply_at, trail_after};
 ghost use Rattle.dns_middleware.specs.Verdicts.{Verdicts, verdict_on};
 ghost use Rattle.dns_middleware.specs.Wrapped.{hint_left, replies};
@@ -75,8 +78,8 @@ pub fn replies_answer_what_was_asked()
 
 /// A client is sent its replies in order: each message that it is sent is the reply to one poll of one of its requests, or
 /// refuses a response, and those of one request are sent in the order of its polls, each at most once. Of what its requests were
-/// polled for, a reply was sent unless it waits in the queue, is held, or was dropped, since the queue stood full outside of a
-/// transaction; a connection that closes forgets its requests.
+/// polled for, a reply was sent unless it waits in the queue, is held, or was dropped outside of a transaction, since the queue
+/// stood full or the response budget was spent in that window of time; a connection that closes forgets its requests.
 pub fn replies_keep_their_order()
     ensures sent { (answers : Serving) (settings : Settings) (c : ℕ) (es : List Event)
         → AreMarked answers (trail_after answers (fresh (opening settings)) no_trail (own c es)).went (octets_sent (sent answers settings (own c es))) }
@@ -162,4 +165,51 @@ pub fn reconfigures_count_as_their_last()
     ensures { (answers : Serving) (settings : Settings) (p run r : List Event) (last : Event)
         → All IsReconfigure run → IsReconfigure last
         → sent answers settings (p ++ (run ++ last ∷ r)) ≡ sent answers settings (p ++ last ∷ r) }
+{}
+
+/// At the slate of a client, whatever it heard: events that leave it, and for which the client is sent nothing. These are, of its own,
+/// those before it began, by which it doesn't begin; a datagram and an offer under its used number, or after it heard of a shutdown;
+/// a turn of no unfinished request; a piece of no octets; once it is closed all but a release, and a second release. And a
+/// reconfigure and a shutdown after it heard of one.
+pub fn idle_events_leave_a_slate()
+    ensures unused { (answers : Serving) (settings : Settings) (es : List Event) (e : Event)
+        → is_unused (slate_by answers settings es).phase ≡ true → is_wide e.kind ≡ false → is_beginning e.kind ≡ false
+        → rule answers e (slate_by answers settings es) ≡ (slate_by answers settings es, []) }
+    ensures used { (answers : Serving) (settings : Settings) (es : List Event) (e : Event)
+        → is_unused (slate_by answers settings es).phase ≡ false → is_beginning e.kind ≡ true
+        → rule answers e (slate_by answers settings es) ≡ (slate_by answers settings es, []) }
+    ensures late { (answers : Serving) (settings : Settings) (es : List Event) (e : Event)
+        → (slate_by answers settings es).conf.over ≡ true → is_beginning e.kind ≡ true
+        → rule answers e (slate_by answers settings es) ≡ (slate_by answers settings es, []) }
+    ensures turn { (answers : Serving) (settings : Settings) (es : List Event) (e : Event) (k : ℕ)
+        → e.kind ≡ EventKind.Turn k → IsFinished (slice_get (slate_by answers settings es).requests k)
+        → rule answers e (slate_by answers settings es) ≡ (slate_by answers settings es, []) }
+    ensures piece { (answers : Serving) (settings : Settings) (es : List Event) (e : Event)
+        → e.kind ≡ EventKind.Piece []
+        → rule answers e (slate_by answers settings es) ≡ (slate_by answers settings es, []) }
+    ensures closed { (answers : Serving) (settings : Settings) (es : List Event) (e : Event)
+        → is_wide e.kind ≡ false → e.kind ≢ EventKind.Release → (slate_by answers settings es).phase ≡ Closed
+        → rule answers e (slate_by answers settings es) ≡ (slate_by answers settings es, []) }
+    ensures again { (answers : Serving) (settings : Settings) (es : List Event) (e : Event)
+        → e.kind ≡ EventKind.Release → (slate_by answers settings es).freed ≡ true
+        → rule answers e (slate_by answers settings es) ≡ (slate_by answers settings es, []) }
+    ensures reconfigure { (answers : Serving) (settings : Settings) (es : List Event) (e : Event) (dgram : Dgram) (stream : Stream)
+        → e.kind ≡ EventKind.Reconfigure dgram stream → (slate_by answers settings es).conf.over ≡ true
+        → rule answers e (slate_by answers settings es) ≡ (slate_by answers settings es, []) }
+    ensures shutdown { (answers : Serving) (settings : Settings) (es : List Event) (e : Event)
+        → e.kind ≡ EventKind.Shutdown → (slate_by answers settings es).conf.over ≡ true
+        → rule answers e (slate_by answers settings es) ≡ (slate_by answers settings es, []) }
+{}
+
+/// Whatever a client hears, its queue has no more replies than its bound, which is that of the configuration in force when its offer
+/// was heard, and stays so from then on.
+pub fn queues_keep_their_bound()
+    ensures within { (answers : Serving) (settings : Settings) (es : List Event)
+        → length (slate_by answers settings es).queue ≤ (slate_by answers settings es).bound }
+    ensures taken { (answers : Serving) (settings : Settings) (es : List Event) (e : Event) (addr : SocketAddr)
+        → e.kind ≡ EventKind.Offer addr → is_unused (slate_by answers settings es).phase ≡ true → (slate_by answers settings es).conf.over ≡ false
+        → (slate_by answers settings (es ++ e ∷ [])).bound ≡ (slate_by answers settings es).conf.stream.connection_config.max_queued_responses }
+    ensures kept { (answers : Serving) (settings : Settings) (es fs : List Event)
+        → is_unused (slate_by answers settings es).phase ≡ false
+        → (slate_by answers settings (es ++ fs)).bound ≡ (slate_by answers settings es).bound }
 {}

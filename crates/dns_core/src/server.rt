@@ -12,11 +12,12 @@ ghost use Rattle.dns_service.specs.PolledRequest.{request_answer};
 ghost use Rattle.dns_core.specs.Own.{is_wide};
 ghost use Rattle.dns_core.specs.Out.{out};
 ghost use Rattle.dns_core.specs.Books.{book_rule};
-ghost use Rattle.dns_core.specs.Server.{BeginsNobody};
+ghost use Rattle.dns_core.specs.Placed.{is_beginning};
+ghost use Rattle.dns_service.specs.declared.event.Step.{Step};
 ghost use Rattle.dns_middleware.specs.Verdicts.{verdict_on};
 ghost use Rattle.dns_middleware.specs.Wrapped.{hint_left, replies};
 
-use crate::clients::{append, begin, step_all, step_at, turn_away};
+use crate::clients::{append, begin, look_all, step_at, turn_away};
 use dns_admission::{Admission, BookState, Look};
 use dns_base::SocketAddr;
 use dns_client::ClientCore;
@@ -29,13 +30,13 @@ use std::collections::{BTreeMap, BTreeSet};
 /// that were used, and the book.
 #[derive(Drop)]
 pub struct Server<W: Served> {
-    clients: BTreeMap<u64, ClientCore<W>>,
+    pub(crate) clients: BTreeMap<u64, ClientCore<W>>,
     used: BTreeSet<u64>,
-    book: BookState,
+    pub(crate) book: BookState,
 }
 
 /// A slot is given back to the book, where a client freed it.
-fn give_back(book: &mut BookState, freed: bool)
+pub(crate) fn give_back(book: &mut BookState, freed: bool)
     ensures { book.new ≡ (if freed then state_after book.old Release else book.old) }
 {
     if freed {
@@ -45,10 +46,12 @@ fn give_back(book: &mut BookState, freed: bool)
 
 impl<W: Served> Server<W> {
     ghost use Rattle.dns_core.specs.Server.{Serves, Goes, AddsOutputs};
+    ghost use Rattle.dns_core.specs.SplitServer.{ServesSteps, StepGoes};
 
-    /// A server that served no event.
-    pub fn new(alloc: Global, settings: &Settings) -> Self
-        ensures { (answers : Serving) → Serves (request_answer W.Future.answer W.Stream.answer) answers settings.now [] result }
+    /// A server that served no event, and no step.
+    pub(crate) fn idle(alloc: Global, settings: &Settings) -> Self
+        ensures serves { (answers : Serving) → Serves (request_answer W.Future.answer W.Stream.answer) answers settings.now [] result }
+        ensures steps { (answers : Serving) → ServesSteps (request_answer W.Future.answer W.Stream.answer) answers settings.now [] result }
     {
         Server {
             clients: BTreeMap::new(alloc),
@@ -57,31 +60,39 @@ impl<W: Served> Server<W> {
         }
     }
 
-    /// An event of one client, which is there or isn't. A slot that it frees is given back.
-    fn own(&mut self, alloc: Global, service: &W, event: &Event) -> Result<Vec<Output>, OutOfMemory>
-        requires can_call { W.can_call service.now }
-        requires own { is_wide event.now.kind ≡ false }
-        requires begins { BeginsNobody event.now }
-        ensures { IfOk result (λ outs. Goes (request_answer W.Future.answer W.Stream.answer) (serving (W.answer service.now) (W.hint service.now)) self.old self.new event.now outs.items) }
+    /// A server that served no event.
+    pub fn new(alloc: Global, settings: &Settings) -> Self
+        ensures { (answers : Serving) → Serves (request_answer W.Future.answer W.Stream.answer) answers settings.now [] result }
     {
-        let (outs, freed) = step_at(alloc, service, &mut self.clients, event)?;
-        give_back(&mut self.book, freed);
-        Ok(outs)
+        Server::idle(alloc, settings)
     }
 
-    /// An event that all clients hear, by rising number, once it acted on the book.
-    fn wide(
+    /// An event of one client, which is there or isn't. A slot that it frees is given back.
+    pub(crate) fn own(
         &mut self,
         alloc: Global,
         service: &W,
         event: &Event,
     ) -> Result<Vec<Output>, OutOfMemory>
         requires can_call { W.can_call service.now }
-        requires wide { is_wide event.now.kind ≡ true }
-        ensures { IfOk result (λ outs. Goes (request_answer W.Future.answer W.Stream.answer) (serving (W.answer service.now) (W.hint service.now)) self.old self.new event.now outs.items) }
+        requires own { is_wide event.now.kind ≡ false }
+        requires begins { is_beginning event.now.kind ≡ false }
+        ensures goes { IfOk result (λ outs. Goes (request_answer W.Future.answer W.Stream.answer) (serving (W.answer service.now) (W.hint service.now)) self.old self.new event.now outs.items) }
+        ensures steps { IfOk result (λ outs. StepGoes (request_answer W.Future.answer W.Stream.answer) (serving (W.answer service.now) (W.hint service.now)) self.old self.new (Step.Own event.now) outs.items) }
+    {
+        let (outs, freed) = step_at(alloc, service, &mut self.clients, event)?;
+        give_back(&mut self.book, freed);
+        Ok(outs)
+    }
+
+    /// An event that all clients hear: it acts on the book, at which they look then, by rising number.
+    fn wide(&mut self, alloc: Global, event: &Event) -> Result<Vec<Output>, OutOfMemory>
+        requires { is_wide event.now.kind ≡ true }
+        ensures { (answers : Serving) → IfOk result (λ outs. Goes (request_answer W.Future.answer W.Stream.answer) answers self.old self.new event.now outs.items) }
     {
         note(&mut self.book, &event.kind);
-        let outs = step_all(alloc, service, &mut self.clients, event)?;
+        let look = self.book.shown();
+        let outs = look_all(alloc, &mut self.clients, &look)?;
         Ok(outs)
     }
 
@@ -100,7 +111,8 @@ impl<W: Served> Server<W> {
         requires shown { look.now ≡ self.old.book }
         requires running { look.now.closed ≡ false }
         requires unused { contains nat_cmp self.old.used event.now.client ≡ false }
-        ensures { IfOk result (λ outs. Goes (request_answer W.Future.answer W.Stream.answer) (serving (W.answer service.now) (W.hint service.now)) self.old self.new event.now outs.items) }
+        ensures goes { IfOk result (λ outs. Goes (request_answer W.Future.answer W.Stream.answer) (serving (W.answer service.now) (W.hint service.now)) self.old self.new event.now outs.items) }
+        ensures steps { IfOk result (λ outs. StepGoes (request_answer W.Future.answer W.Stream.answer) (serving (W.answer service.now) (W.hint service.now)) self.old self.new (Step.Own event.now) outs.items) }
     {
         let (core, outs) = ClientCore::datagram(
             alloc,
@@ -117,7 +129,7 @@ impl<W: Served> Server<W> {
     }
 
     /// An exchange begins, unless its number is used or the server shut down.
-    fn datagram(
+    pub(crate) fn datagram(
         &mut self,
         alloc: Global,
         service: &W,
@@ -127,7 +139,8 @@ impl<W: Served> Server<W> {
     ) -> Result<Vec<Output>, OutOfMemory>
         requires can_call { W.can_call service.now }
         requires kind { event.now.kind ≡ EventKind.Datagram addr octets.now }
-        ensures { IfOk result (λ outs. Goes (request_answer W.Future.answer W.Stream.answer) (serving (W.answer service.now) (W.hint service.now)) self.old self.new event.now outs.items) }
+        ensures goes { IfOk result (λ outs. Goes (request_answer W.Future.answer W.Stream.answer) (serving (W.answer service.now) (W.hint service.now)) self.old self.new event.now outs.items) }
+        ensures steps { IfOk result (λ outs. StepGoes (request_answer W.Future.answer W.Stream.answer) (serving (W.answer service.now) (W.hint service.now)) self.old self.new (Step.Own event.now) outs.items) }
     {
         let look = self.book.shown();
         if look.closed || self.used.contains(&event.client) {
@@ -147,9 +160,12 @@ impl<W: Served> Server<W> {
         requires kind { event.now.kind ≡ EventKind.Offer addr }
         requires running { look.now.closed ≡ false }
         requires unused { contains nat_cmp self.old.used event.now.client ≡ false }
-        ensures { (answers : Serving) (before : TheLook)
+        ensures goes { (answers : Serving) (before : TheLook)
             → Admits before (Admission.Admitted look.now) → self.old.book ≡ state_after before Admit
             → IfOk result (λ outs. Goes (request_answer W.Future.answer W.Stream.answer) answers (record self.old { book = before }) self.new event.now outs.items) }
+        ensures steps { (answers : Serving) (before : TheLook)
+            → Admits before (Admission.Admitted look.now) → self.old.book ≡ state_after before Admit
+            → IfOk result (λ outs. StepGoes (request_answer W.Future.answer W.Stream.answer) answers (record self.old { book = before }) self.new (Step.Own event.now) outs.items) }
     {
         let core = ClientCore::admit(alloc, event.client, addr, event.at, look)?;
         begin(&mut self.clients, &mut self.used, event.client, core)?;
@@ -158,14 +174,15 @@ impl<W: Served> Server<W> {
 
     /// A connection begins, where a slot is free, and else is turned away. Nothing happens where its number is used or the
     /// server shut down.
-    fn offer(
+    pub(crate) fn offer(
         &mut self,
         alloc: Global,
         event: &Event,
         addr: SocketAddr,
     ) -> Result<Vec<Output>, OutOfMemory>
         requires { event.now.kind ≡ EventKind.Offer addr }
-        ensures { (answers : Serving) → IfOk result (λ outs. Goes (request_answer W.Future.answer W.Stream.answer) answers self.old self.new event.now outs.items) }
+        ensures goes { (answers : Serving) → IfOk result (λ outs. Goes (request_answer W.Future.answer W.Stream.answer) answers self.old self.new event.now outs.items) }
+        ensures steps { (answers : Serving) → IfOk result (λ outs. StepGoes (request_answer W.Future.answer W.Stream.answer) answers self.old self.new (Step.Own event.now) outs.items) }
     {
         if self.used.contains(&event.client) {
             return Ok(Vec::new(alloc));
@@ -190,14 +207,13 @@ impl<W: Served> Server<W> {
                 self.datagram(alloc, service, event, *addr, octets.as_slice())
             }
             EventKind::Offer { addr } => self.offer(alloc, event, *addr),
-            EventKind::Reconfigure { .. } | EventKind::Shutdown => {
-                self.wide(alloc, service, event)
-            }
+            EventKind::Reconfigure { .. } | EventKind::Shutdown => self.wide(alloc, event),
             _ => self.own(alloc, service, event),
         }
     }
 
-    /// Serves one event more: what is sent for it is appended to the outputs. The service is the same at each event.
+    /// Serves one event more: what is sent for it is appended to the outputs. The service is the same at each event. Of a
+    /// server that found no memory nothing is said any more.
     pub fn step(
         &mut self,
         alloc: Global,
@@ -215,7 +231,7 @@ impl<W: Served> Server<W> {
 }
 
 /// An event that all clients hear acts on the book.
-fn note(book: &mut BookState, kind: &EventKind)
+pub(crate) fn note(book: &mut BookState, kind: &EventKind)
     ensures { book.new ≡ book_rule book.old kind.now }
 {
     match kind {

@@ -5,11 +5,22 @@ use Rattle.dns_client.specs.Slate.{conf_of}
 use Rattle.dns_client.specs.Stands.{state_is_spent}
 use Rattle.dns_service.specs.PolledRequest.{request_answer}
 use Rattle.dns_core.proofs.Offered.{datagram_goes}
+use Rattle.dns_core.proofs.StepBegins.{datagram_goes as step_datagram_goes}
 use Rattle.dns_core.proofs.server.Server.exchange.Goals as goal
 
-pub returns : goal.returns
-returns g c = λ settings q lt h.
+pub returns-clause-goes : goal.returns-clause-goes
+returns-clause-goes g c = λ settings q lt h.
     let b = serving (g.W.Served.answer c.args.service.now) (g.W.Served.hint c.args.service.now) in
     datagram_goes (request_answer g.W.Future.ReplyFuture.answer g.W.Stream.ReplyStream.answer) b settings c.args.self.now c.begin.new.clients c.begin.new.used c.in_ok-core.core (state_is_spent c.in_ok-core.core.state) q c.args.event.now c.args.addr c.args.octets.now c.in_ok-core.outs.items c.requires.kind
     (ap (λ (x : Look). x.closed) (sym c.requires.shown) ∙ c.requires.running) c.requires.unused
-    (λ s u k. c.in_ok-core.ensures s u (k ∙ ap conf_of (sym c.requires.shown))) (c.in_ok-begin.ensures.spent b) c.in_ok-begin.ensures.here c.in_ok-begin.ensures.others c.in_ok-begin.ensures.used h
+    (λ s u k. c.in_ok-core.ensures.begun s u (k ∙ ap conf_of (sym c.requires.shown)))
+    (c.in_ok-core.ensures.version ∙ ap (λ (x : Look). x.version) c.requires.shown) (c.in_ok-begin.ensures.spent b) c.in_ok-begin.ensures.here c.in_ok-begin.ensures.others c.in_ok-begin.ensures.used h
+
+pub returns-clause-steps : goal.returns-clause-steps
+returns-clause-steps g c = λ settings q h.
+    let b = serving (g.W.Served.answer c.args.service.now) (g.W.Served.hint c.args.service.now) in
+    step_datagram_goes (request_answer g.W.Future.ReplyFuture.answer g.W.Stream.ReplyStream.answer) b settings c.args.self.now c.begin.new.clients c.begin.new.used c.in_ok-core.core (state_is_spent c.in_ok-core.core.state) q c.args.event.now c.args.addr c.args.octets.now c.in_ok-core.outs.items c.requires.kind
+    (ap (λ (x : Look). x.closed) (sym c.requires.shown) ∙ c.requires.running) c.requires.unused
+    (λ s u k. c.in_ok-core.ensures.begun s u (k ∙ ap conf_of (sym c.requires.shown)))
+    (c.in_ok-core.ensures.version ∙ ap (λ (x : Look). x.version) c.requires.shown)
+    (c.in_ok-begin.ensures.spent b) c.in_ok-begin.ensures.here c.in_ok-begin.ensures.others c.in_ok-begin.ensures.used h

@@ -1,0 +1,5 @@
+use Rattle.dns_core.proofs.StepsTurned.{outs_front, placed_front}
+use Rattle.dns_core.proofs.split_laws.more_steps_send_more.Goals as goal
+
+pub returns : goal.returns
+returns c = record { one = placed_front; all = outs_front }

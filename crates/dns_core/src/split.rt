@@ -1,0 +1,146 @@
+//! The server over a list of steps: a client hears of the server's changes only when it looks.
+
+ghost use Rattle.dns_client.specs.Serving.{Serving, serving};
+ghost use Rattle.std.specs.Prelude.{◌≡◌, [], true, IfOk, OnOk};
+ghost use Rattle.dns_service.specs.PolledRequest.{request_answer};
+ghost use Rattle.dns_core.specs.Own.{is_wide};
+ghost use Rattle.dns_core.specs.Outs.{outs};
+ghost use Rattle.dns_middleware.specs.Verdicts.{verdict_on};
+ghost use Rattle.dns_middleware.specs.Wrapped.{hint_left, replies};
+
+use crate::clients::{append, look_at};
+use crate::server::{Server, note};
+use dns_middleware::{Notifiable, Settings, wrap};
+use dns_service::{Event, EventKind, OutOfMemory, Output, Plainly, Served, Service, Step};
+use std::alloc::Global;
+
+/// A server of a wrapped service whose clients look for themselves, which is stepped through events and looks.
+#[derive(Drop)]
+pub struct SplitServer<W: Served> {
+    inner: Server<W>,
+}
+
+impl<W: Served> SplitServer<W> {
+    ghost use Rattle.dns_core.specs.SplitServer.{ServesSteps, StepGoes, AddsStep};
+
+    /// A server that served no step.
+    pub fn new(alloc: Global, settings: &Settings) -> Self
+        ensures { (answers : Serving) → ServesSteps (request_answer W.Future.answer W.Stream.answer) answers settings.now [] result.inner }
+    {
+        SplitServer {
+            inner: Server::idle(alloc, settings),
+        }
+    }
+
+    /// An event that all clients hear acts on the book alone.
+    fn wide(&mut self, event: &Event)
+        requires { is_wide event.now.kind ≡ true }
+        ensures { (answers : Serving) → StepGoes (request_answer W.Future.answer W.Stream.answer) answers self.old.inner self.new.inner (Step.Own event.now) [] }
+    {
+        note(&mut self.inner.book, &event.kind);
+    }
+
+    /// A client looks at the book.
+    fn look(
+        &mut self,
+        alloc: Global,
+        at: u64,
+        secs: u64,
+        client: u64,
+    ) -> Result<Vec<Output>, OutOfMemory>
+        ensures { IfOk result (λ outs. (answers : Serving) → StepGoes (request_answer W.Future.answer W.Stream.answer) answers self.old.inner self.new.inner (Step.Look at secs client) outs.items) }
+    {
+        let look = self.inner.book.shown();
+        let outs = look_at(alloc, &mut self.inner.clients, client, &look)?;
+        Ok(outs)
+    }
+
+    /// One event of any kind.
+    fn event(
+        &mut self,
+        alloc: Global,
+        service: &W,
+        event: &Event,
+    ) -> Result<Vec<Output>, OutOfMemory>
+        requires { W.can_call service.now }
+        ensures { IfOk result (λ outs. StepGoes (request_answer W.Future.answer W.Stream.answer) (serving (W.answer service.now) (W.hint service.now)) self.old.inner self.new.inner (Step.Own event.now) outs.items) }
+    {
+        match &event.kind {
+            EventKind::Datagram { addr, octets } => {
+                self.inner
+                    .datagram(alloc, service, event, *addr, octets.as_slice())
+            }
+            EventKind::Offer { addr } => self.inner.offer(alloc, event, *addr),
+            EventKind::Reconfigure { .. } | EventKind::Shutdown => {
+                self.wide(event);
+                Ok(Vec::new(alloc))
+            }
+            _ => self.inner.own(alloc, service, event),
+        }
+    }
+
+    /// One step.
+    fn one(&mut self, alloc: Global, service: &W, step: &Step) -> Result<Vec<Output>, OutOfMemory>
+        requires { W.can_call service.now }
+        ensures { IfOk result (λ outs. StepGoes (request_answer W.Future.answer W.Stream.answer) (serving (W.answer service.now) (W.hint service.now)) self.old.inner self.new.inner step.now outs.items) }
+    {
+        match step {
+            Step::Own(event) => self.event(alloc, service, event),
+            Step::Look { at, secs, client } => {
+                let outs = self.look(alloc, *at, *secs, *client)?;
+                Ok(outs)
+            }
+        }
+    }
+
+    /// Serves one step more: what is sent for it is appended to the outputs. The service is the same at each step. Of a server
+    /// that found no memory nothing is said any more.
+    pub fn step(
+        &mut self,
+        alloc: Global,
+        service: &W,
+        step: &Step,
+        outs: &mut Vec<Output>,
+    ) -> Result<(), OutOfMemory>
+        requires { W.can_call service.now }
+        ensures { OnOk result (AddsStep (request_answer W.Future.answer W.Stream.answer) (serving (W.answer service.now) (W.hint service.now)) self.old.inner self.new.inner step.now outs.old.items outs.new.items) }
+    {
+        let more = self.one(alloc, service, step)?;
+        append(outs, more)?;
+        Ok(())
+    }
+}
+
+/// What all clients of a service are sent for a list of steps.
+pub fn serve_each_step<W: Served>(
+    alloc: Global,
+    settings: &Settings,
+    service: &W,
+    steps: &[Step],
+) -> Result<Vec<Output>, OutOfMemory>
+    requires { W.can_call service.now }
+    ensures { IfOk result (λ result. result.items ≡ outs (serving (W.answer service.now) (W.hint service.now)) settings.now steps.now) }
+{
+    let mut server = SplitServer::new(alloc, settings);
+    let mut outs = Vec::new(alloc);
+    for step in steps {
+        server.step(alloc, service, step, &mut outs)?;
+    }
+    Ok(outs)
+}
+
+/// What all clients are sent, where each hears of the server's changes only when it looks. The wrapped service is that of
+/// `serve_events`.
+pub fn serve_steps<S: Service<()>, N: Notifiable>(
+    alloc: Global,
+    settings: &Settings,
+    service: S,
+    target: N,
+    steps: &[Step],
+) -> Result<Vec<Output>, OutOfMemory>
+    requires { S.can_call service }
+    ensures { IfOk result (λ result. result.items ≡ outs (serving (replies settings.now (S.answer service) (verdict_on (N.verdict target))) (hint_left settings.now)) settings.now steps.now) }
+{
+    let service = wrap(alloc, settings, service, target)?;
+    serve_each_step(alloc, settings, &Plainly { service }, steps)
+}

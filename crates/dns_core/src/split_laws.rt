@@ -1,0 +1,200 @@
+//! Laws of what is sent where clients look for themselves.
+
+ghost use Rattle.dns_client.specs.Serving.{Serving, serving};
+ghost use Rattle.std.specs.Prelude.{◌≡◌, ◌≢◌, ◌<◌, ◌≤◌, ℕ, List, length, [], ◌∷◌, ◌++◌, true, false, Some, None, slice_get, nat_eq, filter, not, All};
+ghost use Rattle.std.specs.List.{flat_map, list_any};
+ghost use Rattle.std.specs.List.Sorted.{IsStrictlySortedBy};
+ghost use Rattle.std.specs.Ordering.{nat_cmp};
+ghost use Rattle.dns_admission.specs.Machine.{last_version};
+ghost use Rattle.dns_client.specs.Pieces.{piece_of};
+ghost use Rattle.dns_client.specs.Slate.{Closed, SlateRequest, fresh};
+ghost use Rattle.dns_name.specs.declared.address.SocketAddr.{SocketAddr};
+ghost use Rattle.dns_service.specs.Answer.{Answer};
+ghost use Rattle.dns_service.specs.Config.{Dgram, Stream};
+ghost use Rattle.dns_service.specs.Req.{Req};
+ghost use Rattle.dns_service.specs.declared.event.Event.{Event};
+ghost use Rattle.dns_service.specs.declared.event.EventKind.{EventKind};
+ghost use Rattle.dns_service.specs.declared.event.Output.{Output};
+ghost use Rattle.dns_service.specs.declared.event.Step.{Step};
+ghost use Rattle.dns_core.specs.AtOnce.{undelayed};
+ghost use Rattle.dns_core.specs.ByClient.{IsPrefix, is_for, is_member};
+ghost use Rattle.dns_core.specs.Changes.{changes};
+ghost use Rattle.dns_core.specs.Finished.{IsFinished};
+ghost use Rattle.dns_core.specs.Out.{is_unused, out};
+ghost use Rattle.dns_core.specs.Outs.{hall, outs, placed_slate};
+ghost use Rattle.dns_core.specs.Own.{is_wide, own};
+ghost use Rattle.dns_core.specs.Placed.{knows, own_events, placed};
+ghost use Rattle.dns_core.specs.ReplyTo.{IsReply};
+ghost use Rattle.dns_core.specs.Sent.{sent};
+ghost use Rattle.dns_core.specs.Settings.{opening};
+ghost use Rattle.dns_core.specs.StepsByClient.{TurnedAwayIn, finds_no_slot, is_first, is_served, slots_held, was_refused};
+ghost use Rattle.dns_core.specs.Trails.{AreMarked, IsRising, IsSomewhere, in_order, no_trail, octets_sent, poll_of, polls_of, reply_at, trail_after};
+ghost use Rattle.dns_middleware.specs.Verdicts.{Verdicts, verdict_on};
+ghost use Rattle.dns_middleware.specs.Wrapped.{hint_left, replies};
+ghost use Rattle.dns_middleware.specs.declared.settings.Settings.{Settings};
+
+/// The headline, read by client. Of all that is sent for some steps, what is for an exchange or a connection is what the rules for
+/// it alone send for its own events and, before each look of it, the changes of the server that it has not heard of. A client whose
+/// offer finds every slot taken is told so, once; whoever began, and is no exchange and no connection, made such an offer; and who
+/// didn't begin is sent nothing.
+pub fn clients_are_sent_what_they_heard()
+    ensures own { (answers : Serving) (settings : Settings) (c : ℕ) (steps : List Step)
+        → is_served answers settings c steps ≡ true
+        → filter (is_for c) (outs answers settings steps) ≡ sent answers settings (placed settings c steps) }
+    ensures away { (answers : Serving) (settings : Settings) (q r : List Step) (e : Event)
+        → finds_no_slot answers settings q e ≡ true
+        → filter (is_for e.client) (outs answers settings (q ++ Step.Own e ∷ r)) ≡ Output.TurnedAway e.client (hall answers settings q).book.stream.accept_connections_at_max ∷ [] }
+    ensures refused { (answers : Serving) (settings : Settings) (c : ℕ) (steps : List Step)
+        → was_refused answers settings c steps ≡ true → TurnedAwayIn answers settings c steps }
+    ensures stranger { (answers : Serving) (settings : Settings) (c : ℕ) (steps : List Step)
+        → is_unused (placed_slate answers settings c steps).phase ≡ true
+        → filter (is_for c) (outs answers settings steps) ≡ [] }
+{}
+
+/// What a client hears: its own events, in order, and of the changes of the server the first ones, each once and in order; those that it
+/// has not heard of are the others. After a look of it there are none.
+pub fn clients_hear_each_change_once()
+    ensures own { (settings : Settings) (c : ℕ) (steps : List Step)
+        → filter (λ (e : Event). not (is_wide e.kind)) (placed settings c steps) ≡ flat_map (own_events c) steps }
+    ensures changes { (settings : Settings) (c : ℕ) (steps : List Step)
+        → filter (λ (e : Event). is_wide e.kind) (placed settings c steps) ++ (knows settings c steps).unheard ≡ changes settings steps }
+    ensures looked { (settings : Settings) (c at secs : ℕ) (q : List Step)
+        → (knows settings c (q ++ Step.Look at secs c ∷ [])).unheard ≡ [] }
+{}
+
+/// The book counts the connections that hold a slot, which are those that no release found closed.
+pub fn slots_are_counted()
+    ensures { (answers : Serving) (settings : Settings) (q : List Step)
+        → (hall answers settings q).book.taken ≡ slots_held answers settings q }
+{}
+
+/// Whatever the others do, and whenever: two lists of steps by which a client hears the same events and the same changes of the
+/// server between them, in neither of which it was turned away, send it the same.
+pub fn interleavings_change_nothing()
+    ensures { (answers : Serving) (settings : Settings) (c : ℕ) (p q : List Step)
+        → placed settings c p ≡ placed settings c q → was_refused answers settings c p ≡ false → was_refused answers settings c q ≡ false
+        → filter (is_for c) (outs answers settings p) ≡ filter (is_for c) (outs answers settings q) }
+{}
+
+/// What is sent for the first of some steps is the front of what is sent for all of them, to one client and to all.
+pub fn more_steps_send_more()
+    ensures one { (answers : Serving) (settings : Settings) (c : ℕ) (p r : List Step)
+        → IsPrefix (sent answers settings (placed settings c p)) (sent answers settings (placed settings c (p ++ r))) }
+    ensures all { (answers : Serving) (settings : Settings) (p r : List Step)
+        → IsPrefix (outs answers settings p) (outs answers settings (p ++ r)) }
+{}
+
+/// Each datagram that a client is sent answers the one by which it began, as `replies_answer_what_was_asked` says, at the
+/// configurations as it heard them; and each frame answers one of those that it received before.
+pub fn replies_of_steps_answer_what_was_asked()
+    ensures { (settings : Settings) (given : Req (Unit {0}) → ℕ → Answer) (verdicts : Verdicts) (c : ℕ) (steps : List Step)
+        → All (IsReply (serving (replies settings given (verdict_on verdicts)) (hint_left settings)) settings (placed settings c steps))
+        (sent (serving (replies settings given (verdict_on verdicts)) (hint_left settings)) settings (placed settings c steps)) }
+{
+    dns_middleware::wrapped_replies_respond();
+    dns_middleware::wrapped_replies_fit();
+    dns_service::cut_fits();
+}
+
+/// A client is sent its replies in order, as where it hears of all at once: each message that it is sent is the reply to one poll of
+/// one of its requests, or refuses a response, and those of one request are sent in the order of its polls, each at most once. Of what
+/// its requests were polled for, a reply was sent unless it waits in the queue, is held, or was dropped, since the queue stood full
+/// outside of a transaction; a connection that closes forgets its requests.
+pub fn replies_of_steps_keep_their_order()
+    ensures sent { (answers : Serving) (settings : Settings) (c : ℕ) (steps : List Step)
+        → AreMarked answers (trail_after answers (fresh (opening settings)) no_trail (placed settings c steps)).went (octets_sent (sent answers settings (placed settings c steps))) }
+    ensures order { (answers : Serving) (settings : Settings) (c k : ℕ) (steps : List Step)
+        → IsRising (polls_of k (in_order (trail_after answers (fresh (opening settings)) no_trail (placed settings c steps)))) }
+    ensures missing { (answers : Serving) (settings : Settings) (c k n : ℕ) (steps : List Step) (r : SlateRequest)
+        → slice_get (placed_slate answers settings c steps).requests k ≡ Some r → n < r.polls
+        → reply_at answers (poll_of k r n) ≢ None
+        → IsSomewhere k r (trail_after answers (fresh (opening settings)) no_trail (placed settings c steps)) (poll_of k r n) }
+{}
+
+/// A piece cut in two, both parts at its moment and seconds and next to each other, changes nothing for anybody, wherever it is cut.
+pub fn pieces_of_steps_may_be_cut()
+    ensures { (answers : Serving) (settings : Settings) (client at secs : ℕ) (a b : List ℕ) (q r : List Step)
+        → outs answers settings (q ++ Step.Own (piece_of client at secs (a ++ b)) ∷ r) ≡ outs answers settings (q ++ Step.Own (piece_of client at secs a) ∷ Step.Own (piece_of client at secs b) ∷ r) }
+{
+    dns_client::pieces_may_be_cut();
+}
+
+/// Whoever looks after each event that all clients hear, and whoever looks beside it, is sent by the rules for it alone what it is
+/// sent where it hears of each event at once. And where some look then by rising number, all exchanges and connections among them,
+/// all that is sent is what is sent where all hear at once. There are no more events than versions.
+pub fn looks_without_delay_change_nothing()
+    ensures one { (answers : Serving) (settings : Settings) (cs : List ℕ) (c : ℕ) (es : List Event)
+        → list_any (nat_eq c) cs ≡ true → length es ≤ last_version
+        → sent answers settings (placed settings c (undelayed cs es)) ≡ sent answers settings (own c es) }
+    ensures all { (answers : Serving) (settings : Settings) (cs : List ℕ) (es : List Event)
+        → IsStrictlySortedBy nat_cmp cs → ((c : ℕ) → is_member answers settings c es ≡ true → list_any (nat_eq c) cs ≡ true)
+        → length es ≤ last_version
+        → outs answers settings (undelayed cs es) ≡ out answers settings es }
+{}
+
+/// A look changes nothing of what others hear. A look of a client that is no exchange and no connection, and one of a client that
+/// has heard of all changes of the server, changes nothing for anybody.
+pub fn idle_looks_change_nothing()
+    ensures others { (settings : Settings) (c d at secs : ℕ) (q r : List Step)
+        → c ≢ d → placed settings d (q ++ Step.Look at secs c ∷ r) ≡ placed settings d (q ++ r) }
+    ensures stranger { (answers : Serving) (settings : Settings) (c at secs : ℕ) (q r : List Step)
+        → is_served answers settings c q ≡ false
+        → outs answers settings (q ++ Step.Look at secs c ∷ r) ≡ outs answers settings (q ++ r) }
+    ensures again { (answers : Serving) (settings : Settings) (c at secs : ℕ) (q r : List Step)
+        → (knows settings c q).unheard ≡ []
+        → outs answers settings (q ++ Step.Look at secs c ∷ r) ≡ outs answers settings (q ++ r) }
+{}
+
+/// An event of a client that is no exchange and no connection, and doesn't begin with it, changes nothing for anybody.
+pub fn steps_of_strangers_change_nothing()
+    ensures { (answers : Serving) (settings : Settings) (q r : List Step) (e : Event)
+        → is_wide e.kind ≡ false → is_first answers settings q e ≡ false → is_served answers settings e.client q ≡ false
+        → outs answers settings (q ++ Step.Own e ∷ r) ≡ outs answers settings (q ++ r) }
+{}
+
+/// Once a connection is closed, an event of it that is no release changes nothing for anybody, nor does a second release.
+pub fn steps_of_closed_connections_change_nothing()
+    ensures closed { (answers : Serving) (settings : Settings) (q r : List Step) (e : Event)
+        → is_wide e.kind ≡ false → e.kind ≢ EventKind.Release → (placed_slate answers settings e.client q).phase ≡ Closed
+        → outs answers settings (q ++ Step.Own e ∷ r) ≡ outs answers settings (q ++ r) }
+    ensures again { (answers : Serving) (settings : Settings) (q r : List Step) (e : Event)
+        → e.kind ≡ EventKind.Release → (placed_slate answers settings e.client q).freed ≡ true
+        → outs answers settings (q ++ Step.Own e ∷ r) ≡ outs answers settings (q ++ r) }
+{}
+
+/// A turn that names no unfinished request, and a piece of no octets, change nothing for anybody.
+pub fn idle_steps_change_nothing()
+    ensures turn { (answers : Serving) (settings : Settings) (q r : List Step) (e : Event) (k : ℕ)
+        → e.kind ≡ EventKind.Turn k → IsFinished (slice_get (placed_slate answers settings e.client q).requests k)
+        → outs answers settings (q ++ Step.Own e ∷ r) ≡ outs answers settings (q ++ r) }
+    ensures piece { (answers : Serving) (settings : Settings) (q r : List Step) (e : Event)
+        → e.kind ≡ EventKind.Piece []
+        → outs answers settings (q ++ Step.Own e ∷ r) ≡ outs answers settings (q ++ r) }
+{}
+
+/// A datagram and an offer under a used number change nothing for anybody.
+pub fn steps_of_used_numbers_change_nothing()
+    ensures datagram { (answers : Serving) (settings : Settings) (q r : List Step) (e : Event) (addr : SocketAddr) (o : List ℕ)
+        → e.kind ≡ EventKind.Datagram addr o → is_unused (placed_slate answers settings e.client q).phase ≡ false
+        → outs answers settings (q ++ Step.Own e ∷ r) ≡ outs answers settings (q ++ r) }
+    ensures offer { (answers : Serving) (settings : Settings) (q r : List Step) (e : Event) (addr : SocketAddr)
+        → e.kind ≡ EventKind.Offer addr → is_unused (placed_slate answers settings e.client q).phase ≡ false
+        → outs answers settings (q ++ Step.Own e ∷ r) ≡ outs answers settings (q ++ r) }
+{}
+
+/// Once the server shut down, whoever heard of it, a datagram, an offer, and another reconfigure and shutdown change nothing for
+/// anybody.
+pub fn late_steps_change_nothing()
+    ensures datagram { (answers : Serving) (settings : Settings) (q r : List Step) (e : Event) (addr : SocketAddr) (o : List ℕ)
+        → e.kind ≡ EventKind.Datagram addr o → (hall answers settings q).book.closed ≡ true
+        → outs answers settings (q ++ Step.Own e ∷ r) ≡ outs answers settings (q ++ r) }
+    ensures offer { (answers : Serving) (settings : Settings) (q r : List Step) (e : Event) (addr : SocketAddr)
+        → e.kind ≡ EventKind.Offer addr → (hall answers settings q).book.closed ≡ true
+        → outs answers settings (q ++ Step.Own e ∷ r) ≡ outs answers settings (q ++ r) }
+    ensures reconfigure { (answers : Serving) (settings : Settings) (q r : List Step) (e : Event) (dgram : Dgram) (stream : Stream)
+        → e.kind ≡ EventKind.Reconfigure dgram stream → (hall answers settings q).book.closed ≡ true
+        → outs answers settings (q ++ Step.Own e ∷ r) ≡ outs answers settings (q ++ r) }
+    ensures shutdown { (answers : Serving) (settings : Settings) (q r : List Step) (e : Event)
+        → e.kind ≡ EventKind.Shutdown → (hall answers settings q).book.closed ≡ true
+        → outs answers settings (q ++ Step.Own e ∷ r) ≡ outs answers settings (q ++ r) }
+{}
