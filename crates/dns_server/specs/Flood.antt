@@ -2,7 +2,7 @@
 use Rattle.std.specs.Prelude.{ℕ, zero, suc, ◌+◌, ◌*◌, ◌/◌, ◌%◌, ◌^◌, nat_lt, if◌then◌else◌, true, List, [], ◌∷◌, ◌++◌, Some, None}
 use Rattle.dns_name.specs.declared.address.IpAddr.TheVariants.{V4}
 use Rattle.dns_name.specs.declared.address.SocketAddr.{SocketAddr}
-use Rattle.dns_service.specs.Config.{Stream}
+use Rattle.dns_service.specs.Config.{Stream, default_connection}
 use Rattle.dns_service.specs.declared.event.Event.{Event}
 use Rattle.dns_service.specs.declared.event.EventKind.{EventKind}
 use Rattle.dns_service.specs.declared.event.EventKind.TheVariants.{Datagram, Turn, Offer, Piece, Write, Tick, Release}
@@ -59,7 +59,7 @@ abbrev pub flood_stream : Stream
 flood_stream = record {
   accept_connections_at_max = true;
   max_concurrent_connections = 10000;
-  connection_config = record { idle_timeout = 1000; response_write_timeout = 1000; max_queued_responses = 4 };
+  connection_config = record default_connection { idle_timeout = 1000; response_write_timeout = 1000; max_queued_responses = 4 };
 }
 
 -- the line `rule * pend rcode:0 rcode:3`
@@ -67,5 +67,5 @@ abbrev pub flood_rule : Rule
 flood_rule = record { name = None; answers = Pend ∷ Reply (Rcode 0) ∷ Reply (Rcode 3) ∷ [] }
 
 -- a flood is a script of these two lines and of the events
-abbrev pub flood_plan : ℕ → ℕ → Plan
+abbrev pub flood_plan : ℕ → ℕ → Plan Event
 flood_plan seed count = record empty_plan { stream = Some flood_stream; rules = flood_rule ∷ []; events = flood_events seed count }

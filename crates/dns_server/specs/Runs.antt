@@ -5,10 +5,14 @@ use Rattle.std.specs.Prelude.{◌≡◌, ℕ, ◌+◌, ◌≤◌, List, [], ◌+
 use Rattle.dns_outside.specs.Causes.{Tells}
 use Rattle.dns_outside.specs.Moves.{ReadExactly, ReadAtMost, Cut}
 use Rattle.dns_outside.specs.declared.source.TheConstants.{LIMIT}
+use Rattle.dns_service.specs.declared.event.Event.{Event}
 use Rattle.dns_service.specs.declared.event.Output.{Output}
+use Rattle.dns_service.specs.declared.event.Step.{Step}
+use Rattle.dns_trace.specs.EventLines.{event_line, step_line}
 use Rattle.dns_trace.specs.declared.reason.Reason.{Reason}
 use Rattle.dns_client.specs.Serving.{serving}
 use Rattle.dns_core.specs.Out.{out}
+use Rattle.dns_core.specs.Outs.{outs}
 use Rattle.dns_middleware.specs.Verdicts.{verdict_on}
 use Rattle.dns_middleware.specs.Wrapped.{hint_left, replies}
 use Rattle.dns_server.specs.Counts.{output_counts, summary_line}
@@ -19,18 +23,22 @@ use Rattle.dns_server.specs.Targets.{script_verdicts}
 use Rattle.dns_server.specs.Script.{script}
 use Rattle.dns_server.specs.Line.{lines_of, refused_line}
 use Rattle.dns_server.specs.declared.command.Command.{Command}
-use Rattle.dns_server.specs.declared.command.Command.TheVariants.{Replay, Flood}
+use Rattle.dns_server.specs.declared.command.Command.TheVariants.{Replay, Steps, Flood}
 use Rattle.dns_server.specs.declared.program.Status.{Status}
 use Rattle.dns_server.specs.declared.program.Status.TheVariants.{Done, Usage, Refused, ReadFault, WriteFault, OutOfMemory, TooLong}
 
 -- what the clients are sent: the outputs of the events, served by the rules under the settings
-unfoldable pub plan_outputs : Plan → List Output
+unfoldable pub plan_outputs : Plan Event → List Output
 plan_outputs p = out (serving (replies (settings_of p) (played p.rules) (verdict_on (script_verdicts p.zones))) (hint_left (settings_of p))) (settings_of p) p.events
 
--- what is written for a script, or for the first bad line of a text that is none
-abbrev pub run_text : Result Plan (ℕ × Reason) → List ℕ
-run_text (Ok p) = lines_of (plan_outputs p)
-run_text (Err e) = refused_line e.0 e.1
+-- the same of steps, where a client hears of the server's changes only when it looks
+unfoldable pub plan_step_outputs : Plan Step → List Output
+plan_step_outputs p = outs (serving (replies (settings_of p) (played p.rules) (verdict_on (script_verdicts p.zones))) (hint_left (settings_of p))) (settings_of p) p.events
+
+-- what is written for a script whose clients are sent this, or for the first bad line of a text that is none
+abbrev pub run_text : {E : Type 0} → (Plan E → List Output) → Result (Plan E) (ℕ × Reason) → List ℕ
+run_text sent (Ok p) = lines_of (sent p)
+run_text sent (Err e) = refused_line e.0 e.1
 
 -- what is written for a flood
 unfoldable pub flood_text : ℕ → ℕ → List ℕ
@@ -41,22 +49,22 @@ abbrev pub Whole : List ℕ → List ℕ → Type 0
 Whole a b = (b ≡ []) × (length a ≤ LIMIT)
 
 -- the status of a text that was read whole
-abbrev pub Judges : Status → Result Plan (ℕ × Reason) → Type 0
+abbrev pub Judges : {E : Type 0} → Status → Result (Plan E) (ℕ × Reason) → Type 0
 Judges Done read = IsOk read
 Judges Refused read = IsErr read
 Judges WriteFault read = Unit {0}
 Judges OutOfMemory read = Unit {0}
 Judges _ read = ⊥
 
--- what was read, by the status
-abbrev pub ReplayReads : Status → List ℕ → List ℕ → Type 0
-ReplayReads Done a b = Whole a b × IsOk (script a)
-ReplayReads Refused a b = Whole a b × IsErr (script a)
-ReplayReads WriteFault a b = Whole a b
-ReplayReads OutOfMemory a b = ReadAtMost (LIMIT + 1) a b
-ReplayReads ReadFault a b = ReadAtMost LIMIT a b
-ReplayReads TooLong a b = ReadExactly (LIMIT + 1) a b
-ReplayReads Usage a b = ⊥
+-- what was read, by the status, where this is what a text says
+abbrev pub ReadsSource : {E : Type 0} → (List ℕ → Result (Plan E) (ℕ × Reason)) → Status → List ℕ → List ℕ → Type 0
+ReadsSource read Done a b = Whole a b × IsOk (read a)
+ReadsSource read Refused a b = Whole a b × IsErr (read a)
+ReadsSource read WriteFault a b = Whole a b
+ReadsSource read OutOfMemory a b = ReadAtMost (LIMIT + 1) a b
+ReadsSource read ReadFault a b = ReadAtMost LIMIT a b
+ReadsSource read TooLong a b = ReadExactly (LIMIT + 1) a b
+ReadsSource read Usage a b = ⊥
 
 -- what was written, by the status: a text, a front of it, or nothing
 abbrev pub WritesText : Status → List ℕ → List ℕ → List ℕ → Type 0
@@ -75,16 +83,18 @@ EndsFlood _ = ⊥
 
 -- for a flood the source isn't touched
 abbrev pub RunReads : {R : Type 0} → (R → Type 0) → (R → List ℕ) → Command → Status → R → R → Type 0
-RunReads tells left Replay s a b = Tells (tells b) (tells a) (ReplayReads s (left a) (left b))
+RunReads tells left Replay s a b = Tells (tells b) (tells a) (ReadsSource (script event_line) s (left a) (left b))
+RunReads tells left Steps s a b = Tells (tells b) (tells a) (ReadsSource (script step_line) s (left a) (left b))
 RunReads tells left (Flood seed count) s a b = (b ≡ a) × EndsFlood s
 
 -- of a script the source has to tell its text
 abbrev pub RunWrites : {R : Type 0} → (R → Type 0) → (R → List ℕ) → Command → Status → R → R → Type 0 → Type 0 → List ℕ → List ℕ → Type 0
-RunWrites tells left Replay s a b told tell c d = Tells (tells b × told) (tells a × tell) (WritesText s (run_text (script (left a))) c d)
+RunWrites tells left Replay s a b told tell c d = Tells (tells b × told) (tells a × tell) (WritesText s (run_text plan_outputs (script event_line (left a))) c d)
+RunWrites tells left Steps s a b told tell c d = Tells (tells b × told) (tells a × tell) (WritesText s (run_text plan_step_outputs (script step_line (left a))) c d)
 RunWrites tells left (Flood seed count) s a b told tell c d = Tells told tell (WritesText s (flood_text seed count) c d)
 
 -- a script gives Done, and another text Refused, save for want of memory
-abbrev pub Decides : Status → Result Plan (ℕ × Reason) → Type 0
+abbrev pub Decides : {E : Type 0} → Status → Result (Plan E) (ℕ × Reason) → Type 0
 Decides Done read = IsOk read
 Decides Refused read = IsErr read
 Decides OutOfMemory read = Unit {0}
@@ -98,5 +108,6 @@ FloodDecides _ = ⊥
 
 -- a run without a fault: octets that are not too many decide, and a flood needs none
 abbrev pub Completes : {R : Type 0} → (R → Type 0) → (R → List ℕ) → Command → Status → R → R → Type 0
-Completes tells left Replay s a b = Tells (tells b) (tells a) (length (left a) ≤ LIMIT → Decides s (script (left a)))
+Completes tells left Replay s a b = Tells (tells b) (tells a) (length (left a) ≤ LIMIT → Decides s (script event_line (left a)))
+Completes tells left Steps s a b = Tells (tells b) (tells a) (length (left a) ≤ LIMIT → Decides s (script step_line (left a)))
 Completes tells left (Flood seed count) s a b = FloodDecides s

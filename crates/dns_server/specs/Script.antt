@@ -1,4 +1,5 @@
--- The grammar of a script, line by line: the settings and the rules of the service and of the target stand before the first event.
+-- The grammar of a script, line by line: the settings and the rules of the service and of the target stand before the first event,
+-- which is a step where looks are read too.
 -- A line is refused for the first of these reasons that fits: it has an octet that is no character; its first word is that of no
 -- line; it stands behind an event, and may not; it stands twice, and may not; it has too few words or too many; a word spells no
 -- value. Each definition goes through them in this order.
@@ -6,12 +7,13 @@ use Rattle.std.specs.Prelude.{ℕ, ◌+◌, ◌-◌, ◌==◌, nat_le, not, is_s
 use Rattle.std.specs.List.{list_all}
 use Rattle.std.specs.Str.{bytes_eq}
 use Rattle.std.specs.Str.Lines.{lines}
+use Rattle.dns_name.specs.declared.address.IpAddr.{IpAddr}
 use Rattle.dns_trace.specs.Lines.{is_skipped, is_text}
 use Rattle.dns_trace.specs.Words.{words_of, word_at}
 use Rattle.dns_trace.specs.Reading.{◌>>=◌, unless}
 use Rattle.dns_trace.specs.Values.{addr_of, secret_of, yes_no_of}
+use Rattle.dns_trace.specs.BudgetLine.{budget_line}
 use Rattle.dns_trace.specs.DgramLine.{dgram_line}
-use Rattle.dns_trace.specs.EventLines.{event_line}
 use Rattle.dns_trace.specs.NameWords.{name_word}
 use Rattle.dns_trace.specs.StreamLine.{stream_line}
 use Rattle.dns_trace.specs.declared.reason.Reason.{Reason}
@@ -24,7 +26,7 @@ use Rattle.dns_server.specs.AnswerWords.{answers_after}
 use Rattle.dns_server.specs.Plan.{Plan, empty_plan}
 
 -- before the first event
-abbrev pub before_events : Plan → Result (Unit {0}) Reason
+abbrev pub before_events : {E : Type 0} → Plan E → Result (Unit {0}) Reason
 before_events p = unless Order (length p.events == 0)
 
 -- what isn't said yet
@@ -34,43 +36,48 @@ unsaid said = unless Repeat (not (is_some said))
 abbrev pub of_words : ℕ → List (List ℕ) → Result (Unit {0}) Reason
 of_words n ws = unless Count (length ws == n)
 
--- strict yes|no
-unfoldable pub strict_line : Plan → List (List ℕ) → Result Plan Reason
-strict_line p ws = do
+-- what is said once, before the first event, by one word behind the line's name
+abbrev pub said_once : {E A : Type 0} → Plan E → Option A → List (List ℕ) → Result (Unit {0}) Reason
+said_once p said ws = do
   _ ← before_events p
-  _ ← unsaid p.strict
-  _ ← of_words 2 ws
+  _ ← unsaid said
+  of_words 2 ws
+
+-- strict yes|no
+unfoldable pub strict_line : {E : Type 0} → Plan E → List (List ℕ) → Result (Plan E) Reason
+strict_line p ws = do
+  _ ← said_once p p.strict ws
   strict ← yes_no_of (word_at ws 1)
   Ok (record p { strict = Some strict })
 
 -- edns yes|no
-unfoldable pub edns_line : Plan → List (List ℕ) → Result Plan Reason
+unfoldable pub edns_line : {E : Type 0} → Plan E → List (List ℕ) → Result (Plan E) Reason
 edns_line p ws = do
-  _ ← before_events p
-  _ ← unsaid p.edns
-  _ ← of_words 2 ws
+  _ ← said_once p p.edns ws
   edns ← yes_no_of (word_at ws 1)
   Ok (record p { edns = Some edns })
 
 -- secret HEX, of 16 octets
-unfoldable pub secret_line : Plan → List (List ℕ) → Result Plan Reason
+unfoldable pub secret_line : {E : Type 0} → Plan E → List (List ℕ) → Result (Plan E) Reason
 secret_line p ws = do
-  _ ← before_events p
-  _ ← unsaid p.secret
-  _ ← of_words 2 ws
+  _ ← said_once p p.secret ws
   secret ← secret_of (word_at ws 1)
   Ok (record p { secret = Some secret })
 
 -- deny ADDR
-unfoldable pub deny_line : Plan → List (List ℕ) → Result Plan Reason
+unfoldable pub denied_of : List (List ℕ) → Result IpAddr Reason
+denied_of ws = do
+  _ ← of_words 2 ws
+  addr_of (word_at ws 1)
+
+unfoldable pub deny_line : {E : Type 0} → Plan E → List (List ℕ) → Result (Plan E) Reason
 deny_line p ws = do
   _ ← before_events p
-  _ ← of_words 2 ws
-  address ← addr_of (word_at ws 1)
+  address ← denied_of ws
   Ok (record p { denied = p.denied ++ address ∷ [] })
 
 -- a line `dgram`, once
-unfoldable pub first_dgram_line : Plan → List (List ℕ) → Result Plan Reason
+unfoldable pub first_dgram_line : {E : Type 0} → Plan E → List (List ℕ) → Result (Plan E) Reason
 first_dgram_line p ws = do
   _ ← before_events p
   _ ← unsaid p.dgram
@@ -78,12 +85,20 @@ first_dgram_line p ws = do
   Ok (record p { dgram = Some d })
 
 -- a line `stream`, once
-unfoldable pub first_stream_line : Plan → List (List ℕ) → Result Plan Reason
+unfoldable pub first_stream_line : {E : Type 0} → Plan E → List (List ℕ) → Result (Plan E) Reason
 first_stream_line p ws = do
   _ ← before_events p
   _ ← unsaid p.stream
   s ← stream_line ws
   Ok (record p { stream = Some s })
+
+-- a line `budget`, once
+unfoldable pub first_budget_line : {E : Type 0} → Plan E → List (List ℕ) → Result (Plan E) Reason
+first_budget_line p ws = do
+  _ ← before_events p
+  _ ← unsaid p.budget
+  b ← budget_line ws
+  Ok (record p { budget = Some b })
 
 -- `*` for all names, or a name
 abbrev pub for_name : Result (List (List ℕ)) Reason → Result (Option (List (List ℕ))) Reason
@@ -101,7 +116,7 @@ rule_of ws = do
   answers ← answers_after [] (drop 2 ws)
   Ok (record { name = name; answers = answers })
 
-unfoldable pub rule_line : Plan → List (List ℕ) → Result Plan Reason
+unfoldable pub rule_line : {E : Type 0} → Plan E → List (List ℕ) → Result (Plan E) Reason
 rule_line p ws = do
   _ ← before_events p
   rule ← rule_of ws
@@ -128,59 +143,62 @@ notify_of ws = do
   verdict ← verdict_word (word_at ws (length ws - 1))
   Ok (record { apex = apex; pends = length ws - 3; verdict = verdict })
 
-unfoldable pub notify_line : Plan → List (List ℕ) → Result Plan Reason
+unfoldable pub notify_line : {E : Type 0} → Plan E → List (List ℕ) → Result (Plan E) Reason
 notify_line p ws = do
   _ ← before_events p
   zone ← notify_of ws
   Ok (record p { zones = p.zones ++ zone ∷ [] })
 
--- the line of an event
-unfoldable pub next_event_line : Plan → List (List ℕ) → Result Plan Reason
-next_event_line p ws = event_line ws >>= λ e. Ok (record p { events = p.events ++ e ∷ [] })
-
--- a line that configures a server, by its first word; else that of an event
-unfoldable pub server_line : Plan → List (List ℕ) → Result Plan Reason
-server_line p ws =
-    if bytes_eq (word_at ws 0) (codes "dgram") then first_dgram_line p ws
-    else if bytes_eq (word_at ws 0) (codes "stream") then first_stream_line p ws
-    else next_event_line p ws
-
--- a line of cookies, by its first word; else one of those
-unfoldable pub cookie_line : Plan → List (List ℕ) → Result Plan Reason
-cookie_line p ws =
-    if bytes_eq (word_at ws 0) (codes "secret") then secret_line p ws
-    else if bytes_eq (word_at ws 0) (codes "deny") then deny_line p ws
-    else server_line p ws
-
--- a line that turns something on or off, by its first word; else one of those
-unfoldable pub switch_line : Plan → List (List ℕ) → Result Plan Reason
-switch_line p ws =
-    if bytes_eq (word_at ws 0) (codes "strict") then strict_line p ws
-    else if bytes_eq (word_at ws 0) (codes "edns") then edns_line p ws
-    else cookie_line p ws
-
--- a line that says something, by its first word
-unfoldable pub said_line : Plan → List (List ℕ) → Result Plan Reason
-said_line p ws =
-    if bytes_eq (word_at ws 0) (codes "rule") then rule_line p ws
-    else if bytes_eq (word_at ws 0) (codes "notify") then notify_line p ws
-    else switch_line p ws
-
--- what a script says with the line of these words more, which is text or isn't
-unfoldable pub after_words : Plan → Bool → List (List ℕ) → Result Plan Reason
-after_words p text ws = if is_skipped ws then Ok p else (unless Text text >>= λ _. said_line p ws)
-
-abbrev pub after_line : Plan → List ℕ → Result Plan Reason
-after_line p l = after_words p (is_text l) (words_of l)
-
 abbrev pub numbered : {A : Type 0} → ℕ → Result A Reason → Result A (ℕ × Reason)
 numbered n (Ok x) = Ok x
 numbered n (Err r) = Err (n, r)
 
--- the lines, of which the first is line n, behind those that gave p: what all say, or the first bad line and its reason
-abbrev pub after_lines : ℕ → Plan → List (List ℕ) → Result Plan (ℕ × Reason)
-after_lines n p [] = Ok p
-after_lines n p (l ∷ ls) = numbered n (after_line p l) >>= λ q. after_lines (n + 1) q ls
+-- the lines behind the settings and the rules are those of events, or of steps, by their reading
+module _ {E : Type 0} (reading : List (List ℕ) → Result E Reason) where
+  -- the line of an event, or of a step, by the reading of those
+  unfoldable pub next_event_line : Plan E → List (List ℕ) → Result (Plan E) Reason
+  next_event_line p ws = reading ws >>= λ e. Ok (record p { events = p.events ++ e ∷ [] })
 
-unfoldable pub script : List ℕ → Result Plan (ℕ × Reason)
-script t = after_lines 1 empty_plan (lines t)
+  -- a line that configures a server, by its first word; else that of an event
+  unfoldable pub server_line : Plan E → List (List ℕ) → Result (Plan E) Reason
+  server_line p ws =
+      if bytes_eq (word_at ws 0) (codes "dgram") then first_dgram_line p ws
+      else if bytes_eq (word_at ws 0) (codes "stream") then first_stream_line p ws
+      else if bytes_eq (word_at ws 0) (codes "budget") then first_budget_line p ws
+      else next_event_line p ws
+
+  -- a line of cookies, by its first word; else one of those
+  unfoldable pub cookie_line : Plan E → List (List ℕ) → Result (Plan E) Reason
+  cookie_line p ws =
+      if bytes_eq (word_at ws 0) (codes "secret") then secret_line p ws
+      else if bytes_eq (word_at ws 0) (codes "deny") then deny_line p ws
+      else server_line p ws
+
+  -- a line that turns something on or off, by its first word; else one of those
+  unfoldable pub switch_line : Plan E → List (List ℕ) → Result (Plan E) Reason
+  switch_line p ws =
+      if bytes_eq (word_at ws 0) (codes "strict") then strict_line p ws
+      else if bytes_eq (word_at ws 0) (codes "edns") then edns_line p ws
+      else cookie_line p ws
+
+  -- a line that says something, by its first word
+  unfoldable pub said_line : Plan E → List (List ℕ) → Result (Plan E) Reason
+  said_line p ws =
+      if bytes_eq (word_at ws 0) (codes "rule") then rule_line p ws
+      else if bytes_eq (word_at ws 0) (codes "notify") then notify_line p ws
+      else switch_line p ws
+
+  -- what a script says with the line of these words more, which is text or isn't
+  unfoldable pub after_words : Plan E → Bool → List (List ℕ) → Result (Plan E) Reason
+  after_words p text ws = if is_skipped ws then Ok p else (unless Text text >>= λ _. said_line p ws)
+
+  abbrev pub after_line : Plan E → List ℕ → Result (Plan E) Reason
+  after_line p l = after_words p (is_text l) (words_of l)
+
+  -- the lines, of which the first is line n, behind those that gave p: what all say, or the first bad line and its reason
+  abbrev pub after_lines : ℕ → Plan E → List (List ℕ) → Result (Plan E) (ℕ × Reason)
+  after_lines n p [] = Ok p
+  after_lines n p (l ∷ ls) = numbered n (after_line p l) >>= λ q. after_lines (n + 1) q ls
+
+  unfoldable pub script : List ℕ → Result (Plan E) (ℕ × Reason)
+  script t = after_lines 1 empty_plan (lines t)

@@ -8,15 +8,15 @@ use Rattle.dns_server.specs.declared.script.ScriptError.{ScriptError}
 use Rattle.dns_server.specs.declared.script.ScriptError.TheVariants.{OutOfMemory, Refused}
 
 -- what is said with a line more, or its refusal, unless memory was wanting
-abbrev pub TakesLine : Result (Unit {0}) LineError → Plan → Result Plan Reason → Type 0
+abbrev pub TakesLine : {E : Type 0} → Result (Unit {0}) LineError → Plan E → Result (Plan E) Reason → Type 0
 TakesLine (Ok u) said read = read ≡ Ok said
 TakesLine (Err e) said read = Fails e read
 
-abbrev pub RefusesScript : ScriptError → Result Plan (ℕ × Reason) → Type 0
+abbrev pub RefusesScript : {E : Type 0} → ScriptError → Result (Plan E) (ℕ × Reason) → Type 0
 RefusesScript OutOfMemory read = Unit {0}
 RefusesScript (Refused n r) read = read ≡ Err (n, r)
 
 -- what a script says, or its first bad line, unless memory was wanting
-abbrev pub ReadsScript : Result Plan ScriptError → Result Plan (ℕ × Reason) → Type 0
+abbrev pub ReadsScript : {E : Type 0} → Result (Plan E) ScriptError → Result (Plan E) (ℕ × Reason) → Type 0
 ReadsScript (Ok s) read = read ≡ Ok s
 ReadsScript (Err e) read = RefusesScript e read

@@ -2,7 +2,7 @@
 
 ghost use Rattle.std.specs.Prelude.{◌≡◌, map, string_bytes};
 ghost use Rattle.dns_trace.specs.Values.{num_of, number};
-ghost use Rattle.dns_server.specs.Command.{command_of, flood_of};
+ghost use Rattle.dns_server.specs.Command.{command_of, flood_of, script_command};
 
 use dns_trace::{decimal, num};
 
@@ -11,6 +11,8 @@ use dns_trace::{decimal, num};
 pub enum Command {
     /// `replay`: a script is read from the source, and its outputs are written.
     Replay,
+    /// `steps`: the same, where the script has looks too, and a client hears of the server's changes only when it looks.
+    Steps,
     /// `flood SEED COUNT`: so many events are made and served, and what is sent for them is counted.
     Flood { seed: u64, count: u32 },
 }
@@ -31,15 +33,25 @@ fn flood(seed: &[u8], count: &[u8]) -> Option<Command>
     })
 }
 
+/// A script, where the one word says how it is served.
+fn script_command(word: &str) -> Option<Command>
+    ensures { result ≡ script_command word.now }
+{
+    if word == "replay" {
+        return Some(Command::Replay);
+    }
+    if word == "steps" {
+        return Some(Command::Steps);
+    }
+    None
+}
+
 /// What the words, without the program's name, ask for.
 pub fn read_command(words: &[String]) -> Option<Command>
     ensures { result ≡ command_of (map string_bytes words.now) }
 {
     if words.len() == 1 {
-        if words[0].as_str() == "replay" {
-            return Some(Command::Replay);
-        }
-        return None;
+        return script_command(words[0].as_str());
     }
     if words.len() == 3 {
         if words[0].as_str() == "flood" {

@@ -9,6 +9,7 @@ ghost use Rattle.dns_middleware.specs.declared.settings.Settings.{Settings};
 ghost use Rattle.dns_middleware.specs.Verdicts.{verdict_on};
 ghost use Rattle.dns_middleware.specs.Wrapped.{hint_left, replies};
 ghost use Rattle.dns_service.specs.PolledRequest.{request_answer};
+ghost use Rattle.dns_service.specs.declared.event.Event.{Event as TheEvent};
 ghost use Rattle.dns_server.specs.Counts.{CountsEvent, IsAtMost, output_counts};
 ghost use Rattle.dns_server.specs.Flood.{drawn, flood_event, flood_events, flood_plan, flood_rule, flood_stream, next_number};
 ghost use Rattle.dns_server.specs.Plan.{empty_plan, settings_of};
@@ -45,7 +46,7 @@ fn flood_stream() -> StreamConfig
 
 /// The default settings, with this configuration.
 fn flood_settings(alloc: Global) -> Settings
-    ensures { result ≡ record (settings_of empty_plan) { stream = flood_stream } }
+    ensures { result ≡ record (settings_of (empty_plan {E = TheEvent})) { stream = flood_stream } }
 {
     let mut settings = Settings::new(alloc);
     settings.stream = flood_stream();

@@ -1,4 +1,4 @@
-//! The program: a script is read, its events are served by its rules, and the outputs are written line by line. Or a flood of
+//! The program: a script is read, its events or steps are served by its rules, and the outputs are written line by line. Or a flood of
 //! events is made and served, and the outputs are counted.
 #![tactic(auto)]
 
@@ -18,6 +18,7 @@ mod script;
 mod script_answers;
 mod script_service;
 mod script_target;
+mod scripted;
 mod setting_lines;
 mod writing;
 
@@ -33,4 +34,5 @@ pub use rule::{Rule, Rules, ScriptAnswer, ScriptAnswers, ScriptReply};
 pub use script::{Script, ScriptError};
 pub use script_service::{ScriptFuture, ScriptService, ScriptStream};
 pub use script_target::{ScriptTarget, ScriptVerdict};
+pub use scripted::Scripted;
 pub use writing::{WriteError, write_outputs, write_refusal};

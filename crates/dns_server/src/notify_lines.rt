@@ -65,7 +65,11 @@ fn notify_of(alloc: Global, words: &Words) -> Result<NotifyRule, LineError>
 
 /// A line `notify NAME pend .. ok|notauth|other`.
 #[tactic(auto, unfolding(crate::specs::Script::notify_line))]
-pub fn read_notify(alloc: Global, script: &mut Script, words: &Words) -> Result<(), LineError>
+pub fn read_notify<E: Drop>(
+    alloc: Global,
+    script: &mut Script<E>,
+    words: &Words,
+) -> Result<(), LineError>
     ensures { TakesLine result script.new (notify_line script.old words.now) }
 {
     before_events(script)?;

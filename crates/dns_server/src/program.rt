@@ -8,19 +8,16 @@ ghost use Rattle.dns_server.specs.Status.{status_number, SourceFaults, SinkFault
 ghost use Rattle.dns_server.specs.Line.{lines_of};
 ghost use Rattle.dns_server.specs.Script.{script};
 ghost use Rattle.dns_server.specs.Writes.{Wrote, WroteFaults};
-ghost use Rattle.dns_server.specs.Runs.{plan_outputs, run_text, flood_text, Judges, ReplayReads, WritesText, EndsFlood, RunReads, RunWrites, Completes};
+ghost use Rattle.dns_server.specs.Runs.{run_text, flood_text, Judges, ReadsSource, WritesText, EndsFlood, RunReads, RunWrites, Completes};
 
 use crate::command::{Command, read_command};
 use crate::flood::write_flood;
 use crate::reader::read_script;
 use crate::script::{Script, ScriptError};
-use crate::script_service::ScriptService;
-use crate::script_target::ScriptTarget;
+use crate::scripted::Scripted;
 use crate::writing::{WriteError, write_outputs, write_refusal};
-use dns_core::serve_events;
-use dns_name::OutOfMemory;
 use dns_outside::{ReadError, Sink, Source, read_all};
-use dns_service::Output;
+use dns_service::{Event, Step};
 use std::alloc::Global;
 
 /// How a run ended.
@@ -60,40 +57,29 @@ impl Status {
     }
 }
 
-/// What the clients of a script are sent.
-#[tactic(auto, unfolding(crate::specs::Runs::plan_outputs))]
-fn outputs(alloc: Global, script: Script) -> Result<Vec<Output>, OutOfMemory>
-    ensures { IfOk result (λ v. v.items ≡ plan_outputs script) }
-{
-    let (settings, rules, zones, events) = script.into_parts();
-    serve_events(
-        alloc,
-        &settings,
-        ScriptService::new(rules),
-        ScriptTarget::new(zones),
-        &events,
-    )
-}
-
 /// Writes what the clients of a script are sent.
-fn answer_script<W: Sink>(alloc: Global, script: Script, sink: &mut W) -> Result<(), WriteError>
-    ensures told { Tells (W.tells sink.new) (W.tells sink.old) (Wrote result (lines_of (plan_outputs script)) (W.taken sink.old) (W.taken sink.new)) }
+fn answer_script<E: Scripted, W: Sink>(
+    alloc: Global,
+    script: Script<E>,
+    sink: &mut W,
+) -> Result<(), WriteError>
+    ensures told { Tells (W.tells sink.new) (W.tells sink.old) (Wrote result (lines_of (E.sent script)) (W.taken sink.old) (W.taken sink.new)) }
     ensures cause { WroteFaults result (W.faults sink.old) (W.faults sink.new) }
 {
-    let all = outputs(alloc, script)?;
+    let all = E::serve(alloc, script)?;
     write_outputs(alloc, sink, &all)
 }
 
 /// Answers a text.
 #[tactic(auto, using(crate::proofs::Running::nothing_written))]
-fn answer_text<W: Sink>(alloc: Global, text: &[u8], sink: &mut W) -> Status
+fn answer_text<E: Scripted, W: Sink>(alloc: Global, text: &[u8], sink: &mut W) -> Status
     requires { length text.now ≤ LIMIT }
-    ensures judged { Judges result (script text.now) }
-    ensures told { Tells (W.tells sink.new) (W.tells sink.old) (WritesText result (run_text (script text.now)) (W.taken sink.old) (W.taken sink.new)) }
+    ensures judged { Judges result (script E.reading text.now) }
+    ensures told { Tells (W.tells sink.new) (W.tells sink.old) (WritesText result (run_text E.sent (script E.reading text.now)) (W.taken sink.old) (W.taken sink.new)) }
     ensures faults { SinkFaults result (W.faults sink.old) (W.faults sink.new) }
     ensures read { (result ≢ Status.Usage) × (result ≢ Status.ReadFault) × (result ≢ Status.TooLong) }
 {
-    match read_script(alloc, text) {
+    match read_script::<E>(alloc, text) {
         Ok(script) => match answer_script(alloc, script, sink) {
             Ok(()) => Status::Done,
             Err(WriteError::OutOfMemory) => Status::OutOfMemory,
@@ -110,12 +96,12 @@ fn answer_text<W: Sink>(alloc: Global, text: &[u8], sink: &mut W) -> Status
     }
 }
 
-/// Answers the script that a source holds.
+/// Answers the script that a source holds, of events or of steps.
 #[tactic(auto, using(crate::proofs::Running::nothing_written, crate::proofs::Running::whole_read, crate::proofs::Running::whole_answered))]
-fn replay<R: Source, W: Sink>(alloc: Global, source: &mut R, sink: &mut W) -> Status
-    ensures read { Tells (R.tells source.new) (R.tells source.old) (ReplayReads result (R.left source.old) (R.left source.new)) }
+fn replay<E: Scripted, R: Source, W: Sink>(alloc: Global, source: &mut R, sink: &mut W) -> Status
+    ensures read { Tells (R.tells source.new) (R.tells source.old) (ReadsSource (script E.reading) result (R.left source.old) (R.left source.new)) }
     ensures written { Tells (R.tells source.new × W.tells sink.new) (R.tells source.old × W.tells sink.old)
-        (WritesText result (run_text (script (R.left source.old))) (W.taken sink.old) (W.taken sink.new)) }
+        (WritesText result (run_text E.sent (script E.reading (R.left source.old))) (W.taken sink.old) (W.taken sink.new)) }
     ensures source_faults { SourceFaults result (R.faults source.old) (R.faults source.new) }
     ensures sink_faults { SinkFaults result (W.faults sink.old) (W.faults sink.new) }
     ensures too_long { result ≡ Status.TooLong → sink.new ≡ sink.old }
@@ -123,7 +109,7 @@ fn replay<R: Source, W: Sink>(alloc: Global, source: &mut R, sink: &mut W) -> St
     ensures other { result ≢ Status.Usage }
 {
     match read_all(alloc, source) {
-        Ok(text) => answer_text(alloc, &text, sink),
+        Ok(text) => answer_text::<E, W>(alloc, &text, sink),
         Err(ReadError::OutOfMemory) => Status::OutOfMemory,
         Err(ReadError::Fault) => Status::ReadFault,
         Err(ReadError::TooLong) => Status::TooLong,
@@ -172,7 +158,8 @@ pub fn run<R: Source, W: Sink>(
 {
     match read_command(words) {
         None => Status::Usage,
-        Some(Command::Replay) => replay(alloc, source, sink),
+        Some(Command::Replay) => replay::<Event, R, W>(alloc, source, sink),
+        Some(Command::Steps) => replay::<Step, R, W>(alloc, source, sink),
         Some(Command::Flood { seed, count }) => answer_flood(alloc, sink, seed, count),
     }
 }

@@ -7,26 +7,32 @@ ghost use Rattle.dns_server.specs.ScriptReads.{ReadsScript, TakesLine};
 use crate::notify_lines::read_notify;
 use crate::rule_lines::read_rule;
 use crate::script::{Script, ScriptError};
+use crate::scripted::Scripted;
 use crate::setting_lines::{
-    read_deny, read_dgram_line, read_edns, read_secret, read_stream_line, read_strict,
+    read_budget_line, read_deny, read_dgram_line, read_edns, read_secret, read_stream_line,
+    read_strict,
 };
-use dns_trace::{LineError, Reason, Words, is_text, read_event, says_nothing, split_line};
+use dns_trace::{LineError, Reason, Words, is_text, says_nothing, split_line};
 use std::alloc::Global;
 
-/// The line of an event.
+/// The line of an event, or of a step.
 #[tactic(auto, unfolding(crate::specs::Script::next_event_line))]
-fn event(alloc: Global, script: &mut Script, words: &Words) -> Result<(), LineError>
-    ensures { TakesLine result script.new (next_event_line script.old words.now) }
+fn event<E: Scripted>(alloc: Global, script: &mut Script<E>, words: &Words) -> Result<(), LineError>
+    ensures { TakesLine result script.new (next_event_line E.reading script.old words.now) }
 {
-    let event = read_event(alloc, words)?;
+    let event = E::read(alloc, words)?;
     script.push_event(event)?;
     Ok(())
 }
 
 /// A line that configures a server, or the line of an event.
 #[tactic(auto, unfolding(crate::specs::Script::server_line))]
-fn server_line(alloc: Global, script: &mut Script, words: &Words) -> Result<(), LineError>
-    ensures { TakesLine result script.new (server_line script.old words.now) }
+fn server_line<E: Scripted>(
+    alloc: Global,
+    script: &mut Script<E>,
+    words: &Words,
+) -> Result<(), LineError>
+    ensures { TakesLine result script.new (server_line E.reading script.old words.now) }
 {
     let name = words.word(0);
     if name == b"dgram".as_slice() {
@@ -35,13 +41,20 @@ fn server_line(alloc: Global, script: &mut Script, words: &Words) -> Result<(), 
     if name == b"stream".as_slice() {
         return read_stream_line(script, words);
     }
+    if name == b"budget".as_slice() {
+        return read_budget_line(script, words);
+    }
     event(alloc, script, words)
 }
 
 /// A line of cookies, or one of the others.
 #[tactic(auto, unfolding(crate::specs::Script::cookie_line))]
-fn cookie_line(alloc: Global, script: &mut Script, words: &Words) -> Result<(), LineError>
-    ensures { TakesLine result script.new (cookie_line script.old words.now) }
+fn cookie_line<E: Scripted>(
+    alloc: Global,
+    script: &mut Script<E>,
+    words: &Words,
+) -> Result<(), LineError>
+    ensures { TakesLine result script.new (cookie_line E.reading script.old words.now) }
 {
     let name = words.word(0);
     if name == b"secret".as_slice() {
@@ -55,8 +68,12 @@ fn cookie_line(alloc: Global, script: &mut Script, words: &Words) -> Result<(), 
 
 /// A line that turns something on or off, or one of the others.
 #[tactic(auto, unfolding(crate::specs::Script::switch_line))]
-fn switch_line(alloc: Global, script: &mut Script, words: &Words) -> Result<(), LineError>
-    ensures { TakesLine result script.new (switch_line script.old words.now) }
+fn switch_line<E: Scripted>(
+    alloc: Global,
+    script: &mut Script<E>,
+    words: &Words,
+) -> Result<(), LineError>
+    ensures { TakesLine result script.new (switch_line E.reading script.old words.now) }
 {
     let name = words.word(0);
     if name == b"strict".as_slice() {
@@ -70,8 +87,12 @@ fn switch_line(alloc: Global, script: &mut Script, words: &Words) -> Result<(), 
 
 /// A line that says something.
 #[tactic(auto, unfolding(crate::specs::Script::said_line))]
-fn said_line(alloc: Global, script: &mut Script, words: &Words) -> Result<(), LineError>
-    ensures { TakesLine result script.new (said_line script.old words.now) }
+fn said_line<E: Scripted>(
+    alloc: Global,
+    script: &mut Script<E>,
+    words: &Words,
+) -> Result<(), LineError>
+    ensures { TakesLine result script.new (said_line E.reading script.old words.now) }
 {
     if words.word(0) == b"rule".as_slice() {
         return read_rule(alloc, script, words);
@@ -84,13 +105,13 @@ fn said_line(alloc: Global, script: &mut Script, words: &Words) -> Result<(), Li
 
 /// What a script says with the line of these words more, which is text or isn't.
 #[tactic(auto, unfolding(crate::specs::Script::after_words))]
-fn after_words(
+fn after_words<E: Scripted>(
     alloc: Global,
-    script: &mut Script,
+    script: &mut Script<E>,
     text: bool,
     words: &Words,
 ) -> Result<(), LineError>
-    ensures { TakesLine result script.new (after_words script.old text words.now) }
+    ensures { TakesLine result script.new (after_words E.reading script.old text words.now) }
 {
     if says_nothing(words) {
         return Ok(());
@@ -102,8 +123,8 @@ fn after_words(
 }
 
 /// What a script says with one line more.
-fn after(alloc: Global, script: &mut Script, line: &[u8]) -> Result<(), LineError>
-    ensures { TakesLine result script.new (after_line script.old line.now) }
+fn after<E: Scripted>(alloc: Global, script: &mut Script<E>, line: &[u8]) -> Result<(), LineError>
+    ensures { TakesLine result script.new (after_line E.reading script.old line.now) }
 {
     let words = Words::of(alloc, line)?;
     after_words(alloc, script, is_text(line), &words)
@@ -111,9 +132,9 @@ fn after(alloc: Global, script: &mut Script, line: &[u8]) -> Result<(), LineErro
 
 /// What a text says, or its first bad line and the reason.
 #[tactic(auto, unfolding(crate::specs::Script::script))]
-pub fn read_script(alloc: Global, text: &[u8]) -> Result<Script, ScriptError>
+pub fn read_script<E: Scripted>(alloc: Global, text: &[u8]) -> Result<Script<E>, ScriptError>
     requires { length text.now < 2 ^ 40 }
-    ensures { ReadsScript result (script text.now) }
+    ensures { ReadsScript result (script E.reading text.now) }
 {
     let mut all = Script::new(alloc);
     let mut rest = text;

@@ -36,7 +36,11 @@ fn rule_of(alloc: Global, words: &Words) -> Result<Rule, LineError>
 
 /// A line `rule NAME|* ANSWER ..`.
 #[tactic(auto, unfolding(crate::specs::Script::rule_line))]
-pub fn read_rule(alloc: Global, script: &mut Script, words: &Words) -> Result<(), LineError>
+pub fn read_rule<E: Drop>(
+    alloc: Global,
+    script: &mut Script<E>,
+    words: &Words,
+) -> Result<(), LineError>
     ensures { TakesLine result script.new (rule_line script.old words.now) }
 {
     before_events(script)?;

@@ -8,8 +8,8 @@ use crate::rule::{Rule, Rules};
 use dns_base::Addrs;
 use dns_core::Settings;
 use dns_name::{IpAddr, OutOfMemory};
-use dns_service::{DgramConfig, Event, StreamConfig};
-use dns_trace::Reason;
+use dns_service::{DgramConfig, StreamConfig};
+use dns_trace::{Budget, Reason, with_budget};
 use std::alloc::Global;
 use std::marker::Model;
 
@@ -21,31 +21,32 @@ pub enum ScriptError {
     Refused { line: u64, reason: Reason },
 }
 
-/// The settings, the rules of the service and of the target, and the events.
+/// The settings, the rules of the service and of the target, and the events, or the steps.
 #[derive(Debug, Drop)]
-pub struct Script {
+pub struct Script<E> {
     strict: Option<bool>,
     edns: Option<bool>,
     secret: Option<[u8; 16]>,
     denied: Vec<IpAddr>,
     dgram: Option<DgramConfig>,
     stream: Option<StreamConfig>,
+    budget: Option<Budget>,
     rules: Rules,
     zones: NotifyRules,
-    events: Vec<Event>,
+    events: Vec<E>,
 }
 
-impl Model for Script {
+impl<E> Model for Script<E> {
     ghost use Rattle.dns_server.specs.Plan.{Plan};
 
-    ghost Value = { Plan };
+    ghost Value = { Plan E };
 
-    ghost view = { λ s. record { strict = s.strict; edns = s.edns; secret = s.secret; denied = s.denied.items; dgram = s.dgram; stream = s.stream; rules = s.rules; zones = s.zones; events = s.events.items } };
+    ghost view = { λ s. record { strict = s.strict; edns = s.edns; secret = s.secret; denied = s.denied.items; dgram = s.dgram; stream = s.stream; budget = s.budget; rules = s.rules; zones = s.zones; events = s.events.items } };
 }
 
-impl Script {
+impl<E: Drop> Script<E> {
     /// A script that says nothing.
-    pub fn new(alloc: Global) -> Script
+    pub fn new(alloc: Global) -> Script<E>
         ensures { result ≡ empty_plan }
     {
         Script {
@@ -55,6 +56,7 @@ impl Script {
             denied: Vec::new(alloc),
             dgram: None,
             stream: None,
+            budget: None,
             rules: Rules::from_vec(Vec::new(alloc)),
             zones: NotifyRules::new(alloc),
             events: Vec::new(alloc),
@@ -104,6 +106,13 @@ impl Script {
         self.stream = Some(stream);
     }
 
+    /// The budget of each connection.
+    pub fn set_budget(&mut self, budget: Budget)
+        ensures { self.new ≡ record self.old { budget = Some budget } }
+    {
+        self.budget = Some(budget);
+    }
+
     /// One rule of the service more.
     pub fn push_rule(&mut self, rule: Rule) -> Result<(), OutOfMemory>
         ensures { OnOk result (self.new ≡ record self.old { rules = self.old.rules ++ rule ∷ [] }) }
@@ -119,7 +128,7 @@ impl Script {
     }
 
     /// One event more.
-    pub fn push_event(&mut self, event: Event) -> Result<(), OutOfMemory>
+    pub fn push_event(&mut self, event: E) -> Result<(), OutOfMemory>
         ensures { OnOk result (self.new ≡ record self.old { events = self.old.events ++ event ∷ [] }) }
     {
         self.events.push(event)?;
@@ -161,15 +170,22 @@ impl Script {
         self.stream
     }
 
+    /// The budget of each connection, where it is said.
+    pub fn budget(&self) -> Option<Budget>
+        ensures { result ≡ self.now.budget }
+    {
+        self.budget
+    }
+
     /// The events.
-    pub fn events(&self) -> &[Event]
+    pub fn events(&self) -> &[E]
         ensures { result.now ≡ self.now.events }
     {
         self.events.as_slice()
     }
 
     /// The settings, the rules of the service and of the target, and the events.
-    pub fn into_parts(self) -> (Settings, Rules, NotifyRules, Vec<Event>)
+    pub fn into_parts(self) -> (Settings, Rules, NotifyRules, Vec<E>)
         ensures settings { result.0 ≡ settings_of self }
         ensures rules { result.1 ≡ self.rules }
         ensures zones { result.2 ≡ self.zones }
@@ -182,6 +198,7 @@ impl Script {
             denied,
             dgram,
             stream,
+            budget,
             rules,
             zones,
             events,
@@ -192,7 +209,7 @@ impl Script {
             cookies: secret,
             denied: Addrs::from_vec(denied),
             dgram: dgram.unwrap_or(DgramConfig::new()),
-            stream: stream.unwrap_or(StreamConfig::new()),
+            stream: with_budget(budget, stream.unwrap_or(StreamConfig::new())),
         };
         (settings, rules, zones, events)
     }

@@ -7,12 +7,13 @@ use std::process::ExitCode;
 use std::{env, io};
 
 const HELP: &str = "\
-Usage: nutscythe replay < SCRIPT, or flood SEED COUNT, or --help, or --version
+Usage: nutscythe replay|steps < SCRIPT, or flood SEED COUNT, --help, --version
 replay reads a script, serves its events by its rules, writes a line for each
-output; flood makes COUNT events, at most 4000000, and writes how much is sent.
-
+output; in steps a client hears of the server's changes only at its lines look
+AT SECS CLIENT; flood writes how much is sent for COUNT events, to 4000000.
 strict yes|no, edns yes|no   settings, once; secret HEX   of cookies; deny ADDR
 dgram none|SIZE WRITE, stream IDLE WRITE QUEUE LIMIT yes|no   the two servers
+budget none|COUNT WINDOW   how many replies a connection queues in WINDOW ms
 rule NAME|* ANSWER ..   a request's polls: pend, rcode:0 to 15, blank:0 to 15,
            fill:LEN, opt:LEN, an error (formerr, servfail, notimp, refused), or
            begin, end, idle:MS, alone or with + before one of the four replies
@@ -23,10 +24,9 @@ piece AT SECS CLIENT HEX               octets of its stream came
 turn AT SECS CLIENT REQUEST            a request, from number 0, is polled once
 write AT SECS CLIENT TOOK              its front frame is written, in TOOK ms
 tick, end, fault, close, release, each AT SECS CLIENT   of a connection
-reconfigure AT SECS .., shutdown AT SECS   all hear it; .. as dgram and stream
+reconfigure AT SECS .., shutdown AT SECS   all hear; as dgram, stream, budget
 What is above datagram stands before all events. Numbers are decimal, ADDR a
 dotted quad or 32 hex digits, HEX pairs of digits or -. docs/scripts.md has all.
-
 Written are datagram CLIENT HEX, frame CLIENT HEX (with its length in front),
 closed CLIENT WHY and turned CLIENT yes|no, or for what is no script the one
 line refused LINE REASON. Exit status: 0 done, 2 faulty command line, 3 refused,
@@ -36,7 +36,7 @@ line refused LINE REASON. Exit status: 0 done, 2 faulty command line, 3 refused,
 const VERSION: &str = "nutscythe 0.1.0\n";
 
 const USAGE: &str =
-    "usage: nutscythe replay < SCRIPT, nutscythe flood SEED COUNT, nutscythe --help or --version";
+    "usage: nutscythe replay|steps < SCRIPT, nutscythe flood SEED COUNT, nutscythe --help or --version";
 
 /// Prints a text, and says how that went.
 fn printed(rt: &impl Print, text: &str) -> ExitCode {

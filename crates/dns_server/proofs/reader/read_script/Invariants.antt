@@ -4,10 +4,10 @@ use Rattle.dns_server.specs.Script.{script, after_lines}
 use Rattle.dns_server.proofs.reader.read_script.Given as goal
 
 abbrev pub invariant-loop-rest : goal.invariant-loop-rest
-invariant-loop-rest l = record {
-  told : after_lines l.line l.all (lines l.rest) ≡ script l.text;
+invariant-loop-rest g l = record {
+  told : after_lines g.E.Scripted.reading l.line l.all (lines l.rest) ≡ script g.E.Scripted.reading l.text;
   few : l.line + length l.rest ≤ length l.text + 1;
 }
 
 abbrev pub decreases-loop-rest : goal.decreases-loop-rest
-decreases-loop-rest l = length l.rest
+decreases-loop-rest g l = length l.rest
