@@ -33,12 +33,22 @@ fn with_cookies(call: &str, row: &mut Row<'_>) -> Result<(), RowError> {
     let second = row.number::<u64>();
     let denied = denied(row)?;
     let mut request = request_from(row, address, second)?;
-    let item = item(row, &request)?;
-    let service = service_fn::<AsPlanned, _, _>(planned, item);
-    let layer = CookiesMiddlewareSvc::new(row.alloc(), service, secret).with_denied_ips(denied);
+    asked_with(call, row, &secret, denied, &mut request)
+}
+
+/// The same of a request.
+fn asked_with(
+    call: &str,
+    row: &mut Row<'_>,
+    secret: &[u8; 16],
+    denied: Vec<IpAddr>,
+    request: &mut Request<()>,
+) -> Result<(), RowError> {
+    let service = service_fn::<AsPlanned, _, _>(planned, item(row, request)?);
+    let layer = CookiesMiddlewareSvc::new(row.alloc(), service, *secret).with_denied_ips(denied);
     match call {
-        "made_cookies" => made(row, &layer, &mut request, &secret),
-        _ => only_item(row, &layer.enable(call == "cookies"), &mut request),
+        "made_cookies" => made(row, &layer, request, secret),
+        _ => only_item(row, &layer.enable(call == "cookies"), request),
     }
 }
 
@@ -47,9 +57,15 @@ fn denied(row: &mut Row<'_>) -> Result<Vec<IpAddr>, RowError> {
     let mut denied = Vec::new(row.alloc());
     let word = row.word();
     if word != "-" {
-        denied.push(address_of(word)?)?;
+        push_address(&mut denied, word)?;
     }
     Ok(denied)
+}
+
+/// Appends the address of a word.
+fn push_address(addresses: &mut Vec<IpAddr>, word: &str) -> Result<(), RowError> {
+    let address = address_of(word)?;
+    Ok(addresses.push(address)?)
 }
 
 /// How many cookies the reply has that a service gives to a request, and how many of them check for the sender under a
@@ -64,6 +80,15 @@ fn made<S: Service<()>>(
 {
     let address = request.client_addr().ip;
     let mut future = service.call(row.alloc(), request)?;
+    stream_said(row, &mut future, address, secret)
+}
+
+fn stream_said<F: ReplyFuture>(
+    row: &mut Row<'_>,
+    future: &mut F,
+    address: IpAddr,
+    secret: &[u8; 16],
+) -> Result<(), RowError> {
     match future.poll(row.alloc())? {
         Polled::Ready(mut stream) => first_said(row, &mut stream, address, secret),
         Polled::Pending => Err(RowError::Missing),
@@ -103,8 +128,19 @@ fn cookies_said(
     address: IpAddr,
     secret: &[u8; 16],
 ) -> Result<(), RowError> {
-    let reply = given.response().ok_or(RowError::Missing)?;
-    let message = MessageRef::from_slice(reply.as_slice()).or(Err(RowError::OutOfForm))?;
+    match given.response() {
+        Some(reply) => reply_said(row, reply.as_slice(), address, secret),
+        None => Err(RowError::Missing),
+    }
+}
+
+fn reply_said(
+    row: &mut Row<'_>,
+    reply: &[u8],
+    address: IpAddr,
+    secret: &[u8; 16],
+) -> Result<(), RowError> {
+    let message = MessageRef::from_slice(reply).or(Err(RowError::OutOfForm))?;
     match message.opt() {
         Some(record) => count_said(row, record.opt(), address, secret),
         None => row.say("no record"),

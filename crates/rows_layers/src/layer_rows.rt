@@ -27,19 +27,49 @@ impl Calls for LayerRows {
 /// A reply is cut to so many octets: its limit and its octets.
 fn cut_reply(row: &mut Row<'_>) -> Result<(), RowError> {
     let mut message = next_reply(row)?;
-    cut(row.alloc(), &mut message, row.number())?;
+    cut_said(row, &mut message)
+}
+
+/// The same of a reply.
+fn cut_said(row: &mut Row<'_>, message: &mut AdditionalBuilder) -> Result<(), RowError> {
+    cut(row.alloc(), message, row.number())?;
     row.show(&message.push_limit());
     row.hexadecimal(message.as_slice());
     Ok(())
 }
 
+/// The layers that a call names, or the hint that the EDNS layer leaves.
+#[derive(Clone, Copy)]
+enum Layers {
+    Mandatory { strict: bool },
+    Edns { enabled: bool },
+    Both { strict: bool },
+    Hint,
+}
+
+impl Layers {
+    fn named(call: &str) -> Result<Layers, RowError> {
+        match call {
+            "mandatory" => Ok(Layers::Mandatory { strict: true }),
+            "mandatory_relaxed" => Ok(Layers::Mandatory { strict: false }),
+            "edns" => Ok(Layers::Edns { enabled: true }),
+            "edns_disabled" => Ok(Layers::Edns { enabled: false }),
+            "both" => Ok(Layers::Both { strict: true }),
+            "both_relaxed" => Ok(Layers::Both { strict: false }),
+            "edns_hint" => Ok(Layers::Hint),
+            _ => Err(RowError::NoSuchCall),
+        }
+    }
+}
+
 /// A request through layers to a service that answers with the item behind it.
 fn layered(call: &str, row: &mut Row<'_>) -> Result<(), RowError> {
+    let layers = Layers::named(call)?;
     let mut request = request(row)?;
     let item = item(row, &request)?;
     through(
-        call,
         row,
+        layers,
         service_fn::<AsPlanned, _, _>(planned, item),
         &mut request,
     )
@@ -60,10 +90,7 @@ fn item_reply(
     word: &str,
 ) -> Result<AdditionalBuilder, RowError> {
     match word.strip_prefix("rcode:") {
-        Some(number) => {
-            let rcode = opt_rcode(row.number_of(number))?;
-            Ok(mk_error_response(row.alloc(), request.message(), rcode)?)
-        }
+        Some(number) => error_reply(row, request, number),
         None => {
             let octets = row.octets_of(word);
             reply(row, octets)
@@ -71,30 +98,46 @@ fn item_reply(
     }
 }
 
-/// Through the layers that the call names.
-fn through<S: Service<()>>(
-    call: &str,
+/// The error reply to a request with the response code of a number.
+fn error_reply(
     row: &mut Row<'_>,
+    request: &Request<()>,
+    number: &str,
+) -> Result<AdditionalBuilder, RowError> {
+    let rcode = opt_rcode(row.number_of(number))?;
+    Ok(mk_error_response(row.alloc(), request.message(), rcode)?)
+}
+
+/// Through layers.
+fn through<S: Service<()>>(
+    row: &mut Row<'_>,
+    layers: Layers,
     service: S,
     request: &mut Request<()>,
 ) -> Result<(), RowError>
     requires { S.can_call service }
 {
-    match call {
-        "mandatory" | "mandatory_relaxed" => {
-            in_mandatory(row, call == "mandatory", service, request)
+    match layers {
+        Layers::Mandatory { strict } => in_mandatory(row, strict, service, request),
+        Layers::Edns { enabled } => in_edns(row, enabled, service, request),
+        Layers::Both { strict } => {
+            in_mandatory(row, strict, EdnsMiddlewareSvc::new(service), request)
         }
-        "both" | "both_relaxed" => {
-            let service = EdnsMiddlewareSvc::new(service);
-            in_mandatory(row, call == "both", service, request)
-        }
-        "edns" | "edns_disabled" => {
-            let service = EdnsMiddlewareSvc::new(service);
-            only_item(row, &service.enable(call == "edns"), request)
-        }
-        "edns_hint" => hint_after(row, &EdnsMiddlewareSvc::new(service), request),
-        _ => Err(RowError::NoSuchCall),
+        Layers::Hint => hint_after(row, &EdnsMiddlewareSvc::new(service), request),
     }
+}
+
+/// Through the EDNS layer.
+fn in_edns<S: Service<()>>(
+    row: &mut Row<'_>,
+    enabled: bool,
+    service: S,
+    request: &mut Request<()>,
+) -> Result<(), RowError>
+    requires { S.can_call service }
+{
+    let layer = EdnsMiddlewareSvc::new(service).enable(enabled);
+    only_item(row, &layer, request)
 }
 
 /// Through the mandatory layer.
@@ -135,16 +178,34 @@ pub(crate) fn only_item<S: Service<()>>(
     requires { S.can_call service.now }
 {
     let mut future = service.call(row.alloc(), request)?;
+    only_stream(row, &mut future)
+}
+
+fn only_stream<F: ReplyFuture>(row: &mut Row<'_>, future: &mut F) -> Result<(), RowError> {
     match future.poll(row.alloc())? {
-        Polled::Ready(mut stream) => only_answer(row, &mut stream)?,
-        Polled::Pending => row.say("no stream"),
+        Polled::Ready(stream) => only_answer(row, stream),
+        Polled::Pending => {
+            row.say("no stream");
+            Ok(())
+        }
     }
+}
+
+fn only_answer<S: ReplyStream>(row: &mut Row<'_>, stream: S) -> Result<(), RowError> {
+    let mut stream = stream;
+    next_answer(row, &mut stream)?;
+    next_end(row, &mut stream)
+}
+
+fn next_answer<S: ReplyStream>(row: &mut Row<'_>, stream: &mut S) -> Result<(), RowError> {
+    let polled = stream.poll_next(row.alloc())?;
+    answer_said(row, polled);
     Ok(())
 }
 
-fn only_answer<S: ReplyStream>(row: &mut Row<'_>, stream: &mut S) -> Result<(), RowError> {
-    answer_said(row, stream.poll_next(row.alloc())?);
-    end_said(row, &stream.poll_next(row.alloc())?);
+fn next_end<S: ReplyStream>(row: &mut Row<'_>, stream: &mut S) -> Result<(), RowError> {
+    let polled = stream.poll_next(row.alloc())?;
+    end_said(row, polled);
     Ok(())
 }
 
@@ -156,7 +217,7 @@ fn answer_said(row: &mut Row<'_>, polled: Polled<Option<ServiceResult>>) {
 }
 
 /// Says where a stream doesn't end.
-fn end_said(row: &mut Row<'_>, polled: &Polled<Option<ServiceResult>>) {
+fn end_said(row: &mut Row<'_>, polled: Polled<Option<ServiceResult>>) {
     match polled {
         Polled::Ready(None) => {}
         _ => row.say("no end"),

@@ -26,12 +26,21 @@ fn notified(row: &mut Row<'_>) -> Result<(), RowError> {
     let polls = row.number::<u8>();
     let target = Target::next(row)?;
     let mut request = request(row)?;
-    let item = item(row, &request)?;
-    let service = service_fn::<AsPlanned, _, _>(planned, item);
+    asked_with(row, target, &mut request, polls)
+}
+
+/// The same of a request.
+fn asked_with(
+    row: &mut Row<'_>,
+    target: Target,
+    request: &mut Request<()>,
+    polls: u8,
+) -> Result<(), RowError> {
+    let service = service_fn::<AsPlanned, _, _>(planned, item(row, request)?);
     some_polls(
         row,
         &NotifyMiddlewareSvc::new(service, target),
-        &mut request,
+        request,
         polls,
     )
 }
@@ -46,6 +55,14 @@ pub(crate) fn some_polls<S: Service<()>>(
     requires { S.can_call service.now }
 {
     let mut future = service.call(row.alloc(), request)?;
+    future_polls(row, &mut future, polls)
+}
+
+fn future_polls<F: ReplyFuture>(
+    row: &mut Row<'_>,
+    future: &mut F,
+    polls: u8,
+) -> Result<(), RowError> {
     match future.poll(row.alloc())? {
         Polled::Ready(mut stream) => polled(row, &mut stream, polls),
         Polled::Pending => row.say("no stream"),

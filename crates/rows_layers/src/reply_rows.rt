@@ -4,7 +4,7 @@ ghost use Rattle.std.specs.Prelude.{IfSome};
 ghost use Rattle.dns_base.specs.Records.{IsLawful};
 
 use crate::words::{message, opt_rcode};
-use dns_base::{AdditionalBuilder, Record, RecordData};
+use dns_base::{AdditionalBuilder, Message, Record, RecordData};
 use dns_name::{BuildDataError, Class, Name, OptRcode, Ttl};
 use dns_opt::{AllOptData, BuildOpt, MessageOpt, NsidRef, OptBuilder, OptRecordRef};
 use dns_service::{
@@ -39,8 +39,12 @@ fn empty(row: &mut Row<'_>) -> Result<(), RowError> {
 /// The error reply to a message with a response code.
 fn error_reply(row: &mut Row<'_>) -> Result<AdditionalBuilder, RowError> {
     let query = message(row)?;
+    error_reply_to(row, &query)
+}
+
+fn error_reply_to(row: &mut Row<'_>, query: &Message) -> Result<AdditionalBuilder, RowError> {
     let rcode = opt_rcode(row.number())?;
-    Ok(mk_error_response(row.alloc(), &query, rcode)?)
+    Ok(mk_error_response(row.alloc(), query, rcode)?)
 }
 
 /// Its push limit and its octets.
@@ -54,15 +58,23 @@ fn error_response(row: &mut Row<'_>) -> Result<(), RowError> {
 /// The error reply as a call's result holds it after steps: its octets.
 fn response_mut(row: &mut Row<'_>) -> Result<(), RowError> {
     let mut result = CallResult::new(error_reply(row)?);
-    match result.response_mut() {
+    response_stepped(row, &mut result);
+    response_said(row, &result);
+    Ok(())
+}
+
+fn response_stepped(row: &mut Row<'_>, given: &mut CallResult) {
+    match given.response_mut() {
         Some(reply) => steps_taken(row, reply),
         None => row.fail(RowError::Missing),
     }
-    match result.response() {
+}
+
+fn response_said(row: &mut Row<'_>, given: &CallResult) {
+    match given.response() {
         Some(reply) => row.hexadecimal(reply.as_slice()),
         None => row.fail(RowError::Missing),
     }
-    Ok(())
 }
 
 /// The empty message after steps.
@@ -115,10 +127,14 @@ fn readable(opt: &OptRecordRef<'_>) -> usize {
 /// Takes the steps of the next word, which commas part, and says the refusals.
 fn steps_taken(row: &mut Row<'_>, reply: &mut AdditionalBuilder) {
     for step in row.word().split(',') {
-        let (name, argument) = step.split_once(':').unwrap_or((step, "0"));
-        if let Err(error) = step_taken(row, reply, name, argument) {
-            row.debug(&error);
-        }
+        step_said(row, reply, step);
+    }
+}
+
+fn step_said(row: &mut Row<'_>, reply: &mut AdditionalBuilder, step: &str) {
+    let (name, argument) = step.split_once(':').unwrap_or((step, "0"));
+    if let Err(error) = step_taken(row, reply, name, argument) {
+        row.debug(&error);
     }
 }
 
@@ -132,12 +148,16 @@ fn step_taken(
     match name {
         "nsid" => option_added(row, reply, argument),
         "address" => address_pushed(row.alloc(), reply),
-        "remove" => Ok(remove_edns_opt_record(row.alloc(), reply)?),
+        "remove" => opt_removed(row.alloc(), reply),
         _ => {
             let number = row.number_of(argument);
             number_step(row, reply, name, number)
         }
     }
+}
+
+fn opt_removed(alloc: Global, reply: &mut AdditionalBuilder) -> Result<(), BuildDataError> {
+    Ok(remove_edns_opt_record(alloc, reply)?)
 }
 
 /// A step with a number: an OPT record of this size and with the code BADCOOKIE, an OPT record with padding, padding
@@ -149,11 +169,9 @@ fn number_step(
     number: u16,
 ) -> Result<(), BuildDataError> {
     let alloc = row.alloc();
-    let padding = |opt: &mut OptBuilder| opt.padding(alloc, number);
     match name {
         "opt" => reply.opt(alloc, |opt: &mut OptBuilder| sized(opt, number)),
-        "padding" => reply.opt(alloc, padding),
-        "add_padding" => add_edns_options(alloc, reply, padding),
+        "padding" | "add_padding" => padded(alloc, reply, name == "padding", number),
         "limit" => {
             reply.set_push_limit(usize::from(number));
             Ok(())
@@ -162,6 +180,21 @@ fn number_step(
             row.fail(RowError::NoSuchStep);
             Ok(())
         }
+    }
+}
+
+/// An OPT record with padding, or padding that is added.
+fn padded(
+    alloc: Global,
+    reply: &mut AdditionalBuilder,
+    alone: bool,
+    number: u16,
+) -> Result<(), BuildDataError> {
+    let padding = |opt: &mut OptBuilder| opt.padding(alloc, number);
+    if alone {
+        reply.opt(alloc, padding)
+    } else {
+        add_edns_options(alloc, reply, padding)
     }
 }
 
@@ -185,10 +218,20 @@ fn option_added(
 
 /// Pushes the root's address.
 fn address_pushed(alloc: Global, reply: &mut AdditionalBuilder) -> Result<(), BuildDataError> {
-    let Some(record) = address(alloc) else {
-        return Err(BuildDataError::OutOfMemory);
-    };
-    Ok(reply.push(alloc, &record)?)
+    match address(alloc) {
+        Some(item) => record_pushed(alloc, reply, item),
+        None => Err(BuildDataError::OutOfMemory),
+    }
+}
+
+fn record_pushed(
+    alloc: Global,
+    reply: &mut AdditionalBuilder,
+    item: Record,
+) -> Result<(), BuildDataError>
+    requires { IsLawful item.rdata }
+{
+    Ok(reply.push(alloc, &item)?)
 }
 
 fn address(alloc: Global) -> Option<Record>

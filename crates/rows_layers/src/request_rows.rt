@@ -52,25 +52,39 @@ fn transport(row: &mut Row<'_>) -> Result<TransportSpecificContext, RowError> {
 /// The address, the port, the moment, the second, the octets of the message and how many octets are reserved.
 fn parts(row: &mut Row<'_>) -> Result<(), RowError> {
     let request = request(row)?;
+    sender_said(row, &request);
+    row.hexadecimal(request.message().as_slice());
+    row.show(&request.num_reserved_bytes());
+    Ok(())
+}
+
+/// The address, the port, the moment and the second.
+fn sender_said(row: &mut Row<'_>, request: &Request<()>) {
     let sender = request.client_addr();
     row.show(&sender.ip);
     row.show(&sender.port);
     row.show(&request.received_at());
-    row.show(&request.received_secs());
-    row.hexadecimal(request.message().as_slice());
-    row.show(&request.num_reserved_bytes());
-    Ok(())
+    row.show(&request.received_secs())
 }
 
 /// Octets are reserved, and the copy gets other metadata: these, the copy's octets and how many it has reserved.
 fn copy(row: &mut Row<'_>) -> Result<(), RowError> {
     let mut request = request(row)?;
     request.reserve_bytes(row.number());
+    copied(row, &request)
+}
+
+/// A copy of a request with other metadata.
+fn copied(row: &mut Row<'_>, request: &Request<()>) -> Result<(), RowError> {
     let copy = request.try_clone(row.alloc(), row.number::<u8>())?;
+    copy_said(row, &copy);
+    Ok(())
+}
+
+fn copy_said(row: &mut Row<'_>, copy: &Request<u8>) {
     row.show(copy.metadata());
     row.hexadecimal(copy.message().as_slice());
-    row.show(&copy.num_reserved_bytes());
-    Ok(())
+    row.show(&copy.num_reserved_bytes())
 }
 
 fn other_metadata(row: &mut Row<'_>) -> Result<(), RowError> {

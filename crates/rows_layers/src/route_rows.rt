@@ -36,6 +36,10 @@ fn sent(row: &mut Row<'_>, asked: RequestMessage, steps: &str) {
     for step in steps.split(',') {
         request_step(row, &mut asked, step);
     }
+    sent_said(row, &asked)
+}
+
+fn sent_said(row: &mut Row<'_>, asked: &RequestMessage) {
     match asked.to_message(row.alloc()) {
         Ok(sent) => {
             row.show(&asked.dnssec_ok());
@@ -50,13 +54,16 @@ fn request_step(row: &mut Row<'_>, asked: &mut RequestMessage, step: &str) {
     match step.split_once(':') {
         None => {}
         Some(("dnssec_ok", value)) => asked.set_dnssec_ok(value == "true"),
-        Some((_, octets)) => {
-            let octets = row.octets_of(octets);
-            match NsidRef::from_slice(octets) {
-                Ok(identifier) => row.keep(asked.add_opt(row.alloc(), &identifier)),
-                Err(_) => row.fail(RowError::OutOfForm),
-            }
-        }
+        Some((_, octets)) => identifier_asked(row, asked, octets),
+    }
+}
+
+/// Adds an NSID.
+fn identifier_asked(row: &mut Row<'_>, asked: &mut RequestMessage, octets: &str) {
+    let octets = row.octets_of(octets);
+    match NsidRef::from_slice(octets) {
+        Ok(identifier) => row.keep(asked.add_opt(row.alloc(), &identifier)),
+        Err(_) => row.fail(RowError::OutOfForm),
     }
 }
 
@@ -76,6 +83,10 @@ fn composed(row: &mut Row<'_>, reply: ReplyMessage, added: &[u8]) {
     if !added.is_empty() {
         identifier_added(row, &mut reply, added);
     }
+    composed_said(row, &reply)
+}
+
+fn composed_said(row: &mut Row<'_>, reply: &ReplyMessage) {
     match reply.additional_builder_stream_target(row.alloc()) {
         Ok(built) => row.hexadecimal(built.as_slice()),
         Err(error) => row.debug(&error),
@@ -93,14 +104,25 @@ fn identifier_added(row: &mut Row<'_>, reply: &mut ReplyMessage, octets: &[u8]) 
 /// The copy of a message with QR set, built.
 fn copied_message(row: &mut Row<'_>) -> Result<(), RowError> {
     let source = message_ref(row)?;
-    let copied = CopiedMessage::read(row.alloc(), &source);
-    let mut copied = copied.or(Err(RowError::OutOfForm))?;
+    match CopiedMessage::read(row.alloc(), &source) {
+        Ok(copied) => response_built(row, copied),
+        Err(_) => row.fail(RowError::OutOfForm),
+    }
+    Ok(())
+}
+
+/// A message with QR set, built.
+fn response_built(row: &mut Row<'_>, copied: CopiedMessage) {
+    let mut copied = copied;
     let mut header = copied.header();
     header.set_qr(true);
     copied.set_header(header);
+    copy_said(row, &copied)
+}
+
+fn copy_said(row: &mut Row<'_>, copied: &CopiedMessage) {
     match copied.build(row.alloc(), None) {
         Ok(built) => row.hexadecimal(built.as_slice()),
         Err(error) => row.debug(&error),
     }
-    Ok(())
 }

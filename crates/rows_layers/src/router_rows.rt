@@ -85,14 +85,29 @@ fn copy(alloc: Global, message: &Message) -> Result<Message, OutOfMemory>
 /// What a router says at turn 0: the next word has its names, each with the error that its service gives, `-` for none.
 fn router(row: &mut Row<'_>) -> Result<(), RowError> {
     let names = row.word();
-    let request = request(row)?;
     let mut router = QnameRouter::new(row.alloc());
+    add_all(row, &mut router, names)?;
+    asked_at(row, &router, 0)
+}
+
+/// Adds the names of a word.
+fn add_all(
+    row: &mut Row<'_>,
+    router: &mut QnameRouter<Refusing>,
+    names: &str,
+) -> Result<(), RowError> {
     for route in names.split(',') {
         if let Some((name, error)) = route.split_once(':') {
-            add(row, &mut router, name, error)?;
+            add(row, router, name, error)?;
         }
     }
-    turn_said(row, &router, &request, 0)
+    Ok(())
+}
+
+/// What a single service says at a turn of the request of the next words.
+fn asked_at<S: SingleService>(row: &mut Row<'_>, service: &S, k: u64) -> Result<(), RowError> {
+    let request = request(row)?;
+    turn_said(row, service, &request, k)
 }
 
 fn add(
@@ -101,11 +116,10 @@ fn add(
     name: &str,
     error: &str,
 ) -> Result<(), RowError> {
+    let error = service_error(error).ok_or(RowError::OutOfForm)?;
     let octets = row.octets_of(name);
     let name = Name::from_octets(row.copied(octets)).or(Err(RowError::OutOfForm))?;
-    let error = service_error(error).ok_or(RowError::OutOfForm)?;
-    router.add(row.alloc(), name, Refusing { error })?;
-    Ok(())
+    Ok(router.add(row.alloc(), name, Refusing { error })?)
 }
 
 /// What a single service says at a turn.
@@ -117,10 +131,17 @@ fn turn_said<S: SingleService>(
 ) -> Result<(), RowError> {
     match service.turn(row.alloc(), request, k)? {
         Polled::Pending => row.say("pending"),
-        Polled::Ready(Ok(reply)) => built_said(row, &reply),
-        Polled::Ready(Err(error)) => row.debug(&error),
+        Polled::Ready(turned) => turned_said(row, turned),
     }
     Ok(())
+}
+
+/// A reply or an error.
+fn turned_said(row: &mut Row<'_>, turned: Result<ReplyMessage, ServiceError>) {
+    match turned {
+        Ok(reply) => built_said(row, &reply),
+        Err(error) => row.debug(&error),
+    }
 }
 
 /// The octets of a reply, or why it can't be built.
@@ -170,41 +191,58 @@ fn next_transport(row: &mut Row<'_>) -> Result<Planned, RowError> {
 fn transport(row: &mut Row<'_>) -> Result<(), RowError> {
     let k = row.number();
     let conn = next_transport(row)?;
-    let request = request(row)?;
-    turn_said(row, &ClientTransportToSingleService::new(conn), &request, k)
+    asked_at(row, &ClientTransportToSingleService::new(conn), k)
 }
 
 /// The same over the transport in a box.
 fn boxed_transport(row: &mut Row<'_>) -> Result<(), RowError> {
     let k = row.number();
     let conn = next_transport(row)?;
-    let request = request(row)?;
+    boxed(row, conn, k)
+}
+
+/// The same of a transport.
+fn boxed(row: &mut Row<'_>, conn: Planned, k: u64) -> Result<(), RowError> {
     let conn: Box<dyn SendRequest + Send + Sync> = Box::new(row.alloc(), conn).or(Err(
         RowError::OutOfMemory,
     ))?;
-    turn_said(
-        row,
-        &BoxClientTransportToSingleService::new(conn),
-        &request,
-        k,
-    )
+    asked_at(row, &BoxClientTransportToSingleService::new(conn), k)
 }
 
 /// What a service over such a single service says at four polls at most, up to the end.
 fn to_service(row: &mut Row<'_>) -> Result<(), RowError> {
     let conn = next_transport(row)?;
     let mut request = request(row)?;
-    let service = Arc::new(row.alloc(), ClientTransportToSingleService::new(conn))?;
-    let mut future = SingleServiceToService::new(service).call(row.alloc(), &mut request)?;
+    over_single(row, ClientTransportToSingleService::new(conn), &mut request)
+}
+
+/// The same over a single service.
+fn over_single<S: SingleService>(
+    row: &mut Row<'_>,
+    single: S,
+    request: &mut Request<()>,
+) -> Result<(), RowError> {
+    let service = SingleServiceToService::new(Arc::new(row.alloc(), single)?);
+    let mut future = service.call(row.alloc(), request)?;
+    four_polls(row, &mut future)
+}
+
+/// What a future says at four polls at most, and then its stream.
+fn four_polls<F: ReplyFuture>(row: &mut Row<'_>, future: &mut F) -> Result<(), RowError> {
     for _ in 0..4 {
         match future.poll(row.alloc())? {
             Polled::Pending => row.say("pending"),
             Polled::Ready(mut stream) => {
-                poll_said(row, stream.poll_next(row.alloc()));
-                poll_said(row, stream.poll_next(row.alloc()));
+                two_polls(row, &mut stream);
                 return Ok(());
             }
         }
     }
     Ok(())
+}
+
+/// What a stream says at two polls.
+fn two_polls<S: ReplyStream>(row: &mut Row<'_>, stream: &mut S) {
+    poll_said(row, stream.poll_next(row.alloc()));
+    poll_said(row, stream.poll_next(row.alloc()))
 }

@@ -81,34 +81,38 @@ impl Calls for ServiceRows {
 
 /// What the silent service gives as a shared one.
 fn served(row: &mut Row<'_>) -> Result<(), RowError> {
-    let mut request = request(row)?;
     let shared = Arc::new(row.alloc(), Plainly { service: Silent {} })?;
-    let mut future = Served::call(&shared, row.alloc(), &mut request)?;
+    served_by(row, &shared)
+}
+
+fn served_by(row: &mut Row<'_>, shared: &Arc<Plainly<Silent>>) -> Result<(), RowError> {
+    let mut request = request(row)?;
+    let mut future = Served::call(shared, row.alloc(), &mut request)?;
     future_said(row, &mut future)
 }
 
 /// What the silent service gives as a service behind a shared reference.
 fn of_arc(row: &mut Row<'_>) -> Result<(), RowError> {
     let shared = Arc::new(row.alloc(), Silent {})?;
-    answered(row, &shared)
+    answered(row, &shared)?;
+    Ok(())
 }
 
-/// What a service gives to the request of the next words.
-fn answered<S: Service<()>>(row: &mut Row<'_>, service: &S) -> Result<(), RowError>
+/// What a service gives to the request of the next words, which is handed back.
+fn answered<S: Service<()>>(row: &mut Row<'_>, service: &S) -> Result<Request<()>, RowError>
     requires { S.can_call service.now }
 {
     let mut request = request(row)?;
     let mut future = service.call(row.alloc(), &mut request)?;
-    future_said(row, &mut future)
+    future_said(row, &mut future)?;
+    Ok(request)
 }
 
 /// What a service of a closure gives that answers with this error.
 fn of_closure(row: &mut Row<'_>) -> Result<(), RowError> {
     let error = next_error(row)?;
-    let mut request = request(row)?;
     let service = service_fn::<AsPlanned, _, _>(planned, Err(error));
-    let mut future = service.call(row.alloc(), &mut request)?;
-    future_said(row, &mut future)?;
+    let request = answered(row, &service)?;
     row.close(", reserved");
     row.show(&request.num_reserved_bytes());
     Ok(())
@@ -129,6 +133,10 @@ fn future_said<F: ReplyFuture>(row: &mut Row<'_>, future: &mut F) -> Result<(), 
         Polled::Ready(mut stream) => stream_said(row, &mut stream),
         Polled::Pending => row.say("pending"),
     }
+    afterwards_said(row, future)
+}
+
+fn afterwards_said<F: ReplyFuture>(row: &mut Row<'_>, future: &mut F) -> Result<(), RowError> {
     match future.poll(row.alloc())? {
         Polled::Ready(_) => row.close(", then ready"),
         Polled::Pending => row.close(", then pending"),

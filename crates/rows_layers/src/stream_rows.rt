@@ -4,7 +4,7 @@ use crate::error_rows::next_error;
 use crate::request_rows::request;
 use crate::said::{poll_said, size_said};
 use crate::slow::{Later, SameError, Slow};
-use dns_service::{CallResult, ReplyStream, ServiceError, ServiceFeedback};
+use dns_service::{CallResult, ReplyStream, Request, ServiceError, ServiceFeedback};
 use dns_stream::{MiddlewareStream, Once, PostprocessingStream};
 use rows_table::{Calls, Row, RowError, pages};
 use std::alloc::Global;
@@ -34,14 +34,19 @@ impl Calls for StreamRows {
 fn watched(row: &mut Row<'_>, sizes: bool) -> Result<(), RowError> {
     let kind = row.word();
     let error = next_error(row)?;
-    let stream: Layered = match kind {
-        "IdentityFuture" => MiddlewareStream::IdentityFuture(later(error)),
-        "IdentityStream" => MiddlewareStream::IdentityStream(slow(error)),
-        "Map" => MiddlewareStream::Map(mapped(row.alloc(), error)?),
-        "Result" => MiddlewareStream::Result(feedback()),
-        _ => return Err(RowError::OutOfForm),
-    };
+    let stream = layered(row.alloc(), kind, error)?;
     shown(row, stream, sizes)
+}
+
+/// A stream of a kind, round an item of an error.
+fn layered(alloc: Global, kind: &str, error: ServiceError) -> Result<Layered, RowError> {
+    match kind {
+        "IdentityFuture" => Ok(MiddlewareStream::IdentityFuture(later(error))),
+        "IdentityStream" => Ok(MiddlewareStream::IdentityStream(slow(error))),
+        "Map" => Ok(MiddlewareStream::Map(mapped(alloc, error)?)),
+        "Result" => Ok(MiddlewareStream::Result(feedback())),
+        _ => Err(RowError::OutOfForm),
+    }
 }
 
 /// The sizes that a stream tells as it is polled so many times, or what these polls answer.
@@ -73,10 +78,14 @@ fn mapped(
     alloc: Global,
     error: ServiceError,
 ) -> Result<PostprocessingStream<Later<Slow>, (), SameError>, RowError> {
+    let request = plain_request(alloc)?;
+    Ok(PostprocessingStream::new(later(error), request, SameError {}))
+}
+
+fn plain_request(alloc: Global) -> Result<Request<()>, RowError> {
     let text = "udp none 123401000000000000000000";
     let pages = pages(alloc, text)?;
-    let request = request(&mut Row::of(alloc, text, &pages))?;
-    Ok(PostprocessingStream::new(later(error), request, SameError {}))
+    request(&mut Row::of(alloc, text, &pages))
 }
 
 /// A feedback, whatever the error is.
@@ -95,8 +104,14 @@ pub(crate) fn polled<S: ReplyStream>(row: &mut Row<'_>, stream: &mut S, polls: u
 fn sized<S: ReplyStream>(row: &mut Row<'_>, stream: &mut S, polls: u8) -> Result<(), RowError> {
     size_said(row, stream.size_hint());
     for _ in 0..polls {
-        stream.poll_next(row.alloc())?;
+        polled_once(row, stream)?;
         size_said(row, stream.size_hint());
     }
+    Ok(())
+}
+
+/// Polls a stream, whatever it answers.
+fn polled_once<S: ReplyStream>(row: &mut Row<'_>, stream: &mut S) -> Result<(), RowError> {
+    stream.poll_next(row.alloc())?;
     Ok(())
 }

@@ -28,16 +28,27 @@ pub(crate) fn next_reply(row: &mut Row<'_>) -> Result<AdditionalBuilder, RowErro
 pub(crate) fn reply(row: &mut Row<'_>, octets: &[u8]) -> Result<AdditionalBuilder, RowError> {
     let message = MessageRef::from_slice(octets).or(Err(RowError::OutOfForm))?;
     let opt = opt_record(row.alloc(), &message)?;
-    copied(row.alloc(), &message, opt.as_ref())
+    copied(row.alloc(), &message, opt)
 }
 
 /// A copy of a message with this OPT record in place of its own.
 fn copied(
     alloc: Global,
     message: &MessageRef<'_>,
+    opt: Option<OptRecord>,
+) -> Result<AdditionalBuilder, RowError> {
+    match CopiedMessage::read(alloc, message) {
+        Ok(copied) => built(alloc, &copied, opt.as_ref()),
+        Err(_) => Err(RowError::OutOfForm),
+    }
+}
+
+/// A message with this OPT record as its last.
+fn built(
+    alloc: Global,
+    copied: &CopiedMessage,
     opt: Option<&OptRecord>,
 ) -> Result<AdditionalBuilder, RowError> {
-    let copied = CopiedMessage::read(alloc, message).or(Err(RowError::OutOfForm))?;
     copied.build(alloc, opt).or(Err(RowError::OutOfForm))
 }
 

@@ -26,24 +26,58 @@ impl Calls for WrapRows {
 fn wrapped(row: &mut Row<'_>) -> Result<(), RowError> {
     let settings = settings(row)?;
     let polls = row.number::<u8>();
+    wrapped_by(row, &settings, polls)
+}
+
+/// The same by settings.
+fn wrapped_by(row: &mut Row<'_>, settings: &Settings, polls: u8) -> Result<(), RowError> {
     let target = Target::next(row)?;
     let mut request = request(row)?;
-    let item = item(row, &request)?;
-    let service = service_fn::<AsPlanned, _, _>(planned, item);
-    let service = wrap(row.alloc(), &settings, service, target)?;
-    some_polls(row, &service, &mut request, polls)?;
+    asked_with(row, settings, target, &mut request, polls)?;
     row.close(", hint");
     hint_said(row, request.transport_ctx());
     Ok(())
 }
 
+/// So many polls of a request.
+fn asked_with(
+    row: &mut Row<'_>,
+    settings: &Settings,
+    target: Target,
+    request: &mut Request<()>,
+    polls: u8,
+) -> Result<(), RowError> {
+    let service = service_fn::<AsPlanned, _, _>(planned, item(row, request)?);
+    round(row, settings, service, target, request, polls)
+}
+
+/// So many polls of a request to a service in its layers.
+fn round<S: Service<()>>(
+    row: &mut Row<'_>,
+    settings: &Settings,
+    service: S,
+    target: Target,
+    request: &mut Request<()>,
+    polls: u8,
+) -> Result<(), RowError>
+    requires { S.can_call service }
+{
+    let service = wrap(row.alloc(), settings, service, target)?;
+    some_polls(row, &service, request, polls)
+}
+
 /// The settings of the next words: `strict` or `relaxed`, `edns` or `plain`, and the secret of cookies or `-`.
 fn settings(row: &mut Row<'_>) -> Result<Settings, RowError> {
     let mut settings = Settings::new(row.alloc());
+    set(row, &mut settings)?;
+    Ok(settings)
+}
+
+fn set(row: &mut Row<'_>, settings: &mut Settings) -> Result<(), RowError> {
     settings.strict = either(row, "strict", "relaxed")?;
     settings.edns = either(row, "edns", "plain")?;
     settings.cookies = secret(row.word())?;
-    Ok(settings)
+    Ok(())
 }
 
 fn secret(word: &str) -> Result<Option<[u8; 16]>, RowError> {

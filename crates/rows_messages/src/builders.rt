@@ -7,8 +7,8 @@ ghost use Rattle.dns_base.specs.Standing.{Gives};
 use crate::data::record_in_words;
 use crate::stages::Stage;
 use dns_base::{
-    AdditionalBuilder, Message, MessageBuilder, Record, StreamTarget, data_has_names,
-    typed_records_read_back,
+    AdditionalBuilder, AnswerBuilder, Message, MessageBuilder, Record, StreamTarget,
+    data_has_names, typed_records_read_back,
 };
 use dns_name::{OutOfMemory, ParseError, Rcode};
 use rows_table::{Calls, Row, RowError};
@@ -96,11 +96,17 @@ fn answer_to(
     rcode: Rcode,
     query: &Message,
 ) -> Result<(), RowError> {
-    match within(row.alloc(), limit)?.start_answer(row.alloc(), query, rcode) {
-        Ok(answer) => shown(row, &mut Stage::Answer(answer)),
+    let builder = within(row.alloc(), limit)?;
+    match builder.start_answer(row.alloc(), query, rcode) {
+        Ok(answer) => show_answer(row, answer),
         Err(error) => row.debug(&error),
     }
     Ok(())
+}
+
+/// What the steps say of an answer.
+fn show_answer(row: &mut Row<'_>, answer: AnswerBuilder) {
+    shown(row, &mut Stage::Answer(answer))
 }
 
 /// The error answer to a query, and what the steps say of it.
@@ -119,7 +125,7 @@ fn error_to(
     query: &Message,
 ) -> Result<(), RowError> {
     let error = within(row.alloc(), limit)?.start_error(row.alloc(), query, rcode)?;
-    shown(row, &mut Stage::Answer(error));
+    show_answer(row, error);
     Ok(())
 }
 
@@ -165,8 +171,8 @@ fn first_read(
 }
 
 /// Whether two records have the same fields, names up to ASCII case.
-fn alike(item: &Record, read: &Record) -> bool {
-    *item == *read && item.ttl == read.ttl
+fn alike(item: &Record, read: Record) -> bool {
+    *item == read && item.ttl == read.ttl
 }
 
 /// Whether all fields of the first additional record of what is built are those of the record that was pushed.
@@ -175,7 +181,7 @@ fn reads_back(alloc: Global, builder: &AdditionalBuilder, item: &Record) -> Resu
     requires lawful { IsLawful item.now.rdata }
 {
     let read = first_read(alloc, builder, item)?;
-    Ok(alike(item, &read))
+    Ok(alike(item, read))
 }
 
 /// The data's octets of a record that is pushed, and whether all fields come back when they are read.
@@ -183,8 +189,16 @@ fn pushed_and_read(row: &mut Row<'_>, item: &Record) -> Result<(), RowError>
     requires { IsLawful item.now.rdata }
 {
     let builder = with_record(row.alloc(), item)?;
-    data_octets(row, &builder)?;
-    let back = reads_back(row.alloc(), &builder, item)?;
+    read_again(row, &builder, item)
+}
+
+/// The same of what was built of the record.
+fn read_again(row: &mut Row<'_>, builder: &AdditionalBuilder, item: &Record) -> Result<(), RowError>
+    requires pushed { builder.now.message.additional ≡ record_of item.now ∷ [] }
+    requires lawful { IsLawful item.now.rdata }
+{
+    data_octets(row, builder)?;
+    let back = reads_back(row.alloc(), builder, item)?;
     row.tell_whether("reads_back", back);
     Ok(())
 }
@@ -192,5 +206,12 @@ fn pushed_and_read(row: &mut Row<'_>, item: &Record) -> Result<(), RowError>
 /// The same for a record whose data stands in words.
 fn typed(row: &mut Row<'_>) -> Result<(), RowError> {
     let item = record_in_words(row)?;
+    owned_pushed(row, item)
+}
+
+/// The same for a record of its own.
+fn owned_pushed(row: &mut Row<'_>, item: Record) -> Result<(), RowError>
+    requires { IsLawful item.rdata }
+{
     pushed_and_read(row, &item)
 }

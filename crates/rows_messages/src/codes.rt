@@ -15,15 +15,23 @@ impl Calls for Codes {
             "more_rtypes" => more_rtypes(row),
             "option_codes" => option_codes(row),
             "extended_error_codes" => extended_error_codes(row),
-            "more_extended_error_codes" => more_extended_error_codes(row),
-            "opcodes" => opcodes(row),
-            "rcodes" => rcodes(row),
-            "opt_rcodes" => opt_rcodes(row),
-            "more_opt_rcodes" => more_opt_rcodes(row),
-            _ => return Err(RowError::NoSuchCall),
+            _ => return of_replies(call, row),
         }
         Ok(())
     }
+}
+
+/// The other registries.
+fn of_replies(call: &str, row: &mut Row<'_>) -> Result<(), RowError> {
+    match call {
+        "more_extended_error_codes" => more_extended_error_codes(row),
+        "opcodes" => opcodes(row),
+        "rcodes" => rcodes(row),
+        "opt_rcodes" => opt_rcodes(row),
+        "more_opt_rcodes" => more_opt_rcodes(row),
+        _ => return Err(RowError::NoSuchCall),
+    }
+    Ok(())
 }
 
 /// Says numbers, each under the name in its place.
@@ -54,6 +62,15 @@ fn rtypes(row: &mut Row<'_>) {
         Rtype::MF.to_int(),
         Rtype::CNAME.to_int(),
         Rtype::SOA.to_int(),
+    ];
+    let names = "A NS MD MF CNAME SOA";
+    numbered(row, names, &numbers);
+    mail_rtypes(row)
+}
+
+/// The record types from those of mail on.
+fn mail_rtypes(row: &mut Row<'_>) {
+    let numbers = [
         Rtype::MB.to_int(),
         Rtype::MG.to_int(),
         Rtype::MR.to_int(),
@@ -63,11 +80,8 @@ fn rtypes(row: &mut Row<'_>) {
         Rtype::TXT.to_int(),
         Rtype::AAAA.to_int(),
     ];
-    numbered(
-        row,
-        "A NS MD MF CNAME SOA MB MG MR PTR MINFO MX TXT AAAA",
-        &numbers,
-    )
+    let names = "MB MG MR PTR MINFO MX TXT AAAA";
+    numbered(row, names, &numbers);
 }
 
 /// The other record types.
@@ -80,6 +94,15 @@ fn more_rtypes(row: &mut Row<'_>) {
         Rtype::RRSIG.to_int(),
         Rtype::NSEC.to_int(),
         Rtype::DNSKEY.to_int(),
+    ];
+    let names = "SRV DNAME OPT DS RRSIG NSEC DNSKEY";
+    numbered(row, names, &numbers);
+    last_rtypes(row)
+}
+
+/// The last of the other record types.
+fn last_rtypes(row: &mut Row<'_>) {
+    let numbers = [
         Rtype::NSEC3.to_int(),
         Rtype::SVCB.to_int(),
         Rtype::HTTPS.to_int(),
@@ -88,11 +111,8 @@ fn more_rtypes(row: &mut Row<'_>) {
         Rtype::ANY.to_int(),
         Rtype::CAA.to_int(),
     ];
-    numbered(
-        row,
-        "SRV DNAME OPT DS RRSIG NSEC DNSKEY NSEC3 SVCB HTTPS IXFR AXFR ANY CAA",
-        &numbers,
-    )
+    let names = "NSEC3 SVCB HTTPS IXFR AXFR ANY CAA";
+    numbered(row, names, &numbers);
 }
 
 /// The option codes.
@@ -126,6 +146,16 @@ fn extended_error_codes(row: &mut Row<'_>) {
         ExtendedErrorCode::FORGED_ANSWER.to_int(),
         ExtendedErrorCode::DNSSEC_INDETERMINATE.to_int(),
         ExtendedErrorCode::DNSSEC_BOGUS.to_int(),
+    ];
+    let names = "OTHER UNSUPPORTED_DNSKEY_ALGORITHM UNSUPPORTED_DS_DIGEST_TYPE STALE_ANSWER \
+        FORGED_ANSWER DNSSEC_INDETERMINATE DNSSEC_BOGUS";
+    numbered(row, names, &numbers);
+    signature_codes(row)
+}
+
+/// The extended error codes of signatures and what belongs to them.
+fn signature_codes(row: &mut Row<'_>) {
+    let numbers = [
         ExtendedErrorCode::SIGNATURE_EXPIRED.to_int(),
         ExtendedErrorCode::SIGNATURE_NOT_YET_VALID.to_int(),
         ExtendedErrorCode::DNSKEY_MISSING.to_int(),
@@ -133,11 +163,9 @@ fn extended_error_codes(row: &mut Row<'_>) {
         ExtendedErrorCode::NO_ZONE_KEY_BIT_SET.to_int(),
         ExtendedErrorCode::NSEC_MISSING.to_int(),
     ];
-    let names = "OTHER UNSUPPORTED_DNSKEY_ALGORITHM UNSUPPORTED_DS_DIGEST_TYPE STALE_ANSWER \
-        FORGED_ANSWER DNSSEC_INDETERMINATE DNSSEC_BOGUS SIGNATURE_EXPIRED \
-        SIGNATURE_NOT_YET_VALID DNSKEY_MISSING RRSIGS_MISSING NO_ZONE_KEY_BIT_SET \
-        NSEC_MISSING";
-    numbered(row, names, &numbers)
+    let names = "SIGNATURE_EXPIRED SIGNATURE_NOT_YET_VALID DNSKEY_MISSING RRSIGS_MISSING \
+        NO_ZONE_KEY_BIT_SET NSEC_MISSING";
+    numbered(row, names, &numbers);
 }
 
 /// The other extended error codes.
@@ -149,6 +177,15 @@ fn more_extended_error_codes(row: &mut Row<'_>) {
         ExtendedErrorCode::CENSORED.to_int(),
         ExtendedErrorCode::FILTERED.to_int(),
         ExtendedErrorCode::PROHIBITED.to_int(),
+    ];
+    let names = "CACHED_ERROR NOT_READY BLOCKED CENSORED FILTERED PROHIBITED";
+    numbered(row, names, &numbers);
+    answer_codes(row)
+}
+
+/// The extended error codes from those of answers on.
+fn answer_codes(row: &mut Row<'_>) {
+    let numbers = [
         ExtendedErrorCode::STALE_NXDOMAIN_ANSWER.to_int(),
         ExtendedErrorCode::NOT_AUTHORITATIVE.to_int(),
         ExtendedErrorCode::NOT_SUPPORTED.to_int(),
@@ -156,9 +193,9 @@ fn more_extended_error_codes(row: &mut Row<'_>) {
         ExtendedErrorCode::NETWORK_ERROR.to_int(),
         ExtendedErrorCode::INVALID_DATA.to_int(),
     ];
-    let names = "CACHED_ERROR NOT_READY BLOCKED CENSORED FILTERED PROHIBITED STALE_NXDOMAIN_ANSWER \
-        NOT_AUTHORITATIVE NOT_SUPPORTED NO_REACHABLE_AUTHORITY NETWORK_ERROR INVALID_DATA";
-    numbered(row, names, &numbers)
+    let names = "STALE_NXDOMAIN_ANSWER NOT_AUTHORITATIVE NOT_SUPPORTED NO_REACHABLE_AUTHORITY \
+        NETWORK_ERROR INVALID_DATA";
+    numbered(row, names, &numbers);
 }
 
 /// The operation codes.

@@ -87,13 +87,22 @@ fn data(row: &mut Row<'_>) -> Result<RecordData, RowError>
     ensures { IfOk result IsLawful }
 {
     match row.word() {
-        "A" => Ok(RecordData::A(row.array())),
-        "AAAA" => Ok(RecordData::Aaaa(row.array())),
         "DNAME" => dname(row),
         "SOA" => soa(row),
         "MINFO" => minfo(row),
         "MX" => mx(row),
         "SRV" => srv(row),
+        shape => data_of_octets(row, shape),
+    }
+}
+
+/// Data that is octets, by its type.
+fn data_of_octets(row: &mut Row<'_>, shape: &str) -> Result<RecordData, RowError>
+    ensures { IfOk result IsLawful }
+{
+    match shape {
+        "A" => Ok(RecordData::A(row.array())),
+        "AAAA" => Ok(RecordData::Aaaa(row.array())),
         "OPT" => RecordData::opt(row.vector()).ok_or(RowError::OutOfForm),
         "TXT" => RecordData::unknown(Rtype::from_int(16), row.vector()).ok_or(RowError::OutOfForm),
         _ => Err(RowError::OutOfForm),

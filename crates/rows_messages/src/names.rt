@@ -15,18 +15,32 @@ impl Calls for Names {
             "name_to_owned" => owned(row),
             "name_text" => name_text(row),
             "octets_from_slice" => copied(row),
-            "parsed_name" => parsed_name(row),
-            "parsed_to_name" => parsed_to_name(row),
-            "parsed_text" => parsed_text(row),
-            "refusal_text" => refusal_text(row),
-            "name_from_text" => from_text(row),
-            "name_root" => root(row),
-            "name_cmp" => name_cmp(row),
-            "names_rise" => names_rise(row),
-            "address_text" => address_text(row),
-            "serial_cmp" => serial_cmp(row),
-            _ => Err(RowError::NoSuchCall),
+            _ => of_parsed(call, row),
         }
+    }
+}
+
+/// The calls of names in messages, and of names that are read from text.
+fn of_parsed(call: &str, row: &mut Row<'_>) -> Result<(), RowError> {
+    match call {
+        "parsed_name" => parsed_name(row),
+        "parsed_to_name" => parsed_to_name(row),
+        "parsed_text" => parsed_text(row),
+        "refusal_text" => refusal_text(row),
+        "name_from_text" => from_text(row),
+        _ => of_order(call, row),
+    }
+}
+
+/// The other calls.
+fn of_order(call: &str, row: &mut Row<'_>) -> Result<(), RowError> {
+    match call {
+        "name_root" => root(row),
+        "name_cmp" => name_cmp(row),
+        "names_rise" => names_rise(row),
+        "address_text" => address_text(row),
+        "serial_cmp" => serial_cmp(row),
+        _ => Err(RowError::NoSuchCall),
     }
 }
 
@@ -50,14 +64,19 @@ fn next_parser<'a>(row: &mut Row<'a>) -> Result<Parser<'a>, RowError> {
 fn parsed_name(row: &mut Row<'_>) -> Result<(), RowError> {
     let mut parser = next_parser(row)?;
     let other = row.name()?;
-    match ParsedName::parse(&mut parser) {
-        Ok(name) => beside(row, &name, &other),
+    parsed_beside(row, &mut parser, &other);
+    Ok(())
+}
+
+/// The same at the parser's place.
+fn parsed_beside(row: &mut Row<'_>, parser: &mut Parser<'_>, other: &NameRef<'_>) {
+    match ParsedName::parse(parser) {
+        Ok(name) => beside(row, &name, other),
         Err(error) => {
             row.debug(&error);
             row.tell("pos", &parser.pos());
         }
     }
-    Ok(())
 }
 
 /// How many labels a name has, and how it stands to another.
@@ -135,9 +154,14 @@ fn composed(row: &mut Row<'_>) -> Result<(), RowError> {
 /// The octets of an owned copy of a name, and how many it says that it takes.
 fn owned(row: &mut Row<'_>) -> Result<(), RowError> {
     let name = row.name()?.to_owned(row.alloc())?;
+    say_name(row, &name);
+    Ok(())
+}
+
+/// The octets of a name, and how many it says that it takes.
+fn say_name(row: &mut Row<'_>, name: &Name) {
     row.hexadecimal(name.as_slice());
     row.tell("compose_len", &name.compose_len());
-    Ok(())
 }
 
 /// A name as text, in quotation marks.
@@ -178,11 +202,17 @@ fn misplaced(
     name: &str,
 ) -> Result<Option<usize>, RowError> {
     for (other_place, other) in names.split(' ').enumerate() {
-        if order_of(row, name, other)? != place.cmp(&other_place) {
+        if !stands(row, name, other, place.cmp(&other_place))? {
             return Ok(Some(other_place));
         }
     }
     Ok(None)
+}
+
+/// Whether two names compare as their places do, in this order.
+fn stands(row: &mut Row<'_>, name: &str, other: &str, places: Ordering) -> Result<bool, RowError> {
+    let order = order_of(row, name, other)?;
+    Ok(order == places)
 }
 
 /// Whether each two of these names compare as their places do.
@@ -190,13 +220,18 @@ fn names_rise(row: &mut Row<'_>) -> Result<(), RowError> {
     let names = row.all_words();
     for (place, name) in names.split(' ').enumerate() {
         if let Some(other) = misplaced(row, names, place, name)? {
-            row.tell("not", &place);
-            row.tell("and", &other);
+            say_misplaced(row, place, other);
             return Ok(());
         }
     }
     row.say("yes");
     Ok(())
+}
+
+/// The places of two names that compare otherwise.
+fn say_misplaced(row: &mut Row<'_>, place: usize, other: usize) {
+    row.tell("not", &place);
+    row.tell("and", &other)
 }
 
 /// The text of an address.

@@ -8,7 +8,7 @@ use dns_base::{
     AdditionalBuilder, AnswerBuilder, AuthorityBuilder, MessageBuilder, Question, QuestionBuilder,
     Record, StreamTarget, is_option_list, record_in,
 };
-use dns_name::{Class, NameRef, OutOfMemory, ParseError, Parser, Rtype, Ttl};
+use dns_name::{Class, Name, NameRef, OutOfMemory, ParseError, Parser, Rtype, Ttl};
 use rows_table::{Row, RowError, Steps};
 use std::alloc::Global;
 use std::mem::replace;
@@ -108,9 +108,18 @@ impl Stage {
             Stage::Gone => Stage::Gone,
             Stage::Message(builder) => Stage::Message(builder.try_clone(alloc)?),
             Stage::Question(builder) => Stage::Question(builder.try_clone(alloc)?),
+            _ => return self.clone_of_records(alloc),
+        };
+        Ok(copy)
+    }
+
+    /// A copy of a message that is at its records, else of none.
+    fn clone_of_records(&self, alloc: Global) -> Result<Stage, OutOfMemory> {
+        let copy = match self {
             Stage::Answer(builder) => Stage::Answer(builder.try_clone(alloc)?),
             Stage::Authority(builder) => Stage::Authority(builder.try_clone(alloc)?),
             Stage::Additional(builder) => Stage::Additional(builder.try_clone(alloc)?),
+            _ => Stage::Gone,
         };
         Ok(copy)
     }
@@ -170,14 +179,24 @@ fn move_on(stage: &mut Stage, section: &str) -> Result<(), RowError> {
 fn question_of(alloc: Global, octets: &[u8]) -> Result<Question, ParseError> {
     let mut parser = Parser::from_ref(octets);
     let name = NameRef::parse(&mut parser)?;
-    let qtype = Rtype::from_int(parser.parse_u16_be()?);
-    let qclass = Class::from_int(parser.parse_u16_be()?);
-    let qname = name.to_owned(alloc)?;
-    Ok(Question {
+    let (qtype, qclass) = asked_codes(&mut parser)?;
+    Ok(asking(name.to_owned(alloc)?, qtype, qclass))
+}
+
+/// The type and the class of a question.
+fn asked_codes(parser: &mut Parser<'_>) -> Result<(Rtype, Class), ParseError> {
+    let qtype = parser.parse_u16_be()?;
+    let qclass = parser.parse_u16_be()?;
+    Ok((Rtype::from_int(qtype), Class::from_int(qclass)))
+}
+
+/// A question for a name.
+fn asking(qname: Name, qtype: Rtype, qclass: Class) -> Question {
+    Question {
         qname,
         qtype,
         qclass,
-    })
+    }
 }
 
 /// The record that the octets of the next word are.
@@ -215,16 +234,37 @@ fn push_next(stage: &mut Stage, row: &mut Row<'_>) -> Result<(), RowError> {
         return push_question(builder, row);
     }
     let item = next_record(row)?;
-    push_record(stage, row, &item);
+    push_owned(stage, row, item);
     Ok(())
+}
+
+/// Adds a record to the section, and says what that answers.
+fn push_owned(stage: &mut Stage, row: &mut Row<'_>, item: Record)
+    requires { IsLawful item.rdata }
+{
+    push_record(stage, row, &item)
 }
 
 /// Puts the record of the next word in place of those of its type, and says what that answers.
 fn replace_next(stage: &mut Stage, row: &mut Row<'_>) -> Result<(), RowError> {
     let builder = stage.additional()?;
     let item = next_record(row)?;
-    row.outcome(builder.replace_type(row.alloc(), item.rdata.rtype(), &item));
+    replace_owned(builder, row, item);
     Ok(())
+}
+
+/// Puts a record of its own in place of those of its type.
+fn replace_owned(builder: &mut AdditionalBuilder, row: &mut Row<'_>, item: Record)
+    requires { IsLawful item.rdata }
+{
+    replace_record(builder, row, &item)
+}
+
+/// Puts a record in place of those of its type, and says what that answers.
+fn replace_record(builder: &mut AdditionalBuilder, row: &mut Row<'_>, item: &Record)
+    requires { IsLawful item.now.rdata }
+{
+    row.outcome(builder.replace_type(row.alloc(), item.rdata.rtype(), item))
 }
 
 /// Whether octets may be the data of an OPT record.
@@ -271,14 +311,28 @@ impl Steps for Stage {
         match step {
             "push" => push_next(self, row),
             "replace" => replace_next(self, row),
-            "push_opt" => push_opt(self, row),
-            "replace_opt" => replace_opt(self, row),
             "remove" => remove_next(self, row),
-            "limit" => self.limit(row.number()),
-            "unlimit" => self.unlimit(),
-            "rewind" => self.rewind(),
-            "clone" => self.clone_in_place(row.alloc()),
-            section => move_on(self, section),
+            _ => with_opt(self, step, row),
         }
+    }
+}
+
+/// The steps that take an OPT record.
+fn with_opt(stage: &mut Stage, step: &str, row: &mut Row<'_>) -> Result<(), RowError> {
+    match step {
+        "push_opt" => push_opt(stage, row),
+        "replace_opt" => replace_opt(stage, row),
+        _ => change(stage, step, row),
+    }
+}
+
+/// The steps that take no record.
+fn change(stage: &mut Stage, step: &str, row: &mut Row<'_>) -> Result<(), RowError> {
+    match step {
+        "limit" => stage.limit(row.number()),
+        "unlimit" => stage.unlimit(),
+        "rewind" => stage.rewind(),
+        "clone" => stage.clone_in_place(row.alloc()),
+        section => move_on(stage, section),
     }
 }

@@ -2,7 +2,7 @@
 
 use crate::said::built;
 use crate::steps::build;
-use dns_base::{AdditionalBuilder, MessageBuilder, PushError};
+use dns_base::{AdditionalBuilder, Header, MessageBuilder, PushError};
 use dns_opt::{BuildDataError, BuildOpt, MessageOpt, OptBuilder, OptRecord, OptRecordRef};
 use rows_table::{Row, RowError, Steps};
 use std::alloc::Global;
@@ -35,10 +35,17 @@ fn appended(message: &mut AdditionalBuilder, alloc: Global, size: u16) -> Result
 
 /// A message with nothing but an OPT record like that of another.
 fn copied(message: &AdditionalBuilder, alloc: Global) -> Result<AdditionalBuilder, RowError> {
-    let mut copy = MessageBuilder::new(alloc)?.additional();
     let read = message.as_message();
-    let found = read.opt().ok_or(RowError::OutOfForm)?;
-    match take_over(&mut copy, alloc, &found) {
+    match read.opt() {
+        Some(found) => taken_over(alloc, &found),
+        None => Err(RowError::OutOfForm),
+    }
+}
+
+/// A message with nothing but an OPT record like another.
+fn taken_over(alloc: Global, found: &OptRecordRef<'_>) -> Result<AdditionalBuilder, RowError> {
+    let mut copy = MessageBuilder::new(alloc)?.additional();
+    match take_over(&mut copy, alloc, found) {
         Ok(()) => Ok(copy),
         Err(_) => Err(RowError::OutOfForm),
     }
@@ -55,23 +62,38 @@ impl Steps for Built {
         match step {
             "limit" => self.message.set_push_limit(row.number()),
             "copy" => self.message = copied(&self.message, row.alloc())?,
-            "append" => {
-                let size = row.number();
-                let done = appended(&mut self.message, row.alloc(), size);
-                row.outcome(done);
-            }
-            "opt" => {
-                let done = opened(&mut self.message, row);
-                built(row, done);
-            }
-            "reopen" => {
-                let done = reopened(&mut self.message, row);
-                built(row, done);
-            }
-            _ => return Err(RowError::NoSuchStep),
+            _ => return with_opt(&mut self.message, step, row),
         }
         Ok(())
     }
+}
+
+/// The steps of OPT records.
+fn with_opt(
+    message: &mut AdditionalBuilder,
+    step: &str,
+    row: &mut Row<'_>,
+) -> Result<(), RowError> {
+    match step {
+        "append" => append(message, row),
+        "opt" => {
+            let done = opened(message, row);
+            built(row, done);
+        }
+        "reopen" => {
+            let done = reopened(message, row);
+            built(row, done);
+        }
+        _ => return Err(RowError::NoSuchStep),
+    }
+    Ok(())
+}
+
+/// Appends an OPT record of the next word's payload size, and says what that answers.
+fn append(message: &mut AdditionalBuilder, row: &mut Row<'_>) {
+    let size = row.number();
+    let done = appended(message, row.alloc(), size);
+    row.outcome(done)
 }
 
 /// A message's length, the response code of its header, its number of additional records and its OPT record: the
@@ -81,9 +103,14 @@ fn message_said(row: &mut Row<'_>, message: &AdditionalBuilder) {
     row.tell("len", &message.as_slice().len());
     row.tell("header", &header.rcode.to_int());
     row.tell("arcount", &message.counts().arcount);
-    let Some(found) = message.opt_record() else {
-        return row.say("none");
-    };
+    match message.opt_record() {
+        Some(found) => opt_said(row, &found, header),
+        None => row.say("none"),
+    }
+}
+
+/// An OPT record: the response code with that of the header, the size and the options.
+fn opt_said(row: &mut Row<'_>, found: &OptRecordRef<'_>, header: Header) {
     row.tell("rcode", &found.rcode(header).to_int());
     row.tell("udp_payload_size", &found.udp_payload_size());
     row.tell_octets("options", found.opt().as_slice())

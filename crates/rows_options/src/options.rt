@@ -16,12 +16,19 @@ impl Calls for Options {
             "opt_from_slice" => from_slice(row),
             "all_options" => all_options(row),
             "option_header" => option_header(row),
-            "written_by" => written(row),
-            "list" => list(row),
-            "list_len" => list_len(row),
-            "first" => first(row),
-            _ => Err(RowError::NoSuchCall),
+            _ => of_pushes(call, row),
         }
+    }
+}
+
+/// The other calls.
+fn of_pushes(call: &str, row: &mut Row<'_>) -> Result<(), RowError> {
+    match call {
+        "written_by" => written(row),
+        "list" => list(row),
+        "list_len" => list_len(row),
+        "first" => first(row),
+        _ => Err(RowError::NoSuchCall),
     }
 }
 
@@ -80,16 +87,16 @@ fn next_list<'a>(row: &mut Row<'a>) -> Result<OptRef<'a>, RowError> {
 /// The options of any kind that a list has, each with its code and its data.
 fn all_options(row: &mut Row<'_>) -> Result<(), RowError> {
     for item in next_list(row)?.iter::<AllOptData>() {
-        if !row.said().is_empty() {
-            row.close(",");
-        }
         option_said(row, item);
     }
     Ok(())
 }
 
-/// An option's code and its data, or why it isn't read.
+/// An option's code and its data, or why it isn't read; a comma parts it from what stands there.
 fn option_said(row: &mut Row<'_>, item: Result<AllOptData<'_>, ParseError>) {
+    if !row.said().is_empty() {
+        row.close(",");
+    }
     match item {
         Ok(option) => code_and_data(row, &option),
         Err(error) => row.debug(&error),
@@ -104,8 +111,15 @@ fn first(row: &mut Row<'_>) -> Result<(), RowError> {
         "nsid" => first_said(row, list.first::<NsidRef>()),
         "padding" => first_said(row, list.first::<PaddingRef>()),
         "cookie" => first_said(row, list.first::<Cookie>()),
-        _ => first_said(row, list.to_owned(row.alloc())?.nsid()),
+        _ => return first_owned(row, &list),
     }
+    Ok(())
+}
+
+/// The data of the first identifier in an owned copy of a list.
+fn first_owned(row: &mut Row<'_>, list: &OptRef<'_>) -> Result<(), RowError> {
+    let owned = list.to_owned(row.alloc())?;
+    first_said(row, owned.nsid());
     Ok(())
 }
 
@@ -121,10 +135,15 @@ fn first_said<D: ComposeOptData + Drop>(row: &mut Row<'_>, found: Option<D>) {
 fn option_header(row: &mut Row<'_>) -> Result<(), RowError> {
     let mut parser = Parser::from_ref(row.octets());
     let head = OptionHeader::parse(&mut parser)?;
-    row.tell("code", &head.code().to_int());
-    row.tell("len", &head.len());
+    head_said(row, &head);
     row.tell("left", &parser.remaining());
     Ok(())
+}
+
+/// The head of an option.
+fn head_said(row: &mut Row<'_>, head: &OptionHeader) {
+    row.tell("code", &head.code().to_int());
+    row.tell("len", &head.len())
 }
 
 /// What a closure writes to an empty vector.

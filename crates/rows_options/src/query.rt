@@ -3,7 +3,7 @@
 use crate::messages::opened;
 use dns_base::{AdditionalBuilder, MessageBuilder, MessageRef, PushError, Question};
 use dns_name::{Class, Name, OutOfMemory, Rtype};
-use dns_opt::MessageOpt;
+use dns_opt::{MessageOpt, OptRecordRef};
 use rows_table::{Row, RowError};
 use std::alloc::Global;
 
@@ -37,17 +37,29 @@ fn asking(alloc: Global) -> Result<AdditionalBuilder, PushError> {
 /// The type that a query asks for, and the size and the identifier's data of its OPT record.
 fn query_said(row: &mut Row<'_>, octets: &[u8]) -> Result<(), RowError> {
     let query = MessageRef::from_slice(octets).or(Err(RowError::OutOfForm))?;
-    let (Some(question), Some(opt)) = (query.first_question(), query.opt()) else {
-        row.say("none");
-        return Ok(());
+    match query.opt() {
+        Some(opt) => asked_said(row, &query, &opt),
+        None => row.say("none"),
+    }
+    Ok(())
+}
+
+/// The same of a query with an OPT record.
+fn asked_said(row: &mut Row<'_>, query: &MessageRef<'_>, opt: &OptRecordRef<'_>) {
+    let Some(question) = query.first_question() else {
+        return row.say("none");
     };
     row.tell("qtype", &question.qtype().to_int());
+    opt_said(row, opt)
+}
+
+/// The size of an OPT record and its identifier's data.
+fn opt_said(row: &mut Row<'_>, opt: &OptRecordRef<'_>) {
     row.tell("udp_payload_size", &opt.udp_payload_size());
     match opt.opt().nsid() {
         Some(identifier) => row.tell_octets("nsid", identifier.as_slice()),
         None => row.say("nsid=none"),
     }
-    Ok(())
 }
 
 /// What is read of a query.

@@ -28,13 +28,19 @@ impl Calls for Records {
     }
 }
 
-/// The octets of a head with a size, both parts of a response code and a version, that wants DNSSEC records.
-fn opt_header(row: &mut Row<'_>) -> Result<(), RowError> {
+/// The head that the next words are, and that wants DNSSEC records.
+fn next_head(row: &mut Row<'_>) -> OptHeader {
     let mut head = OptHeader::default();
     head.set_udp_payload_size(row.number());
     head.set_rcode(rcode(row));
     head.set_version(row.number());
     head.set_dnssec_ok(true);
+    head
+}
+
+/// The octets of a head with a size, both parts of a response code and a version, that wants DNSSEC records.
+fn opt_header(row: &mut Row<'_>) -> Result<(), RowError> {
+    let head = next_head(row);
     let mut octets = Vec::new(row.alloc());
     head.compose(row.alloc(), &mut octets)?;
     row.hexadecimal(&octets);

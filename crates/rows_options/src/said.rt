@@ -2,6 +2,7 @@
 
 use dns_name::{BuildDataError, ComposeOptData};
 use rows_table::{Row, RowError};
+use std::alloc::Global;
 use std::fmt::Display;
 
 /// The data that an option appends to none.
@@ -29,26 +30,39 @@ pub fn both_shown<B: ComposeOptData + Display, O: ComposeOptData + Display>(
     borrowed: &B,
     owned: &O,
 ) {
-    let mut other = Row::of(row.alloc(), "", &[]);
-    shown(&mut other, owned);
-    let mut first = Row::of(row.alloc(), "", &[]);
-    shown(&mut first, borrowed);
-    row.say(first.said());
-    if first.said() != other.said() {
+    let first = shown_apart(row.alloc(), borrowed);
+    let other = shown_apart(row.alloc(), owned);
+    both_said(row, first.said(), other.said())
+}
+
+/// An option as it is shown in a row of its own.
+fn shown_apart<D: ComposeOptData + Display>(alloc: Global, option: &D) -> Row<'static> {
+    let mut said = Row::of(alloc, "", &[]);
+    shown(&mut said, option);
+    said
+}
+
+/// What is said of both forms; the owned one is said only where it differs.
+fn both_said(row: &mut Row<'_>, first: &str, other: &str) {
+    row.say(first);
+    if first != other {
         row.close(", but owned");
-        row.say(other.said());
+        row.say(other);
     }
 }
 
 /// What building answers.
 pub fn built(row: &mut Row<'_>, done: Result<(), BuildDataError>) {
     match done {
-        Err(BuildDataError::WrongLength { stated, written }) => {
-            match format!(in row.alloc(); "WrongLength({stated},{written})") {
-                Ok(said) => row.say(said.as_str()),
-                Err(_) => row.fail(RowError::OutOfMemory),
-            }
-        }
+        Err(BuildDataError::WrongLength { stated, written }) => wrong_length(row, stated, written),
         done => row.outcome(done),
+    }
+}
+
+/// Says how long an option was to be, and how long it is.
+fn wrong_length(row: &mut Row<'_>, stated: u16, written: usize) {
+    match format!(in row.alloc(); "WrongLength({stated},{written})") {
+        Ok(said) => row.say(said.as_str()),
+        Err(_) => row.fail(RowError::OutOfMemory),
     }
 }

@@ -84,14 +84,17 @@ impl Target<'_> {
                 let octets = row.octets();
                 self.nsid(row, octets)
             }
-            "push_zeros" => {
-                let zeros = vec![in row.alloc(); 0u8; row.number()]?;
-                self.nsid(row, &zeros)
-            }
+            "push_zeros" => self.zeros(row),
             "push_cookie" => self.push(row.alloc(), &client_alone(row)),
             "raw" => self.raw(row),
             _ => out_of_form(row),
         }
+    }
+
+    /// Pushes an identifier of so many zeros.
+    fn zeros(&mut self, row: &mut Row<'_>) -> Stepped {
+        let zeros = vec![in row.alloc(); 0u8; row.number()]?;
+        self.nsid(row, &zeros)
     }
 }
 
@@ -115,10 +118,20 @@ fn understood(opt: &mut OptBuilder, step: &str, row: &mut Row<'_>) -> Stepped {
         .iter()
         .map(|number| SecurityAlgorithm::from_int(*number))
         .collect(row.alloc())?;
+    push_understood(opt, row.alloc(), step, &listed)
+}
+
+/// Pushes algorithms, which a client understands.
+fn push_understood(
+    opt: &mut OptBuilder,
+    alloc: Global,
+    step: &str,
+    listed: &[SecurityAlgorithm],
+) -> Stepped {
     match step {
-        "dau" => opt.dau(row.alloc(), &listed),
-        "dhu" => opt.dhu(row.alloc(), &listed),
-        _ => opt.n3u(row.alloc(), &listed),
+        "dau" => opt.dau(alloc, listed),
+        "dhu" => opt.dhu(alloc, listed),
+        _ => opt.n3u(alloc, listed),
     }
 }
 
@@ -167,14 +180,28 @@ fn push_kind(opt: &mut OptBuilder, step: &str, row: &mut Row<'_>) -> Stepped {
     match step {
         "dau" | "dhu" | "n3u" => understood(opt, step, row),
         "chain" => chain(opt, row),
-        "cookie" => opt.cookie(row.alloc(), client_alone(row)),
-        "expire" => opt.expire(row.alloc(), row.optional()),
-        "extended_error" => extended_error(opt, row),
-        "tcp_keepalive" => tcp_keepalive(opt, row),
         "key_tag" => key_tag(opt, row),
         "nsid" => nsid(opt, row),
         "client_nsid" => opt.client_nsid(row.alloc()),
+        _ => push_numbers(opt, step, row),
+    }
+}
+
+/// Pushes an option of a kind whose data begins with a number, or has nothing else.
+fn push_numbers(opt: &mut OptBuilder, step: &str, row: &mut Row<'_>) -> Stepped {
+    match step {
+        "expire" => opt.expire(row.alloc(), row.optional()),
+        "extended_error" => extended_error(opt, row),
+        "tcp_keepalive" => tcp_keepalive(opt, row),
         "client_subnet" => client_subnet(opt, row),
+        _ => push_other(opt, step, row),
+    }
+}
+
+/// Pushes an option of the other kinds, or as it is.
+fn push_other(opt: &mut OptBuilder, step: &str, row: &mut Row<'_>) -> Stepped {
+    match step {
+        "cookie" => opt.cookie(row.alloc(), client_alone(row)),
         "padding" => opt.padding(row.alloc(), row.number()),
         _ => Target::Built(opt).step(step, row),
     }
@@ -205,15 +232,21 @@ impl Steps for Building<'_> {
             row.all_words();
             return Ok(());
         }
-        match step {
-            "udp_payload_size" => self.opt.set_udp_payload_size(row.number()),
-            "rcode" => self.opt.set_rcode(rcode(row)),
-            "version" => self.opt.set_version(row.number()),
-            "dnssec_ok" => self.opt.set_dnssec_ok(true),
-            _ => self.done = push_kind(self.opt, step, row),
-        }
+        self.done = set_or_push(self.opt, step, row);
         Ok(())
     }
+}
+
+/// Sets a number of a record, or pushes an option.
+fn set_or_push(opt: &mut OptBuilder, step: &str, row: &mut Row<'_>) -> Stepped {
+    match step {
+        "udp_payload_size" => opt.set_udp_payload_size(row.number()),
+        "rcode" => opt.set_rcode(rcode(row)),
+        "version" => opt.set_version(row.number()),
+        "dnssec_ok" => opt.set_dnssec_ok(true),
+        _ => return push_kind(opt, step, row),
+    }
+    Ok(())
 }
 
 /// Builds a record by the steps of a row.

@@ -21,11 +21,18 @@ fn replies(row: &mut Row<'_>) -> Result<(), RowError> {
     let stream = with_limit(row.number());
     let mut state = BookState::resume(DgramConfig::new(), stream, row.number());
     for name in row.word().split(',') {
-        if !row.said().is_empty() {
-            row.close(",");
-        }
-        reply_said(row, &state.call(&call_named(name)?));
+        asked(row, &mut state, name)?;
     }
+    Ok(())
+}
+
+/// The reply of a book to a call by its name; a comma parts it from what stands there.
+fn asked(row: &mut Row<'_>, state: &mut BookState, name: &str) -> Result<(), RowError> {
+    if !row.said().is_empty() {
+        row.close(",");
+    }
+    let call = call_named(name)?;
+    reply_said(row, &state.call(&call));
     Ok(())
 }
 
@@ -43,14 +50,17 @@ fn call_named(name: &str) -> Result<Call, RowError> {
         "release" => Ok(Call::Release),
         "shutdown" => Ok(Call::Shutdown),
         "look" => Ok(Call::Look),
-        _ => {
-            let limit = name.strip_prefix("reconfigure:");
-            Ok(Call::Reconfigure {
-                dgram: DgramConfig::new(),
-                stream: with_limit(number_of(limit.ok_or(RowError::OutOfForm)?)?),
-            })
-        }
+        _ => reconfigure(name),
     }
+}
+
+fn reconfigure(name: &str) -> Result<Call, RowError> {
+    let limit = name.strip_prefix("reconfigure:");
+    let limit = number_of(limit.ok_or(RowError::OutOfForm)?)?;
+    Ok(Call::Reconfigure {
+        dgram: DgramConfig::new(),
+        stream: with_limit(limit),
+    })
 }
 
 fn reply_said(row: &mut Row<'_>, reply: &Reply) {
@@ -84,12 +94,18 @@ fn admission_said(row: &mut Row<'_>, admission: &Admission) {
     }
 }
 
+/// Whether nothing but the limit of connections is configured.
+fn has_defaults(look: &Look) -> bool {
+    let limit = look.stream.max_concurrent_connections();
+    look.dgram == DgramConfig::new() && look.stream == with_limit(limit)
+}
+
 /// The version, whether the book is closed, and how many slots are taken of how many. Nothing else may be configured.
 fn look_said(row: &mut Row<'_>, look: &Look) {
-    let limit = look.stream.max_concurrent_connections();
-    if look.dgram != DgramConfig::new() || look.stream != with_limit(limit) {
+    if !has_defaults(look) {
         return row.say("another configuration");
     }
+    let limit = look.stream.max_concurrent_connections();
     row.show(&look.version);
     row.say(if look.closed { "closed" } else { "open" });
     row.show(&look.taken);

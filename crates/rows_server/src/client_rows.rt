@@ -2,12 +2,14 @@
 
 ghost use Rattle.std.specs.Prelude.{◌≡◌, false};
 
-use crate::event_rows::events_of;
+use crate::event_rows::steps_of;
 use crate::line_rows::say_lines;
 use crate::service_rows::rules;
-use dns_core::{BookState, ClientCore, Event, EventKind, Framer, IdleTimer, Look, Settings};
+use dns_core::{
+    BookState, ClientCore, Event, EventKind, Framer, IdleTimer, Output, Settings, Step,
+};
 use dns_server::ScriptService;
-use dns_service::{DgramConfig, Plainly, Served, StreamConfig};
+use dns_service::{DgramConfig, OutOfMemory, Plainly, Served, StreamConfig};
 use rows_table::{Calls, Row, RowError};
 use std::alloc::Global;
 
@@ -19,7 +21,9 @@ impl Calls for ClientRows {
         match call {
             "framer" => frames(row),
             "idle_timer" => timer(row),
-            "client_core" => client(row),
+            "client_core" => client(row, Says::Sent),
+            "client_waits" => client(row, Says::Waits),
+            "client_survives" => client(row, Says::Survives),
             "settings" => settings(row),
             _ => Err(RowError::NoSuchCall),
         }
@@ -58,55 +62,125 @@ fn timer(row: &mut Row<'_>) -> Result<(), RowError> {
     Ok(())
 }
 
-/// What an open book with the default configurations shows.
-fn shown() -> Look
-    ensures { result.closed ≡ false }
-{
-    BookState::new(DgramConfig::new(), StreamConfig::new()).shown()
+/// What a row says of a core after a step: what it is sent, what waits for its driver, or nothing.
+#[derive(Clone, Copy, PartialEq, Eq)]
+enum Says {
+    Sent,
+    Waits,
+    Survives,
 }
 
-/// What one client is sent for its events, whose service answers each request with NXDOMAIN at its second poll.
-fn client(row: &mut Row<'_>) -> Result<(), RowError> {
-    let events = events_of(row.alloc(), row.all_words())?;
+/// An open book with the default configurations.
+fn open_book() -> BookState
+    ensures { result.closed ≡ false }
+{
+    BookState::new(DgramConfig::new(), StreamConfig::new())
+}
+
+/// The core of a client by the first of its steps, which is stepped through the others. Its service answers each request with
+/// NXDOMAIN at its second poll.
+fn client(row: &mut Row<'_>, says: Says) -> Result<(), RowError> {
+    let steps = steps_of(row.alloc(), row.all_words())?;
     let service = Plainly {
         service: ScriptService::new(rules(row.alloc(), 3)?),
     };
-    served(row, &service, &events)
-}
-
-/// What the core of a client, by its first event, is sent for the others.
-fn served<S: Served>(row: &mut Row<'_>, service: &S, events: &[Event]) -> Result<(), RowError>
-    requires { S.can_call service.now }
-{
-    let Some((first, rest)) = events.split_first() else {
+    let Some((Step::Own(first), rest)) = steps.split_first() else {
         return Err(RowError::Missing);
     };
-    let mut core = core_of(row.alloc(), service, first)?;
-    for event in rest {
-        stepped(row, &mut core, service, event)?;
+    let mut core = core_of(row.alloc(), &service, first)?;
+    stepped_through(row, &mut core, &service, rest, says)
+}
+
+/// A core is stepped through steps, beside a book on which the events that all clients hear act.
+fn stepped_through<S: Served>(
+    row: &mut Row<'_>,
+    core: &mut ClientCore<S>,
+    service: &S,
+    steps: &[Step],
+    says: Says,
+) -> Result<(), RowError>
+    requires { S.can_call service.now }
+{
+    let mut book = open_book();
+    let mut lost = false;
+    for step in steps {
+        match stepped(row.alloc(), core, service, &mut book, step) {
+            Ok(outputs) => {
+                match says {
+                    Says::Sent => say_lines(row, &outputs),
+                    Says::Waits => say_waiting(row, core),
+                    Says::Survives => {}
+                }
+                if lost && !outputs.is_empty() {
+                    row.say("speaks");
+                }
+            }
+            Err(OutOfMemory) => lost = true,
+        }
+        if lost && !(core.is_closed() && core.queued() == 0) {
+            row.say("goes on");
+        }
+    }
+    if says == Says::Survives {
+        row.say("survives");
+    } else if lost {
+        row.fail(RowError::OutOfMemory);
     }
     Ok(())
 }
 
-/// What a core is sent for an event.
+/// What a core is sent for a step.
 fn stepped<S: Served>(
-    row: &mut Row<'_>,
+    alloc: Global,
     core: &mut ClientCore<S>,
     service: &S,
-    event: &Event,
-) -> Result<(), RowError>
+    book: &mut BookState,
+    step: &Step,
+) -> Result<Vec<Output>, OutOfMemory>
     requires { S.can_call service.now }
 {
-    let outputs = core.step(row.alloc(), service, event)?;
-    say_lines(row, &outputs);
-    Ok(())
+    let event = match step {
+        Step::Look { .. } => return core.saw(alloc, &book.shown()),
+        Step::Own(event) => event,
+    };
+    match &event.kind {
+        EventKind::Reconfigure { dgram, stream } => {
+            let _version = book.reconfigure(*dgram, *stream);
+            Ok(Vec::new(alloc))
+        }
+        EventKind::Shutdown => {
+            let _look = book.shutdown();
+            Ok(Vec::new(alloc))
+        }
+        _ => core.step(alloc, service, event),
+    }
+}
+
+/// Whether a core is closed, how many frames wait, the first of them, the first request that isn't done, and the first behind
+/// number 0.
+fn say_waiting<S: Served>(row: &mut Row<'_>, core: &ClientCore<S>) {
+    row.show(&core.is_closed());
+    row.show(&core.queued());
+    match core.front_frame() {
+        Some(frame) => row.hexadecimal(frame),
+        None => row.say("none"),
+    }
+    say_number(row, core.first_unfinished());
+    say_number(row, core.next_unfinished(0))
+}
+
+fn say_number(row: &mut Row<'_>, number: Option<u64>) {
+    match number {
+        Some(number) => row.show(&number),
+        None => row.say("none"),
+    }
 }
 
 /// The core of a client by its first event.
 fn core_of<S: Served>(alloc: Global, service: &S, event: &Event) -> Result<ClientCore<S>, RowError>
     requires { S.can_call service.now }
 {
-    let look = shown();
+    let look = open_book().shown();
     match &event.kind {
         EventKind::Offer { addr } => Ok(ClientCore::admit(
             alloc,

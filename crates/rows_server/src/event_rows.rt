@@ -1,10 +1,12 @@
-//! Rows of the lines of events and of the servers' configurations.
+//! Rows of the lines of events and looks and of the servers' configurations.
 
 use crate::texts::next_text;
 use crate::value_rows::say_size;
 use dns_name::SocketAddr;
-use dns_service::{DgramConfig, Event, EventKind, StreamConfig};
-use dns_trace::{LineError, Words, read_dgram, read_event, read_stream};
+use dns_service::{DgramConfig, Event, EventKind, Step, StreamConfig};
+use dns_trace::{
+    LineError, Words, read_budget, read_dgram, read_event, read_step, read_stream, with_budget,
+};
 use rows_table::{Calls, Row, RowError};
 use std::alloc::Global;
 
@@ -15,8 +17,10 @@ impl Calls for EventRows {
     fn answer(&self, call: &str, row: &mut Row<'_>) -> Result<(), RowError> {
         match call {
             "read_event" => event(row),
+            "read_step" => step(row),
             "read_stream" => stream(row),
             "read_dgram" => dgram(row),
+            "read_budget" => budget(row),
             _ => Err(RowError::NoSuchCall),
         }
     }
@@ -35,6 +39,22 @@ fn event(row: &mut Row<'_>) -> Result<(), RowError> {
     let words = Words::of(row.alloc(), &line)?;
     match read_event(row.alloc(), &words) {
         Ok(event) => event_said(row, &event),
+        Err(error) => refused(row, error),
+    }
+    Ok(())
+}
+
+fn step(row: &mut Row<'_>) -> Result<(), RowError> {
+    let line = next_text(row);
+    let words = Words::of(row.alloc(), &line)?;
+    match read_step(row.alloc(), &words) {
+        Ok(Step::Own(event)) => event_said(row, &event),
+        Ok(Step::Look { at, secs, client }) => {
+            row.show(&at);
+            row.show(&secs);
+            row.show(&client);
+            row.say("look")
+        }
         Err(error) => refused(row, error),
     }
     Ok(())
@@ -70,7 +90,8 @@ fn kind_said(row: &mut Row<'_>, kind: &EventKind) {
         EventKind::Reconfigure { dgram, stream } => {
             row.say("reconfigure");
             dgram_said(row, dgram);
-            stream_said(row, stream)
+            stream_said(row, stream);
+            budget_said(row, stream)
         }
         EventKind::End => row.say("end"),
         EventKind::Fault => row.say("fault"),
@@ -108,6 +129,17 @@ fn dgram(row: &mut Row<'_>) -> Result<(), RowError> {
     Ok(())
 }
 
+/// The budget of a line, as the default configuration has it then.
+fn budget(row: &mut Row<'_>) -> Result<(), RowError> {
+    let line = next_text(row);
+    let words = Words::of(row.alloc(), &line)?;
+    match read_budget(&words) {
+        Ok(budget) => budget_said(row, &with_budget(Some(budget), StreamConfig::new())),
+        Err(_) => row.say("refused"),
+    }
+    Ok(())
+}
+
 /// The largest response, and how long a write may take.
 fn dgram_said(row: &mut Row<'_>, dgram: &DgramConfig) {
     say_size(row, dgram.max_response_size());
@@ -124,15 +156,25 @@ fn stream_said(row: &mut Row<'_>, stream: &StreamConfig) {
     row.show(&stream.accept_connections_at_max())
 }
 
-/// The events of lines.
-pub(crate) fn events_of(alloc: Global, lines: &str) -> Result<Vec<Event>, RowError> {
-    let mut events = Vec::new(alloc);
+/// How many responses a connection may queue in a window, or `none`, and how long a window is.
+fn budget_said(row: &mut Row<'_>, stream: &StreamConfig) {
+    let connection = stream.connection_config();
+    match connection.response_budget() {
+        Some(count) => row.show(&count),
+        None => row.say("none"),
+    }
+    row.show(&connection.budget_window())
+}
+
+/// The steps of lines.
+pub(crate) fn steps_of(alloc: Global, lines: &str) -> Result<Vec<Step>, RowError> {
+    let mut steps = Vec::new(alloc);
     for line in lines.split(';') {
         let words = Words::of(alloc, line.as_bytes())?;
-        match read_event(alloc, &words) {
-            Ok(event) => events.push(event)?,
+        match read_step(alloc, &words) {
+            Ok(step) => steps.push(step)?,
             Err(_) => return Err(RowError::OutOfForm),
         }
     }
-    Ok(events)
+    Ok(steps)
 }

@@ -3,8 +3,8 @@
 use dns_base::{AdditionalBuilder, Message, MessageBuilder};
 use dns_core::ConnectionInvoker;
 use dns_service::{
-    CallResult, Enqueued, InvokerStatus, Once, ServiceError, ServiceFeedback, ServiceInvoker,
-    ServiceResult,
+    CallResult, ConnectionConfig, Enqueued, InvokerStatus, Once, ServiceError, ServiceFeedback,
+    ServiceInvoker, ServiceResult,
 };
 use rows_table::{Calls, Row, RowError};
 
@@ -15,6 +15,7 @@ impl Calls for InvokerRows {
     fn answer(&self, call: &str, row: &mut Row<'_>) -> Result<(), RowError> {
         match call {
             "enqueue_response" => enqueued(row),
+            "enqueue_in_budget" => enqueued_in_budget(row),
             "process_item" => processed(row),
             "dispatch" => dispatched(row),
             _ => Err(RowError::NoSuchCall),
@@ -22,10 +23,16 @@ impl Calls for InvokerRows {
     }
 }
 
-/// The invoker of a connection with a queue of so many frames.
-fn invoker(row: &mut Row<'_>) -> Result<ConnectionInvoker, RowError> {
-    let bound = row.number();
-    Ok(ConnectionInvoker::new(row.alloc(), 30_000, bound)?)
+/// The invoker of a connection with a queue of so many frames, and a budget of so many replies in a second.
+fn invoker(
+    row: &Row<'_>,
+    bound: usize,
+    budget: Option<u32>,
+) -> Result<ConnectionInvoker, RowError> {
+    let mut config = ConnectionConfig::new();
+    config.set_max_queued_responses(bound);
+    config.set_response_budget(budget);
+    Ok(ConnectionInvoker::new(row.alloc(), 0, &config)?)
 }
 
 fn status(name: &str) -> Result<InvokerStatus, RowError> {
@@ -44,9 +51,25 @@ fn reply(row: &Row<'_>) -> Result<AdditionalBuilder, RowError> {
 
 /// What becomes of two replies, at a status.
 fn enqueued(row: &mut Row<'_>) -> Result<(), RowError> {
-    let mut invoker = invoker(row)?;
+    let bound = row.number();
+    let mut invoker = invoker(row, bound, None)?;
     invoker.set_status(status(row.word())?);
     for _ in 0..2 {
+        let reply = reply(row)?;
+        let fate: Enqueued = invoker.enqueue_response(reply);
+        row.debug(&fate);
+    }
+    Ok(())
+}
+
+/// What becomes of three replies at their moments, at a status.
+fn enqueued_in_budget(row: &mut Row<'_>) -> Result<(), RowError> {
+    let bound = row.number();
+    let budget = row.number();
+    let mut invoker = invoker(row, bound, Some(budget))?;
+    invoker.set_status(status(row.word())?);
+    for _ in 0..3 {
+        invoker.set_moment(row.number());
         let reply = reply(row)?;
         let fate: Enqueued = invoker.enqueue_response(reply);
         row.debug(&fate);
@@ -75,7 +98,7 @@ fn query(row: &mut Row<'_>) -> Result<Message, RowError> {
 
 /// The reply that an item to a query has, and the status after it.
 fn processed(row: &mut Row<'_>) -> Result<(), RowError> {
-    let mut invoker = ConnectionInvoker::new(row.alloc(), 30_000, 1)?;
+    let mut invoker = invoker(row, 1, None)?;
     let query = query(row)?;
     let name = row.word();
     let item = item(row, name)?;
@@ -89,7 +112,7 @@ fn processed(row: &mut Row<'_>) -> Result<(), RowError> {
 
 /// What two polls of a stream of one item led to, and the status after each.
 fn dispatched(row: &mut Row<'_>) -> Result<(), RowError> {
-    let mut invoker = ConnectionInvoker::new(row.alloc(), 30_000, 1)?;
+    let mut invoker = invoker(row, 1, None)?;
     let query = query(row)?;
     let name = row.word();
     let item = item(row, name)?;

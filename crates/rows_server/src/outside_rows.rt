@@ -17,10 +17,17 @@ impl Calls for OutsideRows {
             "writing" => writing(row),
             "memory_source" => memory_source(row),
             "memory_sink" => memory_sink(row),
-            "steady_source" => steady_source(row),
-            "steady_sink" => steady_sink(row),
-            _ => Err(RowError::NoSuchCall),
+            _ => of_steady(call, row),
         }
+    }
+}
+
+/// The calls of sources and sinks that never fail.
+fn of_steady(call: &str, row: &mut Row<'_>) -> Result<(), RowError> {
+    match call {
+        "steady_source" => steady_source(row),
+        "steady_sink" => steady_sink(row),
+        _ => Err(RowError::NoSuchCall),
     }
 }
 
@@ -76,11 +83,17 @@ pub(crate) fn failing(alloc: Global, number: Option<u64>) -> Result<Vec<u64>, Ro
 fn memory_source(row: &mut Row<'_>) -> Result<(), RowError> {
     let failing = failing(row.alloc(), Some(row.number()))?;
     let most = row.number();
-    let mut source = MemorySource::new(row.vector(), failing, most);
+    let source = MemorySource::new(row.vector(), failing, most);
+    read_twice(row, source);
+    Ok(())
+}
+
+/// The same of a source.
+fn read_twice(row: &mut Row<'_>, source: MemorySource) {
+    let mut source = source;
     say_whole(row, &mut source);
     row.hexadecimal(source.left());
-    say_whole(row, &mut source);
-    Ok(())
+    say_whole(row, &mut source)
 }
 
 /// What writing the piece of the next word whole gives, and what the sink has then.

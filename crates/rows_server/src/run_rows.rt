@@ -3,7 +3,8 @@
 use crate::outside_rows::failing;
 use crate::texts::{next_text, say_text};
 use dns_outside::{MemorySink, MemorySource, Reading, Source};
-use dns_server::{ScriptError, read_script, run};
+use dns_server::{Script, ScriptError, read_script, run};
+use dns_service::Event;
 use rows_table::{Calls, Row, RowError};
 use std::alloc::Global;
 use std::io;
@@ -14,7 +15,8 @@ pub(crate) struct RunRows;
 impl Calls for RunRows {
     fn answer(&self, call: &str, row: &mut Row<'_>) -> Result<(), RowError> {
         match call {
-            "replay" => replay(row),
+            "replay" => script(row, "replay"),
+            "steps" => script(row, "steps"),
             "run" => with_faults(row),
             "endless" => endless(row),
             "read_script" => read_text(row),
@@ -74,15 +76,25 @@ fn untouched(source: &MemorySource, size: usize) -> &'static str {
 /// How the run of a word over a source ends, and what it writes.
 fn written<S: Source>(row: &mut Row<'_>, word: &str, source: &mut S) -> Result<(), RowError> {
     let mut sink = sink(row.alloc(), None)?;
-    ran(row, word, source, &mut sink)?;
+    written_to(row, word, source, &mut sink)
+}
+
+/// The same to a sink.
+fn written_to<S: Source>(
+    row: &mut Row<'_>,
+    word: &str,
+    source: &mut S,
+    sink: &mut MemorySink,
+) -> Result<(), RowError> {
+    ran(row, word, source, sink)?;
     say_text(row, sink.written());
     Ok(())
 }
 
-/// How the run of a script ends, and what it writes.
-fn replay(row: &mut Row<'_>) -> Result<(), RowError> {
+/// How the run of a word over a script ends, and what it writes.
+fn script(row: &mut Row<'_>, word: &str) -> Result<(), RowError> {
     let mut source = MemorySource::new(next_text(row), Vec::new(row.alloc()), 40);
-    written(row, "replay", &mut source)
+    written(row, word, &mut source)
 }
 
 /// How the run of a word ends where one read and one write fail, or none, whether anything was read, and what it writes.
@@ -106,18 +118,28 @@ fn read_text(row: &mut Row<'_>) -> Result<(), RowError> {
     if script.len() >= 67_108_864 {
         return Err(RowError::OutOfForm);
     }
-    match read_script(row.alloc(), &script) {
-        Ok(script) => {
-            let (_, rules, zones, events) = script.into_parts();
-            row.show(&rules.as_slice().len());
-            row.show(&zones.as_slice().len());
-            row.show(&events.len());
-        }
-        Err(ScriptError::Refused { line, .. }) => {
-            row.say("refused");
-            row.show(&line);
-        }
-        Err(ScriptError::OutOfMemory) => row.fail(RowError::OutOfMemory),
+    match read_script::<Event>(row.alloc(), &script) {
+        Ok(script) => script_said(row, script),
+        Err(error) => refusal_said(row, &error),
     }
     Ok(())
+}
+
+/// How many rules of the service and of the target, and events, a script has.
+fn script_said(row: &mut Row<'_>, script: Script<Event>) {
+    let (_, rules, zones, events) = script.into_parts();
+    row.show(&rules.as_slice().len());
+    row.show(&zones.as_slice().len());
+    row.show(&events.len())
+}
+
+/// The first bad line.
+fn refusal_said(row: &mut Row<'_>, error: &ScriptError) {
+    match error {
+        ScriptError::Refused { line, .. } => {
+            row.say("refused");
+            row.show(line)
+        }
+        ScriptError::OutOfMemory => row.fail(RowError::OutOfMemory),
+    }
 }

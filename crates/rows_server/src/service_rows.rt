@@ -38,11 +38,18 @@ pub(crate) fn rules(alloc: Global, rcode: u8) -> Result<Rules, RowError> {
         ScriptAnswer::Reply(ScriptReply::Rcode(rcode)),
     ];
     let answers = ScriptAnswers::from_slice(alloc, answers.as_slice())?;
+    one_rule(
+        alloc,
+        Rule {
+            name: None,
+            answers,
+        },
+    )
+}
+
+fn one_rule(alloc: Global, rule: Rule) -> Result<Rules, RowError> {
     let mut rules = Rules::from_vec(Vec::new(alloc));
-    rules.push(Rule {
-        name: None,
-        answers,
-    })?;
+    rules.push(rule)?;
     Ok(rules)
 }
 

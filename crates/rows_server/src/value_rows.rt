@@ -27,9 +27,23 @@ fn of_line(row: &mut Row<'_>, call: &str, text: &[u8]) -> Result<(), RowError> {
     match call {
         "split_line" => line_and_rest(row, text),
         "says_nothing" => skipped(row, text)?,
-        "words" => words_said(row, &Words::of(row.alloc(), text)?),
-        _ => words_said(row, &Words::parts(row.alloc(), text, b'.')?),
+        "words" => words_of(row, text)?,
+        _ => parts_of(row, text)?,
     }
+    Ok(())
+}
+
+/// The words that spaces part.
+fn words_of(row: &mut Row<'_>, text: &[u8]) -> Result<(), RowError> {
+    let words = Words::of(row.alloc(), text)?;
+    words_said(row, &words);
+    Ok(())
+}
+
+/// The words that dots part.
+fn parts_of(row: &mut Row<'_>, text: &[u8]) -> Result<(), RowError> {
+    let words = Words::parts(row.alloc(), text, b'.')?;
+    words_said(row, &words);
     Ok(())
 }
 
@@ -39,12 +53,28 @@ fn of_word(row: &mut Row<'_>, call: &str, text: &[u8]) -> Result<(), RowError> {
         "octets" => octets_said(row, text),
         "secret" => secret_said(row, text),
         "size" => size_said(row, text),
-        "name" => line_value(row, name(row.alloc(), text)),
-        "quad" => line_value(row, quad(row.alloc(), text)),
-        "addr" => line_value(row, addr(row.alloc(), text)),
+        _ => return of_value(row, call, text),
+    }
+    Ok(())
+}
+
+/// What a word spells that has a text.
+fn of_value(row: &mut Row<'_>, call: &str, text: &[u8]) -> Result<(), RowError> {
+    match call {
         "num" => value(row, num(text)),
         "port" => value(row, port(text)),
         "yes_no" => value(row, yes_no(text)),
+        _ => return of_address(row, call, text),
+    }
+    Ok(())
+}
+
+/// What a word spells that is a name or an address.
+fn of_address(row: &mut Row<'_>, call: &str, text: &[u8]) -> Result<(), RowError> {
+    match call {
+        "name" => line_value(row, name(row.alloc(), text)),
+        "quad" => line_value(row, quad(row.alloc(), text)),
+        "addr" => line_value(row, addr(row.alloc(), text)),
         _ => return Err(RowError::NoSuchCall),
     }
     Ok(())
