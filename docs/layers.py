@@ -13,7 +13,7 @@ HERE = os.path.dirname(os.path.realpath(__file__))
 # Each row from the top: its color, and its boxes, a crate or several and what they hold.
 ROWS = [
     ("#f6d6c4", [("nutscythe", "the program: main alone"), ("example_answer", "a small program over the libraries")]),
-    ("#f6d6c4", [("dns_server", "scripts, the lines written, run"), ("dns_outside", "sources and sinks")]),
+    ("#f6d6c4", [("dns_server", "scripts, the lines written, run"), ("dns_outside", "sources, sinks, sockets")]),
     ("#f8e7b9", [("dns_core", "all clients: serve_events"), ("dns_trace", "the lines of a script"), ("dns_book", "what servers share")]),
     ("#f8e7b9", [("dns_client", "one client: frames, requests, queue"), ("dns_middleware", "the mandatory and the EDNS layer"), ("dns_route", "routers, single services")]),
     ("#d7e8c8", [("dns_service", "requests, services, replies, events, outputs"), ("dns_stream", "polled streams"), ("dns_admission", "slots, configurations")]),
