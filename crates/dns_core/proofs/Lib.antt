@@ -50,6 +50,9 @@ pub mod LooksInTurn
 pub mod SameAtOnce
 pub mod AllAtOnce
 pub mod Bounded
+pub mod Rests
+pub mod Grows
+pub mod Windows
 pub mod Leaves
 pub mod StepsTrail
 pub mod Changed

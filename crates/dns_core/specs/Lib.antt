@@ -19,6 +19,7 @@ pub mod Outs
 pub mod AtOnce
 pub mod Changes
 pub mod SlateBy
+pub mod Budgets
 pub mod StepsByClient
 pub mod SplitServer
 pub mod Runs

@@ -3,6 +3,7 @@
 ghost use Rattle.dns_client.specs.Serving.{Serving, serving};
 ghost use Rattle.std.specs.Prelude.{◌≡◌, ◌≢◌, ◌<◌, ◌≤◌, ℕ, List, length, [], ◌∷◌, ◌++◌, true, false, Option, Some, None, slice_get, nat_eq, filter, All};
 ghost use Rattle.std.specs.List.{list_any};
+ghost use Rattle.std.specs.List.Sorted.{IsNonDecreasingBy};
 ghost use Rattle.dns_service.specs.Answer.{Answer};
 ghost use Rattle.dns_service.specs.Req.{Req};
 ghost use Rattle.dns_service.specs.declared.event.Event.{Event};
@@ -12,7 +13,8 @@ ghost use Rattle.dns_client.specs.Rule.{rule};
 ghost use Rattle.dns_client.specs.Slate.{Closed};
 ghost use Rattle.dns_service.specs.declared.event.Output.{Output};
 ghost use Rattle.dns_name.specs.declared.address.SocketAddr.{SocketAddr};
-ghost use Rattle.dns_service.specs.Config.{Dgram, Stream};
+ghost use Rattle.dns_service.specs.Config.{Dgram, Stream, IsBudget};
+ghost use Rattle.dns_core.specs.Budgets.{AllowsAtMost, StaysAtMost, queued_in};
 ghost use Rattle.dns_core.specs.Own.{is_wide, own};
 ghost use Rattle.dns_core.specs.Placed.{is_beginning};
 ghost use Rattle.dns_core.specs.Runs.{IsReconfigure};
@@ -212,4 +214,13 @@ pub fn queues_keep_their_bound()
     ensures kept { (answers : Serving) (settings : Settings) (es fs : List Event)
         → is_unused (slate_by answers settings es).phase ≡ false
         → (slate_by answers settings (es ++ fs)).bound ≡ (slate_by answers settings es).bound }
+{}
+
+/// Where time doesn't go back, windows keep their length, and no configuration allows more than b replies in one of them, a connection
+/// queues at most b replies in each window of time: a reconfigure refills nothing.
+pub fn budgets_are_kept()
+    ensures { (answers : Serving) (settings : Settings) (es fs : List Event) (b w n : ℕ)
+        → IsBudget (Some b) → AllowsAtMost b w (slate_by answers settings es).conf.stream.connection_config
+        → All (λ e. StaysAtMost b w e.kind) fs → IsNonDecreasingBy (λ e. e.at) fs
+        → queued_in answers w n (slate_by answers settings es) fs ≤ b }
 {}
