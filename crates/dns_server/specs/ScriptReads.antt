@@ -16,6 +16,11 @@ abbrev pub RefusesScript : {E : Type 0} → ScriptError → Result (Plan E) (ℕ
 RefusesScript OutOfMemory read = Unit {0}
 RefusesScript (Refused n r) read = read ≡ Err (n, r)
 
+-- what is said with a line more, which has its number, or its refusal, unless memory was wanting
+abbrev pub TakesNumbered : {E : Type 0} → Result (Unit {0}) ScriptError → Plan E → Result (Plan E) (ℕ × Reason) → Type 0
+TakesNumbered (Ok u) said read = read ≡ Ok said
+TakesNumbered (Err e) said read = RefusesScript e read
+
 -- what a script says, or its first bad line, unless memory was wanting
 abbrev pub ReadsScript : {E : Type 0} → Result (Plan E) ScriptError → Result (Plan E) (ℕ × Reason) → Type 0
 ReadsScript (Ok s) read = read ≡ Ok s

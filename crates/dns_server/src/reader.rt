@@ -1,8 +1,8 @@
 //! The reader of a script.
 
 ghost use Rattle.std.specs.Prelude.{◌≡◌, ◌<◌, ◌^◌, [], drop, length};
-ghost use Rattle.dns_server.specs.Script.{after_line, after_words, cookie_line, next_event_line, said_line, script, server_line, switch_line};
-ghost use Rattle.dns_server.specs.ScriptReads.{ReadsScript, TakesLine};
+ghost use Rattle.dns_server.specs.Script.{after_line, after_words, cookie_line, next_event_line, numbered, said_line, script, server_line, switch_line};
+ghost use Rattle.dns_server.specs.ScriptReads.{ReadsScript, TakesLine, TakesNumbered};
 
 use crate::notify_lines::read_notify;
 use crate::rule_lines::read_rule;
@@ -130,8 +130,27 @@ fn after<E: Scripted>(alloc: Global, script: &mut Script<E>, line: &[u8]) -> Res
     after_words(alloc, script, is_text(line), &words)
 }
 
+/// What a script says with one line more, which has this number.
+fn after_numbered<E: Scripted>(
+    alloc: Global,
+    script: &mut Script<E>,
+    number: u64,
+    line: &[u8],
+) -> Result<(), ScriptError>
+    ensures { TakesNumbered result script.new (numbered number (after_line E.reading script.old line.now)) }
+{
+    match after(alloc, script, line) {
+        Ok(()) => Ok(()),
+        Err(LineError::OutOfMemory) => Err(ScriptError::OutOfMemory),
+        Err(LineError::Refused(reason)) => Err(ScriptError::Refused {
+            line: number,
+            reason,
+        }),
+    }
+}
+
 /// What a text says, or its first bad line and the reason.
-#[tactic(auto, unfolding(crate::specs::Script::script))]
+#[tactic(auto, using(crate::proofs::Numbered::refused_first), unfolding(crate::specs::Script::script))]
 pub fn read_script<E: Scripted>(alloc: Global, text: &[u8]) -> Result<Script<E>, ScriptError>
     requires { length text.now < 2 ^ 40 }
     ensures { ReadsScript result (script E.reading text.now) }
@@ -141,11 +160,7 @@ pub fn read_script<E: Scripted>(alloc: Global, text: &[u8]) -> Result<Script<E>,
     let mut line = 1u64;
     while !rest.is_empty() {
         let (first, more) = split_line(rest);
-        match after(alloc, &mut all, first) {
-            Ok(()) => {}
-            Err(LineError::OutOfMemory) => return Err(ScriptError::OutOfMemory),
-            Err(LineError::Refused(reason)) => return Err(ScriptError::Refused { line, reason }),
-        }
+        after_numbered(alloc, &mut all, line, first)?;
         rest = more;
         line += 1;
     }
