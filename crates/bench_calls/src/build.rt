@@ -4,8 +4,8 @@ ghost use Rattle.std.specs.Prelude.{◌≡◌};
 ghost use Rattle.dns_base.specs.Records.{IsLawful};
 
 use dns_base::{
-    AnswerBuilder, AuthorityBuilder, Header, Message, MessageBuilder, ParseError, Question,
-    QuestionBuilder, Record, RecordIter, Rtype, StreamTarget,
+    AdditionalBuilder, AnswerBuilder, AuthorityBuilder, Header, Message, MessageBuilder,
+    ParseError, Question, QuestionBuilder, Record, RecordIter, RecordRef, Rtype, StreamTarget,
 };
 use dns_cookie::{Cookie, siphash24};
 use dns_name::ExtendedErrorCode;
@@ -51,23 +51,44 @@ impl Parts {
     /// The parts of a message of one question with a cookie, without its options.
     pub fn of(alloc: Global, octets: &[u8]) -> Result<Parts, ParseError> {
         let message = Message::from_octets(Vec::from_slice(alloc, octets)?)?;
-        let cookie = cookie_of(&message).ok_or(ParseError::ShortInput)?;
-        let question = question_of(alloc, &message)?;
-        Ok(Parts {
+        parts_of(alloc, &message)
+    }
+}
+
+fn parts_of(alloc: Global, message: &Message) -> Result<Parts, ParseError> {
+    let cookie = cookie_of(message).ok_or(ParseError::ShortInput)?;
+    let question = question_of(alloc, message)?;
+    match records_of(alloc, message) {
+        Ok(records) => Ok(Parts {
             header: message.header(),
             question,
-            records: records_of(alloc, &message)?,
+            records,
             cookie,
-        })
+        }),
+        Err(error) => Err(error),
     }
 }
 
 fn records_of(alloc: Global, message: &Message) -> Result<Records, ParseError> {
-    Ok(Records {
-        answer: all_held(alloc, message.answer()?)?,
-        authority: all_held(alloc, message.authority()?)?,
-        additional: all_held(alloc, message.additional()?)?,
-    })
+    let answer = section(alloc, message.answer())?;
+    records_behind(alloc, message, answer)
+}
+
+/// The records of a message whose answer records are these.
+fn records_behind(
+    alloc: Global,
+    message: &Message,
+    answer: Vec<Held>,
+) -> Result<Records, ParseError> {
+    let authority = section(alloc, message.authority())?;
+    match section(alloc, message.additional()) {
+        Ok(additional) => Ok(Records {
+            answer,
+            authority,
+            additional,
+        }),
+        Err(error) => Err(error),
+    }
 }
 
 fn question_of(alloc: Global, message: &Message) -> Result<Question, ParseError> {
@@ -82,16 +103,29 @@ fn cookie_of(message: &Message) -> Option<Cookie> {
 }
 
 /// The records of a section, but for an OPT record.
-fn all_held(alloc: Global, records: RecordIter<'_>) -> Result<Vec<Held>, ParseError> {
+fn section(
+    alloc: Global,
+    records: Result<RecordIter<'_>, ParseError>,
+) -> Result<Vec<Held>, ParseError> {
     let mut all = Vec::new(alloc);
-    for record in records {
-        let record = record?;
-        if record.rtype() != Rtype::OPT {
-            let entry = record.to_record(alloc)?;
-            all.push(Held { entry })?;
-        }
+    for record in records? {
+        hold(alloc, &mut all, record)?;
     }
     Ok(all)
+}
+
+/// Appends a record, but for an OPT record.
+fn hold(
+    alloc: Global,
+    all: &mut Vec<Held>,
+    record: Result<RecordRef<'_>, ParseError>,
+) -> Result<(), ParseError> {
+    let record = record?;
+    if record.rtype() != Rtype::OPT {
+        let entry = record.to_record(alloc)?;
+        all.push(Held { entry })?;
+    }
+    Ok(())
 }
 
 /// Builds the response so many times, each time under another identifier, and gives the sum of the lengths and of
@@ -110,12 +144,22 @@ pub fn built(alloc: Global, parts: &Parts, count: u64) -> Result<u64, BuildDataE
 
 /// The response of these parts, of at most 512 octets.
 fn response(alloc: Global, parts: &Parts, id: u16) -> Result<StreamTarget, BuildDataError> {
+    let mut builder = up_to_additional(alloc, parts, id)?;
+    builder.opt(alloc, |opt| options(opt, alloc, parts.cookie))?;
+    Ok(builder.finish())
+}
+
+/// The response up to its additional records.
+fn up_to_additional(
+    alloc: Global,
+    parts: &Parts,
+    id: u16,
+) -> Result<AdditionalBuilder, BuildDataError> {
     let mut builder = up_to_authority(alloc, parts, id)?.additional();
     for held in &parts.records.additional {
         builder.push(alloc, &held.entry)?;
     }
-    builder.opt(alloc, |opt| options(opt, alloc, parts.cookie))?;
-    Ok(builder.finish())
+    Ok(builder)
 }
 
 /// The response up to its authority records.
@@ -156,6 +200,11 @@ fn options(opt: &mut OptBuilder, alloc: Global, cookie: Cookie) -> Result<(), Bu
     opt.set_dnssec_ok(true);
     opt.cookie(alloc, cookie)?;
     opt.nsid(alloc, b"ns1.site")?;
+    more_options(opt, alloc)
+}
+
+/// The last three options.
+fn more_options(opt: &mut OptBuilder, alloc: Global) -> Result<(), BuildDataError> {
     opt.extended_error(alloc, ExtendedErrorCode::from_int(3), Some("Stale Answer"))?;
     opt.tcp_keepalive(alloc, Some(IdleTimeout::from(100)))?;
     opt.padding(alloc, 51)

@@ -1,9 +1,11 @@
 //! A query to a service that answers at once, through the layers round it and without them.
 
-ghost use Rattle.std.specs.Prelude.{◌≡◌, ◌≤◌, None, Some, Ok, length};
+ghost use Rattle.std.specs.Prelude.{◌≡◌, ◌≤◌, IfOk, None, Some, Ok, length};
 ghost use Rattle.std.specs.Result.{ForOk};
+ghost use Rattle.dns_base.specs.Records.{IsLawful};
 
 use crate::work::WorkError;
+use crate::wrapped::in_all;
 use dns_base::{
     AdditionalBuilder, AnswerBuilder, Class, Message, MessageBuilder, Name, OutOfMemory,
     ParseError, Record, RecordData, Ttl,
@@ -17,22 +19,22 @@ use dns_service::{
 use std::alloc::Global;
 
 /// The query for the root's address, with RD and an OPT record of size 1232.
-pub(crate) const QUERY: [u8; 28] =
+const QUERY: [u8; 28] =
     *b"\x12\x34\x01\x00\x00\x01\x00\x00\x00\x00\x00\x01\x00\x00\x01\x00\x01\x00\x00\x29\x04\xd0\x00\x00\x00\x00\x00\x00";
 
 /// The same without the OPT record.
-pub(crate) const BARE_QUERY: [u8; 17] =
+const BARE_QUERY: [u8; 17] =
     *b"\x12\x34\x01\x00\x00\x01\x00\x00\x00\x00\x00\x00\x00\x00\x01\x00\x01";
 
 /// The reply that stands beside the closure, to any request.
-pub(crate) struct Same {}
+struct Same {}
 
 impl Gives<AdditionalBuilder> for Same {
     ghost item = { λ _ reply. Ok (record { response = Some reply.message; feedback = None }) };
 }
 
 /// What the closure gives.
-pub(crate) fn given(
+fn given(
     alloc: Global,
     _request: &Request<()>,
     reply: &AdditionalBuilder,
@@ -42,50 +44,56 @@ pub(crate) fn given(
     Ok(Ok(CallResult::new(reply.try_clone(alloc)?)))
 }
 
-/// The sum of the replies to so many queries of a service that answers at once.
-pub fn plain_replies(alloc: Global, count: u64) -> Result<u64, WorkError> {
-    served(alloc, false, &mut QUERY, count)
+/// What stands round the service.
+#[derive(Clone, Copy)]
+pub enum Round {
+    /// Nothing.
+    Nothing,
+    /// The EDNS layer within the mandatory one.
+    Two,
+    /// All layers, with cookies on.
+    All,
 }
 
-/// The sum of the replies to so many queries of that service within the EDNS layer within the mandatory one.
-pub fn layered_replies(alloc: Global, count: u64) -> Result<u64, WorkError> {
-    served(alloc, true, &mut QUERY, count)
+/// The sum of the replies to so many queries of a service that answers at once.
+pub fn replies_to_query(alloc: Global, round: Round, count: u64) -> Result<u64, WorkError> {
+    served(alloc, round, &mut QUERY, count)
 }
 
 /// The same for queries without an OPT record.
-pub fn bare_replies(alloc: Global, count: u64) -> Result<u64, WorkError> {
-    served(alloc, true, &mut BARE_QUERY, count)
+pub fn replies_to_bare(alloc: Global, round: Round, count: u64) -> Result<u64, WorkError> {
+    served(alloc, round, &mut BARE_QUERY, count)
 }
 
 /// The sum of the replies to so many queries of the service, within the layers or alone.
-fn served(alloc: Global, layered: bool, query: &mut [u8], count: u64) -> Result<u64, WorkError>
+fn served(alloc: Global, round: Round, query: &mut [u8], count: u64) -> Result<u64, WorkError>
     requires { 2 ≤ length query.old }
 {
     let answer = answer(alloc)?;
     let service = service_fn::<Same, _, AdditionalBuilder>(given, answer);
-    within(alloc, service, layered, query, count)
+    within(alloc, service, round, query, count)
 }
 
 /// The sum of the replies of a service, within the layers or alone.
 fn within<S: Service<()>>(
     alloc: Global,
     service: S,
-    layered: bool,
+    round: Round,
     query: &mut [u8],
     count: u64,
 ) -> Result<u64, WorkError>
     requires can_call { S.can_call service }
     requires identifier { 2 ≤ length query.old }
 {
-    if layered {
-        within_mandatory(alloc, EdnsMiddlewareSvc::new(service), query, count)
-    } else {
-        replies(alloc, &service, query, count)
+    match round {
+        Round::Nothing => replies(alloc, &service, query, count),
+        Round::Two => in_mandatory(alloc, EdnsMiddlewareSvc::new(service), query, count),
+        Round::All => in_all(alloc, query, count, service),
     }
 }
 
 /// The sum of the replies where a service stands within the mandatory layer.
-fn within_mandatory<S: Service<()>>(
+fn in_mandatory<S: Service<()>>(
     alloc: Global,
     service: S,
     query: &mut [u8],
@@ -104,20 +112,38 @@ fn started(alloc: Global) -> Result<AnswerBuilder, WorkError> {
 }
 
 /// The answer of one address.
-pub(crate) fn answer(alloc: Global) -> Result<AdditionalBuilder, WorkError> {
+fn answer(alloc: Global) -> Result<AdditionalBuilder, WorkError> {
     let mut answer = started(alloc)?;
     push_address(alloc, &mut answer)?;
     Ok(answer.additional())
 }
 
 fn push_address(alloc: Global, answer: &mut AnswerBuilder) -> Result<(), WorkError> {
-    let record = Record {
-        owner: Name::root(alloc)?,
-        class: Class::IN,
-        ttl: Ttl::from_secs(300),
-        rdata: RecordData::A([192, 0, 2, 1]),
-    };
-    Ok(answer.push(alloc, &record)?)
+    match address(alloc) {
+        Ok(record) => push(alloc, answer, &record),
+        Err(error) => Err(error.into()),
+    }
+}
+
+fn push(alloc: Global, answer: &mut AnswerBuilder, record: &Record) -> Result<(), WorkError>
+    requires { IsLawful record.now.rdata }
+{
+    Ok(answer.push(alloc, record)?)
+}
+
+/// The root's address 192.0.2.1.
+fn address(alloc: Global) -> Result<Record, OutOfMemory>
+    ensures { IfOk result (λ r. IsLawful r.rdata) }
+{
+    match Name::root(alloc) {
+        Ok(owner) => Ok(Record {
+            owner,
+            class: Class::IN,
+            ttl: Ttl::from_secs(300),
+            rdata: RecordData::A([192, 0, 2, 1]),
+        }),
+        Err(error) => Err(error),
+    }
 }
 
 /// The sum of the replies to so many queries, whose identifier is another each time.
@@ -134,10 +160,17 @@ pub(crate) fn replies<S: Service<()>>(
     for i in 0..count {
         query[0] = (i / 256 % 256) as u8;
         query[1] = (i % 256) as u8;
-        let mut request = request(alloc, query)?;
-        sum = sum.wrapping_add(reply_sum(alloc, service, &mut request)?);
+        sum = sum.wrapping_add(asked_sum(alloc, service, query)?);
     }
     Ok(sum)
+}
+
+/// The sum of the octets of the one reply to a query.
+fn asked_sum<S: Service<()>>(alloc: Global, service: &S, query: &[u8]) -> Result<u64, WorkError>
+    requires { S.can_call service.now }
+{
+    let mut request = request(alloc, query)?;
+    reply_sum(alloc, service, &mut request)
 }
 
 fn message(alloc: Global, octets: &[u8]) -> Result<Message, ParseError> {
@@ -164,6 +197,11 @@ fn reply_sum<S: Service<()>>(
     requires { S.can_call service.now }
 {
     let mut future = service.call(alloc, request)?;
+    future_sum(alloc, &mut future)
+}
+
+/// The sum of the octets of the one reply of a future's stream.
+fn future_sum<F: ReplyFuture>(alloc: Global, future: &mut F) -> Result<u64, WorkError> {
     match future.poll(alloc)? {
         Polled::Ready(mut stream) => stream_sum(alloc, &mut stream),
         Polled::Pending => Err(WorkError::Service),
@@ -172,18 +210,29 @@ fn reply_sum<S: Service<()>>(
 
 /// The sum of the octets of a stream's one reply.
 fn stream_sum<R: ReplyStream>(alloc: Global, stream: &mut R) -> Result<u64, WorkError> {
-    let sum = polled_sum(stream.poll_next(alloc)?);
-    if !is_end(&stream.poll_next(alloc)?) {
-        return Err(WorkError::Service);
-    }
-    sum.ok_or(WorkError::Service)
+    let sum = next_sum(alloc, stream)?;
+    end(alloc, stream)?;
+    Ok(sum)
 }
 
-/// Whether a stream ended at a poll.
-fn is_end(polled: &Polled<Option<ServiceResult>>) -> bool {
+/// The sum of the octets of a stream's next reply.
+fn next_sum<R: ReplyStream>(alloc: Global, stream: &mut R) -> Result<u64, WorkError> {
+    let polled = stream.poll_next(alloc)?;
+    polled_sum(polled).ok_or(WorkError::Service)
+}
+
+/// The end of a stream, which is to come at the next poll.
+fn end<R: ReplyStream>(alloc: Global, stream: &mut R) -> Result<(), WorkError> {
+    match stream.poll_next(alloc) {
+        Ok(polled) => ended(polled),
+        Err(error) => Err(error.into()),
+    }
+}
+
+fn ended(polled: Polled<Option<ServiceResult>>) -> Result<(), WorkError> {
     match polled {
-        Polled::Ready(item) => item.is_none(),
-        Polled::Pending => false,
+        Polled::Ready(None) => Ok(()),
+        _ => Err(WorkError::Service),
     }
 }
 

@@ -37,17 +37,24 @@ fn read_count(word: Option<String>) -> Option<u64> {
     word?.parse::<u64>().ok()
 }
 
+/// Says the number that work gave, or why it was not done.
+fn said(rt: &HostRuntime, done: Result<u64, WorkError>) -> io::Result<ExitCode> {
+    match done {
+        Ok(sum) => {
+            println!(rt; "{sum:016x}")?;
+            Ok(ExitCode::SUCCESS)
+        }
+        Err(error) => {
+            println!(rt; "{error}")?;
+            Ok(ExitCode::from(1))
+        }
+    }
+}
+
 fn main(rt: HostRuntime) -> io::Result<ExitCode> {
     let Some((work, count)) = read_words(&rt)? else {
         println!(rt; "{USAGE}")?;
         return Ok(ExitCode::from(2));
     };
-    match done(rt.alloc(), work, count) {
-        Ok(sum) => println!(rt; "{sum:016x}")?,
-        Err(error) => {
-            println!(rt; "{error}")?;
-            return Ok(ExitCode::from(1));
-        }
-    }
-    Ok(ExitCode::SUCCESS)
+    said(&rt, done(rt.alloc(), work, count))
 }

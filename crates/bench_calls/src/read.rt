@@ -2,7 +2,7 @@
 
 ghost use Rattle.std.specs.Prelude.{◌≤◌, length};
 
-use dns_base::{MessageRef, ParseError, QuestionIter, RecordIter, Rtype};
+use dns_base::{Header, MessageRef, ParseError, QuestionIter, RecordIter, RecordRef, Rtype};
 use dns_opt::{AllOptData, ComposeOptData, OptData, OptRef};
 
 /// The sum of so many readings of a message, whose identifier is another each time.
@@ -21,11 +21,28 @@ pub fn readings(octets: &mut [u8], count: u64) -> Result<u64, ParseError>
 /// The sum of the numbers of a message: header, questions, records of the three sections, and options.
 fn reading(octets: &[u8]) -> Result<u64, ParseError> {
     let message = MessageRef::from_slice(octets)?;
-    let header = message.header();
-    let mut sum = u64::from(header.id) + u64::from(header.rcode.to_int());
+    let behind = behind_header(&message)?;
+    Ok(of_header(message.header()).wrapping_add(behind))
+}
+
+fn of_header(header: Header) -> u64 {
+    u64::from(header.id) + u64::from(header.rcode.to_int())
+}
+
+/// The sum of the numbers of a message's sections.
+fn behind_header(message: &MessageRef<'_>) -> Result<u64, ParseError> {
     let (questions, answer, authority, additional) = message.sections()?;
-    sum = sum.wrapping_add(asked(questions)?);
-    sum = sum.wrapping_add(records(answer)?);
+    let sum = asked(questions)?;
+    Ok(sum.wrapping_add(all_records(answer, authority, additional)?))
+}
+
+/// The sum of the numbers of three sections.
+fn all_records(
+    answer: RecordIter<'_>,
+    authority: RecordIter<'_>,
+    additional: RecordIter<'_>,
+) -> Result<u64, ParseError> {
+    let mut sum = records(answer)?;
     sum = sum.wrapping_add(records(authority)?);
     Ok(sum.wrapping_add(records(additional)?))
 }
@@ -45,25 +62,41 @@ fn asked(questions: QuestionIter<'_>) -> Result<u64, ParseError> {
 fn records(records: RecordIter<'_>) -> Result<u64, ParseError> {
     let mut sum = 0u64;
     for record in records {
-        let record = record?;
-        sum = sum.wrapping_add(u64::from(record.rtype().to_int()));
-        sum = sum.wrapping_add(u64::from(record.class().to_int()));
-        sum = sum.wrapping_add(u64::from(record.ttl().as_secs()));
-        sum = sum.wrapping_add(record.rdata().len() as u64);
-        if record.rtype() == Rtype::OPT {
-            sum = sum.wrapping_add(options(record.rdata())?);
-        }
+        sum = sum.wrapping_add(of_record(&record?)?);
     }
     Ok(sum)
 }
 
-/// The sum of the codes and lengths of a list's options, each read as its kind.
-fn options(octets: &[u8]) -> Result<u64, ParseError> {
-    let mut sum = 0u64;
-    for option in OptRef::from_slice(octets)?.iter::<AllOptData>() {
-        let option = option?;
-        sum = sum.wrapping_add(u64::from(option.code().to_int()));
-        sum = sum.wrapping_add(u64::from(option.compose_len()));
+fn of_record(record: &RecordRef<'_>) -> Result<u64, ParseError> {
+    let mut sum = of_head(record);
+    if record.rtype() == Rtype::OPT {
+        sum = sum.wrapping_add(options(record.rdata())?);
     }
     Ok(sum)
+}
+
+/// The sum of a record's type, class, TTL and length.
+fn of_head(record: &RecordRef<'_>) -> u64 {
+    u64::from(record.rtype().to_int())
+        .wrapping_add(u64::from(record.class().to_int()))
+        .wrapping_add(u64::from(record.ttl().as_secs()))
+        .wrapping_add(record.rdata().len() as u64)
+}
+
+/// The sum of the codes and lengths of a list's options, each read as its kind.
+fn options(octets: &[u8]) -> Result<u64, ParseError> {
+    let list = OptRef::from_slice(octets)?;
+    all_options(&list)
+}
+
+fn all_options(list: &OptRef<'_>) -> Result<u64, ParseError> {
+    let mut sum = 0u64;
+    for option in list.iter::<AllOptData>() {
+        sum = sum.wrapping_add(of_option(&option?));
+    }
+    Ok(sum)
+}
+
+fn of_option(option: &AllOptData<'_>) -> u64 {
+    u64::from(option.code().to_int()).wrapping_add(u64::from(option.compose_len()))
 }

@@ -2,10 +2,9 @@
 
 use crate::build::{Parts, built};
 use crate::hash::{checks, hash_chain};
-use crate::layers::{bare_replies, layered_replies, plain_replies};
+use crate::layers::{Round, replies_to_bare, replies_to_query};
 use crate::read::readings;
 use crate::response::RESPONSE;
-use crate::wrapped::{bare_wrapped_replies, wrapped_replies};
 use dns_base::PushError;
 use dns_name::{BuildDataError, OutOfMemory, ParseError};
 use std::alloc::Global;
@@ -98,11 +97,11 @@ pub fn done(alloc: Global, work: Work, count: u64) -> Result<u64, WorkError> {
         Work::Check => Ok(checks(count)),
         Work::Read => read_often(alloc, count),
         Work::Build => build_often(alloc, count),
-        Work::Plain => plain_replies(alloc, count),
-        Work::Layers => layered_replies(alloc, count),
-        Work::Bare => bare_replies(alloc, count),
-        Work::Wrapped => wrapped_replies(alloc, count),
-        Work::BareWrapped => bare_wrapped_replies(alloc, count),
+        Work::Plain => replies_to_query(alloc, Round::Nothing, count),
+        Work::Layers => replies_to_query(alloc, Round::Two, count),
+        Work::Bare => replies_to_bare(alloc, Round::Two, count),
+        Work::Wrapped => replies_to_query(alloc, Round::All, count),
+        Work::BareWrapped => replies_to_bare(alloc, Round::All, count),
     }
 }
 

@@ -1,14 +1,14 @@
-//! A query to a service that answers at once, in all layers.
+//! A service in all layers.
 
 ghost use Rattle.std.specs.Prelude.{◌≡◌, ◌≤◌, Err, length};
 ghost use Rattle.dns_service.specs.declared.service.Polled.TheVariants.{Ready};
 ghost use Rattle.dns_middleware.specs.declared.notifiable.NotifyError.TheVariants.{NotAuthForZone};
 
-use crate::layers::{BARE_QUERY, QUERY, Same, answer, given, replies};
+use crate::layers::replies;
 use crate::work::WorkError;
-use dns_base::{AdditionalBuilder, Class, IpAddr, Name, OutOfMemory, Serial};
+use dns_base::{Class, IpAddr, Name, OutOfMemory, Serial};
 use dns_middleware::{Notifiable, NotifyError, Settings, VerdictFuture, wrap};
-use dns_service::{Polled, service_fn};
+use dns_service::{Polled, Service};
 use std::alloc::Global;
 
 /// The secret of server cookies.
@@ -25,11 +25,11 @@ impl Notifiable for Nobody {
 
     fn notify_zone_changed(
         &self,
-        _alloc: Global,
-        _class: Class,
-        _apex_name: &Name,
-        _serial: Option<Serial>,
-        _source: IpAddr,
+        _: Global,
+        _: Class,
+        _: &Name,
+        _: Option<Serial>,
+        _: IpAddr,
     ) -> Result<Nobody, OutOfMemory> {
         Ok(Nobody {})
     }
@@ -38,31 +38,30 @@ impl Notifiable for Nobody {
 impl VerdictFuture for Nobody {
     ghost verdict = { λ _ _. Ready (Err NotAuthForZone) };
 
-    fn poll(&mut self, _alloc: Global) -> Result<Polled<Result<(), NotifyError>>, OutOfMemory> {
+    fn poll(&mut self, _: Global) -> Result<Polled<Result<(), NotifyError>>, OutOfMemory> {
         Ok(Polled::Ready(Err(NotifyError::NotAuthForZone)))
     }
 }
 
-/// The sum of the replies to so many queries of a service that answers at once, in all layers, with cookies on.
-pub fn wrapped_replies(alloc: Global, count: u64) -> Result<u64, WorkError> {
-    wrapped(alloc, &mut QUERY, count)
-}
-
-/// The same for queries without an OPT record.
-pub fn bare_wrapped_replies(alloc: Global, count: u64) -> Result<u64, WorkError> {
-    wrapped(alloc, &mut BARE_QUERY, count)
-}
-
-fn wrapped(alloc: Global, query: &mut [u8], count: u64) -> Result<u64, WorkError>
-    requires { 2 ≤ length query.old }
-{
+/// All layers, with cookies on.
+fn settings(alloc: Global) -> Settings {
     let mut settings = Settings::new(alloc);
     settings.cookies = Some(SECRET);
-    let service = service_fn::<Same, _, AdditionalBuilder>(given, answer(alloc)?);
-    replies(
-        alloc,
-        &wrap(alloc, &settings, service, Nobody {})?,
-        query,
-        count,
-    )
+    settings
+}
+
+/// The sum of the replies to so many queries where a service stands in all layers.
+pub(crate) fn in_all<S: Service<()>>(
+    alloc: Global,
+    query: &mut [u8],
+    count: u64,
+    service: S,
+) -> Result<u64, WorkError>
+    requires can_call { S.can_call service }
+    requires identifier { 2 ≤ length query.old }
+{
+    match wrap(alloc, &settings(alloc), service, Nobody {}) {
+        Ok(service) => replies(alloc, &service, query, count),
+        Err(OutOfMemory) => Err(OutOfMemory.into()),
+    }
 }

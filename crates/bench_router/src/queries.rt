@@ -5,7 +5,7 @@ ghost use Rattle.std.specs.Prelude.{◌≤◌, length};
 use crate::routes::{Refusing, write_digits};
 use dns_base::Message;
 use dns_name::{IpAddr, SocketAddr};
-use dns_route::{QnameRouter, SingleService};
+use dns_route::{QnameRouter, SingleService, Turned};
 use dns_service::{Polled, Request, TransportSpecificContext, UdpTransportContext};
 use std::alloc::Global;
 
@@ -28,9 +28,22 @@ fn request(alloc: Global, octets: &[u8]) -> anyhow::Result<Request<()>> {
 /// The response code of the error that a router gives to a query, 0 where it gives none.
 fn code(alloc: Global, router: &QnameRouter<Refusing>, octets: &[u8]) -> anyhow::Result<u64> {
     let request = request(alloc, octets)?;
-    match router.turn(alloc, &request, 0)? {
-        Polled::Ready(Err(error)) => Ok(u64::from(error.rcode().to_int())),
-        _ => Ok(0),
+    turn_code(alloc, router, &request)
+}
+
+fn turn_code(
+    alloc: Global,
+    router: &QnameRouter<Refusing>,
+    request: &Request<()>,
+) -> anyhow::Result<u64> {
+    let turned = router.turn(alloc, request, 0)?;
+    Ok(code_of(&turned))
+}
+
+fn code_of(turned: &Turned) -> u64 {
+    match turned {
+        Polled::Ready(Err(error)) => u64::from(error.rcode().to_int()),
+        _ => 0,
     }
 }
 
