@@ -92,6 +92,12 @@ waiting (Is_open c) = c.invoker.queue.items
 waiting (Is_flushing c) = c.queue.items
 waiting _ = []
 
+-- how long the first of them may take to be written, in ms
+abbrev pub write_limit : {W R F : Type 0} → State W R F → ℕ
+write_limit (Is_open c) = c.write_timeout
+write_limit (Is_flushing c) = c.write_timeout
+write_limit _ = 0
+
 -- what an open connection keeps once it only writes what waits, and is closed then
 abbrev pub flushing_for : {W R F : Type 0} → Why → OpenConnection W R F → FlushingConnection
 flushing_for why c = record { queue = c.invoker.queue; write_timeout = c.write_timeout; why = why }

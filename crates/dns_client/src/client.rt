@@ -1,6 +1,6 @@
 //! One client's core.
 
-ghost use Rattle.std.specs.Prelude.{◌≡◌, ℕ, [], ◌∷◌, true, false, length, slice_get, option_map, None, IfOk, OnOk, OnErr};
+ghost use Rattle.std.specs.Prelude.{◌≡◌, ◌≤◌, ℕ, [], ◌∷◌, true, false, length, slice_get, option_map, None, IfOk, OnOk, OnErr};
 ghost use Rattle.std.specs.Result.{IsOkAnd};
 ghost use Rattle.dns_client.specs.Serving.{Serving, serving};
 ghost use Rattle.dns_client.specs.Slate.{Slate, IsUnused, conf_of, phase_is_closed};
@@ -88,7 +88,7 @@ fn last(alloc: Global, client: u64, octets: Octets, why: Why) -> Result<Vec<Outp
 }
 
 impl<W: Served> ClientCore<W> {
-    ghost use Rattle.dns_client.specs.Stands.{Stands, GoesAs, IsLost, outputs_of, state_behind, state_is_spent, is_freed, is_closed, waiting};
+    ghost use Rattle.dns_client.specs.Stands.{Stands, GoesAs, IsLost, outputs_of, state_behind, state_is_spent, is_freed, is_closed, waiting, write_limit};
 
     /// An exchange by its datagram, at a moment in ms and seconds and by a look that shows no shutdown, and what the client is
     /// sent for it. What is longer than 1,024 octets is cut. Below 12 octets no request is made, and a response is refused at
@@ -371,6 +371,19 @@ impl<W: Served> ClientCore<W> {
             State::Open(connection) => connection.front_frame(),
             State::Flushing(connection) => connection.front_frame(),
             State::Exchange(_) | State::Closed { .. } | State::Lost => None,
+        }
+    }
+
+    /// How long the frame that is written next may take in ms, where one waits.
+    pub fn write_timeout(&self) -> u64
+        ensures value { result ≡ write_limit self.now.state }
+        ensures timeout { (answers : Serving) (s : Slate)
+            → Stands (request_answer W.Future.answer W.Stream.answer) answers self.now s → 1 ≤ length s.queue → result ≡ s.connection.response_write_timeout }
+    {
+        match &self.state {
+            State::Open(connection) => connection.write_timeout(),
+            State::Flushing(connection) => connection.write_timeout(),
+            State::Exchange(_) | State::Closed { .. } | State::Lost => 0,
         }
     }
 

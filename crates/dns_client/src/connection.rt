@@ -94,6 +94,13 @@ impl<W: Served> OpenConnection<W> {
         self.write_timeout = config.response_write_timeout();
     }
 
+    /// How long a write may take in ms.
+    pub fn write_timeout(&self) -> u64
+        ensures { result ≡ self.now.write_timeout }
+    {
+        self.write_timeout
+    }
+
     /// Makes a request, unless 2^64 - 1 of them were made.
     fn ask(&mut self, alloc: Global, service: &W, request: Request<()>) -> Result<(), OutOfMemory>
         requires { W.can_call service.now }

@@ -47,6 +47,13 @@ impl FlushingConnection {
         self.queue.len()
     }
 
+    /// How long a write may take in ms.
+    pub fn write_timeout(&self) -> u64
+        ensures { result ≡ self.now.write_timeout }
+    {
+        self.write_timeout
+    }
+
     /// The frame that is written next.
     pub fn front_frame(&self) -> Option<&[u8]>
         ensures { option_map (λ m. m.now) result ≡ slice_get self.now.queue.items 0 }

@@ -17,10 +17,11 @@ use std::alloc::Global;
 const MOST_READ: usize = 1024;
 
 /// The octets of a datagram that are read.
+#[tactic(auto, using(std::proofs::lemmas::List::take_min))]
 pub fn cut(alloc: Global, octets: &[u8]) -> Result<Vec<u8>, OutOfMemory>
     ensures { IfOk result (λ v. v.items ≡ cut_datagram octets.now) }
 {
-    let read: Vec<u8> = octets.iter().take(MOST_READ).copied().collect(alloc)?;
+    let read = Vec::from_slice(alloc, &octets[..MOST_READ.min(octets.len())])?;
     Ok(read)
 }
 
