@@ -7,5 +7,6 @@ pub mod MemoryForms
 pub mod Moves
 pub mod Standard
 pub mod Starts
+pub mod StdAddresses
 pub mod SteadyForms
 pub mod Traffic

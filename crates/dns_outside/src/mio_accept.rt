@@ -1,6 +1,6 @@
 //! A TCP listener over `mio`.
 
-ghost use Rattle.std.specs.Prelude.{[]};
+ghost use Rattle.std.specs.Prelude.{◌≡◌, [], IfOk};
 
 use crate::accept::{AcceptAnswer, AsyncAccept};
 use crate::mio_addr::{from_std, to_std};
@@ -29,7 +29,9 @@ pub struct MioAccept<N: Net> {
 
 impl<N: Net + Drop> MioAccept<N> {
     /// A listener at this address; at port 0 the system picks the port.
-    pub fn bind(net: N, alloc: Global, addr: SocketAddr) -> io::Result<MioAccept<N>> {
+    pub fn bind(net: N, alloc: Global, addr: SocketAddr) -> io::Result<MioAccept<N>>
+        ensures { IfOk result (λ accept. ⟦<MioAccept<N> as AsyncAccept>⟧.faults accept ≡ 0) }
+    {
         let mut listener = TcpListener::bind(&net, to_std(addr))?;
         let poll = Poll::new(&net)?;
         let events = Events::with_capacity(alloc, 1)?;

@@ -1,6 +1,6 @@
 //! A TCP connection over `mio`.
 
-ghost use Rattle.std.specs.Prelude.{[]};
+ghost use Rattle.std.specs.Prelude.{◌≡◌, [], IfOk};
 
 use crate::link::{Link, LinkRead, LinkWrite};
 use mio::net::TcpStream;
@@ -24,7 +24,9 @@ pub struct MioLink {
 
 impl MioLink {
     /// A link over a stream that is connected, which was set to send without delay.
-    pub fn new<N: Net>(net: &N, alloc: Global, mut stream: TcpStream) -> io::Result<MioLink> {
+    pub fn new<N: Net>(net: &N, alloc: Global, mut stream: TcpStream) -> io::Result<MioLink>
+        ensures { IfOk result (λ link. ⟦<MioLink as Link>⟧.faults link ≡ 0) }
+    {
         stream.set_nodelay(true)?;
         let poll = Poll::new(net)?;
         let events = Events::with_capacity(alloc, 1)?;

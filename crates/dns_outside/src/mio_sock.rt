@@ -1,6 +1,6 @@
 //! A UDP socket over `mio`.
 
-ghost use Rattle.std.specs.Prelude.{[]};
+ghost use Rattle.std.specs.Prelude.{◌≡◌, [], IfOk};
 
 use crate::mio_addr::{from_std, to_std};
 use crate::sock::{AsyncDgramSock, DgramRecv, DgramSend};
@@ -26,7 +26,10 @@ pub struct MioSock {
 
 impl MioSock {
     /// A socket at this address; at port 0 the system picks the port.
-    pub fn bind<N: Net>(net: &N, alloc: Global, addr: SocketAddr) -> io::Result<MioSock> {
+    pub fn bind<N: Net>(net: &N, alloc: Global, addr: SocketAddr) -> io::Result<MioSock>
+        ensures receives { IfOk result (λ sock. ⟦<MioSock as AsyncDgramSock>⟧.failed_receives sock ≡ 0) }
+        ensures sends { IfOk result (λ sock. ⟦<MioSock as AsyncDgramSock>⟧.failed_sends sock ≡ 0) }
+    {
         let mut socket = UdpSocket::bind(net, to_std(addr))?;
         let poll = Poll::new(net)?;
         let events = Events::with_capacity(alloc, 1)?;

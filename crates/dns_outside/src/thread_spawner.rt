@@ -19,7 +19,9 @@ pub struct ThreadSpawner<W: Work> {
 
 impl<W: Work> ThreadSpawner<W> {
     /// A spawner that has started nothing.
-    pub fn new(alloc: Global) -> ThreadSpawner<W> {
+    pub fn new(alloc: Global) -> ThreadSpawner<W>
+        ensures { ⟦<ThreadSpawner<W> as Spawner<W>>⟧.faults result ≡ 0 }
+    {
         ThreadSpawner {
             threads: KeptThreads::new(alloc),
             faults: 0,
