@@ -1,0 +1,145 @@
+-- What single steps say of why a connection is closed.
+use Rattle.std.proofs.Common.{◌≡◌, ℕ, ◌+◌, ◌≤◌, List, [], ◌∷◌, ◌++◌, length, take, slice_get, arith, refl, sym, ◌∙◌, ap, inl, inr, Option, Some, None}
+use Rattle.std.proofs.lemmas.Grind.{common_steps}
+use Rattle.dns_admission.specs.declared.look.Look.{Look}
+use Rattle.dns_admission.specs.declared.call.Call.TheVariants.{Look as ToLook}
+use Rattle.dns_admission.specs.declared.call.Reply.TheVariants.{Look as LookReply}
+use Rattle.dns_book.specs.Seats.{Called}
+use Rattle.dns_book.specs.declared.history.Known.{Known}
+use Rattle.dns_outside.specs.Causes.{Rose}
+use Rattle.dns_outside.specs.Traffic.{Traffic}
+use Rattle.dns_service.specs.Answer.{Answer}
+use Rattle.dns_service.specs.declared.event.Event.{Event}
+use Rattle.dns_service.specs.declared.event.EventKind.{EventKind}
+use Rattle.dns_service.specs.declared.event.EventKind.TheVariants.{Turn, Piece, End, Fault, Write, Tick}
+use Rattle.dns_service.specs.declared.event.Output.{Output}
+use Rattle.dns_service.specs.declared.event.Why.{Why}
+use Rattle.dns_service.specs.declared.polled.PolledRequest.{PolledRequest}
+use Rattle.dns_client.specs.News.{told_of}
+use Rattle.dns_client.specs.Serving.{Serving}
+use Rattle.dns_client.specs.Slate.{Slate}
+use Rattle.dns_client.specs.Stands.{Stands, GoesAs}
+use Rattle.dns_client.specs.declared.client.ClientCore.{ClientCore}
+use Rattle.dns_drivers.specs.Blames.{EndBlames, EndAgain, Blames, WroteWhole, WroteFirst, ChosenFor, NotedWrite, HeardFor, ActedFor}
+use Rattle.dns_drivers.specs.Closing.{closed_by}
+use Rattle.dns_drivers.specs.Links.{front, WroteFront, IsWrittenEvent, IsReadEvent}
+use Rattle.dns_drivers.specs.Rounds.{next_turn}
+use Rattle.dns_drivers.specs.Steps.{TakesEvent}
+use Rattle.dns_drivers.specs.declared.writing.WriteEnd.{WriteEnd}
+use Rattle.dns_drivers.specs.declared.writing.WriteEnd.TheVariants.{Whole, Failed, Late}
+use Rattle.dns_drivers.proofs.Choices.{empty_of, front_of, writing_of, write_may, write_own, read_may, read_own}
+
+-- while a frame is written
+pub end_whole : (f f' : ℕ) → f ≤ f' → EndBlames Whole f f'
+end_whole f f' l = record { later = l; failed = λ e. absurd cc }
+
+pub end_late : (at secs f f' : ℕ) → f ≤ f' → EndBlames (Late at secs) f f'
+end_late at secs f f' l = record { later = l; failed = λ e. absurd cc }
+
+pub end_failed : (f f1 f2 : ℕ) → f ≤ f1 → f1 ≤ f2 → Rose f1 f2 → EndBlames Failed f f2
+end_failed f f1 f2 l m r = record { later = omega arith; failed = λ e. omega (arith, r) }
+
+pub again_took : (a : ℕ) (went : List ℕ) (w w' : Traffic) → a ≤ w.full_writes → w' ≡ record w { went = went } → a ≤ w'.full_writes
+again_took a went w w' l e = rw e l
+
+pub again_more : (a : ℕ) (w w1 w2 : Traffic) → a ≤ w.full_writes → w1 ≡ record w { full_writes = w.full_writes + 1 } → w2 ≡ w1 → a ≤ w2.full_writes
+again_more a w w1 w2 l e f = rw (f, e) (omega arith)
+
+pub again_whole : (a b : ℕ) → a ≤ b → EndAgain Whole a b
+again_whole a b l = record { later = l; late = λ at secs e. absurd cc }
+
+pub again_failed : (a : ℕ) (w w1 : Traffic) → a ≤ w.full_writes → w1 ≡ w → EndAgain Failed a w1.full_writes
+again_failed a w w1 l e = record { later = rw e l; late = λ at secs h. absurd cc }
+
+pub again_late : (at secs a : ℕ) (w w1 w2 : Traffic) → a ≤ w.full_writes → w1 ≡ record w { full_writes = w.full_writes + 1 } → w2 ≡ w1 → EndAgain (Late at secs) a w2.full_writes
+again_late at secs a w w1 w2 l e f = record { later = rw (f, e) (omega arith); late = λ i j h. rw (f, e) (omega arith) }
+
+-- the event of a frame
+pub blames_write : (end : WriteEnd) (took f f' : ℕ) → EndBlames end f f' → Blames (Write took) f f'
+blames_write end took f f' b = record { later = b.later; fault = λ e. absurd cc }
+
+pub blames_failed : (kind : EventKind) (f f' : ℕ) → kind ≡ Fault → EndBlames Failed f f' → Blames kind f f'
+blames_failed kind f f' k b = record { later = b.later; fault = λ e. b.failed refl }
+
+take_all : (k : ℕ) (m : List ℕ) → length m ≤ k → take k m ≡ m
+take_all k m l = grind (arith, common_steps)
+
+pub whole_written : (frame : List ℕ) (took k : ℕ) (w w' : Traffic) → WroteFront k frame w w' → length frame ≤ k → EndAgain Whole w.full_writes w'.full_writes → WroteWhole (Write took) frame w w'
+whole_written frame took k w w' r l a = record { later = a.later; write = λ i e. inl (r.went ∙ ap (λ (o : List ℕ). w.went ++ o) (take_all k frame l)) }
+
+pub whole_late : (frame : List ℕ) (took at secs : ℕ) (w w' : Traffic) → EndAgain (Late at secs) w.full_writes w'.full_writes → WroteWhole (Write took) frame w w'
+whole_late frame took at secs w w' a = record { later = a.later; write = λ i e. inr (a.late at secs refl) }
+
+pub whole_failed : (frame : List ℕ) (kind : EventKind) (w w' : Traffic) → kind ≡ Fault → EndAgain Failed w.full_writes w'.full_writes → WroteWhole kind frame w w'
+whole_failed frame kind w w' k a = record { later = a.later; write = λ i e. let no : Fault ≡ Write i = sym k ∙ e in absurd cc }
+
+-- the event of a read
+pub blames_read : (kind : EventKind) (f f' : ℕ) (o : List ℕ) → kind ≡ Piece o → f ≤ f' → Blames kind f f'
+blames_read kind f f' o k l = record { later = l; fault = λ e. let no : Piece o ≡ Fault = sym k ∙ e in absurd cc }
+
+pub blames_tick : (kind : EventKind) (f f' : ℕ) → kind ≡ Tick → f ≤ f' → Blames kind f f'
+blames_tick kind f f' k l = record { later = l; fault = λ e. let no : Tick ≡ Fault = sym k ∙ e in absurd cc }
+
+pub blames_end : (kind : EventKind) (f f' : ℕ) → kind ≡ End → f ≤ f' → Blames kind f f'
+blames_end kind f f' k l = record { later = l; fault = λ e. let no : End ≡ Fault = sym k ∙ e in absurd cc }
+
+pub blames_fault : (kind : EventKind) (f f' : ℕ) → kind ≡ Fault → f ≤ f' → Rose f f' → Blames kind f f'
+blames_fault kind f f' k l r = record { later = l; fault = λ e. r }
+
+pub whole_got : (kind : EventKind) (o came : List ℕ) (w w' : Traffic) → kind ≡ Piece o → w' ≡ record w { came = came } → WroteWhole kind [] w w'
+whole_got kind o came w w' k e = record { later = rw e (omega arith); write = λ i h. let no : Piece o ≡ Write i = sym k ∙ h in absurd cc }
+
+pub whole_again : (kind : EventKind) (r : ℕ) (w w1 w2 : Traffic) → kind ≡ Tick → w1 ≡ record w { empty_reads = r } → w2 ≡ w1 → WroteWhole kind [] w w2
+whole_again kind r w w1 w2 k e f = record { later = rw (f, e) (omega arith); write = λ i h. let no : Tick ≡ Write i = sym k ∙ h in absurd cc }
+
+pub whole_end : (kind : EventKind) (r : ℕ) (w w1 : Traffic) → kind ≡ End → w1 ≡ record w { ends = r } → WroteWhole kind [] w w1
+whole_end kind r w w1 k e = record { later = rw e (omega arith); write = λ i h. let no : End ≡ Write i = sym k ∙ h in absurd cc }
+
+pub whole_fault : (kind : EventKind) (w w1 : Traffic) → kind ≡ Fault → w1 ≡ w → WroteWhole kind [] w w1
+whole_fault kind w w1 k e = record { later = rw e (omega arith); write = λ i h. let no : Fault ≡ Write i = sym k ∙ h in absurd cc }
+
+read_whole : (kind : EventKind) (m : List ℕ) (w w' : Traffic) → IsReadEvent kind → WroteWhole kind [] w w' → WroteWhole kind m w w'
+read_whole kind m w w' o h = record { later = h.later; write = λ i e. let no : IsReadEvent (Write i) = rw e at o in absurd no }
+
+module _ {W R F : Type 0} (answer : PolledRequest F R → ℕ → Answer) where
+  pub for_write : (below : ℕ) (core : ClientCore W R F) (event : Event) (f f' : ℕ) (frame : List ℕ) →
+      ((answers : Serving) (s : Slate) → Stands answer answers core s → Some frame ≡ slice_get s.queue 0) → IsWrittenEvent event.kind → Blames event.kind f f' →
+      ChosenFor answer below core event f f'
+  for_write below core event f f' frame q o b = record { is_own = write_own event.kind o; may = λ answers s h. write_may event.kind below s o (writing_of s.queue frame (q answers s h)); blames = b }
+
+  pub for_turn : (below k : ℕ) (core : ClientCore W R F) (event : Event) (f : ℕ) →
+      ((answers : Serving) (s : Slate) → Stands answer answers core s → None ≡ slice_get s.queue 0) →
+      ((answers : Serving) (s : Slate) → Stands answer answers core s → Some k ≡ next_turn below s.requests) →
+      event.kind ≡ Turn k → ChosenFor answer below core event f f
+  for_turn below k core event f q n e = record {
+    is_own = rw e refl;
+    may = λ answers s h. rw e (empty_of s.queue (q answers s h), sym (n answers s h));
+    blames = record { later = omega arith; fault = λ h. let no : Turn k ≡ Fault = sym e ∙ h in absurd cc };
+  }
+
+  pub for_read : (below : ℕ) (core : ClientCore W R F) (event : Event) (f f' : ℕ) →
+      ((answers : Serving) (s : Slate) → Stands answer answers core s → None ≡ slice_get s.queue 0) →
+      ((answers : Serving) (s : Slate) → Stands answer answers core s → None ≡ next_turn below s.requests) →
+      IsReadEvent event.kind → Blames event.kind f f' → ChosenFor answer below core event f f'
+  for_read below core event f f' q n o b = record { is_own = read_own event.kind o; may = λ answers s h. read_may event.kind below s o (empty_of s.queue (q answers s h), sym (n answers s h)); blames = b }
+
+  pub first_write : (core : ClientCore W R F) (kind : EventKind) (w w' : Traffic) (frame : List ℕ) →
+      ((answers : Serving) (s : Slate) → Stands answer answers core s → Some frame ≡ slice_get s.queue 0) → WroteWhole kind frame w w' → WroteFirst answer core kind w w'
+  first_write core kind w w' frame q h answers s stands = rw (front_of s.queue frame (q answers s stands)) h
+
+  pub first_turn : (core : ClientCore W R F) (kind : EventKind) (k : ℕ) (w : Traffic) → kind ≡ Turn k → WroteFirst answer core kind w w
+  first_turn core kind k w e answers s stands = record { later = omega arith; write = λ i h. let no : Turn k ≡ Write i = sym e ∙ h in absurd cc }
+
+  pub first_read : (core : ClientCore W R F) (kind : EventKind) (w w' : Traffic) → IsReadEvent kind → WroteWhole kind [] w w' → WroteFirst answer core kind w w'
+  first_read core kind w w' o h answers s stands = read_whole kind (front s.queue) w w' o h
+
+  pub noted_write : (core : ClientCore W R F) (event : Event) (n n' : List Event) (t t' : Traffic) → n' ≡ n ++ event ∷ [] → WroteFirst answer core event.kind t t' → NotedWrite answer core n n' t t'
+  noted_write core event n n' t t' e h = record { event = event; noted = e; wrote = h }
+
+  pub heard_for : (why : Option Why) (core core' : ClientCore W R F) (look : Look) (outs : List Output) (k k' : Known) → Called k ToLook (LookReply look) k' →
+      ((answers : Serving) → GoesAs answer answers core core' outs (told_of answers core.version look)) → why ≡ closed_by outs → HeardFor answer why core core' k k'
+  heard_for why core core' look outs k k' c f e = record { look = look; outs = outs; called = c; follows = f; closed = sym e }
+
+module _ {W R F : Type 0} (answer : PolledRequest F R → ℕ → Answer) (answers : Serving) where
+  pub acted_for : (below : ℕ) (why : Option Why) (core core' : ClientCore W R F) (event : Event) (f f' : ℕ) → ChosenFor answer below core event f f' → TakesEvent answer answers core core' event why → ActedFor answer answers why core core' f f'
+  acted_for below why core core' event f f' c t = record { below = below; event = event; chosen = c; taken = t }

@@ -1,0 +1,40 @@
+-- How what socket, clock and recorder tell goes through calls, in this order: d, c, j.
+use Rattle.std.specs.Prelude.{Result, Ok, Err, OnErr, OnOk, IfOk}
+use Rattle.dns_outside.specs.Causes.{Tells}
+
+pub on_err : {X T E : Type 0} (r : Result T E) → X → OnErr r X
+on_err (Ok v) x = tt
+on_err (Err e) x = x
+
+pub tells_none : {a p : Type 0} → p → Tells a a p
+tells_none x = record { told = λ t. (t, x) }
+
+pub tells_one : {a b p r : Type 0} → Tells b a p → (p → r) → Tells b a r
+tells_one x f = record { told = λ t. let u = x.told t in (u.0, f u.1) }
+
+pub tells_two : {a b c p q r : Type 0} → Tells b a p → Tells c b q → (p → q → r) → Tells c a r
+tells_two x y f = record { told = λ t. let v = y.told t in let u = x.told v.0 in (u.0, f u.1 v.1) }
+
+pub tells_d : {d c j d1 p r : Type 0} → Tells d1 d p → (p → r) → Tells (d1 × c × j) (d × c × j) r
+tells_d x f = record { told = λ t. let u = x.told t.0 in ((u.0, t.1, t.2), f u.1) }
+
+pub tells_dd : {d c j d1 d2 p q r : Type 0} → Tells d1 d p → Tells d2 d1 q → (p → q → r) → Tells (d2 × c × j) (d × c × j) r
+tells_dd x y f = record { told = λ t. let v = y.told t.0 in let u = x.told v.0 in ((u.0, t.1, t.2), f u.1 v.1) }
+
+pub tells_cj : {d c j c1 j1 p r : Type 0} → Tells (c1 × j1) (c × j) p → (p → r) → Tells (d × c1 × j1) (d × c × j) r
+tells_cj x f = record { told = λ t. let u = x.told (t.1, t.2) in ((t.0, u.0.0, u.0.1), f u.1) }
+
+pub tells_dc : {d c j d1 c1 p r : Type 0} → Tells (d1 × c1) (d × c) p → (p → r) → Tells (d1 × c1 × j) (d × c × j) r
+tells_dc x f = record { told = λ t. let u = x.told (t.0, t.1) in ((u.0.0, u.0.1, t.2), f u.1) }
+
+pub tells_dc_j : {d c j d1 c1 j1 p q r : Type 0} → Tells (d1 × c1) (d × c) p → Tells j1 j q → (p → q → r) → Tells (d1 × c1 × j1) (d × c × j) r
+tells_dc_j x y f = record { told = λ t. let u = x.told (t.0, t.1) in let v = y.told t.2 in ((u.0.0, u.0.1, v.0), f u.1 v.1) }
+
+pub tells_dc_cj : {d c j d1 c1 c2 j1 p q r : Type 0} → Tells (d1 × c1) (d × c) p → Tells (c2 × j1) (c1 × j) q → (p → q → r) → Tells (d1 × c2 × j1) (d × c × j) r
+tells_dc_cj x y f = record { told = λ t. let v = y.told (t.1, t.2) in let u = x.told (t.0, v.0.0) in ((u.0.0, u.0.1, v.0.1), f u.1 v.1) }
+
+pub tells_cj_dcj : {d c j c1 j1 d1 c2 j2 p q r : Type 0} → Tells (c1 × j1) (c × j) p → Tells (d1 × c2 × j2) (d × c1 × j1) q → (p → q → r) → Tells (d1 × c2 × j2) (d × c × j) r
+tells_cj_dcj x y f = record { told = λ t. let v = y.told t in let u = x.told (v.0.1, v.0.2) in ((v.0.0, u.0.0, u.0.1), f u.1 v.1) }
+
+pub tells_d_dcj : {d c j d1 d2 c1 j1 p q r : Type 0} → Tells d1 d p → Tells (d2 × c1 × j1) (d1 × c × j) q → (p → q → r) → Tells (d2 × c1 × j1) (d × c × j) r
+tells_d_dcj x y f = record { told = λ t. let v = y.told t in let u = x.told v.0.0 in ((u.0, v.0.1, v.0.2), f u.1 v.1) }

@@ -1,0 +1,231 @@
+-- What the loop of a connection knows of its core, its seat and its link's faults, whether link and recorder tell or not.
+use Rattle.std.proofs.Common.{◌≡◌, ℕ, ◌≤◌, ◌⊎◌, List, [], ◌∷◌, ◌++◌, arith, refl, sym, ◌∙◌, ap, subst, append_assoc, inl, inr, Bool, true, false, Option, Some}
+use Rattle.std.specs.Prelude.{◌==◌, ◌&&◌, not, if◌then◌else◌}
+use Rattle.dns_admission.specs.declared.look.Look.{Look}
+use Rattle.dns_admission.specs.declared.call.Call.{Call}
+use Rattle.dns_admission.specs.declared.call.Call.TheVariants.{Look as ToLook, Release}
+use Rattle.dns_admission.specs.declared.call.Reply.{Reply}
+use Rattle.dns_admission.specs.declared.call.Reply.TheVariants.{Look as LookReply, Left}
+use Rattle.dns_book.specs.Gains.{Gained}
+use Rattle.dns_book.specs.History.{entry}
+use Rattle.dns_book.specs.Seats.{Called}
+use Rattle.dns_book.specs.declared.history.Entry.{Entry}
+use Rattle.dns_book.specs.declared.history.Known.{Known}
+use Rattle.dns_outside.specs.Causes.{Rose}
+use Rattle.dns_service.specs.Answer.{Answer}
+use Rattle.dns_service.specs.declared.event.Event.{Event}
+use Rattle.dns_service.specs.declared.event.EventKind.{EventKind}
+use Rattle.dns_service.specs.declared.event.EventKind.TheVariants.{Datagram, Turn, Offer, Piece, End, Fault, Close, Write, Tick, Release as ReleaseEvent, Reconfigure, Shutdown}
+use Rattle.dns_service.specs.declared.event.Output.{Output}
+use Rattle.dns_service.specs.declared.event.Why.{Why}
+use Rattle.dns_service.specs.declared.event.Why.TheVariants.{Ended, Short, Idle, WriteTimeout, Fault as ByFault, Commanded, Shutdown as ByShutdown}
+use Rattle.dns_service.specs.declared.polled.PolledRequest.{PolledRequest}
+use Rattle.dns_client.specs.After.{slate_after, sent_after}
+use Rattle.dns_client.specs.News.{wide, new_end, news, told_of}
+use Rattle.dns_client.specs.Rule.{rule}
+use Rattle.dns_client.specs.Serving.{Serving}
+use Rattle.dns_client.specs.Slate.{Slate, Told, Open, Flushing}
+use Rattle.dns_client.specs.Stands.{Stands}
+use Rattle.dns_client.specs.declared.client.ClientCore.{ClientCore}
+use Rattle.dns_core.specs.Own.{is_wide}
+use Rattle.dns_drivers.specs.Blames.{HeardFor, ActedFor}
+use Rattle.dns_drivers.specs.Closing.{closed_by}
+use Rattle.dns_drivers.specs.Shown.{SawShutdown, Causes}
+use Rattle.dns_drivers.proofs.Appends.{gained_more, gained_none}
+use Rattle.dns_drivers.proofs.Reasons.{IsServedBy, IsServedIn, ClosesFor, reason}
+use Rattle.dns_drivers.proofs.Servings.{Serves, serves}
+use Rattle.dns_drivers.proofs.Showings.{by_may}
+
+saw_more : (old : Known) (k : Known) (c : Call) (r : Reply) (new : Known) → SawShutdown old k → k.name ≡ old.name → Called k c r new → SawShutdown old new
+saw_more old k c r new s n h = record {
+  before = s.before;
+  look = s.look;
+  after = s.after ++ entry old.name c r ∷ [];
+  calls = rw (← append_assoc s.before (entry old.name ToLook (LookReply s.look) ∷ s.after) (entry old.name c r ∷ [])) (gained_more old k new (s.before ++ entry old.name ToLook (LookReply s.look) ∷ s.after) c r s.calls n h);
+  closed = s.closed;
+}
+
+-- the outputs that stand last close the connection, or none do
+closed_append : (why : Why) (xs ys : List Output) → closed_by (xs ++ ys) ≡ Some why → (closed_by xs ≡ Some why) ⊎ (closed_by ys ≡ Some why)
+closed_append why [] ys e = inr e
+closed_append why (x ∷ []) [] e = inl e
+closed_append why (x ∷ []) (y ∷ ys) e = inr e
+closed_append why (x ∷ z ∷ xs) ys e = closed_append why (z ∷ xs) ys e
+
+-- by an event that all clients hear, only a shutdown closes a connection
+wide_closes : (why : Why) (e : Event) (s : Slate) (outs : List Output) → is_wide e.kind ≡ true → ClosesFor why e s outs → (why ≡ ByShutdown) × ((e.kind ≡ Shutdown) ⊎ (s.phase ≡ Flushing ByShutdown))
+wide_closes Ended e s outs w c = let no : is_wide End ≡ true = ap is_wide (sym c) ∙ w in absurd cc
+wide_closes ByFault e s outs w c = let no : is_wide Fault ≡ true = ap is_wide (sym c) ∙ w in absurd cc
+wide_closes Short e s outs w c = let no : is_wide (Piece c.octets) ≡ true = ap is_wide (sym c.kind) ∙ w in absurd cc
+wide_closes Idle e s outs w c = let no : is_wide Tick ≡ true = ap is_wide (sym c.kind) ∙ w in absurd cc
+wide_closes WriteTimeout e s outs w c = let no : is_wide (Write c.took) ≡ true = ap is_wide (sym c.kind) ∙ w in absurd cc
+wide_closes Commanded e s outs w c = absurd c
+wide_closes ByShutdown e s outs w c = (refl, c)
+
+wide_served : (k : EventKind) → is_wide k ≡ true → IsServedBy k
+wide_served (Datagram addr o) w = absurd cc
+wide_served (Turn i) w = tt
+wide_served (Offer addr) w = absurd cc
+wide_served (Piece o) w = tt
+wide_served End w = tt
+wide_served Fault w = tt
+wide_served Close w = absurd cc
+wide_served (Write took) w = tt
+wide_served Tick w = tt
+wide_served ReleaseEvent w = absurd cc
+wide_served (Reconfigure dgram stream) w = tt
+wide_served Shutdown w = tt
+
+-- news, in which a Shutdown stands only where the look shows one
+abbrev pub AreNews : Look → List Event → Type 0
+AreNews look [] = Unit {0}
+AreNews look (e ∷ es) = (is_wide e.kind ≡ true) × (e.kind ≡ Shutdown → look.closed ≡ true) × AreNews look es
+
+end_news : (look : Look) (over closed : Bool) → closed ≡ look.closed → AreNews look (if closed && not over then wide Shutdown ∷ [] else [])
+end_news look over true e = end_shown over
+  where
+    end_shown : (over : Bool) → AreNews look (if not over then wide Shutdown ∷ [] else [])
+    end_shown true = tt
+    end_shown false = (refl, (λ h. sym e), tt)
+end_news look over false e = tt
+
+are_news : (version : ℕ) (over : Bool) (look : Look) → AreNews look (news version over look)
+are_news version over look = with_version (look.version == version)
+  where
+    with_version : (b : Bool) → AreNews look ((if b then [] else wide (Reconfigure look.dgram look.stream) ∷ []) ++ new_end over look)
+    with_version true = end_news look over look.closed refl
+    with_version false = (refl, (λ h. absurd cc), end_news look over look.closed refl)
+
+module _ (answers : Serving) where
+  -- what news do to a connection that is served
+  record DoesNews (look : Look) (s : Slate) (t : Told) : Type 0 where
+    served : IsServedIn t.0.phase
+    flushing : t.0.phase ≡ Flushing ByShutdown → (s.phase ≡ Flushing ByShutdown) ⊎ (look.closed ≡ true)
+    closes : (why : Why) → closed_by t.1 ≡ Some why → (why ≡ ByShutdown) × ((s.phase ≡ Flushing ByShutdown) ⊎ (look.closed ≡ true))
+
+  by_shutdown : (look : Look) (e : Event) (s t : Slate) → (e.kind ≡ Shutdown → look.closed ≡ true) → Serves e s t → t.phase ≡ Flushing ByShutdown → (s.phase ≡ Flushing ByShutdown) ⊎ (look.closed ≡ true)
+  by_shutdown look e s t c v h = elim (v.flushing h) [ inl p ↦ inl p | inr k ↦ inr (c k) ]
+
+  or_shutdown : (look : Look) (e : Event) (s : Slate) → (e.kind ≡ Shutdown → look.closed ≡ true) → (e.kind ≡ Shutdown) ⊎ (s.phase ≡ Flushing ByShutdown) → (s.phase ≡ Flushing ByShutdown) ⊎ (look.closed ≡ true)
+  or_shutdown look e s c h = elim h [ inl k ↦ inr (c k) | inr p ↦ inl p ]
+
+  does_news : (look : Look) (es : List Event) (s : Slate) → AreNews look es → IsServedIn s.phase → DoesNews look s (slate_after answers s es, sent_after answers s es)
+  does_news look [] s n v = record { served = v; flushing = λ h. inl h; closes = λ why h. absurd cc }
+  does_news look (e ∷ es) s n v =
+      let b = wide_served e.kind n.0 in
+      let a = serves answers e s v b in
+      let i = does_news look es (rule answers e s).0 n.2 a.served in
+      record {
+        served = i.served;
+        flushing = λ h. elim (i.flushing h) [ inl p ↦ by_shutdown look e s (rule answers e s).0 n.1 a p | inr c ↦ inr c ];
+        closes = λ why h. elim (closed_append why (rule answers e s).1 (sent_after answers (rule answers e s).0 es) h) [
+          | inl x ↦ let w = wide_closes why e s (rule answers e s).1 n.0 (reason answers e s v b why x) in (w.0, or_shutdown look e s n.1 w.1)
+          | inr y ↦ let w = i.closes why y in (w.0, elim w.1 [ inl p ↦ by_shutdown look e s (rule answers e s).0 n.1 a p | inr c ↦ inr c ])
+        ];
+      }
+
+  does_told : (version : ℕ) (look : Look) (s : Slate) → IsServedIn s.phase → DoesNews look s (told_of answers version look s)
+  does_told version look s v = does_news look (news version s.conf.over look) s (are_news version s.conf.over look) v
+
+rose_since : (f f1 f2 : ℕ) → f ≤ f1 → Rose f1 f2 → Rose f f2
+rose_since f f1 f2 l r = omega (arith, l, r)
+
+module _ {W R F : Type 0} (answer : PolledRequest F R → ℕ → Answer) (answers : Serving) where
+  -- The core stands for a slate of a connection that is served. The seat made calls under its name, and one of them was a look that
+  -- showed a shutdown where the connection only writes what waits. The link's count of faults did not fall.
+  pub record Goes (core : ClientCore W R F) (k k' : Known) (faults faults' : ℕ) : Type 0 where
+    pub slate : Slate
+    pub stands : Stands answer answers core slate
+    pub served : IsServedIn slate.phase
+    pub calls : List Entry
+    pub gained : Gained k calls k'
+    pub name : k'.name ≡ k.name
+    pub seen : slate.phase ≡ Flushing ByShutdown → SawShutdown k k'
+    pub later : faults ≤ faults'
+
+  pub goes_begun : (core : ClientCore W R F) (s : Slate) (k : Known) (f : ℕ) → Stands answer answers core s → s.phase ≡ Open → Goes core k k f f
+  goes_begun core s k f h p = record {
+    slate = s;
+    stands = h;
+    served = rw p tt;
+    calls = [];
+    gained = gained_none k;
+    name = refl;
+    seen = λ (q : s.phase ≡ Flushing ByShutdown). let no : Open ≡ Flushing ByShutdown = sym p ∙ q in absurd cc;
+    later = omega arith;
+  }
+
+  saw_now : (core : ClientCore W R F) (k k1 k2 : Known) (f f1 : ℕ) (look : Look) → Goes core k k1 f f1 → Called k1 ToLook (LookReply look) k2 → look.closed ≡ true → SawShutdown k k2
+  saw_now core k k1 k2 f f1 look g c h = record { before = g.calls; look = look; after = []; calls = gained_more k k1 k2 g.calls ToLook (LookReply look) g.gained g.name c; closed = h }
+
+  saw_either : (core : ClientCore W R F) (k k1 k2 : Known) (f f1 : ℕ) (look : Look) (g : Goes core k k1 f f1) → Called k1 ToLook (LookReply look) k2 → (g.slate.phase ≡ Flushing ByShutdown) ⊎ (look.closed ≡ true) → SawShutdown k k2
+  saw_either core k k1 k2 f f1 look g c h = elim h [ inl p ↦ saw_more k k1 ToLook (LookReply look) k2 (g.seen p) g.name c | inr s ↦ saw_now core k k1 k2 f f1 look g c s ]
+
+  -- after a look
+  pub goes_heard : (why : Option Why) (core core' : ClientCore W R F) (k k1 k2 : Known) (f f1 : ℕ) → Goes core k k1 f f1 → HeardFor answer why core core' k1 k2 → Goes core' k k2 f f1
+  goes_heard why core core' k k1 k2 f f1 g h =
+      let d = does_told answers core.version h.look g.slate g.served in
+      record {
+        slate = (told_of answers core.version h.look g.slate).0;
+        stands = (h.follows answers g.slate g.stands).1;
+        served = d.served;
+        calls = g.calls ++ entry k.name ToLook (LookReply h.look) ∷ [];
+        gained = gained_more k k1 k2 g.calls ToLook (LookReply h.look) g.gained g.name h.called;
+        name = h.called.same_name ∙ g.name;
+        seen = λ p. saw_either core k k1 k2 f f1 h.look g h.called (d.flushing p);
+        later = g.later;
+      }
+
+  -- and where that closes the connection, it is by a shutdown, which a look showed
+  pub heard_why : (why : Why) (core core' : ClientCore W R F) (k k1 k2 : Known) (f f1 : ℕ) → Goes core k k1 f f1 → HeardFor answer (Some why) core core' k1 k2 → (why ≡ ByShutdown) × SawShutdown k k2
+  heard_why why core core' k k1 k2 f f1 g h =
+      let d = does_told answers core.version h.look g.slate g.served in
+      let c = d.closes why (ap closed_by (sym (h.follows answers g.slate g.stands).0) ∙ h.closed) in
+      (c.0, saw_either core k k1 k2 f f1 h.look g h.called c.1)
+
+  pub heard_cause : (why : Why) (core core' : ClientCore W R F) (k k1 k2 : Known) (f f1 : ℕ) → Goes core k k1 f f1 → HeardFor answer (Some why) core core' k1 k2 → Causes why k k2 f f1
+  heard_cause why core core' k k1 k2 f f1 g h = let c = heard_why why core core' k k1 k2 f f1 g h in rw c.0 c.1
+
+  -- after an own event
+  own_served : (core core' : ClientCore W R F) (why : Option Why) (f1 f2 : ℕ) (a : ActedFor answer answers why core core' f1 f2) (s : Slate) → Stands answer answers core s → IsServedBy a.event.kind
+  own_served core core' why f1 f2 a s h = by_may a.below a.event.kind s (a.chosen.may answers s h)
+
+  pub goes_acted : (why : Option Why) (core core' : ClientCore W R F) (k k1 : Known) (f f1 f2 : ℕ) → Goes core k k1 f f1 → ActedFor answer answers why core core' f1 f2 → Goes core' k k1 f f2
+  goes_acted why core core' k k1 f f1 f2 g a =
+      let v = serves answers a.event g.slate g.served (own_served core core' why f1 f2 a g.slate g.stands) in
+      record {
+        slate = (rule answers a.event g.slate).0;
+        stands = (a.taken.follows g.slate g.stands).1;
+        served = v.served;
+        calls = g.calls;
+        gained = g.gained;
+        name = g.name;
+        seen = λ p. elim (v.flushing p) [ inl q ↦ g.seen q | inr s ↦ let no : is_wide Shutdown ≡ false = ap is_wide (sym s) ∙ a.chosen.is_own in absurd cc ];
+        later = let l = a.chosen.blames.later in let m = g.later in omega arith;
+      }
+
+  caused : (why : Why) (core core' : ClientCore W R F) (k k1 : Known) (f f1 f2 : ℕ) (g : Goes core k k1 f f1) (a : ActedFor answer answers (Some why) core core' f1 f2) → ClosesFor why a.event g.slate a.taken.outs → Causes why k k1 f f2
+  caused Ended core core' k k1 f f1 f2 g a c = tt
+  caused ByFault core core' k k1 f f1 f2 g a c = rose_since f f1 f2 g.later (a.chosen.blames.fault c)
+  caused Short core core' k k1 f f1 f2 g a c = tt
+  caused Idle core core' k k1 f f1 f2 g a c = tt
+  caused WriteTimeout core core' k k1 f f1 f2 g a c = tt
+  caused Commanded core core' k k1 f f1 f2 g a c = c
+  caused ByShutdown core core' k k1 f f1 f2 g a c = elim c [ inl s ↦ let no : is_wide Shutdown ≡ false = ap is_wide (sym s) ∙ a.chosen.is_own in absurd cc | inr p ↦ g.seen p ]
+
+  pub acted_cause : (why : Why) (core core' : ClientCore W R F) (k k1 : Known) (f f1 f2 : ℕ) → Goes core k k1 f f1 → ActedFor answer answers (Some why) core core' f1 f2 → Causes why k k1 f f2
+  acted_cause why core core' k k1 f f1 f2 g a =
+      let told = a.taken.follows g.slate g.stands in
+      let r = reason answers a.event g.slate g.served (own_served core core' (Some why) f1 f2 a g.slate g.stands) why (ap closed_by (sym told.0) ∙ a.taken.closed) in
+      let P : List Output → Type 0 = λ o. ClosesFor why a.event g.slate o in
+      caused why core core' k k1 f f1 f2 g a (subst P (sym told.0) r)
+
+-- once the slot is given back
+pub cause_released : (why : Why) (k k1 k2 : Known) (f f1 f2 left : ℕ) → Causes why k k1 f f1 → k1.name ≡ k.name → Called k1 Release (Left left) k2 → f1 ≤ f2 → Causes why k k2 f f2
+cause_released Ended k k1 k2 f f1 f2 left c n h l = tt
+cause_released ByFault k k1 k2 f f1 f2 left c n h l = omega (arith, c, l)
+cause_released Short k k1 k2 f f1 f2 left c n h l = tt
+cause_released Idle k k1 k2 f f1 f2 left c n h l = tt
+cause_released WriteTimeout k k1 k2 f f1 f2 left c n h l = tt
+cause_released Commanded k k1 k2 f f1 f2 left c n h l = c
+cause_released ByShutdown k k1 k2 f f1 f2 left c n h l = saw_more k k1 Release (Left left) k2 c n h

@@ -1,0 +1,104 @@
+-- What reads and writes do to a link.
+use Rattle.std.proofs.Common.{◌≡◌, ℕ, ◌+◌, ◌-◌, ◌≤◌, ◌<◌, List, [], ◌∷◌, ◌++◌, take, drop, length, arith, refl, sym, ◌∙◌, ap, append_assoc, append-nil}
+use Rattle.std.proofs.Math.Seq.{take-add}
+use Rattle.std.proofs.lemmas.Grind.{common_steps}
+use Rattle.dns_outside.specs.Traffic.{Traffic}
+use Rattle.dns_service.specs.declared.event.EventKind.TheVariants.{Write, Fault, Piece, End, Tick}
+use Rattle.dns_drivers.specs.Links.{WroteFront, MovedBy, Unread}
+
+pub wrote_none : (piece : List ℕ) (w : Traffic) → WroteFront 0 piece w w
+wrote_none piece w = record { came = refl; went = sym (append-nil w.went); ticks = refl; ends = refl }
+
+pub wrote_more : (d n : ℕ) (frame : List ℕ) (w0 w1 w2 : Traffic) → WroteFront d frame w0 w1 →
+    w2 ≡ record w1 { went = w1.went ++ take n (take (length frame - d) (drop d frame)) } → WroteFront (d + n) frame w0 w2
+wrote_more d n frame w0 w1 w2 r e0 = let full : take (length frame - d) (drop d frame) ≡ drop d frame = grind (arith, common_steps) in
+    let e = rw full at e0 in record {
+      came = rw e r.came;
+      went = rw (e, take-add d n frame, ← append_assoc w0.went (take d frame) (take n (drop d frame))) (ap (λ t. t ++ take n (drop d frame)) r.went);
+      ticks = rw e r.ticks;
+      ends = rw e r.ends;
+    }
+
+pub wrote_again : (d : ℕ) (frame : List ℕ) (w0 w1 w2 w3 : Traffic) → WroteFront d frame w0 w1 →
+    w2 ≡ record w1 { full_writes = w1.full_writes + 1 } → w3 ≡ w2 → WroteFront d frame w0 w3
+wrote_again d frame w0 w1 w2 w3 r e f = let h = f ∙ e in record { came = rw h r.came; went = rw h r.went; ticks = rw h r.ticks; ends = rw h r.ends }
+
+pub moved_whole : (frame : List ℕ) (limit took k : ℕ) (w w' : Traffic) → WroteFront k frame w w' → length frame ≤ k → MovedBy (Write took) (frame ∷ []) limit w w'
+moved_whole frame limit took k w w' r l = record {
+  part = take k frame;
+  came = r.came ∙ sym (append-nil w.came);
+  full = tt;
+  ticks = omega (arith, r.ticks);
+  ends = omega (arith, r.ends);
+  went = r.went;
+  part_is = record { written = k; is = refl; whole = λ _. l };
+}
+
+pub moved_late : (frame : List ℕ) (limit took k : ℕ) (w w' : Traffic) → WroteFront k frame w w' → limit < took → MovedBy (Write took) (frame ∷ []) limit w w'
+moved_late frame limit took k w w' r l = record {
+  part = take k frame;
+  came = r.came ∙ sym (append-nil w.came);
+  full = tt;
+  ticks = omega (arith, r.ticks);
+  ends = omega (arith, r.ends);
+  went = r.went;
+  part_is = record { written = k; is = refl; whole = λ (h : took ≤ limit). absurd (omega arith) };
+}
+
+pub moved_failed : (frame : List ℕ) (limit k : ℕ) (w w' : Traffic) → WroteFront k frame w w' → MovedBy Fault (frame ∷ []) limit w w'
+moved_failed frame limit k w w' r = record {
+  part = take k frame;
+  came = r.came ∙ sym (append-nil w.came);
+  full = tt;
+  ticks = omega (arith, r.ticks);
+  ends = omega (arith, r.ends);
+  went = r.went;
+  part_is = record { written = k; is = refl };
+}
+
+pub moved_piece : (n : ℕ) (buf o : List ℕ) (w w' : Traffic) → w' ≡ record w { came = w.came ++ take n buf } → o ≡ take n buf → 1 ≤ n → n ≤ length buf → MovedBy (Piece o) [] 0 w w'
+moved_piece n buf o w w' e h l m = record {
+  part = [];
+  came = rw (e, h) refl;
+  full = rw h (grind (arith, common_steps));
+  ticks = rw e (omega arith);
+  ends = rw e (omega arith);
+  went = rw e (sym (append-nil w.went));
+  part_is = refl;
+}
+
+pub moved_again : (w w1 w2 : Traffic) → w1 ≡ record w { empty_reads = w.empty_reads + 1 } → w2 ≡ w1 → MovedBy Tick [] 0 w w2
+moved_again w w1 w2 e f = let h = f ∙ e in record {
+  part = [];
+  came = rw h (sym (append-nil w.came));
+  full = tt;
+  ticks = rw h refl;
+  ends = rw h (omega arith);
+  went = rw h (sym (append-nil w.went));
+  part_is = refl;
+}
+
+pub moved_end : (w w1 : Traffic) → w1 ≡ record w { ends = w.ends + 1 } → MovedBy End [] 0 w w1
+moved_end w w1 h = record {
+  part = [];
+  came = rw h (sym (append-nil w.came));
+  full = tt;
+  ticks = rw h (omega arith);
+  ends = rw h refl;
+  went = rw h (sym (append-nil w.went));
+  part_is = refl;
+}
+
+pub moved_none : (w w1 : Traffic) → w1 ≡ w → MovedBy Fault [] 0 w w1
+moved_none w w1 h = record {
+  part = [];
+  came = rw h (sym (append-nil w.came));
+  full = tt;
+  ticks = rw h (omega arith);
+  ends = rw h (omega arith);
+  went = rw h (sym (append-nil w.went));
+  part_is = record { written = 0; is = refl };
+}
+
+pub unread : (n : ℕ) (buf : List ℕ) (w w' : Traffic) → w' ≡ record w { came = w.came ++ take n buf } → Unread w w'
+unread n buf w w' e = record { unread = take n buf; came = rw e refl; went = rw e refl }

@@ -1,0 +1,79 @@
+use Rattle.std.proofs.Common.{Option, refl, inl, inr}
+use Rattle.dns_service.specs.PolledRequest.{request_answer}
+use Rattle.dns_service.specs.declared.event.Why.{Why}
+use Rattle.dns_client.specs.Serving.{serving}
+use Rattle.dns_drivers.specs.Blames.{NotedWrite, ActedFor}
+use Rattle.dns_drivers.specs.Clocks.{Timed}
+use Rattle.dns_drivers.specs.Rounds.{below_of}
+use Rattle.dns_drivers.specs.Steps.{Acted, ActedPart}
+use Rattle.dns_drivers.specs.Turning.{Turned, TurnedPart, TurnedFor}
+use Rattle.dns_drivers.proofs.Results.{if_ok, tells_both, tells_then, refused_then}
+use Rattle.dns_drivers.proofs.Timings.{timed_then, timed_shift}
+use Rattle.dns_drivers.proofs.turning.turn_once.Goals as goal
+
+pub returns-in-Ok-None-clause-told : goal.returns-in-Ok-None-clause-told
+returns-in-Ok-None-clause-told g c =
+    let a = request_answer g.W.Future.ReplyFuture.answer g.W.Stream.ReplyStream.answer in
+    let b = serving (g.W.Served.answer c.args.service.now) (g.W.Served.hint c.args.service.now) in
+    tells_then c.act.result (g.L.Link.tells c.act.new.link × g.J.Recorder.tells c.act.new.journal) (g.L.Link.tells c.args.link.now × g.J.Recorder.tells c.hear.new.journal) (g.L.Link.tells c.args.link.now × g.J.Recorder.tells c.args.journal.now)
+    (λ (why : Option Why). (Acted a b c.args.client (below_of c.args.turn.now) (below_of c.act.new.turn) why c.hear.new.core c.act.new.core (g.J.Recorder.noted c.hear.new.journal) (g.J.Recorder.noted c.act.new.journal) (g.L.Link.traffic c.args.link.now) (g.L.Link.traffic c.act.new.link)) × (NotedWrite a c.hear.new.core (g.J.Recorder.noted c.hear.new.journal) (g.J.Recorder.noted c.act.new.journal) (g.L.Link.traffic c.args.link.now) (g.L.Link.traffic c.act.new.link)))
+    (λ (why : Option Why). Turned a b c.args.client (below_of c.args.turn.now) (below_of c.act.new.turn) why c.args.core.now c.act.new.core c.args.last.now c.hear.new.last (g.J.Recorder.noted c.args.journal.now) (g.J.Recorder.noted c.act.new.journal) c.args.seat.now.known c.hear.new.seat.known (g.L.Link.traffic c.args.link.now) (g.L.Link.traffic c.act.new.link))
+    (λ (m : g.L.Link.tells c.args.link.now × g.J.Recorder.tells c.hear.new.journal). let h = (rw c.in-Ok-None.field-0-is at c.in-Ok-None.ensures.told).told m.1 in ((m.0, h.0), λ why p. record { either = inr (record { between = c.hear.new.core; seen = (g.J.Recorder.noted c.hear.new.journal); heard = h.1; acted = p.0; wrote = p.1 }) }))
+    (tells_both c.act.result (g.L.Link.tells c.act.new.link × g.J.Recorder.tells c.act.new.journal) (g.L.Link.tells c.args.link.now × g.J.Recorder.tells c.hear.new.journal) (λ (why : Option Why). Acted a b c.args.client (below_of c.args.turn.now) (below_of c.act.new.turn) why c.hear.new.core c.act.new.core (g.J.Recorder.noted c.hear.new.journal) (g.J.Recorder.noted c.act.new.journal) (g.L.Link.traffic c.args.link.now) (g.L.Link.traffic c.act.new.link)) (λ (why : Option Why). NotedWrite a c.hear.new.core (g.J.Recorder.noted c.hear.new.journal) (g.J.Recorder.noted c.act.new.journal) (g.L.Link.traffic c.args.link.now) (g.L.Link.traffic c.act.new.link)) c.act.ensures.told c.act.ensures.again)
+
+pub returns-in-Ok-None-clause-clock : goal.returns-in-Ok-None-clause-clock
+returns-in-Ok-None-clause-clock g c =
+    tells_then c.act.result (g.L.Link.tells c.act.new.link × g.C.Clock.tells c.act.new.clock × g.J.Recorder.tells c.act.new.journal) (g.L.Link.tells c.args.link.now × g.C.Clock.tells c.hear.new.clock × g.J.Recorder.tells c.hear.new.journal) (g.L.Link.tells c.args.link.now × g.C.Clock.tells c.args.clock.now × g.J.Recorder.tells c.args.journal.now)
+    (λ (why : Option Why). Timed (g.J.Recorder.noted c.hear.new.journal) (g.J.Recorder.noted c.act.new.journal) (g.L.Link.traffic c.args.link.now).full_writes (g.L.Link.traffic c.act.new.link).full_writes (g.C.Clock.readings c.hear.new.clock) (g.C.Clock.readings c.act.new.clock))
+    (λ (why : Option Why). Timed (g.J.Recorder.noted c.args.journal.now) (g.J.Recorder.noted c.act.new.journal) (g.L.Link.traffic c.args.link.now).full_writes (g.L.Link.traffic c.act.new.link).full_writes (g.C.Clock.readings c.args.clock.now) (g.C.Clock.readings c.act.new.clock))
+    (λ (m : g.L.Link.tells c.args.link.now × g.C.Clock.tells c.hear.new.clock × g.J.Recorder.tells c.hear.new.journal). let h = c.in-Ok-None.ensures.clock.told (m.1, m.2) in
+    ((m.0, h.0.0, h.0.1), λ why p. timed_then (g.J.Recorder.noted c.args.journal.now) (g.J.Recorder.noted c.hear.new.journal) (g.J.Recorder.noted c.act.new.journal) (g.L.Link.traffic c.args.link.now).full_writes (g.L.Link.traffic c.args.link.now).full_writes (g.L.Link.traffic c.act.new.link).full_writes (g.C.Clock.readings c.args.clock.now) (g.C.Clock.readings c.hear.new.clock) (g.C.Clock.readings c.act.new.clock) (timed_shift (g.J.Recorder.noted c.args.journal.now) (g.J.Recorder.noted c.hear.new.journal) (g.L.Link.traffic c.args.link.now).full_writes (g.C.Clock.readings c.args.clock.now) (g.C.Clock.readings c.hear.new.clock) h.1) p))
+    c.act.ensures.clock
+
+pub returns-in-Ok-None-clause-no_memory : goal.returns-in-Ok-None-clause-no_memory
+returns-in-Ok-None-clause-no_memory g c =
+    let a = request_answer g.W.Future.ReplyFuture.answer g.W.Stream.ReplyStream.answer in
+    let b = serving (g.W.Served.answer c.args.service.now) (g.W.Served.hint c.args.service.now) in
+    refused_then c.act.result (g.L.Link.tells c.act.new.link × g.J.Recorder.tells c.act.new.journal) (g.L.Link.tells c.args.link.now × g.J.Recorder.tells c.hear.new.journal) (g.L.Link.tells c.args.link.now × g.J.Recorder.tells c.args.journal.now)
+    (ActedPart a c.args.client (below_of c.args.turn.now) c.hear.new.core (g.J.Recorder.noted c.hear.new.journal) (g.J.Recorder.noted c.act.new.journal) (g.L.Link.traffic c.args.link.now) (g.L.Link.traffic c.act.new.link))
+    (TurnedPart a b c.args.client (below_of c.args.turn.now) c.args.core.now c.args.last.now (g.J.Recorder.noted c.args.journal.now) (g.J.Recorder.noted c.act.new.journal) c.args.seat.now.known c.hear.new.seat.known (g.L.Link.traffic c.args.link.now) (g.L.Link.traffic c.act.new.link))
+    (λ (m : g.L.Link.tells c.args.link.now × g.J.Recorder.tells c.hear.new.journal). let h = (rw c.in-Ok-None.field-0-is at c.in-Ok-None.ensures.told).told m.1 in ((m.0, h.0), λ p. record { either = inr (record { between = c.hear.new.core; look = c.hear.new.last; seen = (g.J.Recorder.noted c.hear.new.journal); heard = h.1; acted = p }) }))
+    c.act.ensures.no_memory
+
+pub returns-in-Ok-None-clause-cause : goal.returns-in-Ok-None-clause-cause
+returns-in-Ok-None-clause-cause g c =
+    let a = request_answer g.W.Future.ReplyFuture.answer g.W.Stream.ReplyStream.answer in
+    let b = serving (g.W.Served.answer c.args.service.now) (g.W.Served.hint c.args.service.now) in
+    if_ok c.act.result
+    (λ (why : Option Why). ActedFor a b why c.hear.new.core c.act.new.core (g.L.Link.faults c.args.link.now) (g.L.Link.faults c.act.new.link))
+    (λ (why : Option Why). TurnedFor a b why c.args.core.now c.act.new.core c.args.seat.now.known c.hear.new.seat.known (g.L.Link.faults c.args.link.now) (g.L.Link.faults c.act.new.link))
+    (λ why p. record { either = inr (record { between = c.hear.new.core; heard = rw c.in-Ok-None.field-0-is at c.in-Ok-None.ensures.blame; acted = p }) })
+    c.act.ensures.blame
+
+pub returns-in-Ok-Some-clause-told : goal.returns-in-Ok-Some-clause-told
+returns-in-Ok-Some-clause-told g c =
+    record {
+      told = λ t.
+          let h = (rw c.in-Ok-Some.field-0-is at c.in-Ok-Some.ensures.told).told t.1 in
+          ((t.0, h.0), record { either = inl (record { reason = c.in-Ok-Some.why; why_is = refl; heard = h.1; still = refl }) });
+    }
+
+pub returns-in-Ok-Some-clause-clock : goal.returns-in-Ok-Some-clause-clock
+returns-in-Ok-Some-clause-clock g c =
+    record {
+      told = λ t.
+          let h = c.in-Ok-Some.ensures.clock.told (t.1, t.2) in
+          ((t.0, h.0.0, h.0.1), timed_shift (g.J.Recorder.noted c.args.journal.now) (g.J.Recorder.noted c.hear.new.journal) (g.L.Link.traffic c.args.link.now).full_writes (g.C.Clock.readings c.args.clock.now) (g.C.Clock.readings c.hear.new.clock) h.1);
+    }
+
+pub returns-in-Ok-Some-clause-cause : goal.returns-in-Ok-Some-clause-cause
+returns-in-Ok-Some-clause-cause g c =
+    record { either = inl (record { reason = c.in-Ok-Some.why; why_is = refl; heard = rw c.in-Ok-Some.field-0-is at c.in-Ok-Some.ensures.blame; still = refl }) }
+
+pub returns-in-Err-clause-no_memory : goal.returns-in-Err-clause-no_memory
+returns-in-Err-clause-no_memory g c =
+    record {
+      told = λ t.
+          let h = c.in-Err.ensures.no_memory.told t.1 in
+          ((t.0, h.0), record { either = inl (h.1, refl) });
+    }

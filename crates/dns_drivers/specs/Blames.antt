@@ -1,0 +1,81 @@
+-- What the steps of the loop of a connection say of why it is closed.
+use Rattle.std.specs.Prelude.{◌≡◌, ◌≤◌, ◌<◌, ◌⊎◌, ℕ, List, [], ◌∷◌, ◌++◌, false, Option}
+use Rattle.dns_admission.specs.declared.look.Look.{Look}
+use Rattle.dns_admission.specs.declared.call.Call.TheVariants.{Look as ToLook}
+use Rattle.dns_admission.specs.declared.call.Reply.TheVariants.{Look as LookReply}
+use Rattle.dns_book.specs.Seats.{Called}
+use Rattle.dns_book.specs.declared.history.Known.{Known}
+use Rattle.dns_outside.specs.Causes.{Rose}
+use Rattle.dns_outside.specs.Traffic.{Traffic}
+use Rattle.dns_service.specs.Answer.{Answer}
+use Rattle.dns_service.specs.declared.event.Event.{Event}
+use Rattle.dns_service.specs.declared.event.EventKind.{EventKind}
+use Rattle.dns_service.specs.declared.event.EventKind.TheVariants.{Write, Fault}
+use Rattle.dns_service.specs.declared.event.Output.{Output}
+use Rattle.dns_service.specs.declared.event.Why.{Why}
+use Rattle.dns_service.specs.declared.polled.PolledRequest.{PolledRequest}
+use Rattle.dns_client.specs.Serving.{Serving}
+use Rattle.dns_client.specs.Slate.{Slate}
+use Rattle.dns_client.specs.News.{told_of}
+use Rattle.dns_client.specs.Stands.{Stands, GoesAs}
+use Rattle.dns_client.specs.declared.client.ClientCore.{ClientCore}
+use Rattle.dns_core.specs.Own.{is_wide}
+use Rattle.dns_drivers.specs.Closing.{closed_by}
+use Rattle.dns_drivers.specs.Links.{front}
+use Rattle.dns_drivers.specs.Rounds.{May}
+use Rattle.dns_drivers.specs.Steps.{TakesEvent}
+use Rattle.dns_drivers.specs.declared.writing.WriteEnd.{WriteEnd}
+use Rattle.dns_drivers.specs.declared.writing.WriteEnd.TheVariants.{Failed, Late}
+
+-- while a frame was written the link's count of faults did not fall, and it rose where a write failed
+pub record EndBlames (end : WriteEnd) (faults faults' : ℕ) : Type 0 where
+  pub later : faults ≤ faults'
+  pub failed : end ≡ Failed → Rose faults faults'
+
+-- where that took too long, a write answered Again
+pub record EndAgain (end : WriteEnd) (again again' : ℕ) : Type 0 where
+  pub later : again ≤ again'
+  pub late : (at secs : ℕ) → end ≡ Late at secs → again < again'
+
+-- with an event the link's count of faults did not fall, and it rose with a Fault
+pub record Blames (kind : EventKind) (faults faults' : ℕ) : Type 0 where
+  pub later : faults ≤ faults'
+  pub fault : kind ≡ Fault → Rose faults faults'
+
+-- behind a Write stands its whole frame, or a write answered Again
+pub record WroteWhole (kind : EventKind) (frame : List ℕ) (t t' : Traffic) : Type 0 where
+  pub later : t.full_writes ≤ t'.full_writes
+  pub write : (took : ℕ) → kind ≡ Write took → (t'.went ≡ t.went ++ frame) ⊎ (t.full_writes < t'.full_writes)
+
+module _ {W R F : Type 0} (answer : PolledRequest F R → ℕ → Answer) where
+  -- the same of the frame that stands first
+  abbrev pub WroteFirst : ClientCore W R F → EventKind → Traffic → Traffic → Type 0
+  WroteFirst core kind t t' = (answers : Serving) (s : Slate) → Stands answer answers core s → WroteWhole kind (front s.queue) t t'
+
+  -- an own event that may come
+  pub record ChosenFor (below : ℕ) (core : ClientCore W R F) (event : Event) (faults faults' : ℕ) : Type 0 where
+    pub is_own : is_wide event.kind ≡ false
+    pub may : (answers : Serving) (s : Slate) → Stands answer answers core s → May below event.kind s
+    pub blames : Blames event.kind faults faults'
+
+  -- one that was noted
+  pub record NotedWrite (core : ClientCore W R F) (n n' : List Event) (t t' : Traffic) : Type 0 where
+    pub event : Event
+    pub noted : n' ≡ n ++ event ∷ []
+    pub wrote : WroteFirst core event.kind t t'
+
+  -- a look, whose news were heard
+  pub record HeardFor (why : Option Why) (core core' : ClientCore W R F) (k k' : Known) : Type 0 where
+    pub look : Look
+    pub outs : List Output
+    pub called : Called k ToLook (LookReply look) k'
+    pub follows : (answers : Serving) → GoesAs answer answers core core' outs (told_of answers core.version look)
+    pub closed : closed_by outs ≡ why
+
+module _ {W R F : Type 0} (answer : PolledRequest F R → ℕ → Answer) (answers : Serving) where
+  -- an own event that was taken
+  pub record ActedFor (why : Option Why) (core core' : ClientCore W R F) (faults faults' : ℕ) : Type 0 where
+    pub below : ℕ
+    pub event : Event
+    pub chosen : ChosenFor answer below core event faults faults'
+    pub taken : TakesEvent answer answers core core' event why

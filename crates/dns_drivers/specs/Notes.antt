@@ -1,0 +1,9 @@
+-- What a note adds to the events noted before it.
+use Rattle.std.specs.Prelude.{◌≡◌, List, [], ◌∷◌, ◌++◌, Result, Ok, Err}
+use Rattle.dns_name.specs.declared.error.OutOfMemory.{OutOfMemory}
+use Rattle.dns_service.specs.declared.event.Event.{Event}
+
+-- the event at the end, or nothing where there is no memory
+abbrev pub NoteMoves : Result (Unit {0}) OutOfMemory → Event → List Event → List Event → Type 0
+NoteMoves (Ok u) e a b = b ≡ a ++ e ∷ []
+NoteMoves (Err no_memory) e a b = b ≡ a

@@ -1,0 +1,162 @@
+//! One own event.
+
+ghost use Rattle.std.specs.Prelude.{◌≡◌, IfOk, OnErr};
+ghost use Rattle.dns_outside.specs.Causes.{Tells};
+ghost use Rattle.dns_client.specs.Serving.{Serving, serving};
+ghost use Rattle.dns_client.specs.Slate.{Slate};
+ghost use Rattle.dns_client.specs.Stands.{Stands};
+ghost use Rattle.dns_service.specs.PolledRequest.{request_answer};
+ghost use Rattle.dns_drivers.specs.Blames.{WroteFirst, ChosenFor, NotedWrite, ActedFor};
+ghost use Rattle.dns_drivers.specs.Clocks.{TimedOne, Timed};
+ghost use Rattle.dns_drivers.specs.Rounds.{below_of, next_turn, turned};
+ghost use Rattle.dns_drivers.specs.Steps.{Chosen, TakesEvent, NotedOrNot, Acted, ActedPart};
+ghost use Rattle.dns_drivers.specs.Links.{Unread};
+
+use crate::closing::closed_by;
+use crate::moments::now_is;
+use crate::reading::read_event;
+use crate::recorder::Recorder;
+use crate::writing::write_event;
+use dns_client::ClientCore;
+use dns_outside::{Clock, Link};
+use dns_service::{Event, EventKind, OutOfMemory, Served, Why};
+use std::alloc::Global;
+use std::sync::Wait;
+
+/// Gives the event to the core. The answer is why the connection is closed by that, if it is.
+fn step<W: Served>(
+    alloc: Global,
+    core: &mut ClientCore<W>,
+    service: &W,
+    event: &Event,
+) -> Result<Option<Why>, OutOfMemory>
+    requires { W.can_call service.now }
+    ensures { IfOk result (λ why. TakesEvent (request_answer W.Future.answer W.Stream.answer) (serving (W.answer service.now) (W.hint service.now)) core.old core.new event.now why) }
+{
+    let outs = core.step(alloc, service, event)?;
+    let why = closed_by(&outs);
+    Ok(why)
+}
+
+/// Notes the event, and then gives it to the core. The answer is why the connection is closed by that, if it is.
+fn take<J: Recorder, W: Served>(
+    alloc: Global,
+    core: &mut ClientCore<W>,
+    service: &W,
+    journal: &mut J,
+    event: &Event,
+) -> Result<Option<Why>, OutOfMemory>
+    requires { W.can_call service.now }
+    ensures taken { IfOk result (λ why. TakesEvent (request_answer W.Future.answer W.Stream.answer) (serving (W.answer service.now) (W.hint service.now)) core.old core.new event.now why) }
+    ensures noted { Tells (J.tells journal.new) (J.tells journal.old) (NotedOrNot result (J.noted journal.old) event.now (J.noted journal.new)) }
+{
+    journal.note(alloc, event)?;
+    let why = step(alloc, core, service, event)?;
+    Ok(why)
+}
+
+/// The same of an event of the loop's own, which may be the turn of the request that was polled last in this round.
+fn hand_over<J: Recorder, W: Served>(
+    alloc: Global,
+    core: &mut ClientCore<W>,
+    service: &W,
+    turn: &mut Option<u64>,
+    journal: &mut J,
+    event: Event,
+) -> Result<Option<Why>, OutOfMemory>
+    requires { W.can_call service.now }
+    ensures taken { IfOk result (λ why. TakesEvent (request_answer W.Future.answer W.Stream.answer) (serving (W.answer service.now) (W.hint service.now)) core.old core.new event why) }
+    ensures noted { Tells (J.tells journal.new) (J.tells journal.old) (NotedOrNot result (J.noted journal.old) event (J.noted journal.new)) }
+    ensures turn { below_of turn.new ≡ turned (below_of turn.old) event.kind }
+{
+    *turn = after_event(*turn, &event.kind);
+    take(alloc, core, service, journal, &event)
+}
+
+/// The request to be polled next, by the last one that was polled in this round.
+fn next_request<W: Served>(core: &ClientCore<W>, last: Option<u64>) -> Option<u64>
+    ensures { (answers : Serving) (s : Slate) → Stands (request_answer W.Future.answer W.Stream.answer) answers core.now s → result ≡ next_turn (below_of last) s.requests }
+{
+    match last {
+        None => core.first_unfinished(),
+        Some(request) => core.next_unfinished(request),
+    }
+}
+
+#[tactic(auto, using(crate::proofs::Choices::chosen_write, crate::proofs::Blamings::for_write, crate::proofs::Blamings::for_turn, crate::proofs::Blamings::for_read, crate::proofs::Blamings::first_write, crate::proofs::Blamings::first_turn, crate::proofs::Blamings::first_read))]
+/// Writes the first frame that waits; where none does, polls the next request; where none is left, makes one read. The
+/// event says what was done, and is not noted yet.
+fn own_event<R: Wait, L: Link, C: Clock, W: Served>(
+    rt: &R,
+    alloc: Global,
+    client: u64,
+    core: &ClientCore<W>,
+    last: Option<u64>,
+    link: &mut L,
+    clock: &mut C,
+) -> Result<Event, OutOfMemory>
+    ensures chosen { IfOk result (λ event. Tells (L.tells link.new) (L.tells link.old)
+        (Chosen (request_answer W.Future.answer W.Stream.answer) client (below_of last) core.now event (L.traffic link.old) (L.traffic link.new))) }
+    ensures clock { IfOk result (λ event. Tells (L.tells link.new × C.tells clock.new) (L.tells link.old × C.tells clock.old) (TimedOne event (L.traffic link.old).full_writes (L.traffic link.new).full_writes (C.readings clock.old) (C.readings clock.new))) }
+    ensures blame { IfOk result (λ event. ChosenFor (request_answer W.Future.answer W.Stream.answer) (below_of last) core.now event (L.faults link.old) (L.faults link.new)) }
+    ensures again { IfOk result (λ event. Tells (L.tells link.new) (L.tells link.old)
+        (WroteFirst (request_answer W.Future.answer W.Stream.answer) core.now event.kind (L.traffic link.old) (L.traffic link.new))) }
+    ensures no_memory { OnErr result (Tells (L.tells link.new) (L.tells link.old) (Unread (L.traffic link.old) (L.traffic link.new))) }
+{
+    if let Some(frame) = core.front_frame() {
+        let event = write_event(rt, client, link, clock, frame, core.write_timeout());
+        return Ok(event);
+    }
+    match next_request(core, last) {
+        Some(request) => {
+            let event = now_is(clock, client, EventKind::Turn { request });
+            Ok(event)
+        }
+        None => {
+            let event = read_event(rt, alloc, client, link, clock)?;
+            Ok(event)
+        }
+    }
+}
+
+/// The last request that was polled in this round, after an event.
+fn after_event(last: Option<u64>, kind: &EventKind) -> Option<u64>
+    ensures { below_of result ≡ turned (below_of last) kind.now }
+{
+    match kind {
+        EventKind::Turn { request } => Some(*request),
+        EventKind::Piece(_) | EventKind::End | EventKind::Tick => None,
+        _ => last,
+    }
+}
+
+#[tactic(auto, using(crate::proofs::Choices::acted, crate::proofs::Choices::part_read, crate::proofs::Choices::part_taken, crate::proofs::Timings::timed_noted, crate::proofs::Blamings::noted_write, crate::proofs::Blamings::acted_for))]
+/// Does one own event. It is noted before the core takes it.
+pub(crate) fn act<R: Wait, L: Link, C: Clock, J: Recorder, W: Served>(
+    rt: &R,
+    alloc: Global,
+    client: u64,
+    core: &mut ClientCore<W>,
+    service: &W,
+    turn: &mut Option<u64>,
+    link: &mut L,
+    clock: &mut C,
+    journal: &mut J,
+) -> Result<Option<Why>, OutOfMemory>
+    requires { W.can_call service.now }
+    ensures told { IfOk result (λ why. Tells (L.tells link.new × J.tells journal.new) (L.tells link.old × J.tells journal.old)
+        (Acted (request_answer W.Future.answer W.Stream.answer) (serving (W.answer service.now) (W.hint service.now)) client (below_of turn.old) (below_of turn.new) why core.old core.new
+        (J.noted journal.old) (J.noted journal.new) (L.traffic link.old) (L.traffic link.new))) }
+    ensures clock { IfOk result (λ why. Tells (L.tells link.new × C.tells clock.new × J.tells journal.new) (L.tells link.old × C.tells clock.old × J.tells journal.old)
+        (Timed (J.noted journal.old) (J.noted journal.new) (L.traffic link.old).full_writes (L.traffic link.new).full_writes (C.readings clock.old) (C.readings clock.new))) }
+    ensures blame { IfOk result (λ why. ActedFor (request_answer W.Future.answer W.Stream.answer) (serving (W.answer service.now) (W.hint service.now)) why core.old core.new (L.faults link.old) (L.faults link.new)) }
+    ensures again { IfOk result (λ why. Tells (L.tells link.new × J.tells journal.new) (L.tells link.old × J.tells journal.old)
+        (NotedWrite (request_answer W.Future.answer W.Stream.answer) core.old (J.noted journal.old) (J.noted journal.new) (L.traffic link.old) (L.traffic link.new))) }
+    ensures no_memory { OnErr result (Tells (L.tells link.new × J.tells journal.new) (L.tells link.old × J.tells journal.old)
+        (ActedPart (request_answer W.Future.answer W.Stream.answer) client (below_of turn.old) core.old
+        (J.noted journal.old) (J.noted journal.new) (L.traffic link.old) (L.traffic link.new))) }
+{
+    let event = own_event(rt, alloc, client, core, *turn, link, clock)?;
+    let why = hand_over(alloc, core, service, turn, journal, event)?;
+    Ok(why)
+}

@@ -1,0 +1,158 @@
+//! Datagrams are served.
+
+ghost use Rattle.std.specs.Prelude.{◌≡◌, ◌≤◌, [], false, IfOk, OnErr};
+ghost use Rattle.dns_client.specs.Serving.{serving};
+ghost use Rattle.dns_outside.specs.Causes.{Rose, Tells};
+ghost use Rattle.dns_service.specs.PolledRequest.{request_answer};
+ghost use Rattle.dns_drivers.specs.DatagramLoop.{Ended, Breaks};
+ghost use Rattle.dns_drivers.specs.DatagramsServed.{CutOff, OnlyLooks, ServedTo, world};
+
+mod exchanges;
+mod looks;
+mod notes;
+mod polls;
+mod receipts;
+mod running;
+mod sends;
+
+use crate::datagrams::looks::hear_news;
+use crate::datagrams::polls::finish;
+use crate::datagrams::receipts::take_all;
+use crate::datagrams::running::{Running, begun};
+use crate::recorder::Recorder;
+use dns_book::{Book, BookSeat};
+use dns_outside::{AsyncDgramSock, Clock};
+use dns_service::{OutOfMemory, Served};
+use std::alloc::Global;
+use std::sync::Wait;
+
+/// How the serving of datagrams ended.
+#[derive(Clone, Copy, Debug, PartialEq, Eq)]
+pub enum DgramEnd {
+    /// A look showed a shutdown, and every exchange is finished.
+    Shutdown,
+    /// So many datagrams came as were to be served, or as can be numbered, and every exchange is finished.
+    Counted,
+    /// A receive failed.
+    Fault,
+    /// A call found no memory.
+    OutOfMemory,
+}
+
+/// How many octets of a datagram are received.
+const ROOM: usize = 1024;
+
+#[tactic(auto, using(crate::proofs::DatagramSeats::only_then))]
+/// All that comes after the news of the first look.
+fn serve_all<R: Wait, D: AsyncDgramSock, C: Clock, J: Recorder, W: Served>(
+    rt: &R,
+    alloc: Global,
+    book: &Book,
+    seat: &mut BookSeat,
+    service: &W,
+    sock: &mut D,
+    clock: &mut C,
+    journal: &mut J,
+    state: &mut Running<W>,
+    count: u64,
+) -> Result<DgramEnd, OutOfMemory>
+    requires book { seat.old.book ≡ book.now }
+    requires can_call { W.can_call service.now }
+    ensures seat { OnlyLooks seat.old.known seat.new.known }
+    ensures book { seat.new.book ≡ seat.old.book }
+    ensures receives { D.failed_receives sock.old ≤ D.failed_receives sock.new }
+    ensures sends { D.failed_sends sock.old ≤ D.failed_sends sock.new }
+    ensures cause { IfOk result (λ end. end ≡ DgramEnd.Fault → Rose (D.failed_receives sock.old) (D.failed_receives sock.new)) }
+    ensures told { IfOk result (λ end. Tells (D.tells sock.new × C.tells clock.new × J.tells journal.new) (D.tells sock.old × C.tells clock.old × J.tells journal.old)
+        (Ended (request_answer W.Future.answer W.Stream.answer) (serving (W.answer service.now) (W.hint service.now)) end count
+        (world (J.noted journal.old) (D.mail sock.old) (D.failed_sends sock.old) (C.readings clock.old) seat.old.known) state.old
+        (world (J.noted journal.new) (D.mail sock.new) (D.failed_sends sock.new) (C.readings clock.new) seat.new.known) state.new)) }
+    ensures no_memory { OnErr result (Tells (D.tells sock.new × C.tells clock.new × J.tells journal.new) (D.tells sock.old × C.tells clock.old × J.tells journal.old)
+        (Breaks (request_answer W.Future.answer W.Stream.answer) (serving (W.answer service.now) (W.hint service.now))
+        (world (J.noted journal.old) (D.mail sock.old) (D.failed_sends sock.old) (C.readings clock.old) seat.old.known) state.old false []
+        (world (J.noted journal.new) (D.mail sock.new) (D.failed_sends sock.new) (C.readings clock.new) seat.new.known))) }
+{
+    let mut buf = [0u8; ROOM];
+    let end = take_all(
+        rt, alloc, book, seat, service, sock, clock, journal, state, &mut buf, count,
+    )?;
+    if let DgramEnd::Fault = end {
+        return Ok(DgramEnd::Fault);
+    }
+    finish(rt, alloc, book, seat, service, sock, clock, journal, state)?;
+    Ok(end)
+}
+
+#[tactic(auto, using(crate::proofs::DatagramSeats::only_one, crate::proofs::DatagramSeats::only_then))]
+/// Serves from a seat, beginning with its first look.
+fn serve_seat<R: Wait, D: AsyncDgramSock, C: Clock, J: Recorder, W: Served>(
+    rt: &R,
+    alloc: Global,
+    book: &Book,
+    seat: &mut BookSeat,
+    service: &W,
+    sock: &mut D,
+    clock: &mut C,
+    journal: &mut J,
+    count: u64,
+) -> Result<DgramEnd, OutOfMemory>
+    requires book { seat.old.book ≡ book.now }
+    requires can_call { W.can_call service.now }
+    ensures seat { OnlyLooks seat.old.known seat.new.known }
+    ensures book { seat.new.book ≡ seat.old.book }
+    ensures receives { D.failed_receives sock.old ≤ D.failed_receives sock.new }
+    ensures sends { D.failed_sends sock.old ≤ D.failed_sends sock.new }
+    ensures cause { IfOk result (λ end. end ≡ DgramEnd.Fault → Rose (D.failed_receives sock.old) (D.failed_receives sock.new)) }
+    ensures told { IfOk result (λ end. Tells (D.tells sock.new × C.tells clock.new × J.tells journal.new) (D.tells sock.old × C.tells clock.old × J.tells journal.old)
+        (ServedTo (serving (W.answer service.now) (W.hint service.now)) end count
+        (world (J.noted journal.old) (D.mail sock.old) (D.failed_sends sock.old) (C.readings clock.old) seat.old.known)
+        (world (J.noted journal.new) (D.mail sock.new) (D.failed_sends sock.new) (C.readings clock.new) seat.new.known))) }
+    ensures no_memory { OnErr result (Tells (D.tells sock.new × C.tells clock.new × J.tells journal.new) (D.tells sock.old × C.tells clock.old × J.tells journal.old)
+        (CutOff (serving (W.answer service.now) (W.hint service.now))
+        (world (J.noted journal.old) (D.mail sock.old) (D.failed_sends sock.old) (C.readings clock.old) seat.old.known)
+        (world (J.noted journal.new) (D.mail sock.new) (D.failed_sends sock.new) (C.readings clock.new) seat.new.known))) }
+{
+    let first = book.look(rt, seat);
+    let mut state: Running<W> = begun(alloc, &first);
+    hear_news(alloc, clock, journal, &mut state.heard, &first)?;
+    let end = serve_all(
+        rt, alloc, book, seat, service, sock, clock, journal, &mut state, count,
+    )?;
+    Ok(end)
+}
+
+/// Serves datagrams until a look shows a shutdown, a receive fails, or so many came, where the count isn't 0. Each receive and
+/// each poll has a look before it, whose news are noted at once. Between two receives each unfinished exchange is polled once, by
+/// rising number. After a shutdown or the last datagram each is polled to its end.
+pub fn serve_datagrams<R: Wait, D: AsyncDgramSock, C: Clock, J: Recorder, W: Served>(
+    rt: &R,
+    alloc: Global,
+    book: &Book,
+    mut seat: BookSeat,
+    service: &W,
+    sock: &mut D,
+    clock: &mut C,
+    journal: &mut J,
+    count: u64,
+) -> (BookSeat, DgramEnd)
+    requires book { seat.book ≡ book.now }
+    requires can_call { W.can_call service.now }
+    // Where socket, clock and recorder tell.
+    ensures told { Tells (D.tells sock.new × C.tells clock.new × J.tells journal.new) (D.tells sock.old × C.tells clock.old × J.tells journal.old)
+        (ServedTo (serving (W.answer service.now) (W.hint service.now)) result.1 count
+        (world (J.noted journal.old) (D.mail sock.old) (D.failed_sends sock.old) (C.readings clock.old) seat.known)
+        (world (J.noted journal.new) (D.mail sock.new) (D.failed_sends sock.new) (C.readings clock.new) result.0.known)) }
+    // Always.
+    ensures seat { OnlyLooks seat.known result.0.known }
+    ensures same { result.0.book ≡ seat.book }
+    ensures cause { result.1 ≡ DgramEnd.Fault → Rose (D.failed_receives sock.old) (D.failed_receives sock.new) }
+    ensures receives { D.failed_receives sock.old ≤ D.failed_receives sock.new }
+    ensures sends { D.failed_sends sock.old ≤ D.failed_sends sock.new }
+{
+    match serve_seat(
+        rt, alloc, book, &mut seat, service, sock, clock, journal, count,
+    ) {
+        Ok(end) => (seat, end),
+        Err(_) => (seat, DgramEnd::OutOfMemory),
+    }
+}

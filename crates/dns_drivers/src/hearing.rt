@@ -1,0 +1,115 @@
+//! A look, and its news.
+
+ghost use Rattle.std.specs.Prelude.{◌≡◌, OnOk, OnErr, IfOk};
+ghost use Rattle.dns_outside.specs.Causes.{Tells};
+ghost use Rattle.dns_book.specs.Seats.{Called};
+ghost use Rattle.dns_client.specs.Serving.{serving};
+ghost use Rattle.dns_client.specs.News.{new_configurations, new_end};
+ghost use Rattle.dns_service.specs.PolledRequest.{request_answer};
+ghost use Rattle.dns_drivers.specs.Blames.{HeardFor};
+ghost use Rattle.dns_drivers.specs.Clocks.{Timed};
+ghost use Rattle.dns_drivers.specs.Woven.{seen_with, kinds};
+ghost use Rattle.dns_drivers.specs.Steps.{NotedKinds, NotedWide, HeardNews, LookedOnce};
+
+use crate::closing::closed_by;
+use crate::moments::now_is;
+use crate::recorder::Recorder;
+use dns_admission::Look;
+use dns_book::{Book, BookSeat};
+use dns_client::ClientCore;
+use dns_outside::Clock;
+use dns_service::{EventKind, OutOfMemory, Served, Why};
+use std::alloc::Global;
+use std::sync::Wait;
+
+#[tactic(auto, using(crate::proofs::Notings::noted_none, crate::proofs::Notings::noted_one, crate::proofs::Timings::timed_none, crate::proofs::Notings::timed_version, crate::proofs::Notings::timed_shutdown))]
+/// Notes the configurations, where their version is new.
+pub(crate) fn note_version<C: Clock, J: Recorder>(
+    alloc: Global,
+    clock: &mut C,
+    journal: &mut J,
+    last: &Look,
+    look: &Look,
+) -> Result<(), OutOfMemory>
+    ensures told { OnOk result (Tells (J.tells journal.new) (J.tells journal.old)
+        (NotedKinds (kinds (new_configurations last.now.version look.now)) (J.noted journal.old) (J.noted journal.new))) }
+    ensures clock { OnOk result (Tells (C.tells clock.new × J.tells journal.new) (C.tells clock.old × J.tells journal.old)
+        (Timed (J.noted journal.old) (J.noted journal.new) 0 0 (C.readings clock.old) (C.readings clock.new))) }
+    ensures no_memory { OnErr result (Tells (J.tells journal.new) (J.tells journal.old) (J.noted journal.new ≡ J.noted journal.old)) }
+    ensures clock_no_memory { OnErr result (Tells (C.tells clock.new × J.tells journal.new) (C.tells clock.old × J.tells journal.old) (J.noted journal.new ≡ J.noted journal.old)) }
+{
+    if look.version == last.version {
+        return Ok(());
+    }
+    let kind = EventKind::Reconfigure {
+        dgram: look.dgram,
+        stream: look.stream,
+    };
+    let event = now_is(clock, 0, kind);
+    journal.note(alloc, &event)?;
+    Ok(())
+}
+
+#[tactic(auto, using(crate::proofs::Notings::noted_none, crate::proofs::Notings::noted_one, crate::proofs::Timings::timed_none, crate::proofs::Notings::timed_version, crate::proofs::Notings::timed_shutdown))]
+/// Notes the shutdown, where it is new.
+pub(crate) fn note_shutdown<C: Clock, J: Recorder>(
+    alloc: Global,
+    clock: &mut C,
+    journal: &mut J,
+    last: &Look,
+    look: &Look,
+) -> Result<(), OutOfMemory>
+    ensures told { OnOk result (Tells (J.tells journal.new) (J.tells journal.old)
+        (NotedKinds (kinds (new_end last.now.closed look.now)) (J.noted journal.old) (J.noted journal.new))) }
+    ensures clock { OnOk result (Tells (C.tells clock.new × J.tells journal.new) (C.tells clock.old × J.tells journal.old)
+        (Timed (J.noted journal.old) (J.noted journal.new) 0 0 (C.readings clock.old) (C.readings clock.new))) }
+    ensures no_memory { OnErr result (Tells (J.tells journal.new) (J.tells journal.old) (J.noted journal.new ≡ J.noted journal.old)) }
+    ensures clock_no_memory { OnErr result (Tells (C.tells clock.new × J.tells journal.new) (C.tells clock.old × J.tells journal.old) (J.noted journal.new ≡ J.noted journal.old)) }
+{
+    if !look.closed || last.closed {
+        return Ok(());
+    }
+    let event = now_is(clock, 0, EventKind::Shutdown);
+    journal.note(alloc, &event)?;
+    Ok(())
+}
+
+/// What was seen, with a look more.
+fn with_look(last: &Look, look: &Look) -> Look
+    ensures { result ≡ seen_with last.now look.now }
+{
+    Look {
+        closed: last.closed || look.closed,
+        ..*look
+    }
+}
+
+#[tactic(auto, using(crate::proofs::Notings::looked_once, crate::proofs::Notings::wide_none, crate::proofs::Notings::wide_version, crate::proofs::Notings::wide_both, crate::proofs::Blamings::heard_for))]
+/// One look. Its news are noted, and then the core sees it. The answer is why the connection is closed by that, if it is.
+pub(crate) fn hear<R: Wait, C: Clock, J: Recorder, W: Served>(
+    rt: &R,
+    alloc: Global,
+    book: &Book,
+    seat: &mut BookSeat,
+    core: &mut ClientCore<W>,
+    last: &mut Look,
+    clock: &mut C,
+    journal: &mut J,
+) -> Result<Option<Why>, OutOfMemory>
+    requires { seat.old.book ≡ book.now }
+    ensures told { IfOk result (λ why. Tells (J.tells journal.new) (J.tells journal.old)
+        (HeardNews (request_answer W.Future.answer W.Stream.answer) why core.old core.new last.old last.new (J.noted journal.old) (J.noted journal.new) seat.old.known seat.new.known)) }
+    ensures no_memory { OnErr result (Tells (J.tells journal.new) (J.tells journal.old) (NotedWide (J.noted journal.old) (J.noted journal.new))) }
+    ensures clock { IfOk result (λ why. Tells (C.tells clock.new × J.tells journal.new) (C.tells clock.old × J.tells journal.old)
+        (Timed (J.noted journal.old) (J.noted journal.new) 0 0 (C.readings clock.old) (C.readings clock.new))) }
+    ensures blame { IfOk result (λ why. HeardFor (request_answer W.Future.answer W.Stream.answer) why core.old core.new seat.old.known seat.new.known) }
+    ensures looked { LookedOnce seat.old.known seat.new.known }
+    ensures book { seat.new.book ≡ seat.old.book }
+{
+    let look = book.look(rt, seat);
+    note_version(alloc, clock, journal, last, &look)?;
+    note_shutdown(alloc, clock, journal, last, &look)?;
+    *last = with_look(last, &look);
+    let outs = core.saw(alloc, &look)?;
+    Ok(closed_by(&outs))
+}

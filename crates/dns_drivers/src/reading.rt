@@ -1,0 +1,50 @@
+//! One read.
+
+ghost use Rattle.std.specs.Prelude.{◌≡◌, [], IfOk, OnErr};
+ghost use Rattle.dns_outside.specs.Causes.{Tells};
+ghost use Rattle.dns_drivers.specs.Blames.{Blames, WroteWhole};
+ghost use Rattle.dns_drivers.specs.Clocks.{TimedOne};
+ghost use Rattle.dns_drivers.specs.Links.{MovedBy, IsReadEvent, Unread};
+
+use crate::moments::now_is;
+use dns_outside::{Clock, Link, LinkRead};
+use dns_service::{Event, EventKind, Octets, OutOfMemory};
+use std::alloc::Global;
+use std::sync::Wait;
+
+/// How many milliseconds one wait lasts at most.
+pub(crate) const PATIENCE: u64 = 250;
+
+/// How many octets one read takes at most.
+const ROOM: usize = 4096;
+
+#[tactic(auto, using(crate::proofs::Movings::moved_piece, crate::proofs::Movings::moved_again, crate::proofs::Movings::moved_end, crate::proofs::Movings::moved_none, crate::proofs::Movings::unread, crate::proofs::Timings::timed_got, crate::proofs::Timings::timed_again, crate::proofs::Timings::timed_end, crate::proofs::Timings::timed_fault, crate::proofs::Blamings::blames_read, crate::proofs::Blamings::blames_tick, crate::proofs::Blamings::blames_end, crate::proofs::Blamings::blames_fault, crate::proofs::Blamings::whole_got, crate::proofs::Blamings::whole_again, crate::proofs::Blamings::whole_end, crate::proofs::Blamings::whole_fault))]
+/// Makes one read. The event is a Piece, an End or a Fault, or a Tick after a wait, where nothing came yet.
+pub(crate) fn read_event<R: Wait, L: Link, C: Clock>(
+    rt: &R,
+    alloc: Global,
+    client: u64,
+    link: &mut L,
+    clock: &mut C,
+) -> Result<Event, OutOfMemory>
+    ensures moved { IfOk result (λ event. Tells (L.tells link.new) (L.tells link.old) (MovedBy event.kind [] 0 (L.traffic link.old) (L.traffic link.new))) }
+    ensures clock { IfOk result (λ event. Tells (L.tells link.new × C.tells clock.new) (L.tells link.old × C.tells clock.old) (TimedOne event (L.traffic link.old).full_writes (L.traffic link.new).full_writes (C.readings clock.old) (C.readings clock.new))) }
+    ensures kind { IfOk result (λ event. (event.client ≡ client) × IsReadEvent event.kind) }
+    ensures blame { IfOk result (λ event. Blames event.kind (L.faults link.old) (L.faults link.new)) }
+    ensures again { IfOk result (λ event. Tells (L.tells link.new) (L.tells link.old) (WroteWhole event.kind [] (L.traffic link.old) (L.traffic link.new))) }
+    ensures no_memory { OnErr result (Tells (L.tells link.new) (L.tells link.old) (Unread (L.traffic link.old) (L.traffic link.new))) }
+{
+    let mut buf = [0u8; ROOM];
+    match link.read(&mut buf) {
+        LinkRead::Got(count) => {
+            let octets = Octets::from_slice(alloc, &buf[..count])?;
+            Ok(now_is(clock, client, EventKind::Piece(octets)))
+        }
+        LinkRead::Again => {
+            link.wait(rt, PATIENCE);
+            Ok(now_is(clock, client, EventKind::Tick))
+        }
+        LinkRead::End => Ok(now_is(clock, client, EventKind::End)),
+        LinkRead::Failed => Ok(now_is(clock, client, EventKind::Fault)),
+    }
+}

@@ -1,0 +1,104 @@
+//! Turns: one look, and one own event.
+
+ghost use Rattle.std.specs.Prelude.{◌≡◌, IfOk, OnErr};
+ghost use Rattle.dns_outside.specs.Causes.{Tells};
+ghost use Rattle.dns_client.specs.Serving.{serving};
+ghost use Rattle.dns_client.specs.Slate.{Slate};
+ghost use Rattle.dns_service.specs.PolledRequest.{request_answer};
+ghost use Rattle.dns_drivers.specs.Clocks.{Timed};
+ghost use Rattle.dns_drivers.specs.Rounds.{below_of};
+ghost use Rattle.dns_drivers.specs.Shown.{Causes};
+ghost use Rattle.dns_drivers.specs.Steps.{LookedOnce};
+ghost use Rattle.dns_drivers.specs.Story.{Broken, LooksAlone};
+ghost use Rattle.dns_drivers.specs.Turning.{Turned, TurnedPart, TurnedFor, Begins, ClosingStory};
+
+use crate::acting::act;
+use crate::hearing::hear;
+use crate::recorder::Recorder;
+use dns_admission::Look;
+use dns_book::{Book, BookSeat};
+use dns_client::ClientCore;
+use dns_outside::{Clock, Link};
+use dns_service::{OutOfMemory, Served, Why};
+use std::alloc::Global;
+use std::sync::Wait;
+
+/// One look, and one own event where that doesn't close the connection. The answer is why it is closed, if it is.
+fn turn_once<R: Wait, L: Link, C: Clock, J: Recorder, W: Served>(
+    rt: &R,
+    alloc: Global,
+    book: &Book,
+    seat: &mut BookSeat,
+    client: u64,
+    core: &mut ClientCore<W>,
+    last: &mut Look,
+    service: &W,
+    turn: &mut Option<u64>,
+    link: &mut L,
+    clock: &mut C,
+    journal: &mut J,
+) -> Result<Option<Why>, OutOfMemory>
+    requires book { seat.old.book ≡ book.now }
+    requires can_call { W.can_call service.now }
+    ensures told { IfOk result (λ why. Tells (L.tells link.new × J.tells journal.new) (L.tells link.old × J.tells journal.old)
+        (Turned (request_answer W.Future.answer W.Stream.answer) (serving (W.answer service.now) (W.hint service.now)) client (below_of turn.old) (below_of turn.new) why core.old core.new last.old last.new
+        (J.noted journal.old) (J.noted journal.new) seat.old.known seat.new.known (L.traffic link.old) (L.traffic link.new))) }
+    ensures clock { IfOk result (λ why. Tells (L.tells link.new × C.tells clock.new × J.tells journal.new) (L.tells link.old × C.tells clock.old × J.tells journal.old)
+        (Timed (J.noted journal.old) (J.noted journal.new) (L.traffic link.old).full_writes (L.traffic link.new).full_writes (C.readings clock.old) (C.readings clock.new))) }
+    ensures no_memory { OnErr result (Tells (L.tells link.new × J.tells journal.new) (L.tells link.old × J.tells journal.old)
+        (TurnedPart (request_answer W.Future.answer W.Stream.answer) (serving (W.answer service.now) (W.hint service.now)) client (below_of turn.old) core.old last.old
+        (J.noted journal.old) (J.noted journal.new) seat.old.known seat.new.known (L.traffic link.old) (L.traffic link.new))) }
+    ensures cause { IfOk result (λ why. TurnedFor (request_answer W.Future.answer W.Stream.answer) (serving (W.answer service.now) (W.hint service.now)) why core.old core.new seat.old.known seat.new.known (L.faults link.old) (L.faults link.new)) }
+    ensures looked { LookedOnce seat.old.known seat.new.known }
+    ensures same { seat.new.book ≡ seat.old.book }
+{
+    match hear(rt, alloc, book, seat, core, last, clock, journal) {
+        Ok(None) => act(rt, alloc, client, core, service, turn, link, clock, journal),
+        Ok(Some(why)) => Ok(Some(why)),
+        Err(error) => Err(error),
+    }
+}
+
+/// Serves the connection of a core, turn by turn, until it is closed.
+pub(crate) fn serve_core<R: Wait, L: Link, C: Clock, J: Recorder, W: Served>(
+    rt: &R,
+    alloc: Global,
+    book: &Book,
+    seat: &mut BookSeat,
+    client: u64,
+    core: &mut ClientCore<W>,
+    last: &mut Look,
+    service: &W,
+    link: &mut L,
+    clock: &mut C,
+    journal: &mut J,
+) -> Result<Why, OutOfMemory>
+    requires book { seat.old.book ≡ book.now }
+    requires can_call { W.can_call service.now }
+    ensures told { IfOk result (λ why. Tells (L.tells link.new × J.tells journal.new) (L.tells link.old × J.tells journal.old)
+        ((s : Slate) → Begins (request_answer W.Future.answer W.Stream.answer) (serving (W.answer service.now) (W.hint service.now)) core.old last.old s
+        → ClosingStory (serving (W.answer service.now) (W.hint service.now)) s client last.old why
+        (J.noted journal.old) (J.noted journal.new) seat.old.known seat.new.known (L.traffic link.old) (L.traffic link.new))) }
+    ensures clock { IfOk result (λ why. Tells (L.tells link.new × C.tells clock.new × J.tells journal.new) (L.tells link.old × C.tells clock.old × J.tells journal.old)
+        (Timed (J.noted journal.old) (J.noted journal.new) (L.traffic link.old).full_writes (L.traffic link.new).full_writes (C.readings clock.old) (C.readings clock.new))) }
+    ensures no_memory { OnErr result (Tells (L.tells link.new × J.tells journal.new) (L.tells link.old × J.tells journal.old)
+        ((s : Slate) → Begins (request_answer W.Future.answer W.Stream.answer) (serving (W.answer service.now) (W.hint service.now)) core.old last.old s
+        → Broken (serving (W.answer service.now) (W.hint service.now)) s client
+        (J.noted journal.old) (J.noted journal.new) (L.traffic link.old) (L.traffic link.new))) }
+    ensures cause { IfOk result (λ why. (s : Slate) → Begins (request_answer W.Future.answer W.Stream.answer) (serving (W.answer service.now) (W.hint service.now)) core.old last.old s
+        → Causes why seat.old.known seat.new.known (L.faults link.old) (L.faults link.new)) }
+    ensures seat { LooksAlone seat.old.known seat.new.known }
+    ensures same { seat.new.book ≡ seat.old.book }
+{
+    let mut turn = None;
+    for _ in rt.forever() {
+        match turn_once(
+            rt, alloc, book, seat, client, core, last, service, &mut turn, link, clock, journal,
+        ) {
+            Ok(None) => {}
+            Ok(Some(why)) => return Ok(why),
+            Err(error) => return Err(error),
+        }
+    }
+    unreachable!()
+}

@@ -1,0 +1,344 @@
+//! Connections over links in memory.
+
+ghost use Rattle.std.specs.Prelude.{◌≡◌};
+
+use crate::counting::Counting;
+use crate::forgetful::Forgetful;
+use crate::nobody::Nobody;
+use crate::services::{Refusal, refuse};
+use crate::watched::Watched;
+use dns_book::{Admission, Book, BookState};
+use dns_drivers::{ConnectionEnd, Kept, Recorder, serve_connection};
+use dns_middleware::{Settings, wrap};
+use dns_name::{IpAddr, OptRcode, OutOfMemory, SocketAddr};
+use dns_outside::{Link, ListedCalls, MemoryClock, MemoryLink, SteadyLink};
+use dns_service::{DgramConfig, Event, EventKind, Plainly, Served, StreamConfig, Why, service_fn};
+use std::alloc::Global;
+use std::cell::Cell;
+use std::sync::Wait;
+
+pub(crate) const PEER: SocketAddr = SocketAddr {
+    ip: IpAddr::V4([192, 0, 2, 1]),
+    port: 53,
+};
+
+/// A query for the root's address, behind its length.
+const QUERY: &[u8] =
+    b"\x00\x11\x12\x34\x01\x00\x00\x01\x00\x00\x00\x00\x00\x00\x00\x00\x01\x00\x01";
+
+/// The reply that the name isn't there, behind its length, with the OPT record of an error reply.
+const REPLY: &[u8] =
+    b"\x00\x1c\x12\x34\x81\x03\x00\x01\x00\x00\x00\x00\x00\x01\x00\x00\x01\x00\x01\x00\x00\x29\x00\x00\x00\x00\x00\x00\x00\x00";
+
+/// A query with an OPT record, and its reply, which says after how many units of 100 ms an idle connection is closed (RFC 7828).
+const QUERY_WITH_OPT: &[u8] =
+    b"\x00\x1c\x12\x34\x01\x00\x00\x01\x00\x00\x00\x00\x00\x01\x00\x00\x01\x00\x01\x00\x00\x29\x00\x00\x00\x00\x00\x00\x00\x00";
+
+const REPLY_WITH_OPT: &[u8] =
+    b"\x00\x22\x12\x34\x81\x00\x00\x01\x00\x00\x00\x00\x00\x01\x00\x00\x01\x00\x01\x00\x00\x29\x00\x00\x00\x00\x00\x00\x00\x06\x00\x0b\x00\x02\x01\x2c";
+
+/// The letter of an event.
+fn letter(kind: &EventKind) -> u8 {
+    match kind {
+        EventKind::Datagram { .. } => b'D',
+        EventKind::Offer { .. } => b'O',
+        EventKind::Piece(_) => b'P',
+        EventKind::Turn { .. } => b'T',
+        EventKind::Write { .. } => b'W',
+        EventKind::Tick => b'I',
+        EventKind::End => b'E',
+        EventKind::Fault => b'F',
+        EventKind::Reconfigure { .. } => b'R',
+        EventKind::Shutdown => b'S',
+        _ => b'-',
+    }
+}
+
+/// Whether the events are of these letters.
+pub(crate) fn are(events: &[Event], letters: &[u8]) -> bool {
+    if events.len() != letters.len() {
+        return false;
+    }
+    for (event, wanted) in events.iter().zip(letters.iter()) {
+        if letter(&event.kind) != *wanted {
+            return false;
+        }
+    }
+    true
+}
+
+/// Serves a connection in a book of its own, which is shut down before, where that is asked for. How it ends, and how many
+/// slots are taken then.
+fn served<R: Wait, L: Link, J: Recorder, W: Served>(
+    rt: &R,
+    alloc: Global,
+    service: &W,
+    shut: bool,
+    link: &mut L,
+    clock: &mut MemoryClock,
+    journal: &mut J,
+) -> Result<(ConnectionEnd, u64), OutOfMemory>
+    requires { W.can_call service.now }
+{
+    let state = BookState::new(DgramConfig::new(), StreamConfig::new());
+    let (book, mut seat) = Book::new(alloc, state)?;
+    let Admission::Admitted(look) = book.admit(rt, &mut seat) else {
+        return Ok((ConnectionEnd::OutOfMemory, 1));
+    };
+    if look.closed {
+        return Ok((ConnectionEnd::OutOfMemory, 1));
+    }
+    if shut {
+        book.shutdown(rt, &mut seat);
+    }
+    let (mut seat, end) = serve_connection(
+        rt, alloc, &book, seat, 7, PEER, &look, service, link, clock, journal,
+    );
+    Ok((end, book.look(rt, &mut seat).taken))
+}
+
+/// Calls of which these fail and those answer Again.
+pub(crate) fn calls(
+    alloc: Global,
+    failing: &[u64],
+    again: &[u64],
+) -> Result<ListedCalls, OutOfMemory> {
+    Ok(ListedCalls::new(
+        Vec::from_slice(alloc, failing)?,
+        Vec::from_slice(alloc, again)?,
+    ))
+}
+
+/// A link that gives the query, of which these reads and writes fail and those writes answer Again, and which moves so many
+/// octets a call.
+fn link(
+    alloc: Global,
+    most: usize,
+    reads: &[u64],
+    writes: &[u64],
+    again: &[u64],
+) -> Result<MemoryLink, OutOfMemory> {
+    Ok(MemoryLink::new(
+        Vec::from_slice(alloc, QUERY)?,
+        Vec::new(alloc),
+        most,
+        calls(alloc, reads, &[])?,
+        calls(alloc, writes, again)?,
+    ))
+}
+
+/// Whether a connection over the link ends for this reason after these events, with its slot given back.
+fn ends<R: Wait>(
+    rt: &R,
+    alloc: Global,
+    link: &mut MemoryLink,
+    times: &[(u64, u64)],
+    why: Why,
+    letters: &[u8],
+) -> Result<bool, OutOfMemory> {
+    let service = Plainly {
+        service: service_fn::<Refusal, _, _>(refuse, OptRcode::NXDOMAIN),
+    };
+    let mut clock = MemoryClock::new(Vec::from_slice(alloc, times)?);
+    let mut journal = Kept::new(alloc);
+    let (end, taken) = served(rt, alloc, &service, false, link, &mut clock, &mut journal)?;
+    Ok(end == ConnectionEnd::Closed(why) && taken == 0 && are(journal.events(), letters))
+}
+
+/// The query is answered, and then the connection ends.
+#[test]
+fn a_query_is_answered(rt: HostRuntime) -> Result<(), OutOfMemory> {
+    let mut link = link(rt.alloc(), 4096, &[], &[], &[])?;
+    assert!(&rt; ends(&rt, rt.alloc(), &mut link, &[], Why::Ended, b"OPTWE")?);
+    assert!(&rt; link.written() == REPLY);
+    Ok(())
+}
+
+/// A link that moves one octet a call: one Write for the frame.
+#[test]
+fn one_octet_a_call(rt: HostRuntime) -> Result<(), OutOfMemory> {
+    let mut link = link(rt.alloc(), 1, &[], &[], &[1, 3])?;
+    let letters = b"OPPPPPPPPPPPPPPPPPPPTWE";
+    assert!(&rt; ends(&rt, rt.alloc(), &mut link, &[], Why::Ended, letters)?);
+    assert!(&rt; link.written() == REPLY);
+    Ok(())
+}
+
+/// The first read fails: nothing is written.
+#[test]
+fn the_first_read_fails(rt: HostRuntime) -> Result<(), OutOfMemory> {
+    let mut link = link(rt.alloc(), 4096, &[0], &[], &[])?;
+    assert!(&rt; ends(&rt, rt.alloc(), &mut link, &[], Why::Fault, b"OF")?);
+    assert!(&rt; link.written().is_empty());
+    Ok(())
+}
+
+/// The second write of a frame fails: a front of it was written.
+#[test]
+fn a_write_fails(rt: HostRuntime) -> Result<(), OutOfMemory> {
+    let mut link = link(rt.alloc(), 10, &[], &[1], &[])?;
+    assert!(&rt; ends(&rt, rt.alloc(), &mut link, &[], Why::Fault, b"OPPTF")?);
+    assert!(&rt; link.written() == &REPLY[..10]);
+    Ok(())
+}
+
+/// A write finds no room for longer than it may take, by the readings of the clock.
+#[test]
+fn a_write_takes_too_long(rt: HostRuntime) -> Result<(), OutOfMemory> {
+    let mut link = link(rt.alloc(), 4096, &[], &[], &[0])?;
+    let times = [(0, 0), (1, 0), (2, 0), (3, 0), (3_600_004, 3_600)];
+    assert!(&rt;
+        ends(
+            &rt,
+            rt.alloc(),
+            &mut link,
+            &times,
+            Why::WriteTimeout,
+            b"OPTW"
+        )?
+    );
+    assert!(&rt; link.written().is_empty());
+    Ok(())
+}
+
+/// A shutdown is heard at the first look: nothing is read.
+#[test]
+fn a_shutdown_is_heard(rt: HostRuntime) -> Result<(), OutOfMemory> {
+    let alloc = rt.alloc();
+    let service = Plainly {
+        service: service_fn::<Refusal, _, _>(refuse, OptRcode::NXDOMAIN),
+    };
+    let mut link = SteadyLink::new(Vec::from_slice(alloc, QUERY)?, Vec::new(alloc));
+    let mut clock = MemoryClock::new(Vec::new(alloc));
+    let mut journal = Kept::new(alloc);
+    let (end, taken) = served(
+        &rt,
+        alloc,
+        &service,
+        true,
+        &mut link,
+        &mut clock,
+        &mut journal,
+    )?;
+    assert!(&rt; end == ConnectionEnd::Closed(Why::Shutdown) && taken == 0);
+    assert!(&rt; are(journal.events(), b"OS") && link.written().is_empty());
+    Ok(())
+}
+
+/// Each wait follows a call that answered Again, and each such call is followed by one.
+#[test]
+fn a_wait_follows_each_again(rt: HostRuntime) -> Result<(), OutOfMemory> {
+    let alloc = rt.alloc();
+    let service = Plainly {
+        service: service_fn::<Refusal, _, _>(refuse, OptRcode::NXDOMAIN),
+    };
+    let inner = MemoryLink::new(
+        Vec::from_slice(alloc, QUERY)?,
+        Vec::new(alloc),
+        20,
+        calls(alloc, &[], &[0, 2])?,
+        calls(alloc, &[], &[0, 2, 3])?,
+    );
+    let mut link = Watched::new(alloc, inner);
+    let mut clock = MemoryClock::new(Vec::new(alloc));
+    let mut journal = Kept::new(alloc);
+    let (end, _) = served(
+        &rt,
+        alloc,
+        &service,
+        false,
+        &mut link,
+        &mut clock,
+        &mut journal,
+    )?;
+    assert!(&rt; end == ConnectionEnd::Closed(Why::Ended));
+    assert!(&rt; are(journal.events(), b"OIPTWITE"));
+    assert!(&rt; link.calls() == b"RzrWzwWzWzwRzrc".as_slice());
+    Ok(())
+}
+
+/// A connection to a service that counts, with memory for so many notes: how often the service was called, and how often
+/// its future was polled.
+fn counted<R: Wait>(rt: &R, alloc: Global, notes: u64) -> Result<(u64, u64), OutOfMemory> {
+    let calls = Cell::new(0);
+    let polls = Cell::new(0);
+    let service = Plainly {
+        service: Counting {
+            calls: &calls,
+            polls: &polls,
+        },
+    };
+    let mut link = SteadyLink::new(Vec::from_slice(alloc, QUERY)?, Vec::new(alloc));
+    let mut clock = MemoryClock::new(Vec::new(alloc));
+    let mut journal = Forgetful { left: notes };
+    served(
+        rt,
+        alloc,
+        &service,
+        false,
+        &mut link,
+        &mut clock,
+        &mut journal,
+    )?;
+    Ok((calls.get(), polls.get()))
+}
+
+/// An event is noted before the core takes it: what is not noted neither calls nor polls the service.
+#[test]
+fn an_event_is_noted_first(rt: HostRuntime) -> Result<(), OutOfMemory> {
+    let alloc = rt.alloc();
+    assert!(&rt; counted(&rt, alloc, 1)? == (0, 0));
+    assert!(&rt; counted(&rt, alloc, 2)? == (1, 0));
+    assert!(&rt; counted(&rt, alloc, 3)? == (1, 1));
+    Ok(())
+}
+
+/// Without memory for the note of the request's turn, its reply is never written.
+#[test]
+fn what_is_not_noted_is_not_written(rt: HostRuntime) -> Result<(), OutOfMemory> {
+    let alloc = rt.alloc();
+    let service = Plainly {
+        service: service_fn::<Refusal, _, _>(refuse, OptRcode::NXDOMAIN),
+    };
+    let mut link = SteadyLink::new(Vec::from_slice(alloc, QUERY)?, Vec::new(alloc));
+    let mut clock = MemoryClock::new(Vec::new(alloc));
+    let mut journal = Forgetful { left: 2 };
+    let (end, taken) = served(
+        &rt,
+        alloc,
+        &service,
+        false,
+        &mut link,
+        &mut clock,
+        &mut journal,
+    )?;
+    assert!(&rt; end == ConnectionEnd::OutOfMemory && taken == 0);
+    assert!(&rt; link.written().is_empty());
+    Ok(())
+}
+
+/// A query with an OPT record to a service in all layers.
+#[test]
+fn a_wrapped_service_answers(rt: HostRuntime) -> Result<(), OutOfMemory> {
+    let alloc = rt.alloc();
+    let inner = service_fn::<Refusal, _, _>(refuse, OptRcode::NOERROR);
+    let service = Plainly {
+        service: wrap(alloc, &Settings::new(alloc), inner, Nobody {})?,
+    };
+    let mut link = SteadyLink::new(Vec::from_slice(alloc, QUERY_WITH_OPT)?, Vec::new(alloc));
+    let mut clock = MemoryClock::new(Vec::new(alloc));
+    let mut journal = Kept::new(alloc);
+    let (end, taken) = served(
+        &rt,
+        alloc,
+        &service,
+        false,
+        &mut link,
+        &mut clock,
+        &mut journal,
+    )?;
+    assert!(&rt; end == ConnectionEnd::Closed(Why::Ended) && taken == 0);
+    assert!(&rt; are(journal.events(), b"OPTWE"));
+    assert!(&rt; link.written() == REPLY_WITH_OPT);
+    Ok(())
+}
