@@ -1,0 +1,62 @@
+-- What one accept brought.
+use Rattle.std.proofs.Common.{◌≡◌, ℕ, ◌+◌, List, [], ◌∷◌, ◌++◌, refl, sym, ap, ◌∙◌, append-nil, Ok, Err, Result, arith, add-zero}
+use Rattle.dns_name.specs.declared.address.SocketAddr.{SocketAddr}
+use Rattle.dns_name.specs.declared.error.OutOfMemory.{OutOfMemory}
+use Rattle.dns_admission.specs.declared.look.Admission.{Admission}
+use Rattle.dns_book.specs.declared.history.Known.{Known}
+use Rattle.dns_outside.specs.Causes.{Rose, Tells}
+use Rattle.dns_outside.specs.Doors.{Door}
+use Rattle.dns_host.specs.Accepting.{Caller, Nobody, Fault, RoseBy}
+use Rattle.dns_host.specs.Arrivals.{AskedOne, ArrivalOfAnswer, ArrivalOf, BroughtIn, Brought}
+use Rattle.dns_host.specs.declared.taking.Arrival.{Arrival}
+use Rattle.dns_host.specs.declared.taking.Arrival.TheVariants.{Nobody as NobodyCame, Fault as FaultCame}
+use Rattle.dns_host.proofs.Gainings.{gained_none}
+use Rattle.dns_host.proofs.Tellings.{tells_then, tells_both}
+
+pub rose_none : (f f' : ℕ) → f' ≡ f → RoseBy 0 f f'
+rose_none f f' same = grind (arith, same)
+
+of_caller : (arrival : Result Arrival OutOfMemory) (from : SocketAddr) (answer : Admission) → ArrivalOfAnswer arrival answer → ArrivalOf arrival (Caller from answer)
+of_caller (Ok arrival) from answer h = sym h
+of_caller (Err e) from answer h = h
+
+-- a connection came, and was asked for
+pub brought_caller : (arrival : Result Arrival OutOfMemory) (from : SocketAddr) (na ba np bp : Type 0) (k k' : Known) (a b : Door) (g g' : List SocketAddr) (f f' : ℕ) →
+    Tells na ba (b ≡ record a { callers = a.callers ++ from ∷ [] }) → f' ≡ f → AskedOne arrival from np bp k k' g g' → Brought arrival (na × np) (ba × bp) k k' a b g g' f f'
+brought_caller arrival from na ba np bp k k' a b g g' f f' t same q = record {
+  came = Caller from q.answer;
+  calls = q.calls;
+  name = q.name;
+  arrival_is = of_caller arrival from q.answer q.arrival_is;
+  faults = rose_none f f' same;
+  told = tells_both na np ba bp _ _ (BroughtIn arrival (Caller from q.answer) a b g g')
+      (λ d w. record { callers = ap (λ (x : Door). x.callers) d; nobody = ap (λ (x : Door). x.empty_accepts) d ∙ sym (add-zero a.empty_accepts); works = w }) t q.works;
+}
+
+-- none came, and then it waited
+pub brought_nobody : (na ma ba np : Type 0) (k : Known) (a b c : Door) (g : List SocketAddr) (f f1 f2 : ℕ) →
+    Tells ma ba (b ≡ record a { empty_accepts = a.empty_accepts + 1 }) → Tells na ma (c ≡ b) → f1 ≡ f → f2 ≡ f1 → Brought (Ok NobodyCame) (na × np) (ba × np) k k a c g g f f2
+brought_nobody na ma ba np k a b c g f f1 f2 t u same still = record {
+  came = Nobody;
+  calls = gained_none k;
+  name = sym (append-nil k.name);
+  arrival_is = refl;
+  faults = rose_none f f2 (still ∙ same);
+  told = tells_both na np ba np _ (Unit {0}) (BroughtIn (Ok NobodyCame) Nobody a c g g)
+      (λ d w. record { callers = ap (λ (x : Door). x.callers) d ∙ sym (append-nil a.callers); nobody = ap (λ (x : Door). x.empty_accepts) d; works = sym (append-nil g) })
+      (tells_then na ma ba (b ≡ record a { empty_accepts = a.empty_accepts + 1 }) (c ≡ b) (c ≡ record a { empty_accepts = a.empty_accepts + 1 }) (λ x y. y ∙ x) t u) (record { told = λ n. (n, tt) });
+}
+
+-- the accept failed, and then it waited
+pub brought_fault : (na ma ba np : Type 0) (k : Known) (a b c : Door) (g : List SocketAddr) (f f1 f2 : ℕ) →
+    Tells ma ba (b ≡ a) → Tells na ma (c ≡ b) → Rose f f1 → f2 ≡ f1 → Brought (Ok FaultCame) (na × np) (ba × np) k k a c g g f f2
+brought_fault na ma ba np k a b c g f f1 f2 t u rose still = record {
+  came = Fault;
+  calls = gained_none k;
+  name = sym (append-nil k.name);
+  arrival_is = refl;
+  faults = rw still rose;
+  told = tells_both na np ba np _ (Unit {0}) (BroughtIn (Ok FaultCame) Fault a c g g)
+      (λ d w. record { callers = ap (λ (x : Door). x.callers) d ∙ sym (append-nil a.callers); nobody = ap (λ (x : Door). x.empty_accepts) d ∙ sym (add-zero a.empty_accepts); works = sym (append-nil g) })
+      (tells_then na ma ba (b ≡ a) (c ≡ b) (c ≡ a) (λ x y. y ∙ x) t u) (record { told = λ n. (n, tt) });
+}

@@ -1,0 +1,102 @@
+-- What the steps of the loop of accepts do.
+use Rattle.std.specs.Prelude.{◌≡◌, ◌≢◌, ◌≤◌, ◌⊎◌, ℕ, ◌+◌, List, [], ◌++◌, length, Bool, true, false, Result, Ok, Err}
+use Rattle.dns_name.specs.declared.address.SocketAddr.{SocketAddr}
+use Rattle.dns_name.specs.declared.error.OutOfMemory.{OutOfMemory}
+use Rattle.dns_admission.specs.declared.look.Admission.{Admission}
+use Rattle.dns_admission.specs.declared.look.Admission.TheVariants.{Admitted, Full, Closed}
+use Rattle.dns_book.specs.Gains.{Gained}
+use Rattle.dns_book.specs.declared.history.Known.{Known}
+use Rattle.dns_outside.specs.Causes.{Rose, Tells}
+use Rattle.dns_outside.specs.Doors.{Door}
+use Rattle.dns_host.specs.Accepting.{Came, Caller, Nobody, Fault, AcceptTurn, caller, callers_in, if_admitted, admitted_caller, admitted_callers_in, one_if_nobody, one_if_failure, halved, admit_entries, RoseBy, Gave, TookTurns}
+use Rattle.dns_host.specs.declared.taking.Arrival.{Arrival}
+use Rattle.dns_host.specs.declared.taking.Arrival.TheVariants.{Served, Refused, TurnedAway, Nobody as NobodyCame, Fault as FaultCame}
+
+-- the connections that came
+abbrev pub arrival_callers : Arrival → ℕ
+arrival_callers Served = 1
+arrival_callers Refused = 1
+arrival_callers TurnedAway = 1
+arrival_callers NobodyCame = 0
+arrival_callers FaultCame = 0
+
+-- the accept failed, or the start was refused
+abbrev pub is_faulty : Arrival → Bool
+is_faulty Served = false
+is_faulty Refused = true
+is_faulty TurnedAway = false
+is_faulty NobodyCame = false
+is_faulty FaultCame = true
+
+abbrev pub IsAdmitted : Admission → Type 0
+IsAdmitted (Admitted look) = Unit {0}
+IsAdmitted (Full taken limit accepted) = ⊥
+IsAdmitted Closed = ⊥
+
+-- memory runs out only for a connection that was admitted
+abbrev pub ArrivalOfAnswer : Result Arrival OutOfMemory → Admission → Type 0
+ArrivalOfAnswer (Ok arrival) answer = arrival_callers arrival ≡ 1
+ArrivalOfAnswer (Err e) answer = IsAdmitted answer
+
+abbrev pub ArrivalOf : Result Arrival OutOfMemory → Came → Type 0
+ArrivalOf (Ok arrival) came = length (caller came) ≡ arrival_callers arrival
+ArrivalOf (Err e) (Caller from answer) = IsAdmitted answer
+ArrivalOf (Err e) Nobody = ⊥
+ArrivalOf (Err e) Fault = ⊥
+
+-- works for these addresses were given, or perhaps not where memory ran out
+abbrev pub GaveSo : Result Arrival OutOfMemory → List SocketAddr → List SocketAddr → List SocketAddr → Type 0
+GaveSo (Ok arrival) addrs a b = Gave addrs a b
+GaveSo (Err e) addrs a b = Gave addrs a b ⊎ Gave [] a b
+
+-- a connection from this address was asked for a slot
+pub record AskedOne (arrival : Result Arrival OutOfMemory) (from : SocketAddr) (now before : Type 0) (k k' : Known) (given given' : List SocketAddr) : Type 0 where
+  pub answer : Admission
+  pub calls : Gained k (admit_entries k.name (Caller from answer)) k'
+  pub name : k'.name ≡ halved k.name (if_admitted from answer)
+  pub arrival_is : ArrivalOfAnswer arrival answer
+  pub works : Tells now before (GaveSo arrival (if_admitted from answer) given given')
+
+-- what the accept object and the spawner tell of one turn
+pub record BroughtIn (arrival : Result Arrival OutOfMemory) (came : Came) (a b : Door) (given given' : List SocketAddr) : Type 0 where
+  pub callers : b.callers ≡ a.callers ++ caller came
+  pub nobody : b.empty_accepts ≡ a.empty_accepts + one_if_nobody came
+  pub works : GaveSo arrival (admitted_caller came) given given'
+
+-- one accept
+pub record Brought (arrival : Result Arrival OutOfMemory) (now before : Type 0) (k k' : Known) (a b : Door) (given given' : List SocketAddr) (f f' : ℕ) : Type 0 where
+  pub came : Came
+  pub calls : Gained k (admit_entries k.name came) k'
+  pub name : k'.name ≡ halved k.name (admitted_caller came)
+  pub arrival_is : ArrivalOf arrival came
+  pub faults : RoseBy (one_if_failure came) f f'
+  pub told : Tells now before (BroughtIn arrival came a b given given')
+
+-- the count of refused starts rises with a refused one, and with no other arrival
+abbrev pub StartFaults : Result Arrival OutOfMemory → ℕ → ℕ → Type 0
+StartFaults (Ok Refused) a b = Rose a b
+StartFaults (Ok Served) a b = b ≡ a
+StartFaults (Ok TurnedAway) a b = b ≡ a
+StartFaults (Ok NobodyCame) a b = b ≡ a
+StartFaults (Ok FaultCame) a b = b ≡ a
+StartFaults (Err e) a b = b ≡ a
+
+-- the count of failed accepts rises with a failed one, and with no other arrival
+abbrev pub AcceptFaults : Result Arrival OutOfMemory → ℕ → ℕ → Type 0
+AcceptFaults (Ok FaultCame) a b = Rose a b
+AcceptFaults (Ok Served) a b = b ≡ a
+AcceptFaults (Ok Refused) a b = b ≡ a
+AcceptFaults (Ok TurnedAway) a b = b ≡ a
+AcceptFaults (Ok NobodyCame) a b = b ≡ a
+AcceptFaults (Err e) a b = b ≡ a
+
+-- one of two counts rose, exactly where the flag says so
+abbrev pub RoseWhere : Bool → ℕ → ℕ → ℕ → ℕ → Type 0
+RoseWhere true a b c d = Rose a b ⊎ Rose c d
+RoseWhere false a b c d = (b ≡ a) × (d ≡ c)
+
+-- the loop so far: whole turns, in which so many connections came as are counted, where they are to be counted
+pub record TookSoFar (count taken : ℕ) (now before : Type 0) (k k' : Known) (a b : Door) (given given' : List SocketAddr) (f f' : ℕ) : Type 0 where
+  pub turns : List AcceptTurn
+  pub turned : TookTurns turns [] now before (Gave (admitted_callers_in turns) given given') k k' a b f f'
+  pub counted : count ≢ 0 → (taken ≡ length (callers_in turns)) × (taken ≤ count)

@@ -1,0 +1,13 @@
+//! Hosts: connections are accepted and each is served in a thread of its own, beside datagrams.
+#![tactic(auto)]
+
+mod accepts;
+mod host;
+mod pre_connect;
+mod taking;
+mod work;
+
+pub use accepts::{AcceptEnd, serve_accepts};
+pub use host::{Host, HostEnd, serve_host};
+pub use pre_connect::{NoHook, PreConnect};
+pub use work::ConnectionWork;

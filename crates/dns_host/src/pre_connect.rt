@@ -1,0 +1,14 @@
+//! What is done with a link before its connection is served.
+
+/// What is called once on each link that was admitted, before its connection is served.
+pub trait PreConnect<L> {
+    fn call(&self, link: &mut L);
+}
+
+/// Nothing is done.
+#[derive(Clone, Copy, Debug)]
+pub struct NoHook;
+
+impl<L> PreConnect<L> for NoHook {
+    fn call(&self, _link: &mut L) {}
+}

@@ -1,0 +1,97 @@
+//! A service that holds a poll until another request is polled.
+
+ghost use Rattle.std.specs.Prelude.{◌≡◌, Some, None, Ok};
+ghost use Rattle.dns_service.specs.ErrorReply.{error_reply};
+ghost use Rattle.dns_service.specs.Once.{once, now_of};
+ghost use Rattle.dns_service.specs.ServiceFn.{hint_at_entry};
+
+use dns_name::{OptRcode, OutOfMemory};
+use dns_service::{
+    CallResult, Once, Polled, ReplyFuture, ReplyStream, Request, Served, mk_error_response,
+};
+use std::alloc::Global;
+use std::sync::Arc;
+use std::sync::atomic::{AtomicBool, Ordering};
+
+/// The number of turns that a held poll makes at most, each one load of the flag.
+const TURNS: u64 = 1_000_000_000;
+
+/// Answers each request with RCODE 0 at its first poll. A poll of a request with id 1 waits for the flag, and is out of
+/// memory where it was not set; that of a request with id 2 sets it.
+#[derive(Drop)]
+pub struct Holding {
+    pub flag: Arc<AtomicBool>,
+}
+
+/// What a poll does with the flag.
+#[derive(Clone, Copy, Debug, PartialEq, Eq)]
+enum Part {
+    Waits,
+    Sets,
+    Neither,
+}
+
+#[derive(Drop)]
+pub struct Held {
+    flag: Arc<AtomicBool>,
+    part: Part,
+    stream: Option<Once>,
+}
+
+/// Whether the flag was set within so many turns.
+fn is_set(flag: &AtomicBool) -> bool {
+    for _ in 0..TURNS {
+        if flag.load(Ordering::SeqCst) {
+            return true;
+        }
+    }
+    false
+}
+
+impl ReplyFuture for Held {
+    type Stream = Once;
+
+    ghost answer = { λ h. now_of ⟦<Once as ReplyStream>⟧.answer h.stream };
+
+    fn poll(&mut self, _alloc: Global) -> Result<Polled<Once>, OutOfMemory> {
+        match self.part {
+            Part::Waits => {
+                if !is_set(&self.flag) {
+                    return Err(OutOfMemory);
+                }
+            }
+            Part::Sets => self.flag.store(true, Ordering::SeqCst),
+            Part::Neither => {}
+        }
+        match self.stream.take() {
+            Some(stream) => Ok(Polled::Ready(stream)),
+            None => Ok(Polled::Pending),
+        }
+    }
+}
+
+impl Served for Holding {
+    type Stream = Once;
+
+    type Future = Held;
+
+    ghost answer = { λ _ request. once (Ok (record { response = Some (error_reply request.octets 0); feedback = None })) };
+
+    ghost hint = { λ _. hint_at_entry };
+
+    ghost can_call = { λ _. Unit {0} };
+
+    fn call(&self, alloc: Global, request: &mut Request<()>) -> Result<Held, OutOfMemory> {
+        let reply = mk_error_response(alloc, request.message(), OptRcode::NOERROR)?;
+        let part = match request.message().header().id() {
+            1 => Part::Waits,
+            2 => Part::Sets,
+            _ => Part::Neither,
+        };
+        Ok(Held {
+            flag: Arc::try_clone(&self.flag)?,
+            part,
+            stream: Some(Once::new(Ok(CallResult::new(reply)))),
+        })
+    }
+}

@@ -1,0 +1,16 @@
+//! What of hosts can't be a row: connections and datagrams over objects in memory, with threads and starts that are refused. It
+//! has tests alone.
+#![tactic(auto)]
+
+#[cfg(test)]
+mod accepts;
+#[cfg(test)]
+mod holding;
+#[cfg(test)]
+mod hosts;
+#[cfg(test)]
+mod layered;
+#[cfg(test)]
+mod links;
+#[cfg(test)]
+mod places;
