@@ -1,0 +1,39 @@
+-- How a loop of accepts went stays so when all work is joined.
+use Rattle.std.proofs.Common.{◌≡◌, ◌⊎◌, ℕ, List, ◌∙◌, inl, inr}
+use Rattle.dns_name.specs.declared.address.SocketAddr.{SocketAddr}
+use Rattle.dns_book.specs.declared.history.Entry.{Entry}
+use Rattle.dns_book.specs.declared.history.Known.{Known}
+use Rattle.dns_outside.specs.Causes.{Tells}
+use Rattle.dns_outside.specs.Doors.{Door}
+use Rattle.dns_host.specs.Accepting.{AcceptTurn, TookTurns, TookUntilShut, TookAlmost, Gave, admitted_callers_in}
+
+turns_joined : (turns : List AcceptTurn) (more : List Entry) (a p p' before works works' same : Type 0) (k k' : Known) (d d' : Door) (f f' : ℕ) →
+    TookTurns turns more (a × p) before works k k' d d' f f' → Tells p' p same → (same → works → works') → TookTurns turns more (a × p') before works' k k' d d' f f'
+turns_joined turns more a p p' before works works' same k k' d d' f f' t j on = record {
+  calls = t.calls;
+  name = t.name;
+  faults = t.faults;
+  told = record { told = λ n. let s = j.told n.1 in let r = t.told.told (n.0, s.0) in (r.0, (r.1.0, on s.1 r.1.1)) };
+}
+
+pub shut_joined : (a p p' before : Type 0) (k k' : Known) (d d' : Door) (g m n : List SocketAddr) (f f' : ℕ) →
+    TookUntilShut (a × p) before k k' d d' g m f f' → Tells p' p (n ≡ m) → TookUntilShut (a × p') before k k' d d' g n f f'
+shut_joined a p p' before k k' d d' g m n f f' t j = record {
+  turns = t.turns;
+  look = t.look;
+  shut = t.shut;
+  turned = turns_joined t.turns _ a p p' before (Gave (admitted_callers_in t.turns) g m) (Gave (admitted_callers_in t.turns) g n) (n ≡ m) k k' d d' f f' t.turned j (λ e w. e ∙ w);
+}
+
+gave_on : (xs ys g m n : List SocketAddr) → n ≡ m → Gave xs g m ⊎ Gave ys g m → Gave xs g n ⊎ Gave ys g n
+gave_on xs ys g m n e (inl w) = inl (e ∙ w)
+gave_on xs ys g m n e (inr w) = inr (e ∙ w)
+
+pub almost_joined : (a p p' before : Type 0) (k k' : Known) (d d' : Door) (g m n : List SocketAddr) (f f' : ℕ) →
+    TookAlmost (a × p) before k k' d d' g m f f' → Tells p' p (n ≡ m) → TookAlmost (a × p') before k k' d d' g n f f'
+almost_joined a p p' before k k' d d' g m n f f' t j = record {
+  turns = t.turns;
+  whole = t.whole;
+  last = t.last;
+  turned = turns_joined t.turns _ a p p' before _ _ (n ≡ m) k k' d d' f f' t.turned j (gave_on (admitted_callers_in t.turns) (admitted_callers_in t.whole) g m n);
+}

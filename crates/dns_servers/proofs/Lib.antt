@@ -1,0 +1,2 @@
+mod Awaiting
+mod Joinings

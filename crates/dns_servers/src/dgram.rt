@@ -1,0 +1,226 @@
+//! A server of datagrams.
+
+ghost use Rattle.std.specs.Prelude.{◌≡◌, ◌≤◌, false, IfOk};
+ghost use Rattle.std.specs.Arc.{arc_value};
+ghost use Rattle.dns_service.specs.Config.{default_dgram, default_stream};
+ghost use Rattle.dns_admission.specs.Machine.{new_state};
+ghost use Rattle.dns_book.specs.Seats.{IsSound, new_known, first_half, second_half};
+ghost use Rattle.dns_outside.specs.Causes.{Rose, Tells};
+ghost use Rattle.dns_client.specs.Serving.{serving};
+ghost use Rattle.dns_drivers.specs.DatagramsServed.{OnlyLooks, world};
+ghost use Rattle.dns_servers.specs.Parts.{IsSeatAt, known_of};
+ghost use Rattle.dns_servers.specs.Runs.{InSlot, DatagramsRan};
+
+use crate::buf::{BufSource, VecBufSource};
+use crate::control::Control;
+use crate::metered_sock::MeteredSock;
+use crate::metrics::ServerMetrics;
+use crate::seating::{Ground, make_ground, split_off};
+use dns_book::{Admission, Book, BookSeat, BookState};
+use dns_drivers::{DgramEnd, Recorder, serve_datagrams};
+use dns_name::OutOfMemory;
+use dns_outside::{AsyncDgramSock, Clock, MioSock};
+use dns_service::{DgramConfig, Served, StreamConfig};
+use std::alloc::Global;
+use std::marker::Model;
+use std::sync::{Arc, Wait};
+
+/// A server of datagrams over a real socket.
+pub type UdpServer<W, C> = DgramServer<MioSock, VecBufSource, W, C>;
+
+/// A server of datagrams, with a book and metrics of its own. Its book has one seat more for each control. A source of
+/// buffers is a part of it, and no answer depends on it: a datagram is received into 1,024 octets.
+#[derive(Drop)]
+pub struct DgramServer<D, B, W, C> {
+    sock: MeteredSock<D>,
+    buf: B,
+    service: Arc<W>,
+    clock: C,
+    metrics: Arc<ServerMetrics>,
+    book: Arc<Book>,
+    // None while a call has it.
+    seat: Option<BookSeat>,
+}
+
+impl<D, B, W, C> Model for DgramServer<D, B, W, C> {
+    ghost use Rattle.std.specs.Prelude.{◌≡◌, false};
+    ghost use Rattle.std.specs.Arc.{arc_value};
+    ghost use Rattle.dns_servers.specs.Parts.{DgramParts, IsSeatAt, known_of};
+
+    ghost Value = { DgramParts D W C };
+
+    ghost view = { λ s. record { sock = s.sock; service = arc_value s.service; clock = s.clock; book = arc_value s.book; known = known_of s.seat } };
+
+    ghost invariant = { λ s. IsSeatAt (arc_value s.book) s.seat × (arc_value s.metrics ≡ false) };
+}
+
+impl<D: AsyncDgramSock + Drop, B: BufSource + Drop, W: Served, C: Clock + Drop> DgramServer<
+    D,
+    B,
+    W,
+    C,
+> {
+    /// A server with default configurations.
+    pub fn new(
+        alloc: Global,
+        sock: D,
+        buf: B,
+        service: Arc<W>,
+        clock: C,
+    ) -> Result<Self, OutOfMemory>
+        ensures parts { IfOk result (λ s. (s.sock ≡ sock) × (s.service ≡ arc_value service) × (s.clock ≡ clock)) }
+        ensures known { IfOk result (λ s. s.known ≡ new_known (new_state default_dgram default_stream)) }
+    {
+        DgramServer::with_config(alloc, sock, buf, service, clock, DgramConfig::new())
+    }
+
+    /// A server with this configuration. That of streams, which its book has too, is the default one.
+    pub fn with_config(
+        alloc: Global,
+        sock: D,
+        buf: B,
+        service: Arc<W>,
+        clock: C,
+        config: DgramConfig,
+    ) -> Result<Self, OutOfMemory>
+        ensures parts { IfOk result (λ s. (s.sock ≡ sock) × (s.service ≡ arc_value service) × (s.clock ≡ clock)) }
+        ensures known { IfOk result (λ s. s.known ≡ new_known (new_state config default_stream)) }
+    {
+        let state = BookState::new(config, StreamConfig::new());
+        let Ground {
+            book,
+            seat,
+            metrics,
+            counting,
+        } = make_ground(alloc, state, ServerMetrics::connection_less())?;
+        Ok(DgramServer {
+            sock: MeteredSock::new(sock, counting),
+            buf,
+            service,
+            clock,
+            metrics,
+            book,
+            seat: Some(seat),
+        })
+    }
+
+    /// The socket.
+    pub fn source(&self) -> &D
+        ensures { result.now ≡ self.now.sock }
+    {
+        self.sock.inner()
+    }
+
+    /// What the server counts: datagrams received and sent, and no connections.
+    pub fn metrics(&self) -> &Arc<ServerMetrics>
+        ensures { arc_value result.now ≡ false }
+    {
+        &self.metrics
+    }
+
+    /// A control of this server, for any thread. The server's seat is split, and the control has the second half.
+    pub fn control<R: Wait>(&mut self, rt: &R) -> Control
+        ensures server { self.new ≡ record self.old { known = first_half self.old.known } }
+        ensures control { result ≡ record { book = self.old.book; known = second_half self.old.known } }
+        ensures sound { IsSound self.new.known × IsSound result.known }
+    {
+        split_off(rt, &self.book, &mut self.seat)
+    }
+
+    /// Takes a slot, serves datagrams until the server is shut down or a receive fails, and gives the slot back. Where no
+    /// slot is free it goes on without one, and where the book is closed it answers at once.
+    pub fn run<R: Wait, J: Recorder>(&mut self, rt: &R, alloc: Global, journal: &mut J) -> DgramEnd
+        requires { W.can_call self.old.service }
+        // Where socket, clock and recorder tell.
+        ensures told { Tells (D.tells self.new.sock × C.tells self.new.clock × J.tells journal.new) (D.tells self.old.sock × C.tells self.old.clock × J.tells journal.old)
+            (DatagramsRan (serving (W.answer self.old.service) (W.hint self.old.service)) result
+            (world (J.noted journal.old) (D.mail self.old.sock) (D.failed_sends self.old.sock) (C.readings self.old.clock) self.old.known)
+            (world (J.noted journal.new) (D.mail self.new.sock) (D.failed_sends self.new.sock) (C.readings self.new.clock) self.new.known)) }
+        // Always.
+        ensures seat { InSlot OnlyLooks (result ≡ DgramEnd.Shutdown) self.old.known self.new.known }
+        ensures same { (self.new.book ≡ self.old.book) × (self.new.service ≡ self.old.service) }
+        ensures cause { result ≡ DgramEnd.Fault → Rose (D.failed_receives self.old.sock) (D.failed_receives self.new.sock) }
+        ensures receives { D.failed_receives self.old.sock ≤ D.failed_receives self.new.sock }
+        ensures sends { D.failed_sends self.old.sock ≤ D.failed_sends self.new.sock }
+    {
+        serve_from(
+            rt,
+            alloc,
+            &self.book,
+            &mut self.seat,
+            &self.service,
+            &mut self.sock,
+            &mut self.clock,
+            journal,
+        )
+    }
+}
+
+/// Serves datagrams from the seat in its place, which is put back there.
+fn serve_from<R: Wait, D: AsyncDgramSock, C: Clock, J: Recorder, W: Served>(
+    rt: &R,
+    alloc: Global,
+    book: &Arc<Book>,
+    place: &mut Option<BookSeat>,
+    service: &Arc<W>,
+    sock: &mut D,
+    clock: &mut C,
+    journal: &mut J,
+) -> DgramEnd
+    requires seat { IsSeatAt (arc_value book.now) place.old }
+    requires can_call { W.can_call (arc_value service.now) }
+    ensures told { Tells (D.tells sock.new × C.tells clock.new × J.tells journal.new) (D.tells sock.old × C.tells clock.old × J.tells journal.old)
+        (DatagramsRan (serving (W.answer (arc_value service.now)) (W.hint (arc_value service.now))) result
+        (world (J.noted journal.old) (D.mail sock.old) (D.failed_sends sock.old) (C.readings clock.old) (known_of place.old))
+        (world (J.noted journal.new) (D.mail sock.new) (D.failed_sends sock.new) (C.readings clock.new) (known_of place.new))) }
+    ensures seat { InSlot OnlyLooks (result ≡ DgramEnd.Shutdown) (known_of place.old) (known_of place.new) }
+    ensures place { IsSeatAt (arc_value book.now) place.new }
+    ensures cause { result ≡ DgramEnd.Fault → Rose (D.failed_receives sock.old) (D.failed_receives sock.new) }
+    ensures receives { D.failed_receives sock.old ≤ D.failed_receives sock.new }
+    ensures sends { D.failed_sends sock.old ≤ D.failed_sends sock.new }
+{
+    let Some(seat) = place.take() else {
+        unreachable!()
+    };
+    let (seat, end) = serve_in_slot(rt, alloc, book, seat, &**service, sock, clock, journal);
+    *place = Some(seat);
+    end
+}
+
+/// Serves datagrams without a count, in a slot where one is free.
+fn serve_in_slot<R: Wait, D: AsyncDgramSock, C: Clock, J: Recorder, W: Served>(
+    rt: &R,
+    alloc: Global,
+    book: &Book,
+    mut seat: BookSeat,
+    service: &W,
+    sock: &mut D,
+    clock: &mut C,
+    journal: &mut J,
+) -> (BookSeat, DgramEnd)
+    requires book { seat.book ≡ book.now }
+    requires can_call { W.can_call service.now }
+    ensures told { Tells (D.tells sock.new × C.tells clock.new × J.tells journal.new) (D.tells sock.old × C.tells clock.old × J.tells journal.old)
+        (DatagramsRan (serving (W.answer service.now) (W.hint service.now)) result.1
+        (world (J.noted journal.old) (D.mail sock.old) (D.failed_sends sock.old) (C.readings clock.old) seat.known)
+        (world (J.noted journal.new) (D.mail sock.new) (D.failed_sends sock.new) (C.readings clock.new) result.0.known)) }
+    ensures seat { InSlot OnlyLooks (result.1 ≡ DgramEnd.Shutdown) seat.known result.0.known }
+    ensures same { result.0.book ≡ seat.book }
+    ensures cause { result.1 ≡ DgramEnd.Fault → Rose (D.failed_receives sock.old) (D.failed_receives sock.new) }
+    ensures receives { D.failed_receives sock.old ≤ D.failed_receives sock.new }
+    ensures sends { D.failed_sends sock.old ≤ D.failed_sends sock.new }
+{
+    match book.admit(rt, &mut seat) {
+        Admission::Closed => (seat, DgramEnd::Shutdown),
+        Admission::Full { .. } => serve_datagrams(
+            rt, alloc, book, seat, service, sock, clock, journal, 0,
+        ),
+        Admission::Admitted(_) => {
+            let (mut seat, end) = serve_datagrams(
+                rt, alloc, book, seat, service, sock, clock, journal, 0,
+            );
+            book.release(rt, &mut seat);
+            (seat, end)
+        }
+    }
+}

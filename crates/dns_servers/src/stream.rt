@@ -1,0 +1,319 @@
+//! A server of connections.
+
+ghost use Rattle.std.specs.Prelude.{◌≡◌, ◌≤◌, true, IfOk};
+ghost use Rattle.std.specs.Arc.{arc_value};
+ghost use Rattle.dns_service.specs.Config.{default_dgram, default_stream};
+ghost use Rattle.dns_admission.specs.Machine.{new_state};
+ghost use Rattle.dns_book.specs.Seats.{IsSound, new_known, first_half, second_half};
+ghost use Rattle.dns_servers.specs.Parts.{IsSeatAt, known_of};
+ghost use Rattle.dns_servers.specs.Runs.{ConnectionsRan};
+
+use crate::buf::{BufSource, VecBufSource};
+use crate::control::Control;
+use crate::hook::CountingHook;
+use crate::metered::Metered;
+use crate::metered_accept::MeteredAccept;
+use crate::metrics::ServerMetrics;
+use crate::seating::{Ground, make_ground, split_off};
+use dns_book::{Book, BookSeat, BookState};
+use dns_drivers::Silent;
+use dns_host::{AcceptEnd, ConnectionWork, NoHook, PreConnect, serve_accepts};
+use dns_name::OutOfMemory;
+use dns_outside::{AsyncAccept, Clock, MioAccept, Spawner};
+use dns_service::{DgramConfig, Served, StreamConfig};
+use std::alloc::Global;
+use std::marker::Model;
+use std::sync::{Arc, Wait};
+use std::thread::Threads;
+
+/// How a server of connections ended.
+#[derive(Clone, Copy, Debug, PartialEq, Eq)]
+pub enum StreamEnd {
+    /// A look showed a shutdown.
+    Shutdown,
+    /// A call found no memory.
+    OutOfMemory,
+}
+
+/// A server of connections over a real socket.
+pub type TcpServer<N, W, C, P, H = NoHook> = StreamServer<MioAccept<N>, VecBufSource, W, C, P, H>;
+
+/// A server of connections, with a book and metrics of its own. Its book has one seat more for each control. A source of
+/// buffers is a part of it, and no answer depends on it.
+#[derive(Drop)]
+pub struct StreamServer<A, B, W, C, P, H = NoHook> {
+    accept: MeteredAccept<A>,
+    buf: B,
+    service: Arc<W>,
+    clock: C,
+    spawner: P,
+    hook: CountingHook<H>,
+    metrics: Arc<ServerMetrics>,
+    book: Arc<Book>,
+    // None while a call has it.
+    seat: Option<BookSeat>,
+}
+
+impl<A, B, W, C, P, H> Model for StreamServer<A, B, W, C, P, H> {
+    ghost use Rattle.std.specs.Prelude.{◌≡◌, true};
+    ghost use Rattle.std.specs.Arc.{arc_value};
+    ghost use Rattle.dns_servers.specs.Parts.{StreamParts, IsSeatAt, known_of};
+
+    ghost Value = { StreamParts A W C P };
+
+    ghost view = { λ s. record { accept = s.accept; service = arc_value s.service; clock = s.clock; spawner = s.spawner; book = arc_value s.book; known = known_of s.seat } };
+
+    ghost invariant = { λ s. IsSeatAt (arc_value s.book) s.seat × (arc_value s.metrics ≡ true) };
+}
+
+impl<A: AsyncAccept + Drop, B: BufSource + Drop, W: Served, C: Clock + Drop, P: Drop> StreamServer<
+    A,
+    B,
+    W,
+    C,
+    P,
+    NoHook,
+> {
+    /// A server with default configurations.
+    pub fn new(
+        alloc: Global,
+        accept: A,
+        buf: B,
+        service: Arc<W>,
+        clock: C,
+        spawner: P,
+    ) -> Result<Self, OutOfMemory>
+        ensures parts { IfOk result (λ s. (s.accept ≡ accept) × (s.service ≡ arc_value service) × (s.clock ≡ clock) × (s.spawner ≡ spawner)) }
+        ensures known { IfOk result (λ s. s.known ≡ new_known (new_state default_dgram default_stream)) }
+    {
+        StreamServer::with_config(
+            alloc,
+            accept,
+            buf,
+            service,
+            clock,
+            spawner,
+            StreamConfig::new(),
+        )
+    }
+
+    /// A server with this configuration. That of datagrams, which its book has too, is the default one.
+    pub fn with_config(
+        alloc: Global,
+        accept: A,
+        buf: B,
+        service: Arc<W>,
+        clock: C,
+        spawner: P,
+        config: StreamConfig,
+    ) -> Result<Self, OutOfMemory>
+        ensures parts { IfOk result (λ s. (s.accept ≡ accept) × (s.service ≡ arc_value service) × (s.clock ≡ clock) × (s.spawner ≡ spawner)) }
+        ensures known { IfOk result (λ s. s.known ≡ new_known (new_state default_dgram config)) }
+    {
+        let state = BookState::new(DgramConfig::new(), config);
+        let Ground {
+            book,
+            seat,
+            metrics,
+            counting,
+        } = make_ground(alloc, state, ServerMetrics::connection_oriented())?;
+        Ok(StreamServer {
+            accept: MeteredAccept::new(accept, counting),
+            buf,
+            service,
+            clock,
+            spawner,
+            hook: CountingHook { inner: NoHook },
+            metrics,
+            book,
+            seat: Some(seat),
+        })
+    }
+}
+
+impl<
+    A: AsyncAccept + Drop,
+    B: BufSource + Drop,
+    W: Served,
+    C: Clock + Drop,
+    P: Drop,
+    H: Drop,
+> StreamServer<A, B, W, C, P, H> {
+    /// The same server with this hook, which is called once on each link that is admitted. It gets the link of the accept
+    /// object.
+    pub fn with_pre_connect_hook<K: PreConnect<A::Link>>(
+        self,
+        hook: K,
+    ) -> StreamServer<A, B, W, C, P, K>
+        ensures { result ≡ self }
+    {
+        let StreamServer {
+            accept,
+            buf,
+            service,
+            clock,
+            spawner,
+            hook: _old,
+            metrics,
+            book,
+            seat,
+        } = self;
+        StreamServer {
+            accept,
+            buf,
+            service,
+            clock,
+            spawner,
+            hook: CountingHook { inner: hook },
+            metrics,
+            book,
+            seat,
+        }
+    }
+
+    /// The accept object.
+    pub fn source(&self) -> &A
+        ensures { result.now ≡ self.now.accept }
+    {
+        self.accept.inner()
+    }
+
+    /// What the server counts: frames read and written, and the connections that are admitted, each until it is closed.
+    pub fn metrics(&self) -> &Arc<ServerMetrics>
+        ensures { arc_value result.now ≡ true }
+    {
+        &self.metrics
+    }
+
+    /// A control of this server, for any thread. The server's seat is split, and the control has the second half.
+    pub fn control<R: Wait>(&mut self, rt: &R) -> Control
+        ensures server { self.new ≡ record self.old { known = first_half self.old.known } }
+        ensures control { result ≡ record { book = self.old.book; known = second_half self.old.known } }
+        ensures sound { IsSound self.new.known × IsSound result.known }
+    {
+        split_off(rt, &self.book, &mut self.seat)
+    }
+}
+
+impl<
+    A: AsyncAccept,
+    B,
+    W: Served + Send + Sync + 'static,
+    C: Clock + Send + Drop + 'static,
+    P: Spawner<ConnectionWork<Metered<A::Link>, C, Silent, W>>,
+    H: PreConnect<A::Link>,
+> StreamServer<A, B, W, C, P, H>
+where
+    A::Link: Send + Drop + 'static,
+    W::Future: Send,
+    W::Stream: Send,
+{
+    /// Accepts connections until a look shows a shutdown, and then waits for the end of those that are served.
+    pub fn run<R: Threads + Wait + Copy + Send + 'static>(
+        &mut self,
+        rt: &R,
+        alloc: Global,
+    ) -> StreamEnd
+        requires { W.can_call self.old.service }
+        ensures told { ConnectionsRan result (A.tells self.new.accept × P.tells self.new.spawner) (A.tells self.old.accept × P.tells self.old.spawner)
+            self.old.known self.new.known (A.door self.old.accept) (A.door self.new.accept) (P.given self.old.spawner) (P.given self.new.spawner)
+            (A.faults self.old.accept) (A.faults self.new.accept) }
+        ensures same { (self.new.book ≡ self.old.book) × (self.new.service ≡ self.old.service) × (self.new.clock ≡ self.old.clock) }
+        ensures accepts_later { A.faults self.old.accept ≤ A.faults self.new.accept }
+        ensures starts_later { P.faults self.old.spawner ≤ P.faults self.new.spawner }
+    {
+        accept_from(
+            rt,
+            alloc,
+            &self.book,
+            &mut self.seat,
+            &self.service,
+            &mut self.accept,
+            &self.clock,
+            &mut self.spawner,
+            &self.hook,
+        )
+    }
+}
+
+/// Accepts connections from the seat in its place, which is put back there.
+fn accept_from<
+    R: Threads + Wait + Copy + Send + 'static,
+    A: AsyncAccept,
+    C: Clock + Send + Drop + 'static,
+    W: Served + Send + Sync + 'static,
+    P: Spawner<ConnectionWork<A::Link, C, Silent, W>>,
+    H: PreConnect<A::Link>,
+>(
+    rt: &R,
+    alloc: Global,
+    book: &Arc<Book>,
+    place: &mut Option<BookSeat>,
+    service: &Arc<W>,
+    accept: &mut A,
+    clock: &C,
+    spawner: &mut P,
+    hook: &H,
+) -> StreamEnd
+where
+    A::Link: Send + Drop + 'static,
+    W::Future: Send,
+    W::Stream: Send,
+    requires seat { IsSeatAt (arc_value book.now) place.old }
+    requires can_call { W.can_call (arc_value service.now) }
+    ensures told { ConnectionsRan result (A.tells accept.new × P.tells spawner.new) (A.tells accept.old × P.tells spawner.old) (known_of place.old) (known_of place.new)
+        (A.door accept.old) (A.door accept.new) (P.given spawner.old) (P.given spawner.new) (A.faults accept.old) (A.faults accept.new) }
+    ensures place { IsSeatAt (arc_value book.now) place.new }
+    ensures accepts_later { A.faults accept.old ≤ A.faults accept.new }
+    ensures starts_later { P.faults spawner.old ≤ P.faults spawner.new }
+{
+    let Some(seat) = place.take() else {
+        unreachable!()
+    };
+    let (seat, end) = accept_and_join(rt, alloc, book, seat, service, accept, clock, spawner, hook);
+    *place = Some(seat);
+    end
+}
+
+#[tactic(auto, using(crate::proofs::Joinings::shut_joined, crate::proofs::Joinings::almost_joined))]
+/// Accepts connections without a count, and then joins all work.
+fn accept_and_join<
+    R: Threads + Wait + Copy + Send + 'static,
+    A: AsyncAccept,
+    C: Clock + Send + Drop + 'static,
+    W: Served + Send + Sync + 'static,
+    P: Spawner<ConnectionWork<A::Link, C, Silent, W>>,
+    H: PreConnect<A::Link>,
+>(
+    rt: &R,
+    alloc: Global,
+    book: &Arc<Book>,
+    seat: BookSeat,
+    service: &Arc<W>,
+    accept: &mut A,
+    clock: &C,
+    spawner: &mut P,
+    hook: &H,
+) -> (BookSeat, StreamEnd)
+where
+    A::Link: Send + Drop + 'static,
+    W::Future: Send,
+    W::Stream: Send,
+    requires book { seat.book ≡ arc_value book.now }
+    requires can_call { W.can_call (arc_value service.now) }
+    ensures told { ConnectionsRan result.1 (A.tells accept.new × P.tells spawner.new) (A.tells accept.old × P.tells spawner.old) seat.known result.0.known
+        (A.door accept.old) (A.door accept.new) (P.given spawner.old) (P.given spawner.new) (A.faults accept.old) (A.faults accept.new) }
+    ensures same { result.0.book ≡ seat.book }
+    ensures accepts_later { A.faults accept.old ≤ A.faults accept.new }
+    ensures starts_later { P.faults spawner.old ≤ P.faults spawner.new }
+{
+    let (seat, end) = serve_accepts(
+        rt, alloc, book, seat, service, accept, clock, spawner, hook, 0,
+    );
+    spawner.join_all(rt);
+    match end {
+        AcceptEnd::Shutdown => (seat, StreamEnd::Shutdown),
+        AcceptEnd::OutOfMemory => (seat, StreamEnd::OutOfMemory),
+        AcceptEnd::Counted => unreachable!(),
+    }
+}
