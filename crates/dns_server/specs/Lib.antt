@@ -14,6 +14,9 @@ pub mod Rules
 pub mod Runs
 pub mod Script
 pub mod ScriptReads
+pub mod ServePlans
+pub mod ServeScript
+pub mod ServeWords
 pub mod Status
 pub mod Streams
 pub mod Targets

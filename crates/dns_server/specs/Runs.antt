@@ -24,8 +24,8 @@ use Rattle.dns_server.specs.Script.{script}
 use Rattle.dns_server.specs.Line.{lines_of, refused_line}
 use Rattle.dns_server.specs.declared.command.Command.{Command}
 use Rattle.dns_server.specs.declared.command.Command.TheVariants.{Replay, Steps, Flood}
-use Rattle.dns_server.specs.declared.program.Status.{Status}
-use Rattle.dns_server.specs.declared.program.Status.TheVariants.{Done, Usage, Refused, ReadFault, WriteFault, OutOfMemory, TooLong}
+use Rattle.dns_server.specs.declared.status.Status.{Status}
+use Rattle.dns_server.specs.declared.status.Status.TheVariants.{Done, Refused, ReadFault, WriteFault, OutOfMemory, TooLong}
 
 -- what the clients are sent: the outputs of the events, served by the rules under the settings
 unfoldable pub plan_outputs : Plan Event → List Output
@@ -40,6 +40,11 @@ abbrev pub run_text : {E : Type 0} → (Plan E → List Output) → Result (Plan
 run_text sent (Ok p) = lines_of (sent p)
 run_text sent (Err e) = refused_line e.0 e.1
 
+-- what is written for what a text says before it is served: nothing, or the line of its refusal
+abbrev pub refusal_text : {E : Type 0} → Result (Plan E) (ℕ × Reason) → List ℕ
+refusal_text (Ok p) = []
+refusal_text (Err e) = refused_line e.0 e.1
+
 -- what is written for a flood
 unfoldable pub flood_text : ℕ → ℕ → List ℕ
 flood_text seed count = summary_line count (output_counts (plan_outputs (flood_plan seed count)))
@@ -48,13 +53,13 @@ flood_text seed count = summary_line count (output_counts (plan_outputs (flood_p
 abbrev pub Whole : List ℕ → List ℕ → Type 0
 Whole a b = (b ≡ []) × (length a ≤ LIMIT)
 
--- the status of a text that was read whole
-abbrev pub Judges : {E : Type 0} → Status → Result (Plan E) (ℕ × Reason) → Type 0
-Judges Done read = IsOk read
-Judges Refused read = IsErr read
-Judges WriteFault read = Unit {0}
-Judges OutOfMemory read = Unit {0}
-Judges _ read = ⊥
+-- the script that a text is, or the status of a text that is none
+abbrev pub Says : {E : Type 0} → Result (Plan E) Status → Result (Plan E) (ℕ × Reason) → Type 0
+Says (Ok s) read = read ≡ Ok s
+Says (Err Refused) read = IsErr read
+Says (Err WriteFault) read = IsErr read
+Says (Err OutOfMemory) read = Unit {0}
+Says (Err _) read = ⊥
 
 -- what was read, by the status, where this is what a text says
 abbrev pub ReadsSource : {E : Type 0} → (List ℕ → Result (Plan E) (ℕ × Reason)) → Status → List ℕ → List ℕ → Type 0
@@ -64,7 +69,7 @@ ReadsSource read WriteFault a b = Whole a b
 ReadsSource read OutOfMemory a b = ReadAtMost (LIMIT + 1) a b
 ReadsSource read ReadFault a b = ReadAtMost LIMIT a b
 ReadsSource read TooLong a b = ReadExactly (LIMIT + 1) a b
-ReadsSource read Usage a b = ⊥
+ReadsSource read _ a b = ⊥
 
 -- what was written, by the status: a text, a front of it, or nothing
 abbrev pub WritesText : Status → List ℕ → List ℕ → List ℕ → Type 0

@@ -1,8 +1,12 @@
 -- The number of a status, and what becomes of the counts of faults by it. In each, a is a count before the call and b after it.
-use Rattle.std.specs.Prelude.{◌≡◌, ℕ}
+use Rattle.std.specs.Prelude.{◌≡◌, ℕ, Result, Ok, Err}
 use Rattle.dns_outside.specs.Causes.{Rose}
-use Rattle.dns_server.specs.declared.program.Status.{Status}
-use Rattle.dns_server.specs.declared.program.Status.TheVariants.{Done, Usage, Refused, ReadFault, WriteFault, OutOfMemory, TooLong}
+use Rattle.dns_host.specs.declared.host.HostEnd.{HostEnd}
+use Rattle.dns_host.specs.declared.host.HostEnd.TheVariants.{Done as HostDone, OutOfMemory as HostOutOfMemory, HostFault as HostFailed}
+use Rattle.dns_server.specs.declared.status.Status.{Status}
+use Rattle.dns_server.specs.declared.status.Status.TheVariants.{Done, Usage, Refused, ReadFault, WriteFault, OutOfMemory, TooLong, HostFault}
+use Rattle.dns_server.specs.declared.writing.WriteError.{WriteError}
+use Rattle.dns_server.specs.declared.writing.WriteError.TheVariants.{OutOfMemory as NoMemory, Fault}
 
 abbrev pub status_number : Status → ℕ
 status_number Done = 0
@@ -12,6 +16,24 @@ status_number ReadFault = 4
 status_number WriteFault = 5
 status_number OutOfMemory = 6
 status_number TooLong = 7
+status_number HostFault = 8
+
+-- the status where all was written, or why it wasn't
+abbrev pub status_after : Status → Result (Unit {0}) WriteError → Status
+status_after s (Ok u) = s
+status_after s (Err NoMemory) = OutOfMemory
+status_after s (Err Fault) = WriteFault
+
+-- what was to be had and is there, or the status that says why it isn't
+abbrev pub status_of : {A : Type 0} → Result A Status → Status
+status_of (Ok x) = Done
+status_of (Err s) = s
+
+-- the status of a host that was served
+abbrev pub status_of_host : HostEnd → Status
+status_of_host HostDone = Done
+status_of_host HostOutOfMemory = OutOfMemory
+status_of_host HostFailed = HostFault
 
 -- the source's count rises with ReadFault, and with no other status
 abbrev pub SourceFaults : Status → ℕ → ℕ → Type 0

@@ -1,5 +1,5 @@
 //! The program: a script is read, its events or steps are served by its rules, and the outputs are written line by line. Or a flood of
-//! events is made and served, and the outputs are counted.
+//! events is made and served, and the outputs are counted. Or a script is read that says how a running server answers.
 #![tactic(auto)]
 
 mod answer_words;
@@ -16,23 +16,47 @@ mod rule;
 mod rule_lines;
 mod script;
 mod script_answers;
+mod script_line;
 mod script_service;
 mod script_target;
 mod scripted;
+mod serve_words;
+mod server_plan;
 mod setting_lines;
+mod status;
+mod whole_script;
 mod writing;
 
 pub use command::{Command, read_command};
 pub use counts::{Counts, summary};
+pub use dns_book::{Book, BookSeat};
+pub use dns_core::{BookState, Settings, wrap};
+pub use dns_drivers::{
+    ConnectionEnd, DgramEnd, Kept, Recorder, Silent, serve_connection, serve_datagrams,
+};
+pub use dns_host::{
+    AcceptEnd, ConnectionWork, Host, HostEnd, NoHook, PreConnect, serve_accepts, serve_host,
+};
+pub use dns_middleware::Wrapped;
+pub use dns_servers::{
+    BufSource, Control, DgramServer, Metered, MeteredAccept, MeteredSock, ServerCommand,
+    ServerMetrics, StreamEnd, StreamServer, TcpServer, UdpServer, VecBufSource,
+};
+pub use dns_service::Plainly;
 pub use flood::count_flood;
 pub use generator::{event_at, next_event, next_number};
 pub use notify_rule::{NotifyRule, NotifyRules};
 pub use output_line::{line, refusal};
-pub use program::{Status, run};
+pub use program::run;
 pub use reader::read_script;
 pub use rule::{Rule, Rules, ScriptAnswer, ScriptAnswers, ScriptReply};
 pub use script::{Script, ScriptError};
+pub use script_line::{NoEvent, ScriptLine};
 pub use script_service::{ScriptFuture, ScriptService, ScriptStream};
 pub use script_target::{ScriptTarget, ScriptVerdict};
 pub use scripted::Scripted;
+pub use serve_words::{ServeWords, read_serve};
+pub use server_plan::{ServePlan, serve_plan};
+pub use status::Status;
+pub use whole_script::read_whole;
 pub use writing::{WriteError, write_outputs, write_refusal};

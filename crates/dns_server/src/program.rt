@@ -1,61 +1,24 @@
 //! The program's top call.
 
-ghost use Rattle.std.specs.Prelude.{◌≡◌, ◌≢◌, ◌↔◌, ◌≤◌, length, map, string_bytes, IfSome, IfOk, None, ℕ, true};
+ghost use Rattle.std.specs.Prelude.{◌≡◌, ◌≢◌, ◌↔◌, map, string_bytes, IfSome, None};
 ghost use Rattle.dns_outside.specs.Causes.{Tells, Rose};
-ghost use Rattle.dns_outside.specs.declared.source.TheConstants.{LIMIT};
 ghost use Rattle.dns_server.specs.Command.{command_of};
-ghost use Rattle.dns_server.specs.Status.{status_number, SourceFaults, SinkFaults};
+ghost use Rattle.dns_server.specs.Status.{SourceFaults, SinkFaults};
 ghost use Rattle.dns_server.specs.Line.{lines_of};
 ghost use Rattle.dns_server.specs.Script.{script};
 ghost use Rattle.dns_server.specs.Writes.{Wrote, WroteFaults};
-ghost use Rattle.dns_server.specs.Runs.{run_text, flood_text, Judges, ReadsSource, WritesText, EndsFlood, RunReads, RunWrites, Completes};
+ghost use Rattle.dns_server.specs.Runs.{run_text, flood_text, ReadsSource, WritesText, EndsFlood, RunReads, RunWrites, Completes};
 
 use crate::command::{Command, read_command};
 use crate::flood::write_flood;
-use crate::reader::read_script;
-use crate::script::{Script, ScriptError};
+use crate::script::Script;
 use crate::scripted::Scripted;
-use crate::writing::{WriteError, write_outputs, write_refusal};
-use dns_outside::{ReadError, Sink, Source, read_all};
+use crate::status::Status;
+use crate::whole_script::read_whole;
+use crate::writing::{WriteError, write_outputs};
+use dns_outside::{Sink, Source};
 use dns_service::{Event, Step};
 use std::alloc::Global;
-
-/// How a run ended.
-#[derive(Clone, Copy, Debug, PartialEq, Eq)]
-pub enum Status {
-    /// The source was read to its end, and all lines were written.
-    Done,
-    /// The words are none of the forms.
-    Usage,
-    /// The source is no script. One line says where and why.
-    Refused,
-    /// A read failed.
-    ReadFault,
-    /// A write failed.
-    WriteFault,
-    OutOfMemory,
-    /// The source has more than 67,108,864 octets.
-    TooLong,
-}
-
-impl Status {
-    ghost use Rattle.dns_server.specs.Status.{status_number};
-
-    /// The exit status of the program.
-    pub fn number(self) -> u8
-        ensures { result ≡ status_number self }
-    {
-        match self {
-            Status::Done => 0,
-            Status::Usage => 2,
-            Status::Refused => 3,
-            Status::ReadFault => 4,
-            Status::WriteFault => 5,
-            Status::OutOfMemory => 6,
-            Status::TooLong => 7,
-        }
-    }
-}
 
 /// Writes what the clients of a script are sent.
 fn answer_script<E: Scripted, W: Sink>(
@@ -70,34 +33,8 @@ fn answer_script<E: Scripted, W: Sink>(
     write_outputs(alloc, sink, &all)
 }
 
-/// Answers a text.
-#[tactic(auto, using(crate::proofs::Running::nothing_written))]
-fn answer_text<E: Scripted, W: Sink>(alloc: Global, text: &[u8], sink: &mut W) -> Status
-    requires { length text.now ≤ LIMIT }
-    ensures judged { Judges result (script E.reading text.now) }
-    ensures told { Tells (W.tells sink.new) (W.tells sink.old) (WritesText result (run_text E.sent (script E.reading text.now)) (W.taken sink.old) (W.taken sink.new)) }
-    ensures faults { SinkFaults result (W.faults sink.old) (W.faults sink.new) }
-    ensures read { (result ≢ Status.Usage) × (result ≢ Status.ReadFault) × (result ≢ Status.TooLong) }
-{
-    match read_script::<E>(alloc, text) {
-        Ok(script) => match answer_script(alloc, script, sink) {
-            Ok(()) => Status::Done,
-            Err(WriteError::OutOfMemory) => Status::OutOfMemory,
-            Err(WriteError::Fault) => Status::WriteFault,
-        },
-        Err(ScriptError::OutOfMemory) => Status::OutOfMemory,
-        Err(ScriptError::Refused { line, reason }) => {
-            match write_refusal(alloc, sink, line, reason) {
-                Ok(()) => Status::Refused,
-                Err(WriteError::OutOfMemory) => Status::OutOfMemory,
-                Err(WriteError::Fault) => Status::WriteFault,
-            }
-        }
-    }
-}
-
 /// Answers the script that a source holds, of events or of steps.
-#[tactic(auto, using(crate::proofs::Running::nothing_written, crate::proofs::Running::whole_read, crate::proofs::Running::whole_answered))]
+#[tactic(auto, using(crate::proofs::Running::refusal_written, crate::proofs::Running::answers_read, crate::proofs::Running::answers_written))]
 fn replay<E: Scripted, R: Source, W: Sink>(alloc: Global, source: &mut R, sink: &mut W) -> Status
     ensures read { Tells (R.tells source.new) (R.tells source.old) (ReadsSource (script E.reading) result (R.left source.old) (R.left source.new)) }
     ensures written { Tells (R.tells source.new × W.tells sink.new) (R.tells source.old × W.tells sink.old)
@@ -106,13 +43,11 @@ fn replay<E: Scripted, R: Source, W: Sink>(alloc: Global, source: &mut R, sink: 
     ensures sink_faults { SinkFaults result (W.faults sink.old) (W.faults sink.new) }
     ensures too_long { result ≡ Status.TooLong → sink.new ≡ sink.old }
     ensures unread { result ≡ Status.ReadFault → sink.new ≡ sink.old }
-    ensures other { result ≢ Status.Usage }
+    ensures other { (result ≢ Status.Usage) × (result ≢ Status.HostFault) }
 {
-    match read_all(alloc, source) {
-        Ok(text) => answer_text::<E, W>(alloc, &text, sink),
-        Err(ReadError::OutOfMemory) => Status::OutOfMemory,
-        Err(ReadError::Fault) => Status::ReadFault,
-        Err(ReadError::TooLong) => Status::TooLong,
+    match read_whole::<E, R, W>(alloc, source, sink) {
+        Ok(script) => Status::Done.after(answer_script(alloc, script, sink)),
+        Err(status) => status,
     }
 }
 
@@ -123,11 +58,7 @@ fn answer_flood<W: Sink>(alloc: Global, sink: &mut W, seed: u64, count: u32) -> 
     ensures faults { SinkFaults result (W.faults sink.old) (W.faults sink.new) }
     ensures ends { EndsFlood result }
 {
-    match write_flood(alloc, sink, seed, count) {
-        Ok(()) => Status::Done,
-        Err(WriteError::OutOfMemory) => Status::OutOfMemory,
-        Err(WriteError::Fault) => Status::WriteFault,
-    }
+    Status::Done.after(write_flood(alloc, sink, seed, count))
 }
 
 /// Does what the words ask for. Nothing but the lines of outputs, the line of a refusal and that of a flood is written.
@@ -141,6 +72,7 @@ pub fn run<R: Source, W: Sink>(
     // The words are none of the forms, and then nothing is read or written.
     ensures usage { result ≡ Status.Usage ↔ command_of (map string_bytes words.now) ≡ None }
     ensures untouched { result ≡ Status.Usage → (source.new ≡ source.old) × (sink.new ≡ sink.old) }
+    ensures no_server { result ≢ Status.HostFault }
     // The counts of faults rise with the two faults, and with no other status.
     ensures source_faults { SourceFaults result (R.faults source.old) (R.faults source.new) }
     ensures sink_faults { SinkFaults result (W.faults sink.old) (W.faults sink.new) }

@@ -7,7 +7,7 @@ ghost use Rattle.dns_server.specs.ScriptReads.{ReadsScript, TakesLine, TakesNumb
 use crate::notify_lines::read_notify;
 use crate::rule_lines::read_rule;
 use crate::script::{Script, ScriptError};
-use crate::scripted::Scripted;
+use crate::script_line::ScriptLine;
 use crate::setting_lines::{
     read_budget_line, read_deny, read_dgram_line, read_edns, read_secret, read_stream_line,
     read_strict,
@@ -17,7 +17,11 @@ use std::alloc::Global;
 
 /// The line of an event, or of a step.
 #[tactic(auto, unfolding(crate::specs::Script::next_event_line))]
-fn event<E: Scripted>(alloc: Global, script: &mut Script<E>, words: &Words) -> Result<(), LineError>
+fn event<E: ScriptLine>(
+    alloc: Global,
+    script: &mut Script<E>,
+    words: &Words,
+) -> Result<(), LineError>
     ensures { TakesLine result script.new (next_event_line E.reading script.old words.now) }
 {
     let event = E::read(alloc, words)?;
@@ -27,7 +31,7 @@ fn event<E: Scripted>(alloc: Global, script: &mut Script<E>, words: &Words) -> R
 
 /// A line that configures a server, or the line of an event.
 #[tactic(auto, unfolding(crate::specs::Script::server_line))]
-fn server_line<E: Scripted>(
+fn server_line<E: ScriptLine>(
     alloc: Global,
     script: &mut Script<E>,
     words: &Words,
@@ -49,7 +53,7 @@ fn server_line<E: Scripted>(
 
 /// A line of cookies, or one of the others.
 #[tactic(auto, unfolding(crate::specs::Script::cookie_line))]
-fn cookie_line<E: Scripted>(
+fn cookie_line<E: ScriptLine>(
     alloc: Global,
     script: &mut Script<E>,
     words: &Words,
@@ -68,7 +72,7 @@ fn cookie_line<E: Scripted>(
 
 /// A line that turns something on or off, or one of the others.
 #[tactic(auto, unfolding(crate::specs::Script::switch_line))]
-fn switch_line<E: Scripted>(
+fn switch_line<E: ScriptLine>(
     alloc: Global,
     script: &mut Script<E>,
     words: &Words,
@@ -87,7 +91,7 @@ fn switch_line<E: Scripted>(
 
 /// A line that says something.
 #[tactic(auto, unfolding(crate::specs::Script::said_line))]
-fn said_line<E: Scripted>(
+fn said_line<E: ScriptLine>(
     alloc: Global,
     script: &mut Script<E>,
     words: &Words,
@@ -105,7 +109,7 @@ fn said_line<E: Scripted>(
 
 /// What a script says with the line of these words more, which is text or isn't.
 #[tactic(auto, unfolding(crate::specs::Script::after_words))]
-fn after_words<E: Scripted>(
+fn after_words<E: ScriptLine>(
     alloc: Global,
     script: &mut Script<E>,
     text: bool,
@@ -123,7 +127,7 @@ fn after_words<E: Scripted>(
 }
 
 /// What a script says with one line more.
-fn after<E: Scripted>(alloc: Global, script: &mut Script<E>, line: &[u8]) -> Result<(), LineError>
+fn after<E: ScriptLine>(alloc: Global, script: &mut Script<E>, line: &[u8]) -> Result<(), LineError>
     ensures { TakesLine result script.new (after_line E.reading script.old line.now) }
 {
     let words = Words::of(alloc, line)?;
@@ -131,7 +135,7 @@ fn after<E: Scripted>(alloc: Global, script: &mut Script<E>, line: &[u8]) -> Res
 }
 
 /// What a script says with one line more, which has this number.
-fn after_numbered<E: Scripted>(
+fn after_numbered<E: ScriptLine>(
     alloc: Global,
     script: &mut Script<E>,
     number: u64,
@@ -151,7 +155,7 @@ fn after_numbered<E: Scripted>(
 
 /// What a text says, or its first bad line and the reason.
 #[tactic(auto, using(crate::proofs::Numbered::refused_first), unfolding(crate::specs::Script::script))]
-pub fn read_script<E: Scripted>(alloc: Global, text: &[u8]) -> Result<Script<E>, ScriptError>
+pub fn read_script<E: ScriptLine>(alloc: Global, text: &[u8]) -> Result<Script<E>, ScriptError>
     requires { length text.now < 2 ^ 40 }
     ensures { ReadsScript result (script E.reading text.now) }
 {

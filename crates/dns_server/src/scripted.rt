@@ -1,33 +1,23 @@
-//! What stands in a script behind its settings and rules: events, or steps.
+//! What is sent to the clients of a script, of events or of steps.
 
-ghost use Rattle.std.specs.Prelude.{◌≡◌, IfOk, ℕ, List, Result};
+ghost use Rattle.std.specs.Prelude.{◌≡◌, IfOk, List};
 ghost use Rattle.dns_service.specs.declared.event.Output.{Output as TheOutput};
-ghost use Rattle.dns_trace.specs.EventLines.{event_line, step_line};
-ghost use Rattle.dns_trace.specs.Reading.{GivesLine};
-ghost use Rattle.dns_trace.specs.declared.reason.Reason.{Reason as TheReason};
 ghost use Rattle.dns_server.specs.Plan.{Plan};
 ghost use Rattle.dns_server.specs.Runs.{plan_outputs, plan_step_outputs};
 
 use crate::script::Script;
+use crate::script_line::ScriptLine;
 use crate::script_service::ScriptService;
 use crate::script_target::ScriptTarget;
 use dns_core::{serve_events, serve_steps};
 use dns_name::OutOfMemory;
 use dns_service::{Event, Output, Step};
-use dns_trace::{LineError, Words, read_event, read_step};
 use std::alloc::Global;
 
 /// Events, or steps, as a script has them.
-pub trait Scripted: Sized + Drop {
-    /// What a line of these words says.
-    ghost reading: { List (List ℕ) → Result Self TheReason };
-
+pub trait Scripted: ScriptLine {
     /// What the clients of a script are sent.
     ghost sent: { Plan Self → List TheOutput };
-
-    /// Reads a line.
-    fn read(alloc: Global, words: &Words) -> Result<Self, LineError>
-        ensures { GivesLine (λ e. e) result (reading words.now) };
 
     /// Serves the clients of a script by its rules.
     fn serve(alloc: Global, script: Script<Self>) -> Result<Vec<Output>, OutOfMemory>
@@ -35,13 +25,7 @@ pub trait Scripted: Sized + Drop {
 }
 
 impl Scripted for Event {
-    ghost reading = { event_line };
-
     ghost sent = { plan_outputs };
-
-    fn read(alloc: Global, words: &Words) -> Result<Self, LineError> {
-        read_event(alloc, words)
-    }
 
     #[tactic(auto, unfolding(crate::specs::Runs::plan_outputs))]
     fn serve(alloc: Global, script: Script<Self>) -> Result<Vec<Output>, OutOfMemory>
@@ -59,13 +43,7 @@ impl Scripted for Event {
 }
 
 impl Scripted for Step {
-    ghost reading = { step_line };
-
     ghost sent = { plan_step_outputs };
-
-    fn read(alloc: Global, words: &Words) -> Result<Self, LineError> {
-        read_step(alloc, words)
-    }
 
     #[tactic(auto, unfolding(crate::specs::Runs::plan_step_outputs))]
     fn serve(alloc: Global, script: Script<Self>) -> Result<Vec<Output>, OutOfMemory>

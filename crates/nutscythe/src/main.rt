@@ -1,16 +1,21 @@
-//! The program: a script on standard input, its outputs on standard output.
+//! The program: a script on standard input, its outputs on standard output, or a server that runs by it.
 #![tactic(auto)]
 
+mod serving;
+
 use dns_outside::{Reading, Writing};
-use dns_server::{Status, run};
+use dns_server::{Status, run, serve_plan};
+use log::sink::Console;
+use log::{LevelFilter, Logged, warn};
 use std::process::ExitCode;
 use std::{env, io};
 
 const HELP: &str = "\
-Usage: nutscythe replay|steps < SCRIPT, or flood SEED COUNT, --help, --version
-replay reads a script, serves its events by its rules, writes a line for each
-output; in steps a client hears of the server's changes only at its lines look
-AT SECS CLIENT; flood writes how much is sent for COUNT events, to 4000000.
+Usage: nutscythe replay|steps < SCRIPT, serve ADDR PORT COUNT < SCRIPT,
+flood SEED COUNT, --help, --version. replay serves a script's events by its
+rules, a line for each output; in steps a client hears of changes only at its
+lines look AT SECS CLIENT; serve has no events, and answers at a port until
+COUNT datagrams and COUNT connections came, 0: ever; flood makes COUNT events.
 strict yes|no, edns yes|no   settings, once; secret HEX   of cookies; deny ADDR
 dgram none|SIZE WRITE, stream IDLE WRITE QUEUE LIMIT yes|no   the two servers
 budget none|COUNT WINDOW   how many replies a connection queues in WINDOW ms
@@ -25,18 +30,17 @@ turn AT SECS CLIENT REQUEST            a request, from number 0, is polled once
 write AT SECS CLIENT TOOK              its front frame is written, in TOOK ms
 tick, end, fault, close, release, each AT SECS CLIENT   of a connection
 reconfigure AT SECS .., shutdown AT SECS   all hear; as dgram, stream, budget
-What is above datagram stands before all events. Numbers are decimal, ADDR a
-dotted quad or 32 hex digits, HEX pairs of digits or -. docs/scripts.md has all.
-Written are datagram CLIENT HEX, frame CLIENT HEX (with its length in front),
-closed CLIENT WHY and turned CLIENT yes|no, or for what is no script the one
-line refused LINE REASON. Exit status: 0 done, 2 faulty command line, 3 refused,
-4 a read failed, 5 a write failed, 6 out of memory, 7 a script too long.
+What is above datagram stands before all events. ADDR is a dotted quad or 32 hex
+digits, HEX pairs of digits or -. docs/scripts.md has all. Written are datagram
+CLIENT HEX, frame CLIENT HEX, closed CLIENT WHY, turned CLIENT yes|no or refused
+LINE REASON. Exit status: 0 done, 2 faulty command line, 3 refused, 4 a read or
+5 a write failed, 6 out of memory, 7 script too long, 8 socket or thread failed.
 ";
 
 const VERSION: &str = "nutscythe 0.1.0\n";
 
 const USAGE: &str =
-    "usage: nutscythe replay|steps < SCRIPT, nutscythe flood SEED COUNT, nutscythe --help or --version";
+    "usage: nutscythe replay|steps < SCRIPT, nutscythe serve ADDR PORT COUNT < SCRIPT, nutscythe flood SEED COUNT, nutscythe --help or --version";
 
 /// Prints a text, and says how that went.
 fn printed(rt: &impl Print, text: &str) -> ExitCode {
@@ -64,13 +68,32 @@ fn read_words(rt: &HostRuntime) -> Result<Vec<String>, Status> {
     Ok(words)
 }
 
-/// Ends with a status, and says on standard error what a faulty command line is to look like. That this can't be said
-/// changes no status.
+/// The line that says what is wrong, of a status for which nothing that is written says so.
+fn line_of(status: Status) -> Option<&'static str> {
+    match status {
+        Status::Usage => Some(USAGE),
+        Status::ReadFault => Some("nutscythe: standard input can't be read"),
+        Status::WriteFault => Some("nutscythe: standard output can't be written"),
+        Status::OutOfMemory => Some("nutscythe: there is no memory"),
+        Status::TooLong => Some("nutscythe: the script has more than 67108864 octets"),
+        _ => None,
+    }
+}
+
+/// Ends with a status, and says on standard error what is wrong. That this can't be said changes no status.
 fn ended(rt: &impl Eprint, status: Status) -> ExitCode {
-    if status == Status::Usage {
-        let _said = rt.eprintln(USAGE);
+    if let Some(line) = line_of(status) {
+        let _said = rt.eprintln(line);
     }
     ExitCode::from(status.number())
+}
+
+/// Says on standard error that something of the machine failed. That this can't be said changes no status.
+fn warn_of(rt: &impl Eprint, status: Status) {
+    if status == Status::HostFault {
+        let logged = Logged::new(rt, LevelFilter::Warn, Console(rt));
+        warn!(logged; "a socket, a connection or a thread failed");
+    }
 }
 
 fn main(rt: HostRuntime) -> ExitCode {
@@ -78,13 +101,20 @@ fn main(rt: HostRuntime) -> ExitCode {
         Ok(words) => words,
         Err(status) => return ended(&rt, status),
     };
+    let alloc = rt.alloc();
+    let mut source = Reading::new(rt.stdin());
+    let mut sink = Writing::new(rt.stdout());
     match words.first().map(|word| word.as_str()) {
         Some("--help") => printed(&rt, HELP),
         Some("--version") => printed(&rt, VERSION),
-        _ => {
-            let mut source = Reading::new(rt.stdin());
-            let mut sink = Writing::new(rt.stdout());
-            ended(&rt, run(rt.alloc(), &words, &mut source, &mut sink))
+        Some("serve") => {
+            let status = match serve_plan(alloc, &words, &mut source, &mut sink) {
+                Ok(plan) => serving::serve(rt, alloc, plan),
+                Err(status) => status,
+            };
+            warn_of(&rt, status);
+            ended(&rt, status)
         }
+        _ => ended(&rt, run(alloc, &words, &mut source, &mut sink)),
     }
 }

@@ -5,7 +5,7 @@ use Rattle.dns_server.proofs.reader.read_script.Given as goal
 
 abbrev pub invariant-loop-rest : goal.invariant-loop-rest
 invariant-loop-rest g l = record {
-  told : after_lines g.E.Scripted.reading l.line l.all (lines l.rest) ≡ script g.E.Scripted.reading l.text;
+  told : after_lines g.E.ScriptLine.reading l.line l.all (lines l.rest) ≡ script g.E.ScriptLine.reading l.text;
   few : l.line + length l.rest ≤ length l.text + 1;
 }
 

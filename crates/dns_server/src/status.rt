@@ -1,0 +1,70 @@
+//! How the program ends.
+
+ghost use Rattle.std.specs.Prelude.{◌≡◌};
+ghost use Rattle.dns_server.specs.Status.{status_number, status_after};
+
+use crate::writing::WriteError;
+use dns_host::HostEnd;
+
+/// How a run ended.
+#[derive(Clone, Copy, Debug, PartialEq, Eq)]
+pub enum Status {
+    /// The source was read to its end, and all lines were written.
+    Done,
+    /// The words are none of the forms.
+    Usage,
+    /// The source is no script. One line says where and why.
+    Refused,
+    /// A read failed.
+    ReadFault,
+    /// A write failed.
+    WriteFault,
+    OutOfMemory,
+    /// The source has more than 67,108,864 octets.
+    TooLong,
+    /// A socket, a link or a thread of a running server failed.
+    HostFault,
+}
+
+impl From<HostEnd> for Status {
+    ghost use Rattle.dns_server.specs.Status.{status_of_host};
+
+    ghost from_gives = { λ end status. status ≡ status_of_host end };
+
+    fn from(end: HostEnd) -> Self {
+        match end {
+            HostEnd::Done => Status::Done,
+            HostEnd::OutOfMemory => Status::OutOfMemory,
+            HostEnd::HostFault => Status::HostFault,
+        }
+    }
+}
+
+impl Status {
+    /// The exit status of the program.
+    pub fn number(self) -> u8
+        ensures { result ≡ status_number self }
+    {
+        match self {
+            Status::Done => 0,
+            Status::Usage => 2,
+            Status::Refused => 3,
+            Status::ReadFault => 4,
+            Status::WriteFault => 5,
+            Status::OutOfMemory => 6,
+            Status::TooLong => 7,
+            Status::HostFault => 8,
+        }
+    }
+
+    /// This status where all was written, and else why it wasn't.
+    pub(crate) fn after(self, written: Result<(), WriteError>) -> Status
+        ensures { result ≡ status_after self written }
+    {
+        match written {
+            Ok(()) => self,
+            Err(WriteError::OutOfMemory) => Status::OutOfMemory,
+            Err(WriteError::Fault) => Status::WriteFault,
+        }
+    }
+}
