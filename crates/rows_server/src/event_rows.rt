@@ -102,7 +102,7 @@ fn kind_said(row: &mut Row<'_>, kind: &EventKind) {
     }
 }
 
-fn address_said(row: &mut Row<'_>, kind: &str, addr: SocketAddr) {
+pub(crate) fn address_said(row: &mut Row<'_>, kind: &str, addr: SocketAddr) {
     row.say(kind);
     row.show(&addr.ip);
     row.show(&addr.port)

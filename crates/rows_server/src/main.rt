@@ -10,6 +10,7 @@ mod invoker_rows;
 mod line_rows;
 mod outside_rows;
 mod run_rows;
+mod serve_rows;
 mod service_rows;
 mod texts;
 mod value_rows;
@@ -22,6 +23,7 @@ use invoker_rows::InvokerRows;
 use line_rows::LineRows;
 use outside_rows::OutsideRows;
 use run_rows::RunRows;
+use serve_rows::ServeRows;
 use service_rows::ServiceRows;
 use std::io;
 use std::process::ExitCode;
@@ -35,7 +37,10 @@ fn main(rt: HostRuntime) -> io::Result<ExitCode> {
                 (BookRows, (ClientRows, InvokerRows)),
                 (OutsideRows, EventRows),
             ),
-            ((LineRows, ServiceRows), ((RunRows, FloodRows), ValueRows)),
+            (
+                (LineRows, ServiceRows),
+                ((RunRows, FloodRows), (ServeRows, ValueRows)),
+            ),
         ),
     )
 }

@@ -1,9 +1,9 @@
 //! Rows of the program's run, and of scripts that are read.
 
 use crate::outside_rows::failing;
-use crate::texts::{next_text, say_text};
+use crate::texts::{next_text, say_in_brackets, say_text};
 use dns_outside::{MemorySink, MemorySource, Reading, Source};
-use dns_server::{Script, ScriptError, read_script, run};
+use dns_server::{Script, ScriptError, Status, read_script, run};
 use dns_service::Event;
 use rows_table::{Calls, Row, RowError};
 use std::alloc::Global;
@@ -20,8 +20,17 @@ impl Calls for RunRows {
             "run" => with_faults(row),
             "endless" => endless(row),
             "read_script" => read_text(row),
-            _ => Err(RowError::NoSuchCall),
+            _ => of_failing(call, row),
         }
+    }
+}
+
+/// Runs of which one call after the other fails.
+fn of_failing(call: &str, row: &mut Row<'_>) -> Result<(), RowError> {
+    match call {
+        "reads_fail" => each_fails(row, true),
+        "writes_fail" => each_fails(row, false),
+        _ => Err(RowError::NoSuchCall),
     }
 }
 
@@ -33,7 +42,7 @@ fn words(alloc: Global, word: &str) -> Result<Vec<String>, RowError> {
 }
 
 /// A sink that takes 40 octets a call, of which the one of this number fails.
-fn sink(alloc: Global, number: Option<u64>) -> Result<MemorySink, RowError> {
+pub(crate) fn sink(alloc: Global, number: Option<u64>) -> Result<MemorySink, RowError> {
     Ok(MemorySink::new(Vec::new(alloc), failing(alloc, number)?, 40))
 }
 
@@ -65,7 +74,7 @@ pub(crate) fn said_of_run(
 }
 
 /// Whether a source that had so many octets has them still.
-fn untouched(source: &MemorySource, size: usize) -> &'static str {
+pub(crate) fn untouched(source: &MemorySource, size: usize) -> &'static str {
     if source.left().len() == size {
         "untouched"
     } else {
@@ -104,6 +113,40 @@ fn with_faults(row: &mut Row<'_>) -> Result<(), RowError> {
     let write = row.optional();
     let mut source = MemorySource::new(next_text(row), read, 40);
     said_of_run(row, &words, write, &mut source)
+}
+
+/// How the run of a word over a script ends where one read and one write fail, or none, and in brackets what it writes.
+fn one_fails(
+    row: &mut Row<'_>,
+    words: &[String],
+    text: &[u8],
+    read: Option<u64>,
+    write: Option<u64>,
+) -> Result<Status, RowError> {
+    let text = Vec::from_slice(row.alloc(), text)?;
+    let mut source = MemorySource::new(text, failing(row.alloc(), read)?, 40);
+    let mut sink = sink(row.alloc(), write)?;
+    let status = run(row.alloc(), words, &mut source, &mut sink);
+    row.debug(&status);
+    say_in_brackets(row, sink.written());
+    Ok(status)
+}
+
+/// The same for the read of each number, or for the write of each, up to the first run that is done.
+fn each_fails(row: &mut Row<'_>, reads: bool) -> Result<(), RowError> {
+    let words = words(row.alloc(), row.word())?;
+    let text = next_text(row);
+    for number in 0..1_000 {
+        let (read, write) = if reads {
+            (Some(number), None)
+        } else {
+            (None, Some(number))
+        };
+        if one_fails(row, &words, &text, read, write)? == Status::Done {
+            return Ok(());
+        }
+    }
+    Err(RowError::OutOfForm)
 }
 
 /// How the run of a word ends over octets without an end, and what it writes.

@@ -58,19 +58,29 @@ fn service(row: &mut Row<'_>) -> Result<ScriptService, RowError> {
     Ok(ScriptService::new(rules(row.alloc(), row.number())?))
 }
 
-/// A request in a datagram, with the message of the next word.
-fn request(row: &mut Row<'_>) -> Result<Request<()>, RowError> {
-    let message = Message::from_octets(row.vector()).or(Err(RowError::OutOfForm))?;
+/// A request in a datagram, with this message.
+fn request(alloc: Global, octets: Vec<u8>) -> Result<Request<()>, RowError> {
+    let message = Message::from_octets(octets).or(Err(RowError::OutOfForm))?;
     let transport = TransportSpecificContext::Udp(UdpTransportContext::new(None));
     let ip = IpAddr::V4([192, 0, 2, 1]);
     let sender = SocketAddr { ip, port: 5353 };
-    Ok(Request::new(row.alloc(), sender, 5, 100, message, transport, ())?)
+    Ok(Request::new(alloc, sender, 5, 100, message, transport, ())?)
 }
 
 /// What the stream of the service of one rule gives to a request at three polls.
 fn played(row: &mut Row<'_>) -> Result<(), RowError> {
     let service = service(row)?;
-    let mut future = called(row, &service)?;
+    let octets = row.vector();
+    three_answers(row, &service, octets)
+}
+
+/// What the stream of a service gives to a request at three polls.
+pub(crate) fn three_answers(
+    row: &mut Row<'_>,
+    service: &ScriptService,
+    octets: Vec<u8>,
+) -> Result<(), RowError> {
+    let mut future = called(row.alloc(), service, octets)?;
     match future.poll(row.alloc())? {
         Polled::Ready(mut stream) => three_polls(row, &mut stream),
         Polled::Pending => row.fail(RowError::Missing),
@@ -78,16 +88,21 @@ fn played(row: &mut Row<'_>) -> Result<(), RowError> {
     Ok(())
 }
 
-/// The future that the service gives to the request of the next word.
-fn called(row: &mut Row<'_>, service: &ScriptService) -> Result<ScriptFuture, RowError> {
-    let mut request = request(row)?;
-    Ok(service.call(row.alloc(), &mut request)?)
+/// The future that the service gives to a request.
+fn called(
+    alloc: Global,
+    service: &ScriptService,
+    octets: Vec<u8>,
+) -> Result<ScriptFuture, RowError> {
+    let mut request = request(alloc, octets)?;
+    Ok(service.call(alloc, &mut request)?)
 }
 
 /// What the same request gives at three polls, as a client's core keeps it.
 fn polled(row: &mut Row<'_>) -> Result<(), RowError> {
     let service = service(row)?;
-    let mut polled = PolledRequest::Future(called(row, &service)?);
+    let octets = row.vector();
+    let mut polled = PolledRequest::Future(called(row.alloc(), &service, octets)?);
     for _ in 0..3 {
         poll_said(row, polled.poll_next(row.alloc()));
     }
