@@ -13,9 +13,10 @@ HERE = os.path.dirname(os.path.realpath(__file__))
 # Each row from the top: its color, and its boxes, a crate or several and what they hold.
 ROWS = [
     ("#f6d6c4", [("nutscythe", "the program: main alone"), ("example_answer", "a small program over the libraries")]),
-    ("#f6d6c4", [("dns_server", "scripts, the lines written, run"), ("dns_outside", "sources, sinks, sockets")]),
-    ("#f8e7b9", [("dns_core", "all clients: serve_events"), ("dns_trace", "the lines of a script"), ("dns_book", "what servers share")]),
-    ("#f8e7b9", [("dns_client", "one client: frames, requests, queue"), ("dns_middleware", "the mandatory and the EDNS layer"), ("dns_route", "routers, single services")]),
+    ("#f6d6c4", [("dns_server", "scripts, the lines written, run, plans of a server")]),
+    ("#f6d6c4", [("dns_servers", "servers with controls"), ("dns_host", "accepts beside datagrams"), ("dns_drivers", "serve_connection, serve_datagrams")]),
+    ("#f8e7b9", [("dns_core", "all clients: serve_events"), ("dns_trace", "the lines of a script"), ("dns_book", "what servers share"), ("dns_outside", "sources, sinks, sockets")]),
+    ("#f8e7b9", [("dns_client", "one client: frames, requests, queue"), ("dns_middleware", "the four layers, as one"), ("dns_route", "routers, single services")]),
     ("#d7e8c8", [("dns_service", "requests, services, replies, events, outputs"), ("dns_stream", "polled streams"), ("dns_admission", "slots, configurations")]),
     ("#c9e2e6", [("dns_opt", "OPT records, read and built"), ("dns_options", "lists of options")]),
     ("#c9e2e6", [("dns_lists", "NSID, PADDING, KEY-TAG"), ("dns_algs", "DAU, DHU, N3U"), ("dns_kinds", "the other kinds"), ("dns_cookie", "server cookies")]),
