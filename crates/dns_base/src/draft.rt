@@ -1,6 +1,6 @@
 //! A message as it is being built.
 
-ghost use Rattle.std.specs.Prelude.{◌≡◌, ◌≤◌, ◌<◌, ◌+◌, ◌++◌, [], length, drop, take, min, IsTrue, IfOk, ◌↔◌};
+ghost use Rattle.std.specs.Prelude.{◌≡◌, ◌≤◌, ◌<◌, ◌+◌, ◌++◌, [], length, drop, take, replicate, min, IsTrue, IfOk, ◌↔◌};
 ghost use Rattle.dns_base.specs.Header.{header_octets, IsHeader};
 ghost use Rattle.dns_base.specs.Msg.{IsMessage, item_counts};
 ghost use Rattle.dns_base.specs.Wire.{wire};
@@ -110,12 +110,24 @@ impl Model for Draft {
     ghost invariant = { λ b. IsDraft b.octets.items b.limit × AreStarts b.starts (drop 2 b.octets.items) };
 }
 
+/// How many octets a draft has room for at first: those of a usual reply that is a header and one question.
+const ROOM: usize = 64;
+
+/// Two octets for a length, and a header of zeros.
+fn blank(alloc: Global) -> Result<Vec<u8>, OutOfMemory>
+    ensures { IfOk result (λ v. v.items ≡ replicate 14 0) }
+{
+    let mut octets = Vec::with_capacity(alloc, ROOM)?;
+    octets.extend_from_slice(&[0; 14])?;
+    Ok(octets)
+}
+
 impl Draft {
     /// The empty message with a zero header.
     pub(crate) fn new(alloc: Global) -> Result<Draft, OutOfMemory>
         ensures { IfOk result (λ b. b ≡ record { message = empty; limit = 65535 }) }
     {
-        let octets = Vec::from_slice(alloc, &[0; 14])?;
+        let octets = blank(alloc)?;
         Ok(Draft {
             octets,
             starts: Starts::all(12),

@@ -7,8 +7,8 @@ use Rattle.dns_base.proofs.draft.Draft.new.Goals as goal
 pub invariant_of-result : goal.invariant_of-result
 invariant_of-result c =
     let o = c.in_ok-octets.octets.items in
-    let k = new_drafted o c.in_ok-octets.ensures.items in
-    (k.0, starts_all o 65535 12 (built empty 65535) c.all.result k.0 k.1 (record { answers = refl; authority = refl; additional = refl }) (omega (arith, ap length c.in_ok-octets.ensures.items)) c.all.ensures)
+    let k = new_drafted o c.in_ok-octets.ensures in
+    (k.0, starts_all o 65535 12 (built empty 65535) c.all.result k.0 k.1 (record { answers = refl; authority = refl; additional = refl }) (omega (arith, ap length c.in_ok-octets.ensures)) c.all.ensures)
 
 pub returns : goal.returns
-returns c = (new_drafted c.in_ok-octets.octets.items c.in_ok-octets.ensures.items).1
+returns c = (new_drafted c.in_ok-octets.octets.items c.in_ok-octets.ensures).1
