@@ -5,6 +5,7 @@ pub mod Mail
 pub mod Memory
 pub mod MemoryForms
 pub mod Moves
+pub mod Passing
 pub mod Standard
 pub mod Starts
 pub mod StdAddresses

@@ -111,10 +111,3 @@ last_reading l = get_or l (length l - 1) (0, 0)
 -- its readings so far: those listed, and then the last of them again and again
 abbrev pub readings_of : Dial → List (ℕ × ℕ)
 readings_of d = take d.given d.listed ++ replicate (d.given - length d.listed) (last_reading d.listed)
-
--- a spawner that keeps the addresses of its works
-pub record Roster : Type 0 where
-  pub given : List SocketAddr  -- the addresses of the works
-  pub failing : List ℕ  -- the numbers of the starts that fail, from 0
-  pub calls : ℕ  -- the starts so far
-  pub faults : ℕ  -- the refused ones among them

@@ -18,6 +18,7 @@ mod mio_accept;
 mod mio_addr;
 mod mio_link;
 mod mio_sock;
+mod pile;
 mod sink;
 mod sock;
 mod source;
@@ -27,7 +28,9 @@ mod steady;
 mod steady_accept;
 mod steady_link;
 mod steady_sock;
+mod tape;
 mod thread_spawner;
+mod waiting;
 mod work;
 
 pub use accept::{AcceptAnswer, AsyncAccept};

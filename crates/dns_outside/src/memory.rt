@@ -8,26 +8,23 @@ ghost use Rattle.dns_outside.specs.Memory.{Supplies, Stores, next};
 use crate::listed_calls::FailingCalls;
 use crate::sink::{Sink, SinkWrite};
 use crate::source::{Source, SourceRead};
+use crate::tape::Tape;
 use std::marker::Model;
 
 /// A source over a vector, which tells what is left. The calls whose numbers are listed fail, and no others.
 #[derive(Drop)]
 pub struct MemorySource {
-    octets: Vec<u8>,
-    place: usize,
+    octets: Tape,
     most: usize,
     calls: FailingCalls,
 }
 
 impl Model for MemorySource {
-    ghost use Rattle.std.specs.Prelude.{◌≤◌, drop, length};
     ghost use Rattle.dns_outside.specs.Memory.{Supply};
 
     ghost Value = { Supply };
 
-    ghost view = { λ s. record { left = drop s.place s.octets.items; most = s.most; failing = s.calls.listed.items; calls = s.calls.made; faults = s.calls.faults } };
-
-    ghost invariant = { λ s. s.place ≤ length s.octets.items };
+    ghost view = { λ s. record { left = s.octets.left; most = s.most; failing = s.calls.listed.items; calls = s.calls.made; faults = s.calls.faults } };
 }
 
 impl MemorySource {
@@ -37,8 +34,7 @@ impl MemorySource {
         ensures { result ≡ record { left = octets.items; most = most; failing = failing.items; calls = 0; faults = 0 } }
     {
         MemorySource {
-            octets,
-            place: 0,
+            octets: Tape::new(octets),
             most,
             calls: FailingCalls::of(failing),
         }
@@ -48,7 +44,7 @@ impl MemorySource {
     pub fn left(&self) -> &[u8]
         ensures { result.now ≡ self.now.left }
     {
-        &self.octets[self.place..]
+        self.octets.left()
     }
 }
 
@@ -72,14 +68,10 @@ impl Source for MemorySource {
         if self.calls.fails() {
             return SourceRead::Failed;
         }
-        let left = self.octets.len() - self.place;
-        if left == 0 {
-            return SourceRead::End;
+        match self.octets.read(buf, self.most.max(1)) {
+            Some(count) => SourceRead::Got(count),
+            None => SourceRead::End,
         }
-        let count = left.min(buf.len()).min(self.most.max(1));
-        buf[..count].copy_from_slice(&self.octets[self.place..self.place + count]);
-        self.place += count;
-        SourceRead::Got(count)
     }
 }
 

@@ -7,6 +7,7 @@ ghost use Rattle.dns_outside.specs.MemoryForms.{traffic_of, CableTells, CableRea
 
 use crate::link::{Link, LinkRead, LinkWrite};
 use crate::listed_calls::{Course, ListedCalls};
+use crate::tape::Tape;
 use std::marker::Model;
 use std::sync::Wait;
 
@@ -14,8 +15,7 @@ use std::sync::Wait;
 /// apart, and of each the listed calls fail or answer Again; a write for which there is no memory fails too.
 #[derive(Drop)]
 pub struct MemoryLink {
-    input: Vec<u8>,
-    place: usize,
+    input: Tape,
     output: Vec<u8>,
     most: usize,
     ends: u64,
@@ -24,14 +24,11 @@ pub struct MemoryLink {
 }
 
 impl Model for MemoryLink {
-    ghost use Rattle.std.specs.Prelude.{◌≤◌, take, drop, length};
     ghost use Rattle.dns_outside.specs.MemoryForms.{Cable};
 
     ghost Value = { Cable };
 
-    ghost view = { λ s. record { left = drop s.place s.input.items; came = take s.place s.input.items; went = s.output.items; most = s.most; ends = s.ends; reads = s.reads; writes = s.writes } };
-
-    ghost invariant = { λ s. s.place ≤ length s.input.items };
+    ghost view = { λ s. record { left = s.input.left; came = s.input.came; went = s.output.items; most = s.most; ends = s.ends; reads = s.reads; writes = s.writes } };
 }
 
 impl MemoryLink {
@@ -47,8 +44,7 @@ impl MemoryLink {
         ensures { result ≡ record { left = input.items; came = []; went = output.items; most = most; ends = 0; reads = reads; writes = writes } }
     {
         MemoryLink {
-            input,
-            place: 0,
+            input: Tape::new(input),
             output,
             most,
             ends: 0,
@@ -88,15 +84,13 @@ impl Link for MemoryLink {
             Course::Again => return LinkRead::Again,
             Course::CarriedOut => {}
         }
-        let left = self.input.len() - self.place;
-        if left == 0 {
-            self.ends = self.ends.saturating_add(1);
-            return LinkRead::End;
+        match self.input.read(buf, self.most.max(1)) {
+            Some(count) => LinkRead::Got(count),
+            None => {
+                self.ends = self.ends.saturating_add(1);
+                LinkRead::End
+            }
         }
-        let count = left.min(buf.len()).min(self.most.max(1));
-        buf[..count].copy_from_slice(&self.input[self.place..self.place + count]);
-        self.place += count;
-        LinkRead::Got(count)
     }
 
     fn write(&mut self, piece: &[u8]) -> LinkWrite

@@ -6,8 +6,9 @@ ghost use Rattle.dns_outside.specs.Mail.{RecvMoves, RecvBound, RecvCause, SendMo
 ghost use Rattle.dns_outside.specs.MemoryForms.{mail_of, TrayTells, TrayReceives, TraySends};
 
 use crate::listed_calls::{Course, ListedCalls};
+use crate::pile::{Pile, keep_sent};
 use crate::sock::{AsyncDgramSock, DgramRecv, DgramSend, Letter};
-use dns_name::{Octets, SocketAddr};
+use dns_name::SocketAddr;
 use std::alloc::Global;
 use std::marker::Model;
 use std::sync::Wait;
@@ -18,22 +19,18 @@ use std::sync::Wait;
 #[derive(Drop)]
 pub struct MemorySock {
     alloc: Global,
-    incoming: Vec<Letter>,
-    place: usize,
+    incoming: Pile,
     outgoing: Vec<Letter>,
     receives: ListedCalls,
     sends: ListedCalls,
 }
 
 impl Model for MemorySock {
-    ghost use Rattle.std.specs.Prelude.{◌≤◌, take, drop, length};
     ghost use Rattle.dns_outside.specs.MemoryForms.{Tray};
 
     ghost Value = { Tray };
 
-    ghost view = { λ s. record { left = drop s.place s.incoming.items; received = take s.place s.incoming.items; sent = s.outgoing.items; receives = s.receives; sends = s.sends } };
-
-    ghost invariant = { λ s. s.place ≤ length s.incoming.items };
+    ghost view = { λ s. record { left = s.incoming.left; received = s.incoming.came; sent = s.outgoing.items; receives = s.receives; sends = s.sends } };
 }
 
 impl MemorySock {
@@ -48,8 +45,7 @@ impl MemorySock {
     {
         MemorySock {
             alloc,
-            incoming,
-            place: 0,
+            incoming: Pile::new(incoming),
             outgoing: Vec::new(alloc),
             receives,
             sends,
@@ -88,16 +84,13 @@ impl AsyncDgramSock for MemorySock {
             Course::Again => return DgramSend::Again,
             Course::CarriedOut => {}
         }
-        if let Ok(copy) = Octets::from_slice(self.alloc, octets)
-            && let Ok(()) = self.outgoing.push(Letter {
-                octets: copy,
-                addr: to,
-            })
-        {
-            return DgramSend::Took(octets.len());
+        match keep_sent(self.alloc, &mut self.outgoing, octets, to) {
+            Ok(()) => DgramSend::Took(octets.len()),
+            Err(_) => {
+                self.sends.fault();
+                DgramSend::Failed
+            }
         }
-        self.sends.fault();
-        DgramSend::Failed
     }
 
     fn readable<R: Wait>(&mut self, _rt: &R, _millis: u64) {}
@@ -116,16 +109,12 @@ impl AsyncDgramSock for MemorySock {
             Course::Again => return DgramRecv::Again,
             Course::CarriedOut => {}
         }
-        if self.place >= self.incoming.len() {
-            self.receives.answer_again();
-            return DgramRecv::Again;
+        match self.incoming.receive(buf) {
+            Some((count, from)) => DgramRecv::Got(count, from),
+            None => {
+                self.receives.answer_again();
+                DgramRecv::Again
+            }
         }
-        let letter = &self.incoming[self.place];
-        let octets = letter.octets.as_slice();
-        let count = octets.len().min(buf.len());
-        buf[..count].copy_from_slice(&octets[..count]);
-        let from = letter.addr;
-        self.place += 1;
-        DgramRecv::Got(count, from)
     }
 }

@@ -1,19 +1,20 @@
 //! A TCP listener over `mio`.
 
-ghost use Rattle.std.specs.Prelude.{◌≡◌, [], IfOk};
+ghost use Rattle.std.specs.Prelude.{◌≡◌, ◌≤◌, [], IfOk};
+ghost use Rattle.dns_outside.specs.Doors.{AcceptCause};
 
 use crate::accept::{AcceptAnswer, AsyncAccept};
 use crate::mio_addr::{from_std, to_std};
 use crate::mio_link::MioLink;
+use crate::waiting::Waiting;
 use dns_name::SocketAddr;
-use mio::net::TcpListener;
-use mio::{Events, Interest, Poll, Token};
+use mio::Interest;
+use mio::net::{TcpListener, TcpStream};
 use std::alloc::Global;
 use std::io;
 use std::io::ErrorKind;
 use std::net::Net;
 use std::sync::Wait;
-use std::time::Duration;
 
 /// A TCP listener, which tells nothing and counts its failed calls. A connection of which no link can be made is closed,
 /// and the call fails.
@@ -22,8 +23,7 @@ pub struct MioAccept<N: Net> {
     net: N,
     alloc: Global,
     listener: TcpListener,
-    poll: Poll,
-    events: Events,
+    waiting: Waiting,
     faults: u64,
 }
 
@@ -32,24 +32,46 @@ impl<N: Net + Drop> MioAccept<N> {
     pub fn bind(net: N, alloc: Global, addr: SocketAddr) -> io::Result<MioAccept<N>>
         ensures { IfOk result (λ accept. ⟦<MioAccept<N> as AsyncAccept>⟧.faults accept ≡ 0) }
     {
-        let mut listener = TcpListener::bind(&net, to_std(addr))?;
-        let poll = Poll::new(&net)?;
-        let events = Events::with_capacity(alloc, 1)?;
-        poll.registry()
-            .register(&mut listener, Token(0), Interest::READABLE)?;
-        Ok(MioAccept {
-            net,
-            alloc,
-            listener,
-            poll,
-            events,
-            faults: 0,
-        })
+        match TcpListener::bind(&net, to_std(addr)) {
+            Ok(listener) => MioAccept::over(net, alloc, listener),
+            Err(error) => Err(error),
+        }
+    }
+
+    fn over(net: N, alloc: Global, mut listener: TcpListener) -> io::Result<MioAccept<N>>
+        ensures { IfOk result (λ accept. ⟦<MioAccept<N> as AsyncAccept>⟧.faults accept ≡ 0) }
+    {
+        match Waiting::on(&net, alloc, &mut listener, Interest::READABLE) {
+            Ok(waiting) => Ok(MioAccept {
+                net,
+                alloc,
+                listener,
+                waiting,
+                faults: 0,
+            }),
+            Err(error) => Err(error),
+        }
     }
 
     /// The listener's own address.
     pub fn local_addr(&self) -> io::Result<SocketAddr> {
         Ok(from_std(self.listener.local_addr()?))
+    }
+}
+
+impl<N: Net> MioAccept<N> {
+    /// A connection over a stream, unless no link can be made of it.
+    fn linked(&mut self, stream: TcpStream, from: SocketAddr) -> AcceptAnswer<MioLink>
+        ensures later { self.old.faults ≤ self.new.faults }
+        ensures cause { AcceptCause result self.old.faults self.new.faults }
+    {
+        match MioLink::new(&self.net, self.alloc, stream) {
+            Ok(link) => AcceptAnswer::Accepted(link, from),
+            Err(_) => {
+                self.faults = self.faults.saturating_add(1);
+                AcceptAnswer::Failed
+            }
+        }
     }
 }
 
@@ -64,13 +86,7 @@ impl<N: Net> AsyncAccept for MioAccept<N> {
 
     fn poll_accept(&mut self) -> AcceptAnswer<MioLink> {
         match self.listener.accept() {
-            Ok((stream, from)) => match MioLink::new(&self.net, self.alloc, stream) {
-                Ok(link) => AcceptAnswer::Accepted(link, from_std(from)),
-                Err(_) => {
-                    self.faults = self.faults.saturating_add(1);
-                    AcceptAnswer::Failed
-                }
-            },
+            Ok((stream, from)) => self.linked(stream, from_std(from)),
             Err(error) if error.kind() == ErrorKind::WouldBlock => AcceptAnswer::Again,
             Err(_) => {
                 self.faults = self.faults.saturating_add(1);
@@ -79,9 +95,7 @@ impl<N: Net> AsyncAccept for MioAccept<N> {
         }
     }
 
-    fn wait<R: Wait>(&mut self, _rt: &R, millis: u64) {
-        let _ = self
-            .poll
-            .poll(&mut self.events, Some(Duration::from_millis(millis)));
+    fn wait<R: Wait>(&mut self, rt: &R, millis: u64) {
+        self.waiting.wait(rt, millis);
     }
 }

@@ -3,22 +3,21 @@
 ghost use Rattle.std.specs.Prelude.{◌≡◌, [], IfOk};
 
 use crate::link::{Link, LinkRead, LinkWrite};
+use crate::waiting::Waiting;
+use mio::Interest;
 use mio::net::TcpStream;
-use mio::{Events, Interest, Poll, Token};
 use std::alloc::Global;
 use std::io;
 use std::io::{ErrorKind, Read, Write};
 use std::net::{Net, Shutdown};
 use std::sync::Wait;
-use std::time::Duration;
 
 /// A TCP connection, which tells nothing and counts its failed calls. An error of the stream is a failed call, also
 /// `ErrorKind::Interrupted`, and so is a write that takes nothing of a piece that is not empty.
 #[derive(Drop)]
 pub struct MioLink {
     stream: TcpStream,
-    poll: Poll,
-    events: Events,
+    waiting: Waiting,
     faults: u64,
 }
 
@@ -28,19 +27,15 @@ impl MioLink {
         ensures { IfOk result (λ link. ⟦<MioLink as Link>⟧.faults link ≡ 0) }
     {
         stream.set_nodelay(true)?;
-        let poll = Poll::new(net)?;
-        let events = Events::with_capacity(alloc, 1)?;
-        poll.registry().register(
-            &mut stream,
-            Token(0),
-            Interest::READABLE | Interest::WRITABLE,
-        )?;
-        Ok(MioLink {
-            stream,
-            poll,
-            events,
-            faults: 0,
-        })
+        let interests = Interest::READABLE | Interest::WRITABLE;
+        match Waiting::on(net, alloc, &mut stream, interests) {
+            Ok(waiting) => Ok(MioLink {
+                stream,
+                waiting,
+                faults: 0,
+            }),
+            Err(error) => Err(error),
+        }
     }
 }
 
@@ -74,10 +69,8 @@ impl Link for MioLink {
         }
     }
 
-    fn wait<R: Wait>(&mut self, _rt: &R, millis: u64) {
-        let _ = self
-            .poll
-            .poll(&mut self.events, Some(Duration::from_millis(millis)));
+    fn wait<R: Wait>(&mut self, rt: &R, millis: u64) {
+        self.waiting.wait(rt, millis);
     }
 
     fn close(&mut self) {

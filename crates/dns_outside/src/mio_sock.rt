@@ -4,22 +4,21 @@ ghost use Rattle.std.specs.Prelude.{◌≡◌, [], IfOk};
 
 use crate::mio_addr::{from_std, to_std};
 use crate::sock::{AsyncDgramSock, DgramRecv, DgramSend};
+use crate::waiting::Waiting;
 use dns_name::SocketAddr;
+use mio::Interest;
 use mio::net::UdpSocket;
-use mio::{Events, Interest, Poll, Token};
 use std::alloc::Global;
 use std::io;
 use std::io::ErrorKind;
 use std::net::Net;
 use std::sync::Wait;
-use std::time::Duration;
 
 /// A UDP socket, which tells nothing and counts its failed calls. A send of less than the datagram is a failed call.
 #[derive(Drop)]
 pub struct MioSock {
     socket: UdpSocket,
-    poll: Poll,
-    events: Events,
+    waiting: Waiting,
     failed_receives: u64,
     failed_sends: u64,
 }
@@ -31,20 +30,16 @@ impl MioSock {
         ensures sends { IfOk result (λ sock. ⟦<MioSock as AsyncDgramSock>⟧.failed_sends sock ≡ 0) }
     {
         let mut socket = UdpSocket::bind(net, to_std(addr))?;
-        let poll = Poll::new(net)?;
-        let events = Events::with_capacity(alloc, 1)?;
-        poll.registry().register(
-            &mut socket,
-            Token(0),
-            Interest::READABLE | Interest::WRITABLE,
-        )?;
-        Ok(MioSock {
-            socket,
-            poll,
-            events,
-            failed_receives: 0,
-            failed_sends: 0,
-        })
+        let interests = Interest::READABLE | Interest::WRITABLE;
+        match Waiting::on(net, alloc, &mut socket, interests) {
+            Ok(waiting) => Ok(MioSock {
+                socket,
+                waiting,
+                failed_receives: 0,
+                failed_sends: 0,
+            }),
+            Err(error) => Err(error),
+        }
     }
 
     /// The socket's own address.
@@ -73,10 +68,8 @@ impl AsyncDgramSock for MioSock {
         }
     }
 
-    fn readable<R: Wait>(&mut self, _rt: &R, millis: u64) {
-        let _ = self
-            .poll
-            .poll(&mut self.events, Some(Duration::from_millis(millis)));
+    fn readable<R: Wait>(&mut self, rt: &R, millis: u64) {
+        self.waiting.wait(rt, millis);
     }
 
     fn try_recv_buf_from(&mut self, buf: &mut [u8]) -> DgramRecv {

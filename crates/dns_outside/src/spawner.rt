@@ -85,26 +85,15 @@ pub trait Spawner<W: Work> {
         self.join_ended(rt);
         self.join_ended(rt);
         match self.permit(work.client_addr()) {
-            Err(_) => {
+            Err(error) => {
                 work.give_up(rt);
-                Err(OutOfMemory)
+                Err(error)
             }
             Ok(false) => {
                 work.give_up(rt);
                 Ok(Start::Failed)
             }
-            Ok(true) => match start_work(rt, alloc, work)? {
-                None => {
-                    self.refuse();
-                    Ok(Start::Failed)
-                }
-                Some(thread) => {
-                    if let Some(thread) = self.keep(thread) {
-                        let _ = thread.join(rt);
-                    }
-                    Ok(Start::Started)
-                }
-            },
+            Ok(true) => start_permitted(self, rt, alloc, work),
         }
     }
 
@@ -114,10 +103,61 @@ pub trait Spawner<W: Work> {
         ensures same { faults self.new ≡ faults self.old }
     {
         for _ in rt.forever() {
-            let Some(thread) = self.next() else {
+            if !join_next(self, rt) {
                 break;
-            };
-            let _ = thread.join(rt);
+            }
         }
     }
+}
+
+/// Waits for the end of a kept thread, and says whether there was one.
+fn join_next<W: Work, S: Spawner<W>, R: Threads>(spawner: &mut S, rt: &R) -> bool
+    ensures given { Tells (S.tells spawner.new) (S.tells spawner.old) (S.given spawner.new ≡ S.given spawner.old) }
+    ensures same { S.faults spawner.new ≡ S.faults spawner.old }
+{
+    match spawner.next() {
+        Some(thread) => {
+            let _ = thread.join(rt);
+            true
+        }
+        None => false,
+    }
+}
+
+/// Starts the work in a thread, which there is leave for.
+fn start_permitted<W: Work, S: Spawner<W>, R: Threads + Wait + Copy + Send + 'static>(
+    spawner: &mut S,
+    rt: &R,
+    alloc: Global,
+    work: W,
+) -> Result<Start, OutOfMemory>
+    requires { W.ready work }
+    ensures given { Tells (S.tells spawner.new) (S.tells spawner.old) (S.given spawner.new ≡ S.given spawner.old) }
+    ensures later { S.faults spawner.old ≤ S.faults spawner.new }
+    ensures cause { StartCause result (S.faults spawner.old) (S.faults spawner.new) }
+{
+    match start_work(rt, alloc, work) {
+        Ok(started) => Ok(keep_started(spawner, rt, started)),
+        Err(error) => Err(error),
+    }
+}
+
+/// Keeps a thread that was started, or joins it where it can't be kept, and counts one that could not be made.
+fn keep_started<W: Work, S: Spawner<W>, R: Threads>(
+    spawner: &mut S,
+    rt: &R,
+    started: Option<Started<W::Done>>,
+) -> Start
+    ensures given { Tells (S.tells spawner.new) (S.tells spawner.old) (S.given spawner.new ≡ S.given spawner.old) }
+    ensures later { S.faults spawner.old ≤ S.faults spawner.new }
+    ensures cause { StartCause (Ok result) (S.faults spawner.old) (S.faults spawner.new) }
+{
+    let Some(thread) = started else {
+        spawner.refuse();
+        return Start::Failed;
+    };
+    if let Some(thread) = spawner.keep(thread) {
+        let _ = thread.join(rt);
+    }
+    Start::Started
 }

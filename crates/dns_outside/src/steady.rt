@@ -4,37 +4,37 @@ ghost use Rattle.std.specs.Prelude.{◌≡◌, ◌≤◌, ◌↔◌, length, [],
 
 use crate::sink::{Sink, SinkWrite};
 use crate::source::{Source, SourceRead};
+use crate::tape::Tape;
 use std::marker::Model;
 
 /// A source over a vector, which tells what is left. No call fails, so its count of faults is 0 for ever.
 #[derive(Drop)]
 pub struct SteadySource {
-    octets: Vec<u8>,
-    place: usize,
+    octets: Tape,
 }
 
 impl Model for SteadySource {
-    ghost use Rattle.std.specs.Prelude.{◌≤◌, ℕ, List, drop, length};
+    ghost use Rattle.std.specs.Prelude.{ℕ, List};
 
     ghost Value = { List ℕ };
 
-    ghost view = { λ s. drop s.place s.octets.items };
-
-    ghost invariant = { λ s. s.place ≤ length s.octets.items };
+    ghost view = { λ s. s.octets.left };
 }
 
 impl SteadySource {
     pub fn new(octets: Vec<u8>) -> SteadySource
         ensures { result ≡ octets.items }
     {
-        SteadySource { octets, place: 0 }
+        SteadySource {
+            octets: Tape::new(octets),
+        }
     }
 
     /// The octets left.
     pub fn left(&self) -> &[u8]
         ensures { result.now ≡ self.now }
     {
-        &self.octets[self.place..]
+        self.octets.left()
     }
 }
 
@@ -46,14 +46,10 @@ impl Source for SteadySource {
     ghost faults = { λ _. 0 };
 
     fn read(&mut self, buf: &mut [u8]) -> SourceRead {
-        let left = self.octets.len() - self.place;
-        if left == 0 {
-            return SourceRead::End;
+        match self.octets.read(buf, usize::MAX) {
+            Some(count) => SourceRead::Got(count),
+            None => SourceRead::End,
         }
-        let count = left.min(buf.len());
-        buf[..count].copy_from_slice(&self.octets[self.place..self.place + count]);
-        self.place += count;
-        SourceRead::Got(count)
     }
 }
 

@@ -3,6 +3,7 @@
 ghost use Rattle.std.specs.Prelude.{◌≡◌, ◌≤◌, [], true};
 
 use crate::link::{Link, LinkRead, LinkWrite};
+use crate::tape::Tape;
 use std::marker::Model;
 use std::sync::Wait;
 
@@ -10,22 +11,18 @@ use std::sync::Wait;
 /// went as long as there is memory for it and it can count its ends: afterwards it takes octets and tells nothing.
 #[derive(Drop)]
 pub struct SteadyLink {
-    input: Vec<u8>,
-    place: usize,
+    input: Tape,
     output: Vec<u8>,
     whole: bool,
     ends: u64,
 }
 
 impl Model for SteadyLink {
-    ghost use Rattle.std.specs.Prelude.{◌≤◌, take, drop, length};
     ghost use Rattle.dns_outside.specs.SteadyForms.{SteadyCable};
 
     ghost Value = { SteadyCable };
 
-    ghost view = { λ s. record { left = drop s.place s.input.items; came = take s.place s.input.items; went = s.output.items; whole = s.whole; ends = s.ends } };
-
-    ghost invariant = { λ s. s.place ≤ length s.input.items };
+    ghost view = { λ s. record { left = s.input.left; came = s.input.came; went = s.output.items; whole = s.whole; ends = s.ends } };
 }
 
 impl SteadyLink {
@@ -34,8 +31,7 @@ impl SteadyLink {
         ensures { result ≡ record { left = input.items; came = []; went = output.items; whole = true; ends = 0 } }
     {
         SteadyLink {
-            input,
-            place: 0,
+            input: Tape::new(input),
             output,
             whole: true,
             ends: 0,
@@ -60,15 +56,13 @@ impl Link for SteadyLink {
     ghost faults = { λ _. 0 };
 
     fn read(&mut self, buf: &mut [u8]) -> LinkRead {
-        let left = self.input.len() - self.place;
-        if left == 0 {
-            self.ends = self.ends.saturating_add(1);
-            return LinkRead::End;
+        match self.input.read(buf, usize::MAX) {
+            Some(count) => LinkRead::Got(count),
+            None => {
+                self.ends = self.ends.saturating_add(1);
+                LinkRead::End
+            }
         }
-        let count = left.min(buf.len());
-        buf[..count].copy_from_slice(&self.input[self.place..self.place + count]);
-        self.place += count;
-        LinkRead::Got(count)
     }
 
     fn write(&mut self, piece: &[u8]) -> LinkWrite {

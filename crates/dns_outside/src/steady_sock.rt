@@ -2,8 +2,9 @@
 
 ghost use Rattle.std.specs.Prelude.{◌≡◌, ◌≤◌, [], true};
 
+use crate::pile::{Pile, keep_sent};
 use crate::sock::{AsyncDgramSock, DgramRecv, DgramSend, Letter};
-use dns_name::{Octets, SocketAddr};
+use dns_name::SocketAddr;
 use std::alloc::Global;
 use std::marker::Model;
 use std::sync::Wait;
@@ -14,22 +15,18 @@ use std::sync::Wait;
 #[derive(Drop)]
 pub struct SteadySock {
     alloc: Global,
-    incoming: Vec<Letter>,
-    place: usize,
+    incoming: Pile,
     outgoing: Vec<Letter>,
     whole: bool,
     empty_receives: u64,
 }
 
 impl Model for SteadySock {
-    ghost use Rattle.std.specs.Prelude.{◌≤◌, take, drop, length};
     ghost use Rattle.dns_outside.specs.SteadyForms.{SteadyTray};
 
     ghost Value = { SteadyTray };
 
-    ghost view = { λ s. record { left = drop s.place s.incoming.items; received = take s.place s.incoming.items; sent = s.outgoing.items; whole = s.whole; empty_receives = s.empty_receives } };
-
-    ghost invariant = { λ s. s.place ≤ length s.incoming.items };
+    ghost view = { λ s. record { left = s.incoming.left; received = s.incoming.came; sent = s.outgoing.items; whole = s.whole; empty_receives = s.empty_receives } };
 }
 
 impl SteadySock {
@@ -39,8 +36,7 @@ impl SteadySock {
     {
         SteadySock {
             alloc,
-            incoming,
-            place: 0,
+            incoming: Pile::new(incoming),
             outgoing: Vec::new(alloc),
             whole: true,
             empty_receives: 0,
@@ -67,31 +63,21 @@ impl AsyncDgramSock for SteadySock {
     ghost failed_sends = { λ _. 0 };
 
     fn poll_send_to(&mut self, octets: &[u8], to: SocketAddr) -> DgramSend {
-        if let Ok(copy) = Octets::from_slice(self.alloc, octets)
-            && let Ok(()) = self.outgoing.push(Letter {
-                octets: copy,
-                addr: to,
-            })
-        {
-            return DgramSend::Took(octets.len());
+        if keep_sent(self.alloc, &mut self.outgoing, octets, to).is_err() {
+            self.whole = false;
         }
-        self.whole = false;
         DgramSend::Took(octets.len())
     }
 
     fn readable<R: Wait>(&mut self, _rt: &R, _millis: u64) {}
 
     fn try_recv_buf_from(&mut self, buf: &mut [u8]) -> DgramRecv {
-        if self.place >= self.incoming.len() {
-            self.empty_receives = self.empty_receives.saturating_add(1);
-            return DgramRecv::Again;
+        match self.incoming.receive(buf) {
+            Some((count, from)) => DgramRecv::Got(count, from),
+            None => {
+                self.empty_receives = self.empty_receives.saturating_add(1);
+                DgramRecv::Again
+            }
         }
-        let letter = &self.incoming[self.place];
-        let octets = letter.octets.as_slice();
-        let count = octets.len().min(buf.len());
-        buf[..count].copy_from_slice(&octets[..count]);
-        let from = letter.addr;
-        self.place += 1;
-        DgramRecv::Got(count, from)
     }
 }

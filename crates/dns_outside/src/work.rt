@@ -45,6 +45,17 @@ struct Flags {
     ended: AtomicBool,
 }
 
+/// Flags that say nothing yet, for both.
+fn shared_flags(alloc: Global) -> Result<(Arc<Flags>, Arc<Flags>), OutOfMemory> {
+    let both = Flags {
+        refused: AtomicBool::new(false),
+        ended: AtomicBool::new(false),
+    };
+    let flags = Arc::new(alloc, both)?;
+    let theirs = Arc::try_clone(&flags)?;
+    Ok((flags, theirs))
+}
+
 /// A thread that was started for work.
 #[derive(Drop)]
 pub struct Started<D: Drop> {
@@ -74,18 +85,25 @@ pub fn start_work<R: Threads + Wait + Copy + Send + 'static, W: Work>(
 ) -> Result<Option<Started<W::Done>>, OutOfMemory>
     requires { W.ready work }
 {
-    let both = Flags {
-        refused: AtomicBool::new(false),
-        ended: AtomicBool::new(false),
-    };
-    let Ok(flags) = Arc::new(alloc, both) else {
-        work.give_up(rt);
-        return Err(OutOfMemory);
-    };
-    let Ok(theirs) = Arc::try_clone(&flags) else {
-        work.give_up(rt);
-        return Err(OutOfMemory);
-    };
+    match shared_flags(alloc) {
+        Ok((flags, theirs)) => Ok(in_thread(rt, alloc, work, flags, theirs)),
+        Err(_) => {
+            work.give_up(rt);
+            Err(OutOfMemory)
+        }
+    }
+}
+
+/// Starts the work in a thread, which has these flags too, or gives it up where no thread can be made.
+fn in_thread<R: Threads + Wait + Copy + Send + 'static, W: Work>(
+    rt: &R,
+    alloc: Global,
+    work: W,
+    flags: Arc<Flags>,
+    theirs: Arc<Flags>,
+) -> Option<Started<W::Done>>
+    requires { W.ready work }
+{
     let mine = *rt;
     let body = move || -> Option<W::Done>
         requires { W.ready work }
@@ -99,11 +117,11 @@ pub fn start_work<R: Threads + Wait + Copy + Send + 'static, W: Work>(
         Some(done)
     };
     match thread::spawn(rt, body) {
-        Ok(handle) => Ok(Some(Started { handle, flags })),
+        Ok(handle) => Some(Started { handle, flags }),
         Err(refused) => {
             flags.refused.store(true, Ordering::SeqCst);
             let _ = (refused.value)();
-            Ok(None)
+            None
         }
     }
 }
