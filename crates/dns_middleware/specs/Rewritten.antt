@@ -3,7 +3,6 @@ use Rattle.std.specs.Prelude.{ℕ, Some, None, option_map, Ok, Err}
 use Rattle.dns_base.specs.Msg.{Msg}
 use Rattle.dns_service.specs.Answer.{Item, Answer}
 use Rattle.dns_service.specs.Once.{once}
-use Rattle.dns_stream.specs.Streams.{each_mapped}
 
 -- an item that is a reply and nothing else
 abbrev pub reply : Msg → Item
@@ -17,7 +16,3 @@ rewritten f (Err error) = Err error
 -- a layer's own reply: the item at answer 0, the end from answer 1
 abbrev pub own_reply : Msg → ℕ → Answer
 own_reply m = once (reply m)
-
--- answers whose replies are rewritten
-abbrev pub each_rewritten : (Msg → Msg) → (ℕ → Answer) → ℕ → Answer
-each_rewritten f answer = each_mapped (rewritten f) answer

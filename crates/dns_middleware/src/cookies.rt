@@ -8,9 +8,10 @@ ghost use Rattle.dns_middleware.specs.Cookies.{cookie_own, cookies, cookies_hint
 
 use crate::cookie_replies::cookie_own;
 use crate::layered::{of_inner, of_own};
+use crate::refusal::read_request;
 use dns_base::{AdditionalBuilder, Addrs};
 use dns_name::IpAddr;
-use dns_service::{ReplyFuture, Request, Service, read_asked};
+use dns_service::{ReplyFuture, Request, Service};
 use dns_stream::{MiddlewareStream, Now, Once, OutOfMemory};
 use std::alloc::Global;
 
@@ -78,7 +79,7 @@ impl<S> CookiesMiddlewareSvc<S> {
     ) -> Result<Option<AdditionalBuilder>, OutOfMemory>
         ensures { IfOk result (λ own. message_in own ≡ cookie_own (secret_where self.now.enabled self.now.secret) self.now.denied request.now) }
     {
-        let asked = read_asked(request.message());
+        let asked = read_request(request);
         let secret = self.secret();
         cookie_own(alloc, secret, self.denied.as_slice(), request, &asked)
     }

@@ -13,8 +13,9 @@ ghost use Rattle.dns_middleware.specs.Rewritten.{own_reply, rewritten};
 use crate::edns_post::EdnsPost;
 use crate::layered::{Layered, of_inner, of_mapped, of_own, refuse};
 use crate::passing::call_passed;
+use crate::refusal::read_request;
 use dns_name::OptRcode;
-use dns_service::{Asked, AskedOpt, AskedRecord, ReplyFuture, Request, Service, read_asked};
+use dns_service::{Asked, AskedOpt, AskedRecord, ReplyFuture, Request, Service};
 use dns_stream::{Now, OutOfMemory};
 use std::alloc::Global;
 
@@ -85,7 +86,7 @@ fn spoken<S: Service<Meta>, Meta>(
     ensures kept { OnOk result (request.new ≡ record request.old { transport = hinted (edns_hint true request.old) request.old.transport; reserved = request.new.reserved }) }
     ensures refused { OnErr result (request.new ≡ request.old) }
 {
-    let asked = read_asked(request.message());
+    let asked = read_request(request);
     match opt_refusal(request.transport_ctx().is_non_udp(), &asked.opt) {
         Some(rcode) => refused::<S, Meta>(alloc, &asked, request, rcode),
         None => pass(alloc, next, &asked, request),

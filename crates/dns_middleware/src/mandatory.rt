@@ -12,8 +12,9 @@ ghost use Rattle.dns_middleware.specs.Mandatory.{mand_post, mand_rule, mandatory
 
 use crate::layered::{Layered, of_mapped, of_own, refuse};
 use crate::mandatory_post::MandatoryPost;
+use crate::refusal::read_request;
 use dns_name::{Opcode, OptRcode};
-use dns_service::{Asked, ReplyFuture, Request, Service, read_asked};
+use dns_service::{Asked, ReplyFuture, Request, Service};
 use dns_stream::{Now, OutOfMemory};
 use std::alloc::Global;
 
@@ -63,7 +64,7 @@ where
         alloc: Global,
         request: &mut Request<Meta>,
     ) -> Result<Now<Layered<S, Meta, MandatoryPost>>, OutOfMemory> {
-        let asked = read_asked(request.message());
+        let asked = read_request(request);
         match mandatory_refusal(self.strict, &asked) {
             Some(rcode) => refused::<S, Meta>(alloc, &asked, request, rcode),
             None => pass(alloc, &self.next, &asked, request),

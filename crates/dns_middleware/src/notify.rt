@@ -10,7 +10,8 @@ use crate::ask_stream::{AskStream, ask_owned};
 use crate::layered::of_inner;
 use crate::notice::{Notice, notice_of};
 use crate::notifiable::Notifiable;
-use dns_service::{ReplyFuture, Request, Service, read_asked};
+use crate::refusal::read_request;
+use dns_service::{ReplyFuture, Request, Service};
 use dns_stream::{MiddlewareStream, Now, Once, OutOfMemory};
 use std::alloc::Global;
 
@@ -85,7 +86,7 @@ fn pass<S: Service<Meta>, N: Notifiable, Meta>(
 fn read_notice<Meta>(alloc: Global, request: &Request<Meta>) -> Result<Option<Notice>, OutOfMemory>
     ensures { IfOk result (λ notice. notice ≡ notice_of request.now) }
 {
-    let asked = read_asked(request.message());
+    let asked = read_request(request);
     notice_of(alloc, request, &asked)
 }
 

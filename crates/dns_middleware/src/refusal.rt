@@ -1,19 +1,27 @@
 //! What is refused before a request is looked at for cookies and notices.
 
 ghost use Rattle.std.specs.Prelude.{◌≡◌};
+ghost use Rattle.dns_service.specs.Asked.{asked_of};
 ghost use Rattle.dns_middleware.specs.Wrapped.{refusal_by, size_by};
 
 use crate::edns::opt_refusal;
 use crate::mandatory::mandatory_refusal;
 use crate::settings::Settings;
 use dns_name::OptRcode;
-use dns_service::{Asked, TransportSpecificContext};
+use dns_service::{Asked, Request, TransportSpecificContext, read_asked};
 
 /// Why a request is refused: by what each server does, or by EDNS, whose rule its reply then goes through.
 #[derive(Clone, Copy, Debug, PartialEq, Eq)]
 pub enum Refusal {
     FromOutside(OptRcode),
     FromInside(OptRcode),
+}
+
+/// What is asked with a request.
+pub(crate) fn read_request<Meta>(request: &Request<Meta>) -> Asked
+    ensures { result ≡ asked_of request.now.octets }
+{
+    read_asked(request.message())
 }
 
 /// Why what is asked over a transport is refused, where it is.

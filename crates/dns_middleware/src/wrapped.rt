@@ -7,12 +7,12 @@ ghost use Rattle.dns_middleware.specs.Verdicts.{verdict_on};
 ghost use Rattle.dns_middleware.specs.Wrapped.{hint_left, refusal_by, replies};
 
 use crate::notifiable::Notifiable;
-use crate::refusal::{Refusal, refusal_by};
+use crate::refusal::{Refusal, read_request, refusal_by};
 use crate::settings::Settings;
 use crate::wrapped_calls::{not_refused, refused};
 use crate::wrapped_future::WrappedFuture;
 use crate::wrapped_stream::WrappedStream;
-use dns_service::{Asked, OutOfMemory, Request, Service, cut_fits, read_asked};
+use dns_service::{Asked, OutOfMemory, Request, Service, cut_fits};
 use std::alloc::Global;
 
 /// A service in its layers.
@@ -57,7 +57,7 @@ where
         request: &mut Request<Meta>,
     ) -> Result<ComingReplies<S, N, Meta>, OutOfMemory> {
         let settings = &self.settings;
-        let asked = read_asked(request.message());
+        let asked = read_request(request);
         match refusal_of(settings, request, &asked) {
             Some(refusal) => refused::<S, N, Meta>(alloc, settings, &asked, request, refusal),
             None => not_refused(

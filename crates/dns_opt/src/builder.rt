@@ -1,6 +1,6 @@
 //! OPT records under construction.
 
-ghost use Rattle.std.specs.Prelude.{◌≡◌, ◌/◌, ◌%◌};
+ghost use Rattle.std.specs.Prelude.{◌≡◌, ◌/◌, ◌%◌, ℕ, List, length, IfOk};
 ghost use Rattle.dns_opt.specs.Drafts.{OptDraft, PushedIn, PushedRawIn};
 ghost use Rattle.dns_opt.specs.OptRecords.{with_do};
 ghost use Rattle.dns_options.specs.Writes.{Writes};
@@ -95,13 +95,27 @@ impl OptBuilder {
         if self.room >= total + 11 {
             return self.options.push_raw_option(alloc, code, len, write);
         }
-        let octets = written_by(alloc, write)?;
-        if octets.len() != len as usize {
-            return Err(BuildDataError::WrongLength {
+        match count_written(alloc, write) {
+            Ok(written) if written != len as usize => Err(BuildDataError::WrongLength {
                 stated: len,
-                written: octets.len(),
-            });
+                written,
+            }),
+            Ok(_) => Err(BuildDataError::ShortBuf),
+            Err(_) => Err(BuildDataError::OutOfMemory),
         }
-        Err(BuildDataError::ShortBuf)
+    }
+}
+
+/// How many octets a closure writes, of which none is kept.
+fn count_written<F: FnOnce(&mut Vec<u8>) -> Result<(), OutOfMemory>>(
+    alloc: Global,
+    write: F,
+) -> Result<usize, OutOfMemory>
+    requires { F.IsAlwaysCallable write }
+    ensures { IfOk result (λ n. (d : List ℕ) × Writes F.FnOnce write d × (n ≡ length d)) }
+{
+    match written_by(alloc, write) {
+        Ok(octets) => Ok(octets.len()),
+        Err(error) => Err(error),
     }
 }

@@ -51,8 +51,20 @@ impl OptBuilder {
             return Err(BuildDataError::LongOptData);
         }
         let octets = numbers(alloc, algorithms)?;
-        let list = UnderstoodRef::<K>::from_slice(octets.as_slice())?;
-        self.push(alloc, &list)
+        self.understood_of::<K>(alloc, octets.as_slice())
+    }
+
+    fn understood_of<K: Variant>(
+        &mut self,
+        alloc: Global,
+        octets: &[u8],
+    ) -> Result<(), BuildDataError>
+        ensures { PushedIn K.number octets.now self.old self.new result }
+    {
+        match UnderstoodRef::<K>::from_slice(octets) {
+            Ok(list) => self.push(alloc, &list),
+            Err(_) => Err(BuildDataError::LongOptData),
+        }
     }
 
     /// Appends the DNSSEC algorithms that are understood (RFC 6975).
@@ -181,8 +193,16 @@ impl OptBuilder {
             return Err(BuildDataError::LongOptData);
         }
         let octets = zeros(alloc, len)?;
-        let padding = PaddingRef::from_slice(octets.as_slice())?;
-        self.push(alloc, &padding)
+        self.padding_of(alloc, octets.as_slice())
+    }
+
+    fn padding_of(&mut self, alloc: Global, octets: &[u8]) -> Result<(), BuildDataError>
+        ensures { PushedIn 12 octets.now self.old self.new result }
+    {
+        match PaddingRef::from_slice(octets) {
+            Ok(padding) => self.push(alloc, &padding),
+            Err(_) => Err(BuildDataError::LongOptData),
+        }
     }
 
     /// Takes head and options of another OPT record in place of its own. A refused call leaves the record.

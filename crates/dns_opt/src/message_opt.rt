@@ -1,10 +1,10 @@
 //! The OPT record of a message.
 
 ghost use Rattle.std.specs.Prelude.{◌≡◌, List, ℕ};
-ghost use Rattle.dns_opt.specs.OptRecords.{first_opt, opt_of};
+ghost use Rattle.dns_opt.specs.OptRecords.{first_opt, opt_of, readable_opt};
 
 use crate::record::{OptRecordRef, head_by};
-use dns_base::{Message, MessageRef, RecordIter, Rtype};
+use dns_base::{Message, MessageRef, RecordIter, RecordRef, Rtype};
 use dns_options::OptRef;
 
 /// A message that may have an OPT record (RFC 6891, section 6.1.1).
@@ -17,6 +17,16 @@ pub trait MessageOpt {
         ensures { result ≡ opt_of (octets self.now) };
 }
 
+/// The OPT record that a record of this type is; none where its data is no option list.
+fn readable<'m>(record: &RecordRef<'m>) -> Option<OptRecordRef<'m>>
+    ensures { result ≡ readable_opt record.now.resource }
+{
+    match OptRef::from_slice(record.rdata()) {
+        Ok(options) => Some(OptRecordRef::of(head_by(record.class(), record.ttl()), options)),
+        Err(_) => None,
+    }
+}
+
 /// The first OPT record of a section.
 pub(crate) fn first_opt(records: RecordIter<'_>) -> Option<OptRecordRef<'_>>
     ensures { result ≡ first_opt records.entry }
@@ -27,9 +37,7 @@ pub(crate) fn first_opt(records: RecordIter<'_>) -> Option<OptRecordRef<'_>>
             return None;
         };
         if record.rtype() == Rtype::OPT {
-            let options = OptRef::from_slice(record.rdata()).ok()?;
-            let head = head_by(record.class(), record.ttl());
-            return Some(OptRecordRef::of(head, options));
+            return readable(&record);
         }
     }
     None

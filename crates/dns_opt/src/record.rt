@@ -3,7 +3,7 @@
 ghost use Rattle.std.specs.Prelude.{◌≡◌, ◌+◌, ◌*◌, ◌/◌, ◌%◌, [], IfOk};
 ghost use Rattle.dns_base.specs.Built.{Pushes, with_additional};
 ghost use Rattle.dns_base.specs.Records.{IsLawful, record_of};
-ghost use Rattle.dns_opt.specs.OptRecords.{from_record, head_by, is_do, opt_record, opt_state, with_do, zero_head};
+ghost use Rattle.dns_opt.specs.OptRecords.{from_data, from_record, head_by, is_do, opt_record, opt_state, with_do, zero_head};
 ghost use Rattle.dns_options.specs.Pushes.{Pushed, PushedRaw};
 ghost use Rattle.dns_options.specs.Writes.{Writes};
 
@@ -50,6 +50,20 @@ pub(crate) fn head_by(class: Class, ttl: Ttl) -> OptHeader
         ext: (secs / 16777216) as u8,
         version: (secs / 65536 % 256) as u8,
         flags: (secs % 65536) as u16,
+    }
+}
+
+/// The OPT record of a head and the data of a record; none where the data is of another type.
+fn from_data(head: OptHeader, rdata: RecordData) -> Option<OptRecord>
+    requires { IsLawful rdata }
+    ensures { result ≡ from_data head rdata }
+{
+    match rdata {
+        RecordData::Opt(octets) => match Opt::from_octets(octets.into_vec()) {
+            Ok(options) => Some(HeldOptRecord { head, options }),
+            Err(_) => None,
+        },
+        _ => None,
     }
 }
 
@@ -112,14 +126,7 @@ impl OptRecord {
             rdata,
             ..
         } = source;
-        let head = head_by(class, ttl);
-        match rdata {
-            RecordData::Opt(octets) => {
-                let options = Opt::from_octets(octets.into_vec()).ok()?;
-                Some(HeldOptRecord { head, options })
-            }
-            _ => None,
-        }
+        from_data(head_by(class, ttl), rdata)
     }
 
     /// Sets the greatest payload over UDP.

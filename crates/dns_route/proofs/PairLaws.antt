@@ -10,7 +10,7 @@ use Rattle.smallvec.specs.SmallVec.{SmallVec}
 use Rattle.std.proofs.Math.Nat.{max-le, le-max_left, le-max_right}
 use Rattle.dns_name.specs.Labels.{AreLabels}
 use Rattle.dns_route.specs.Places.{AreRoutes, Knows, last_under, name_key, place_under, route_at}
-use Rattle.dns_route.specs.Routes.{Route, ends_name, most_labels}
+use Rattle.dns_route.specs.Routes.{Route, most_labels}
 use Rattle.dns_route.proofs.KeyLaws.{known_more}
 use Rattle.dns_route.proofs.RouteLaws.{AllUnder, IsTail, ends_le}
 
@@ -108,6 +108,3 @@ module _ {S H : Type 0} (ns : List (List (List ℕ))) (ss : List S) where
 
   pub service_at : (m : HashMap (SmallVec ℕ) ℕ H) (o : List ℕ) (i : ℕ) → length ss ≡ length ns → Knows m (zip ns ss) → place_under m o ≡ Some i → slice_get ss i ≡ option_map (λ (r : Route S). r.1) (last_under o (zip ns ss))
   service_at m o i l h e = sym (zip_at ns ss i l) ∙ service_under m o (Some i) l h e
-
-  pub service_none : (m : HashMap (SmallVec ℕ) ℕ H) (o : List ℕ) → length ss ≡ length ns → Knows m (zip ns ss) → place_under m o ≡ None → None ≡ option_map (λ (r : Route S). r.1) (last_under o (zip ns ss))
-  service_none m o l h e = service_under m o None l h e

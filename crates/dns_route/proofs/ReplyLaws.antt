@@ -25,9 +25,3 @@ refused_so read NoMemory g = tt
 -- options that are refused are so as a reply
 pub options_refused : (o : List ℕ) (s : OptState) (e : ParseError) → opt_of o ≡ Some s → Gives (Err e) (reply_with o (kept_opt s.head.size SubnetsAndErrors s)) → BeginsReply (reply_read o) (Err (parse_refused e))
 options_refused o s e h g = subst (λ r. BeginsReply r (Err (parse_refused e))) (sym (ap (reply_by o) h)) (refused_so (reply_with o (kept_opt s.head.size SubnetsAndErrors s)) e g)
-
--- so are they as what is kept
-pub kept_refused : (o : List ℕ) (read : Result OptState ParseError) (e : ParseError) → Gives (Err e) read → Gives (Err e) (reply_with o read)
-kept_refused o read ShortInput g = ap (reply_with o) g
-kept_refused o read (Form f) g = ap (reply_with o) g
-kept_refused o read NoMemory g = tt

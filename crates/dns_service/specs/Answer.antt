@@ -1,5 +1,5 @@
 -- What a poll answers: pending, an item, or the end. The answers of a polled state are a function of the poll's number.
-use Rattle.std.specs.Prelude.{ℕ, ◌+◌, Option, Some, None, Result}
+use Rattle.std.specs.Prelude.{Option, Some, None, Result}
 use Rattle.dns_service.specs.declared.service.Polled.{Polled}
 use Rattle.dns_service.specs.declared.service.Polled.TheVariants.{Pending, Ready}
 use Rattle.dns_service.specs.declared.service.ServiceError.{ServiceError}
@@ -10,10 +10,6 @@ Item = Result CallResult ServiceError
 
 abbrev pub Answer : Type 0
 Answer = Polled (Option Item)
-
--- the answers after the first n
-abbrev pub from_on : (ℕ → Answer) → ℕ → ℕ → Answer
-from_on answer n k = answer (n + k)
 
 -- an answer with its item mapped
 abbrev pub mapped : (Item → Item) → Answer → Answer

@@ -1,6 +1,5 @@
 -- A request that isn't refused is taken as the others are.
-use Rattle.std.proofs.Common.{◌≡◌, ◌∙◌, ap, refl, None}
-use Rattle.dns_service.specs.Asked.{asked_of}
+use Rattle.std.proofs.Common.{◌∙◌, refl, None}
 use Rattle.dns_middleware.specs.Verdicts.{verdict_on}
 use Rattle.dns_middleware.proofs.Called.{if-ok, refusal-read, unrefused}
 use Rattle.dns_middleware.proofs.wrapped.WrappedService.call.Goals as goal
@@ -9,6 +8,5 @@ pub returns-in-None-clause-answers : goal.returns-in-None-clause-answers
 returns-in-None-clause-answers g c =
     let r = c.args.request.now in
     let s = c.args.self.now.settings in
-    let asked : c.read_asked-asked.result ≡ asked_of r.octets = c.read_asked-asked.ensures ∙ ap asked_of (c.deref.ensures ∙ c.message.ensures) in
-    let refused = refusal-read s r r.transport _ None refl asked c.in-None.ensures in
+    let refused = refusal-read s r r.transport _ None refl c.read_request-asked.ensures c.in-None.ensures in
     if-ok c.not_refused.result (λ f h k. h k ∙ unrefused s (g.S.Service.answer c.args.self.now.service) (verdict_on (g.N.Notifiable.verdict c.args.self.now.target)) r k refused) c.not_refused.ensures.answers
