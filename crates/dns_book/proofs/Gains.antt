@@ -1,70 +1,16 @@
--- Lemmas for callers: several calls of one seat, and the calls of both halves of a seat.
-use Rattle.std.proofs.Common.{◌≡◌, Bool, false, List, [], ◌∷◌, ◌++◌, refl, sym, ap, ◌∙◌, subst, ⊎_elim, append_assoc, append-nil}
-use Rattle.dns_admission.specs.declared.look.Look.{Look as State}
+-- The calls of both halves of a seat.
+use Rattle.std.proofs.Common.{◌≡◌, false, List, [], ◌∷◌, ◌++◌, refl, sym, ap, ◌∙◌, subst, ⊎_elim, append_assoc, append-nil}
 use Rattle.dns_admission.specs.declared.call.Call.{Call}
 use Rattle.dns_admission.specs.declared.call.Reply.{Reply}
 use Rattle.dns_book.specs.declared.history.Entry.{Entry}
 use Rattle.dns_book.specs.declared.history.Share.{Share}
 use Rattle.dns_book.specs.declared.history.Known.{Known}
-use Rattle.dns_admission.specs.Machine.{state_after, reply_of}
-use Rattle.dns_book.specs.History.{Name, entry, states_after, IsLegal, Begins, calls_by, entries_in, Has, IsMap, with_entry}
-use Rattle.dns_book.specs.Seats.{IsSound, Called, Joined, first_half, second_half}
+use Rattle.dns_book.specs.History.{Name, entry, Begins, calls_by, entries_in, Has, IsMap, with_entry}
+use Rattle.dns_book.specs.Seats.{IsSound, Joined, first_half, second_half}
 use Rattle.dns_book.specs.Gains.{with_calls, Gained, first_name, second_name, BothMade}
-use Rattle.dns_book.proofs.Names.{begins_whole, entries_in-with_same, with-has, has-here, has_cases}
+use Rattle.dns_book.proofs.Names.{entries_in-with_same, with-has, has-here, has_cases}
 use Rattle.dns_book.proofs.Maps.{has-left, has-right, entries_in-left, entries_in-right}
 use Rattle.dns_book.proofs.Halves.{new_below}
-
-pub with_calls-snoc : (es : List Entry) (e : Entry) (m : List Share) → with_calls (es ++ e ∷ []) m ≡ with_entry e.by e (with_calls es m)
-with_calls-snoc [] e m = refl
-with_calls-snoc (x ∷ xs) e m = with_calls-snoc xs e (with_entry x.by x m)
-
-pub gained_none : (k : Known) → Gained k [] k
-gained_none k = record { same_book = refl; seen = begins_whole k.seen; mine = refl }
-
-pub gained_more : (old : Known) (es : List Entry) (k : Known) (c : Call) (r : Reply) (new : Known) → Gained old es k → Called k c r new → Gained old (es ++ entry k.name c r ∷ []) new
-gained_more old es k c r new g h = record {
-  same_book = h.same_book ∙ g.same_book;
-  seen = (
-    (g.seen.0 ++ h.seen.0) ++ entry k.name c r ∷ [],
-    h.seen.1
-        ∙ (ap (λ (l : List Entry). (l ++ h.seen.0) ++ entry k.name c r ∷ []) g.seen.1
-        ∙ (ap (λ (l : List Entry). l ++ entry k.name c r ∷ []) (append_assoc old.seen g.seen.0 h.seen.0)
-        ∙ append_assoc old.seen (g.seen.0 ++ h.seen.0) (entry k.name c r ∷ []))),
-  );
-  mine = h.mine ∙ (ap (λ (m : List Share). with_entry k.name (entry k.name c r) m) g.mine ∙ sym (with_calls-snoc es (entry k.name c r) old.mine));
-}
-
-pub gained_split : (old : Known) (es : List Entry) (k : Known) → Gained old es k → Gained old es (first_half k)
-gained_split old es k g = record { same_book = g.same_book; seen = g.seen; mine = g.mine }
-
-pub legal-last : (s : State) (xs : List Entry) (e : Entry) → IsLegal s (xs ++ e ∷ []) → e.reply ≡ reply_of (states_after s xs) e.call
-legal-last s [] e l = l.0
-legal-last s (x ∷ xs) e l = legal-last (state_after s x.call) xs e l.1
-
--- the reply is the machine's after all that was seen before the call
-pub called_reply : (old : Known) (c : Call) (r : Reply) (new : Known) (h : Called old c r new) → r ≡ reply_of (states_after new.opening (old.seen ++ h.seen.0)) c
-called_reply old c r new h = legal-last new.opening (old.seen ++ h.seen.0) (entry old.name c r) (subst (λ (l : List Entry). IsLegal new.opening l) h.seen.1 h.sound.legal)
-
-with_calls-append : (es fs : List Entry) (m : List Share) → with_calls (es ++ fs) m ≡ with_calls fs (with_calls es m)
-with_calls-append [] fs m = refl
-with_calls-append (x ∷ xs) fs m = with_calls-append xs fs (with_entry x.by x m)
-
--- the calls of one stretch, and then those of the next
-pub gained_both : (old : Known) (es : List Entry) (k : Known) (fs : List Entry) (new : Known) → Gained old es k → Gained k fs new → Gained old (es ++ fs) new
-gained_both old es k fs new g h = record {
-  same_book = h.same_book ∙ g.same_book;
-  seen = (g.seen.0 ++ h.seen.0, h.seen.1 ∙ (ap (λ (l : List Entry). l ++ h.seen.0) g.seen.1 ∙ append_assoc old.seen g.seen.0 h.seen.0));
-  mine = h.mine ∙ (ap (λ (m : List Share). with_calls fs m) g.mine ∙ sym (with_calls-append es fs old.mine));
-}
-
--- one call
-pub gained_one : (old : Known) (c : Call) (r : Reply) (new : Known) → Called old c r new → Gained old (entry old.name c r ∷ []) new
-gained_one old c r new h = gained_more old [] old c r new (gained_none old) h
-
--- two calls under one name
-pub gained_two : (old : Known) (c d : Call) (r q : Reply) (k new : Known) → Called old c r k → Called k d q new → Gained old (entry old.name c r ∷ entry old.name d q ∷ []) new
-gained_two old c d r q k new g h =
-    subst (λ (n : List Bool). Gained old (entry old.name c r ∷ entry n d q ∷ []) new) g.same_name (gained_both old (entry old.name c r ∷ []) k (entry k.name d q ∷ []) new (gained_one old c r k g) (gained_one k d q new h))
 
 -- the entries that were made under one name
 abbrev pub AllBy : Name → List Entry → Type 0

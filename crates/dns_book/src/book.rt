@@ -130,7 +130,7 @@ impl Book {
         ensures called { Called seat.old.known Call.Look (Reply.Look result) seat.new.known }
         ensures shown { result ≡ state_met seat.new.known }
     {
-        self.open(rt, &mut seat.pass, seat.pending);
+        self.open(rt, &mut seat.pass, &seat.pending);
         seat.pending = None;
         let now = self.load::<Looked, R>(rt, &mut seat.pass);
         look_of(&now)
@@ -146,7 +146,7 @@ impl Book {
         ensures sound { IsSound seat.known × IsSound result.0.known × IsSound result.1.known }
     {
         let BookSeat { mut pass, pending } = seat;
-        self.open(rt, &mut pass, pending);
+        self.open(rt, &mut pass, &pending);
         let second = self.cut::<Halves>(&mut pass);
         let first = BookSeat {
             pass,
@@ -167,12 +167,12 @@ impl Book {
         ensures joined { Joined first.known second.known result.known }
     {
         let BookSeat { mut pass, pending } = first;
-        self.open(rt, &mut pass, pending);
+        self.open(rt, &mut pass, &pending);
         let BookSeat {
             pass: mut other,
             pending,
         } = second;
-        self.open(rt, &mut other, pending);
+        self.open(rt, &mut other, &pending);
         let all = self.cut::<HandOver>(&mut other);
         self.merge::<TakeIn>(&mut pass, all);
         self.settle(rt, &mut pass);
@@ -200,11 +200,11 @@ impl Book {
     }
 
     // Opens the book, if it is not open.
-    fn open<R: Wait>(&self, rt: &R, pass: &mut SeatPass, pending: Option<BookState>)
+    fn open<R: Wait>(&self, rt: &R, pass: &mut SeatPass, pending: &Option<BookState>)
         requires book { pass.old.table_id ≡ self.now }
-        requires ready { IsReady pending (cell_view pass.old) }
+        requires ready { IsReady pending.now (cell_view pass.old) }
         ensures pass { IsSamePass pass.old pass.new }
-        ensures view { cell_view pass.new ≡ view_of pending (cell_view pass.old) }
+        ensures view { cell_view pass.new ≡ view_of pending.now (cell_view pass.old) }
         ensures open { CanCall (cell_view pass.new) × IsSound (cell_view pass.new).known }
     {
         if let Some(state) = pending {
@@ -340,7 +340,7 @@ impl Book {
         ensures called { Called seat.old.known call (reply_of result call) seat.new.known }
         ensures met { state_met seat.new.known ≡ result }
     {
-        self.open(rt, &mut seat.pass, seat.pending);
+        self.open(rt, &mut seat.pass, &seat.pending);
         seat.pending = None;
         self.make_at(rt, &mut seat.pass, call)
     }

@@ -67,6 +67,19 @@ pub fn words_of(look: &Look) -> Words
     ]
 }
 
+/// What the words stand for of a connection.
+fn connection_of(words: &Words) -> ConnectionConfig
+    ensures { result ≡ (state_of words.now).stream.connection_config }
+{
+    let mut connection = ConnectionConfig::new();
+    connection.set_idle_timeout(words[4]);
+    connection.set_response_write_timeout(words[5]);
+    connection.set_max_queued_responses(words[6] as usize);
+    connection.set_response_budget(budget_in(words[8]));
+    connection.set_budget_window(words[9]);
+    connection
+}
+
 /// What the words stand for.
 pub fn look_of(words: &Words) -> Look
     ensures { result ≡ state_of words.now }
@@ -80,16 +93,10 @@ pub fn look_of(words: &Words) -> Look
     let mut dgram = DgramConfig::new();
     dgram.set_max_response_size(size);
     dgram.set_write_timeout(words[3]);
-    let mut connection = ConnectionConfig::new();
-    connection.set_idle_timeout(words[4]);
-    connection.set_response_write_timeout(words[5]);
-    connection.set_max_queued_responses(words[6] as usize);
-    connection.set_response_budget(budget_in(words[8]));
-    connection.set_budget_window(words[9]);
     let mut stream = StreamConfig::new();
     stream.set_accept_connections_at_max(flags / 2 % 2 == 1);
     stream.set_max_concurrent_connections(words[7] as usize);
-    stream.set_connection_config(connection);
+    stream.set_connection_config(connection_of(words));
     Look {
         version: words[1],
         closed: flags % 2 == 1,
