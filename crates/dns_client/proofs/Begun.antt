@@ -2,7 +2,7 @@
 use Rattle.dns_client.specs.Serving.{Serving}
 use Rattle.std.proofs.Common.{◌≡◌, ℕ, zero, suc, ◌≤◌, ◌<◌, List, [], ◌∷◌, length, Some, None, true, false, refl, ap, sym, ◌∙◌, subst, lit≤, lt-ltb, zero-add}
 use Rattle.std.specs.Arc.{arc_value}
-use Rattle.std.specs.Prelude.{nat_lt, slice_get}
+use Rattle.std.specs.Prelude.{nat_lt, slice_get, Option, MatchOption}
 use Rattle.std.specs.Map.{lookup}
 use Rattle.std.specs.Ordering.{nat_cmp}
 use Rattle.std.specs.BTreeMap.{BTreeMap, get, is_at}
@@ -51,10 +51,6 @@ module _ {R F : Type 0} (answer : PolledRequest F R → ℕ → Answer) (answers
   pub called : (q : KeptRequest F R) (r : Req (Unit {0})) → ((j : ℕ) → answer q.polled j ≡ answers.answer r j) → arc_value q.message ≡ r.octets → q.limit ≡ limit_for answers r → IsKept answer answers q (asked r)
   called q r h message limit = record { going = refl; polled = λ j. h j ∙ ap (answers.answer r) (sym (zero-add j)); message = message; limit = limit }
 
-  -- the same by the request that it is
-  pub called_as : (q : KeptRequest F R) (r x : Req (Unit {0})) → ((j : ℕ) → answer q.polled j ≡ answers.answer r j) → arc_value q.message ≡ r.octets → q.limit ≡ limit_for answers r → r ≡ x → IsKept answer answers q (asked x)
-  called_as q r x h message limit is = subst (λ (y : Req (Unit {0})). IsKept answer answers q (asked y)) is (called q r h message limit)
-
   exchanged : (q : KeptRequest F R) (client : ℕ) (addr : SocketAddr) (at secs : ℕ) (o : List ℕ) (dgram : Dgram) (r : Req (Unit {0})) (s : Slate)
       → IsUnused s → IsKept answer answers q (asked r)
       → r ≡ request_of_datagram dgram addr at secs o → s.conf.dgram ≡ dgram → asks_nothing o ≡ false
@@ -85,13 +81,14 @@ module _ {R F : Type 0} (answer : PolledRequest F R → ℕ → Answer) (answers
       (rw (l, response) (says ∙ ap (λ (x : Dgram). refused_datagram client x o) (sym d)), exchanged_none client addr at secs o s unused (rw (l, response) refl))
 
   -- a query is asked
-  pub begun_query : (q : KeptRequest F R) (client : ℕ) (addr : SocketAddr) (at secs : ℕ) (o : List ℕ) (dgram : Dgram) (r : Req (Unit {0})) (outs : List Output) (s : Slate)
-      → IsUnused s → 12 ≤ length o → (header_of o).qr ≡ false → IsKept answer answers q (asked r)
-      → r ≡ request_of_datagram dgram addr at secs o → s.conf.dgram ≡ dgram → outs ≡ []
-      → (outs ≡ at_once client s.conf.dgram o) × IsExchange answer answers client (Some q) (exchange client addr at secs o s)
-  begun_query q client addr at secs o dgram r outs s unused long query h is d none =
+  pub begun_query : (g : Option (KeptRequest F R)) (client : ℕ) (addr : SocketAddr) (at secs : ℕ) (o : List ℕ) (dgram : Dgram) (outs : List Output) (s : Slate)
+      → IsUnused s → 12 ≤ length o → (header_of o).qr ≡ false → MatchOption g ⊥ (λ q. IsKept answer answers q (asked (request_of_datagram dgram addr at secs o)))
+      → s.conf.dgram ≡ dgram → outs ≡ []
+      → (outs ≡ at_once client s.conf.dgram o) × IsExchange answer answers client g (exchange client addr at secs o s)
+  begun_query None client addr at secs o dgram outs s unused long query h d none = absurd h
+  begun_query (Some q) client addr at secs o dgram outs s unused long query h d none =
       let l : nat_lt (length o) header_size ≡ false = le-ltb (length o) 12 long in
-      (rw (l, query) none, exchanged q client addr at secs o dgram r s unused h is d (rw (l, query) refl))
+      (rw (l, query) none, exchanged q client addr at secs o dgram (request_of_datagram dgram addr at secs o) s unused h refl d (rw (l, query) refl))
 
   -- what is kept of a connection's request that was called
   pub called_going : (q : ConnectionRequest F R) (r : Req (Unit {0})) → ((j : ℕ) → answer q.polled j ≡ answers.answer r j) → arc_value q.message ≡ r.octets → q.status ≡ Normal → q.held ≡ None → IsGoing answer answers q (asked r)

@@ -1,5 +1,6 @@
 pub mod FramesLemmas
 pub mod Keeping
+pub mod Opens
 pub mod Turns
 pub mod Transactions
 pub mod Invoked

@@ -8,11 +8,13 @@ use Rattle.std.specs.List.{list_all}
 use Rattle.dns_service.specs.Answer.{Answer}
 use Rattle.dns_service.specs.Config.{Connection, Dgram, Stream}
 use Rattle.dns_service.specs.declared.event.Event.{Event}
+use Rattle.dns_service.specs.declared.event.EventKind.{EventKind}
+use Rattle.dns_service.specs.declared.event.EventKind.TheVariants.{Piece, Turn, Write, Reconfigure}
 use Rattle.dns_service.specs.declared.event.Output.TheVariants.{Closed as Closed_output}
 use Rattle.dns_service.specs.declared.event.Why.{Why}
 use Rattle.dns_client.specs.Connections.{close, reconfigured, wind_up}
-use Rattle.dns_client.specs.Rule.{rule, in_phase, exchange_rule, open_rule, flushing_rule, closed_rule}
-use Rattle.dns_client.specs.Slate.{Slate, SlateRequest, Told, Phase, Exchange, Open, Flushing, Closed, Conf, conf_rule, with_conf}
+use Rattle.dns_client.specs.Rule.{rule, changes_kept, in_phase, open_rule, flushing_rule, takes_memory}
+use Rattle.dns_client.specs.Slate.{Slate, SlateRequest, Told, Phase, Open, Flushing, Conf, conf_rule, with_conf}
 use Rattle.dns_client.specs.Spent.{is_spent}
 use Rattle.dns_client.specs.Stands.{IsLeft, IsOpen, Keeps, Leads, LeadsOn, StandsIn, outputs_of, state_behind, sole, state_is_spent}
 use Rattle.dns_client.specs.declared.client.State.{State}
@@ -23,6 +25,7 @@ use Rattle.dns_client.specs.declared.flushing.FlushingConnection.{FlushingConnec
 use Rattle.dns_client.specs.declared.outcome.Outcome.{Outcome}
 use Rattle.dns_client.specs.declared.outcome.Outcome.TheVariants.{Nothing, WindsUp, Ends}
 use Rattle.dns_service.specs.declared.polled.PolledRequest.{PolledRequest}
+use Rattle.dns_client.proofs.Opens.{open_on}
 
 -- the rule of the phase that a client is in
 in_open : (answers : Serving) (e : Event) (p : Phase) (t : Slate) → p ≡ Open → in_phase answers e p t ≡ open_rule answers e e.kind t
@@ -30,12 +33,6 @@ in_open answers e p t is = rw is refl
 
 in_flushing : (answers : Serving) (e : Event) (why : Why) (p : Phase) (t : Slate) → p ≡ Flushing why → in_phase answers e p t ≡ flushing_rule why e.kind t
 in_flushing answers e why p t is = rw is refl
-
-in_exchange : (answers : Serving) (e : Event) (p : Phase) (t : Slate) → p ≡ Exchange → in_phase answers e p t ≡ exchange_rule answers e.kind t
-in_exchange answers e p t is = rw is refl
-
-in_closed : (answers : Serving) (e : Event) (p : Phase) (t : Slate) → p ≡ Closed → in_phase answers e p t ≡ closed_rule e.kind t
-in_closed answers e p t is = rw is refl
 
 -- a queue that is empty, or isn't
 pub no_items : (xs : List (List ℕ)) → (length xs == 0) ≡ true → xs ≡ []
@@ -47,6 +44,20 @@ some_items xs h e = eqb-false (length xs) 0 h (ap length e)
 -- the slate that an event finds
 abbrev pub met : Event → Slate → Slate
 met e s = with_conf (conf_rule e.kind s.conf) s
+
+-- an event that is neither octets nor a turn
+pub without_memory : (k : EventKind) → ((o : List ℕ) → k ≡ Piece o → ⊥) → ((n : ℕ) → k ≡ Turn n → ⊥) → takes_memory k ≡ false
+without_memory (Piece o) piece turn = absurd (piece o refl)
+without_memory (Turn n) piece turn = absurd (turn n refl)
+without_memory _ piece turn = refl
+
+-- one that is no write and no configuration either
+pub unchanged : (k : EventKind) → takes_memory k ≡ false → ((n : ℕ) → k ≡ Write n → ⊥) → ((d : Dgram) (t : Stream) → k ≡ Reconfigure d t → ⊥) → changes_kept k ≡ false
+unchanged (Write n) quick write configure = absurd (write n refl)
+unchanged (Reconfigure d t) quick write configure = absurd (configure d t refl)
+unchanged (Piece o) quick write configure = quick
+unchanged (Turn n) quick write configure = quick
+unchanged _ quick write configure = refl
 
 -- a configuration that comes before a Shutdown
 not_over_yet : (over : Bool) (conf : Conf) (dgram : Dgram) (stream : Stream) → over ≡ false → conf.over ≡ false → (if over then conf else record { dgram = dgram; stream = stream; over = false }).over ≡ false
@@ -92,22 +103,7 @@ module _ {R F : Type 0} (answer : PolledRequest F R → ℕ → Answer) (answers
 
     -- the server's configurations are others
     met_open : (client : ℕ) (c : OpenConnection W R F) (conf : Conf) (s : Slate) → conf.over ≡ false → IsOpen answer answers client c s → IsOpen answer answers client c (with_conf conf s)
-    met_open client c conf s e h = record {
-      client = h.client;
-      freed = h.freed;
-      phase = h.phase;
-      not_over = e;
-      addr = h.addr;
-      idle_timeout = h.idle_timeout;
-      write_timeout = h.write_timeout;
-      timer = h.timer;
-      kept = h.kept;
-      within = h.within;
-      requests = h.requests;
-      queue = h.queue;
-      bound = h.bound;
-      budget = h.budget;
-    }
+    met_open client c conf s e h = open_on answer answers refl e h.idle_timeout h.timer h.kept h.within h.requests h.queue h.bound h.budget h
 
     -- the configuration that holds from now on is one of those that the server shows
     pub reconfigures : (old new : OpenConnection W R F) (dgram : Dgram) (stream : Stream) (connection : Connection) → connection ≡ stream.connection_config

@@ -1,9 +1,9 @@
 -- Frames are taken one at a time.
 use Rattle.dns_client.specs.Serving.{Serving}
-use Rattle.std.proofs.Common.{◌≡◌, ◌≢◌, ℕ, ◌+◌, ◌<◌, ◌≤◌, List, [], ◌∷◌, ◌++◌, length, Some, Bool, true, false, refl, ap, sym, ◌∙◌, subst, lt-ltb, arith, length-append}
+use Rattle.std.proofs.Common.{◌≡◌, ◌≢◌, ℕ, ◌+◌, ◌<◌, ◌≤◌, List, [], ◌∷◌, ◌++◌, length, Option, Some, None, Bool, true, false, refl, ap, sym, ◌∙◌, subst, lt-ltb, arith, length-append}
 use Rattle.std.specs.BTreeMap.{get}
 use Rattle.std.specs.Ordering.{nat_cmp}
-use Rattle.std.specs.Prelude.{nat_lt, if◌then◌else◌}
+use Rattle.std.specs.Prelude.{nat_lt, if◌then◌else◌, MatchOption}
 use Rattle.std.proofs.lemmas.Bool.{le-ltb}
 use Rattle.dns_name.specs.declared.address.SocketAddr.{SocketAddr}
 use Rattle.dns_base.specs.Header.{header_of}
@@ -13,11 +13,11 @@ use Rattle.dns_service.specs.ErrorReply.{error_reply}
 use Rattle.dns_service.specs.Req.{Req}
 use Rattle.dns_service.specs.declared.event.Output.TheVariants.{Closed as Closed_output}
 use Rattle.dns_service.specs.declared.event.Why.TheVariants.{Short}
-use Rattle.dns_client.specs.Frames.{first_frame, framed, frames}
-use Rattle.dns_client.specs.Slate.{Slate, Told}
+use Rattle.dns_client.specs.Frames.{first_frame, framed, frames, past}
+use Rattle.dns_client.specs.Slate.{Slate, SlateRequest, Told}
 use Rattle.dns_client.specs.Requests.{header_size, most_requests, request_of_frame, asked}
 use Rattle.dns_client.specs.Connections.{enqueue, take_frames, take_frame, piece}
-use Rattle.dns_client.specs.Stands.{IsGoing, IsOpen, Leads, Asks, TakesFrame, KeepsAll, StandsIn, outputs_of, refusing, state_behind}
+use Rattle.dns_client.specs.Stands.{IsGoing, IsOpen, Leads, Asks, TakesFrame, TakesMessage, KeepsAll, StandsIn, outputs_of, refusing, state_behind}
 use Rattle.dns_client.specs.declared.client.State.TheVariants.{Open as Is_open}
 use Rattle.dns_client.specs.declared.connection.OpenConnection.{OpenConnection}
 use Rattle.dns_client.specs.declared.outcome.Outcome.{Outcome}
@@ -25,6 +25,7 @@ use Rattle.dns_client.specs.declared.outcome.Outcome.TheVariants.{Nothing, Ends}
 use Rattle.dns_service.specs.declared.polled.PolledRequest.{PolledRequest}
 use Rattle.dns_client.specs.declared.connection_request.ConnectionRequest.{ConnectionRequest}
 use Rattle.dns_client.proofs.Keeping.{keeps_push}
+use Rattle.dns_client.proofs.Opens.{open_on}
 use Rattle.dns_client.proofs.Transactions.{one_idle}
 use Rattle.dns_client.proofs.Turned.{moved_open, offered_open}
 use Rattle.dns_client.proofs.FramesLemmas.{first_shorter, frames_some, past_next, within_next, past-append, within-append, new_frames_by_kept}
@@ -55,7 +56,7 @@ module _ {W R F : Type 0} (answer : PolledRequest F R → ℕ → Answer) (answe
   pub none_left : (c : OpenConnection W R F) → frames c.framer ≡ [] → Leads answer answers c c Nothing (λ s. take_frames at secs (frames c.framer) s)
   none_left c e client s h = rw e (refl, h)
 
-  pub short : (c new : OpenConnection W R F) (f r : List ℕ) → first_frame c.framer ≡ Some (f, r) → length f < 12
+  short : (c new : OpenConnection W R F) (f r : List ℕ) → first_frame c.framer ≡ Some (f, r) → length f < 12
       → Leads answer answers c new (Ends Short) (λ s. take_frames at secs (frames c.framer) s)
   short c new f r e l client s h =
       let t : nat_lt (length f) header_size ≡ true = lt-ltb (length f) 12 l in
@@ -68,26 +69,22 @@ module _ {W R F : Type 0} (answer : PolledRequest F R → ℕ → Answer) (answe
   abbrev timed : OpenConnection W R F → List ℕ → OpenConnection W R F
   timed c r = record c { framer = r; timer = at }
 
-  asked_open : (c new : OpenConnection W R F) (f r : List ℕ) (client : ℕ) (s : Slate) → IsOpen answer answers client c s → first_frame c.framer ≡ Some (f, r)
-      → Asks answer answers (timed c r) new (request_of_frame c.invoker.idle_timeout c.addr at secs f)
-      → (b : Bool) → KeepsAll answer answers new.count new.transactions new.unfinished (if b then s.requests ++ asked (request_of_frame s.connection.idle_timeout s.addr at secs f) ∷ [] else s.requests)
-      → IsOpen answer answers client new (if b then record s { taken = s.taken + 1; reset_at = at; requests = s.requests ++ asked (request_of_frame s.connection.idle_timeout s.addr at secs f) ∷ [] } else record s { taken = s.taken + 1; reset_at = at })
-  asked_open c new f r client s h e a b k =
+  -- it stands for the slate that counts the frame, with the requests that it keeps then
+  timed_open : (c new : OpenConnection W R F) (f r : List ℕ) (client : ℕ) (s : Slate) (rs : List SlateRequest) → IsOpen answer answers client c s → first_frame c.framer ≡ Some (f, r)
+      → new ≡ record (timed c r) { count = new.count; unfinished = new.unfinished }
+      → KeepsAll answer answers new.count new.transactions new.unfinished rs
+      → IsOpen answer answers client new (record s { taken = s.taken + 1; reset_at = at; requests = rs })
+  timed_open c new f r client s rs h e others =
       let e' = rw h.kept at e in
-      let ad = ap (λ (c : OpenConnection W R F). c.addr) a.others ∙ h.addr in
-      let id = ap (λ (c : OpenConnection W R F). c.invoker.idle_timeout) a.others ∙ h.idle_timeout in
-      let wr = ap (λ (c : OpenConnection W R F). c.write_timeout) a.others ∙ h.write_timeout in
-      let ti = ap (λ (c : OpenConnection W R F). c.timer) a.others in
-      let kept = ap (λ (c : OpenConnection W R F). c.framer) a.others ∙ sym (past_next s.taken s.received f r h.within e') in
-      let within = within_next s.taken s.received f r h.within e' in
-      let qu = ap (λ (c : OpenConnection W R F). c.invoker.queue.items) a.others ∙ h.queue in
-      let bo = ap (λ (c : OpenConnection W R F). c.invoker.queue.capacity) a.others ∙ h.bound in
-      let bu = ap (λ (c : OpenConnection W R F). c.invoker.budget) a.others ∙ h.budget in
-      let P : Bool → Type 0 = λ b. KeepsAll answer answers new.count new.transactions new.unfinished (if b then s.requests ++ asked (request_of_frame s.connection.idle_timeout s.addr at secs f) ∷ [] else s.requests) → IsOpen answer answers client new (if b then record s { taken = s.taken + 1; reset_at = at; requests = s.requests ++ asked (request_of_frame s.connection.idle_timeout s.addr at secs f) ∷ [] } else record s { taken = s.taken + 1; reset_at = at }) in
-      (elim b as P [
-        | true ↦ λ k. record { client = h.client; freed = h.freed; phase = h.phase; not_over = h.not_over; addr = ad; idle_timeout = id; write_timeout = wr; timer = ti; kept = kept; within = within; requests = k; queue = qu; bound = bo; budget = bu }
-        | false ↦ λ k. record { client = h.client; freed = h.freed; phase = h.phase; not_over = h.not_over; addr = ad; idle_timeout = id; write_timeout = wr; timer = ti; kept = kept; within = within; requests = k; queue = qu; bound = bo; budget = bu }
-      ]) k
+      let P : OpenConnection W R F → Type 0 = λ x. KeepsAll answer answers x.count x.transactions x.unfinished rs → IsOpen answer answers client x (record s { taken = s.taken + 1; reset_at = at; requests = rs }) in
+      subst P (sym others) (λ k. open_on answer answers refl h.not_over h.idle_timeout refl (sym (past_next s.taken s.received f r h.within e')) (within_next s.taken s.received f r h.within e') k h.queue h.bound h.budget h)
+
+  asked_open : (c new : OpenConnection W R F) (f r : List ℕ) (client : ℕ) (s : Slate) (q : SlateRequest) → IsOpen answer answers client c s → first_frame c.framer ≡ Some (f, r)
+      → new ≡ record (timed c r) { count = new.count; unfinished = new.unfinished }
+      → (b : Bool) → KeepsAll answer answers new.count new.transactions new.unfinished (if b then s.requests ++ q ∷ [] else s.requests)
+      → IsOpen answer answers client new (if b then record s { taken = s.taken + 1; reset_at = at; requests = s.requests ++ q ∷ [] } else record s { taken = s.taken + 1; reset_at = at })
+  asked_open c new f r client s q h e others true k = timed_open c new f r client s (s.requests ++ q ∷ []) h e others k
+  asked_open c new f r client s q h e others false k = timed_open c new f r client s s.requests h e others k
 
   taken : (c new : OpenConnection W R F) (f r : List ℕ) (q : Req (Unit {0})) → first_frame c.framer ≡ Some (f, r) → 12 ≤ length f
       → (header_of f).qr ≡ false
@@ -102,29 +99,7 @@ module _ {W R F : Type 0} (answer : PolledRequest F R → ℕ → Answer) (answe
         goes = λ client s h.
             let same : request_of_frame c.invoker.idle_timeout c.addr at secs f ≡ request_of_frame s.connection.idle_timeout s.addr at secs f = ap (λ (x : ℕ). request_of_frame x c.addr at secs f) h.idle_timeout ∙ ap (λ (x : SocketAddr). request_of_frame s.connection.idle_timeout x at secs f) h.addr in
             let k = rw same at (a'.made s.requests h.requests) in
-            (take_frame at secs f s, rw query (asked_open c new f r client s h e a' (nat_lt (length s.requests) most_requests) k), rw (framer, frames_some c.framer f r e, n) refl);
-      }
-
-  -- it stands for the slate that counts the frame
-  timed_open : (c : OpenConnection W R F) (f r : List ℕ) (client : ℕ) (s : Slate) → IsOpen answer answers client c s → first_frame c.framer ≡ Some (f, r)
-      → IsOpen answer answers client (timed c r) (record s { taken = s.taken + 1; reset_at = at })
-  timed_open c f r client s h e =
-      let e' = rw h.kept at e in
-      record {
-        client = h.client;
-        freed = h.freed;
-        phase = h.phase;
-        not_over = h.not_over;
-        addr = h.addr;
-        idle_timeout = h.idle_timeout;
-        write_timeout = h.write_timeout;
-        timer = refl;
-        kept = sym (past_next s.taken s.received f r h.within e');
-        within = within_next s.taken s.received f r h.within e';
-        requests = h.requests;
-        queue = h.queue;
-        bound = h.bound;
-        budget = h.budget;
+            (take_frame at secs f s, rw query (asked_open c new f r client s (asked (request_of_frame s.connection.idle_timeout s.addr at secs f)) h e a'.others (nat_lt (length s.requests) most_requests) k), rw (framer, frames_some c.framer f r e, n) refl);
       }
 
   -- a response is taken
@@ -138,46 +113,32 @@ module _ {W R F : Type 0} (answer : PolledRequest F R → ℕ → Answer) (answe
         less = rw framer (first_shorter c.framer f r e);
         goes = λ client s h.
             let t : Slate = record s { taken = s.taken + 1; reset_at = at } in
-            let timed_now = moved_open answer answers client at (timed c r) t (timed_open c f r client s h e) in
+            let timed_now = moved_open answer answers client at (timed c r) t (timed_open c (timed c r) f r client s s.requests h e refl h.requests) in
             let open_now = offered_open answer answers client (record (timed c r) { invoker = record c.invoker { at = at } }) m t timed_now in
             let P : OpenConnection W R F → Type 0 = λ x. IsOpen answer answers client x (enqueue at m t) in
             (take_frame at secs f s, rw response (subst P (sym is) open_now), rw (framer, frames_some c.framer f r e, n) refl);
       }
 
-  either_taken : (c new : OpenConnection W R F) (f r : List ℕ) → first_frame c.framer ≡ Some (f, r) → 12 ≤ length f
-      → ((header_of f).qr ≡ true → new ≡ refusing at (timed c r) f)
-      → ((header_of f).qr ≡ false → Asks answer answers (timed c r) new (request_of_frame c.invoker.idle_timeout c.addr at secs f))
-      → (b : Bool) → (header_of f).qr ≡ b → TakesFrame answer answers at secs c new
-  either_taken c new f r e l refuses asks true is = refused c new f r e l is (refuses is)
-  either_taken c new f r e l refuses asks false is = taken c new f r (request_of_frame c.invoker.idle_timeout c.addr at secs f) e l is refl (asks is)
+  taken_by : (c new : OpenConnection W R F) (f r : List ℕ) → first_frame c.framer ≡ Some (f, r) → 12 ≤ length f
+      → TakesMessage answer answers at secs (timed c r) new f → (b : Bool) → (header_of f).qr ≡ b → TakesFrame answer answers at secs c new
+  taken_by c new f r e l h true is = refused c new f r e l is (h.response is)
+  taken_by c new f r e l h false is = taken c new f r (request_of_frame c.invoker.idle_timeout c.addr at secs f) e l is refl (h.query is)
 
-  pub taken_either : (c new : OpenConnection W R F) (f r : List ℕ) → first_frame c.framer ≡ Some (f, r) → 12 ≤ length f
-      → ((header_of f).qr ≡ true → new ≡ refusing at (timed c r) f)
-      → ((header_of f).qr ≡ false → Asks answer answers (timed c r) new (request_of_frame c.invoker.idle_timeout c.addr at secs f))
-      → TakesFrame answer answers at secs c new
-  taken_either c new f r e l refuses asks = either_taken c new f r e l refuses asks (header_of f).qr refl
+  -- a frame is taken, or ends the connection
+  pub taken_or_short : (c new : OpenConnection W R F) (f r : List ℕ) (outcome : Option Outcome) → first_frame c.framer ≡ Some (f, r)
+      → MatchOption outcome ((12 ≤ length f) × TakesMessage answer answers at secs (timed c r) new f) (λ outcome. (outcome ≡ Ends Short) × (length f < 12))
+      → MatchOption outcome (TakesFrame answer answers at secs c new) (λ outcome. Leads answer answers c new outcome (λ s. take_frames at secs (frames c.framer) s))
+  taken_or_short c new f r None e h = taken_by c new f r e h.0 h.1 (header_of f).qr refl
+  taken_or_short c new f r (Some outcome) e h = rw h.0 (short c new f r e h.1)
 
   pub fed : (c new : OpenConnection W R F) (p : List ℕ) (outcome : Outcome)
       → Leads answer answers (record c { framer = c.framer ++ p }) new outcome (λ s. take_frames at secs (frames (c.framer ++ p)) s)
       → Leads answer answers c new outcome (λ s. piece at secs p s)
   fed c new p outcome all client s h =
       let fs = new_frames_by_kept s.taken s.received p h.within ∙ ap (λ k. frames (k ++ p)) (sym h.kept) in
-      rw fs (all client (record s { received = s.received ++ p }) (record {
-        client = h.client;
-        freed = h.freed;
-        phase = h.phase;
-        not_over = h.not_over;
-        addr = h.addr;
-        idle_timeout = h.idle_timeout;
-        write_timeout = h.write_timeout;
-        timer = h.timer;
-        kept = ap (λ k. k ++ p) h.kept ∙ sym (past-append s.taken s.received p h.within);
-        within = within-append s.taken s.received p h.within;
-        requests = h.requests;
-        queue = h.queue;
-        bound = h.bound;
-        budget = h.budget;
-      }))
+      let kept : c.framer ++ p ≡ past s.taken (s.received ++ p) = ap (λ k. k ++ p) h.kept ∙ sym (past-append s.taken s.received p h.within) in
+      let within = within-append s.taken s.received p h.within in
+      rw fs (all client (record s { received = s.received ++ p }) (open_on answer answers refl h.not_over h.idle_timeout h.timer kept within h.requests h.queue h.bound h.budget h))
 
   -- what is left to be taken, at some slate of the connection, is all that was
   abbrev pub TakesOn : OpenConnection W R F → OpenConnection W R F → Type 0

@@ -12,13 +12,14 @@ use Rattle.dns_client.specs.Budget.{Spending, allows, spend}
 use Rattle.dns_client.specs.Connections.{append_frame, enqueue, in_transaction, room, spending}
 use Rattle.dns_client.specs.Invoker.{finds_room, offered, queued_behind}
 use Rattle.dns_client.specs.Slate.{Slate, SlateRequest}
-use Rattle.dns_client.specs.Stands.{IsGoing, IsOpen, KeepsGoing}
+use Rattle.dns_client.specs.Stands.{IsGoing, IsOpen, KeepsAll, KeepsGoing}
 use Rattle.dns_client.specs.TurnedAt.{LetGo}
 use Rattle.dns_client.specs.Turns.{turn}
 use Rattle.dns_client.specs.declared.connection.OpenConnection.{OpenConnection}
 use Rattle.dns_client.specs.declared.connection_request.ConnectionRequest.{ConnectionRequest}
 use Rattle.dns_client.specs.declared.invoker.ConnectionInvoker.{ConnectionInvoker}
 use Rattle.dns_client.proofs.Keeping.{keeps_set}
+use Rattle.dns_client.proofs.Opens.{open_on}
 use Rattle.dns_client.proofs.Transactions.{passing}
 
 -- a request past one poll more
@@ -60,26 +61,13 @@ module _ {R F : Type 0} (answer : PolledRequest F R → ℕ → Answer) (answers
         → i.idle_timeout ≡ timeout → i.queue.items ≡ frames → i.queue.capacity ≡ s.bound
         → i.budget ≡ record (spending s) { mark = b.mark; spent = b.spent }
         → IsOpen answer answers client (record old { unfinished = m; invoker = i; transactions = n }) (record s { requests = set s.requests k r'; queue = frames; mark = b.mark; spent = b.spent; connection = record s.connection { idle_timeout = timeout } })
-    with_turn client old m i n k r r' frames b timeout s h is others keeps count idle items capacity budget = record {
-      client = h.client;
-      freed = h.freed;
-      phase = h.phase;
-      not_over = h.not_over;
-      addr = h.addr;
-      idle_timeout = idle;
-      write_timeout = h.write_timeout;
-      timer = h.timer;
-      kept = h.kept;
-      within = h.within;
-      requests = record {
-        made = h.requests.made ∙ sym (length-set s.requests k r');
-        held_open = count;
-        each = keeps_set answer answers old.unfinished m s.requests k r r' is h.requests.each others keeps;
-      };
-      queue = items;
-      bound = capacity;
-      budget = budget;
-    }
+    with_turn client old m i n k r r' frames b timeout s h is others keeps count idle items capacity budget =
+        let requests : KeepsAll answer answers old.count n m (set s.requests k r') = record {
+          made = h.requests.made ∙ sym (length-set s.requests k r');
+          held_open = count;
+          each = keeps_set answer answers old.unfinished m s.requests k r r' is h.requests.each others keeps;
+        } in
+        open_on answer answers refl h.not_over idle h.timer h.kept h.within requests items capacity budget h
 
     -- there is room at the slate where the connection has room, at the moment that it is at
     pub same_room : (client : ℕ) (old : OpenConnection W R F) (s : Slate) → IsOpen answer answers client old s → finds_room old.invoker ≡ room old.invoker.at s
@@ -90,42 +78,13 @@ module _ {R F : Type 0} (answer : PolledRequest F R → ℕ → Answer) (answers
 
     -- it is at another moment
     pub moved_open : (client at : ℕ) (c : OpenConnection W R F) (s : Slate) → IsOpen answer answers client c s → IsOpen answer answers client (record c { invoker = record c.invoker { at = at } }) s
-    moved_open client at c s h = record {
-      client = h.client;
-      freed = h.freed;
-      phase = h.phase;
-      not_over = h.not_over;
-      addr = h.addr;
-      idle_timeout = h.idle_timeout;
-      write_timeout = h.write_timeout;
-      timer = h.timer;
-      kept = h.kept;
-      within = h.within;
-      requests = h.requests;
-      queue = h.queue;
-      bound = h.bound;
-      budget = h.budget;
-    }
+    moved_open client at c s h = open_on answer answers refl h.not_over h.idle_timeout h.timer h.kept h.within h.requests h.queue h.bound h.budget h
 
     -- a frame is queued
     queued_open : (client : ℕ) (c : OpenConnection W R F) (m : List ℕ) (s : Slate) → IsOpen answer answers client c s
         → IsOpen answer answers client (record c { invoker = queued_behind c.invoker m }) (append_frame c.invoker.at m s)
-    queued_open client c m s h = record {
-      client = h.client;
-      freed = h.freed;
-      phase = h.phase;
-      not_over = h.not_over;
-      addr = h.addr;
-      idle_timeout = h.idle_timeout;
-      write_timeout = h.write_timeout;
-      timer = h.timer;
-      kept = h.kept;
-      within = h.within;
-      requests = h.requests;
-      queue = ap (λ (xs : List (List ℕ)). xs ++ m ∷ []) h.queue;
-      bound = h.bound;
-      budget = ap (spend c.invoker.at) h.budget;
-    }
+    queued_open client c m s h =
+        open_on answer answers refl h.not_over h.idle_timeout h.timer h.kept h.within h.requests (ap (λ (xs : List (List ℕ)). xs ++ m ∷ []) h.queue) h.bound (ap (spend c.invoker.at) h.budget) h
 
     -- a frame is queued where there is room
     pub offered_open : (client : ℕ) (c : OpenConnection W R F) (m : List ℕ) (s : Slate) → IsOpen answer answers client c s
@@ -140,19 +99,7 @@ module _ {R F : Type 0} (answer : PolledRequest F R → ℕ → Answer) (answers
         → ((q : ℕ) → get nat_cmp m q ≡ get nat_cmp old.unfinished q)
         → i ≡ old.invoker → n ≡ old.transactions
         → IsOpen answer answers client old s → IsOpen answer answers client (record old { unfinished = m; invoker = i; transactions = n }) s
-    same_requests client old m i n s same invoker count h = record {
-      client = h.client;
-      freed = h.freed;
-      phase = h.phase;
-      not_over = h.not_over;
-      addr = h.addr;
-      idle_timeout = ap (λ (x : ConnectionInvoker). x.idle_timeout) invoker ∙ h.idle_timeout;
-      write_timeout = h.write_timeout;
-      timer = h.timer;
-      kept = h.kept;
-      within = h.within;
-      requests = record { made = h.requests.made; held_open = count ∙ h.requests.held_open; each = λ q. rw (same q) (h.requests.each q) };
-      queue = ap (λ (x : ConnectionInvoker). x.queue.items) invoker ∙ h.queue;
-      bound = ap (λ (x : ConnectionInvoker). x.queue.capacity) invoker ∙ h.bound;
-      budget = ap (λ (x : ConnectionInvoker). x.budget) invoker ∙ h.budget;
-    }
+    same_requests client old m i n s same invoker count h =
+        let requests : KeepsAll answer answers old.count n m s.requests = record { made = h.requests.made; held_open = count ∙ h.requests.held_open; each = λ q. rw (same q) (h.requests.each q) } in
+        let P : ConnectionInvoker → Type 0 = λ x. IsOpen answer answers client (record old { unfinished = m; invoker = x; transactions = n }) s in
+        subst P (sym invoker) (open_on answer answers refl h.not_over h.idle_timeout h.timer h.kept h.within requests h.queue h.bound h.budget h)

@@ -1,14 +1,15 @@
 -- The numbers under which requests are kept are those of the requests that aren't done.
 use Rattle.dns_client.specs.Serving.{Serving}
-use Rattle.std.proofs.Common.{◌≡◌, ℕ, zero, suc, ◌+◌, ◌-◌, ◌<◌, ◌≤◌, List, [], ◌∷◌, length, drop, Option, Some, None, Bool, true, false, refl, ap, sym, ◌∙◌, arith, subst, zero-add}
+use Rattle.std.proofs.Common.{◌≡◌, ℕ, zero, suc, ◌+◌, ◌-◌, ◌<◌, List, [], ◌∷◌, length, drop, Option, Some, None, Bool, true, false, refl, ap, sym, ◌∙◌, arith, subst, zero-add}
 use Rattle.std.specs.Prelude.{slice_get, is_some, IsSome, not}
 use Rattle.std.specs.Map.{lookup}
-use Rattle.std.specs.Ordering.{nat_cmp, is_gt}
+use Rattle.std.specs.Ordering.{nat_cmp}
 use Rattle.std.specs.Cmp.{nat_cmp_is}
 use Rattle.std.specs.declared.cmp.Ordering.TheVariants.{Less}
 use Rattle.std.specs.declared.ops.Bound.TheVariants.{Excluded, Unbounded}
 use Rattle.std.specs.BTreeMap.{BTreeMap, btree_map_len, get, is_at, IsLowerBound}
 use Rattle.std.specs.BTreeMap.Range.{IsRangeOf}
+use Rattle.std.proofs.lemmas.Bool.{not-false, not-true}
 use Rattle.std.proofs.lemmas.Bool.Decides.{nat_tests}
 use Rattle.std.proofs.lemmas.List.{nil_from_length}
 use Rattle.std.proofs.lemmas.Map.Keys.{le_from_not_gt}
@@ -27,23 +28,15 @@ abbrev pub is_going : Option SlateRequest → Bool
 is_going None = false
 is_going (Some r) = not r.done
 
-not_true : (b : Bool) → not b ≡ true → b ≡ false
-not_true true h = cc
-not_true false h = refl
-
-not_false : (b : Bool) → not b ≡ false → b ≡ true
-not_false true h = refl
-not_false false h = cc
-
 from_none : (n : ℕ) (rs : List SlateRequest) → ((k : ℕ) → is_going (slice_get rs k) ≡ false) → first_unfinished_from n rs ≡ None
 from_none n [] h = refl
-from_none n (r ∷ rs) h = let d : r.done ≡ true = not_false r.done (h 0) in rw d (from_none (n + 1) rs (λ k. h (suc k)))
+from_none n (r ∷ rs) h = let d : r.done ≡ true = not-false r.done (h 0) in rw d (from_none (n + 1) rs (λ k. h (suc k)))
 
 from_some : (n : ℕ) (rs : List SlateRequest) (k : ℕ) → is_going (slice_get rs k) ≡ true → ((j : ℕ) → j < k → is_going (slice_get rs j) ≡ false) → first_unfinished_from n rs ≡ Some (n + k)
 from_some n [] k g h = cc
-from_some n (r ∷ rs) zero g h = let d : r.done ≡ false = not_true r.done g in let e : n ≡ n + 0 = omega arith in rw d (ap Some e)
+from_some n (r ∷ rs) zero g h = let d : r.done ≡ false = not-true r.done g in let e : n ≡ n + 0 = omega arith in rw d (ap Some e)
 from_some n (r ∷ rs) (suc k) g h =
-    let d : r.done ≡ true = not_false r.done (h 0 (omega arith)) in
+    let d : r.done ≡ true = not-false r.done (h 0 (omega arith)) in
     let e : (n + 1) + k ≡ n + suc k = omega arith in
     rw d (from_some (n + 1) rs k g (λ j l. h (suc j) (omega (arith, l))) ∙ ap Some e)
 

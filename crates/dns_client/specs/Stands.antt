@@ -3,6 +3,7 @@ use Rattle.std.specs.Prelude.{◌≡◌, ℕ, zero, suc, ◌+◌, ◌<◌, ◌�
 use Rattle.std.specs.Ordering.{nat_cmp}
 use Rattle.std.specs.Arc.{arc_value}
 use Rattle.std.specs.BTreeMap.{BTreeMap, get}
+use Rattle.dns_base.specs.Header.{header_of}
 use Rattle.dns_base.specs.Wire.{wire}
 use Rattle.dns_service.specs.Answer.{Answer}
 use Rattle.dns_service.specs.ErrorReply.{error_reply}
@@ -13,7 +14,7 @@ use Rattle.dns_service.specs.declared.event.Why.{Why}
 use Rattle.dns_client.specs.Frames.{framed, frames, past}
 use Rattle.dns_client.specs.Serving.{Serving}
 use Rattle.dns_client.specs.Slate.{Slate, SlateRequest, Told, Exchange, Open, Flushing, Closed}
-use Rattle.dns_client.specs.Requests.{asked, most_requests}
+use Rattle.dns_client.specs.Requests.{asked, most_requests, request_of_frame}
 use Rattle.dns_client.specs.Connections.{in_transaction, spending, take_frames}
 use Rattle.dns_client.specs.Invoker.{offered}
 use Rattle.dns_client.specs.Turns.{limit_for}
@@ -66,6 +67,10 @@ sole kept (suc k) = None
 abbrev pub sole_number : {Q : Type 0} → Option Q → Option ℕ
 sole_number None = None
 sole_number (Some q) = Some 0
+
+abbrev pub state_is_open : {W R F : Type 0} → State W R F → Bool
+state_is_open (Is_open c) = true
+state_is_open _ = false
 
 abbrev pub state_is_spent : {W R F : Type 0} → State W R F → Bool
 state_is_spent (Is_exchange kept) = not (is_some kept)
@@ -196,6 +201,10 @@ module _ {R F : Type 0} (answer : PolledRequest F R → ℕ → Answer) (answers
     StandsIn number (Is_closed freed) s = IsClosed number freed s
     StandsIn number Is_lost s = ⊥
 
+    -- at every slate that the old state stands for, the outputs are those that are told, and the new one stands for the slate after
+    abbrev pub StateGoes : ℕ → State W R F → State W R F → List Output → (Slate → Told) → Type 0
+    StateGoes number old new outs after = (s : Slate) → StandsIn number old s → (outs ≡ (after s).1) × StandsIn number new (after s).0
+
     abbrev pub Stands : ClientCore W R F → Slate → Type 0
     Stands core s = StandsIn core.client core.state s
 
@@ -211,6 +220,11 @@ module _ {R F : Type 0} (answer : PolledRequest F R → ℕ → Answer) (answers
     pub record Asks (old new : OpenConnection W R F) (r : Req (Unit {0})) : Type 0 where
       pub others : new ≡ record old { count = new.count; unfinished = new.unfinished }
       pub made : (rs : List SlateRequest) → KeepsAll old.count old.transactions old.unfinished rs → KeepsAll new.count new.transactions new.unfinished (if nat_lt (length rs) most_requests then rs ++ asked r ∷ [] else rs)
+
+    -- a message is taken: a response is refused, and a query asked
+    pub record TakesMessage (at secs : ℕ) (old new : OpenConnection W R F) (o : List ℕ) : Type 0 where
+      pub response : (header_of o).qr ≡ true → new ≡ refusing at old o
+      pub query : (header_of o).qr ≡ false → Asks old new (request_of_frame old.invoker.idle_timeout old.addr at secs o)
 
     -- one frame is taken, and what is left to be taken, at some slate of the connection, is all that was
     pub record TakesFrame (at secs : ℕ) (old new : OpenConnection W R F) : Type 0 where

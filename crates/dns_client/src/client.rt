@@ -1,6 +1,6 @@
 //! One client's core.
 
-ghost use Rattle.std.specs.Prelude.{◌≡◌, ◌≤◌, ℕ, [], ◌∷◌, true, false, length, slice_get, option_map, None, IfOk, OnOk, OnErr};
+ghost use Rattle.std.specs.Prelude.{◌≡◌, ◌≤◌, ℕ, [], true, false, length, slice_get, option_map, None, IfOk, OnOk, OnErr};
 ghost use Rattle.std.specs.Result.{IsOkAnd};
 ghost use Rattle.dns_client.specs.Serving.{Serving, serving};
 ghost use Rattle.dns_client.specs.Slate.{Slate, IsUnused, conf_of, phase_is_closed};
@@ -8,26 +8,25 @@ ghost use Rattle.dns_client.specs.Datagrams.{datagram};
 ghost use Rattle.dns_client.specs.Connections.{opened};
 ghost use Rattle.dns_client.specs.Rule.{rule};
 ghost use Rattle.dns_client.specs.After.{slate_after};
-ghost use Rattle.dns_client.specs.News.{told_of, new_configurations, wide};
+ghost use Rattle.dns_client.specs.News.{told_of, new_configurations};
 ghost use Rattle.dns_client.specs.Spent.{is_spent};
-ghost use Rattle.dns_client.specs.Stands.{IsClosed, sole_number, wound_up};
+ghost use Rattle.dns_client.specs.Stands.{sole_number};
 ghost use Rattle.dns_client.specs.Waiting.{first_unfinished, next_unfinished};
 ghost use Rattle.dns_service.specs.PolledRequest.{request_answer};
 
 use crate::connection::OpenConnection;
-use crate::exchange::{begin_exchange, exchange_step, one};
+use crate::exchange::begin_exchange;
 use crate::flushing::FlushingConnection;
 use crate::kept::KeptRequest;
-use crate::outcome::Outcome;
+use crate::states::{lose, shut_down, step_state};
 use dns_admission::Look;
 use dns_base::SocketAddr;
-use dns_service::{Event, EventKind, Octets, OutOfMemory, Output, Served, Why};
+use dns_service::{Event, OutOfMemory, Output, Served};
 use std::alloc::Global;
-use std::mem::replace;
 
 /// What a client is, with what is kept of it.
 #[derive(Drop)]
-enum State<W: Served> {
+pub(crate) enum State<W: Served> {
     /// One datagram, and its request until that is done.
     Exchange(Option<KeptRequest<W::Future, W::Stream>>),
     /// A connection that is open.
@@ -48,26 +47,6 @@ pub struct ClientCore<W: Served> {
     version: u64,
 }
 
-/// The state of a connection that only writes what waits from now on, where it is open.
-fn wound_up<W: Served>(state: State<W>, why: Why) -> State<W>
-    ensures { result ≡ wound_up why state }
-{
-    match state {
-        State::Open(connection) => State::Flushing(connection.into_flushing(why)),
-        other => other,
-    }
-}
-
-/// An event of a closed connection: a release gives its slot back.
-fn step_closed(freed: &mut bool, event: &Event)
-    ensures { (answers : Serving) (client : ℕ) (s : Slate) → IsClosed client freed.old s
-        → ([] ≡ (rule answers event.now s).1) × IsClosed client freed.new (rule answers event.now s).0 }
-{
-    if let EventKind::Release = &event.kind {
-        *freed = true;
-    }
-}
-
 /// The number of an exchange's request, where that is kept.
 fn sole_number<F, R>(unfinished: &Option<KeptRequest<F, R>>) -> Option<u64>
     ensures { result ≡ sole_number unfinished.now }
@@ -78,17 +57,8 @@ fn sole_number<F, R>(unfinished: &Option<KeptRequest<F, R>>) -> Option<u64>
     }
 }
 
-/// A last frame, and why the connection is closed behind it.
-fn last(alloc: Global, client: u64, octets: Octets, why: Why) -> Result<Vec<Output>, OutOfMemory>
-    ensures { IfOk result (λ outs. outs.items ≡ Output.Frame client octets ∷ Output.Closed client why ∷ []) }
-{
-    let mut outs = one(alloc, Output::Frame { client, octets })?;
-    outs.push(Output::Closed { client, why })?;
-    Ok(outs)
-}
-
 impl<W: Served> ClientCore<W> {
-    ghost use Rattle.dns_client.specs.Stands.{Stands, GoesAs, IsLost, outputs_of, state_behind, state_is_spent, is_freed, is_closed, waiting, write_limit};
+    ghost use Rattle.dns_client.specs.Stands.{Stands, GoesAs, IsLost, state_is_spent, is_freed, is_closed, waiting, write_limit};
 
     /// An exchange by its datagram, at a moment in ms and seconds and by a look that shows no shutdown, and what the client is
     /// sent for it. What is longer than 1,024 octets is cut. Below 12 octets no request is made, and a response is refused at
@@ -143,95 +113,6 @@ impl<W: Served> ClientCore<W> {
         })
     }
 
-    /// A connection that is open only writes what waits from now on.
-    fn wind_up(&mut self, why: Why)
-        ensures client { self.new.client ≡ self.old.client }
-        ensures version { self.new.version ≡ self.old.version }
-        ensures state { self.new.state ≡ wound_up why self.old.state }
-    {
-        let state = replace(&mut self.state, State::Closed { freed: false });
-        self.state = wound_up(state, why);
-    }
-
-    /// The connection is closed from now on.
-    fn close(&mut self)
-        ensures client { self.new.client ≡ self.old.client }
-        ensures version { self.new.version ≡ self.old.version }
-        ensures state { self.new.state ≡ State.Closed false }
-    {
-        self.state = State::Closed { freed: false };
-    }
-
-    /// What the client is sent for an outcome. Of a connection that ends nothing is kept but its number.
-    fn carry_out(&mut self, alloc: Global, outcome: Outcome) -> Result<Vec<Output>, OutOfMemory>
-        ensures outs { IfOk result (λ outs. outs.items ≡ outputs_of self.old.client outcome) }
-        ensures client { self.new.client ≡ self.old.client }
-        ensures version { self.new.version ≡ self.old.version }
-        ensures state { self.new.state ≡ state_behind self.old.state outcome }
-    {
-        let client = self.client;
-        match outcome {
-            Outcome::Nothing => Ok(Vec::new(alloc)),
-            Outcome::Written(octets) => one(alloc, Output::Frame { client, octets }),
-            Outcome::WrittenLast(octets, why) => {
-                self.close();
-                last(alloc, client, octets, why)
-            }
-            Outcome::WindsUp(why) => {
-                self.wind_up(why);
-                Ok(Vec::new(alloc))
-            }
-            Outcome::Ends(why) => {
-                self.close();
-                one(alloc, Output::Closed { client, why })
-            }
-        }
-    }
-
-    /// A call found no memory: nothing is kept any more.
-    fn lose(&mut self, error: OutOfMemory) -> OutOfMemory
-        ensures client { self.new.client ≡ self.old.client }
-        ensures version { self.new.version ≡ self.old.version }
-        ensures state { IsLost self.new }
-    {
-        self.state = State::Lost;
-        error
-    }
-
-    /// What an event of a client leads to, which is that of its state.
-    fn do_step(
-        &mut self,
-        alloc: Global,
-        service: &W,
-        event: &Event,
-    ) -> Result<Vec<Output>, OutOfMemory>
-        requires { W.can_call service.now }
-        ensures told { IfOk result (λ outs. GoesAs (request_answer W.Future.answer W.Stream.answer) (serving (W.answer service.now) (W.hint service.now)) self.old self.new outs.items
-            (rule (serving (W.answer service.now) (W.hint service.now)) event.now)) }
-        ensures client { self.new.client ≡ self.old.client }
-        ensures version { self.new.version ≡ self.old.version }
-        ensures lost { IsLost self.old → IsOkAnd result (λ outs. outs.items ≡ []) × IsLost self.new }
-    {
-        match &mut self.state {
-            State::Exchange(unfinished) => exchange_step(alloc, self.client, unfinished, event),
-            State::Open(connection) => {
-                let outcome = connection.step(alloc, service, event)?;
-                let outs = self.carry_out(alloc, outcome)?;
-                Ok(outs)
-            }
-            State::Flushing(connection) => {
-                let outcome = connection.step(event);
-                let outs = self.carry_out(alloc, outcome)?;
-                Ok(outs)
-            }
-            State::Closed { freed } => {
-                step_closed(freed, event);
-                Ok(Vec::new(alloc))
-            }
-            State::Lost => Ok(Vec::new(alloc)),
-        }
-    }
-
     /// One event of the client. Where it finds no memory, nothing is kept any more, and every later call gives nothing.
     pub fn step(
         &mut self,
@@ -249,9 +130,9 @@ impl<W: Served> ClientCore<W> {
         ensures loses { OnErr result (IsLost self.new) }
         ensures lost { IsLost self.old → IsOkAnd result (λ outs. outs.items ≡ []) × IsLost self.new }
     {
-        match self.do_step(alloc, service, event) {
+        match step_state(&mut self.state, alloc, service, self.client, event) {
             Ok(outs) => Ok(outs),
-            Err(error) => Err(self.lose(error)),
+            Err(error) => Err(lose(&mut self.state, error)),
         }
     }
 
@@ -272,22 +153,6 @@ impl<W: Served> ClientCore<W> {
         }
     }
 
-    /// An open connection is to be closed, since the server shuts down.
-    fn shut_down(&mut self, alloc: Global) -> Result<Vec<Output>, OutOfMemory>
-        ensures told { IfOk result (λ outs. (answers : Serving)
-            → GoesAs (request_answer W.Future.answer W.Stream.answer) answers self.old self.new outs.items (rule answers (wide EventKind.Shutdown))) }
-        ensures client { self.new.client ≡ self.old.client }
-        ensures version { self.new.version ≡ self.old.version }
-        ensures lost { IsLost self.old → IsOkAnd result (λ outs. outs.items ≡ []) × IsLost self.new }
-    {
-        let State::Open(connection) = &self.state else {
-            return Ok(Vec::new(alloc));
-        };
-        let outcome = connection.wind_up(Why::Shutdown);
-        let outs = self.carry_out(alloc, outcome)?;
-        Ok(outs)
-    }
-
     /// A look at the book: the client hears of what is new to it, the configurations and then the shutdown. Where it finds no
     /// memory, nothing is kept any more, and every later call gives nothing.
     pub fn saw(&mut self, alloc: Global, look: &Look) -> Result<Vec<Output>, OutOfMemory>
@@ -304,9 +169,9 @@ impl<W: Served> ClientCore<W> {
         if !look.closed {
             return Ok(Vec::new(alloc));
         }
-        match self.shut_down(alloc) {
+        match shut_down(&mut self.state, alloc, self.client) {
             Ok(outs) => Ok(outs),
-            Err(error) => Err(self.lose(error)),
+            Err(error) => Err(lose(&mut self.state, error)),
         }
     }
 

@@ -1,7 +1,6 @@
 //! A connection that is open.
 
-ghost use Rattle.std.specs.Prelude.{◌≡◌, ◌<◌, ℕ, ◌+◌, ◌-◌, min, IfOk, OnOk, [], MatchOption, length, option_map, slice_get, true, false, not, ◌&&◌, if◌then◌else◌};
-ghost use Rattle.dns_base.specs.Header.{header_of};
+ghost use Rattle.std.specs.Prelude.{◌≡◌, ◌<◌, ◌≤◌, ℕ, IfOk, OnOk, [], MatchOption, length, option_map, slice_get, false};
 ghost use Rattle.dns_client.specs.Serving.{Serving, serving};
 ghost use Rattle.dns_client.specs.Slate.{Conf, Slate, IsUnused, with_conf};
 ghost use Rattle.dns_client.specs.Frames.{frames};
@@ -10,11 +9,11 @@ ghost use Rattle.dns_client.specs.Requests.{asked, request_of_frame};
 ghost use Rattle.dns_client.specs.Stands.{flushing_for};
 ghost use Rattle.dns_client.specs.Turns.{turn};
 ghost use Rattle.dns_client.specs.Waiting.{first_unfinished, next_unfinished};
-ghost use Rattle.dns_client.specs.Rule.{rule};
+ghost use Rattle.dns_client.specs.Rule.{changes_kept, rule, takes_memory};
 ghost use Rattle.dns_service.specs.PolledRequest.{request_answer};
 ghost use Rattle.dns_service.specs.Req.{Req};
 
-use crate::connection_request::{ConnectionRequest, ask, turn_at};
+use crate::connection_request::{ConnectionRequest, ask, enter, recount, turn_at};
 use crate::flushing::FlushingConnection;
 use crate::framer::Framer;
 use crate::invoker::ConnectionInvoker;
@@ -45,21 +44,8 @@ pub struct OpenConnection<W: Served> {
     invoker: ConnectionInvoker,
 }
 
-/// How many requests of so many are in a transaction after a turn of one, which was in one before, or is in one now.
-fn recount(count: u64, transactions: u64, was: bool, now: bool) -> u64
-    ensures { result ≡ (if now && not was then min (transactions + 1) count else (if was && not now then transactions - 1 else transactions)) }
-{
-    if now && !was {
-        return transactions.saturating_add(1).min(count);
-    }
-    if was && !now {
-        return transactions.saturating_sub(1);
-    }
-    transactions
-}
-
 impl<W: Served> OpenConnection<W> {
-    ghost use Rattle.dns_client.specs.Stands.{IsGoing, IsOpen, Leads, Asks, TakesFrame, refusing};
+    ghost use Rattle.dns_client.specs.Stands.{IsGoing, IsOpen, Leads, Asks, TakesFrame, TakesMessage, refusing};
 
     /// Of no requests, from a moment on. It takes the memory of its queue.
     pub fn open(
@@ -109,9 +95,10 @@ impl<W: Served> OpenConnection<W> {
         if self.count == u64::MAX {
             return Ok(());
         }
-        let kept = ask(alloc, service, request)?;
-        self.keep(kept)?;
-        Ok(())
+        match ask(alloc, service, request) {
+            Ok(kept) => self.keep(kept),
+            Err(error) => Err(error),
+        }
     }
 
     /// Keeps a request under its number.
@@ -120,9 +107,13 @@ impl<W: Served> OpenConnection<W> {
         ensures { OnOk result ((answers : Serving) (r : Req (Unit {0})) → IsGoing (request_answer W.Future.answer W.Stream.answer) answers kept (asked r)
             → Asks (request_answer W.Future.answer W.Stream.answer) answers self.old self.new r) }
     {
-        self.unfinished.insert(self.count, kept)?;
-        self.count += 1;
-        Ok(())
+        match enter(&mut self.unfinished, self.count, kept) {
+            Ok(()) => {
+                self.count += 1;
+                Ok(())
+            }
+            Err(error) => Err(error),
+        }
     }
 
     /// Answers a response, of which no request is made, where there is room.
@@ -136,15 +127,14 @@ impl<W: Served> OpenConnection<W> {
     }
 
     /// A turn of a request at a moment: a reply that is held is queued where there is room, or else the request is polled once.
-    fn turn(&mut self, alloc: Global, at: u64, request: u64) -> Result<(), OutOfMemory>
-        ensures { OnOk result ((answers : Serving) (client : ℕ) (s : Slate)
-            → IsOpen (request_answer W.Future.answer W.Stream.answer) answers client self.old s
-            → IsOpen (request_answer W.Future.answer W.Stream.answer) answers client self.new (turn answers at request (slice_get s.requests request) s)) }
+    fn turn(&mut self, alloc: Global, at: u64, request: u64) -> Result<Outcome, OutOfMemory>
+        ensures { IfOk result (λ outcome. (answers : Serving)
+            → Leads (request_answer W.Future.answer W.Stream.answer) answers self.old self.new outcome (λ s. (turn answers at request (slice_get s.requests request) s, []))) }
     {
         self.invoker.set_moment(at);
         let (was, now) = turn_at(alloc, &mut self.unfinished, &mut self.invoker, request)?;
         self.transactions = recount(self.count, self.transactions, was, now);
-        Ok(())
+        Ok(Outcome::Nothing)
     }
 
     /// Takes the frames that are kept, up to a short one.
@@ -182,12 +172,31 @@ impl<W: Served> OpenConnection<W> {
         let Some(frame) = self.framer.next(alloc)? else {
             return Ok(Some(Outcome::Nothing));
         };
+        self.take_frame(alloc, service, at, secs, frame)
+    }
+
+    /// Takes a frame. One that is shorter than a header ends the connection.
+    fn take_frame(
+        &mut self,
+        alloc: Global,
+        service: &W,
+        at: u64,
+        secs: u64,
+        frame: Vec<u8>,
+    ) -> Result<Option<Outcome>, OutOfMemory>
+        requires { W.can_call service.now }
+        ensures { IfOk result (λ outcome. MatchOption outcome
+            ((12 ≤ length frame.items) × TakesMessage (request_answer W.Future.answer W.Stream.answer) (serving (W.answer service.now) (W.hint service.now)) at secs (record self.old { timer = at }) self.new frame.items)
+            (λ outcome. (outcome ≡ Outcome.Ends Why.Short) × (length frame.items < 12))) }
+    {
         let Ok(message) = Message::from_octets(frame) else {
             return Ok(Some(Outcome::Ends(Why::Short)));
         };
         self.timer.reset(at);
-        self.take_message(alloc, service, at, secs, message)?;
-        Ok(None)
+        match self.take_message(alloc, service, at, secs, message) {
+            Ok(()) => Ok(None),
+            Err(error) => Err(error),
+        }
     }
 
     /// Takes a message: a response is refused, and a query asked.
@@ -200,9 +209,7 @@ impl<W: Served> OpenConnection<W> {
         message: Message,
     ) -> Result<(), OutOfMemory>
         requires { W.can_call service.now }
-        ensures response { OnOk result ((header_of message).qr ≡ true → self.new ≡ refusing at self.old message) }
-        ensures query { OnOk result ((header_of message).qr ≡ false
-            → Asks (request_answer W.Future.answer W.Stream.answer) (serving (W.answer service.now) (W.hint service.now)) self.old self.new (request_of_frame self.old.invoker.idle_timeout self.old.addr at secs message)) }
+        ensures { OnOk result (TakesMessage (request_answer W.Future.answer W.Stream.answer) (serving (W.answer service.now) (W.hint service.now)) at secs self.old self.new message) }
     {
         if message.header().qr {
             return self.refuse(alloc, at, &message);
@@ -223,9 +230,10 @@ impl<W: Served> OpenConnection<W> {
         ensures { OnOk result (Asks (request_answer W.Future.answer W.Stream.answer) (serving (W.answer service.now) (W.hint service.now)) self.old self.new (request_of_frame self.old.invoker.idle_timeout self.old.addr at secs message)) }
     {
         let idle_timeout = self.invoker.idle_timeout;
-        let request = frame_request(alloc, idle_timeout, self.addr, at, secs, message)?;
-        self.ask(alloc, service, request)?;
-        Ok(())
+        match frame_request(alloc, idle_timeout, self.addr, at, secs, message) {
+            Ok(request) => self.ask(alloc, service, request),
+            Err(error) => Err(error),
+        }
     }
 
     /// Octets of the stream came.
@@ -347,6 +355,37 @@ impl<W: Served> OpenConnection<W> {
         }
     }
 
+    /// One event of the connection that changes nothing of what is kept.
+    fn step_unchanged(&self, event: &Event) -> Outcome
+        ensures { changes_kept event.now.kind ≡ false → (answers : Serving) → Leads (request_answer W.Future.answer W.Stream.answer) answers self.now self.now result (rule answers event.now) }
+    {
+        match &event.kind {
+            EventKind::Tick => self.tick(event.at),
+            EventKind::End => Outcome::Ends(Why::Ended),
+            EventKind::Fault => Outcome::Ends(Why::Fault),
+            EventKind::Close => self.wind_up(Why::Commanded),
+            EventKind::Shutdown => self.wind_up(Why::Shutdown),
+            EventKind::Piece(_) | EventKind::Turn { .. } => Outcome::Nothing,
+            EventKind::Write { .. } | EventKind::Reconfigure { .. } => Outcome::Nothing,
+            EventKind::Datagram { .. } | EventKind::Offer { .. } | EventKind::Release =>
+                Outcome::Nothing,
+        }
+    }
+
+    /// One event of the connection that takes no memory.
+    fn step_at_once(&mut self, event: &Event) -> Outcome
+        ensures { takes_memory event.now.kind ≡ false → (answers : Serving) → Leads (request_answer W.Future.answer W.Stream.answer) answers self.old self.new result (rule answers event.now) }
+    {
+        match &event.kind {
+            EventKind::Write { took } => self.write(event.at, *took),
+            EventKind::Reconfigure { stream, .. } => {
+                self.reconfigure(&stream.connection_config());
+                Outcome::Nothing
+            }
+            _ => self.step_unchanged(event),
+        }
+    }
+
     /// One event of the connection.
     pub fn step(
         &mut self,
@@ -363,23 +402,8 @@ impl<W: Served> OpenConnection<W> {
                 let octets = octets.as_slice();
                 self.piece(alloc, service, event.at, event.secs, octets)
             }
-            EventKind::Turn { request } => {
-                self.turn(alloc, event.at, *request)?;
-                Ok(Outcome::Nothing)
-            }
-            EventKind::Write { took } => Ok(self.write(event.at, *took)),
-            EventKind::Tick => Ok(self.tick(event.at)),
-            EventKind::End => Ok(Outcome::Ends(Why::Ended)),
-            EventKind::Fault => Ok(Outcome::Ends(Why::Fault)),
-            EventKind::Close => Ok(self.wind_up(Why::Commanded)),
-            EventKind::Shutdown => Ok(self.wind_up(Why::Shutdown)),
-            EventKind::Reconfigure { stream, .. } => {
-                self.reconfigure(&stream.connection_config());
-                Ok(Outcome::Nothing)
-            }
-            EventKind::Datagram { .. } => Ok(Outcome::Nothing),
-            EventKind::Offer { .. } => Ok(Outcome::Nothing),
-            EventKind::Release => Ok(Outcome::Nothing),
+            EventKind::Turn { request } => self.turn(alloc, event.at, *request),
+            _ => Ok(self.step_at_once(event)),
         }
     }
 }

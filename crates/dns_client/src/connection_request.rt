@@ -1,12 +1,13 @@
 //! What is kept of a connection's request that isn't done.
 
-ghost use Rattle.std.specs.Prelude.{◌≡◌, ◌≢◌, ℕ, IfOk, OnOk, Some, None};
+ghost use Rattle.std.specs.Prelude.{◌≡◌, ◌≢◌, ℕ, ◌+◌, ◌-◌, min, IfOk, OnOk, Some, None, not, ◌&&◌, if◌then◌else◌};
 ghost use Rattle.std.specs.Arc.{arc_value};
 ghost use Rattle.std.specs.Ordering.{nat_cmp};
 ghost use Rattle.std.specs.BTreeMap.{get};
 ghost use Rattle.dns_service.specs.PolledRequest.{request_answer};
 ghost use Rattle.dns_service.specs.Answer.{Answer};
 ghost use Rattle.dns_service.specs.Invokers.{dispatched_by};
+ghost use Rattle.dns_client.specs.Connections.{is_in_transaction};
 ghost use Rattle.dns_client.specs.Turns.{ends};
 ghost use Rattle.dns_client.specs.TurnedAt.{IsHeldOn, IsPolledBy, TurnsBy, TurnedAt};
 
@@ -63,9 +64,17 @@ where
     {
         invoker.begin(self.status);
         let dispatched = invoker.dispatch(alloc, &mut self.polled, &self.message)?;
+        self.take_back(invoker);
+        Ok(ends(dispatched))
+    }
+
+    /// How far it is and what it holds are its own again.
+    fn take_back(&mut self, invoker: &mut ConnectionInvoker)
+        ensures request { self.new ≡ record self.old { status = invoker.old.status; held = invoker.old.held } }
+        ensures invoker { invoker.new ≡ record invoker.old { held = None } }
+    {
         self.status = invoker.status;
         self.held = invoker.held.take();
-        Ok(ends(dispatched))
     }
 
     /// Queues the reply that is held, where there is room now. Nothing is polled.
@@ -86,6 +95,21 @@ where
             None => self.poll(alloc, invoker),
         }
     }
+
+    /// Whether the request was in a transaction before its turn, and is in one behind it; and whether it is done.
+    fn turn_counted(
+        &mut self,
+        alloc: Global,
+        invoker: &mut ConnectionInvoker,
+    ) -> Result<((bool, bool), bool), OutOfMemory>
+        ensures turns { IfOk result (λ p. TurnsBy (request_answer F.answer R.answer) self.old.held self.old invoker.old p.1 self.new invoker.new) }
+        ensures before { IfOk result (λ p. p.0.0 ≡ is_in_transaction self.old.status) }
+        ensures behind { IfOk result (λ p. p.0.1 ≡ (not p.1 && is_in_transaction self.new.status)) }
+    {
+        let was = is_in_transaction(self.status);
+        let done = self.turn(alloc, invoker)?;
+        Ok(((was, !done && is_in_transaction(self.status)), done))
+    }
 }
 
 /// Whether what a poll led to makes its request done.
@@ -96,6 +120,19 @@ fn ends(dispatched: Dispatched) -> bool
         Dispatched::Pending | Dispatched::Item => false,
         Dispatched::Ended | Dispatched::Aborted => true,
     }
+}
+
+/// Enters a request under a number.
+pub fn enter<F: Drop, R: Drop>(
+    unfinished: &mut BTreeMap<u64, ConnectionRequest<F, R>>,
+    number: u64,
+    kept: ConnectionRequest<F, R>,
+) -> Result<(), OutOfMemory>
+    ensures here { OnOk result (get nat_cmp unfinished.new number ≡ Some kept) }
+    ensures others { OnOk result ((q : ℕ) → q ≢ number → get nat_cmp unfinished.new q ≡ get nat_cmp unfinished.old q) }
+{
+    unfinished.insert(number, kept)?;
+    Ok(())
 }
 
 /// A turn of the request of this number, where it is kept. It is let go where it is done. Whether it was in a transaction, and
@@ -109,28 +146,39 @@ pub fn turn_at<F: ReplyFuture<Stream = R>, R: ReplyStream>(
     ensures here { IfOk result (λ p. TurnedAt (request_answer F.answer R.answer) (get nat_cmp unfinished.old request) invoker.old p.0 p.1 (get nat_cmp unfinished.new request) invoker.new) }
     ensures others { OnOk result ((q : ℕ) → q ≢ request → get nat_cmp unfinished.new q ≡ get nat_cmp unfinished.old q) }
 {
-    let (was, now, done) = match unfinished.get_mut(&request) {
-        None => return Ok((false, false)),
-        Some(kept) => {
-            let was = is_in_transaction(kept.status);
-            let done = kept.turn(alloc, invoker)?;
-            (was, is_in_transaction(kept.status), done)
-        }
+    let Some(kept) = unfinished.get_mut(&request) else {
+        return Ok((false, false));
     };
-    if done {
-        let_go(unfinished, request);
-        return Ok((was, false));
-    }
-    Ok((was, now))
+    let turned = kept.turn_counted(alloc, invoker)?;
+    Ok(let_go(unfinished, request, turned))
 }
 
-/// Lets go of a request that is done.
-fn let_go<F: ReplyFuture<Stream = R>, R: ReplyStream>(
+/// Lets go of a request that is done, and gives on what else its turn gave.
+fn let_go<F: Drop, R: Drop>(
     unfinished: &mut BTreeMap<u64, ConnectionRequest<F, R>>,
     request: u64,
-)
-    ensures gone { get nat_cmp unfinished.new request ≡ None }
+    turned: ((bool, bool), bool),
+) -> (bool, bool)
+    ensures counts { result ≡ turned.0 }
+    ensures here { get nat_cmp unfinished.new request ≡ (if turned.1 then None else get nat_cmp unfinished.old request) }
     ensures others { (q : ℕ) → q ≢ request → get nat_cmp unfinished.new q ≡ get nat_cmp unfinished.old q }
 {
-    let _done = unfinished.remove(&request);
+    let (counts, done) = turned;
+    if done {
+        let _done = unfinished.remove(&request);
+    }
+    counts
+}
+
+/// How many requests of so many are in a transaction after a turn of one, which was in one before, or is in one now.
+pub fn recount(count: u64, transactions: u64, was: bool, now: bool) -> u64
+    ensures { result ≡ (if now && not was then min (transactions + 1) count else (if was && not now then transactions - 1 else transactions)) }
+{
+    if now && !was {
+        return transactions.saturating_add(1).min(count);
+    }
+    if was && !now {
+        return transactions.saturating_sub(1);
+    }
+    transactions
 }

@@ -1,11 +1,11 @@
 //! An exchange: one datagram, and its request until that is done.
 
-ghost use Rattle.std.specs.Prelude.{◌≡◌, ◌≤◌, ℕ, ◌∷◌, [], IfOk, length, slice_get};
+ghost use Rattle.std.specs.Prelude.{◌≡◌, ◌≤◌, ℕ, ◌∷◌, [], IfOk, MatchOption, None, length, slice_get};
 ghost use Rattle.dns_base.specs.Wire.{wire};
 ghost use Rattle.dns_service.specs.PolledRequest.{request_answer};
 ghost use Rattle.dns_service.specs.declared.event.Output.{Output};
 ghost use Rattle.dns_client.specs.Datagrams.{at_once, datagram, exchange, refused_datagram};
-ghost use Rattle.dns_client.specs.Requests.{asked, request_of_datagram};
+ghost use Rattle.dns_client.specs.Requests.{asked};
 ghost use Rattle.dns_client.specs.Rule.{rule};
 ghost use Rattle.dns_client.specs.Serving.{Serving, serving};
 ghost use Rattle.dns_client.specs.Slate.{Slate, IsUnused};
@@ -18,7 +18,7 @@ use crate::requests::{cut, datagram_of, datagram_request};
 use dns_base::{AdditionalBuilder, Message, SocketAddr};
 use dns_name::OptRcode;
 use dns_service::{
-    DgramConfig, Event, EventKind, OutOfMemory, Output, ReplyFuture, ReplyStream, Served,
+    DgramConfig, Event, EventKind, OutOfMemory, Output, ReplyFuture, ReplyStream, Request, Served,
     reply_limit,
 };
 use std::alloc::Global;
@@ -59,8 +59,7 @@ pub fn begin_exchange<W: Served>(
     let Ok(message) = Message::from_octets(octets) else {
         return Ok((None, Vec::new(alloc)));
     };
-    let begun = begin_message(alloc, service, client, addr, at, secs, message, config)?;
-    Ok(begun)
+    begin_message(alloc, service, client, addr, at, secs, message, config)
 }
 
 /// The same by the message that the datagram is: a response is refused, and a query asked.
@@ -80,50 +79,48 @@ fn begin_message<W: Served>(
         × IsExchange (request_answer W.Future.answer W.Stream.answer) (serving (W.answer service.now) (W.hint service.now)) client p.0 (exchange client addr at secs message s)) }
 {
     if message.header().qr {
-        let outs = refuse(alloc, client, &message, config)?;
-        return Ok((None, outs));
+        return refuse::<W>(alloc, client, &message, config);
     }
-    let kept = ask(alloc, service, addr, at, secs, message, config)?;
-    Ok((Some(kept), Vec::new(alloc)))
+    match datagram_request(alloc, config, addr, at, secs, message) {
+        Ok(request) => ask(alloc, service, request),
+        Err(error) => Err(error),
+    }
 }
 
 /// Asks the service a datagram's request.
 fn ask<W: Served>(
     alloc: Global,
     service: &W,
-    addr: SocketAddr,
-    at: u64,
-    secs: u64,
-    message: Message,
-    config: &DgramConfig,
-) -> Result<KeptRequest<W::Future, W::Stream>, OutOfMemory>
+    request: Request<()>,
+) -> Result<BegunExchange<W>, OutOfMemory>
     requires { W.can_call service.now }
-    ensures { IfOk result (λ q. IsKept (request_answer W.Future.answer W.Stream.answer) (serving (W.answer service.now) (W.hint service.now)) q (asked (request_of_datagram config.now addr at secs message))) }
+    ensures { IfOk result (λ p. (p.1.items ≡ [])
+        × MatchOption p.0 ⊥ (λ q. IsKept (request_answer W.Future.answer W.Stream.answer) (serving (W.answer service.now) (W.hint service.now)) q (asked request))) }
 {
-    let request = datagram_request(alloc, config, addr, at, secs, message)?;
     let kept = call(alloc, service, request)?;
-    Ok(kept)
+    Ok((Some(kept), Vec::new(alloc)))
 }
 
 /// What the sender of a response is sent.
-fn refuse(
+fn refuse<W: Served>(
     alloc: Global,
     client: u64,
     message: &Message,
     config: &DgramConfig,
-) -> Result<Vec<Output>, OutOfMemory>
-    ensures { IfOk result (λ outs. outs.items ≡ refused_datagram client config.now message.now) }
+) -> Result<BegunExchange<W>, OutOfMemory>
+    ensures { IfOk result (λ p. (p.0 ≡ None) × (p.1.items ≡ refused_datagram client config.now message.now)) }
 {
     let limit = reply_limit(config.max_response_size()) as u16;
     let reply = refused(alloc, message, Some(limit), OptRcode::FORMERR)?;
-    sent(alloc, client, &reply)
+    let outs = sent(alloc, client, reply)?;
+    Ok((None, outs))
 }
 
 /// A reply as what an exchange is sent.
-fn sent(alloc: Global, client: u64, reply: &AdditionalBuilder) -> Result<Vec<Output>, OutOfMemory>
-    ensures { IfOk result (λ outs. outs.items ≡ Output.Datagram client (wire reply.now.message) ∷ []) }
+fn sent(alloc: Global, client: u64, reply: AdditionalBuilder) -> Result<Vec<Output>, OutOfMemory>
+    ensures { IfOk result (λ outs. outs.items ≡ Output.Datagram client (wire reply.message) ∷ []) }
 {
-    let octets = datagram_of(alloc, reply)?;
+    let octets = datagram_of(alloc, &reply)?;
     one(alloc, Output::Datagram { client, octets })
 }
 
@@ -143,8 +140,7 @@ fn turn<F: ReplyFuture<Stream = R>, R: ReplyStream>(
     let Some(reply) = poll_kept(alloc, unfinished)? else {
         return Ok(Vec::new(alloc));
     };
-    let outs = sent(alloc, client, &reply)?;
-    Ok(outs)
+    sent(alloc, client, reply)
 }
 
 /// An event of an exchange.

@@ -6,7 +6,7 @@ ghost use Rattle.dns_service.specs.Cut.{sized};
 ghost use Rattle.dns_service.specs.ErrorReply.{error_reply};
 ghost use Rattle.dns_service.specs.Given.{message_in};
 ghost use Rattle.dns_service.specs.PolledRequest.{request_answer};
-ghost use Rattle.dns_service.specs.Transport.{limit, limit_over};
+ghost use Rattle.dns_service.specs.Transport.{hint_of, limit, limit_over};
 ghost use Rattle.dns_service.specs.declared.service.Polled.TheVariants.{Ready};
 ghost use Rattle.dns_client.specs.PolledAt.{IsPolled};
 ghost use Rattle.dns_client.specs.Turns.{ends, reply_to};
@@ -40,14 +40,39 @@ pub fn call<W: Served>(
     ensures limit { IfOk result (λ q. q.limit ≡ limit_over request.transport (limit (W.hint service.now request))) }
 {
     let mut request = request;
+    call_lent(alloc, service, &mut request)
+}
+
+/// The same of a request that is lent.
+fn call_lent<W: Served>(
+    alloc: Global,
+    service: &W,
+    request: &mut Request<()>,
+) -> Result<KeptRequest<W::Future, W::Stream>, OutOfMemory>
+    requires { W.can_call service.now }
+    ensures answers { IfOk result (λ q. (k : ℕ) → request_answer W.Future.answer W.Stream.answer q.polled k ≡ W.answer service.now request.old k) }
+    ensures message { IfOk result (λ q. arc_value q.message ≡ request.old.octets) }
+    ensures limit { IfOk result (λ q. q.limit ≡ limit_over request.old.transport (limit (W.hint service.now request.old))) }
+{
     let message = Arc::try_clone(request.message())?;
-    let future = service.call(alloc, &mut request)?;
+    match service.call(alloc, request) {
+        Ok(future) => Ok(kept_of(future, message, request)),
+        Err(error) => Err(error),
+    }
+}
+
+/// What is kept of a request that was called.
+fn kept_of<F, R>(future: F, message: Arc<Message>, request: &Request<()>) -> KeptRequest<F, R>
+    ensures polled { result.polled ≡ PolledRequest.Future future }
+    ensures message { result.message ≡ message }
+    ensures limit { result.limit ≡ limit_over request.now.transport (limit (hint_of request.now.transport)) }
+{
     let transport = request.transport_ctx();
-    Ok(KeptRequest {
+    KeptRequest {
         polled: PolledRequest::Future(future),
         message,
         limit: limit_over(transport, transport.hint()),
-    })
+    }
 }
 
 impl<F, R> KeptRequest<F, R> {

@@ -14,6 +14,7 @@ mod laws;
 mod outcome;
 mod polling;
 mod requests;
+mod states;
 mod timer;
 
 pub use client::ClientCore;

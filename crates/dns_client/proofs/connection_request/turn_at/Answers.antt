@@ -1,19 +1,22 @@
-use Rattle.std.proofs.Common.{◌≡◌, Some, refl, sym}
+use Rattle.std.proofs.Common.{◌≡◌, Some, None, refl, sym}
 use Rattle.std.specs.Option.{IsSome}
 use Rattle.std.specs.Ordering.{nat_cmp}
 use Rattle.std.specs.BTreeMap.{get}
+use Rattle.std.specs.Prelude.{not, ◌&&◌, if◌then◌else◌}
+use Rattle.dns_client.specs.Connections.{is_in_transaction}
 use Rattle.dns_service.specs.PolledRequest.{request_answer}
-use Rattle.dns_client.proofs.TurnsAt.{done_at, stays_at}
+use Rattle.dns_client.proofs.TurnsAt.{turned_at}
 use Rattle.dns_client.proofs.connection_request.turn_at.Goals as goal
-
-pub returns-then-done-clause-here : goal.returns-then-done-clause-here
-returns-then-done-clause-here g c =
-    let is : get nat_cmp c.args.unfinished.now c.args.request ≡ Some c.in-Some.kept.now = sym c.in-Some.ensures.value in
-    done_at (request_answer g.F.ReplyFuture.answer g.R.ReplyStream.answer) (get nat_cmp c.args.unfinished.now c.args.request) (get nat_cmp c.let_go.new.unfinished c.args.request) c.in-Some.kept.now c.turn.new.self c.args.invoker.now c.turn.new.invoker c.is_in_transaction-was.result c.in_ok-done-in-Some.done is c.if-done.true c.in_ok-done-in-Some.ensures c.is_in_transaction-was.ensures c.let_go.ensures.gone
 
 pub returns-clause-here : goal.returns-clause-here
 returns-clause-here g c =
-    let is : get nat_cmp c.args.unfinished.now c.args.request ≡ Some c.in-Some.kept.now = sym c.in-Some.ensures.value in
-    let some : IsSome (get nat_cmp c.args.unfinished.now c.args.request) = rw is refl in
-    let here : get nat_cmp (c.get_mut.follows.lender c.turn.new.self) c.args.request ≡ Some c.turn.new.self = ((c.get_mut.follows.holds c.turn.new.self).3 some).1 in
-    stays_at (request_answer g.F.ReplyFuture.answer g.R.ReplyStream.answer) (get nat_cmp c.args.unfinished.now c.args.request) (get nat_cmp (c.get_mut.follows.lender c.turn.new.self) c.args.request) c.in-Some.kept.now c.turn.new.self c.args.invoker.now c.turn.new.invoker c.is_in_transaction-was.result c.is_in_transaction.result c.in_ok-done-in-Some.done is c.if-done.false c.in_ok-done-in-Some.ensures c.is_in_transaction-was.ensures c.is_in_transaction.ensures here
+    let old = get nat_cmp c.args.unfinished.now c.args.request in
+    let turned = c.turn_counted.new.self in
+    let done = c.in_ok-turned.turned.1 in
+    let is : old ≡ Some c.in-Some.kept.now = sym c.in-Some.ensures.value in
+    let some : IsSome old = rw is refl in
+    let here : get nat_cmp (c.get_mut.follows.lender turned) c.args.request ≡ Some turned = ((c.get_mut.follows.holds turned).3 some).1 in
+    let left : get nat_cmp c.let_go.new.unfinished c.args.request ≡ (if done then None else Some turned) = rw here at c.let_go.ensures.here in
+    let before : c.let_go.result.0 ≡ is_in_transaction c.in-Some.kept.now.status = rw c.let_go.ensures.counts c.in_ok-turned.ensures.before in
+    let behind : c.let_go.result.1 ≡ (not done && is_in_transaction turned.status) = rw c.let_go.ensures.counts c.in_ok-turned.ensures.behind in
+    turned_at (request_answer g.F.ReplyFuture.answer g.R.ReplyStream.answer) old (get nat_cmp c.let_go.new.unfinished c.args.request) c.in-Some.kept.now turned c.args.invoker.now c.turn_counted.new.invoker c.let_go.result.0 c.let_go.result.1 done is c.in_ok-turned.ensures.turns before behind left

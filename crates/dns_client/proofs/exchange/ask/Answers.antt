@@ -1,12 +1,10 @@
 use Rattle.dns_client.specs.Serving.{serving}
-use Rattle.dns_client.proofs.Begun.{called_as}
-use Rattle.dns_client.specs.Requests.{request_of_datagram}
 use Rattle.dns_service.specs.PolledRequest.{request_answer}
+use Rattle.dns_client.proofs.Begun.{called}
 use Rattle.dns_client.proofs.exchange.ask.Goals as goal
 
 pub returns : goal.returns
 returns g c =
     let a = request_answer g.W.Future.ReplyFuture.answer g.W.Stream.ReplyStream.answer in
     let b = serving (g.W.Served.answer c.args.service.now) (g.W.Served.hint c.args.service.now) in
-    let r = request_of_datagram c.args.config.now c.args.addr c.args.at c.args.secs c.args.message in
-    called_as a b c.in_ok-kept.kept c.in_ok-request.request r c.in_ok-kept.ensures.answers c.in_ok-kept.ensures.message c.in_ok-kept.ensures.limit c.in_ok-request.ensures
+    (c.new.ensures.items, called a b c.in_ok-kept.kept c.args.request c.in_ok-kept.ensures.answers c.in_ok-kept.ensures.message c.in_ok-kept.ensures.limit)

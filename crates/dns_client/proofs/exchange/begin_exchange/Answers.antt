@@ -1,5 +1,6 @@
 use Rattle.dns_client.specs.Serving.{serving}
 use Rattle.std.proofs.Common.{◌≡◌, ◌≤◌, ◌<◌, length, ◌∙◌}
+use Rattle.std.proofs.lemmas.Result.{IfOk-weaker}
 use Rattle.dns_service.specs.PolledRequest.{request_answer}
 use Rattle.dns_client.specs.Datagrams.{cut_datagram}
 use Rattle.dns_client.proofs.Begun.{begun_short}
@@ -17,4 +18,4 @@ pub returns : goal.returns
 returns g c =
     let same : c.in-Ok.message ≡ cut_datagram c.args.octets.now = c.in-Ok.ensures.0 ∙ c.in_ok-octets.ensures in
     let long : 12 ≤ length c.in-Ok.message = rw c.in-Ok.ensures.0 c.in-Ok.ensures.1 in
-    λ s unused d. rw (← same) (c.in_ok-begun.ensures s unused d long)
+    IfOk-weaker c.begin_message.result _ _ (λ p f s unused d. rw (← same) (f s unused d long)) c.begin_message.ensures
