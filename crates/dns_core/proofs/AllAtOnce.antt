@@ -1,11 +1,10 @@
 -- Where all look after each event that all hear, all are sent what they are sent where they hear of each at once.
 use Rattle.dns_client.specs.Serving.{Serving}
-use Rattle.std.proofs.Common.{◌≡◌, ◌≢◌, ℕ, ◌+◌, ◌<◌, ◌≤◌, List, [], ◌∷◌, ◌++◌, length, length-append, Bool, true, false, refl, ap, sym, ◌∙◌, subst, ⊎_elim, arith, lt-ltb, append_assoc}
+use Rattle.std.proofs.Common.{◌≡◌, ℕ, ◌+◌, ◌<◌, ◌≤◌, List, [], ◌∷◌, ◌++◌, length, length-append, Bool, true, false, refl, ap, sym, ◌∙◌, subst, arith, lt-ltb, append_assoc}
 use Rattle.std.specs.Prelude.{nat_eq, filter, map, if◌then◌else◌}
 use Rattle.std.specs.List.{list_any, flat_map}
 use Rattle.std.specs.List.Sorted.{IsStrictlySortedBy}
 use Rattle.std.specs.Ordering.{nat_cmp}
-use Rattle.std.proofs.lemmas.Bool.{cases_eq}
 use Rattle.std.proofs.lemmas.List.{append-nil}
 use Rattle.dns_admission.specs.declared.look.Look.{Look as State}
 use Rattle.dns_admission.specs.Machine.{has_version, last_version}
@@ -18,14 +17,14 @@ use Rattle.dns_client.specs.Slate.{Slate, Told, Conf, conf_of, conf_rule}
 use Rattle.dns_core.specs.AtOnce.{look_by, undelayed}
 use Rattle.dns_core.specs.Own.{is_wide, concerns}
 use Rattle.dns_core.specs.Sent.{conf, slate}
-use Rattle.dns_core.specs.Out.{gain, gained, heard, is_unused, joins, members, out, out_after, put}
+use Rattle.dns_core.specs.Out.{gain, gained, heard, is_unused, joins, members, out, out_after}
 use Rattle.dns_core.specs.ByClient.{is_member}
 use Rattle.dns_core.specs.Books.{book_rule, is_entry}
 use Rattle.dns_core.specs.Placed.{Knowledge, book_now, entries, knows, looks, placed}
 use Rattle.dns_core.specs.Outs.{Hall, placed_slate, hall, step_gained, outs, outs_after}
 use Rattle.dns_middleware.specs.declared.settings.Settings.{Settings}
 use Rattle.dns_core.proofs.AtOnce.{closed_if, enters}
-use Rattle.dns_core.proofs.Counted.{put_there, put_other}
+use Rattle.dns_core.proofs.Counted.{put_keeps}
 use Rattle.dns_core.proofs.Gained.{concerns_all, conf_more, members_away, members_joined, members_kept, none_away}
 use Rattle.dns_core.proofs.OutLemmas.{slate_some}
 use Rattle.dns_core.proofs.Keys.{flat_among}
@@ -141,11 +140,6 @@ module _ (answers : Serving) (settings : Settings) where
       }
 
   -- ---- the whole list
-  put_keeps : (c x : ℕ) (ms : List ℕ) → list_any (nat_eq c) ms ≡ true → list_any (nat_eq c) (put x ms) ≡ true
-  put_keeps c x ms there = ⊎_elim
-      (λ (same : c ≡ x). rw same (put_there x ms))
-      (λ (apart : c ≢ x). put_other c x ms apart ∙ there)
-      (cases_eq c x)
 
   more_case : (j : Bool) (c : ℕ) (q : List Event) (e : Event) → joins answers settings q (members answers settings q) e ≡ j → is_member answers settings c q ≡ true → is_member answers settings c (q ++ e ∷ []) ≡ true
   more_case true c q e j m = ap (list_any (nat_eq c)) (members_joined answers settings q e j) ∙ put_keeps c e.client (members answers settings q) m

@@ -5,6 +5,7 @@ use Rattle.std.specs.Prelude.{if◌then◌else◌, ◌==◌, map, not, ◌&&◌,
 use Rattle.std.specs.List.{list_any}
 use Rattle.std.proofs.lemmas.Bool.{cases_eq, eq-eqb, ne_eqb}
 use Rattle.std.proofs.lemmas.List.{append-nil}
+use Rattle.std.proofs.Math.Bool.{or-false}
 use Rattle.dns_admission.specs.declared.look.Look.{Look as State}
 use Rattle.dns_admission.specs.Machine.{has_version, last_version, new_state}
 use Rattle.dns_service.specs.declared.event.Event.{Event}
@@ -76,16 +77,12 @@ none_either_way : (l : Bool) → (if l then [] else []) ≡ no_events
 none_either_way true = refl
 none_either_way false = refl
 
-or_false : (b : Bool) → (b || false) ≡ b
-or_false true = refl
-or_false false = refl
-
 -- looks of whoever, of which the client's own tell it nothing
 looks_done : (c : ℕ) (e : Event) (cs : List ℕ) (ss : List Step) (began : Bool) (b : State) → place c (knowing began b) (map (look_by e) cs ++ ss) ≡ place c (knowing began b) ss
 looks_done c e [] ss began b = refl
 looks_done c e (d ∷ cs) ss began b =
     let p : puts c (knowing began b) (look_by e d) ≡ [] = append-nil (if d == c then no_events else no_events) ∙ none_either_way (d == c) in
-    let l : learns c (knowing began b) (look_by e d) ≡ knowing began b = (elim (d == c) as (λ x. (let k : Knowledge = record { began = began || false; seen = if x then b else b; unheard = if x then [] else [] } in k) ≡ knowing began b) [ true ↦ ap (λ z. knowing z b) (or_false began) | false ↦ ap (λ z. knowing z b) (or_false began) ]) in
+    let l : learns c (knowing began b) (look_by e d) ≡ knowing began b = (elim (d == c) as (λ x. (let k : Knowledge = record { began = began || false; seen = if x then b else b; unheard = if x then [] else [] } in k) ≡ knowing began b) [ true ↦ ap (λ z. knowing z b) (or-false began) | false ↦ ap (λ z. knowing z b) (or-false began) ]) in
     ap (λ es. es ++ place c (learns c (knowing began b) (look_by e d)) (map (look_by e) cs ++ ss)) p
     ∙ ap (λ k. place c k (map (look_by e) cs ++ ss)) l
     ∙ looks_done c e cs ss began b
@@ -98,7 +95,7 @@ looks_hear c e (d ∷ cs) ss k there =
     (λ (same : d ≡ c).
     let self : (d == c) ≡ true = eq-eqb d c same in
     let p : puts c k (look_by e d) ≡ k.unheard = rw self (append-nil k.unheard) in
-    let l : learns c k (look_by e d) ≡ knowing k.began (book_now k) = rw self (ap (λ z. knowing z (book_now k)) (or_false k.began)) in
+    let l : learns c k (look_by e d) ≡ knowing k.began (book_now k) = rw self (ap (λ z. knowing z (book_now k)) (or-false k.began)) in
     ap (λ es. es ++ place c (learns c k (look_by e d)) (map (look_by e) cs ++ ss)) p
     ∙ ap (λ x. k.unheard ++ place c x (map (look_by e) cs ++ ss)) l
     ∙ ap (λ es. k.unheard ++ es) (looks_done c e cs ss k.began (book_now k)))
@@ -106,7 +103,7 @@ looks_hear c e (d ∷ cs) ss k there =
     let n : (d == c) ≡ false = ne_eqb d c apart in
     let m : nat_eq c d ≡ false = ne_eqb c d (λ h. apart (sym h)) in
     let p : puts c k (look_by e d) ≡ [] = rw n refl in
-    let l : learns c k (look_by e d) ≡ k = rw n (ap (λ z. let x : Knowledge = record { began = z; seen = k.seen; unheard = k.unheard ++ [] } in x) (or_false k.began) ∙ ap (λ es. let x : Knowledge = record { began = k.began; seen = k.seen; unheard = es } in x) (append-nil k.unheard)) in
+    let l : learns c k (look_by e d) ≡ k = rw n (ap (λ z. let x : Knowledge = record { began = z; seen = k.seen; unheard = k.unheard ++ [] } in x) (or-false k.began) ∙ ap (λ es. let x : Knowledge = record { began = k.began; seen = k.seen; unheard = es } in x) (append-nil k.unheard)) in
     let rest : list_any (nat_eq c) cs ≡ true = rw m at there in
     ap (λ es. es ++ place c (learns c k (look_by e d)) (map (look_by e) cs ++ ss)) p
     ∙ ap (λ x. place c x (map (look_by e) cs ++ ss)) l

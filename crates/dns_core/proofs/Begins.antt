@@ -1,12 +1,15 @@
 -- A server after an event by which a client begins, or is turned away.
 use Rattle.dns_client.specs.Serving.{Serving}
-use Rattle.std.proofs.Common.{◌≡◌, ◌≢◌, ℕ, ◌+◌, List, [], ◌∷◌, ◌++◌, Some, None, Bool, true, false, refl, ap, sym, ◌∙◌, ⊎_elim}
+use Rattle.std.proofs.Common.{◌≡◌, ◌≢◌, ℕ, ◌+◌, List, [], ◌∷◌, ◌++◌, None, Bool, true, false, refl, ap, sym, ◌∙◌, ⊎_elim}
 use Rattle.std.specs.Prelude.{nat_eq, nat_lt, if◌then◌else◌, not, ◌&&◌, ◌||◌}
 use Rattle.std.specs.List.{list_any}
 use Rattle.std.specs.Ordering.{nat_cmp}
 use Rattle.std.specs.BTreeMap.{BTreeMap, get}
 use Rattle.std.specs.BTreeSet.{BTreeSet, contains}
-use Rattle.std.proofs.lemmas.Bool.{cases_eq, eq-eqb, ne_eqb}
+use Rattle.std.proofs.lemmas.Bool.{cases_eq, eq-eqb, ne_eqb, not-false}
+use Rattle.dns_core.specs.Serves.{EntersWith}
+use Rattle.dns_core.proofs.OutLemmas.{one_longer}
+use Rattle.dns_core.proofs.Kept.{entered, entered_at, none_stands, nothing_held}
 use Rattle.dns_admission.specs.declared.look.Look.{Look}
 use Rattle.dns_admission.specs.Machine.{has_slot}
 use Rattle.dns_service.specs.Answer.{Answer}
@@ -16,8 +19,7 @@ use Rattle.dns_service.specs.declared.event.Output.TheVariants.{TurnedAway}
 use Rattle.dns_service.specs.declared.polled.PolledRequest.{PolledRequest}
 use Rattle.dns_client.specs.Slate.{Slate, Conf, IsUnused, fresh, conf_of}
 use Rattle.dns_client.specs.Rule.{rule}
-use Rattle.dns_client.specs.Spent.{is_spent}
-use Rattle.dns_client.specs.Stands.{Stands}
+use Rattle.dns_client.specs.Stands.{Stands, state_is_spent}
 use Rattle.dns_client.specs.declared.client.ClientCore.{ClientCore}
 use Rattle.dns_core.specs.Own.{is_wide}
 use Rattle.dns_core.specs.Sent.{slate}
@@ -29,7 +31,6 @@ use Rattle.dns_core.proofs.Counted.{put_there, put_other}
 use Rattle.dns_core.proofs.Gained.{conf_kept, slate_same, slate_other, members_joined, members_away, taken_absent, taken_put, taken_put_not}
 use Rattle.dns_core.proofs.Heard.{gained_joined, gained_away}
 use Rattle.dns_core.proofs.Plain.{plain}
-use Rattle.dns_core.proofs.Served.{not_false, one_longer, nothing_held, none_stands, entered, entered_at}
 
 -- a slot is free, or none is needed
 may_join : (held room : Bool) → held ≡ false → (not held || room) ≡ true
@@ -60,7 +61,7 @@ module _ {W R F : Type 0} (answer : PolledRequest F R → ℕ → Answer) (answe
   pub fresh_from : (old : Server W R F) (q : List Event) (e : Event) → contains nat_cmp old.used e.client ≡ false → Serves answer answers settings q old → IsFresh q e old
   fresh_from old q e free h =
       let s = slate answers settings e.client q in
-      let u : is_unused s.phase ≡ true = not_false (is_unused s.phase) (sym (h.used e.client) ∙ free) in
+      let u : is_unused s.phase ≡ true = not-false (is_unused s.phase) (sym (h.used e.client) ∙ free) in
       let pl = plain answers settings e.client q in
       record { unused = u; fresh = pl.unused u ∙ ap fresh (sym pl.conf); shown = pl.conf ∙ sym h.shown }
 
@@ -82,33 +83,30 @@ module _ {W R F : Type 0} (answer : PolledRequest F R → ℕ → Answer) (answe
       (cases_eq c e.client)
 
   -- a client begins, with what is kept of it
-  pub begin_goes : (old : Server W R F) (m : BTreeMap ℕ (ClientCore W R F)) (u : BTreeSet ℕ) (b : Look) (core : ClientCore W R F) (finished : Bool) (q : List Event) (e : Event) (outs : List Output) → IsNew q e old
+  pub begin_goes : (old : Server W R F) (m : BTreeMap ℕ (ClientCore W R F)) (u : BTreeSet ℕ) (b : Look) (core : ClientCore W R F) (q : List Event) (e : Event) (outs : List Output) → IsNew q e old
       → joins answers settings q (members answers settings q) e ≡ true
       → b.taken ≡ taken answers settings (q ++ e ∷ []) (put e.client (members answers settings q))
       → conf_of b ≡ conf_of old.book
       → b.version ≡ old.book.version
       → core.version ≡ b.version
       → (outs ≡ (rule answers e (slate answers settings e.client q)).1) × Stands answer answers core (rule answers e (slate answers settings e.client q)).0
-      → ((s : Slate) → Stands answer answers core s → finished ≡ is_spent s)
-      → get nat_cmp m e.client ≡ (if finished then get nat_cmp old.clients e.client else Some core)
-      → ((c : ℕ) → c ≢ e.client → get nat_cmp m c ≡ get nat_cmp old.clients c)
-      → ((c : ℕ) → contains nat_cmp u c ≡ (if nat_eq c e.client then true else contains nat_cmp old.used c))
+      → EntersWith answer answers old.clients m old.used u core e.client
       → Serves answer answers settings q old
       → (outs ≡ gained answers settings q e) × Serves answer answers settings (q ++ e ∷ []) (record { clients = m; used = u; book = b })
-  begin_goes old m u b core finished q e outs new joins slots shown version begun st spent here others hu h =
+  begin_goes old m u b core q e outs new joins slots shown version begun st w h =
       let s = slate answers settings e.client q in
       let ms = members_joined answers settings q e joins in (
         st.0 ∙ sym (gained_joined answers settings q e new.narrow joins),
         record {
           clients = λ c. ⊎_elim
-              (λ (same : c ≡ e.client). rw (same, ms, put_there e.client (members answers settings q), slate_same answers settings q e, here) (entered answer answers (get nat_cmp old.clients e.client) core (rule answers e s).0 finished (spent (rule answers e s).0 st.1) st.1 new.no_core))
-              (λ (apart : c ≢ e.client). rw (ms, put_other c e.client (members answers settings q) apart, slate_other answers settings c q e new.narrow apart, others c apart) (h.clients c))
+              (λ (same : c ≡ e.client). rw (same, ms, put_there e.client (members answers settings q), slate_same answers settings q e, w.here) (entered answer answers (get nat_cmp old.clients e.client) core (rule answers e s).0 (state_is_spent core.state) (w.spent (rule answers e s).0 st.1) st.1 new.no_core))
+              (λ (apart : c ≢ e.client). rw (ms, put_other c e.client (members answers settings q) apart, slate_other answers settings c q e new.narrow apart, w.others c apart) (h.clients c))
               (cases_eq c e.client);
           versions = λ c. ⊎_elim
-              (λ (same : c ≡ e.client). rw (same, here) (entered_at answer answers (get nat_cmp old.clients e.client) core b.version finished begun new.no_core))
-              (λ (apart : c ≢ e.client). rw (others c apart, version) (h.versions c))
+              (λ (same : c ≡ e.client). rw (same, w.here) (entered_at (get nat_cmp old.clients e.client) core b.version (state_is_spent core.state) begun new.no_core))
+              (λ (apart : c ≢ e.client). rw (w.others c apart, version) (h.versions c))
               (cases_eq c e.client);
-          used = used_goes old u q e new hu h;
+          used = used_goes old u q e new w.used h;
           slots = slots ∙ ap (taken answers settings (q ++ e ∷ [])) (sym ms);
           shown = shown ∙ (h.shown ∙ sym (conf_kept settings q e new.narrow));
           few = one_longer q e b.version (rw version h.few);

@@ -4,6 +4,7 @@ use Rattle.dns_client.specs.Serving.{Serving}
 use Rattle.std.proofs.Common.{◌≡◌, ℕ, ◌+◌, ◌≤◌, List, [], ◌∷◌, ◌++◌, length, length-append, drop, Bool, true, false, refl, ap, ◌∙◌, arith, ltb-true}
 use Rattle.std.specs.Prelude.{Option, Some, None, slice_get, nat_lt, if◌then◌else◌, not, ◌&&◌}
 use Rattle.std.specs.List.{list_any}
+use Rattle.std.proofs.lemmas.Bool.{and_parts}
 use Rattle.dns_name.specs.declared.address.SocketAddr.{SocketAddr}
 use Rattle.dns_base.specs.Header.{header_of}
 use Rattle.dns_base.specs.Msg.{Msg}
@@ -27,7 +28,6 @@ use Rattle.dns_client.specs.Rule.{rule, in_phase, unused_rule, exchange_rule, op
 use Rattle.dns_core.specs.Settings.{opening}
 use Rattle.dns_core.specs.Out.{is_unused}
 use Rattle.dns_middleware.specs.declared.settings.Settings.{Settings}
-use Rattle.dns_core.proofs.Gained.{and_true}
 use Rattle.dns_core.proofs.Placing.{slate_append}
 use Rattle.dns_core.proofs.Plain.{offered, rule_used, unused_is}
 
@@ -55,7 +55,7 @@ winds why (m ∷ ms) s = alike s (wind_up why (m ∷ ms) s).0 refl refl
 -- a frame more, where there is room
 appends : (at : ℕ) (m : List ℕ) (s : Slate) → room at s ≡ true → Bounds s (append_frame at m s)
 appends at m s free =
-    let short = (and_true (nat_lt (length s.queue) s.bound) (allows at (spending s)) free).0 in
+    let short = (and_parts (nat_lt (length s.queue) s.bound) (allows at (spending s)) free).0 in
     record { bound = refl; within = λ h. simp length-append (omega (arith, ltb-true (length s.queue) s.bound short)) }
 
 enqueue_case : (b : Bool) (at : ℕ) (m : List ℕ) (s : Slate) → room at s ≡ b → Bounds s (if b then append_frame at m s else s)

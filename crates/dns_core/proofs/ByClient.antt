@@ -2,29 +2,36 @@
 use Rattle.dns_client.specs.Serving.{Serving}
 use Rattle.std.proofs.Common.{◌≡◌, ◌≢◌, ℕ, List, [], ◌∷◌, ◌++◌, Bool, true, false, cond, refl, ap, sym, ◌∙◌, subst, append_assoc, ⊎_elim}
 use Rattle.std.proofs.lemmas.List.{append-nil}
-use Rattle.std.proofs.lemmas.Bool.{cases_eq, eq-eqb, eqb-true, ne_eqb}
+use Rattle.std.proofs.lemmas.Bool.{cases_eq, eq-eqb, eqb-true, ne_eqb, false_from_ne_true, not-true, and_parts}
 use Rattle.std.proofs.lemmas.List.Elements.{filter-append}
 use Rattle.std.proofs.lemmas.Map.Keys.{sorted_head, sorted_tail}
 use Rattle.std.specs.Prelude.{nat_eq, filter, if◌then◌else◌, not, ◌&&◌}
 use Rattle.std.specs.List.{list_any, flat_map}
 use Rattle.std.specs.List.Sorted.{IsStrictlySortedBy}
 use Rattle.std.specs.Ordering.{nat_cmp}
+use Rattle.std.proofs.Math.Bool.{or-true}
 use Rattle.dns_service.specs.declared.event.Event.{Event}
 use Rattle.dns_service.specs.declared.event.Output.{Output}
 use Rattle.dns_service.specs.declared.event.Output.TheVariants.{TurnedAway}
 use Rattle.dns_client.specs.Slate.{Slate}
 use Rattle.dns_core.specs.Own.{is_wide, concerns, own}
 use Rattle.dns_core.specs.Sent.{conf, sent, slate}
-use Rattle.dns_core.specs.Out.{is_unused, is_new, is_turned_away, joins, members, gain, heard, turned_away, gained, out_after, out}
+use Rattle.dns_core.specs.Out.{is_unused, is_new, is_turned_away, joins, members, gain, heard, turned_away, gained, out}
 use Rattle.dns_core.specs.ByClient.{is_for, is_member, was_turned_away}
 use Rattle.dns_middleware.specs.declared.settings.Settings.{Settings}
-use Rattle.dns_core.proofs.Counted.{less_absent, or_true}
-use Rattle.dns_core.proofs.OutLemmas.{slate_some, sent_more, sent_still}
+use Rattle.dns_core.proofs.Counted.{less_absent}
+use Rattle.dns_core.proofs.OutLemmas.{slate_some, sent_more, sent_still, out_more}
 use Rattle.dns_core.proofs.Plain.{unused_is}
-use Rattle.dns_core.proofs.Gained.{and_true, concerns_own, used_more, new_was, new_became, used_not_new, members_kept, members_away}
+use Rattle.dns_core.proofs.Gained.{concerns_own, used_more, new_was, new_became, used_not_new, members_kept, members_away}
 use Rattle.dns_core.proofs.Rising.{rises, members_used, new_joins}
 use Rattle.dns_core.proofs.Nothing.{member_other}
 use Rattle.dns_core.proofs.Named.{AreFor, filter_for, filter_others, rule_for, first_for, wide_begins_nobody, of_client, sent_nothing}
+
+-- neither a member nor turned away: it didn't begin
+pub didnt_begin : (u m : Bool) → m ≡ false → (not u && not m) ≡ false → u ≡ true
+didnt_begin true m absent h = refl
+didnt_begin false true absent h = cc
+didnt_begin false false absent h = cc
 
 -- of what is told by number, what is for one is what that one is told
 flat_case : (p : ℕ → Bool) (f : ℕ → List Output) (c m : ℕ) (ms : List ℕ) (rest : List Output) → filter (is_for c) (flat_map f (filter p ms)) ≡ rest → (b : Bool) → p m ≡ b
@@ -32,23 +39,23 @@ flat_case : (p : ℕ → Bool) (f : ℕ → List Output) (c m : ℕ) (ms : List 
 flat_case p f c m ms rest more true h = filter-append (is_for c) (f m) (flat_map f (filter p ms)) ∙ ap (λ (os : List Output). filter (is_for c) (f m) ++ os) more
 flat_case p f c m ms rest more false h = more
 
+other_case : (c m : ℕ) (os : List Output) → c ≢ m → (b : Bool) → (b ≡ true → AreFor m os) → filter (is_for c) (if b then os else []) ≡ []
+other_case c m os apart true h = filter_others c m os (h refl) apart
+other_case c m os apart false h = refl
+
 flat_absent : (p : ℕ → Bool) (f : ℕ → List Output) (c : ℕ) (ms : List ℕ) → ((d : ℕ) → p d ≡ true → list_any (nat_eq d) ms ≡ true → AreFor d (f d)) → list_any (nat_eq c) ms ≡ false → filter (is_for c) (flat_map f (filter p ms)) ≡ []
 flat_absent p f c [] each absent = refl
 flat_absent p f c (m ∷ ms) each absent =
     let apart : c ≢ m = λ (e : c ≡ m). let here = eq-eqb c m e in cc in
     let ne = ne_eqb c m apart in
-    let rest = flat_absent p f c ms (λ d passes there. each d passes (rw there (or_true (nat_eq d m)))) (rw ne at absent) in
-    flat_case p f c m ms [] rest (p m) refl ∙ (append-nil (filter (is_for c) (if p m then f m else [])) ∙ others c m (f m) apart (p m) (λ passes. each m passes (rw (eq-eqb m m refl) refl)))
-  where
-    others : (c m : ℕ) (os : List Output) → c ≢ m → (b : Bool) → (b ≡ true → AreFor m os) → filter (is_for c) (if b then os else []) ≡ []
-    others c m os apart true h = filter_others c m os (h refl) apart
-    others c m os apart false h = refl
+    let rest = flat_absent p f c ms (λ d passes there. each d passes (rw there (or-true (nat_eq d m)))) (rw ne at absent) in
+    flat_case p f c m ms [] rest (p m) refl ∙ (append-nil (filter (is_for c) (if p m then f m else [])) ∙ other_case c m (f m) apart (p m) (λ passes. each m passes (rw (eq-eqb m m refl) refl)))
 
 -- of numbers that rise each is told once
 flat_of : (p : ℕ → Bool) (f : ℕ → List Output) (c : ℕ) (ms : List ℕ) → IsStrictlySortedBy nat_cmp ms → ((d : ℕ) → p d ≡ true → list_any (nat_eq d) ms ≡ true → AreFor d (f d)) → list_any (nat_eq c) ms ≡ true → filter (is_for c) (flat_map f (filter p ms)) ≡ (if p c then f c else [])
 flat_of p f c [] so each there = cc
 flat_of p f c (m ∷ ms) so each there =
-    let later : (d : ℕ) → p d ≡ true → list_any (nat_eq d) ms ≡ true → AreFor d (f d) = λ d passes is. each d passes (rw is (or_true (nat_eq d m))) in
+    let later : (d : ℕ) → p d ≡ true → list_any (nat_eq d) ms ≡ true → AreFor d (f d) = λ d passes is. each d passes (rw is (or-true (nat_eq d m))) in
     ⊎_elim
     (λ (same : m ≡ c).
     let absent : list_any (nat_eq c) ms ≡ false = ap (λ (x : ℕ). list_any (nat_eq x) ms) (sym same) ∙ less_absent m ms (sorted_head nat_cmp m ms so) in
@@ -66,10 +73,6 @@ flat_of p f c (m ∷ ms) so each there =
     own_case : (c : ℕ) (os : List Output) (b : Bool) → (b ≡ true → AreFor c os) → filter (is_for c) (if b then os else []) ≡ (if b then os else [])
     own_case c os true h = filter_for c os (h refl)
     own_case c os false h = refl
-
-    other_case : (c m : ℕ) (os : List Output) → c ≢ m → (b : Bool) → (b ≡ true → AreFor m os) → filter (is_for c) (if b then os else []) ≡ []
-    other_case c m os apart true h = filter_others c m os (h refl) apart
-    other_case c m os apart false h = refl
 
 module _ (answers : Serving) (settings : Settings) where
   -- a member is told what is for it, at the event by which it begins and after
@@ -107,16 +110,8 @@ module _ (answers : Serving) (settings : Settings) where
       filter-append (is_for c) (flat_map f (heard answers settings q e)) (turned_away answers settings q e)
       ∙ ap (λ (os : List Output). os ++ filter (is_for c) (turned_away answers settings q e)) (flat_absent (λ d. concerns d e) f c (members answers settings (q ++ e ∷ [])) (gain_for q e) absent)
 
-  out_after_snoc : (p q : List Event) (e : Event) → out_after answers settings p (q ++ e ∷ []) ≡ out_after answers settings p q ++ gained answers settings (p ++ q) e
-  out_after_snoc p [] e = append-nil (gained answers settings p e) ∙ ap (λ (x : List Event). gained answers settings x e) (sym (append-nil p))
-  out_after_snoc p (x ∷ q) e = ap (λ (os : List Output). gained answers settings p x ++ os) (out_after_snoc (p ++ x ∷ []) q e ∙ ap (λ (y : List Event). out_after answers settings (p ++ x ∷ []) q ++ gained answers settings y e) (append_assoc p (x ∷ []) q)) ∙ sym (append_assoc (gained answers settings p x) (out_after answers settings (p ++ x ∷ []) q) (gained answers settings (p ++ x ∷ q) e))
-
-  out_more : (q : List Event) (e : Event) → out answers settings (q ++ e ∷ []) ≡ out answers settings q ++ gained answers settings q e
-  unfolding out
-  out_more q e = out_after_snoc [] q e
-
   for_more : (c : ℕ) (q : List Event) (e : Event) → filter (is_for c) (out answers settings (q ++ e ∷ [])) ≡ filter (is_for c) (out answers settings q) ++ filter (is_for c) (gained answers settings q e)
-  for_more c q e = ap (filter (is_for c)) (out_more q e) ∙ filter-append (is_for c) (out answers settings q) (gained answers settings q e)
+  for_more c q e = ap (filter (is_for c)) (out_more answers settings q e) ∙ filter-append (is_for c) (out answers settings q) (gained answers settings q e)
 
   abbrev sent_to : ℕ → List Event → List Output
   sent_to c q = filter (is_for c) (out answers settings q)
@@ -133,16 +128,12 @@ module _ (answers : Serving) (settings : Settings) where
   was_case c q e u true is = is
   was_case c q e u false is = let used = used_more answers settings c q e is in cc
 
-  absent_case : (b : Bool) → (b ≡ true → ⊥) → b ≡ false
-  absent_case true h = absurd (h refl)
-  absent_case false h = refl
-
   -- a client whose number is unused is no member, and begins with nothing that turns it away
   unused_absent : (c : ℕ) (q : List Event) → is_unused (slate answers settings c q).phase ≡ true → list_any (nat_eq c) (members answers settings q) ≡ false
-  unused_absent c q u = absent_case (list_any (nat_eq c) (members answers settings q)) (λ there. let used = members_used answers settings q c there in let no : ⊥ = cc in no)
+  unused_absent c q u = false_from_ne_true (list_any (nat_eq c) (members answers settings q)) (λ there. let used = members_used answers settings q c there in let no : ⊥ = cc in no)
 
   away_new : (q : List Event) (e : Event) → is_turned_away answers settings q e ≡ true → is_new answers settings q e ≡ true
-  away_new q e h = (and_true (is_new answers settings q e) (not (joins answers settings q (members answers settings q) e)) h).0
+  away_new q e h = (and_parts (is_new answers settings q e) (not (joins answers settings q (members answers settings q) e)) h).0
 
   unused_apart : (c : ℕ) (q : List Event) (e : Event) → is_unused (slate answers settings c (q ++ e ∷ [])).phase ≡ true → is_turned_away answers settings q e ≡ true → c ≢ e.client
   unused_apart c q e u away same = let became = new_became answers settings q e (away_new q e away) in let u' : is_unused (slate answers settings e.client (q ++ e ∷ [])).phase ≡ true = rw same at u in let no : ⊥ = cc in no
@@ -200,7 +191,7 @@ module _ (answers : Serving) (settings : Settings) where
       let b = began c q e is there (joins answers settings q (members answers settings q) e) refl in
       let was : is_unused (slate answers settings c q).phase ≡ true = ap (λ (x : ℕ). is_unused (slate answers settings x q).phase) b.1 ∙ new_was answers settings q e (new_joins answers settings q e (members answers settings q) b.0) in
       let so : sent_to c q ≡ sent answers settings (own c q) = untold q c was ∙ sym (sent_nothing answers settings c q was) in
-      goes_on c q e so (λ away. let not_joined = and_true (is_new answers settings q e) (not (joins answers settings q (members answers settings q) e)) away in let joined = b.0 in cc) there (concerns c e) refl
+      goes_on c q e so (λ away. let not_joined = and_parts (is_new answers settings q e) (not (joins answers settings q (members answers settings q) e)) away in let joined = b.0 in cc) there (concerns c e) refl
 
   owns_on : (r q : List Event) → Owns q → Owns (q ++ r)
   owns_on [] q h = subst Owns (sym (append-nil q)) h
@@ -243,14 +234,10 @@ module _ (answers : Serving) (settings : Settings) where
   away_on c os [] q a = subst (λ (p : List Event). Away c p os) (sym (append-nil q)) a
   away_on c os (x ∷ r) q a = subst (λ (p : List Event). Away c p os) (append_assoc q (x ∷ []) r) (away_on c os r (q ++ x ∷ []) (away_more c q os x a))
 
-  no_joins : (b : Bool) → not b ≡ true → b ≡ false
-  no_joins true h = cc
-  no_joins false h = refl
-
   pub turned : (q r : List Event) (e : Event) → is_turned_away answers settings q e ≡ true → sent_to e.client (q ++ e ∷ r) ≡ TurnedAway e.client (conf settings q).stream.accept_connections_at_max ∷ []
   turned q r e away =
-      let both = and_true (is_new answers settings q e) (not (joins answers settings q (members answers settings q) e)) away in
-      let out_of = no_joins (joins answers settings q (members answers settings q) e) both.1 in
+      let both = and_parts (is_new answers settings q e) (not (joins answers settings q (members answers settings q) e)) away in
+      let out_of = not-true (joins answers settings q (members answers settings q) e) both.1 in
       let was = new_was answers settings q e both.0 in
       let absent = ap (list_any (nat_eq e.client)) (members_away answers settings q e out_of) ∙ unused_absent e.client q was in
       let line = TurnedAway e.client (conf settings q).stream.accept_connections_at_max ∷ [] in
@@ -261,12 +248,6 @@ module _ (answers : Serving) (settings : Settings) where
         told = for_more e.client q e ∙ (ap (λ (os : List Output). os ++ filter (is_for e.client) (gained answers settings q e)) (untold q e.client was) ∙ (gained_stranger e.client q e absent ∙ says));
       } in
       ap (sent_to e.client) (sym (append_assoc q (e ∷ []) r)) ∙ (away_on e.client line r (q ++ e ∷ []) first).told
-
-  -- neither a member nor turned away: it didn't begin
-  didnt_begin : (u m : Bool) → m ≡ false → (not u && not m) ≡ false → u ≡ true
-  didnt_begin true m absent h = refl
-  didnt_begin false true absent h = cc
-  didnt_begin false false absent h = cc
 
   pub strangers : (c : ℕ) (es : List Event) → is_member answers settings c es ≡ false → was_turned_away answers settings c es ≡ false → sent_to c es ≡ []
   strangers c es absent h = untold es c (didnt_begin (is_unused (slate answers settings c es).phase) (is_member answers settings c es) absent h)

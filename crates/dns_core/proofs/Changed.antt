@@ -2,7 +2,7 @@
 use Rattle.std.proofs.Common.{◌≡◌, ℕ, List, [], ◌∷◌, ◌++◌, Bool, true, false, refl, ap, sym, ◌∙◌, append_assoc}
 use Rattle.std.specs.Prelude.{filter, if◌then◌else◌, not, ◌&&◌, ◌==◌}
 use Rattle.std.specs.List.{flat_map}
-use Rattle.std.proofs.lemmas.Bool.{eq-eqb}
+use Rattle.std.proofs.lemmas.Bool.{eq-eqb, and_parts}
 use Rattle.std.proofs.lemmas.List.{append-nil}
 use Rattle.std.proofs.lemmas.List.Elements.{filter-append}
 use Rattle.dns_admission.specs.declared.look.Look.{Look as State}
@@ -54,12 +54,8 @@ no_entry_kind (Offer addr) b h = refl
 no_entry_kind (Datagram addr o) b h = refl
 no_entry_kind _ b h = cc
 
-left_of : (a b : Bool) → (a && b) ≡ true → a ≡ true
-left_of true b h = refl
-left_of false b h = cc
-
 look_enters : (c : ℕ) (began : Bool) (b : State) (s : Step) → looks c began s ≡ true → entries b s ≡ []
-look_enters c began b (Own e) h = let n = no_entry_kind e.kind b (left_of (is_beginning e.kind) (e.client == c) (left_of (begins c (Own e)) (not began) h)) in rw n refl
+look_enters c began b (Own e) h = let n = no_entry_kind e.kind b (and_parts (is_beginning e.kind) (e.client == c) (and_parts (begins c (Own e)) (not began) h).0).0 in rw n refl
 look_enters c began b (Look at secs d) h = refl
 
 -- what is heard, and then what is unheard and comes

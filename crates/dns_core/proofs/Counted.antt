@@ -7,17 +7,14 @@ use Rattle.std.specs.Ordering.{nat_cmp}
 use Rattle.std.proofs.lemmas.Bool.{eq-eqb, ne_eqb, cases_eq}
 use Rattle.std.proofs.lemmas.Bool.Decides.{nat_tests}
 use Rattle.std.proofs.lemmas.Map.Keys.{sorted_head, sorted_tail}
+use Rattle.std.proofs.Math.Bool.{or-true}
 use Rattle.dns_core.specs.Out.{put}
-
-pub or_true : (b : Bool) → (b || true) ≡ true
-or_true true = refl
-or_true false = refl
 
 pub filter_same : (p q : ℕ → Bool) (ms : List ℕ) → ((c : ℕ) → list_any (nat_eq c) ms ≡ true → p c ≡ q c) → filter p ms ≡ filter q ms
 filter_same p q [] h = refl
 filter_same p q (m ∷ ms) h =
     let here : p m ≡ q m = h m (rw (eq-eqb m m refl) refl) in
-    let more = filter_same p q ms (λ c there. h c (rw there (or_true (nat_eq c m)))) in
+    let more = filter_same p q ms (λ c there. h c (rw there (or-true (nat_eq c m)))) in
     rw (here, more) refl
 
 -- a number that was put is there
@@ -26,7 +23,7 @@ put_there c [] = rw (eq-eqb c c refl) refl
 put_there c (m ∷ ms) =
     (elim (nat_lt c m) as (λ b. list_any (nat_eq c) (if b then c ∷ m ∷ ms else m ∷ put c ms) ≡ true) [
       | true ↦ rw (eq-eqb c c refl) refl
-      | false ↦ rw (put_there c ms) (or_true (nat_eq c m))
+      | false ↦ rw (put_there c ms) (or-true (nat_eq c m))
     ])
 
 pub less_absent : (c : ℕ) (ns : List ℕ) → AllByRecursion (λ y. nat_cmp c y ≡ Less) ns → list_any (nat_eq c) ns ≡ false
@@ -87,3 +84,10 @@ put_other c x (m ∷ ms) apart =
       | true ↦ rw (ne_eqb c x apart) refl
       | false ↦ ap (λ (b : Bool). nat_eq c m || b) (put_other c x ms apart)
     ])
+
+-- who is among them stays so
+pub put_keeps : (c x : ℕ) (ms : List ℕ) → list_any (nat_eq c) ms ≡ true → list_any (nat_eq c) (put x ms) ≡ true
+put_keeps c x ms there = ⊎_elim
+    (λ (same : c ≡ x). rw same (put_there x ms))
+    (λ (apart : c ≢ x). put_other c x ms apart ∙ there)
+    (cases_eq c x)

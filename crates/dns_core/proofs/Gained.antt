@@ -3,7 +3,8 @@ use Rattle.dns_client.specs.Serving.{Serving}
 use Rattle.std.proofs.Common.{◌≡◌, ◌≢◌, ℕ, List, [], ◌∷◌, ◌++◌, ◌+◌, length, Bool, true, false, refl, ap, sym, ◌∙◌}
 use Rattle.std.specs.Prelude.{nat_eq, not, ◌&&◌}
 use Rattle.std.specs.List.{list_any}
-use Rattle.std.proofs.lemmas.Bool.{eq-eqb, ne_eqb}
+use Rattle.std.proofs.lemmas.Bool.{eq-eqb, ne_eqb, and_parts, not-true}
+use Rattle.std.proofs.Math.Bool.{and-false, and-not_self, or-true}
 use Rattle.dns_service.specs.declared.event.Event.{Event}
 use Rattle.dns_client.specs.Slate.{Slate, Told, Conf, conf_rule}
 use Rattle.dns_client.specs.Rule.{rule}
@@ -13,27 +14,11 @@ use Rattle.dns_core.specs.Sent.{conf, conf_after, slate}
 use Rattle.dns_core.specs.Out.{is_unused, holds_slot, is_new, taken, joins, members, put, turned_away}
 use Rattle.dns_middleware.specs.declared.settings.Settings.{Settings}
 use Rattle.dns_core.proofs.OutLemmas.{slate_some, slate_none, members_more}
-use Rattle.dns_core.proofs.Counted.{filter_same, absent_other, filter_put, filter_put_not, or_true}
+use Rattle.dns_core.proofs.Counted.{filter_same, absent_other, filter_put, filter_put_not}
 use Rattle.dns_core.proofs.Plain.{narrow_conf, rule_used}
 
-pub and_true : (a b : Bool) → (a && b) ≡ true → (a ≡ true) × (b ≡ true)
-and_true true b h = (refl, h)
-and_true false b h = cc
-
-not_true : (b : Bool) → not b ≡ true → b ≡ false
-not_true true h = cc
-not_true false h = refl
-
-and_false : (b : Bool) → (b && false) ≡ false
-and_false true = refl
-and_false false = refl
-
-and_not : (b : Bool) → (b && not b) ≡ false
-and_not true = refl
-and_not false = refl
-
 pub concerns_same : (e : Event) → concerns e.client e ≡ true
-concerns_same e = rw (eq-eqb e.client e.client refl) (or_true (is_wide e.kind))
+concerns_same e = rw (eq-eqb e.client e.client refl) (or-true (is_wide e.kind))
 
 pub concerns_all : (c : ℕ) (e : Event) → is_wide e.kind ≡ true → concerns c e ≡ true
 concerns_all c e w = rw w refl
@@ -54,6 +39,11 @@ conf_more settings q e = conf_after_snoc (opening settings) q e
 
 pub conf_kept : (settings : Settings) (q : List Event) (e : Event) → is_wide e.kind ≡ false → conf settings (q ++ e ∷ []) ≡ conf settings q
 conf_kept settings q e w = conf_more settings q e ∙ narrow_conf e.kind (conf settings q) w
+
+pub unused_as_before : (a b : Bool) → (a && not b) ≡ false → (a ≡ false → b ≡ false) → b ≡ a
+unused_as_before true true n h = refl
+unused_as_before true false n h = cc
+unused_as_before false b n h = h refl
 
 module _ (answers : Serving) (settings : Settings) where
   pub slate_same : (q : List Event) (e : Event) → slate answers settings e.client (q ++ e ∷ []) ≡ (rule answers e (slate answers settings e.client q)).0
@@ -81,11 +71,11 @@ module _ (answers : Serving) (settings : Settings) where
   -- a client begins where its number was unused before, and is used after
   pub new_was : (q : List Event) (e : Event) → is_new answers settings q e ≡ true → is_unused (slate answers settings e.client q).phase ≡ true
   unfolding is_new
-  new_was q e n = (and_true (is_unused (slate answers settings e.client q).phase) (not (is_unused (slate answers settings e.client (q ++ e ∷ [])).phase)) n).0
+  new_was q e n = (and_parts (is_unused (slate answers settings e.client q).phase) (not (is_unused (slate answers settings e.client (q ++ e ∷ [])).phase)) n).0
 
   pub new_became : (q : List Event) (e : Event) → is_new answers settings q e ≡ true → is_unused (slate answers settings e.client (q ++ e ∷ [])).phase ≡ false
   unfolding is_new
-  new_became q e n = not_true (is_unused (slate answers settings e.client (q ++ e ∷ [])).phase) (and_true (is_unused (slate answers settings e.client q).phase) (not (is_unused (slate answers settings e.client (q ++ e ∷ [])).phase)) n).1
+  new_became q e n = not-true (is_unused (slate answers settings e.client (q ++ e ∷ [])).phase) (and_parts (is_unused (slate answers settings e.client q).phase) (not (is_unused (slate answers settings e.client (q ++ e ∷ [])).phase)) n).1
 
   pub used_not_new : (q : List Event) (e : Event) → is_unused (slate answers settings e.client q).phase ≡ false → is_new answers settings q e ≡ false
   unfolding is_new
@@ -93,20 +83,15 @@ module _ (answers : Serving) (settings : Settings) where
 
   pub unused_not_new : (q : List Event) (e : Event) → is_unused (slate answers settings e.client (q ++ e ∷ [])).phase ≡ true → is_new answers settings q e ≡ false
   unfolding is_new
-  unused_not_new q e u = rw u (and_false (is_unused (slate answers settings e.client q).phase))
+  unused_not_new q e u = rw u (and-false (is_unused (slate answers settings e.client q).phase))
 
   pub idle_not_new : (q : List Event) (e : Event) → rule answers e (slate answers settings e.client q) ≡ (slate answers settings e.client q, []) → is_new answers settings q e ≡ false
   unfolding is_new
   idle_not_new q e idle =
       let same : slate answers settings e.client (q ++ e ∷ []) ≡ slate answers settings e.client q = slate_same q e ∙ ap (λ (t : Told). t.0) idle in
-      rw same (and_not (is_unused (slate answers settings e.client q).phase))
+      rw same (and-not_self (is_unused (slate answers settings e.client q).phase))
 
   -- with an event by which it doesn't begin, the number of its client is as used as before
-  unused_as_before : (a b : Bool) → (a && not b) ≡ false → (a ≡ false → b ≡ false) → b ≡ a
-  unused_as_before true true n h = refl
-  unused_as_before true false n h = cc
-  unused_as_before false b n h = h refl
-
   pub unused_kept : (q : List Event) (e : Event) → is_new answers settings q e ≡ false → is_unused (slate answers settings e.client (q ++ e ∷ [])).phase ≡ is_unused (slate answers settings e.client q).phase
   unfolding is_new
   unused_kept q e n = unused_as_before (is_unused (slate answers settings e.client q).phase) (is_unused (slate answers settings e.client (q ++ e ∷ [])).phase) n (used_more e.client q e)

@@ -2,7 +2,7 @@
 use Rattle.dns_client.specs.Serving.{Serving}
 use Rattle.std.proofs.Common.{◌≡◌, ℕ, ◌+◌, ◌-◌, ◌/◌, ◌≤◌, List, [], ◌∷◌, ◌++◌, length, length-append, drop, Bool, true, false, refl, sym, ◌∙◌, arith, ltb-true}
 use Rattle.std.specs.Prelude.{Option, Some, None, IsSomeAnd, nat_lt, min, ◌==◌, if◌then◌else◌, not, ◌||◌}
-use Rattle.std.proofs.lemmas.Bool.{eq-eqb}
+use Rattle.std.proofs.lemmas.Bool.{eq-eqb, and_parts}
 use Rattle.dns_base.specs.Header.{header_of}
 use Rattle.dns_base.specs.Msg.{Msg}
 use Rattle.dns_base.specs.Wire.{wire}
@@ -17,7 +17,6 @@ use Rattle.dns_client.specs.Connections.{close, append_frame, enqueue, room, spe
 use Rattle.dns_client.specs.Turns.{turn, turn_request, poll_request, answered, retimed, with_request, reply_to, hold, queue_reply}
 use Rattle.dns_core.specs.Budgets.{AllowsAtMost}
 use Rattle.dns_core.specs.Trails.{is_open}
-use Rattle.dns_core.proofs.Gained.{and_true}
 use Rattle.dns_core.proofs.Rests.{Rests, closes, requests_on}
 
 -- what is left in window n of the b replies that may be queued in it
@@ -82,7 +81,7 @@ module _ (b at : ℕ) (fits : IsBudget (Some b)) where
   -- a reply more, where there is room
   appends : (m : List ℕ) (s : Slate) → room at s ≡ true → Grows b at s (append_frame at m s)
   appends m s free =
-      let can = (and_true (nat_lt (length s.queue) s.bound) (allows at (spending s)) free).1 in
+      let can = (and_parts (nat_lt (length s.queue) s.bound) (allows at (spending s)) free).1 in
       let one : length (s.queue ++ m ∷ []) - length s.queue ≡ 1 = omega (arith, length-append s.queue (m ∷ [])) in
       record {
         budget = refl;

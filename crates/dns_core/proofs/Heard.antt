@@ -8,6 +8,7 @@ use Rattle.std.specs.List.Sorted.{IsStrictlySortedBy}
 use Rattle.std.specs.Ordering.{nat_cmp}
 use Rattle.std.proofs.lemmas.Bool.{eq-eqb, ne_eqb, cases_eq}
 use Rattle.std.proofs.lemmas.Map.Keys.{sorted_head, sorted_tail}
+use Rattle.std.proofs.Math.Bool.{or-true}
 use Rattle.dns_service.specs.declared.event.Event.{Event}
 use Rattle.dns_service.specs.declared.event.Output.{Output}
 use Rattle.dns_service.specs.declared.event.Output.TheVariants.{TurnedAway}
@@ -15,7 +16,7 @@ use Rattle.dns_core.specs.Own.{is_wide, concerns}
 use Rattle.dns_core.specs.Sent.{conf}
 use Rattle.dns_core.specs.Out.{gain, heard, is_new, is_turned_away, joins, members, turned_away, gained}
 use Rattle.dns_middleware.specs.declared.settings.Settings.{Settings}
-use Rattle.dns_core.proofs.Counted.{filter_same, less_absent, or_true, put_there}
+use Rattle.dns_core.proofs.Counted.{filter_same, less_absent, put_there}
 use Rattle.dns_core.proofs.Gained.{concerns_own, members_kept, members_joined, members_away, none_away}
 use Rattle.dns_core.proofs.Rising.{rises, new_absent}
 
@@ -52,7 +53,7 @@ same_case f g p m ms here rest false passes = rest
 -- those that pass are told alike
 pub flat_same : (f g : ℕ → List Output) (p : ℕ → Bool) (ms : List ℕ) → ((c : ℕ) → p c ≡ true → list_any (nat_eq c) ms ≡ true → f c ≡ g c) → flat_map f (filter p ms) ≡ flat_map g (filter p ms)
 flat_same f g p [] h = refl
-flat_same f g p (m ∷ ms) h = same_case f g p m ms (λ passes. h m passes (rw (eq-eqb m m refl) refl)) (flat_same f g p ms (λ c passes there. h c passes (rw there (or_true (nat_eq c m))))) (p m) refl
+flat_same f g p (m ∷ ms) h = same_case f g p m ms (λ passes. h m passes (rw (eq-eqb m m refl) refl)) (flat_same f g p ms (λ c passes there. h c passes (rw there (or-true (nat_eq c m))))) (p m) refl
 
 flat_nil : (ms : List ℕ) → flat_map {X = ℕ} {A = Output} (λ c. []) ms ≡ []
 flat_nil [] = refl

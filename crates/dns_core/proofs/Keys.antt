@@ -9,7 +9,8 @@ use Rattle.std.proofs.lemmas.Bool.{eq-eqb, ne_eqb, cases_eq}
 use Rattle.std.proofs.lemmas.Bool.Decides.{nat_tests}
 use Rattle.std.proofs.lemmas.Map.Keys.{sorted_head, sorted_tail}
 use Rattle.std.proofs.lemmas.Map.Made.{is_some-lookup}
-use Rattle.dns_core.proofs.Counted.{or_true, less_absent}
+use Rattle.std.proofs.Math.Bool.{or-true}
+use Rattle.dns_core.proofs.Counted.{less_absent}
 
 above_more : (c n : ℕ) (ns : List ℕ) → nat_cmp c n ≡ Less → AllByRecursion (λ y. nat_cmp n y ≡ Less) ns → AllByRecursion (λ y. nat_cmp c y ≡ Less) ns
 above_more c n [] h a = tt
@@ -17,7 +18,7 @@ above_more c n (m ∷ ns) h a = let l : nat_cmp c m ≡ Less = grind (arith, nat
 
 -- what is there with one more, and without the first
 more_there : (c m : ℕ) (ms : List ℕ) → list_any (nat_eq c) ms ≡ true → list_any (nat_eq c) (m ∷ ms) ≡ true
-more_there c m ms h = rw h (or_true (nat_eq c m))
+more_there c m ms h = rw h (or-true (nat_eq c m))
 
 less_there : (c m : ℕ) (ms : List ℕ) → c ≢ m → list_any (nat_eq c) (m ∷ ms) ≡ list_any (nat_eq c) ms
 less_there c m ms ne = rw (ne_eqb c m ne) refl

@@ -32,7 +32,7 @@ NotOver s = is_open s.phase ≡ true → s.conf.over ≡ false
 shut : (A : Type 0) (s : Slate) → is_open s.phase ≡ false → is_open s.phase ≡ true → A
 shut A s h o = cc
 
-wound_shut : (why : Why) (q : List (List ℕ)) (s : Slate) → is_open (wind_up why q s).0.phase ≡ false
+pub wound_shut : (why : Why) (q : List (List ℕ)) (s : Slate) → is_open (wind_up why q s).0.phase ≡ false
 wound_shut why [] s = refl
 wound_shut why (m ∷ ms) s = refl
 

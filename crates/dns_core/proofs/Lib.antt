@@ -15,6 +15,7 @@ pub mod Keys
 pub mod Steps
 pub mod Wide
 pub mod Spent
+pub mod Kept
 pub mod Slots
 pub mod Served
 pub mod Begins

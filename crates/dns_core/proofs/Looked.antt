@@ -2,8 +2,9 @@
 use Rattle.dns_client.specs.Serving.{Serving}
 use Rattle.std.proofs.Common.{◌≡◌, ℕ, ◌+◌, ◌<◌, List, [], ◌∷◌, ◌++◌, Bool, true, false, refl, ap, sym, ◌∙◌, arith, ⊎_elim, ◌⊎◌, inl, inr}
 use Rattle.std.specs.Prelude.{if◌then◌else◌, not, ◌&&◌}
-use Rattle.std.proofs.lemmas.Bool.{eq-eqb, ne_eqb}
+use Rattle.std.proofs.lemmas.Bool.{eq-eqb, ne_eqb, and_parts, not-true}
 use Rattle.std.proofs.lemmas.List.{append-nil}
+use Rattle.std.proofs.Math.Bool.{and-not_self}
 use Rattle.dns_admission.specs.declared.look.Look.{Look as State}
 use Rattle.dns_admission.specs.Machine.{has_version, replaced}
 use Rattle.dns_service.specs.Config.{Dgram, Stream}
@@ -28,23 +29,11 @@ Enter b (e ∷ es) = (is_entry b e.kind ≡ true) × Enter (book_rule b e.kind) 
 abbrev pub Moves : State → State → Type 0
 Moves b b' = ((b'.version ≡ b.version) × (b'.dgram ≡ b.dgram) × (b'.stream ≡ b.stream)) ⊎ (b.version < b'.version)
 
-and_left : (a b : Bool) → (a && b) ≡ true → a ≡ true
-and_left true b h = refl
-and_left false b h = cc
-
-and_right : (a b : Bool) → (a && b) ≡ true → b ≡ true
-and_right true b h = h
-and_right false b h = cc
-
-pub not_closed : (b : Bool) → not b ≡ true → b ≡ false
-not_closed true h = cc
-not_closed false h = refl
-
 -- a Reconfigure that is an entry
 pub replaces : (b : State) (d : Dgram) (t : Stream) → is_entry b (Reconfigure d t) ≡ true → (b.closed ≡ false) × (book_rule b (Reconfigure d t) ≡ replaced b d t)
 replaces b d t h =
-    let o = not_closed b.closed (and_left (not b.closed) (has_version b) h) in
-    let v = and_right (not b.closed) (has_version b) h in
+    let o = not-true b.closed (and_parts (not b.closed) (has_version b) h).0 in
+    let v = (and_parts (not b.closed) (has_version b) h).1 in
     (o, rw (o, v) refl)
 
 moves_kind : (k : EventKind) (b : State) (es : List Event) → is_entry b k ≡ true → Moves (book_rule b k) (books (book_rule b k) es) → Moves b (books (book_rule b k) es)
@@ -64,7 +53,7 @@ moves b (e ∷ es) h = moves_kind e.kind b es h.0 (moves (book_rule b e.kind) es
 
 no_entry : (b : State) (k : EventKind) → b.closed ≡ true → is_entry b k ≡ true → ⊥
 no_entry b (Reconfigure d t) c h = let o = (replaces b d t h).0 in cc
-no_entry b Shutdown c h = let o = not_closed b.closed h in cc
+no_entry b Shutdown c h = let o = not-true b.closed h in cc
 no_entry b _ c h = cc
 
 -- nothing enters the book after a Shutdown
@@ -147,15 +136,11 @@ module _ (answers : Serving) where
   news_old : (v : ℕ) (over : Bool) (b : State) → b.version ≡ v → news v over b ≡ new_end over b
   news_old v over b e = let n = eq-eqb b.version v e in rw n refl
 
-  and_not : (b : Bool) → (b && not b) ≡ false
-  and_not true = refl
-  and_not false = refl
-
   -- a look at the book of the last look tells nothing
   pub no_news : (b : State) (s : Slate) → s.conf ≡ conf_of b → news b.version s.conf.over b ≡ []
   no_news b s c =
       let o : s.conf.over ≡ b.closed = ap (λ (k : Conf). k.over) c in
-      let n : (b.closed && not s.conf.over) ≡ false = ap (λ x. b.closed && not x) o ∙ and_not b.closed in
+      let n : (b.closed && not s.conf.over) ≡ false = ap (λ x. b.closed && not x) o ∙ and-not_self b.closed in
       news_old b.version s.conf.over b refl ∙ ap (λ x. if x then wide Shutdown ∷ [] else []) n
 
   heard_config : (d : Dgram) (t : Stream) (b : State) (es : List Event) (s : Slate) → is_entry b (Reconfigure d t) ≡ true → Enter (book_rule b (Reconfigure d t)) es
@@ -197,7 +182,7 @@ module _ (answers : Serving) where
 
   heard_end : (b : State) (es : List Event) (s : Slate) → is_entry b Shutdown ≡ true → Enter (book_rule b Shutdown) es → s.conf ≡ conf_of b → told_of answers b.version (books (book_rule b Shutdown) es) s ≡ told (wide Shutdown ∷ es) s
   heard_end b es s h hs c =
-      let o : s.conf.over ≡ false = ap (λ (k : Conf). k.over) c ∙ not_closed b.closed h in
+      let o : s.conf.over ≡ false = ap (λ (k : Conf). k.over) c ∙ not-true b.closed h in
       let none = ended (book_rule b Shutdown) es refl hs in
       let b' = book_rule b Shutdown in
       let n : news b.version s.conf.over b' ≡ wide Shutdown ∷ [] = news_old b.version s.conf.over b' refl ∙ ap (λ z. new_end z b') o in

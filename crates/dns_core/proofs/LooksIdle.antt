@@ -4,6 +4,7 @@ use Rattle.std.proofs.Common.{◌≡◌, ◌≢◌, ℕ, List, [], ◌∷◌, �
 use Rattle.std.specs.Prelude.{if◌then◌else◌, ◌==◌, not, ◌&&◌, ◌||◌}
 use Rattle.std.proofs.lemmas.Bool.{eq-eqb, ne_eqb}
 use Rattle.std.proofs.lemmas.List.{append-nil}
+use Rattle.std.proofs.Math.Bool.{or-false}
 use Rattle.dns_service.specs.declared.event.Event.{Event}
 use Rattle.dns_service.specs.declared.event.Step.{Step}
 use Rattle.dns_service.specs.declared.event.Step.TheVariants.{Own, Look}
@@ -23,10 +24,6 @@ use Rattle.dns_core.proofs.Placing.{slate_append}
 use Rattle.dns_core.proofs.StepBegins.{begin_late}
 use Rattle.dns_core.proofs.Tied.{TiedSlate, tied, tied_slate, unused_kept, unused_list, unused_says, now_learns}
 
-or_false : (b : Bool) → (b || false) ≡ b
-or_false true = refl
-or_false false = refl
-
 pub place_append : (c : ℕ) (k : Knowledge) (q r : List Step) → place c k (q ++ r) ≡ place c k q ++ place c (learned c k q) r
 place_append c k [] r = refl
 place_append c k (s ∷ q) r = ap (λ es. puts c k s ++ es) (place_append c (learns c k s) q r) ∙ sym (append_assoc (puts c k s) (place c (learns c k s) q) (place c (learned c (learns c k s) q) r))
@@ -35,7 +32,7 @@ other_look : (d at secs c : ℕ) (k : Knowledge) (r : List Step) → c ≢ d →
 other_look d at secs c k r apart =
     let n : (c == d) ≡ false = ne_eqb c d apart in
     let p : puts d k (Look at secs c) ≡ [] = rw n refl in
-    let l : learns d k (Look at secs c) ≡ k = rw n (ap (λ z. let x : Knowledge = record { began = z; seen = k.seen; unheard = k.unheard ++ [] } in x) (or_false k.began) ∙ ap (λ es. let x : Knowledge = record { began = k.began; seen = k.seen; unheard = es } in x) (append-nil k.unheard)) in
+    let l : learns d k (Look at secs c) ≡ k = rw n (ap (λ z. let x : Knowledge = record { began = z; seen = k.seen; unheard = k.unheard ++ [] } in x) (or-false k.began) ∙ ap (λ es. let x : Knowledge = record { began = k.began; seen = k.seen; unheard = es } in x) (append-nil k.unheard)) in
     ap (λ es. es ++ place d (learns d k (Look at secs c)) r) p ∙ ap (λ x. place d x r) l
 
 pub others_look : (settings : Settings) (d at secs c : ℕ) (q r : List Step) → c ≢ d → placed settings d (q ++ Look at secs c ∷ r) ≡ placed settings d (q ++ r)
@@ -166,7 +163,7 @@ module _ (answers : Serving) where
           right = rw here at (tied_slate answers c k s sl t);
           unused = u;
           unused' = unused_list answers k.seen k.unheard sl t.enter ∙ u;
-          began = sym (or_false k.began);
+          began = sym (or-false k.began);
           book = sym (now_learns c k s);
           hears = rw self refl;
         } in

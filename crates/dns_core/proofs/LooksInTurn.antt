@@ -8,6 +8,7 @@ use Rattle.std.specs.Ordering.{nat_cmp}
 use Rattle.std.proofs.lemmas.Bool.{cases_eq, eq-eqb, ne_eqb}
 use Rattle.std.proofs.lemmas.List.{append-nil}
 use Rattle.std.proofs.lemmas.Map.Keys.{sorted_head, sorted_tail}
+use Rattle.std.proofs.Math.Bool.{or-true}
 use Rattle.dns_service.specs.declared.event.Event.{Event}
 use Rattle.dns_service.specs.declared.event.Output.{Output}
 use Rattle.dns_service.specs.declared.event.Step.{Step}
@@ -18,7 +19,7 @@ use Rattle.dns_core.specs.Out.{is_unused}
 use Rattle.dns_core.specs.Placed.{Knowledge, knows, puts}
 use Rattle.dns_core.specs.Outs.{Hall, placed_slate, placed_gain, hall, step_gained, outs_after}
 use Rattle.dns_middleware.specs.declared.settings.Settings.{Settings}
-use Rattle.dns_core.proofs.Counted.{less_absent, or_true}
+use Rattle.dns_core.proofs.Counted.{less_absent}
 use Rattle.dns_core.proofs.Placing.{knows_more, slate_more, gain_more}
 use Rattle.dns_core.proofs.Stepping.{look_quiet, quiet_slate}
 use Rattle.dns_core.proofs.StepsByClient.{joined}
@@ -29,7 +30,7 @@ pub flat_equal : {X : Type 0} (f g : ℕ → List X) (cs : List ℕ) → ((c : �
 flat_equal f g [] h = refl
 flat_equal f g (c ∷ cs) h =
     let here : f c ≡ g c = h c (rw (eq-eqb c c refl) refl) in
-    let rest = flat_equal f g cs (λ d there. h d (rw there (or_true (nat_eq d c)))) in
+    let rest = flat_equal f g cs (λ d there. h d (rw there (or-true (nat_eq d c)))) in
     rw (here, rest) refl
 
 not_first : (c d : ℕ) (ds : List ℕ) → IsStrictlySortedBy nat_cmp (d ∷ ds) → list_any (nat_eq c) ds ≡ true → c ≢ d

@@ -26,9 +26,6 @@ pub at_right : {X : Type 0} (xs ys : List X) (x : X) → At ys x → At (xs ++ y
 at_right [] ys x h = h
 at_right (y ∷ xs) ys x h = let more = at_right xs ys x h in (suc more.0, more.1)
 
-pub at_first : {X : Type 0} (xs : List X) (x : X) → At (x ∷ xs) x
-at_first xs x = (0, refl)
-
 at_split_case : {X : Type 0} (xs : List X) (y x : X) (i : ℕ) → slice_get (y ∷ xs) i ≡ Some x → (y ≡ x) ⊎ At xs x
 at_split_case xs y x zero h = inl (cc)
 at_split_case xs y x (suc i) h = inr (i, h)

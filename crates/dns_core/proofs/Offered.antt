@@ -1,11 +1,12 @@
 -- A server after a datagram, and after an offer.
 use Rattle.dns_client.specs.Serving.{Serving}
-use Rattle.std.proofs.Common.{◌≡◌, ◌≢◌, ℕ, ◌≤◌, ◌⊎◌, List, [], ◌∷◌, ◌++◌, Some, Bool, true, false, refl, ap, sym, ◌∙◌, subst, ⊎_elim, inl, inr, lt-ltb}
+use Rattle.std.proofs.Common.{◌≡◌, ℕ, ◌≤◌, ◌⊎◌, List, [], ◌∷◌, ◌++◌, Bool, true, false, refl, ap, sym, ◌∙◌, subst, ⊎_elim, inl, inr, lt-ltb}
 use Rattle.std.specs.Prelude.{nat_eq, if◌then◌else◌, not}
 use Rattle.std.specs.Ordering.{nat_cmp}
-use Rattle.std.specs.BTreeMap.{BTreeMap, get}
+use Rattle.std.specs.BTreeMap.{BTreeMap}
 use Rattle.std.specs.BTreeSet.{BTreeSet, contains}
-use Rattle.std.proofs.lemmas.Bool.{le-ltb}
+use Rattle.std.proofs.lemmas.Bool.{le-ltb, not-true}
+use Rattle.dns_core.specs.Serves.{EntersWith}
 use Rattle.dns_name.specs.declared.address.SocketAddr.{SocketAddr}
 use Rattle.dns_admission.specs.declared.call.Call.TheVariants.{Admit}
 use Rattle.dns_admission.specs.declared.look.Look.{Look}
@@ -22,7 +23,6 @@ use Rattle.dns_client.specs.Slate.{Slate, Told, Conf, IsUnused, conf_of}
 use Rattle.dns_client.specs.Connections.{opened}
 use Rattle.dns_client.specs.Datagrams.{datagram}
 use Rattle.dns_client.specs.Rule.{rule}
-use Rattle.dns_client.specs.Spent.{is_spent}
 use Rattle.dns_client.specs.Stands.{Stands}
 use Rattle.dns_client.specs.declared.client.ClientCore.{ClientCore}
 use Rattle.dns_core.specs.Own.{is_wide}
@@ -33,8 +33,12 @@ use Rattle.dns_middleware.specs.declared.settings.Settings.{Settings}
 use Rattle.dns_core.specs.declared.server.Server.{Server}
 use Rattle.dns_core.proofs.Late.{late_datagram, late_offer}
 use Rattle.dns_core.proofs.Plain.{plain, unused_is, begun, offered, used_datagram, used_offer}
-use Rattle.dns_core.proofs.Served.{not_true, idle_goes}
+use Rattle.dns_core.proofs.Served.{idle_goes}
 use Rattle.dns_core.proofs.Begins.{fresh_from, new_from, begin_goes, exchange_joins, exchange_slots, connection_room, connection_slots, away_goes}
+
+-- a look at a book shows a shutdown where that is shut down
+pub shut_as : (look book : Look) → look ≡ book → look.closed ≡ true → book.closed ≡ true
+shut_as look book is h = ap (λ (x : Look). x.closed) (sym is) ∙ h
 
 module _ {W R F : Type 0} (answer : PolledRequest F R → ℕ → Answer) (answers : Serving) (settings : Settings) where
   -- a slate shows whether the book is closed, and whether its number is used
@@ -42,7 +46,7 @@ module _ {W R F : Type 0} (answer : PolledRequest F R → ℕ → Answer) (answe
   closed_over old q c closed h = ap (λ (k : Conf). k.over) ((plain answers settings c q).conf ∙ sym h.shown) ∙ closed
 
   number_used : (old : Server W R F) (q : List Event) (c : ℕ) → contains nat_cmp old.used c ≡ true → Serves answer answers settings q old → is_unused (slate answers settings c q).phase ≡ false
-  number_used old q c used h = not_true (is_unused (slate answers settings c q).phase) (sym (h.used c) ∙ used)
+  number_used old q c used h = not-true (is_unused (slate answers settings c q).phase) (sym (h.used c) ∙ used)
 
   -- nothing begins under a used number, nor once the server shut down
   pub datagram_late : (old : Server W R F) (q : List Event) (e : Event) (addr : SocketAddr) (o : List ℕ) (outs : List Output) → e.kind ≡ Datagram addr o
@@ -76,17 +80,14 @@ module _ {W R F : Type 0} (answer : PolledRequest F R → ℕ → Answer) (answe
   offer_closed old b q e addr outs kind closed is none h = offer_idle old b q e addr outs kind (inl closed) none (is ∙ rw closed refl) h
 
   -- a datagram before that makes an exchange
-  pub datagram_goes : (old : Server W R F) (m : BTreeMap ℕ (ClientCore W R F)) (u : BTreeSet ℕ) (core : ClientCore W R F) (finished : Bool) (q : List Event) (e : Event) (addr : SocketAddr) (o : List ℕ) (outs : List Output) → e.kind ≡ Datagram addr o
+  pub datagram_goes : (old : Server W R F) (m : BTreeMap ℕ (ClientCore W R F)) (u : BTreeSet ℕ) (core : ClientCore W R F) (q : List Event) (e : Event) (addr : SocketAddr) (o : List ℕ) (outs : List Output) → e.kind ≡ Datagram addr o
       → old.book.closed ≡ false → contains nat_cmp old.used e.client ≡ false
       → ((s : Slate) → IsUnused s → s.conf ≡ conf_of old.book → (outs ≡ (datagram e.client addr e.at e.secs o s).1) × Stands answer answers core (datagram e.client addr e.at e.secs o s).0)
       → core.version ≡ old.book.version
-      → ((s : Slate) → Stands answer answers core s → finished ≡ is_spent s)
-      → get nat_cmp m e.client ≡ (if finished then get nat_cmp old.clients e.client else Some core)
-      → ((c : ℕ) → c ≢ e.client → get nat_cmp m c ≡ get nat_cmp old.clients c)
-      → ((c : ℕ) → contains nat_cmp u c ≡ (if nat_eq c e.client then true else contains nat_cmp old.used c))
+      → EntersWith answer answers old.clients m old.used u core e.client
       → Serves answer answers settings q old
       → (outs ≡ gained answers settings q e) × Serves answer answers settings (q ++ e ∷ []) (record old { clients = m; used = u })
-  datagram_goes old m u core finished q e addr o outs kind running free st version spent here others hu h =
+  datagram_goes old m u core q e addr o outs kind running free st version w h =
       let s = slate answers settings e.client q in
       let f = fresh_from answer answers settings old q e free h in
       let not_over : s.conf.over ≡ false = ap (λ (k : Conf). k.over) f.shown ∙ running in
@@ -94,22 +95,19 @@ module _ {W R F : Type 0} (answer : PolledRequest F R → ℕ → Answer) (answe
       let opens : is_unused (rule answers e s).0.phase ≡ false = ap (λ (t : Told). is_unused t.0.phase) is in
       let new = new_from answer answers settings old q e (ap is_wide kind) f opens h in
       let no_slot : holds_slot (rule answers e s).0 ≡ false = ap (λ (t : Told). holds_slot t.0) is in
-      begin_goes answer answers settings old m u old.book core finished q e outs new (exchange_joins answer answers settings old q e new no_slot)
+      begin_goes answer answers settings old m u old.book core q e outs new (exchange_joins answer answers settings old q e new no_slot)
       (exchange_slots answer answers settings old q e new no_slot h) refl refl version
-      (subst (λ (t : Told). (outs ≡ t.1) × Stands answer answers core t.0) (sym is) (st s f.fresh f.shown)) spent here others hu h
+      (subst (λ (t : Told). (outs ≡ t.1) × Stands answer answers core t.0) (sym is) (st s f.fresh f.shown)) w h
 
   -- an offer makes a connection, where a slot is free
-  pub offer_goes : (old : Server W R F) (m : BTreeMap ℕ (ClientCore W R F)) (u : BTreeSet ℕ) (b look : Look) (core : ClientCore W R F) (finished : Bool) (q : List Event) (e : Event) (addr : SocketAddr) (outs : List Output) → e.kind ≡ Offer addr
+  pub offer_goes : (old : Server W R F) (m : BTreeMap ℕ (ClientCore W R F)) (u : BTreeSet ℕ) (b look : Look) (core : ClientCore W R F) (q : List Event) (e : Event) (addr : SocketAddr) (outs : List Output) → e.kind ≡ Offer addr
       → contains nat_cmp old.used e.client ≡ false → Admits old.book (Admitted look) → b ≡ state_after old.book Admit → outs ≡ []
       → ((s : Slate) → IsUnused s → s.conf ≡ conf_of look → Stands answer answers core (opened e.client addr e.at s))
       → core.version ≡ look.version
-      → ((s : Slate) → Stands answer answers core s → finished ≡ is_spent s)
-      → get nat_cmp m e.client ≡ (if finished then get nat_cmp old.clients e.client else Some core)
-      → ((c : ℕ) → c ≢ e.client → get nat_cmp m c ≡ get nat_cmp old.clients c)
-      → ((c : ℕ) → contains nat_cmp u c ≡ (if nat_eq c e.client then true else contains nat_cmp old.used c))
+      → EntersWith answer answers old.clients m old.used u core e.client
       → Serves answer answers settings q old
       → (outs ≡ gained answers settings q e) × Serves answer answers settings (q ++ e ∷ []) (record { clients = m; used = u; book = b })
-  offer_goes old m u b look core finished q e addr outs kind free admits after none st version spent here others hu h =
+  offer_goes old m u b look core q e addr outs kind free admits after none st version w h =
       let s = slate answers settings e.client q in
       let f = fresh_from answer answers settings old q e free h in
       let running : old.book.closed ≡ false = admits.0 in
@@ -120,9 +118,9 @@ module _ {W R F : Type 0} (answer : PolledRequest F R → ℕ → Answer) (answe
       let opens : is_unused (rule answers e s).0.phase ≡ false = ap (λ (t : Told). is_unused t.0.phase) is in
       let new = new_from answer answers settings old q e (ap is_wide kind) f opens h in
       let held : holds_slot (rule answers e s).0 ≡ true = ap (λ (t : Told). holds_slot t.0) is ∙ ap (λ (x : Slate). not x.freed) f.fresh in
-      begin_goes answer answers settings old m u b core finished q e outs new (connection_room answer answers settings old q e new held room h)
+      begin_goes answer answers settings old m u b core q e outs new (connection_room answer answers settings old q e new held room h)
       (ap (λ (x : Look). x.taken) same ∙ connection_slots answer answers settings old q e new held h) (ap conf_of same) (ap (λ (x : Look). x.version) same) (version ∙ ap (λ (x : Look). x.version) (admits.2 ∙ sym same))
-      (subst (λ (t : Told). (outs ≡ t.1) × Stands answer answers core t.0) (sym is) (none, st s f.fresh (f.shown ∙ sym (ap conf_of admits.2)))) spent here others hu h
+      (subst (λ (t : Told). (outs ≡ t.1) × Stands answer answers core t.0) (sym is) (none, st s f.fresh (f.shown ∙ sym (ap conf_of admits.2)))) w h
 
   -- and else it is turned away
   pub offer_away : (old : Server W R F) (u : BTreeSet ℕ) (b : Look) (taken limit : ℕ) (accepted : Bool) (q : List Event) (e : Event) (addr : SocketAddr) (outs : List Output) → e.kind ≡ Offer addr

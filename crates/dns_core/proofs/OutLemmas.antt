@@ -1,7 +1,8 @@
 -- One event more.
 use Rattle.dns_client.specs.Serving.{Serving}
-use Rattle.std.proofs.Common.{◌≡◌, ℕ, List, [], ◌∷◌, ◌++◌, true, false, cond, refl, ap, sym, ◌∙◌, append_assoc}
+use Rattle.std.proofs.Common.{◌≡◌, ◌≤◌, ℕ, arith, length, length-append, List, [], ◌∷◌, ◌++◌, true, false, refl, ap, sym, ◌∙◌, append_assoc}
 use Rattle.std.proofs.lemmas.List.{append-nil}
+use Rattle.std.proofs.lemmas.List.Elements.{filter-append}
 use Rattle.std.proofs.Math.Seq.{take-append_seam}
 use Rattle.dns_service.specs.declared.event.Event.{Event}
 use Rattle.dns_client.specs.Slate.{Slate, fresh}
@@ -13,13 +14,14 @@ use Rattle.dns_core.specs.Out.{joined, members_after, members, gained, out_after
 use Rattle.dns_core.specs.ByClient.{IsPrefix}
 use Rattle.dns_middleware.specs.declared.settings.Settings.{Settings}
 
+pub one_longer : (q : List Event) (e : Event) (n : ℕ) → n ≤ length q → n ≤ length (q ++ e ∷ [])
+one_longer q e n h = simp length-append (omega arith)
+
 own_some : (c : ℕ) (q : List Event) (e : Event) → concerns c e ≡ true → own c (q ++ e ∷ []) ≡ own c q ++ e ∷ []
-own_some c [] e h = rw h refl
-own_some c (x ∷ q) e h = (elim (concerns c x) as (λ b. cond b (x ∷ own c (q ++ e ∷ [])) (own c (q ++ e ∷ [])) ≡ cond b (x ∷ own c q) (own c q) ++ e ∷ []) [ true ↦ ap (λ es. x ∷ es) (own_some c q e h) | false ↦ own_some c q e h ])
+own_some c q e h = rw (filter-append (concerns c) q (e ∷ []), h) refl
 
 own_none : (c : ℕ) (q : List Event) (e : Event) → concerns c e ≡ false → own c (q ++ e ∷ []) ≡ own c q
-own_none c [] e h = rw h refl
-own_none c (x ∷ q) e h = (elim (concerns c x) as (λ b. cond b (x ∷ own c (q ++ e ∷ [])) (own c (q ++ e ∷ [])) ≡ cond b (x ∷ own c q) (own c q)) [ true ↦ ap (λ es. x ∷ es) (own_none c q e h) | false ↦ own_none c q e h ])
+own_none c q e h = rw (filter-append (concerns c) q (e ∷ []), h) (append-nil (own c q))
 
 module _ (answers : Serving) where
   slate_after_snoc : (s : Slate) (q : List Event) (e : Event) → slate_after answers s (q ++ e ∷ []) ≡ (rule answers e (slate_after answers s q)).0

@@ -34,10 +34,6 @@ pub winds : (why : Why) (q : List (List ℕ)) (s : Slate) → Rests s (wind_up w
 winds why [] s = closes why s
 winds why (m ∷ ms) s = record { budget = refl; window = refl; conf = refl; opens = λ h. cc; shorter = omega arith; mark = refl; spent = refl }
 
-pub wound_up : (why : Why) (q : List (List ℕ)) (s : Slate) → is_open (wind_up why q s).0.phase ≡ false
-wound_up why [] s = refl
-wound_up why (m ∷ ms) s = refl
-
 pub requests_on : (k : ℕ) (r : SlateRequest) (s : Slate) → Rests s (with_request k r s)
 requests_on k r s = record { budget = refl; window = refl; conf = refl; opens = λ h. h; shorter = omega arith; mark = refl; spent = refl }
 

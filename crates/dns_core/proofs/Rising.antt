@@ -2,7 +2,7 @@
 use Rattle.dns_client.specs.Serving.{Serving}
 use Rattle.std.proofs.Common.{◌≡◌, ◌≢◌, ℕ, List, [], ◌∷◌, ◌++◌, ◌∙◌, Bool, true, false, refl, ap, sym, subst, append_assoc, arith, Less, ⊎_elim}
 use Rattle.std.proofs.lemmas.List.{append-nil}
-use Rattle.std.proofs.lemmas.Bool.{cases_eq}
+use Rattle.std.proofs.lemmas.Bool.{cases_eq, or_parts, false_from_ne_true, and_parts}
 use Rattle.std.proofs.lemmas.Bool.Decides.{nat_tests}
 use Rattle.std.proofs.lemmas.Map.Keys.{sorted_head, sorted_tail}
 use Rattle.std.specs.Prelude.{nat_eq, nat_lt, if◌then◌else◌, not, ◌||◌}
@@ -13,7 +13,7 @@ use Rattle.dns_service.specs.declared.event.Event.{Event}
 use Rattle.dns_core.specs.Sent.{slate}
 use Rattle.dns_core.specs.Out.{is_unused, holds_slot, has_room, put, is_new, joins, members}
 use Rattle.dns_middleware.specs.declared.settings.Settings.{Settings}
-use Rattle.dns_core.proofs.Gained.{and_true, members_joined, members_away, new_was, new_became, used_more}
+use Rattle.dns_core.proofs.Gained.{members_joined, members_away, new_was, new_became, used_more}
 use Rattle.dns_core.proofs.Counted.{put_other}
 
 abbrev AllAbove : ℕ → List ℕ → Type 0
@@ -39,10 +39,6 @@ above_put : (n c : ℕ) (ns : List ℕ) → nat_cmp n c ≡ Less → AllAbove n 
 above_put n c [] h a = (h, tt)
 above_put n c (m ∷ ns) h a = above_put_case n c m ns h a (above_put n c ns h a.1) (nat_lt c m)
 
-or_false : (a b : Bool) → (a || b) ≡ false → (a ≡ false) × (b ≡ false)
-or_false true b h = cc
-or_false false b h = (refl, h)
-
 sorted_put_case : (c m : ℕ) (ns : List ℕ) → IsStrictlySortedBy nat_cmp (m ∷ ns) → nat_eq c m ≡ false → IsStrictlySortedBy nat_cmp (put c ns) → (b : Bool) → nat_lt c m ≡ b → IsStrictlySortedBy nat_cmp (if b then c ∷ m ∷ ns else m ∷ put c ns)
 sorted_put_case c m ns so ne more true e =
     let l : nat_cmp c m ≡ Less = grind (arith, nat_tests, e) in
@@ -55,7 +51,7 @@ sorted_put_case c m ns so ne more false e =
 pub sorted_put : (c : ℕ) (ms : List ℕ) → IsStrictlySortedBy nat_cmp ms → list_any (nat_eq c) ms ≡ false → IsStrictlySortedBy nat_cmp (put c ms)
 sorted_put c [] so absent = sorted_cons c [] tt sorted_none
 sorted_put c (m ∷ ms) so absent =
-    let both = or_false (nat_eq c m) (list_any (nat_eq c) ms) absent in
+    let both = or_parts (nat_eq c m) (list_any (nat_eq c) ms) absent in
     sorted_put_case c m ms so both.0 (sorted_put c ms (sorted_tail nat_cmp m ms so) both.1) (nat_lt c m) refl
 
 module _ (answers : Serving) (settings : Settings) where
@@ -67,7 +63,7 @@ module _ (answers : Serving) (settings : Settings) where
   MembersUsed q = (c : ℕ) → list_any (nat_eq c) (members answers settings q) ≡ true → is_unused (slate answers settings c q).phase ≡ false
 
   pub new_joins : (q : List Event) (e : Event) (ms : List ℕ) → joins answers settings q ms e ≡ true → is_new answers settings q e ≡ true
-  new_joins q e ms j = (and_true (is_new answers settings q e) (not (holds_slot (slate answers settings e.client (q ++ e ∷ []))) || has_room answers settings q ms) j).0
+  new_joins q e ms j = (and_parts (is_new answers settings q e) (not (holds_slot (slate answers settings e.client (q ++ e ∷ []))) || has_room answers settings q ms) j).0
 
   used_case : (q : List Event) (e : Event) → MembersUsed q → (b : Bool) → joins answers settings q (members answers settings q) e ≡ b → MembersUsed (q ++ e ∷ [])
   used_case q e h true j = λ c there.
@@ -88,13 +84,9 @@ module _ (answers : Serving) (settings : Settings) where
   pub members_used : (q : List Event) → MembersUsed q
   members_used q = used_on q [] used_none
 
-  absent_case : (b : Bool) → (b ≡ true → ⊥) → b ≡ false
-  absent_case true h = absurd (h refl)
-  absent_case false h = refl
-
   -- a client that begins is no member yet
   pub new_absent : (q : List Event) (e : Event) → is_new answers settings q e ≡ true → list_any (nat_eq e.client) (members answers settings q) ≡ false
-  new_absent q e n = absent_case (list_any (nat_eq e.client) (members answers settings q)) (λ there. let used = members_used q e.client there in let fresh = new_was answers settings q e n in let no : ⊥ = cc in no)
+  new_absent q e n = false_from_ne_true (list_any (nat_eq e.client) (members answers settings q)) (λ there. let used = members_used q e.client there in let fresh = new_was answers settings q e n in let no : ⊥ = cc in no)
 
   rises_case : (q : List Event) (e : Event) → Rises q → (b : Bool) → joins answers settings q (members answers settings q) e ≡ b → Rises (q ++ e ∷ [])
   rises_case q e h true j = subst (IsStrictlySortedBy nat_cmp) (sym (members_joined answers settings q e j)) (sorted_put e.client (members answers settings q) h (new_absent q e (new_joins q e (members answers settings q) j)))

@@ -1,9 +1,11 @@
 -- Steps by which all heard of the same as by some events: an event of one client more does the same.
 use Rattle.dns_client.specs.Serving.{Serving}
-use Rattle.std.proofs.Common.{◌≡◌, ◌≢◌, ℕ, ◌≤◌, List, [], ◌∷◌, ◌++◌, length, length-append, Bool, true, false, refl, ap, sym, ◌∙◌, ⊎_elim, arith}
-use Rattle.std.specs.Prelude.{nat_eq, nat_lt, filter, if◌then◌else◌, ◌&&◌}
+use Rattle.std.proofs.Common.{◌≡◌, ◌≢◌, ℕ, ◌≤◌, List, [], ◌∷◌, ◌++◌, length, Bool, true, false, refl, ap, sym, ◌∙◌, ⊎_elim}
+use Rattle.std.specs.Prelude.{nat_eq, nat_lt, filter, if◌then◌else◌}
 use Rattle.std.specs.List.{list_any}
 use Rattle.std.proofs.lemmas.Bool.{cases_eq}
+use Rattle.std.proofs.Math.Bool.{and-false}
+use Rattle.dns_core.proofs.OutLemmas.{one_longer}
 use Rattle.dns_name.specs.declared.address.SocketAddr.{SocketAddr}
 use Rattle.dns_admission.specs.declared.look.Look.{Look as State}
 use Rattle.dns_admission.specs.Machine.{has_slot, reply_of}
@@ -37,10 +39,6 @@ use Rattle.dns_core.proofs.StepsNothing.{begun_knows, other_knows}
 use Rattle.dns_core.proofs.StepsTurned.{known}
 use Rattle.dns_core.proofs.StepsHeld.{book_counts}
 
-and_none : (a : Bool) → (a && false) ≡ false
-and_none true = refl
-and_none false = refl
-
 module _ (answers : Serving) (settings : Settings) where
   -- after the events q, which all hear at once, and the steps p, by which they heard of the same, all is the same
   pub record Same (q : List Event) (p : List Step) : Type 0 where
@@ -62,9 +60,6 @@ module _ (answers : Serving) (settings : Settings) where
       narrow_rule Rattle.dns_service.specs.declared.event.EventKind.TheVariants.Shutdown b w = cc
       narrow_rule _ b w = refl
 
-  one_longer : (q : List Event) (e : Event) (n : ℕ) → n ≤ length q → n ≤ length (q ++ e ∷ [])
-  one_longer q e n h = simp length-append (omega arith)
-
   -- by which neither here nor there anybody begins
   record Still (q : List Event) (p : List Step) (e : Event) : Type 0 where
     new : is_new answers settings q e ≡ false
@@ -73,7 +68,7 @@ module _ (answers : Serving) (settings : Settings) where
     unused : is_unused (placed_slate answers settings e.client (p ++ Own e ∷ [])).phase ≡ is_unused (placed_slate answers settings e.client p).phase
 
   no_look : (p : List Step) (e : Event) → joined answers settings e.client p ≡ true → looks e.client (knows settings e.client p).began (Own e) ≡ false
-  no_look p e m = let b = (tied answers settings e.client p).slate.begun (member_used answers settings e.client p m) in rw b (and_none (begins e.client (Own e)))
+  no_look p e m = let b = (tied answers settings e.client p).slate.begun (member_used answers settings e.client p m) in rw b (and-false (begins e.client (Own e)))
 
   still_gained : (b : Bool) (q : List Event) (p : List Step) (e : Event) → is_wide e.kind ≡ false → Same q p → Still q p e → joined answers settings e.client p ≡ b → step_gained answers settings p (Own e) ≡ gained answers settings q e
   still_gained true q p e w h s m =

@@ -1,12 +1,14 @@
 -- A server after one event more.
 use Rattle.dns_client.specs.Serving.{Serving}
-use Rattle.std.proofs.Common.{◌≡◌, ◌≢◌, ℕ, ◌-◌, ◌≤◌, List, [], ◌∷◌, ◌++◌, length, length-append, Option, Some, None, Bool, true, false, refl, ap, sym, ◌∙◌, arith, ⊎_elim}
+use Rattle.std.proofs.Common.{◌≡◌, ◌≢◌, ℕ, ◌-◌, List, [], ◌∷◌, ◌++◌, Option, Some, Bool, true, false, refl, ap, sym, ◌∙◌, ⊎_elim}
 use Rattle.std.specs.Prelude.{nat_eq, if◌then◌else◌, not}
 use Rattle.std.specs.List.{list_any}
 use Rattle.std.specs.Ordering.{nat_cmp}
 use Rattle.std.specs.BTreeMap.{BTreeMap, get}
 use Rattle.std.specs.BTreeSet.{contains}
 use Rattle.std.proofs.lemmas.Bool.{cases_eq}
+use Rattle.dns_core.proofs.OutLemmas.{one_longer}
+use Rattle.dns_core.proofs.Kept.{nothing_either_way, says, leaves}
 use Rattle.dns_admission.specs.declared.call.Call.TheVariants.{Release}
 use Rattle.dns_admission.specs.declared.look.Look.{Look}
 use Rattle.dns_admission.specs.Machine.{state_after}
@@ -16,11 +18,8 @@ use Rattle.dns_service.specs.declared.event.Output.{Output}
 use Rattle.dns_service.specs.declared.polled.PolledRequest.{PolledRequest}
 use Rattle.dns_client.specs.Slate.{Slate, Told, conf_of}
 use Rattle.dns_client.specs.Rule.{rule}
-use Rattle.dns_client.specs.Spent.{is_spent}
-use Rattle.dns_client.specs.Stands.{Stands, StandsIn, GoesAs}
+use Rattle.dns_client.specs.Stands.{Stands, GoesAs}
 use Rattle.dns_client.specs.declared.client.ClientCore.{ClientCore}
-use Rattle.dns_client.specs.declared.client.State.{State}
-use Rattle.dns_client.specs.declared.client.State.TheVariants.{Exchange as Is_exchange, Open as Is_open, Flushing as Is_flushing, Closed as Is_closed, Lost as Is_lost}
 use Rattle.dns_core.specs.Own.{is_wide}
 use Rattle.dns_core.specs.Sent.{slate}
 use Rattle.dns_core.specs.Out.{is_unused, holds_slot, is_new, taken, members, gained}
@@ -34,27 +33,6 @@ use Rattle.dns_core.proofs.Heard.{gained_own}
 use Rattle.dns_core.proofs.Rising.{rises}
 use Rattle.dns_core.proofs.Slots.{slots_case}
 use Rattle.dns_core.proofs.Tied.{unused_kept as unused_stays}
-use Rattle.dns_core.proofs.Spent.{spent_idle, spent_kept, unused_unspent}
-
-pub not_true : (b : Bool) → not b ≡ true → b ≡ false
-not_true true h = cc
-not_true false h = refl
-
-pub not_false : (b : Bool) → not b ≡ false → b ≡ true
-not_false true h = refl
-not_false false h = cc
-
-pub nothing_either_way : (b : Bool) (os : List Output) → os ≡ [] → [] ≡ (if b then os else [])
-nothing_either_way true os h = sym h
-nothing_either_way false os h = refl
-
-none_kept : {X : Type 0} (finished : Bool) (w : Option X) → w ≡ None → (if finished then None else w) ≡ None
-none_kept true w e = refl
-none_kept false w e = e
-
--- one event more
-pub one_longer : (q : List Event) (e : Event) (n : ℕ) → n ≤ length q → n ≤ length (q ++ e ∷ [])
-one_longer q e n h = simp length-append (omega arith)
 
 -- a book that a slot was given back to, or wasn't
 record GaveBack (old new : Look) (freed : Bool) : Type 0 where
@@ -80,67 +58,10 @@ module _ {W R F : Type 0} (answer : PolledRequest F R → ℕ → Answer) (answe
       → GoesAs answer answers core new outs (rule answers e) → ((s : Slate) → Stands answer answers new s → IsOver finished freed s) → Steps answer answers o e outs finished freed w
   steps_there o w core new e outs finished freed is now f over = rw (is, now) (f, over)
 
-  -- what one client's event says
-  says : (o w : Option (ClientCore W R F)) (b : Bool) (e : Event) (outs : List Output) (finished freed : Bool) (s : Slate) → Steps answer answers o e outs finished freed w → Holds answer answers o b s → outs ≡ (if b then (rule answers e s).1 else [])
-  says None w true e outs finished freed s k h = k.0 ∙ sym (ap (λ (t : Told). t.1) (spent_idle answers e s h))
-  says None w false e outs finished freed s k h = k.0
-  says (Some core) None true e outs finished freed s k h = absurd k
-  says (Some core) (Some new) true e outs finished freed s k h = (k.0 s h.0).0
-  says (Some core) w false e outs finished freed s k h = absurd h
-
-  kept_or_gone : (new : ClientCore W R F) (s : Slate) (finished : Bool) → finished ≡ is_spent s → Stands answer answers new s → Holds answer answers (if finished then None else Some new) true s
-  kept_or_gone new s true is h = sym is
-  kept_or_gone new s false is h = (h, sym is)
-
-  pub none_holds : (o : Option (ClientCore W R F)) (s : Slate) → o ≡ None → is_spent s ≡ true → Holds answer answers o true s
-  none_holds None s is h = h
-  none_holds (Some core) s is h = cc
-
-  pub none_stands : (o : Option (ClientCore W R F)) (s : Slate) → o ≡ None → Holds answer answers o false s
-  none_stands None s is = tt
-  none_stands (Some core) s is = cc
-
-  -- what it leaves
-  leaves : (o w : Option (ClientCore W R F)) (b : Bool) (e : Event) (outs : List Output) (finished freed : Bool) (s : Slate) → Steps answer answers o e outs finished freed w → Holds answer answers o b s → Holds answer answers (if finished then None else w) b (rule answers e s).0
-  leaves None w true e outs finished freed s k h = none_holds (if finished then None else w) (rule answers e s).0 (none_kept finished w k.3) (spent_kept answers e s h)
-  leaves None w false e outs finished freed s k h = none_stands (if finished then None else w) (rule answers e s).0 (none_kept finished w k.3)
-  leaves (Some core) None true e outs finished freed s k h = absurd k
-  leaves (Some core) (Some new) true e outs finished freed s k h =
-      let f = k.0 s h.0 in
-      kept_or_gone new (rule answers e s).0 finished (k.1 (rule answers e s).0 f.1).over f.1
-  leaves (Some core) w false e outs finished freed s k h = absurd h
-
-  -- of an unused number nothing is kept, and it is no member's
-  used_state : (n : ℕ) (state : State W R F) (s : Slate) → StandsIn answer answers n state s → is_unused s.phase ≡ false
-  used_state n (Is_exchange kept) s h = ap is_unused h.phase
-  used_state n (Is_open c) s h = ap is_unused h.phase
-  used_state n (Is_flushing c) s h = ap is_unused h.phase
-  used_state n (Is_closed freed) s h = ap is_unused h.phase
-  used_state n Is_lost s h = absurd h
-
-  pub nothing_held : (o : Option (ClientCore W R F)) (b : Bool) (s : Slate) → is_unused s.phase ≡ true → Holds answer answers o b s → (o ≡ None) × (b ≡ false)
-  nothing_held None true s u h = let n = unused_unspent s u in cc
-  nothing_held None false s u h = (refl, refl)
-  nothing_held (Some core) true s u h = let n = used_state core.client core.state s h.0 in cc
-  nothing_held (Some core) false s u h = absurd h
-
-  -- a core enters, unless it is finished
-  pub entered : (o : Option (ClientCore W R F)) (core : ClientCore W R F) (s : Slate) (finished : Bool) → finished ≡ is_spent s → Stands answer answers core s → o ≡ None → Holds answer answers (if finished then o else Some core) true s
-  entered o core s true is h none = none_holds o s none (sym is)
-  entered o core s false is h none = (h, sym is)
-
-  none_at : (o : Option (ClientCore W R F)) (v : ℕ) → o ≡ None → IsAt o v
-  none_at None v is = tt
-  none_at (Some core) v is = cc
-
-  pub entered_at : (o : Option (ClientCore W R F)) (core : ClientCore W R F) (v : ℕ) (finished : Bool) → core.version ≡ v → o ≡ None → IsAt (if finished then o else Some core) v
-  entered_at o core v true is none = none_at o v none
-  entered_at o core v false is none = is
-
   module _ (settings : Settings) where
     own_says : (old : Server W R F) (w : Option (ClientCore W R F)) (q : List Event) (e : Event) (outs : List Output) (freed : Bool) → is_wide e.kind ≡ false → is_new answers settings q e ≡ false → StepsKey answer answers (get nat_cmp old.clients e.client) e outs freed w → Serves answer answers settings q old → outs ≡ gained answers settings q e
     own_says old w q e outs freed n nw k h =
-        says (get nat_cmp old.clients e.client) k.stepped (list_any (nat_eq e.client) (members answers settings q)) e outs k.finished freed (slate answers settings e.client q) k.steps (h.clients e.client)
+        says answer answers (get nat_cmp old.clients e.client) k.stepped (list_any (nat_eq e.client) (members answers settings q)) e outs k.finished freed (slate answers settings e.client q) k.steps (h.clients e.client)
         ∙ sym (gained_own answers settings q e n nw)
 
     own_holds : (old : Server W R F) (m : BTreeMap ℕ (ClientCore W R F)) (q : List Event) (e : Event) (outs : List Output) (freed : Bool) → is_wide e.kind ≡ false → is_new answers settings q e ≡ false → StepsKey answer answers (get nat_cmp old.clients e.client) e outs freed (get nat_cmp m e.client) → ((c : ℕ) → c ≢ e.client → get nat_cmp m c ≡ get nat_cmp old.clients c) → Serves answer answers settings q old
@@ -148,7 +69,7 @@ module _ {W R F : Type 0} (answer : PolledRequest F R → ℕ → Answer) (answe
     own_holds old m q e outs freed n nw k others h c =
         ⊎_elim
         (λ (same : c ≡ e.client).
-        let l = leaves (get nat_cmp old.clients e.client) k.stepped (list_any (nat_eq e.client) (members answers settings q)) e outs k.finished freed (slate answers settings e.client q) k.steps (h.clients e.client) in
+        let l = leaves answer answers (get nat_cmp old.clients e.client) k.stepped (list_any (nat_eq e.client) (members answers settings q)) e outs k.finished freed (slate answers settings e.client q) k.steps (h.clients e.client) in
         rw (same, members_kept answers settings q e nw, slate_same answers settings q e, k.left) l)
         (λ (apart : c ≢ e.client). rw (members_kept answers settings q e nw, slate_other answers settings c q e n apart, others c apart) (h.clients c))
         (cases_eq c e.client)

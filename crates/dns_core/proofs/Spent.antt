@@ -1,8 +1,9 @@
 -- At a spent slate an event says nothing and leaves all but the configurations, and no client is spent before it begins.
 use Rattle.dns_client.specs.Serving.{Serving}
-use Rattle.std.proofs.Common.{◌≡◌, ℕ, zero, suc, List, [], ◌∷◌, Bool, true, false, refl, ap, ◌∙◌}
-use Rattle.std.specs.Prelude.{slice_get, ◌&&◌}
+use Rattle.std.proofs.Common.{◌≡◌, ℕ, zero, suc, List, [], ◌∷◌, true, false, refl, ap, ◌∙◌}
+use Rattle.std.specs.Prelude.{slice_get}
 use Rattle.std.specs.List.{list_all}
+use Rattle.std.proofs.lemmas.Bool.{and_parts}
 use Rattle.dns_service.specs.Answer.{Answer}
 use Rattle.dns_service.specs.declared.event.Event.{Event}
 use Rattle.dns_service.specs.declared.event.EventKind.{EventKind}
@@ -25,14 +26,10 @@ use Rattle.dns_core.proofs.Plain.{exchange_done, unused_is}
 use Rattle.dns_core.proofs.Settled.{released_again}
 use Rattle.dns_core.proofs.Wide.{wide_idle}
 
-both : (a b : Bool) → (a && b) ≡ true → (a ≡ true) × (b ≡ true)
-both true b h = (refl, h)
-both false b h = cc
-
 all_finished : (rs : List SlateRequest) (k : ℕ) → list_all (λ (r : SlateRequest). r.done) rs ≡ true → IsFinished (slice_get rs k)
 all_finished [] k h = tt
-all_finished (r ∷ rs) zero h = (both r.done (list_all (λ (r : SlateRequest). r.done) rs) h).0
-all_finished (r ∷ rs) (suc k) h = all_finished rs k (both r.done (list_all (λ (r : SlateRequest). r.done) rs) h).1
+all_finished (r ∷ rs) zero h = (and_parts r.done (list_all (λ (r : SlateRequest). r.done) rs) h).0
+all_finished (r ∷ rs) (suc k) h = all_finished rs k (and_parts r.done (list_all (λ (r : SlateRequest). r.done) rs) h).1
 
 closed_spent : (k : EventKind) (s : Slate) → s.freed ≡ true → closed_rule k s ≡ (s, [])
 closed_spent Release s h = ap (λ (t : Slate). (t, [])) (released_again s h)

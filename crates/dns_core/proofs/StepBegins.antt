@@ -1,13 +1,14 @@
 -- A server whose clients look for themselves, after an offer or a datagram.
 use Rattle.dns_client.specs.Serving.{Serving}
-use Rattle.std.proofs.Common.{◌≡◌, ◌≢◌, ℕ, ◌≤◌, ◌⊎◌, List, [], ◌∷◌, ◌++◌, Option, Some, None, Bool, true, false, refl, ap, sym, ◌∙◌, subst, ⊎_elim, lt-ltb}
+use Rattle.std.proofs.Common.{◌≡◌, ◌≢◌, ℕ, ◌≤◌, ◌⊎◌, List, [], ◌∷◌, ◌++◌, None, Bool, true, false, refl, ap, sym, ◌∙◌, subst, ⊎_elim, lt-ltb}
 use Rattle.std.specs.Prelude.{nat_eq, if◌then◌else◌, not}
 use Rattle.std.specs.List.{list_any}
 use Rattle.std.specs.Ordering.{nat_cmp}
 use Rattle.std.specs.BTreeMap.{BTreeMap, get}
 use Rattle.std.specs.BTreeSet.{BTreeSet, contains}
-use Rattle.std.proofs.lemmas.Bool.{cases_eq, eq-eqb, ne_eqb, le-ltb}
+use Rattle.std.proofs.lemmas.Bool.{cases_eq, eq-eqb, ne_eqb, le-ltb, not-true, not-false}
 use Rattle.std.proofs.lemmas.List.{append-nil}
+use Rattle.dns_core.proofs.Kept.{entered, entered_at, none_at, none_stands, nothing_either_way, nothing_held}
 use Rattle.dns_name.specs.declared.address.SocketAddr.{SocketAddr}
 use Rattle.dns_admission.specs.declared.look.Look.{Look as State}
 use Rattle.dns_admission.specs.declared.look.Admission.TheVariants.{Admitted, Full}
@@ -28,14 +29,11 @@ use Rattle.dns_client.specs.Connections.{opened}
 use Rattle.dns_client.specs.Datagrams.{datagram}
 use Rattle.dns_client.specs.Rule.{rule}
 use Rattle.dns_client.specs.Slate.{Slate, Conf, Told, IsUnused, conf_of, fresh}
-use Rattle.dns_client.specs.Spent.{is_spent}
-use Rattle.dns_client.specs.Stands.{Stands, StandsIn}
+use Rattle.dns_client.specs.Stands.{Stands, state_is_spent}
 use Rattle.dns_client.specs.declared.client.ClientCore.{ClientCore}
-use Rattle.dns_client.specs.declared.client.State.{State as CoreState}
-use Rattle.dns_client.specs.declared.client.State.TheVariants.{Exchange as Is_exchange, Open as Is_open, Flushing as Is_flushing, Closed as Is_closed, Lost as Is_lost}
 use Rattle.dns_core.specs.Own.{is_wide}
 use Rattle.dns_core.specs.Out.{is_unused, put}
-use Rattle.dns_core.specs.Serves.{Holds, IsAt}
+use Rattle.dns_core.specs.Serves.{Holds, IsAt, EntersWith}
 use Rattle.dns_core.specs.Placed.{Knowledge, book_now, own_events, is_beginning, looks, learns, knows}
 use Rattle.dns_core.specs.Outs.{Hall, placed_slate, placed_gain, hall, step_gained, call_for, call_at, enters, enters_at, refused_offer}
 use Rattle.dns_core.specs.SplitServer.{ServesSteps}
@@ -44,19 +42,10 @@ use Rattle.dns_core.specs.declared.server.Server.{Server}
 use Rattle.dns_core.proofs.Counted.{put_there, put_other}
 use Rattle.dns_core.proofs.Late.{late_datagram, late_offer}
 use Rattle.dns_core.proofs.Plain.{Plain, unused_is, begun, offered, used_datagram, used_offer}
-use Rattle.dns_core.proofs.Spent.{unused_unspent}
 use Rattle.dns_core.proofs.OutLemmas.{sent_after_append}
 use Rattle.dns_core.proofs.Placing.{slate_append, knows_more, slate_more, gain_more, hall_more}
 use Rattle.dns_core.proofs.Tied.{tied, heard_slate, still_closed, middle_plain, unused_says}
-use Rattle.dns_core.proofs.Stepping.{other_quiet, quiet_slate, quiet_seen, own_slate, own_gain, members_same, book_more, nothing_either_way}
-
-not_true : (b : Bool) → not b ≡ true → b ≡ false
-not_true true h = cc
-not_true false h = refl
-
-not_false : (b : Bool) → not b ≡ false → b ≡ true
-not_false true h = refl
-not_false false h = cc
+use Rattle.dns_core.proofs.Stepping.{other_quiet, quiet_slate, quiet_seen, own_slate, own_gain, members_same, book_more}
 
 -- ---- one that begins
 pub begin_narrow : (k : EventKind) → is_beginning k ≡ true → is_wide k ≡ false
@@ -180,41 +169,6 @@ module _ (answers : Serving) where
         }
 
 module _ {W R F : Type 0} (answer : PolledRequest F R → ℕ → Answer) (answers : Serving) where
-  -- of an unused number nothing is kept, and it is no member's
-  used_state : (n : ℕ) (state : CoreState W R F) (s : Slate) → StandsIn answer answers n state s → is_unused s.phase ≡ false
-  used_state n (Is_exchange kept) s h = ap is_unused h.phase
-  used_state n (Is_open c) s h = ap is_unused h.phase
-  used_state n (Is_flushing c) s h = ap is_unused h.phase
-  used_state n (Is_closed freed) s h = ap is_unused h.phase
-  used_state n Is_lost s h = absurd h
-
-  nothing_held : (o : Option (ClientCore W R F)) (b : Bool) (s : Slate) → is_unused s.phase ≡ true → Holds answer answers o b s → (o ≡ None) × (b ≡ false)
-  nothing_held None true s u h = let n = unused_unspent s u in cc
-  nothing_held None false s u h = (refl, refl)
-  nothing_held (Some core) true s u h = let n = used_state core.client core.state s h.0 in cc
-  nothing_held (Some core) false s u h = absurd h
-
-  none_stands : (o : Option (ClientCore W R F)) (s : Slate) → o ≡ None → Holds answer answers o false s
-  none_stands None s is = tt
-  none_stands (Some core) s is = cc
-
-  none_holds : (o : Option (ClientCore W R F)) (s : Slate) → o ≡ None → is_spent s ≡ true → Holds answer answers o true s
-  none_holds None s is h = h
-  none_holds (Some core) s is h = cc
-
-  none_at : (o : Option (ClientCore W R F)) (v : ℕ) → o ≡ None → IsAt o v
-  none_at None v is = tt
-  none_at (Some core) v is = cc
-
-  -- a core enters, unless it is finished
-  entered : (o : Option (ClientCore W R F)) (core : ClientCore W R F) (s : Slate) (finished : Bool) → finished ≡ is_spent s → Stands answer answers core s → o ≡ None → Holds answer answers (if finished then o else Some core) true s
-  entered o core s true is h none = none_holds o s none (sym is)
-  entered o core s false is h none = (h, sym is)
-
-  entered_at : (o : Option (ClientCore W R F)) (core : ClientCore W R F) (v : ℕ) (finished : Bool) → core.version ≡ v → o ≡ None → IsAt (if finished then o else Some core) v
-  entered_at o core v true is none = none_at o v none
-  entered_at o core v false is none = is
-
   module _ (settings : Settings) where
     -- a used number
     pub used_goes : (old : Server W R F) (q : List Step) (e : Event) (outs : List Output) → is_beginning e.kind ≡ true → outs ≡ [] → contains nat_cmp old.used e.client ≡ true → ServesSteps answer answers settings q old
@@ -226,7 +180,7 @@ module _ {W R F : Type 0} (answer : PolledRequest F R → ℕ → Answer) (answe
         let kn = knows settings c q in
         let hl = hall answers settings q in
         let member = list_any (nat_eq c) hl.members in
-        let used : is_unused sl.phase ≡ false = not_true (is_unused sl.phase) (sym (h.used c) ∙ there) in
+        let used : is_unused sl.phase ≡ false = not-true (is_unused sl.phase) (sym (h.used c) ∙ there) in
         let began = (tied answers settings c q).slate.begun used in
         let nl : looks c kn.began (Own e) ≡ false = begin_looks kn e k ∙ ap not began in
         let called : call_at answers settings q hl.members (Own e) ≡ call.Look = used_call e.kind sl member k used in
@@ -260,12 +214,35 @@ module _ {W R F : Type 0} (answer : PolledRequest F R → ℕ → Answer) (answe
     is_free old q e free h =
         let c = e.client in
         let sl = placed_slate answers settings c q in
-        let un : is_unused sl.phase ≡ true = not_false (is_unused sl.phase) (sym (h.used c) ∙ free) in
-        let none = nothing_held (get nat_cmp old.clients c) (list_any (nat_eq c) (hall answers settings q).members) sl un (h.clients c) in
+        let un : is_unused sl.phase ≡ true = not-false (is_unused sl.phase) (sym (h.used c) ∙ free) in
+        let none = nothing_held answer answers (get nat_cmp old.clients c) (list_any (nat_eq c) (hall answers settings q).members) sl un (h.clients c) in
         record { unused = un; no_core = none.0; no_member = none.1 }
 
     others_used : (old : Server W R F) (q : List Step) (e : Event) → ServesSteps answer answers settings q old → (d : ℕ) → d ≢ e.client → contains nat_cmp old.used d ≡ not (is_unused (placed_slate answers settings d (q ++ Own e ∷ [])).phase)
     others_used old q e h d apart = h.used d ∙ ap (λ (s : Slate). not (is_unused s.phase)) (sym (quiet_slate answers settings d q (Own e) (other_quiet d (knows settings d q) e apart)))
+
+    -- a client that doesn't enter, of which nothing is kept
+    record Out (old : Server W R F) (q : List Step) (e : Event) : Type 0 where
+      no_member : list_any (nat_eq e.client) (hall answers settings (q ++ Own e ∷ [])).members ≡ false
+      clients : (d : ℕ) → Holds answer answers (get nat_cmp old.clients d) (list_any (nat_eq d) (hall answers settings (q ++ Own e ∷ [])).members) (placed_slate answers settings d (q ++ Own e ∷ []))
+      versions : (d : ℕ) → IsAt (get nat_cmp old.clients d) (knows settings d (q ++ Own e ∷ [])).seen.version
+
+    stays_out : (old : Server W R F) (q : List Step) (e : Event) → IsFree old q e → enters_at answers settings q (hall answers settings q) (Own e) ≡ false → ServesSteps answer answers settings q old → Out old q e
+    stays_out old q e f stays h =
+        let c = e.client in
+        let ms = members_same answers settings q (Own e) stays in
+        let out : list_any (nat_eq c) (hall answers settings (q ++ Own e ∷ [])).members ≡ false = ap (list_any (nat_eq c)) ms ∙ f.no_member in
+        record {
+          no_member = out;
+          clients = λ d. ⊎_elim
+              (λ (same : d ≡ c). rw (same, out) (none_stands answer answers (get nat_cmp old.clients c) (placed_slate answers settings c (q ++ Own e ∷ [])) f.no_core))
+              (λ (apart : d ≢ c). rw (ms, quiet_slate answers settings d q (Own e) (other_quiet d (knows settings d q) e apart)) (h.clients d))
+              (cases_eq d c);
+          versions = λ d. ⊎_elim
+              (λ (same : d ≡ c). rw same (none_at (get nat_cmp old.clients c) (knows settings c (q ++ Own e ∷ [])).seen.version f.no_core))
+              (λ (apart : d ≢ c). rw (quiet_seen answers settings d q (Own e) (other_quiet d (knows settings d q) e apart).looks) (h.versions d))
+              (cases_eq d c);
+        }
 
     -- a closed book
     pub closed_goes : (old : Server W R F) (b : State) (q : List Step) (e : Event) (outs : List Output) → is_beginning e.kind ≡ true → outs ≡ [] → contains nat_cmp old.used e.client ≡ false → old.book.closed ≡ true → b ≡ old.book → ServesSteps answer answers settings q old
@@ -273,24 +250,15 @@ module _ {W R F : Type 0} (answer : PolledRequest F R → ℕ → Answer) (answe
     closed_goes old b q e outs k none free cl bk h =
         let c = e.client in
         let f = is_free old q e free h in
-        let sl = placed_slate answers settings c q in
         let hl = hall answers settings q in
-        let member = list_any (nat_eq c) hl.members in
         let cl' : hl.book.closed ≡ true = ap (λ (x : State). x.closed) (sym h.book) ∙ cl in
         let after = met_closed answers settings q e k f.unused cl' in
-        let refuses = closed_refuses e.kind sl member hl.book k f.unused cl' in
-        let ms = members_same answers settings q (Own e) refuses.enters in
-        let out : list_any (nat_eq c) (hall answers settings (q ++ Own e ∷ [])).members ≡ false = ap (list_any (nat_eq c)) ms ∙ f.no_member in (
-          none ∙ sym (rw (out, refuses.says c) refl),
+        let refuses = closed_refuses e.kind (placed_slate answers settings c q) (list_any (nat_eq c) hl.members) hl.book k f.unused cl' in
+        let o = stays_out old q e f refuses.enters h in (
+          none ∙ sym (rw (o.no_member, refuses.says c) refl),
           record {
-            clients = λ d. ⊎_elim
-                (λ (same : d ≡ c). rw (same, out) (none_stands (get nat_cmp old.clients c) (placed_slate answers settings c (q ++ Own e ∷ [])) f.no_core))
-                (λ (apart : d ≢ c). rw (ms, quiet_slate answers settings d q (Own e) (other_quiet d (knows settings d q) e apart)) (h.clients d))
-                (cases_eq d c);
-            versions = λ d. ⊎_elim
-                (λ (same : d ≡ c). rw same (none_at (get nat_cmp old.clients c) (knows settings c (q ++ Own e ∷ [])).seen.version f.no_core))
-                (λ (apart : d ≢ c). rw (quiet_seen answers settings d q (Own e) (other_quiet d (knows settings d q) e apart).looks) (h.versions d))
-                (cases_eq d c);
+            clients = o.clients;
+            versions = o.versions;
             used = λ d. ⊎_elim
                 (λ (same : d ≡ c). rw (same, after.0) free)
                 (λ (apart : d ≢ c). others_used old q e h d apart)
@@ -313,23 +281,16 @@ module _ {W R F : Type 0} (answer : PolledRequest F R → ℕ → Answer) (answe
         let hl = hall answers settings q in
         let cl' : hl.book.closed ≡ false = ap (λ (x : State). x.closed) (sym h.book) ∙ cl in
         let full' : has_slot hl.book ≡ false = ap has_slot (sym h.book) ∙ full in
-        let o = met_open answers settings q e k f.unused cl' in
+        let op = met_open answers settings q e k f.unused cl' in
         let m = meets answers settings q e k f.unused in
-        let opens : (rule answers e (met answers settings q e)).0 ≡ opened c addr e.at (met answers settings q e) = ap (λ (r : Told). r.0) (offered answers e (met answers settings q e) addr kind (unused_is (met answers settings q e).phase m.unused) o.not_over) in
+        let opens : (rule answers e (met answers settings q e)).0 ≡ opened c addr e.at (met answers settings q e) = ap (λ (r : Told). r.0) (offered answers e (met answers settings q e) addr kind (unused_is (met answers settings q e).phase m.unused) op.not_over) in
         let called : call_at answers settings q hl.members (Own e) ≡ call.Admit = rw (kind, f.unused) refl in
         let out' : enters_at answers settings q hl (Own e) ≡ false = rw (called, cl', full', kind) refl in
-        let ms = members_same answers settings q (Own e) out' in
-        let out : list_any (nat_eq c) (hall answers settings (q ++ Own e ∷ [])).members ≡ false = ap (list_any (nat_eq c)) ms ∙ f.no_member in (
-          said ∙ ap (λ (x : State). TurnedAway c x.stream.accept_connections_at_max ∷ []) h.book ∙ sym (rw (out, called, cl', full') refl),
+        let o = stays_out old q e f out' h in (
+          said ∙ ap (λ (x : State). TurnedAway c x.stream.accept_connections_at_max ∷ []) h.book ∙ sym (rw (o.no_member, called, cl', full') refl),
           record {
-            clients = λ d. ⊎_elim
-                (λ (same : d ≡ c). rw (same, out) (none_stands (get nat_cmp old.clients c) (placed_slate answers settings c (q ++ Own e ∷ [])) f.no_core))
-                (λ (apart : d ≢ c). rw (ms, quiet_slate answers settings d q (Own e) (other_quiet d (knows settings d q) e apart)) (h.clients d))
-                (cases_eq d c);
-            versions = λ d. ⊎_elim
-                (λ (same : d ≡ c). rw same (none_at (get nat_cmp old.clients c) (knows settings c (q ++ Own e ∷ [])).seen.version f.no_core))
-                (λ (apart : d ≢ c). rw (quiet_seen answers settings d q (Own e) (other_quiet d (knows settings d q) e apart).looks) (h.versions d))
-                (cases_eq d c);
+            clients = o.clients;
+            versions = o.versions;
             used = λ d. ⊎_elim
                 (λ (same : d ≡ c). hu d ∙ rw (same, eq-eqb c c refl, m.slate, opens) refl)
                 (λ (apart : d ≢ c). hu d ∙ rw (ne_eqb d c apart) (others_used old q e h d apart))
@@ -339,19 +300,16 @@ module _ {W R F : Type 0} (answer : PolledRequest F R → ℕ → Answer) (answe
         )
 
     -- a client begins, with what is kept of it
-    begin_goes : (old : Server W R F) (m : BTreeMap ℕ (ClientCore W R F)) (u : BTreeSet ℕ) (b : State) (core : ClientCore W R F) (finished : Bool) (q : List Step) (e : Event) (outs : List Output) → is_beginning e.kind ≡ true → contains nat_cmp old.used e.client ≡ false
+    begin_goes : (old : Server W R F) (m : BTreeMap ℕ (ClientCore W R F)) (u : BTreeSet ℕ) (b : State) (core : ClientCore W R F) (q : List Step) (e : Event) (outs : List Output) → is_beginning e.kind ≡ true → contains nat_cmp old.used e.client ≡ false
         → enters_at answers settings q (hall answers settings q) (Own e) ≡ true
         → b ≡ state_after (hall answers settings q).book (call_at answers settings q (hall answers settings q).members (Own e))
         → is_unused (rule answers e (met answers settings q e)).0.phase ≡ false
         → (outs ≡ (rule answers e (met answers settings q e)).1) × Stands answer answers core (rule answers e (met answers settings q e)).0
         → core.version ≡ (knows settings e.client (q ++ Own e ∷ [])).seen.version
-        → ((s : Slate) → Stands answer answers core s → finished ≡ is_spent s)
-        → get nat_cmp m e.client ≡ (if finished then get nat_cmp old.clients e.client else Some core)
-        → ((c : ℕ) → c ≢ e.client → get nat_cmp m c ≡ get nat_cmp old.clients c)
-        → ((c : ℕ) → contains nat_cmp u c ≡ (if nat_eq c e.client then true else contains nat_cmp old.used c))
+        → EntersWith answer answers old.clients m old.used u core e.client
         → ServesSteps answer answers settings q old
         → (outs ≡ step_gained answers settings q (Own e)) × ServesSteps answer answers settings (q ++ Own e ∷ []) (record { clients = m; used = u; book = b })
-    begin_goes old m u b core finished q e outs k free joins bk opens st version spent here others hu h =
+    begin_goes old m u b core q e outs k free joins bk opens st version w h =
         let c = e.client in
         let f = is_free old q e free h in
         let hl = hall answers settings q in
@@ -361,16 +319,16 @@ module _ {W R F : Type 0} (answer : PolledRequest F R → ℕ → Answer) (answe
           st.0 ∙ sym (rw in_now me.gain),
           record {
             clients = λ d. ⊎_elim
-                (λ (same : d ≡ c). rw (same, in_now, me.slate, here) (entered (get nat_cmp old.clients c) core (rule answers e (met answers settings q e)).0 finished (spent (rule answers e (met answers settings q e)).0 st.1) st.1 f.no_core))
-                (λ (apart : d ≢ c). rw (ms, put_other d c hl.members apart, quiet_slate answers settings d q (Own e) (other_quiet d (knows settings d q) e apart), others d apart) (h.clients d))
+                (λ (same : d ≡ c). rw (same, in_now, me.slate, w.here) (entered answer answers (get nat_cmp old.clients c) core (rule answers e (met answers settings q e)).0 (state_is_spent core.state) (w.spent (rule answers e (met answers settings q e)).0 st.1) st.1 f.no_core))
+                (λ (apart : d ≢ c). rw (ms, put_other d c hl.members apart, quiet_slate answers settings d q (Own e) (other_quiet d (knows settings d q) e apart), w.others d apart) (h.clients d))
                 (cases_eq d c);
             versions = λ d. ⊎_elim
-                (λ (same : d ≡ c). rw (same, here) (entered_at (get nat_cmp old.clients c) core (knows settings c (q ++ Own e ∷ [])).seen.version finished version f.no_core))
-                (λ (apart : d ≢ c). rw (quiet_seen answers settings d q (Own e) (other_quiet d (knows settings d q) e apart).looks, others d apart) (h.versions d))
+                (λ (same : d ≡ c). rw (same, w.here) (entered_at (get nat_cmp old.clients c) core (knows settings c (q ++ Own e ∷ [])).seen.version (state_is_spent core.state) version f.no_core))
+                (λ (apart : d ≢ c). rw (quiet_seen answers settings d q (Own e) (other_quiet d (knows settings d q) e apart).looks, w.others d apart) (h.versions d))
                 (cases_eq d c);
             used = λ d. ⊎_elim
-                (λ (same : d ≡ c). hu d ∙ rw (same, eq-eqb c c refl, me.slate, opens) refl)
-                (λ (apart : d ≢ c). hu d ∙ rw (ne_eqb d c apart) (others_used old q e h d apart))
+                (λ (same : d ≡ c). w.used d ∙ rw (same, eq-eqb c c refl, me.slate, opens) refl)
+                (λ (apart : d ≢ c). w.used d ∙ rw (ne_eqb d c apart) (others_used old q e h d apart))
                 (cases_eq d c);
             book = bk ∙ sym (book_more answers settings q (Own e));
           },
@@ -389,17 +347,14 @@ module _ {W R F : Type 0} (answer : PolledRequest F R → ℕ → Answer) (answe
         by false is k l = closed_goes old old.book q e outs k none is (⊎_elim (λ (cl : old.book.closed ≡ true). cl) (λ (us : contains nat_cmp old.used e.client ≡ true). let z : old.book.closed ≡ true = cc in z) l) refl h
 
     -- a datagram before that makes an exchange
-    pub datagram_goes : (old : Server W R F) (m : BTreeMap ℕ (ClientCore W R F)) (u : BTreeSet ℕ) (core : ClientCore W R F) (finished : Bool) (q : List Step) (e : Event) (addr : SocketAddr) (o : List ℕ) (outs : List Output) → e.kind ≡ Datagram addr o
+    pub datagram_goes : (old : Server W R F) (m : BTreeMap ℕ (ClientCore W R F)) (u : BTreeSet ℕ) (core : ClientCore W R F) (q : List Step) (e : Event) (addr : SocketAddr) (o : List ℕ) (outs : List Output) → e.kind ≡ Datagram addr o
         → old.book.closed ≡ false → contains nat_cmp old.used e.client ≡ false
         → ((s : Slate) → IsUnused s → s.conf ≡ conf_of old.book → (outs ≡ (datagram e.client addr e.at e.secs o s).1) × Stands answer answers core (datagram e.client addr e.at e.secs o s).0)
         → core.version ≡ old.book.version
-        → ((s : Slate) → Stands answer answers core s → finished ≡ is_spent s)
-        → get nat_cmp m e.client ≡ (if finished then get nat_cmp old.clients e.client else Some core)
-        → ((c : ℕ) → c ≢ e.client → get nat_cmp m c ≡ get nat_cmp old.clients c)
-        → ((c : ℕ) → contains nat_cmp u c ≡ (if nat_eq c e.client then true else contains nat_cmp old.used c))
+        → EntersWith answer answers old.clients m old.used u core e.client
         → ServesSteps answer answers settings q old
         → (outs ≡ step_gained answers settings q (Own e)) × ServesSteps answer answers settings (q ++ Own e ∷ []) (record old { clients = m; used = u })
-    datagram_goes old m u core finished q e addr o outs kind running free st version spent here others hu h =
+    datagram_goes old m u core q e addr o outs kind running free st version w h =
         let k : is_beginning e.kind ≡ true = ap is_beginning kind in
         let f = is_free old q e free h in
         let hl = hall answers settings q in
@@ -409,10 +364,10 @@ module _ {W R F : Type 0} (answer : PolledRequest F R → ℕ → Answer) (answe
         let s = met answers settings q e in
         let is : rule answers e s ≡ datagram e.client addr e.at e.secs o s = begun answers e s addr o kind (unused_is s.phase me.unused) op.not_over in
         let joins : enters_at answers settings q hl (Own e) ≡ true = rw (kind, f.unused, cl') refl in
-        begin_goes old m u old.book core finished q e outs k free joins (h.book ∙ rw kind refl)
+        begin_goes old m u old.book core q e outs k free joins (h.book ∙ rw kind refl)
         (ap (λ (r : Told). is_unused r.0.phase) is)
         (subst (λ (r : Told). (outs ≡ r.1) × Stands answer answers core r.0) (sym is) (st s op.unused (op.shown ∙ ap conf_of (sym h.book))))
-        (version ∙ ap (λ (x : State). x.version) h.book ∙ sym op.version) spent here others hu h
+        (version ∙ ap (λ (x : State). x.version) h.book ∙ sym op.version) w h
 
     pub offer_used : (old : Server W R F) (q : List Step) (e : Event) (addr : SocketAddr) (outs : List Output) → e.kind ≡ Offer addr → contains nat_cmp old.used e.client ≡ true → outs ≡ [] → ServesSteps answer answers settings q old
         → (outs ≡ step_gained answers settings q (Own e)) × ServesSteps answer answers settings (q ++ Own e ∷ []) old
@@ -423,17 +378,14 @@ module _ {W R F : Type 0} (answer : PolledRequest F R → ℕ → Answer) (answe
     offer_closed old b q e addr outs kind free closed is none h = closed_goes old b q e outs (ap is_beginning kind) none free closed (is ∙ rw closed refl) h
 
     -- an offer makes a connection, where a slot is free
-    pub offer_goes : (old : Server W R F) (m : BTreeMap ℕ (ClientCore W R F)) (u : BTreeSet ℕ) (b look : State) (core : ClientCore W R F) (finished : Bool) (q : List Step) (e : Event) (addr : SocketAddr) (outs : List Output) → e.kind ≡ Offer addr
+    pub offer_goes : (old : Server W R F) (m : BTreeMap ℕ (ClientCore W R F)) (u : BTreeSet ℕ) (b look : State) (core : ClientCore W R F) (q : List Step) (e : Event) (addr : SocketAddr) (outs : List Output) → e.kind ≡ Offer addr
         → contains nat_cmp old.used e.client ≡ false → Admits old.book (Admitted look) → b ≡ state_after old.book call.Admit → outs ≡ []
         → ((s : Slate) → IsUnused s → s.conf ≡ conf_of look → Stands answer answers core (opened e.client addr e.at s))
         → core.version ≡ look.version
-        → ((s : Slate) → Stands answer answers core s → finished ≡ is_spent s)
-        → get nat_cmp m e.client ≡ (if finished then get nat_cmp old.clients e.client else Some core)
-        → ((c : ℕ) → c ≢ e.client → get nat_cmp m c ≡ get nat_cmp old.clients c)
-        → ((c : ℕ) → contains nat_cmp u c ≡ (if nat_eq c e.client then true else contains nat_cmp old.used c))
+        → EntersWith answer answers old.clients m old.used u core e.client
         → ServesSteps answer answers settings q old
         → (outs ≡ step_gained answers settings q (Own e)) × ServesSteps answer answers settings (q ++ Own e ∷ []) (record { clients = m; used = u; book = b })
-    offer_goes old m u b look core finished q e addr outs kind free admits after none st version spent here others hu h =
+    offer_goes old m u b look core q e addr outs kind free admits after none st version w h =
         let k : is_beginning e.kind ≡ true = ap is_beginning kind in
         let f = is_free old q e free h in
         let hl = hall answers settings q in
@@ -445,10 +397,10 @@ module _ {W R F : Type 0} (answer : PolledRequest F R → ℕ → Answer) (answe
         let is : rule answers e s ≡ (opened e.client addr e.at s, []) = offered answers e s addr kind (unused_is s.phase me.unused) op.not_over in
         let called : call_at answers settings q hl.members (Own e) ≡ call.Admit = rw (kind, f.unused) refl in
         let joins : enters_at answers settings q hl (Own e) ≡ true = rw (called, cl', room, kind) refl in
-        begin_goes old m u b core finished q e outs k free joins (after ∙ ap (λ (x : State). state_after x call.Admit) h.book ∙ ap (state_after hl.book) (sym called))
+        begin_goes old m u b core q e outs k free joins (after ∙ ap (λ (x : State). state_after x call.Admit) h.book ∙ ap (state_after hl.book) (sym called))
         (ap (λ (r : Told). is_unused r.0.phase) is)
         (subst (λ (r : Told). (outs ≡ r.1) × Stands answer answers core r.0) (sym is) (none, st s op.unused (op.shown ∙ ap conf_of (sym h.book) ∙ sym (ap conf_of admits.2))))
-        (version ∙ ap (λ (x : State). x.version) admits.2 ∙ ap (λ (x : State). x.version) h.book ∙ sym op.version) spent here others hu h
+        (version ∙ ap (λ (x : State). x.version) admits.2 ∙ ap (λ (x : State). x.version) h.book ∙ sym op.version) w h
 
     -- and else it is turned away
     pub offer_away : (old : Server W R F) (u : BTreeSet ℕ) (b : State) (taken limit : ℕ) (accepted : Bool) (q : List Step) (e : Event) (addr : SocketAddr) (outs : List Output) → e.kind ≡ Offer addr

@@ -8,6 +8,8 @@ use Rattle.std.specs.BTreeMap.{BTreeMap, get}
 use Rattle.std.specs.BTreeSet.{contains}
 use Rattle.std.proofs.lemmas.Bool.{cases_eq, eq-eqb, ne_eqb}
 use Rattle.std.proofs.lemmas.List.{append-nil}
+use Rattle.std.proofs.Math.Bool.{and-false}
+use Rattle.dns_core.proofs.Kept.{nothing_either_way, says, leaves, none_holds, none_stands, none_at}
 use Rattle.dns_admission.specs.declared.look.Look.{Look as State}
 use Rattle.dns_admission.specs.declared.call.Call.TheVariants as call
 use Rattle.dns_admission.specs.declared.call.Reply.TheVariants as reply
@@ -35,14 +37,14 @@ use Rattle.dns_core.specs.Trails.{is_open}
 use Rattle.dns_core.specs.Books.{book_rule}
 use Rattle.dns_core.specs.Serves.{Holds, IsAt, LooksOne, Steps, StepsKey}
 use Rattle.dns_core.specs.Placed.{Knowledge, own_events, is_beginning, looks, puts, knows}
-use Rattle.dns_core.specs.Outs.{Hall, placed_slate, placed_gain, hall, step_gained, call_for, call_at, enters, enters_at, refused_offer}
+use Rattle.dns_core.specs.Outs.{Hall, placed_slate, placed_gain, hall, step_gained, call_for, call_at, enters, enters_at, refused_offer, stepping}
 use Rattle.dns_core.specs.SplitServer.{ServesSteps}
 use Rattle.dns_middleware.specs.declared.settings.Settings.{Settings}
 use Rattle.dns_core.specs.declared.server.Server.{Server}
 use Rattle.dns_core.proofs.Plain.{is_going, slot_kept}
 use Rattle.dns_core.proofs.Slots.{exchange_freed}
 use Rattle.dns_core.proofs.Spent.{spent_idle, spent_kept, open_unspent, idle_unspent}
-use Rattle.dns_core.proofs.Wide.{wide_idle}
+use Rattle.dns_core.proofs.Wide.{wide_idle, open_is}
 use Rattle.dns_core.proofs.Looked.{Enter, told, heard_all, entry_wide}
 use Rattle.dns_core.proofs.Placing.{knows_more, slate_more, gain_more, hall_more}
 use Rattle.dns_core.proofs.Tied.{unused_kept, unused_list, wide_no_beginning, tied}
@@ -52,15 +54,11 @@ pub record Quiet (c : ℕ) (k : Knowledge) (s : Step) : Type 0 where
   pub looks : looks c k.began s ≡ false
   pub own : own_events c s ≡ []
 
-and_false : (a : Bool) → (a && false) ≡ false
-and_false true = refl
-and_false false = refl
-
 pub other_quiet : (c : ℕ) (k : Knowledge) (e : Event) → c ≢ e.client → Quiet c k (Own e)
 other_quiet c k e ne =
     let n : (e.client == c) ≡ false = ne_eqb e.client c (λ h. ne (sym h)) in
-    let a = and_false (is_beginning e.kind) in
-    let b = and_false (not (is_wide e.kind)) in
+    let a = and-false (is_beginning e.kind) in
+    let b = and-false (not (is_wide e.kind)) in
     record { looks = rw (n, a) refl; own = rw (n, b) refl }
 
 pub look_quiet : (c d at secs : ℕ) (k : Knowledge) → c ≢ d → Quiet c k (Look at secs d)
@@ -116,9 +114,10 @@ given : (z : Bool) (b : State) → (if z then state_after b call.Release else b)
 given true b = refl
 given false b = refl
 
-pub nothing_either_way : (b : Bool) (os : List Output) → os ≡ [] → [] ≡ (if b then os else [])
-nothing_either_way true os h = sym h
-nothing_either_way false os h = refl
+-- who hears nothing by a step
+pub other_step : (c : ℕ) (k : Knowledge) (s : Step) → c ≢ stepping s → Quiet c k s
+other_step c k (Own e) apart = other_quiet c k e apart
+other_step c k (Look at secs d) apart = look_quiet c d at secs k apart
 
 module _ (answers : Serving) (settings : Settings) where
   pub quiet_slate : (c : ℕ) (q : List Step) (s : Step) → Quiet c (knows settings c q) s → placed_slate answers settings c (q ++ s ∷ []) ≡ placed_slate answers settings c q
@@ -136,7 +135,7 @@ module _ (answers : Serving) (settings : Settings) where
   pub own_gain : (q : List Step) (e : Event) → is_wide e.kind ≡ false → looks e.client (knows settings e.client q).began (Own e) ≡ false → placed_gain answers settings e.client q (Own e) ≡ (rule answers e (placed_slate answers settings e.client q)).1
   own_gain q e w l = gain_more answers settings e.client q (Own e) ∙ ap (sent_after answers (placed_slate answers settings e.client q)) (own_puts (knows settings e.client q) e w l) ∙ append-nil (rule answers e (placed_slate answers settings e.client q)).1
 
-  -- who doesn't enter leaves the members
+  -- who doesn't enter leaves answer answers the members
   pub members_same : (q : List Step) (s : Step) → enters_at answers settings q (hall answers settings q) s ≡ false → (hall answers settings (q ++ s ∷ [])).members ≡ (hall answers settings q).members
   members_same q s h = ap (λ (x : Hall). x.members) (hall_more answers settings q s) ∙ rw h refl
 
@@ -153,7 +152,7 @@ module _ (answers : Serving) (settings : Settings) where
       let k = knows settings c q in
       ap (λ (b : State). told_of answers k.seen.version b (placed_slate answers settings c q)) t.book ∙ heard_all answers k.seen k.unheard (placed_slate answers settings c q) t.slate.enter t.slate.plain.conf t.slate.not_over
 
--- ---- versions: an event leaves that of its client, and who leaves has none
+-- ---- versions: an event leaves answer answers that of its client, and who leaves answer answers has none
 pub at_there : {W R F : Type 0} (o w : Option (ClientCore W R F)) (core new : ClientCore W R F) (v : ℕ) → o ≡ Some core → w ≡ Some new → new.version ≡ core.version → IsAt o v → IsAt w v
 at_there o w core new v is now same h = rw now (same ∙ rw is at h)
 
@@ -174,10 +173,6 @@ held_open t h = by (is_connection t.phase) t.freed h
     by true false h = refl
     by false b h = cc
 
-and_none : (a : Bool) → false ≡ (a && false)
-and_none true = refl
-and_none false = refl
-
 spent_holds_none : (p : Phase) (s : Slate) → s.phase ≡ p → is_spent_in p s ≡ true → (phase_is_closed s.phase && not s.freed) ≡ false
 spent_holds_none Unused s p h = cc
 spent_holds_none Exchange s p h = rw p refl
@@ -185,17 +180,9 @@ spent_holds_none Open s p h = cc
 spent_holds_none (Flushing why) s p h = cc
 spent_holds_none Closed s p h = rw (p, h) refl
 
-none_kept : {X : Type 0} (finished : Bool) (w : Option X) → w ≡ None → (if finished then None else w) ≡ None
-none_kept true w e = refl
-none_kept false w e = e
-
 -- an open slate isn't freed
 abbrev OpenHeld : Slate → Type 0
 OpenHeld s = is_open s.phase ≡ true → s.freed ≡ false
-
-open_is : (p : Phase) → is_open p ≡ true → p ≡ Open
-open_is Open h = refl
-open_is _ h = cc
 
 module _ (answers : Serving) where
   going_freed : (e : Event) (s : Slate) → is_going s.phase ≡ true → holds_slot s ≡ true → (rule answers e s).0.freed ≡ false
@@ -242,9 +229,9 @@ module _ {W R F : Type 0} (answer : PolledRequest F R → ℕ → Answer) (answe
   freed_by : (n : ℕ) (state : CoreState W R F) (e : Event) (s : Slate) → StandsIn answer answers n state s → is_spent s ≡ false → (rule answers e s).0.freed ≡ (is_release e.kind && (phase_is_closed s.phase && not s.freed))
   freed_by n (Is_exchange kept) e s h u =
       let t = with_conf (conf_rule e.kind s.conf) s in
-      (ap (λ (p : Phase). (in_phase answers e p t).0.freed) h.phase ∙ (exchange_freed answers e.kind t ∙ h.freed)) ∙ rw h.phase (and_none (is_release e.kind))
-  freed_by n (Is_open c) e s h u = going_freed answers e s (ap is_going h.phase) (rw (h.phase, h.freed) refl) ∙ rw h.phase (and_none (is_release e.kind))
-  freed_by n (Is_flushing c) e s h u = going_freed answers e s (ap is_going h.phase) (rw (h.phase, h.freed) refl) ∙ rw h.phase (and_none (is_release e.kind))
+      (ap (λ (p : Phase). (in_phase answers e p t).0.freed) h.phase ∙ (exchange_freed answers e.kind t ∙ h.freed)) ∙ rw h.phase (sym (and-false (is_release e.kind)))
+  freed_by n (Is_open c) e s h u = going_freed answers e s (ap is_going h.phase) (rw (h.phase, h.freed) refl) ∙ rw h.phase (sym (and-false (is_release e.kind)))
+  freed_by n (Is_flushing c) e s h u = going_freed answers e s (ap is_going h.phase) (rw (h.phase, h.freed) refl) ∙ rw h.phase (sym (and-false (is_release e.kind)))
   freed_by n (Is_closed gone) e s h u =
       let t = with_conf (conf_rule e.kind s.conf) s in
       let free : s.freed ≡ false = ap (λ (p : Phase). is_spent_in p s) (sym h.phase) ∙ u in
@@ -254,42 +241,13 @@ module _ {W R F : Type 0} (answer : PolledRequest F R → ℕ → Answer) (answe
 
   freed_is : (o w : Option (ClientCore W R F)) (b : Bool) (e : Event) (outs : List Output) (finished freed : Bool) (s : Slate) → Steps answer answers o e outs finished freed w → Holds answer answers o b s
       → freed ≡ (is_release e.kind && (b && (phase_is_closed s.phase && not s.freed)))
-  freed_is None w true e outs finished freed s k h = k.2 ∙ (and_none (is_release e.kind) ∙ ap (λ z. is_release e.kind && z) (sym (spent_holds_none s.phase s refl h)))
-  freed_is None w false e outs finished freed s k h = k.2 ∙ and_none (is_release e.kind)
+  freed_is None w true e outs finished freed s k h = k.2 ∙ (sym (and-false (is_release e.kind)) ∙ ap (λ z. is_release e.kind && z) (sym (spent_holds_none s.phase s refl h)))
+  freed_is None w false e outs finished freed s k h = k.2 ∙ sym (and-false (is_release e.kind))
   freed_is (Some core) None true e outs finished freed s k h = absurd k
   freed_is (Some core) (Some new) true e outs finished freed s k h =
       let f = k.0 s h.0 in
       (k.1 (rule answers e s).0 f.1).free ∙ freed_by core.client core.state e s h.0 h.1
   freed_is (Some core) w false e outs finished freed s k h = absurd h
-
-  -- ---- what one client's event says and leaves
-  says : (o w : Option (ClientCore W R F)) (b : Bool) (e : Event) (outs : List Output) (finished freed : Bool) (s : Slate) → Steps answer answers o e outs finished freed w → Holds answer answers o b s → outs ≡ (if b then (rule answers e s).1 else [])
-  says None w true e outs finished freed s k h = k.0 ∙ sym (ap (λ (t : Told). t.1) (spent_idle answers e s h))
-  says None w false e outs finished freed s k h = k.0
-  says (Some core) None true e outs finished freed s k h = absurd k
-  says (Some core) (Some new) true e outs finished freed s k h = (k.0 s h.0).0
-  says (Some core) w false e outs finished freed s k h = absurd h
-
-  none_holds : (o : Option (ClientCore W R F)) (s : Slate) → o ≡ None → is_spent s ≡ true → Holds answer answers o true s
-  none_holds None s is h = h
-  none_holds (Some core) s is h = cc
-
-  none_stands : (o : Option (ClientCore W R F)) (s : Slate) → o ≡ None → Holds answer answers o false s
-  none_stands None s is = tt
-  none_stands (Some core) s is = cc
-
-  kept_or_gone : (new : ClientCore W R F) (s : Slate) (finished : Bool) → finished ≡ is_spent s → Stands answer answers new s → Holds answer answers (if finished then None else Some new) true s
-  kept_or_gone new s true is h = sym is
-  kept_or_gone new s false is h = (h, sym is)
-
-  leaves : (o w : Option (ClientCore W R F)) (b : Bool) (e : Event) (outs : List Output) (finished freed : Bool) (s : Slate) → Steps answer answers o e outs finished freed w → Holds answer answers o b s → Holds answer answers (if finished then None else w) b (rule answers e s).0
-  leaves None w true e outs finished freed s k h = none_holds (if finished then None else w) (rule answers e s).0 (none_kept finished w k.3) (spent_kept answers e s h)
-  leaves None w false e outs finished freed s k h = none_stands (if finished then None else w) (rule answers e s).0 (none_kept finished w k.3)
-  leaves (Some core) None true e outs finished freed s k h = absurd k
-  leaves (Some core) (Some new) true e outs finished freed s k h =
-      let f = k.0 s h.0 in
-      kept_or_gone new (rule answers e s).0 finished (k.1 (rule answers e s).0 f.1).over f.1
-  leaves (Some core) w false e outs finished freed s k h = absurd h
 
   core_held : (n : ℕ) (state : CoreState W R F) (s : Slate) → StandsIn answer answers n state s → OpenHeld s
   core_held n (Is_exchange kept) s h = λ o. h.freed
@@ -302,16 +260,8 @@ module _ {W R F : Type 0} (answer : PolledRequest F R → ℕ → Answer) (answe
   look_says : (o w : Option (ClientCore W R F)) (m : Bool) (look : State) (b : State) (es : List Event) (outs : List Output) (s : Slate) (v : ℕ) → LooksOne answer answers o look outs w → Holds answer answers o m s → IsAt o v
       → Enter b es → told_of answers v look s ≡ told answers es s
       → (outs ≡ (if m then sent_after answers s es else [])) × Holds answer answers w m (slate_after answers s es) × IsAt w look.version
-  look_says None w true look b es outs s v k h at n tells = let sp = spent_list answers es s h in (k.0 ∙ sym sp.0, none_holds w (slate_after answers s es) k.1 sp.1, none_at w k.1)
-    where
-      none_at : (x : Option (ClientCore W R F)) → x ≡ None → IsAt x look.version
-      none_at None e = tt
-      none_at (Some core) e = cc
-  look_says None w false look b es outs s v k h at n tells = (k.0, none_stands w (slate_after answers s es) k.1, none_at w k.1)
-    where
-      none_at : (x : Option (ClientCore W R F)) → x ≡ None → IsAt x look.version
-      none_at None e = tt
-      none_at (Some core) e = cc
+  look_says None w true look b es outs s v k h at n tells = let sp = spent_list answers es s h in (k.0 ∙ sym sp.0, none_holds answer answers w (slate_after answers s es) k.1 sp.1, none_at w look.version k.1)
+  look_says None w false look b es outs s v k h at n tells = (k.0, none_stands answer answers w (slate_after answers s es) k.1, none_at w look.version k.1)
   look_says (Some core) None true look b es outs s v k h at n tells = absurd k
   look_says (Some core) (Some new) true look b es outs s v k h at n tells =
       let f = k.0 s h.0 in
@@ -343,12 +293,12 @@ module _ {W R F : Type 0} (answer : PolledRequest F R → ℕ → Answer) (answe
         bk ∙ ap (λ z. if z then state_after old.book call.Release else old.book) (freed_is (get nat_cmp old.clients c) k.stepped member e outs k.finished freed sl k.steps (h.clients c))
         ∙ given (is_release e.kind && (member && (phase_is_closed sl.phase && not sl.freed))) old.book
         ∙ ap (state_after old.book) (sym (call_is e.kind sl member wd off)) in (
-          says (get nat_cmp old.clients c) k.stepped member e outs k.finished freed sl k.steps (h.clients c)
+          says answer answers (get nat_cmp old.clients c) k.stepped member e outs k.finished freed sl k.steps (h.clients c)
               ∙ sym (rw (ms, own_gain answers settings q e wd nl, no_refusal e.kind hl.book sl member c off) refl),
           record {
             clients = λ d. ⊎_elim
                 (λ (same : d ≡ c).
-                let l = leaves (get nat_cmp old.clients c) k.stepped member e outs k.finished freed sl k.steps (h.clients c) in
+                let l = leaves answer answers (get nat_cmp old.clients c) k.stepped member e outs k.finished freed sl k.steps (h.clients c) in
                 rw (same, ms, own_slate answers settings q e wd nl, k.left) l)
                 (λ (apart : d ≢ c). rw (ms, there d apart, others d apart) (h.clients d))
                 (cases_eq d c);

@@ -24,7 +24,7 @@ use Rattle.dns_core.specs.Outs.{Hall, placed_slate, placed_gain, hall, step_gain
 use Rattle.dns_middleware.specs.declared.settings.Settings.{Settings}
 use Rattle.dns_core.proofs.Placing.{knows_more, slate_more, gain_more, hall_more}
 use Rattle.dns_core.proofs.Tied.{tied, unused_kept, unused_list, untaken}
-use Rattle.dns_core.proofs.Stepping.{Quiet, other_quiet, look_quiet, quiet_slate, own_slate, wide_quiet}
+use Rattle.dns_core.proofs.Stepping.{quiet_slate, own_slate, wide_quiet, other_step}
 use Rattle.dns_core.proofs.StepBegins.{met, met_closed, met_open, meets}
 use Rattle.dns_core.proofs.StepsByClient.{Settled, joined, joined_by, joined_other, opens, owns, settle, used_stays}
 
@@ -182,10 +182,6 @@ module _ (answers : Serving) (settings : Settings) where
   member_alike c q p s h m = member_case (joined answers settings c q) c q p s h refl m
 
   -- ---- which numbers are used
-  -- who hears nothing by a step
-  pub other_step : (c : ℕ) (k : Knowledge) (s : Step) → c ≢ stepping s → Quiet c k s
-  other_step c k (Own e) apart = other_quiet c k e apart
-  other_step c k (Look at secs d) apart = look_quiet c d at secs k apart
 
   beginning_case : (z : Bool) (q : List Step) (e : Event) → is_beginning e.kind ≡ true → is_unused (placed_slate answers settings e.client q).phase ≡ true → (hall answers settings q).book.closed ≡ z → is_unused (placed_slate answers settings e.client (q ++ Own e ∷ [])).phase ≡ z
   beginning_case true q e k u cl = (met_closed answers settings q e k u cl).0

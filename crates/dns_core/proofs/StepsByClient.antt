@@ -33,7 +33,7 @@ use Rattle.dns_core.proofs.Plain.{unused_is}
 use Rattle.dns_core.proofs.Looked.{Enter, entry_wide}
 use Rattle.dns_core.proofs.Placing.{slate_append, placed_more, slate_more, gain_more, hall_more}
 use Rattle.dns_core.proofs.Tied.{TiedSlate, opens_kind, tied, tied_slate}
-use Rattle.dns_core.proofs.Stepping.{Quiet, look_quiet, no_enter, no_refusal, other_quiet, quiet_gain, quiet_slate}
+use Rattle.dns_core.proofs.Stepping.{Quiet, no_enter, no_refusal, quiet_gain, quiet_slate, other_step}
 use Rattle.dns_core.proofs.StepBegins.{met_open, meets}
 
 -- the client hears each of them
@@ -238,11 +238,6 @@ module _ (answers : Serving) where
               ∙ sym (sent_step c q s);
           unused = λ u. unused_case q s all u h;
         }
-
-    -- a step of another
-    other_step : (c : ℕ) (k : Knowledge) (s : Step) → c ≢ stepping s → Quiet c k s
-    other_step c k (Own e) apart = other_quiet c k e apart
-    other_step c k (Look at secs d) apart = look_quiet c d at secs k apart
 
     owns_more : (c : ℕ) (q : List Step) (s : Step) (all : List Output) → Owns c q all → Owns c (q ++ s ∷ []) (all ++ step_gained answers settings q s)
     owns_more c q s all h = ⊎_elim

@@ -7,6 +7,7 @@ use Rattle.std.specs.List.Sorted.{IsStrictlySortedBy}
 use Rattle.std.specs.Ordering.{nat_cmp}
 use Rattle.std.proofs.lemmas.Bool.{cases_eq, eq-eqb}
 use Rattle.std.proofs.lemmas.List.{append-nil}
+use Rattle.std.proofs.Math.Bool.{and-false}
 use Rattle.dns_name.specs.declared.address.SocketAddr.{SocketAddr}
 use Rattle.dns_admission.specs.declared.look.Look.{Look as State}
 use Rattle.dns_admission.specs.declared.call.Call.TheVariants as call
@@ -33,9 +34,9 @@ use Rattle.dns_core.proofs.Wide.{wide_slot}
 use Rattle.dns_core.proofs.Looked.{Enter, entry_wide}
 use Rattle.dns_core.proofs.Placing.{hall_more, slate_more}
 use Rattle.dns_core.proofs.Tied.{tied}
-use Rattle.dns_core.proofs.Stepping.{book_more, members_same, other_quiet, look_quiet, own_slate, quiet_slate, wide_call, wide_quiet}
+use Rattle.dns_core.proofs.Stepping.{book_more, members_same, other_quiet, look_quiet, own_slate, quiet_slate, wide_call, wide_quiet, other_step}
 use Rattle.dns_core.proofs.StepsByClient.{joined, owns}
-use Rattle.dns_core.proofs.StepsAlike.{entered, enters_by, member_used, other_step}
+use Rattle.dns_core.proofs.StepsAlike.{entered, enters_by, member_used}
 
 abbrev pub is_release : EventKind → Bool
 is_release Release = true
@@ -50,13 +51,9 @@ pub record Slot (e : Event) (s t : Slate) : Type 0 where
   pub gone : gives_back e.kind s ≡ true → (holds_slot s ≡ true) × (holds_slot t ≡ false)
   pub kept : gives_back e.kind s ≡ false → holds_slot t ≡ holds_slot s
 
-and_none : (a : Bool) → (a && false) ≡ false
-and_none true = refl
-and_none false = refl
-
 module _ (answers : Serving) where
   going : (e : Event) (s : Slate) → phase_is_closed s.phase ≡ false → holds_slot (rule answers e s).0 ≡ holds_slot s → Slot e s (rule answers e s).0
-  going e s p h = record { gone = λ g. let n = and_none (is_release e.kind) in let z : false ≡ true = rw (p, n) at g in cc; kept = λ _. h }
+  going e s p h = record { gone = λ g. let n = and-false (is_release e.kind) in let z : false ≡ true = rw (p, n) at g in cc; kept = λ _. h }
 
   closed_slot : (k : EventKind) (f : Bool) (e : Event) (s : Slate) → e.kind ≡ k → s.freed ≡ f → s.phase ≡ Closed → Slot e s (rule answers e s).0
   closed_slot Release true e s is f p = record { gone = λ g. let z : false ≡ true = rw (is, p, f) at g in cc; kept = λ _. rw (is, p, f) refl }
@@ -152,7 +149,7 @@ module _ (answers : Serving) (settings : Settings) where
   same_count q p ms h = ap length (filter_same (λ c. holds_slot (placed_slate answers settings c p)) (λ c. holds_slot (placed_slate answers settings c q)) ms (λ c there. ap holds_slot (h c there)))
 
   others_same : (q : List Step) (s : Step) (ms : List ℕ) → list_any (nat_eq (stepping s)) ms ≡ false → count (q ++ s ∷ []) ms ≡ count q ms
-  others_same q s ms absent = same_count q (q ++ s ∷ []) ms (λ c there. quiet_slate answers settings c q s (other_step answers settings c (knows settings c q) s (absent_other (stepping s) c ms absent there)))
+  others_same q s ms absent = same_count q (q ++ s ∷ []) ms (λ c there. quiet_slate answers settings c q s (other_step c (knows settings c q) s (absent_other (stepping s) c ms absent there)))
 
   put_count : (h : Bool) (q : List Step) (s : Step) (ms : List ℕ) → list_any (nat_eq (stepping s)) ms ≡ false → holds_slot (placed_slate answers settings (stepping s) (q ++ s ∷ [])) ≡ h → count (q ++ s ∷ []) (put (stepping s) ms) ≡ (if h then count q ms + 1 else count q ms)
   put_count true q s ms absent held = filter_put (λ c. holds_slot (placed_slate answers settings c (q ++ s ∷ []))) (stepping s) ms held ∙ ap (λ n. n + 1) (others_same q s ms absent)
@@ -190,7 +187,7 @@ module _ (answers : Serving) (settings : Settings) where
       let sl = placed_slate answers settings c q in
       let u = member_used answers settings c q m in
       let b = (tied answers settings c q).slate.begun u in
-      let l : looks c (knows settings c q).began (Own e) ≡ false = rw b (and_none (begins c (Own e))) in
+      let l : looks c (knows settings c q).began (Own e) ≡ false = rw b (and-false (begins c (Own e))) in
       let t : Slot e sl (placed_slate answers settings c (q ++ Own e ∷ [])) = rw (own_slate answers settings q e w l) (slot_after answers e sl u) in
       one_less (λ d. holds_slot (placed_slate answers settings d q)) (λ d. holds_slot (placed_slate answers settings d (q ++ Own e ∷ []))) c (hall answers settings q).members (gives_back e.kind sl) so m
       (λ y apart. ap holds_slot (quiet_slate answers settings y q (Own e) (other_quiet y (knows settings y q) e apart))) t.gone t.kept

@@ -5,6 +5,8 @@ use Rattle.std.specs.Prelude.{nat_eq, if◌then◌else◌, not, ◌&&◌, ◌||�
 use Rattle.std.specs.List.{list_any}
 use Rattle.std.proofs.lemmas.Bool.{cases_eq, eq-eqb, ne_eqb}
 use Rattle.std.proofs.lemmas.List.{append-nil}
+use Rattle.std.proofs.Math.Bool.{or-false, and-false}
+use Rattle.dns_core.proofs.Gained.{unused_as_before}
 use Rattle.dns_admission.specs.declared.look.Look.{Look as State}
 use Rattle.dns_admission.specs.declared.call.Call.TheVariants as call
 use Rattle.dns_admission.specs.Machine.{reply_of, state_after}
@@ -30,29 +32,16 @@ use Rattle.dns_core.proofs.Settled.{Settled, nothing_received, settled_after}
 use Rattle.dns_core.proofs.Placing.{knows_more, slate_more, gain_more, hall_more}
 use Rattle.dns_core.proofs.Tied.{tied, no_entry, untaken, wide_no_beginning}
 use Rattle.dns_core.proofs.Stepping.{look_quiet, no_refusal, other_quiet, own_enters, own_gain, own_slate, quiet_gain, quiet_slate, wide_call, wide_quiet}
-use Rattle.dns_core.proofs.StepBegins.{begin_narrow, begin_used, closed_refuses, used_call, used_enters}
+use Rattle.dns_core.proofs.StepBegins.{begin_narrow, begin_used, closed_refuses, used_call, used_enters, Refuses}
 use Rattle.dns_core.proofs.StepsByClient.{joined, opens, used_stays}
 use Rattle.dns_core.proofs.StepsAlike.{member_used, skipped, still_unused, unused_after, unused_look}
-
-and_none : (a : Bool) → (a && false) ≡ false
-and_none true = refl
-and_none false = refl
-
-or_false : (b : Bool) → (b || false) ≡ b
-or_false true = refl
-or_false false = refl
 
 -- what one knows that hears nothing of what is no entry
 known : (k : Knowledge) (b : Bool) (es : List Event) → b ≡ k.began → es ≡ k.unheard → (let x : Knowledge = record { began = b; seen = k.seen; unheard = es } in x) ≡ k
 known k b es is same = ap (λ z. let x : Knowledge = record { began = z; seen = k.seen; unheard = es } in x) is ∙ ap (λ z. let x : Knowledge = record { began = k.began; seen = k.seen; unheard = z } in x) same
 
 -- ---- an event of one client that changes nothing of it, if it is a member: what the book is asked changes nothing
-pub record Passes (k : EventKind) (sl : Slate) (m : Bool) (b : State) : Type 0 where
-  pub state : state_after b (call_for sl m k) ≡ b
-  pub says : (c : ℕ) → refused_offer c (reply_of b (call_for sl m k)) ≡ []
-  pub enters : enters sl b (reply_of b (call_for sl m k)) k ≡ false
-
-passes_by : (k : EventKind) (sl : Slate) (m : Bool) (b : State) → call_for sl m k ≡ call.Look → enters sl b (reply_of b call.Look) k ≡ false → Passes k sl m b
+passes_by : (k : EventKind) (sl : Slate) (m : Bool) (b : State) → call_for sl m k ≡ call.Look → enters sl b (reply_of b call.Look) k ≡ false → Refuses k sl m b
 passes_by k sl m b is n = record { state = rw is refl; says = λ c. rw is refl; enters = rw is n }
 
 module _ (answers : Serving) where
@@ -67,7 +56,7 @@ module _ (answers : Serving) where
       by _ p f s g = cc
   release_case true false e sl is idle h = cc
 
-  narrow_passes : (k : EventKind) (e : Event) (sl : Slate) (m : Bool) (b : State) → e.kind ≡ k → is_wide k ≡ false → is_beginning k ≡ false → (m ≡ true → rule answers e sl ≡ (sl, [])) → Passes k sl m b
+  narrow_passes : (k : EventKind) (e : Event) (sl : Slate) (m : Bool) (b : State) → e.kind ≡ k → is_wide k ≡ false → is_beginning k ≡ false → (m ≡ true → rule answers e sl ≡ (sl, [])) → Refuses k sl m b
   narrow_passes (Offer addr) e sl m b is w n idle = cc
   narrow_passes (Datagram addr o) e sl m b is w n idle = cc
   narrow_passes (Reconfigure d t) e sl m b is w n idle = cc
@@ -84,7 +73,7 @@ module _ (answers : Serving) where
     open_case false q e k u n cl = let o = opens answers settings q e k u cl in let z : true ≡ false = rw (u, o) at n in cc
 
     beginning_passes : (u : Bool) (q : List Step) (e : Event) → is_beginning e.kind ≡ true → is_first answers settings q e ≡ false → is_unused (placed_slate answers settings e.client q).phase ≡ u
-        → Passes e.kind (placed_slate answers settings e.client q) (joined answers settings e.client q) (hall answers settings q).book
+        → Refuses e.kind (placed_slate answers settings e.client q) (joined answers settings e.client q) (hall answers settings q).book
     beginning_passes true q e k n u =
         let b = (hall answers settings q).book in
         let r = closed_refuses e.kind (placed_slate answers settings e.client q) (joined answers settings e.client q) b k u (open_case b.closed q e k u n refl) in
@@ -96,7 +85,7 @@ module _ (answers : Serving) where
 
     passes_case : (k : Bool) (q : List Step) (e : Event) → is_wide e.kind ≡ false → is_beginning e.kind ≡ k → is_first answers settings q e ≡ false
         → (joined answers settings e.client q ≡ true → rule answers e (placed_slate answers settings e.client q) ≡ (placed_slate answers settings e.client q, []))
-        → Passes e.kind (placed_slate answers settings e.client q) (joined answers settings e.client q) (hall answers settings q).book
+        → Refuses e.kind (placed_slate answers settings e.client q) (joined answers settings e.client q) (hall answers settings q).book
     passes_case true q e w k n idle = beginning_passes (is_unused (placed_slate answers settings e.client q).phase) q e k n refl
     passes_case false q e w k n idle = narrow_passes e.kind e (placed_slate answers settings e.client q) (joined answers settings e.client q) (hall answers settings q).book refl w k idle
 
@@ -105,24 +94,19 @@ module _ (answers : Serving) where
     no_new c k e w l b = let n = own_no_entry e.kind (book_now k) w in rw (l, n) (known k (k.began || begins c (Own e)) (k.unheard ++ []) b (append-nil k.unheard))
 
     pub begun_knows : (c : ℕ) (k : Knowledge) (e : Event) → is_wide e.kind ≡ false → k.began ≡ true → learns c k (Own e) ≡ k
-    begun_knows c k e w b = no_new c k e w (rw b (and_none (begins c (Own e)))) (rw b refl)
+    begun_knows c k e w b = no_new c k e w (rw b (and-false (begins c (Own e)))) (rw b refl)
 
     pub other_knows : (c : ℕ) (k : Knowledge) (e : Event) → is_wide e.kind ≡ false → c ≢ e.client → learns c k (Own e) ≡ k
     other_knows c k e w apart =
         let q = other_quiet c k e apart in
         let d : (e.client == c) ≡ false = ne_eqb e.client c (λ h. apart (sym h)) in
-        let b : begins c (Own e) ≡ false = rw d (and_none (is_beginning e.kind)) in
-        no_new c k e w q.looks (rw b (or_false k.began))
+        let b : begins c (Own e) ≡ false = rw d (and-false (is_beginning e.kind)) in
+        no_new c k e w q.looks (rw b (or-false k.began))
 
     pub look_knows : (c at secs d : ℕ) (k : Knowledge) → c ≢ d → learns c k (Look at secs d) ≡ k
     look_knows c at secs d k apart =
         let n : (d == c) ≡ false = ne_eqb d c (λ h. apart (sym h)) in
-        rw n (known k (k.began || false) (k.unheard ++ []) (or_false k.began) (append-nil k.unheard))
-
-    still_new : (a b : Bool) → (a && not b) ≡ false → (a ≡ false → b ≡ false) → b ≡ a
-    still_new true true n h = refl
-    still_new true false n h = cc
-    still_new false b n h = h refl
+        rw n (known k (k.began || false) (k.unheard ++ []) (or-false k.began) (append-nil k.unheard))
 
     pub hall_kept : (q : List Step) (s : Step) → enters_at answers settings q (hall answers settings q) s ≡ false → state_after (hall answers settings q).book (call_at answers settings q (hall answers settings q).members s) ≡ (hall answers settings q).book
         → hall answers settings (q ++ s ∷ []) ≡ hall answers settings q
@@ -142,11 +126,11 @@ module _ (answers : Serving) where
         let p = passes_case (is_beginning e.kind) q e w refl n idle in
         let same = hall_kept q s p.enters p.state in
         let now : (d : ℕ) → joined answers settings d (q ++ s ∷ []) ≡ joined answers settings d q = λ d. ap (λ (x : Hall). list_any (nat_eq d) x.members) same in
-        let no_look : joined answers settings c q ≡ true → looks c (knows settings c q).began s ≡ false = λ m. let b = (tied answers settings c q).slate.begun (member_used answers settings c q m) in rw b (and_none (begins c s)) in
+        let no_look : joined answers settings c q ≡ true → looks c (knows settings c q).began s ≡ false = λ m. let b = (tied answers settings c q).slate.begun (member_used answers settings c q m) in rw b (and-false (begins c s)) in
         skipped answers settings q r s (by (joined answers settings c q) refl) (record {
           same_hall = same;
           same_unused = λ d. ⊎_elim
-              (λ (i : d ≡ c). rw i (still_new (is_unused (placed_slate answers settings c q).phase) (is_unused (placed_slate answers settings c (q ++ s ∷ [])).phase) n (used_stays answers settings c q s)))
+              (λ (i : d ≡ c). rw i (unused_as_before (is_unused (placed_slate answers settings c q).phase) (is_unused (placed_slate answers settings c (q ++ s ∷ [])).phase) n (used_stays answers settings c q s)))
               (λ (apart : d ≢ c). ap (λ (x : Slate). is_unused x.phase) (quiet_slate answers settings d q s (other_quiet d (knows settings d q) e apart)))
               (cases_eq d c);
           same_slates = λ d there. ⊎_elim
@@ -163,7 +147,7 @@ module _ (answers : Serving) where
         by true m =
             let p = passes_case (is_beginning e.kind) q e w refl n idle in
             let b = (tied answers settings e.client q).slate.begun (member_used answers settings e.client q m) in
-            let l : looks e.client (knows settings e.client q).began (Own e) ≡ false = rw b (and_none (begins e.client (Own e))) in
+            let l : looks e.client (knows settings e.client q).began (Own e) ≡ false = rw b (and-false (begins e.client (Own e))) in
             let now : joined answers settings e.client (q ++ Own e ∷ []) ≡ true = ap (λ (x : Hall). list_any (nat_eq e.client) x.members) (hall_kept q (Own e) p.enters p.state) ∙ m in
             rw now (own_gain answers settings q e w l ∙ ap (λ (t : Told). t.1) (idle m))
         by false m =
@@ -213,7 +197,7 @@ module _ (answers : Serving) where
     look_again c at secs k h =
         let self : (c == c) ≡ true = eq-eqb c c refl in
         let make : Bool → State → List Event → Knowledge = λ x b es. record { began = x; seen = b; unheard = es } in
-        rw self (ap (λ x. make x (book_now k) []) (or_false k.began) ∙ ap (λ es. make k.began (Rattle.dns_core.specs.Books.books k.seen es) []) h ∙ sym (ap (λ es. make k.began k.seen es) h))
+        rw self (ap (λ x. make x (book_now k) []) (or-false k.began) ∙ ap (λ es. make k.began (Rattle.dns_core.specs.Books.books k.seen es) []) h ∙ sym (ap (λ es. make k.began k.seen es) h))
 
     -- a look of one that has heard all
     pub idle_look : (q r : List Step) (at secs c : ℕ) → (knows settings c q).unheard ≡ [] → outs answers settings (q ++ Look at secs c ∷ r) ≡ outs answers settings (q ++ r)
@@ -236,7 +220,7 @@ module _ (answers : Serving) where
         let o = wide_no_beginning e.kind w in
         let b : begins c (Own e) ≡ false = rw o refl in
         let l : looks c k.began (Own e) ≡ false = rw o refl in
-        rw (l, n, b) (known k (k.began || false) (k.unheard ++ []) (or_false k.began) (append-nil k.unheard))
+        rw (l, n, b) (known k (k.began || false) (k.unheard ++ []) (or-false k.began) (append-nil k.unheard))
 
     pub nothing_entered : (q r : List Step) (e : Event) → is_wide e.kind ≡ true → is_entry (hall answers settings q).book e.kind ≡ false → outs answers settings (q ++ Own e ∷ r) ≡ outs answers settings (q ++ r)
     nothing_entered q r e w n =
@@ -261,7 +245,7 @@ module _ (answers : Serving) where
 
     not_first_case : (b : Bool) (q : List Step) (e : Event) → is_unused (placed_slate answers settings e.client q).phase ≡ b → still_unused answers settings e.kind (hall answers settings q).book ≡ true → is_first answers settings q e ≡ false
     unfolding is_first
-    not_first_case true q e u h = let a = unused_after answers settings q e u ∙ h in rw a (and_none (is_unused (placed_slate answers settings e.client q).phase))
+    not_first_case true q e u h = let a = unused_after answers settings q e u ∙ h in rw a (and-false (is_unused (placed_slate answers settings e.client q).phase))
     not_first_case false q e u h = rw u refl
 
     pub not_first : (q : List Step) (e : Event) → is_beginning e.kind ≡ false → is_first answers settings q e ≡ false

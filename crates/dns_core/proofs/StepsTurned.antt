@@ -1,11 +1,11 @@
 -- Who is turned away, and that the others are sent what they heard, whatever the interleaving.
 use Rattle.dns_client.specs.Serving.{Serving}
 use Rattle.std.proofs.Common.{◌≡◌, ◌≢◌, ℕ, List, [], ◌∷◌, ◌++◌, Bool, true, false, refl, ap, sym, ◌∙◌, subst, ⊎_elim, append_assoc}
-use Rattle.std.specs.Prelude.{nat_eq, filter, if◌then◌else◌, not, ◌&&◌}
-use Rattle.std.specs.List.{list_any}
-use Rattle.std.proofs.lemmas.Bool.{cases_eq}
+use Rattle.std.specs.Prelude.{filter, if◌then◌else◌, not, ◌&&◌}
+use Rattle.std.proofs.lemmas.Bool.{cases_eq, and_parts, not-true}
 use Rattle.std.proofs.lemmas.List.{append-nil}
 use Rattle.std.proofs.Math.Seq.{take-append_seam}
+use Rattle.dns_core.proofs.ByClient.{didnt_begin}
 use Rattle.dns_admission.specs.Machine.{has_slot, reply_of}
 use Rattle.dns_service.specs.declared.event.Event.{Event}
 use Rattle.dns_service.specs.declared.event.EventKind.{EventKind}
@@ -17,32 +17,20 @@ use Rattle.dns_service.specs.declared.event.Step.TheVariants.{Own, Look}
 use Rattle.dns_core.specs.ByClient.{IsPrefix, is_for}
 use Rattle.dns_client.specs.Slate.{Slate}
 use Rattle.dns_name.specs.declared.address.SocketAddr.{SocketAddr}
-use Rattle.dns_core.specs.Out.{is_unused, put}
+use Rattle.dns_core.specs.Out.{is_unused}
 use Rattle.dns_core.specs.Outs.{placed_slate, hall, step_gained, outs, outs_after, call_at, enters_at, refused_offer, stepping}
 use Rattle.dns_core.specs.Placed.{is_beginning, knows, learned, knowledge_at_first, place, placed}
 use Rattle.dns_core.specs.Sent.{sent}
 use Rattle.dns_core.specs.StepsByClient.{TurnedAwayIn, finds_no_slot, is_offer, was_refused}
 use Rattle.dns_middleware.specs.declared.settings.Settings.{Settings}
-use Rattle.dns_core.proofs.Counted.{put_other, put_there}
+use Rattle.dns_core.proofs.Counted.{put_there, put_keeps}
 use Rattle.dns_core.proofs.LooksIdle.{place_append}
 use Rattle.dns_core.proofs.Named.{filter_for, filter_others}
 use Rattle.dns_core.proofs.OutLemmas.{sent_front}
 use Rattle.dns_core.proofs.Placing.{outs_more}
 use Rattle.dns_core.proofs.StepsByClient.{Comes, comes, filter_both, joined, joined_by, joined_other, nothing_yet, opens, owns, step_for, used_stays}
-use Rattle.dns_core.proofs.Stepping.{quiet_slate}
-use Rattle.dns_core.proofs.StepsAlike.{other_step, outs_split, unused_after, unused_look}
-
-left_of : (a b : Bool) → (a && b) ≡ true → a ≡ true
-left_of true b h = refl
-left_of false b h = cc
-
-right_of : (a b : Bool) → (a && b) ≡ true → b ≡ true
-right_of true b h = h
-right_of false b h = cc
-
-not_true : (b : Bool) → not b ≡ true → b ≡ false
-not_true true h = cc
-not_true false h = refl
+use Rattle.dns_core.proofs.Stepping.{quiet_slate, other_step}
+use Rattle.dns_core.proofs.StepsAlike.{outs_split, unused_after, unused_look}
 
 offer_begins : (k : EventKind) → is_offer k ≡ true → is_beginning k ≡ true
 offer_begins (Offer addr) h = refl
@@ -117,16 +105,16 @@ module _ (answers : Serving) (settings : Settings) where
       let u = is_unused (placed_slate answers settings e.client q).phase in
       let o = not (hall answers settings q).book.closed in
       let f = not (has_slot (hall answers settings q).book) in
-      let h1 = right_of (is_offer e.kind) (u && (o && f)) h in
-      let h2 = right_of u (o && f) h1 in
-      refused_kind e.kind q e refl (left_of (is_offer e.kind) (u && (o && f)) h) (left_of u (o && f) h1) (not_true (hall answers settings q).book.closed (left_of o f h2)) (not_true (has_slot (hall answers settings q).book) (right_of o f h2))
+      let h1 = (and_parts (is_offer e.kind) (u && (o && f)) h).1 in
+      let h2 = (and_parts u (o && f) h1).1 in
+      refused_kind e.kind q e refl (and_parts (is_offer e.kind) (u && (o && f)) h).0 (and_parts u (o && f) h1).0 (not-true (hall answers settings q).book.closed (and_parts o f h2).0) (not-true (has_slot (hall answers settings q).book) (and_parts o f h2).1)
 
   pub turned : (q r : List Step) (e : Event) → finds_no_slot answers settings q e ≡ true → sent_to e.client (q ++ Own e ∷ r) ≡ TurnedAway e.client (hall answers settings q).book.stream.accept_connections_at_max ∷ []
   turned q r e h =
       let c = e.client in
       let line = TurnedAway c (hall answers settings q).book.stream.accept_connections_at_max ∷ [] in
       let f = refused q e h in
-      let k = offer_begins e.kind (left_of (is_offer e.kind) (is_unused (placed_slate answers settings e.client q).phase && (not (hall answers settings q).book.closed && not (has_slot (hall answers settings q).book))) h) in
+      let k = offer_begins e.kind (and_parts (is_offer e.kind) (is_unused (placed_slate answers settings e.client q).phase && (not (hall answers settings q).book.closed && not (has_slot (hall answers settings q).book))) h).0 in
       let was = (owns answers settings c q).unused f.unused in
       let out : joined answers settings c (q ++ Own e ∷ []) ≡ false = joined_by answers settings false c q (Own e) f.enters ∙ was.1 in
       let gained : step_gained answers settings q (Own e) ≡ line = rw out f.says in
@@ -138,12 +126,6 @@ module _ (answers : Serving) (settings : Settings) where
             ∙ ap (λ ps. ps ++ filter (is_for c) (step_gained answers settings q (Own e))) was.0 ∙ ap (filter (is_for c)) gained ∙ filter_for c line (refl, tt);
       } in
       ap (sent_to c) (sym (append_assoc q (Own e ∷ []) r)) ∙ (away_on c line r (q ++ Own e ∷ []) first).told
-
-  -- neither a member nor turned away: it didn't begin
-  didnt_begin : (u m : Bool) → m ≡ false → (not u && not m) ≡ false → u ≡ true
-  didnt_begin true m absent h = refl
-  didnt_begin false true absent h = cc
-  didnt_begin false false absent h = cc
 
   -- a client that wasn't turned away is sent what it heard
   not_away : (c : ℕ) (q : List Step) (m : Bool) → joined answers settings c q ≡ m → was_refused answers settings c q ≡ false → sent_to c q ≡ sent answers settings (placed settings c q)
@@ -165,11 +147,6 @@ module _ (answers : Serving) (settings : Settings) where
   placed_front c p r = rw (place_append c (knowledge_at_first settings) p r) (sent_front answers settings (place c (knowledge_at_first settings) p) (place c (learned c (knowledge_at_first settings) p) r))
 
   -- ---- whoever began, and is no member, was turned away
-  put_keeps : (c x : ℕ) (ms : List ℕ) → list_any (nat_eq c) ms ≡ true → list_any (nat_eq c) (put x ms) ≡ true
-  put_keeps c x ms there = ⊎_elim
-      (λ (same : c ≡ x). rw same (put_there x ms))
-      (λ (apart : c ≢ x). put_other c x ms apart ∙ there)
-      (cases_eq c x)
 
   joined_case : (b : Bool) (c : ℕ) (q : List Step) (s : Step) → enters_at answers settings q (hall answers settings q) s ≡ b → joined answers settings c q ≡ true → joined answers settings c (q ++ s ∷ []) ≡ true
   joined_case true c q s n m = joined_by answers settings true c q s n ∙ put_keeps c (stepping s) (hall answers settings q).members m
@@ -238,7 +215,7 @@ module _ (answers : Serving) (settings : Settings) where
       ⊎_elim
       (λ (same : c ≡ stepping s). first_refusal c q s same u b.0 b.1)
       (λ (apart : c ≢ stepping s).
-      let still = ap (λ (x : Slate). is_unused x.phase) (quiet_slate answers settings c q s (other_step answers settings c (knows settings c q) s apart)) ∙ u in
+      let still = ap (λ (x : Slate). is_unused x.phase) (quiet_slate answers settings c q s (other_step c (knows settings c q) s apart)) ∙ u in
       let no : true ≡ false = sym still ∙ b.0 in cc)
       (cases_eq c (stepping s))
 

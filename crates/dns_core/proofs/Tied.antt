@@ -3,6 +3,8 @@ use Rattle.dns_client.specs.Serving.{Serving}
 use Rattle.std.proofs.Common.{◌≡◌, ℕ, List, [], ◌∷◌, ◌++◌, Bool, true, false, refl, ap, sym, ◌∙◌}
 use Rattle.std.specs.Prelude.{if◌then◌else◌, ◌==◌, not, ◌&&◌, ◌||◌, nat_eq}
 use Rattle.std.specs.List.{list_any}
+use Rattle.std.proofs.Math.Bool.{or-false, or-true, and-false}
+use Rattle.std.proofs.lemmas.Bool.{not-true, and_parts}
 use Rattle.dns_admission.specs.declared.look.Look.{Look as State}
 use Rattle.dns_admission.specs.declared.call.Call.TheVariants as call
 use Rattle.dns_admission.specs.Machine.{admitted, has_slot, has_version, state_after, new_state, replaced}
@@ -70,12 +72,8 @@ beginning_book (Offer addr) b h = refl
 beginning_book (Datagram addr o) b h = refl
 beginning_book _ b h = cc
 
-and_left : (a b : Bool) → (a && b) ≡ true → a ≡ true
-and_left true b h = refl
-and_left false b h = cc
-
 looks_book : (c : ℕ) (began : Bool) (b : State) (s : Step) → looks c began s ≡ true → book_step b s ≡ b
-looks_book c began b (Own e) h = beginning_book e.kind b (and_left (is_beginning e.kind) (e.client == c) (and_left (begins c (Own e)) (not began) h))
+looks_book c began b (Own e) h = beginning_book e.kind b (and_parts (is_beginning e.kind) (e.client == c) (and_parts (begins c (Own e)) (not began) h).0).0
 looks_book c began b (Look at secs d) h = refl
 
 now_case : (l : Bool) (c : ℕ) (k : Knowledge) (s : Step) → looks c k.began s ≡ l → books (if l then book_now k else k.seen) (if l then [] else k.unheard ++ entries (book_now k) s) ≡ book_step (book_now k) s
@@ -135,12 +133,8 @@ conf_append : (es fs : List Event) (k : Conf) → conf_after k (es ++ fs) ≡ co
 conf_append [] fs k = refl
 conf_append (e ∷ es) fs k = conf_append es fs (conf_rule e.kind k)
 
-not_true : (b : Bool) → not b ≡ true → b ≡ false
-not_true true h = cc
-not_true false h = refl
-
 conf_own_case : (z : Bool) (c : ℕ) (k : Conf) (e : Event) → (not (is_wide e.kind) && (e.client == c)) ≡ z → conf_after k (if z then e ∷ [] else []) ≡ k
-conf_own_case true c k e h = narrow_conf e.kind k (not_true (is_wide e.kind) (and_left (not (is_wide e.kind)) (e.client == c) h))
+conf_own_case true c k e h = narrow_conf e.kind k (not-true (is_wide e.kind) (and_parts (not (is_wide e.kind)) (e.client == c) h).0)
 conf_own_case false c k e h = refl
 
 conf_own : (c : ℕ) (k : Conf) (s : Step) → conf_after k (own_events c s) ≡ k
@@ -161,18 +155,6 @@ pub wide_no_beginning : (k : EventKind) → is_wide k ≡ true → is_beginning 
 wide_no_beginning (Reconfigure d t) h = refl
 wide_no_beginning Shutdown h = refl
 wide_no_beginning _ h = cc
-
-pub or_true : (b : Bool) → (b || true) ≡ true
-or_true true = refl
-or_true false = refl
-
-or_false : (b : Bool) → (b || false) ≡ b
-or_false true = refl
-or_false false = refl
-
-and_none : (a : Bool) → (a && false) ≡ false
-and_none true = refl
-and_none false = refl
 
 and_all : (a : Bool) → (a && true) ≡ a
 and_all true = refl
@@ -258,10 +240,10 @@ module _ (answers : Serving) where
   began_case true e look sl p h is un = still_open_case look.closed e look sl p h is un refl
 
   own_case : (z : Bool) (e : Event) (began : Bool) (look : State) (sl : Slate) → Plain answers (conf_of look) sl → OwnTied began look.closed sl → is_beginning e.kind ≡ z → OwnTied (began || z) look.closed (rule answers e sl).0
-  own_case true e began look sl p t h = record { over = λ b un. began_case (is_unused sl.phase) e look sl p h refl un; begun = λ u. or_true began }
+  own_case true e began look sl p t h = record { over = λ b un. began_case (is_unused sl.phase) e look sl p h refl un; begun = λ u. or-true began }
   own_case false e began look sl p t h =
       let un = unused_kept e sl h in
-      record { over = λ b u. t.over (sym (or_false began) ∙ b) (sym un ∙ u); begun = λ u. or_false began ∙ t.begun (sym un ∙ u) }
+      record { over = λ b u. t.over (sym (or-false began) ∙ b) (sym un ∙ u); begun = λ u. or-false began ∙ t.begun (sym un ∙ u) }
 
   own_event : (e : Event) (began : Bool) (look : State) (sl : Slate) → Plain answers (conf_of look) sl → OwnTied began look.closed sl → OwnTied (began || is_beginning e.kind) look.closed (rule answers e sl).0
   own_event e began look sl p t = own_case (is_beginning e.kind) e began look sl p t refl
@@ -269,12 +251,12 @@ module _ (answers : Serving) where
   own_by : (w q : Bool) (e : Event) (began : Bool) (look : State) (sl : Slate) → Plain answers (conf_of look) sl → OwnTied began look.closed sl → is_wide e.kind ≡ w
       → OwnTied (began || (is_beginning e.kind && q)) look.closed (slate_after answers sl (if not w && q then e ∷ [] else []))
   own_by false true e began look sl p t wd = let o = own_event e began look sl p t in let f = and_all (is_beginning e.kind) in rw f o
-  own_by false false e began look sl p t wd = let f = and_none (is_beginning e.kind) in rw f (let g = or_false began in rw g t)
-  own_by true q e began look sl p t wd = let n = wide_no_beginning e.kind wd in rw n (let g = or_false began in rw g t)
+  own_by false false e began look sl p t wd = let f = and-false (is_beginning e.kind) in rw f (let g = or-false began in rw g t)
+  own_by true q e began look sl p t wd = let n = wide_no_beginning e.kind wd in rw n (let g = or-false began in rw g t)
 
   own_tied : (c : ℕ) (s : Step) (began : Bool) (look : State) (sl : Slate) → Plain answers (conf_of look) sl → OwnTied began look.closed sl → OwnTied (began || begins c s) look.closed (slate_after answers sl (own_events c s))
   own_tied c (Own e) began look sl p t = own_by (is_wide e.kind) (e.client == c) e began look sl p t refl
-  own_tied c (Look at secs d) began look sl p t = let g = or_false began in rw g t
+  own_tied c (Look at secs d) began look sl p t = let g = or-false began in rw g t
 
   pub tied_slate : (c : ℕ) (k : Knowledge) (s : Step) (sl : Slate) → TiedSlate k sl → TiedSlate (learns c k s) (slate_after answers sl (puts c k s))
   tied_slate c k s sl t =

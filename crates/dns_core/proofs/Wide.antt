@@ -30,7 +30,7 @@ wide_closed (Reconfigure dgram stream) s w = refl
 wide_closed Shutdown s w = refl
 wide_closed _ s w = cc
 
-open_is : (p : Phase) → is_open p ≡ true → p ≡ Open
+pub open_is : (p : Phase) → is_open p ≡ true → p ≡ Open
 open_is Open h = refl
 open_is _ h = cc
 

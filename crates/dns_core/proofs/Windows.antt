@@ -8,6 +8,7 @@ use Rattle.std.proofs.Math.Nat.{div-mul-le_self, div-zero}
 use Rattle.std.proofs.lemmas.Bool.{eqb-true, eqb-false, ne_eqb}
 use Rattle.std.proofs.lemmas.List.Elements.{All-head, All-tail}
 use Rattle.std.proofs.lemmas.Nat.{le-div}
+use Rattle.dns_core.proofs.Late.{wound_shut}
 use Rattle.dns_name.specs.declared.address.SocketAddr.{SocketAddr}
 use Rattle.dns_service.specs.Config.{IsBudget}
 use Rattle.dns_service.specs.declared.event.Event.{Event}
@@ -26,7 +27,7 @@ use Rattle.dns_core.specs.Trails.{is_open}
 use Rattle.dns_middleware.specs.declared.settings.Settings.{Settings}
 use Rattle.dns_core.proofs.Grows.{Grows, carries, growth, grown, left_in, pieces, rested, turns}
 use Rattle.dns_core.proofs.Plain.{rule_conf}
-use Rattle.dns_core.proofs.Rests.{Rests, closed_on, closes, exchange_on, flushing_on, same, tick_on, winds, wound_up, write_on}
+use Rattle.dns_core.proofs.Rests.{Rests, closed_on, closes, exchange_on, flushing_on, same, tick_on, winds, write_on}
 
 -- an open connection has the budget of the configuration in force
 record Agrees (s : Slate) : Type 0 where
@@ -110,7 +111,7 @@ module _ (answers : Serving) (b : ℕ) (fits : IsBudget (Some b)) where
   open_on e Shutdown s a =
       let s0 = with_conf (conf_rule Shutdown s.conf) s in
       let t = (open_rule answers e Shutdown s0).0 in
-      record { follows = unopened t (wound_up By_shutdown s.queue s0); gains = λ w most. rested b (e.at / w) s0 t (winds By_shutdown s.queue s0) }
+      record { follows = unopened t (wound_shut By_shutdown s.queue s0); gains = λ w most. rested b (e.at / w) s0 t (winds By_shutdown s.queue s0) }
   open_on e _ s a = open_step b e.at s s a (grown b e.at s s (same s))
 
   phase_on : (e : Event) (p : Phase) (s : Slate) → s.phase ≡ p → Follows s → Steps b e.at s (in_phase answers e p (with_conf (conf_rule e.kind s.conf) s)).0

@@ -1,9 +1,10 @@
 -- What is kept of one client: the core that stands for its slate, until that is spent.
 use Rattle.dns_client.specs.Serving.{Serving}
-use Rattle.std.specs.Prelude.{◌≡◌, ℕ, [], List, Bool, true, false, Option, Some, None, if◌then◌else◌}
+use Rattle.std.specs.Prelude.{◌≡◌, ◌≢◌, ℕ, [], List, Bool, true, false, Option, Some, None, nat_eq, if◌then◌else◌}
 use Rattle.std.specs.List.{flat_map}
 use Rattle.std.specs.Ordering.{nat_cmp}
 use Rattle.std.specs.BTreeMap.{BTreeMap, get, keys}
+use Rattle.std.specs.BTreeSet.{BTreeSet, contains}
 use Rattle.dns_admission.specs.declared.look.Look.{Look as State}
 use Rattle.dns_service.specs.Answer.{Answer}
 use Rattle.dns_service.specs.declared.event.Event.{Event}
@@ -12,7 +13,7 @@ use Rattle.dns_client.specs.News.{told_of}
 use Rattle.dns_client.specs.Slate.{Slate}
 use Rattle.dns_client.specs.Spent.{is_spent}
 use Rattle.dns_client.specs.Rule.{rule}
-use Rattle.dns_client.specs.Stands.{Stands, GoesAs}
+use Rattle.dns_client.specs.Stands.{Stands, GoesAs, state_is_spent}
 use Rattle.dns_client.specs.declared.client.ClientCore.{ClientCore}
 use Rattle.dns_service.specs.declared.polled.PolledRequest.{PolledRequest}
 
@@ -62,3 +63,10 @@ module _ {W R F : Type 0} (answer : PolledRequest F R → ℕ → Answer) (answe
   abbrev pub LooksAll : BTreeMap ℕ (ClientCore W R F) → BTreeMap ℕ (ClientCore W R F) → State → List Output → Type 0
   LooksAll old new look outs = (slates : ℕ → Slate) (versions : ℕ → ℕ) → StandAll old slates versions
       → (outs ≡ flat_map (λ c. (told_of answers (versions c) look (slates c)).1) (keys old)) × StandAll new (λ c. (told_of answers (versions c) look (slates c)).0) (λ c. look.version)
+
+  -- a client begins with a core: that is kept under its number, unless it is finished, the others stay, and the number is used
+  pub record EntersWith (old new : BTreeMap ℕ (ClientCore W R F)) (before after : BTreeSet ℕ) (core : ClientCore W R F) (c : ℕ) : Type 0 where
+    pub spent : (s : Slate) → Stands answer answers core s → state_is_spent core.state ≡ is_spent s
+    pub here : get nat_cmp new c ≡ (if state_is_spent core.state then get nat_cmp old c else Some core)
+    pub others : (d : ℕ) → d ≢ c → get nat_cmp new d ≡ get nat_cmp old d
+    pub used : (d : ℕ) → contains nat_cmp after d ≡ (if nat_eq d c then true else contains nat_cmp before d)

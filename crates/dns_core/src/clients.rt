@@ -1,15 +1,16 @@
 //! The cores by client number.
 
 ghost use Rattle.dns_client.specs.Serving.{Serving, serving};
-ghost use Rattle.std.specs.Prelude.{◌≡◌, ◌≢◌, ℕ, [], ◌∷◌, ◌++◌, IfOk, OnOk, None, Some, true, nat_eq, if◌then◌else◌};
+ghost use Rattle.std.specs.Prelude.{◌≡◌, ◌≢◌, ℕ, List, [], ◌∷◌, ◌++◌, IfOk, OnOk, None, Some, true, nat_eq, if◌then◌else◌};
 ghost use Rattle.std.specs.Ordering.{nat_cmp};
 ghost use Rattle.std.specs.BTreeMap.{get, keys, IsOrdered};
 ghost use Rattle.std.specs.BTreeSet.{contains};
 ghost use Rattle.dns_service.specs.PolledRequest.{request_answer};
+ghost use Rattle.dns_client.specs.Rule.{rule};
 ghost use Rattle.dns_client.specs.Slate.{Slate};
 ghost use Rattle.dns_client.specs.Spent.{is_spent};
-ghost use Rattle.dns_client.specs.Stands.{Stands, state_is_spent};
-ghost use Rattle.dns_core.specs.Serves.{IsAt, LooksOne, LooksAll, Steps, StepsKey};
+ghost use Rattle.dns_client.specs.Stands.{Stands, GoesAs, state_is_spent};
+ghost use Rattle.dns_core.specs.Serves.{IsAt, IsOver, LooksOne, LooksAll, Steps, StepsKey, EntersWith};
 
 use dns_admission::Look;
 use dns_client::ClientCore;
@@ -23,6 +24,27 @@ pub struct Stepped {
     pub outs: Vec<Output>,
     pub finished: bool,
     pub freed: bool,
+}
+
+/// One event of a client of which a core is kept.
+fn step_core<W: Served>(
+    alloc: Global,
+    service: &W,
+    core: &mut ClientCore<W>,
+    event: &Event,
+) -> Result<Stepped, OutOfMemory>
+    requires { W.can_call service.now }
+    ensures goes { IfOk result (λ p. GoesAs (request_answer W.Future.answer W.Stream.answer) (serving (W.answer service.now) (W.hint service.now)) core.old core.new p.outs.items
+        (rule (serving (W.answer service.now) (W.hint service.now)) event.now)) }
+    ensures over { IfOk result (λ p. (answers : Serving) (s : Slate) → Stands (request_answer W.Future.answer W.Stream.answer) answers core.new s → IsOver p.finished p.freed s) }
+    ensures version { OnOk result (core.new.version ≡ core.old.version) }
+{
+    let outs = core.step(alloc, service, event)?;
+    Ok(Stepped {
+        outs,
+        finished: core.is_spent(),
+        freed: core.is_freed(),
+    })
 }
 
 /// One event that a client hears.
@@ -46,12 +68,8 @@ fn step_there<W: Served>(
             freed: false,
         }),
         Some(core) => {
-            let outs = core.step(alloc, service, event)?;
-            Ok(Stepped {
-                outs,
-                finished: core.is_spent(),
-                freed: core.is_freed(),
-            })
+            let stepped = step_core(alloc, service, core, event)?;
+            Ok(stepped)
         }
     }
 }
@@ -83,7 +101,7 @@ fn leave<W: Served>(clients: &mut BTreeMap<u64, ClientCore<W>>, client: u64, fin
     ensures others { (c : ℕ) → c ≢ client → get nat_cmp clients.new c ≡ get nat_cmp clients.old c }
 {
     if finished {
-        let _finished = clients.remove(&client);
+        drop(clients.remove(&client));
     }
 }
 
@@ -117,6 +135,24 @@ fn numbers_of<V>(alloc: Global, clients: &BTreeMap<u64, V>) -> Result<Vec<u64>, 
     Ok(numbers)
 }
 
+/// A look of one client, of which what it is told is appended to the outputs.
+fn look_more<W: Served>(
+    alloc: Global,
+    clients: &mut BTreeMap<u64, ClientCore<W>>,
+    number: u64,
+    look: &Look,
+    outs: &mut Vec<Output>,
+) -> Result<(), OutOfMemory>
+    ensures here { OnOk result ((more : List Output) × (outs.new.items ≡ outs.old.items ++ more) × ((answers : Serving)
+        → LooksOne (request_answer W.Future.answer W.Stream.answer) answers (get nat_cmp clients.old number) look.now more (get nat_cmp clients.new number))) }
+    ensures others { OnOk result ((c : ℕ) → c ≢ number → get nat_cmp clients.new c ≡ get nat_cmp clients.old c) }
+    ensures same_keys { OnOk result (keys clients.new ≡ keys clients.old) }
+{
+    let more = look_at(alloc, clients, number, look)?;
+    append(outs, more)?;
+    Ok(())
+}
+
 /// The clients of these numbers look at what the book shows, in their order.
 fn look_each<W: Served>(
     alloc: Global,
@@ -131,8 +167,7 @@ fn look_each<W: Served>(
 {
     let mut outs = Vec::new(alloc);
     for number in numbers {
-        let more = look_at(alloc, clients, *number, look)?;
-        append(&mut outs, more)?;
+        look_more(alloc, clients, *number, look, &mut outs)?;
     }
     Ok(outs)
 }
@@ -161,7 +196,7 @@ fn keep<W: Served>(
     ensures here { OnOk result (get nat_cmp clients.new client ≡ Some core) }
     ensures others { OnOk result ((c : ℕ) → c ≢ client → get nat_cmp clients.new c ≡ get nat_cmp clients.old c) }
 {
-    clients.insert(client, core)?;
+    drop(clients.insert(client, core)?);
     Ok(())
 }
 
@@ -177,10 +212,9 @@ fn enter<W: Served>(
         → Stands (request_answer W.Future.answer W.Stream.answer) answers core s → state_is_spent core.state ≡ is_spent s) }
 {
     if core.is_spent() {
-        return Ok(());
+        return Ok(drop(core));
     }
-    keep(clients, client, core)?;
-    Ok(())
+    keep(clients, client, core)
 }
 
 /// A number is used from now on.
@@ -191,22 +225,19 @@ fn use_number(used: &mut BTreeSet<u64>, client: u64) -> Result<(), OutOfMemory>
     Ok(())
 }
 
-/// A client that begins enters, and its number is used from now on.
+/// A client that begins enters, and its number is used from now on. What it is sent is handed back.
 pub fn begin<W: Served>(
     clients: &mut BTreeMap<u64, ClientCore<W>>,
     used: &mut BTreeSet<u64>,
     client: u64,
     core: ClientCore<W>,
-) -> Result<(), OutOfMemory>
-    ensures here { OnOk result (get nat_cmp clients.new client ≡ (if state_is_spent core.state then get nat_cmp clients.old client else Some core)) }
-    ensures others { OnOk result ((c : ℕ) → c ≢ client → get nat_cmp clients.new c ≡ get nat_cmp clients.old c) }
-    ensures spent { OnOk result ((answers : Serving) (s : Slate)
-        → Stands (request_answer W.Future.answer W.Stream.answer) answers core s → state_is_spent core.state ≡ is_spent s) }
-    ensures used { OnOk result ((c : ℕ) → contains nat_cmp used.new c ≡ (if nat_eq c client then true else contains nat_cmp used.old c)) }
+    outs: Vec<Output>,
+) -> Result<Vec<Output>, OutOfMemory>
+    ensures { IfOk result (λ r. (r ≡ outs) × ((answers : Serving) → EntersWith (request_answer W.Future.answer W.Stream.answer) answers clients.old clients.new used.old used.new core client)) }
 {
     enter(clients, client, core)?;
     use_number(used, client)?;
-    Ok(())
+    Ok(outs)
 }
 
 /// A client is turned away under its number, and told so.
@@ -216,8 +247,8 @@ pub fn turn_away(
     client: u64,
     accepted: bool,
 ) -> Result<Vec<Output>, OutOfMemory>
-    ensures used { OnOk result ((c : ℕ) → contains nat_cmp used.new c ≡ (if nat_eq c client then true else contains nat_cmp used.old c)) }
-    ensures outs { IfOk result (λ outs. outs.items ≡ Output.TurnedAway client accepted ∷ []) }
+    ensures { IfOk result (λ outs. (outs.items ≡ Output.TurnedAway client accepted ∷ [])
+        × ((c : ℕ) → contains nat_cmp used.new c ≡ (if nat_eq c client then true else contains nat_cmp used.old c))) }
 {
     use_number(used, client)?;
     let mut outs = Vec::new(alloc);

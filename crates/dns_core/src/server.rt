@@ -9,8 +9,10 @@ ghost use Rattle.dns_admission.specs.Admissions.{Admits};
 ghost use Rattle.dns_admission.specs.declared.call.Call.TheVariants.{Admit, Release};
 ghost use Rattle.dns_admission.specs.declared.look.Look.{Look as TheLook};
 ghost use Rattle.dns_service.specs.PolledRequest.{request_answer};
+ghost use Rattle.dns_middleware.specs.declared.settings.Settings.{Settings as TheSettings};
 ghost use Rattle.dns_core.specs.Own.{is_wide};
 ghost use Rattle.dns_core.specs.Out.{out};
+ghost use Rattle.dns_core.specs.Server.{Serves};
 ghost use Rattle.dns_core.specs.Books.{book_rule};
 ghost use Rattle.dns_core.specs.Placed.{is_beginning};
 ghost use Rattle.dns_service.specs.declared.event.Step.{Step};
@@ -124,8 +126,7 @@ impl<W: Served> Server<W> {
             octets,
             look,
         )?;
-        begin(&mut self.clients, &mut self.used, event.client, core)?;
-        Ok(outs)
+        begin(&mut self.clients, &mut self.used, event.client, core, outs)
     }
 
     /// An exchange begins, unless its number is used or the server shut down.
@@ -168,8 +169,14 @@ impl<W: Served> Server<W> {
             → IfOk result (λ outs. StepGoes (request_answer W.Future.answer W.Stream.answer) answers (record self.old { book = before }) self.new (Step.Own event.now) outs.items) }
     {
         let core = ClientCore::admit(alloc, event.client, addr, event.at, look)?;
-        begin(&mut self.clients, &mut self.used, event.client, core)?;
-        Ok(Vec::new(alloc))
+        let nothing = Vec::new(alloc);
+        begin(
+            &mut self.clients,
+            &mut self.used,
+            event.client,
+            core,
+            nothing,
+        )
     }
 
     /// A connection begins, where a slot is free, and else is turned away. Nothing happens where its number is used or the
@@ -190,8 +197,7 @@ impl<W: Served> Server<W> {
         match self.book.admit() {
             Admission::Closed => Ok(Vec::new(alloc)),
             Admission::Full { accepted, .. } => {
-                let outs = turn_away(alloc, &mut self.used, event.client, accepted)?;
-                Ok(outs)
+                turn_away(alloc, &mut self.used, event.client, accepted)
             }
             Admission::Admitted(look) => self.connect(alloc, event, addr, &look),
         }
@@ -245,6 +251,25 @@ pub(crate) fn note(book: &mut BookState, kind: &EventKind)
     }
 }
 
+/// Serves events one by one: what is sent for them is appended to the outputs.
+fn each_event<W: Served>(
+    alloc: Global,
+    service: &W,
+    server: &mut Server<W>,
+    events: &[Event],
+    outs: &mut Vec<Output>,
+) -> Result<(), OutOfMemory>
+    requires can_call { W.can_call service.now }
+    requires nothing { outs.old.items ≡ [] }
+    ensures { OnOk result ((settings : TheSettings) → Serves (request_answer W.Future.answer W.Stream.answer) (serving (W.answer service.now) (W.hint service.now)) settings [] server.old
+        → outs.new.items ≡ out (serving (W.answer service.now) (W.hint service.now)) settings events.now) }
+{
+    for event in events {
+        server.step(alloc, service, event, outs)?;
+    }
+    Ok(())
+}
+
 /// What all clients of a service are sent.
 pub fn serve<W: Served>(
     alloc: Global,
@@ -257,9 +282,7 @@ pub fn serve<W: Served>(
 {
     let mut server = Server::new(alloc, settings);
     let mut outs = Vec::new(alloc);
-    for event in events {
-        server.step(alloc, service, event, &mut outs)?;
-    }
+    each_event(alloc, service, &mut server, events, &mut outs)?;
     Ok(outs)
 }
 
@@ -275,6 +298,8 @@ pub fn serve_events<S: Service<()>, N: Notifiable>(
     requires { S.can_call service }
     ensures { IfOk result (λ outs. outs.items ≡ out (serving (replies settings.now (S.answer service) (verdict_on (N.verdict target))) (hint_left settings.now)) settings.now events.now) }
 {
-    let service = wrap(alloc, settings, service, target)?;
-    serve(alloc, settings, &Plainly { service }, events)
+    match wrap(alloc, settings, service, target) {
+        Ok(service) => serve(alloc, settings, &Plainly { service }, events),
+        Err(error) => Err(error),
+    }
 }

@@ -5,6 +5,8 @@ ghost use Rattle.std.specs.Prelude.{◌≡◌, [], true, IfOk, OnOk};
 ghost use Rattle.dns_service.specs.PolledRequest.{request_answer};
 ghost use Rattle.dns_core.specs.Own.{is_wide};
 ghost use Rattle.dns_core.specs.Outs.{outs};
+ghost use Rattle.dns_core.specs.SplitServer.{ServesSteps};
+ghost use Rattle.dns_middleware.specs.declared.settings.Settings.{Settings as TheSettings};
 ghost use Rattle.dns_middleware.specs.Verdicts.{verdict_on};
 ghost use Rattle.dns_middleware.specs.Wrapped.{hint_left, replies};
 
@@ -111,6 +113,25 @@ impl<W: Served> SplitServer<W> {
     }
 }
 
+/// Serves steps one by one: what is sent for them is appended to the outputs.
+fn each_step<W: Served>(
+    alloc: Global,
+    service: &W,
+    server: &mut SplitServer<W>,
+    steps: &[Step],
+    sent: &mut Vec<Output>,
+) -> Result<(), OutOfMemory>
+    requires can_call { W.can_call service.now }
+    requires nothing { sent.old.items ≡ [] }
+    ensures { OnOk result ((settings : TheSettings) → ServesSteps (request_answer W.Future.answer W.Stream.answer) (serving (W.answer service.now) (W.hint service.now)) settings [] server.old.inner
+        → sent.new.items ≡ outs (serving (W.answer service.now) (W.hint service.now)) settings steps.now) }
+{
+    for step in steps {
+        server.step(alloc, service, step, sent)?;
+    }
+    Ok(())
+}
+
 /// What all clients of a service are sent for a list of steps.
 pub fn serve_each_step<W: Served>(
     alloc: Global,
@@ -123,9 +144,7 @@ pub fn serve_each_step<W: Served>(
 {
     let mut server = SplitServer::new(alloc, settings);
     let mut outs = Vec::new(alloc);
-    for step in steps {
-        server.step(alloc, service, step, &mut outs)?;
-    }
+    each_step(alloc, service, &mut server, steps, &mut outs)?;
     Ok(outs)
 }
 
@@ -141,6 +160,8 @@ pub fn serve_steps<S: Service<()>, N: Notifiable>(
     requires { S.can_call service }
     ensures { IfOk result (λ result. result.items ≡ outs (serving (replies settings.now (S.answer service) (verdict_on (N.verdict target))) (hint_left settings.now)) settings.now steps.now) }
 {
-    let service = wrap(alloc, settings, service, target)?;
-    serve_each_step(alloc, settings, &Plainly { service }, steps)
+    match wrap(alloc, settings, service, target) {
+        Ok(service) => serve_each_step(alloc, settings, &Plainly { service }, steps),
+        Err(error) => Err(error),
+    }
 }

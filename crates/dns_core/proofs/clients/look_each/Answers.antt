@@ -15,10 +15,10 @@ loop-number-preserved g c =
     let fresh = is_new_number ns i (rw (← c.requires.all) at c.requires.rising) lt in
     let there = is_there c.loop-number.clients ns i (c.loop-number.invariant.same_keys ∙ sym c.requires.all) lt in
     record {
-      same_keys = c.in_ok-more.ensures.same_keys ∙ c.loop-number.invariant.same_keys;
+      same_keys = c.in_ok-look_more.ensures.same_keys ∙ c.loop-number.invariant.same_keys;
       looked = λ answers slates versions all.
           let so = c.loop-number.invariant.looked answers slates versions all in
-          rw (take_more ns i 0 lt, c.in_ok-append.ensures) (one_more answer answers c.loop-number.clients c.look_at.new.clients (take i ns) n c.args.look.now c.loop-number.outs.items c.in_ok-more.more.items slates versions fresh there (c.in_ok-more.ensures.here answers) c.in_ok-more.ensures.others so.0 so.1);
+          rw (take_more ns i 0 lt, c.in_ok-look_more.ensures.here.1) (one_more answer answers c.loop-number.clients c.look_more.new.clients (take i ns) n c.args.look.now c.loop-number.outs.items c.in_ok-look_more.ensures.here.0 slates versions fresh there (c.in_ok-look_more.ensures.here.2 answers) c.in_ok-look_more.ensures.others so.0 so.1);
     }
 
 pub returns-clause-looked : goal.returns-clause-looked

@@ -1,30 +1,5 @@
 use Rattle.dns_client.specs.Serving.{serving}
-use Rattle.std.proofs.Common.{◌≡◌, ◌+◌, ap, sym, ◌∙◌, ◌∷◌, ◌++◌, [], List, take, length, ◌<◌, arith, length-take}
-use Rattle.std.proofs.lemmas.List.{take_more}
-use Rattle.dns_admission.specs.Machine.{last_version}
-use Rattle.dns_service.specs.declared.event.Event.{Event}
-use Rattle.dns_service.specs.declared.event.Output.{Output}
-use Rattle.dns_core.specs.Out.{out}
 use Rattle.dns_core.proofs.server.serve.Goals as goal
 
-pub loop-event-init : goal.loop-event-init
-unfolding out
-loop-event-init g c = record {
-  told = c.new-outs.ensures.items;
-  serves = c.new-server.ensures (serving (g.W.Served.answer c.args.service.now) (g.W.Served.hint c.args.service.now));
-}
-
-pub loop-event-preserved : goal.loop-event-preserved
-loop-event-preserved g c =
-    let i = c.loop-event.event-index in
-    let es = c.args.events.now in
-    let e = c.event-item.result in
-    let lt : i < length es = c.loop-event-test.true in
-    let t : take (i + 1) es ≡ take i es ++ e ∷ [] = take_more es i e lt ∙ ap (λ (x : Event). take i es ++ x ∷ []) (sym c.event-item.is) in
-    let s = c.args.settings.now in
-    let fits : length (take i es) < last_version = simp length-take (omega arith) in
-    let f = c.in_ok-step.ensures s (take i es) fits c.loop-event.invariant.serves in
-    record {
-      told = rw t (f.0.appended ∙ ap (λ (os : List Output). os ++ f.0.more) c.loop-event.invariant.told ∙ sym f.0.sent);
-      serves = rw t f.1;
-    }
+pub returns : goal.returns
+returns g c = c.in_ok-each_event.ensures c.args.settings.now (c.new-server.ensures (serving (g.W.Served.answer c.args.service.now) (g.W.Served.hint c.args.service.now)))

@@ -1,27 +1,5 @@
 use Rattle.dns_client.specs.Serving.{serving}
-use Rattle.std.proofs.Common.{◌≡◌, ◌+◌, ap, sym, ◌∙◌, ◌∷◌, ◌++◌, [], List, take, length, ◌<◌}
-use Rattle.std.proofs.lemmas.List.{take_more}
-use Rattle.dns_service.specs.declared.event.Step.{Step}
-use Rattle.dns_service.specs.declared.event.Output.{Output}
-use Rattle.dns_core.specs.Outs.{outs}
 use Rattle.dns_core.proofs.split.serve_each_step.Goals as goal
 
-pub loop-step-init : goal.loop-step-init
-unfolding outs
-loop-step-init g c = record {
-  told = c.new-outs.ensures.items;
-  stepped = c.new-server.ensures (serving (g.W.Served.answer c.args.service.now) (g.W.Served.hint c.args.service.now));
-}
-
-pub loop-step-preserved : goal.loop-step-preserved
-loop-step-preserved g c =
-    let i = c.loop-step.step-index in
-    let ss = c.args.steps.now in
-    let x = c.step-item.result in
-    let lt : i < length ss = c.loop-step-test.true in
-    let t : take (i + 1) ss ≡ take i ss ++ x ∷ [] = take_more ss i x lt ∙ ap (λ (y : Step). take i ss ++ y ∷ []) (sym c.step-item.is) in
-    let f = c.in_ok-step.ensures c.args.settings.now (take i ss) c.loop-step.invariant.stepped in
-    record {
-      told = rw t (f.0.appended ∙ ap (λ (os : List Output). os ++ f.0.more) c.loop-step.invariant.told ∙ sym f.0.sent);
-      stepped = rw t f.1;
-    }
+pub returns : goal.returns
+returns g c = c.in_ok-each_step.ensures c.args.settings.now (c.new-server.ensures (serving (g.W.Served.answer c.args.service.now) (g.W.Served.hint c.args.service.now)))
