@@ -1,30 +1,21 @@
 -- What single steps say of why a connection is closed.
 use Rattle.std.proofs.Common.{◌≡◌, ℕ, ◌+◌, ◌≤◌, List, [], ◌∷◌, ◌++◌, length, take, slice_get, arith, refl, sym, ◌∙◌, ap, inl, inr, Option, Some, None}
 use Rattle.std.proofs.lemmas.Grind.{common_steps}
-use Rattle.dns_admission.specs.declared.look.Look.{Look}
-use Rattle.dns_admission.specs.declared.call.Call.TheVariants.{Look as ToLook}
-use Rattle.dns_admission.specs.declared.call.Reply.TheVariants.{Look as LookReply}
-use Rattle.dns_book.specs.Seats.{Called}
-use Rattle.dns_book.specs.declared.history.Known.{Known}
 use Rattle.dns_outside.specs.Causes.{Rose}
 use Rattle.dns_outside.specs.Traffic.{Traffic}
 use Rattle.dns_service.specs.Answer.{Answer}
 use Rattle.dns_service.specs.declared.event.Event.{Event}
 use Rattle.dns_service.specs.declared.event.EventKind.{EventKind}
 use Rattle.dns_service.specs.declared.event.EventKind.TheVariants.{Turn, Piece, End, Fault, Write, Tick}
-use Rattle.dns_service.specs.declared.event.Output.{Output}
 use Rattle.dns_service.specs.declared.event.Why.{Why}
 use Rattle.dns_service.specs.declared.polled.PolledRequest.{PolledRequest}
-use Rattle.dns_client.specs.News.{told_of}
 use Rattle.dns_client.specs.Serving.{Serving}
 use Rattle.dns_client.specs.Slate.{Slate}
-use Rattle.dns_client.specs.Stands.{Stands, GoesAs}
+use Rattle.dns_client.specs.Stands.{Stands}
 use Rattle.dns_client.specs.declared.client.ClientCore.{ClientCore}
-use Rattle.dns_drivers.specs.Blames.{EndBlames, EndAgain, Blames, WroteWhole, WroteFirst, ChosenFor, NotedWrite, HeardFor, ActedFor}
-use Rattle.dns_drivers.specs.Closing.{closed_by}
+use Rattle.dns_drivers.specs.Blames.{EndBlames, EndAgain, Blames, WroteWhole, WroteFirst, ChosenFor}
 use Rattle.dns_drivers.specs.Links.{front, WroteFront, IsWrittenEvent, IsReadEvent}
 use Rattle.dns_drivers.specs.Rounds.{next_turn}
-use Rattle.dns_drivers.specs.Steps.{TakesEvent}
 use Rattle.dns_drivers.specs.declared.writing.WriteEnd.{WriteEnd}
 use Rattle.dns_drivers.specs.declared.writing.WriteEnd.TheVariants.{Whole, Failed, Late}
 use Rattle.dns_drivers.proofs.Choices.{empty_of, front_of, writing_of, write_may, write_own, read_may, read_own}
@@ -74,29 +65,29 @@ pub whole_failed : (frame : List ℕ) (kind : EventKind) (w w' : Traffic) → ki
 whole_failed frame kind w w' k a = record { later = a.later; write = λ i e. let no : Fault ≡ Write i = sym k ∙ e in absurd cc }
 
 -- the event of a read
-pub blames_read : (kind : EventKind) (f f' : ℕ) (o : List ℕ) → kind ≡ Piece o → f ≤ f' → Blames kind f f'
-blames_read kind f f' o k l = record { later = l; fault = λ e. let no : Piece o ≡ Fault = sym k ∙ e in absurd cc }
+pub blames_read : (o : List ℕ) (f f' : ℕ) → f ≤ f' → Blames (Piece o) f f'
+blames_read o f f' l = record { later = l; fault = λ e. absurd cc }
 
-pub blames_tick : (kind : EventKind) (f f' : ℕ) → kind ≡ Tick → f ≤ f' → Blames kind f f'
-blames_tick kind f f' k l = record { later = l; fault = λ e. let no : Tick ≡ Fault = sym k ∙ e in absurd cc }
+pub blames_tick : (f f' : ℕ) → f ≤ f' → Blames Tick f f'
+blames_tick f f' l = record { later = l; fault = λ e. absurd cc }
 
-pub blames_end : (kind : EventKind) (f f' : ℕ) → kind ≡ End → f ≤ f' → Blames kind f f'
-blames_end kind f f' k l = record { later = l; fault = λ e. let no : End ≡ Fault = sym k ∙ e in absurd cc }
+pub blames_end : (f f' : ℕ) → f ≤ f' → Blames End f f'
+blames_end f f' l = record { later = l; fault = λ e. absurd cc }
 
-pub blames_fault : (kind : EventKind) (f f' : ℕ) → kind ≡ Fault → f ≤ f' → Rose f f' → Blames kind f f'
-blames_fault kind f f' k l r = record { later = l; fault = λ e. r }
+pub blames_fault : (f f' : ℕ) → f ≤ f' → Rose f f' → Blames Fault f f'
+blames_fault f f' l r = record { later = l; fault = λ e. r }
 
-pub whole_got : (kind : EventKind) (o came : List ℕ) (w w' : Traffic) → kind ≡ Piece o → w' ≡ record w { came = came } → WroteWhole kind [] w w'
-whole_got kind o came w w' k e = record { later = rw e (omega arith); write = λ i h. let no : Piece o ≡ Write i = sym k ∙ h in absurd cc }
+pub whole_got : (o came : List ℕ) (w w' : Traffic) → w' ≡ record w { came = came } → WroteWhole (Piece o) [] w w'
+whole_got o came w w' e = record { later = rw e (omega arith); write = λ i h. absurd cc }
 
-pub whole_again : (kind : EventKind) (r : ℕ) (w w1 w2 : Traffic) → kind ≡ Tick → w1 ≡ record w { empty_reads = r } → w2 ≡ w1 → WroteWhole kind [] w w2
-whole_again kind r w w1 w2 k e f = record { later = rw (f, e) (omega arith); write = λ i h. let no : Tick ≡ Write i = sym k ∙ h in absurd cc }
+pub whole_again : (r : ℕ) (w w1 w2 : Traffic) → w1 ≡ record w { empty_reads = r } → w2 ≡ w1 → WroteWhole Tick [] w w2
+whole_again r w w1 w2 e f = record { later = rw (f, e) (omega arith); write = λ i h. absurd cc }
 
-pub whole_end : (kind : EventKind) (r : ℕ) (w w1 : Traffic) → kind ≡ End → w1 ≡ record w { ends = r } → WroteWhole kind [] w w1
-whole_end kind r w w1 k e = record { later = rw e (omega arith); write = λ i h. let no : End ≡ Write i = sym k ∙ h in absurd cc }
+pub whole_end : (r : ℕ) (w w1 : Traffic) → w1 ≡ record w { ends = r } → WroteWhole End [] w w1
+whole_end r w w1 e = record { later = rw e (omega arith); write = λ i h. absurd cc }
 
-pub whole_fault : (kind : EventKind) (w w1 : Traffic) → kind ≡ Fault → w1 ≡ w → WroteWhole kind [] w w1
-whole_fault kind w w1 k e = record { later = rw e (omega arith); write = λ i h. let no : Fault ≡ Write i = sym k ∙ h in absurd cc }
+pub whole_fault : (w w1 : Traffic) → w1 ≡ w → WroteWhole Fault [] w w1
+whole_fault w w1 e = record { later = rw e (omega arith); write = λ i h. absurd cc }
 
 read_whole : (kind : EventKind) (m : List ℕ) (w w' : Traffic) → IsReadEvent kind → WroteWhole kind [] w w' → WroteWhole kind m w w'
 read_whole kind m w w' o h = record { later = h.later; write = λ i e. let no : IsReadEvent (Write i) = rw e at o in absurd no }
@@ -132,14 +123,3 @@ module _ {W R F : Type 0} (answer : PolledRequest F R → ℕ → Answer) where
 
   pub first_read : (core : ClientCore W R F) (kind : EventKind) (w w' : Traffic) → IsReadEvent kind → WroteWhole kind [] w w' → WroteFirst answer core kind w w'
   first_read core kind w w' o h answers s stands = read_whole kind (front s.queue) w w' o h
-
-  pub noted_write : (core : ClientCore W R F) (event : Event) (n n' : List Event) (t t' : Traffic) → n' ≡ n ++ event ∷ [] → WroteFirst answer core event.kind t t' → NotedWrite answer core n n' t t'
-  noted_write core event n n' t t' e h = record { event = event; noted = e; wrote = h }
-
-  pub heard_for : (why : Option Why) (core core' : ClientCore W R F) (look : Look) (outs : List Output) (k k' : Known) → Called k ToLook (LookReply look) k' →
-      ((answers : Serving) → GoesAs answer answers core core' outs (told_of answers core.version look)) → why ≡ closed_by outs → HeardFor answer why core core' k k'
-  heard_for why core core' look outs k k' c f e = record { look = look; outs = outs; called = c; follows = f; closed = sym e }
-
-module _ {W R F : Type 0} (answer : PolledRequest F R → ℕ → Answer) (answers : Serving) where
-  pub acted_for : (below : ℕ) (why : Option Why) (core core' : ClientCore W R F) (event : Event) (f f' : ℕ) → ChosenFor answer below core event f f' → TakesEvent answer answers core core' event why → ActedFor answer answers why core core' f f'
-  acted_for below why core core' event f f' c t = record { below = below; event = event; chosen = c; taken = t }

@@ -13,8 +13,8 @@ use Rattle.dns_client.specs.Stands.{Stands, waiting, write_limit}
 use Rattle.dns_client.specs.declared.client.ClientCore.{ClientCore}
 use Rattle.dns_core.specs.Own.{is_wide}
 use Rattle.dns_drivers.specs.Links.{front, MovedBy, WrittenPart, IsWrittenEvent, IsReadEvent, Unread}
-use Rattle.dns_drivers.specs.Rounds.{May, turned, next_turn, IsWriting, IsRoundOver}
-use Rattle.dns_drivers.specs.Steps.{Chosen, TakesEvent, Acted, ActedPart}
+use Rattle.dns_drivers.specs.Rounds.{May, next_turn, IsWriting, IsRoundOver}
+use Rattle.dns_drivers.specs.Steps.{Chosen, ActedPart}
 
 pub empty_of : (q : List (List ℕ)) → None ≡ slice_get q 0 → q ≡ []
 empty_of [] e = refl
@@ -148,13 +148,3 @@ module _ {W R F : Type 0} (answer : PolledRequest F R → ℕ → Answer) where
 
   pub part_read : (client below : ℕ) (core : ClientCore W R F) (n : List Event) (t t' : Traffic) → Unread t t' → ActedPart answer client below core n n t t'
   part_read client below core n t t' u = record { part = inl (refl, u) }
-
-  pub part_taken : (client below : ℕ) (core : ClientCore W R F) (event : Event) (n n' : List Event) (t t' : Traffic) → Chosen answer client below core event t t' →
-      (n' ≡ n ++ event ∷ []) ⊎ (n' ≡ n) → ActedPart answer client below core n n' t t'
-  part_taken client below core event n n' t t' c o = record { part = inr (record { event = event; chosen = c; noted = o }) }
-
-module _ {W R F : Type 0} (answer : PolledRequest F R → ℕ → Answer) (answers : Serving) where
-  pub acted : (client below below' : ℕ) (why : Option Why) (core core' : ClientCore W R F) (event : Event) (n n' : List Event) (t t' : Traffic) →
-      Chosen answer client below core event t t' → n' ≡ n ++ event ∷ [] → TakesEvent answer answers core core' event why → below' ≡ turned below event.kind →
-      Acted answer answers client below below' why core core' n n' t t'
-  acted client below below' why core core' event n n' t t' c e k b = record { event = event; chosen = c; noted = e; taken = k; next = b }

@@ -1,9 +1,8 @@
 -- How the parts of the loop of datagrams follow each other, and how it ends.
 use Rattle.std.proofs.Common.{◌≡◌, ◌≢◌, ◌≤◌, ◌<◌, ℕ, ◌+◌, ◌-◌, ◌^◌, min, List, [], ◌∷◌, ◌++◌, length, take, drop, get_or, drop-cons, add-one, Bool, true, false, refl, ap, sym, ◌∙◌, append_assoc, append-nil, arith}
-use Rattle.std.specs.Prelude.{Option, Some, None, nat_eq}
+use Rattle.std.specs.Prelude.{Option, Some, None, nat_eq, if◌then◌else◌}
 use Rattle.std.specs.List.{list_any}
-use Rattle.std.specs.Ordering.{nat_cmp}
-use Rattle.std.specs.BTreeMap.{BTreeMap, btree_map_len, get, keys}
+use Rattle.std.specs.VecDeque.{deque_len}
 use Rattle.std.proofs.lemmas.Grind.{common_steps}
 use Rattle.std.proofs.lemmas.List.{nil_from_length, take_min}
 use Rattle.dns_name.specs.declared.address.SocketAddr.{SocketAddr}
@@ -17,7 +16,9 @@ use Rattle.dns_client.specs.Serving.{Serving}
 use Rattle.dns_drivers.specs.Clocks.{ClockReading}
 use Rattle.dns_drivers.specs.DatagramsSent.{settings_of}
 use Rattle.dns_drivers.specs.DatagramsServed.{World, world, IsFull}
+use Rattle.dns_drivers.specs.DatagramSteps.{kept_at, numbers_of, left_to}
 use Rattle.dns_drivers.specs.DatagramLoop.{Among, Ran, Goes, Breaks, Looks, Turns, Fails, Begins, BeginFails, Idles, Finished}
+use Rattle.dns_drivers.specs.declared.datagrams.running.KeptExchange.{KeptExchange}
 use Rattle.dns_drivers.specs.declared.datagrams.running.Running.{Running}
 use Rattle.dns_drivers.proofs.DatagramOrderings.{ordered_rest}
 use Rattle.dns_drivers.proofs.DatagramParts.{input_same, input_again, delivered_same}
@@ -32,6 +33,10 @@ front_of d n size front z m e = e ∙ take_least d n (rw z at m)
 
 never : (a b : Bool) → a ≡ false → a ≡ true → b ≡ true
 never a b e h = cc
+
+-- the place of the next one is the place behind, unless what was there is kept no more
+pub next_left : {W R F : Type 0} (old new : List (KeptExchange W R F)) (at next : ℕ) (done : Bool) → next ≡ (if done then at else at + 1) → drop (if done then at else at + 1) (numbers_of new) ≡ drop (at + 1) (numbers_of old) → left_to (Some next) new ≡ drop (at + 1) (numbers_of old)
+next_left old new at next done h o = rw h o
 
 module _ {W R F : Type 0} (answer : PolledRequest F R → ℕ → Answer) (answers : Serving) where
   pub goes_then : {w w1 w2 : World} {s s1 s2 : Running W R F} {a b c : Bool} {xs ys zs : List ℕ} → Goes answer answers w s a xs w1 s1 b ys → Goes answer answers w1 s1 b ys w2 s2 c zs → Goes answer answers w s a xs w2 s2 c zs
@@ -64,19 +69,14 @@ module _ {W R F : Type 0} (answer : PolledRequest F R → ℕ → Answer) (answe
 
   -- ---- the polls of some exchanges
 
-  pub goes_none : {w : World} {s : Running W R F} (ns : List ℕ) → Goes answer answers w s false ns w s false (drop 0 ns)
-  goes_none ns = record { over = λ x. x; goes = λ first start spare r. r }
+  pub goes_done : {w : World} {s : Running W R F} {ns : List ℕ} → ns ≡ [] → Goes answer answers w s false ns w s false []
+  goes_done e = rw e goes_same
 
-  pub goes_turn : {w w1 w2 : World} {s s1 s2 : Running W R F} (ns : List ℕ) (i : ℕ) → i < length ns → Goes answer answers w s false ns w1 s1 false (drop i ns) → Turns answer answers (get_or ns i 0) false w1 s1 w2 s2
-      → Goes answer answers w s false ns w2 s2 false (drop (i + 1) ns)
-  goes_turn ns i h a b = record {
-    over = λ x. (b.goes (drop (i + 1) ns)).over (a.over x);
-    goes = λ first start spare r. (b.goes (drop (i + 1) ns)).goes first start spare
-        (let e : drop i ns ≡ get_or ns i 0 ∷ drop (i + 1) ns = rw add-one (drop-cons ns i 0 h) in rw e at (a.goes first start spare r));
-  }
+  pub goes_left : {w w1 : World} {s s1 : Running W R F} {a : Bool} {ns : List ℕ} (o p : Option ℕ) → o ≡ p → Goes answer answers w s a ns w1 s1 false (left_to o s1.exchanges.items) → Goes answer answers w s a ns w1 s1 false (left_to p s1.exchanges.items)
+  goes_left o p e g = rw e at g
 
-  pub goes_all : {w w1 : World} {s s1 : Running W R F} (ns : List ℕ) (i : ℕ) → length ns ≤ i → Goes answer answers w s false ns w1 s1 false (drop i ns) → Goes answer answers w s false ns w1 s1 false []
-  goes_all ns i h a = let e : drop i ns ≡ [] = grind (arith, common_steps) in rw e at a
+  pub goes_turn : {w w1 : World} {s s1 : Running W R F} {ns rest rest' : List ℕ} {n : ℕ} → ns ≡ n ∷ rest → rest' ≡ rest → Turns answer answers n false w s w1 s1 → Goes answer answers w s false ns w1 s1 false rest'
+  goes_turn {rest = rest} e f t = rw (e, f) (t.goes rest)
 
   pub breaks_after : {w w1 w2 : World} {s s1 : Running W R F} (ns ms : List ℕ) → Goes answer answers w s false ns w1 s1 false ms → Fails answer answers false w1 s1 w2 → Breaks answer answers w s false ns w2
   breaks_after ns ms a b = record { breaks = λ first start spare r. (b.breaks ms).breaks first start spare (a.goes first start spare r) }
@@ -105,7 +105,7 @@ module _ {W R F : Type 0} (answer : PolledRequest F R → ℕ → Answer) (answe
   received_failed e g = rw (e, g) goes_same
 
   pub received_again : {n : List Event} {m m1 m2 : Mail} {f f1 : ℕ} {c : List ClockReading} {k : Known} {s : Running W R F} → f1 ≡ f → m1 ≡ record m { empty_receives = m.empty_receives + 1 } → m2 ≡ m1
-      → Goes answer answers (world n m f c k) s true [] (world n m2 f1 c k) s false (keys s.exchanges)
+      → Goes answer answers (world n m f c k) s true [] (world n m2 f1 c k) s false (numbers_of s.exchanges.items)
   received_again {n} {m} {m1} {m2} {f} {f1} {c} {k} {s} e g h = let i = h ∙ g in rw e (record {
     over = λ x. x;
     goes = λ first start spare r. record {
@@ -117,14 +117,14 @@ module _ {W R F : Type 0} (answer : PolledRequest F R → ℕ → Answer) (answe
       serves = r.serves;
       order = ordered_rest first r.looks r.events s.heard true r.order;
       input = input_again answers (settings_of first) r.events (first ∷ r.looks) (spare + 1) (spare + 0) s.next start.mail m m2 (rw i refl) (rw i refl) (omega arith) r.input;
-      waiting = λ d w. never (list_any (nat_eq d) []) (list_any (nat_eq d) (keys s.exchanges)) refl (r.waiting d w);
+      waiting = λ d w. never (list_any (nat_eq d) []) (list_any (nat_eq d) (numbers_of s.exchanges.items)) refl (r.waiting d w);
       clock = rw i r.clock;
       output = delivered_same answers (settings_of first) r.events start.mail m m2 start.failed_sends f (rw i refl) (rw i refl) r.output;
     };
   })
 
   pub got_goes : {n0 : List Event} {m m1 : Mail} {f f1 : ℕ} {c : List ClockReading} {k : Known} {s s1 : Running W R F} {w : World} {n : ℕ} {buf : List ℕ} {from : SocketAddr} → f1 ≡ f → length buf ≡ 1024 → Received n from buf m m1
-      → Begins answer answers (take n buf) from (world n0 m1 f1 c k) s w s1 → Goes answer answers (world n0 m f c k) s true [] w s1 false (keys s1.exchanges)
+      → Begins answer answers (take n buf) from (world n0 m1 f1 c k) s w s1 → Goes answer answers (world n0 m f c k) s true [] w s1 false (numbers_of s1.exchanges.items)
   got_goes {m = m} {n = n} {buf = buf} e z x b = rw (← e) (b.goes x.octets m (front_of x.octets n (length buf) (take n buf) z x.count x.front) x.more)
 
   pub got_fails : {n0 : List Event} {m m1 : Mail} {f f1 : ℕ} {c : List ClockReading} {k : Known} {s : Running W R F} {w : World} {n : ℕ} {buf : List ℕ} {from : SocketAddr} → f1 ≡ f → length buf ≡ 1024 → Received n from buf m m1
@@ -191,11 +191,11 @@ module _ {W R F : Type 0} (answer : PolledRequest F R → ℕ → Answer) (answe
   full_goes h a = (idles_goes a, h)
 
   -- each is polled once more; the socket may have waited before that
-  pub finish_more : {w w1 w2 : World} {s s1 s2 : Running W R F} → Goes answer answers w s false [] w1 s1 false [] → Goes answer answers w1 s1 false (keys s1.exchanges) w2 s2 false [] → Goes answer answers w s false [] w2 s2 false []
-  finish_more {s1 = s1} a b = goes_then a (goes_then (goes_owing (keys s1.exchanges)) b)
+  pub finish_more : {w w1 w2 : World} {s s1 s2 : Running W R F} → Goes answer answers w s false [] w1 s1 false [] → Goes answer answers w1 s1 false (numbers_of s1.exchanges.items) w2 s2 false [] → Goes answer answers w s false [] w2 s2 false []
+  finish_more {s1 = s1} a b = goes_then a (goes_then (goes_owing (numbers_of s1.exchanges.items)) b)
 
-  pub finish_fails : {w w1 w2 : World} {s s1 : Running W R F} → Goes answer answers w s false [] w1 s1 false [] → Breaks answer answers w1 s1 false (keys s1.exchanges) w2 → Breaks answer answers w s false [] w2
-  finish_fails {s1 = s1} a b = breaks_then a (breaks_then (goes_owing (keys s1.exchanges)) b)
+  pub finish_fails : {w w1 w2 : World} {s s1 : Running W R F} → Goes answer answers w s false [] w1 s1 false [] → Breaks answer answers w1 s1 false (numbers_of s1.exchanges.items) w2 → Breaks answer answers w s false [] w2
+  finish_fails {s1 = s1} a b = breaks_then a (breaks_then (goes_owing (numbers_of s1.exchanges.items)) b)
 
   pub idles_finish : {w w1 w2 : World} {s s1 s2 : Running W R F} → Idles answer answers w s w1 s1 → Finished answer answers w1 s1 w2 s2 → Idles answer answers w s w2 s2
   idles_finish a b = record { over = λ h. b.goes.over (a.over h); goes = λ first start spare r. b.goes.goes first start (1 + spare) (a.goes first start spare r) }
@@ -204,12 +204,12 @@ module _ {W R F : Type 0} (answer : PolledRequest F R → ℕ → Answer) (answe
   end_fails a b = record { breaks = λ first start spare r. b.breaks first start (1 + spare) (a.0.goes first start spare r) }
 
   pub end_shutdown : {w w1 w2 : World} {s s1 s2 : Running W R F} → Idles answer answers w s w1 s1 × (s1.heard.closed ≡ true) → Finished answer answers w1 s1 w2 s2
-      → Idles answer answers w s w2 s2 × (s2.heard.closed ≡ true) × ((c : ℕ) → get nat_cmp s2.exchanges c ≡ None)
+      → Idles answer answers w s w2 s2 × (s2.heard.closed ≡ true) × ((c : ℕ) → kept_at c s2.exchanges.items ≡ [])
   end_shutdown a b = (idles_finish a.0 b, b.goes.over a.1, b.none)
 
   pub end_count : {w w1 w2 : World} {s s1 s2 : Running W R F} {count : ℕ} → s2.next ≡ s1.next → Idles answer answers w s w1 s1 × IsFull count s1.next → Finished answer answers w1 s1 w2 s2
-      → Idles answer answers w s w2 s2 × IsFull count s2.next × ((c : ℕ) → get nat_cmp s2.exchanges c ≡ None)
+      → Idles answer answers w s w2 s2 × IsFull count s2.next × ((c : ℕ) → kept_at c s2.exchanges.items ≡ [])
   end_count e a b = (idles_finish a.0 b, rw e a.1, b.none)
 
-  pub finished_by : {w w1 : World} {s s1 : Running W R F} → btree_map_len s1.exchanges ≡ 0 → Goes answer answers w s false [] w1 s1 false [] → Finished answer answers w s w1 s1
-  finished_by {s1 = s1} h a = record { goes = a; none = λ c. rw (nil_from_length s1.exchanges.entries h) refl }
+  pub finished_by : {w w1 : World} {s s1 : Running W R F} → deque_len s1.exchanges ≡ 0 → Goes answer answers w s false [] w1 s1 false [] → Finished answer answers w s w1 s1
+  finished_by {s1 = s1} h a = record { goes = a; none = λ c. rw (nil_from_length s1.exchanges.items (sym s1.exchanges.ok.0 ∙ h)) refl }

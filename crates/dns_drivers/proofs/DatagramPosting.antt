@@ -52,23 +52,8 @@ sent_failed m m1 m2 c c1 s e = rw e s
 
 -- ---- what an event led to
 
-pub sends_none : (e : Event) (write : ℕ) (n : List Event) (m : Mail) (f : ℕ) (c : List ClockReading) → Sends e [] write n n m m f f c c
-sends_none e write n m f c = record {
-  fault = None;
-  late = 0;
-  failed = 0;
-  noted = sym (append-nil n);
-  is_fault_of = tt;
-  one = refl;
-  early = omega arith;
-  posts = record { received = refl; sent = sym (append-nil m.sent); empty = refl };
-  again = omega arith;
-  rose = omega arith;
-  clock = clocked_none c m.full_sends;
-}
-
-pub sends_whole : (e : Event) (l : Letter) (write : ℕ) (n : List Event) (m m' : Mail) (f f' : ℕ) (c c' : List ClockReading) → SentSo (l ∷ []) m m' c c' → f' ≡ f → Sends e (l ∷ []) write n n m m' f f' c c'
-sends_whole e l write n m m' f f' c c' s g = record {
+pub sends_whole : (e : Event) (ls : List Letter) (write : ℕ) (n : List Event) (m m' : Mail) (f f' : ℕ) (c c' : List ClockReading) → SentSo ls m m' c c' → f' ≡ f → Sends e ls write n n m m' f f' c c'
+sends_whole e ls write n m m' f f' c c' s g = record {
   fault = None;
   late = 0;
   failed = 0;

@@ -2,8 +2,6 @@
 use Rattle.std.proofs.Common.{◌≡◌, ◌≢◌, ◌≤◌, ℕ, ◌+◌, ◌-◌, ◌^◌, min, List, [], ◌∷◌, ◌++◌, length, take, Bool, true, false, refl, ap, sym, ◌∙◌, subst, append_assoc, append-nil, arith}
 use Rattle.std.specs.Prelude.{Option, Some, None, nat_eq, not, ◌&&◌, ◌||◌, is_some}
 use Rattle.std.specs.List.{list_any}
-use Rattle.std.specs.Ordering.{nat_cmp}
-use Rattle.std.specs.BTreeMap.{BTreeMap, get, keys}
 use Rattle.dns_name.specs.declared.address.SocketAddr.{SocketAddr}
 use Rattle.dns_admission.specs.declared.look.Look.{Look}
 use Rattle.dns_book.specs.declared.history.Known.{Known}
@@ -36,7 +34,7 @@ use Rattle.dns_drivers.proofs.DatagramParts.{OwnKind, own_kind, input_quiet, inp
 use Rattle.dns_drivers.proofs.DatagramQuiet.{AllQuiet, all_wide_quiet, faults_quiet, append_two, kinds_append, waits_quiet, slate_lost, conf_lost}
 use Rattle.dns_drivers.proofs.DatagramSeats.{looks_then}
 use Rattle.dns_drivers.proofs.DatagramSendings.{letters_part, letters_part_list}
-use Rattle.dns_drivers.proofs.DatagramServings.{news_wide, serves_news}
+use Rattle.dns_drivers.proofs.DatagramServings.{TypeOf, news_wide, serves_news}
 
 pub noted_more : (n0 n n' es fs : List Event) → n ≡ n0 ++ es → n' ≡ n ++ fs → n' ≡ n0 ++ (es ++ fs)
 noted_more n0 n n' es fs h g = rw (g, h) (append_assoc n0 es fs)
@@ -74,16 +72,16 @@ module _ {W R F : Type 0} (answer : PolledRequest F R → ℕ → Answer) (answe
 
   -- an own event, and what was sent for it
   pub ran_act : (first : Look) (start : World) (n n1 n' : List Event) (m m1 m' : Mail) (f f' : ℕ) (c c1 c' : List ClockReading) (k : Known) (s : Running W R F) (owed owed' : List ℕ) (spare : ℕ)
-      (e : Event) (letters : List Letter) (exchanges : BTreeMap ℕ (KeptExchange W R F)) (next : ℕ)
+      (e : Event) (letters : List Letter) (exchanges : TypeOf s.exchanges) (next : ℕ) (send_failed : Bool)
       → IsOwnKind e.kind → Stamped e n n1 c c1 → Sends e letters s.heard.dgram.write_timeout n1 n' m1 m' f f' c1 c'
       → m1.sent ≡ m.sent → m1.full_sends ≡ m.full_sends
       → (r : Ran answer answers first start (world n m f c k) s true owed spare)
       → posted answers (settings_of first) r.events e ≡ letters
       → Input answers (settings_of first) (r.events ++ e ∷ []) (first ∷ r.looks) (spare + 0) next start.mail m1
       → ((d : ℕ) → waits answers (settings_of first) d (r.events ++ e ∷ []) ≡ true → Among d owed')
-      → Serves answer answers (settings_of first) (r.events ++ e ∷ []) (record { exchanges = exchanges; next = next; heard = s.heard })
-      → Ran answer answers first start (world n' m' f' c' k) (record { exchanges = exchanges; next = next; heard = s.heard }) false owed' spare
-  ran_act first start n n1 n' m m1 m' f f' c c1 c' k s owed owed' spare e letters exchanges next own t x sent full r p i wait serves =
+      → Serves answer answers (settings_of first) (r.events ++ e ∷ []) (record s { exchanges = exchanges; next = next })
+      → Ran answer answers first start (world n' m' f' c' k) (record { exchanges = exchanges; next = next; heard = s.heard; send_failed = send_failed }) false owed' spare
+  ran_act first start n n1 n' m m1 m' f f' c c1 c' k s owed owed' spare e letters exchanges next send_failed own t x sent full r p i wait serves =
       let settings = settings_of first in
       let kind = own_kind e.kind own in
       let q1 = r.events ++ e ∷ [] in
@@ -105,7 +103,7 @@ module _ {W R F : Type 0} (answer : PolledRequest F R → ℕ → Answer) (answe
         output = delivered_act answers settings r.events e x.fault letters s.heard.dgram.write_timeout x.late x.failed start.mail m1 m' start.failed_sends f f' r.plain kind x.is_fault_of p
             (ap (λ (y : Conf). y.dgram.write_timeout) r.serves.heard) x.one x.early x.posts x.again x.rose
             (delivered_same answers settings r.events start.mail m m1 start.failed_sends f sent full r.output);
-        serves = rw two (serves_lost settings q1 e x.fault (record { exchanges = exchanges; next = next; heard = s.heard }) plain x.is_fault_of serves);
+        serves = rw two (serves_lost settings q1 e x.fault (record { exchanges = exchanges; next = next; heard = s.heard; send_failed = send_failed }) plain x.is_fault_of (record { each = serves.each; unused = serves.unused; heard = serves.heard }));
       }
 
   -- memory ran out, after these events and looks more

@@ -1,8 +1,6 @@
 -- What is kept stands for the slates, with one event more of a driver of datagrams.
 use Rattle.std.proofs.Common.{◌≡◌, ◌≢◌, ℕ, ◌+◌, ◌≤◌, List, [], ◌∷◌, ◌++◌, Bool, true, false, refl, ap, sym, ◌∙◌, subst, append_assoc, append-nil, arith, Option, Some, None, inl, inr}
 use Rattle.std.specs.Prelude.{◌==◌, ◌||◌, ◌&&◌, not, if◌then◌else◌}
-use Rattle.std.specs.Ordering.{nat_cmp}
-use Rattle.std.specs.BTreeMap.{BTreeMap, get}
 use Rattle.std.proofs.lemmas.Bool.Decides.{eqb_tells}
 use Rattle.dns_name.specs.declared.address.SocketAddr.{SocketAddr}
 use Rattle.dns_admission.specs.declared.look.Look.{Look}
@@ -29,7 +27,7 @@ use Rattle.dns_core.specs.Out.{gained}
 use Rattle.dns_middleware.specs.declared.settings.Settings.{Settings}
 use Rattle.dns_drivers.specs.DatagramEvents.{IsDatagramKind, AllDatagramKinds}
 use Rattle.dns_drivers.specs.DatagramsSent.{all_addressed, posted}
-use Rattle.dns_drivers.specs.DatagramSteps.{hears, last_octets, letter_to, listed, Keeps, Leads, Turned, Begun}
+use Rattle.dns_drivers.specs.DatagramSteps.{hears, last_octets, letter_to, listed, Keeps, Leads, Turned, Begun, kept_at}
 use Rattle.dns_drivers.specs.DatagramLoop.{Serves}
 use Rattle.dns_drivers.specs.Steps.{AllWide}
 use Rattle.dns_drivers.specs.Woven.{kinds, news_kinds}
@@ -138,6 +136,9 @@ module _ (answers : Serving) (settings : Settings) where
   unused_turn : (e : Event) (s : Slate) → s.phase ≡ Unused → e.kind ≡ Turn 0 → (rule answers e s).0.phase ≡ Unused
   unused_turn e s h k = subst (λ (p : Phase). (in_phase answers e p (with_conf (conf_rule e.kind s.conf) s)).0.phase ≡ Unused) (sym h) (rw k h)
 
+abbrev pub TypeOf : {X : Type 0} → X → Type 0
+TypeOf {X} x = X
+
 -- ---- what is kept, under other configurations
 
 module _ {W R F : Type 0} (answer : PolledRequest F R → ℕ → Answer) (answers : Serving) where
@@ -148,9 +149,10 @@ module _ {W R F : Type 0} (answer : PolledRequest F R → ℕ → Answer) (answe
   stands_conf n (Is_closed freed) k s h i = let p = i.phase in absurd cc
   stands_conf n Is_lost k s h i = absurd i
 
-  keeps_conf : (x : Option (KeptExchange W R F)) (k : Conf) (s : Slate) → Keeps answer answers x s → Keeps answer answers x (with_conf k s)
-  keeps_conf None k s h = h
-  keeps_conf (Some x) k s h = record {
+  keeps_conf : (x : List (KeptExchange W R F)) (k : Conf) (s : Slate) → Keeps answer answers x s → Keeps answer answers x (with_conf k s)
+  keeps_conf [] k s h = h
+  keeps_conf (x ∷ y ∷ xs) k s h = absurd h
+  keeps_conf (x ∷ []) k s h = record {
     stands = stands_conf x.core.client x.core.state k s h.phase_is h.stands;
     addr_is = h.addr_is;
     phase_is = h.phase_is;
@@ -161,19 +163,19 @@ module _ {W R F : Type 0} (answer : PolledRequest F R → ℕ → Answer) (answe
 
   module _ (settings : Settings) where
     -- the same of the slates alone
-    pub record ServesAt (q : List Event) (exchanges : BTreeMap ℕ (KeptExchange W R F)) (next : ℕ) (k : Conf) : Type 0 where
-      pub each : (c : ℕ) → Keeps answer answers (get nat_cmp exchanges c) (slate answers settings c q)
+    pub record ServesAt (q : List Event) (exchanges : List (KeptExchange W R F)) (next : ℕ) (k : Conf) : Type 0 where
+      pub each : (c : ℕ) → Keeps answer answers (kept_at c exchanges) (slate answers settings c q)
       pub unused : (c : ℕ) → next ≤ c → (slate answers settings c q).phase ≡ Unused
       pub heard : conf settings q ≡ k
 
-    wide_more : (q : List Event) (e : Event) (m : BTreeMap ℕ (KeptExchange W R F)) (n : ℕ) (k : Conf) → AllDatagramKinds q → IsDatagramKind e.kind → is_wide e.kind ≡ true → ServesAt q m n k → ServesAt (q ++ e ∷ []) m n (conf_rule e.kind k)
+    wide_more : (q : List Event) (e : Event) (m : List (KeptExchange W R F)) (n : ℕ) (k : Conf) → AllDatagramKinds q → IsDatagramKind e.kind → is_wide e.kind ≡ true → ServesAt q m n k → ServesAt (q ++ e ∷ []) m n (conf_rule e.kind k)
     wide_more q e m n k d ok w s = record {
-      each = λ c. rw (wide_is answers settings c q e d ok w) (keeps_conf (get nat_cmp m c) (conf_rule e.kind (slate answers settings c q).conf) (slate answers settings c q) (s.each c));
+      each = λ c. rw (wide_is answers settings c q e d ok w) (keeps_conf (kept_at c m) (conf_rule e.kind (slate answers settings c q).conf) (slate answers settings c q) (s.each c));
       unused = λ c l. rw (wide_is answers settings c q e d ok w) (s.unused c l);
       heard = conf_more settings q e ∙ ap (conf_rule e.kind) s.heard;
     }
 
-    wide_all : (es q : List Event) (m : BTreeMap ℕ (KeptExchange W R F)) (n : ℕ) (k : Conf) → AllDatagramKinds q → AllWide (kinds es) → ServesAt q m n k → ServesAt (q ++ es) m n (conf_after k es)
+    wide_all : (es q : List Event) (m : List (KeptExchange W R F)) (n : ℕ) (k : Conf) → AllDatagramKinds q → AllWide (kinds es) → ServesAt q m n k → ServesAt (q ++ es) m n (conf_after k es)
     wide_all [] q m n k d w s = rw (append-nil q) s
     wide_all (e ∷ es) q m n k d w s =
         subst (λ (x : List Event). ServesAt x m n (conf_after (conf_rule e.kind k) es)) (append_assoc q (e ∷ []) es)
@@ -183,7 +185,7 @@ module _ {W R F : Type 0} (answer : PolledRequest F R → ℕ → Answer) (answe
     pub serves_news : (q : List Event) (s : Running W R F) (look : Look) (es : List Event) → AllDatagramKinds q → kinds es ≡ news_kinds s.heard look → Serves answer answers settings q s → Serves answer answers settings (q ++ es) (record s { heard = hears s.heard look })
     serves_news q s look es d h serves =
         let ns = news s.heard.version s.heard.closed look in
-        let a = wide_all es q s.exchanges s.next (conf_of s.heard) d (news_wide s.heard look es h) (record { each = serves.each; unused = serves.unused; heard = serves.heard }) in
+        let a = wide_all es q s.exchanges.items s.next (conf_of s.heard) d (news_wide s.heard look es h) (record { each = serves.each; unused = serves.unused; heard = serves.heard }) in
         record {
           each = a.each;
           unused = a.unused;
@@ -193,12 +195,12 @@ module _ {W R F : Type 0} (answer : PolledRequest F R → ℕ → Answer) (answe
     -- ---- an event of a client
 
     -- a Turn
-    pub serves_turn : (q : List Event) (s : Running W R F) (e : Event) (letter : Option Letter) (m : BTreeMap ℕ (KeptExchange W R F)) → AllDatagramKinds q → e.kind ≡ Turn 0
-        → Turned answer answers e (get nat_cmp s.exchanges e.client) letter (get nat_cmp m e.client) → ((c : ℕ) → c ≢ e.client → get nat_cmp m c ≡ get nat_cmp s.exchanges c)
+    pub serves_turn : (q : List Event) (s : Running W R F) (e : Event) (letter : Option Letter) (m : TypeOf s.exchanges) → AllDatagramKinds q → e.kind ≡ Turn 0
+        → Turned answer answers e (kept_at e.client s.exchanges.items) letter (kept_at e.client m.items) → ((c : ℕ) → c ≢ e.client → kept_at c m.items ≡ kept_at c s.exchanges.items)
         → Serves answer answers settings q s → Serves answer answers settings (q ++ e ∷ []) (record s { exchanges = m })
     serves_turn q s e letter m d h t others serves = record {
       each = λ c. (elim (eqb_tells e.client c) [
-        | inl x ↦ subst (λ (n : ℕ). Keeps answer answers (get nat_cmp m n) (slate answers settings n (q ++ e ∷ []))) x.1
+        | inl x ↦ subst (λ (n : ℕ). Keeps answer answers (kept_at n m.items) (slate answers settings n (q ++ e ∷ []))) x.1
             (rw (slate_own answers settings e.client q e refl) (t.leads (slate answers settings e.client q) (serves.each e.client)).1)
         | inr x ↦ rw (slate_other answers settings c q e (rw h refl) x.1, others c (λ (y : c ≡ e.client). x.1 (sym y))) (serves.each c)
       ]);
@@ -209,15 +211,15 @@ module _ {W R F : Type 0} (answer : PolledRequest F R → ℕ → Answer) (answe
       heard = narrow_heard answers settings q e (conf_of s.heard) (rw h refl) serves.heard;
     }
 
-    pub posted_turn : (q : List Event) (s : Running W R F) (e : Event) (letter : Option Letter) (new : Option (KeptExchange W R F)) → AllDatagramKinds q → e.kind ≡ Turn 0
-        → Turned answer answers e (get nat_cmp s.exchanges e.client) letter new → Serves answer answers settings q s → posted answers settings q e ≡ listed letter
+    pub posted_turn : (q : List Event) (s : Running W R F) (e : Event) (letter : Option Letter) (new : List (KeptExchange W R F)) → AllDatagramKinds q → e.kind ≡ Turn 0
+        → Turned answer answers e (kept_at e.client s.exchanges.items) letter new → Serves answer answers settings q s → posted answers settings q e ≡ listed letter
     posted_turn q s e letter new d h t serves =
         posted_is answers settings q e d (rw h refl) ∙ ap (λ (l : Option Letter). listed l) (sym (t.leads (slate answers settings e.client q) (serves.each e.client)).0)
 
     -- a Datagram under the next number
-    begun_at : (q : List Event) (s : Running W R F) (e : Event) (addr : SocketAddr) (octets : List ℕ) (letter : Option Letter) (new : Option (KeptExchange W R F)) → AllDatagramKinds q → e.kind ≡ Datagram addr octets → e.client ≡ s.next
-        → s.heard.closed ≡ false → Begun answer answers s.heard e addr octets (get nat_cmp s.exchanges e.client) letter new → Serves answer answers settings q s
-        → Leads answer answers (get nat_cmp s.exchanges e.client) letter new (slate answers settings e.client q) (rule answers e (slate answers settings e.client q))
+    begun_at : (q : List Event) (s : Running W R F) (e : Event) (addr : SocketAddr) (octets : List ℕ) (letter : Option Letter) (new : List (KeptExchange W R F)) → AllDatagramKinds q → e.kind ≡ Datagram addr octets → e.client ≡ s.next
+        → s.heard.closed ≡ false → Begun answer answers s.heard e addr octets (kept_at e.client s.exchanges.items) letter new → Serves answer answers settings q s
+        → Leads answer answers (kept_at e.client s.exchanges.items) letter new (slate answers settings e.client q) (rule answers e (slate answers settings e.client q))
     begun_at q s e addr octets letter new d h n running b serves =
         let z = slate answers settings e.client q in
         let u : z.phase ≡ Unused = serves.unused e.client (rw n (omega arith)) in
@@ -225,14 +227,14 @@ module _ {W R F : Type 0} (answer : PolledRequest F R → ℕ → Answer) (answe
         let over : z.conf.over ≡ false = ap (λ (k : Conf). k.over) same ∙ running in
         rw (rule_begins answers settings e addr octets z u h over) (b.leads z (unused_slate answers settings e.client q d u) same)
 
-    pub serves_datagram : (q : List Event) (s : Running W R F) (e : Event) (addr : SocketAddr) (octets : List ℕ) (letter : Option Letter) (m : BTreeMap ℕ (KeptExchange W R F)) → AllDatagramKinds q → e.kind ≡ Datagram addr octets → e.client ≡ s.next
-        → s.heard.closed ≡ false → Begun answer answers s.heard e addr octets (get nat_cmp s.exchanges e.client) letter (get nat_cmp m e.client) → ((c : ℕ) → c ≢ e.client → get nat_cmp m c ≡ get nat_cmp s.exchanges c)
+    pub serves_datagram : (q : List Event) (s : Running W R F) (e : Event) (addr : SocketAddr) (octets : List ℕ) (letter : Option Letter) (m : TypeOf s.exchanges) → AllDatagramKinds q → e.kind ≡ Datagram addr octets → e.client ≡ s.next
+        → s.heard.closed ≡ false → Begun answer answers s.heard e addr octets (kept_at e.client s.exchanges.items) letter (kept_at e.client m.items) → ((c : ℕ) → c ≢ e.client → kept_at c m.items ≡ kept_at c s.exchanges.items)
         → Serves answer answers settings q s → Serves answer answers settings (q ++ e ∷ []) (record s { exchanges = m; next = s.next + 1 })
     serves_datagram q s e addr octets letter m d h n running b others serves =
-        let l = begun_at q s e addr octets letter (get nat_cmp m e.client) d h n running b serves in
+        let l = begun_at q s e addr octets letter (kept_at e.client m.items) d h n running b serves in
         record {
           each = λ c. (elim (eqb_tells e.client c) [
-            | inl x ↦ subst (λ (i : ℕ). Keeps answer answers (get nat_cmp m i) (slate answers settings i (q ++ e ∷ []))) x.1 (rw (slate_own answers settings e.client q e refl) (l (serves.each e.client)).1)
+            | inl x ↦ subst (λ (i : ℕ). Keeps answer answers (kept_at i m.items) (slate answers settings i (q ++ e ∷ []))) x.1 (rw (slate_own answers settings e.client q e refl) (l (serves.each e.client)).1)
             | inr x ↦ rw (slate_other answers settings c q e (rw h refl) x.1, others c (λ (y : c ≡ e.client). x.1 (sym y))) (serves.each c)
           ]);
           unused = λ c k. (elim (eqb_tells e.client c) [
@@ -242,13 +244,13 @@ module _ {W R F : Type 0} (answer : PolledRequest F R → ℕ → Answer) (answe
           heard = narrow_heard answers settings q e (conf_of s.heard) (rw h refl) serves.heard;
         }
 
-    pub posted_datagram : (q : List Event) (s : Running W R F) (e : Event) (addr : SocketAddr) (octets : List ℕ) (letter : Option Letter) (new : Option (KeptExchange W R F)) → AllDatagramKinds q → e.kind ≡ Datagram addr octets → e.client ≡ s.next
-        → s.heard.closed ≡ false → Begun answer answers s.heard e addr octets (get nat_cmp s.exchanges e.client) letter new → Serves answer answers settings q s → posted answers settings q e ≡ listed letter
+    pub posted_datagram : (q : List Event) (s : Running W R F) (e : Event) (addr : SocketAddr) (octets : List ℕ) (letter : Option Letter) (new : List (KeptExchange W R F)) → AllDatagramKinds q → e.kind ≡ Datagram addr octets → e.client ≡ s.next
+        → s.heard.closed ≡ false → Begun answer answers s.heard e addr octets (kept_at e.client s.exchanges.items) letter new → Serves answer answers settings q s → posted answers settings q e ≡ listed letter
     posted_datagram q s e addr octets letter new d h n running b serves =
         let l = begun_at q s e addr octets letter new d h n running b serves in
         posted_is answers settings q e d (rw h tt) ∙ ap (λ (x : Option Letter). listed x) (sym (l (serves.each e.client)).0)
 
     -- nothing came yet
-    pub serves_none : (s : Running W R F) → ((c : ℕ) → get nat_cmp s.exchanges c ≡ None) → opening settings ≡ conf_of s.heard → Serves answer answers settings [] s
+    pub serves_none : (s : Running W R F) → ((c : ℕ) → kept_at c s.exchanges.items ≡ []) → opening settings ≡ conf_of s.heard → Serves answer answers settings [] s
     unfolding slate conf
     serves_none s none h = record { each = λ c. rw (none c) refl; unused = λ c l. refl; heard = h }

@@ -1,9 +1,7 @@
 -- How the serving of datagrams begins, and what it then says.
-use Rattle.std.proofs.Common.{◌≡◌, ◌≤◌, ℕ, ◌+◌, ◌-◌, ◌^◌, min, List, [], ◌∷◌, ◌++◌, length, Bool, true, false, refl, ap, sym, ◌∙◌, append-nil, arith}
+use Rattle.std.proofs.Common.{◌≡◌, ◌≢◌, ◌≤◌, ℕ, ◌+◌, ◌-◌, ◌^◌, min, List, [], ◌∷◌, ◌++◌, length, Bool, true, false, refl, ap, sym, ◌∙◌, append-nil, arith}
 use Rattle.std.specs.Prelude.{Option, Some, None, nat_eq}
 use Rattle.std.specs.List.{list_any}
-use Rattle.std.specs.Ordering.{nat_cmp}
-use Rattle.std.specs.BTreeMap.{get}
 use Rattle.dns_admission.specs.declared.look.Look.{Look}
 use Rattle.dns_admission.specs.declared.call.Call.TheVariants.{Look as ToLook}
 use Rattle.dns_admission.specs.declared.call.Reply.TheVariants.{Look as Shown}
@@ -20,7 +18,7 @@ use Rattle.dns_drivers.specs.Steps.{NotedWide}
 use Rattle.dns_drivers.specs.DatagramsPolled.{waits, TurnsBetween, AllFinished}
 use Rattle.dns_drivers.specs.DatagramsSent.{settings_of, letters_delivered, delivered, early_faults, all_addressed}
 use Rattle.dns_drivers.specs.DatagramsServed.{World, world, LooksOnly, Input, Delivered, Served, CutOff, ServedTo, EndsBy}
-use Rattle.dns_drivers.specs.DatagramSteps.{hears, NewsNoted, Keeps}
+use Rattle.dns_drivers.specs.DatagramSteps.{hears, NewsNoted, Keeps, kept_at}
 use Rattle.dns_drivers.specs.DatagramLoop.{Serves, Ran, Goes, Breaks, Idles, Stopped, Finished, Ended}
 use Rattle.dns_drivers.specs.declared.datagrams.DgramEnd.{DgramEnd}
 use Rattle.dns_drivers.specs.declared.datagrams.DgramEnd.TheVariants.{Shutdown, Counted, Fault, OutOfMemory}
@@ -61,28 +59,29 @@ before_first first = record first { closed = false }
 
 module _ {W R F : Type 0} (answer : PolledRequest F R → ℕ → Answer) (answers : Serving) where
   ran_first : (first : Look) (n n1 : List Event) (m : Mail) (f : ℕ) (c c1 : List ClockReading) (k k1 : Known) (s : Running W R F)
-      → ((d : ℕ) → get nat_cmp s.exchanges d ≡ None) → s.next ≡ 0 → s.heard ≡ before_first first → Called k ToLook (Shown first) k1 → NewsNoted s.heard first n n1 c c1
-      → Ran answer answers first (world n m f c k) (world n1 m f c1 k1) (record s { heard = hears s.heard first }) true [] 0
+      → ((d : ℕ) → kept_at d s.exchanges.items ≡ []) → s.next ≡ 0 → s.heard ≡ hears (before_first first) first → Called k ToLook (Shown first) k1 → NewsNoted (before_first first) first n n1 c c1
+      → Ran answer answers first (world n m f c k) (world n1 m f c1 k1) s true [] 0
   ran_first first n n1 m f c c1 k k1 s none zero heard l x =
       let settings = settings_of first in
-      let wide = news_wide s.heard first x.events x.news in
+      let wide = news_wide (before_first first) first x.events x.news in
+      let serves = serves_news answer answers settings [] (record s { heard = before_first first }) first x.events tt x.news (serves_none answer answers settings (record s { heard = before_first first }) none refl) in
       let quiet = all_wide_quiet x.events wide in record {
         looks = [];
         events = x.events;
         noted = x.noted;
         seat = looks_one k k1 first l;
         plain = kinds_append [] x.events tt quiet;
-        order = rw heard (ordered_first first x.events (rw heard at x.news));
+        order = rw heard (ordered_first first x.events x.news);
         input = input_quiet answers settings [] x.events (first ∷ []) (0 + 1) s.next m m tt quiet
             (record { came = []; received = sym (append-nil m.received); recorded = refl; numbered = rw zero refl; polled = between_none answers settings; looked = omega arith });
         waiting = λ d h. never (waits answers settings d []) (list_any (nat_eq d) []) (waits_none answers settings d) (sym (waits_quiet answers settings d [] x.events tt quiet) ∙ h);
         clock = clocked_any x.events c c1 m.full_sends x.clock;
         output = delivered_wide answers settings [] x.events m m f f tt wide
             (record { sent = rw (letters_none answers settings) (sym (append-nil m.sent)); late = 0; failed = 0; faults = refl; again = omega arith; rose = omega arith; early = rw (early_none answers settings) (omega arith) });
-        serves = serves_news answer answers settings [] s first x.events tt x.news (serves_none answer answers settings s none (rw heard refl));
+        serves = record { each = serves.each; unused = serves.unused; heard = rw heard serves.heard };
       }
 
-  all_finished : (settings : Settings) (es : List Event) (s : Running W R F) → Serves answer answers settings es s → ((d : ℕ) → get nat_cmp s.exchanges d ≡ None) → AllFinished answers settings es
+  all_finished : (settings : Settings) (es : List Event) (s : Running W R F) → Serves answer answers settings es s → ((d : ℕ) → kept_at d s.exchanges.items ≡ []) → AllFinished answers settings es
   all_finished settings es s h none d = rw (none d) at (h.each d)
 
   served_ran : (end : DgramEnd) (count : ℕ) (first : Look) (w w1 : World) (s : Running W R F) (r : Ran answer answers first w w1 s false [] 2) → EndsBy answers end count s.next first r.looks r.events → Served answers end count w w1
@@ -108,34 +107,29 @@ module _ {W R F : Type 0} (answer : PolledRequest F R → ℕ → Answer) (answe
       let z = e.0.goes first w 1 (ran_rest answer answers r) in
       served_ran Counted count first w w2 s2 z (e.1, all_finished (settings_of first) z.events s2 z.serves e.2)
   ended_ran Fault count first w w1 w2 s s2 r e = served_ran Fault count first w w2 s2 (e.goes first w 1 (ran_rest answer answers r)) tt
-  ended_ran OutOfMemory count first w w1 w2 s s2 r e = absurd e
+  ended_ran OutOfMemory count first w w1 w2 s s2 r e = e.breaks first w 1 (ran_rest answer answers r)
 
   -- the news of the first look were noted, and then what came after them
   pub served_by : {n n1 : List Event} {c c1 : List ClockReading} {k k1 : Known} {first : Look} (m : Mail) (f : ℕ) (w : World) (end : DgramEnd) (count : ℕ) (s s2 : Running W R F)
-      → ((d : ℕ) → get nat_cmp s.exchanges d ≡ None) → s.next ≡ 0 → s.heard ≡ before_first first → Called k ToLook (Shown first) k1 → NewsNoted s.heard first n n1 c c1
-      → Ended answer answers end count (world n1 m f c1 k1) (record s { heard = hears s.heard first }) w s2 → ServedTo answers end count (world n m f c k) w
+      → ((d : ℕ) → kept_at d s.exchanges.items ≡ []) → s.next ≡ 0 → s.heard ≡ hears (before_first first) first → Called k ToLook (Shown first) k1 → NewsNoted (before_first first) first n n1 c c1
+      → Ended answer answers end count (world n1 m f c1 k1) s w s2 → ServedTo answers end count (world n m f c k) w
   served_by {n} {n1} {c} {c1} {k} {k1} {first} m f w end count s s2 none zero heard l x e =
-      ended_ran end count first (world n m f c k) (world n1 m f c1 k1) w (record s { heard = hears s.heard first }) s2 (ran_first first n n1 m f c c1 k k1 s none zero heard l x) e
-
-  pub served_fails : {n n1 : List Event} {m : Mail} {f : ℕ} {c c1 : List ClockReading} {k k1 : Known} {w : World} {first : Look} (s : Running W R F)
-      → ((d : ℕ) → get nat_cmp s.exchanges d ≡ None) → s.next ≡ 0 → s.heard ≡ before_first first → Called k ToLook (Shown first) k1 → NewsNoted s.heard first n n1 c c1
-      → Breaks answer answers (world n1 m f c1 k1) (record s { heard = hears s.heard first }) false [] w → CutOff answers (world n m f c k) w
-  served_fails {n} {n1} {m} {f} {c} {c1} {k} {k1} {w} {first} s none zero heard l x b =
-      b.breaks first (world n m f c k) 1 (ran_rest answer answers (ran_first first n n1 m f c c1 k k1 s none zero heard l x))
+      ended_ran end count first (world n m f c k) (world n1 m f c1 k1) w s s2 (ran_first first n n1 m f c c1 k k1 s none zero heard l x) e
 
   -- ---- the rounds and the last polls
 
-  pub end_by : (w w1 w2 : World) (s s1 s2 : Running W R F) (count : ℕ) (end : DgramEnd) → s2.next ≡ s1.next → Stopped answer answers end count w s w1 s1 → Finished answer answers w1 s1 w2 s2 → Ended answer answers end count w s w2 s2
-  end_by w w1 w2 s s1 s2 count Shutdown e a b = end_shutdown answer answers a b
-  end_by w w1 w2 s s1 s2 count Counted e a b = end_count answer answers e a b
-  end_by w w1 w2 s s1 s2 count Fault e a b = idles_finish answer answers a b
-  end_by w w1 w2 s s1 s2 count OutOfMemory e a b = absurd a
+  -- with a fault, or for want of memory, there are no last polls
+  pub end_by : (w w1 w2 : World) (s s1 s2 : Running W R F) (count : ℕ) (end : DgramEnd) → end ≢ OutOfMemory → s2.next ≡ s1.next → Stopped answer answers end count w s w1 s1 → Finished answer answers w1 s1 w2 s2 → Ended answer answers end count w s w2 s2
+  end_by w w1 w2 s s1 s2 count Shutdown h e a b = end_shutdown answer answers a b
+  end_by w w1 w2 s s1 s2 count Counted h e a b = end_count answer answers e a b
+  end_by w w1 w2 s s1 s2 count Fault h e a b = idles_finish answer answers a b
+  end_by w w1 w2 s s1 s2 count OutOfMemory h e a b = absurd (h refl)
 
-  pub end_by_fails : (w w1 w2 : World) (s s1 : Running W R F) (count : ℕ) (end : DgramEnd) → Stopped answer answers end count w s w1 s1 → Breaks answer answers w1 s1 false [] w2 → Breaks answer answers w s false [] w2
-  end_by_fails w w1 w2 s s1 count Shutdown a b = end_fails answer answers a b
-  end_by_fails w w1 w2 s s1 count Counted a b = end_fails answer answers a b
-  end_by_fails w w1 w2 s s1 count Fault a b = end_fails answer answers {q = Unit {0}} (a, tt) b
-  end_by_fails w w1 w2 s s1 count OutOfMemory a b = absurd a
+  pub end_by_fails : (w w1 w2 : World) (s s1 : Running W R F) (count : ℕ) (end : DgramEnd) → end ≢ OutOfMemory → Stopped answer answers end count w s w1 s1 → Breaks answer answers w1 s1 false [] w2 → Breaks answer answers w s false [] w2
+  end_by_fails w w1 w2 s s1 count Shutdown h a b = end_fails answer answers a b
+  end_by_fails w w1 w2 s s1 count Counted h a b = end_fails answer answers a b
+  end_by_fails w w1 w2 s s1 count Fault h a b = end_fails answer answers {q = Unit {0}} (a, tt) b
+  end_by_fails w w1 w2 s s1 count OutOfMemory h a b = absurd (h refl)
 
 -- memory ran out before the news of the first look were noted
 pub first_fails : {n n1 : List Event} {m : Mail} {f : ℕ} {c c1 : List ClockReading} {k k1 : Known} {first : Look} (answers : Serving) → Called k ToLook (Shown first) k1 → NotedWide n n1 → CutOff answers (world n m f c k) (world n1 m f c1 k1)

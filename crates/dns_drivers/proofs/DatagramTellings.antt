@@ -1,10 +1,27 @@
 -- How what socket, clock and recorder tell goes through calls, in this order: d, c, j.
+use Rattle.std.proofs.Common.{◌≡◌, refl}
 use Rattle.std.specs.Prelude.{Result, Ok, Err, OnErr, OnOk, IfOk}
 use Rattle.dns_outside.specs.Causes.{Tells}
 
 pub on_err : {X T E : Type 0} (r : Result T E) → X → OnErr r X
 on_err (Ok v) x = tt
 on_err (Err e) x = x
+
+pub on_ok_by : {X Y T E : Type 0} (r : Result T E) → OnOk r X → (X → Y) → OnOk r Y
+on_ok_by (Ok v) x f = f x
+on_ok_by (Err e) x f = tt
+
+pub on_err_by : {X Y T E : Type 0} (r : Result T E) → OnErr r X → (X → Y) → OnErr r Y
+on_err_by (Ok v) x f = tt
+on_err_by (Err e) x f = f x
+
+pub on_ok_is : {X T E : Type 0} (r : Result T E) → ((v : T) → r ≡ Ok v → X) → OnOk r X
+on_ok_is (Ok v) f = f v refl
+on_ok_is (Err e) f = tt
+
+pub on_err_is : {X T E : Type 0} (r : Result T E) → ((e : E) → r ≡ Err e → X) → OnErr r X
+on_err_is (Ok v) f = tt
+on_err_is (Err e) f = f e refl
 
 pub tells_none : {a p : Type 0} → p → Tells a a p
 tells_none x = record { told = λ t. (t, x) }
@@ -38,3 +55,6 @@ tells_cj_dcj x y f = record { told = λ t. let v = y.told t in let u = x.told (v
 
 pub tells_d_dcj : {d c j d1 d2 c1 j1 p q r : Type 0} → Tells d1 d p → Tells (d2 × c1 × j1) (d1 × c × j) q → (p → q → r) → Tells (d2 × c1 × j1) (d × c × j) r
 tells_d_dcj x y f = record { told = λ t. let v = y.told t in let u = x.told v.0.0 in ((u.0, v.0.1, v.0.2), f u.1 v.1) }
+
+pub tells_dc_c_j : {d c j d1 c1 c2 j1 p q s r : Type 0} → Tells (d1 × c1) (d × c) p → Tells c2 c1 q → Tells j1 j s → (p → q → s → r) → Tells (d1 × c2 × j1) (d × c × j) r
+tells_dc_c_j x y z f = record { told = λ t. let v = y.told t.1 in let u = x.told (t.0, v.0) in let w = z.told t.2 in ((u.0.0, u.0.1, w.0), f u.1 v.1 w.1) }

@@ -2,10 +2,7 @@
 use Rattle.std.proofs.Common.{◌≡◌, ◌≢◌, ◌≤◌, ℕ, ◌+◌, ◌-◌, ◌^◌, min, List, [], ◌∷◌, ◌++◌, length, take, Bool, true, false, refl, ap, sym, ◌∙◌, subst, append_assoc, append-nil, arith}
 use Rattle.std.specs.Prelude.{Option, Some, None, nat_eq, not, ◌&&◌, ◌||◌, is_some}
 use Rattle.std.specs.List.{list_any}
-use Rattle.std.specs.Ordering.{nat_cmp}
-use Rattle.std.specs.BTreeMap.{BTreeMap, get, keys, is_at}
 use Rattle.std.proofs.lemmas.Bool.Decides.{nat_tests}
-use Rattle.std.proofs.lemmas.Map.Made.{is_some-lookup}
 use Rattle.dns_name.specs.declared.address.SocketAddr.{SocketAddr}
 use Rattle.dns_admission.specs.declared.look.Look.{Look}
 use Rattle.dns_admission.specs.declared.call.Call.TheVariants.{Look as ToLook}
@@ -29,7 +26,7 @@ use Rattle.dns_drivers.specs.DatagramEvents.{IsOwnKind, IsDatagramKind, AllDatag
 use Rattle.dns_drivers.specs.DatagramsPolled.{is_finished, waits}
 use Rattle.dns_drivers.specs.DatagramsSent.{settings_of}
 use Rattle.dns_drivers.specs.DatagramsServed.{World, world, LooksOnly, CutOff}
-use Rattle.dns_drivers.specs.DatagramSteps.{hears, NewsNoted, Stamped, Sends, Unsent, listed, Keeps, IsKeptOf, Turned, Begun}
+use Rattle.dns_drivers.specs.DatagramSteps.{hears, NewsNoted, Stamped, Sends, Unsent, listed, Keeps, IsKeptOf, Turned, Begun, kept_at, numbers_of}
 use Rattle.dns_drivers.specs.DatagramLoop.{Among, Ran, Goes, Breaks, Looks, Turns, Fails, Begins, BeginFails}
 use Rattle.dns_drivers.specs.declared.datagrams.running.KeptExchange.{KeptExchange}
 use Rattle.dns_drivers.specs.declared.datagrams.running.Running.{Running}
@@ -39,7 +36,7 @@ use Rattle.dns_drivers.proofs.DatagramQuiet.{AllQuiet, all_wide_quiet, quiet_kin
 use Rattle.dns_drivers.proofs.DatagramRoundings.{letters_in_more, numbers_in_more, cut_letters_more, numbers_below_more, waits_more}
 use Rattle.dns_drivers.proofs.DatagramRuns.{ran_look, ran_act, cut_off}
 use Rattle.dns_drivers.proofs.DatagramSeats.{looks_none, looks_one}
-use Rattle.dns_drivers.proofs.DatagramServings.{serves_turn, posted_turn, serves_datagram, posted_datagram}
+use Rattle.dns_drivers.proofs.DatagramServings.{TypeOf, serves_turn, posted_turn, serves_datagram, posted_datagram}
 
 all_quiet_plain : (es : List Event) → AllQuiet es → AllDatagramKinds es
 all_quiet_plain [] a = tt
@@ -73,16 +70,18 @@ nobody : (a : Bool) → (a ≡ true → false ≡ true) → a ≡ false
 nobody true h = sym (h refl)
 nobody false h = refl
 
-same_test : (c n : ℕ) → is_at (nat_cmp c) n ≡ nat_eq c n
-same_test c n = grind (arith, nat_tests)
+or_none : (a b : Bool) → (a || b) ≡ false → (a ≡ false) × (b ≡ false)
+or_none true b h = cc
+or_none false b h = (refl, h)
 
-same_tests : (c : ℕ) (ns : List ℕ) → list_any (is_at (nat_cmp c)) ns ≡ list_any (nat_eq c) ns
-same_tests c [] = refl
-same_tests c (n ∷ ns) = rw (same_test c n, same_tests c ns) refl
+sure : (a : Bool) → (a ≡ false → ⊥) → a ≡ true
+sure true h = refl
+sure false h = absurd (h refl)
 
--- what is kept is a key
-has_key : {X : Type 0} (m : BTreeMap ℕ X) (c : ℕ) → is_some (get nat_cmp m c) ≡ list_any (nat_eq c) (keys m)
-has_key m c = is_some-lookup (is_at (nat_cmp c)) m.entries ∙ same_tests c (keys m)
+-- what is kept has a number
+kept_nowhere : {W R F : Type 0} (xs : List (KeptExchange W R F)) (c : ℕ) → list_any (nat_eq c) (numbers_of xs) ≡ false → kept_at c xs ≡ []
+kept_nowhere [] c h = refl
+kept_nowhere (x ∷ xs) c h = let z = or_none (nat_eq c x.number) (list_any (nat_eq c) (numbers_of xs)) h in rw z.0 (kept_nowhere xs c z.1)
 
 turn_own : (e : Event) → e.kind ≡ Turn 0 → IsOwnKind e.kind
 turn_own e h = rw h refl
@@ -139,17 +138,17 @@ module _ {W R F : Type 0} (answer : PolledRequest F R → ℕ → Answer) (answe
 
   -- ---- Turns
 
-  pub turns_by : {n n1 n' : List Event} {m m' : Mail} {f f' : ℕ} {c c1 c' : List ClockReading} {k : Known} (s : Running W R F) {number : ℕ} {e : Event} {letter : Option Letter} {x : BTreeMap ℕ (KeptExchange W R F)}
-      → e.client ≡ number → e.kind ≡ Turn 0 → Turned answer answers e (get nat_cmp s.exchanges e.client) letter (get nat_cmp x e.client) → ((d : ℕ) → d ≢ e.client → get nat_cmp x d ≡ get nat_cmp s.exchanges d)
+  pub turns_by : {n n1 n' : List Event} {m m' : Mail} {f f' : ℕ} {c c1 c' : List ClockReading} {k : Known} (s : Running W R F) {number : ℕ} {e : Event} {letter : Option Letter} {x : TypeOf s.exchanges} {send_failed : Bool}
+      → e.client ≡ number → e.kind ≡ Turn 0 → Turned answer answers e (kept_at e.client s.exchanges.items) letter (kept_at e.client x.items) → ((d : ℕ) → d ≢ e.client → kept_at d x.items ≡ kept_at d s.exchanges.items)
       → Stamped e n n1 c c1 → Sends e (listed letter) s.heard.dgram.write_timeout n1 n' m m' f f' c1 c'
-      → Turns answer answers number true (world n m f c k) s (world n' m' f' c' k) (record s { exchanges = x })
-  turns_by {n} {n1} {n'} {m} {m'} {f} {f'} {c} {c1} {c'} {k} s {number} {e} {letter} {x} of kind turned others t sends = record {
+      → Turns answer answers number true (world n m f c k) s (world n' m' f' c' k) (record s { exchanges = x; send_failed = send_failed })
+  turns_by {n} {n1} {n'} {m} {m'} {f} {f'} {c} {c1} {c'} {k} s {number} {e} {letter} {x} {send_failed} of kind turned others t sends = record {
     goes = λ rest. record {
       over = λ h. h;
       goes = λ first start spare r.
           let settings = settings_of first in
-          ran_act answer answers first start n n1 n' m m m' f f' c c1 c' k s (number ∷ rest) rest spare e (listed letter) x s.next (turn_own e kind) t sends refl refl r
-          (posted_turn answer answers settings r.events s e letter (get nat_cmp x e.client) r.plain kind turned r.serves)
+          ran_act answer answers first start n n1 n' m m m' f f' c c1 c' k s (number ∷ rest) rest spare e (listed letter) x s.next send_failed (turn_own e kind) t sends refl refl r
+          (posted_turn answer answers settings r.events s e letter (kept_at e.client x.items) r.plain kind turned r.serves)
           (input_turn answers settings r.events e (first ∷ r.looks) (spare + 1) (spare + 0) s.next start.mail m kind (omega arith) r.input)
           (λ d h. let g : (waits answers settings d r.events && not (nat_eq number d)) ≡ true = sym (waits_more answers settings d r.events e ∙ rw (kind, of) (waits_turn_is (waits answers settings d r.events) (nat_eq number d))) ∙ h in
           behind number d rest (and_not (waits answers settings d r.events) (nat_eq number d) g) (r.waiting d (and_left (waits answers settings d r.events) (not (nat_eq number d)) g)))
@@ -183,27 +182,26 @@ module _ {W R F : Type 0} (answer : PolledRequest F R → ℕ → Answer) (answe
 
   -- ---- Datagrams
 
-  unfinished_kept : (o : Option (KeptExchange W R F)) (s : Slate) → Keeps answer answers o s → is_finished s ≡ false → is_some o ≡ true
-  unfinished_kept None s k h = cc
-  unfinished_kept (Some x) s k h = refl
+  unfinished_kept : (xs : List (KeptExchange W R F)) (c : ℕ) (s : Slate) → Keeps answer answers (kept_at c xs) s → is_finished s ≡ false → Among c (numbers_of xs)
+  unfinished_kept xs c s k h = sure (list_any (nat_eq c) (numbers_of xs)) (λ (n : list_any (nat_eq c) (numbers_of xs) ≡ false). let f : is_finished s ≡ true = rw (kept_nowhere xs c n) at k in cc)
 
-  pub begins_by : {n n1 n' : List Event} {m1 m' : Mail} {f f' : ℕ} {c c1 c' : List ClockReading} {k : Known} (s : Running W R F) {e : Event} {letter : Option Letter} {x : BTreeMap ℕ (KeptExchange W R F)} (octets : List ℕ) (from : SocketAddr)
+  pub begins_by : {n n1 n' : List Event} {m1 m' : Mail} {f f' : ℕ} {c c1 c' : List ClockReading} {k : Known} (s : Running W R F) {e : Event} {letter : Option Letter} {x : TypeOf s.exchanges} {send_failed : Bool} (octets : List ℕ) (from : SocketAddr)
       → s.heard.closed ≡ false → e.client ≡ s.next → e.kind ≡ Datagram from octets
-      → Begun answer answers s.heard e from octets (get nat_cmp s.exchanges e.client) letter (get nat_cmp x e.client) → ((d : ℕ) → d ≢ e.client → get nat_cmp x d ≡ get nat_cmp s.exchanges d)
+      → Begun answer answers s.heard e from octets (kept_at e.client s.exchanges.items) letter (kept_at e.client x.items) → ((d : ℕ) → d ≢ e.client → kept_at d x.items ≡ kept_at d s.exchanges.items)
       → Stamped e n n1 c c1 → Sends e (listed letter) s.heard.dgram.write_timeout n1 n' m1 m' f f' c1 c'
-      → Begins answer answers octets from (world n m1 f c k) s (world n' m' f' c' k) (record s { exchanges = x; next = s.next + 1 })
-  begins_by {n} {n1} {n'} {m1} {m'} {f} {f'} {c} {c1} {c'} {k} s {e} {letter} {x} octets from running of kind begun others t sends = record {
+      → Begins answer answers octets from (world n m1 f c k) s (world n' m' f' c' k) (record s { exchanges = x; next = s.next + 1; send_failed = send_failed })
+  begins_by {n} {n1} {n'} {m1} {m'} {f} {f'} {c} {c1} {c'} {k} s {e} {letter} {x} {send_failed} octets from running of kind begun others t sends = record {
     goes = λ whole m front got. record {
       over = λ h. h;
       goes = λ first start spare r.
           let settings = settings_of first in
           let serves = serves_datagram answer answers settings r.events s e from octets letter x r.plain kind of running begun others r.serves in
-          ran_act answer answers first start n n1 n' m m1 m' f f' c c1 c' k s [] (keys x) spare e (listed letter) x (s.next + 1) (datagram_own e from octets kind) t sends (rw got refl) (rw got refl) r
-          (posted_datagram answer answers settings r.events s e from octets letter (get nat_cmp x e.client) r.plain kind of running begun r.serves)
+          ran_act answer answers first start n n1 n' m m1 m' f f' c c1 c' k s [] (numbers_of x.items) spare e (listed letter) x (s.next + 1) send_failed (datagram_own e from octets kind) t sends (rw got refl) (rw got refl) r
+          (posted_datagram answer answers settings r.events s e from octets letter (kept_at e.client x.items) r.plain kind of running begun r.serves)
           (input_datagram answers settings r.events e (first ∷ r.looks) (spare + 1) (spare + 0) s.next start.mail m m1 from octets whole kind of front (rw got refl) (rw got refl) (omega arith)
           (λ d. nobody (waits answers settings d r.events) (r.waiting d)) r.input)
           (λ d h. let g : not (is_finished (slate answers settings d (r.events ++ e ∷ []))) ≡ true = sym (waits_more answers settings d r.events e ∙ rw kind refl) ∙ h in
-          sym (has_key x d) ∙ unfinished_kept (get nat_cmp x d) (slate answers settings d (r.events ++ e ∷ [])) (serves.each d) (not_true (is_finished (slate answers settings d (r.events ++ e ∷ []))) g))
+          unfinished_kept x.items d (slate answers settings d (r.events ++ e ∷ [])) (serves.each d) (not_true (is_finished (slate answers settings d (r.events ++ e ∷ []))) g))
           serves;
     };
   }

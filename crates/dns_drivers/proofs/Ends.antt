@@ -11,14 +11,21 @@ use Rattle.dns_outside.specs.Traffic.{Traffic}
 use Rattle.dns_service.specs.declared.event.Event.{Event}
 use Rattle.dns_service.specs.declared.event.EventKind.TheVariants.{Offer}
 use Rattle.dns_service.specs.declared.event.Why.{Why}
+use Rattle.dns_service.specs.Answer.{Answer}
+use Rattle.dns_service.specs.declared.polled.PolledRequest.{PolledRequest}
+use Rattle.dns_client.specs.Connections.{opened}
 use Rattle.dns_client.specs.Serving.{Serving}
+use Rattle.dns_client.specs.Slate.{Slate, IsUnused, conf_of, fresh}
+use Rattle.dns_client.specs.Stands.{Stands}
+use Rattle.dns_client.specs.declared.client.ClientCore.{ClientCore}
 use Rattle.dns_drivers.specs.Clocks.{ClockReading, Timed, TimedWhole, faults_in}
-use Rattle.dns_drivers.specs.Endings.{offer, NotedOffer, ShownFrom, WasOffered, WasServed, Unserved}
+use Rattle.dns_drivers.specs.Endings.{offer, ShownFrom, WasOffered, WasServed, Unserved}
+use Rattle.dns_drivers.specs.Notes.{NotedMoment}
 use Rattle.dns_drivers.specs.Shown.{Shown}
 use Rattle.dns_drivers.specs.Story.{Story, Broken, LooksAlone, LooksAndRelease, began}
+use Rattle.dns_drivers.specs.Turning.{BeginsOpen}
 use Rattle.dns_drivers.specs.Woven.{look_entries}
 use Rattle.dns_drivers.proofs.Appends.{gained_more}
-use Rattle.dns_drivers.proofs.Timings.{timed_noted, timed_one}
 
 pub looks_release : (k k1 k2 : Known) (left : ℕ) → LooksAlone k k1 → Called k1 Release (Left left) k2 → LooksAndRelease k k2
 looks_release k k1 k2 left a c = record {
@@ -28,29 +35,24 @@ looks_release k k1 k2 left a c = record {
   name = c.same_name ∙ a.name;
 }
 
--- the Offer that is noted
-same_offer : (event : Event) (client : ℕ) (addr : SocketAddr) → event.client ≡ client → event.kind ≡ Offer addr → event ≡ offer client addr event.at event.secs
-same_offer event client addr c k = rw (← c, ← k) refl
-
-pub noted_offer : (event : Event) (client : ℕ) (addr : SocketAddr) (n n1 : List Event) → event.client ≡ client → event.kind ≡ Offer addr → n1 ≡ n ++ event ∷ [] → NotedOffer client addr event.at n n1
-noted_offer event client addr n n1 c k e = record { secs = event.secs; noted = e ∙ ap (λ (x : Event). n ++ x ∷ []) (same_offer event client addr c k) }
-
-pub timed_offer : (event : Event) (addr : SocketAddr) (n n1 : List Event) (c c1 : List ClockReading) → event.kind ≡ Offer addr → c1 ≡ c ++ (event.at, event.secs) ∷ [] → n1 ≡ n ++ event ∷ [] → Timed n n1 0 0 c c1
-timed_offer event addr n n1 c c1 k h e = timed_noted event n n1 0 0 c c1 (timed_one event 0 0 c c1 h (rw k refl) refl) e
+-- a core that was admitted stands where a connection begins
+pub begins : {W R F : Type 0} (answer : PolledRequest F R → ℕ → Answer) (answers : Serving) (core : ClientCore W R F) (client : ℕ) (addr : SocketAddr) (at : ℕ) (look : Look) →
+    ((rules : Serving) (s : Slate) → IsUnused s → s.conf ≡ conf_of look → Stands answer rules core (opened client addr at s)) → core.version ≡ look.version → BeginsOpen answer answers core look (began client addr at look)
+begins answer answers core client addr at look h v = record { stands = h answers (fresh (conf_of look)) refl refl; version = v; over = refl; opened = refl; nothing = refl }
 
 module _ (answers : Serving) where
-  pub offered : (why : Why) (client : ℕ) (addr : SocketAddr) (at : ℕ) (look : Look) (n n1 n2 : List Event) (k k' : Known) (t t' : Traffic) → NotedOffer client addr at n n1 →
+  pub offered : (why : Why) (client : ℕ) (addr : SocketAddr) (at : ℕ) (look : Look) (n n1 n2 : List Event) (k k' : Known) (t t' : Traffic) → NotedMoment client (Offer addr) at n n1 →
       Story answers (began client addr at look) client look (Some why) n1 n2 k k' t t' → WasOffered answers why client addr look n n2 k k' t t'
   offered why client addr at look n n1 n2 k k' t t' o s = let h = o.noted in record { at = at; secs = o.secs; story = rw h at s }
 
-  pub shown_offered : (why : Why) (client : ℕ) (addr : SocketAddr) (at : ℕ) (look : Look) (n n1 n2 : List Event) (t t' : Traffic) → NotedOffer client addr at n n1 →
+  pub shown_offered : (why : Why) (client : ℕ) (addr : SocketAddr) (at : ℕ) (look : Look) (n n1 n2 : List Event) (t t' : Traffic) → NotedMoment client (Offer addr) at n n1 →
       Shown answers (began client addr at look) why n1 n2 t t' → ShownFrom answers why client addr look n n2 t t'
   shown_offered why client addr at look n n1 n2 t t' o s = let h = o.noted in record { at = at; secs = o.secs; shown = rw h at s }
 
   pub unserved_early : (client : ℕ) (addr : SocketAddr) (look : Look) (n n1 : List Event) (t : Traffic) → n1 ≡ n → Unserved answers client addr look n n1 t t
   unserved_early client addr look n n1 t e = record { begun = inl (e, refl) }
 
-  pub unserved_late : (client : ℕ) (addr : SocketAddr) (at : ℕ) (look : Look) (n n1 n2 : List Event) (t t' : Traffic) → NotedOffer client addr at n n1 →
+  pub unserved_late : (client : ℕ) (addr : SocketAddr) (at : ℕ) (look : Look) (n n1 n2 : List Event) (t t' : Traffic) → NotedMoment client (Offer addr) at n n1 →
       Broken answers (began client addr at look) client n1 n2 t t' → Unserved answers client addr look n n2 t t'
   unserved_late client addr at look n n1 n2 t t' o b = let h = o.noted in record { begun = inr (record { at = at; secs = o.secs; broken = rw h at b }) }
 

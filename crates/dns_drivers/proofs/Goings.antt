@@ -167,7 +167,7 @@ module _ {W R F : Type 0} (answer : PolledRequest F R → ℕ → Answer) (answe
       let d = does_told answers core.version h.look g.slate g.served in
       record {
         slate = (told_of answers core.version h.look g.slate).0;
-        stands = (h.follows answers g.slate g.stands).1;
+        stands = (h.sees.follows answers g.slate g.stands).1;
         served = d.served;
         calls = g.calls ++ entry k.name ToLook (LookReply h.look) ∷ [];
         gained = gained_more k k1 k2 g.calls ToLook (LookReply h.look) g.gained g.name h.called;
@@ -180,7 +180,7 @@ module _ {W R F : Type 0} (answer : PolledRequest F R → ℕ → Answer) (answe
   pub heard_why : (why : Why) (core core' : ClientCore W R F) (k k1 k2 : Known) (f f1 : ℕ) → Goes core k k1 f f1 → HeardFor answer (Some why) core core' k1 k2 → (why ≡ ByShutdown) × SawShutdown k k2
   heard_why why core core' k k1 k2 f f1 g h =
       let d = does_told answers core.version h.look g.slate g.served in
-      let c = d.closes why (ap closed_by (sym (h.follows answers g.slate g.stands).0) ∙ h.closed) in
+      let c = d.closes why (ap closed_by (sym (h.sees.follows answers g.slate g.stands).0) ∙ h.sees.closed) in
       (c.0, saw_either core k k1 k2 f f1 h.look g h.called c.1)
 
   pub heard_cause : (why : Why) (core core' : ClientCore W R F) (k k1 k2 : Known) (f f1 : ℕ) → Goes core k k1 f f1 → HeardFor answer (Some why) core core' k1 k2 → Causes why k k2 f f1
@@ -221,7 +221,7 @@ module _ {W R F : Type 0} (answer : PolledRequest F R → ℕ → Answer) (answe
       caused why core core' k k1 f f1 f2 g a (subst P (sym told.0) r)
 
 -- once the slot is given back
-pub cause_released : (why : Why) (k k1 k2 : Known) (f f1 f2 left : ℕ) → Causes why k k1 f f1 → k1.name ≡ k.name → Called k1 Release (Left left) k2 → f1 ≤ f2 → Causes why k k2 f f2
+pub cause_released : (why : Why) (k k1 k2 : Known) (f f1 f2 left : ℕ) → Causes why k k1 f f1 → k1.name ≡ k.name → Called k1 Release (Left left) k2 → f2 ≡ f1 → Causes why k k2 f f2
 cause_released Ended k k1 k2 f f1 f2 left c n h l = tt
 cause_released ByFault k k1 k2 f f1 f2 left c n h l = omega (arith, c, l)
 cause_released Short k k1 k2 f f1 f2 left c n h l = tt

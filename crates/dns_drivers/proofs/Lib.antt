@@ -1,3 +1,4 @@
+pub mod Actings
 pub mod Appends
 pub mod Blamings
 pub mod Breaking
@@ -24,8 +25,10 @@ pub mod DatagramOrderings
 pub mod DatagramServings
 pub mod DatagramClocks
 pub mod DatagramSeats
+pub mod DatagramPasses
 pub mod DatagramQuiet
 pub mod DatagramParts
+pub mod DatagramPlaces
 pub mod DatagramShown
 pub mod DatagramKeeping
 pub mod DatagramPosting

@@ -6,22 +6,19 @@ use Rattle.dns_admission.specs.declared.call.Reply.TheVariants.{Look as Shown}
 use Rattle.dns_book.specs.Seats.{Called}
 use Rattle.dns_book.specs.declared.history.Known.{Known}
 use Rattle.dns_service.specs.Answer.{Answer}
-use Rattle.dns_service.specs.Config.{Dgram, Stream}
 use Rattle.dns_service.specs.declared.event.Event.{Event}
 use Rattle.dns_service.specs.declared.event.EventKind.{EventKind}
 use Rattle.dns_service.specs.declared.event.EventKind.TheVariants.{Reconfigure, Shutdown}
-use Rattle.dns_service.specs.declared.event.Output.{Output}
 use Rattle.dns_service.specs.declared.event.Why.{Why}
 use Rattle.dns_service.specs.declared.polled.PolledRequest.{PolledRequest}
-use Rattle.dns_client.specs.News.{wide, new_configurations, new_end, told_of}
-use Rattle.dns_client.specs.Serving.{Serving}
-use Rattle.dns_client.specs.Stands.{GoesAs}
+use Rattle.dns_client.specs.News.{wide, new_configurations, new_end}
 use Rattle.dns_client.specs.declared.client.ClientCore.{ClientCore}
 use Rattle.dns_core.specs.Own.{is_wide}
-use Rattle.dns_drivers.specs.Closing.{closed_by}
-use Rattle.dns_drivers.specs.Clocks.{ClockReading, Timed}
-use Rattle.dns_drivers.specs.Woven.{kinds, seen_with}
-use Rattle.dns_drivers.specs.Steps.{NotedKinds, NotedWide, LookedOnce, AllWide, HeardNews}
+use Rattle.dns_drivers.specs.Blames.{HeardFor}
+use Rattle.dns_drivers.specs.Clocks.{ClockReading, Timed, write_count}
+use Rattle.dns_drivers.specs.Notes.{NotedMoment}
+use Rattle.dns_drivers.specs.Woven.{kinds, news_kinds, seen_with}
+use Rattle.dns_drivers.specs.Steps.{NotedKinds, NotedWide, LookedOnce, AllWide, SeesLook, HeardNews}
 use Rattle.dns_drivers.proofs.Timings.{timed_one, timed_noted}
 
 pub kinds_append : (es fs : List Event) → kinds (es ++ fs) ≡ kinds es ++ kinds fs
@@ -31,8 +28,13 @@ kinds_append (e ∷ es) fs = ap (λ t. e.kind ∷ t) (kinds_append es fs)
 pub noted_none : (n : List Event) → NotedKinds [] n n
 noted_none n = record { events = []; kinds_are = refl; noted = sym (append-nil n) }
 
-pub noted_one : (n n' : List Event) (e : Event) (k : EventKind) → e.kind ≡ k → n' ≡ n ++ e ∷ [] → NotedKinds (k ∷ []) n n'
-noted_one n n' e k is h = record { events = e ∷ []; kinds_are = rw is refl; noted = h }
+pub noted_moment : (event : Event) (client : ℕ) (kind : EventKind) (n n' : List Event) → event.client ≡ client → event.kind ≡ kind → n' ≡ n ++ event ∷ [] → NotedMoment client kind event.at n n'
+noted_moment event client kind n n' c k e =
+    let same : event ≡ record { at = event.at; secs = event.secs; client = client; kind = kind } = rw (← c, ← k) refl in
+    record { secs = event.secs; noted = e ∙ ap (λ (x : Event). n ++ x ∷ []) same }
+
+pub noted_kind : (client at : ℕ) (kind : EventKind) (n n' : List Event) → NotedMoment client kind at n n' → NotedKinds (kind ∷ []) n n'
+noted_kind client at kind n n' m = record { events = record { at = at; secs = m.secs; client = client; kind = kind } ∷ []; kinds_are = refl; noted = m.noted }
 
 pub looked_once : (look : Look) (k k' : Known) → Called k ToLook (Shown look) k' → LookedOnce k k'
 looked_once look k k' c = record { look = look; called = c }
@@ -61,39 +63,27 @@ both_wide (k ∷ ks) ls a b = (a.0, both_wide ks ls a.1 b)
 pub wide_version : (version : ℕ) (look : Look) (n n1 n2 : List Event) → NotedKinds (kinds (new_configurations version look)) n n1 → n2 ≡ n1 → NotedWide n n2
 wide_version version look n n1 n2 a e = record { events = a.events; wide = rw a.kinds_are (version_wide version look); noted = e ∙ a.noted }
 
-pub wide_both : (version : ℕ) (over : Bool) (look : Look) (n n1 n2 : List Event) → NotedKinds (kinds (new_configurations version look)) n n1 → NotedKinds (kinds (new_end over look)) n1 n2 → NotedWide n n2
-wide_both version over look n n1 n2 a b = record {
+-- the configurations, and then the shutdown
+pub noted_news : (last look : Look) (n n1 n2 : List Event) → NotedKinds (kinds (new_configurations last.version look)) n n1 → NotedKinds (kinds (new_end last.closed look)) n1 n2 → NotedKinds (news_kinds last look) n n2
+noted_news last look n n1 n2 a b = record {
   events = a.events ++ b.events;
-  wide = rw (kinds_append a.events b.events, a.kinds_are, b.kinds_are) (both_wide (kinds (new_configurations version look)) (kinds (new_end over look)) (version_wide version look) (end_wide over look));
+  kinds_are = rw (kinds_append a.events b.events, a.kinds_are, b.kinds_are) (sym (kinds_append (new_configurations last.version look) (new_end last.closed look)));
   noted = rw (b.noted, a.noted) (append_assoc n a.events b.events);
 }
 
+pub news_wide : (last look : Look) → AllWide (news_kinds last look)
+news_wide last look = rw (kinds_append (new_configurations last.version look) (new_end last.closed look)) (both_wide (kinds (new_configurations last.version look)) (kinds (new_end last.closed look)) (version_wide last.version look) (end_wide last.closed look))
+
+pub wide_news : (last look : Look) (n n' : List Event) → NotedKinds (news_kinds last look) n n' → NotedWide n n'
+wide_news last look n n' a = record { events = a.events; wide = rw a.kinds_are (news_wide last look); noted = a.noted }
+
 module _ {W R F : Type 0} (answer : PolledRequest F R → ℕ → Answer) where
-  pub heard_all : (why : Option Why) (core core' : ClientCore W R F) (last last' look : Look) (n n1 n2 : List Event) (k k' : Known) (outs : List Output) →
-      Called k ToLook (Shown look) k' →
-      NotedKinds (kinds (new_configurations last.version look)) n n1 →
-      NotedKinds (kinds (new_end last.closed look)) n1 n2 →
-      last' ≡ seen_with last look →
-      ((answers : Serving) → GoesAs answer answers core core' outs (told_of answers core.version look)) →
-      core'.version ≡ look.version →
-      why ≡ closed_by outs →
-      HeardNews answer why core core' last last' n n2 k k'
-  heard_all why core core' last last' look n n1 n2 k k' outs called a b l f v c = record {
-    look = look;
-    events = a.events ++ b.events;
-    outs = outs;
-    called = called;
-    news_are = rw (kinds_append a.events b.events, a.kinds_are, b.kinds_are) (sym (kinds_append (new_configurations last.version look) (new_end last.closed look)));
-    last_is = l;
-    noted = rw (b.noted, a.noted) (append_assoc n a.events b.events);
-    follows = f;
-    version = v;
-    closed = sym c;
-  }
+  pub heard_news : (why : Option Why) (core core' : ClientCore W R F) (last last' look : Look) (n n' : List Event) (k k' : Known) →
+      Called k ToLook (Shown look) k' → NotedKinds (news_kinds last look) n n' → last' ≡ seen_with last look → SeesLook answer core core' look why → HeardNews answer why core core' last last' n n' k k'
+  heard_news why core core' last last' look n n' k k' c a l s = record { look = look; called = c; last_is = l; news = a; sees = s }
 
--- news: the configurations, and a shutdown
-pub timed_version : (dgram : Dgram) (stream : Stream) (event : Event) (n n' : List Event) (c c' : List ClockReading) → event.kind ≡ Reconfigure dgram stream → c' ≡ c ++ (event.at, event.secs) ∷ [] → n' ≡ n ++ event ∷ [] → Timed n n' 0 0 c c'
-timed_version dgram stream event n n' c c' k h e = timed_noted event n n' 0 0 c c' (timed_one event 0 0 c c' h (rw k refl) refl) e
+  pub heard_for : (why : Option Why) (core core' : ClientCore W R F) (look : Look) (k k' : Known) → Called k ToLook (Shown look) k' → SeesLook answer core core' look why → HeardFor answer why core core' k k'
+  heard_for why core core' look k k' c s = record { look = look; called = c; sees = s }
 
-pub timed_shutdown : (event : Event) (n n' : List Event) (c c' : List ClockReading) → event.kind ≡ Shutdown → c' ≡ c ++ (event.at, event.secs) ∷ [] → n' ≡ n ++ event ∷ [] → Timed n n' 0 0 c c'
-timed_shutdown event n n' c c' k h e = timed_noted event n n' 0 0 c c' (timed_one event 0 0 c c' h (rw k refl) refl) e
+pub timed_moment : (event : Event) (kind : EventKind) (n n' : List Event) (c c' : List ClockReading) → write_count kind ≡ 0 → event.kind ≡ kind → c' ≡ c ++ (event.at, event.secs) ∷ [] → n' ≡ n ++ event ∷ [] → Timed n n' 0 0 c c'
+timed_moment event kind n n' c c' w k h e = timed_noted event n n' 0 0 c c' (timed_one event 0 0 c c' h (rw k w) refl) e

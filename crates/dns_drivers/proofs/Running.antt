@@ -23,14 +23,14 @@ use Rattle.dns_drivers.specs.Closing.{closed_by}
 use Rattle.dns_drivers.specs.Links.{pieces_in, frame_octets}
 use Rattle.dns_drivers.specs.Rounds.{turned, turned_all}
 use Rattle.dns_drivers.specs.Runs.{Run, IsServed}
-use Rattle.dns_drivers.specs.Turning.{Begins}
+use Rattle.dns_drivers.specs.Turning.{BeginsOpen}
 use Rattle.dns_drivers.specs.Steps.{AllWide, HeardNews, Chosen, TakesEvent, Acted}
 use Rattle.dns_drivers.specs.Story.{Extra, LastOf, all_but_last}
 use Rattle.dns_drivers.specs.Woven.{kinds, own_kinds, news_kinds}
 use Rattle.dns_drivers.proofs.Appends.{own_append, all_of_append, seen_snoc, pieces_append, full_append, ticks_append, ends_append, faults_append, turned_append, all_but_snoc, woven_look, woven_own, after_append, sent_append, rounds_append, last_own, last_later, closed_more, gained_look, gained_none}
 use Rattle.dns_drivers.proofs.ByKind.{Does, event_does, fault_most}
-use Rattle.dns_drivers.proofs.Notings.{kinds_append}
-use Rattle.dns_drivers.proofs.Wide.{news_wide, quiet, frames_append, rounds_wide, do_same, NewsDo, news_do, news_last}
+use Rattle.dns_drivers.proofs.Notings.{kinds_append, news_wide}
+use Rattle.dns_drivers.proofs.Wide.{quiet, frames_append, rounds_wide, do_same, NewsDo, news_do, news_last}
 
 -- what the core does for a slate that it stands for, is what the noted events do
 pub record HeardAt {W R F : Type 0} (answer : PolledRequest F R → ℕ → Answer) (answers : Serving) (s : Slate) (why : Option Why) (over : Bool) (look : Look) (events : List Event) (core : ClientCore W R F) : Type 0 where
@@ -84,13 +84,13 @@ module _ {W R F : Type 0} (answer : PolledRequest F R → ℕ → Answer) (answe
   run_heard s client below first last last' why core core' n n1 n2 k k1 k2 t t1 r h =
       let y = r.story in
       let s1 : Slate = slate_after answers s y.events in
-      let wide : AllWide (kinds h.events) = rw h.news_are (news_wide last h.look) in
-      let still = quiet h.events wide in
-      let a = heard_at answer answers s1 why last h.look h.events core core' h.outs r.stands r.goes_on r.version r.over h.news_are (h.follows answers) h.closed in
-      let events : List Event = y.events ++ h.events in
-      let at_end : slate_after answers s events ≡ slate_after answers s1 h.events = after_append answers s y.events h.events in
+      let wide : AllWide (kinds h.news.events) = rw h.news.kinds_are (news_wide last h.look) in
+      let still = quiet h.news.events wide in
+      let a = heard_at answer answers s1 why last h.look h.news.events core core' h.sees.outs r.stands r.goes_on r.version r.over h.news.kinds_are (h.sees.follows answers) h.sees.closed in
+      let events : List Event = y.events ++ h.news.events in
+      let at_end : slate_after answers s events ≡ slate_after answers s1 h.news.events = after_append answers s y.events h.news.events in
       let count : length y.looks ≡ length (own_kinds y.events) = omega (arith, r.looked) in
-      let own_is : own_kinds events ≡ own_kinds y.events = own_append y.events h.events ∙ (rw still.own_are (append-nil (own_kinds y.events))) in
+      let own_is : own_kinds events ≡ own_kinds y.events = own_append y.events h.news.events ∙ (rw still.own_are (append-nil (own_kinds y.events))) in
       let more : length (y.looks ++ h.look ∷ []) ≡ length y.looks + 1 = length-append y.looks (h.look ∷ []) in
       let size : length (own_kinds events) ≡ length (own_kinds y.events) = ap length own_is in
       record {
@@ -98,33 +98,33 @@ module _ {W R F : Type 0} (answer : PolledRequest F R → ℕ → Answer) (answe
           events = events;
           looks = y.looks ++ h.look ∷ [];
           extra = [];
-          noted = rw (h.noted, y.noted) (append_assoc n y.events h.events);
-          mine = all_of_append client y.events h.events y.mine (still.of client);
+          noted = rw (h.news.noted, y.noted) (append_assoc n y.events h.news.events);
+          mine = all_of_append client y.events h.news.events y.mine (still.of client);
           calls = gained_look k k1 k2 y.looks h.look y.calls r.name h.called;
           woven = record {
-            same = rw (own_is, kinds_append y.events h.events, woven_look first h.look y.looks (own_kinds y.events) count, ← r.last_look, h.news_are, y.woven.same) refl;
+            same = rw (own_is, kinds_append y.events h.news.events, woven_look first h.look y.looks (own_kinds y.events) count, ← r.last_look, h.news.kinds_are, y.woven.same) refl;
             least = omega (arith, count, size, more);
             most = omega (arith, count, size, more);
           };
-          rounds = rounds_append answers 0 s y.events h.events y.rounds (rounds_wide answers (turned_all 0 y.events) s1 h.events wide);
-          closed = rw (sent_append answers s y.events h.events) (closed_more (sent_after answers s y.events) (sent_after answers s1 h.events) why y.closed a.closed);
-          last = last_later answers s y.events h.events why a.last;
-          came = rw (y.came, pieces_append y.events h.events, still.pieces_are, append-nil (pieces_in y.events)) refl;
-          full = full_append y.events h.events y.full still.full;
-          ticks = omega (arith, y.ticks, ticks_append y.events h.events, still.ticks_are);
-          ends = omega (arith, y.ends, ends_append y.events h.events, still.ends_are);
-          one_fault = let u = r.unbroken refl in omega (arith, u, faults_append y.events h.events, still.faults_are);
-          went = rw (y.went, y.cut, sent_append answers s y.events h.events, frames_append (sent_after answers s y.events) (sent_after answers s1 h.events), a.does.frameless) (simp append-nil);
+          rounds = rounds_append answers 0 s y.events h.news.events y.rounds (rounds_wide answers (turned_all 0 y.events) s1 h.news.events wide);
+          closed = rw (sent_append answers s y.events h.news.events) (closed_more (sent_after answers s y.events) (sent_after answers s1 h.news.events) why y.closed a.closed);
+          last = last_later answers s y.events h.news.events why a.last;
+          came = rw (y.came, pieces_append y.events h.news.events, still.pieces_are, append-nil (pieces_in y.events)) refl;
+          full = full_append y.events h.news.events y.full still.full;
+          ticks = omega (arith, y.ticks, ticks_append y.events h.news.events, still.ticks_are);
+          ends = omega (arith, y.ends, ends_append y.events h.news.events, still.ends_are);
+          one_fault = let u = r.unbroken refl in omega (arith, u, faults_append y.events h.news.events, still.faults_are);
+          went = rw (y.went, y.cut, sent_append answers s y.events h.news.events, frames_append (sent_after answers s y.events) (sent_after answers s1 h.news.events), a.does.frameless) (simp append-nil);
           cut = quiet_extra why (slate_after answers s (all_but_last events)).queue (λ z e. a.does.shut_only z (a.closed ∙ e));
         };
         name = h.called.same_name ∙ r.name;
         looked = omega (arith, count, size, more);
         last_look = h.last_is ∙ rw (seen_snoc first y.looks h.look, ← r.last_look) refl;
-        below_is = rw (turned_append 0 y.events h.events, still.turns (turned_all 0 y.events)) r.below_is;
+        below_is = rw (turned_append 0 y.events h.news.events, still.turns (turned_all 0 y.events)) r.below_is;
         stands = rw at_end a.stands;
-        version = rw h.last_is h.version;
+        version = rw h.last_is h.sees.version;
         over = rw (at_end, h.last_is) a.does.over;
-        unbroken = λ none. let u = r.unbroken refl in omega (arith, u, faults_append y.events h.events, still.faults_are);
+        unbroken = λ none. let u = r.unbroken refl in omega (arith, u, faults_append y.events h.news.events, still.faults_are);
         goes_on = rw at_end (rw a.closed at a.does.on);
       }
 
@@ -212,7 +212,7 @@ module _ {W R F : Type 0} (answer : PolledRequest F R → ℕ → Answer) (answe
 
   -- nothing came after the Offer
   pub run_none : (s : Slate) (client : ℕ) (first : Look) (core : ClientCore W R F) (n : List Event) (k : Known) (t : Traffic) →
-      Begins answer answers core first s →
+      BeginsOpen answer answers core first s →
       Run answer answers s client first first 0 0 None core n n k k t t
   run_none s client first core n k t b = record {
     story = record {

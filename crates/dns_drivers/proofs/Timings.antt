@@ -5,6 +5,7 @@ use Rattle.dns_service.specs.declared.event.Event.{Event}
 use Rattle.dns_service.specs.declared.event.EventKind.{EventKind}
 use Rattle.dns_service.specs.declared.event.EventKind.TheVariants.{Datagram, Turn, Offer, Piece, End, Fault, Close, Write, Tick, Release, Reconfigure, Shutdown}
 use Rattle.dns_drivers.specs.Clocks.{ClockReading, ComesAt, TookFrom, DatedBy, Dated, write_count, writes_in, faults_in, Timed, TimedOne, Waited, LateAt}
+use Rattle.dns_drivers.specs.Links.{IsReadEvent}
 
 pub comes_after : (rs qs : List ClockReading) (r : ClockReading) (rest : List ClockReading) → ComesAt rs r rest → ComesAt (rs ++ qs) r (rest ++ qs)
 comes_after rs qs r rest t = record {
@@ -184,18 +185,23 @@ timed_late client at secs f f' c c1 c2 start e a = record {
   count = let p = a.count in omega (arith, length-append a.before ((at, secs) ∷ []));
 }
 
--- the event of a read: a Piece, a Tick after a wait, an End, or a Fault
-pub timed_got : (event : Event) (o came : List ℕ) (w w' : Traffic) (c c' : List ClockReading) → event.kind ≡ Piece o → w' ≡ record w { came = came } → c' ≡ c ++ (event.at, event.secs) ∷ [] → TimedOne event w.full_writes w'.full_writes c c'
-timed_got event o came w w' c c' k e h = timed_one event w.full_writes w'.full_writes c c' h (rw k refl) (rw e refl)
+-- the event of a read
+read_counts : (kind : EventKind) → IsReadEvent kind → write_count kind ≡ 0
+read_counts (Datagram addr p) r = absurd r
+read_counts (Turn k) r = absurd r
+read_counts (Offer addr) r = absurd r
+read_counts (Piece p) r = refl
+read_counts End r = refl
+read_counts Fault r = refl
+read_counts Close r = absurd r
+read_counts (Write took) r = absurd r
+read_counts Tick r = refl
+read_counts Release r = absurd r
+read_counts (Reconfigure dgram stream) r = absurd r
+read_counts Shutdown r = absurd r
 
-pub timed_again : (event : Event) (k : ℕ) (w w1 w2 : Traffic) (c c' : List ClockReading) → event.kind ≡ Tick → w1 ≡ record w { empty_reads = k } → w2 ≡ w1 → c' ≡ c ++ (event.at, event.secs) ∷ [] → TimedOne event w.full_writes w2.full_writes c c'
-timed_again event k w w1 w2 c c' t e f h = timed_one event w.full_writes w2.full_writes c c' h (rw t refl) (rw (f, e) refl)
-
-pub timed_end : (event : Event) (k : ℕ) (w w1 : Traffic) (c c' : List ClockReading) → event.kind ≡ End → w1 ≡ record w { ends = k } → c' ≡ c ++ (event.at, event.secs) ∷ [] → TimedOne event w.full_writes w1.full_writes c c'
-timed_end event k w w1 c c' t e h = timed_one event w.full_writes w1.full_writes c c' h (rw t refl) (rw e refl)
-
-pub timed_fault : (event : Event) (w w1 : Traffic) (c c' : List ClockReading) → event.kind ≡ Fault → w1 ≡ w → c' ≡ c ++ (event.at, event.secs) ∷ [] → TimedOne event w.full_writes w1.full_writes c c'
-timed_fault event w w1 c c' t e h = timed_one event w.full_writes w1.full_writes c c' h (rw t refl) (rw e refl)
+pub timed_read : (event : Event) (kind : EventKind) (f f' : ℕ) (c c' : List ClockReading) → IsReadEvent kind → event.kind ≡ kind → f' ≡ f → c' ≡ c ++ (event.at, event.secs) ∷ [] → TimedOne event f f' c c'
+timed_read event kind f f' c c' r k e h = timed_one event f f' c c' h (rw k (read_counts kind r)) e
 
 pub timed_turn : (event : Event) (k f : ℕ) (c c' : List ClockReading) → event.kind ≡ Turn k → c' ≡ c ++ (event.at, event.secs) ∷ [] → TimedOne event f f c c'
 timed_turn event k f c c' e h = timed_one event f f c c' h (rw e refl) refl

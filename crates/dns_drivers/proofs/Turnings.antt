@@ -16,19 +16,19 @@ use Rattle.dns_drivers.specs.Runs.{Run, Going}
 use Rattle.dns_drivers.specs.Shown.{Causes}
 use Rattle.dns_drivers.specs.Steps.{HeardNews}
 use Rattle.dns_drivers.specs.Story.{Broken}
-use Rattle.dns_drivers.specs.Turning.{Turned, TurnedPart, TurnedFor, Begins, ClosingStory, LookedAndActed}
+use Rattle.dns_drivers.specs.Turning.{MadeTurn, TurnedPart, TurnedFor, BeginsOpen, ClosingStory, LookedAndActed}
 use Rattle.dns_drivers.proofs.Breaking.{broken_heard, broken_acted}
 use Rattle.dns_drivers.proofs.Goings.{Goes, goes_heard, goes_acted, heard_cause, acted_cause}
 use Rattle.dns_drivers.proofs.Running.{heard_at, run_none, run_heard, run_acted}
 use Rattle.dns_drivers.proofs.Showings.{shown_acted, shown_heard}
 
 module _ {W R F : Type 0} (answer : PolledRequest F R → ℕ → Answer) (answers : Serving) where
-  pub going_begun : (s : Slate) (client : ℕ) (first : Look) (core : ClientCore W R F) (n : List Event) (k : Known) (t : Traffic) → Begins answer answers core first s → Going answer answers s client first first 0 core n n k k t t
+  pub going_begun : (s : Slate) (client : ℕ) (first : Look) (core : ClientCore W R F) (n : List Event) (k : Known) (t : Traffic) → BeginsOpen answer answers core first s → Going answer answers s client first first 0 core n n k k t t
   going_begun s client first core n k t b = record { run = run_none answer answers s client first core n k t b; later = omega arith }
 
   -- one that does not close the connection
   pub going_turned : (s : Slate) (client below below' : ℕ) (first last last' : Look) (core core' : ClientCore W R F) (n n1 n2 : List Event) (k k1 k2 : Known) (t t1 t2 : Traffic) →
-      Going answer answers s client first last below core n n1 k k1 t t1 → Turned answer answers client below below' None core core' last last' n1 n2 k1 k2 t1 t2 →
+      Going answer answers s client first last below core n n1 k k1 t t1 → MadeTurn answer answers client below below' None core core' last last' n1 n2 k1 k2 t1 t2 →
       Going answer answers s client first last' below' core' n n2 k k2 t t2
   going_turned s client below below' first last last' core core' n n1 n2 k k1 k2 t t1 t2 g a = elim a.either [
     | inl x ↦ let e = x.why_is in absurd cc
@@ -43,7 +43,7 @@ module _ {W R F : Type 0} (answer : PolledRequest F R → ℕ → Answer) (answe
   heard_shutdown : (s : Slate) (client below : ℕ) (first last last' : Look) (why : Why) (core core' : ClientCore W R F) (n n1 n2 : List Event) (k k1 k2 : Known) (t t1 : Traffic) →
       Run answer answers s client first last 0 below None core n n1 k k1 t t1 → HeardNews answer (Some why) core core' last last' n1 n2 k1 k2 → why ≡ ByShutdown
   heard_shutdown s client below first last last' why core core' n n1 n2 k k1 k2 t t1 r h =
-      let a = heard_at answer answers (slate_after answers s r.story.events) (Some why) last h.look h.events core core' h.outs r.stands r.goes_on r.version r.over h.news_are (h.follows answers) h.closed in
+      let a = heard_at answer answers (slate_after answers s r.story.events) (Some why) last h.look h.news.events core core' h.sees.outs r.stands r.goes_on r.version r.over h.news.kinds_are (h.sees.follows answers) h.sees.closed in
       a.does.shut_only why a.closed
 
   closed_heard : (s : Slate) (client below : ℕ) (first last last' : Look) (why : Why) (core core' : ClientCore W R F) (n n1 n2 : List Event) (k k1 k2 : Known) (t t1 : Traffic) →
@@ -61,7 +61,7 @@ module _ {W R F : Type 0} (answer : PolledRequest F R → ℕ → Answer) (answe
 
   -- one that closes it
   pub closed_turned : (s : Slate) (client below below' : ℕ) (first last last' : Look) (why : Why) (core core' : ClientCore W R F) (n n1 n2 : List Event) (k k1 k2 : Known) (t t1 t2 : Traffic) → s.phase ≡ Open → s.received ≡ [] →
-      Going answer answers s client first last below core n n1 k k1 t t1 → Turned answer answers client below below' (Some why) core core' last last' n1 n2 k1 k2 t1 t2 → ClosingStory answers s client first why n n2 k k2 t t2
+      Going answer answers s client first last below core n n1 k k1 t t1 → MadeTurn answer answers client below below' (Some why) core core' last last' n1 n2 k1 k2 t1 t2 → ClosingStory answers s client first why n n2 k k2 t t2
   closed_turned s client below below' first last last' why core core' n n1 n2 k k1 k2 t t1 t2 p o g a = elim a.either [
     | inl x ↦ let e : why ≡ x.reason = (let h = x.why_is in cc) in rw (x.still, e) (closed_heard s client below first last last' x.reason core core' n n1 n2 k k1 k2 t t1 g.run x.heard)
     | inr x ↦ closed_acted s client below below' first last last' why core core' n n1 n2 k k1 k2 t t1 t2 p o g x

@@ -18,21 +18,17 @@ use Rattle.dns_client.specs.Slate.{Slate, Told, Phase, Unused, Exchange, Open, F
 use Rattle.dns_core.specs.Own.{is_wide}
 use Rattle.dns_drivers.specs.Clocks.{fault_count, faults_in}
 use Rattle.dns_drivers.specs.Closing.{closed_by}
-use Rattle.dns_drivers.specs.Links.{pieces_in, piece_octets, AllFull, IsFull, ticks_in, tick_count, ends_in, end_count, frame_octets}
+use Rattle.dns_drivers.specs.Links.{pieces_in, piece_octets, AllFull, HasOctets, ticks_in, tick_count, ends_in, end_count, frame_octets}
 use Rattle.dns_drivers.specs.Rounds.{May, turned, turned_all, Rounds}
 use Rattle.dns_drivers.specs.Runs.{MayGoOn, IsServed, ServesOn}
 use Rattle.dns_drivers.specs.Steps.{AllWide}
 use Rattle.dns_drivers.specs.Story.{LastCloses}
 use Rattle.dns_drivers.specs.Woven.{kinds, own_kinds, AllOf, news_kinds}
-use Rattle.dns_drivers.proofs.Notings.{version_wide, end_wide, both_wide, kinds_append}
-
-pub news_wide : (last look : Look) → AllWide (news_kinds last look)
-news_wide last look = rw (kinds_append (new_configurations last.version look) (new_end last.closed look)) (both_wide (kinds (new_configurations last.version look)) (kinds (new_end last.closed look)) (version_wide last.version look) (end_wide last.closed look))
 
 -- one of them says nothing of the link or the rounds
 record IsQuiet (k : EventKind) : Type 0 where
   piece : piece_octets k ≡ []
-  full : IsFull k
+  full : HasOctets k
   ticks : tick_count k ≡ 0
   ends : end_count k ≡ 0
   fault : fault_count k ≡ 0

@@ -11,19 +11,16 @@ use Rattle.dns_service.specs.Answer.{Answer}
 use Rattle.dns_service.specs.declared.event.Event.{Event}
 use Rattle.dns_service.specs.declared.event.EventKind.{EventKind}
 use Rattle.dns_service.specs.declared.event.EventKind.TheVariants.{Write, Fault}
-use Rattle.dns_service.specs.declared.event.Output.{Output}
 use Rattle.dns_service.specs.declared.event.Why.{Why}
 use Rattle.dns_service.specs.declared.polled.PolledRequest.{PolledRequest}
 use Rattle.dns_client.specs.Serving.{Serving}
 use Rattle.dns_client.specs.Slate.{Slate}
-use Rattle.dns_client.specs.News.{told_of}
-use Rattle.dns_client.specs.Stands.{Stands, GoesAs}
+use Rattle.dns_client.specs.Stands.{Stands}
 use Rattle.dns_client.specs.declared.client.ClientCore.{ClientCore}
 use Rattle.dns_core.specs.Own.{is_wide}
-use Rattle.dns_drivers.specs.Closing.{closed_by}
 use Rattle.dns_drivers.specs.Links.{front}
 use Rattle.dns_drivers.specs.Rounds.{May}
-use Rattle.dns_drivers.specs.Steps.{TakesEvent}
+use Rattle.dns_drivers.specs.Steps.{SeesLook, TakesEvent}
 use Rattle.dns_drivers.specs.declared.writing.WriteEnd.{WriteEnd}
 use Rattle.dns_drivers.specs.declared.writing.WriteEnd.TheVariants.{Failed, Late}
 
@@ -67,10 +64,8 @@ module _ {W R F : Type 0} (answer : PolledRequest F R → ℕ → Answer) where
   -- a look, whose news were heard
   pub record HeardFor (why : Option Why) (core core' : ClientCore W R F) (k k' : Known) : Type 0 where
     pub look : Look
-    pub outs : List Output
     pub called : Called k ToLook (LookReply look) k'
-    pub follows : (answers : Serving) → GoesAs answer answers core core' outs (told_of answers core.version look)
-    pub closed : closed_by outs ≡ why
+    pub sees : SeesLook answer core core' look why
 
 module _ {W R F : Type 0} (answer : PolledRequest F R → ℕ → Answer) (answers : Serving) where
   -- an own event that was taken

@@ -1,10 +1,11 @@
 -- What the loop of datagrams did from its start to now, and what each part of it does, wherever it began.
-use Rattle.std.specs.Prelude.{◌≡◌, ◌≤◌, ◌⊎◌, ℕ, ◌+◌, nat_eq, List, [], ◌∷◌, ◌++◌, take, Bool, true, false, Option, Some, None}
+use Rattle.std.specs.Prelude.{◌≡◌, ◌≤◌, ◌⊎◌, ℕ, ◌+◌, nat_eq, List, [], ◌∷◌, ◌++◌, take, Bool, true, false, ◌||◌, Option, Some, None, Result, Ok, Err}
 use Rattle.std.specs.List.{list_any}
-use Rattle.std.specs.Ordering.{nat_cmp}
-use Rattle.std.specs.BTreeMap.{get, keys}
 use Rattle.dns_name.specs.declared.address.SocketAddr.{SocketAddr}
 use Rattle.dns_admission.specs.declared.look.Look.{Look}
+use Rattle.dns_book.specs.declared.history.Known.{Known}
+use Rattle.dns_name.specs.declared.error.OutOfMemory.{OutOfMemory as No_memory}
+use Rattle.dns_outside.specs.Causes.{Rose}
 use Rattle.dns_outside.specs.Mail.{Mail}
 use Rattle.dns_service.specs.Answer.{Answer}
 use Rattle.dns_service.specs.declared.event.Event.{Event}
@@ -19,7 +20,8 @@ use Rattle.dns_drivers.specs.DatagramOrder.{Record, looked, acted, IsInOrder}
 use Rattle.dns_drivers.specs.DatagramsPolled.{waits}
 use Rattle.dns_drivers.specs.DatagramsSent.{settings_of, count_if}
 use Rattle.dns_drivers.specs.DatagramsServed.{World, LooksOnly, Clocked, Input, Delivered, CutOff, IsFull}
-use Rattle.dns_drivers.specs.DatagramSteps.{Keeps}
+use Rattle.dns_drivers.specs.Clocks.{ClockReading}
+use Rattle.dns_drivers.specs.DatagramSteps.{Keeps, SendsRose, Stamped, kept_at, numbers_of}
 use Rattle.dns_drivers.specs.declared.datagrams.running.Running.{Running}
 use Rattle.dns_drivers.specs.declared.datagrams.DgramEnd.{DgramEnd}
 use Rattle.dns_drivers.specs.declared.datagrams.DgramEnd.TheVariants.{Shutdown, Counted, Fault, OutOfMemory}
@@ -49,10 +51,36 @@ pub record Ordered (first : Look) (looks : List Look) (events : List Event) (hea
 abbrev pub Among : ℕ → List ℕ → Type 0
 Among c ns = list_any (nat_eq c) ns ≡ true
 
+-- Whatever socket, clock and recorder tell: the seat made looks and no other calls. A shutdown that was heard of stays so, and a new one was
+-- shown by one of these looks. The count of failed sends rose where a failed one is known of since, and else it is the same.
+pub record Passes {W R F : Type 0} (k k' : Known) (s s' : Running W R F) (f f' : ℕ) : Type 0 where
+  pub looks : List Look
+  pub made : LooksOnly k looks k'
+  pub over : s.heard.closed ≡ true → s'.heard.closed ≡ true
+  pub shown : s'.heard.closed ≡ true → (s.heard.closed || list_any (λ l. l.closed) looks) ≡ true
+  pub later : f ≤ f'
+  pub rose : SendsRose s.send_failed s'.send_failed f f'
+
+-- the count of failed receives rose where a receive or a round failed, and else it is the same
+abbrev pub ReceivedSo : Result Receipt No_memory → ℕ → ℕ → Type 0
+ReceivedSo (Ok Failed_receive) r r' = Rose r r'
+ReceivedSo (Ok Made) r r' = r' ≡ r
+ReceivedSo (Err e) r r' = r' ≡ r
+
+abbrev pub RoundedSo : Result Lap No_memory → ℕ → ℕ → Type 0
+RoundedSo (Ok Failed) r r' = Rose r r'
+RoundedSo (Ok Whole) r r' = r' ≡ r
+RoundedSo (Ok Over) r r' = r' ≡ r
+RoundedSo (Err e) r r' = r' ≡ r
+
+-- what is so of the world before an event was noted, which is the last thing that was done
+pub record SinceNoted (e : Event) (is : World → Type 0) (w : World) : Type 0 where
+  pub since : (n : List Event) (c : List ClockReading) → Stamped e n w.noted c w.readings → is (record w { noted = n; readings = c })
+
 module _ {W R F : Type 0} (answer : PolledRequest F R → ℕ → Answer) (answers : Serving) where
   -- what is kept is what the events left
   pub record Serves (settings : Settings) (events : List Event) (s : Running W R F) : Type 0 where
-    pub each : (c : ℕ) → Keeps answer answers (get nat_cmp s.exchanges c) (slate answers settings c events)
+    pub each : (c : ℕ) → Keeps answer answers (kept_at c s.exchanges.items) (slate answers settings c events)
     pub unused : (c : ℕ) → s.next ≤ c → (slate answers settings c events).phase ≡ Unused
     pub heard : conf settings events ≡ conf_of s.heard
 
@@ -95,7 +123,7 @@ module _ {W R F : Type 0} (answer : PolledRequest F R → ℕ → Answer) (answe
   -- the front of a datagram that was received before this world is noted, and begins an exchange
   pub record Begins (octets : List ℕ) (from : SocketAddr) (w : World) (s : Running W R F) (w' : World) (s' : Running W R F) : Type 0 where
     pub goes : (whole : List ℕ) (m : Mail) → octets ≡ take 1024 whole → w.mail ≡ record m { received = m.received ++ (record { octets = whole; addr = from }) ∷ [] }
-        → Goes (record w { mail = m }) s true [] w' s' false (keys s'.exchanges)
+        → Goes (record w { mail = m }) s true [] w' s' false (numbers_of s'.exchanges.items)
 
   pub record BeginFails (octets : List ℕ) (from : SocketAddr) (w : World) (s : Running W R F) (w' : World) : Type 0 where
     pub breaks : (whole : List ℕ) (m : Mail) → octets ≡ take 1024 whole → w.mail ≡ record m { received = m.received ++ (record { octets = whole; addr = from }) ∷ [] }
@@ -103,7 +131,7 @@ module _ {W R F : Type 0} (answer : PolledRequest F R → ℕ → Answer) (answe
 
   -- a receive; a round; the rounds; and the last polls
   abbrev pub Receives : Receipt → World → Running W R F → World → Running W R F → Type 0
-  Receives Made w s w' s' = Goes w s true [] w' s' false (keys s'.exchanges)
+  Receives Made w s w' s' = Goes w s true [] w' s' false (numbers_of s'.exchanges.items)
   Receives Failed_receive w s w' s' = Goes w s true [] w' s' true []
 
   abbrev pub Rounded : Lap → World → Running W R F → World → Running W R F → Type 0
@@ -120,14 +148,14 @@ module _ {W R F : Type 0} (answer : PolledRequest F R → ℕ → Answer) (answe
   Stopped Shutdown count w s w' s' = Idles w s w' s' × (s'.heard.closed ≡ true)
   Stopped Counted count w s w' s' = Idles w s w' s' × IsFull count s'.next
   Stopped Fault count w s w' s' = Idles w s w' s'
-  Stopped OutOfMemory count w s w' s' = ⊥
+  Stopped OutOfMemory count w s w' s' = Breaks w s false [] w'
 
   pub record Finished (w : World) (s : Running W R F) (w' : World) (s' : Running W R F) : Type 0 where
     pub goes : Goes w s false [] w' s' false []
-    pub none : (c : ℕ) → get nat_cmp s'.exchanges c ≡ None
+    pub none : (c : ℕ) → kept_at c s'.exchanges.items ≡ []
 
   abbrev pub Ended : DgramEnd → ℕ → World → Running W R F → World → Running W R F → Type 0
-  Ended Shutdown count w s w' s' = Idles w s w' s' × (s'.heard.closed ≡ true) × ((c : ℕ) → get nat_cmp s'.exchanges c ≡ None)
-  Ended Counted count w s w' s' = Idles w s w' s' × IsFull count s'.next × ((c : ℕ) → get nat_cmp s'.exchanges c ≡ None)
+  Ended Shutdown count w s w' s' = Idles w s w' s' × (s'.heard.closed ≡ true) × ((c : ℕ) → kept_at c s'.exchanges.items ≡ [])
+  Ended Counted count w s w' s' = Idles w s w' s' × IsFull count s'.next × ((c : ℕ) → kept_at c s'.exchanges.items ≡ [])
   Ended Fault count w s w' s' = Idles w s w' s'
-  Ended OutOfMemory count w s w' s' = ⊥
+  Ended OutOfMemory count w s w' s' = Breaks w s false [] w'

@@ -1,5 +1,5 @@
 -- What the parts of the loop of datagrams do to what recorder, socket, clock and seat tell.
-use Rattle.std.specs.Prelude.{◌≡◌, ◌≤◌, ℕ, ◌+◌, ◌-◌, ◌^◌, min, List, [], ◌∷◌, ◌++◌, length, Bool, true, false, ◌==◌, ◌||◌, if◌then◌else◌, is_some, Option, Some, None}
+use Rattle.std.specs.Prelude.{◌≡◌, ◌≤◌, ◌⊎◌, ℕ, ◌+◌, ◌-◌, ◌^◌, min, List, [], ◌∷◌, ◌++◌, length, drop, Bool, true, false, ◌==◌, ◌||◌, nat_eq, if◌then◌else◌, is_some, Option, Some, None}
 use Rattle.dns_name.specs.declared.address.SocketAddr.{SocketAddr}
 use Rattle.dns_admission.specs.declared.look.Look.{Look}
 use Rattle.dns_outside.specs.Causes.{Rose}
@@ -49,7 +49,7 @@ pub record Posts (letters : List Letter) (m m' : Mail) : Type 0 where
   pub sent : m'.sent ≡ m.sent ++ letters
   pub empty : m'.empty_receives ≡ m.empty_receives
 
--- how the sending of a letter ended: it was sent; a send failed; or so much time has passed since a moment
+-- how the sending of some letters ended, which are one or none: they were sent; a send failed; or so much time has passed since a moment
 pub record SentSo (letters : List Letter) (m m' : Mail) (c c' : List ClockReading) : Type 0 where
   pub posts : Posts letters m m'
   pub waited : Waited m.full_sends m'.full_sends c c'
@@ -59,15 +59,19 @@ pub record LateSo (at secs since limit : ℕ) (m m' : Mail) (c c' : List ClockRe
   pub waited : LateAt (at, secs) m.full_sends m'.full_sends c c'
   pub late : since + limit ≤ at
 
-abbrev pub SendsTo : SendEnd → Letter → ℕ → ℕ → Mail → Mail → List ClockReading → List ClockReading → Type 0
-SendsTo Sent letter since limit m m' c c' = SentSo (letter ∷ []) m m' c c'
-SendsTo Failed letter since limit m m' c c' = SentSo [] m m' c c'
-SendsTo (Late at secs) letter since limit m m' c c' = LateSo at secs since limit m m' c c'
+abbrev pub SendsTo : SendEnd → List Letter → ℕ → ℕ → Mail → Mail → List ClockReading → List ClockReading → Type 0
+SendsTo Sent letters since limit m m' c c' = SentSo letters m m' c c'
+SendsTo Failed letters since limit m m' c c' = SentSo [] m m' c c'
+SendsTo (Late at secs) letters since limit m m' c c' = LateSo at secs since limit m m' c c'
 
 -- the count of failed sends, by how the sending ended
 abbrev pub SendsCause : SendEnd → ℕ → ℕ → Type 0
 SendsCause Failed fails fails' = Rose fails fails'
 SendsCause _ fails fails' = fails' ≡ fails
+
+-- the count of failed sends, by whether one had failed before and whether one has failed now
+abbrev pub SendsRose : Bool → Bool → ℕ → ℕ → Type 0
+SendsRose before now fails fails' = ((now ≡ before) × (fails' ≡ fails)) ⊎ ((now ≡ true) × Rose fails fails')
 
 -- What an event led to was sent, or a Fault of its exchange was noted: late with a send that answered Again, or by a send that
 -- failed.
@@ -108,6 +112,20 @@ abbrev pub listed : {X : Type 0} → Option X → List X
 listed None = []
 listed (Some x) = x ∷ []
 
+-- the numbers of what is kept, and what is kept under a number
+abbrev pub numbers_of : {W R F : Type 0} → List (KeptExchange W R F) → List ℕ
+numbers_of [] = []
+numbers_of (x ∷ xs) = x.number ∷ numbers_of xs
+
+-- the numbers from a place on, and none where no place is left
+abbrev pub left_to : {W R F : Type 0} → Option ℕ → List (KeptExchange W R F) → List ℕ
+left_to None xs = []
+left_to (Some i) xs = drop i (numbers_of xs)
+
+abbrev pub kept_at : {W R F : Type 0} → ℕ → List (KeptExchange W R F) → List (KeptExchange W R F)
+kept_at c [] = []
+kept_at c (x ∷ xs) = if nat_eq c x.number then x ∷ kept_at c xs else kept_at c xs
+
 module _ {W R F : Type 0} (answer : PolledRequest F R → ℕ → Answer) (answers : Serving) where
   -- the core of an exchange that is unfinished, and the address that its datagrams go to
   pub record IsKeptOf (x : KeptExchange W R F) (s : Slate) : Type 0 where
@@ -116,17 +134,18 @@ module _ {W R F : Type 0} (answer : PolledRequest F R → ℕ → Answer) (answe
     pub phase_is : s.phase ≡ Exchange
     pub unfinished : is_finished s ≡ false
 
-  -- it is kept as long as the exchange is unfinished
-  abbrev pub Keeps : Option (KeptExchange W R F) → Slate → Type 0
-  Keeps None s = is_finished s ≡ true
-  Keeps (Some x) s = IsKeptOf x s
+  -- what is kept under a number is that one, as long as the exchange is unfinished, and nothing more
+  abbrev pub Keeps : List (KeptExchange W R F) → Slate → Type 0
+  Keeps [] s = is_finished s ≡ true
+  Keeps (x ∷ []) s = IsKeptOf x s
+  Keeps (x ∷ y ∷ xs) s = ⊥
 
   -- at each slate of which this was kept, the letter is what is sent, and of the slate after it this is kept
-  abbrev pub Leads : Option (KeptExchange W R F) → Option Letter → Option (KeptExchange W R F) → Slate → Told → Type 0
+  abbrev pub Leads : List (KeptExchange W R F) → Option Letter → List (KeptExchange W R F) → Slate → Told → Type 0
   Leads old letter new s t = Keeps old s → (letter ≡ letter_to (last_octets t.1) t.0.addr) × Keeps new t.0
 
   -- an event of an exchange
-  pub record Turned (e : Event) (old : Option (KeptExchange W R F)) (letter : Option Letter) (new : Option (KeptExchange W R F)) : Type 0 where
+  pub record Turned (e : Event) (old : List (KeptExchange W R F)) (letter : Option Letter) (new : List (KeptExchange W R F)) : Type 0 where
     pub leads : (s : Slate) → Leads old letter new s (rule answers e s)
 
   -- the same of one that is kept, and whether it is finished then
@@ -135,12 +154,18 @@ module _ {W R F : Type 0} (answer : PolledRequest F R → ℕ → Answer) (answe
     pub done_is : (s : Slate) → IsKeptOf old s → done ≡ is_finished (rule answers e s).0
     pub left : (s : Slate) → IsKeptOf old s → done ≡ false → IsKeptOf new (rule answers e s).0
 
-  -- the same at a number under which one may be kept
-  abbrev pub TurnedThere : Event → Option (KeptExchange W R F) → Option Letter → Bool → Option (KeptExchange W R F) → Type 0
-  TurnedThere e None letter done new = (letter ≡ None) × (done ≡ false) × (new ≡ None)
-  TurnedThere e (Some old) letter done None = ⊥
-  TurnedThere e (Some old) letter done (Some new) = TurnedOne e old letter done new
+  -- the same of the one at a place
+  pub record TurnedItem (at : ℕ) (e : Event) (old : List (KeptExchange W R F)) (letter : Option Letter) (done : Bool) (new : List (KeptExchange W R F)) : Type 0 where
+    pub before : List (KeptExchange W R F)
+    pub behind : List (KeptExchange W R F)
+    pub was : KeptExchange W R F
+    pub now : KeptExchange W R F
+    pub old_is : old ≡ before ++ was ∷ behind
+    pub new_is : new ≡ before ++ now ∷ behind
+    pub place : length before ≡ at
+    pub number : now.number ≡ was.number
+    pub turned : TurnedOne e was letter done now
 
   -- its datagram, by what was heard of the book
-  pub record Begun (heard : Look) (e : Event) (addr : SocketAddr) (octets : List ℕ) (old : Option (KeptExchange W R F)) (letter : Option Letter) (new : Option (KeptExchange W R F)) : Type 0 where
+  pub record Begun (heard : Look) (e : Event) (addr : SocketAddr) (octets : List ℕ) (old : List (KeptExchange W R F)) (letter : Option Letter) (new : List (KeptExchange W R F)) : Type 0 where
     pub leads : (s : Slate) → IsUnused s → s.conf ≡ conf_of heard → Leads old letter new s (datagram e.client addr e.at e.secs octets s)

@@ -1,9 +1,10 @@
 -- How the serving of datagrams ends, by what socket, clock, recorder and seat tell.
-use Rattle.std.specs.Prelude.{◌≡◌, ◌≢◌, ◌≤◌, ◌⊎◌, ℕ, ◌+◌, ◌-◌, ◌^◌, min, List, [], ◌∷◌, ◌++◌, length, true}
+use Rattle.std.specs.Prelude.{◌≡◌, ◌≢◌, ◌≤◌, ◌⊎◌, ℕ, ◌+◌, ◌-◌, ◌^◌, min, List, [], ◌∷◌, ◌++◌, length, Bool, true, false}
 use Rattle.std.specs.List.{list_any}
 use Rattle.dns_admission.specs.declared.look.Look.{Look}
 use Rattle.dns_book.specs.Gains.{Gained}
 use Rattle.dns_book.specs.declared.history.Known.{Known}
+use Rattle.dns_outside.specs.Causes.{Rose}
 use Rattle.dns_outside.specs.Mail.{Mail}
 use Rattle.dns_outside.specs.declared.sock.Letter.{Letter}
 use Rattle.dns_service.specs.declared.event.Event.{Event}
@@ -39,6 +40,28 @@ pub record OnlyLooks (k k' : Known) : Type 0 where
   pub looks : List Look
   pub made : LooksOnly k looks k'
 
+-- some look showed a shutdown
+abbrev pub ShowsShutdown : List Look → Type 0
+ShowsShutdown looks = list_any (λ l. l.closed) looks ≡ true
+
+-- the seat made looks and no other calls, and where the serving ended by a shutdown one of them showed it
+pub record LooksBy (end : DgramEnd) (k k' : Known) : Type 0 where
+  pub looks : List Look
+  pub made : LooksOnly k looks k'
+  pub shown : end ≡ Shutdown → ShowsShutdown looks
+
+-- the count of failed receives rose where the serving ended by a fault, and else it is the same
+abbrev pub ReceivesBy : DgramEnd → ℕ → ℕ → Type 0
+ReceivesBy Fault r r' = Rose r r'
+ReceivesBy Shutdown r r' = r' ≡ r
+ReceivesBy Counted r r' = r' ≡ r
+ReceivesBy OutOfMemory r r' = r' ≡ r
+
+-- a count rose where that is said, and else it is the same
+abbrev pub RoseIf : Bool → ℕ → ℕ → Type 0
+RoseIf true a b = Rose a b
+RoseIf false a b = b ≡ a
+
 -- each event carries a reading, in order; there are no more readings than events and sends that answered Again
 pub record Clocked (events : List Event) (c c' : List ClockReading) (full full' : ℕ) : Type 0 where
   pub readings : List ClockReading
@@ -69,10 +92,6 @@ module _ (answers : Serving) (settings : Settings) where
     pub again : m.full_sends + late ≤ m'.full_sends
     pub rose : min (fails + failed) (2 ^ 64 - 1) ≤ fails'
     pub early : early_faults answers settings events ≤ failed
-
--- some look showed a shutdown
-abbrev pub ShowsShutdown : List Look → Type 0
-ShowsShutdown looks = list_any (λ l. l.closed) looks ≡ true
 
 -- so many datagrams came, or as many as can be numbered
 abbrev pub IsFull : ℕ → ℕ → Type 0

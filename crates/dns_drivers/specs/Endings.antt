@@ -20,11 +20,6 @@ use Rattle.dns_drivers.specs.declared.connection.ConnectionEnd.TheVariants.{Clos
 abbrev pub offer : ℕ → SocketAddr → ℕ → ℕ → Event
 offer client addr at secs = record { at = at; secs = secs; client = client; kind = Offer addr }
 
--- the Offer of a moment was noted
-pub record NotedOffer (client : ℕ) (addr : SocketAddr) (at : ℕ) (n n' : List Event) : Type 0 where
-  pub secs : ℕ
-  pub noted : n' ≡ n ++ offer client addr at secs ∷ []
-
 -- the Offer was noted, and then a story that closes
 pub record WasOffered (answers : Serving) (why : Why) (client : ℕ) (addr : SocketAddr) (look : Look) (n n' : List Event) (k k' : Known) (t t' : Traffic) : Type 0 where
   pub at : ℕ

@@ -59,18 +59,20 @@ module _ {W R F : Type 0} (answer : PolledRequest F R → ℕ → Answer) where
     pub may : (answers : Serving) (s : Slate) → Stands answer answers core s → May below event.kind s
     pub moved : MovedBy event.kind (waiting core.state) (write_limit core.state) t t'
 
-  -- a look, whose news were noted and then heard
-  pub record HeardNews (why : Option Why) (core core' : ClientCore W R F) (last last' : Look) (n n' : List Event) (k k' : Known) : Type 0 where
-    pub look : Look
-    pub events : List Event
+  -- a core saw a look
+  pub record SeesLook (core core' : ClientCore W R F) (look : Look) (why : Option Why) : Type 0 where
     pub outs : List Output
-    pub called : Called k ToLook (Shown look) k'
-    pub news_are : kinds events ≡ news_kinds last look
-    pub last_is : last' ≡ seen_with last look
-    pub noted : n' ≡ n ++ events
     pub follows : (answers : Serving) → GoesAs answer answers core core' outs (told_of answers core.version look)
     pub version : core'.version ≡ look.version
     pub closed : closed_by outs ≡ why
+
+  -- a look, whose news were noted and then heard
+  pub record HeardNews (why : Option Why) (core core' : ClientCore W R F) (last last' : Look) (n n' : List Event) (k k' : Known) : Type 0 where
+    pub look : Look
+    pub called : Called k ToLook (Shown look) k'
+    pub last_is : last' ≡ seen_with last look
+    pub news : NotedKinds (news_kinds last look) n n'
+    pub sees : SeesLook core core' look why
 
   -- one own event for which memory ran out: octets that were read, or an event that may have been noted
   pub record ActedEvent (client below : ℕ) (core : ClientCore W R F) (n n' : List Event) (t t' : Traffic) : Type 0 where

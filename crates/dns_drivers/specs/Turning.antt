@@ -32,7 +32,7 @@ module _ {W R F : Type 0} (answer : PolledRequest F R → ℕ → Answer) (answe
     pub acted : Acted answer answers client below below' why between core' seen n' t t'
     pub wrote : NotedWrite answer between seen n' t t'
 
-  pub record Turned (client below below' : ℕ) (why : Option Why) (core core' : ClientCore W R F) (last last' : Look) (n n' : List Event) (k k' : Known) (t t' : Traffic) : Type 0 where
+  pub record MadeTurn (client below below' : ℕ) (why : Option Why) (core core' : ClientCore W R F) (last last' : Look) (n n' : List Event) (k k' : Known) (t t' : Traffic) : Type 0 where
     pub either : ClosedByLook why core core' last last' n n' k k' t t' ⊎ LookedAndActed client below below' why core core' last last' n n' k k' t t'
 
   -- memory ran out, at the look, or at the own event
@@ -62,7 +62,7 @@ module _ {W R F : Type 0} (answer : PolledRequest F R → ℕ → Answer) (answe
     pub either : ClosedByLookFor why core core' k k' faults faults' ⊎ LookedAndActedFor why core core' k k' faults faults'
 
   -- a story begins at a slate of an open connection: the core stands for it, and knows what was seen
-  pub record Begins (core : ClientCore W R F) (last : Look) (s : Slate) : Type 0 where
+  pub record BeginsOpen (core : ClientCore W R F) (last : Look) (s : Slate) : Type 0 where
     pub stands : Stands answer answers core s
     pub version : core.version ≡ last.version
     pub over : s.conf.over ≡ last.closed

@@ -83,7 +83,7 @@ fn next_request<W: Served>(core: &ClientCore<W>, last: Option<u64>) -> Option<u6
     }
 }
 
-#[tactic(auto, using(crate::proofs::Choices::chosen_write, crate::proofs::Blamings::for_write, crate::proofs::Blamings::for_turn, crate::proofs::Blamings::for_read, crate::proofs::Blamings::first_write, crate::proofs::Blamings::first_turn, crate::proofs::Blamings::first_read))]
+#[tactic(auto, using(crate::proofs::Choices::chosen_write, crate::proofs::Blamings::for_write, crate::proofs::Blamings::first_write, crate::proofs::Blamings::first_turn))]
 /// Writes the first frame that waits; where none does, polls the next request; where none is left, makes one read. The
 /// event says what was done, and is not noted yet.
 fn own_event<R: Wait, L: Link, C: Clock, W: Served>(
@@ -104,18 +104,11 @@ fn own_event<R: Wait, L: Link, C: Clock, W: Served>(
     ensures no_memory { OnErr result (Tells (L.tells link.new) (L.tells link.old) (Unread (L.traffic link.old) (L.traffic link.new))) }
 {
     if let Some(frame) = core.front_frame() {
-        let event = write_event(rt, client, link, clock, frame, core.write_timeout());
-        return Ok(event);
+        return Ok(write_event(rt, client, link, clock, frame, core.write_timeout()));
     }
     match next_request(core, last) {
-        Some(request) => {
-            let event = now_is(clock, client, EventKind::Turn { request });
-            Ok(event)
-        }
-        None => {
-            let event = read_event(rt, alloc, client, link, clock)?;
-            Ok(event)
-        }
+        Some(request) => Ok(now_is(clock, client, EventKind::Turn { request })),
+        None => read_event(rt, alloc, client, link, clock),
     }
 }
 
@@ -130,7 +123,7 @@ fn after_event(last: Option<u64>, kind: &EventKind) -> Option<u64>
     }
 }
 
-#[tactic(auto, using(crate::proofs::Choices::acted, crate::proofs::Choices::part_read, crate::proofs::Choices::part_taken, crate::proofs::Timings::timed_noted, crate::proofs::Blamings::noted_write, crate::proofs::Blamings::acted_for))]
+#[tactic(auto, using(crate::proofs::Choices::part_read))]
 /// Does one own event. It is noted before the core takes it.
 pub(crate) fn act<R: Wait, L: Link, C: Clock, J: Recorder, W: Served>(
     rt: &R,
@@ -156,7 +149,8 @@ pub(crate) fn act<R: Wait, L: Link, C: Clock, J: Recorder, W: Served>(
         (ActedPart (request_answer W.Future.answer W.Stream.answer) client (below_of turn.old) core.old
         (J.noted journal.old) (J.noted journal.new) (L.traffic link.old) (L.traffic link.new))) }
 {
-    let event = own_event(rt, alloc, client, core, *turn, link, clock)?;
-    let why = hand_over(alloc, core, service, turn, journal, event)?;
-    Ok(why)
+    match own_event(rt, alloc, client, core, *turn, link, clock) {
+        Ok(event) => hand_over(alloc, core, service, turn, journal, event),
+        Err(error) => Err(error),
+    }
 }

@@ -1,16 +1,16 @@
 //! One connection is served.
 
-ghost use Rattle.std.specs.Prelude.{◌≡◌, false, Some, IfOk, OnErr};
+ghost use Rattle.std.specs.Prelude.{◌≡◌, false, IfOk, OnErr};
 ghost use Rattle.dns_outside.specs.Causes.{Tells};
 ghost use Rattle.dns_client.specs.Serving.{serving};
 ghost use Rattle.dns_drivers.specs.Clocks.{Timed, TimedWhole};
-ghost use Rattle.dns_drivers.specs.Story.{Story, Broken, LooksAlone, LooksAndRelease, began};
-ghost use Rattle.dns_drivers.specs.Endings.{NotedOffer, WasOffered, Unserved, EndsSo, WhereClosed, ShownFrom, EndShown, EndCauses};
-ghost use Rattle.dns_drivers.specs.Shown.{Shown, Causes};
+ghost use Rattle.dns_drivers.specs.Story.{LooksAlone, LooksAndRelease};
+ghost use Rattle.dns_drivers.specs.Endings.{WasOffered, Unserved, EndsSo, WhereClosed, ShownFrom, EndShown, EndCauses};
+ghost use Rattle.dns_drivers.specs.Shown.{Causes};
 
-use crate::moments::now_is;
+use crate::moments::note_moment;
 use crate::recorder::Recorder;
-use crate::turning::serve_core;
+use crate::turning::serve_rounds;
 use dns_admission::Look;
 use dns_book::{Book, BookSeat};
 use dns_client::ClientCore;
@@ -29,65 +29,7 @@ pub enum ConnectionEnd {
     OutOfMemory,
 }
 
-/// Serves a connection whose Offer was noted at a moment.
-fn serve_rounds<R: Wait, L: Link, C: Clock, J: Recorder, W: Served>(
-    rt: &R,
-    alloc: Global,
-    book: &Book,
-    seat: &mut BookSeat,
-    client: u64,
-    addr: SocketAddr,
-    at: u64,
-    look: &Look,
-    service: &W,
-    link: &mut L,
-    clock: &mut C,
-    journal: &mut J,
-) -> Result<Why, OutOfMemory>
-    requires book { seat.old.book ≡ book.now }
-    requires running { look.now.closed ≡ false }
-    requires can_call { W.can_call service.now }
-    ensures told { IfOk result (λ why. Tells (L.tells link.new × J.tells journal.new) (L.tells link.old × J.tells journal.old)
-        (Story (serving (W.answer service.now) (W.hint service.now)) (began client addr at look.now) client look.now (Some why)
-        (J.noted journal.old) (J.noted journal.new) seat.old.known seat.new.known (L.traffic link.old) (L.traffic link.new))) }
-    ensures clock { IfOk result (λ why. Tells (L.tells link.new × C.tells clock.new × J.tells journal.new) (L.tells link.old × C.tells clock.old × J.tells journal.old)
-        (Timed (J.noted journal.old) (J.noted journal.new) (L.traffic link.old).full_writes (L.traffic link.new).full_writes (C.readings clock.old) (C.readings clock.new))) }
-    ensures no_memory { OnErr result (Tells (L.tells link.new × J.tells journal.new) (L.tells link.old × J.tells journal.old)
-        (Broken (serving (W.answer service.now) (W.hint service.now)) (began client addr at look.now) client
-        (J.noted journal.old) (J.noted journal.new) (L.traffic link.old) (L.traffic link.new))) }
-    ensures shown { IfOk result (λ why. Tells (L.tells link.new × J.tells journal.new) (L.tells link.old × J.tells journal.old)
-        (Shown (serving (W.answer service.now) (W.hint service.now)) (began client addr at look.now) why (J.noted journal.old) (J.noted journal.new) (L.traffic link.old) (L.traffic link.new))) }
-    ensures cause { IfOk result (λ why. Causes why seat.old.known seat.new.known (L.faults link.old) (L.faults link.new)) }
-    ensures seat { LooksAlone seat.old.known seat.new.known }
-    ensures same { seat.new.book ≡ seat.old.book }
-{
-    let mut core: ClientCore<W> = ClientCore::admit(alloc, client, addr, at, look)?;
-    let mut last = *look;
-    serve_core(
-        rt, alloc, book, seat, client, &mut core, &mut last, service, link, clock, journal,
-    )
-}
-
-#[tactic(auto, using(crate::proofs::Ends::noted_offer, crate::proofs::Ends::timed_offer))]
-/// Notes the Offer. The answer is its moment.
-fn note_offer<C: Clock, J: Recorder>(
-    alloc: Global,
-    client: u64,
-    addr: SocketAddr,
-    clock: &mut C,
-    journal: &mut J,
-) -> Result<u64, OutOfMemory>
-    ensures told { IfOk result (λ at. Tells (J.tells journal.new) (J.tells journal.old) (NotedOffer client addr at (J.noted journal.old) (J.noted journal.new))) }
-    ensures clock { IfOk result (λ at. Tells (C.tells clock.new × J.tells journal.new) (C.tells clock.old × J.tells journal.old)
-        (Timed (J.noted journal.old) (J.noted journal.new) 0 0 (C.readings clock.old) (C.readings clock.new))) }
-    ensures no_memory { OnErr result (Tells (J.tells journal.new) (J.tells journal.old) (J.noted journal.new ≡ J.noted journal.old)) }
-{
-    let offer = now_is(clock, client, EventKind::Offer { addr });
-    journal.note(alloc, &offer)?;
-    Ok(offer.at)
-}
-
-#[tactic(auto, using(crate::proofs::Ends::offered, crate::proofs::Ends::shown_offered, crate::proofs::Ends::unserved_early, crate::proofs::Ends::unserved_late))]
+#[tactic(auto, using(crate::proofs::Ends::unserved_early))]
 /// Notes the Offer, and serves the connection.
 fn serve_offer<R: Wait, L: Link, C: Clock, J: Recorder, W: Served>(
     rt: &R,
@@ -119,13 +61,16 @@ fn serve_offer<R: Wait, L: Link, C: Clock, J: Recorder, W: Served>(
     ensures seat { LooksAlone seat.old.known seat.new.known }
     ensures same { seat.new.book ≡ seat.old.book }
 {
-    let at = note_offer(alloc, client, addr, clock, journal)?;
-    let why = serve_rounds(
-        rt, alloc, book, seat, client, addr, at, look, service, link, clock, journal,
-    )?;
-    Ok(why)
+    let at = note_moment(alloc, client, EventKind::Offer { addr }, clock, journal)?;
+    match ClientCore::admit(alloc, client, addr, at, look) {
+        Ok(core) => serve_rounds(
+            rt, alloc, book, seat, client, core, look, service, link, clock, journal,
+        ),
+        Err(error) => Err(error),
+    }
 }
 
+#[tactic(auto, using(crate::proofs::Ends::looks_release, crate::proofs::Goings::cause_released))]
 /// Serves one connection until it is closed, by a look that shows no shutdown. Then its slot is given back and the link
 /// closed. Each turn is one look and one own event: a frame that waits is written; where none waits, the next request of
 /// this round is polled; where none is left, one read is made, which ends the round.

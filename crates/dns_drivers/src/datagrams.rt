@@ -1,11 +1,11 @@
 //! Datagrams are served.
 
-ghost use Rattle.std.specs.Prelude.{◌≡◌, ◌≤◌, [], false, IfOk, OnErr};
+ghost use Rattle.std.specs.Prelude.{◌≡◌, ◌≤◌, true};
 ghost use Rattle.dns_client.specs.Serving.{serving};
 ghost use Rattle.dns_outside.specs.Causes.{Rose, Tells};
 ghost use Rattle.dns_service.specs.PolledRequest.{request_answer};
-ghost use Rattle.dns_drivers.specs.DatagramLoop.{Ended, Breaks};
-ghost use Rattle.dns_drivers.specs.DatagramsServed.{CutOff, OnlyLooks, ServedTo, world};
+ghost use Rattle.dns_drivers.specs.DatagramLoop.{Ended, Passes};
+ghost use Rattle.dns_drivers.specs.DatagramsServed.{LooksBy, ReceivesBy, RoseIf, ServedTo, world};
 
 mod exchanges;
 mod looks;
@@ -20,9 +20,10 @@ use crate::datagrams::polls::finish;
 use crate::datagrams::receipts::take_all;
 use crate::datagrams::running::{Running, begun};
 use crate::recorder::Recorder;
+use dns_admission::Look;
 use dns_book::{Book, BookSeat};
 use dns_outside::{AsyncDgramSock, Clock};
-use dns_service::{OutOfMemory, Served};
+use dns_service::Served;
 use std::alloc::Global;
 use std::sync::Wait;
 
@@ -42,7 +43,6 @@ pub enum DgramEnd {
 /// How many octets of a datagram are received.
 const ROOM: usize = 1024;
 
-#[tactic(auto, using(crate::proofs::DatagramSeats::only_then))]
 /// All that comes after the news of the first look.
 fn serve_all<R: Wait, D: AsyncDgramSock, C: Clock, J: Recorder, W: Served>(
     rt: &R,
@@ -55,36 +55,34 @@ fn serve_all<R: Wait, D: AsyncDgramSock, C: Clock, J: Recorder, W: Served>(
     journal: &mut J,
     state: &mut Running<W>,
     count: u64,
-) -> Result<DgramEnd, OutOfMemory>
+) -> DgramEnd
     requires book { seat.old.book ≡ book.now }
     requires can_call { W.can_call service.now }
-    ensures seat { OnlyLooks seat.old.known seat.new.known }
+    ensures passes { Passes seat.old.known seat.new.known state.old state.new (D.failed_sends sock.old) (D.failed_sends sock.new) }
     ensures book { seat.new.book ≡ seat.old.book }
     ensures receives { D.failed_receives sock.old ≤ D.failed_receives sock.new }
-    ensures sends { D.failed_sends sock.old ≤ D.failed_sends sock.new }
-    ensures cause { IfOk result (λ end. end ≡ DgramEnd.Fault → Rose (D.failed_receives sock.old) (D.failed_receives sock.new)) }
-    ensures told { IfOk result (λ end. Tells (D.tells sock.new × C.tells clock.new × J.tells journal.new) (D.tells sock.old × C.tells clock.old × J.tells journal.old)
-        (Ended (request_answer W.Future.answer W.Stream.answer) (serving (W.answer service.now) (W.hint service.now)) end count
+    ensures cause { ReceivesBy result (D.failed_receives sock.old) (D.failed_receives sock.new) }
+    ensures closed { result ≡ DgramEnd.Shutdown → state.new.heard.closed ≡ true }
+    ensures told { Tells (D.tells sock.new × C.tells clock.new × J.tells journal.new) (D.tells sock.old × C.tells clock.old × J.tells journal.old)
+        (Ended (request_answer W.Future.answer W.Stream.answer) (serving (W.answer service.now) (W.hint service.now)) result count
         (world (J.noted journal.old) (D.mail sock.old) (D.failed_sends sock.old) (C.readings clock.old) seat.old.known) state.old
-        (world (J.noted journal.new) (D.mail sock.new) (D.failed_sends sock.new) (C.readings clock.new) seat.new.known) state.new)) }
-    ensures no_memory { OnErr result (Tells (D.tells sock.new × C.tells clock.new × J.tells journal.new) (D.tells sock.old × C.tells clock.old × J.tells journal.old)
-        (Breaks (request_answer W.Future.answer W.Stream.answer) (serving (W.answer service.now) (W.hint service.now))
-        (world (J.noted journal.old) (D.mail sock.old) (D.failed_sends sock.old) (C.readings clock.old) seat.old.known) state.old false []
-        (world (J.noted journal.new) (D.mail sock.new) (D.failed_sends sock.new) (C.readings clock.new) seat.new.known))) }
+        (world (J.noted journal.new) (D.mail sock.new) (D.failed_sends sock.new) (C.readings clock.new) seat.new.known) state.new) }
 {
     let mut buf = [0u8; ROOM];
     let end = take_all(
         rt, alloc, book, seat, service, sock, clock, journal, state, &mut buf, count,
-    )?;
-    if let DgramEnd::Fault = end {
-        return Ok(DgramEnd::Fault);
+    );
+    match end {
+        DgramEnd::Fault => DgramEnd::Fault,
+        DgramEnd::OutOfMemory => DgramEnd::OutOfMemory,
+        _ => match finish(rt, alloc, book, seat, service, sock, clock, journal, state) {
+            Ok(()) => end,
+            Err(_) => DgramEnd::OutOfMemory,
+        },
     }
-    finish(rt, alloc, book, seat, service, sock, clock, journal, state)?;
-    Ok(end)
 }
 
-#[tactic(auto, using(crate::proofs::DatagramSeats::only_one, crate::proofs::DatagramSeats::only_then))]
-/// Serves from a seat, beginning with its first look.
+/// Serves from a seat, beginning with its first look. Whether a send failed is given too.
 fn serve_seat<R: Wait, D: AsyncDgramSock, C: Clock, J: Recorder, W: Served>(
     rt: &R,
     alloc: Global,
@@ -95,32 +93,69 @@ fn serve_seat<R: Wait, D: AsyncDgramSock, C: Clock, J: Recorder, W: Served>(
     clock: &mut C,
     journal: &mut J,
     count: u64,
-) -> Result<DgramEnd, OutOfMemory>
+) -> (DgramEnd, bool)
     requires book { seat.old.book ≡ book.now }
     requires can_call { W.can_call service.now }
-    ensures seat { OnlyLooks seat.old.known seat.new.known }
+    ensures seat { LooksBy result.0 seat.old.known seat.new.known }
     ensures book { seat.new.book ≡ seat.old.book }
     ensures receives { D.failed_receives sock.old ≤ D.failed_receives sock.new }
+    ensures cause { ReceivesBy result.0 (D.failed_receives sock.old) (D.failed_receives sock.new) }
     ensures sends { D.failed_sends sock.old ≤ D.failed_sends sock.new }
-    ensures cause { IfOk result (λ end. end ≡ DgramEnd.Fault → Rose (D.failed_receives sock.old) (D.failed_receives sock.new)) }
-    ensures told { IfOk result (λ end. Tells (D.tells sock.new × C.tells clock.new × J.tells journal.new) (D.tells sock.old × C.tells clock.old × J.tells journal.old)
-        (ServedTo (serving (W.answer service.now) (W.hint service.now)) end count
+    ensures rose { RoseIf result.1 (D.failed_sends sock.old) (D.failed_sends sock.new) }
+    ensures told { Tells (D.tells sock.new × C.tells clock.new × J.tells journal.new) (D.tells sock.old × C.tells clock.old × J.tells journal.old)
+        (ServedTo (serving (W.answer service.now) (W.hint service.now)) result.0 count
         (world (J.noted journal.old) (D.mail sock.old) (D.failed_sends sock.old) (C.readings clock.old) seat.old.known)
-        (world (J.noted journal.new) (D.mail sock.new) (D.failed_sends sock.new) (C.readings clock.new) seat.new.known))) }
-    ensures no_memory { OnErr result (Tells (D.tells sock.new × C.tells clock.new × J.tells journal.new) (D.tells sock.old × C.tells clock.old × J.tells journal.old)
-        (CutOff (serving (W.answer service.now) (W.hint service.now))
-        (world (J.noted journal.old) (D.mail sock.old) (D.failed_sends sock.old) (C.readings clock.old) seat.old.known)
-        (world (J.noted journal.new) (D.mail sock.new) (D.failed_sends sock.new) (C.readings clock.new) seat.new.known))) }
+        (world (J.noted journal.new) (D.mail sock.new) (D.failed_sends sock.new) (C.readings clock.new) seat.new.known)) }
 {
     let first = book.look(rt, seat);
-    let mut state: Running<W> = begun(alloc, &first);
-    hear_news(alloc, clock, journal, &mut state.heard, &first)?;
+    let mut heard = Look {
+        closed: false,
+        ..first
+    };
+    let Ok(()) = hear_news(alloc, clock, journal, &mut heard, &first) else {
+        return (DgramEnd::OutOfMemory, false);
+    };
+    let mut state: Running<W> = begun(alloc, heard);
     let end = serve_all(
         rt, alloc, book, seat, service, sock, clock, journal, &mut state, count,
-    )?;
-    Ok(end)
+    );
+    (end, state.send_failed)
 }
 
+/// Serves datagrams as `serve_datagrams` does, and says whether a send failed.
+pub fn serve_datagrams_and_say<R: Wait, D: AsyncDgramSock, C: Clock, J: Recorder, W: Served>(
+    rt: &R,
+    alloc: Global,
+    book: &Book,
+    mut seat: BookSeat,
+    service: &W,
+    sock: &mut D,
+    clock: &mut C,
+    journal: &mut J,
+    count: u64,
+) -> (BookSeat, DgramEnd, bool)
+    requires book { seat.book ≡ book.now }
+    requires can_call { W.can_call service.now }
+    // Where socket, clock and recorder tell.
+    ensures told { Tells (D.tells sock.new × C.tells clock.new × J.tells journal.new) (D.tells sock.old × C.tells clock.old × J.tells journal.old)
+        (ServedTo (serving (W.answer service.now) (W.hint service.now)) result.1 count
+        (world (J.noted journal.old) (D.mail sock.old) (D.failed_sends sock.old) (C.readings clock.old) seat.known)
+        (world (J.noted journal.new) (D.mail sock.new) (D.failed_sends sock.new) (C.readings clock.new) result.0.known)) }
+    // Always.
+    ensures seat { LooksBy result.1 seat.known result.0.known }
+    ensures same { result.0.book ≡ seat.book }
+    ensures cause { ReceivesBy result.1 (D.failed_receives sock.old) (D.failed_receives sock.new) }
+    ensures rose { RoseIf result.2 (D.failed_sends sock.old) (D.failed_sends sock.new) }
+    ensures receives { D.failed_receives sock.old ≤ D.failed_receives sock.new }
+    ensures sends { D.failed_sends sock.old ≤ D.failed_sends sock.new }
+{
+    let (end, send_failed) = serve_seat(
+        rt, alloc, book, &mut seat, service, sock, clock, journal, count,
+    );
+    (seat, end, send_failed)
+}
+
+#[tactic(auto, using(crate::proofs::DatagramPasses::fault_rose))]
 /// Serves datagrams until a look shows a shutdown, a receive fails, or so many came, where the count isn't 0. Each receive and
 /// each poll has a look before it, whose news are noted at once. Between two receives each unfinished exchange is polled once, by
 /// rising number. After a shutdown or the last datagram each is polled to its end.
@@ -128,7 +163,7 @@ pub fn serve_datagrams<R: Wait, D: AsyncDgramSock, C: Clock, J: Recorder, W: Ser
     rt: &R,
     alloc: Global,
     book: &Book,
-    mut seat: BookSeat,
+    seat: BookSeat,
     service: &W,
     sock: &mut D,
     clock: &mut C,
@@ -143,16 +178,14 @@ pub fn serve_datagrams<R: Wait, D: AsyncDgramSock, C: Clock, J: Recorder, W: Ser
         (world (J.noted journal.old) (D.mail sock.old) (D.failed_sends sock.old) (C.readings clock.old) seat.known)
         (world (J.noted journal.new) (D.mail sock.new) (D.failed_sends sock.new) (C.readings clock.new) result.0.known)) }
     // Always.
-    ensures seat { OnlyLooks seat.known result.0.known }
+    ensures seat { LooksBy result.1 seat.known result.0.known }
     ensures same { result.0.book ≡ seat.book }
     ensures cause { result.1 ≡ DgramEnd.Fault → Rose (D.failed_receives sock.old) (D.failed_receives sock.new) }
     ensures receives { D.failed_receives sock.old ≤ D.failed_receives sock.new }
     ensures sends { D.failed_sends sock.old ≤ D.failed_sends sock.new }
 {
-    match serve_seat(
-        rt, alloc, book, &mut seat, service, sock, clock, journal, count,
-    ) {
-        Ok(end) => (seat, end),
-        Err(_) => (seat, DgramEnd::OutOfMemory),
-    }
+    let (seat, end, _) = serve_datagrams_and_say(
+        rt, alloc, book, seat, service, sock, clock, journal, count,
+    );
+    (seat, end)
 }

@@ -2,17 +2,15 @@
 
 ghost use Rattle.std.specs.Prelude.{◌≡◌, OnOk, OnErr, IfOk};
 ghost use Rattle.dns_outside.specs.Causes.{Tells};
-ghost use Rattle.dns_book.specs.Seats.{Called};
-ghost use Rattle.dns_client.specs.Serving.{serving};
 ghost use Rattle.dns_client.specs.News.{new_configurations, new_end};
 ghost use Rattle.dns_service.specs.PolledRequest.{request_answer};
 ghost use Rattle.dns_drivers.specs.Blames.{HeardFor};
 ghost use Rattle.dns_drivers.specs.Clocks.{Timed};
-ghost use Rattle.dns_drivers.specs.Woven.{seen_with, kinds};
-ghost use Rattle.dns_drivers.specs.Steps.{NotedKinds, NotedWide, HeardNews, LookedOnce};
+ghost use Rattle.dns_drivers.specs.Woven.{seen_with, kinds, news_kinds};
+ghost use Rattle.dns_drivers.specs.Steps.{NotedKinds, NotedWide, SeesLook, HeardNews, LookedOnce};
 
 use crate::closing::closed_by;
-use crate::moments::now_is;
+use crate::moments::note_moment;
 use crate::recorder::Recorder;
 use dns_admission::Look;
 use dns_book::{Book, BookSeat};
@@ -22,7 +20,7 @@ use dns_service::{EventKind, OutOfMemory, Served, Why};
 use std::alloc::Global;
 use std::sync::Wait;
 
-#[tactic(auto, using(crate::proofs::Notings::noted_none, crate::proofs::Notings::noted_one, crate::proofs::Timings::timed_none, crate::proofs::Notings::timed_version, crate::proofs::Notings::timed_shutdown))]
+#[tactic(auto, using(crate::proofs::Notings::noted_none, crate::proofs::Notings::noted_kind, crate::proofs::Timings::timed_none))]
 /// Notes the configurations, where their version is new.
 pub(crate) fn note_version<C: Clock, J: Recorder>(
     alloc: Global,
@@ -45,12 +43,11 @@ pub(crate) fn note_version<C: Clock, J: Recorder>(
         dgram: look.dgram,
         stream: look.stream,
     };
-    let event = now_is(clock, 0, kind);
-    journal.note(alloc, &event)?;
+    note_moment(alloc, 0, kind, clock, journal)?;
     Ok(())
 }
 
-#[tactic(auto, using(crate::proofs::Notings::noted_none, crate::proofs::Notings::noted_one, crate::proofs::Timings::timed_none, crate::proofs::Notings::timed_version, crate::proofs::Notings::timed_shutdown))]
+#[tactic(auto, using(crate::proofs::Notings::noted_none, crate::proofs::Notings::noted_kind, crate::proofs::Timings::timed_none))]
 /// Notes the shutdown, where it is new.
 pub(crate) fn note_shutdown<C: Clock, J: Recorder>(
     alloc: Global,
@@ -69,9 +66,41 @@ pub(crate) fn note_shutdown<C: Clock, J: Recorder>(
     if !look.closed || last.closed {
         return Ok(());
     }
-    let event = now_is(clock, 0, EventKind::Shutdown);
-    journal.note(alloc, &event)?;
+    note_moment(alloc, 0, EventKind::Shutdown, clock, journal)?;
     Ok(())
+}
+
+#[tactic(auto, using(crate::proofs::Notings::wide_none, crate::proofs::Notings::wide_version))]
+/// Notes the news of a look, by what was seen before.
+fn note_news<C: Clock, J: Recorder>(
+    alloc: Global,
+    clock: &mut C,
+    journal: &mut J,
+    last: &Look,
+    look: &Look,
+) -> Result<(), OutOfMemory>
+    ensures told { OnOk result (Tells (J.tells journal.new) (J.tells journal.old)
+        (NotedKinds (news_kinds last.now look.now) (J.noted journal.old) (J.noted journal.new))) }
+    ensures clock { OnOk result (Tells (C.tells clock.new × J.tells journal.new) (C.tells clock.old × J.tells journal.old)
+        (Timed (J.noted journal.old) (J.noted journal.new) 0 0 (C.readings clock.old) (C.readings clock.new))) }
+    ensures no_memory { OnErr result (Tells (J.tells journal.new) (J.tells journal.old) (NotedWide (J.noted journal.old) (J.noted journal.new))) }
+{
+    note_version(alloc, clock, journal, last, look)?;
+    note_shutdown(alloc, clock, journal, last, look)?;
+    Ok(())
+}
+
+/// The core sees the look. The answer is why the connection is closed by that, if it is.
+fn see<W: Served>(
+    alloc: Global,
+    core: &mut ClientCore<W>,
+    look: &Look,
+) -> Result<Option<Why>, OutOfMemory>
+    ensures { IfOk result (λ why. SeesLook (request_answer W.Future.answer W.Stream.answer) core.old core.new look.now why) }
+{
+    let outs = core.saw(alloc, look)?;
+    let why = closed_by(&outs);
+    Ok(why)
 }
 
 /// What was seen, with a look more.
@@ -84,7 +113,7 @@ fn with_look(last: &Look, look: &Look) -> Look
     }
 }
 
-#[tactic(auto, using(crate::proofs::Notings::looked_once, crate::proofs::Notings::wide_none, crate::proofs::Notings::wide_version, crate::proofs::Notings::wide_both, crate::proofs::Blamings::heard_for))]
+#[tactic(auto, using(crate::proofs::Notings::looked_once))]
 /// One look. Its news are noted, and then the core sees it. The answer is why the connection is closed by that, if it is.
 pub(crate) fn hear<R: Wait, C: Clock, J: Recorder, W: Served>(
     rt: &R,
@@ -107,9 +136,11 @@ pub(crate) fn hear<R: Wait, C: Clock, J: Recorder, W: Served>(
     ensures book { seat.new.book ≡ seat.old.book }
 {
     let look = book.look(rt, seat);
-    note_version(alloc, clock, journal, last, &look)?;
-    note_shutdown(alloc, clock, journal, last, &look)?;
-    *last = with_look(last, &look);
-    let outs = core.saw(alloc, &look)?;
-    Ok(closed_by(&outs))
+    match note_news(alloc, clock, journal, last, &look) {
+        Ok(()) => {
+            *last = with_look(last, &look);
+            see(alloc, core, &look)
+        }
+        Err(error) => Err(error),
+    }
 }

@@ -13,5 +13,6 @@ mod turning;
 mod writing;
 
 pub use connection::{ConnectionEnd, serve_connection};
-pub use datagrams::{DgramEnd, serve_datagrams};
+pub use datagrams::{DgramEnd, serve_datagrams, serve_datagrams_and_say};
+pub use reading::PATIENCE;
 pub use recorder::{Kept, Recorder, Silent};

@@ -1,10 +1,14 @@
 //! Events of now.
 
-ghost use Rattle.std.specs.Prelude.{◌≡◌, [], ◌∷◌, ◌++◌};
+ghost use Rattle.std.specs.Prelude.{◌≡◌, [], ◌∷◌, ◌++◌, IfOk, OnErr};
 ghost use Rattle.dns_outside.specs.Causes.{Tells};
+ghost use Rattle.dns_drivers.specs.Clocks.{Timed, write_count};
+ghost use Rattle.dns_drivers.specs.Notes.{NotedMoment};
 
+use crate::recorder::Recorder;
 use dns_outside::Clock;
-use dns_service::{Event, EventKind};
+use dns_service::{Event, EventKind, OutOfMemory};
+use std::alloc::Global;
 
 /// An event of now, by one reading of the clock.
 pub(crate) fn now_is<C: Clock>(clock: &mut C, client: u64, kind: EventKind) -> Event
@@ -18,5 +22,28 @@ pub(crate) fn now_is<C: Clock>(clock: &mut C, client: u64, kind: EventKind) -> E
         secs,
         client,
         kind,
+    }
+}
+
+#[tactic(auto, using(crate::proofs::Notings::noted_moment, crate::proofs::Notings::timed_moment))]
+/// Notes an event of now that is no Write. The answer is its moment.
+pub(crate) fn note_moment<C: Clock, J: Recorder>(
+    alloc: Global,
+    client: u64,
+    kind: EventKind,
+    clock: &mut C,
+    journal: &mut J,
+) -> Result<u64, OutOfMemory>
+    requires { write_count kind ≡ 0 }
+    ensures told { IfOk result (λ at. Tells (J.tells journal.new) (J.tells journal.old) (NotedMoment client kind at (J.noted journal.old) (J.noted journal.new))) }
+    ensures clock { IfOk result (λ at. Tells (C.tells clock.new × J.tells journal.new) (C.tells clock.old × J.tells journal.old)
+        (Timed (J.noted journal.old) (J.noted journal.new) 0 0 (C.readings clock.old) (C.readings clock.new))) }
+    ensures no_memory { OnErr result (Tells (J.tells journal.new) (J.tells journal.old) (J.noted journal.new ≡ J.noted journal.old)) }
+    ensures clock_no_memory { OnErr result (Tells (C.tells clock.new × J.tells journal.new) (C.tells clock.old × J.tells journal.old) (J.noted journal.new ≡ J.noted journal.old)) }
+{
+    let event = now_is(clock, client, kind);
+    match journal.note(alloc, &event) {
+        Ok(()) => Ok(event.at),
+        Err(error) => Err(error),
     }
 }

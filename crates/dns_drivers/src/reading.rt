@@ -13,12 +13,41 @@ use std::alloc::Global;
 use std::sync::Wait;
 
 /// How many milliseconds one wait lasts at most.
-pub(crate) const PATIENCE: u64 = 250;
+pub const PATIENCE: u64 = 250;
 
 /// How many octets one read takes at most.
 const ROOM: usize = 4096;
 
-#[tactic(auto, using(crate::proofs::Movings::moved_piece, crate::proofs::Movings::moved_again, crate::proofs::Movings::moved_end, crate::proofs::Movings::moved_none, crate::proofs::Movings::unread, crate::proofs::Timings::timed_got, crate::proofs::Timings::timed_again, crate::proofs::Timings::timed_end, crate::proofs::Timings::timed_fault, crate::proofs::Blamings::blames_read, crate::proofs::Blamings::blames_tick, crate::proofs::Blamings::blames_end, crate::proofs::Blamings::blames_fault, crate::proofs::Blamings::whole_got, crate::proofs::Blamings::whole_again, crate::proofs::Blamings::whole_end, crate::proofs::Blamings::whole_fault))]
+#[tactic(auto, using(crate::proofs::Movings::moved_piece, crate::proofs::Movings::moved_again, crate::proofs::Movings::moved_end, crate::proofs::Movings::moved_none, crate::proofs::Movings::unread, crate::proofs::Blamings::blames_read, crate::proofs::Blamings::blames_tick, crate::proofs::Blamings::blames_end, crate::proofs::Blamings::blames_fault, crate::proofs::Blamings::whole_got, crate::proofs::Blamings::whole_again, crate::proofs::Blamings::whole_end, crate::proofs::Blamings::whole_fault))]
+/// Makes one read, and says of which kind its event is: of a Piece, an End or a Fault, or of a Tick after a wait, where nothing
+/// came yet.
+fn read_kind<R: Wait, L: Link>(
+    rt: &R,
+    alloc: Global,
+    link: &mut L,
+) -> Result<EventKind, OutOfMemory>
+    ensures moved { IfOk result (λ kind. Tells (L.tells link.new) (L.tells link.old) (MovedBy kind [] 0 (L.traffic link.old) (L.traffic link.new))) }
+    ensures kind { IfOk result (λ kind. IsReadEvent kind) }
+    ensures blame { IfOk result (λ kind. Blames kind (L.faults link.old) (L.faults link.new)) }
+    ensures again { IfOk result (λ kind. Tells (L.tells link.new) (L.tells link.old) (WroteWhole kind [] (L.traffic link.old) (L.traffic link.new))) }
+    ensures room { IfOk result (λ kind. Tells (L.tells link.new) (L.tells link.old) ((L.traffic link.new).full_writes ≡ (L.traffic link.old).full_writes)) }
+    ensures no_memory { OnErr result (Tells (L.tells link.new) (L.tells link.old) (Unread (L.traffic link.old) (L.traffic link.new))) }
+{
+    let mut buf = [0u8; ROOM];
+    match link.read(&mut buf) {
+        LinkRead::Got(count) => {
+            let octets = Octets::from_slice(alloc, &buf[..count])?;
+            Ok(EventKind::Piece(octets))
+        }
+        LinkRead::Again => {
+            link.wait(rt, PATIENCE);
+            Ok(EventKind::Tick)
+        }
+        LinkRead::End => Ok(EventKind::End),
+        LinkRead::Failed => Ok(EventKind::Fault),
+    }
+}
+
 /// Makes one read. The event is a Piece, an End or a Fault, or a Tick after a wait, where nothing came yet.
 pub(crate) fn read_event<R: Wait, L: Link, C: Clock>(
     rt: &R,
@@ -34,17 +63,8 @@ pub(crate) fn read_event<R: Wait, L: Link, C: Clock>(
     ensures again { IfOk result (λ event. Tells (L.tells link.new) (L.tells link.old) (WroteWhole event.kind [] (L.traffic link.old) (L.traffic link.new))) }
     ensures no_memory { OnErr result (Tells (L.tells link.new) (L.tells link.old) (Unread (L.traffic link.old) (L.traffic link.new))) }
 {
-    let mut buf = [0u8; ROOM];
-    match link.read(&mut buf) {
-        LinkRead::Got(count) => {
-            let octets = Octets::from_slice(alloc, &buf[..count])?;
-            Ok(now_is(clock, client, EventKind::Piece(octets)))
-        }
-        LinkRead::Again => {
-            link.wait(rt, PATIENCE);
-            Ok(now_is(clock, client, EventKind::Tick))
-        }
-        LinkRead::End => Ok(now_is(clock, client, EventKind::End)),
-        LinkRead::Failed => Ok(now_is(clock, client, EventKind::Fault)),
+    match read_kind(rt, alloc, link) {
+        Ok(kind) => Ok(now_is(clock, client, kind)),
+        Err(error) => Err(error),
     }
 }

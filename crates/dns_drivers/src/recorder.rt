@@ -59,6 +59,13 @@ impl Kept {
     }
 }
 
+/// A copy of octets.
+fn copy_of(alloc: Global, octets: &Octets) -> Result<Octets, OutOfMemory>
+    ensures { IfOk result (λ copy. copy ≡ octets.now) }
+{
+    Octets::from_slice(alloc, octets.as_slice())
+}
+
 /// A copy of what an event is of.
 fn copied(alloc: Global, kind: &EventKind) -> Result<EventKind, OutOfMemory>
     ensures { IfOk result (λ copy. copy ≡ kind.now) }
@@ -66,13 +73,11 @@ fn copied(alloc: Global, kind: &EventKind) -> Result<EventKind, OutOfMemory>
     Ok(match kind {
         EventKind::Datagram { addr, octets } => EventKind::Datagram {
             addr: *addr,
-            octets: Octets::from_slice(alloc, octets.as_slice())?,
+            octets: copy_of(alloc, octets)?,
         },
         EventKind::Turn { request } => EventKind::Turn { request: *request },
         EventKind::Offer { addr } => EventKind::Offer { addr: *addr },
-        EventKind::Piece(octets) => {
-            EventKind::Piece(Octets::from_slice(alloc, octets.as_slice())?)
-        }
+        EventKind::Piece(octets) => EventKind::Piece(copy_of(alloc, octets)?),
         EventKind::End => EventKind::End,
         EventKind::Fault => EventKind::Fault,
         EventKind::Close => EventKind::Close,

@@ -10,7 +10,7 @@ ghost use Rattle.dns_drivers.specs.Rounds.{below_of};
 ghost use Rattle.dns_drivers.specs.Shown.{Causes};
 ghost use Rattle.dns_drivers.specs.Steps.{LookedOnce};
 ghost use Rattle.dns_drivers.specs.Story.{Broken, LooksAlone};
-ghost use Rattle.dns_drivers.specs.Turning.{Turned, TurnedPart, TurnedFor, Begins, ClosingStory};
+ghost use Rattle.dns_drivers.specs.Turning.{MadeTurn, TurnedPart, TurnedFor, BeginsOpen, ClosingStory};
 
 use crate::acting::act;
 use crate::hearing::hear;
@@ -41,7 +41,7 @@ fn turn_once<R: Wait, L: Link, C: Clock, J: Recorder, W: Served>(
     requires book { seat.old.book ≡ book.now }
     requires can_call { W.can_call service.now }
     ensures told { IfOk result (λ why. Tells (L.tells link.new × J.tells journal.new) (L.tells link.old × J.tells journal.old)
-        (Turned (request_answer W.Future.answer W.Stream.answer) (serving (W.answer service.now) (W.hint service.now)) client (below_of turn.old) (below_of turn.new) why core.old core.new last.old last.new
+        (MadeTurn (request_answer W.Future.answer W.Stream.answer) (serving (W.answer service.now) (W.hint service.now)) client (below_of turn.old) (below_of turn.new) why core.old core.new last.old last.new
         (J.noted journal.old) (J.noted journal.new) seat.old.known seat.new.known (L.traffic link.old) (L.traffic link.new))) }
     ensures clock { IfOk result (λ why. Tells (L.tells link.new × C.tells clock.new × J.tells journal.new) (L.tells link.old × C.tells clock.old × J.tells journal.old)
         (Timed (J.noted journal.old) (J.noted journal.new) (L.traffic link.old).full_writes (L.traffic link.new).full_writes (C.readings clock.old) (C.readings clock.new))) }
@@ -60,7 +60,7 @@ fn turn_once<R: Wait, L: Link, C: Clock, J: Recorder, W: Served>(
 }
 
 /// Serves the connection of a core, turn by turn, until it is closed.
-pub(crate) fn serve_core<R: Wait, L: Link, C: Clock, J: Recorder, W: Served>(
+fn serve_core<R: Wait, L: Link, C: Clock, J: Recorder, W: Served>(
     rt: &R,
     alloc: Global,
     book: &Book,
@@ -76,16 +76,16 @@ pub(crate) fn serve_core<R: Wait, L: Link, C: Clock, J: Recorder, W: Served>(
     requires book { seat.old.book ≡ book.now }
     requires can_call { W.can_call service.now }
     ensures told { IfOk result (λ why. Tells (L.tells link.new × J.tells journal.new) (L.tells link.old × J.tells journal.old)
-        ((s : Slate) → Begins (request_answer W.Future.answer W.Stream.answer) (serving (W.answer service.now) (W.hint service.now)) core.old last.old s
+        ((s : Slate) → BeginsOpen (request_answer W.Future.answer W.Stream.answer) (serving (W.answer service.now) (W.hint service.now)) core.old last.old s
         → ClosingStory (serving (W.answer service.now) (W.hint service.now)) s client last.old why
         (J.noted journal.old) (J.noted journal.new) seat.old.known seat.new.known (L.traffic link.old) (L.traffic link.new))) }
     ensures clock { IfOk result (λ why. Tells (L.tells link.new × C.tells clock.new × J.tells journal.new) (L.tells link.old × C.tells clock.old × J.tells journal.old)
         (Timed (J.noted journal.old) (J.noted journal.new) (L.traffic link.old).full_writes (L.traffic link.new).full_writes (C.readings clock.old) (C.readings clock.new))) }
     ensures no_memory { OnErr result (Tells (L.tells link.new × J.tells journal.new) (L.tells link.old × J.tells journal.old)
-        ((s : Slate) → Begins (request_answer W.Future.answer W.Stream.answer) (serving (W.answer service.now) (W.hint service.now)) core.old last.old s
+        ((s : Slate) → BeginsOpen (request_answer W.Future.answer W.Stream.answer) (serving (W.answer service.now) (W.hint service.now)) core.old last.old s
         → Broken (serving (W.answer service.now) (W.hint service.now)) s client
         (J.noted journal.old) (J.noted journal.new) (L.traffic link.old) (L.traffic link.new))) }
-    ensures cause { IfOk result (λ why. (s : Slate) → Begins (request_answer W.Future.answer W.Stream.answer) (serving (W.answer service.now) (W.hint service.now)) core.old last.old s
+    ensures cause { IfOk result (λ why. (s : Slate) → BeginsOpen (request_answer W.Future.answer W.Stream.answer) (serving (W.answer service.now) (W.hint service.now)) core.old last.old s
         → Causes why seat.old.known seat.new.known (L.faults link.old) (L.faults link.new)) }
     ensures seat { LooksAlone seat.old.known seat.new.known }
     ensures same { seat.new.book ≡ seat.old.book }
@@ -101,4 +101,41 @@ pub(crate) fn serve_core<R: Wait, L: Link, C: Clock, J: Recorder, W: Served>(
         }
     }
     unreachable!()
+}
+
+/// Serves the connection of a core that saw a look, until it is closed, and lets go of the core.
+pub(crate) fn serve_rounds<R: Wait, L: Link, C: Clock, J: Recorder, W: Served>(
+    rt: &R,
+    alloc: Global,
+    book: &Book,
+    seat: &mut BookSeat,
+    client: u64,
+    mut core: ClientCore<W>,
+    look: &Look,
+    service: &W,
+    link: &mut L,
+    clock: &mut C,
+    journal: &mut J,
+) -> Result<Why, OutOfMemory>
+    requires book { seat.old.book ≡ book.now }
+    requires can_call { W.can_call service.now }
+    ensures told { IfOk result (λ why. Tells (L.tells link.new × J.tells journal.new) (L.tells link.old × J.tells journal.old)
+        ((s : Slate) → BeginsOpen (request_answer W.Future.answer W.Stream.answer) (serving (W.answer service.now) (W.hint service.now)) core look.now s
+        → ClosingStory (serving (W.answer service.now) (W.hint service.now)) s client look.now why
+        (J.noted journal.old) (J.noted journal.new) seat.old.known seat.new.known (L.traffic link.old) (L.traffic link.new))) }
+    ensures clock { IfOk result (λ why. Tells (L.tells link.new × C.tells clock.new × J.tells journal.new) (L.tells link.old × C.tells clock.old × J.tells journal.old)
+        (Timed (J.noted journal.old) (J.noted journal.new) (L.traffic link.old).full_writes (L.traffic link.new).full_writes (C.readings clock.old) (C.readings clock.new))) }
+    ensures no_memory { OnErr result (Tells (L.tells link.new × J.tells journal.new) (L.tells link.old × J.tells journal.old)
+        ((s : Slate) → BeginsOpen (request_answer W.Future.answer W.Stream.answer) (serving (W.answer service.now) (W.hint service.now)) core look.now s
+        → Broken (serving (W.answer service.now) (W.hint service.now)) s client
+        (J.noted journal.old) (J.noted journal.new) (L.traffic link.old) (L.traffic link.new))) }
+    ensures cause { IfOk result (λ why. (s : Slate) → BeginsOpen (request_answer W.Future.answer W.Stream.answer) (serving (W.answer service.now) (W.hint service.now)) core look.now s
+        → Causes why seat.old.known seat.new.known (L.faults link.old) (L.faults link.new)) }
+    ensures seat { LooksAlone seat.old.known seat.new.known }
+    ensures same { seat.new.book ≡ seat.old.book }
+{
+    let mut last = *look;
+    serve_core(
+        rt, alloc, book, seat, client, &mut core, &mut last, service, link, clock, journal,
+    )
 }

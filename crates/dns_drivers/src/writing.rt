@@ -1,6 +1,6 @@
 //! A frame is written.
 
-ghost use Rattle.std.specs.Prelude.{◌≡◌, [], ◌∷◌, length};
+ghost use Rattle.std.specs.Prelude.{◌≡◌, [], ◌∷◌, ◌++◌, length};
 ghost use Rattle.dns_outside.specs.Causes.{Tells};
 ghost use Rattle.dns_drivers.specs.Blames.{EndBlames, EndAgain, Blames, WroteWhole};
 ghost use Rattle.dns_drivers.specs.Clocks.{TimedOne, WaitedTo};
@@ -18,6 +18,21 @@ pub(crate) enum WriteEnd {
     Whole,
     Failed,
     Late(u64, u64),
+}
+
+/// Waits for room, no longer than a write may take. The answer is a reading of the clock after it.
+fn wait_for_room<R: Wait, L: Link, C: Clock>(
+    rt: &R,
+    link: &mut L,
+    clock: &mut C,
+    limit: u64,
+) -> (u64, u64)
+    ensures moves { Tells (L.tells link.new) (L.tells link.old) (L.traffic link.new ≡ L.traffic link.old) }
+    ensures same { L.faults link.new ≡ L.faults link.old }
+    ensures clock { Tells (C.tells clock.new) (C.tells clock.old) (C.readings clock.new ≡ C.readings clock.old ++ result ∷ []) }
+{
+    link.wait(rt, PATIENCE.min(limit.saturating_add(1)));
+    clock.now()
 }
 
 #[tactic(auto, using(crate::proofs::Movings::wrote_none, crate::proofs::Movings::wrote_more, crate::proofs::Movings::wrote_again, crate::proofs::Timings::waited_none, crate::proofs::Timings::waited_again, crate::proofs::Timings::late_again, crate::proofs::Blamings::end_whole, crate::proofs::Blamings::end_late, crate::proofs::Blamings::end_failed, crate::proofs::Blamings::again_more, crate::proofs::Blamings::again_whole, crate::proofs::Blamings::again_failed, crate::proofs::Blamings::again_late))]
@@ -44,8 +59,7 @@ fn write_frame<R: Wait, L: Link, C: Clock>(
         match link.write(&frame[done..]) {
             LinkWrite::Took(count) => done += count,
             LinkWrite::Again => {
-                link.wait(rt, PATIENCE.min(limit.saturating_add(1)));
-                let (at, secs) = clock.now();
+                let (at, secs) = wait_for_room(rt, link, clock, limit);
                 if at.saturating_sub(start) > limit {
                     return (done, WriteEnd::Late(at, secs));
                 }

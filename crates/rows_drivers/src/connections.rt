@@ -127,11 +127,31 @@ fn link(
     ))
 }
 
-/// Whether a connection over the link ends for this reason after these events, with its slot given back.
-fn ends<R: Wait>(
+/// Whether a connection to the service over the link ends for this reason after these events, with its slot given back.
+fn ends<R: Wait, L: Link, W: Served>(
     rt: &R,
     alloc: Global,
-    link: &mut MemoryLink,
+    service: &W,
+    shut: bool,
+    link: &mut L,
+    times: &[(u64, u64)],
+    why: Why,
+    letters: &[u8],
+) -> Result<bool, OutOfMemory>
+    requires { W.can_call service.now }
+{
+    let mut clock = MemoryClock::new(Vec::from_slice(alloc, times)?);
+    let mut journal = Kept::new(alloc);
+    let (end, taken) = served(rt, alloc, service, shut, link, &mut clock, &mut journal)?;
+    Ok(end == ConnectionEnd::Closed(why) && taken == 0 && are(journal.events(), letters))
+}
+
+/// The same of a service that refuses each request.
+fn refuses<R: Wait, L: Link>(
+    rt: &R,
+    alloc: Global,
+    shut: bool,
+    link: &mut L,
     times: &[(u64, u64)],
     why: Why,
     letters: &[u8],
@@ -139,18 +159,38 @@ fn ends<R: Wait>(
     let service = Plainly {
         service: service_fn::<Refusal, _, _>(refuse, OptRcode::NXDOMAIN),
     };
-    let mut clock = MemoryClock::new(Vec::from_slice(alloc, times)?);
-    let mut journal = Kept::new(alloc);
-    let (end, taken) = served(rt, alloc, &service, false, link, &mut clock, &mut journal)?;
-    Ok(end == ConnectionEnd::Closed(why) && taken == 0 && are(journal.events(), letters))
+    ends(rt, alloc, &service, shut, link, times, why, letters)
+}
+
+/// Serves a connection to the service over the link, with memory for so many notes. How it ends, and how many slots are taken
+/// then.
+fn forgets<R: Wait, L: Link, W: Served>(
+    rt: &R,
+    alloc: Global,
+    service: &W,
+    link: &mut L,
+    notes: u64,
+) -> Result<(ConnectionEnd, u64), OutOfMemory>
+    requires { W.can_call service.now }
+{
+    let mut clock = MemoryClock::new(Vec::new(alloc));
+    let mut journal = Forgetful { left: notes };
+    served(rt, alloc, service, false, link, &mut clock, &mut journal)
+}
+
+/// A link that gives these octets, and whose calls all do.
+fn steady(alloc: Global, octets: &[u8]) -> Result<SteadyLink, OutOfMemory> {
+    Ok(SteadyLink::new(Vec::from_slice(alloc, octets)?, Vec::new(alloc)))
 }
 
 /// The query is answered, and then the connection ends.
 #[test]
 fn a_query_is_answered(rt: HostRuntime) -> Result<(), OutOfMemory> {
     let mut link = link(rt.alloc(), 4096, &[], &[], &[])?;
-    assert!(&rt; ends(&rt, rt.alloc(), &mut link, &[], Why::Ended, b"OPTWE")?);
-    assert!(&rt; link.written() == REPLY);
+    assert!(&rt;
+        refuses(&rt, rt.alloc(), false, &mut link, &[], Why::Ended, b"OPTWE")?
+            && link.written() == REPLY
+    );
     Ok(())
 }
 
@@ -159,8 +199,10 @@ fn a_query_is_answered(rt: HostRuntime) -> Result<(), OutOfMemory> {
 fn one_octet_a_call(rt: HostRuntime) -> Result<(), OutOfMemory> {
     let mut link = link(rt.alloc(), 1, &[], &[], &[1, 3])?;
     let letters = b"OPPPPPPPPPPPPPPPPPPPTWE";
-    assert!(&rt; ends(&rt, rt.alloc(), &mut link, &[], Why::Ended, letters)?);
-    assert!(&rt; link.written() == REPLY);
+    assert!(&rt;
+        refuses(&rt, rt.alloc(), false, &mut link, &[], Why::Ended, letters)?
+            && link.written() == REPLY
+    );
     Ok(())
 }
 
@@ -168,8 +210,10 @@ fn one_octet_a_call(rt: HostRuntime) -> Result<(), OutOfMemory> {
 #[test]
 fn the_first_read_fails(rt: HostRuntime) -> Result<(), OutOfMemory> {
     let mut link = link(rt.alloc(), 4096, &[0], &[], &[])?;
-    assert!(&rt; ends(&rt, rt.alloc(), &mut link, &[], Why::Fault, b"OF")?);
-    assert!(&rt; link.written().is_empty());
+    assert!(&rt;
+        refuses(&rt, rt.alloc(), false, &mut link, &[], Why::Fault, b"OF")?
+            && link.written().is_empty()
+    );
     Ok(())
 }
 
@@ -177,8 +221,10 @@ fn the_first_read_fails(rt: HostRuntime) -> Result<(), OutOfMemory> {
 #[test]
 fn a_write_fails(rt: HostRuntime) -> Result<(), OutOfMemory> {
     let mut link = link(rt.alloc(), 10, &[], &[1], &[])?;
-    assert!(&rt; ends(&rt, rt.alloc(), &mut link, &[], Why::Fault, b"OPPTF")?);
-    assert!(&rt; link.written() == &REPLY[..10]);
+    assert!(&rt;
+        refuses(&rt, rt.alloc(), false, &mut link, &[], Why::Fault, b"OPPTF")?
+            && link.written() == &REPLY[..10]
+    );
     Ok(())
 }
 
@@ -187,72 +233,52 @@ fn a_write_fails(rt: HostRuntime) -> Result<(), OutOfMemory> {
 fn a_write_takes_too_long(rt: HostRuntime) -> Result<(), OutOfMemory> {
     let mut link = link(rt.alloc(), 4096, &[], &[], &[0])?;
     let times = [(0, 0), (1, 0), (2, 0), (3, 0), (3_600_004, 3_600)];
+    let why = Why::WriteTimeout;
     assert!(&rt;
-        ends(
-            &rt,
-            rt.alloc(),
-            &mut link,
-            &times,
-            Why::WriteTimeout,
-            b"OPTW"
-        )?
+        refuses(&rt, rt.alloc(), false, &mut link, &times, why, b"OPTW")?
+            && link.written().is_empty()
     );
-    assert!(&rt; link.written().is_empty());
     Ok(())
 }
 
 /// A shutdown is heard at the first look: nothing is read.
 #[test]
 fn a_shutdown_is_heard(rt: HostRuntime) -> Result<(), OutOfMemory> {
-    let alloc = rt.alloc();
-    let service = Plainly {
-        service: service_fn::<Refusal, _, _>(refuse, OptRcode::NXDOMAIN),
-    };
-    let mut link = SteadyLink::new(Vec::from_slice(alloc, QUERY)?, Vec::new(alloc));
-    let mut clock = MemoryClock::new(Vec::new(alloc));
-    let mut journal = Kept::new(alloc);
-    let (end, taken) = served(
-        &rt,
-        alloc,
-        &service,
-        true,
-        &mut link,
-        &mut clock,
-        &mut journal,
-    )?;
-    assert!(&rt; end == ConnectionEnd::Closed(Why::Shutdown) && taken == 0);
-    assert!(&rt; are(journal.events(), b"OS") && link.written().is_empty());
+    let mut link = steady(rt.alloc(), QUERY)?;
+    assert!(&rt;
+        refuses(&rt, rt.alloc(), true, &mut link, &[], Why::Shutdown, b"OS")?
+            && link.written().is_empty()
+    );
     Ok(())
 }
 
-/// Each wait follows a call that answered Again, and each such call is followed by one.
-#[test]
-fn a_wait_follows_each_again(rt: HostRuntime) -> Result<(), OutOfMemory> {
-    let alloc = rt.alloc();
-    let service = Plainly {
-        service: service_fn::<Refusal, _, _>(refuse, OptRcode::NXDOMAIN),
-    };
-    let inner = MemoryLink::new(
+/// A link of which calls answer Again, and which keeps all of them.
+fn watched(alloc: Global) -> Result<Watched<MemoryLink>, OutOfMemory> {
+    let link = MemoryLink::new(
         Vec::from_slice(alloc, QUERY)?,
         Vec::new(alloc),
         20,
         calls(alloc, &[], &[0, 2])?,
         calls(alloc, &[], &[0, 2, 3])?,
     );
-    let mut link = Watched::new(alloc, inner);
-    let mut clock = MemoryClock::new(Vec::new(alloc));
-    let mut journal = Kept::new(alloc);
-    let (end, _) = served(
-        &rt,
-        alloc,
-        &service,
-        false,
-        &mut link,
-        &mut clock,
-        &mut journal,
-    )?;
-    assert!(&rt; end == ConnectionEnd::Closed(Why::Ended));
-    assert!(&rt; are(journal.events(), b"OIPTWITE"));
+    Ok(Watched::new(alloc, link))
+}
+
+/// Each wait follows a call that answered Again, and each such call is followed by one.
+#[test]
+fn a_wait_follows_each_again(rt: HostRuntime) -> Result<(), OutOfMemory> {
+    let mut link = watched(rt.alloc())?;
+    assert!(&rt;
+        refuses(
+            &rt,
+            rt.alloc(),
+            false,
+            &mut link,
+            &[],
+            Why::Ended,
+            b"OIPTWITE"
+        )?
+    );
     assert!(&rt; link.calls() == b"RzrWzwWzWzwRzrc".as_slice());
     Ok(())
 }
@@ -268,18 +294,8 @@ fn counted<R: Wait>(rt: &R, alloc: Global, notes: u64) -> Result<(u64, u64), Out
             polls: &polls,
         },
     };
-    let mut link = SteadyLink::new(Vec::from_slice(alloc, QUERY)?, Vec::new(alloc));
-    let mut clock = MemoryClock::new(Vec::new(alloc));
-    let mut journal = Forgetful { left: notes };
-    served(
-        rt,
-        alloc,
-        &service,
-        false,
-        &mut link,
-        &mut clock,
-        &mut journal,
-    )?;
+    let mut link = steady(alloc, QUERY)?;
+    forgets(rt, alloc, &service, &mut link, notes)?;
     Ok((calls.get(), polls.get()))
 }
 
@@ -296,25 +312,37 @@ fn an_event_is_noted_first(rt: HostRuntime) -> Result<(), OutOfMemory> {
 /// Without memory for the note of the request's turn, its reply is never written.
 #[test]
 fn what_is_not_noted_is_not_written(rt: HostRuntime) -> Result<(), OutOfMemory> {
-    let alloc = rt.alloc();
     let service = Plainly {
         service: service_fn::<Refusal, _, _>(refuse, OptRcode::NXDOMAIN),
     };
-    let mut link = SteadyLink::new(Vec::from_slice(alloc, QUERY)?, Vec::new(alloc));
-    let mut clock = MemoryClock::new(Vec::new(alloc));
-    let mut journal = Forgetful { left: 2 };
-    let (end, taken) = served(
-        &rt,
+    let mut link = steady(rt.alloc(), QUERY)?;
+    let (end, taken) = forgets(&rt, rt.alloc(), &service, &mut link, 2)?;
+    assert!(&rt; end == ConnectionEnd::OutOfMemory && taken == 0 && link.written().is_empty());
+    Ok(())
+}
+
+/// Whether a connection to the service answers the query with the reply.
+fn answers<R: Wait, W: Served>(
+    rt: &R,
+    alloc: Global,
+    service: &W,
+    query: &[u8],
+    reply: &[u8],
+) -> Result<bool, OutOfMemory>
+    requires { W.can_call service.now }
+{
+    let mut link = steady(alloc, query)?;
+    let ended = ends(
+        rt,
         alloc,
-        &service,
+        service,
         false,
         &mut link,
-        &mut clock,
-        &mut journal,
+        &[],
+        Why::Ended,
+        b"OPTWE",
     )?;
-    assert!(&rt; end == ConnectionEnd::OutOfMemory && taken == 0);
-    assert!(&rt; link.written().is_empty());
-    Ok(())
+    Ok(ended && link.written() == reply)
 }
 
 /// A query with an OPT record to a service in all layers.
@@ -325,20 +353,6 @@ fn a_wrapped_service_answers(rt: HostRuntime) -> Result<(), OutOfMemory> {
     let service = Plainly {
         service: wrap(alloc, &Settings::new(alloc), inner, Nobody {})?,
     };
-    let mut link = SteadyLink::new(Vec::from_slice(alloc, QUERY_WITH_OPT)?, Vec::new(alloc));
-    let mut clock = MemoryClock::new(Vec::new(alloc));
-    let mut journal = Kept::new(alloc);
-    let (end, taken) = served(
-        &rt,
-        alloc,
-        &service,
-        false,
-        &mut link,
-        &mut clock,
-        &mut journal,
-    )?;
-    assert!(&rt; end == ConnectionEnd::Closed(Why::Ended) && taken == 0);
-    assert!(&rt; are(journal.events(), b"OPTWE"));
-    assert!(&rt; link.written() == REPLY_WITH_OPT);
+    assert!(&rt; answers(&rt, alloc, &service, QUERY_WITH_OPT, REPLY_WITH_OPT)?);
     Ok(())
 }

@@ -8,7 +8,7 @@ use dns_book::{Book, BookState};
 use dns_drivers::{DgramEnd, Kept, serve_datagrams};
 use dns_name::{IpAddr, Octets, OptRcode, OutOfMemory, SocketAddr};
 use dns_outside::{Letter, ListedCalls, MemoryClock, MemorySock};
-use dns_service::{DgramConfig, Event, Plainly, StreamConfig, service_fn};
+use dns_service::{DgramConfig, Event, Plainly, Served, StreamConfig, service_fn};
 use std::alloc::Global;
 use std::sync::Wait;
 
@@ -55,6 +55,30 @@ fn sock(
 }
 
 /// Serves the socket in a book of its own, which is shut down before, where that is asked for.
+fn serves<R: Wait, W: Served>(
+    rt: &R,
+    alloc: Global,
+    service: &W,
+    shut: bool,
+    sock: &mut MemorySock,
+    clock: &mut MemoryClock,
+    journal: &mut Kept,
+    count: u64,
+) -> Result<DgramEnd, OutOfMemory>
+    requires { W.can_call service.now }
+{
+    let state = BookState::new(DgramConfig::new(), StreamConfig::new());
+    let (book, mut seat) = Book::new(alloc, state)?;
+    if shut {
+        book.shutdown(rt, &mut seat);
+    }
+    let (_seat, end) = serve_datagrams(
+        rt, alloc, &book, seat, service, sock, clock, journal, count,
+    );
+    Ok(end)
+}
+
+/// The same by a service that refuses each request, at these times.
 fn served<R: Wait>(
     rt: &R,
     alloc: Global,
@@ -68,15 +92,7 @@ fn served<R: Wait>(
         service: service_fn::<Refusal, _, _>(refuse, OptRcode::NXDOMAIN),
     };
     let mut clock = MemoryClock::new(Vec::from_slice(alloc, times)?);
-    let state = BookState::new(DgramConfig::new(), StreamConfig::new());
-    let (book, mut seat) = Book::new(alloc, state)?;
-    if shut {
-        book.shutdown(rt, &mut seat);
-    }
-    let (_seat, end) = serve_datagrams(
-        rt, alloc, &book, seat, &service, sock, &mut clock, journal, count,
-    );
-    Ok(end)
+    serves(rt, alloc, &service, shut, sock, &mut clock, journal, count)
 }
 
 /// Whether the events are those of these clients.
@@ -106,15 +122,56 @@ fn is_answered(sock: &MemorySock, ports: &[u16]) -> bool {
     true
 }
 
+/// Whether the socket is served to this end, with these ports answered, after these events of these clients.
+fn shows<R: Wait>(
+    rt: &R,
+    alloc: Global,
+    shut: bool,
+    sock: &mut MemorySock,
+    times: &[(u64, u64)],
+    count: u64,
+    end: DgramEnd,
+    ports: &[u16],
+    letters: &[u8],
+    clients: &[u64],
+) -> Result<bool, OutOfMemory> {
+    let mut journal = Kept::new(alloc);
+    let ended = served(rt, alloc, shut, sock, times, &mut journal, count)?;
+    let noted = are(journal.events(), letters) && are_of(journal.events(), clients);
+    Ok(ended == end && is_answered(sock, ports) && noted)
+}
+
+/// Whether as many datagrams as are counted are served, with these ports answered, after these events of these clients.
+fn counts<R: Wait>(
+    rt: &R,
+    alloc: Global,
+    sock: &mut MemorySock,
+    times: &[(u64, u64)],
+    count: u64,
+    ports: &[u16],
+    letters: &[u8],
+    clients: &[u64],
+) -> Result<bool, OutOfMemory> {
+    shows(
+        rt,
+        alloc,
+        false,
+        sock,
+        times,
+        count,
+        DgramEnd::Counted,
+        ports,
+        letters,
+        clients,
+    )
+}
+
 /// A query is answered at its first poll, and its exchange is polled to its end.
 #[test]
 fn a_query_is_answered(rt: HostRuntime) -> Result<(), OutOfMemory> {
     let alloc = rt.alloc();
-    let mut journal = Kept::new(alloc);
     let mut sock = sock(alloc, &[53], &[], &[], &[])?;
-    let end = served(&rt, alloc, false, &mut sock, &[], &mut journal, 1)?;
-    assert!(&rt; end == DgramEnd::Counted && is_answered(&sock, &[53]));
-    assert!(&rt; are(journal.events(), b"DTT") && are_of(journal.events(), &[0, 0, 0]));
+    assert!(&rt; counts(&rt, alloc, &mut sock, &[], 1, &[53], b"DTT", &[0, 0, 0])?);
     Ok(())
 }
 
@@ -122,12 +179,20 @@ fn a_query_is_answered(rt: HostRuntime) -> Result<(), OutOfMemory> {
 #[test]
 fn two_clients_are_answered(rt: HostRuntime) -> Result<(), OutOfMemory> {
     let alloc = rt.alloc();
-    let mut journal = Kept::new(alloc);
     let mut sock = sock(alloc, &[53, 54], &[], &[], &[])?;
-    let end = served(&rt, alloc, false, &mut sock, &[], &mut journal, 2)?;
-    assert!(&rt; end == DgramEnd::Counted && is_answered(&sock, &[53, 54]));
-    assert!(&rt; are(journal.events(), b"DTDTTT"));
-    assert!(&rt; are_of(journal.events(), &[0, 0, 1, 0, 1, 1]));
+    let clients = [0, 0, 1, 0, 1, 1];
+    assert!(&rt;
+        counts(
+            &rt,
+            alloc,
+            &mut sock,
+            &[],
+            2,
+            &[53, 54],
+            b"DTDTTT",
+            &clients
+        )?
+    );
     Ok(())
 }
 
@@ -135,11 +200,9 @@ fn two_clients_are_answered(rt: HostRuntime) -> Result<(), OutOfMemory> {
 #[test]
 fn the_first_receive_fails(rt: HostRuntime) -> Result<(), OutOfMemory> {
     let alloc = rt.alloc();
-    let mut journal = Kept::new(alloc);
     let mut sock = sock(alloc, &[53], &[0], &[], &[])?;
-    let end = served(&rt, alloc, false, &mut sock, &[], &mut journal, 1)?;
-    assert!(&rt; end == DgramEnd::Fault && is_answered(&sock, &[]));
-    assert!(&rt; are(journal.events(), b""));
+    let end = DgramEnd::Fault;
+    assert!(&rt; shows(&rt, alloc, false, &mut sock, &[], 1, end, &[], b"", &[])?);
     Ok(())
 }
 
@@ -147,12 +210,9 @@ fn the_first_receive_fails(rt: HostRuntime) -> Result<(), OutOfMemory> {
 #[test]
 fn the_first_send_fails(rt: HostRuntime) -> Result<(), OutOfMemory> {
     let alloc = rt.alloc();
-    let mut journal = Kept::new(alloc);
     let mut sock = sock(alloc, &[53, 54], &[], &[0], &[])?;
-    let end = served(&rt, alloc, false, &mut sock, &[], &mut journal, 2)?;
-    assert!(&rt; end == DgramEnd::Counted && is_answered(&sock, &[54]));
-    assert!(&rt; are(journal.events(), b"DTFDTTT"));
-    assert!(&rt; are_of(journal.events(), &[0, 0, 0, 1, 0, 1, 1]));
+    let clients = [0, 0, 0, 1, 0, 1, 1];
+    assert!(&rt; counts(&rt, alloc, &mut sock, &[], 2, &[54], b"DTFDTTT", &clients)?);
     Ok(())
 }
 
@@ -160,11 +220,8 @@ fn the_first_send_fails(rt: HostRuntime) -> Result<(), OutOfMemory> {
 #[test]
 fn one_of_two_is_served(rt: HostRuntime) -> Result<(), OutOfMemory> {
     let alloc = rt.alloc();
-    let mut journal = Kept::new(alloc);
     let mut sock = sock(alloc, &[53, 54], &[], &[], &[])?;
-    let end = served(&rt, alloc, false, &mut sock, &[], &mut journal, 1)?;
-    assert!(&rt; end == DgramEnd::Counted && is_answered(&sock, &[53]));
-    assert!(&rt; are(journal.events(), b"DTT"));
+    assert!(&rt; counts(&rt, alloc, &mut sock, &[], 1, &[53], b"DTT", &[0, 0, 0])?);
     Ok(())
 }
 
@@ -186,12 +243,9 @@ fn a_send_is_late(rt: HostRuntime) -> Result<(), OutOfMemory> {
 #[test]
 fn a_send_is_in_time(rt: HostRuntime) -> Result<(), OutOfMemory> {
     let alloc = rt.alloc();
-    let mut journal = Kept::new(alloc);
     let mut sock = sock(alloc, &[53], &[], &[], &[0])?;
     let times = [(0, 0), (1, 0), (5_000, 5)];
-    let end = served(&rt, alloc, false, &mut sock, &times, &mut journal, 1)?;
-    assert!(&rt; end == DgramEnd::Counted && is_answered(&sock, &[53]));
-    assert!(&rt; are(journal.events(), b"DTT"));
+    assert!(&rt; counts(&rt, alloc, &mut sock, &times, 1, &[53], b"DTT", &[0, 0, 0])?);
     Ok(())
 }
 
@@ -199,10 +253,8 @@ fn a_send_is_in_time(rt: HostRuntime) -> Result<(), OutOfMemory> {
 #[test]
 fn a_shutdown_is_heard(rt: HostRuntime) -> Result<(), OutOfMemory> {
     let alloc = rt.alloc();
-    let mut journal = Kept::new(alloc);
     let mut sock = sock(alloc, &[53], &[], &[], &[])?;
-    let end = served(&rt, alloc, true, &mut sock, &[], &mut journal, 0)?;
-    assert!(&rt; end == DgramEnd::Shutdown && is_answered(&sock, &[]));
-    assert!(&rt; are(journal.events(), b"S"));
+    let end = DgramEnd::Shutdown;
+    assert!(&rt; shows(&rt, alloc, true, &mut sock, &[], 0, end, &[], b"S", &[0])?);
     Ok(())
 }

@@ -1,14 +1,15 @@
 //! A shutdown while a connection writes.
 
-ghost use Rattle.std.specs.Prelude.{◌≡◌};
+ghost use Rattle.std.specs.Prelude.{◌≡◌, false};
 
 use crate::connections::{PEER, are, calls};
 use crate::services::{Refusal, refuse};
+use dns_admission::Look;
 use dns_book::{Admission, Book, BookSeat, BookState};
 use dns_drivers::{ConnectionEnd, Kept, serve_connection};
 use dns_name::{OptRcode, OutOfMemory};
 use dns_outside::{Link, LinkRead, LinkWrite, MemoryClock, MemoryLink};
-use dns_service::{DgramConfig, Plainly, StreamConfig, Why, service_fn};
+use dns_service::{DgramConfig, Plainly, Served, StreamConfig, Why, service_fn};
 use std::alloc::Global;
 use std::sync::Wait;
 
@@ -53,18 +54,53 @@ impl<L: Link> Link for Halting<'_, L> {
     }
 }
 
-/// Serves a connection over the link, in a book that its wait shuts down. How it ends, how many slots are taken then, and
-/// whether the octets written and the events are the wanted ones.
-fn halted<R: Wait>(
+/// Serves a connection over the link. How it ends, how many slots are taken then, and whether the octets written and the
+/// events are the wanted ones.
+fn halts<R: Wait, W: Served>(
     rt: &R,
     alloc: Global,
+    service: &W,
+    seat: BookSeat,
+    look: &Look,
+    link: &mut Halting<'_, MemoryLink>,
+    written: &[u8],
+    letters: &[u8],
+) -> Result<(ConnectionEnd, u64, bool), OutOfMemory>
+    requires book { seat.book ≡ link.old.book.now }
+    requires running { look.now.closed ≡ false }
+    requires can_call { W.can_call service.now }
+{
+    let mut clock = MemoryClock::new(Vec::new(alloc));
+    let mut journal = Kept::new(alloc);
+    let book = link.book;
+    let (mut seat, end) = serve_connection(
+        rt,
+        alloc,
+        book,
+        seat,
+        7,
+        PEER,
+        look,
+        service,
+        link,
+        &mut clock,
+        &mut journal,
+    );
+    let agrees = link.link.written() == written && are(journal.events(), letters);
+    Ok((end, book.look(rt, &mut seat).taken, agrees))
+}
+
+/// The same in a book that the link's wait shuts down.
+fn halted<R: Wait, W: Served>(
+    rt: &R,
+    alloc: Global,
+    service: &W,
     link: MemoryLink,
     written: &[u8],
     letters: &[u8],
-) -> Result<(ConnectionEnd, u64, bool), OutOfMemory> {
-    let service = Plainly {
-        service: service_fn::<Refusal, _, _>(refuse, OptRcode::NXDOMAIN),
-    };
+) -> Result<(ConnectionEnd, u64, bool), OutOfMemory>
+    requires { W.can_call service.now }
+{
     let state = BookState::new(DgramConfig::new(), StreamConfig::new());
     let (book, seat) = Book::new(alloc, state)?;
     let (mut seat, other) = book.split(rt, seat);
@@ -79,23 +115,7 @@ fn halted<R: Wait>(
         book: &book,
         seat: other,
     };
-    let mut clock = MemoryClock::new(Vec::new(alloc));
-    let mut journal = Kept::new(alloc);
-    let (mut seat, end) = serve_connection(
-        rt,
-        alloc,
-        &book,
-        seat,
-        7,
-        PEER,
-        &look,
-        &service,
-        &mut link,
-        &mut clock,
-        &mut journal,
-    );
-    let agrees = link.link.written() == written && are(journal.events(), letters);
-    Ok((end, book.look(rt, &mut seat).taken, agrees))
+    halts(rt, alloc, service, seat, &look, &mut link, written, letters)
 }
 
 /// While the first of three frames is written, the server shuts down; of the two that wait then the first is written, and
@@ -110,8 +130,10 @@ fn a_flush_fails(rt: HostRuntime) -> Result<(), OutOfMemory> {
         calls(alloc, &[], &[])?,
         calls(alloc, &[8], &[0])?,
     );
-    let (end, taken, agrees) = halted(&rt, alloc, link, WRITTEN, b"OPWSWF")?;
-    assert!(&rt; end == ConnectionEnd::Closed(Why::Fault) && taken == 0);
-    assert!(&rt; agrees);
+    let service = Plainly {
+        service: service_fn::<Refusal, _, _>(refuse, OptRcode::NXDOMAIN),
+    };
+    let (end, taken, agrees) = halted(&rt, alloc, &service, link, WRITTEN, b"OPWSWF")?;
+    assert!(&rt; end == ConnectionEnd::Closed(Why::Fault) && taken == 0 && agrees);
     Ok(())
 }

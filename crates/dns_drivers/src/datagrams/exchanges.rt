@@ -1,15 +1,15 @@
 //! Exchanges begin, and are polled.
 
-ghost use Rattle.std.specs.Prelude.{◌≡◌, ◌≢◌, ℕ, IfOk, OnOk, false, Some, None, if◌then◌else◌};
-ghost use Rattle.std.specs.Ordering.{nat_cmp};
-ghost use Rattle.std.specs.BTreeMap.{get};
+ghost use Rattle.std.specs.Prelude.{◌≡◌, ◌≢◌, ℕ, ◌+◌, ◌<◌, ◌^◌, [], ◌∷◌, ◌++◌, drop, IfOk, OnOk, IsSome, MatchOption, false, if◌then◌else◌};
+ghost use Rattle.std.specs.List.{remove};
+ghost use Rattle.std.specs.VecDeque.{deque_len};
 ghost use Rattle.dns_client.specs.Serving.{Serving, serving};
 ghost use Rattle.dns_client.specs.Slate.{Slate};
 ghost use Rattle.dns_client.specs.Spent.{is_spent};
 ghost use Rattle.dns_client.specs.Stands.{Stands, state_is_spent};
 ghost use Rattle.dns_service.specs.PolledRequest.{request_answer};
 ghost use Rattle.dns_service.specs.declared.event.EventKind.TheVariants.{Turn};
-ghost use Rattle.dns_drivers.specs.DatagramSteps.{Turned, TurnedOne, TurnedThere, Begun, octets_of, last_octets, letter_to};
+ghost use Rattle.dns_drivers.specs.DatagramSteps.{Turned, TurnedOne, TurnedItem, Begun, numbers_of, kept_at, octets_of, last_octets, letter_to};
 
 use crate::datagrams::running::KeptExchange;
 use dns_admission::Look;
@@ -18,7 +18,7 @@ use dns_name::SocketAddr;
 use dns_outside::Letter;
 use dns_service::{Event, Octets, OutOfMemory, Output, Served};
 use std::alloc::Global;
-use std::collections::BTreeMap;
+use std::collections::VecDeque;
 
 /// The octets of an output that is a datagram.
 fn octets_of(output: Output) -> Option<Octets>
@@ -52,42 +52,47 @@ fn letter_to(octets: Option<Octets>, addr: SocketAddr) -> Option<Letter>
     }
 }
 
-/// Keeps an exchange under its number.
-fn put<W: Served>(
-    exchanges: &mut BTreeMap<u64, KeptExchange<W>>,
-    number: u64,
-    kept: KeptExchange<W>,
-) -> Result<(), OutOfMemory>
-    ensures here { OnOk result (get nat_cmp exchanges.new number ≡ Some kept) }
-    ensures others { OnOk result ((c : ℕ) → c ≢ number → get nat_cmp exchanges.new c ≡ get nat_cmp exchanges.old c) }
-{
-    exchanges.insert(number, kept)?;
-    Ok(())
-}
-
-/// Keeps an exchange under its number, unless its request is done.
+/// Keeps an exchange under its number, behind all others, unless its request is done.
 fn keep<W: Served>(
-    exchanges: &mut BTreeMap<u64, KeptExchange<W>>,
+    exchanges: &mut VecDeque<KeptExchange<W>>,
     number: u64,
     core: ClientCore<W>,
     addr: SocketAddr,
 ) -> Result<(), OutOfMemory>
-    ensures here { OnOk result (get nat_cmp exchanges.new number ≡ (if state_is_spent core.state then get nat_cmp exchanges.old number else Some (record { core = core; addr = addr }))) }
-    ensures others { OnOk result ((c : ℕ) → c ≢ number → get nat_cmp exchanges.new c ≡ get nat_cmp exchanges.old c) }
+    ensures kept { OnOk result (exchanges.new.items ≡ exchanges.old.items ++ (if state_is_spent core.state then [] else record { number = number; core = core; addr = addr } ∷ [])) }
     ensures spent { OnOk result ((answers : Serving) (s : Slate) → Stands (request_answer W.Future.answer W.Stream.answer) answers core s → state_is_spent core.state ≡ is_spent s) }
 {
     if core.is_spent() {
         return Ok(());
     }
-    put(exchanges, number, KeptExchange { core, addr })?;
+    exchanges.push_back(KeptExchange { number, core, addr })?;
     Ok(())
+}
+
+/// Keeps an exchange that began, unless its request is done, and gives what is sent for it.
+fn enter<W: Served>(
+    exchanges: &mut VecDeque<KeptExchange<W>>,
+    number: u64,
+    core: ClientCore<W>,
+    addr: SocketAddr,
+    outs: Vec<Output>,
+) -> Result<Option<Letter>, OutOfMemory>
+    ensures letter { IfOk result (λ letter. letter ≡ letter_to (last_octets outs.items) addr) }
+    ensures kept { OnOk result (exchanges.new.items ≡ exchanges.old.items ++ (if state_is_spent core.state then [] else record { number = number; core = core; addr = addr } ∷ [])) }
+    ensures spent { OnOk result ((answers : Serving) (s : Slate) → Stands (request_answer W.Future.answer W.Stream.answer) answers core s → state_is_spent core.state ≡ is_spent s) }
+{
+    let letter = letter_to(only_datagram(outs), addr);
+    match keep(exchanges, number, core, addr) {
+        Ok(()) => Ok(letter),
+        Err(e) => Err(e),
+    }
 }
 
 /// Begins the exchange of a datagram, by what was heard of the book. What is sent at once is answered.
 pub(crate) fn begin<W: Served>(
     alloc: Global,
     service: &W,
-    exchanges: &mut BTreeMap<u64, KeptExchange<W>>,
+    exchanges: &mut VecDeque<KeptExchange<W>>,
     event: &Event,
     addr: SocketAddr,
     octets: &[u8],
@@ -95,8 +100,8 @@ pub(crate) fn begin<W: Served>(
 ) -> Result<Option<Letter>, OutOfMemory>
     requires can_call { W.can_call service.now }
     requires running { heard.now.closed ≡ false }
-    ensures here { IfOk result (λ letter. Begun (request_answer W.Future.answer W.Stream.answer) (serving (W.answer service.now) (W.hint service.now)) heard.now event.now addr octets.now (get nat_cmp exchanges.old event.now.client) letter (get nat_cmp exchanges.new event.now.client)) }
-    ensures others { OnOk result ((c : ℕ) → c ≢ event.now.client → get nat_cmp exchanges.new c ≡ get nat_cmp exchanges.old c) }
+    ensures here { IfOk result (λ letter. Begun (request_answer W.Future.answer W.Stream.answer) (serving (W.answer service.now) (W.hint service.now)) heard.now event.now addr octets.now (kept_at event.now.client exchanges.old.items) letter (kept_at event.now.client exchanges.new.items)) }
+    ensures others { OnOk result ((c : ℕ) → c ≢ event.now.client → kept_at c exchanges.new.items ≡ kept_at c exchanges.old.items) }
 {
     let (core, outs) = ClientCore::datagram(
         alloc,
@@ -108,8 +113,8 @@ pub(crate) fn begin<W: Served>(
         octets,
         heard,
     )?;
-    keep(exchanges, event.client, core, addr)?;
-    Ok(letter_to(only_datagram(outs), addr))
+    let letter = enter(exchanges, event.client, core, addr, outs)?;
+    Ok(letter)
 }
 
 /// A Turn of an exchange that is kept: what is sent for it, and whether its request is done.
@@ -121,58 +126,70 @@ fn turn_kept<W: Served>(
 ) -> Result<(Option<Letter>, bool), OutOfMemory>
     requires can_call { W.can_call service.now }
     requires kind { event.now.kind ≡ Turn 0 }
-    ensures { IfOk result (λ p. TurnedOne (request_answer W.Future.answer W.Stream.answer) (serving (W.answer service.now) (W.hint service.now)) event.now kept.old p.0 p.1 kept.new) }
+    ensures number { kept.new.number ≡ kept.old.number }
+    ensures turned { IfOk result (λ p. TurnedOne (request_answer W.Future.answer W.Stream.answer) (serving (W.answer service.now) (W.hint service.now)) event.now kept.old p.0 p.1 kept.new) }
 {
     let outs = kept.core.step(alloc, service, event)?;
     let letter = letter_to(only_datagram(outs), kept.addr);
     Ok((letter, kept.core.is_spent()))
 }
 
-/// The same of the exchange of a number, if there is one.
-fn turn_there<W: Served>(
+/// A Turn of the exchange at a place.
+fn turn_item<W: Served>(
     alloc: Global,
     service: &W,
-    exchanges: &mut BTreeMap<u64, KeptExchange<W>>,
-    number: u64,
+    exchanges: &mut VecDeque<KeptExchange<W>>,
+    at: usize,
     event: &Event,
 ) -> Result<(Option<Letter>, bool), OutOfMemory>
     requires can_call { W.can_call service.now }
     requires kind { event.now.kind ≡ Turn 0 }
-    ensures here { IfOk result (λ p. TurnedThere (request_answer W.Future.answer W.Stream.answer) (serving (W.answer service.now) (W.hint service.now)) event.now (get nat_cmp exchanges.old number) p.0 p.1 (get nat_cmp exchanges.new number)) }
-    ensures others { OnOk result ((c : ℕ) → c ≢ number → get nat_cmp exchanges.new c ≡ get nat_cmp exchanges.old c) }
+    requires there { at < deque_len exchanges.old }
+    ensures { IfOk result (λ p. TurnedItem (request_answer W.Future.answer W.Stream.answer) (serving (W.answer service.now) (W.hint service.now)) at event.now exchanges.old.items p.0 p.1 exchanges.new.items) }
 {
-    match exchanges.get_mut(&number) {
-        None => Ok((None, false)),
-        Some(kept) => {
-            let (letter, done) = turn_kept(alloc, service, kept, event)?;
-            Ok((letter, done))
-        }
-    }
+    let (letter, done) = turn_kept(alloc, service, &mut exchanges[at], event)?;
+    Ok((letter, done))
 }
 
 /// An exchange whose request is done is kept no more.
-fn leave<W: Served>(exchanges: &mut BTreeMap<u64, KeptExchange<W>>, number: u64, done: bool)
-    ensures here { get nat_cmp exchanges.new number ≡ (if done then None else get nat_cmp exchanges.old number) }
-    ensures others { (c : ℕ) → c ≢ number → get nat_cmp exchanges.new c ≡ get nat_cmp exchanges.old c }
+fn leave<W: Served>(exchanges: &mut VecDeque<KeptExchange<W>>, at: usize, done: bool)
+    requires { at < deque_len exchanges.old }
+    ensures { exchanges.new.items ≡ (if done then remove exchanges.old.items at else exchanges.old.items) }
 {
     if done {
-        let _done = exchanges.remove(&number);
+        let _done = exchanges.remove(at);
     }
 }
 
-/// A Turn of the exchange of its number, if there is one. One whose request is done is kept no more.
+/// The number of the exchange at a place, where there is one.
+pub(crate) fn number_at<W: Served>(exchanges: &VecDeque<KeptExchange<W>>, at: usize) -> Option<u64>
+    ensures number { MatchOption result (drop at (numbers_of exchanges.now.items) ≡ []) (λ n. drop at (numbers_of exchanges.now.items) ≡ n ∷ drop (at + 1) (numbers_of exchanges.now.items)) }
+    ensures there { IsSome result → at < deque_len exchanges.now }
+    ensures room { IsSome result → at < 2 ^ 63 }
+{
+    if at >= exchanges.len() {
+        return None;
+    }
+    Some(exchanges[at].number)
+}
+
+/// A Turn of the exchange at a place: what is sent for it, and whether its request is done, and it is kept no more.
 pub(crate) fn turn_at<W: Served>(
     alloc: Global,
     service: &W,
-    exchanges: &mut BTreeMap<u64, KeptExchange<W>>,
+    exchanges: &mut VecDeque<KeptExchange<W>>,
+    at: usize,
     event: &Event,
-) -> Result<Option<Letter>, OutOfMemory>
+) -> Result<(Option<Letter>, bool), OutOfMemory>
     requires can_call { W.can_call service.now }
     requires kind { event.now.kind ≡ Turn 0 }
-    ensures here { IfOk result (λ letter. Turned (request_answer W.Future.answer W.Stream.answer) (serving (W.answer service.now) (W.hint service.now)) event.now (get nat_cmp exchanges.old event.now.client) letter (get nat_cmp exchanges.new event.now.client)) }
-    ensures others { OnOk result ((c : ℕ) → c ≢ event.now.client → get nat_cmp exchanges.new c ≡ get nat_cmp exchanges.old c) }
+    requires there { at < deque_len exchanges.old }
+    requires number { drop at (numbers_of exchanges.old.items) ≡ event.now.client ∷ drop (at + 1) (numbers_of exchanges.old.items) }
+    ensures here { IfOk result (λ p. Turned (request_answer W.Future.answer W.Stream.answer) (serving (W.answer service.now) (W.hint service.now)) event.now (kept_at event.now.client exchanges.old.items) p.0 (kept_at event.now.client exchanges.new.items)) }
+    ensures others { OnOk result ((c : ℕ) → c ≢ event.now.client → kept_at c exchanges.new.items ≡ kept_at c exchanges.old.items) }
+    ensures owed { IfOk result (λ p. drop (if p.1 then at else at + 1) (numbers_of exchanges.new.items) ≡ drop (at + 1) (numbers_of exchanges.old.items)) }
 {
-    let (letter, done) = turn_there(alloc, service, exchanges, event.client, event)?;
-    leave(exchanges, event.client, done);
-    Ok(letter)
+    let (letter, done) = turn_item(alloc, service, exchanges, at, event)?;
+    leave(exchanges, at, done);
+    Ok((letter, done))
 }

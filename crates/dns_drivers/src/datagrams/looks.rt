@@ -5,9 +5,9 @@ ghost use Rattle.dns_outside.specs.Causes.{Tells};
 ghost use Rattle.dns_client.specs.Serving.{serving};
 ghost use Rattle.dns_service.specs.PolledRequest.{request_answer};
 ghost use Rattle.dns_drivers.specs.Steps.{NotedWide};
-ghost use Rattle.dns_drivers.specs.DatagramsServed.{OnlyLooks, world};
+ghost use Rattle.dns_drivers.specs.DatagramsServed.{world};
 ghost use Rattle.dns_drivers.specs.DatagramSteps.{NewsNoted, hears};
-ghost use Rattle.dns_drivers.specs.DatagramLoop.{Looks, Fails};
+ghost use Rattle.dns_drivers.specs.DatagramLoop.{Looks, Fails, Passes};
 
 use crate::datagrams::running::Running;
 use crate::hearing::{note_shutdown, note_version};
@@ -19,19 +19,16 @@ use dns_service::{OutOfMemory, Served};
 use std::alloc::Global;
 use std::sync::Wait;
 
-/// What was heard, with a look more. After a shutdown the configurations stay.
-fn heard_with(heard: &Look, look: &Look) -> Look
-    ensures { result ≡ hears heard.now look.now }
+/// Hears a look. After a shutdown the configurations stay.
+fn hear_look(heard: &mut Look, look: &Look)
+    ensures { heard.new ≡ hears heard.old look.now }
 {
-    let closed = heard.closed || look.closed;
     if heard.closed || look.version == heard.version {
-        return Look {
-            version: look.version,
-            closed,
-            ..*heard
-        };
+        heard.version = look.version;
+        heard.closed = heard.closed || look.closed;
+        return;
     }
-    Look { closed, ..*look }
+    *heard = *look;
 }
 
 /// Notes the news of a look, and hears them.
@@ -45,16 +42,17 @@ pub(crate) fn hear_news<C: Clock, J: Recorder>(
     ensures told { OnOk result (Tells (C.tells clock.new × J.tells journal.new) (C.tells clock.old × J.tells journal.old)
         (NewsNoted heard.old look.now (J.noted journal.old) (J.noted journal.new) (C.readings clock.old) (C.readings clock.new))) }
     ensures heard { OnOk result (heard.new ≡ hears heard.old look.now) }
+    ensures unheard { OnErr result (heard.new ≡ heard.old) }
     ensures no_memory { OnErr result (Tells (C.tells clock.new × J.tells journal.new) (C.tells clock.old × J.tells journal.old)
         (NotedWide (J.noted journal.old) (J.noted journal.new))) }
 {
     note_version(alloc, clock, journal, heard, look)?;
     note_shutdown(alloc, clock, journal, heard, look)?;
-    *heard = heard_with(heard, look);
+    hear_look(heard, look);
     Ok(())
 }
 
-#[tactic(auto, using(crate::proofs::DatagramSeats::only_one))]
+#[tactic(auto, using(crate::proofs::DatagramPasses::passes_look, crate::proofs::DatagramPasses::passes_unheard))]
 /// One look, and its news.
 pub(crate) fn look_once<R: Wait, D: AsyncDgramSock, C: Clock, J: Recorder, W: Served>(
     rt: &R,
@@ -69,7 +67,8 @@ pub(crate) fn look_once<R: Wait, D: AsyncDgramSock, C: Clock, J: Recorder, W: Se
 ) -> Result<(), OutOfMemory>
     requires { seat.old.book ≡ book.now }
     ensures next { OnOk result (state.new.next ≡ state.old.next) }
-    ensures seat { OnlyLooks seat.old.known seat.new.known }
+    ensures exchanges { OnOk result (state.new.exchanges ≡ state.old.exchanges) }
+    ensures passes { Passes seat.old.known seat.new.known state.old state.new (D.failed_sends _sock.now) (D.failed_sends _sock.now) }
     ensures book { seat.new.book ≡ seat.old.book }
     ensures told { OnOk result (Tells (C.tells clock.new × J.tells journal.new) (C.tells clock.old × J.tells journal.old)
         (Looks (request_answer W.Future.answer W.Stream.answer) (serving (W.answer _service.now) (W.hint _service.now))

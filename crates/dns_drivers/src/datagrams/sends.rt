@@ -1,10 +1,11 @@
 //! Letters are sent.
 
-ghost use Rattle.std.specs.Prelude.{◌≡◌, ◌≤◌, OnOk, OnErr};
+ghost use Rattle.std.specs.Prelude.{◌≡◌, ◌≤◌, [], ◌∷◌, OnOk, OnErr};
 ghost use Rattle.dns_outside.specs.Causes.{Tells};
-ghost use Rattle.dns_drivers.specs.DatagramSteps.{Sends, SendsTo, SendsCause, Unsent, listed};
+ghost use Rattle.dns_service.specs.declared.event.EventKind.TheVariants.{Fault};
+ghost use Rattle.dns_drivers.specs.Notes.{NoteMoves};
+ghost use Rattle.dns_drivers.specs.DatagramSteps.{Sends, SendsTo, SendsCause, SendsRose, Unsent, listed};
 
-use crate::datagrams::notes::note_now;
 use crate::reading::PATIENCE;
 use crate::recorder::Recorder;
 use dns_outside::{AsyncDgramSock, Clock, DgramSend, Letter};
@@ -34,7 +35,7 @@ fn send<R: Wait, D: AsyncDgramSock, C: Clock>(
     ensures sends { D.failed_sends sock.old ≤ D.failed_sends sock.new }
     ensures cause { SendsCause result (D.failed_sends sock.old) (D.failed_sends sock.new) }
     ensures told { Tells (D.tells sock.new × C.tells clock.new) (D.tells sock.old × C.tells clock.old)
-        (SendsTo result letter.now since limit (D.mail sock.old) (D.mail sock.new) (C.readings clock.old) (C.readings clock.new)) }
+        (SendsTo result (letter.now ∷ []) since limit (D.mail sock.old) (D.mail sock.new) (C.readings clock.old) (C.readings clock.new)) }
 {
     for _ in rt.forever() {
         match sock.poll_send_to(letter.octets.as_slice(), letter.addr) {
@@ -52,44 +53,75 @@ fn send<R: Wait, D: AsyncDgramSock, C: Clock>(
     unreachable!()
 }
 
-#[tactic(auto, using(crate::proofs::DatagramPosting::sends_none, crate::proofs::DatagramPosting::sends_whole, crate::proofs::DatagramPosting::sends_late, crate::proofs::DatagramPosting::sends_failed, crate::proofs::DatagramPosting::unsent_posts))]
-/// Sends what an event led to, where that is a letter. Where it isn't sent a Fault is noted.
+#[tactic(auto, using(crate::proofs::DatagramPosting::sent_none))]
+/// Sends a letter, where there is one.
+fn post<R: Wait, D: AsyncDgramSock, C: Clock>(
+    rt: &R,
+    sock: &mut D,
+    clock: &mut C,
+    letter: Option<Letter>,
+    since: u64,
+    limit: u64,
+) -> SendEnd
+    ensures receives { D.failed_receives sock.new ≡ D.failed_receives sock.old }
+    ensures sends { D.failed_sends sock.old ≤ D.failed_sends sock.new }
+    ensures cause { SendsCause result (D.failed_sends sock.old) (D.failed_sends sock.new) }
+    ensures told { Tells (D.tells sock.new × C.tells clock.new) (D.tells sock.old × C.tells clock.old)
+        (SendsTo result (listed letter) since limit (D.mail sock.old) (D.mail sock.new) (C.readings clock.old) (C.readings clock.new)) }
+{
+    match letter {
+        Some(letter) => send(rt, sock, clock, &letter, since, limit),
+        None => SendEnd::Sent,
+    }
+}
+
+/// Notes a Fault of an exchange at a moment.
+fn note_fault<J: Recorder>(
+    alloc: Global,
+    journal: &mut J,
+    at: u64,
+    secs: u64,
+    client: u64,
+) -> Result<(), OutOfMemory>
+    ensures { Tells (J.tells journal.new) (J.tells journal.old) (NoteMoves result (record { at = at; secs = secs; client = client; kind = Fault }) (J.noted journal.old) (J.noted journal.new)) }
+{
+    let fault = Event {
+        at,
+        secs,
+        client,
+        kind: EventKind::Fault,
+    };
+    journal.note(alloc, &fault)
+}
+
+/// Sends what an event led to, where that is a letter. Where it isn't sent a Fault is noted; whether a send failed is kept.
 pub(crate) fn deliver<R: Wait, D: AsyncDgramSock, C: Clock, J: Recorder>(
     rt: &R,
     alloc: Global,
     sock: &mut D,
     clock: &mut C,
     journal: &mut J,
+    send_failed: &mut bool,
     event: &Event,
     letter: Option<Letter>,
     limit: u64,
 ) -> Result<(), OutOfMemory>
     ensures receives { D.failed_receives sock.new ≡ D.failed_receives sock.old }
     ensures sends { D.failed_sends sock.old ≤ D.failed_sends sock.new }
+    ensures rose { SendsRose send_failed.old send_failed.new (D.failed_sends sock.old) (D.failed_sends sock.new) }
     ensures told { OnOk result (Tells (D.tells sock.new × C.tells clock.new × J.tells journal.new) (D.tells sock.old × C.tells clock.old × J.tells journal.old)
         (Sends event.now (listed letter) limit (J.noted journal.old) (J.noted journal.new) (D.mail sock.old) (D.mail sock.new)
         (D.failed_sends sock.old) (D.failed_sends sock.new) (C.readings clock.old) (C.readings clock.new))) }
     ensures no_memory { OnErr result (Tells (D.tells sock.new × C.tells clock.new × J.tells journal.new) (D.tells sock.old × C.tells clock.old × J.tells journal.old)
         (Unsent (J.noted journal.old) (J.noted journal.new) (D.mail sock.old) (D.mail sock.new))) }
 {
-    let Some(letter) = letter else {
-        return Ok(());
-    };
-    match send(rt, sock, clock, &letter, event.at, limit) {
+    match post(rt, sock, clock, letter, event.at, limit) {
         SendEnd::Sent => Ok(()),
-        SendEnd::Late(at, secs) => {
-            let fault = Event {
-                at,
-                secs,
-                client: event.client,
-                kind: EventKind::Fault,
-            };
-            journal.note(alloc, &fault)?;
-            Ok(())
-        }
+        SendEnd::Late(at, secs) => note_fault(alloc, journal, at, secs, event.client),
         SendEnd::Failed => {
-            note_now(alloc, clock, journal, event.client, EventKind::Fault)?;
-            Ok(())
+            *send_failed = true;
+            let (at, secs) = clock.now();
+            note_fault(alloc, journal, at, secs, event.client)
         }
     }
 }

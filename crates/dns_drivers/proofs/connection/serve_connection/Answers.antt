@@ -1,7 +1,5 @@
-use Rattle.std.proofs.Common.{arith}
 use Rattle.dns_client.specs.Serving.{serving}
-use Rattle.dns_drivers.proofs.Ends.{looks_release, timed_whole}
-use Rattle.dns_drivers.proofs.Goings.{cause_released}
+use Rattle.dns_drivers.proofs.Ends.{timed_whole}
 use Rattle.dns_drivers.proofs.connection.serve_connection.Goals as goal
 
 pub returns-in-Ok-clause-clock : goal.returns-in-Ok-clause-clock
@@ -16,15 +14,3 @@ returns-in-Ok-clause-clock g c = record {
             (g.C.Clock.readings c.args.clock.now) (g.C.Clock.readings c.serve_offer-served.new.clock) o.1 a.1 v.1,
       );
 }
-
-pub returns-in-Ok-clause-cause : goal.returns-in-Ok-clause-cause
-returns-in-Ok-clause-cause g c =
-    let same = c.close.ensures.same in
-    cause_released c.in-Ok.why c.args.seat.known c.serve_offer-served.new.seat.known c.release.new.seat.known (g.L.Link.faults c.args.link.now) (g.L.Link.faults c.serve_offer-served.new.link) (g.L.Link.faults c.close.new.self) c.release.result
-    c.in-Ok.ensures.cause c.serve_offer-served.ensures.seat.name c.release.ensures.called (omega arith)
-
-pub returns-in-Ok-clause-seat : goal.returns-in-Ok-clause-seat
-returns-in-Ok-clause-seat g c = looks_release c.args.seat.known c.serve_offer-served.new.seat.known c.release.new.seat.known c.release.result c.serve_offer-served.ensures.seat c.release.ensures.called
-
-pub returns-in-Err-clause-seat : goal.returns-in-Err-clause-seat
-returns-in-Err-clause-seat g c = looks_release c.args.seat.known c.serve_offer-served.new.seat.known c.release.new.seat.known c.release.result c.serve_offer-served.ensures.seat c.release.ensures.called

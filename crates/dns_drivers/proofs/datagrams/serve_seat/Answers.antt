@@ -1,21 +1,21 @@
+use Rattle.std.proofs.Common.{◌∙◌}
 use Rattle.dns_client.specs.Serving.{serving}
 use Rattle.dns_service.specs.PolledRequest.{request_answer}
-use Rattle.dns_drivers.proofs.DatagramTellings.{on_err, tells_cj, tells_cj_dcj}
-use Rattle.dns_drivers.proofs.DatagramStarts.{first_fails, served_by, served_fails}
-use Rattle.dns_drivers.proofs.DatagramSeats.{only_one, only_then}
+use Rattle.dns_drivers.proofs.DatagramTellings.{tells_cj, tells_cj_dcj}
+use Rattle.dns_drivers.proofs.DatagramStarts.{first_fails, served_by}
+use Rattle.dns_drivers.proofs.DatagramPasses.{passes_first, looks_first}
 use Rattle.dns_drivers.proofs.datagrams.serve_seat.Goals as goal
 
-pub returns-in_err-hear_news-clause-no_memory : goal.returns-in_err-hear_news-clause-no_memory
-returns-in_err-hear_news-clause-no_memory g c = on_err c.from_residual.result (tells_cj c.in_err-hear_news.ensures.no_memory (first_fails (serving (g.W.Served.answer c.args.service.now) (g.W.Served.hint c.args.service.now)) c.look-first.ensures.called))
+pub returns-in_default-clause-seat : goal.returns-in_default-clause-seat
+returns-in_default-clause-seat g c = looks_first _ c.args.seat.now.known c.look-first.new.seat.known c.look-first.result c.look-first.ensures.called (λ e. absurd (cc e))
 
-pub returns-in_err-end-clause-seat : goal.returns-in_err-end-clause-seat
-returns-in_err-end-clause-seat g c = only_then c.args.seat.now.known c.look-first.new.seat.known c.serve_all.new.seat.known (only_one c.args.seat.now.known c.look-first.new.seat.known c.look-first.result c.look-first.ensures.called) c.in_err-end.ensures.seat
-
-pub returns-in_err-end-clause-no_memory : goal.returns-in_err-end-clause-no_memory
-returns-in_err-end-clause-no_memory g c = on_err c.from_residual-in_err-end.result (tells_cj_dcj c.in_ok-hear_news.ensures.told (rw c.in_ok-hear_news.ensures.heard at c.in_err-end.ensures.no_memory) (served_fails (request_answer g.W.Future.ReplyFuture.answer g.W.Stream.ReplyStream.answer) (serving (g.W.Served.answer c.args.service.now) (g.W.Served.hint c.args.service.now)) c.begun-state.result c.begun-state.ensures.empty c.begun-state.ensures.next c.begun-state.ensures.heard c.look-first.ensures.called))
+pub returns-in_default-clause-told : goal.returns-in_default-clause-told
+returns-in_default-clause-told g c = tells_cj c.in_default.ensures.no_memory (first_fails (serving (g.W.Served.answer c.args.service.now) (g.W.Served.hint c.args.service.now)) c.look-first.ensures.called)
 
 pub returns-clause-seat : goal.returns-clause-seat
-returns-clause-seat g c = only_then c.args.seat.now.known c.look-first.new.seat.known c.serve_all.new.seat.known (only_one c.args.seat.now.known c.look-first.new.seat.known c.look-first.result c.look-first.ensures.called) c.in_ok-end.ensures.seat
+returns-clause-seat g c = passes_first c.serve_all-end.result c.look-first.result c.args.seat.now.known c.look-first.new.seat.known c.serve_all-end.new.seat.known c.begun-state.result c.serve_all-end.new.state _ _
+    c.look-first.ensures.called (c.begun-state.ensures.heard ∙ c.in-Ok.ensures.heard) c.serve_all-end.ensures.passes c.serve_all-end.ensures.closed
 
 pub returns-clause-told : goal.returns-clause-told
-returns-clause-told g c = tells_cj_dcj c.in_ok-hear_news.ensures.told (rw c.in_ok-hear_news.ensures.heard at c.in_ok-end.ensures.told) (served_by (request_answer g.W.Future.ReplyFuture.answer g.W.Stream.ReplyStream.answer) (serving (g.W.Served.answer c.args.service.now) (g.W.Served.hint c.args.service.now)) _ _ _ c.in_ok-end.end c.args.count c.begun-state.result c.serve_all.new.state c.begun-state.ensures.empty c.begun-state.ensures.next c.begun-state.ensures.heard c.look-first.ensures.called)
+returns-clause-told g c = tells_cj_dcj c.in-Ok.ensures.told c.serve_all-end.ensures.told
+    (served_by (request_answer g.W.Future.ReplyFuture.answer g.W.Stream.ReplyStream.answer) (serving (g.W.Served.answer c.args.service.now) (g.W.Served.hint c.args.service.now)) _ _ _ c.serve_all-end.result c.args.count c.begun-state.result c.serve_all-end.new.state c.begun-state.ensures.empty c.begun-state.ensures.next (c.begun-state.ensures.heard ∙ c.in-Ok.ensures.heard) c.look-first.ensures.called)

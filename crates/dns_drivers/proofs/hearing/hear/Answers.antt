@@ -1,24 +1,44 @@
+use Rattle.std.proofs.Common.{Option}
+use Rattle.dns_outside.specs.Causes.{Tells}
 use Rattle.dns_service.specs.PolledRequest.{request_answer}
-use Rattle.dns_drivers.proofs.Notings.{heard_all}
-use Rattle.dns_drivers.proofs.Timings.{timed_then}
+use Rattle.dns_service.specs.declared.event.Why.{Why}
+use Rattle.dns_drivers.specs.Blames.{HeardFor}
+use Rattle.dns_drivers.specs.Clocks.{Timed}
+use Rattle.dns_drivers.specs.Steps.{SeesLook, HeardNews, NotedWide}
+use Rattle.dns_drivers.proofs.Notings.{heard_news, heard_for, wide_news}
+use Rattle.dns_drivers.proofs.Results.{on_err, if_ok}
 use Rattle.dns_drivers.proofs.hearing.hear.Goals as goal
 
-pub returns-clause-told : goal.returns-clause-told
-returns-clause-told g c = record {
-  told = λ t.
-      let b = c.in_ok-note_shutdown.ensures.told.told t in
-      let a = c.in_ok-note_version.ensures.told.told b.0 in (
-        a.0,
-        heard_all (request_answer g.W.Future.ReplyFuture.answer g.W.Stream.ReplyStream.answer) c.closed_by.result c.args.core.now c.saw.new.self c.args.last.now c.with_look.result c.look-look.result
-            (g.J.Recorder.noted c.args.journal.now) (g.J.Recorder.noted c.note_version.new.journal) (g.J.Recorder.noted c.note_shutdown.new.journal) c.args.seat.now.known c.look-look.new.seat.known c.in_ok-outs.outs.items
-            c.look-look.ensures.called a.1 b.1 c.with_look.ensures c.in_ok-outs.ensures.told c.in_ok-outs.ensures.version (rw c.deref.ensures.value at c.closed_by.ensures),
-      );
-}
+pub returns-in-Ok-clause-told : goal.returns-in-Ok-clause-told
+returns-in-Ok-clause-told g c =
+    if_ok c.see.result (λ (why : Option Why). SeesLook (request_answer g.W.Future.ReplyFuture.answer g.W.Stream.ReplyStream.answer) c.args.core.now c.see.new.core c.look-look.result why)
+    (λ (why : Option Why). Tells (g.J.Recorder.tells c.note_news.new.journal) (g.J.Recorder.tells c.args.journal.now) (HeardNews (request_answer g.W.Future.ReplyFuture.answer g.W.Stream.ReplyStream.answer) why c.args.core.now c.see.new.core c.args.last.now c.with_look.result (g.J.Recorder.noted c.args.journal.now) (g.J.Recorder.noted c.note_news.new.journal) c.args.seat.now.known c.look-look.new.seat.known))
+    (λ why s. record {
+      told = λ t.
+          let a = c.in-Ok.ensures.told.told t in
+          (a.0, heard_news (request_answer g.W.Future.ReplyFuture.answer g.W.Stream.ReplyStream.answer) why c.args.core.now c.see.new.core c.args.last.now c.with_look.result c.look-look.result (g.J.Recorder.noted c.args.journal.now) (g.J.Recorder.noted c.note_news.new.journal) c.args.seat.now.known c.look-look.new.seat.known c.look-look.ensures.called a.1 c.with_look.ensures s);
+    })
+    c.see.ensures
 
-pub returns-clause-clock : goal.returns-clause-clock
-returns-clause-clock g c = record {
-  told = λ t.
-      let b = c.in_ok-note_shutdown.ensures.clock.told t in
-      let a = c.in_ok-note_version.ensures.clock.told b.0 in
-      (a.0, timed_then (g.J.Recorder.noted c.args.journal.now) (g.J.Recorder.noted c.note_version.new.journal) (g.J.Recorder.noted c.note_shutdown.new.journal) 0 0 0 (g.C.Clock.readings c.args.clock.now) (g.C.Clock.readings c.note_version.new.clock) (g.C.Clock.readings c.note_shutdown.new.clock) a.1 b.1);
-}
+pub returns-in-Ok-clause-no_memory : goal.returns-in-Ok-clause-no_memory
+returns-in-Ok-clause-no_memory g c =
+    on_err c.see.result (Tells (g.J.Recorder.tells c.note_news.new.journal) (g.J.Recorder.tells c.args.journal.now) (NotedWide (g.J.Recorder.noted c.args.journal.now) (g.J.Recorder.noted c.note_news.new.journal)))
+    (record {
+      told = λ t.
+          let a = c.in-Ok.ensures.told.told t in
+          (a.0, wide_news c.args.last.now c.look-look.result (g.J.Recorder.noted c.args.journal.now) (g.J.Recorder.noted c.note_news.new.journal) a.1);
+    })
+
+pub returns-in-Ok-clause-clock : goal.returns-in-Ok-clause-clock
+returns-in-Ok-clause-clock g c =
+    if_ok c.see.result (λ (why : Option Why). SeesLook (request_answer g.W.Future.ReplyFuture.answer g.W.Stream.ReplyStream.answer) c.args.core.now c.see.new.core c.look-look.result why)
+    (λ (why : Option Why). Tells (g.C.Clock.tells c.note_news.new.clock × g.J.Recorder.tells c.note_news.new.journal) (g.C.Clock.tells c.args.clock.now × g.J.Recorder.tells c.args.journal.now) (Timed (g.J.Recorder.noted c.args.journal.now) (g.J.Recorder.noted c.note_news.new.journal) 0 0 (g.C.Clock.readings c.args.clock.now) (g.C.Clock.readings c.note_news.new.clock)))
+    (λ why s. c.in-Ok.ensures.clock)
+    c.see.ensures
+
+pub returns-in-Ok-clause-blame : goal.returns-in-Ok-clause-blame
+returns-in-Ok-clause-blame g c =
+    if_ok c.see.result (λ (why : Option Why). SeesLook (request_answer g.W.Future.ReplyFuture.answer g.W.Stream.ReplyStream.answer) c.args.core.now c.see.new.core c.look-look.result why)
+    (λ (why : Option Why). HeardFor (request_answer g.W.Future.ReplyFuture.answer g.W.Stream.ReplyStream.answer) why c.args.core.now c.see.new.core c.args.seat.now.known c.look-look.new.seat.known)
+    (λ why s. heard_for (request_answer g.W.Future.ReplyFuture.answer g.W.Stream.ReplyStream.answer) why c.args.core.now c.see.new.core c.look-look.result c.args.seat.now.known c.look-look.new.seat.known c.look-look.ensures.called s)
+    c.see.ensures

@@ -2,6 +2,7 @@ use Rattle.dns_client.specs.Serving.{serving}
 use Rattle.dns_service.specs.PolledRequest.{request_answer}
 use Rattle.dns_drivers.proofs.DatagramTellings.{on_err, tells_cj, tells_two, tells_cj_dcj}
 use Rattle.dns_drivers.proofs.DatagramEndings.{look_fails, look_over, look_breaks, look_goes, goes_then, breaks_then}
+use Rattle.dns_drivers.proofs.DatagramPasses.{passes_then}
 use Rattle.dns_drivers.proofs.datagrams.receipts.round.Goals as goal
 
 pub returns-in_err-look_once-clause-no_memory : goal.returns-in_err-look_once-clause-no_memory
@@ -22,3 +23,15 @@ returns-in_err-poll_all-in-Made-clause-no_memory g c = on_err c.from_residual-in
 
 pub returns-in_ok-poll_all-in-Made-clause-told : goal.returns-in_ok-poll_all-in-Made-clause-told
 returns-in_ok-poll_all-in-Made-clause-told g c = tells_cj_dcj c.in_ok-look_once.ensures.told (tells_two (rw c.in-Made.is at c.in_ok-receive.ensures.told) c.in_ok-poll_all-in-Made.ensures.told (goes_then (request_answer g.W.Future.ReplyFuture.answer g.W.Stream.ReplyStream.answer) (serving (g.W.Served.answer c.args.service.now) (g.W.Served.hint c.args.service.now)))) (look_goes (request_answer g.W.Future.ReplyFuture.answer g.W.Stream.ReplyStream.answer) (serving (g.W.Served.answer c.args.service.now) (g.W.Served.hint c.args.service.now)))
+
+pub returns-in_err-receive-clause-passes : goal.returns-in_err-receive-clause-passes
+returns-in_err-receive-clause-passes g c = passes_then _ _ _ _ _ _ _ _ _ c.in_ok-look_once.ensures.passes c.in_err-receive.ensures.passes
+
+pub returns-in-Failed-clause-passes : goal.returns-in-Failed-clause-passes
+returns-in-Failed-clause-passes g c = passes_then _ _ _ _ _ _ _ _ _ c.in_ok-look_once.ensures.passes c.in_ok-receive.ensures.passes
+
+pub returns-in_err-poll_all-in-Made-clause-passes : goal.returns-in_err-poll_all-in-Made-clause-passes
+returns-in_err-poll_all-in-Made-clause-passes g c = passes_then _ _ _ _ _ _ _ _ _ c.in_ok-look_once.ensures.passes (passes_then _ _ _ _ _ _ _ _ _ c.in_ok-receive.ensures.passes c.in_err-poll_all-in-Made.ensures.passes)
+
+pub returns-in_ok-poll_all-in-Made-clause-passes : goal.returns-in_ok-poll_all-in-Made-clause-passes
+returns-in_ok-poll_all-in-Made-clause-passes g c = passes_then _ _ _ _ _ _ _ _ _ c.in_ok-look_once.ensures.passes (passes_then _ _ _ _ _ _ _ _ _ c.in_ok-receive.ensures.passes c.in_ok-poll_all-in-Made.ensures.passes)

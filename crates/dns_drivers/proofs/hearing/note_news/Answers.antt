@@ -1,0 +1,19 @@
+use Rattle.dns_drivers.proofs.Notings.{noted_news}
+use Rattle.dns_drivers.proofs.Timings.{timed_then}
+use Rattle.dns_drivers.proofs.hearing.note_news.Goals as goal
+
+pub returns-clause-told : goal.returns-clause-told
+returns-clause-told g c = record {
+  told = λ t.
+      let b = c.in_ok-note_shutdown.ensures.told.told t in
+      let a = c.in_ok-note_version.ensures.told.told b.0 in
+      (a.0, noted_news c.args.last.now c.args.look.now (g.J.Recorder.noted c.args.journal.now) (g.J.Recorder.noted c.note_version.new.journal) (g.J.Recorder.noted c.note_shutdown.new.journal) a.1 b.1);
+}
+
+pub returns-clause-clock : goal.returns-clause-clock
+returns-clause-clock g c = record {
+  told = λ t.
+      let b = c.in_ok-note_shutdown.ensures.clock.told t in
+      let a = c.in_ok-note_version.ensures.clock.told b.0 in
+      (a.0, timed_then (g.J.Recorder.noted c.args.journal.now) (g.J.Recorder.noted c.note_version.new.journal) (g.J.Recorder.noted c.note_shutdown.new.journal) 0 0 0 (g.C.Clock.readings c.args.clock.now) (g.C.Clock.readings c.note_version.new.clock) (g.C.Clock.readings c.note_shutdown.new.clock) a.1 b.1);
+}
