@@ -1,5 +1,6 @@
 -- How a host was served.
 use Rattle.std.proofs.Common.{◌≡◌, ℕ, Bool, true, false, List, refl, sym, ◌∙◌, subst, ◌⊎◌, inl, inr}
+use Rattle.std.specs.Prelude.{◌||◌}
 use Rattle.dns_name.specs.declared.address.SocketAddr.{SocketAddr}
 use Rattle.dns_admission.specs.declared.look.Look.{Look}
 use Rattle.dns_admission.specs.declared.call.Call.TheVariants.{Shutdown as ToShutdown}
@@ -13,16 +14,16 @@ use Rattle.dns_outside.specs.Mail.{Mail}
 use Rattle.dns_service.specs.declared.event.Event.{Event}
 use Rattle.dns_client.specs.Serving.{Serving}
 use Rattle.dns_drivers.specs.Clocks.{ClockReading}
-use Rattle.dns_drivers.specs.DatagramsServed.{world}
+use Rattle.dns_drivers.specs.DatagramsServed.{world, ReceivesBy, RoseIf}
 use Rattle.dns_drivers.specs.declared.datagrams.DgramEnd.{DgramEnd}
 use Rattle.dns_drivers.specs.declared.datagrams.DgramEnd.TheVariants.{Shutdown as DgramShutdown, Counted as DgramCounted, Fault as DgramFault, OutOfMemory as DgramOutOfMemory}
 use Rattle.dns_host.specs.Accepting.{AcceptTurn, Gave, TookTurns, AcceptsTo}
 use Rattle.dns_host.specs.Arrivals.{RoseWhere}
-use Rattle.dns_host.specs.Hosting.{host_end, host_world, AcceptsBeside, DgramsBeside, AcceptsWent, BothServed, NeitherBegan}
+use Rattle.dns_host.specs.Hosting.{host_end, host_world, HostRose, AcceptsBeside, DgramsBeside, AcceptsWent, BothServed, NeitherBegan}
 use Rattle.dns_host.specs.declared.accepts.AcceptEnd.{AcceptEnd}
 use Rattle.dns_host.specs.declared.accepts.AcceptEnd.TheVariants.{Shutdown as AcceptShutdown, Counted as AcceptCounted, OutOfMemory as AcceptOutOfMemory}
 use Rattle.dns_host.specs.declared.host.HostEnd.{HostEnd}
-use Rattle.dns_host.specs.declared.host.HostEnd.TheVariants.{OutOfMemory, HostFault}
+use Rattle.dns_host.specs.declared.host.HostEnd.TheVariants.{Done, OutOfMemory, HostFault}
 
 -- after the loop the works were joined, which gives none
 turns_joined : (turns : List AcceptTurn) (more : List Entry) (na mp np before works works' : Type 0) (k k' : Known) (a b : Door) (h h' : List SocketAddr) (f f' : ℕ) →
@@ -59,22 +60,24 @@ accepts_joined AcceptOutOfMemory count na mp np before k k' a b g h h' f f' t s 
       (λ same w. elim w [ inl x ↦ inl (gave_joined _ g h h' same x) | inr x ↦ inr (gave_joined _ g h h' same x) ]) s.turned;
 }
 
-pub both_served : (answers : Serving) (end : HostEnd) (count : ℕ) (accepts_end : AcceptEnd) (dgrams_end : DgramEnd) (risen : Bool) (look : Look)
+pub both_served : (answers : Serving) (end : HostEnd) (count : ℕ) (accepts_end : AcceptEnd) (dgrams_end : DgramEnd) (risen send_failed : Bool) (look : Look)
     (na mp np before mail_now mail_before other : Type 0) (k one two first second joined k' : Known)
     (a b : Door) (g h h' : List SocketAddr) (n n' : List Event) (m m' : Mail) (c c' : List ClockReading) (f f' p p1 p' r r' s s' : ℕ) →
     one ≡ first_half k → two ≡ second_half k →
     AcceptsBeside accepts_end count (na × mp) before one first a b g h f f' → RoseWhere risen f f' p p1 →
-    DgramsBeside answers dgrams_end count mail_now mail_before two second (world n m s c) (world n' m' s' c') → (dgrams_end ≡ DgramFault → Rose r r') →
-    Tells np mp (h' ≡ h) → p' ≡ p1 → Joined first second joined → Called joined ToShutdown (Shown look) k' → end ≡ host_end dgrams_end accepts_end risen →
+    DgramsBeside answers dgrams_end count mail_now mail_before two second (world n m s c) (world n' m' s' c') → ReceivesBy dgrams_end r r' → RoseIf send_failed s s' →
+    Tells np mp (h' ≡ h) → p' ≡ p1 → Joined first second joined → Called joined ToShutdown (Shown look) k' → end ≡ host_end dgrams_end accepts_end (risen || send_failed) →
     BothServed answers end count (na × np) before mail_now mail_before k k' (host_world a g n m c f p r s) (host_world b h' n' m' c' f' p' r' s') ⊎ other
-both_served answers end count accepts_end dgrams_end risen look na mp np before mail_now mail_before other k one two first second joined k'
-    a b g h h' n n' m m' c c' f f' p p1 p' r r' s s' halves others accepted rose served failed given starts join shut ends = inl (record {
+both_served answers end count accepts_end dgrams_end risen send_failed look na mp np before mail_now mail_before other k one two first second joined k'
+    a b g h h' n n' m m' c c' f f' p p1 p' r r' s s' halves others accepted rose served receives sends given starts join shut ends = inl (record {
       accepts_end = accepts_end;
       dgrams_end = dgrams_end;
       risen = risen;
+      send_failed = send_failed;
       end_is = ends;
       rose = rw starts rose;
-      failed = failed;
+      receives = receives;
+      sends = sends;
       first = first;
       second = second;
       joined = joined;
@@ -91,26 +94,30 @@ both_served answers end count accepts_end dgrams_end risen look na mp np before 
 pub neither_began : (end : HostEnd) (look : Look) (k k' : Known) (other same : Type 0) → end ≡ OutOfMemory → Called k ToShutdown (Shown look) k' → same → other ⊎ (NeitherBegan end k k' × same)
 neither_began end look k k' other same is shut h = inr (record { end_is = is; shut = record { look = look; called = shut } }, h)
 
--- a fault is answered only where something failed
-pub fault_rose : (dgrams_end : DgramEnd) (accepts_end : AcceptEnd) (risen : Bool) (f f' p p' r r' : ℕ) → RoseWhere risen f f' p p' → (dgrams_end ≡ DgramFault → Rose r r') →
-    host_end dgrams_end accepts_end risen ≡ HostFault → (Rose f f' ⊎ Rose p p') ⊎ Rose r r'
-fault_rose DgramOutOfMemory accepts_end risen f f' p p' r r' rose failed is = absurd (cc is)
-fault_rose DgramFault accepts_end risen f f' p p' r r' rose failed is = inr (failed refl)
-fault_rose DgramShutdown AcceptOutOfMemory risen f f' p p' r r' rose failed is = absurd (cc is)
-fault_rose DgramCounted AcceptOutOfMemory risen f f' p p' r r' rose failed is = absurd (cc is)
-fault_rose DgramShutdown AcceptShutdown true f f' p p' r r' rose failed is = inl rose
-fault_rose DgramShutdown AcceptCounted true f f' p p' r r' rose failed is = inl rose
-fault_rose DgramCounted AcceptShutdown true f f' p p' r r' rose failed is = inl rose
-fault_rose DgramCounted AcceptCounted true f f' p p' r r' rose failed is = inl rose
-fault_rose DgramShutdown AcceptShutdown false f f' p p' r r' rose failed is = absurd (cc is)
-fault_rose DgramShutdown AcceptCounted false f f' p p' r r' rose failed is = absurd (cc is)
-fault_rose DgramCounted AcceptShutdown false f f' p p' r r' rose failed is = absurd (cc is)
-fault_rose DgramCounted AcceptCounted false f f' p p' r r' rose failed is = absurd (cc is)
+-- a fault is answered exactly where something failed, unless memory was wanting
+any_rose : (end : Bool → HostEnd) (risen send_failed : Bool) (f f' p p' r r' s s' : ℕ) → end true ≡ HostFault → end false ≡ Done → RoseWhere risen f f' p p' → r' ≡ r → RoseIf send_failed s s' →
+    HostRose (end (risen || send_failed)) f f' p p' r r' s s'
+any_rose end true send_failed f f' p p' r r' s s' fault done rose same sends = rw fault (inl rose)
+any_rose end false true f f' p p' r r' s s' fault done rose same sends = rw fault (inr (inr sends))
+any_rose end false false f f' p p' r r' s s' fault done rose same sends = rw done (rose.0, rose.1, same, sends)
 
-pub fault_of_host : (end : HostEnd) (dgrams_end : DgramEnd) (accepts_end : AcceptEnd) (risen : Bool) (f f' p p1 p' r r' : ℕ) → end ≡ host_end dgrams_end accepts_end risen →
-    RoseWhere risen f f' p p1 → p' ≡ p1 → (dgrams_end ≡ DgramFault → Rose r r') → end ≡ HostFault → (Rose f f' ⊎ Rose p p') ⊎ Rose r r'
-fault_of_host end dgrams_end accepts_end risen f f' p p1 p' r r' is rose same failed fault =
-    fault_rose dgrams_end accepts_end risen f f' p p' r r' (rw same rose) failed (sym is ∙ fault)
+rose_end : (dgrams_end : DgramEnd) (accepts_end : AcceptEnd) (risen send_failed : Bool) (f f' p p' r r' s s' : ℕ) → RoseWhere risen f f' p p' → ReceivesBy dgrams_end r r' → RoseIf send_failed s s' →
+    HostRose (host_end dgrams_end accepts_end (risen || send_failed)) f f' p p' r r' s s'
+rose_end DgramOutOfMemory accepts_end risen send_failed f f' p p' r r' s s' rose receives sends = tt
+rose_end DgramFault AcceptOutOfMemory risen send_failed f f' p p' r r' s s' rose receives sends = tt
+rose_end DgramShutdown AcceptOutOfMemory risen send_failed f f' p p' r r' s s' rose receives sends = tt
+rose_end DgramCounted AcceptOutOfMemory risen send_failed f f' p p' r r' s s' rose receives sends = tt
+rose_end DgramFault AcceptShutdown risen send_failed f f' p p' r r' s s' rose receives sends = inr (inl receives)
+rose_end DgramFault AcceptCounted risen send_failed f f' p p' r r' s s' rose receives sends = inr (inl receives)
+rose_end DgramShutdown AcceptShutdown risen send_failed f f' p p' r r' s s' rose receives sends = any_rose (host_end DgramShutdown AcceptShutdown) risen send_failed f f' p p' r r' s s' refl refl rose receives sends
+rose_end DgramShutdown AcceptCounted risen send_failed f f' p p' r r' s s' rose receives sends = any_rose (host_end DgramShutdown AcceptCounted) risen send_failed f f' p p' r r' s s' refl refl rose receives sends
+rose_end DgramCounted AcceptShutdown risen send_failed f f' p p' r r' s s' rose receives sends = any_rose (host_end DgramCounted AcceptShutdown) risen send_failed f f' p p' r r' s s' refl refl rose receives sends
+rose_end DgramCounted AcceptCounted risen send_failed f f' p p' r r' s s' rose receives sends = any_rose (host_end DgramCounted AcceptCounted) risen send_failed f f' p p' r r' s s' refl refl rose receives sends
+
+pub rose_of_host : (end : HostEnd) (dgrams_end : DgramEnd) (accepts_end : AcceptEnd) (risen send_failed : Bool) (f f' p p1 p' r r' s s' : ℕ) → end ≡ host_end dgrams_end accepts_end (risen || send_failed) →
+    RoseWhere risen f f' p p1 → p' ≡ p1 → ReceivesBy dgrams_end r r' → RoseIf send_failed s s' → HostRose end f f' p p' r r' s s'
+rose_of_host end dgrams_end accepts_end risen send_failed f f' p p1 p' r r' s s' is rose same receives sends =
+    rw is (rose_end dgrams_end accepts_end risen send_failed f f' p p' r r' s s' (rw same rose) receives sends)
 
 -- what was done to an accept object and a spawner, by what they are afterwards
 pub went_over : (S P : Type 0) (tells : S → Type 0) (door : S → Door) (faults : S → ℕ) (also : P → Type 0) (given : P → List SocketAddr) (refused : P → ℕ)

@@ -1,5 +1,5 @@
 -- How connections and datagrams are served beside each other.
-use Rattle.std.specs.Prelude.{◌≡◌, ◌≤◌, ℕ, List, Bool, true, false}
+use Rattle.std.specs.Prelude.{◌≡◌, ◌≤◌, ◌⊎◌, ℕ, List, Bool, true, false, ◌||◌}
 use Rattle.dns_name.specs.declared.address.SocketAddr.{SocketAddr}
 use Rattle.dns_admission.specs.declared.look.Look.{Look}
 use Rattle.dns_admission.specs.declared.call.Call.TheVariants.{Shutdown as ToShutdown}
@@ -12,7 +12,7 @@ use Rattle.dns_outside.specs.Mail.{Mail}
 use Rattle.dns_service.specs.declared.event.Event.{Event}
 use Rattle.dns_client.specs.Serving.{Serving}
 use Rattle.dns_drivers.specs.Clocks.{ClockReading}
-use Rattle.dns_drivers.specs.DatagramsServed.{World, world, OnlyLooks, ServedTo}
+use Rattle.dns_drivers.specs.DatagramsServed.{World, world, LooksBy, ReceivesBy, RoseIf, ServedTo}
 use Rattle.dns_drivers.specs.declared.datagrams.DgramEnd.{DgramEnd}
 use Rattle.dns_drivers.specs.declared.datagrams.DgramEnd.TheVariants.{Shutdown as DgramShutdown, Counted as DgramCounted, Fault as DgramFault, OutOfMemory as DgramOutOfMemory}
 use Rattle.dns_host.specs.Accepting.{AcceptsTo}
@@ -39,13 +39,20 @@ AcceptsShut AcceptShutdown k k' = k' ≡ k
 AcceptsShut AcceptCounted k k' = k' ≡ k
 AcceptsShut AcceptOutOfMemory k k' = ShutDown k k'
 
--- how a host ends, by how the two end and whether an accept failed or a start was refused
+-- how a host ends, by how the two end and whether an accept or a send failed or a start was refused
 abbrev pub host_end : DgramEnd → AcceptEnd → Bool → HostEnd
 host_end DgramOutOfMemory accepts risen = OutOfMemory
 host_end datagrams AcceptOutOfMemory risen = OutOfMemory
 host_end DgramFault accepts risen = HostFault
 host_end datagrams accepts true = HostFault
 host_end datagrams accepts false = Done
+
+-- The host's count of faults is that of failed accepts, refused starts, failed receives and failed sends. It rose where a host ends by a
+-- fault, and it is the same where it is done.
+abbrev pub HostRose : HostEnd → ℕ → ℕ → ℕ → ℕ → ℕ → ℕ → ℕ → ℕ → Type 0
+HostRose HostFault f f' p p' r r' s s' = (Rose f f' ⊎ Rose p p') ⊎ (Rose r r' ⊎ Rose s s')
+HostRose Done f f' p p' r r' s s' = (f' ≡ f) × (p' ≡ p) × (r' ≡ r) × (s' ≡ s)
+HostRose OutOfMemory f f' p p' r r' s s' = Unit {0}
 
 -- what a host tells, and its counts of faults: failed accepts, refused starts, failed receives and failed sends
 pub record HostWorld : Type 0 where
@@ -76,7 +83,7 @@ pub record AcceptsBeside (end : AcceptEnd) (count : ℕ) (now before : Type 0) (
 -- datagrams, and then perhaps a shutdown
 pub record DgramsBeside (answers : Serving) (end : DgramEnd) (count : ℕ) (now before : Type 0) (k k' : Known) (start stop : Known → World) : Type 0 where
   pub between : Known
-  pub looks : OnlyLooks k between
+  pub looks : LooksBy end k between
   pub served : Tells now before (ServedTo answers end count (start k) (stop between))
   pub shut : DgramsShut end between k'
 
@@ -88,9 +95,10 @@ pub record AcceptsWent (end : AcceptEnd) (risen : Bool) (count : ℕ) (now befor
   pub starts_later : p ≤ p'
 
 -- what datagrams beside accepts did to the seat, the socket, the clock and the journal
-pub record DgramsWent (answers : Serving) (end : DgramEnd) (count : ℕ) (now before : Type 0) (k k' : Known) (start stop : Known → World) (r r' s s' : ℕ) : Type 0 where
+pub record DgramsWent (answers : Serving) (end : DgramEnd) (send_failed : Bool) (count : ℕ) (now before : Type 0) (k k' : Known) (start stop : Known → World) (r r' s s' : ℕ) : Type 0 where
   pub dgrams : DgramsBeside answers end count now before k k' start stop
-  pub failed : end ≡ DgramFault → Rose r r'
+  pub receives : ReceivesBy end r r'
+  pub sends : RoseIf send_failed s s'
   pub receives_later : r ≤ r'
   pub sends_later : s ≤ s'
 
@@ -99,9 +107,11 @@ pub record BothServed (answers : Serving) (end : HostEnd) (count : ℕ) (door_no
   pub accepts_end : AcceptEnd
   pub dgrams_end : DgramEnd
   pub risen : Bool
-  pub end_is : end ≡ host_end dgrams_end accepts_end risen
+  pub send_failed : Bool
+  pub end_is : end ≡ host_end dgrams_end accepts_end (risen || send_failed)
   pub rose : RoseWhere risen h.failed_accepts h'.failed_accepts h.refused_starts h'.refused_starts
-  pub failed : dgrams_end ≡ DgramFault → Rose h.failed_receives h'.failed_receives
+  pub receives : ReceivesBy dgrams_end h.failed_receives h'.failed_receives
+  pub sends : RoseIf send_failed h.failed_sends h'.failed_sends
   pub first : Known
   pub second : Known
   pub joined : Known

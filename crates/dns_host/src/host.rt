@@ -1,18 +1,18 @@
 //! Accepts and datagrams beside each other.
 
-ghost use Rattle.std.specs.Prelude.{◌≡◌, ◌≤◌, ◌⊎◌, MatchOption};
+ghost use Rattle.std.specs.Prelude.{◌≡◌, ◌≤◌, ◌⊎◌, ◌||◌, MatchOption};
 ghost use Rattle.std.specs.Arc.{arc_value};
-ghost use Rattle.dns_outside.specs.Causes.{Rose, Tells};
+ghost use Rattle.dns_outside.specs.Causes.{Tells};
 ghost use Rattle.dns_client.specs.Serving.{serving};
 ghost use Rattle.dns_drivers.specs.DatagramsServed.{world};
 ghost use Rattle.dns_host.specs.Arrivals.{RoseWhere};
-ghost use Rattle.dns_host.specs.Hosting.{host_end, host_world, AcceptsWent, DgramsWent, BothServed, NeitherBegan};
+ghost use Rattle.dns_host.specs.Hosting.{host_end, host_world, HostRose, AcceptsWent, DgramsWent, BothServed, NeitherBegan};
 
 use crate::accepts::{AcceptEnd, accept_all};
 use crate::pre_connect::NoHook;
 use crate::work::ConnectionWork;
 use dns_book::{Book, BookSeat};
-use dns_drivers::{DgramEnd, Recorder, Silent, serve_datagrams};
+use dns_drivers::{DgramEnd, Recorder, Silent, serve_datagrams_and_say};
 use dns_outside::{AsyncAccept, AsyncDgramSock, Clock, Spawner};
 use dns_service::Served;
 use std::alloc::Global;
@@ -40,12 +40,12 @@ pub enum HostEnd {
     Done,
     /// A call found no memory.
     OutOfMemory,
-    /// Something outside failed.
+    /// Something outside failed: an accept, a start of work, a receive or a send.
     HostFault,
 }
 
 /// Serves datagrams from the seat that stands in its place. Where they end by a fault or for want of memory, the book is shut
-/// down.
+/// down. Whether a send failed is given too.
 fn datagrams_beside<R: Wait, D: AsyncDgramSock, C: Clock, J: Recorder, W: Served>(
     rt: &R,
     alloc: Global,
@@ -56,10 +56,10 @@ fn datagrams_beside<R: Wait, D: AsyncDgramSock, C: Clock, J: Recorder, W: Served
     clock: &mut C,
     journal: &mut J,
     count: u64,
-) -> (BookSeat, DgramEnd)
+) -> (BookSeat, DgramEnd, bool)
     requires place { MatchOption place.old ⊥ (λ seat. seat.book ≡ book.now) }
     requires can_call { W.can_call service.now }
-    ensures went { MatchOption place.old ⊥ (λ seat. DgramsWent (serving (W.answer service.now) (W.hint service.now)) result.1 count
+    ensures went { MatchOption place.old ⊥ (λ seat. DgramsWent (serving (W.answer service.now) (W.hint service.now)) result.1 result.2 count
         (D.tells sock.new × C.tells clock.new × J.tells journal.new) (D.tells sock.old × C.tells clock.old × J.tells journal.old) seat.known result.0.known
         (world (J.noted journal.old) (D.mail sock.old) (D.failed_sends sock.old) (C.readings clock.old))
         (world (J.noted journal.new) (D.mail sock.new) (D.failed_sends sock.new) (C.readings clock.new))
@@ -69,7 +69,7 @@ fn datagrams_beside<R: Wait, D: AsyncDgramSock, C: Clock, J: Recorder, W: Served
     let Some(seat) = place.take() else {
         unreachable!()
     };
-    let (mut seat, end) = serve_datagrams(
+    let (mut seat, end, send_failed) = serve_datagrams_and_say(
         rt, alloc, book, seat, service, sock, clock, journal, count,
     );
     match end {
@@ -78,7 +78,7 @@ fn datagrams_beside<R: Wait, D: AsyncDgramSock, C: Clock, J: Recorder, W: Served
         }
         DgramEnd::Shutdown | DgramEnd::Counted => {}
     }
-    (seat, end)
+    (seat, end, send_failed)
 }
 
 /// Accepts connections from the seat that stands in its place. Where that ends for want of memory, the book is shut down.
@@ -148,7 +148,7 @@ fn both_beside<
     clock: &mut C,
     journal: &mut J,
     count: u64,
-) -> ((BookSeat, DgramEnd), (BookSeat, AcceptEnd, bool))
+) -> ((BookSeat, DgramEnd, bool), (BookSeat, AcceptEnd, bool))
 where
     A::Link: Send + Drop + 'static,
     W::Future: Send,
@@ -156,7 +156,7 @@ where
     requires first { first.book ≡ arc_value book.now }
     requires second { second.book ≡ arc_value book.now }
     requires can_call { W.can_call (arc_value service.now) }
-    ensures dgrams { DgramsWent (serving (W.answer (arc_value service.now)) (W.hint (arc_value service.now))) result.0.1 count
+    ensures dgrams { DgramsWent (serving (W.answer (arc_value service.now)) (W.hint (arc_value service.now))) result.0.1 result.0.2 count
         (D.tells sock.new × C.tells clock.new × J.tells journal.new) (D.tells sock.old × C.tells clock.old × J.tells journal.old) second.known result.0.0.known
         (world (J.noted journal.old) (D.mail sock.old) (D.failed_sends sock.old) (C.readings clock.old))
         (world (J.noted journal.new) (D.mail sock.new) (D.failed_sends sock.new) (C.readings clock.new))
@@ -171,10 +171,10 @@ where
     let mut right = Some(second);
     join_mut(
         rt,
-        &mut || -> (BookSeat, DgramEnd)
+        &mut || -> (BookSeat, DgramEnd, bool)
             requires place { MatchOption right ⊥ (λ seat. seat.book ≡ arc_value book.now) }
             requires can_call { W.can_call (arc_value service.now) }
-            ensures went { MatchOption right.entry ⊥ (λ seat. DgramsWent (serving (W.answer (arc_value service.entry.now)) (W.hint (arc_value service.entry.now))) result.1 count
+            ensures went { MatchOption right.entry ⊥ (λ seat. DgramsWent (serving (W.answer (arc_value service.entry.now)) (W.hint (arc_value service.entry.now))) result.1 result.2 count
                 (D.tells sock.exit.now × C.tells clock.exit.now × J.tells journal.exit.now) (D.tells sock.entry.now × C.tells clock.entry.now × J.tells journal.entry.now) seat.known result.0.known
                 (world (J.noted journal.entry.now) (D.mail sock.entry.now) (D.failed_sends sock.entry.now) (C.readings clock.entry.now))
                 (world (J.noted journal.exit.now) (D.mail sock.exit.now) (D.failed_sends sock.exit.now) (C.readings clock.exit.now))
@@ -200,15 +200,15 @@ where
     )
 }
 
-/// How a host was served, by how the two ended and whether an accept failed or a start was refused.
-fn host_end(datagrams: DgramEnd, accepts: AcceptEnd, faulted: bool) -> HostEnd
-    ensures { result ≡ host_end datagrams accepts faulted }
+/// How a host was served, by how the two ended and whether an accept or a send failed or a start was refused.
+fn host_end(datagrams: DgramEnd, accepts: AcceptEnd, faulted: bool, send_failed: bool) -> HostEnd
+    ensures { result ≡ host_end datagrams accepts (faulted || send_failed) }
 {
     match (datagrams, accepts) {
         (DgramEnd::OutOfMemory, _) | (_, AcceptEnd::OutOfMemory) => HostEnd::OutOfMemory,
         (DgramEnd::Fault, _) => HostEnd::HostFault,
         (DgramEnd::Shutdown | DgramEnd::Counted, _) => {
-            if faulted {
+            if faulted || send_failed {
                 HostEnd::HostFault
             } else {
                 HostEnd::Done
@@ -217,7 +217,7 @@ fn host_end(datagrams: DgramEnd, accepts: AcceptEnd, faulted: bool) -> HostEnd
     }
 }
 
-#[tactic(auto, using(crate::proofs::Hostings::neither_began, crate::proofs::Hostings::fault_of_host))]
+#[tactic(auto, using(crate::proofs::Hostings::neither_began, crate::proofs::Hostings::rose_of_host))]
 /// Serves connections and datagrams beside each other, until `count` of each were taken, `count` not 0, or a look shows a
 /// shutdown. Then all work is joined, and the book is shut down.
 pub fn serve_host<
@@ -252,8 +252,8 @@ where
         (host_world (A.door host.new.accept) (P.given host.new.spawner) (J.noted host.new.journal) (D.mail host.new.sock) (C.readings host.new.clock)
         (A.faults host.new.accept) (P.faults host.new.spawner) (D.failed_receives host.new.sock) (D.failed_sends host.new.sock))
         ⊎ (NeitherBegan result.1 seat.known result.0.known × (host.new ≡ host.old)) }
-    ensures fault { result.1 ≡ HostEnd.HostFault → (Rose (A.faults host.old.accept) (A.faults host.new.accept) ⊎ Rose (P.faults host.old.spawner) (P.faults host.new.spawner))
-        ⊎ Rose (D.failed_receives host.old.sock) (D.failed_receives host.new.sock) }
+    ensures fault { HostRose result.1 (A.faults host.old.accept) (A.faults host.new.accept) (P.faults host.old.spawner) (P.faults host.new.spawner)
+        (D.failed_receives host.old.sock) (D.failed_receives host.new.sock) (D.failed_sends host.old.sock) (D.failed_sends host.new.sock) }
     ensures same { result.0.book ≡ seat.book }
     ensures accepts_later { A.faults host.old.accept ≤ A.faults host.new.accept }
     ensures starts_later { P.faults host.old.spawner ≤ P.faults host.new.spawner }
@@ -269,7 +269,7 @@ where
         return (seat, HostEnd::OutOfMemory);
     };
     let (first, second) = book.split(rt, seat);
-    let ((second, datagrams), (first, accepts, faulted)) = both_beside(
+    let ((second, datagrams, send_failed), (first, accepts, faulted)) = both_beside(
         rt,
         alloc,
         book,
@@ -287,5 +287,5 @@ where
     host.spawner.join_all(rt);
     let mut seat = book.join(rt, first, second);
     book.shutdown(rt, &mut seat);
-    (seat, host_end(datagrams, accepts, faulted))
+    (seat, host_end(datagrams, accepts, faulted, send_failed))
 }
