@@ -7,7 +7,7 @@ ghost use Rattle.dns_admission.specs.Machine.{new_state};
 ghost use Rattle.dns_book.specs.Seats.{IsSound, new_known, first_half, second_half};
 ghost use Rattle.dns_outside.specs.Causes.{Rose, Tells};
 ghost use Rattle.dns_client.specs.Serving.{serving};
-ghost use Rattle.dns_drivers.specs.DatagramsServed.{OnlyLooks, world};
+ghost use Rattle.dns_drivers.specs.DatagramsServed.{LooksBy, world};
 ghost use Rattle.dns_servers.specs.Parts.{IsSeatAt, known_of};
 ghost use Rattle.dns_servers.specs.Runs.{InSlot, DatagramsRan};
 
@@ -137,7 +137,7 @@ impl<D: AsyncDgramSock + Drop, B: BufSource + Drop, W: Served, C: Clock + Drop> 
             (world (J.noted journal.old) (D.mail self.old.sock) (D.failed_sends self.old.sock) (C.readings self.old.clock) self.old.known)
             (world (J.noted journal.new) (D.mail self.new.sock) (D.failed_sends self.new.sock) (C.readings self.new.clock) self.new.known)) }
         // Always.
-        ensures seat { InSlot OnlyLooks (result ≡ DgramEnd.Shutdown) self.old.known self.new.known }
+        ensures seat { InSlot (LooksBy result) (result ≡ DgramEnd.Shutdown) self.old.known self.new.known }
         ensures same { (self.new.book ≡ self.old.book) × (self.new.service ≡ self.old.service) }
         ensures cause { result ≡ DgramEnd.Fault → Rose (D.failed_receives self.old.sock) (D.failed_receives self.new.sock) }
         ensures receives { D.failed_receives self.old.sock ≤ D.failed_receives self.new.sock }
@@ -173,7 +173,7 @@ fn serve_from<R: Wait, D: AsyncDgramSock, C: Clock, J: Recorder, W: Served>(
         (DatagramsRan (serving (W.answer (arc_value service.now)) (W.hint (arc_value service.now))) result
         (world (J.noted journal.old) (D.mail sock.old) (D.failed_sends sock.old) (C.readings clock.old) (known_of place.old))
         (world (J.noted journal.new) (D.mail sock.new) (D.failed_sends sock.new) (C.readings clock.new) (known_of place.new))) }
-    ensures seat { InSlot OnlyLooks (result ≡ DgramEnd.Shutdown) (known_of place.old) (known_of place.new) }
+    ensures seat { InSlot (LooksBy result) (result ≡ DgramEnd.Shutdown) (known_of place.old) (known_of place.new) }
     ensures place { IsSeatAt (arc_value book.now) place.new }
     ensures cause { result ≡ DgramEnd.Fault → Rose (D.failed_receives sock.old) (D.failed_receives sock.new) }
     ensures receives { D.failed_receives sock.old ≤ D.failed_receives sock.new }
@@ -204,7 +204,7 @@ fn serve_in_slot<R: Wait, D: AsyncDgramSock, C: Clock, J: Recorder, W: Served>(
         (DatagramsRan (serving (W.answer service.now) (W.hint service.now)) result.1
         (world (J.noted journal.old) (D.mail sock.old) (D.failed_sends sock.old) (C.readings clock.old) seat.known)
         (world (J.noted journal.new) (D.mail sock.new) (D.failed_sends sock.new) (C.readings clock.new) result.0.known)) }
-    ensures seat { InSlot OnlyLooks (result.1 ≡ DgramEnd.Shutdown) seat.known result.0.known }
+    ensures seat { InSlot (LooksBy result.1) (result.1 ≡ DgramEnd.Shutdown) seat.known result.0.known }
     ensures same { result.0.book ≡ seat.book }
     ensures cause { result.1 ≡ DgramEnd.Fault → Rose (D.failed_receives sock.old) (D.failed_receives sock.new) }
     ensures receives { D.failed_receives sock.old ≤ D.failed_receives sock.new }

@@ -1,9 +1,22 @@
-//! What of the servers can't be a row: buffers, metrics, and servers over memory with their controls. It has tests alone.
+//! What of hosts and of servers can't be a row: connections and datagrams over objects in memory, with threads and starts that
+//! are refused, and servers with their buffers, metrics and controls. It has tests alone.
 #![tactic(auto)]
 
 #[cfg(test)]
+mod accepts;
+#[cfg(test)]
+mod holding;
+#[cfg(test)]
+mod hosts;
+#[cfg(test)]
+mod layered;
+#[cfg(test)]
+mod links;
+#[cfg(test)]
 mod parts;
 #[cfg(test)]
-mod servers;
+mod places;
 #[cfg(test)]
-mod services;
+mod refusing;
+#[cfg(test)]
+mod servers;

@@ -1,26 +1,28 @@
-//! The parts of servers: buffers, commands, metrics, links and sockets that count.
+//! The parts of servers: buffers, commands, metrics and links that count.
 
-use dns_name::{IpAddr, OutOfMemory, SocketAddr};
-use dns_outside::{
-    AsyncDgramSock, DgramRecv, DgramSend, Link, LinkRead, LinkWrite, SteadyLink, SteadySock,
-};
-use dns_servers::{BufSource, Metered, MeteredSock, ServerCommand, ServerMetrics, VecBufSource};
+use dns_name::OutOfMemory;
+use dns_outside::{Link, LinkRead, LinkWrite, SteadyLink};
+use dns_servers::{BufSource, Metered, ServerCommand, ServerMetrics, VecBufSource};
 use std::alloc::Global;
 use std::sync::Arc;
 
-const PEER: SocketAddr = SocketAddr {
-    ip: IpAddr::V4([192, 0, 2, 1]),
-    port: 53,
-};
+/// Whether a usual buffer has 1,024 octets 0.
+fn gives_usual(alloc: Global, source: &Arc<VecBufSource>) -> Result<bool, OutOfMemory> {
+    let usual = source.create_buf(alloc)?;
+    Ok(usual.len() == 1024 && usual[0] == 0 && usual[1023] == 0)
+}
+
+/// Whether a buffer of three octets has three octets 0.
+fn gives_three(alloc: Global, source: &Arc<VecBufSource>) -> Result<bool, OutOfMemory> {
+    let three = source.create_sized(alloc, 3)?;
+    Ok(three.as_slice() == [0, 0, 0].as_slice())
+}
 
 /// Buffers have 1,024 octets 0, or as many as are asked for, from a source that is shared too.
 #[test]
 fn buffers_are_zeros(rt: HostRuntime) -> Result<(), OutOfMemory> {
     let source = Arc::new(rt.alloc(), VecBufSource)?;
-    let usual = source.create_buf(rt.alloc())?;
-    let three = source.create_sized(rt.alloc(), 3)?;
-    assert!(&rt; usual.len() == 1024 && usual[0] == 0 && usual[1023] == 0);
-    assert!(&rt; three.as_slice() == [0, 0, 0].as_slice());
+    assert!(&rt; gives_usual(rt.alloc(), &source)? && gives_three(rt.alloc(), &source)?);
     Ok(())
 }
 
@@ -37,10 +39,8 @@ fn a_command_is_copied(rt: HostRuntime) {
     );
 }
 
-/// Each number is set, raised and lowered alone, and 1 less than 0 is the largest number.
-#[test]
-fn numbers_stand_alone(rt: HostRuntime) {
-    let metrics = ServerMetrics::connection_oriented();
+/// Whether each number is set, raised and lowered alone.
+fn stand_alone(metrics: &ServerMetrics) -> bool {
     metrics.inc_num_connections();
     metrics.set_num_inflight_requests(5);
     metrics.dec_num_inflight_requests();
@@ -48,24 +48,40 @@ fn numbers_stand_alone(rt: HostRuntime) {
     metrics.inc_num_received_requests();
     metrics.inc_num_received_requests();
     metrics.set_num_sent_responses(7);
-    assert!(&rt; metrics.num_connections() == 1 && metrics.num_inflight_requests() == 4);
-    assert!(&rt; metrics.num_pending_writes() == usize::MAX);
-    assert!(&rt; metrics.num_received_requests() == 2 && metrics.num_sent_responses() == 7);
+    metrics.num_connections() == 1
+        && metrics.num_inflight_requests() == 4
+        && metrics.num_pending_writes() == usize::MAX
+        && metrics.num_received_requests() == 2
+        && metrics.num_sent_responses() == 7
+}
+
+/// Each number is set, raised and lowered alone, and 1 less than 0 is the largest number.
+#[test]
+fn numbers_stand_alone(rt: HostRuntime) {
+    assert!(&rt; stand_alone(&ServerMetrics::connection_oriented()));
+}
+
+/// Whether the number of connections stays 0.
+fn leave_out(metrics: &ServerMetrics) -> bool {
+    metrics.inc_num_connections();
+    metrics.set_num_connections(9);
+    metrics.num_connections() == 0 && metrics.num_sent_responses() == 0
 }
 
 /// Metrics without connections show none.
 #[test]
 fn connections_may_be_left_out(rt: HostRuntime) {
-    let metrics = ServerMetrics::default();
-    metrics.inc_num_connections();
-    metrics.set_num_connections(9);
-    assert!(&rt; metrics.num_connections() == 0 && metrics.num_sent_responses() == 0);
+    assert!(&rt; leave_out(&ServerMetrics::default()));
 }
 
+/// Octets of frames: one of three octets, two empty ones, one of one octet, and one that isn't whole.
+const FRAMES: &[u8] = b"\x00\x03abc\x00\x00\x00\x01d\x00\x05begun";
+
 /// Reads and writes all of a link, so many octets a call.
-fn pass_all(link: &mut Metered<SteadyLink>, octets: &[u8], room: &mut [u8]) {
+fn pass_all(link: &mut Metered<SteadyLink>, octets: &[u8]) {
+    let mut room = [0u8; 4];
     for _ in 0..100u8 {
-        if link.read(room) == LinkRead::End {
+        if link.read(&mut room) == LinkRead::End {
             break;
         }
     }
@@ -74,23 +90,31 @@ fn pass_all(link: &mut Metered<SteadyLink>, octets: &[u8], room: &mut [u8]) {
     }
 }
 
+/// A link over the frames, which counts for these metrics.
+fn link_of(alloc: Global, metrics: Arc<ServerMetrics>) -> Result<Metered<SteadyLink>, OutOfMemory> {
+    let octets = Vec::from_slice(alloc, FRAMES)?;
+    Ok(Metered::new(SteadyLink::new(octets, Vec::new(alloc)), Some(metrics)))
+}
+
+/// Whether the link counts one connection, from the first `connect` to the first `close`, and the frames that are passed.
+fn counts_frames(link: &mut Metered<SteadyLink>, metrics: &ServerMetrics) -> bool {
+    link.connect();
+    link.connect();
+    let one = metrics.num_connections() == 1;
+    pass_all(link, &FRAMES[..12]);
+    link.close();
+    link.close();
+    one && metrics.num_connections() == 0
+        && metrics.num_received_requests() == 4
+        && metrics.num_sent_responses() == 3
+        && link.inner().written() == &FRAMES[..12]
+}
+
 /// A link counts frames whose length or message comes in pieces, empty ones too, and the connection until it is closed.
 #[test]
 fn a_link_counts_frames(rt: HostRuntime) -> Result<(), OutOfMemory> {
-    let alloc = rt.alloc();
-    let metrics = Arc::new(alloc, ServerMetrics::connection_oriented())?;
-    let octets = b"\x00\x03abc\x00\x00\x00\x01d\x00\x05begun";
-    let inner = SteadyLink::new(Vec::from_slice(alloc, &octets[..])?, Vec::new(alloc));
-    let mut link = Metered::new(inner, Some(Arc::try_clone(&metrics)?));
-    let mut room = [0u8; 4];
-    link.connect();
-    link.connect();
-    assert!(&rt; metrics.num_connections() == 1);
-    pass_all(&mut link, &octets[..12], &mut room);
-    assert!(&rt; metrics.num_received_requests() == 4 && metrics.num_sent_responses() == 3);
-    assert!(&rt; link.inner().written() == &octets[..12]);
-    link.close();
-    link.close();
-    assert!(&rt; metrics.num_connections() == 0);
+    let metrics = Arc::new(rt.alloc(), ServerMetrics::connection_oriented())?;
+    let mut link = link_of(rt.alloc(), Arc::try_clone(&metrics)?)?;
+    assert!(&rt; counts_frames(&mut link, &metrics));
     Ok(())
 }

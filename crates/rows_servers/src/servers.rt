@@ -2,11 +2,12 @@
 
 ghost use Rattle.std.specs.Prelude.{◌≡◌, IfOk};
 
-use crate::services::{Refusal, refuse};
+use crate::places::{PEER, letter};
+use crate::refusing::{Refusal, refuse};
 use dns_drivers::{DgramEnd, Kept, Silent};
 use dns_host::{ConnectionWork, NoHook, PreConnect};
-use dns_name::{IpAddr, Octets, OptRcode, OutOfMemory, SocketAddr};
-use dns_outside::{Letter, MemoryClock, MemorySpawner, SteadyAccept, SteadyLink, SteadySock};
+use dns_name::{OptRcode, OutOfMemory};
+use dns_outside::{MemoryClock, MemorySpawner, SteadyAccept, SteadyLink, SteadySock};
 use dns_servers::{
     Control, DgramServer, Metered, ServerMetrics, StreamEnd, StreamServer, VecBufSource,
 };
@@ -18,11 +19,6 @@ use std::sync::{Arc, Wait};
 use std::thread;
 use std::thread::{Parker, Threads};
 use std::time::Duration;
-
-const PEER: SocketAddr = SocketAddr {
-    ip: IpAddr::V4([192, 0, 2, 1]),
-    port: 53,
-};
 
 /// A query for the root's address, behind its length.
 const QUERY: &[u8] =
@@ -62,20 +58,25 @@ fn shut_down_after<R: Wait>(
     control
 }
 
+/// Whether one request was received and one response sent, and no connection is left.
+fn shows_one(metrics: &ServerMetrics) -> bool {
+    metrics.num_received_requests() == 1
+        && metrics.num_sent_responses() == 1
+        && metrics.num_connections() == 0
+}
+
 /// A server of datagrams with one query.
 fn datagrams<W: Served>(alloc: Global, service: W) -> Result<Datagrams<W>, OutOfMemory>
     ensures { IfOk result (λ s. s.service ≡ service) }
 {
+    let service = Arc::new(alloc, service)?;
     let mut letters = Vec::new(alloc);
-    letters.push(Letter {
-        octets: Octets::from_slice(alloc, &QUERY[2..])?,
-        addr: PEER,
-    })?;
+    letters.push(letter(alloc, &QUERY[2..])?)?;
     DgramServer::new(
         alloc,
         SteadySock::new(alloc, letters),
         VecBufSource,
-        Arc::new(alloc, service)?,
+        service,
         MemoryClock::new(Vec::new(alloc)),
     )
 }
@@ -101,37 +102,39 @@ where
     W::Stream: Send,
     ensures { IfOk result (λ s. s.service ≡ service) }
 {
+    let service = Arc::new(alloc, service)?;
     StreamServer::new(
         alloc,
         links(alloc, count)?,
         VecBufSource,
-        Arc::new(alloc, service)?,
+        service,
         MemoryClock::new(Vec::new(alloc)),
         MemorySpawner::new(alloc, Vec::new(alloc)),
     )
 }
 
-/// Runs the server until one response was sent.
+/// Runs the server until one response was sent. Whether it was shut down then, as the control shows that shut it down.
 fn run_datagrams<R: Threads + Wait + Sync, W: Served>(
     rt: &R,
     alloc: Global,
     server: &mut Datagrams<W>,
     journal: &mut Kept,
-) -> Result<(Control, DgramEnd), OutOfMemory>
+) -> Result<bool, OutOfMemory>
     requires { W.can_call server.old.service }
 {
-    let control = server.control(rt);
     let metrics = Arc::try_clone(server.metrics())?;
-    Ok(thread::join(
+    let control = server.control(rt);
+    let (mut control, end) = thread::join(
         rt,
         || shut_down_after(rt, &metrics, control, 1),
         || -> DgramEnd
             requires { W.can_call server.now.service }
         { server.run(rt, alloc, journal) },
-    ))
+    );
+    Ok(end == DgramEnd::Shutdown && control.is_shutdown(rt))
 }
 
-/// Runs the server until so many responses were sent.
+/// Runs the server until so many responses were sent. Whether it was shut down then, as the control shows that shut it down.
 fn run_connections<
     R: Threads + Wait + Copy + Send + Sync + 'static,
     W: Served + Send + Sync + 'static,
@@ -141,77 +144,169 @@ fn run_connections<
     alloc: Global,
     server: &mut Connections<W, H>,
     responses: usize,
-) -> Result<(Control, StreamEnd), OutOfMemory>
+) -> Result<bool, OutOfMemory>
 where
     W::Future: Send,
     W::Stream: Send,
     requires { W.can_call server.old.service }
 {
-    let control = server.control(rt);
     let metrics = Arc::try_clone(server.metrics())?;
-    Ok(thread::join(
+    let control = server.control(rt);
+    let (mut control, end) = thread::join(
         rt,
         || shut_down_after(rt, &metrics, control, responses),
         || -> StreamEnd
             requires { W.can_call server.now.service }
         { server.run(rt, alloc) },
-    ))
+    );
+    Ok(end == StreamEnd::Shutdown && control.is_shutdown(rt))
+}
+
+/// Whether a server that answered one datagram was shut down, as a control shows that was made before the run.
+fn answers<R: Threads + Wait + Sync, W: Served>(
+    rt: &R,
+    alloc: Global,
+    server: &mut Datagrams<W>,
+    journal: &mut Kept,
+) -> Result<bool, OutOfMemory>
+    requires { W.can_call server.old.service }
+{
+    let mut early = server.control(rt);
+    Ok(
+        !early.is_shutdown(rt)
+            && run_datagrams(rt, alloc, server, journal)?
+            && early.is_shutdown(rt),
+    )
+}
+
+/// Whether the server does so, and shows what it counted.
+fn answers_and_counts<R: Threads + Wait + Sync, W: Served>(
+    rt: &R,
+    alloc: Global,
+    server: &mut Datagrams<W>,
+    journal: &mut Kept,
+) -> Result<bool, OutOfMemory>
+    requires { W.can_call server.old.service }
+{
+    Ok(
+        answers(rt, alloc, server, journal)?
+            && shows_one(server.metrics())
+            && server.source().sent().len() == 1
+            && journal.events().len() > 2,
+    )
+}
+
+/// The same of a server of this service.
+fn answers_a_datagram<R: Threads + Wait + Sync, W: Served>(
+    rt: &R,
+    alloc: Global,
+    service: W,
+) -> Result<bool, OutOfMemory>
+    requires { W.can_call service }
+{
+    let mut server = datagrams(alloc, service)?;
+    let mut journal = Kept::new(alloc);
+    answers_and_counts(rt, alloc, &mut server, &mut journal)
 }
 
 /// A server of datagrams answers a query, is shut down, and shows what it counted.
 #[test]
 fn a_datagram_is_answered(rt: HostRuntime) -> Result<(), OutOfMemory> {
-    let alloc = rt.alloc();
     let service = Plainly {
         service: service_fn::<Refusal, _, _>(refuse, OptRcode::NXDOMAIN),
     };
-    let mut server = datagrams(alloc, service)?;
-    let mut early = server.control(&rt);
-    assert!(&rt; !early.is_shutdown(&rt));
-    let mut journal = Kept::new(alloc);
-    let (mut late, end) = run_datagrams(&rt, alloc, &mut server, &mut journal)?;
-    let metrics = server.metrics();
-    assert!(&rt; end == DgramEnd::Shutdown && server.source().sent().len() == 1);
-    assert!(&rt; metrics.num_received_requests() == 1 && metrics.num_sent_responses() == 1);
-    assert!(&rt; metrics.num_connections() == 0 && journal.events().len() > 2);
-    assert!(&rt; early.is_shutdown(&rt) && late.is_shutdown(&rt));
+    assert!(&rt; answers_a_datagram(&rt, rt.alloc(), service)?);
     Ok(())
+}
+
+/// Whether a control shows a shutdown that it made, and none before for as long as it waited.
+fn shuts_down<R: Wait>(rt: &R, alloc: Global, control: &mut Control) -> Result<bool, OutOfMemory> {
+    let mut clock = MemoryClock::new(Vec::from_slice(alloc, &[(5, 0), (9, 0), (1_005, 1)])?);
+    let early = control.await_shutdown(rt, &mut clock, 1_000);
+    let _ = control.shutdown(rt);
+    Ok(!early && control.await_shutdown(rt, &mut clock, 1_000))
+}
+
+/// Whether the server serves nothing once it is shut down.
+fn stays_shut<R: Wait, W: Served>(
+    rt: &R,
+    alloc: Global,
+    server: &mut Datagrams<W>,
+) -> Result<bool, OutOfMemory>
+    requires { W.can_call server.old.service }
+{
+    let mut control = server.control(rt);
+    Ok(
+        shuts_down(rt, alloc, &mut control)?
+            && server.run(rt, alloc, &mut Silent) == DgramEnd::Shutdown
+            && server.source().sent().is_empty()
+            && control.is_shutdown(rt),
+    )
+}
+
+/// The same of a server of this service.
+fn serves_nothing<R: Wait, W: Served>(
+    rt: &R,
+    alloc: Global,
+    service: W,
+) -> Result<bool, OutOfMemory>
+    requires { W.can_call service }
+{
+    let mut server = datagrams(alloc, service)?;
+    stays_shut(rt, alloc, &mut server)
 }
 
 /// Where the book is closed before, nothing is served.
 #[test]
 fn a_closed_server_serves_nothing(rt: HostRuntime) -> Result<(), OutOfMemory> {
-    let alloc = rt.alloc();
     let service = Plainly {
         service: service_fn::<Refusal, _, _>(refuse, OptRcode::NXDOMAIN),
     };
-    let mut clock = MemoryClock::new(Vec::from_slice(alloc, &[(5, 0), (9, 0), (1_005, 1)])?);
-    let mut server = datagrams(alloc, service)?;
-    let mut control = server.control(&rt);
-    assert!(&rt; !control.await_shutdown(&rt, &mut clock, 1_000));
-    let _ = control.shutdown(&rt);
-    assert!(&rt; control.await_shutdown(&rt, &mut clock, 1_000));
-    assert!(&rt; server.run(&rt, alloc, &mut Silent) == DgramEnd::Shutdown);
-    assert!(&rt; server.source().sent().is_empty() && control.is_shutdown(&rt));
+    assert!(&rt; serves_nothing(&rt, rt.alloc(), service)?);
     Ok(())
+}
+
+/// Whether the server answers a connection, is shut down, as a control shows that was made before, and shows what it counted.
+fn is_answered<R: Threads + Wait + Copy + Send + Sync + 'static, W: Served + Send + Sync + 'static>(
+    rt: &R,
+    alloc: Global,
+    server: &mut Connections<W>,
+) -> Result<bool, OutOfMemory>
+where
+    W::Future: Send,
+    W::Stream: Send,
+    requires { W.can_call server.old.service }
+{
+    let mut early = server.control(rt);
+    Ok(
+        !early.is_shutdown(rt)
+            && run_connections(rt, alloc, server, 1)?
+            && early.is_shutdown(rt)
+            && shows_one(server.metrics()),
+    )
+}
+
+/// The same of a server of this service.
+fn answers_a_connection<
+    R: Threads + Wait + Copy + Send + Sync + 'static,
+    W: Served + Send + Sync + 'static,
+>(rt: &R, alloc: Global, service: W) -> Result<bool, OutOfMemory>
+where
+    W::Future: Send,
+    W::Stream: Send,
+    requires { W.can_call service }
+{
+    let mut server = connections(alloc, 1, service)?;
+    is_answered(rt, alloc, &mut server)
 }
 
 /// A server of connections answers a query, is shut down, and shows what it counted.
 #[test]
 fn a_connection_is_answered(rt: HostRuntime) -> Result<(), OutOfMemory> {
-    let alloc = rt.alloc();
     let service = Plainly {
         service: service_fn::<Refusal, _, _>(refuse, OptRcode::NXDOMAIN),
     };
-    let mut server = connections(alloc, 1, service)?;
-    let mut early = server.control(&rt);
-    assert!(&rt; !early.is_shutdown(&rt));
-    let (mut late, end) = run_connections(&rt, alloc, &mut server, 1)?;
-    let metrics = server.metrics();
-    assert!(&rt; end == StreamEnd::Shutdown);
-    assert!(&rt; metrics.num_received_requests() == 1 && metrics.num_sent_responses() == 1);
-    assert!(&rt; metrics.num_connections() == 0);
-    assert!(&rt; early.is_shutdown(&rt) && late.is_shutdown(&rt));
+    assert!(&rt; answers_a_connection(&rt, rt.alloc(), service)?);
     Ok(())
 }
 
@@ -227,20 +322,31 @@ impl PreConnect<SteadyLink> for Calls {
     }
 }
 
+/// Whether a server with this hook answers three connections and is shut down.
+fn answers_with_hook<
+    R: Threads + Wait + Copy + Send + Sync + 'static,
+    W: Served + Send + Sync + 'static,
+>(rt: &R, alloc: Global, service: W, hook: Calls) -> Result<bool, OutOfMemory>
+where
+    W::Future: Send,
+    W::Stream: Send,
+    requires { W.can_call service }
+{
+    let mut server = connections(alloc, 3, service)?.with_pre_connect_hook(hook);
+    run_connections(rt, alloc, &mut server, 3)
+}
+
 /// The hook is called once on each link that is admitted.
 #[test]
 fn the_hook_is_called(rt: HostRuntime) -> Result<(), OutOfMemory> {
-    let alloc = rt.alloc();
-    let service = Plainly {
-        service: service_fn::<Refusal, _, _>(refuse, OptRcode::NXDOMAIN),
-    };
-    let count = Arc::new(alloc, AtomicUsize::new(0))?;
+    let count = Arc::new(rt.alloc(), AtomicUsize::new(0))?;
     let hook = Calls {
         count: Arc::try_clone(&count)?,
     };
-    let mut server = connections(alloc, 3, service)?.with_pre_connect_hook(hook);
-    let (mut control, end) = run_connections(&rt, alloc, &mut server, 3)?;
-    assert!(&rt; end == StreamEnd::Shutdown && count.load(Ordering::Relaxed) == 3);
-    assert!(&rt; control.is_shutdown(&rt));
+    let service = Plainly {
+        service: service_fn::<Refusal, _, _>(refuse, OptRcode::NXDOMAIN),
+    };
+    assert!(&rt; answers_with_hook(&rt, rt.alloc(), service, hook)?);
+    assert!(&rt; count.load(Ordering::Relaxed) == 3);
     Ok(())
 }

@@ -2,7 +2,7 @@
 
 ghost use Rattle.std.specs.Prelude.{ℕ, ◌≡◌, ◌+◌, length};
 
-use dns_book::{Admission, Book, BookState, Call, Look, Reply, call_both};
+use dns_book::{Admission, Book, BookSeat, BookState, Call, Look, Reply, call_both};
 use dns_service::{DgramConfig, Error, OutOfMemory, StreamConfig};
 use std::alloc::Global;
 use std::sync::Wait;
@@ -17,11 +17,26 @@ fn with_limit(limit: usize) -> (DgramConfig, StreamConfig) {
     (DgramConfig::new(), stream)
 }
 
+/// Whether a book at the last version refuses another configuration, and says its version once it is closed.
+fn refuses_a_version<R: Wait>(
+    rt: &R,
+    book: &Book,
+    seat: &mut BookSeat,
+    closed: &Look,
+    other: StreamConfig,
+) -> bool
+    requires { seat.old.book ≡ book.now }
+{
+    book.reconfigure(rt, seat, closed.dgram, other) == Err(Error::CommandCouldNotBeSent)
+        && book.shutdown(rt, seat) == *closed
+        && book.reconfigure(rt, seat, closed.dgram, other) == Ok(LAST)
+        && book.look(rt, seat) == *closed
+}
+
 /// At the last version no configuration is replaced, and all stays. A closed book says its version.
 #[test]
 fn the_last_version(rt: HostRuntime) -> Result<(), OutOfMemory> {
     let (dgram, stream) = with_limit(2);
-    let (_, other) = with_limit(7);
     let closed = Look {
         version: LAST,
         closed: true,
@@ -30,62 +45,69 @@ fn the_last_version(rt: HostRuntime) -> Result<(), OutOfMemory> {
         stream,
     };
     let (book, mut seat) = Book::new(rt.alloc(), BookState::resume(dgram, stream, LAST))?;
-    let refused = book.reconfigure(&rt, &mut seat, dgram, other);
-    assert!(&rt; refused == Err(Error::CommandCouldNotBeSent));
-    assert!(&rt; book.shutdown(&rt, &mut seat) == closed);
-    assert!(&rt; book.reconfigure(&rt, &mut seat, dgram, other) == Ok(LAST));
-    assert!(&rt; book.look(&rt, &mut seat) == closed);
+    assert!(&rt; refuses_a_version(&rt, &book, &mut seat, &closed, with_limit(7).1));
     Ok(())
 }
 
-/// Whether a book shows the configuration that it is given, where each connection has this budget.
-fn shows_budget<R: Wait>(
-    rt: &R,
-    alloc: Global,
-    count: Option<u32>,
-    window: u64,
-) -> Result<bool, OutOfMemory> {
-    let (dgram, stream) = with_limit(2);
+/// A configuration where each connection has this budget.
+fn with_budget(count: Option<u32>, window: u64) -> StreamConfig {
+    let (_, mut stream) = with_limit(2);
     let mut connection = stream.connection_config();
     connection.set_response_budget(count);
     connection.set_budget_window(window);
-    let mut next = stream;
-    next.set_connection_config(connection);
+    stream.set_connection_config(connection);
+    stream
+}
+
+/// Whether a book shows the configuration that it is given.
+fn shows<R: Wait>(rt: &R, alloc: Global, next: &StreamConfig) -> Result<bool, OutOfMemory> {
+    let (dgram, stream) = with_limit(2);
     let (book, mut seat) = Book::new(alloc, BookState::new(dgram, stream))?;
-    let version = book.reconfigure(rt, &mut seat, dgram, next);
-    Ok(version == Ok(1) && book.look(rt, &mut seat).stream == next)
+    Ok(
+        book.reconfigure(rt, &mut seat, dgram, *next) == Ok(1)
+            && book.look(rt, &mut seat).stream == *next,
+    )
 }
 
 /// At both ends of a budget and of its window, and without a budget.
 #[test]
 fn budgets_are_shown(rt: HostRuntime) -> Result<(), OutOfMemory> {
-    assert!(&rt; shows_budget(&rt, rt.alloc(), Some(1), 3_600_000)?);
-    assert!(&rt; shows_budget(&rt, rt.alloc(), Some(1_000_000), 1)?);
-    assert!(&rt; shows_budget(&rt, rt.alloc(), None, 7)?);
+    for (count, window) in [(Some(1), 3_600_000), (Some(1_000_000), 1), (None, 7)] {
+        assert!(&rt; shows(&rt, rt.alloc(), &with_budget(count, window))?);
+    }
     Ok(())
+}
+
+/// Whether a book with one slot admits one connection, tells the other that it is full, and admits none once it is closed.
+fn admits_one<R: Wait>(rt: &R, book: &Book, seat: &mut BookSeat, taken: &Look) -> bool
+    requires { seat.old.book ≡ book.now }
+{
+    let full = Admission::Full {
+        taken: 1,
+        limit: 1,
+        accepted: true,
+    };
+    let held = book.admit(rt, seat) == Admission::Admitted(*taken)
+        && book.admit(rt, seat) == full
+        && book.release(rt, seat) == 0
+        && book.release(rt, seat) == 0;
+    book.shutdown(rt, seat);
+    held && book.admit(rt, seat) == Admission::Closed
 }
 
 /// With a limit of one the second admit finds no slot.
 #[test]
 fn one_slot(rt: HostRuntime) -> Result<(), OutOfMemory> {
     let (dgram, stream) = with_limit(1);
-    let taken = Admission::Admitted(Look {
+    let taken = Look {
         version: 0,
         closed: false,
         taken: 1,
         dgram,
         stream,
-    });
-    let full = Admission::Full {
-        taken: 1,
-        limit: 1,
-        accepted: true,
     };
     let (book, mut seat) = Book::new(rt.alloc(), BookState::new(dgram, stream))?;
-    assert!(&rt; book.admit(&rt, &mut seat) == taken && book.admit(&rt, &mut seat) == full);
-    assert!(&rt; book.release(&rt, &mut seat) == 0 && book.release(&rt, &mut seat) == 0);
-    book.shutdown(&rt, &mut seat);
-    assert!(&rt; book.admit(&rt, &mut seat) == Admission::Closed);
+    assert!(&rt; admits_one(&rt, &book, &mut seat, &taken));
     Ok(())
 }
 
@@ -139,34 +161,34 @@ fn threads_agree<R: Threads + Wait + Sync>(
     ))
 }
 
+/// Whether two threads that ask for a slot agree, and two of which one changes the book.
+fn both_agree<R: Threads + Wait + Sync>(
+    rt: &R,
+    alloc: Global,
+    state: BookState,
+    replace: Call,
+) -> Result<bool, OutOfMemory> {
+    let two = (Call::Admit, Call::Admit);
+    Ok(
+        threads_agree(
+            rt,
+            alloc,
+            state,
+            (Call::Admit, Call::Release),
+            (Call::Admit, Call::Look),
+        )? && threads_agree(rt, alloc, state, two, (replace, Call::Shutdown))?,
+    )
+}
+
 #[test]
 fn two_threads(rt: HostRuntime) -> Result<(), OutOfMemory> {
     let (dgram, stream) = with_limit(1);
-    let state = BookState::new(dgram, stream);
-    let (_, wider) = with_limit(2);
     let replace = Call::Reconfigure {
         dgram,
-        stream: wider,
+        stream: with_limit(2).1,
     };
     for _ in 0..50 {
-        assert!(&rt;
-            threads_agree(
-                &rt,
-                rt.alloc(),
-                state,
-                (Call::Admit, Call::Release),
-                (Call::Admit, Call::Look)
-            )?
-        );
-        assert!(&rt;
-            threads_agree(
-                &rt,
-                rt.alloc(),
-                state,
-                (Call::Admit, Call::Admit),
-                (replace, Call::Shutdown)
-            )?
-        );
+        assert!(&rt; both_agree(&rt, rt.alloc(), BookState::new(dgram, stream), replace)?);
     }
     Ok(())
 }

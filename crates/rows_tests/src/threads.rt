@@ -7,6 +7,7 @@ use dns_outside::{MemorySpawner, Spawner, Start, ThreadSpawner, Work};
 use std::alloc::Global;
 use std::sync::atomic::{AtomicU64, Ordering};
 use std::sync::{Arc, Wait};
+use std::thread::Threads;
 
 const PEER: SocketAddr = SocketAddr {
     ip: IpAddr::V4([192, 0, 2, 1]),
@@ -44,42 +45,41 @@ impl Work for Sum {
     }
 }
 
-/// The second of three starts is refused: its work is given up, and the others are done before they are joined.
-#[test]
-fn a_refused_start_is_given_up(rt: HostRuntime) -> Result<(), OutOfMemory> {
-    let alloc = rt.alloc();
-    let sum = Arc::new(alloc, AtomicU64::new(0))?;
-    let mut spawner = MemorySpawner::new(alloc, Vec::from_slice(alloc, &[1])?);
+/// Starts so many works that add to this sum, one after the other, and waits for all. How many starts were refused.
+fn start_all<R: Threads + Wait + Copy + Send + 'static, P: Spawner<Sum>>(
+    rt: &R,
+    alloc: Global,
+    spawner: &mut P,
+    sum: &Arc<AtomicU64>,
+    count: u64,
+) -> Result<u64, OutOfMemory> {
     let mut refused = 0u64;
-    for _ in 0..3 {
-        let work = Sum {
-            addr: PEER,
-            sum: Arc::try_clone(&sum)?,
-        };
-        if spawner.start(&rt, alloc, work)? == Start::Failed {
+    for _ in 0..count {
+        let sum = Arc::try_clone(sum)?;
+        if spawner.start(rt, alloc, Sum { addr: PEER, sum })? == Start::Failed {
             refused = refused.saturating_add(1);
         }
     }
-    spawner.join_all(&rt);
-    assert!(&rt; refused == 1);
-    assert!(&rt; sum.load(Ordering::SeqCst) == 1_002);
+    spawner.join_all(rt);
+    Ok(refused)
+}
+
+/// The second of three starts is refused: its work is given up, and the others are done before they are joined.
+#[test]
+fn a_refused_start_is_given_up(rt: HostRuntime) -> Result<(), OutOfMemory> {
+    let sum = Arc::new(rt.alloc(), AtomicU64::new(0))?;
+    let mut spawner = MemorySpawner::new(rt.alloc(), Vec::from_slice(rt.alloc(), &[1])?);
+    let refused = start_all(&rt, rt.alloc(), &mut spawner, &sum, 3)?;
+    assert!(&rt; refused == 1 && sum.load(Ordering::SeqCst) == 1_002);
     Ok(())
 }
 
 /// Many works, one after the other, are all done.
 #[test]
 fn all_work_is_done(rt: HostRuntime) -> Result<(), OutOfMemory> {
-    let alloc = rt.alloc();
-    let sum = Arc::new(alloc, AtomicU64::new(0))?;
-    let mut spawner = ThreadSpawner::new(alloc);
-    for _ in 0..40 {
-        let work = Sum {
-            addr: PEER,
-            sum: Arc::try_clone(&sum)?,
-        };
-        spawner.start(&rt, alloc, work)?;
-    }
-    spawner.join_all(&rt);
+    let sum = Arc::new(rt.alloc(), AtomicU64::new(0))?;
+    let mut spawner = ThreadSpawner::new(rt.alloc());
+    start_all(&rt, rt.alloc(), &mut spawner, &sum, 40)?;
     assert!(&rt; sum.load(Ordering::SeqCst) == 40);
     Ok(())
 }

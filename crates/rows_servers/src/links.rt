@@ -2,9 +2,11 @@
 
 ghost use Rattle.std.specs.Prelude.{[]};
 
-use dns_name::OutOfMemory;
+use crate::places::PEER;
+use dns_name::{OutOfMemory, SocketAddr};
 use dns_outside::{Link, LinkRead, LinkWrite};
 use std::alloc::Global;
+use std::collections::VecDeque;
 use std::sync::atomic::{AtomicU64, Ordering};
 use std::sync::{Arc, Mutex, Wait};
 use std::thread::yield_now;
@@ -27,27 +29,35 @@ pub struct SeenLink<R> {
     seen: Arc<Seen>,
 }
 
-impl<R: Wait + Copy + Drop> SeenLink<R> {
-    /// A link that gives these octets, and what the test sees of it.
-    pub fn new(
-        rt: R,
-        alloc: Global,
-        query: &[u8],
-    ) -> Result<(SeenLink<R>, Arc<Seen>), OutOfMemory> {
-        let seen = Seen {
-            written: Mutex::new(Vec::new(alloc)),
-            closed: AtomicU64::new(0),
-        };
-        let seen = Arc::new(alloc, seen)?;
-        let theirs = Arc::try_clone(&seen)?;
+/// What is seen of a link that was never used. It is put behind what stands in `seen`, too.
+fn unseen(alloc: Global, seen: &mut Vec<Arc<Seen>>) -> Result<Arc<Seen>, OutOfMemory> {
+    let sight = Seen {
+        written: Mutex::new(Vec::new(alloc)),
+        closed: AtomicU64::new(0),
+    };
+    let sight = Arc::new(alloc, sight)?;
+    seen.push(Arc::try_clone(&sight)?)?;
+    Ok(sight)
+}
+
+/// Links that each give one of these queries. What is seen of them is put behind what stands in `seen`.
+pub fn links_of<R: Wait + Copy + Drop>(
+    rt: R,
+    alloc: Global,
+    queries: &[&[u8]],
+    seen: &mut Vec<Arc<Seen>>,
+) -> Result<VecDeque<(SeenLink<R>, SocketAddr)>, OutOfMemory> {
+    let mut links = VecDeque::new(alloc);
+    for query in queries {
         let link = SeenLink {
             rt,
             query: Vec::from_slice(alloc, query)?,
             place: 0,
-            seen: theirs,
+            seen: unseen(alloc, seen)?,
         };
-        Ok((link, seen))
+        links.push_back((link, PEER))?;
     }
+    Ok(links)
 }
 
 /// Whether the octets begin with a whole frame.
@@ -91,4 +101,19 @@ impl<R: Wait + Copy + Drop> Link for SeenLink<R> {
     fn close(&mut self) {
         self.seen.closed.fetch_add(1, Ordering::SeqCst);
     }
+}
+
+/// Whether the link at a place was closed once, after so many octets were written on it that begin so.
+pub fn shows<R: Wait>(
+    rt: &R,
+    seen: &[Arc<Seen>],
+    place: usize,
+    count: usize,
+    begin: &[u8],
+) -> bool {
+    let Some(sight) = seen.get(place) else {
+        return false;
+    };
+    let written = sight.written.lock(rt);
+    written.len() == count && written.starts_with(begin) && sight.closed.load(Ordering::SeqCst) == 1
 }
