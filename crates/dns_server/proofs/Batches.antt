@@ -5,7 +5,7 @@ use Rattle.std.proofs.lemmas.List.Concat.{flat_map-append}
 use Rattle.dns_outside.specs.Causes.{Tells}
 use Rattle.dns_outside.specs.Moves.{Cut}
 use Rattle.dns_service.specs.declared.event.Output.{Output}
-use Rattle.dns_server.specs.Line.{lines_of, line_of}
+use Rattle.dns_script.specs.Line.{lines_of, line_of}
 use Rattle.dns_server.specs.Writes.{Pending, Pours}
 
 -- the lines before output i, its line, and those behind it

@@ -6,8 +6,8 @@ use Rattle.std.specs.Prelude.{Result, Ok, Err, IsErr, ◌++◌, ◌∷◌, ◌�
 use Rattle.std.proofs.lemmas.Bool.{false≢true}
 use Rattle.dns_service.specs.declared.event.Output.{Output}
 use Rattle.dns_trace.specs.declared.reason.Reason.{Reason}
-use Rattle.dns_server.specs.Line.{lines_of}
-use Rattle.dns_server.specs.Plan.{Plan}
+use Rattle.dns_script.specs.Line.{lines_of}
+use Rattle.dns_script.specs.Plan.{Plan}
 use Rattle.dns_server.specs.Status.{SourceFaults, SinkFaults, status_after, status_of}
 use Rattle.dns_server.specs.Runs.{run_text, refusal_text, Says, ReadsSource, WritesText, Decides, EndsFlood, FloodDecides}
 use Rattle.dns_server.specs.Writes.{Wrote}

@@ -6,10 +6,10 @@ use Rattle.dns_service.specs.Config.{Stream, default_connection}
 use Rattle.dns_service.specs.declared.event.Event.{Event}
 use Rattle.dns_service.specs.declared.event.EventKind.{EventKind}
 use Rattle.dns_service.specs.declared.event.EventKind.TheVariants.{Datagram, Turn, Offer, Piece, Write, Tick, Release}
-use Rattle.dns_server.specs.declared.rule.Rule.{Rule}
-use Rattle.dns_server.specs.declared.rule.ScriptAnswer.TheVariants.{Pend, Reply}
-use Rattle.dns_server.specs.declared.rule.ScriptReply.TheVariants.{Rcode}
-use Rattle.dns_server.specs.Plan.{Plan, empty_plan}
+use Rattle.dns_script.specs.declared.rule.Rule.{Rule}
+use Rattle.dns_script.specs.declared.rule.ScriptAnswer.TheVariants.{Pend, Reply}
+use Rattle.dns_script.specs.declared.rule.ScriptReply.TheVariants.{Rcode}
+use Rattle.dns_script.specs.Plan.{Plan, empty_plan}
 
 -- the number that follows a number of the generator
 abbrev pub next_number : ℕ → ℕ

@@ -5,35 +5,19 @@ use Rattle.std.specs.Prelude.{◌≡◌, ℕ, ◌+◌, ◌≤◌, List, [], ◌+
 use Rattle.dns_outside.specs.Causes.{Tells}
 use Rattle.dns_outside.specs.Moves.{ReadExactly, ReadAtMost, Cut}
 use Rattle.dns_outside.specs.declared.source.TheConstants.{LIMIT}
-use Rattle.dns_service.specs.declared.event.Event.{Event}
 use Rattle.dns_service.specs.declared.event.Output.{Output}
-use Rattle.dns_service.specs.declared.event.Step.{Step}
 use Rattle.dns_trace.specs.EventLines.{event_line, step_line}
 use Rattle.dns_trace.specs.declared.reason.Reason.{Reason}
-use Rattle.dns_client.specs.Serving.{serving}
-use Rattle.dns_core.specs.Out.{out}
-use Rattle.dns_core.specs.Outs.{outs}
-use Rattle.dns_middleware.specs.Verdicts.{verdict_on}
-use Rattle.dns_middleware.specs.Wrapped.{hint_left, replies}
 use Rattle.dns_server.specs.Counts.{output_counts, summary_line}
 use Rattle.dns_server.specs.Flood.{flood_plan}
-use Rattle.dns_server.specs.Plan.{Plan, settings_of}
-use Rattle.dns_server.specs.Played.{played}
-use Rattle.dns_server.specs.Targets.{script_verdicts}
-use Rattle.dns_server.specs.Script.{script}
-use Rattle.dns_server.specs.Line.{lines_of, refused_line}
+use Rattle.dns_script.specs.Plan.{Plan}
+use Rattle.dns_script.specs.PlanOutputs.{plan_outputs, plan_step_outputs}
+use Rattle.dns_script.specs.Script.{script}
+use Rattle.dns_script.specs.Line.{lines_of, refused_line}
 use Rattle.dns_server.specs.declared.command.Command.{Command}
 use Rattle.dns_server.specs.declared.command.Command.TheVariants.{Replay, Steps, Flood}
 use Rattle.dns_server.specs.declared.status.Status.{Status}
 use Rattle.dns_server.specs.declared.status.Status.TheVariants.{Done, Refused, ReadFault, WriteFault, OutOfMemory, TooLong}
-
--- what the clients are sent: the outputs of the events, served by the rules under the settings
-unfoldable pub plan_outputs : Plan Event → List Output
-plan_outputs p = out (serving (replies (settings_of p) (played p.rules) (verdict_on (script_verdicts p.zones))) (hint_left (settings_of p))) (settings_of p) p.events
-
--- the same of steps, where a client hears of the server's changes only when it looks
-unfoldable pub plan_step_outputs : Plan Step → List Output
-plan_step_outputs p = outs (serving (replies (settings_of p) (played p.rules) (verdict_on (script_verdicts p.zones))) (hint_left (settings_of p))) (settings_of p) p.events
 
 -- what is written for a script whose clients are sent this, or for the first bad line of a text that is none
 abbrev pub run_text : {E : Type 0} → (Plan E → List Output) → Result (Plan E) (ℕ × Reason) → List ℕ

@@ -12,20 +12,20 @@ ghost use Rattle.dns_service.specs.PolledRequest.{request_answer};
 ghost use Rattle.dns_service.specs.declared.event.Event.{Event as TheEvent};
 ghost use Rattle.dns_server.specs.Counts.{CountsEvent, IsAtMost, output_counts};
 ghost use Rattle.dns_server.specs.Flood.{drawn, flood_event, flood_events, flood_plan, flood_rule, flood_stream, next_number};
-ghost use Rattle.dns_server.specs.Plan.{empty_plan, settings_of};
-ghost use Rattle.dns_server.specs.Runs.{flood_text, plan_outputs};
+ghost use Rattle.dns_script.specs.Plan.{empty_plan, settings_of};
+ghost use Rattle.dns_script.specs.PlanOutputs.{plan_outputs};
+ghost use Rattle.dns_server.specs.Runs.{flood_text};
 ghost use Rattle.dns_server.specs.Writes.{Wrote, WroteFaults};
 
 use crate::counts::{Counts, summary};
 use crate::generator::next_event;
-use crate::notify_rule::NotifyRules;
-use crate::rule::{Rule, Rules, ScriptAnswer, ScriptAnswers, ScriptReply};
-use crate::script_service::ScriptService;
-use crate::script_target::ScriptTarget;
 use crate::writing::WriteError;
 use dns_core::{Notifiable, Server, Settings, wrap};
 use dns_name::{OutOfMemory, Rcode};
 use dns_outside::{Sink, write_all};
+use dns_script::{
+    NotifyRules, Rule, Rules, ScriptAnswer, ScriptAnswers, ScriptReply, ScriptService, ScriptTarget,
+};
 use dns_service::{ConnectionConfig, Event, Plainly, Served, Service, StreamConfig};
 use std::alloc::Global;
 
@@ -63,7 +63,7 @@ fn flood_rules(alloc: Global) -> Result<Rules, OutOfMemory>
         ScriptAnswer::Reply(ScriptReply::Rcode(Rcode::NXDOMAIN)),
     ];
     let answers = ScriptAnswers::from_slice(alloc, answers.as_slice())?;
-    let mut rules = Rules::from_vec(Vec::new(alloc));
+    let mut rules = Rules::new(alloc);
     rules.push(Rule {
         name: None,
         answers,
@@ -141,15 +141,15 @@ fn count_each<W: Served>(
 fn count_events<W: Served>(
     alloc: Global,
     settings: &Settings,
-    service: &W,
+    service: W,
     seed: u64,
     count: u32,
 ) -> Result<Counts, OutOfMemory>
-    requires { W.can_call service.now }
-    ensures { IfOk result (λ c. c ≡ output_counts (out (serving (W.answer service.now) (W.hint service.now)) settings.now (flood_events seed count))) }
+    requires { W.can_call service }
+    ensures { IfOk result (λ c. c ≡ output_counts (out (serving (W.answer service) (W.hint service)) settings.now (flood_events seed count))) }
 {
     let mut server = Server::new(alloc, settings);
-    count_each(alloc, &mut server, service, seed, count)
+    count_each(alloc, &mut server, &service, seed, count)
 }
 
 /// The same, by a service in the layers of the settings.
@@ -164,12 +164,14 @@ fn count_served<S: Service<()>, N: Notifiable>(
     requires { S.can_call service }
     ensures { IfOk result (λ c. c ≡ output_counts (out (serving (replies settings.now (S.answer service) (verdict_on (N.verdict target))) (hint_left settings.now)) settings.now (flood_events seed count))) }
 {
-    let service = wrap(alloc, settings, service, target)?;
-    count_events(alloc, settings, &Plainly { service }, seed, count)
+    match wrap(alloc, settings, service, target) {
+        Ok(service) => count_events(alloc, settings, Plainly { service }, seed, count),
+        Err(error) => Err(error),
+    }
 }
 
 /// How much the clients of a flood are sent.
-#[tactic(auto, unfolding(crate::specs::Runs::plan_outputs))]
+#[tactic(auto, unfolding(dns_script::specs::PlanOutputs::plan_outputs))]
 pub fn count_flood(alloc: Global, seed: u64, count: u32) -> Result<Counts, OutOfMemory>
     ensures { IfOk result (λ c. c ≡ output_counts (plan_outputs (flood_plan seed count))) }
 {

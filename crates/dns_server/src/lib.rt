@@ -2,27 +2,13 @@
 //! events is made and served, and the outputs are counted. Or a script is read that says how a running server answers.
 #![tactic(auto)]
 
-mod answer_words;
 mod command;
 mod counts;
 mod flood;
 mod generator;
-mod notify_lines;
-mod notify_rule;
-mod output_line;
 mod program;
-mod reader;
-mod rule;
-mod rule_lines;
-mod script;
-mod script_answers;
-mod script_line;
-mod script_service;
-mod script_target;
-mod scripted;
 mod serve_words;
 mod server_plan;
-mod setting_lines;
 mod status;
 mod whole_script;
 mod writing;
@@ -38,6 +24,11 @@ pub use dns_host::{
     AcceptEnd, ConnectionWork, Host, HostEnd, NoHook, PreConnect, serve_accepts, serve_host,
 };
 pub use dns_middleware::Wrapped;
+pub use dns_script::{
+    NoEvent, NotifyRule, NotifyRules, Rule, RuleList, Rules, Script, ScriptAnswer, ScriptAnswers,
+    ScriptError, ScriptFuture, ScriptLine, ScriptReply, ScriptService, ScriptStream, ScriptTarget,
+    ScriptVerdict, Scripted, line, read_script, refusal,
+};
 pub use dns_servers::{
     BufSource, Control, DgramServer, Metered, MeteredAccept, MeteredSock, ServerCommand,
     ServerMetrics, StreamEnd, StreamServer, TcpServer, UdpServer, VecBufSource,
@@ -45,16 +36,7 @@ pub use dns_servers::{
 pub use dns_service::Plainly;
 pub use flood::count_flood;
 pub use generator::{event_at, next_event, next_number};
-pub use notify_rule::{NotifyRule, NotifyRules};
-pub use output_line::{line, refusal};
 pub use program::run;
-pub use reader::read_script;
-pub use rule::{Rule, Rules, ScriptAnswer, ScriptAnswers, ScriptReply};
-pub use script::{Script, ScriptError};
-pub use script_line::{NoEvent, ScriptLine};
-pub use script_service::{ScriptFuture, ScriptService, ScriptStream};
-pub use script_target::{ScriptTarget, ScriptVerdict};
-pub use scripted::Scripted;
 pub use serve_words::{ServeWords, read_serve};
 pub use server_plan::{ServePlan, serve_plan};
 pub use status::Status;

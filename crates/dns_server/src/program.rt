@@ -4,19 +4,18 @@ ghost use Rattle.std.specs.Prelude.{◌≡◌, ◌≢◌, ◌↔◌, map, string
 ghost use Rattle.dns_outside.specs.Causes.{Tells, Rose};
 ghost use Rattle.dns_server.specs.Command.{command_of};
 ghost use Rattle.dns_server.specs.Status.{SourceFaults, SinkFaults};
-ghost use Rattle.dns_server.specs.Line.{lines_of};
-ghost use Rattle.dns_server.specs.Script.{script};
+ghost use Rattle.dns_script.specs.Line.{lines_of};
+ghost use Rattle.dns_script.specs.Script.{script};
 ghost use Rattle.dns_server.specs.Writes.{Wrote, WroteFaults};
 ghost use Rattle.dns_server.specs.Runs.{run_text, flood_text, ReadsSource, WritesText, EndsFlood, RunReads, RunWrites, Completes};
 
 use crate::command::{Command, read_command};
 use crate::flood::write_flood;
-use crate::script::Script;
-use crate::scripted::Scripted;
 use crate::status::Status;
 use crate::whole_script::read_whole;
 use crate::writing::{WriteError, write_outputs};
 use dns_outside::{Sink, Source};
+use dns_script::{Script, Scripted};
 use dns_service::{Event, Step};
 use std::alloc::Global;
 

@@ -3,22 +3,20 @@
 ghost use Rattle.std.specs.Prelude.{◌≡◌, ◌≢◌, ◌≤◌, length, map, string_bytes, IfErr, IfOk, IfSome, IsOk};
 ghost use Rattle.dns_outside.specs.Causes.{Tells, Rose};
 ghost use Rattle.dns_outside.specs.declared.source.TheConstants.{LIMIT};
-ghost use Rattle.dns_server.specs.Script.{script};
+ghost use Rattle.dns_script.specs.Script.{script};
 ghost use Rattle.dns_server.specs.Status.{status_of, SourceFaults, SinkFaults};
 ghost use Rattle.dns_server.specs.Runs.{refusal_text, Decides, ReadsSource, WritesText};
-ghost use Rattle.dns_server.specs.ServeScript.{no_event};
+ghost use Rattle.dns_script.specs.ServeScript.{no_event};
 ghost use Rattle.dns_server.specs.ServeWords.{serve_words};
 ghost use Rattle.dns_server.specs.ServePlans.{HeedsWords, PlaysScript};
 
-use crate::script_line::NoEvent;
-use crate::script_service::ScriptService;
-use crate::script_target::ScriptTarget;
 use crate::serve_words::read_serve;
 use crate::status::Status;
 use crate::whole_script::read_whole;
 use dns_core::{Notifiable, Settings};
 use dns_name::SocketAddr;
 use dns_outside::{Sink, Source};
+use dns_script::{NoEvent, ScriptService, ScriptTarget};
 use dns_service::Service;
 use std::alloc::Global;
 

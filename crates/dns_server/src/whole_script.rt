@@ -3,16 +3,14 @@
 ghost use Rattle.std.specs.Prelude.{◌≡◌, ◌≢◌, ◌≤◌, length, IfErr, IfOk, IsOk};
 ghost use Rattle.dns_outside.specs.Causes.{Tells};
 ghost use Rattle.dns_outside.specs.declared.source.TheConstants.{LIMIT};
-ghost use Rattle.dns_server.specs.Script.{script};
+ghost use Rattle.dns_script.specs.Script.{script};
 ghost use Rattle.dns_server.specs.Status.{status_of, SourceFaults, SinkFaults};
 ghost use Rattle.dns_server.specs.Runs.{refusal_text, Says, ReadsSource, WritesText};
 
-use crate::reader::read_script;
-use crate::script::{Script, ScriptError};
-use crate::script_line::ScriptLine;
 use crate::status::Status;
 use crate::writing::write_refusal;
 use dns_outside::{ReadError, Sink, Source, read_all};
+use dns_script::{Script, ScriptError, ScriptLine, read_script};
 use std::alloc::Global;
 
 /// The script that a text is; where it is none, the line of its refusal is written.

@@ -3,12 +3,12 @@
 ghost use Rattle.std.specs.Prelude.{◌≡◌, ◌≤◌, ◌++◌, [], OnOk};
 ghost use Rattle.dns_outside.specs.Causes.{Tells};
 ghost use Rattle.dns_outside.specs.Moves.{WroteAllCause};
-ghost use Rattle.dns_server.specs.Line.{line_of, lines_of, refused_line};
+ghost use Rattle.dns_script.specs.Line.{line_of, lines_of, refused_line};
 ghost use Rattle.dns_server.specs.Writes.{Wrote, WroteFaults, Pours};
 
-use crate::output_line::{line, refusal};
 use dns_name::OutOfMemory;
 use dns_outside::{Sink, WriteFault, write_all};
+use dns_script::{line, refusal};
 use dns_service::Output;
 use dns_trace::Reason;
 use std::alloc::Global;

@@ -7,8 +7,12 @@ use dns_outside::{Reading, Writing};
 use dns_server::{Status, run, serve_plan};
 use log::sink::Console;
 use log::{LevelFilter, Logged, warn};
+use std::alloc::Global;
+use std::net::Net;
 use std::process::ExitCode;
-use std::{env, io};
+use std::sync::Wait;
+use std::thread::Threads;
+use std::{env, io, rt};
 
 const HELP: &str = "\
 Usage: nutscythe replay|steps < SCRIPT, serve ADDR PORT COUNT < SCRIPT,
@@ -52,20 +56,19 @@ fn printed(rt: &impl Print, text: &str) -> ExitCode {
 
 /// The words of the command line behind the program's name. A word that isn't UTF-8 is a faulty command line.
 fn read_words(rt: &HostRuntime) -> Result<Vec<String>, Status> {
-    let args = match env::args(rt) {
-        Ok(args) => args,
-        Err(error) if error.kind() == io::ErrorKind::OutOfMemory => {
-            return Err(Status::OutOfMemory);
-        }
-        Err(_) => return Err(Status::Usage),
-    };
-    let mut words = Vec::new(rt.alloc());
-    for word in args.skip(1) {
-        if words.push(word).is_err() {
-            return Err(Status::OutOfMemory);
-        }
+    match env::args(rt) {
+        Ok(args) => words_of(rt.alloc(), args),
+        Err(error) if error.kind() == io::ErrorKind::OutOfMemory => Err(Status::OutOfMemory),
+        Err(_) => Err(Status::Usage),
     }
-    Ok(words)
+}
+
+/// All words but the first.
+fn words_of(alloc: Global, args: env::Args) -> Result<Vec<String>, Status> {
+    match args.skip(1).collect(alloc) {
+        Ok(words) => Ok(words),
+        Err(_) => Err(Status::OutOfMemory),
+    }
 }
 
 /// The line that says what is wrong, of a status for which nothing that is written says so.
@@ -96,25 +99,47 @@ fn warn_of(rt: &impl Eprint, status: Status) {
     }
 }
 
-fn main(rt: HostRuntime) -> ExitCode {
-    let words = match read_words(&rt) {
-        Ok(words) => words,
-        Err(status) => return ended(&rt, status),
-    };
-    let alloc = rt.alloc();
+/// Serves by the plan of the words and of the script on standard input.
+fn of_server<R: Net + rt::Clock + Threads + Wait + Copy + Send + Sync + 'static>(
+    machine: R,
+    rt: &HostRuntime,
+    words: &[String],
+) -> ExitCode {
     let mut source = Reading::new(rt.stdin());
     let mut sink = Writing::new(rt.stdout());
+    let status = match serve_plan(rt.alloc(), words, &mut source, &mut sink) {
+        Ok(plan) => serving::serve(machine, rt.alloc(), plan),
+        Err(status) => status,
+    };
+    warn_of(rt, status);
+    ended(rt, status)
+}
+
+/// Runs the words over standard input and output.
+fn of_run(rt: &HostRuntime, words: &[String]) -> ExitCode {
+    let mut source = Reading::new(rt.stdin());
+    let mut sink = Writing::new(rt.stdout());
+    let status = run(rt.alloc(), words, &mut source, &mut sink);
+    ended(rt, status)
+}
+
+/// Does what the words ask for.
+fn answered<R: Net + rt::Clock + Threads + Wait + Copy + Send + Sync + 'static>(
+    machine: R,
+    rt: &HostRuntime,
+    words: &[String],
+) -> ExitCode {
     match words.first().map(|word| word.as_str()) {
-        Some("--help") => printed(&rt, HELP),
-        Some("--version") => printed(&rt, VERSION),
-        Some("serve") => {
-            let status = match serve_plan(alloc, &words, &mut source, &mut sink) {
-                Ok(plan) => serving::serve(rt, alloc, plan),
-                Err(status) => status,
-            };
-            warn_of(&rt, status);
-            ended(&rt, status)
-        }
-        _ => ended(&rt, run(alloc, &words, &mut source, &mut sink)),
+        Some("--help") => printed(rt, HELP),
+        Some("--version") => printed(rt, VERSION),
+        Some("serve") => of_server(machine, rt, words),
+        _ => of_run(rt, words),
+    }
+}
+
+fn main(rt: HostRuntime) -> ExitCode {
+    match read_words(&rt) {
+        Ok(words) => answered(rt, &rt, &words),
+        Err(status) => ended(&rt, status),
     }
 }

@@ -1,10 +1,13 @@
 //! A server that runs on the machine's sockets.
 
-use dns_name::SocketAddr;
+ghost use Rattle.std.specs.Arc.{arc_value};
+ghost use Rattle.std.specs.Prelude.{◌≡◌, IfOk};
+
+use dns_name::{OutOfMemory, SocketAddr};
 use dns_outside::{HostClock, MioAccept, MioLink, MioSock, ThreadSpawner};
 use dns_server::{
-    Book, BookState, ConnectionWork, Host, Plainly, ScriptService, ScriptTarget, ServePlan, Silent,
-    Status, Wrapped, serve_host, wrap,
+    Book, BookSeat, BookState, ConnectionWork, Host, Plainly, ScriptService, ScriptTarget,
+    ServePlan, Silent, Status, Wrapped, serve_host, wrap,
 };
 use std::alloc::Global;
 use std::net::Net;
@@ -22,18 +25,94 @@ type Connection<R> = ConnectionWork<MioLink, HostClock<R>, Silent, Answering>;
 type Machine<R> = Host<MioAccept<R>, MioSock, HostClock<R>, ThreadSpawner<Connection<R>>, Silent>;
 
 /// Both sockets at one address.
-fn open<R: Net + rt::Clock + Copy + Send + 'static>(
+fn bind<R: Net + Copy + Send + 'static>(
     rt: R,
     alloc: Global,
     addr: SocketAddr,
-) -> io::Result<Machine<R>> {
-    Ok(Host {
-        sock: MioSock::bind(&rt, alloc, addr)?,
-        accept: MioAccept::bind(rt, alloc, addr)?,
+) -> io::Result<(MioSock, MioAccept<R>)> {
+    match MioSock::bind(&rt, alloc, addr) {
+        Ok(sock) => bind_accept(rt, alloc, addr, sock),
+        Err(error) => Err(error),
+    }
+}
+
+/// The socket of connections, beside that of datagrams.
+fn bind_accept<R: Net + Copy + Send + 'static>(
+    rt: R,
+    alloc: Global,
+    addr: SocketAddr,
+    sock: MioSock,
+) -> io::Result<(MioSock, MioAccept<R>)> {
+    match MioAccept::bind(rt, alloc, addr) {
+        Ok(accept) => Ok((sock, accept)),
+        Err(error) => Err(error),
+    }
+}
+
+/// The status of a socket that couldn't be opened.
+fn unopened(error: io::Error) -> Status {
+    if error.kind() == io::ErrorKind::OutOfMemory {
+        return Status::OutOfMemory;
+    }
+    Status::HostFault
+}
+
+/// The machine, with these sockets.
+fn machine<R: Net + rt::Clock + Copy + Send + 'static>(
+    rt: R,
+    alloc: Global,
+    sock: MioSock,
+    accept: MioAccept<R>,
+) -> Machine<R> {
+    Host {
+        sock,
+        accept,
         clock: HostClock::new(rt),
         spawner: ThreadSpawner::new(alloc),
         journal: Silent,
-    })
+    }
+}
+
+/// A book that is shared, and its seat.
+fn open_book(alloc: Global, state: BookState) -> Result<(Arc<Book>, BookSeat), OutOfMemory>
+    ensures { IfOk result (λ r. r.1.book ≡ arc_value r.0) }
+{
+    let (book, seat) = Book::new(alloc, state)?;
+    match Arc::new(alloc, book) {
+        Ok(book) => Ok((book, seat)),
+        Err(_) => Err(OutOfMemory),
+    }
+}
+
+/// Serves by a service and a book, over sockets that are open.
+fn serve_book<R: Net + rt::Clock + Threads + Wait + Copy + Send + Sync + 'static>(
+    rt: R,
+    alloc: Global,
+    service: Answering,
+    book: Arc<Book>,
+    seat: BookSeat,
+    machine: &mut Machine<R>,
+    count: u64,
+) -> Status
+    requires { seat.book ≡ arc_value book }
+{
+    let (_seat, end) = serve_host(&rt, alloc, service, &book, seat, machine, count);
+    Status::from(end)
+}
+
+/// Serves by a service, over sockets that are open.
+fn serve_service<R: Net + rt::Clock + Threads + Wait + Copy + Send + Sync + 'static>(
+    rt: R,
+    alloc: Global,
+    service: Answering,
+    state: BookState,
+    machine: &mut Machine<R>,
+    count: u64,
+) -> Status {
+    match open_book(alloc, state) {
+        Ok((book, seat)) => serve_book(rt, alloc, service, book, seat, machine, count),
+        Err(OutOfMemory) => Status::OutOfMemory,
+    }
 }
 
 /// Serves what is planned, over sockets that are open.
@@ -50,18 +129,23 @@ fn serve_over<R: Net + rt::Clock + Threads + Wait + Copy + Send + Sync + 'static
         service,
         target,
     } = plan;
-    let Ok(wrapped) = wrap(alloc, &settings, service, target) else {
-        return Status::OutOfMemory;
-    };
-    let Ok((book, seat)) = Book::new(alloc, BookState::new(settings.dgram, settings.stream)) else {
-        return Status::OutOfMemory;
-    };
-    let Ok(book) = Arc::new(alloc, book) else {
-        return Status::OutOfMemory;
-    };
-    let service = Plainly { service: wrapped };
-    let (_seat, end) = serve_host(&rt, alloc, service, &book, seat, machine, count);
-    Status::from(end)
+    let state = BookState::new(settings.dgram, settings.stream);
+    match wrap(alloc, &settings, service, target) {
+        Ok(service) => serve_service(rt, alloc, Plainly { service }, state, machine, count),
+        Err(OutOfMemory) => Status::OutOfMemory,
+    }
+}
+
+/// Serves what is planned, over these sockets.
+fn serve_at<R: Net + rt::Clock + Threads + Wait + Copy + Send + Sync + 'static>(
+    rt: R,
+    alloc: Global,
+    plan: ServePlan,
+    sock: MioSock,
+    accept: MioAccept<R>,
+) -> Status {
+    let mut machine = machine(rt, alloc, sock, accept);
+    serve_over(rt, alloc, plan, &mut machine)
 }
 
 /// Opens the sockets and serves what is planned.
@@ -70,9 +154,8 @@ pub(crate) fn serve<R: Net + rt::Clock + Threads + Wait + Copy + Send + Sync + '
     alloc: Global,
     plan: ServePlan,
 ) -> Status {
-    match open(rt, alloc, plan.addr) {
-        Ok(mut machine) => serve_over(rt, alloc, plan, &mut machine),
-        Err(error) if error.kind() == io::ErrorKind::OutOfMemory => Status::OutOfMemory,
-        Err(_) => Status::HostFault,
+    match bind(rt, alloc, plan.addr) {
+        Ok((sock, accept)) => serve_at(rt, alloc, plan, sock, accept),
+        Err(error) => unopened(error),
     }
 }

@@ -1,6 +1,6 @@
 use Rattle.std.proofs.Common.{◌≡◌, take}
 use Rattle.dns_outside.specs.Causes.{Tells}
-use Rattle.dns_server.specs.Line.{lines_of}
+use Rattle.dns_script.specs.Line.{lines_of}
 use Rattle.dns_server.specs.Writes.{Pending}
 use Rattle.dns_server.proofs.writing.write_lines.Given as goal
 

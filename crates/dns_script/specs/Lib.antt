@@ -1,0 +1,13 @@
+pub use Rattle.dns_trace.specs.EventLines
+pub use Rattle.dns_trace.specs.Reading
+pub mod AnswerWords
+pub mod Line
+pub mod Plan
+pub mod PlanOutputs
+pub mod Played
+pub mod Rules
+pub mod Script
+pub mod ScriptReads
+pub mod ServeScript
+pub mod Streams
+pub mod Targets

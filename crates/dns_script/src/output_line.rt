@@ -1,0 +1,87 @@
+//! The lines that are written.
+
+ghost use Rattle.std.specs.Prelude.{◌≡◌, ◌++◌, IfOk, codes, decimal, string_bytes};
+ghost use Rattle.hex.specs.Hex.{encode_lower};
+ghost use Rattle.dns_script.specs.Line.{line_of, refused_line, reason_word, why_word, yes_no};
+
+use dns_name::{Octets, OutOfMemory};
+use dns_service::{Output, Why};
+use dns_trace::Reason;
+use std::alloc::Global;
+
+/// The line of an output, with its LF: `datagram CLIENT HEX`, `frame CLIENT HEX`, `closed CLIENT WHY` or
+/// `turned CLIENT yes|no`. Digits of octets are in lower case, and a frame has its length in front.
+#[tactic(auto, unfolding(crate::specs::Line::line_of))]
+pub fn line(alloc: Global, output: &Output) -> Result<String, OutOfMemory>
+    ensures { IfOk result (λ t. string_bytes t ≡ line_of output.now) }
+{
+    match output {
+        Output::Datagram { client, octets } => octets_line(alloc, "datagram", *client, octets),
+        Output::Frame { client, octets } => octets_line(alloc, "frame", *client, octets),
+        Output::Closed { client, why } => word_line(alloc, "closed", *client, why_text(*why)),
+        Output::TurnedAway { client, accepted } => {
+            word_line(alloc, "turned", *client, yes_no_text(*accepted))
+        }
+    }
+}
+
+/// A line of a word, a number and a word.
+fn word_line(alloc: Global, first: &str, number: u64, last: &str) -> Result<String, OutOfMemory>
+    ensures { IfOk result (λ t. string_bytes t ≡ first.now ++ (codes " " ++ (decimal number ++ (codes " " ++ (last.now ++ codes "\n"))))) }
+{
+    Ok(format!(in alloc; "{first} {number} {last}\n")?)
+}
+
+/// The same, where the last word is two hexadecimal digits for each octet, in lower case.
+fn octets_line(
+    alloc: Global,
+    first: &str,
+    number: u64,
+    octets: &Octets,
+) -> Result<String, OutOfMemory>
+    ensures { IfOk result (λ t. string_bytes t ≡ first.now ++ (codes " " ++ (decimal number ++ (codes " " ++ (encode_lower octets.now ++ codes "\n"))))) }
+{
+    let digits = hex::encode(alloc, octets.as_slice())?;
+    word_line(alloc, first, number, digits.as_str())
+}
+
+fn why_text(why: Why) -> &'static str
+    ensures { result.now ≡ why_word why }
+{
+    match why {
+        Why::Ended => "ended",
+        Why::Fault => "fault",
+        Why::Short => "short",
+        Why::Idle => "idle",
+        Why::WriteTimeout => "writetimeout",
+        Why::Commanded => "commanded",
+        Why::Shutdown => "shutdown",
+    }
+}
+
+fn yes_no_text(yes: bool) -> &'static str
+    ensures { result.now ≡ yes_no yes }
+{
+    if yes { "yes" } else { "no" }
+}
+
+fn reason_text(reason: Reason) -> &'static str
+    ensures { result.now ≡ reason_word reason }
+{
+    match reason {
+        Reason::Text => "text",
+        Reason::Word => "word",
+        Reason::Order => "order",
+        Reason::Repeat => "repeat",
+        Reason::Count => "count",
+        Reason::Value => "value",
+    }
+}
+
+/// The line of a refusal, with its LF: `refused LINE REASON`.
+#[tactic(auto, unfolding(crate::specs::Line::refused_line))]
+pub fn refusal(alloc: Global, number: u64, reason: Reason) -> Result<String, OutOfMemory>
+    ensures { IfOk result (λ t. string_bytes t ≡ refused_line number reason) }
+{
+    word_line(alloc, "refused", number, reason_text(reason))
+}

@@ -1,0 +1,96 @@
+//! The service lines of a script.
+
+ghost use Rattle.std.specs.Prelude.{◌≡◌, IfOk};
+
+use crate::rule_list::RuleList;
+use dns_name::{Name, OutOfMemory, Rcode};
+use dns_service::{ServiceError, ServiceFeedback};
+use std::alloc::Global;
+use std::marker::Model;
+use std::sync::Arc;
+
+/// A reply.
+#[derive(Clone, Copy, Debug, PartialEq, Eq)]
+pub enum ScriptReply {
+    /// A reply with the request's questions and this response code.
+    Rcode(Rcode),
+    /// A reply that is a header alone, whose bits are zero but for this response code.
+    Blank(Rcode),
+    /// A reply with the request's questions and an answer of so many zeros.
+    Fill(u16),
+    /// A reply with the request's questions and an OPT record with a padding of so many zeros.
+    Opt(u16),
+}
+
+/// The answer of one poll.
+#[derive(Clone, Copy, PartialEq, Eq)]
+pub enum ScriptAnswer {
+    /// Nothing yet.
+    Pend,
+    /// An error.
+    Error(ServiceError),
+    /// A feedback.
+    Feedback(ServiceFeedback),
+    /// A reply.
+    Reply(ScriptReply),
+    /// A feedback, and a reply.
+    Both(ServiceFeedback, ScriptReply),
+}
+
+/// Poll answers, in order, which all requests that play them share.
+#[derive(Debug, Drop)]
+pub struct ScriptAnswers {
+    answers: Arc<Vec<ScriptAnswer>>,
+}
+
+impl Model for ScriptAnswers {
+    ghost use Rattle.std.specs.Prelude.{List};
+    ghost use Rattle.std.specs.Arc.{arc_value};
+    ghost use Rattle.dns_script.specs.declared.rule.ScriptAnswer.{ScriptAnswer};
+
+    ghost Value = { List ScriptAnswer };
+
+    ghost view = { λ a. (arc_value a.answers).items };
+}
+
+impl ScriptAnswers {
+    /// The answers of a vector, which is not copied.
+    pub fn from_vec(alloc: Global, answers: Vec<ScriptAnswer>) -> Result<ScriptAnswers, OutOfMemory>
+        ensures { IfOk result (λ a. a ≡ answers.items) }
+    {
+        let answers = Arc::new(alloc, answers)?;
+        Ok(ScriptAnswers { answers })
+    }
+
+    /// A copy of a slice.
+    pub fn from_slice(alloc: Global, answers: &[ScriptAnswer]) -> Result<ScriptAnswers, OutOfMemory>
+        ensures { IfOk result (λ a. a ≡ answers.now) }
+    {
+        ScriptAnswers::from_vec(alloc, Vec::from_slice(alloc, answers)?)
+    }
+
+    /// The same answers, shared and not copied.
+    pub fn try_clone(&self) -> Result<ScriptAnswers, OutOfMemory>
+        ensures { IfOk result (λ a. a ≡ self.now) }
+    {
+        let answers = Arc::try_clone(&self.answers)?;
+        Ok(ScriptAnswers { answers })
+    }
+
+    pub fn as_slice(&self) -> &[ScriptAnswer]
+        ensures { result.now ≡ self.now }
+    {
+        self.answers.as_slice()
+    }
+}
+
+/// A service line.
+#[derive(Debug, Drop)]
+pub struct Rule {
+    /// The name that it is for, where it isn't for all.
+    pub name: Option<Name>,
+    pub answers: ScriptAnswers,
+}
+
+/// The service lines of a script, in order.
+pub type Rules = RuleList<Rule>;

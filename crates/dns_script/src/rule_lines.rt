@@ -1,0 +1,50 @@
+//! The lines of the service's rules.
+
+ghost use Rattle.dns_trace.specs.Reading.{GivesLine};
+ghost use Rattle.dns_script.specs.Script.{rule_line, rule_name, rule_of};
+ghost use Rattle.dns_script.specs.ScriptReads.{TakesLine};
+
+use crate::answer_words::answers;
+use crate::rule::Rule;
+use crate::script::Script;
+use crate::setting_lines::{before_events, of_more_words};
+use dns_name::Name;
+use dns_trace::{LineError, Words, name};
+use std::alloc::Global;
+
+/// `*` for all names, or a name.
+#[tactic(auto, unfolding(crate::specs::Script::rule_name))]
+fn rule_name(alloc: Global, word: &[u8]) -> Result<Option<Name>, LineError>
+    ensures { GivesLine (λ n. n) result (rule_name word.now) }
+{
+    if word == b"*".as_slice() {
+        return Ok(None);
+    }
+    Ok(Some(name(alloc, word)?))
+}
+
+/// The rule of a line `rule NAME|* ANSWER ..`.
+#[tactic(auto, unfolding(crate::specs::Script::rule_of))]
+fn rule_of(alloc: Global, words: &Words) -> Result<Rule, LineError>
+    ensures { GivesLine (λ r. r) result (rule_of words.now) }
+{
+    of_more_words(words)?;
+    let name = rule_name(alloc, words.word(1))?;
+    let answers = answers(alloc, words)?;
+    Ok(Rule { name, answers })
+}
+
+/// A line `rule NAME|* ANSWER ..`.
+#[tactic(auto, unfolding(crate::specs::Script::rule_line))]
+pub fn read_rule<E: Drop>(
+    alloc: Global,
+    script: &mut Script<E>,
+    words: &Words,
+) -> Result<(), LineError>
+    ensures { TakesLine result script.new (rule_line script.old words.now) }
+{
+    before_events(script)?;
+    let rule = rule_of(alloc, words)?;
+    script.push_rule(rule)?;
+    Ok(())
+}

@@ -1,0 +1,202 @@
+//! The answers of a script, made for a message.
+
+ghost use Rattle.std.specs.Prelude.{◌≡◌, IfErr, IfOk, MatchOption, OnOk, Some, true, false};
+ghost use Rattle.std.specs.Result.{result_map_both};
+ghost use Rattle.dns_base.specs.Built.{with_answer};
+ghost use Rattle.dns_base.specs.Records.{IsLawful, record_of};
+ghost use Rattle.dns_base.specs.Replies.{answer_to, have_room, within_limit};
+ghost use Rattle.dns_opt.specs.Drafts.{with_opt, with_opt_record};
+ghost use Rattle.dns_script.specs.Played.{PutsPadding, blank_reply, fill_record, fill_reply, given, new_builder, opt_reply, padded_draft, played_reply, replied_within, reply_item, told_with};
+
+use crate::rule::{ScriptAnswer, ScriptReply};
+use dns_base::{
+    AdditionalBuilder, AnswerBuilder, Message, MessageBuilder, PushError, Record, RecordData,
+};
+use dns_name::{BuildDataError, Class, Name, Octets, OutOfMemory, Rcode, Rtype, Ttl};
+use dns_opt::{BuildOpt, OptBuilder};
+use dns_service::{CallResult, Polled, ServiceError, ServiceFeedback, ServiceResult};
+use std::alloc::Global;
+
+/// One answer to a message.
+pub fn make_answer(
+    alloc: Global,
+    message: &Message,
+    answer: ScriptAnswer,
+) -> Result<Polled<Option<ServiceResult>>, OutOfMemory>
+    ensures { IfOk result (λ p. p ≡ given message.now answer) }
+{
+    match answer {
+        ScriptAnswer::Pend => Ok(Polled::Pending),
+        ScriptAnswer::Error(error) => Ok(Polled::Ready(Some(Err(error)))),
+        ScriptAnswer::Feedback(feedback) => {
+            Ok(Polled::Ready(Some(Ok(CallResult::feedback_only(feedback)))))
+        }
+        ScriptAnswer::Reply(reply) => ready(make_item(alloc, message, reply)),
+        ScriptAnswer::Both(feedback, reply) => ready(make_both(alloc, message, feedback, reply)),
+    }
+}
+
+/// A reply to a message, or the error `servfail` where something has no room.
+fn make_item(
+    alloc: Global,
+    message: &Message,
+    reply: ScriptReply,
+) -> Result<ServiceResult, OutOfMemory>
+    ensures { IfOk result (λ i. i ≡ reply_item message.now reply) }
+{
+    match reply {
+        ScriptReply::Rcode(rcode) => make_reply(alloc, message, rcode),
+        ScriptReply::Blank(rcode) => make_blank(alloc, rcode),
+        ScriptReply::Fill(len) => make_filled(alloc, message, len),
+        ScriptReply::Opt(len) => make_padded(alloc, message, len),
+    }
+}
+
+/// A reply to a message with a feedback. An error has none.
+fn make_both(
+    alloc: Global,
+    message: &Message,
+    feedback: ServiceFeedback,
+    reply: ScriptReply,
+) -> Result<ServiceResult, OutOfMemory>
+    ensures { IfOk result (λ i. i ≡ told_with feedback (reply_item message.now reply)) }
+{
+    match make_item(alloc, message, reply)? {
+        Ok(given) => Ok(Ok(given.with_feedback(feedback))),
+        Err(error) => Ok(Err(error)),
+    }
+}
+
+/// An item is there, once it was made.
+fn ready(
+    made: Result<ServiceResult, OutOfMemory>,
+) -> Result<Polled<Option<ServiceResult>>, OutOfMemory>
+    ensures { result ≡ result_map_both (λ i. Polled.Ready (Some i)) (λ e. e) made }
+{
+    Ok(Polled::Ready(Some(made?)))
+}
+
+/// An answer to a message is begun; none where there is no room for the questions.
+fn begin(
+    alloc: Global,
+    message: &Message,
+    rcode: Rcode,
+) -> Result<Option<AnswerBuilder>, OutOfMemory>
+    ensures { IfOk result (λ o. MatchOption o (have_room new_builder message.now rcode ≡ false) (λ b. (b ≡ answer_to new_builder message.now rcode) × (have_room new_builder message.now rcode ≡ true))) }
+{
+    let builder = MessageBuilder::new(alloc)?;
+    match builder.start_answer(alloc, message, rcode) {
+        Ok(reply) => Ok(Some(reply)),
+        Err(PushError::ShortBuf) => Ok(None),
+        Err(PushError::OutOfMemory) => Err(OutOfMemory),
+    }
+}
+
+/// A reply with this response code, or the error `servfail` where the questions have no room.
+fn make_reply(alloc: Global, message: &Message, rcode: Rcode) -> Result<ServiceResult, OutOfMemory>
+    ensures { IfOk result (λ i. i ≡ played_reply message.now rcode) }
+{
+    match begin(alloc, message, rcode)? {
+        Some(reply) => Ok(Ok(CallResult::new(reply.additional()))),
+        None => Ok(Err(ServiceError::InternalError)),
+    }
+}
+
+/// A reply that is a header alone.
+fn make_blank(alloc: Global, rcode: Rcode) -> Result<ServiceResult, OutOfMemory>
+    ensures { IfOk result (λ i. i ≡ blank_reply rcode) }
+{
+    let mut reply = MessageBuilder::new(alloc)?;
+    let mut header = reply.header();
+    header.rcode = rcode;
+    reply.set_header(header);
+    Ok(Ok(CallResult::new(reply.additional())))
+}
+
+/// A reply with an answer of so many zeros, or the error `servfail` where something has no room.
+fn make_filled(alloc: Global, message: &Message, len: u16) -> Result<ServiceResult, OutOfMemory>
+    ensures { IfOk result (λ i. i ≡ fill_reply message.now len) }
+{
+    match begin(alloc, message, Rcode::NOERROR)? {
+        Some(reply) => fill(alloc, reply, len),
+        None => Ok(Err(ServiceError::InternalError)),
+    }
+}
+
+/// What is begun with an answer of so many zeros more.
+fn fill(alloc: Global, reply: AnswerBuilder, len: u16) -> Result<ServiceResult, OutOfMemory>
+    ensures { IfOk result (λ i. i ≡ replied_within (with_answer reply (fill_record len)) (with_answer reply (fill_record len))) }
+{
+    let mut reply = reply;
+    match put_zeros(&mut reply, alloc, len) {
+        Ok(()) => Ok(Ok(CallResult::new(reply.additional()))),
+        Err(PushError::ShortBuf) => Ok(Err(ServiceError::InternalError)),
+        Err(PushError::OutOfMemory) => Err(OutOfMemory),
+    }
+}
+
+/// Appends an answer of so many zeros, where it has room.
+fn put_zeros(reply: &mut AnswerBuilder, alloc: Global, len: u16) -> Result<(), PushError>
+    ensures added { OnOk result ((reply.new ≡ with_answer reply.old (fill_record len)) × (within_limit (with_answer reply.old (fill_record len)) ≡ true)) }
+    ensures full { IfErr result (λ e. e ≡ PushError.ShortBuf → within_limit (with_answer reply.old (fill_record len)) ≡ false) }
+{
+    match zeros(alloc, len) {
+        Ok(record) => put_record(reply, alloc, record),
+        Err(OutOfMemory) => Err(PushError::OutOfMemory),
+    }
+}
+
+/// Appends an answer, where it has room.
+fn put_record(reply: &mut AnswerBuilder, alloc: Global, answer: Record) -> Result<(), PushError>
+    requires { IsLawful answer.rdata }
+    ensures added { OnOk result ((reply.new ≡ with_answer reply.old (record_of answer)) × (within_limit (with_answer reply.old (record_of answer)) ≡ true)) }
+    ensures full { IfErr result (λ e. e ≡ PushError.ShortBuf → within_limit (with_answer reply.old (record_of answer)) ≡ false) }
+{
+    reply.push(alloc, &answer)
+}
+
+/// The record of so many zeros.
+fn zeros(alloc: Global, len: u16) -> Result<Record, OutOfMemory>
+    ensures value { IfOk result (λ r. record_of r ≡ fill_record len) }
+    ensures lawful { IfOk result (λ r. IsLawful r.rdata) }
+{
+    let octets = Octets::from_vec(vec![in alloc; 0u8; len as usize]?);
+    let owner = Name::root(alloc)?;
+    let rtype = Rtype::from_int(65280);
+    Ok(Record {
+        owner,
+        class: Class::IN,
+        ttl: Ttl::from_secs(0),
+        rdata: RecordData::Unknown { rtype, octets },
+    })
+}
+
+/// A reply with an OPT record of so many zeros, or the error `servfail` where something has no room.
+fn make_padded(alloc: Global, message: &Message, len: u16) -> Result<ServiceResult, OutOfMemory>
+    ensures { IfOk result (λ i. i ≡ opt_reply message.now len) }
+{
+    match begin(alloc, message, Rcode::NOERROR)? {
+        Some(reply) => pad(alloc, reply.additional(), len),
+        None => Ok(Err(ServiceError::InternalError)),
+    }
+}
+
+/// What is begun with an OPT record of so many zeros more.
+fn pad(alloc: Global, reply: AdditionalBuilder, len: u16) -> Result<ServiceResult, OutOfMemory>
+    ensures { IfOk result (λ i. i ≡ replied_within (with_opt_record (padded_draft reply len) reply) (with_opt (padded_draft reply len) reply)) }
+{
+    let mut reply = reply;
+    match put_padding(&mut reply, alloc, len) {
+        Ok(()) => Ok(Ok(CallResult::new(reply))),
+        Err(BuildDataError::OutOfMemory) => Err(OutOfMemory),
+        Err(_) => Ok(Err(ServiceError::InternalError)),
+    }
+}
+
+/// Appends an OPT record with so many zeros.
+fn put_padding(reply: &mut AdditionalBuilder, alloc: Global, len: u16) -> Result<(), BuildDataError>
+    ensures { PutsPadding (padded_draft reply.old len) reply.old reply.new result }
+{
+    let _limited = reply.push_limit();
+    reply.opt(alloc, |opt: &mut OptBuilder| opt.padding(alloc, len))
+}

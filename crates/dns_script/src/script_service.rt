@@ -1,0 +1,129 @@
+//! The service that plays the rules of a script.
+
+ghost use Rattle.std.specs.Prelude.{◌≡◌, IfOk, Some, length, ◌-◌};
+ghost use Rattle.dns_service.specs.Transport.{hint_of};
+ghost use Rattle.dns_script.specs.Rules.{answers_for, fits_asked, name_asked};
+ghost use Rattle.dns_script.specs.Played.{played};
+ghost use Rattle.dns_script.specs.Streams.{left_of, answers_left};
+
+use crate::rule::{Rule, Rules, ScriptAnswer, ScriptAnswers};
+use crate::script_answers::make_answer;
+use dns_base::Message;
+use dns_name::OutOfMemory;
+use dns_service::{
+    Polled, ReplyFuture, ReplyStream, Request, Service, ServiceError, ServiceResult,
+};
+use std::alloc::Global;
+use std::sync::Arc;
+
+/// Answers each request by the first rule of a script: its answers, one poll each, and then the end.
+#[derive(Drop)]
+pub struct ScriptService {
+    rules: Rules,
+}
+
+impl ScriptService {
+    /// The service of these rules.
+    pub fn new(rules: Rules) -> Self
+        ensures { ⟦<ScriptService as Service<()>>⟧.answer result ≡ played rules }
+    {
+        ScriptService { rules }
+    }
+}
+
+impl Service<()> for ScriptService {
+    type Stream = ScriptStream;
+
+    type Future = ScriptFuture;
+
+    ghost answer = { λ s. played s.rules };
+
+    ghost hint = { λ _ r. hint_of r.transport };
+
+    fn call(&self, alloc: Global, request: &mut Request<()>) -> Result<ScriptFuture, OutOfMemory> {
+        let answers = answers_for(alloc, self.rules.as_slice(), request.message())?;
+        let message = Arc::try_clone(request.message())?;
+        Ok(ScriptFuture {
+            stream: Some(ScriptStream {
+                message,
+                answers,
+                next: 0,
+            }),
+        })
+    }
+}
+
+/// The answers of the first rule that fits a message, and a refusal where there is none.
+fn answers_for(
+    alloc: Global,
+    rules: &[Rule],
+    message: &Message,
+) -> Result<ScriptAnswers, OutOfMemory>
+    ensures { IfOk result (λ a. a ≡ answers_for rules.now (name_asked message.now)) }
+{
+    for rule in rules {
+        if fits(rule, message) {
+            return rule.answers.try_clone();
+        }
+    }
+    ScriptAnswers::from_slice(alloc, &[ScriptAnswer::Error(ServiceError::Refused)])
+}
+
+/// Whether a rule fits a message.
+fn fits(rule: &Rule, message: &Message) -> bool
+    ensures { result ≡ fits_asked rule.now.name (name_asked message.now) }
+{
+    match &rule.name {
+        None => true,
+        Some(name) => match message.first_question() {
+            Some(question) => question.qname().name_eq(&name.for_ref()),
+            None => false,
+        },
+    }
+}
+
+/// A future that is ready at once.
+#[derive(Drop)]
+pub struct ScriptFuture {
+    stream: Option<ScriptStream>,
+}
+
+impl ReplyFuture for ScriptFuture {
+    type Stream = ScriptStream;
+
+    ghost answer = { λ f. answers_left f.stream };
+
+    fn poll(&mut self, _alloc: Global) -> Result<Polled<ScriptStream>, OutOfMemory> {
+        match self.stream.take() {
+            Some(stream) => Ok(Polled::Ready(stream)),
+            None => Ok(Polled::Pending),
+        }
+    }
+}
+
+/// The answers that are left.
+#[derive(Drop)]
+pub struct ScriptStream {
+    message: Arc<Message>,
+    answers: ScriptAnswers,
+    next: usize,
+}
+
+impl ReplyStream for ScriptStream {
+    ghost answer = { left_of };
+
+    ghost size = { λ s. (0, Some (length s.answers - s.next)) };
+
+    fn poll_next(&mut self, alloc: Global) -> Result<Polled<Option<ServiceResult>>, OutOfMemory> {
+        let Some(answer) = self.answers.as_slice().get(self.next).copied() else {
+            return Ok(Polled::Ready(None));
+        };
+        self.next += 1;
+        make_answer(alloc, &self.message, answer)
+    }
+
+    fn size_hint(&self) -> (usize, Option<usize>) {
+        let left = self.answers.as_slice().len().saturating_sub(self.next);
+        (0, Some(left))
+    }
+}

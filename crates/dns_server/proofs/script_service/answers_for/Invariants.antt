@@ -1,6 +1,0 @@
-use Rattle.std.proofs.Common.{◌≡◌, drop}
-use Rattle.dns_server.specs.Rules.{answers_for, name_asked}
-use Rattle.dns_server.proofs.script_service.answers_for.Given as goal
-
-abbrev pub invariant-loop-rule : goal.invariant-loop-rule
-invariant-loop-rule l = answers_for (drop l.rule-index l.rules) (name_asked l.message) ≡ answers_for l.rules (name_asked l.message)
