@@ -3,31 +3,16 @@
 use crate::inner::{AsPlanned, planned};
 use crate::layer_rows::{item, only_item};
 use crate::request_rows::request_from;
-use crate::said::item_said;
 use dns_base::MessageRef;
 use dns_middleware::CookiesMiddlewareSvc;
 use dns_name::{IpAddr, ParseError};
 use dns_opt::{Cookie, MessageOpt, OptRef};
-use dns_service::{
-    CallResult, Polled, ReplyFuture, ReplyStream, Request, Service, ServiceResult, service_fn,
-};
-use rows_table::{Calls, Row, RowError, address_of};
-
-/// The cookie layer.
-pub(crate) struct CookieRows;
-
-impl Calls for CookieRows {
-    fn answer(&self, call: &str, row: &mut Row<'_>) -> Result<(), RowError> {
-        match call {
-            "cookies" | "cookies_disabled" | "made_cookies" => with_cookies(call, row),
-            _ => Err(RowError::NoSuchCall),
-        }
-    }
-}
+use dns_service::{Polled, ReplyFuture, ReplyStream, Request, Service, ServiceResult, service_fn};
+use rows_table::{Row, RowError, address_of};
 
 /// Under a secret, from an address at a second, with one denied address or `-` for none: a request to a service that
 /// answers with the item behind it.
-fn with_cookies(call: &str, row: &mut Row<'_>) -> Result<(), RowError> {
+pub(crate) fn with_cookies(call: &str, row: &mut Row<'_>) -> Result<(), RowError> {
     let secret = row.array::<16>();
     let address = row.address();
     let second = row.number::<u64>();
@@ -57,15 +42,9 @@ fn denied(row: &mut Row<'_>) -> Result<Vec<IpAddr>, RowError> {
     let mut denied = Vec::new(row.alloc());
     let word = row.word();
     if word != "-" {
-        push_address(&mut denied, word)?;
+        denied.push(address_of(word)?)?;
     }
     Ok(denied)
-}
-
-/// Appends the address of a word.
-fn push_address(addresses: &mut Vec<IpAddr>, word: &str) -> Result<(), RowError> {
-    let address = address_of(word)?;
-    Ok(addresses.push(address)?)
 }
 
 /// How many cookies the reply has that a service gives to a request, and how many of them check for the sender under a
@@ -114,23 +93,11 @@ fn made_said(
     secret: &[u8; 16],
 ) -> Result<(), RowError> {
     match item {
-        Ok(given) => cookies_said(row, &given, address, secret),
-        Err(error) => {
-            item_said(row, Err(error));
-            Ok(())
-        }
-    }
-}
-
-fn cookies_said(
-    row: &mut Row<'_>,
-    given: &CallResult,
-    address: IpAddr,
-    secret: &[u8; 16],
-) -> Result<(), RowError> {
-    match given.response() {
-        Some(reply) => reply_said(row, reply.as_slice(), address, secret),
-        None => Err(RowError::Missing),
+        Ok(given) => match given.response() {
+            Some(reply) => reply_said(row, reply.as_slice(), address, secret),
+            None => Err(RowError::Missing),
+        },
+        Err(error) => Ok(row.debug(&error)),
     }
 }
 

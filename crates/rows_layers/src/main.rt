@@ -18,30 +18,21 @@ mod target;
 mod words;
 mod wrap_rows;
 
-use cookie_rows::CookieRows;
-use error_rows::ErrorRows;
 use layer_rows::LayerRows;
-use notify_rows::NotifyRows;
 use reply_rows::ReplyRows;
 use request_rows::RequestRows;
 use route_rows::RouteRows;
-use router_rows::RouterRows;
 use rows_table::run;
 use service_rows::ServiceRows;
 use std::io;
 use std::process::ExitCode;
-use stream_rows::StreamRows;
-use wrap_rows::WrapRows;
 
 fn main(rt: HostRuntime) -> io::Result<ExitCode> {
     run(
         &rt,
         &(
-            ((RequestRows, ServiceRows), (ErrorRows, ReplyRows)),
-            (
-                ((StreamRows, RouteRows), (RouterRows, CookieRows)),
-                ((NotifyRows, WrapRows), LayerRows),
-            ),
+            (RequestRows, ServiceRows),
+            (ReplyRows, (RouteRows, LayerRows)),
         ),
     )
 }

@@ -7,22 +7,10 @@ use crate::stream_rows::polled;
 use crate::target::Target;
 use dns_middleware::NotifyMiddlewareSvc;
 use dns_service::{Polled, ReplyFuture, Request, Service, service_fn};
-use rows_table::{Calls, Row, RowError};
-
-/// The NOTIFY layer.
-pub(crate) struct NotifyRows;
-
-impl Calls for NotifyRows {
-    fn answer(&self, call: &str, row: &mut Row<'_>) -> Result<(), RowError> {
-        match call {
-            "notify" => notified(row),
-            _ => Err(RowError::NoSuchCall),
-        }
-    }
-}
+use rows_table::{Row, RowError};
 
 /// So many polls of a request, with a target, to a service that answers with the item behind it.
-fn notified(row: &mut Row<'_>) -> Result<(), RowError> {
+pub(crate) fn notified(row: &mut Row<'_>) -> Result<(), RowError> {
     let polls = row.number::<u8>();
     let target = Target::next(row)?;
     let mut request = request(row)?;
@@ -37,12 +25,8 @@ fn asked_with(
     polls: u8,
 ) -> Result<(), RowError> {
     let service = service_fn::<AsPlanned, _, _>(planned, item(row, request)?);
-    some_polls(
-        row,
-        &NotifyMiddlewareSvc::new(service, target),
-        request,
-        polls,
-    )
+    let layer = NotifyMiddlewareSvc::new(service, target);
+    some_polls(row, &layer, request, polls)
 }
 
 /// What so many polls of a service's stream give to a request.

@@ -4,7 +4,7 @@ ghost use Rattle.std.specs.Prelude.{IfSome};
 ghost use Rattle.dns_base.specs.Records.{IsLawful};
 
 use crate::words::{message, opt_rcode};
-use dns_base::{AdditionalBuilder, Message, Record, RecordData};
+use dns_base::{AdditionalBuilder, Record, RecordData};
 use dns_name::{BuildDataError, Class, Name, OptRcode, Ttl};
 use dns_opt::{AllOptData, BuildOpt, MessageOpt, NsidRef, OptBuilder, OptRecordRef};
 use dns_service::{
@@ -39,12 +39,8 @@ fn empty(row: &mut Row<'_>) -> Result<(), RowError> {
 /// The error reply to a message with a response code.
 fn error_reply(row: &mut Row<'_>) -> Result<AdditionalBuilder, RowError> {
     let query = message(row)?;
-    error_reply_to(row, &query)
-}
-
-fn error_reply_to(row: &mut Row<'_>, query: &Message) -> Result<AdditionalBuilder, RowError> {
-    let rcode = opt_rcode(row.number())?;
-    Ok(mk_error_response(row.alloc(), query, rcode)?)
+    let rcode = opt_rcode(row.number());
+    Ok(mk_error_response(row.alloc(), &query, rcode)?)
 }
 
 /// Its push limit and its octets.
@@ -57,24 +53,16 @@ fn error_response(row: &mut Row<'_>) -> Result<(), RowError> {
 
 /// The error reply as a call's result holds it after steps: its octets.
 fn response_mut(row: &mut Row<'_>) -> Result<(), RowError> {
-    let mut result = CallResult::new(error_reply(row)?);
-    response_stepped(row, &mut result);
-    response_said(row, &result);
-    Ok(())
-}
-
-fn response_stepped(row: &mut Row<'_>, given: &mut CallResult) {
+    let mut given = CallResult::new(error_reply(row)?);
     match given.response_mut() {
         Some(reply) => steps_taken(row, reply),
         None => row.fail(RowError::Missing),
     }
-}
-
-fn response_said(row: &mut Row<'_>, given: &CallResult) {
     match given.response() {
         Some(reply) => row.hexadecimal(reply.as_slice()),
         None => row.fail(RowError::Missing),
     }
+    Ok(())
 }
 
 /// The empty message after steps.
@@ -138,7 +126,8 @@ fn step_said(row: &mut Row<'_>, reply: &mut AdditionalBuilder, step: &str) {
     }
 }
 
-/// A step: an NSID or an address that is added, the OPT record that is removed, or one with a number.
+/// A step: an OPT record of a size and with the code BADCOOKIE, an OPT record with padding, padding, an NSID or an address
+/// that is added, a push limit, or the OPT record that is removed.
 fn step_taken(
     row: &mut Row<'_>,
     reply: &mut AdditionalBuilder,
@@ -148,39 +137,22 @@ fn step_taken(
     match name {
         "nsid" => option_added(row, reply, argument),
         "address" => address_pushed(row.alloc(), reply),
-        "remove" => opt_removed(row.alloc(), reply),
-        _ => {
-            let number = row.number_of(argument);
-            number_step(row, reply, name, number)
-        }
+        "remove" => Ok(remove_edns_opt_record(row.alloc(), reply)?),
+        "opt" => sized_opt(row.alloc(), reply, row.number_of(argument)),
+        "padding" => padded(row.alloc(), reply, true, row.number_of(argument)),
+        "add_padding" => padded(row.alloc(), reply, false, row.number_of(argument)),
+        "limit" => Ok(reply.set_push_limit(row.number_of(argument))),
+        _ => Ok(row.fail(RowError::NoSuchStep)),
     }
 }
 
-fn opt_removed(alloc: Global, reply: &mut AdditionalBuilder) -> Result<(), BuildDataError> {
-    Ok(remove_edns_opt_record(alloc, reply)?)
-}
-
-/// A step with a number: an OPT record of this size and with the code BADCOOKIE, an OPT record with padding, padding
-/// that is added, or a push limit.
-fn number_step(
-    row: &mut Row<'_>,
+/// An OPT record of a size, and with the response code BADCOOKIE where there is a size.
+fn sized_opt(
+    alloc: Global,
     reply: &mut AdditionalBuilder,
-    name: &str,
-    number: u16,
+    size: u16,
 ) -> Result<(), BuildDataError> {
-    let alloc = row.alloc();
-    match name {
-        "opt" => reply.opt(alloc, |opt: &mut OptBuilder| sized(opt, number)),
-        "padding" | "add_padding" => padded(alloc, reply, name == "padding", number),
-        "limit" => {
-            reply.set_push_limit(usize::from(number));
-            Ok(())
-        }
-        _ => {
-            row.fail(RowError::NoSuchStep);
-            Ok(())
-        }
-    }
+    reply.opt(alloc, |opt: &mut OptBuilder| sized(opt, size))
 }
 
 /// An OPT record with padding, or padding that is added.
@@ -219,19 +191,9 @@ fn option_added(
 /// Pushes the root's address.
 fn address_pushed(alloc: Global, reply: &mut AdditionalBuilder) -> Result<(), BuildDataError> {
     match address(alloc) {
-        Some(item) => record_pushed(alloc, reply, item),
+        Some(item) => Ok(reply.push(alloc, &item)?),
         None => Err(BuildDataError::OutOfMemory),
     }
-}
-
-fn record_pushed(
-    alloc: Global,
-    reply: &mut AdditionalBuilder,
-    item: Record,
-) -> Result<(), BuildDataError>
-    requires { IsLawful item.rdata }
-{
-    Ok(reply.push(alloc, &item)?)
 }
 
 fn address(alloc: Global) -> Option<Record>

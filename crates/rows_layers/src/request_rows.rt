@@ -1,23 +1,55 @@
 //! Rows of requests.
 
+use crate::layer_rows::layered;
+use crate::route_rows::request_message;
+use crate::service_rows::{of_arc, served};
 use crate::words::message;
 use dns_name::{IpAddr, SocketAddr};
 use dns_service::{NonUdpTransportContext, Request, TransportSpecificContext, UdpTransportContext};
 use rows_table::{Calls, Row, RowError};
 
-/// Requests: a transport, a message and what the call takes.
+/// Calls whose first words are a request: a transport and a message.
 pub(crate) struct RequestRows;
 
 impl Calls for RequestRows {
     fn answer(&self, call: &str, row: &mut Row<'_>) -> Result<(), RowError> {
         match call {
-            "request" => parts(row),
-            "try_clone" => copy(row),
+            "request"
+            | "try_clone"
+            | "reserve_bytes"
+            | "set_max_response_size_hint"
+            | "served"
+            | "arc"
+            | "request_message"
+            | "mandatory"
+            | "mandatory_relaxed"
+            | "both"
+            | "both_relaxed"
+            | "edns_disabled"
+            | "edns_hint" => of_request(call, row),
             "with_new_metadata" => other_metadata(row),
-            "reserve_bytes" => reserve(row),
-            "set_max_response_size_hint" => other_hint(row),
             _ => Err(RowError::NoSuchCall),
         }
+    }
+}
+
+/// What a call says of the next words' request.
+fn of_request(call: &str, row: &mut Row<'_>) -> Result<(), RowError> {
+    let mut request = request(row)?;
+    asked(call, row, &mut request)
+}
+
+/// What a call says of a request; through layers where it names none of these.
+fn asked(call: &str, row: &mut Row<'_>, request: &mut Request<()>) -> Result<(), RowError> {
+    match call {
+        "request" => Ok(parts_said(row, request)),
+        "try_clone" => copied(row, request),
+        "reserve_bytes" => Ok(reserve(row, request)),
+        "set_max_response_size_hint" => Ok(other_hint(row, request)),
+        "served" => served(row, request),
+        "arc" => of_arc(row, request),
+        "request_message" => Ok(request_message(row, request)),
+        _ => layered(call, row, request),
     }
 }
 
@@ -50,32 +82,19 @@ fn transport(row: &mut Row<'_>) -> Result<TransportSpecificContext, RowError> {
 }
 
 /// The address, the port, the moment, the second, the octets of the message and how many octets are reserved.
-fn parts(row: &mut Row<'_>) -> Result<(), RowError> {
-    let request = request(row)?;
-    sender_said(row, &request);
-    row.hexadecimal(request.message().as_slice());
-    row.show(&request.num_reserved_bytes());
-    Ok(())
-}
-
-/// The address, the port, the moment and the second.
-fn sender_said(row: &mut Row<'_>, request: &Request<()>) {
+fn parts_said(row: &mut Row<'_>, request: &Request<()>) {
     let sender = request.client_addr();
     row.show(&sender.ip);
     row.show(&sender.port);
     row.show(&request.received_at());
-    row.show(&request.received_secs())
+    row.show(&request.received_secs());
+    row.hexadecimal(request.message().as_slice());
+    row.show(&request.num_reserved_bytes())
 }
 
 /// Octets are reserved, and the copy gets other metadata: these, the copy's octets and how many it has reserved.
-fn copy(row: &mut Row<'_>) -> Result<(), RowError> {
-    let mut request = request(row)?;
+fn copied(row: &mut Row<'_>, request: &mut Request<()>) -> Result<(), RowError> {
     request.reserve_bytes(row.number());
-    copied(row, &request)
-}
-
-/// A copy of a request with other metadata.
-fn copied(row: &mut Row<'_>, request: &Request<()>) -> Result<(), RowError> {
     let copy = request.try_clone(row.alloc(), row.number::<u8>())?;
     copy_said(row, &copy);
     Ok(())
@@ -95,21 +114,18 @@ fn other_metadata(row: &mut Row<'_>) -> Result<(), RowError> {
 }
 
 /// How many octets are reserved in the end.
-fn reserve(row: &mut Row<'_>) -> Result<(), RowError> {
-    let mut request = request(row)?;
+fn reserve(row: &mut Row<'_>, request: &mut Request<()>) {
     request.reserve_bytes(row.number());
     request.reserve_bytes(row.number());
     row.show(&request.num_reserved_bytes());
-    Ok(())
 }
 
-fn other_hint(row: &mut Row<'_>) -> Result<(), RowError> {
-    let mut request = request(row)?;
+/// The hint of a transport that is set to another.
+fn other_hint(row: &mut Row<'_>, request: &mut Request<()>) {
     if let TransportSpecificContext::Udp(udp) = request.transport_ctx_mut() {
         udp.set_max_response_size_hint(row.optional());
     }
     hint_said(row, request.transport_ctx());
-    Ok(())
 }
 
 /// The hint of a transport, or `none`.

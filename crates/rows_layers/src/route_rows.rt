@@ -1,34 +1,37 @@
 //! Rows of messages that are composed of other ones.
 
-use crate::request_rows::request;
+use crate::router_rows::{error_text, router, to_service, transport};
 use crate::words::message_ref;
 use dns_opt::NsidRef;
 use dns_route::{ComposeReply, CopiedMessage, ReplyMessage, RequestMessage};
+use dns_service::Request;
 use rows_table::{Calls, Row, RowError};
 
-/// Messages for routers.
+/// Messages for routers, routers, and what these stand on.
 pub(crate) struct RouteRows;
 
 impl Calls for RouteRows {
     fn answer(&self, call: &str, row: &mut Row<'_>) -> Result<(), RowError> {
         match call {
-            "request_message" => request_message(row),
             "reply_message" => reply_message(row),
             "copied_message" => copied_message(row),
+            "router" => router(row),
+            "send_error" => error_text(row),
+            "transport" => transport(row, false),
+            "boxed_transport" => transport(row, true),
+            "to_service" => to_service(row),
             _ => Err(RowError::NoSuchCall),
         }
     }
 }
 
 /// A request that is asked again after steps: whether DNSSEC records are wanted, and the octets that are sent.
-fn request_message(row: &mut Row<'_>) -> Result<(), RowError> {
-    let request = request(row)?;
+pub(crate) fn request_message(row: &mut Row<'_>, request: &Request<()>) {
     let steps = row.word();
-    match RequestMessage::try_from(row.alloc(), &request) {
+    match RequestMessage::try_from(row.alloc(), request) {
         Ok(asked) => sent(row, asked, steps),
         Err(error) => row.debug(&error),
     }
-    Ok(())
 }
 
 fn sent(row: &mut Row<'_>, asked: RequestMessage, steps: &str) {
@@ -54,16 +57,10 @@ fn request_step(row: &mut Row<'_>, asked: &mut RequestMessage, step: &str) {
     match step.split_once(':') {
         None => {}
         Some(("dnssec_ok", value)) => asked.set_dnssec_ok(value == "true"),
-        Some((_, octets)) => identifier_asked(row, asked, octets),
-    }
-}
-
-/// Adds an NSID.
-fn identifier_asked(row: &mut Row<'_>, asked: &mut RequestMessage, octets: &str) {
-    let octets = row.octets_of(octets);
-    match NsidRef::from_slice(octets) {
-        Ok(identifier) => row.keep(asked.add_opt(row.alloc(), &identifier)),
-        Err(_) => row.fail(RowError::OutOfForm),
+        Some((_, octets)) => match NsidRef::from_slice(row.octets_of(octets)) {
+            Ok(identifier) => row.keep(asked.add_opt(row.alloc(), &identifier)),
+            Err(_) => row.fail(RowError::OutOfForm),
+        },
     }
 }
 
@@ -86,7 +83,8 @@ fn composed(row: &mut Row<'_>, reply: ReplyMessage, added: &[u8]) {
     composed_said(row, &reply)
 }
 
-fn composed_said(row: &mut Row<'_>, reply: &ReplyMessage) {
+/// The octets of a reply, or why it can't be built.
+pub(crate) fn composed_said(row: &mut Row<'_>, reply: &ReplyMessage) {
     match reply.additional_builder_stream_target(row.alloc()) {
         Ok(built) => row.hexadecimal(built.as_slice()),
         Err(error) => row.debug(&error),
@@ -117,10 +115,6 @@ fn response_built(row: &mut Row<'_>, copied: CopiedMessage) {
     let mut header = copied.header();
     header.set_qr(true);
     copied.set_header(header);
-    copy_said(row, &copied)
-}
-
-fn copy_said(row: &mut Row<'_>, copied: &CopiedMessage) {
     match copied.build(row.alloc(), None) {
         Ok(built) => row.hexadecimal(built.as_slice()),
         Err(error) => row.debug(&error),

@@ -4,35 +4,19 @@ ghost use Rattle.std.specs.Prelude.{◌≡◌, Err, IfOk, nat_lt, if◌then◌el
 ghost use Rattle.dns_service.specs.declared.service.Polled.TheVariants.{Pending, Ready};
 
 use crate::request_rows::request;
-use crate::said::poll_said;
+use crate::route_rows::composed_said;
+use crate::stream_rows::polled;
 use crate::words::service_error;
 use dns_base::Message;
 use dns_name::Name;
 use dns_route::{
-    BoxClientTransportToSingleService, ClientTransportToSingleService, ComposeReply, QnameRouter,
-    ReplyMessage, RequestMessage, SendError, SendRequest, SingleService, SingleServiceToService,
-    Turned,
+    BoxClientTransportToSingleService, ClientTransportToSingleService, QnameRouter, ReplyMessage,
+    RequestMessage, SendError, SendRequest, SingleService, SingleServiceToService, Turned,
 };
-use dns_service::{OutOfMemory, Polled, ReplyFuture, ReplyStream, Request, Service, ServiceError};
-use rows_table::{Calls, Row, RowError};
+use dns_service::{OutOfMemory, Polled, ReplyFuture, Request, Service, ServiceError};
+use rows_table::{Row, RowError};
 use std::alloc::Global;
 use std::sync::Arc;
-
-/// Routers and what they stand on.
-pub(crate) struct RouterRows;
-
-impl Calls for RouterRows {
-    fn answer(&self, call: &str, row: &mut Row<'_>) -> Result<(), RowError> {
-        match call {
-            "router" => router(row),
-            "send_error" => error_text(row),
-            "transport" => transport(row),
-            "boxed_transport" => boxed_transport(row),
-            "to_service" => to_service(row),
-            _ => Err(RowError::NoSuchCall),
-        }
-    }
-}
 
 /// Gives the same error to any request.
 #[derive(Drop)]
@@ -83,7 +67,7 @@ fn copy(alloc: Global, message: &Message) -> Result<Message, OutOfMemory>
 }
 
 /// What a router says at turn 0: the next word has its names, each with the error that its service gives, `-` for none.
-fn router(row: &mut Row<'_>) -> Result<(), RowError> {
+pub(crate) fn router(row: &mut Row<'_>) -> Result<(), RowError> {
     let names = row.word();
     let mut router = QnameRouter::new(row.alloc());
     add_all(row, &mut router, names)?;
@@ -139,15 +123,7 @@ fn turn_said<S: SingleService>(
 /// A reply or an error.
 fn turned_said(row: &mut Row<'_>, turned: Result<ReplyMessage, ServiceError>) {
     match turned {
-        Ok(reply) => built_said(row, &reply),
-        Err(error) => row.debug(&error),
-    }
-}
-
-/// The octets of a reply, or why it can't be built.
-fn built_said(row: &mut Row<'_>, reply: &ReplyMessage) {
-    match reply.additional_builder_stream_target(row.alloc()) {
-        Ok(built) => row.hexadecimal(built.as_slice()),
+        Ok(reply) => composed_said(row, &reply),
         Err(error) => row.debug(&error),
     }
 }
@@ -163,7 +139,7 @@ fn send_error(name: &str) -> Option<SendError> {
 }
 
 /// Its text.
-fn error_text(row: &mut Row<'_>) -> Result<(), RowError> {
+pub(crate) fn error_text(row: &mut Row<'_>) -> Result<(), RowError> {
     let error = send_error(row.word()).ok_or(RowError::OutOfForm)?;
     row.show(&error);
     Ok(())
@@ -187,21 +163,18 @@ fn next_transport(row: &mut Row<'_>) -> Result<Planned, RowError> {
     })
 }
 
-/// What a single service over a transport says at a turn.
-fn transport(row: &mut Row<'_>) -> Result<(), RowError> {
+/// What a single service over a transport, or over it in a box, says at a turn.
+pub(crate) fn transport(row: &mut Row<'_>, in_box: bool) -> Result<(), RowError> {
     let k = row.number();
     let conn = next_transport(row)?;
-    asked_at(row, &ClientTransportToSingleService::new(conn), k)
+    if in_box {
+        boxed(row, conn, k)
+    } else {
+        asked_at(row, &ClientTransportToSingleService::new(conn), k)
+    }
 }
 
-/// The same over the transport in a box.
-fn boxed_transport(row: &mut Row<'_>) -> Result<(), RowError> {
-    let k = row.number();
-    let conn = next_transport(row)?;
-    boxed(row, conn, k)
-}
-
-/// The same of a transport.
+/// The same over a transport in a box.
 fn boxed(row: &mut Row<'_>, conn: Planned, k: u64) -> Result<(), RowError> {
     let conn: Box<dyn SendRequest + Send + Sync> = Box::new(row.alloc(), conn).or(Err(
         RowError::OutOfMemory,
@@ -210,7 +183,7 @@ fn boxed(row: &mut Row<'_>, conn: Planned, k: u64) -> Result<(), RowError> {
 }
 
 /// What a service over such a single service says at four polls at most, up to the end.
-fn to_service(row: &mut Row<'_>) -> Result<(), RowError> {
+pub(crate) fn to_service(row: &mut Row<'_>) -> Result<(), RowError> {
     let conn = next_transport(row)?;
     let mut request = request(row)?;
     over_single(row, ClientTransportToSingleService::new(conn), &mut request)
@@ -233,16 +206,10 @@ fn four_polls<F: ReplyFuture>(row: &mut Row<'_>, future: &mut F) -> Result<(), R
         match future.poll(row.alloc())? {
             Polled::Pending => row.say("pending"),
             Polled::Ready(mut stream) => {
-                two_polls(row, &mut stream);
+                polled(row, &mut stream, 2);
                 return Ok(());
             }
         }
     }
     Ok(())
-}
-
-/// What a stream says at two polls.
-fn two_polls<S: ReplyStream>(row: &mut Row<'_>, stream: &mut S) {
-    poll_said(row, stream.poll_next(row.alloc()));
-    poll_said(row, stream.poll_next(row.alloc()))
 }

@@ -4,13 +4,13 @@ ghost use Rattle.std.specs.Prelude.{None, Some};
 ghost use Rattle.dns_service.specs.declared.service.Polled.TheVariants.{Ready};
 ghost use Rattle.dns_service.specs.Transport.{hint_of};
 
-use crate::error_rows::next_error;
+use crate::error_rows::{next_error, rcode, reply_error, service_text, text};
 use crate::inner::{AsPlanned, planned};
 use crate::request_rows::request;
 use crate::said::{poll_said, size_said};
 use dns_service::{
     CallResult, Now, Once, OutOfMemory, Plainly, Polled, ReplyFuture, ReplyStream, Request, Served,
-    Service, ServiceFeedback, ServiceResult, service_fn,
+    Service, ServiceError, ServiceFeedback, ServiceResult, service_fn,
 };
 use rows_table::{Calls, Row, RowError};
 use std::alloc::Global;
@@ -64,55 +64,63 @@ impl Service<()> for Silent {
     }
 }
 
-/// Services that stand by themselves.
+/// Services that stand by themselves, and the errors of services and replies.
 pub(crate) struct ServiceRows;
 
 impl Calls for ServiceRows {
     fn answer(&self, call: &str, row: &mut Row<'_>) -> Result<(), RowError> {
         match call {
-            "served" => served(row),
-            "arc" => of_arc(row),
             "service_fn" => of_closure(row),
             "once" => once(row),
+            "rcode" => rcode(row),
+            "service_error" => service_text(row),
+            "error" => text(row),
+            "reply_error" => reply_error(row),
             _ => Err(RowError::NoSuchCall),
         }
     }
 }
 
 /// What the silent service gives as a shared one.
-fn served(row: &mut Row<'_>) -> Result<(), RowError> {
+pub(crate) fn served(row: &mut Row<'_>, request: &mut Request<()>) -> Result<(), RowError> {
     let shared = Arc::new(row.alloc(), Plainly { service: Silent {} })?;
-    served_by(row, &shared)
-}
-
-fn served_by(row: &mut Row<'_>, shared: &Arc<Plainly<Silent>>) -> Result<(), RowError> {
-    let mut request = request(row)?;
-    let mut future = Served::call(shared, row.alloc(), &mut request)?;
+    let mut future = Served::call(&shared, row.alloc(), request)?;
     future_said(row, &mut future)
 }
 
 /// What the silent service gives as a service behind a shared reference.
-fn of_arc(row: &mut Row<'_>) -> Result<(), RowError> {
+pub(crate) fn of_arc(row: &mut Row<'_>, request: &mut Request<()>) -> Result<(), RowError> {
     let shared = Arc::new(row.alloc(), Silent {})?;
-    answered(row, &shared)?;
-    Ok(())
+    answered(row, &shared, request)
 }
 
-/// What a service gives to the request of the next words, which is handed back.
-fn answered<S: Service<()>>(row: &mut Row<'_>, service: &S) -> Result<Request<()>, RowError>
+/// What a service gives to a request.
+fn answered<S: Service<()>>(
+    row: &mut Row<'_>,
+    service: &S,
+    request: &mut Request<()>,
+) -> Result<(), RowError>
     requires { S.can_call service.now }
 {
-    let mut request = request(row)?;
-    let mut future = service.call(row.alloc(), &mut request)?;
-    future_said(row, &mut future)?;
-    Ok(request)
+    let mut future = service.call(row.alloc(), request)?;
+    future_said(row, &mut future)
 }
 
 /// What a service of a closure gives that answers with this error.
 fn of_closure(row: &mut Row<'_>) -> Result<(), RowError> {
     let error = next_error(row)?;
+    let mut request = request(row)?;
+    refused(row, &mut request, error)
+}
+
+/// The same of a request, and how many octets it has reserved.
+fn refused(
+    row: &mut Row<'_>,
+    request: &mut Request<()>,
+    error: ServiceError,
+) -> Result<(), RowError> {
     let service = service_fn::<AsPlanned, _, _>(planned, Err(error));
-    let request = answered(row, &service)?;
+    answered(row, &service, request)?;
     row.close(", reserved");
     row.show(&request.num_reserved_bytes());
     Ok(())
@@ -133,10 +141,6 @@ fn future_said<F: ReplyFuture>(row: &mut Row<'_>, future: &mut F) -> Result<(), 
         Polled::Ready(mut stream) => stream_said(row, &mut stream),
         Polled::Pending => row.say("pending"),
     }
-    afterwards_said(row, future)
-}
-
-fn afterwards_said<F: ReplyFuture>(row: &mut Row<'_>, future: &mut F) -> Result<(), RowError> {
     match future.poll(row.alloc())? {
         Polled::Ready(_) => row.close(", then ready"),
         Polled::Pending => row.close(", then pending"),

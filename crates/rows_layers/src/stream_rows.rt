@@ -6,7 +6,7 @@ use crate::said::{poll_said, size_said};
 use crate::slow::{Later, SameError, Slow};
 use dns_service::{CallResult, ReplyStream, Request, ServiceError, ServiceFeedback};
 use dns_stream::{MiddlewareStream, Once, PostprocessingStream};
-use rows_table::{Calls, Row, RowError, pages};
+use rows_table::{Row, RowError, pages};
 use std::alloc::Global;
 
 type Layered = MiddlewareStream<
@@ -16,22 +16,8 @@ type Layered = MiddlewareStream<
     Once,
 >;
 
-/// Streams of layers.
-pub(crate) struct StreamRows;
-
-/// A stream of a kind, round an item of an error, is polled so many times.
-impl Calls for StreamRows {
-    fn answer(&self, call: &str, row: &mut Row<'_>) -> Result<(), RowError> {
-        match call {
-            "polls" => watched(row, false),
-            "sizes" => watched(row, true),
-            _ => Err(RowError::NoSuchCall),
-        }
-    }
-}
-
 /// A stream of the kind of the next word, round an item of an error.
-fn watched(row: &mut Row<'_>, sizes: bool) -> Result<(), RowError> {
+pub(crate) fn watched(row: &mut Row<'_>, sizes: bool) -> Result<(), RowError> {
     let kind = row.word();
     let error = next_error(row)?;
     let stream = layered(row.alloc(), kind, error)?;
@@ -54,9 +40,10 @@ fn shown<S: ReplyStream>(row: &mut Row<'_>, stream: S, sizes: bool) -> Result<()
     let mut stream = stream;
     let polls = row.number::<u8>();
     if sizes {
-        return sized(row, &mut stream, polls);
+        sized(row, &mut stream, polls);
+    } else {
+        polled(row, &mut stream, polls);
     }
-    polled(row, &mut stream, polls);
     Ok(())
 }
 
@@ -100,18 +87,13 @@ pub(crate) fn polled<S: ReplyStream>(row: &mut Row<'_>, stream: &mut S, polls: u
     }
 }
 
-/// The size at first, and after each of so many polls.
-fn sized<S: ReplyStream>(row: &mut Row<'_>, stream: &mut S, polls: u8) -> Result<(), RowError> {
+/// The size at first, and after each of so many polls, whatever they answer.
+fn sized<S: ReplyStream>(row: &mut Row<'_>, stream: &mut S, polls: u8) {
     size_said(row, stream.size_hint());
     for _ in 0..polls {
-        polled_once(row, stream)?;
+        if stream.poll_next(row.alloc()).is_err() {
+            row.fail(RowError::OutOfMemory);
+        }
         size_said(row, stream.size_hint());
     }
-    Ok(())
-}
-
-/// Polls a stream, whatever it answers.
-fn polled_once<S: ReplyStream>(row: &mut Row<'_>, stream: &mut S) -> Result<(), RowError> {
-    stream.poll_next(row.alloc())?;
-    Ok(())
 }

@@ -18,12 +18,6 @@ pub(crate) fn message_ref<'a>(row: &mut Row<'a>) -> Result<MessageRef<'a>, RowEr
     MessageRef::from_slice(row.octets()).or(Err(RowError::OutOfForm))
 }
 
-/// The octets of the next word as a reply under construction.
-pub(crate) fn next_reply(row: &mut Row<'_>) -> Result<AdditionalBuilder, RowError> {
-    let octets = row.octets();
-    reply(row, octets)
-}
-
 /// Octets as a reply under construction: each section as it stands, with uncompressed names, and the OPT record last.
 pub(crate) fn reply(row: &mut Row<'_>, octets: &[u8]) -> Result<AdditionalBuilder, RowError> {
     let message = MessageRef::from_slice(octets).or(Err(RowError::OutOfForm))?;
@@ -31,25 +25,18 @@ pub(crate) fn reply(row: &mut Row<'_>, octets: &[u8]) -> Result<AdditionalBuilde
     copied(row.alloc(), &message, opt)
 }
 
-/// A copy of a message with this OPT record in place of its own.
+/// A copy of a message with this OPT record in place of its own, as its last.
 fn copied(
     alloc: Global,
     message: &MessageRef<'_>,
     opt: Option<OptRecord>,
 ) -> Result<AdditionalBuilder, RowError> {
     match CopiedMessage::read(alloc, message) {
-        Ok(copied) => built(alloc, &copied, opt.as_ref()),
+        Ok(copied) => copied
+            .build(alloc, opt.as_ref())
+            .or(Err(RowError::OutOfForm)),
         Err(_) => Err(RowError::OutOfForm),
     }
-}
-
-/// A message with this OPT record as its last.
-fn built(
-    alloc: Global,
-    copied: &CopiedMessage,
-    opt: Option<&OptRecord>,
-) -> Result<AdditionalBuilder, RowError> {
-    copied.build(alloc, opt).or(Err(RowError::OutOfForm))
 }
 
 fn opt_record(alloc: Global, message: &MessageRef<'_>) -> Result<Option<OptRecord>, OutOfMemory> {
@@ -60,9 +47,9 @@ fn opt_record(alloc: Global, message: &MessageRef<'_>) -> Result<Option<OptRecor
 }
 
 /// The response code of a number.
-pub(crate) fn opt_rcode(number: u8) -> Result<OptRcode, RowError> {
-    let rcode = Rcode::checked_from_int(number % 16).ok_or(RowError::OutOfForm)?;
-    Ok(OptRcode::from_parts(rcode, number / 16))
+pub(crate) fn opt_rcode(number: u8) -> OptRcode {
+    let rcode = Rcode::checked_from_int(number % 16).unwrap_or(Rcode::NOERROR);
+    OptRcode::from_parts(rcode, number / 16)
 }
 
 /// The error of a service by its name.

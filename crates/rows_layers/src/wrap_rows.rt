@@ -7,23 +7,11 @@ use crate::request_rows::{hint_said, request};
 use crate::target::Target;
 use dns_middleware::{Settings, wrap};
 use dns_service::{Request, Service, service_fn};
-use rows_table::{Calls, Row, RowError, array_of};
-
-/// A service in its layers.
-pub(crate) struct WrapRows;
-
-impl Calls for WrapRows {
-    fn answer(&self, call: &str, row: &mut Row<'_>) -> Result<(), RowError> {
-        match call {
-            "wrap" => wrapped(row),
-            _ => Err(RowError::NoSuchCall),
-        }
-    }
-}
+use rows_table::{Row, RowError, array_of};
 
 /// Settings, so many polls of a request, with a target, to a service that answers with the item behind it; and the hint
 /// that the request has after the call.
-fn wrapped(row: &mut Row<'_>) -> Result<(), RowError> {
+pub(crate) fn wrapped(row: &mut Row<'_>) -> Result<(), RowError> {
     let settings = settings(row)?;
     let polls = row.number::<u8>();
     wrapped_by(row, &settings, polls)
@@ -33,13 +21,10 @@ fn wrapped(row: &mut Row<'_>) -> Result<(), RowError> {
 fn wrapped_by(row: &mut Row<'_>, settings: &Settings, polls: u8) -> Result<(), RowError> {
     let target = Target::next(row)?;
     let mut request = request(row)?;
-    asked_with(row, settings, target, &mut request, polls)?;
-    row.close(", hint");
-    hint_said(row, request.transport_ctx());
-    Ok(())
+    asked_with(row, settings, target, &mut request, polls)
 }
 
-/// So many polls of a request.
+/// The same of a request.
 fn asked_with(
     row: &mut Row<'_>,
     settings: &Settings,
@@ -48,7 +33,10 @@ fn asked_with(
     polls: u8,
 ) -> Result<(), RowError> {
     let service = service_fn::<AsPlanned, _, _>(planned, item(row, request)?);
-    round(row, settings, service, target, request, polls)
+    round(row, settings, service, target, request, polls)?;
+    row.close(", hint");
+    hint_said(row, request.transport_ctx());
+    Ok(())
 }
 
 /// So many polls of a request to a service in its layers.
@@ -69,34 +57,20 @@ fn round<S: Service<()>>(
 /// The settings of the next words: `strict` or `relaxed`, `edns` or `plain`, and the secret of cookies or `-`.
 fn settings(row: &mut Row<'_>) -> Result<Settings, RowError> {
     let mut settings = Settings::new(row.alloc());
-    set(row, &mut settings)?;
+    settings.strict = either(row, "strict", "relaxed");
+    settings.edns = either(row, "edns", "plain");
+    settings.cookies = match row.word() {
+        "-" => None,
+        word => Some(array_of(word)?),
+    };
     Ok(settings)
 }
 
-fn set(row: &mut Row<'_>, settings: &mut Settings) -> Result<(), RowError> {
-    settings.strict = either(row, "strict", "relaxed")?;
-    settings.edns = either(row, "edns", "plain")?;
-    settings.cookies = secret(row.word())?;
-    Ok(())
-}
-
-fn secret(word: &str) -> Result<Option<[u8; 16]>, RowError> {
-    if word == "-" {
-        Ok(None)
-    } else {
-        Ok(Some(array_of(word)?))
-    }
-}
-
 /// Whether the next word is the first of two, and not the second.
-fn either(row: &mut Row<'_>, first: &str, second: &str) -> Result<bool, RowError> {
+fn either(row: &mut Row<'_>, first: &str, second: &str) -> bool {
     let word = row.word();
-    if word == first {
-        return Ok(true);
+    if word != first && word != second {
+        row.fail(RowError::OutOfForm);
     }
-    if word == second {
-        Ok(false)
-    } else {
-        Err(RowError::OutOfForm)
-    }
+    word == first
 }

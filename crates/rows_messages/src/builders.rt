@@ -7,8 +7,8 @@ ghost use Rattle.dns_base.specs.Standing.{Gives};
 use crate::data::record_in_words;
 use crate::stages::Stage;
 use dns_base::{
-    AdditionalBuilder, AnswerBuilder, Message, MessageBuilder, Record, StreamTarget,
-    data_has_names, typed_records_read_back,
+    AdditionalBuilder, Message, MessageBuilder, Record, StreamTarget, data_has_names,
+    typed_records_read_back,
 };
 use dns_name::{OutOfMemory, ParseError, Rcode};
 use rows_table::{Calls, Row, RowError};
@@ -22,8 +22,8 @@ impl Calls for Builders {
         match call {
             "built" => built(row),
             "framed" => framed(row),
-            "start_answer" => start_answer(row),
-            "start_error" => start_error(row),
+            "start_answer" => started(row, false),
+            "start_error" => started(row, true),
             "typed" => typed(row),
             _ => Err(RowError::NoSuchCall),
         }
@@ -81,51 +81,43 @@ fn query(row: &mut Row<'_>) -> Result<Message, RowError> {
     Message::from_octets(row.vector()).or(Err(RowError::OutOfForm))
 }
 
-/// The answer to a query, and what the steps say of it.
-fn start_answer(row: &mut Row<'_>) -> Result<(), RowError> {
+/// The answer or the error answer to a query, of at most so many octets and with a response code, and what the steps say of
+/// it.
+fn started(row: &mut Row<'_>, error: bool) -> Result<(), RowError> {
     let limit = row.number();
     let rcode = rcode(row);
     let query = query(row)?;
-    answer_to(row, limit, rcode, &query)
+    let builder = within(row.alloc(), limit)?;
+    if error {
+        error_to(row, builder, rcode, &query)
+    } else {
+        answer_to(row, builder, rcode, &query)
+    }
 }
 
-/// The same of at most so many octets and with a response code.
+/// The answer to a query, and what the steps say of it.
 fn answer_to(
     row: &mut Row<'_>,
-    limit: usize,
+    builder: MessageBuilder,
     rcode: Rcode,
     query: &Message,
 ) -> Result<(), RowError> {
-    let builder = within(row.alloc(), limit)?;
     match builder.start_answer(row.alloc(), query, rcode) {
-        Ok(answer) => show_answer(row, answer),
+        Ok(answer) => shown(row, &mut Stage::Answer(answer)),
         Err(error) => row.debug(&error),
     }
     Ok(())
 }
 
-/// What the steps say of an answer.
-fn show_answer(row: &mut Row<'_>, answer: AnswerBuilder) {
-    shown(row, &mut Stage::Answer(answer))
-}
-
 /// The error answer to a query, and what the steps say of it.
-fn start_error(row: &mut Row<'_>) -> Result<(), RowError> {
-    let limit = row.number();
-    let rcode = rcode(row);
-    let query = query(row)?;
-    error_to(row, limit, rcode, &query)
-}
-
-/// The same of at most so many octets and with a response code.
 fn error_to(
     row: &mut Row<'_>,
-    limit: usize,
+    builder: MessageBuilder,
     rcode: Rcode,
     query: &Message,
 ) -> Result<(), RowError> {
-    let error = within(row.alloc(), limit)?.start_error(row.alloc(), query, rcode)?;
-    show_answer(row, error);
+    let error = builder.start_error(row.alloc(), query, rcode)?;
+    shown(row, &mut Stage::Answer(error));
     Ok(())
 }
 
@@ -170,18 +162,14 @@ fn first_read(
     }
 }
 
-/// Whether two records have the same fields, names up to ASCII case.
-fn alike(item: &Record, read: Record) -> bool {
-    *item == read && item.ttl == read.ttl
-}
-
-/// Whether all fields of the first additional record of what is built are those of the record that was pushed.
+/// Whether all fields of the first additional record of what is built are those of the record that was pushed, names up to
+/// ASCII case.
 fn reads_back(alloc: Global, builder: &AdditionalBuilder, item: &Record) -> Result<bool, RowError>
     requires pushed { builder.now.message.additional ≡ record_of item.now ∷ [] }
     requires lawful { IsLawful item.now.rdata }
 {
     let read = first_read(alloc, builder, item)?;
-    Ok(alike(item, read))
+    Ok(*item == read && item.ttl == read.ttl)
 }
 
 /// The data's octets of a record that is pushed, and whether all fields come back when they are read.
@@ -206,12 +194,5 @@ fn read_again(row: &mut Row<'_>, builder: &AdditionalBuilder, item: &Record) -> 
 /// The same for a record whose data stands in words.
 fn typed(row: &mut Row<'_>) -> Result<(), RowError> {
     let item = record_in_words(row)?;
-    owned_pushed(row, item)
-}
-
-/// The same for a record of its own.
-fn owned_pushed(row: &mut Row<'_>, item: Record) -> Result<(), RowError>
-    requires { IsLawful item.rdata }
-{
     pushed_and_read(row, &item)
 }

@@ -4,7 +4,7 @@ ghost use Rattle.std.specs.Prelude.{IfOk};
 ghost use Rattle.dns_message.specs.Records.{IsLawful};
 
 use dns_message::{
-    ComposeQuestion, MessageRef, Question, QuestionIter, Record, RecordIter, is_plain, number_at,
+    ComposeQuestion, MessageRef, QuestionIter, Record, RecordIter, is_plain, number_at,
 };
 use dns_name::ParseError;
 use rows_table::{Calls, Row, RowError};
@@ -21,19 +21,10 @@ impl Calls for Messages {
             "compose_question" => compose_question(row),
             "is_plain" => plain(row),
             "number_at" => number_in(row),
-            _ => of_records(call, row),
+            "sections" => sections(row),
+            "answer" => answer_types(row),
+            _ => Err(RowError::NoSuchCall),
         }
-    }
-}
-
-/// The calls of records.
-fn of_records(call: &str, row: &mut Row<'_>) -> Result<(), RowError> {
-    match call {
-        "first_answer" => first_answer(row),
-        "answer_data" => answer_data(row),
-        "sections" => sections(row),
-        "answer" => answer_types(row),
-        _ => Err(RowError::NoSuchCall),
     }
 }
 
@@ -81,14 +72,9 @@ fn first_question(row: &mut Row<'_>) -> Result<(), RowError> {
         return Ok(());
     };
     let question = found.to_question(row.alloc())?;
-    say_question(row, &question);
+    composed(row, &question);
+    row.tell("compose_len", &question.compose_len());
     Ok(())
-}
-
-/// What a question appends to none, and how many octets it says that it takes.
-fn say_question(row: &mut Row<'_>, question: &Question) {
-    composed(row, question);
-    row.tell("compose_len", &question.compose_len())
 }
 
 /// The first question, where it stands.
@@ -134,32 +120,6 @@ pub(crate) fn data_octets(row: &mut Row<'_>, item: &Record) {
     row.hexadecimal(&target)
 }
 
-/// The octets of the first answer record, names uncompressed.
-fn first_answer(row: &mut Row<'_>) -> Result<(), RowError> {
-    let item = next_answer(row)?;
-    say_record(row, item);
-    Ok(())
-}
-
-/// The octets of a record.
-fn say_record(row: &mut Row<'_>, item: Record)
-    requires { IsLawful item.rdata }
-{
-    record_octets(row, &item)
-}
-
-/// The octets of the first answer record's data, names uncompressed.
-fn answer_data(row: &mut Row<'_>) -> Result<(), RowError> {
-    let item = next_answer(row)?;
-    say_data(row, item);
-    Ok(())
-}
-
-/// The octets of a record's data.
-fn say_data(row: &mut Row<'_>, item: Record) {
-    data_octets(row, &item)
-}
-
 /// Says the types of records behind the name of their section.
 fn types(row: &mut Row<'_>, section: &str, records: RecordIter<'_>) -> Result<(), RowError> {
     row.say(section);
@@ -182,16 +142,6 @@ fn asked(row: &mut Row<'_>, questions: QuestionIter<'_>) -> Result<(), RowError>
 fn sections(row: &mut Row<'_>) -> Result<(), RowError> {
     let (questions, answer, authority, additional) = next_message(row)?.sections()?;
     asked(row, questions)?;
-    types_of_all(row, answer, authority, additional)
-}
-
-/// The types of the records of three sections.
-fn types_of_all(
-    row: &mut Row<'_>,
-    answer: RecordIter<'_>,
-    authority: RecordIter<'_>,
-    additional: RecordIter<'_>,
-) -> Result<(), RowError> {
     types(row, "answer", answer)?;
     types(row, "authority", authority)?;
     types(row, "additional", additional)

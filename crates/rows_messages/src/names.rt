@@ -15,40 +15,27 @@ impl Calls for Names {
             "name_to_owned" => owned(row),
             "name_text" => name_text(row),
             "octets_from_slice" => copied(row),
-            _ => of_parsed(call, row),
+            "parsed_name" => parsed_name(row),
+            "parsed_to_name" => parsed_to_name(row),
+            "parsed_text" => parsed_text(row),
+            "refusal_text" => refusal_text(row),
+            "name_from_text" => from_text(row),
+            "name_root" => root(row),
+            "name_cmp" => name_cmp(row),
+            "names_rise" => names_rise(row),
+            "address_text" => address_text(row),
+            "serial_cmp" => serial_cmp(row),
+            _ => Err(RowError::NoSuchCall),
         }
-    }
-}
-
-/// The calls of names in messages, and of names that are read from text.
-fn of_parsed(call: &str, row: &mut Row<'_>) -> Result<(), RowError> {
-    match call {
-        "parsed_name" => parsed_name(row),
-        "parsed_to_name" => parsed_to_name(row),
-        "parsed_text" => parsed_text(row),
-        "refusal_text" => refusal_text(row),
-        "name_from_text" => from_text(row),
-        _ => of_order(call, row),
-    }
-}
-
-/// The other calls.
-fn of_order(call: &str, row: &mut Row<'_>) -> Result<(), RowError> {
-    match call {
-        "name_root" => root(row),
-        "name_cmp" => name_cmp(row),
-        "names_rise" => names_rise(row),
-        "address_text" => address_text(row),
-        "serial_cmp" => serial_cmp(row),
-        _ => Err(RowError::NoSuchCall),
     }
 }
 
 /// The octets of an uncompressed name.
 fn from_slice(row: &mut Row<'_>) -> Result<(), RowError> {
-    let octets = row.octets();
-    row.hexadecimal(NameRef::from_slice(octets)?.as_slice());
-    Ok(())
+    match NameRef::from_slice(row.octets()) {
+        Ok(name) => Ok(row.hexadecimal(name.as_slice())),
+        Err(error) => Err(error.into()),
+    }
 }
 
 /// A parser at the place in a message that the next words are.
@@ -64,19 +51,14 @@ fn next_parser<'a>(row: &mut Row<'a>) -> Result<Parser<'a>, RowError> {
 fn parsed_name(row: &mut Row<'_>) -> Result<(), RowError> {
     let mut parser = next_parser(row)?;
     let other = row.name()?;
-    parsed_beside(row, &mut parser, &other);
-    Ok(())
-}
-
-/// The same at the parser's place.
-fn parsed_beside(row: &mut Row<'_>, parser: &mut Parser<'_>, other: &NameRef<'_>) {
-    match ParsedName::parse(parser) {
-        Ok(name) => beside(row, &name, other),
+    match ParsedName::parse(&mut parser) {
+        Ok(name) => beside(row, &name, &other),
         Err(error) => {
             row.debug(&error);
             row.tell("pos", &parser.pos());
         }
     }
+    Ok(())
 }
 
 /// How many labels a name has, and how it stands to another.
@@ -109,8 +91,7 @@ fn parsed_text(row: &mut Row<'_>) -> Result<(), RowError> {
 
 /// The text of the refusal of octets that are no name.
 fn refusal_text(row: &mut Row<'_>) -> Result<(), RowError> {
-    let octets = row.octets();
-    match NameRef::from_slice(octets) {
+    match NameRef::from_slice(row.octets()) {
         Ok(_) => row.say("none"),
         Err(error) => row.show(&error),
     }
@@ -131,15 +112,10 @@ fn from_text(row: &mut Row<'_>) -> Result<(), RowError> {
 fn root(row: &mut Row<'_>) -> Result<(), RowError> {
     let name = Name::root(row.alloc())?;
     row.hexadecimal(name.as_slice());
-    appended(row, &name);
-    Ok(())
-}
-
-/// What an owned name appends to none.
-fn appended(row: &mut Row<'_>, name: &Name) {
     let mut target = Vec::new(row.alloc());
     row.keep(name.compose(row.alloc(), &mut target));
-    row.tell_octets("composed", &target)
+    row.tell_octets("composed", &target);
+    Ok(())
 }
 
 /// What a borrowed name appends to none.
@@ -154,14 +130,9 @@ fn composed(row: &mut Row<'_>) -> Result<(), RowError> {
 /// The octets of an owned copy of a name, and how many it says that it takes.
 fn owned(row: &mut Row<'_>) -> Result<(), RowError> {
     let name = row.name()?.to_owned(row.alloc())?;
-    say_name(row, &name);
-    Ok(())
-}
-
-/// The octets of a name, and how many it says that it takes.
-fn say_name(row: &mut Row<'_>, name: &Name) {
     row.hexadecimal(name.as_slice());
     row.tell("compose_len", &name.compose_len());
+    Ok(())
 }
 
 /// A name as text, in quotation marks.
@@ -178,19 +149,11 @@ fn copied(row: &mut Row<'_>) -> Result<(), RowError> {
     Ok(())
 }
 
-/// The canonical order of the names that two words are.
-fn order_of(row: &mut Row<'_>, word: &str, other: &str) -> Result<Ordering, RowError> {
-    let name = row.name_of(word)?;
-    let other = row.name_of(other)?;
-    Ok(name.name_cmp(&other))
-}
-
 /// The canonical order of two names.
 fn name_cmp(row: &mut Row<'_>) -> Result<(), RowError> {
-    let name = row.word();
-    let other = row.word();
-    let order = order_of(row, name, other)?;
-    row.debug(&order);
+    let name = row.name()?;
+    let other = row.name()?;
+    row.debug(&name.name_cmp(&other));
     Ok(())
 }
 
@@ -209,10 +172,11 @@ fn misplaced(
     Ok(None)
 }
 
-/// Whether two names compare as their places do, in this order.
+/// Whether the names that two words are compare as their places do, in this order.
 fn stands(row: &mut Row<'_>, name: &str, other: &str, places: Ordering) -> Result<bool, RowError> {
-    let order = order_of(row, name, other)?;
-    Ok(order == places)
+    let name = row.name_of(name)?;
+    let other = row.name_of(other)?;
+    Ok(name.name_cmp(&other) == places)
 }
 
 /// Whether each two of these names compare as their places do.
@@ -220,18 +184,13 @@ fn names_rise(row: &mut Row<'_>) -> Result<(), RowError> {
     let names = row.all_words();
     for (place, name) in names.split(' ').enumerate() {
         if let Some(other) = misplaced(row, names, place, name)? {
-            say_misplaced(row, place, other);
+            row.tell("not", &place);
+            row.tell("and", &other);
             return Ok(());
         }
     }
     row.say("yes");
     Ok(())
-}
-
-/// The places of two names that compare otherwise.
-fn say_misplaced(row: &mut Row<'_>, place: usize, other: usize) {
-    row.tell("not", &place);
-    row.tell("and", &other)
 }
 
 /// The text of an address.

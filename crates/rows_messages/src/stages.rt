@@ -8,7 +8,7 @@ use dns_base::{
     AdditionalBuilder, AnswerBuilder, AuthorityBuilder, MessageBuilder, Question, QuestionBuilder,
     Record, StreamTarget, is_option_list, record_in,
 };
-use dns_name::{Class, Name, NameRef, OutOfMemory, ParseError, Parser, Rtype, Ttl};
+use dns_name::{Class, NameRef, OutOfMemory, ParseError, Parser, Rtype, Ttl};
 use rows_table::{Row, RowError, Steps};
 use std::alloc::Global;
 use std::mem::replace;
@@ -104,24 +104,14 @@ impl Stage {
 
     /// A copy.
     fn try_clone(&self, alloc: Global) -> Result<Stage, OutOfMemory> {
-        let copy = match self {
-            Stage::Gone => Stage::Gone,
-            Stage::Message(builder) => Stage::Message(builder.try_clone(alloc)?),
-            Stage::Question(builder) => Stage::Question(builder.try_clone(alloc)?),
-            _ => return self.clone_of_records(alloc),
-        };
-        Ok(copy)
-    }
-
-    /// A copy of a message that is at its records, else of none.
-    fn clone_of_records(&self, alloc: Global) -> Result<Stage, OutOfMemory> {
-        let copy = match self {
-            Stage::Answer(builder) => Stage::Answer(builder.try_clone(alloc)?),
-            Stage::Authority(builder) => Stage::Authority(builder.try_clone(alloc)?),
-            Stage::Additional(builder) => Stage::Additional(builder.try_clone(alloc)?),
-            _ => Stage::Gone,
-        };
-        Ok(copy)
+        match self {
+            Stage::Gone => Ok(Stage::Gone),
+            Stage::Message(builder) => Ok(Stage::Message(builder.try_clone(alloc)?)),
+            Stage::Question(builder) => Ok(Stage::Question(builder.try_clone(alloc)?)),
+            Stage::Answer(builder) => Ok(Stage::Answer(builder.try_clone(alloc)?)),
+            Stage::Authority(builder) => Ok(Stage::Authority(builder.try_clone(alloc)?)),
+            Stage::Additional(builder) => Ok(Stage::Additional(builder.try_clone(alloc)?)),
+        }
     }
 }
 
@@ -179,24 +169,13 @@ fn move_on(stage: &mut Stage, section: &str) -> Result<(), RowError> {
 fn question_of(alloc: Global, octets: &[u8]) -> Result<Question, ParseError> {
     let mut parser = Parser::from_ref(octets);
     let name = NameRef::parse(&mut parser)?;
-    let (qtype, qclass) = asked_codes(&mut parser)?;
-    Ok(asking(name.to_owned(alloc)?, qtype, qclass))
-}
-
-/// The type and the class of a question.
-fn asked_codes(parser: &mut Parser<'_>) -> Result<(Rtype, Class), ParseError> {
     let qtype = parser.parse_u16_be()?;
     let qclass = parser.parse_u16_be()?;
-    Ok((Rtype::from_int(qtype), Class::from_int(qclass)))
-}
-
-/// A question for a name.
-fn asking(qname: Name, qtype: Rtype, qclass: Class) -> Question {
-    Question {
-        qname,
-        qtype,
-        qclass,
-    }
+    Ok(Question {
+        qname: name.to_owned(alloc)?,
+        qtype: Rtype::from_int(qtype),
+        qclass: Class::from_int(qclass),
+    })
 }
 
 /// The record that the octets of the next word are.
@@ -216,11 +195,14 @@ fn push_question(builder: &mut QuestionBuilder, row: &mut Row<'_>) -> Result<(),
     Ok(())
 }
 
-/// Adds a record to the section, and says what that answers.
-fn push_record(stage: &mut Stage, row: &mut Row<'_>, item: &Record)
+/// Adds a record to the section, or puts it in place of those of its type, and says what that answers.
+fn put_record(stage: &mut Stage, row: &mut Row<'_>, item: &Record, replaces: bool)
     requires { IsLawful item.now.rdata }
 {
     match stage {
+        Stage::Additional(builder) if replaces => {
+            row.outcome(builder.replace_type(row.alloc(), item.rdata.rtype(), item));
+        }
         Stage::Answer(builder) => row.outcome(builder.push(row.alloc(), item)),
         Stage::Authority(builder) => row.outcome(builder.push(row.alloc(), item)),
         Stage::Additional(builder) => row.outcome(builder.push(row.alloc(), item)),
@@ -228,43 +210,12 @@ fn push_record(stage: &mut Stage, row: &mut Row<'_>, item: &Record)
     }
 }
 
-/// Adds the question or record of the next word, and says what that answers.
-fn push_next(stage: &mut Stage, row: &mut Row<'_>) -> Result<(), RowError> {
-    if let Stage::Question(builder) = stage {
-        return push_question(builder, row);
+/// Adds the record of the next word, or puts it in place of those of its type.
+fn with_record(stage: &mut Stage, row: &mut Row<'_>, replaces: bool) -> Result<(), RowError> {
+    match next_record(row) {
+        Ok(item) => Ok(put_record(stage, row, &item, replaces)),
+        Err(error) => Err(error),
     }
-    let item = next_record(row)?;
-    push_owned(stage, row, item);
-    Ok(())
-}
-
-/// Adds a record to the section, and says what that answers.
-fn push_owned(stage: &mut Stage, row: &mut Row<'_>, item: Record)
-    requires { IsLawful item.rdata }
-{
-    push_record(stage, row, &item)
-}
-
-/// Puts the record of the next word in place of those of its type, and says what that answers.
-fn replace_next(stage: &mut Stage, row: &mut Row<'_>) -> Result<(), RowError> {
-    let builder = stage.additional()?;
-    let item = next_record(row)?;
-    replace_owned(builder, row, item);
-    Ok(())
-}
-
-/// Puts a record of its own in place of those of its type.
-fn replace_owned(builder: &mut AdditionalBuilder, row: &mut Row<'_>, item: Record)
-    requires { IsLawful item.rdata }
-{
-    replace_record(builder, row, &item)
-}
-
-/// Puts a record in place of those of its type, and says what that answers.
-fn replace_record(builder: &mut AdditionalBuilder, row: &mut Row<'_>, item: &Record)
-    requires { IsLawful item.now.rdata }
-{
-    row.outcome(builder.replace_type(row.alloc(), item.rdata.rtype(), item))
 }
 
 /// Whether octets may be the data of an OPT record.
@@ -274,27 +225,20 @@ fn are_options(octets: &[u8]) -> bool
     octets.len() <= 65535 && is_option_list(octets)
 }
 
-/// Adds the OPT record of the next words, its size, its TTL and its options, and says what that answers.
-fn push_opt(stage: &mut Stage, row: &mut Row<'_>) -> Result<(), RowError> {
+/// Adds the OPT record of the next words, its size, its TTL and its options, or puts it in place of the OPT records, and says
+/// what that answers.
+fn with_opt(stage: &mut Stage, row: &mut Row<'_>, replaces: bool) -> Result<(), RowError> {
     let (size, ttl) = (row.number(), Ttl::from_secs(row.number()));
     let options = row.octets();
     if !are_options(options) {
         return Err(RowError::OutOfForm);
     }
     let builder = stage.additional()?;
-    row.outcome(builder.push_opt(row.alloc(), size, ttl, options));
-    Ok(())
-}
-
-/// Puts the OPT record of the next words in place of the OPT records, and says what that answers.
-fn replace_opt(stage: &mut Stage, row: &mut Row<'_>) -> Result<(), RowError> {
-    let (size, ttl) = (row.number(), Ttl::from_secs(row.number()));
-    let options = row.octets();
-    if !are_options(options) {
-        return Err(RowError::OutOfForm);
+    if replaces {
+        row.outcome(builder.replace_opt(row.alloc(), size, ttl, options));
+    } else {
+        row.outcome(builder.push_opt(row.alloc(), size, ttl, options));
     }
-    let builder = stage.additional()?;
-    row.outcome(builder.replace_opt(row.alloc(), size, ttl, options));
     Ok(())
 }
 
@@ -310,29 +254,23 @@ impl Steps for Stage {
     fn take_step(&mut self, step: &str, row: &mut Row<'_>) -> Result<(), RowError> {
         match step {
             "push" => push_next(self, row),
-            "replace" => replace_next(self, row),
+            "replace" => with_record(self, row, true),
             "remove" => remove_next(self, row),
-            _ => with_opt(self, step, row),
+            "push_opt" => with_opt(self, row, false),
+            "replace_opt" => with_opt(self, row, true),
+            "limit" => self.limit(row.number()),
+            "unlimit" => self.unlimit(),
+            "rewind" => self.rewind(),
+            "clone" => self.clone_in_place(row.alloc()),
+            section => move_on(self, section),
         }
     }
 }
 
-/// The steps that take an OPT record.
-fn with_opt(stage: &mut Stage, step: &str, row: &mut Row<'_>) -> Result<(), RowError> {
-    match step {
-        "push_opt" => push_opt(stage, row),
-        "replace_opt" => replace_opt(stage, row),
-        _ => change(stage, step, row),
-    }
-}
-
-/// The steps that take no record.
-fn change(stage: &mut Stage, step: &str, row: &mut Row<'_>) -> Result<(), RowError> {
-    match step {
-        "limit" => stage.limit(row.number()),
-        "unlimit" => stage.unlimit(),
-        "rewind" => stage.rewind(),
-        "clone" => stage.clone_in_place(row.alloc()),
-        section => move_on(stage, section),
+/// Adds the question or record of the next word, and says what that answers.
+fn push_next(stage: &mut Stage, row: &mut Row<'_>) -> Result<(), RowError> {
+    match stage {
+        Stage::Question(builder) => push_question(builder, row),
+        _ => with_record(stage, row, false),
     }
 }

@@ -19,30 +19,16 @@ impl Calls for Cookies {
             "check_server_hash" => check_server_hash(row),
             "check_hash" => check_hash(row),
             "check_response" => check_created(row),
-            _ => of_parts(call, row),
+            "create_response" => create_response(row),
+            "cookie" => cookie(row),
+            "standard_server_cookie" => standard_server_cookie(row),
+            "server_cookie" => server_cookie(row),
+            "client_copied" => client_copied(row),
+            "client_cmp" => client_cmp(row),
+            "server_cmp" => server_cmp(row),
+            "cookie_cmp" => cookie_cmp(row),
+            _ => Err(RowError::NoSuchCall),
         }
-    }
-}
-
-/// The calls by which cookies are made and read.
-fn of_parts(call: &str, row: &mut Row<'_>) -> Result<(), RowError> {
-    match call {
-        "create_response" => create_response(row),
-        "cookie" => cookie(row),
-        "standard_server_cookie" => standard_server_cookie(row),
-        "server_cookie" => server_cookie(row),
-        "client_copied" => client_copied(row),
-        _ => of_order(call, row),
-    }
-}
-
-/// The calls by which cookies are compared.
-fn of_order(call: &str, row: &mut Row<'_>) -> Result<(), RowError> {
-    match call {
-        "client_cmp" => client_cmp(row),
-        "server_cmp" => server_cmp(row),
-        "cookie_cmp" => cookie_cmp(row),
-        _ => Err(RowError::NoSuchCall),
     }
 }
 
@@ -110,17 +96,12 @@ fn create_response(row: &mut Row<'_>) -> Result<(), RowError> {
     let (cookie, timestamp, client_ip, secret) = client_words(row);
     let response = cookie.create_response(timestamp, client_ip, &secret);
     let mut octets = Vec::new(row.alloc());
-    push_parts(row, &response, &mut octets);
+    row.keep(response.client().compose(row.alloc(), &mut octets));
+    if let Some(server) = response.server() {
+        row.keep(server.compose(row.alloc(), &mut octets));
+    }
     row.hexadecimal(&octets);
     Ok(())
-}
-
-/// Appends the octets of both parts of a cookie.
-fn push_parts(row: &mut Row<'_>, response: &Cookie, octets: &mut Vec<u8>) {
-    row.keep(response.client().compose(row.alloc(), octets));
-    if let Some(server) = response.server() {
-        row.keep(server.compose(row.alloc(), octets));
-    }
 }
 
 /// Whether the cookie that a response has checks, where every timestamp is accepted.
@@ -135,18 +116,15 @@ fn cookie(row: &mut Row<'_>) -> Result<(), RowError> {
     let code = OptionCode::from_int(row.number());
     let mut parser = Parser::from_ref(row.octets());
     match Cookie::parse_option(code, &mut parser) {
-        Ok(Some(cookie)) => cookie_said(row, &cookie),
+        Ok(Some(cookie)) => {
+            shown(row, &cookie);
+            row.tell("compose_len", &cookie.compose_len());
+        }
         Ok(None) => row.say("none"),
         Err(error) => row.debug(&error),
     }
     row.tell("left", &parser.remaining());
     Ok(())
-}
-
-/// A cookie, and how many octets it says that it takes.
-fn cookie_said(row: &mut Row<'_>, cookie: &Cookie) {
-    shown(row, cookie);
-    row.tell("compose_len", &cookie.compose_len())
 }
 
 /// The parts of a standard server cookie.
@@ -158,16 +136,11 @@ fn standard_said(row: &mut Row<'_>, standard: StandardServerCookie) {
     row.tell_octets("hash", &standard.hash())
 }
 
-/// What a server cookie appends to none.
-fn server_octets(row: &mut Row<'_>, server: &ServerCookie) {
-    let mut octets = Vec::new(row.alloc());
-    row.keep(server.compose(row.alloc(), &mut octets));
-    row.hexadecimal(&octets)
-}
-
 /// A server cookie's octets, their number, its text, and the standard server cookie that it is.
 fn server_said(row: &mut Row<'_>, server: &ServerCookie) {
-    server_octets(row, server);
+    let mut octets = Vec::new(row.alloc());
+    row.keep(server.compose(row.alloc(), &mut octets));
+    row.hexadecimal(&octets);
     row.tell("compose_len", &server.compose_len());
     row.quote(server);
     row.say("standard");

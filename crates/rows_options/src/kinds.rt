@@ -5,7 +5,7 @@ use dns_kinds::{
     Chain, ChainRef, ClientSubnet, Expire, ExtendedError, ExtendedErrorRef, IdleTimeout,
     TcpKeepalive,
 };
-use dns_name::{ExtendedErrorCode, Name, Parser};
+use dns_name::{ExtendedErrorCode, Parser};
 use rows_table::{Calls, Row, RowError};
 use std::hash::{DefaultHasher, Hash, Hasher};
 
@@ -21,30 +21,16 @@ impl Calls for Kinds {
             "subnet" => subnet(row),
             "subnet_parse" => subnet_parse(row),
             "subnet_cmp" => subnet_cmp(row),
-            _ => of_times(call, row),
+            "expire" => expire(row),
+            "expire_cmp" => expire_cmp(row),
+            "keepalive_millis" => keepalive_millis(row),
+            "keepalive_parse" => keepalive_parse(row),
+            "keepalive_cmp" => keepalive_cmp(row),
+            "chain" => chain(row),
+            "chain_new" => chain_new(row),
+            "chain_cmp" => chain_cmp(row),
+            _ => Err(RowError::NoSuchCall),
         }
-    }
-}
-
-/// The calls of times.
-fn of_times(call: &str, row: &mut Row<'_>) -> Result<(), RowError> {
-    match call {
-        "expire" => expire(row),
-        "expire_cmp" => expire_cmp(row),
-        "keepalive_millis" => keepalive_millis(row),
-        "keepalive_parse" => keepalive_parse(row),
-        "keepalive_cmp" => keepalive_cmp(row),
-        _ => of_chains(call, row),
-    }
-}
-
-/// The calls of chains.
-fn of_chains(call: &str, row: &mut Row<'_>) -> Result<(), RowError> {
-    match call {
-        "chain" => chain(row),
-        "chain_new" => chain_new(row),
-        "chain_cmp" => chain_cmp(row),
-        _ => Err(RowError::NoSuchCall),
     }
 }
 
@@ -53,13 +39,8 @@ fn extended_error(row: &mut Row<'_>) -> Result<(), RowError> {
     let mut parser = Parser::from_ref(row.octets());
     let found = ExtendedErrorRef::parse(&mut parser)?;
     let owned = found.to_owned(row.alloc())?;
-    both_errors(row, &found, owned);
+    both_shown(row, &found, &owned);
     Ok(())
-}
-
-/// Both forms of an extended error.
-fn both_errors(row: &mut Row<'_>, found: &ExtendedErrorRef<'_>, owned: ExtendedError) {
-    both_shown(row, found, &owned)
 }
 
 /// An extended error of a code and a text.
@@ -113,15 +94,9 @@ fn chain(row: &mut Row<'_>) -> Result<(), RowError> {
 
 /// A chain from a name that is owned.
 fn chain_new(row: &mut Row<'_>) -> Result<(), RowError> {
-    let name = row.name()?.to_owned(row.alloc())?;
-    chain_made(row, name);
+    let owned = Chain::new(row.name()?.to_owned(row.alloc())?);
+    both_shown(row, &owned.for_slice(), &owned);
     Ok(())
-}
-
-/// The same of a name.
-fn chain_made(row: &mut Row<'_>, name: Name) {
-    let owned = Chain::new(name);
-    both_shown(row, &owned.for_slice(), &owned)
 }
 
 /// What a value is hashed to.
@@ -145,16 +120,10 @@ fn owned_compared(
     second: &ChainRef<'_>,
 ) -> Result<(), RowError> {
     let kept = first.to_owned(row.alloc())?;
-    compared_with(row, &kept, second)?;
+    let other = second.to_owned(row.alloc())?;
+    compared(row, &kept, &other);
     row.close(", both");
     row.tell_whether("hash", hashed(first) == hashed(&kept));
-    Ok(())
-}
-
-/// How an owned chain compares with another.
-fn compared_with(row: &mut Row<'_>, kept: &Chain, second: &ChainRef<'_>) -> Result<(), RowError> {
-    let other = second.to_owned(row.alloc())?;
-    compared(row, kept, &other);
     Ok(())
 }
 
@@ -162,18 +131,9 @@ fn compared_with(row: &mut Row<'_>, kept: &Chain, second: &ChainRef<'_>) -> Resu
 fn chain_cmp(row: &mut Row<'_>) -> Result<(), RowError> {
     let first = ChainRef::new(row.name()?);
     let second = ChainRef::new(row.name()?);
-    both_compared(row, &first, &second)
-}
-
-/// The same of two chains.
-fn both_compared(
-    row: &mut Row<'_>,
-    first: &ChainRef<'_>,
-    second: &ChainRef<'_>,
-) -> Result<(), RowError> {
-    compared(row, first, second);
+    compared(row, &first, &second);
     row.close(", owned");
-    owned_compared(row, first, second)
+    owned_compared(row, &first, &second)
 }
 
 /// A subnet's address and source prefix, and its option.

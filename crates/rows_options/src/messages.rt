@@ -2,35 +2,19 @@
 
 use crate::said::built;
 use crate::steps::build;
-use dns_base::{AdditionalBuilder, Header, MessageBuilder, PushError};
+use dns_base::{AdditionalBuilder, Header, MessageBuilder};
 use dns_opt::{BuildDataError, BuildOpt, MessageOpt, OptBuilder, OptRecord, OptRecordRef};
 use rows_table::{Row, RowError, Steps};
 use std::alloc::Global;
 
 /// Appends an OPT record, built by the steps of a row.
-pub fn opened<B: BuildOpt>(message: &mut B, row: &mut Row<'_>) -> Result<(), BuildDataError> {
+pub fn opened(message: &mut AdditionalBuilder, row: &mut Row<'_>) -> Result<(), BuildDataError> {
     message.opt(row.alloc(), |opt: &mut OptBuilder| build(opt, row))
 }
 
 /// Goes on with the OPT record by the steps of a row.
-fn reopened<B: BuildOpt>(message: &mut B, row: &mut Row<'_>) -> Result<(), BuildDataError> {
+fn reopened(message: &mut AdditionalBuilder, row: &mut Row<'_>) -> Result<(), BuildDataError> {
     message.reopen(row.alloc(), |opt: &mut OptBuilder| build(opt, row))
-}
-
-/// Gives a message an OPT record like another.
-fn take_over(
-    message: &mut AdditionalBuilder,
-    alloc: Global,
-    found: &OptRecordRef<'_>,
-) -> Result<(), BuildDataError> {
-    message.opt(alloc, |opt: &mut OptBuilder| opt.clone_from(alloc, found))
-}
-
-/// Appends an OPT record of a payload size.
-fn appended(message: &mut AdditionalBuilder, alloc: Global, size: u16) -> Result<(), PushError> {
-    let mut record = OptRecord::default(alloc);
-    record.set_udp_payload_size(size);
-    record.append_to(alloc, message)
 }
 
 /// A message with nothing but an OPT record like that of another.
@@ -45,7 +29,7 @@ fn copied(message: &AdditionalBuilder, alloc: Global) -> Result<AdditionalBuilde
 /// A message with nothing but an OPT record like another.
 fn taken_over(alloc: Global, found: &OptRecordRef<'_>) -> Result<AdditionalBuilder, RowError> {
     let mut copy = MessageBuilder::new(alloc)?.additional();
-    match take_over(&mut copy, alloc, found) {
+    match copy.opt(alloc, |opt: &mut OptBuilder| opt.clone_from(alloc, found)) {
         Ok(()) => Ok(copy),
         Err(_) => Err(RowError::OutOfForm),
     }
@@ -62,38 +46,26 @@ impl Steps for Built {
         match step {
             "limit" => self.message.set_push_limit(row.number()),
             "copy" => self.message = copied(&self.message, row.alloc())?,
-            _ => return with_opt(&mut self.message, step, row),
+            "append" => append(&mut self.message, row),
+            "opt" => {
+                let done = opened(&mut self.message, row);
+                built(row, done);
+            }
+            "reopen" => {
+                let done = reopened(&mut self.message, row);
+                built(row, done);
+            }
+            _ => return Err(RowError::NoSuchStep),
         }
         Ok(())
     }
 }
 
-/// The steps of OPT records.
-fn with_opt(
-    message: &mut AdditionalBuilder,
-    step: &str,
-    row: &mut Row<'_>,
-) -> Result<(), RowError> {
-    match step {
-        "append" => append(message, row),
-        "opt" => {
-            let done = opened(message, row);
-            built(row, done);
-        }
-        "reopen" => {
-            let done = reopened(message, row);
-            built(row, done);
-        }
-        _ => return Err(RowError::NoSuchStep),
-    }
-    Ok(())
-}
-
 /// Appends an OPT record of the next word's payload size, and says what that answers.
 fn append(message: &mut AdditionalBuilder, row: &mut Row<'_>) {
-    let size = row.number();
-    let done = appended(message, row.alloc(), size);
-    row.outcome(done)
+    let mut record = OptRecord::default(row.alloc());
+    record.set_udp_payload_size(row.number());
+    row.outcome(record.append_to(row.alloc(), message))
 }
 
 /// A message's length, the response code of its header, its number of additional records and its OPT record: the

@@ -16,40 +16,24 @@ impl Calls for Options {
             "opt_from_slice" => from_slice(row),
             "all_options" => all_options(row),
             "option_header" => option_header(row),
-            _ => of_pushes(call, row),
+            "written_by" => written(row),
+            "list" => list(row, true),
+            "list_len" => list(row, false),
+            "first" => first(row),
+            _ => Err(RowError::NoSuchCall),
         }
     }
 }
 
-/// The other calls.
-fn of_pushes(call: &str, row: &mut Row<'_>) -> Result<(), RowError> {
-    match call {
-        "written_by" => written(row),
-        "list" => list(row),
-        "list_len" => list_len(row),
-        "first" => first(row),
-        _ => Err(RowError::NoSuchCall),
-    }
-}
-
-/// The list that pushes to an empty one make, which say what they answer.
-fn filled(row: &mut Row<'_>) -> Opt {
+/// What pushes to an empty list answer, and the list's octets or only their number.
+fn list(row: &mut Row<'_>, whole: bool) -> Result<(), RowError> {
     let mut list = Opt::empty(row.alloc());
     row.take_steps(", ", &mut Target::List(&mut list));
-    list
-}
-
-/// What pushes to an empty list answer, and the list's octets.
-fn list(row: &mut Row<'_>) -> Result<(), RowError> {
-    let list = filled(row);
-    row.hexadecimal(list.as_slice());
-    Ok(())
-}
-
-/// What pushes to an empty list answer, and the number of the list's octets.
-fn list_len(row: &mut Row<'_>) -> Result<(), RowError> {
-    let list = filled(row);
-    row.show(&list.len());
+    if whole {
+        row.hexadecimal(list.as_slice());
+    } else {
+        row.show(&list.len());
+    }
     Ok(())
 }
 
@@ -103,7 +87,7 @@ fn option_said(row: &mut Row<'_>, item: Result<AllOptData<'_>, ParseError>) {
     }
 }
 
-/// The data of the first option of a kind in a list.
+/// The data of the first option of a kind in a list; of the first identifier in an owned copy, where the kind is none of these.
 fn first(row: &mut Row<'_>) -> Result<(), RowError> {
     let kind = row.word();
     let list = next_list(row)?;
@@ -111,15 +95,11 @@ fn first(row: &mut Row<'_>) -> Result<(), RowError> {
         "nsid" => first_said(row, list.first::<NsidRef>()),
         "padding" => first_said(row, list.first::<PaddingRef>()),
         "cookie" => first_said(row, list.first::<Cookie>()),
-        _ => return first_owned(row, &list),
+        _ => {
+            let owned = list.to_owned(row.alloc())?;
+            first_said(row, owned.nsid());
+        }
     }
-    Ok(())
-}
-
-/// The data of the first identifier in an owned copy of a list.
-fn first_owned(row: &mut Row<'_>, list: &OptRef<'_>) -> Result<(), RowError> {
-    let owned = list.to_owned(row.alloc())?;
-    first_said(row, owned.nsid());
     Ok(())
 }
 
@@ -135,15 +115,10 @@ fn first_said<D: ComposeOptData + Drop>(row: &mut Row<'_>, found: Option<D>) {
 fn option_header(row: &mut Row<'_>) -> Result<(), RowError> {
     let mut parser = Parser::from_ref(row.octets());
     let head = OptionHeader::parse(&mut parser)?;
-    head_said(row, &head);
+    row.tell("code", &head.code().to_int());
+    row.tell("len", &head.len());
     row.tell("left", &parser.remaining());
     Ok(())
-}
-
-/// The head of an option.
-fn head_said(row: &mut Row<'_>, head: &OptionHeader) {
-    row.tell("code", &head.code().to_int());
-    row.tell("len", &head.len())
 }
 
 /// What a closure writes to an empty vector.

@@ -44,17 +44,12 @@ fn query_said(row: &mut Row<'_>, octets: &[u8]) -> Result<(), RowError> {
     Ok(())
 }
 
-/// The same of a query with an OPT record.
+/// The type that a query with an OPT record asks for, the size of that record and its identifier's data.
 fn asked_said(row: &mut Row<'_>, query: &MessageRef<'_>, opt: &OptRecordRef<'_>) {
     let Some(question) = query.first_question() else {
         return row.say("none");
     };
     row.tell("qtype", &question.qtype().to_int());
-    opt_said(row, opt)
-}
-
-/// The size of an OPT record and its identifier's data.
-fn opt_said(row: &mut Row<'_>, opt: &OptRecordRef<'_>) {
     row.tell("udp_payload_size", &opt.udp_payload_size());
     match opt.opt().nsid() {
         Some(identifier) => row.tell_octets("nsid", identifier.as_slice()),
@@ -68,22 +63,16 @@ pub fn read_query(row: &mut Row<'_>) -> Result<(), RowError> {
     query_said(row, octets)
 }
 
-/// A query's octets, and what is read of it.
-fn read(row: &mut Row<'_>, octets: &[u8]) -> Result<(), RowError> {
-    row.hexadecimal(octets);
-    query_said(row, octets)
-}
-
 /// The query with an OPT record that the steps build, and what is read of it.
 pub fn query(row: &mut Row<'_>) -> Result<(), RowError> {
     let Ok(mut builder) = asking(row.alloc()) else {
         return Err(RowError::OutOfMemory);
     };
     match opened(&mut builder, row) {
-        Ok(()) => read(row, builder.as_slice()),
-        Err(refusal) => {
-            row.debug(&refusal);
-            Ok(())
+        Ok(()) => {
+            row.hexadecimal(builder.as_slice());
+            query_said(row, builder.as_slice())
         }
+        Err(refusal) => Ok(row.debug(&refusal)),
     }
 }

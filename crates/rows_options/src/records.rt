@@ -42,7 +42,7 @@ fn next_head(row: &mut Row<'_>) -> OptHeader {
 fn opt_header(row: &mut Row<'_>) -> Result<(), RowError> {
     let head = next_head(row);
     let mut octets = Vec::new(row.alloc());
-    head.compose(row.alloc(), &mut octets)?;
+    row.keep(head.compose(row.alloc(), &mut octets));
     row.hexadecimal(&octets);
     Ok(())
 }
@@ -64,21 +64,14 @@ fn as_record(alloc: Global, given: &OptRecord) -> Result<Record, OutOfMemory>
     copy.as_record(alloc)
 }
 
-/// The options of the OPT record that a record is.
-fn options_of(row: &mut Row<'_>, item: Record)
-    requires { IsLawful item.rdata }
-{
-    match OptRecord::from_record(item) {
-        Some(opt) => row.tell_octets("options", opt.opt().as_slice()),
-        None => row.say("options=none"),
-    }
-}
-
 /// The octets of an OPT record as a message holds it, and the options of the record that is made of that.
 fn record_said(row: &mut Row<'_>, given: &OptRecord) -> Result<(), RowError> {
     let item = as_record(row.alloc(), given)?;
     record_octets(row, &item);
-    options_of(row, item);
+    match OptRecord::from_record(item) {
+        Some(opt) => row.tell_octets("options", opt.opt().as_slice()),
+        None => row.say("options=none"),
+    }
     Ok(())
 }
 

@@ -45,19 +45,16 @@ impl Target<'_> {
         }
     }
 
-    /// Appends an option of so many octets as are stated, by a closure that writes these.
-    fn push_raw(
-        &mut self,
-        alloc: Global,
-        code: OptionCode,
-        stated: u16,
-        octets: &[u8],
-    ) -> Result<(), BuildDataError> {
+    /// Appends an option of a code and as many octets as are stated, by a closure that writes other ones.
+    fn raw(&mut self, row: &mut Row<'_>) -> Stepped {
+        let code = OptionCode::from_int(row.number());
+        let stated = row.number();
+        let octets = row.octets();
         let closure = |target: &mut Vec<u8>| write(target, octets);
         match self {
-            Target::List(list) => list.push_raw_option(alloc, code, stated, closure),
-            Target::Record(item) => item.push_raw_option(alloc, code, stated, closure),
-            Target::Built(opt) => opt.push_raw_option(alloc, code, stated, closure),
+            Target::List(list) => list.push_raw_option(row.alloc(), code, stated, closure),
+            Target::Record(item) => item.push_raw_option(row.alloc(), code, stated, closure),
+            Target::Built(opt) => opt.push_raw_option(row.alloc(), code, stated, closure),
         }
     }
 
@@ -67,14 +64,6 @@ impl Target<'_> {
             Ok(option) => self.push(row.alloc(), &option),
             Err(_) => out_of_form(row),
         }
-    }
-
-    /// Pushes an option of a code, a stated length and octets.
-    fn raw(&mut self, row: &mut Row<'_>) -> Stepped {
-        let code = OptionCode::from_int(row.number());
-        let stated = row.number();
-        let octets = row.octets();
-        self.push_raw(row.alloc(), code, stated, octets)
     }
 
     /// Pushes an option as it is, or one of no kind.
@@ -118,20 +107,10 @@ fn understood(opt: &mut OptBuilder, step: &str, row: &mut Row<'_>) -> Stepped {
         .iter()
         .map(|number| SecurityAlgorithm::from_int(*number))
         .collect(row.alloc())?;
-    push_understood(opt, row.alloc(), step, &listed)
-}
-
-/// Pushes algorithms, which a client understands.
-fn push_understood(
-    opt: &mut OptBuilder,
-    alloc: Global,
-    step: &str,
-    listed: &[SecurityAlgorithm],
-) -> Stepped {
     match step {
-        "dau" => opt.dau(alloc, listed),
-        "dhu" => opt.dhu(alloc, listed),
-        _ => opt.n3u(alloc, listed),
+        "dau" => opt.dau(row.alloc(), &listed),
+        "dhu" => opt.dhu(row.alloc(), &listed),
+        _ => opt.n3u(row.alloc(), &listed),
     }
 }
 
@@ -170,37 +149,18 @@ fn tcp_keepalive(opt: &mut OptBuilder, row: &mut Row<'_>) -> Stepped {
     opt.tcp_keepalive(row.alloc(), timeout)
 }
 
-/// Pushes an identifier by the call of its name.
-fn nsid(opt: &mut OptBuilder, row: &mut Row<'_>) -> Stepped {
-    opt.nsid(row.alloc(), row.octets())
-}
-
-/// Pushes an option of one kind by the call of its name.
+/// Pushes an option of one kind by the call of its name, or as it is.
 fn push_kind(opt: &mut OptBuilder, step: &str, row: &mut Row<'_>) -> Stepped {
     match step {
         "dau" | "dhu" | "n3u" => understood(opt, step, row),
         "chain" => chain(opt, row),
         "key_tag" => key_tag(opt, row),
-        "nsid" => nsid(opt, row),
+        "nsid" => opt.nsid(row.alloc(), row.octets()),
         "client_nsid" => opt.client_nsid(row.alloc()),
-        _ => push_numbers(opt, step, row),
-    }
-}
-
-/// Pushes an option of a kind whose data begins with a number, or has nothing else.
-fn push_numbers(opt: &mut OptBuilder, step: &str, row: &mut Row<'_>) -> Stepped {
-    match step {
         "expire" => opt.expire(row.alloc(), row.optional()),
         "extended_error" => extended_error(opt, row),
         "tcp_keepalive" => tcp_keepalive(opt, row),
         "client_subnet" => client_subnet(opt, row),
-        _ => push_other(opt, step, row),
-    }
-}
-
-/// Pushes an option of the other kinds, or as it is.
-fn push_other(opt: &mut OptBuilder, step: &str, row: &mut Row<'_>) -> Stepped {
-    match step {
         "cookie" => opt.cookie(row.alloc(), client_alone(row)),
         "padding" => opt.padding(row.alloc(), row.number()),
         _ => Target::Built(opt).step(step, row),
