@@ -3,9 +3,6 @@ use Rattle.dns_client.specs.Serving.{Serving}
 use Rattle.std.proofs.Common.{◌≡◌, ℕ, zero, suc, ◌≤◌, ◌<◌, List, [], ◌∷◌, length, Some, None, true, false, refl, ap, sym, ◌∙◌, subst, lit≤, lt-ltb, zero-add}
 use Rattle.std.specs.Arc.{arc_value}
 use Rattle.std.specs.Prelude.{nat_lt, slice_get, Option, MatchOption}
-use Rattle.std.specs.Map.{lookup}
-use Rattle.std.specs.Ordering.{nat_cmp}
-use Rattle.std.specs.BTreeMap.{BTreeMap, get, is_at}
 use Rattle.std.proofs.lemmas.Bool.{le-ltb}
 use Rattle.circular_buffer.specs.Buffer.{buffer}
 use Rattle.dns_name.specs.declared.address.SocketAddr.{SocketAddr}
@@ -22,11 +19,13 @@ use Rattle.dns_client.specs.Datagrams.{asks_nothing, at_once, exchange, refused_
 use Rattle.dns_client.specs.Connections.{opened}
 use Rattle.dns_client.specs.Stands.{IsExchange, IsGoing, IsKept, IsOpen, KeepsAll, Keeps, sole}
 use Rattle.dns_client.specs.Turns.{limit_for}
+use Rattle.dns_client.specs.Unfinished.{IsInOrder, request_at}
 use Rattle.dns_service.specs.declared.invoker.InvokerStatus.TheVariants.{Normal}
 use Rattle.dns_client.specs.declared.connection_request.ConnectionRequest.{ConnectionRequest}
 use Rattle.dns_client.specs.declared.invoker.ConnectionInvoker.{ConnectionInvoker}
 use Rattle.dns_client.specs.declared.kept.KeptRequest.{KeptRequest}
 use Rattle.dns_client.specs.declared.connection.OpenConnection.{OpenConnection}
+use Rattle.dns_client.specs.declared.unfinished.Unfinished.{Unfinished}
 use Rattle.dns_service.specs.declared.polled.PolledRequest.{PolledRequest}
 use Rattle.dns_client.proofs.Keeping.{none_sole}
 
@@ -94,8 +93,8 @@ module _ {R F : Type 0} (answer : PolledRequest F R → ℕ → Answer) (answers
   pub called_going : (q : ConnectionRequest F R) (r : Req (Unit {0})) → ((j : ℕ) → answer q.polled j ≡ answers.answer r j) → arc_value q.message ≡ r.octets → q.status ≡ Normal → q.held ≡ None → IsGoing answer answers q (asked r)
   called_going q r h message status held = record { going = refl; polled = λ j. h j ∙ ap (answers.answer r) (sym (zero-add j)); message = message; held = held; status = status }
 
-  none_kept : (m : BTreeMap ℕ (ConnectionRequest F R)) → m.entries ≡ [] → KeepsAll answer answers 0 0 m []
-  none_kept m e = record { made = refl; held_open = refl; each = λ k. let g : get nat_cmp m k ≡ None = ap (lookup (is_at (nat_cmp k))) e in rw g tt }
+  none_kept : (u : Unfinished (ConnectionRequest F R)) → u.count ≡ 0 → ((k : ℕ) → request_at u k ≡ None) → IsInOrder u → KeepsAll answer answers 0 u []
+  none_kept u made none in_order = record { made = made; held_open = refl; in_order = in_order; each = λ k. let g = none k in rw g tt }
 
   -- the invoker of a connection that opens
   abbrev pub new_invoker : ℕ → Connection → ConnectionInvoker
@@ -104,11 +103,11 @@ module _ {R F : Type 0} (answer : PolledRequest F R → ℕ → Answer) (answers
   module _ {W : Type 0} where
     opened_fresh : (c : OpenConnection W R F) (client at : ℕ) (stream : Stream) (k : Conf)
         → c.invoker ≡ new_invoker at stream.connection_config → c.write_timeout ≡ stream.connection_config.response_write_timeout
-        → c.timer ≡ at → c.framer ≡ [] → c.unfinished.entries ≡ [] → c.count ≡ 0 → c.transactions ≡ 0
+        → c.timer ≡ at → c.framer ≡ [] → c.unfinished.count ≡ 0 → ((k : ℕ) → request_at c.unfinished k ≡ None) → IsInOrder c.unfinished → c.transactions ≡ 0
         → k.over ≡ false → k.stream ≡ stream
         → IsOpen answer answers client c (opened client c.addr at (fresh k))
     unfolding frames
-    opened_fresh c client at stream k invoker write timer framer unfinished count transactions over e =
+    opened_fresh c client at stream k invoker write timer framer made none in_order transactions over e =
         let same : stream.connection_config ≡ k.stream.connection_config = ap (λ (x : Stream). x.connection_config) (sym e) in
         record {
           client = refl;
@@ -121,7 +120,7 @@ module _ {R F : Type 0} (answer : PolledRequest F R → ℕ → Answer) (answers
           timer = timer;
           kept = framer;
           within = lit≤ tt;
-          requests = rw (count, transactions) (none_kept c.unfinished unfinished);
+          requests = rw transactions (none_kept c.unfinished made none in_order);
           queue = ap (λ (i : ConnectionInvoker). i.queue.items) invoker;
           bound = ap (λ (i : ConnectionInvoker). i.queue.capacity) invoker ∙ ap (λ (x : Connection). x.max_queued_responses) same;
           budget = ap (λ (i : ConnectionInvoker). i.budget) invoker ∙ ap unspent same;
@@ -129,9 +128,9 @@ module _ {R F : Type 0} (answer : PolledRequest F R → ℕ → Answer) (answers
 
     pub admitted : (c : OpenConnection W R F) (client at : ℕ) (stream : Stream) (s : Slate)
         → c.invoker ≡ new_invoker at stream.connection_config → c.write_timeout ≡ stream.connection_config.response_write_timeout
-        → c.timer ≡ at → c.framer ≡ [] → c.unfinished.entries ≡ [] → c.count ≡ 0 → c.transactions ≡ 0
+        → c.timer ≡ at → c.framer ≡ [] → c.unfinished.count ≡ 0 → ((k : ℕ) → request_at c.unfinished k ≡ None) → IsInOrder c.unfinished → c.transactions ≡ 0
         → IsUnused s → s.conf.over ≡ false → s.conf.stream ≡ stream
         → IsOpen answer answers client c (opened client c.addr at s)
-    admitted c client at stream s invoker write timer framer unfinished count transactions unused over e =
+    admitted c client at stream s invoker write timer framer made none in_order transactions unused over e =
         let P : Slate → Type 0 = λ s. IsOpen answer answers client c (opened client c.addr at s) in
-        subst P (sym unused) (opened_fresh c client at stream s.conf invoker write timer framer unfinished count transactions over e)
+        subst P (sym unused) (opened_fresh c client at stream s.conf invoker write timer framer made none in_order transactions over e)

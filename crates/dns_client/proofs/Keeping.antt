@@ -3,8 +3,6 @@ use Rattle.dns_client.specs.Serving.{Serving}
 use Rattle.std.proofs.Common.{◌≡◌, ◌≢◌, ℕ, zero, suc, ◌+◌, ◌<◌, ◌≤◌, List, [], ◌∷◌, ◌++◌, length, Option, Some, None, Bool, true, false, refl, ap, sym, ◌∙◌, subst, arith, set, ⊎_elim, ◌⊎◌, inl, inr, length-append}
 use Rattle.std.specs.Arc.{arc_value}
 use Rattle.std.specs.Prelude.{slice_get}
-use Rattle.std.specs.Ordering.{nat_cmp}
-use Rattle.std.specs.BTreeMap.{BTreeMap, get}
 use Rattle.std.proofs.lemmas.Bool.{cases_eq, cases_lt}
 use Rattle.std.proofs.lemmas.Option.{slice_get_within, slice_get_past}
 use Rattle.circular_buffer.proofs.Places.{slice_get-set_same, slice_get-set_other, slice_get-append_left, slice_get-last}
@@ -14,9 +12,11 @@ use Rattle.dns_service.specs.declared.polled.PolledRequest.{PolledRequest}
 use Rattle.dns_client.specs.Slate.{SlateRequest}
 use Rattle.dns_client.specs.Turns.{polled, ends, limit_for, reply_to, sent_for}
 use Rattle.dns_client.specs.PolledAt.{GoesOn, PolledAt, Left}
+use Rattle.dns_client.specs.Unfinished.{request_at}
 use Rattle.dns_client.specs.Stands.{IsKept, Keeps, KeepsGoing, sole}
 use Rattle.dns_client.specs.declared.connection_request.ConnectionRequest.{ConnectionRequest}
 use Rattle.dns_client.specs.declared.kept.KeptRequest.{KeptRequest}
+use Rattle.dns_client.specs.declared.unfinished.Unfinished.{Unfinished}
 
 below_or_above : (a b : ℕ) → a ≢ b → (a < b) ⊎ (b < a)
 below_or_above a b ne = ⊎_elim (λ (h : a < b). inl h) (λ (h : b ≤ a). inr (omega arith)) (cases_lt a b)
@@ -62,12 +62,12 @@ module _ {F R : Type 0} (answer : PolledRequest F R → ℕ → Answer) (answers
       }
 
   -- a place that is written
-  pub keeps_set : (old new : BTreeMap ℕ (ConnectionRequest F R)) (rs : List SlateRequest) (k : ℕ) (r r' : SlateRequest)
+  pub keeps_set : (old new : Unfinished (ConnectionRequest F R)) (rs : List SlateRequest) (k : ℕ) (r r' : SlateRequest)
       → slice_get rs k ≡ Some r
-      → ((q : ℕ) → KeepsGoing answer answers (get nat_cmp old q) (slice_get rs q))
-      → ((q : ℕ) → q ≢ k → get nat_cmp new q ≡ get nat_cmp old q)
-      → KeepsGoing answer answers (get nat_cmp new k) (Some r')
-      → (q : ℕ) → KeepsGoing answer answers (get nat_cmp new q) (slice_get (set rs k r') q)
+      → ((q : ℕ) → KeepsGoing answer answers (request_at old q) (slice_get rs q))
+      → ((q : ℕ) → q ≢ k → request_at new q ≡ request_at old q)
+      → KeepsGoing answer answers (request_at new k) (Some r')
+      → (q : ℕ) → KeepsGoing answer answers (request_at new q) (slice_get (set rs k r') q)
   keeps_set old new rs k r r' e each others here q =
       ⊎_elim
       (λ (same : q ≡ k). let w = slice_get-set_same rs k r' (slice_get_within rs k r e) in rw (same, w) here)
@@ -75,13 +75,13 @@ module _ {F R : Type 0} (answer : PolledRequest F R → ℕ → Answer) (answers
       (cases_eq q k)
 
   -- one more request
-  pub keeps_push : (old new : BTreeMap ℕ (ConnectionRequest F R)) (rs : List SlateRequest) (k : ℕ) (r : SlateRequest) (f : ConnectionRequest F R)
+  pub keeps_push : (old new : Unfinished (ConnectionRequest F R)) (rs : List SlateRequest) (k : ℕ) (r : SlateRequest) (f : ConnectionRequest F R)
       → k ≡ length rs
-      → ((q : ℕ) → KeepsGoing answer answers (get nat_cmp old q) (slice_get rs q))
-      → ((q : ℕ) → q ≢ k → get nat_cmp new q ≡ get nat_cmp old q)
-      → get nat_cmp new k ≡ Some f
+      → ((q : ℕ) → KeepsGoing answer answers (request_at old q) (slice_get rs q))
+      → ((q : ℕ) → q ≢ k → request_at new q ≡ request_at old q)
+      → request_at new k ≡ Some f
       → KeepsGoing answer answers (Some f) (Some r)
-      → (q : ℕ) → KeepsGoing answer answers (get nat_cmp new q) (slice_get (rs ++ r ∷ []) q)
+      → (q : ℕ) → KeepsGoing answer answers (request_at new q) (slice_get (rs ++ r ∷ []) q)
   keeps_push old new rs k r f e each others here kept q =
       ⊎_elim
       (λ (same : q ≡ k). let w = slice_get-last rs r k e in rw (same, w, here) kept)
@@ -91,7 +91,7 @@ module _ {F R : Type 0} (answer : PolledRequest F R → ℕ → Answer) (answers
       (λ (above : length rs < q).
       let past : slice_get rs q ≡ None = slice_get_past rs q (omega arith) in
       let past' : slice_get (rs ++ r ∷ []) q ≡ None = slice_get_past (rs ++ r ∷ []) q (omega (arith, length-append rs (r ∷ []))) in
-      let h : KeepsGoing answer answers (get nat_cmp old q) None = rw past at (each q) in
+      let h : KeepsGoing answer answers (request_at old q) None = rw past at (each q) in
       rw (past', others q apart) h)
       (below_or_above q (length rs) (λ (x : q ≡ length rs). apart (x ∙ sym e))))
       (cases_eq q k)

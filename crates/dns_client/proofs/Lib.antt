@@ -5,6 +5,7 @@ pub mod Turns
 pub mod Transactions
 pub mod Invoked
 pub mod TurnsAt
+pub mod Rows
 pub mod Turned
 pub mod TurnedOpen
 pub mod Begun
@@ -16,4 +17,4 @@ pub mod Exchanged
 pub mod Quiet
 pub mod Cutting
 pub mod Sights
-pub mod Unfinished
+pub mod Waiting

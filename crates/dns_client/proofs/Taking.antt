@@ -1,8 +1,6 @@
 -- Frames are taken one at a time.
 use Rattle.dns_client.specs.Serving.{Serving}
-use Rattle.std.proofs.Common.{◌≡◌, ◌≢◌, ℕ, ◌+◌, ◌<◌, ◌≤◌, List, [], ◌∷◌, ◌++◌, length, Option, Some, None, Bool, true, false, refl, ap, sym, ◌∙◌, subst, lt-ltb, arith, length-append}
-use Rattle.std.specs.BTreeMap.{get}
-use Rattle.std.specs.Ordering.{nat_cmp}
+use Rattle.std.proofs.Common.{◌≡◌, ℕ, ◌+◌, ◌<◌, ◌≤◌, List, [], ◌∷◌, ◌++◌, length, Option, Some, None, Bool, true, false, refl, ap, sym, ◌∙◌, subst, lt-ltb, arith, length-append}
 use Rattle.std.specs.Prelude.{nat_lt, if◌then◌else◌, MatchOption}
 use Rattle.std.proofs.lemmas.Bool.{le-ltb}
 use Rattle.dns_name.specs.declared.address.SocketAddr.{SocketAddr}
@@ -18,6 +16,7 @@ use Rattle.dns_client.specs.Slate.{Slate, SlateRequest, Told}
 use Rattle.dns_client.specs.Requests.{header_size, most_requests, request_of_frame, asked}
 use Rattle.dns_client.specs.Connections.{enqueue, take_frames, take_frame, piece}
 use Rattle.dns_client.specs.Stands.{IsGoing, IsOpen, Leads, Asks, TakesFrame, TakesMessage, KeepsAll, StandsIn, outputs_of, refusing, state_behind}
+use Rattle.dns_client.specs.Unfinished.{Enters}
 use Rattle.dns_client.specs.declared.client.State.TheVariants.{Open as Is_open}
 use Rattle.dns_client.specs.declared.connection.OpenConnection.{OpenConnection}
 use Rattle.dns_client.specs.declared.outcome.Outcome.{Outcome}
@@ -32,23 +31,23 @@ use Rattle.dns_client.proofs.FramesLemmas.{first_shorter, frames_some, past_next
 
 -- a request that was called is kept under its number
 pub asks_by : {W R F : Type 0} (answer : PolledRequest F R → ℕ → Answer) (answers : Serving) (old new : OpenConnection W R F) (r : Req (Unit {0})) (q : ConnectionRequest F R)
-    → old.count < most_requests
-    → get nat_cmp new.unfinished old.count ≡ Some q
-    → ((k : ℕ) → k ≢ old.count → get nat_cmp new.unfinished k ≡ get nat_cmp old.unfinished k)
-    → new ≡ record old { unfinished = new.unfinished; count = old.count + 1 }
+    → old.unfinished.count < most_requests
+    → Enters old.unfinished q new.unfinished
+    → new ≡ record old { unfinished = new.unfinished }
     → IsGoing answer answers q (asked r)
     → Asks answer answers old new r
-asks_by {W} {R} {F} answer answers old new r q few here others rest kept =
-    let more : new.count ≡ old.count + 1 = ap (λ (c : OpenConnection W R F). c.count) rest in
+asks_by {W} {R} {F} answer answers old new r q few enters rest kept =
     let same : new.transactions ≡ old.transactions = ap (λ (c : OpenConnection W R F). c.transactions) rest in
     record {
-      others = rest ∙ ap (λ (n : ℕ). record old { unfinished = new.unfinished; count = n }) (sym more);
+      others = rest;
       made = λ rs h.
-          let less : nat_lt (length rs) most_requests ≡ true = rw (← h.made) (lt-ltb old.count most_requests few) in
+          let less : nat_lt (length rs) most_requests ≡ true = rw (← h.made) (lt-ltb old.unfinished.count most_requests few) in
+          let e = enters.entered h.in_order in
           rw less (record {
-            made = more ∙ omega (arith, h.made, length-append rs (asked r ∷ []));
+            made = enters.count ∙ omega (arith, h.made, length-append rs (asked r ∷ []));
             held_open = same ∙ h.held_open ∙ sym (one_idle rs r);
-            each = keeps_push answer answers old.unfinished new.unfinished rs old.count (asked r) q h.made h.each others here kept;
+            in_order = e.in_order;
+            each = keeps_push answer answers old.unfinished new.unfinished rs old.unfinished.count (asked r) q h.made h.each e.others e.here kept;
           });
     }
 
@@ -71,17 +70,17 @@ module _ {W R F : Type 0} (answer : PolledRequest F R → ℕ → Answer) (answe
 
   -- it stands for the slate that counts the frame, with the requests that it keeps then
   timed_open : (c new : OpenConnection W R F) (f r : List ℕ) (client : ℕ) (s : Slate) (rs : List SlateRequest) → IsOpen answer answers client c s → first_frame c.framer ≡ Some (f, r)
-      → new ≡ record (timed c r) { count = new.count; unfinished = new.unfinished }
-      → KeepsAll answer answers new.count new.transactions new.unfinished rs
+      → new ≡ record (timed c r) { unfinished = new.unfinished }
+      → KeepsAll answer answers new.transactions new.unfinished rs
       → IsOpen answer answers client new (record s { taken = s.taken + 1; reset_at = at; requests = rs })
   timed_open c new f r client s rs h e others =
       let e' = rw h.kept at e in
-      let P : OpenConnection W R F → Type 0 = λ x. KeepsAll answer answers x.count x.transactions x.unfinished rs → IsOpen answer answers client x (record s { taken = s.taken + 1; reset_at = at; requests = rs }) in
+      let P : OpenConnection W R F → Type 0 = λ x. KeepsAll answer answers x.transactions x.unfinished rs → IsOpen answer answers client x (record s { taken = s.taken + 1; reset_at = at; requests = rs }) in
       subst P (sym others) (λ k. open_on answer answers refl h.not_over h.idle_timeout refl (sym (past_next s.taken s.received f r h.within e')) (within_next s.taken s.received f r h.within e') k h.queue h.bound h.budget h)
 
   asked_open : (c new : OpenConnection W R F) (f r : List ℕ) (client : ℕ) (s : Slate) (q : SlateRequest) → IsOpen answer answers client c s → first_frame c.framer ≡ Some (f, r)
-      → new ≡ record (timed c r) { count = new.count; unfinished = new.unfinished }
-      → (b : Bool) → KeepsAll answer answers new.count new.transactions new.unfinished (if b then s.requests ++ q ∷ [] else s.requests)
+      → new ≡ record (timed c r) { unfinished = new.unfinished }
+      → (b : Bool) → KeepsAll answer answers new.transactions new.unfinished (if b then s.requests ++ q ∷ [] else s.requests)
       → IsOpen answer answers client new (if b then record s { taken = s.taken + 1; reset_at = at; requests = s.requests ++ q ∷ [] } else record s { taken = s.taken + 1; reset_at = at })
   asked_open c new f r client s q h e others true k = timed_open c new f r client s (s.requests ++ q ∷ []) h e others k
   asked_open c new f r client s q h e others false k = timed_open c new f r client s s.requests h e others k

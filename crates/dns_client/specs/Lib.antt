@@ -21,6 +21,7 @@ pub mod Waiting
 pub mod PolledAt
 pub mod Invoker
 pub mod TurnedAt
+pub mod Unfinished
 pub mod Stands
 pub mod Spent
 pub mod Pieces

@@ -1,8 +1,6 @@
 -- When a client's core stands for a slate. The answers are those of the wrapped service.
 use Rattle.std.specs.Prelude.{◌≡◌, ℕ, zero, suc, ◌+◌, ◌<◌, ◌≤◌, List, [], ◌∷◌, ◌++◌, length, filter, slice_get, nat_lt, if◌then◌else◌, not, is_some, Bool, true, false, Option, Some, None}
-use Rattle.std.specs.Ordering.{nat_cmp}
 use Rattle.std.specs.Arc.{arc_value}
-use Rattle.std.specs.BTreeMap.{BTreeMap, get}
 use Rattle.dns_base.specs.Header.{header_of}
 use Rattle.dns_base.specs.Wire.{wire}
 use Rattle.dns_service.specs.Answer.{Answer}
@@ -18,6 +16,7 @@ use Rattle.dns_client.specs.Requests.{asked, most_requests, request_of_frame}
 use Rattle.dns_client.specs.Connections.{in_transaction, spending, take_frames}
 use Rattle.dns_client.specs.Invoker.{offered}
 use Rattle.dns_client.specs.Turns.{limit_for}
+use Rattle.dns_client.specs.Unfinished.{IsInOrder, request_at}
 use Rattle.dns_client.specs.declared.kept.KeptRequest.{KeptRequest}
 use Rattle.dns_client.specs.declared.client.ClientCore.{ClientCore}
 use Rattle.dns_client.specs.declared.client.State.{State}
@@ -27,6 +26,7 @@ use Rattle.dns_client.specs.declared.connection_request.ConnectionRequest.{Conne
 use Rattle.dns_client.specs.declared.flushing.FlushingConnection.{FlushingConnection}
 use Rattle.dns_client.specs.declared.outcome.Outcome.{Outcome}
 use Rattle.dns_client.specs.declared.outcome.Outcome.TheVariants.{Nothing, Written, WrittenLast, WindsUp, Ends}
+use Rattle.dns_client.specs.declared.unfinished.Unfinished.{Unfinished}
 use Rattle.dns_service.specs.declared.polled.PolledRequest.{PolledRequest}
 
 -- what is kept of an exchange's request that isn't done: a polled state that answers from the polls made on, its message, and how
@@ -160,10 +160,11 @@ refusing at c o = record c { invoker = offered (record c.invoker { at = at }) (f
 
 module _ {R F : Type 0} (answer : PolledRequest F R → ℕ → Answer) (answers : Serving) where
   -- what is kept of a connection's requests, how many were made, and how many are in a transaction
-  pub record KeepsAll (count : ℕ) (transactions : ℕ) (unfinished : BTreeMap ℕ (ConnectionRequest F R)) (rs : List SlateRequest) : Type 0 where
-    pub made : count ≡ length rs
+  pub record KeepsAll (transactions : ℕ) (unfinished : Unfinished (ConnectionRequest F R)) (rs : List SlateRequest) : Type 0 where
+    pub made : unfinished.count ≡ length rs
     pub held_open : transactions ≡ length (filter in_transaction rs)
-    pub each : (k : ℕ) → KeepsGoing answer answers (get nat_cmp unfinished k) (slice_get rs k)
+    pub in_order : IsInOrder unfinished
+    pub each : (k : ℕ) → KeepsGoing answer answers (request_at unfinished k) (slice_get rs k)
 
   pub record IsExchange (number : ℕ) (unfinished : Option (KeptRequest F R)) (s : Slate) : Type 0 where
     pub client : number ≡ s.client
@@ -189,7 +190,7 @@ module _ {R F : Type 0} (answer : PolledRequest F R → ℕ → Answer) (answers
       pub timer : c.timer ≡ s.reset_at
       pub kept : c.framer ≡ past s.taken s.received
       pub within : s.taken ≤ length (frames s.received)
-      pub requests : KeepsAll c.count c.transactions c.unfinished s.requests
+      pub requests : KeepsAll c.transactions c.unfinished s.requests
       pub queue : c.invoker.queue.items ≡ s.queue
       pub bound : c.invoker.queue.capacity ≡ s.bound
       pub budget : c.invoker.budget ≡ spending s
@@ -218,8 +219,8 @@ module _ {R F : Type 0} (answer : PolledRequest F R → ℕ → Answer) (answers
 
     -- a request is made, unless most of them were made
     pub record Asks (old new : OpenConnection W R F) (r : Req (Unit {0})) : Type 0 where
-      pub others : new ≡ record old { count = new.count; unfinished = new.unfinished }
-      pub made : (rs : List SlateRequest) → KeepsAll old.count old.transactions old.unfinished rs → KeepsAll new.count new.transactions new.unfinished (if nat_lt (length rs) most_requests then rs ++ asked r ∷ [] else rs)
+      pub others : new ≡ record old { unfinished = new.unfinished }
+      pub made : (rs : List SlateRequest) → KeepsAll old.transactions old.unfinished rs → KeepsAll new.transactions new.unfinished (if nat_lt (length rs) most_requests then rs ++ asked r ∷ [] else rs)
 
     -- a message is taken: a response is refused, and a query asked
     pub record TakesMessage (at secs : ℕ) (old new : OpenConnection W R F) (o : List ℕ) : Type 0 where

@@ -266,7 +266,7 @@ impl<W: Served> ClientCore<W> {
     }
 
     /// The number of the first request behind the one of a number that isn't done, where there is one.
-    #[tactic(auto, using(crate::proofs::Unfinished::exchange_behind))]
+    #[tactic(auto, using(crate::proofs::Waiting::exchange_behind))]
     pub fn next_unfinished(&self, request: u64) -> Option<u64>
         ensures requests { (answers : Serving) (s : Slate)
             → Stands (request_answer W.Future.answer W.Stream.answer) answers self.now s → result ≡ next_unfinished request s.requests }

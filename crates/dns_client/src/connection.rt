@@ -13,7 +13,7 @@ ghost use Rattle.dns_client.specs.Rule.{changes_kept, rule, takes_memory};
 ghost use Rattle.dns_service.specs.PolledRequest.{request_answer};
 ghost use Rattle.dns_service.specs.Req.{Req};
 
-use crate::connection_request::{ConnectionRequest, ask, enter, recount, turn_at};
+use crate::connection_request::{ConnectionRequest, ask, recount, turn_at};
 use crate::flushing::FlushingConnection;
 use crate::framer::Framer;
 use crate::invoker::ConnectionInvoker;
@@ -21,25 +21,23 @@ use crate::kept::refused;
 use crate::outcome::Outcome;
 use crate::requests::{frame_of, frame_request};
 use crate::timer::IdleTimer;
+use crate::unfinished::Unfinished;
 use dns_base::{Message, SocketAddr};
 use dns_name::OptRcode;
 use dns_service::{
     ConnectionConfig, Event, EventKind, OutOfMemory, Request, Served, StreamConfig, Why,
 };
 use std::alloc::Global;
-use std::collections::BTreeMap;
-use std::ops::Bound;
 
 /// What is kept of a connection while it is open: its address, how long a write may take in ms, its timer, the octets in no
-/// frame yet, its requests that aren't done, how many were made and are in a transaction, and its queue.
+/// frame yet, its requests that aren't done, how many are in a transaction, and its queue.
 #[derive(Drop)]
 pub struct OpenConnection<W: Served> {
     addr: SocketAddr,
     write_timeout: u64,
     timer: IdleTimer,
     framer: Framer,
-    unfinished: BTreeMap<u64, ConnectionRequest<W::Future, W::Stream>>,
-    count: u64,
+    unfinished: Unfinished<ConnectionRequest<W::Future, W::Stream>>,
     transactions: u64,
     invoker: ConnectionInvoker,
 }
@@ -64,8 +62,7 @@ impl<W: Served> OpenConnection<W> {
             write_timeout: config.response_write_timeout(),
             timer: IdleTimer::new(at),
             framer: Framer::new(alloc),
-            unfinished: BTreeMap::new(alloc),
-            count: 0,
+            unfinished: Unfinished::new(alloc),
             transactions: 0,
             invoker,
         })
@@ -92,7 +89,7 @@ impl<W: Served> OpenConnection<W> {
         requires { W.can_call service.now }
         ensures { OnOk result (Asks (request_answer W.Future.answer W.Stream.answer) (serving (W.answer service.now) (W.hint service.now)) self.old self.new request) }
     {
-        if self.count == u64::MAX {
+        if self.unfinished.count() == u64::MAX {
             return Ok(());
         }
         match ask(alloc, service, request) {
@@ -103,17 +100,11 @@ impl<W: Served> OpenConnection<W> {
 
     /// Keeps a request under its number.
     fn keep(&mut self, kept: ConnectionRequest<W::Future, W::Stream>) -> Result<(), OutOfMemory>
-        requires { self.old.count < 18446744073709551615 }
+        requires { self.old.unfinished.count < 18446744073709551615 }
         ensures { OnOk result ((answers : Serving) (r : Req (Unit {0})) → IsGoing (request_answer W.Future.answer W.Stream.answer) answers kept (asked r)
             → Asks (request_answer W.Future.answer W.Stream.answer) answers self.old self.new r) }
     {
-        match enter(&mut self.unfinished, self.count, kept) {
-            Ok(()) => {
-                self.count += 1;
-                Ok(())
-            }
-            Err(error) => Err(error),
-        }
+        self.unfinished.enter(kept)
     }
 
     /// Answers a response, of which no request is made, where there is room.
@@ -133,7 +124,7 @@ impl<W: Served> OpenConnection<W> {
     {
         self.invoker.set_moment(at);
         let (was, now) = turn_at(alloc, &mut self.unfinished, &mut self.invoker, request)?;
-        self.transactions = recount(self.count, self.transactions, was, now);
+        self.transactions = recount(self.unfinished.count(), self.transactions, was, now);
         Ok(Outcome::Nothing)
     }
 
@@ -337,10 +328,7 @@ impl<W: Served> OpenConnection<W> {
         ensures { (answers : Serving) (client : ℕ) (s : Slate)
             → IsOpen (request_answer W.Future.answer W.Stream.answer) answers client self.now s → result ≡ first_unfinished s.requests }
     {
-        match self.unfinished.first_key_value() {
-            Some((number, _)) => Some(*number),
-            None => None,
-        }
+        self.unfinished.first()
     }
 
     /// The number of the first request behind the one of a number that isn't done.
@@ -348,11 +336,7 @@ impl<W: Served> OpenConnection<W> {
         ensures { (answers : Serving) (client : ℕ) (s : Slate)
             → IsOpen (request_answer W.Future.answer W.Stream.answer) answers client self.now s → result ≡ next_unfinished request s.requests }
     {
-        let behind = (Bound::Excluded(request), Bound::Unbounded);
-        match self.unfinished.range(behind).next() {
-            Some((number, _)) => Some(*number),
-            None => None,
-        }
+        self.unfinished.next(request)
     }
 
     /// One event of the connection that changes nothing of what is kept.

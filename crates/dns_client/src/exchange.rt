@@ -27,7 +27,7 @@ use std::alloc::Global;
 pub fn one(alloc: Global, output: Output) -> Result<Vec<Output>, OutOfMemory>
     ensures { IfOk result (λ outs. outs.items ≡ output ∷ []) }
 {
-    let mut outs = Vec::new(alloc);
+    let mut outs = Vec::with_capacity(alloc, 1)?;
     outs.push(output)?;
     Ok(outs)
 }
@@ -120,7 +120,7 @@ fn refuse<W: Served>(
 fn sent(alloc: Global, client: u64, reply: AdditionalBuilder) -> Result<Vec<Output>, OutOfMemory>
     ensures { IfOk result (λ outs. outs.items ≡ Output.Datagram client (wire reply.message) ∷ []) }
 {
-    let octets = datagram_of(alloc, &reply)?;
+    let octets = datagram_of(reply);
     one(alloc, Output::Datagram { client, octets })
 }
 

@@ -16,6 +16,7 @@ mod polling;
 mod requests;
 mod states;
 mod timer;
+mod unfinished;
 
 pub use client::ClientCore;
 pub use connection_request::ConnectionRequest;
@@ -25,3 +26,4 @@ pub use invoker::ConnectionInvoker;
 pub use kept::KeptRequest;
 pub use laws::{frames_go_on, pieces_may_be_cut, spent_clients_are_told_nothing};
 pub use timer::IdleTimer;
+pub use unfinished::Unfinished;

@@ -59,12 +59,11 @@ pub fn frame_request(
     Ok(request)
 }
 
-/// A reply as a datagram.
-pub fn datagram_of(alloc: Global, reply: &AdditionalBuilder) -> Result<Octets, OutOfMemory>
-    ensures { IfOk result (λ o. o ≡ wire reply.now.message) }
+/// A reply as a datagram, which is not copied.
+pub fn datagram_of(reply: AdditionalBuilder) -> Octets
+    ensures { result ≡ wire reply.message }
 {
-    let octets = Octets::from_slice(alloc, reply.as_slice())?;
-    Ok(octets)
+    Octets::from_vec(reply.into_message().into_octets())
 }
 
 /// A reply as a frame, which is not copied.
