@@ -6,7 +6,6 @@ use crate::clock::Clock;
 use dns_name::OutOfMemory;
 use std::alloc::Global;
 use std::rt;
-use std::time::{SystemTime, UNIX_EPOCH};
 
 /// The machine's clock, which tells nothing. Where it can't be read it gives its last reading again, (0, 0) at first.
 #[derive(Drop)]
@@ -28,11 +27,10 @@ impl<T: rt::Clock + Copy> Clock for HostClock<T> {
     ghost readings = { λ _. [] };
 
     fn now(&mut self) -> (u64, u64) {
-        if let Ok(now) = SystemTime::now(&self.rt)
-            && let Ok(since) = now.duration_since(UNIX_EPOCH)
-        {
-            let millis = u64::try_from(since.as_millis()).unwrap_or(u64::MAX);
-            self.last = (millis, since.as_secs());
+        if let Ok(since) = rt::Clock::since_1970(&self.rt) {
+            let secs = since.as_secs();
+            let millis = u64::from(since.subsec_millis());
+            self.last = (secs.saturating_mul(1000).saturating_add(millis), secs);
         }
         self.last
     }

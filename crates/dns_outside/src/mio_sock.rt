@@ -15,10 +15,15 @@ use std::net::Net;
 use std::sync::Wait;
 
 /// A UDP socket, which tells nothing and counts its failed calls. A send of less than the datagram is a failed call.
+/// A wait is for a datagram alone, but for the first one after a send that answered Again, which is for room too: each
+/// datagram that leaves makes room, and would wake who waits for it. Where the system refuses to wait for room, that
+/// wait is no longer than a millisecond, so that a send is tried again soon and nothing spins.
 #[derive(Drop)]
 pub struct MioSock {
     socket: UdpSocket,
     waiting: Waiting,
+    // Whether a send answered Again since the last wait.
+    full: bool,
     failed_receives: u64,
     failed_sends: u64,
 }
@@ -30,11 +35,11 @@ impl MioSock {
         ensures sends { IfOk result (λ sock. ⟦<MioSock as AsyncDgramSock>⟧.failed_sends sock ≡ 0) }
     {
         let mut socket = UdpSocket::bind(net, to_std(addr))?;
-        let interests = Interest::READABLE | Interest::WRITABLE;
-        match Waiting::on(net, alloc, &mut socket, interests) {
+        match Waiting::on(net, alloc, &mut socket, Interest::READABLE) {
             Ok(waiting) => Ok(MioSock {
                 socket,
                 waiting,
+                full: false,
                 failed_receives: 0,
                 failed_sends: 0,
             }),
@@ -60,7 +65,10 @@ impl AsyncDgramSock for MioSock {
     fn poll_send_to(&mut self, data: &[u8], to: SocketAddr) -> DgramSend {
         match self.socket.send_to(data, to_std(to)) {
             Ok(count) if count == data.len() => DgramSend::Took(count),
-            Err(error) if error.kind() == ErrorKind::WouldBlock => DgramSend::Again,
+            Err(error) if error.kind() == ErrorKind::WouldBlock => {
+                self.full = true;
+                DgramSend::Again
+            }
             _ => {
                 self.failed_sends = self.failed_sends.saturating_add(1);
                 DgramSend::Failed
@@ -69,7 +77,12 @@ impl AsyncDgramSock for MioSock {
     }
 
     fn readable<R: Wait>(&mut self, rt: &R, millis: u64) {
-        self.waiting.wait(rt, millis);
+        if !self.full {
+            self.waiting.wait(rt, millis);
+            return;
+        }
+        self.full = false;
+        self.waiting.wait_for_room(rt, &mut self.socket, millis);
     }
 
     fn try_recv_buf_from(&mut self, buf: &mut [u8]) -> DgramRecv {

@@ -43,4 +43,27 @@ impl Waiting {
             .poll
             .poll(&mut self.events, Some(Duration::from_millis(millis)));
     }
+
+    /// Waits so many milliseconds at most for what a socket that is waited for reading alone can read, or has room for.
+    /// If the system refuses to wait for room, one millisecond at most. If it refuses to go back to reading alone, later
+    /// waits return too often, and none too late.
+    pub(crate) fn wait_for_room<R: Wait, S: Source>(
+        &mut self,
+        rt: &R,
+        socket: &mut S,
+        millis: u64,
+    ) {
+        let both = Interest::READABLE | Interest::WRITABLE;
+        if self.ask(socket, both).is_err() {
+            self.wait(rt, millis.min(1));
+            return;
+        }
+        self.wait(rt, millis);
+        let _ = self.ask(socket, Interest::READABLE);
+    }
+
+    // What is waited for from now on. What is there already ends the next wait.
+    fn ask<S: Source>(&mut self, socket: &mut S, interests: Interest) -> io::Result<()> {
+        self.poll.registry().reregister(socket, Token(0), interests)
+    }
 }
