@@ -11,14 +11,14 @@ use Rattle.dns_client.specs.Serving.{Serving}
 use Rattle.dns_client.specs.Slate.{Slate}
 use Rattle.dns_client.specs.Stands.{Stands, waiting}
 use Rattle.dns_client.specs.declared.client.ClientCore.{ClientCore}
+use Rattle.dns_notes.specs.Clocks.{ClockReading, Timed, TimedOne}
+use Rattle.dns_notes.proofs.Timings.{timed_noted}
 use Rattle.dns_drivers.specs.Blames.{Blames, WroteWhole, WroteFirst, ChosenFor, NotedWrite, ActedFor}
-use Rattle.dns_drivers.specs.Clocks.{ClockReading, Timed, TimedOne}
 use Rattle.dns_drivers.specs.Links.{MovedBy, IsReadEvent}
 use Rattle.dns_drivers.specs.Rounds.{turned, next_turn}
 use Rattle.dns_drivers.specs.Steps.{Chosen, TakesEvent, NotedOrNot, Acted, ActedPart}
 use Rattle.dns_drivers.proofs.Blamings.{for_read, first_read}
 use Rattle.dns_drivers.proofs.Choices.{chosen_read}
-use Rattle.dns_drivers.proofs.Timings.{timed_noted}
 
 pub acted_clock : (r : Result (Option Why) OutOfMemory) (event : Event) (l l' q q' j j' : Type 0) (n n' : List Event) (f f' : ℕ) (c c' : List ClockReading) →
     Tells (l' × q') (l × q) (TimedOne event f f' c c') → Tells j' j (NotedOrNot r n event n') → IfOk r (λ why. Tells (l' × q' × j') (l × q × j) (Timed n n' f f' c c'))

@@ -19,13 +19,13 @@ use Rattle.dns_client.specs.After.{slate_after, sent_after}
 use Rattle.dns_client.specs.Rule.{rule}
 use Rattle.dns_client.specs.Serving.{Serving}
 use Rattle.dns_client.specs.Slate.{Slate}
-use Rattle.dns_drivers.specs.Clocks.{faults_in}
+use Rattle.dns_notes.specs.Clocks.{faults_in}
+use Rattle.dns_notes.specs.Woven.{own_kinds, AllOf, seen_with, seen_all, news_kinds, woven, look_entries}
 use Rattle.dns_drivers.specs.Closing.{closed_by}
 use Rattle.dns_drivers.specs.Links.{pieces_in, AllFull, ticks_in, ends_in}
 use Rattle.dns_drivers.specs.Rounds.{turned, turned_all, Rounds}
 use Rattle.dns_drivers.specs.Story.{LastOf, all_but_last, LooksAlone}
 use Rattle.dns_drivers.specs.Steps.{LookedOnce}
-use Rattle.dns_drivers.specs.Woven.{own_kinds, AllOf, seen_with, seen_all, news_kinds, woven, look_entries}
 
 pub own_append : (es fs : List Event) → own_kinds (es ++ fs) ≡ own_kinds es ++ own_kinds fs
 own_append [] fs = refl

@@ -15,12 +15,13 @@ use Rattle.dns_client.specs.Rule.{rule}
 use Rattle.dns_client.specs.Serving.{Serving}
 use Rattle.dns_client.specs.Slate.{Slate}
 use Rattle.dns_client.specs.declared.client.ClientCore.{ClientCore}
-use Rattle.dns_drivers.specs.Clocks.{fault_count}
+use Rattle.dns_notes.specs.Clocks.{fault_count}
+use Rattle.dns_notes.specs.Notes.{NotedWide}
 use Rattle.dns_drivers.specs.Closing.{closed_by}
 use Rattle.dns_drivers.specs.Links.{pieces_in, piece_octets, frame_octets, IsFrontCut, WrittenPart, Unread}
 use Rattle.dns_drivers.specs.Rounds.{turned_all}
 use Rattle.dns_drivers.specs.Runs.{Run}
-use Rattle.dns_drivers.specs.Steps.{Chosen, NotedWide, ActedPart}
+use Rattle.dns_drivers.specs.Steps.{Chosen, ActedPart}
 use Rattle.dns_drivers.specs.Story.{Broken, Extra}
 use Rattle.dns_drivers.proofs.Appends.{all_of_append, pieces_append, all_but_snoc, sent_append, rounds_append}
 use Rattle.dns_drivers.proofs.ByKind.{Does}

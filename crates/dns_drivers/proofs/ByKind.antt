@@ -21,8 +21,8 @@ use Rattle.dns_client.specs.Serving.{Serving}
 use Rattle.dns_client.specs.Slate.{Slate, SlateRequest, Told, Phase, Unused, Exchange, Open, Flushing, Closed, Conf, conf_rule, with_conf}
 use Rattle.dns_client.specs.Timers.{is_expired}
 use Rattle.dns_client.specs.Turns.{turn, turn_request, poll_request, queue_reply, queue_frame, queue_held, with_request, answered, retimed, hold, reply_to}
-use Rattle.dns_core.specs.Own.{is_wide}
-use Rattle.dns_drivers.specs.Clocks.{fault_count}
+use Rattle.dns_notes.specs.Own.{is_wide}
+use Rattle.dns_notes.specs.Clocks.{fault_count}
 use Rattle.dns_drivers.specs.Closing.{closed_by}
 use Rattle.dns_drivers.specs.Links.{frame_octets, WrittenPart}
 use Rattle.dns_drivers.specs.Rounds.{May}

@@ -11,7 +11,7 @@ use Rattle.dns_client.specs.Serving.{Serving}
 use Rattle.dns_client.specs.Slate.{Slate}
 use Rattle.dns_client.specs.Stands.{Stands, waiting, write_limit}
 use Rattle.dns_client.specs.declared.client.ClientCore.{ClientCore}
-use Rattle.dns_core.specs.Own.{is_wide}
+use Rattle.dns_notes.specs.Own.{is_wide}
 use Rattle.dns_drivers.specs.Links.{front, MovedBy, WrittenPart, IsWrittenEvent, IsReadEvent, Unread}
 use Rattle.dns_drivers.specs.Rounds.{May, next_turn, IsWriting, IsRoundOver}
 use Rattle.dns_drivers.specs.Steps.{Chosen, ActedPart}

@@ -18,13 +18,13 @@ use Rattle.dns_client.specs.Serving.{Serving}
 use Rattle.dns_client.specs.Slate.{Slate, IsUnused, conf_of, fresh}
 use Rattle.dns_client.specs.Stands.{Stands}
 use Rattle.dns_client.specs.declared.client.ClientCore.{ClientCore}
-use Rattle.dns_drivers.specs.Clocks.{ClockReading, Timed, TimedWhole, faults_in}
+use Rattle.dns_notes.specs.Clocks.{ClockReading, Timed, TimedWhole, faults_in}
+use Rattle.dns_notes.specs.Notes.{NotedMoment}
+use Rattle.dns_notes.specs.Woven.{look_entries}
 use Rattle.dns_drivers.specs.Endings.{offer, ShownFrom, WasOffered, WasServed, Unserved}
-use Rattle.dns_drivers.specs.Notes.{NotedMoment}
 use Rattle.dns_drivers.specs.Shown.{Shown}
 use Rattle.dns_drivers.specs.Story.{Story, Broken, LooksAlone, LooksAndRelease, began}
 use Rattle.dns_drivers.specs.Turning.{BeginsOpen}
-use Rattle.dns_drivers.specs.Woven.{look_entries}
 use Rattle.dns_drivers.proofs.Appends.{gained_more}
 
 pub looks_release : (k k1 k2 : Known) (left : ℕ) → LooksAlone k k1 → Called k1 Release (Left left) k2 → LooksAndRelease k k2

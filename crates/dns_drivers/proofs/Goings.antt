@@ -27,7 +27,7 @@ use Rattle.dns_client.specs.Serving.{Serving}
 use Rattle.dns_client.specs.Slate.{Slate, Told, Open, Flushing}
 use Rattle.dns_client.specs.Stands.{Stands}
 use Rattle.dns_client.specs.declared.client.ClientCore.{ClientCore}
-use Rattle.dns_core.specs.Own.{is_wide}
+use Rattle.dns_notes.specs.Own.{is_wide}
 use Rattle.dns_drivers.specs.Blames.{HeardFor, ActedFor}
 use Rattle.dns_drivers.specs.Closing.{closed_by}
 use Rattle.dns_drivers.specs.Shown.{SawShutdown, Causes}

@@ -18,18 +18,20 @@ use Rattle.dns_client.specs.Stands.{Stands, StandsIn, GoesAs, waiting, write_lim
 use Rattle.dns_client.specs.declared.client.ClientCore.{ClientCore}
 use Rattle.dns_client.specs.declared.client.State.{State}
 use Rattle.dns_client.specs.declared.client.State.TheVariants.{Exchange as Is_exchange, Open as Is_open, Flushing as Is_flushing, Closed as Is_closed, Lost as Is_lost}
-use Rattle.dns_drivers.specs.Clocks.{fault_count}
+use Rattle.dns_notes.specs.Clocks.{fault_count}
+use Rattle.dns_notes.specs.Notes.{AllWide}
+use Rattle.dns_notes.specs.Woven.{kinds, own_kinds, news_kinds}
+use Rattle.dns_notes.proofs.Notings.{kinds_append}
 use Rattle.dns_drivers.specs.Closing.{closed_by}
 use Rattle.dns_drivers.specs.Links.{pieces_in, frame_octets}
 use Rattle.dns_drivers.specs.Rounds.{turned, turned_all}
 use Rattle.dns_drivers.specs.Runs.{Run, IsServed}
 use Rattle.dns_drivers.specs.Turning.{BeginsOpen}
-use Rattle.dns_drivers.specs.Steps.{AllWide, HeardNews, Chosen, TakesEvent, Acted}
+use Rattle.dns_drivers.specs.Steps.{HeardNews, Chosen, TakesEvent, Acted}
 use Rattle.dns_drivers.specs.Story.{Extra, LastOf, all_but_last}
-use Rattle.dns_drivers.specs.Woven.{kinds, own_kinds, news_kinds}
 use Rattle.dns_drivers.proofs.Appends.{own_append, all_of_append, seen_snoc, pieces_append, full_append, ticks_append, ends_append, faults_append, turned_append, all_but_snoc, woven_look, woven_own, after_append, sent_append, rounds_append, last_own, last_later, closed_more, gained_look, gained_none}
 use Rattle.dns_drivers.proofs.ByKind.{Does, event_does, fault_most}
-use Rattle.dns_drivers.proofs.Notings.{kinds_append, news_wide}
+use Rattle.dns_drivers.proofs.Hearings.{news_wide}
 use Rattle.dns_drivers.proofs.Wide.{quiet, frames_append, rounds_wide, do_same, NewsDo, news_do, news_last}
 
 -- what the core does for a slate that it stands for, is what the noted events do

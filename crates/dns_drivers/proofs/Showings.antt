@@ -14,11 +14,11 @@ use Rattle.dns_service.specs.Answer.{Answer}
 use Rattle.dns_service.specs.declared.polled.PolledRequest.{PolledRequest}
 use Rattle.dns_client.specs.Stands.{Stands}
 use Rattle.dns_client.specs.declared.client.ClientCore.{ClientCore}
-use Rattle.dns_drivers.specs.Blames.{NotedWrite}
 use Rattle.dns_client.specs.After.{slate_after, sent_after}
 use Rattle.dns_client.specs.Rule.{rule}
 use Rattle.dns_client.specs.Serving.{Serving}
 use Rattle.dns_client.specs.Slate.{Slate, Open}
+use Rattle.dns_drivers.specs.Blames.{NotedWrite}
 use Rattle.dns_drivers.specs.Links.{piece_octets, pieces_in, end_count, ends_in, frame_octets, front}
 use Rattle.dns_drivers.specs.Rounds.{May, turned, Rounds}
 use Rattle.dns_drivers.specs.Shown.{HasShortFrame, Shows, Shown}

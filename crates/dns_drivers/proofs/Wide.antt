@@ -15,15 +15,15 @@ use Rattle.dns_client.specs.News.{wide, new_configurations, new_end, news}
 use Rattle.dns_client.specs.Rule.{rule, in_phase, unused_rule, open_rule}
 use Rattle.dns_client.specs.Serving.{Serving}
 use Rattle.dns_client.specs.Slate.{Slate, Told, Phase, Unused, Exchange, Open, Flushing, Closed, Conf, conf_rule, with_conf}
-use Rattle.dns_core.specs.Own.{is_wide}
-use Rattle.dns_drivers.specs.Clocks.{fault_count, faults_in}
+use Rattle.dns_notes.specs.Own.{is_wide}
+use Rattle.dns_notes.specs.Clocks.{fault_count, faults_in}
+use Rattle.dns_notes.specs.Notes.{AllWide}
+use Rattle.dns_notes.specs.Woven.{kinds, own_kinds, AllOf, news_kinds}
 use Rattle.dns_drivers.specs.Closing.{closed_by}
 use Rattle.dns_drivers.specs.Links.{pieces_in, piece_octets, AllFull, HasOctets, ticks_in, tick_count, ends_in, end_count, frame_octets}
 use Rattle.dns_drivers.specs.Rounds.{May, turned, turned_all, Rounds}
 use Rattle.dns_drivers.specs.Runs.{MayGoOn, IsServed, ServesOn}
-use Rattle.dns_drivers.specs.Steps.{AllWide}
 use Rattle.dns_drivers.specs.Story.{LastCloses}
-use Rattle.dns_drivers.specs.Woven.{kinds, own_kinds, AllOf, news_kinds}
 
 -- one of them says nothing of the link or the rounds
 record IsQuiet (k : EventKind) : Type 0 where

@@ -17,7 +17,7 @@ use Rattle.dns_client.specs.Serving.{Serving}
 use Rattle.dns_client.specs.Slate.{Slate}
 use Rattle.dns_client.specs.Stands.{Stands}
 use Rattle.dns_client.specs.declared.client.ClientCore.{ClientCore}
-use Rattle.dns_core.specs.Own.{is_wide}
+use Rattle.dns_notes.specs.Own.{is_wide}
 use Rattle.dns_drivers.specs.Links.{front}
 use Rattle.dns_drivers.specs.Rounds.{May}
 use Rattle.dns_drivers.specs.Steps.{SeesLook, TakesEvent}

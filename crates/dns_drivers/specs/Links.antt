@@ -6,6 +6,7 @@ use Rattle.dns_service.specs.declared.event.EventKind.{EventKind}
 use Rattle.dns_service.specs.declared.event.EventKind.TheVariants.{Piece, Write, End, Fault, Tick}
 use Rattle.dns_service.specs.declared.event.Output.{Output}
 use Rattle.dns_service.specs.declared.event.Output.TheVariants.{Frame}
+use Rattle.dns_notes.specs.Clocks.{ClockReading, Waited, LateAt}
 use Rattle.dns_drivers.specs.declared.writing.WriteEnd.{WriteEnd}
 use Rattle.dns_drivers.specs.declared.writing.WriteEnd.TheVariants.{Whole, Failed, Late}
 
@@ -75,6 +76,12 @@ abbrev pub EndsWriting : WriteEnd → ℕ → ℕ → ℕ → ℕ → Type 0
 EndsWriting Whole done size start limit = size ≤ done
 EndsWriting Failed done size start limit = done ≤ size
 EndsWriting (Late at secs) done size start limit = limit < at - start
+
+-- one reading for each write that answered Again, of which the last is that of a late end
+abbrev pub WaitedTo : WriteEnd → ℕ → ℕ → List ClockReading → List ClockReading → Type 0
+WaitedTo Whole again again' c c' = Waited again again' c c'
+WaitedTo Failed again again' c c' = Waited again again' c c'
+WaitedTo (Late at secs) again again' c c' = LateAt (at, secs) again again' c c'
 
 -- what was written for an event: a part of the first frame, and the whole where a Write stands within the limit
 pub record WritesPart (took : ℕ) (queue : List (List ℕ)) (limit : ℕ) (part : List ℕ) : Type 0 where

@@ -13,10 +13,10 @@ use Rattle.dns_client.specs.Slate.{Slate, Phase, Open, Flushing}
 use Rattle.dns_client.specs.After.{slate_after}
 use Rattle.dns_client.specs.Stands.{Stands}
 use Rattle.dns_client.specs.declared.client.ClientCore.{ClientCore}
-use Rattle.dns_drivers.specs.Clocks.{faults_in}
+use Rattle.dns_notes.specs.Clocks.{faults_in}
+use Rattle.dns_notes.specs.Woven.{own_kinds, seen_all}
 use Rattle.dns_drivers.specs.Rounds.{turned_all}
 use Rattle.dns_drivers.specs.Story.{Story}
-use Rattle.dns_drivers.specs.Woven.{own_kinds, seen_all}
 
 -- a connection is open, or a Shutdown came and it has a frame to write
 abbrev pub MayGoOn : Phase → List (List ℕ) → Type 0

@@ -1,5 +1,5 @@
 -- What the steps of the loop of a connection do.
-use Rattle.std.specs.Prelude.{◌≡◌, ◌⊎◌, ℕ, List, [], ◌∷◌, ◌++◌, true, false, Option, Result, Ok, Err}
+use Rattle.std.specs.Prelude.{◌≡◌, ◌⊎◌, ℕ, List, [], ◌∷◌, ◌++◌, false, Option, Result, Ok, Err}
 use Rattle.dns_name.specs.declared.error.OutOfMemory.{OutOfMemory}
 use Rattle.dns_admission.specs.declared.look.Look.{Look}
 use Rattle.dns_admission.specs.declared.call.Call.TheVariants.{Look as ToLook}
@@ -9,7 +9,6 @@ use Rattle.dns_book.specs.declared.history.Known.{Known}
 use Rattle.dns_outside.specs.Traffic.{Traffic}
 use Rattle.dns_service.specs.Answer.{Answer}
 use Rattle.dns_service.specs.declared.event.Event.{Event}
-use Rattle.dns_service.specs.declared.event.EventKind.{EventKind}
 use Rattle.dns_service.specs.declared.event.Output.{Output}
 use Rattle.dns_service.specs.declared.event.Why.{Why}
 use Rattle.dns_service.specs.declared.polled.PolledRequest.{PolledRequest}
@@ -19,32 +18,17 @@ use Rattle.dns_client.specs.Rule.{rule}
 use Rattle.dns_client.specs.News.{told_of}
 use Rattle.dns_client.specs.Stands.{Stands, GoesAs, waiting, write_limit}
 use Rattle.dns_client.specs.declared.client.ClientCore.{ClientCore}
-use Rattle.dns_core.specs.Own.{is_wide}
+use Rattle.dns_notes.specs.Own.{is_wide}
+use Rattle.dns_notes.specs.Notes.{NotedKinds}
+use Rattle.dns_notes.specs.Woven.{news_kinds, seen_with}
 use Rattle.dns_drivers.specs.Closing.{closed_by}
 use Rattle.dns_drivers.specs.Rounds.{May, turned}
 use Rattle.dns_drivers.specs.Links.{MovedBy, Unread}
-use Rattle.dns_drivers.specs.Woven.{kinds, news_kinds, seen_with}
-
--- events of these kinds were noted
-pub record NotedKinds (ks : List EventKind) (n n' : List Event) : Type 0 where
-  pub events : List Event
-  pub kinds_are : kinds events ≡ ks
-  pub noted : n' ≡ n ++ events
 
 -- one look was made
 pub record LookedOnce (k k' : Known) : Type 0 where
   pub look : Look
   pub called : Called k ToLook (Shown look) k'
-
--- events that all hear were noted
-abbrev pub AllWide : List EventKind → Type 0
-AllWide [] = Unit {0}
-AllWide (k ∷ ks) = (is_wide k ≡ true) × AllWide ks
-
-pub record NotedWide (n n' : List Event) : Type 0 where
-  pub events : List Event
-  pub wide : AllWide (kinds events)
-  pub noted : n' ≡ n ++ events
 
 -- the event at the end, or perhaps not where memory ran out
 abbrev pub NotedOrNot : {A : Type 0} → Result A OutOfMemory → List Event → Event → List Event → Type 0

@@ -16,11 +16,11 @@ use Rattle.dns_client.specs.Slate.{Slate, conf_of, fresh}
 use Rattle.dns_client.specs.Connections.{opened}
 use Rattle.dns_client.specs.Rule.{rule}
 use Rattle.dns_client.specs.After.{slate_after, sent_after}
+use Rattle.dns_notes.specs.Clocks.{faults_in}
+use Rattle.dns_notes.specs.Woven.{IsWoven, AllOf, look_entries}
 use Rattle.dns_drivers.specs.Closing.{closed_by}
-use Rattle.dns_drivers.specs.Clocks.{faults_in}
 use Rattle.dns_drivers.specs.Links.{pieces_in, AllFull, ticks_in, ends_in, frame_octets, IsFrontCut}
 use Rattle.dns_drivers.specs.Rounds.{Rounds}
-use Rattle.dns_drivers.specs.Woven.{IsWoven, AllOf, look_entries}
 
 -- the slate of a connection that was offered at a moment, under what a look shows
 abbrev pub began : ℕ → SocketAddr → ℕ → Look → Slate

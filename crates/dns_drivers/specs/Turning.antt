@@ -11,9 +11,10 @@ use Rattle.dns_client.specs.Serving.{Serving}
 use Rattle.dns_client.specs.Slate.{Slate, Open}
 use Rattle.dns_client.specs.Stands.{Stands}
 use Rattle.dns_client.specs.declared.client.ClientCore.{ClientCore}
+use Rattle.dns_notes.specs.Notes.{NotedWide}
 use Rattle.dns_drivers.specs.Blames.{NotedWrite, HeardFor, ActedFor}
 use Rattle.dns_drivers.specs.Shown.{Shown}
-use Rattle.dns_drivers.specs.Steps.{HeardNews, NotedWide, Acted, ActedPart}
+use Rattle.dns_drivers.specs.Steps.{HeardNews, Acted, ActedPart}
 use Rattle.dns_drivers.specs.Story.{Story}
 
 module _ {W R F : Type 0} (answer : PolledRequest F R → ℕ → Answer) (answers : Serving) where

@@ -3,18 +3,17 @@
 ghost use Rattle.std.specs.Prelude.{◌≡◌, false, IfOk, OnErr};
 ghost use Rattle.dns_outside.specs.Causes.{Tells};
 ghost use Rattle.dns_client.specs.Serving.{serving};
-ghost use Rattle.dns_drivers.specs.Clocks.{Timed, TimedWhole};
+ghost use Rattle.dns_notes.specs.Clocks.{Timed, TimedWhole};
 ghost use Rattle.dns_drivers.specs.Story.{LooksAlone, LooksAndRelease};
 ghost use Rattle.dns_drivers.specs.Endings.{WasOffered, Unserved, EndsSo, WhereClosed, ShownFrom, EndShown, EndCauses};
 ghost use Rattle.dns_drivers.specs.Shown.{Causes};
 
-use crate::moments::note_moment;
-use crate::recorder::Recorder;
 use crate::turning::serve_rounds;
 use dns_admission::Look;
 use dns_book::{Book, BookSeat};
 use dns_client::ClientCore;
 use dns_name::SocketAddr;
+use dns_notes::{Recorder, note_moment};
 use dns_outside::{Clock, Link};
 use dns_service::{EventKind, OutOfMemory, Served, Why};
 use std::alloc::Global;

@@ -2,75 +2,24 @@
 
 ghost use Rattle.std.specs.Prelude.{◌≡◌, OnOk, OnErr, IfOk};
 ghost use Rattle.dns_outside.specs.Causes.{Tells};
-ghost use Rattle.dns_client.specs.News.{new_configurations, new_end};
 ghost use Rattle.dns_service.specs.PolledRequest.{request_answer};
+ghost use Rattle.dns_notes.specs.Clocks.{Timed};
+ghost use Rattle.dns_notes.specs.Woven.{seen_with, news_kinds};
+ghost use Rattle.dns_notes.specs.Notes.{NotedKinds, NotedWide};
 ghost use Rattle.dns_drivers.specs.Blames.{HeardFor};
-ghost use Rattle.dns_drivers.specs.Clocks.{Timed};
-ghost use Rattle.dns_drivers.specs.Woven.{seen_with, kinds, news_kinds};
-ghost use Rattle.dns_drivers.specs.Steps.{NotedKinds, NotedWide, SeesLook, HeardNews, LookedOnce};
+ghost use Rattle.dns_drivers.specs.Steps.{SeesLook, HeardNews, LookedOnce};
 
 use crate::closing::closed_by;
-use crate::moments::note_moment;
-use crate::recorder::Recorder;
 use dns_admission::Look;
 use dns_book::{Book, BookSeat};
 use dns_client::ClientCore;
+use dns_notes::{Recorder, note_shutdown, note_version};
 use dns_outside::Clock;
-use dns_service::{EventKind, OutOfMemory, Served, Why};
+use dns_service::{OutOfMemory, Served, Why};
 use std::alloc::Global;
 use std::sync::Wait;
 
-#[tactic(auto, using(crate::proofs::Notings::noted_none, crate::proofs::Notings::noted_kind, crate::proofs::Timings::timed_none))]
-/// Notes the configurations, where their version is new.
-pub(crate) fn note_version<C: Clock, J: Recorder>(
-    alloc: Global,
-    clock: &mut C,
-    journal: &mut J,
-    last: &Look,
-    look: &Look,
-) -> Result<(), OutOfMemory>
-    ensures told { OnOk result (Tells (J.tells journal.new) (J.tells journal.old)
-        (NotedKinds (kinds (new_configurations last.now.version look.now)) (J.noted journal.old) (J.noted journal.new))) }
-    ensures clock { OnOk result (Tells (C.tells clock.new × J.tells journal.new) (C.tells clock.old × J.tells journal.old)
-        (Timed (J.noted journal.old) (J.noted journal.new) 0 0 (C.readings clock.old) (C.readings clock.new))) }
-    ensures no_memory { OnErr result (Tells (J.tells journal.new) (J.tells journal.old) (J.noted journal.new ≡ J.noted journal.old)) }
-    ensures clock_no_memory { OnErr result (Tells (C.tells clock.new × J.tells journal.new) (C.tells clock.old × J.tells journal.old) (J.noted journal.new ≡ J.noted journal.old)) }
-{
-    if look.version == last.version {
-        return Ok(());
-    }
-    let kind = EventKind::Reconfigure {
-        dgram: look.dgram,
-        stream: look.stream,
-    };
-    note_moment(alloc, 0, kind, clock, journal)?;
-    Ok(())
-}
-
-#[tactic(auto, using(crate::proofs::Notings::noted_none, crate::proofs::Notings::noted_kind, crate::proofs::Timings::timed_none))]
-/// Notes the shutdown, where it is new.
-pub(crate) fn note_shutdown<C: Clock, J: Recorder>(
-    alloc: Global,
-    clock: &mut C,
-    journal: &mut J,
-    last: &Look,
-    look: &Look,
-) -> Result<(), OutOfMemory>
-    ensures told { OnOk result (Tells (J.tells journal.new) (J.tells journal.old)
-        (NotedKinds (kinds (new_end last.now.closed look.now)) (J.noted journal.old) (J.noted journal.new))) }
-    ensures clock { OnOk result (Tells (C.tells clock.new × J.tells journal.new) (C.tells clock.old × J.tells journal.old)
-        (Timed (J.noted journal.old) (J.noted journal.new) 0 0 (C.readings clock.old) (C.readings clock.new))) }
-    ensures no_memory { OnErr result (Tells (J.tells journal.new) (J.tells journal.old) (J.noted journal.new ≡ J.noted journal.old)) }
-    ensures clock_no_memory { OnErr result (Tells (C.tells clock.new × J.tells journal.new) (C.tells clock.old × J.tells journal.old) (J.noted journal.new ≡ J.noted journal.old)) }
-{
-    if !look.closed || last.closed {
-        return Ok(());
-    }
-    note_moment(alloc, 0, EventKind::Shutdown, clock, journal)?;
-    Ok(())
-}
-
-#[tactic(auto, using(crate::proofs::Notings::wide_none, crate::proofs::Notings::wide_version))]
+#[tactic(auto, using(crate::proofs::Hearings::wide_none, crate::proofs::Hearings::wide_version))]
 /// Notes the news of a look, by what was seen before.
 fn note_news<C: Clock, J: Recorder>(
     alloc: Global,
@@ -113,7 +62,7 @@ fn with_look(last: &Look, look: &Look) -> Look
     }
 }
 
-#[tactic(auto, using(crate::proofs::Notings::looked_once))]
+#[tactic(auto, using(crate::proofs::Hearings::looked_once))]
 /// One look. Its news are noted, and then the core sees it. The answer is why the connection is closed by that, if it is.
 pub(crate) fn hear<R: Wait, C: Clock, J: Recorder, W: Served>(
     rt: &R,

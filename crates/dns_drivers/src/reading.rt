@@ -2,18 +2,15 @@
 
 ghost use Rattle.std.specs.Prelude.{◌≡◌, [], IfOk, OnErr};
 ghost use Rattle.dns_outside.specs.Causes.{Tells};
+ghost use Rattle.dns_notes.specs.Clocks.{TimedOne};
 ghost use Rattle.dns_drivers.specs.Blames.{Blames, WroteWhole};
-ghost use Rattle.dns_drivers.specs.Clocks.{TimedOne};
 ghost use Rattle.dns_drivers.specs.Links.{MovedBy, IsReadEvent, Unread};
 
-use crate::moments::now_is;
+use dns_notes::{PATIENCE, now_is};
 use dns_outside::{Clock, Link, LinkRead};
 use dns_service::{Event, EventKind, Octets, OutOfMemory};
 use std::alloc::Global;
 use std::sync::Wait;
-
-/// How many milliseconds one wait lasts at most.
-pub const PATIENCE: u64 = 250;
 
 /// How many octets one read takes at most.
 const ROOM: usize = 4096;

@@ -5,7 +5,7 @@ ghost use Rattle.dns_outside.specs.Causes.{Tells};
 ghost use Rattle.dns_client.specs.Serving.{serving};
 ghost use Rattle.dns_client.specs.Slate.{Slate};
 ghost use Rattle.dns_service.specs.PolledRequest.{request_answer};
-ghost use Rattle.dns_drivers.specs.Clocks.{Timed};
+ghost use Rattle.dns_notes.specs.Clocks.{Timed};
 ghost use Rattle.dns_drivers.specs.Rounds.{below_of};
 ghost use Rattle.dns_drivers.specs.Shown.{Causes};
 ghost use Rattle.dns_drivers.specs.Steps.{LookedOnce};
@@ -14,10 +14,10 @@ ghost use Rattle.dns_drivers.specs.Turning.{MadeTurn, TurnedPart, TurnedFor, Beg
 
 use crate::acting::act;
 use crate::hearing::hear;
-use crate::recorder::Recorder;
 use dns_admission::Look;
 use dns_book::{Book, BookSeat};
 use dns_client::ClientCore;
+use dns_notes::Recorder;
 use dns_outside::{Clock, Link};
 use dns_service::{OutOfMemory, Served, Why};
 use std::alloc::Global;

@@ -2,12 +2,11 @@
 
 ghost use Rattle.std.specs.Prelude.{◌≡◌, [], ◌∷◌, ◌++◌, length};
 ghost use Rattle.dns_outside.specs.Causes.{Tells};
+ghost use Rattle.dns_notes.specs.Clocks.{TimedOne};
 ghost use Rattle.dns_drivers.specs.Blames.{EndBlames, EndAgain, Blames, WroteWhole};
-ghost use Rattle.dns_drivers.specs.Clocks.{TimedOne, WaitedTo};
-ghost use Rattle.dns_drivers.specs.Links.{MovedBy, IsWrittenEvent, WroteFront, EndsWriting};
+ghost use Rattle.dns_drivers.specs.Links.{WaitedTo, MovedBy, IsWrittenEvent, WroteFront, EndsWriting};
 
-use crate::moments::now_is;
-use crate::reading::PATIENCE;
+use dns_notes::{PATIENCE, now_is};
 use dns_outside::{Clock, Link, LinkWrite};
 use dns_service::{Event, EventKind};
 use std::sync::Wait;
@@ -35,7 +34,7 @@ fn wait_for_room<R: Wait, L: Link, C: Clock>(
     clock.now()
 }
 
-#[tactic(auto, using(crate::proofs::Movings::wrote_none, crate::proofs::Movings::wrote_more, crate::proofs::Movings::wrote_again, crate::proofs::Timings::waited_none, crate::proofs::Timings::waited_again, crate::proofs::Timings::late_again, crate::proofs::Blamings::end_whole, crate::proofs::Blamings::end_late, crate::proofs::Blamings::end_failed, crate::proofs::Blamings::again_more, crate::proofs::Blamings::again_whole, crate::proofs::Blamings::again_failed, crate::proofs::Blamings::again_late))]
+#[tactic(auto, using(crate::proofs::Movings::wrote_none, crate::proofs::Movings::wrote_more, crate::proofs::Movings::wrote_again, crate::proofs::Waits::waited_none, crate::proofs::Waits::waited_again, crate::proofs::Waits::late_again, crate::proofs::Blamings::end_whole, crate::proofs::Blamings::end_late, crate::proofs::Blamings::end_failed, crate::proofs::Blamings::again_more, crate::proofs::Blamings::again_whole, crate::proofs::Blamings::again_failed, crate::proofs::Blamings::again_late))]
 /// Writes the frame, and says how much of it was written. It is late where more than the limit has passed since the start.
 fn write_frame<R: Wait, L: Link, C: Clock>(
     rt: &R,
@@ -70,7 +69,7 @@ fn write_frame<R: Wait, L: Link, C: Clock>(
     unreachable!()
 }
 
-#[tactic(auto, using(crate::proofs::Movings::moved_whole, crate::proofs::Movings::moved_late, crate::proofs::Movings::moved_failed, crate::proofs::Timings::timed_whole, crate::proofs::Timings::timed_late, crate::proofs::Timings::timed_failed, crate::proofs::Blamings::blames_write, crate::proofs::Blamings::blames_failed, crate::proofs::Blamings::whole_written, crate::proofs::Blamings::whole_late, crate::proofs::Blamings::whole_failed))]
+#[tactic(auto, using(crate::proofs::Movings::moved_whole, crate::proofs::Movings::moved_late, crate::proofs::Movings::moved_failed, crate::proofs::Waits::timed_whole, crate::proofs::Waits::timed_late, crate::proofs::Waits::timed_failed, crate::proofs::Blamings::blames_write, crate::proofs::Blamings::blames_failed, crate::proofs::Blamings::whole_written, crate::proofs::Blamings::whole_late, crate::proofs::Blamings::whole_failed))]
 /// Writes the first frame of a queue. The event is a Write, or a Fault where a call failed.
 pub(crate) fn write_event<R: Wait, L: Link, C: Clock>(
     rt: &R,

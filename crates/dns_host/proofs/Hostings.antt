@@ -14,9 +14,9 @@ use Rattle.dns_outside.specs.Mail.{Mail}
 use Rattle.dns_service.specs.declared.event.Event.{Event}
 use Rattle.dns_client.specs.Serving.{Serving}
 use Rattle.dns_drivers.specs.Clocks.{ClockReading}
-use Rattle.dns_drivers.specs.DatagramsServed.{world, ReceivesBy, RoseIf}
-use Rattle.dns_drivers.specs.declared.datagrams.DgramEnd.{DgramEnd}
-use Rattle.dns_drivers.specs.declared.datagrams.DgramEnd.TheVariants.{Shutdown as DgramShutdown, Counted as DgramCounted, Fault as DgramFault, OutOfMemory as DgramOutOfMemory}
+use Rattle.dns_datagrams.specs.DatagramsServed.{world, ReceivesBy, RoseIf}
+use Rattle.dns_datagrams.specs.declared.serving.DgramEnd.{DgramEnd}
+use Rattle.dns_datagrams.specs.declared.serving.DgramEnd.TheVariants.{Shutdown as DgramShutdown, Counted as DgramCounted, Fault as DgramFault, OutOfMemory as DgramOutOfMemory}
 use Rattle.dns_host.specs.Accepting.{AcceptTurn, Gave, TookTurns, AcceptsTo}
 use Rattle.dns_host.specs.Arrivals.{RoseWhere}
 use Rattle.dns_host.specs.Hosting.{host_end, host_world, HostRose, AcceptsBeside, DgramsBeside, AcceptsWent, BothServed, NeitherBegan}
@@ -30,6 +30,7 @@ turns_joined : (turns : List AcceptTurn) (more : List Entry) (na mp np before wo
     Tells np mp (h' ≡ h) → (h' ≡ h → works → works') → TookTurns turns more (na × mp) before works k k' a b f f' → TookTurns turns more (na × np) before works' k k' a b f f'
 turns_joined turns more na mp np before works works' k k' a b h h' f f' t keep s = record {
   calls = s.calls;
+  running = s.running;
   name = s.name;
   faults = s.faults;
   told = record { told = λ n. let x = t.told n.1 in let y = s.told.told (n.0, x.0) in (y.0, (y.1.0, keep x.1 y.1.1)) };

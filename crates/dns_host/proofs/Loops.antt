@@ -1,6 +1,7 @@
 -- The loop of accepts: how it begins, goes on and ends.
 use Rattle.std.proofs.Common.{◌≡◌, ◌≢◌, ℕ, ◌+◌, ◌^◌, ◌-◌, min, Bool, true, false, List, [], ◌∷◌, ◌++◌, length, refl, sym, ap, ◌∙◌, subst, append-nil, append_assoc, Ok, Err, inl, inr, ◌≤◌, arith, add-zero, ◌||◌}
 use Rattle.std.proofs.lemmas.List.{length-append}
+use Rattle.std.proofs.lemmas.List.Elements.{All-nil}
 use Rattle.dns_name.specs.declared.address.SocketAddr.{SocketAddr}
 use Rattle.dns_name.specs.declared.error.OutOfMemory.{OutOfMemory}
 use Rattle.dns_admission.specs.declared.look.Look.{Look}
@@ -27,6 +28,7 @@ so_far_none count now k a g f = record {
   turns = [];
   turned = record {
     calls = gained_none k;
+    running = All-nil _;
     name = sym (append-nil k.name);
     faults = rose_none f f refl;
     told = record { told = λ n. (n, (record { callers = sym (append-nil a.callers); nobody = sym (add-zero a.empty_accepts) }, sym (append-nil g))) };
@@ -52,12 +54,12 @@ count_more count taken taken' n m is few less one fits next = (grind (arith, is,
 
 -- one turn more
 pub so_far_more : (arrival : Arrival) (count taken taken' : ℕ) (look : Look) (now mid before : Type 0) (k k1 k2 k3 : Known) (a b c : Door) (g h i : List SocketAddr) (f f1 f2 : ℕ) →
-    TookSoFar count taken mid before k k1 a b g h f f1 → Called k1 ToLook (Shown look) k2 → Brought (Ok arrival) now mid k2 k3 b c h i f1 f2 →
+    TookSoFar count taken mid before k k1 a b g h f f1 → Called k1 ToLook (Shown look) k2 → look.closed ≡ false → Brought (Ok arrival) now mid k2 k3 b c h i f1 f2 →
     (count ≢ 0 → taken ≢ count) → count ≤ 2 ^ 64 - 1 → taken' ≡ min (taken + arrival_callers arrival) (2 ^ 64 - 1) →
     TookSoFar count taken' now before k k3 a c g i f f2
-so_far_more arrival count taken taken' look now mid before k k1 k2 k3 a b c g h i f f1 f2 s l q less fits next = record {
+so_far_more arrival count taken taken' look now mid before k k1 k2 k3 a b c g h i f f1 f2 s l running q less fits next = record {
   turns = s.turns ++ (record { look = look; came = q.came }) ∷ [];
-  turned = turn_more s.turns look (Ok arrival) now mid before (Gave (admitted_callers_in s.turns) g h) _ k k1 k2 k3 a b c h i f f1 f2 s.turned l q
+  turned = turn_more s.turns look (Ok arrival) now mid before (Gave (admitted_callers_in s.turns) g h) _ k k1 k2 k3 a b c h i f f1 f2 s.turned l running q
       (gave_more s.turns look q.came g h i);
   counted = λ some. let y = s.counted some in
       let x = count_more count taken taken' (length (callers_in s.turns)) (arrival_callers arrival) y.0 y.1 (less some) (callers_few arrival) fits next in (
@@ -89,6 +91,7 @@ so_far_shut count taken look now before k k1 k2 a b g h f f' s l shut = record {
         (ap (λ (es : List Entry). es ++ look_entry k1.name look ∷ []) (append-nil (turn_entries k.name s.turns))
         ∙ ap (λ (n : Name). turn_entries k.name s.turns ++ look_entry n look ∷ []) (sym l.same_name))
         (gained_both k _ k1 _ k2 s.turned.calls (gained_one k1 ToLook (Shown look) k2 l));
+    running = s.turned.running;
     name = l.same_name ∙ s.turned.name;
     faults = s.turned.faults;
     told = s.turned.told;
@@ -104,12 +107,12 @@ ends_admitted turns look Fault e h = absurd h
 
 -- memory ran out
 pub so_far_lost : (e : OutOfMemory) (count taken : ℕ) (look : Look) (now mid before : Type 0) (k k1 k2 k3 : Known) (a b c : Door) (g h i : List SocketAddr) (f f1 f2 : ℕ) →
-    TookSoFar count taken mid before k k1 a b g h f f1 → Called k1 ToLook (Shown look) k2 → Brought (Err e) now mid k2 k3 b c h i f1 f2 → TookAlmost now before k k3 a c g i f f2
-so_far_lost e count taken look now mid before k k1 k2 k3 a b c g h i f f1 f2 s l q = record {
+    TookSoFar count taken mid before k k1 a b g h f f1 → Called k1 ToLook (Shown look) k2 → look.closed ≡ false → Brought (Err e) now mid k2 k3 b c h i f1 f2 → TookAlmost now before k k3 a c g i f f2
+so_far_lost e count taken look now mid before k k1 k2 k3 a b c g h i f f1 f2 s l running q = record {
   turns = s.turns ++ (record { look = look; came = q.came }) ∷ [];
   whole = s.turns;
   last = ends_admitted s.turns look q.came e q.arrival_is;
-  turned = turn_more s.turns look (Err e) now mid before (Gave (admitted_callers_in s.turns) g h) _ k k1 k2 k3 a b c h i f f1 f2 s.turned l q
+  turned = turn_more s.turns look (Err e) now mid before (Gave (admitted_callers_in s.turns) g h) _ k k1 k2 k3 a b c h i f f1 f2 s.turned l running q
       (λ x y. elim y [ inl z ↦ inl (gave_more s.turns look q.came g h i x z) | inr z ↦ inr ((z ∙ append-nil h) ∙ x) ]);
 }
 

@@ -1,6 +1,7 @@
 -- One turn more of the loop of accepts.
 use Rattle.std.proofs.Common.{◌≡◌, ℕ, ◌+◌, Bool, false, List, [], ◌∷◌, ◌++◌, length, replicate, sym, ap, ◌∙◌, subst, append-nil, append_assoc, Result, arith, add_assoc}
 use Rattle.std.proofs.lemmas.List.{replicate-append-replicate, length-append}
+use Rattle.std.proofs.lemmas.List.Elements.{All-nil, All-cons, All-append}
 use Rattle.dns_name.specs.declared.address.SocketAddr.{SocketAddr}
 use Rattle.dns_name.specs.declared.error.OutOfMemory.{OutOfMemory}
 use Rattle.dns_admission.specs.declared.look.Look.{Look}
@@ -87,11 +88,12 @@ turn_in turns look came a b c h callers nobody =
 
 -- a turn more, whatever works it gave
 pub turn_more : (turns : List AcceptTurn) (look : Look) (arrival : Result Arrival OutOfMemory) (now mid before works more : Type 0) (k k1 k2 k3 : Known) (a b c : Door) (h i : List SocketAddr) (f f1 f2 : ℕ) →
-    TookTurns turns [] mid before works k k1 a b f f1 → Called k1 ToLook (Shown look) k2 → (q : Brought arrival now mid k2 k3 b c h i f1 f2) →
+    TookTurns turns [] mid before works k k1 a b f f1 → Called k1 ToLook (Shown look) k2 → look.closed ≡ false → (q : Brought arrival now mid k2 k3 b c h i f1 f2) →
     (works → GaveSo arrival (admitted_caller q.came) h i → more) →
     TookTurns (turns ++ (record { look = look; came = q.came }) ∷ []) [] now before more k k3 a c f f2
-turn_more turns look arrival now mid before works more k k1 k2 k3 a b c h i f f1 f2 s l q gives = record {
+turn_more turns look arrival now mid before works more k k1 k2 k3 a b c h i f f1 f2 s l running q gives = record {
   calls = turn_calls turns look q.came k k1 k2 k3 s.calls s.name l q.calls;
+  running = All-append (λ (t : AcceptTurn). t.look.closed ≡ false) turns _ s.running (All-cons (λ (t : AcceptTurn). t.look.closed ≡ false) (record { look = look; came = q.came }) [] running (All-nil _));
   name = turn_name turns look q.came k k1 k2 k3 s.name l.same_name q.name;
   faults = subst (λ (n : ℕ). RoseBy n f f2) (sym (failures-snoc turns (record { look = look; came = q.came }))) (rose_by_more (failures_in turns) (one_if_failure q.came) f f1 f2 s.faults q.faults);
   told = tells_then now mid before (LetIn turns a b × works) (BroughtIn arrival q.came b c h i) (LetIn (turns ++ (record { look = look; came = q.came }) ∷ []) a c × more)

@@ -1,5 +1,6 @@
 -- How connections are accepted, turn by turn.
 use Rattle.std.specs.Prelude.{◌≡◌, ◌≢◌, ◌≤◌, ◌⊎◌, ℕ, ◌+◌, ◌-◌, ◌^◌, min, List, [], ◌∷◌, ◌++◌, length, replicate, true, false}
+use Rattle.std.specs.List.{All}
 use Rattle.dns_name.specs.declared.address.SocketAddr.{SocketAddr}
 use Rattle.dns_admission.specs.declared.look.Look.{Look}
 use Rattle.dns_admission.specs.declared.look.Admission.{Admission}
@@ -107,9 +108,10 @@ pub record EndsAdmitted (turns before : List AcceptTurn) : Type 0 where
   pub is : turns ≡ before ++ (record { look = look; came = Caller from (Admitted shown) }) ∷ []
 
 -- Turns were made, and then these calls of the seat; and works were given so. There is one look for each connection that came, each
--- accept that brought nobody and each fault.
+-- accept that brought nobody and each fault, and none of these shows a shutdown.
 pub record TookTurns (turns : List AcceptTurn) (more : List Entry) (now before works : Type 0) (k k' : Known) (a b : Door) (f f' : ℕ) : Type 0 where
   pub calls : Gained k (turn_entries k.name turns ++ more) k'
+  pub running : All (λ t. t.look.closed ≡ false) turns
   pub name : k'.name ≡ halved k.name (admitted_callers_in turns)
   pub faults : RoseBy (failures_in turns) f f'
   pub told : Tells now before (LetIn turns a b × works)

@@ -12,9 +12,9 @@ use Rattle.dns_outside.specs.Mail.{Mail}
 use Rattle.dns_service.specs.declared.event.Event.{Event}
 use Rattle.dns_client.specs.Serving.{Serving}
 use Rattle.dns_drivers.specs.Clocks.{ClockReading}
-use Rattle.dns_drivers.specs.DatagramsServed.{World, world, LooksBy, ReceivesBy, RoseIf, ServedTo}
-use Rattle.dns_drivers.specs.declared.datagrams.DgramEnd.{DgramEnd}
-use Rattle.dns_drivers.specs.declared.datagrams.DgramEnd.TheVariants.{Shutdown as DgramShutdown, Counted as DgramCounted, Fault as DgramFault, OutOfMemory as DgramOutOfMemory}
+use Rattle.dns_datagrams.specs.DatagramsServed.{World, world, LooksBy, ReceivesBy, RoseIf, ServedTo}
+use Rattle.dns_datagrams.specs.declared.serving.DgramEnd.{DgramEnd}
+use Rattle.dns_datagrams.specs.declared.serving.DgramEnd.TheVariants.{Shutdown as DgramShutdown, Counted as DgramCounted, Fault as DgramFault, OutOfMemory as DgramOutOfMemory}
 use Rattle.dns_host.specs.Accepting.{AcceptsTo}
 use Rattle.dns_host.specs.Arrivals.{RoseWhere}
 use Rattle.dns_host.specs.declared.accepts.AcceptEnd.{AcceptEnd}

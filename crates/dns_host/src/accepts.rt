@@ -9,16 +9,13 @@ use crate::pre_connect::PreConnect;
 use crate::taking::{Arrival, take_connection};
 use crate::work::ConnectionWork;
 use dns_book::{Book, BookSeat};
-use dns_drivers::Silent;
+use dns_drivers::{PATIENCE, Silent};
 use dns_name::OutOfMemory;
 use dns_outside::{AcceptAnswer, AsyncAccept, Clock, Spawner};
 use dns_service::Served;
 use std::alloc::Global;
 use std::sync::{Arc, Wait};
 use std::thread::Threads;
-
-/// How long the loop waits for a connection, in ms, until it looks again.
-const LONGEST_WAIT: u64 = 250;
 
 /// How long the loop waits after an accept that failed, in ms.
 const WAIT_AFTER_FAULT: u64 = 10;
@@ -74,7 +71,7 @@ where
             rt, alloc, book, seat, client, from, service, link, clock, spawner, hook,
         ),
         AcceptAnswer::Again => {
-            accept.wait(rt, LONGEST_WAIT);
+            accept.wait(rt, PATIENCE);
             (seat, Ok(Arrival::Nobody))
         }
         AcceptAnswer::Failed => {

@@ -4,7 +4,7 @@ ghost use Rattle.std.specs.Prelude.{◌≡◌, ◌≤◌, ◌⊎◌, ◌||◌, M
 ghost use Rattle.std.specs.Arc.{arc_value};
 ghost use Rattle.dns_outside.specs.Causes.{Tells};
 ghost use Rattle.dns_client.specs.Serving.{serving};
-ghost use Rattle.dns_drivers.specs.DatagramsServed.{world};
+ghost use Rattle.dns_datagrams.specs.DatagramsServed.{world};
 ghost use Rattle.dns_host.specs.Arrivals.{RoseWhere};
 ghost use Rattle.dns_host.specs.Hosting.{host_end, host_world, HostRose, AcceptsWent, DgramsWent, BothServed, NeitherBegan};
 
@@ -12,7 +12,8 @@ use crate::accepts::{AcceptEnd, accept_all};
 use crate::pre_connect::NoHook;
 use crate::work::ConnectionWork;
 use dns_book::{Book, BookSeat};
-use dns_drivers::{DgramEnd, Recorder, Silent, serve_datagrams_and_say};
+use dns_datagrams::{DgramEnd, serve_datagrams_and_say};
+use dns_drivers::{Recorder, Silent};
 use dns_outside::{AsyncAccept, AsyncDgramSock, Clock, Spawner};
 use dns_service::Served;
 use std::alloc::Global;

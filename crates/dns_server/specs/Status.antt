@@ -1,8 +1,8 @@
 -- The number of a status, and what becomes of the counts of faults by it. In each, a is a count before the call and b after it.
 use Rattle.std.specs.Prelude.{◌≡◌, ℕ, Result, Ok, Err}
 use Rattle.dns_outside.specs.Causes.{Rose}
-use Rattle.dns_host.specs.declared.host.HostEnd.{HostEnd}
-use Rattle.dns_host.specs.declared.host.HostEnd.TheVariants.{Done as HostDone, OutOfMemory as HostOutOfMemory, HostFault as HostFailed}
+use Rattle.dns_servers.specs.HostEnd.{HostEnd}
+use Rattle.dns_servers.specs.HostEnd.TheVariants.{Done as HostDone, OutOfMemory as HostOutOfMemory, HostFault as HostFailed}
 use Rattle.dns_server.specs.declared.status.Status.{Status}
 use Rattle.dns_server.specs.declared.status.Status.TheVariants.{Done, Usage, Refused, ReadFault, WriteFault, OutOfMemory, TooLong, HostFault}
 use Rattle.dns_server.specs.declared.writing.WriteError.{WriteError}

@@ -17,12 +17,6 @@ pub use command::{Command, read_command};
 pub use counts::{Counts, summary};
 pub use dns_book::{Book, BookSeat};
 pub use dns_core::{BookState, Settings, wrap};
-pub use dns_drivers::{
-    ConnectionEnd, DgramEnd, Kept, Recorder, Silent, serve_connection, serve_datagrams,
-};
-pub use dns_host::{
-    AcceptEnd, ConnectionWork, Host, HostEnd, NoHook, PreConnect, serve_accepts, serve_host,
-};
 pub use dns_middleware::Wrapped;
 pub use dns_script::{
     NoEvent, NotifyRule, NotifyRules, Rule, RuleList, Rules, Script, ScriptAnswer, ScriptAnswers,
@@ -30,8 +24,10 @@ pub use dns_script::{
     ScriptVerdict, Scripted, line, read_script, refusal,
 };
 pub use dns_servers::{
-    BufSource, Control, DgramServer, Metered, MeteredAccept, MeteredSock, ServerCommand,
-    ServerMetrics, StreamEnd, StreamServer, TcpServer, UdpServer, VecBufSource,
+    AcceptEnd, BufSource, ConnectionEnd, ConnectionWork, Control, DgramEnd, DgramServer, Host,
+    HostEnd, Kept, Metered, MeteredAccept, MeteredSock, NoHook, PreConnect, Recorder,
+    ServerCommand, ServerMetrics, Silent, StreamEnd, StreamServer, TcpServer, UdpServer,
+    VecBufSource, serve_accepts, serve_connection, serve_datagrams, serve_host,
 };
 pub use dns_service::Plainly;
 pub use flood::count_flood;

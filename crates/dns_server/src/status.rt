@@ -4,7 +4,7 @@ ghost use Rattle.std.specs.Prelude.{◌≡◌};
 ghost use Rattle.dns_server.specs.Status.{status_number, status_after};
 
 use crate::writing::WriteError;
-use dns_host::HostEnd;
+use dns_servers::HostEnd;
 
 /// How a run ended.
 #[derive(Clone, Copy, Debug, PartialEq, Eq)]

@@ -10,9 +10,9 @@ use Rattle.dns_book.specs.declared.history.Entry.{Entry}
 use Rattle.dns_book.specs.declared.history.Known.{Known}
 use Rattle.dns_book.specs.declared.history.Share.{Share}
 use Rattle.dns_outside.specs.Causes.{Tells}
-use Rattle.dns_drivers.specs.Clocks.{ClockReading}
-use Rattle.dns_drivers.specs.Woven.{look_entries}
-use Rattle.dns_drivers.specs.DatagramsServed.{LooksOnly, OnlyLooks}
+use Rattle.dns_host.specs.Clocks.{ClockReading}
+use Rattle.dns_host.specs.Woven.{look_entries}
+use Rattle.dns_host.specs.DatagramsServed.{LooksOnly, OnlyLooks}
 use Rattle.dns_servers.specs.Controls.{IsDown, Awaited, Since, Apart, ReadAgain, TimePassed}
 
 entries_more : (name : Name) (ls : List Look) (l : Look) → look_entries name (ls ++ l ∷ []) ≡ look_entries name ls ++ entry name ToLook (Shown l) ∷ []

@@ -11,6 +11,7 @@ turns_joined : (turns : List AcceptTurn) (more : List Entry) (a p p' before work
     TookTurns turns more (a × p) before works k k' d d' f f' → Tells p' p same → (same → works → works') → TookTurns turns more (a × p') before works' k k' d d' f f'
 turns_joined turns more a p p' before works works' same k k' d d' f f' t j on = record {
   calls = t.calls;
+  running = t.running;
   name = t.name;
   faults = t.faults;
   told = record { told = λ n. let s = j.told n.1 in let r = t.told.told (n.0, s.0) in (r.0, (r.1.0, on s.1 r.1.1)) };

@@ -8,8 +8,8 @@ use Rattle.dns_admission.specs.declared.call.Call.TheVariants.{Reconfigure}
 use Rattle.dns_admission.specs.declared.call.Reply.TheVariants.{Version}
 use Rattle.dns_book.specs.Seats.{Called, state_met}
 use Rattle.dns_book.specs.declared.history.Known.{Known}
-use Rattle.dns_drivers.specs.Clocks.{ClockReading}
-use Rattle.dns_drivers.specs.DatagramsServed.{LooksOnly}
+use Rattle.dns_host.specs.Clocks.{ClockReading}
+use Rattle.dns_host.specs.DatagramsServed.{LooksOnly}
 
 -- the server was shut down, and no slot is taken
 abbrev pub IsDown : Look → Type 0

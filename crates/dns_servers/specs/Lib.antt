@@ -1,3 +1,4 @@
+pub use Rattle.dns_host.specs.declared.host.HostEnd
 pub mod Controls
 pub mod Parts
 pub mod Runs

@@ -10,9 +10,9 @@ use Rattle.dns_book.specs.Seats.{Called, state_met}
 use Rattle.dns_book.specs.declared.history.Known.{Known}
 use Rattle.dns_outside.specs.Doors.{Door}
 use Rattle.dns_client.specs.Serving.{Serving}
-use Rattle.dns_drivers.specs.DatagramsServed.{World, ServedTo}
-use Rattle.dns_drivers.specs.declared.datagrams.DgramEnd.{DgramEnd}
-use Rattle.dns_drivers.specs.declared.datagrams.DgramEnd.TheVariants.{Shutdown}
+use Rattle.dns_host.specs.DatagramsServed.{World, ServedTo}
+use Rattle.dns_host.specs.DgramEnd.{DgramEnd}
+use Rattle.dns_host.specs.DgramEnd.TheVariants.{Shutdown}
 use Rattle.dns_host.specs.Accepting.{TookUntilShut, TookAlmost}
 use Rattle.dns_servers.specs.declared.stream.StreamEnd.{StreamEnd}
 use Rattle.dns_servers.specs.declared.stream.StreamEnd.TheVariants.{Shutdown as ShutDown, OutOfMemory}

@@ -7,7 +7,7 @@ ghost use Rattle.dns_admission.specs.Machine.{new_state};
 ghost use Rattle.dns_book.specs.Seats.{IsSound, new_known, first_half, second_half};
 ghost use Rattle.dns_outside.specs.Causes.{Rose, Tells};
 ghost use Rattle.dns_client.specs.Serving.{serving};
-ghost use Rattle.dns_drivers.specs.DatagramsServed.{LooksBy, world};
+ghost use Rattle.dns_host.specs.DatagramsServed.{LooksBy, world};
 ghost use Rattle.dns_servers.specs.Parts.{IsSeatAt, known_of};
 ghost use Rattle.dns_servers.specs.Runs.{InSlot, DatagramsRan};
 
@@ -17,7 +17,7 @@ use crate::metered_sock::MeteredSock;
 use crate::metrics::ServerMetrics;
 use crate::seating::{Ground, make_ground, split_off};
 use dns_book::{Admission, Book, BookSeat, BookState};
-use dns_drivers::{DgramEnd, Recorder, serve_datagrams};
+use dns_host::{DgramEnd, Recorder, serve_datagrams};
 use dns_name::OutOfMemory;
 use dns_outside::{AsyncDgramSock, Clock, MioSock};
 use dns_service::{DgramConfig, Served, StreamConfig};

@@ -18,6 +18,10 @@ pub use buf::{BufSource, VecBufSource};
 pub use command::ServerCommand;
 pub use control::Control;
 pub use dgram::{DgramServer, UdpServer};
+pub use dns_host::{
+    AcceptEnd, ConnectionEnd, ConnectionWork, DgramEnd, Host, HostEnd, Kept, NoHook, PreConnect,
+    Recorder, Silent, serve_accepts, serve_connection, serve_datagrams, serve_host,
+};
 pub use metered::Metered;
 pub use metered_accept::MeteredAccept;
 pub use metered_sock::MeteredSock;

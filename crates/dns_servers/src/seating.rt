@@ -21,6 +21,29 @@ pub(crate) struct Ground {
     pub(crate) counting: Arc<ServerMetrics>,
 }
 
+/// A book in this state, and its first seat.
+fn make_book(alloc: Global, state: BookState) -> Result<(Arc<Book>, BookSeat), OutOfMemory>
+    ensures { IfOk result (λ r. (r.1.book ≡ arc_value r.0) × (r.1.known ≡ new_known state)) }
+{
+    let (book, seat) = Book::new(alloc, state)?;
+    match Arc::new(alloc, book) {
+        Ok(book) => Ok((book, seat)),
+        Err(error) => Err(error.into()),
+    }
+}
+
+/// These metrics, shared twice.
+fn share(
+    alloc: Global,
+    metrics: ServerMetrics,
+) -> Result<(Arc<ServerMetrics>, Arc<ServerMetrics>), OutOfMemory>
+    ensures { IfOk result (λ r. arc_value r.0 ≡ metrics) }
+{
+    let metrics = Arc::new(alloc, metrics)?;
+    let counting = Arc::try_clone(&metrics)?;
+    Ok((metrics, counting))
+}
+
 /// A book in this state, and these metrics.
 pub(crate) fn make_ground(
     alloc: Global,
@@ -30,15 +53,16 @@ pub(crate) fn make_ground(
     ensures seat { IfOk result (λ g. (g.seat.book ≡ arc_value g.book) × (g.seat.known ≡ new_known state)) }
     ensures metrics { IfOk result (λ g. arc_value g.metrics ≡ metrics) }
 {
-    let metrics = Arc::new(alloc, metrics)?;
-    let counting = Arc::try_clone(&metrics)?;
-    let (book, seat) = Book::new(alloc, state)?;
-    Ok(Ground {
-        book: Arc::new(alloc, book)?,
-        seat,
-        metrics,
-        counting,
-    })
+    let (metrics, counting) = share(alloc, metrics)?;
+    match make_book(alloc, state) {
+        Ok((book, seat)) => Ok(Ground {
+            book,
+            seat,
+            metrics,
+            counting,
+        }),
+        Err(error) => Err(error),
+    }
 }
 
 /// The book once more. It waits where the book has so many owners that one more has no room.

@@ -16,8 +16,7 @@ use crate::metered_accept::MeteredAccept;
 use crate::metrics::ServerMetrics;
 use crate::seating::{Ground, make_ground, split_off};
 use dns_book::{Book, BookSeat, BookState};
-use dns_drivers::Silent;
-use dns_host::{AcceptEnd, ConnectionWork, NoHook, PreConnect, serve_accepts};
+use dns_host::{AcceptEnd, ConnectionWork, NoHook, PreConnect, Silent, serve_accepts};
 use dns_name::OutOfMemory;
 use dns_outside::{AsyncAccept, Clock, MioAccept, Spawner};
 use dns_service::{DgramConfig, Served, StreamConfig};
@@ -111,13 +110,25 @@ impl<A: AsyncAccept + Drop, B: BufSource + Drop, W: Served, C: Clock + Drop, P: 
         ensures known { IfOk result (λ s. s.known ≡ new_known (new_state default_dgram config)) }
     {
         let state = BookState::new(DgramConfig::new(), config);
+        match make_ground(alloc, state, ServerMetrics::connection_oriented()) {
+            Ok(ground) => Ok(StreamServer::on(ground, accept, buf, service, clock, spawner)),
+            Err(error) => Err(error),
+        }
+    }
+
+    // A server on this ground, whose metrics count connections.
+    fn on(ground: Ground, accept: A, buf: B, service: Arc<W>, clock: C, spawner: P) -> Self
+        requires seat { ground.seat.book ≡ arc_value ground.book }
+        requires metrics { arc_value ground.metrics ≡ true }
+        ensures { result ≡ record { accept = accept; service = arc_value service; clock = clock; spawner = spawner; book = arc_value ground.book; known = ground.seat.known } }
+    {
         let Ground {
             book,
             seat,
             metrics,
             counting,
-        } = make_ground(alloc, state, ServerMetrics::connection_oriented())?;
-        Ok(StreamServer {
+        } = ground;
+        StreamServer {
             accept: MeteredAccept::new(accept, counting),
             buf,
             service,
@@ -127,7 +138,7 @@ impl<A: AsyncAccept + Drop, B: BufSource + Drop, W: Served, C: Clock + Drop, P: 
             metrics,
             book,
             seat: Some(seat),
-        })
+        }
     }
 }
 

@@ -5,7 +5,7 @@ ghost use Rattle.std.specs.Prelude.{◌≡◌};
 use crate::connections::{are, calls};
 use crate::services::{Refusal, refuse};
 use dns_book::{Book, BookState};
-use dns_drivers::{DgramEnd, Kept, serve_datagrams};
+use dns_datagrams::{DgramEnd, Kept, serve_datagrams};
 use dns_name::{IpAddr, Octets, OptRcode, OutOfMemory, SocketAddr};
 use dns_outside::{Letter, ListedCalls, MemoryClock, MemorySock};
 use dns_service::{DgramConfig, Event, Plainly, Served, StreamConfig, service_fn};

@@ -5,12 +5,11 @@ ghost use Rattle.std.specs.Arc.{arc_value};
 
 use crate::links::{Seen, SeenLink, links_of};
 use dns_book::{Book, BookSeat, BookState};
-use dns_drivers::Silent;
-use dns_host::{ConnectionWork, Host, HostEnd, serve_host};
 use dns_name::{IpAddr, Octets, OutOfMemory, SocketAddr};
 use dns_outside::{
     Letter, Link, ListedCalls, MemoryAccept, MemoryClock, MemorySock, MemorySpawner,
 };
+use dns_servers::{ConnectionWork, Host, HostEnd, Silent, serve_host};
 use dns_service::{DgramConfig, Served, StreamConfig};
 use std::alloc::Global;
 use std::collections::VecDeque;

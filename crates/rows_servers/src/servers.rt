@@ -4,12 +4,11 @@ ghost use Rattle.std.specs.Prelude.{◌≡◌, IfOk};
 
 use crate::places::{PEER, letter};
 use crate::refusing::{Refusal, refuse};
-use dns_drivers::{DgramEnd, Kept, Silent};
-use dns_host::{ConnectionWork, NoHook, PreConnect};
 use dns_name::{OptRcode, OutOfMemory};
 use dns_outside::{MemoryClock, MemorySpawner, SteadyAccept, SteadyLink, SteadySock};
 use dns_servers::{
-    Control, DgramServer, Metered, ServerMetrics, StreamEnd, StreamServer, VecBufSource,
+    ConnectionWork, Control, DgramEnd, DgramServer, Kept, Metered, NoHook, PreConnect,
+    ServerMetrics, Silent, StreamEnd, StreamServer, VecBufSource,
 };
 use dns_service::{Plainly, Served, service_fn};
 use std::alloc::Global;

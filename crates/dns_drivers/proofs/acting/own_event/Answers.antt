@@ -3,7 +3,7 @@ use Rattle.dns_drivers.specs.Rounds.{below_of}
 use Rattle.dns_drivers.proofs.Actings.{read_chosen, read_blame, read_again}
 use Rattle.dns_drivers.proofs.Blamings.{for_turn}
 use Rattle.dns_drivers.proofs.Choices.{chosen_turn}
-use Rattle.dns_drivers.proofs.Timings.{timed_turn}
+use Rattle.dns_drivers.proofs.Waits.{timed_turn}
 use Rattle.dns_drivers.proofs.acting.own_event.Goals as goal
 
 pub returns-in-Some-next_request-clause-chosen : goal.returns-in-Some-next_request-clause-chosen

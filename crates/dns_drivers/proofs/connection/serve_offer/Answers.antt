@@ -2,7 +2,8 @@ use Rattle.dns_service.specs.PolledRequest.{request_answer}
 use Rattle.dns_service.specs.declared.event.Why.{Why}
 use Rattle.dns_client.specs.Serving.{serving}
 use Rattle.dns_client.specs.Slate.{Slate}
-use Rattle.dns_drivers.specs.Clocks.{Timed}
+use Rattle.dns_notes.specs.Clocks.{Timed}
+use Rattle.dns_notes.proofs.Timings.{timed_then, timed_shift}
 use Rattle.dns_drivers.specs.Endings.{WasOffered, Unserved, ShownFrom}
 use Rattle.dns_drivers.specs.Shown.{Causes}
 use Rattle.dns_drivers.specs.Story.{Broken, began}
@@ -11,7 +12,6 @@ use Rattle.dns_drivers.proofs.Appends.{looks_none}
 use Rattle.dns_drivers.proofs.Breaking.{broken_none}
 use Rattle.dns_drivers.proofs.Ends.{begins, offered, shown_offered, unserved_late}
 use Rattle.dns_drivers.proofs.Results.{if_ok, tells_then, refused_then}
-use Rattle.dns_drivers.proofs.Timings.{timed_then, timed_shift}
 use Rattle.dns_drivers.proofs.connection.serve_offer.Goals as goal
 
 pub returns-in_err-at-clause-seat : goal.returns-in_err-at-clause-seat

@@ -2,10 +2,11 @@ use Rattle.std.proofs.Common.{Option}
 use Rattle.dns_outside.specs.Causes.{Tells}
 use Rattle.dns_service.specs.PolledRequest.{request_answer}
 use Rattle.dns_service.specs.declared.event.Why.{Why}
+use Rattle.dns_notes.specs.Clocks.{Timed}
+use Rattle.dns_notes.specs.Notes.{NotedWide}
 use Rattle.dns_drivers.specs.Blames.{HeardFor}
-use Rattle.dns_drivers.specs.Clocks.{Timed}
-use Rattle.dns_drivers.specs.Steps.{SeesLook, HeardNews, NotedWide}
-use Rattle.dns_drivers.proofs.Notings.{heard_news, heard_for, wide_news}
+use Rattle.dns_drivers.specs.Steps.{SeesLook, HeardNews}
+use Rattle.dns_drivers.proofs.Hearings.{heard_news, heard_for, wide_news}
 use Rattle.dns_drivers.proofs.Results.{on_err, if_ok}
 use Rattle.dns_drivers.proofs.hearing.hear.Goals as goal
 

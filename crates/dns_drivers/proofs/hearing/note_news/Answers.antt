@@ -1,5 +1,5 @@
-use Rattle.dns_drivers.proofs.Notings.{noted_news}
-use Rattle.dns_drivers.proofs.Timings.{timed_then}
+use Rattle.dns_notes.proofs.Timings.{timed_then}
+use Rattle.dns_drivers.proofs.Hearings.{noted_news}
 use Rattle.dns_drivers.proofs.hearing.note_news.Goals as goal
 
 pub returns-clause-told : goal.returns-clause-told

@@ -1,4 +1,4 @@
-use Rattle.dns_drivers.proofs.Timings.{timed_read}
+use Rattle.dns_drivers.proofs.Waits.{timed_read}
 use Rattle.dns_drivers.proofs.reading.read_event.Goals as goal
 
 pub returns-in-Ok-clause-clock : goal.returns-in-Ok-clause-clock

@@ -1,10 +1,10 @@
 use Rattle.std.proofs.Common.{refl, ◌∙◌}
 use Rattle.dns_service.specs.PolledRequest.{request_answer}
 use Rattle.dns_client.specs.Serving.{serving}
+use Rattle.dns_notes.proofs.Timings.{timed_none, timed_then}
 use Rattle.dns_drivers.specs.Rounds.{below_of}
 use Rattle.dns_drivers.proofs.Appends.{looks_none, looks_more}
 use Rattle.dns_drivers.proofs.Goings.{goes_begun}
-use Rattle.dns_drivers.proofs.Timings.{timed_none, timed_then}
 use Rattle.dns_drivers.proofs.Turnings.{going_begun, going_turned, closed_turned, broken_turned, goes_turned, cause_turned}
 use Rattle.dns_drivers.proofs.turning.serve_core.Goals as goal
 

@@ -3,7 +3,7 @@ use Rattle.dns_outside.specs.Causes.{Tells}
 use Rattle.dns_service.specs.PolledRequest.{request_answer}
 use Rattle.dns_client.specs.Serving.{serving}
 use Rattle.dns_client.specs.Slate.{Slate}
-use Rattle.dns_drivers.specs.Clocks.{Timed}
+use Rattle.dns_notes.specs.Clocks.{Timed}
 use Rattle.dns_drivers.specs.Rounds.{below_of}
 use Rattle.dns_drivers.specs.Runs.{Going}
 use Rattle.dns_drivers.specs.Story.{LooksAlone}

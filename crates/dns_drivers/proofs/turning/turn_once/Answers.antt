@@ -2,13 +2,13 @@ use Rattle.std.proofs.Common.{Option, refl, inl, inr}
 use Rattle.dns_service.specs.PolledRequest.{request_answer}
 use Rattle.dns_service.specs.declared.event.Why.{Why}
 use Rattle.dns_client.specs.Serving.{serving}
+use Rattle.dns_notes.specs.Clocks.{Timed}
+use Rattle.dns_notes.proofs.Timings.{timed_then, timed_shift}
 use Rattle.dns_drivers.specs.Blames.{NotedWrite, ActedFor}
-use Rattle.dns_drivers.specs.Clocks.{Timed}
 use Rattle.dns_drivers.specs.Rounds.{below_of}
 use Rattle.dns_drivers.specs.Steps.{Acted, ActedPart}
 use Rattle.dns_drivers.specs.Turning.{MadeTurn, TurnedPart, TurnedFor}
 use Rattle.dns_drivers.proofs.Results.{if_ok, tells_both, tells_then, refused_then}
-use Rattle.dns_drivers.proofs.Timings.{timed_then, timed_shift}
 use Rattle.dns_drivers.proofs.turning.turn_once.Goals as goal
 
 pub returns-in-Ok-None-clause-told : goal.returns-in-Ok-None-clause-told

@@ -1,7 +1,7 @@
 use Rattle.std.proofs.Common.{◌-◌, ◌++◌, take, drop, length, arith}
 use Rattle.std.proofs.lemmas.Grind.{common_steps}
 use Rattle.dns_drivers.proofs.Blamings.{again_took}
-use Rattle.dns_drivers.proofs.Timings.{waited_took}
+use Rattle.dns_drivers.proofs.Waits.{waited_took}
 use Rattle.dns_drivers.proofs.Movings.{wrote_more}
 use Rattle.dns_drivers.proofs.writing.write_frame.Goals as goal
 

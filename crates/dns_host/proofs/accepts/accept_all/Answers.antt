@@ -9,7 +9,7 @@ returns-then-look-clause-told g c = so_far_shut c.args.count c.loop.taken c.look
 
 pub returns-in_default-clause-told : goal.returns-in_default-clause-told
 returns-in_default-clause-told g c =
-    so_far_lost c.in_default.field-0 c.args.count c.loop.taken c.look.result _ _ _ _ _ _ _ _ _ _ _ _ _ _ _ _ c.loop.invariant.told c.look.ensures.called
+    so_far_lost c.in_default.field-0 c.args.count c.loop.taken c.look.result _ _ _ _ _ _ _ _ _ _ _ _ _ _ _ _ c.loop.invariant.told c.look.ensures.called c.if-look.false
     (rw c.in_default.is at c.accept_once-next.ensures.brought)
 
 pub loop-preserved : goal.loop-preserved
@@ -19,7 +19,7 @@ loop-preserved g c =
       | else-faulted w ↦ w.faulted-is ∙ (w.is_fault-faulted.ensures ∙ sym (ap (λ (b : Bool). b || is_faulty c.in-Ok.arrival) w.if-faulted.false))
     ] in record {
       book = c.accept_once-next.ensures.same ∙ (c.look.ensures.book ∙ c.loop.invariant.book);
-      told = so_far_more c.in-Ok.arrival c.args.count c.loop.taken c.saturating_add-taken.result c.look.result _ _ _ _ _ _ _ _ _ _ _ _ _ _ _ _ c.loop.invariant.told c.look.ensures.called
+      told = so_far_more c.in-Ok.arrival c.args.count c.loop.taken c.saturating_add-taken.result c.look.result _ _ _ _ _ _ _ _ _ _ _ _ _ _ _ _ c.loop.invariant.told c.look.ensures.called c.if-look.false
           (rw c.in-Ok.is at c.accept_once-next.ensures.brought)
           (elim c.else-count-ne0.branch [
             | else-count-ne0-via-then-count-ne0+else-taken-count w ↦ λ some. w.if-taken-count.false

@@ -1,6 +1,6 @@
 use Rattle.std.proofs.Common.{◌≡◌}
 use Rattle.dns_outside.specs.Causes.{Tells}
-use Rattle.dns_drivers.specs.DatagramsServed.{OnlyLooks}
+use Rattle.dns_host.specs.DatagramsServed.{OnlyLooks}
 use Rattle.dns_servers.specs.Controls.{Since}
 use Rattle.dns_servers.proofs.control.Control.await_shutdown.Given as goal
 

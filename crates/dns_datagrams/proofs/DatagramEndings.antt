@@ -1,0 +1,215 @@
+-- How the parts of the loop of datagrams follow each other, and how it ends.
+use Rattle.std.proofs.Common.{◌≡◌, ◌≢◌, ◌≤◌, ◌<◌, ℕ, ◌+◌, ◌-◌, ◌^◌, min, List, [], ◌∷◌, ◌++◌, length, take, drop, get_or, drop-cons, add-one, Bool, true, false, refl, ap, sym, ◌∙◌, append_assoc, append-nil, arith}
+use Rattle.std.specs.Prelude.{Option, Some, None, nat_eq, if◌then◌else◌}
+use Rattle.std.specs.List.{list_any}
+use Rattle.std.specs.VecDeque.{deque_len}
+use Rattle.std.proofs.lemmas.Grind.{common_steps}
+use Rattle.std.proofs.lemmas.List.{nil_from_length, take_min}
+use Rattle.dns_name.specs.declared.address.SocketAddr.{SocketAddr}
+use Rattle.dns_admission.specs.declared.look.Look.{Look}
+use Rattle.dns_book.specs.declared.history.Known.{Known}
+use Rattle.dns_outside.specs.Mail.{Mail, Received}
+use Rattle.dns_service.specs.Answer.{Answer}
+use Rattle.dns_service.specs.declared.event.Event.{Event}
+use Rattle.dns_service.specs.declared.polled.PolledRequest.{PolledRequest}
+use Rattle.dns_client.specs.Serving.{Serving}
+use Rattle.dns_notes.specs.Clocks.{ClockReading}
+use Rattle.dns_datagrams.specs.DatagramsSent.{settings_of}
+use Rattle.dns_datagrams.specs.DatagramsServed.{World, world, IsFull}
+use Rattle.dns_datagrams.specs.DatagramSteps.{kept_at, numbers_of, left_to}
+use Rattle.dns_datagrams.specs.DatagramLoop.{Among, Ran, Goes, Breaks, Looks, Turns, Fails, Begins, BeginFails, Idles, Finished}
+use Rattle.dns_datagrams.specs.declared.running.KeptExchange.{KeptExchange}
+use Rattle.dns_datagrams.specs.declared.running.Running.{Running}
+use Rattle.dns_datagrams.proofs.DatagramOrderings.{ordered_rest}
+use Rattle.dns_datagrams.proofs.DatagramParts.{input_same, input_again, delivered_same}
+use Rattle.dns_datagrams.proofs.DatagramTurns.{fails_same}
+
+take_least : (d : List ℕ) (n : ℕ) → n ≡ min (length d) 1024 → take n d ≡ take 1024 d
+take_least d n m = let e : n ≡ min 1024 (length d) = omega arith in rw e (take_min 1024 d)
+
+-- what a buffer of 1,024 octets holds of a datagram
+front_of : (d : List ℕ) (n size : ℕ) (front : List ℕ) → size ≡ 1024 → n ≡ min (length d) size → front ≡ take n d → front ≡ take 1024 d
+front_of d n size front z m e = e ∙ take_least d n (rw z at m)
+
+never : (a b : Bool) → a ≡ false → a ≡ true → b ≡ true
+never a b e h = cc
+
+-- the place of the next one is the place behind, unless what was there is kept no more
+pub next_left : {W R F : Type 0} (old new : List (KeptExchange W R F)) (at next : ℕ) (done : Bool) → next ≡ (if done then at else at + 1) → drop (if done then at else at + 1) (numbers_of new) ≡ drop (at + 1) (numbers_of old) → left_to (Some next) new ≡ drop (at + 1) (numbers_of old)
+next_left old new at next done h o = rw h o
+
+module _ {W R F : Type 0} (answer : PolledRequest F R → ℕ → Answer) (answers : Serving) where
+  pub goes_then : {w w1 w2 : World} {s s1 s2 : Running W R F} {a b c : Bool} {xs ys zs : List ℕ} → Goes answer answers w s a xs w1 s1 b ys → Goes answer answers w1 s1 b ys w2 s2 c zs → Goes answer answers w s a xs w2 s2 c zs
+  goes_then p q = record { over = λ h. q.over (p.over h); goes = λ first start spare r. q.goes first start spare (p.goes first start spare r) }
+
+  pub breaks_then : {w w1 w2 : World} {s s1 : Running W R F} {a b : Bool} {xs ys : List ℕ} → Goes answer answers w s a xs w1 s1 b ys → Breaks answer answers w1 s1 b ys w2 → Breaks answer answers w s a xs w2
+  breaks_then p q = record { breaks = λ first start spare r. q.breaks first start spare (p.goes first start spare r) }
+
+  pub goes_same : {w : World} {s : Running W R F} {a : Bool} {xs : List ℕ} → Goes answer answers w s a xs w s a xs
+  goes_same = record { over = λ h. h; goes = λ first start spare r. r }
+
+  -- where nobody waits, any may be owed
+  pub goes_owing : {w : World} {s : Running W R F} (ns : List ℕ) → Goes answer answers w s false [] w s false ns
+  goes_owing ns = record {
+    over = λ h. h;
+    goes = λ first start spare r. record {
+      looks = r.looks;
+      events = r.events;
+      noted = r.noted;
+      seat = r.seat;
+      plain = r.plain;
+      order = r.order;
+      input = r.input;
+      clock = r.clock;
+      output = r.output;
+      serves = r.serves;
+      waiting = λ c h. never (list_any (nat_eq c) []) (list_any (nat_eq c) ns) refl (r.waiting c h);
+    };
+  }
+
+  -- ---- the polls of some exchanges
+
+  pub goes_done : {w : World} {s : Running W R F} {ns : List ℕ} → ns ≡ [] → Goes answer answers w s false ns w s false []
+  goes_done e = rw e goes_same
+
+  pub goes_left : {w w1 : World} {s s1 : Running W R F} {a : Bool} {ns : List ℕ} (o p : Option ℕ) → o ≡ p → Goes answer answers w s a ns w1 s1 false (left_to o s1.exchanges.items) → Goes answer answers w s a ns w1 s1 false (left_to p s1.exchanges.items)
+  goes_left o p e g = rw e at g
+
+  pub goes_turn : {w w1 : World} {s s1 : Running W R F} {ns rest rest' : List ℕ} {n : ℕ} → ns ≡ n ∷ rest → rest' ≡ rest → Turns answer answers n false w s w1 s1 → Goes answer answers w s false ns w1 s1 false rest'
+  goes_turn {rest = rest} e f t = rw (e, f) (t.goes rest)
+
+  pub breaks_after : {w w1 w2 : World} {s s1 : Running W R F} (ns ms : List ℕ) → Goes answer answers w s false ns w1 s1 false ms → Fails answer answers false w1 s1 w2 → Breaks answer answers w s false ns w2
+  breaks_after ns ms a b = record { breaks = λ first start spare r. (b.breaks ms).breaks first start spare (a.goes first start spare r) }
+
+  pub breaks_now : {n : List Event} {m : Mail} {f : ℕ} {c : List ClockReading} {k : Known} {s : Running W R F} {a : Bool} {ns : List ℕ} → Breaks answer answers (world n m f c k) s a ns (world n m f c k)
+  breaks_now {n} {m} {f} {c} {k} {s} {a} {ns} = (fails_same answer answers s (record { noted = refl; received = refl; sent = refl })).breaks ns
+
+  pub goes_listed : {w w1 : World} {s s1 : Running W R F} {ns ms : List ℕ} → ns ≡ ms → Goes answer answers w s false ns w1 s1 false [] → Goes answer answers w s false ms w1 s1 false []
+  goes_listed e a = rw e at a
+
+  pub breaks_listed : {w w1 : World} {s : Running W R F} {ns ms : List ℕ} → ns ≡ ms → Breaks answer answers w s false ns w1 → Breaks answer answers w s false ms w1
+  breaks_listed e a = rw e at a
+
+  -- ---- waits and receives
+
+  -- the socket waited
+  pub goes_waited : {n : List Event} {m m1 : Mail} {f f1 : ℕ} {c : List ClockReading} {k : Known} {s s1 : Running W R F} {w : World} {a b : Bool} {xs ys : List ℕ} → f1 ≡ f → m1 ≡ m
+      → Goes answer answers (world n m1 f1 c k) s a xs w s1 b ys → Goes answer answers (world n m f c k) s a xs w s1 b ys
+  goes_waited e g p = rw (← e, ← g) p
+
+  pub breaks_waited : {n : List Event} {m m1 : Mail} {f f1 : ℕ} {c : List ClockReading} {k : Known} {s : Running W R F} {w : World} {a : Bool} {xs : List ℕ} → f1 ≡ f → m1 ≡ m
+      → Breaks answer answers (world n m1 f1 c k) s a xs w → Breaks answer answers (world n m f c k) s a xs w
+  breaks_waited e g p = rw (← e, ← g) p
+
+  pub received_failed : {n : List Event} {m m1 : Mail} {f f1 : ℕ} {c : List ClockReading} {k : Known} {s : Running W R F} → f1 ≡ f → m1 ≡ m → Goes answer answers (world n m f c k) s true [] (world n m1 f1 c k) s true []
+  received_failed e g = rw (e, g) goes_same
+
+  pub received_again : {n : List Event} {m m1 m2 : Mail} {f f1 : ℕ} {c : List ClockReading} {k : Known} {s : Running W R F} → f1 ≡ f → m1 ≡ record m { empty_receives = m.empty_receives + 1 } → m2 ≡ m1
+      → Goes answer answers (world n m f c k) s true [] (world n m2 f1 c k) s false (numbers_of s.exchanges.items)
+  received_again {n} {m} {m1} {m2} {f} {f1} {c} {k} {s} e g h = let i = h ∙ g in rw e (record {
+    over = λ x. x;
+    goes = λ first start spare r. record {
+      looks = r.looks;
+      events = r.events;
+      noted = r.noted;
+      seat = r.seat;
+      plain = r.plain;
+      serves = r.serves;
+      order = ordered_rest first r.looks r.events s.heard true r.order;
+      input = input_again answers (settings_of first) r.events (first ∷ r.looks) (spare + 1) (spare + 0) s.next start.mail m m2 (rw i refl) (rw i refl) (omega arith) r.input;
+      waiting = λ d w. never (list_any (nat_eq d) []) (list_any (nat_eq d) (numbers_of s.exchanges.items)) refl (r.waiting d w);
+      clock = rw i r.clock;
+      output = delivered_same answers (settings_of first) r.events start.mail m m2 start.failed_sends f (rw i refl) (rw i refl) r.output;
+    };
+  })
+
+  pub got_goes : {n0 : List Event} {m m1 : Mail} {f f1 : ℕ} {c : List ClockReading} {k : Known} {s s1 : Running W R F} {w : World} {n : ℕ} {buf : List ℕ} {from : SocketAddr} → f1 ≡ f → length buf ≡ 1024 → Received n from buf m m1
+      → Begins answer answers (take n buf) from (world n0 m1 f1 c k) s w s1 → Goes answer answers (world n0 m f c k) s true [] w s1 false (numbers_of s1.exchanges.items)
+  got_goes {m = m} {n = n} {buf = buf} e z x b = rw (← e) (b.goes x.octets m (front_of x.octets n (length buf) (take n buf) z x.count x.front) x.more)
+
+  pub got_fails : {n0 : List Event} {m m1 : Mail} {f f1 : ℕ} {c : List ClockReading} {k : Known} {s : Running W R F} {w : World} {n : ℕ} {buf : List ℕ} {from : SocketAddr} → f1 ≡ f → length buf ≡ 1024 → Received n from buf m m1
+      → BeginFails answer answers (take n buf) from (world n0 m1 f1 c k) s w → Breaks answer answers (world n0 m f c k) s true [] w
+  got_fails {m = m} {n = n} {buf = buf} e z x b = rw (← e) (b.breaks x.octets m (front_of x.octets n (length buf) (take n buf) z x.count x.front) x.more)
+
+  -- ---- rounds
+
+  pub look_goes : {w w1 w2 : World} {s s1 s2 : Running W R F} {b : Bool} {ns : List ℕ} → Looks answer answers w s w1 s1 → Goes answer answers w1 s1 true [] w2 s2 b ns → Goes answer answers w s false [] w2 s2 b ns
+  look_goes a b = goes_then (a.goes []) b
+
+  pub look_over : {w w1 : World} {s s1 : Running W R F} → s1.heard.closed ≡ true → Looks answer answers w s w1 s1 → Goes answer answers w s false [] w1 s1 true [] × (s1.heard.closed ≡ true)
+  look_over h a = (a.goes [], h)
+
+  pub look_breaks : {w w1 w2 : World} {s s1 : Running W R F} → Looks answer answers w s w1 s1 → Breaks answer answers w1 s1 true [] w2 → Breaks answer answers w s false [] w2
+  look_breaks a b = breaks_then (a.goes []) b
+
+  pub look_fails : {w w1 : World} {s : Running W R F} → Fails answer answers false w s w1 → Breaks answer answers w s false [] w1
+  look_fails a = a.breaks []
+
+  -- ---- ends
+
+  -- the look isn't needed any more
+  pub ran_rest : {first : Look} {start now : World} {s : Running W R F} {owed : List ℕ} {spare : ℕ} → Ran answer answers first start now s true owed spare → Ran answer answers first start now s false owed (1 + spare)
+  ran_rest {first} {start} {now} {s} {owed} {spare} r = record {
+    looks = r.looks;
+    events = r.events;
+    noted = r.noted;
+    seat = r.seat;
+    plain = r.plain;
+    serves = r.serves;
+    waiting = r.waiting;
+    clock = r.clock;
+    output = r.output;
+    order = ordered_rest first r.looks r.events s.heard true r.order;
+    input = input_same answers (settings_of first) r.events (first ∷ r.looks) (spare + 1) (1 + spare + 0) s.next start.mail now.mail now.mail refl refl (omega arith) r.input;
+  }
+
+  ran_spare : {first : Look} {start now : World} {s : Running W R F} {owed : List ℕ} {spare : ℕ} → Ran answer answers first start now s false owed spare → Ran answer answers first start now s false owed (1 + spare)
+  ran_spare {first} {start} {now} {s} {owed} {spare} r = record {
+    looks = r.looks;
+    events = r.events;
+    noted = r.noted;
+    seat = r.seat;
+    plain = r.plain;
+    serves = r.serves;
+    waiting = r.waiting;
+    clock = r.clock;
+    output = r.output;
+    order = r.order;
+    input = input_same answers (settings_of first) r.events (first ∷ r.looks) (spare + 0) (1 + spare + 0) s.next start.mail now.mail now.mail refl refl (omega arith) r.input;
+  }
+
+  pub idles_goes : {w w1 : World} {s s1 : Running W R F} → Goes answer answers w s false [] w1 s1 false [] → Idles answer answers w s w1 s1
+  idles_goes a = record { over = a.over; goes = λ first start spare r. ran_spare (a.goes first start spare r) }
+
+  pub idles_then : {w w1 w2 : World} {s s1 s2 : Running W R F} → Goes answer answers w s false [] w1 s1 false [] → Goes answer answers w1 s1 false [] w2 s2 true [] → Idles answer answers w s w2 s2
+  idles_then a b = record { over = λ h. b.over (a.over h); goes = λ first start spare r. ran_rest (b.goes first start spare (a.goes first start spare r)) }
+
+  pub idles_over : {w w1 w2 : World} {s s1 s2 : Running W R F} → Goes answer answers w s false [] w1 s1 false [] → Goes answer answers w1 s1 false [] w2 s2 true [] × (s2.heard.closed ≡ true) → Idles answer answers w s w2 s2 × (s2.heard.closed ≡ true)
+  idles_over a b = (idles_then a b.0, b.1)
+
+  pub full_goes : {w w1 : World} {s s1 : Running W R F} {count : ℕ} → IsFull count s1.next → Goes answer answers w s false [] w1 s1 false [] → Idles answer answers w s w1 s1 × IsFull count s1.next
+  full_goes h a = (idles_goes a, h)
+
+  -- each is polled once more; the socket may have waited before that
+  pub finish_more : {w w1 w2 : World} {s s1 s2 : Running W R F} → Goes answer answers w s false [] w1 s1 false [] → Goes answer answers w1 s1 false (numbers_of s1.exchanges.items) w2 s2 false [] → Goes answer answers w s false [] w2 s2 false []
+  finish_more {s1 = s1} a b = goes_then a (goes_then (goes_owing (numbers_of s1.exchanges.items)) b)
+
+  pub finish_fails : {w w1 w2 : World} {s s1 : Running W R F} → Goes answer answers w s false [] w1 s1 false [] → Breaks answer answers w1 s1 false (numbers_of s1.exchanges.items) w2 → Breaks answer answers w s false [] w2
+  finish_fails {s1 = s1} a b = breaks_then a (breaks_then (goes_owing (numbers_of s1.exchanges.items)) b)
+
+  pub idles_finish : {w w1 w2 : World} {s s1 s2 : Running W R F} → Idles answer answers w s w1 s1 → Finished answer answers w1 s1 w2 s2 → Idles answer answers w s w2 s2
+  idles_finish a b = record { over = λ h. b.goes.over (a.over h); goes = λ first start spare r. b.goes.goes first start (1 + spare) (a.goes first start spare r) }
+
+  pub end_fails : {w w1 w2 : World} {s s1 : Running W R F} {q : Type 0} → Idles answer answers w s w1 s1 × q → Breaks answer answers w1 s1 false [] w2 → Breaks answer answers w s false [] w2
+  end_fails a b = record { breaks = λ first start spare r. b.breaks first start (1 + spare) (a.0.goes first start spare r) }
+
+  pub end_shutdown : {w w1 w2 : World} {s s1 s2 : Running W R F} → Idles answer answers w s w1 s1 × (s1.heard.closed ≡ true) → Finished answer answers w1 s1 w2 s2
+      → Idles answer answers w s w2 s2 × (s2.heard.closed ≡ true) × ((c : ℕ) → kept_at c s2.exchanges.items ≡ [])
+  end_shutdown a b = (idles_finish a.0 b, b.goes.over a.1, b.none)
+
+  pub end_count : {w w1 w2 : World} {s s1 s2 : Running W R F} {count : ℕ} → s2.next ≡ s1.next → Idles answer answers w s w1 s1 × IsFull count s1.next → Finished answer answers w1 s1 w2 s2
+      → Idles answer answers w s w2 s2 × IsFull count s2.next × ((c : ℕ) → kept_at c s2.exchanges.items ≡ [])
+  end_count e a b = (idles_finish a.0 b, rw e a.1, b.none)
+
+  pub finished_by : {w w1 : World} {s s1 : Running W R F} → deque_len s1.exchanges ≡ 0 → Goes answer answers w s false [] w1 s1 false [] → Finished answer answers w s w1 s1
+  finished_by {s1 = s1} h a = record { goes = a; none = λ c. rw (nil_from_length s1.exchanges.items (sym s1.exchanges.ok.0 ∙ h)) refl }

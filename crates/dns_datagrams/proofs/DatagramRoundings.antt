@@ -1,0 +1,44 @@
+-- What was received and polled, with one event more of a driver of datagrams.
+use Rattle.std.proofs.Common.{◌≡◌, ℕ, ◌+◌, List, [], ◌∷◌, ◌++◌, Bool, false, refl, append_assoc, append-nil, arith, add-one}
+use Rattle.dns_outside.specs.declared.sock.Letter.{Letter}
+use Rattle.dns_service.specs.declared.event.Event.{Event}
+use Rattle.dns_client.specs.Serving.{Serving}
+use Rattle.dns_middleware.specs.declared.settings.Settings.{Settings}
+use Rattle.dns_datagrams.specs.DatagramEvents.{letter_in, letters_in, cut_letter, cut_letters, number_in, numbers_in, numbers_below, turn_count, turns_in}
+use Rattle.dns_datagrams.specs.DatagramsPolled.{MayFollow, waits_with, waits_after, waits, TurnsAfter, TurnsBetween}
+
+pub letters_in_more : (q : List Event) (e : Event) → letters_in (q ++ e ∷ []) ≡ letters_in q ++ letter_in e.kind
+letters_in_more [] e = append-nil (letter_in e.kind)
+letters_in_more (x ∷ q) e = rw (letters_in_more q e) (simp append_assoc)
+
+pub numbers_in_more : (q : List Event) (e : Event) → numbers_in (q ++ e ∷ []) ≡ numbers_in q ++ number_in e.client e.kind
+numbers_in_more [] e = append-nil (number_in e.client e.kind)
+numbers_in_more (x ∷ q) e = rw (numbers_in_more q e) (simp append_assoc)
+
+pub turns_in_more : (q : List Event) (e : Event) → turns_in (q ++ e ∷ []) ≡ turns_in q + turn_count e.kind
+turns_in_more [] e = omega arith
+turns_in_more (x ∷ q) e = let h = turns_in_more q e in omega arith
+
+pub cut_letters_more : (ls : List Letter) (l : Letter) → cut_letters (ls ++ l ∷ []) ≡ cut_letters ls ++ cut_letter l ∷ []
+cut_letters_more [] l = refl
+cut_letters_more (x ∷ ls) l = rw (cut_letters_more ls l) refl
+
+pub numbers_below_more : (n : ℕ) → numbers_below (n + 1) ≡ numbers_below n ++ n ∷ []
+numbers_below_more n = rw add-one refl
+
+module _ (answers : Serving) (settings : Settings) (c : ℕ) where
+  waits_after_more : (p : List Event) (w : Bool) (q : List Event) (e : Event) → waits_after answers settings c p w (q ++ e ∷ []) ≡ waits_with answers settings c (p ++ q) (waits_after answers settings c p w q) e
+  waits_after_more p w [] e = rw (append-nil p) refl
+  waits_after_more p w (x ∷ q) e = rw (waits_after_more (p ++ x ∷ []) (waits_with answers settings c p w x) q e, append_assoc p (x ∷ []) q) refl
+
+  pub waits_more : (q : List Event) (e : Event) → waits answers settings c (q ++ e ∷ []) ≡ waits_with answers settings c q (waits answers settings c q) e
+  unfolding waits
+  waits_more q e = waits_after_more [] false q e
+
+  turns_after_more : (p : List Event) (w : Bool) (q : List Event) (e : Event) → TurnsAfter answers settings c p w q → MayFollow e.kind (waits_after answers settings c p w q) → TurnsAfter answers settings c p w (q ++ e ∷ [])
+  turns_after_more p w [] e r h = (h, tt)
+  turns_after_more p w (x ∷ q) e r h = (r.0, turns_after_more (p ++ x ∷ []) (waits_with answers settings c p w x) q e r.1 h)
+
+  pub turns_more : (q : List Event) (e : Event) → TurnsBetween answers settings c q → MayFollow e.kind (waits answers settings c q) → TurnsBetween answers settings c (q ++ e ∷ [])
+  unfolding waits TurnsBetween
+  turns_more q e r h = turns_after_more [] false q e r h

@@ -1,0 +1,42 @@
+use Rattle.dns_client.specs.Serving.{serving}
+use Rattle.dns_service.specs.PolledRequest.{request_answer}
+use Rattle.std.proofs.Common.{arith, refl, ◌∙◌, inl, inr}
+use Rattle.dns_datagrams.proofs.DatagramTellings.{on_err, tells_none, tells_one, tells_two}
+use Rattle.dns_datagrams.proofs.DatagramEndings.{goes_same, goes_then, breaks_then, full_goes, idles_over, idles_then}
+use Rattle.dns_datagrams.proofs.DatagramPasses.{passes_same, passes_then}
+use Rattle.dns_datagrams.proofs.receipts.take_all.Goals as goal
+
+pub loop-init : goal.loop-init
+loop-init g c = record { receives = refl; passes = passes_same c.args.seat.now.known c.args.state.now _; book = refl; told = tells_none (goes_same (request_answer g.W.Future.ReplyFuture.answer g.W.Stream.ReplyStream.answer) (serving (g.W.Served.answer c.args.service.now) (g.W.Served.hint c.args.service.now))) }
+
+pub returns-then-state-clause-told : goal.returns-then-state-clause-told
+returns-then-state-clause-told g c = tells_one c.loop.invariant.told (full_goes (request_answer g.W.Future.ReplyFuture.answer g.W.Stream.ReplyStream.answer) (serving (g.W.Served.answer c.args.service.now) (g.W.Served.hint c.args.service.now)) (inr c.if-state.true))
+
+pub returns-then-state-count-clause-told : goal.returns-then-state-count-clause-told
+returns-then-state-count-clause-told g c = tells_one c.loop.invariant.told (full_goes (request_answer g.W.Future.ReplyFuture.answer g.W.Stream.ReplyStream.answer) (serving (g.W.Served.answer c.args.service.now) (g.W.Served.hint c.args.service.now)) (inl (c.if-count-ne0.true, c.if-state-count.true)))
+
+pub loop-preserved : goal.loop-preserved
+loop-preserved g c = record {
+  receives = rw c.in-Ok-Whole.field-0-is at c.in-Ok-Whole.ensures.cause ∙ c.loop.invariant.receives;
+  passes = passes_then _ _ _ _ _ _ _ _ _ c.loop.invariant.passes c.round.ensures.passes;
+  book = c.round.ensures.book ∙ c.loop.invariant.book;
+  told = tells_two c.loop.invariant.told (rw c.in-Ok-Whole.field-0-is at c.in-Ok-Whole.ensures.told) (goes_then (request_answer g.W.Future.ReplyFuture.answer g.W.Stream.ReplyStream.answer) (serving (g.W.Served.answer c.args.service.now) (g.W.Served.hint c.args.service.now)));
+}
+
+pub returns-in-Err-clause-passes : goal.returns-in-Err-clause-passes
+returns-in-Err-clause-passes g c = passes_then _ _ _ _ _ _ _ _ _ c.loop.invariant.passes c.round.ensures.passes
+
+pub returns-in-Err-clause-told : goal.returns-in-Err-clause-told
+returns-in-Err-clause-told g c = tells_two c.loop.invariant.told c.in-Err.ensures.no_memory (breaks_then (request_answer g.W.Future.ReplyFuture.answer g.W.Stream.ReplyStream.answer) (serving (g.W.Served.answer c.args.service.now) (g.W.Served.hint c.args.service.now)))
+
+pub returns-in-Ok-Over-clause-passes : goal.returns-in-Ok-Over-clause-passes
+returns-in-Ok-Over-clause-passes g c = passes_then _ _ _ _ _ _ _ _ _ c.loop.invariant.passes c.round.ensures.passes
+
+pub returns-in-Ok-Over-clause-told : goal.returns-in-Ok-Over-clause-told
+returns-in-Ok-Over-clause-told g c = tells_two c.loop.invariant.told (rw c.in-Ok-Over.field-0-is at c.in-Ok-Over.ensures.told) (idles_over (request_answer g.W.Future.ReplyFuture.answer g.W.Stream.ReplyStream.answer) (serving (g.W.Served.answer c.args.service.now) (g.W.Served.hint c.args.service.now)))
+
+pub returns-in-Ok-Failed-clause-passes : goal.returns-in-Ok-Failed-clause-passes
+returns-in-Ok-Failed-clause-passes g c = passes_then _ _ _ _ _ _ _ _ _ c.loop.invariant.passes c.round.ensures.passes
+
+pub returns-in-Ok-Failed-clause-told : goal.returns-in-Ok-Failed-clause-told
+returns-in-Ok-Failed-clause-told g c = tells_two c.loop.invariant.told (rw c.in-Ok-Failed.field-0-is at c.in-Ok-Failed.ensures.told) (idles_then (request_answer g.W.Future.ReplyFuture.answer g.W.Stream.ReplyStream.answer) (serving (g.W.Served.answer c.args.service.now) (g.W.Served.hint c.args.service.now)))

@@ -1,0 +1,161 @@
+-- What the loop of datagrams did from its start to now, and what each part of it does, wherever it began.
+use Rattle.std.specs.Prelude.{◌≡◌, ◌≤◌, ◌⊎◌, ℕ, ◌+◌, nat_eq, List, [], ◌∷◌, ◌++◌, take, Bool, true, false, ◌||◌, Option, Some, None, Result, Ok, Err}
+use Rattle.std.specs.List.{list_any}
+use Rattle.dns_name.specs.declared.address.SocketAddr.{SocketAddr}
+use Rattle.dns_admission.specs.declared.look.Look.{Look}
+use Rattle.dns_book.specs.declared.history.Known.{Known}
+use Rattle.dns_name.specs.declared.error.OutOfMemory.{OutOfMemory as No_memory}
+use Rattle.dns_outside.specs.Causes.{Rose}
+use Rattle.dns_outside.specs.Mail.{Mail}
+use Rattle.dns_service.specs.Answer.{Answer}
+use Rattle.dns_service.specs.declared.event.Event.{Event}
+use Rattle.dns_service.specs.declared.polled.PolledRequest.{PolledRequest}
+use Rattle.dns_client.specs.Serving.{Serving}
+use Rattle.dns_client.specs.Slate.{Unused, conf_of}
+use Rattle.dns_middleware.specs.declared.settings.Settings.{Settings}
+use Rattle.dns_notes.specs.Sent.{conf, slate}
+use Rattle.dns_notes.specs.Woven.{seen_with}
+use Rattle.dns_notes.specs.Clocks.{ClockReading}
+use Rattle.dns_datagrams.specs.DatagramEvents.{AllDatagramKinds}
+use Rattle.dns_datagrams.specs.DatagramOrder.{Record, looked, acted, IsInOrder}
+use Rattle.dns_datagrams.specs.DatagramsPolled.{waits}
+use Rattle.dns_datagrams.specs.DatagramsSent.{settings_of, count_if}
+use Rattle.dns_datagrams.specs.DatagramsServed.{World, LooksOnly, Clocked, Input, Delivered, CutOff, IsFull}
+use Rattle.dns_datagrams.specs.DatagramSteps.{Keeps, SendsRose, Stamped, kept_at, numbers_of}
+use Rattle.dns_datagrams.specs.declared.running.Running.{Running}
+use Rattle.dns_datagrams.specs.declared.serving.DgramEnd.{DgramEnd}
+use Rattle.dns_datagrams.specs.declared.serving.DgramEnd.TheVariants.{Shutdown, Counted, Fault, OutOfMemory}
+use Rattle.dns_datagrams.specs.declared.receipts.Lap.{Lap}
+use Rattle.dns_datagrams.specs.declared.receipts.Lap.TheVariants.{Whole, Over, Failed}
+use Rattle.dns_datagrams.specs.declared.receipts.Receipt.{Receipt}
+use Rattle.dns_datagrams.specs.declared.receipts.Receipt.TheVariants.{Made, Failed as Failed_receive}
+
+-- whether a look stands behind the last own event, and what was seen
+abbrev pub is_ready : Bool → List Record → Bool
+is_ready ready [] = ready
+is_ready ready (looked look news ∷ rs) = is_ready true rs
+is_ready ready (acted event fault ∷ rs) = is_ready false rs
+
+abbrev pub seen_in : Look → List Record → Look
+seen_in before [] = before
+seen_in before (looked look news ∷ rs) = seen_in (seen_with before look) rs
+seen_in before (acted event fault ∷ rs) = seen_in before rs
+
+-- the events are in order, what was heard is what was seen, and where it is ready, an own event may come
+pub record Ordered (first : Look) (looks : List Look) (events : List Event) (heard : Look) (ready : Bool) : Type 0 where
+  pub order : IsInOrder first looks events
+  pub readied : ready ≡ true → is_ready true order.records ≡ true
+  pub version : (seen_in first order.records).version ≡ heard.version
+  pub closed : (seen_in first order.records).closed ≡ heard.closed
+
+abbrev pub Among : ℕ → List ℕ → Type 0
+Among c ns = list_any (nat_eq c) ns ≡ true
+
+-- Whatever socket, clock and recorder tell: the seat made looks and no other calls. A shutdown that was heard of stays so, and a new one was
+-- shown by one of these looks. The count of failed sends rose where a failed one is known of since, and else it is the same.
+pub record Passes {W R F : Type 0} (k k' : Known) (s s' : Running W R F) (f f' : ℕ) : Type 0 where
+  pub looks : List Look
+  pub made : LooksOnly k looks k'
+  pub over : s.heard.closed ≡ true → s'.heard.closed ≡ true
+  pub shown : s'.heard.closed ≡ true → (s.heard.closed || list_any (λ l. l.closed) looks) ≡ true
+  pub later : f ≤ f'
+  pub rose : SendsRose s.send_failed s'.send_failed f f'
+
+-- the count of failed receives rose where a receive or a round failed, and else it is the same
+abbrev pub ReceivedSo : Result Receipt No_memory → ℕ → ℕ → Type 0
+ReceivedSo (Ok Failed_receive) r r' = Rose r r'
+ReceivedSo (Ok Made) r r' = r' ≡ r
+ReceivedSo (Err e) r r' = r' ≡ r
+
+abbrev pub RoundedSo : Result Lap No_memory → ℕ → ℕ → Type 0
+RoundedSo (Ok Failed) r r' = Rose r r'
+RoundedSo (Ok Whole) r r' = r' ≡ r
+RoundedSo (Ok Over) r r' = r' ≡ r
+RoundedSo (Err e) r r' = r' ≡ r
+
+-- what is so of the world before an event was noted, which is the last thing that was done
+pub record SinceNoted (e : Event) (is : World → Type 0) (w : World) : Type 0 where
+  pub since : (n : List Event) (c : List ClockReading) → Stamped e n w.noted c w.readings → is (record w { noted = n; readings = c })
+
+module _ {W R F : Type 0} (answer : PolledRequest F R → ℕ → Answer) (answers : Serving) where
+  -- what is kept is what the events left
+  pub record Serves (settings : Settings) (events : List Event) (s : Running W R F) : Type 0 where
+    pub each : (c : ℕ) → Keeps answer answers (kept_at c s.exchanges.items) (slate answers settings c events)
+    pub unused : (c : ℕ) → s.next ≤ c → (slate answers settings c events).phase ≡ Unused
+    pub heard : conf settings events ≡ conf_of s.heard
+
+  -- What was done from a start to now, by a first look. Of owed exchanges each waits for its Turn, and no other does. So many looks
+  -- came to nothing, beside the one that an own event may follow.
+  pub record Ran (first : Look) (start now : World) (s : Running W R F) (ready : Bool) (owed : List ℕ) (spare : ℕ) : Type 0 where
+    pub looks : List Look
+    pub events : List Event
+    pub noted : now.noted ≡ start.noted ++ events
+    pub seat : LooksOnly start.known (first ∷ looks) now.known
+    pub plain : AllDatagramKinds events
+    pub order : Ordered first looks events s.heard ready
+    pub input : Input answers (settings_of first) events (first ∷ looks) (spare + count_if ready) s.next start.mail now.mail
+    pub waiting : (c : ℕ) → waits answers (settings_of first) c events ≡ true → Among c owed
+    pub clock : Clocked events start.readings now.readings start.mail.full_sends now.mail.full_sends
+    pub output : Delivered answers (settings_of first) events start.mail now.mail start.failed_sends now.failed_sends
+    pub serves : Serves (settings_of first) events s
+
+  -- a step, wherever it began
+  pub record Goes (w : World) (s : Running W R F) (ready : Bool) (owed : List ℕ) (w' : World) (s' : Running W R F) (ready' : Bool) (owed' : List ℕ) : Type 0 where
+    pub over : s.heard.closed ≡ true → s'.heard.closed ≡ true
+    pub goes : (first : Look) (start : World) (spare : ℕ) → Ran first start w s ready owed spare → Ran first start w' s' ready' owed' spare
+
+  -- want of memory in a step
+  pub record Breaks (w : World) (s : Running W R F) (ready : Bool) (owed : List ℕ) (w' : World) : Type 0 where
+    pub breaks : (first : Look) (start : World) (spare : ℕ) → Ran first start w s ready owed spare → CutOff answers start w'
+
+  -- a look, whoever waits
+  pub record Looks (w : World) (s : Running W R F) (w' : World) (s' : Running W R F) : Type 0 where
+    pub goes : (owed : List ℕ) → Goes w s false owed w' s' true owed
+
+  -- a Turn of a client, after its look or with it
+  pub record Turns (client : ℕ) (ready : Bool) (w : World) (s : Running W R F) (w' : World) (s' : Running W R F) : Type 0 where
+    pub goes : (rest : List ℕ) → Goes w s ready (client ∷ rest) w' s' false rest
+
+  -- want of memory, whoever waits
+  pub record Fails (ready : Bool) (w : World) (s : Running W R F) (w' : World) : Type 0 where
+    pub breaks : (owed : List ℕ) → Breaks w s ready owed w'
+
+  -- the front of a datagram that was received before this world is noted, and begins an exchange
+  pub record Begins (octets : List ℕ) (from : SocketAddr) (w : World) (s : Running W R F) (w' : World) (s' : Running W R F) : Type 0 where
+    pub goes : (whole : List ℕ) (m : Mail) → octets ≡ take 1024 whole → w.mail ≡ record m { received = m.received ++ (record { octets = whole; addr = from }) ∷ [] }
+        → Goes (record w { mail = m }) s true [] w' s' false (numbers_of s'.exchanges.items)
+
+  pub record BeginFails (octets : List ℕ) (from : SocketAddr) (w : World) (s : Running W R F) (w' : World) : Type 0 where
+    pub breaks : (whole : List ℕ) (m : Mail) → octets ≡ take 1024 whole → w.mail ≡ record m { received = m.received ++ (record { octets = whole; addr = from }) ∷ [] }
+        → Breaks (record w { mail = m }) s true [] w'
+
+  -- a receive; a round; the rounds; and the last polls
+  abbrev pub Receives : Receipt → World → Running W R F → World → Running W R F → Type 0
+  Receives Made w s w' s' = Goes w s true [] w' s' false (numbers_of s'.exchanges.items)
+  Receives Failed_receive w s w' s' = Goes w s true [] w' s' true []
+
+  abbrev pub Rounded : Lap → World → Running W R F → World → Running W R F → Type 0
+  Rounded Whole w s w' s' = Goes w s false [] w' s' false []
+  Rounded Over w s w' s' = Goes w s false [] w' s' true [] × (s'.heard.closed ≡ true)
+  Rounded Failed w s w' s' = Goes w s false [] w' s' true []
+
+  -- the rounds and what comes behind them, with one look at most that came to nothing
+  pub record Idles (w : World) (s : Running W R F) (w' : World) (s' : Running W R F) : Type 0 where
+    pub over : s.heard.closed ≡ true → s'.heard.closed ≡ true
+    pub goes : (first : Look) (start : World) (spare : ℕ) → Ran first start w s false [] spare → Ran first start w' s' false [] (1 + spare)
+
+  abbrev pub Stopped : DgramEnd → ℕ → World → Running W R F → World → Running W R F → Type 0
+  Stopped Shutdown count w s w' s' = Idles w s w' s' × (s'.heard.closed ≡ true)
+  Stopped Counted count w s w' s' = Idles w s w' s' × IsFull count s'.next
+  Stopped Fault count w s w' s' = Idles w s w' s'
+  Stopped OutOfMemory count w s w' s' = Breaks w s false [] w'
+
+  pub record Finished (w : World) (s : Running W R F) (w' : World) (s' : Running W R F) : Type 0 where
+    pub goes : Goes w s false [] w' s' false []
+    pub none : (c : ℕ) → kept_at c s'.exchanges.items ≡ []
+
+  abbrev pub Ended : DgramEnd → ℕ → World → Running W R F → World → Running W R F → Type 0
+  Ended Shutdown count w s w' s' = Idles w s w' s' × (s'.heard.closed ≡ true) × ((c : ℕ) → kept_at c s'.exchanges.items ≡ [])
+  Ended Counted count w s w' s' = Idles w s w' s' × IsFull count s'.next × ((c : ℕ) → kept_at c s'.exchanges.items ≡ [])
+  Ended Fault count w s w' s' = Idles w s w' s'
+  Ended OutOfMemory count w s w' s' = Breaks w s false [] w'

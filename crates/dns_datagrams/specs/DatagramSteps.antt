@@ -1,0 +1,171 @@
+-- What the parts of the loop of datagrams do to what recorder, socket, clock and seat tell.
+use Rattle.std.specs.Prelude.{◌≡◌, ◌≤◌, ◌⊎◌, ℕ, ◌+◌, ◌-◌, ◌^◌, min, List, [], ◌∷◌, ◌++◌, length, drop, Bool, true, false, ◌==◌, ◌||◌, nat_eq, if◌then◌else◌, is_some, Option, Some, None}
+use Rattle.dns_name.specs.declared.address.SocketAddr.{SocketAddr}
+use Rattle.dns_admission.specs.declared.look.Look.{Look}
+use Rattle.dns_outside.specs.Causes.{Rose}
+use Rattle.dns_outside.specs.Mail.{Mail}
+use Rattle.dns_outside.specs.declared.sock.Letter.{Letter}
+use Rattle.dns_service.specs.Answer.{Answer}
+use Rattle.dns_service.specs.declared.event.Event.{Event}
+use Rattle.dns_service.specs.declared.event.Output.{Output}
+use Rattle.dns_service.specs.declared.event.Output.TheVariants.{Datagram}
+use Rattle.dns_service.specs.declared.polled.PolledRequest.{PolledRequest}
+use Rattle.dns_client.specs.Serving.{Serving}
+use Rattle.dns_client.specs.Slate.{Slate, Told, Exchange, IsUnused, conf_of}
+use Rattle.dns_client.specs.Datagrams.{datagram}
+use Rattle.dns_client.specs.Stands.{Stands}
+use Rattle.dns_client.specs.Rule.{rule}
+use Rattle.dns_notes.specs.Clocks.{ClockReading, Waited, LateAt}
+use Rattle.dns_notes.specs.Woven.{news_kinds, kinds}
+use Rattle.dns_datagrams.specs.DatagramOrder.{fault_events, IsFaultOf}
+use Rattle.dns_datagrams.specs.DatagramsPolled.{is_finished}
+use Rattle.dns_datagrams.specs.DatagramsSent.{unless, count_if, fails_before}
+use Rattle.dns_datagrams.specs.DatagramsServed.{Clocked}
+use Rattle.dns_datagrams.specs.declared.running.KeptExchange.{KeptExchange}
+use Rattle.dns_datagrams.specs.declared.sends.SendEnd.{SendEnd}
+use Rattle.dns_datagrams.specs.declared.sends.SendEnd.TheVariants.{Sent, Failed, Late}
+
+-- an event was noted, with a reading of its own
+pub record Stamped (e : Event) (n n' : List Event) (c c' : List ClockReading) : Type 0 where
+  pub clock : c' ≡ c ++ (e.at, e.secs) ∷ []
+  pub noted : n' ≡ n ++ e ∷ []
+
+-- what was heard of the book, with a look more: after a shutdown the configurations stay
+abbrev pub hears : Look → Look → Look
+hears heard look =
+    if heard.closed || (look.version == heard.version) then record heard { version = look.version; closed = heard.closed || look.closed }
+    else record look { closed = heard.closed || look.closed }
+
+-- the news of a look were noted
+pub record NewsNoted (heard look : Look) (n n' : List Event) (c c' : List ClockReading) : Type 0 where
+  pub events : List Event
+  pub news : kinds events ≡ news_kinds heard look
+  pub noted : n' ≡ n ++ events
+  pub clock : Clocked events c c' 0 0
+
+-- of a socket letters were sent, and beside that only sends answered Again
+pub record Posts (letters : List Letter) (m m' : Mail) : Type 0 where
+  pub received : m'.received ≡ m.received
+  pub sent : m'.sent ≡ m.sent ++ letters
+  pub empty : m'.empty_receives ≡ m.empty_receives
+
+-- how the sending of some letters ended, which are one or none: they were sent; a send failed; or so much time has passed since a moment
+pub record SentSo (letters : List Letter) (m m' : Mail) (c c' : List ClockReading) : Type 0 where
+  pub posts : Posts letters m m'
+  pub waited : Waited m.full_sends m'.full_sends c c'
+
+pub record LateSo (at secs since limit : ℕ) (m m' : Mail) (c c' : List ClockReading) : Type 0 where
+  pub posts : Posts [] m m'
+  pub waited : LateAt (at, secs) m.full_sends m'.full_sends c c'
+  pub late : since + limit ≤ at
+
+abbrev pub SendsTo : SendEnd → List Letter → ℕ → ℕ → Mail → Mail → List ClockReading → List ClockReading → Type 0
+SendsTo Sent letters since limit m m' c c' = SentSo letters m m' c c'
+SendsTo Failed letters since limit m m' c c' = SentSo [] m m' c c'
+SendsTo (Late at secs) letters since limit m m' c c' = LateSo at secs since limit m m' c c'
+
+-- the count of failed sends, by how the sending ended
+abbrev pub SendsCause : SendEnd → ℕ → ℕ → Type 0
+SendsCause Failed fails fails' = Rose fails fails'
+SendsCause _ fails fails' = fails' ≡ fails
+
+-- the count of failed sends, by whether one had failed before and whether one has failed now
+abbrev pub SendsRose : Bool → Bool → ℕ → ℕ → Type 0
+SendsRose before now fails fails' = ((now ≡ before) × (fails' ≡ fails)) ⊎ ((now ≡ true) × Rose fails fails')
+
+-- What an event led to was sent, or a Fault of its exchange was noted: late with a send that answered Again, or by a send that
+-- failed.
+pub record Sends (e : Event) (letters : List Letter) (write : ℕ) (n n' : List Event) (m m' : Mail) (fails fails' : ℕ) (c c' : List ClockReading) : Type 0 where
+  pub fault : Option Event
+  pub late : ℕ
+  pub failed : ℕ
+  pub noted : n' ≡ n ++ fault_events fault
+  pub is_fault_of : IsFaultOf e fault
+  pub one : length (fault_events fault) ≡ late + failed
+  pub early : count_if (fails_before (e.at + write) (fault_events fault)) ≤ failed
+  pub posts : Posts (unless (is_some fault) letters) m m'
+  pub again : m.full_sends + late ≤ m'.full_sends
+  pub rose : min (fails + failed) (2 ^ 64 - 1) ≤ fails'
+  pub clock : Clocked (fault_events fault) c c' m.full_sends m'.full_sends
+
+-- nothing was noted, and nothing sent or received
+pub record Unsent (n n' : List Event) (m m' : Mail) : Type 0 where
+  pub noted : n' ≡ n
+  pub received : m'.received ≡ m.received
+  pub sent : m'.sent ≡ m.sent
+
+-- the datagram of the last output, where that is one
+abbrev pub octets_of : Output → Option (List ℕ)
+octets_of (Datagram client octets) = Some octets
+octets_of _ = None
+
+abbrev pub last_octets : List Output → Option (List ℕ)
+last_octets [] = None
+last_octets (o ∷ []) = octets_of o
+last_octets (o ∷ p ∷ os) = last_octets (p ∷ os)
+
+abbrev pub letter_to : Option (List ℕ) → SocketAddr → Option Letter
+letter_to None addr = None
+letter_to (Some octets) addr = Some (record { octets = octets; addr = addr })
+
+abbrev pub listed : {X : Type 0} → Option X → List X
+listed None = []
+listed (Some x) = x ∷ []
+
+-- the numbers of what is kept, and what is kept under a number
+abbrev pub numbers_of : {W R F : Type 0} → List (KeptExchange W R F) → List ℕ
+numbers_of [] = []
+numbers_of (x ∷ xs) = x.number ∷ numbers_of xs
+
+-- the numbers from a place on, and none where no place is left
+abbrev pub left_to : {W R F : Type 0} → Option ℕ → List (KeptExchange W R F) → List ℕ
+left_to None xs = []
+left_to (Some i) xs = drop i (numbers_of xs)
+
+abbrev pub kept_at : {W R F : Type 0} → ℕ → List (KeptExchange W R F) → List (KeptExchange W R F)
+kept_at c [] = []
+kept_at c (x ∷ xs) = if nat_eq c x.number then x ∷ kept_at c xs else kept_at c xs
+
+module _ {W R F : Type 0} (answer : PolledRequest F R → ℕ → Answer) (answers : Serving) where
+  -- the core of an exchange that is unfinished, and the address that its datagrams go to
+  pub record IsKeptOf (x : KeptExchange W R F) (s : Slate) : Type 0 where
+    pub stands : Stands answer answers x.core s
+    pub addr_is : x.addr ≡ s.addr
+    pub phase_is : s.phase ≡ Exchange
+    pub unfinished : is_finished s ≡ false
+
+  -- what is kept under a number is that one, as long as the exchange is unfinished, and nothing more
+  abbrev pub Keeps : List (KeptExchange W R F) → Slate → Type 0
+  Keeps [] s = is_finished s ≡ true
+  Keeps (x ∷ []) s = IsKeptOf x s
+  Keeps (x ∷ y ∷ xs) s = ⊥
+
+  -- at each slate of which this was kept, the letter is what is sent, and of the slate after it this is kept
+  abbrev pub Leads : List (KeptExchange W R F) → Option Letter → List (KeptExchange W R F) → Slate → Told → Type 0
+  Leads old letter new s t = Keeps old s → (letter ≡ letter_to (last_octets t.1) t.0.addr) × Keeps new t.0
+
+  -- an event of an exchange
+  pub record Turned (e : Event) (old : List (KeptExchange W R F)) (letter : Option Letter) (new : List (KeptExchange W R F)) : Type 0 where
+    pub leads : (s : Slate) → Leads old letter new s (rule answers e s)
+
+  -- the same of one that is kept, and whether it is finished then
+  pub record TurnedOne (e : Event) (old : KeptExchange W R F) (letter : Option Letter) (done : Bool) (new : KeptExchange W R F) : Type 0 where
+    pub letter_is : (s : Slate) → IsKeptOf old s → letter ≡ letter_to (last_octets (rule answers e s).1) (rule answers e s).0.addr
+    pub done_is : (s : Slate) → IsKeptOf old s → done ≡ is_finished (rule answers e s).0
+    pub left : (s : Slate) → IsKeptOf old s → done ≡ false → IsKeptOf new (rule answers e s).0
+
+  -- the same of the one at a place
+  pub record TurnedItem (at : ℕ) (e : Event) (old : List (KeptExchange W R F)) (letter : Option Letter) (done : Bool) (new : List (KeptExchange W R F)) : Type 0 where
+    pub before : List (KeptExchange W R F)
+    pub behind : List (KeptExchange W R F)
+    pub was : KeptExchange W R F
+    pub now : KeptExchange W R F
+    pub old_is : old ≡ before ++ was ∷ behind
+    pub new_is : new ≡ before ++ now ∷ behind
+    pub place : length before ≡ at
+    pub number : now.number ≡ was.number
+    pub turned : TurnedOne e was letter done now
+
+  -- its datagram, by what was heard of the book
+  pub record Begun (heard : Look) (e : Event) (addr : SocketAddr) (octets : List ℕ) (old : List (KeptExchange W R F)) (letter : Option Letter) (new : List (KeptExchange W R F)) : Type 0 where
+    pub leads : (s : Slate) → IsUnused s → s.conf ≡ conf_of heard → Leads old letter new s (datagram e.client addr e.at e.secs octets s)

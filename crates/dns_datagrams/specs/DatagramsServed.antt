@@ -1,0 +1,139 @@
+-- How the serving of datagrams ends, by what socket, clock, recorder and seat tell.
+use Rattle.std.specs.Prelude.{◌≡◌, ◌≢◌, ◌≤◌, ◌⊎◌, ℕ, ◌+◌, ◌-◌, ◌^◌, min, List, [], ◌∷◌, ◌++◌, length, Bool, true, false}
+use Rattle.std.specs.List.{list_any}
+use Rattle.dns_admission.specs.declared.look.Look.{Look}
+use Rattle.dns_book.specs.Gains.{Gained}
+use Rattle.dns_book.specs.declared.history.Known.{Known}
+use Rattle.dns_outside.specs.Causes.{Rose}
+use Rattle.dns_outside.specs.Mail.{Mail}
+use Rattle.dns_outside.specs.declared.sock.Letter.{Letter}
+use Rattle.dns_service.specs.declared.event.Event.{Event}
+use Rattle.dns_client.specs.Serving.{Serving}
+use Rattle.dns_middleware.specs.declared.settings.Settings.{Settings}
+use Rattle.dns_notes.specs.Out.{out}
+use Rattle.dns_notes.specs.Clocks.{ClockReading, Dated, faults_in}
+use Rattle.dns_notes.specs.Woven.{look_entries}
+use Rattle.dns_datagrams.specs.DatagramEvents.{letters_in, cut_letters, numbers_in, numbers_below, turns_in}
+use Rattle.dns_datagrams.specs.DatagramOrder.{IsInOrder}
+use Rattle.dns_datagrams.specs.DatagramsPolled.{TurnsBetween, AllFinished}
+use Rattle.dns_datagrams.specs.DatagramsSent.{settings_of, all_addressed, letters_delivered, early_faults, IsPart}
+use Rattle.dns_datagrams.specs.declared.serving.DgramEnd.{DgramEnd}
+use Rattle.dns_datagrams.specs.declared.serving.DgramEnd.TheVariants.{Shutdown, Counted, Fault, OutOfMemory}
+
+-- what recorder, socket, clock and seat tell, and the count of failed sends, which is known always
+pub record World : Type 0 where
+  pub noted : List Event
+  pub mail : Mail
+  pub failed_sends : ℕ
+  pub readings : List ClockReading
+  pub known : Known
+
+abbrev pub world : List Event → Mail → ℕ → List ClockReading → Known → World
+world noted mail failed_sends readings known = record { noted = noted; mail = mail; failed_sends = failed_sends; readings = readings; known = known }
+
+-- the seat made these looks and no other calls, and keeps its name
+pub record LooksOnly (k : Known) (looks : List Look) (k' : Known) : Type 0 where
+  pub calls : Gained k (look_entries k.name looks) k'
+  pub name : k'.name ≡ k.name
+
+pub record OnlyLooks (k k' : Known) : Type 0 where
+  pub looks : List Look
+  pub made : LooksOnly k looks k'
+
+-- some look showed a shutdown
+abbrev pub ShowsShutdown : List Look → Type 0
+ShowsShutdown looks = list_any (λ l. l.closed) looks ≡ true
+
+-- the seat made looks and no other calls, and where the serving ended by a shutdown one of them showed it
+pub record LooksBy (end : DgramEnd) (k k' : Known) : Type 0 where
+  pub looks : List Look
+  pub made : LooksOnly k looks k'
+  pub shown : end ≡ Shutdown → ShowsShutdown looks
+
+-- the count of failed receives rose where the serving ended by a fault, and else it is the same
+abbrev pub ReceivesBy : DgramEnd → ℕ → ℕ → Type 0
+ReceivesBy Fault r r' = Rose r r'
+ReceivesBy Shutdown r r' = r' ≡ r
+ReceivesBy Counted r r' = r' ≡ r
+ReceivesBy OutOfMemory r r' = r' ≡ r
+
+-- a count rose where that is said, and else it is the same
+abbrev pub RoseIf : Bool → ℕ → ℕ → Type 0
+RoseIf true a b = Rose a b
+RoseIf false a b = b ≡ a
+
+-- each event carries a reading, in order; there are no more readings than events and sends that answered Again
+pub record Clocked (events : List Event) (c c' : List ClockReading) (full full' : ℕ) : Type 0 where
+  pub readings : List ClockReading
+  pub clock : c' ≡ c ++ readings
+  pub dated : Dated readings events
+  pub count : length readings + full ≤ length events + full'
+
+module _ (answers : Serving) (settings : Settings) where
+  -- Each datagram received is recorded, in order, under a new number, with its sender's address and its first 1,024 octets. Between
+  -- two of them stands a Turn of each exchange that is unfinished after the first. There are so many more looks, at most, than
+  -- datagrams, receives that answered Again, and Turns.
+  pub record Input (events : List Event) (looks : List Look) (more number : ℕ) (m m' : Mail) : Type 0 where
+    pub came : List Letter
+    pub received : m'.received ≡ m.received ++ came
+    pub recorded : letters_in events ≡ cut_letters came
+    pub numbered : numbers_in events ≡ numbers_below number
+    pub polled : (c : ℕ) → TurnsBetween answers settings c events
+    pub looked : length looks + m.empty_receives ≤ length came + turns_in events + m'.empty_receives + more
+
+  -- What was sent is what the events lead to, each datagram to its exchange's address, but for those that a Fault of their exchange
+  -- follows. Of the Faults some are late, each with a send that answered Again, and some are of a send that failed. One before the
+  -- write timeout in force has passed is of a send that failed.
+  pub record Delivered (events : List Event) (m m' : Mail) (fails fails' : ℕ) : Type 0 where
+    pub sent : m'.sent ≡ m.sent ++ letters_delivered answers settings events
+    pub late : ℕ
+    pub failed : ℕ
+    pub faults : faults_in events ≡ late + failed
+    pub again : m.full_sends + late ≤ m'.full_sends
+    pub rose : min (fails + failed) (2 ^ 64 - 1) ≤ fails'
+    pub early : early_faults answers settings events ≤ failed
+
+-- so many datagrams came, or as many as can be numbered
+abbrev pub IsFull : ℕ → ℕ → Type 0
+IsFull count number = ((count ≢ 0) × (number ≡ count)) ⊎ (number ≡ 2 ^ 64 - 1)
+
+abbrev pub EndsBy : Serving → DgramEnd → ℕ → ℕ → Look → List Look → List Event → Type 0
+EndsBy answers Shutdown count number first looks events = ShowsShutdown (first ∷ looks) × AllFinished answers (settings_of first) events
+EndsBy answers Counted count number first looks events = IsFull count number × AllFinished answers (settings_of first) events
+EndsBy answers Fault count number first looks events = Unit {0}
+EndsBy answers OutOfMemory count number first looks events = ⊥
+
+-- What was noted from a world to another, by a first look and the looks after it.
+pub record Served (answers : Serving) (end : DgramEnd) (count : ℕ) (start now : World) : Type 0 where
+  pub first : Look
+  pub looks : List Look
+  pub events : List Event
+  pub number : ℕ
+  pub noted : now.noted ≡ start.noted ++ events
+  pub seat : LooksOnly start.known (first ∷ looks) now.known
+  pub order : IsInOrder first looks events
+  pub input : Input answers (settings_of first) events (first ∷ looks) 2 number start.mail now.mail
+  pub clock : Clocked events start.readings now.readings start.mail.full_sends now.mail.full_sends
+  pub output : Delivered answers (settings_of first) events start.mail now.mail start.failed_sends now.failed_sends
+  pub ends : EndsBy answers end count number first looks events
+
+-- Memory ran out: the Datagrams recorded are the first datagrams received, and what was sent is a part of what the events lead to.
+pub record CutOff (answers : Serving) (start now : World) : Type 0 where
+  pub first : Look
+  pub looks : List Look
+  pub events : List Event
+  pub came : List Letter
+  pub unrecorded : List Letter
+  pub number : ℕ
+  pub letters : List Letter
+  pub noted : now.noted ≡ start.noted ++ events
+  pub seat : LooksOnly start.known (first ∷ looks) now.known
+  pub received : now.mail.received ≡ start.mail.received ++ came
+  pub recorded : cut_letters came ≡ letters_in events ++ unrecorded
+  pub numbered : numbers_in events ≡ numbers_below number
+  pub sent : now.mail.sent ≡ start.mail.sent ++ letters
+  pub part : IsPart letters (all_addressed answers (settings_of first) events (out answers (settings_of first) events))
+
+abbrev pub ServedTo : Serving → DgramEnd → ℕ → World → World → Type 0
+ServedTo answers OutOfMemory count start now = CutOff answers start now
+ServedTo answers end count start now = Served answers end count start now

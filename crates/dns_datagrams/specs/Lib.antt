@@ -1,0 +1,10 @@
+pub use Rattle.dns_notes.specs.Clocks
+pub use Rattle.dns_notes.specs.Notes
+pub use Rattle.dns_notes.specs.Woven
+pub mod DatagramEvents
+pub mod DatagramOrder
+pub mod DatagramsPolled
+pub mod DatagramsSent
+pub mod DatagramsServed
+pub mod DatagramSteps
+pub mod DatagramLoop

@@ -1,0 +1,276 @@
+//! Polls of exchanges.
+
+ghost use Rattle.std.specs.Prelude.{◌≡◌, ◌≤◌, ◌<◌, ◌+◌, ◌^◌, [], ◌∷◌, drop, true, false, IfOk, OnOk, OnErr, if◌then◌else◌};
+ghost use Rattle.std.specs.VecDeque.{deque_len};
+ghost use Rattle.dns_outside.specs.Causes.{Tells};
+ghost use Rattle.dns_client.specs.Serving.{serving};
+ghost use Rattle.dns_service.specs.PolledRequest.{request_answer};
+ghost use Rattle.dns_service.specs.declared.event.EventKind.TheVariants.{Turn};
+ghost use Rattle.dns_datagrams.specs.DatagramsServed.{world};
+ghost use Rattle.dns_datagrams.specs.DatagramSteps.{numbers_of, left_to};
+ghost use Rattle.dns_datagrams.specs.DatagramLoop.{Turns, Fails, Goes, Breaks, Finished, Passes, SinceNoted};
+
+use crate::exchanges::{number_at, turn_at};
+use crate::looks::look_once;
+use crate::notes::note_now;
+use crate::running::Running;
+use crate::sends::deliver;
+use dns_book::{Book, BookSeat};
+use dns_notes::Recorder;
+use dns_outside::{AsyncDgramSock, Clock};
+use dns_service::{Event, EventKind, OutOfMemory, Served};
+use std::alloc::Global;
+use std::sync::Wait;
+
+/// How many milliseconds one wait lasts at most where an exchange is to be polled again.
+pub(crate) const PAUSE: u64 = 1;
+
+#[tactic(auto, using(crate::proofs::DatagramPasses::passes_kept))]
+/// A Turn of the exchange at a place, after it was noted, and what is sent for it. Whether its request is done is given.
+fn turn_noted<R: Wait, D: AsyncDgramSock, C: Clock, J: Recorder, W: Served>(
+    rt: &R,
+    alloc: Global,
+    _seat: &BookSeat,
+    service: &W,
+    sock: &mut D,
+    clock: &mut C,
+    journal: &mut J,
+    state: &mut Running<W>,
+    at: usize,
+    event: &Event,
+) -> Result<bool, OutOfMemory>
+    requires can_call { W.can_call service.now }
+    requires kind { event.now.kind ≡ Turn 0 }
+    requires there { at < deque_len state.old.exchanges }
+    requires number { drop at (numbers_of state.old.exchanges.items) ≡ event.now.client ∷ drop (at + 1) (numbers_of state.old.exchanges.items) }
+    ensures owed { IfOk result (λ done. drop (if done then at else at + 1) (numbers_of state.new.exchanges.items) ≡ drop (at + 1) (numbers_of state.old.exchanges.items)) }
+    ensures next { OnOk result (state.new.next ≡ state.old.next) }
+    ensures passes { Passes _seat.now.known _seat.now.known state.old state.new (D.failed_sends sock.old) (D.failed_sends sock.new) }
+    ensures receives { D.failed_receives sock.new ≡ D.failed_receives sock.old }
+    ensures told { OnOk result (Tells (D.tells sock.new × C.tells clock.new × J.tells journal.new) (D.tells sock.old × C.tells clock.old × J.tells journal.old)
+        (SinceNoted event.now (λ w. Turns (request_answer W.Future.answer W.Stream.answer) (serving (W.answer service.now) (W.hint service.now)) event.now.client true w state.old
+        (world (J.noted journal.new) (D.mail sock.new) (D.failed_sends sock.new) (C.readings clock.new) _seat.now.known) state.new)
+        (world (J.noted journal.old) (D.mail sock.old) (D.failed_sends sock.old) (C.readings clock.old) _seat.now.known))) }
+    ensures no_memory { OnErr result (Tells (D.tells sock.new × C.tells clock.new × J.tells journal.new) (D.tells sock.old × C.tells clock.old × J.tells journal.old)
+        (SinceNoted event.now (λ w. Fails (request_answer W.Future.answer W.Stream.answer) (serving (W.answer service.now) (W.hint service.now)) true w state.old
+        (world (J.noted journal.new) (D.mail sock.new) (D.failed_sends sock.new) (C.readings clock.new) _seat.now.known))
+        (world (J.noted journal.old) (D.mail sock.old) (D.failed_sends sock.old) (C.readings clock.old) _seat.now.known))) }
+{
+    let (letter, done) = turn_at(alloc, service, &mut state.exchanges, at, event)?;
+    let limit = state.heard.dgram.write_timeout();
+    deliver(
+        rt,
+        alloc,
+        sock,
+        clock,
+        journal,
+        &mut state.send_failed,
+        event,
+        letter,
+        limit,
+    )?;
+    Ok(done)
+}
+
+#[tactic(auto, using(crate::proofs::DatagramPasses::passes_same))]
+/// Polls the exchange at a place, which has this number, after its look. Whether its request is done is given.
+fn turn<R: Wait, D: AsyncDgramSock, C: Clock, J: Recorder, W: Served>(
+    rt: &R,
+    alloc: Global,
+    _seat: &BookSeat,
+    service: &W,
+    sock: &mut D,
+    clock: &mut C,
+    journal: &mut J,
+    state: &mut Running<W>,
+    at: usize,
+    number: u64,
+) -> Result<bool, OutOfMemory>
+    requires can_call { W.can_call service.now }
+    requires there { at < deque_len state.old.exchanges }
+    requires number { drop at (numbers_of state.old.exchanges.items) ≡ number ∷ drop (at + 1) (numbers_of state.old.exchanges.items) }
+    ensures owed { IfOk result (λ done. drop (if done then at else at + 1) (numbers_of state.new.exchanges.items) ≡ drop (at + 1) (numbers_of state.old.exchanges.items)) }
+    ensures next { OnOk result (state.new.next ≡ state.old.next) }
+    ensures passes { Passes _seat.now.known _seat.now.known state.old state.new (D.failed_sends sock.old) (D.failed_sends sock.new) }
+    ensures receives { D.failed_receives sock.new ≡ D.failed_receives sock.old }
+    ensures told { OnOk result (Tells (D.tells sock.new × C.tells clock.new × J.tells journal.new) (D.tells sock.old × C.tells clock.old × J.tells journal.old)
+        (Turns (request_answer W.Future.answer W.Stream.answer) (serving (W.answer service.now) (W.hint service.now)) number true
+        (world (J.noted journal.old) (D.mail sock.old) (D.failed_sends sock.old) (C.readings clock.old) _seat.now.known) state.old
+        (world (J.noted journal.new) (D.mail sock.new) (D.failed_sends sock.new) (C.readings clock.new) _seat.now.known) state.new)) }
+    ensures no_memory { OnErr result (Tells (D.tells sock.new × C.tells clock.new × J.tells journal.new) (D.tells sock.old × C.tells clock.old × J.tells journal.old)
+        (Fails (request_answer W.Future.answer W.Stream.answer) (serving (W.answer service.now) (W.hint service.now)) true
+        (world (J.noted journal.old) (D.mail sock.old) (D.failed_sends sock.old) (C.readings clock.old) _seat.now.known) state.old
+        (world (J.noted journal.new) (D.mail sock.new) (D.failed_sends sock.new) (C.readings clock.new) _seat.now.known))) }
+{
+    let event = note_now(
+        alloc,
+        clock,
+        journal,
+        number,
+        EventKind::Turn { request: 0 },
+    )?;
+    let done = turn_noted(
+        rt, alloc, _seat, service, sock, clock, journal, state, at, &event,
+    )?;
+    Ok(done)
+}
+
+/// The same with its look.
+fn poll_one<R: Wait, D: AsyncDgramSock, C: Clock, J: Recorder, W: Served>(
+    rt: &R,
+    alloc: Global,
+    book: &Book,
+    seat: &mut BookSeat,
+    service: &W,
+    sock: &mut D,
+    clock: &mut C,
+    journal: &mut J,
+    state: &mut Running<W>,
+    at: usize,
+    number: u64,
+) -> Result<bool, OutOfMemory>
+    requires book { seat.old.book ≡ book.now }
+    requires can_call { W.can_call service.now }
+    requires there { at < deque_len state.old.exchanges }
+    requires number { drop at (numbers_of state.old.exchanges.items) ≡ number ∷ drop (at + 1) (numbers_of state.old.exchanges.items) }
+    ensures owed { IfOk result (λ done. drop (if done then at else at + 1) (numbers_of state.new.exchanges.items) ≡ drop (at + 1) (numbers_of state.old.exchanges.items)) }
+    ensures next { OnOk result (state.new.next ≡ state.old.next) }
+    ensures passes { Passes seat.old.known seat.new.known state.old state.new (D.failed_sends sock.old) (D.failed_sends sock.new) }
+    ensures book { seat.new.book ≡ seat.old.book }
+    ensures receives { D.failed_receives sock.new ≡ D.failed_receives sock.old }
+    ensures told { OnOk result (Tells (D.tells sock.new × C.tells clock.new × J.tells journal.new) (D.tells sock.old × C.tells clock.old × J.tells journal.old)
+        (Turns (request_answer W.Future.answer W.Stream.answer) (serving (W.answer service.now) (W.hint service.now)) number false
+        (world (J.noted journal.old) (D.mail sock.old) (D.failed_sends sock.old) (C.readings clock.old) seat.old.known) state.old
+        (world (J.noted journal.new) (D.mail sock.new) (D.failed_sends sock.new) (C.readings clock.new) seat.new.known) state.new)) }
+    ensures no_memory { OnErr result (Tells (D.tells sock.new × C.tells clock.new × J.tells journal.new) (D.tells sock.old × C.tells clock.old × J.tells journal.old)
+        (Fails (request_answer W.Future.answer W.Stream.answer) (serving (W.answer service.now) (W.hint service.now)) false
+        (world (J.noted journal.old) (D.mail sock.old) (D.failed_sends sock.old) (C.readings clock.old) seat.old.known) state.old
+        (world (J.noted journal.new) (D.mail sock.new) (D.failed_sends sock.new) (C.readings clock.new) seat.new.known))) }
+{
+    look_once(rt, alloc, book, seat, service, sock, clock, journal, state)?;
+    let done = turn(
+        rt, alloc, seat, service, sock, clock, journal, state, at, number,
+    )?;
+    Ok(done)
+}
+
+/// The place behind one, unless what was there is kept no more.
+fn behind(at: usize, done: bool) -> usize
+    requires { at < 2 ^ 63 }
+    ensures { result ≡ (if done then at else at + 1) }
+{
+    if done { at } else { at + 1 }
+}
+
+/// Polls the exchange at a place, where there is one. The place of the next one is given.
+fn poll_at<R: Wait, D: AsyncDgramSock, C: Clock, J: Recorder, W: Served>(
+    rt: &R,
+    alloc: Global,
+    book: &Book,
+    seat: &mut BookSeat,
+    service: &W,
+    sock: &mut D,
+    clock: &mut C,
+    journal: &mut J,
+    state: &mut Running<W>,
+    at: usize,
+) -> Result<Option<usize>, OutOfMemory>
+    requires book { seat.old.book ≡ book.now }
+    requires can_call { W.can_call service.now }
+    ensures next { OnOk result (state.new.next ≡ state.old.next) }
+    ensures passes { Passes seat.old.known seat.new.known state.old state.new (D.failed_sends sock.old) (D.failed_sends sock.new) }
+    ensures book { seat.new.book ≡ seat.old.book }
+    ensures receives { D.failed_receives sock.new ≡ D.failed_receives sock.old }
+    ensures told { IfOk result (λ next. Tells (D.tells sock.new × C.tells clock.new × J.tells journal.new) (D.tells sock.old × C.tells clock.old × J.tells journal.old)
+        (Goes (request_answer W.Future.answer W.Stream.answer) (serving (W.answer service.now) (W.hint service.now))
+        (world (J.noted journal.old) (D.mail sock.old) (D.failed_sends sock.old) (C.readings clock.old) seat.old.known) state.old false (drop at (numbers_of state.old.exchanges.items))
+        (world (J.noted journal.new) (D.mail sock.new) (D.failed_sends sock.new) (C.readings clock.new) seat.new.known) state.new false (left_to next state.new.exchanges.items))) }
+    ensures no_memory { OnErr result (Tells (D.tells sock.new × C.tells clock.new × J.tells journal.new) (D.tells sock.old × C.tells clock.old × J.tells journal.old)
+        (Breaks (request_answer W.Future.answer W.Stream.answer) (serving (W.answer service.now) (W.hint service.now))
+        (world (J.noted journal.old) (D.mail sock.old) (D.failed_sends sock.old) (C.readings clock.old) seat.old.known) state.old false (drop at (numbers_of state.old.exchanges.items))
+        (world (J.noted journal.new) (D.mail sock.new) (D.failed_sends sock.new) (C.readings clock.new) seat.new.known))) }
+{
+    let Some(number) = number_at(&state.exchanges, at) else {
+        return Ok(None);
+    };
+    let done = poll_one(
+        rt, alloc, book, seat, service, sock, clock, journal, state, at, number,
+    )?;
+    Ok(Some(behind(at, done)))
+}
+
+/// Polls each exchange whose request isn't done once, by rising number.
+pub(crate) fn poll_all<R: Wait, D: AsyncDgramSock, C: Clock, J: Recorder, W: Served>(
+    rt: &R,
+    alloc: Global,
+    book: &Book,
+    seat: &mut BookSeat,
+    service: &W,
+    sock: &mut D,
+    clock: &mut C,
+    journal: &mut J,
+    state: &mut Running<W>,
+) -> Result<(), OutOfMemory>
+    requires book { seat.old.book ≡ book.now }
+    requires can_call { W.can_call service.now }
+    ensures next { OnOk result (state.new.next ≡ state.old.next) }
+    ensures passes { Passes seat.old.known seat.new.known state.old state.new (D.failed_sends sock.old) (D.failed_sends sock.new) }
+    ensures book { seat.new.book ≡ seat.old.book }
+    ensures receives { D.failed_receives sock.new ≡ D.failed_receives sock.old }
+    ensures told { OnOk result (Tells (D.tells sock.new × C.tells clock.new × J.tells journal.new) (D.tells sock.old × C.tells clock.old × J.tells journal.old)
+        (Goes (request_answer W.Future.answer W.Stream.answer) (serving (W.answer service.now) (W.hint service.now))
+        (world (J.noted journal.old) (D.mail sock.old) (D.failed_sends sock.old) (C.readings clock.old) seat.old.known) state.old false (numbers_of state.old.exchanges.items)
+        (world (J.noted journal.new) (D.mail sock.new) (D.failed_sends sock.new) (C.readings clock.new) seat.new.known) state.new false [])) }
+    ensures no_memory { OnErr result (Tells (D.tells sock.new × C.tells clock.new × J.tells journal.new) (D.tells sock.old × C.tells clock.old × J.tells journal.old)
+        (Breaks (request_answer W.Future.answer W.Stream.answer) (serving (W.answer service.now) (W.hint service.now))
+        (world (J.noted journal.old) (D.mail sock.old) (D.failed_sends sock.old) (C.readings clock.old) seat.old.known) state.old false (numbers_of state.old.exchanges.items)
+        (world (J.noted journal.new) (D.mail sock.new) (D.failed_sends sock.new) (C.readings clock.new) seat.new.known))) }
+{
+    let mut at = 0;
+    for _ in rt.forever() {
+        match poll_at(
+            rt, alloc, book, seat, service, sock, clock, journal, state, at,
+        )? {
+            None => return Ok(()),
+            Some(next) => at = next,
+        }
+    }
+    unreachable!()
+}
+
+/// Polls each exchange to its end.
+pub(crate) fn finish<R: Wait, D: AsyncDgramSock, C: Clock, J: Recorder, W: Served>(
+    rt: &R,
+    alloc: Global,
+    book: &Book,
+    seat: &mut BookSeat,
+    service: &W,
+    sock: &mut D,
+    clock: &mut C,
+    journal: &mut J,
+    state: &mut Running<W>,
+) -> Result<(), OutOfMemory>
+    requires book { seat.old.book ≡ book.now }
+    requires can_call { W.can_call service.now }
+    ensures next { OnOk result (state.new.next ≡ state.old.next) }
+    ensures passes { Passes seat.old.known seat.new.known state.old state.new (D.failed_sends sock.old) (D.failed_sends sock.new) }
+    ensures book { seat.new.book ≡ seat.old.book }
+    ensures receives { D.failed_receives sock.new ≡ D.failed_receives sock.old }
+    ensures told { OnOk result (Tells (D.tells sock.new × C.tells clock.new × J.tells journal.new) (D.tells sock.old × C.tells clock.old × J.tells journal.old)
+        (Finished (request_answer W.Future.answer W.Stream.answer) (serving (W.answer service.now) (W.hint service.now))
+        (world (J.noted journal.old) (D.mail sock.old) (D.failed_sends sock.old) (C.readings clock.old) seat.old.known) state.old
+        (world (J.noted journal.new) (D.mail sock.new) (D.failed_sends sock.new) (C.readings clock.new) seat.new.known) state.new)) }
+    ensures no_memory { OnErr result (Tells (D.tells sock.new × C.tells clock.new × J.tells journal.new) (D.tells sock.old × C.tells clock.old × J.tells journal.old)
+        (Breaks (request_answer W.Future.answer W.Stream.answer) (serving (W.answer service.now) (W.hint service.now))
+        (world (J.noted journal.old) (D.mail sock.old) (D.failed_sends sock.old) (C.readings clock.old) seat.old.known) state.old false []
+        (world (J.noted journal.new) (D.mail sock.new) (D.failed_sends sock.new) (C.readings clock.new) seat.new.known))) }
+{
+    for _ in rt.forever() {
+        if state.exchanges.is_empty() {
+            return Ok(());
+        }
+        sock.readable(rt, PAUSE);
+        poll_all(rt, alloc, book, seat, service, sock, clock, journal, state)?;
+    }
+    unreachable!()
+}

@@ -1,0 +1,272 @@
+//! Receives.
+
+ghost use Rattle.std.specs.Prelude.{◌≡◌, ◌≤◌, ◌<◌, ◌-◌, ◌^◌, [], true, false, length, IfOk, OnOk, OnErr};
+ghost use Rattle.dns_outside.specs.Causes.{Tells};
+ghost use Rattle.dns_client.specs.Serving.{serving};
+ghost use Rattle.dns_service.specs.PolledRequest.{request_answer};
+ghost use Rattle.dns_service.specs.declared.event.EventKind.TheVariants.{Datagram};
+ghost use Rattle.dns_datagrams.specs.DatagramsServed.{ReceivesBy, world};
+ghost use Rattle.dns_datagrams.specs.DatagramLoop.{Begins, BeginFails, Receives, ReceivedSo, Rounded, RoundedSo, Stopped, Breaks, Passes, SinceNoted};
+
+use crate::exchanges::begin;
+use crate::looks::look_once;
+use crate::notes::note_datagram;
+use crate::polls::{PAUSE, poll_all};
+use crate::running::Running;
+use crate::sends::deliver;
+use crate::serving::DgramEnd;
+use dns_book::{Book, BookSeat};
+use dns_name::SocketAddr;
+use dns_notes::{PATIENCE, Recorder};
+use dns_outside::{AsyncDgramSock, Clock, DgramRecv};
+use dns_service::{Event, OutOfMemory, Served};
+use std::alloc::Global;
+use std::sync::Wait;
+
+/// A receive was made, by which a datagram began an exchange or none was there yet; or it failed.
+#[derive(Clone, Copy, Debug, PartialEq, Eq)]
+pub(crate) enum Receipt {
+    Made,
+    Failed,
+}
+
+/// How a round ended: with a look that showed a shutdown, or a receive that failed.
+#[derive(Clone, Copy, Debug, PartialEq, Eq)]
+pub(crate) enum Lap {
+    Whole,
+    Over,
+    Failed,
+}
+
+#[tactic(auto, using(crate::proofs::DatagramPasses::passes_kept))]
+/// Begins the exchange of a datagram that was noted, and sends what it leads to at once.
+fn begin_noted<R: Wait, D: AsyncDgramSock, C: Clock, J: Recorder, W: Served>(
+    rt: &R,
+    alloc: Global,
+    _seat: &BookSeat,
+    service: &W,
+    sock: &mut D,
+    clock: &mut C,
+    journal: &mut J,
+    state: &mut Running<W>,
+    event: &Event,
+    octets: &[u8],
+    from: SocketAddr,
+) -> Result<(), OutOfMemory>
+    requires can_call { W.can_call service.now }
+    requires running { state.old.heard.closed ≡ false }
+    requires room { state.old.next < 2 ^ 64 - 1 }
+    requires of { (event.now.client ≡ state.old.next) × (event.now.kind ≡ Datagram from octets.now) }
+    ensures receives { D.failed_receives sock.new ≡ D.failed_receives sock.old }
+    ensures passes { Passes _seat.now.known _seat.now.known state.old state.new (D.failed_sends sock.old) (D.failed_sends sock.new) }
+    ensures told { OnOk result (Tells (D.tells sock.new × C.tells clock.new × J.tells journal.new) (D.tells sock.old × C.tells clock.old × J.tells journal.old)
+        (SinceNoted event.now (λ w. Begins (request_answer W.Future.answer W.Stream.answer) (serving (W.answer service.now) (W.hint service.now)) octets.now from w state.old
+        (world (J.noted journal.new) (D.mail sock.new) (D.failed_sends sock.new) (C.readings clock.new) _seat.now.known) state.new)
+        (world (J.noted journal.old) (D.mail sock.old) (D.failed_sends sock.old) (C.readings clock.old) _seat.now.known))) }
+    ensures no_memory { OnErr result (Tells (D.tells sock.new × C.tells clock.new × J.tells journal.new) (D.tells sock.old × C.tells clock.old × J.tells journal.old)
+        (SinceNoted event.now (λ w. BeginFails (request_answer W.Future.answer W.Stream.answer) (serving (W.answer service.now) (W.hint service.now)) octets.now from w state.old
+        (world (J.noted journal.new) (D.mail sock.new) (D.failed_sends sock.new) (C.readings clock.new) _seat.now.known))
+        (world (J.noted journal.old) (D.mail sock.old) (D.failed_sends sock.old) (C.readings clock.old) _seat.now.known))) }
+{
+    let letter = begin(
+        alloc,
+        service,
+        &mut state.exchanges,
+        event,
+        from,
+        octets,
+        &state.heard,
+    )?;
+    state.next += 1;
+    let limit = state.heard.dgram.write_timeout();
+    deliver(
+        rt,
+        alloc,
+        sock,
+        clock,
+        journal,
+        &mut state.send_failed,
+        event,
+        letter,
+        limit,
+    )
+}
+
+#[tactic(auto, using(crate::proofs::DatagramPasses::passes_same))]
+/// Notes a datagram that was received, and begins its exchange.
+fn take_datagram<R: Wait, D: AsyncDgramSock, C: Clock, J: Recorder, W: Served>(
+    rt: &R,
+    alloc: Global,
+    _seat: &BookSeat,
+    service: &W,
+    sock: &mut D,
+    clock: &mut C,
+    journal: &mut J,
+    state: &mut Running<W>,
+    octets: &[u8],
+    from: SocketAddr,
+) -> Result<(), OutOfMemory>
+    requires can_call { W.can_call service.now }
+    requires running { state.old.heard.closed ≡ false }
+    requires room { state.old.next < 2 ^ 64 - 1 }
+    ensures receives { D.failed_receives sock.new ≡ D.failed_receives sock.old }
+    ensures passes { Passes _seat.now.known _seat.now.known state.old state.new (D.failed_sends sock.old) (D.failed_sends sock.new) }
+    ensures told { OnOk result (Tells (D.tells sock.new × C.tells clock.new × J.tells journal.new) (D.tells sock.old × C.tells clock.old × J.tells journal.old)
+        (Begins (request_answer W.Future.answer W.Stream.answer) (serving (W.answer service.now) (W.hint service.now)) octets.now from
+        (world (J.noted journal.old) (D.mail sock.old) (D.failed_sends sock.old) (C.readings clock.old) _seat.now.known) state.old
+        (world (J.noted journal.new) (D.mail sock.new) (D.failed_sends sock.new) (C.readings clock.new) _seat.now.known) state.new)) }
+    ensures no_memory { OnErr result (Tells (D.tells sock.new × C.tells clock.new × J.tells journal.new) (D.tells sock.old × C.tells clock.old × J.tells journal.old)
+        (BeginFails (request_answer W.Future.answer W.Stream.answer) (serving (W.answer service.now) (W.hint service.now)) octets.now from
+        (world (J.noted journal.old) (D.mail sock.old) (D.failed_sends sock.old) (C.readings clock.old) _seat.now.known) state.old
+        (world (J.noted journal.new) (D.mail sock.new) (D.failed_sends sock.new) (C.readings clock.new) _seat.now.known))) }
+{
+    let event = note_datagram(alloc, clock, journal, state.next, octets, from)?;
+    begin_noted(
+        rt, alloc, _seat, service, sock, clock, journal, state, &event, octets, from,
+    )?;
+    Ok(())
+}
+
+/// How long a receive may be waited for: not long where an exchange is to be polled again.
+fn patience<W: Served>(state: &Running<W>) -> u64 {
+    if state.exchanges.is_empty() {
+        PATIENCE
+    } else {
+        PAUSE
+    }
+}
+
+#[tactic(auto, using(crate::proofs::DatagramPasses::passes_same))]
+/// One receive. Where no datagram is there it waits.
+fn receive<R: Wait, D: AsyncDgramSock, C: Clock, J: Recorder, W: Served>(
+    rt: &R,
+    alloc: Global,
+    seat: &BookSeat,
+    service: &W,
+    sock: &mut D,
+    clock: &mut C,
+    journal: &mut J,
+    state: &mut Running<W>,
+    buf: &mut [u8],
+) -> Result<Receipt, OutOfMemory>
+    requires can_call { W.can_call service.now }
+    requires running { state.old.heard.closed ≡ false }
+    requires room { state.old.next < 2 ^ 64 - 1 }
+    requires buffer { length buf.old ≡ 1024 }
+    ensures receives { D.failed_receives sock.old ≤ D.failed_receives sock.new }
+    ensures passes { Passes seat.now.known seat.now.known state.old state.new (D.failed_sends sock.old) (D.failed_sends sock.new) }
+    ensures cause { ReceivedSo result (D.failed_receives sock.old) (D.failed_receives sock.new) }
+    ensures told { IfOk result (λ receipt. Tells (D.tells sock.new × C.tells clock.new × J.tells journal.new) (D.tells sock.old × C.tells clock.old × J.tells journal.old)
+        (Receives (request_answer W.Future.answer W.Stream.answer) (serving (W.answer service.now) (W.hint service.now)) receipt
+        (world (J.noted journal.old) (D.mail sock.old) (D.failed_sends sock.old) (C.readings clock.old) seat.now.known) state.old
+        (world (J.noted journal.new) (D.mail sock.new) (D.failed_sends sock.new) (C.readings clock.new) seat.now.known) state.new)) }
+    ensures no_memory { OnErr result (Tells (D.tells sock.new × C.tells clock.new × J.tells journal.new) (D.tells sock.old × C.tells clock.old × J.tells journal.old)
+        (Breaks (request_answer W.Future.answer W.Stream.answer) (serving (W.answer service.now) (W.hint service.now))
+        (world (J.noted journal.old) (D.mail sock.old) (D.failed_sends sock.old) (C.readings clock.old) seat.now.known) state.old true []
+        (world (J.noted journal.new) (D.mail sock.new) (D.failed_sends sock.new) (C.readings clock.new) seat.now.known))) }
+{
+    match sock.try_recv_buf_from(buf) {
+        DgramRecv::Failed => Ok(Receipt::Failed),
+        DgramRecv::Again => {
+            sock.readable(rt, patience(state));
+            Ok(Receipt::Made)
+        }
+        DgramRecv::Got(count, from) => {
+            let octets = &buf[..count];
+            take_datagram(
+                rt, alloc, seat, service, sock, clock, journal, state, octets, from,
+            )?;
+            Ok(Receipt::Made)
+        }
+    }
+}
+
+/// One look, one receive, and a poll of each unfinished exchange.
+fn round<R: Wait, D: AsyncDgramSock, C: Clock, J: Recorder, W: Served>(
+    rt: &R,
+    alloc: Global,
+    book: &Book,
+    seat: &mut BookSeat,
+    service: &W,
+    sock: &mut D,
+    clock: &mut C,
+    journal: &mut J,
+    state: &mut Running<W>,
+    buf: &mut [u8],
+) -> Result<Lap, OutOfMemory>
+    requires book { seat.old.book ≡ book.now }
+    requires can_call { W.can_call service.now }
+    requires room { state.old.next < 2 ^ 64 - 1 }
+    requires buffer { length buf.old ≡ 1024 }
+    ensures passes { Passes seat.old.known seat.new.known state.old state.new (D.failed_sends sock.old) (D.failed_sends sock.new) }
+    ensures book { seat.new.book ≡ seat.old.book }
+    ensures receives { D.failed_receives sock.old ≤ D.failed_receives sock.new }
+    ensures cause { RoundedSo result (D.failed_receives sock.old) (D.failed_receives sock.new) }
+    ensures closed { IfOk result (λ lap. lap ≡ Lap.Over → state.new.heard.closed ≡ true) }
+    ensures told { IfOk result (λ lap. Tells (D.tells sock.new × C.tells clock.new × J.tells journal.new) (D.tells sock.old × C.tells clock.old × J.tells journal.old)
+        (Rounded (request_answer W.Future.answer W.Stream.answer) (serving (W.answer service.now) (W.hint service.now)) lap
+        (world (J.noted journal.old) (D.mail sock.old) (D.failed_sends sock.old) (C.readings clock.old) seat.old.known) state.old
+        (world (J.noted journal.new) (D.mail sock.new) (D.failed_sends sock.new) (C.readings clock.new) seat.new.known) state.new)) }
+    ensures no_memory { OnErr result (Tells (D.tells sock.new × C.tells clock.new × J.tells journal.new) (D.tells sock.old × C.tells clock.old × J.tells journal.old)
+        (Breaks (request_answer W.Future.answer W.Stream.answer) (serving (W.answer service.now) (W.hint service.now))
+        (world (J.noted journal.old) (D.mail sock.old) (D.failed_sends sock.old) (C.readings clock.old) seat.old.known) state.old false []
+        (world (J.noted journal.new) (D.mail sock.new) (D.failed_sends sock.new) (C.readings clock.new) seat.new.known))) }
+{
+    look_once(rt, alloc, book, seat, service, sock, clock, journal, state)?;
+    if state.heard.closed {
+        return Ok(Lap::Over);
+    }
+    match receive(rt, alloc, seat, service, sock, clock, journal, state, buf)? {
+        Receipt::Failed => Ok(Lap::Failed),
+        Receipt::Made => {
+            poll_all(rt, alloc, book, seat, service, sock, clock, journal, state)?;
+            Ok(Lap::Whole)
+        }
+    }
+}
+
+/// Receives until so many datagrams came, a look shows a shutdown, or a receive fails.
+pub(crate) fn take_all<R: Wait, D: AsyncDgramSock, C: Clock, J: Recorder, W: Served>(
+    rt: &R,
+    alloc: Global,
+    book: &Book,
+    seat: &mut BookSeat,
+    service: &W,
+    sock: &mut D,
+    clock: &mut C,
+    journal: &mut J,
+    state: &mut Running<W>,
+    buf: &mut [u8],
+    count: u64,
+) -> DgramEnd
+    requires book { seat.old.book ≡ book.now }
+    requires can_call { W.can_call service.now }
+    requires buffer { length buf.old ≡ 1024 }
+    ensures passes { Passes seat.old.known seat.new.known state.old state.new (D.failed_sends sock.old) (D.failed_sends sock.new) }
+    ensures book { seat.new.book ≡ seat.old.book }
+    ensures receives { D.failed_receives sock.old ≤ D.failed_receives sock.new }
+    ensures cause { ReceivesBy result (D.failed_receives sock.old) (D.failed_receives sock.new) }
+    ensures closed { result ≡ DgramEnd.Shutdown → state.new.heard.closed ≡ true }
+    ensures told { Tells (D.tells sock.new × C.tells clock.new × J.tells journal.new) (D.tells sock.old × C.tells clock.old × J.tells journal.old)
+        (Stopped (request_answer W.Future.answer W.Stream.answer) (serving (W.answer service.now) (W.hint service.now)) result count
+        (world (J.noted journal.old) (D.mail sock.old) (D.failed_sends sock.old) (C.readings clock.old) seat.old.known) state.old
+        (world (J.noted journal.new) (D.mail sock.new) (D.failed_sends sock.new) (C.readings clock.new) seat.new.known) state.new) }
+{
+    for _ in rt.forever() {
+        if state.next == u64::MAX {
+            return DgramEnd::Counted;
+        }
+        if count != 0 && state.next == count {
+            return DgramEnd::Counted;
+        }
+        match round(
+            rt, alloc, book, seat, service, sock, clock, journal, state, buf,
+        ) {
+            Ok(Lap::Whole) => {}
+            Ok(Lap::Over) => return DgramEnd::Shutdown,
+            Ok(Lap::Failed) => return DgramEnd::Fault,
+            Err(_) => return DgramEnd::OutOfMemory,
+        }
+    }
+    unreachable!()
+}

@@ -1,0 +1,44 @@
+//! What the loop of datagrams keeps.
+
+ghost use Rattle.std.specs.Prelude.{◌≡◌, ℕ, [], false};
+ghost use Rattle.dns_datagrams.specs.DatagramSteps.{kept_at};
+
+use dns_admission::Look;
+use dns_client::ClientCore;
+use dns_name::SocketAddr;
+use dns_service::Served;
+use std::alloc::Global;
+use std::collections::VecDeque;
+
+/// What is kept of an exchange whose request isn't done: its number, its core, and where its answers go.
+#[derive(Drop)]
+pub(crate) struct KeptExchange<W: Served> {
+    pub(crate) number: u64,
+    pub(crate) core: ClientCore<W>,
+    pub(crate) addr: SocketAddr,
+}
+
+/// The exchanges whose requests aren't done, by rising number, the number of the next one, and what was heard of the book: its version, the
+/// configurations in force, and whether it was shut down. And whether a send failed.
+#[derive(Drop)]
+pub(crate) struct Running<W: Served> {
+    pub(crate) exchanges: VecDeque<KeptExchange<W>>,
+    pub(crate) next: u64,
+    pub(crate) heard: Look,
+    pub(crate) send_failed: bool,
+}
+
+/// Nothing was received yet, and this was heard.
+pub(crate) fn begun<W: Served>(alloc: Global, heard: Look) -> Running<W>
+    ensures empty { (c : ℕ) → kept_at c result.exchanges.items ≡ [] }
+    ensures next { result.next ≡ 0 }
+    ensures heard { result.heard ≡ heard }
+    ensures sends { result.send_failed ≡ false }
+{
+    Running {
+        exchanges: VecDeque::new(alloc),
+        next: 0,
+        heard,
+        send_failed: false,
+    }
+}

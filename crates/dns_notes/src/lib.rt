@@ -1,0 +1,10 @@
+//! What loops of serving note: events in a recorder, each with a reading of the clock, and the news of a look among them.
+#![tactic(auto)]
+
+mod moments;
+mod news;
+mod recorder;
+
+pub use moments::{PATIENCE, note_moment, now_is};
+pub use news::{note_shutdown, note_version};
+pub use recorder::{Kept, Recorder, Silent};

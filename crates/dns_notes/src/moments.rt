@@ -1,0 +1,52 @@
+//! Events of now, and how long a loop waits for one.
+
+ghost use Rattle.std.specs.Prelude.{◌≡◌, [], ◌∷◌, ◌++◌, IfOk, OnErr};
+ghost use Rattle.dns_outside.specs.Causes.{Tells};
+ghost use Rattle.dns_notes.specs.Clocks.{Timed, write_count};
+ghost use Rattle.dns_notes.specs.Notes.{NotedMoment};
+
+use crate::recorder::Recorder;
+use dns_outside::Clock;
+use dns_service::{Event, EventKind, OutOfMemory};
+use std::alloc::Global;
+
+/// How many milliseconds one wait lasts at most.
+pub const PATIENCE: u64 = 250;
+
+/// An event of now, by one reading of the clock.
+pub fn now_is<C: Clock>(clock: &mut C, client: u64, kind: EventKind) -> Event
+    ensures dated { Tells (C.tells clock.new) (C.tells clock.old) (C.readings clock.new ≡ C.readings clock.old ++ (result.at, result.secs) ∷ []) }
+    ensures client { result.client ≡ client }
+    ensures kind { result.kind ≡ kind }
+{
+    let (at, secs) = clock.now();
+    Event {
+        at,
+        secs,
+        client,
+        kind,
+    }
+}
+
+#[tactic(auto, using(crate::proofs::Notings::noted_moment, crate::proofs::Notings::timed_moment))]
+/// Notes an event of now that is no Write. The answer is its moment.
+pub fn note_moment<C: Clock, J: Recorder>(
+    alloc: Global,
+    client: u64,
+    kind: EventKind,
+    clock: &mut C,
+    journal: &mut J,
+) -> Result<u64, OutOfMemory>
+    requires { write_count kind ≡ 0 }
+    ensures told { IfOk result (λ at. Tells (J.tells journal.new) (J.tells journal.old) (NotedMoment client kind at (J.noted journal.old) (J.noted journal.new))) }
+    ensures clock { IfOk result (λ at. Tells (C.tells clock.new × J.tells journal.new) (C.tells clock.old × J.tells journal.old)
+        (Timed (J.noted journal.old) (J.noted journal.new) 0 0 (C.readings clock.old) (C.readings clock.new))) }
+    ensures no_memory { OnErr result (Tells (J.tells journal.new) (J.tells journal.old) (J.noted journal.new ≡ J.noted journal.old)) }
+    ensures clock_no_memory { OnErr result (Tells (C.tells clock.new × J.tells journal.new) (C.tells clock.old × J.tells journal.old) (J.noted journal.new ≡ J.noted journal.old)) }
+{
+    let event = now_is(clock, client, kind);
+    match journal.note(alloc, &event) {
+        Ok(()) => Ok(event.at),
+        Err(error) => Err(error),
+    }
+}
