@@ -14,7 +14,7 @@ use Rattle.dns_trace.specs.declared.reason.Reason.TheVariants.{Value}
 use Rattle.dns_script.specs.declared.rule.ScriptAnswer.{ScriptAnswer}
 use Rattle.dns_script.specs.declared.rule.ScriptAnswer.TheVariants.{Pend, Error, Feedback, Reply, Both}
 use Rattle.dns_script.specs.declared.rule.ScriptReply.{ScriptReply}
-use Rattle.dns_script.specs.declared.rule.ScriptReply.TheVariants.{Rcode, Blank, Fill, Opt}
+use Rattle.dns_script.specs.declared.rule.ScriptReply.TheVariants.{Rcode, Blank, Fill, Opt, Live}
 
 -- a reply with so many zeros: fill:L and opt:L with L at most 65,000
 unfoldable pub sized_reply : List ℕ → Result ScriptReply Reason
@@ -23,11 +23,16 @@ sized_reply w =
     else if bytes_eq (take 4 w) (codes "opt:") then (number 20 65001 (drop 4 w) >>= λ n. Ok (Opt n))
     else Err Value
 
--- a reply: rcode:N and blank:N with N below 16, or one with zeros
+-- a reply with a time to live, which is below 2^32
+abbrev pub timed_reply : List ℕ → Result ScriptReply Reason
+timed_reply w = number 20 4294967296 w >>= λ n. Ok (Live n)
+
+-- a reply: rcode:N and blank:N with N below 16, live:T, or one with zeros
 unfoldable pub reply_word : List ℕ → Result ScriptReply Reason
 reply_word w =
     if bytes_eq (take 6 w) (codes "rcode:") then (number 20 16 (drop 6 w) >>= λ n. Ok (Rcode n))
     else if bytes_eq (take 6 w) (codes "blank:") then (number 20 16 (drop 6 w) >>= λ n. Ok (Blank n))
+    else if bytes_eq (take 5 w) (codes "live:") then timed_reply (drop 5 w)
     else sized_reply w
 
 -- a feedback: begin, end, and idle:NUM in milliseconds

@@ -16,7 +16,7 @@ use Rattle.dns_script.specs.declared.rule.Rule.{Rule}
 use Rattle.dns_script.specs.declared.rule.ScriptAnswer.{ScriptAnswer}
 use Rattle.dns_script.specs.declared.rule.ScriptAnswer.TheVariants.{Pend, Error, Feedback, Reply, Both}
 use Rattle.dns_script.specs.declared.rule.ScriptReply.{ScriptReply}
-use Rattle.dns_script.specs.declared.rule.ScriptReply.TheVariants.{Rcode, Blank, Fill, Opt}
+use Rattle.dns_script.specs.declared.rule.ScriptReply.TheVariants.{Rcode, Blank, Fill, Opt, Live}
 use Rattle.dns_script.specs.Rules.{answers_for, name_asked}
 
 -- a new builder: the empty message, which may take 65,535 octets
@@ -39,15 +39,30 @@ blank_reply code = replied (record empty { header = record zero_header { rcode =
 abbrev pub replied_within : Built → Built → Item
 replied_within whole b = if within_limit whole then replied b.message else Err InternalError
 
--- an answer of the root's name, type 65280 and class 1, with so many zeros
+-- a reply with the response code 0 and this answer
+abbrev pub answered_with : List ℕ → ResourceRecord → Item
+answered_with o rr =
+    if have_room new_builder o 0
+    then replied_within (with_answer (answer_to new_builder o 0) rr) (with_answer (answer_to new_builder o 0) rr)
+    else Err InternalError
+
+-- an answer of the root's name, type 65280 and class 1, with this time to live and these octets
+abbrev pub private_record : ℕ → List ℕ → ResourceRecord
+private_record seconds o = record { owner = []; rtype = 65280; class = 1; ttl = seconds; rdata = o }
+
+-- so many zeros, and the time to live 0
 abbrev pub fill_record : ℕ → ResourceRecord
-fill_record n = record { owner = []; rtype = 65280; class = 1; ttl = 0; rdata = replicate n 0 }
+fill_record n = private_record 0 (replicate n 0)
 
 abbrev pub fill_reply : List ℕ → ℕ → Item
-fill_reply o n =
-    if have_room new_builder o 0
-    then replied_within (with_answer (answer_to new_builder o 0) (fill_record n)) (with_answer (answer_to new_builder o 0) (fill_record n))
-    else Err InternalError
+fill_reply o n = answered_with o (fill_record n)
+
+-- this time to live, and no octets
+abbrev pub live_record : ℕ → ResourceRecord
+live_record seconds = private_record seconds []
+
+abbrev pub live_reply : List ℕ → ℕ → Item
+live_reply o seconds = answered_with o (live_record seconds)
 
 -- an OPT record of size 0 with a padding of so many zeros
 abbrev pub padded_draft : Built → ℕ → OptDraft
@@ -69,6 +84,7 @@ reply_item o (Rcode code) = played_reply o code
 reply_item o (Blank code) = blank_reply code
 reply_item o (Fill n) = fill_reply o n
 reply_item o (Opt n) = opt_reply o n
+reply_item o (Live seconds) = live_reply o seconds
 
 -- a reply with a feedback; an error has none
 abbrev pub told_with : ServiceFeedback → Item → Item

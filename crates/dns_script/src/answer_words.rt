@@ -4,10 +4,10 @@ ghost use Rattle.std.specs.Prelude.{◌≡◌, [], MatchOption, take, drop, leng
 ghost use Rattle.std.specs.Str.{bytes_eq};
 ghost use Rattle.dns_trace.specs.Reading.{GivesLine};
 ghost use Rattle.dns_trace.specs.Values.{number};
-ghost use Rattle.dns_script.specs.AnswerWords.{answer_in, answer_of, answers_after, double_answer, error_word, feedback_or, feedback_word, reply_word, single_answer, sized_reply};
+ghost use Rattle.dns_script.specs.AnswerWords.{answer_in, answer_of, answers_after, double_answer, error_word, feedback_or, feedback_word, reply_word, single_answer, sized_reply, timed_reply};
 
 use crate::rule::{ScriptAnswer, ScriptAnswers, ScriptReply};
-use dns_name::Rcode;
+use dns_name::{Rcode, Ttl};
 use dns_service::{ServiceError, ServiceFeedback};
 use dns_trace::{LineError, Reason, Words, decimal, num};
 use std::alloc::Global;
@@ -41,7 +41,15 @@ fn octets(word: &[u8]) -> Result<u16, Reason>
     Ok(number as u16)
 }
 
-/// A reply: `rcode:N`, `blank:N`, `fill:L` or `opt:L`.
+/// A reply with a time to live of 32 bits.
+fn timed_reply(word: &[u8]) -> Result<ScriptReply, Reason>
+    ensures { result ≡ timed_reply word.now }
+{
+    let number = decimal(word, 20, 4294967296)?;
+    Ok(ScriptReply::Live(Ttl::from_secs(number as u32)))
+}
+
+/// A reply: `rcode:N`, `blank:N`, `live:T`, `fill:L` or `opt:L`.
 #[tactic(auto, unfolding(crate::specs::AnswerWords::reply_word))]
 fn reply(word: &[u8]) -> Result<ScriptReply, Reason>
     ensures { result ≡ reply_word word.now }
@@ -51,6 +59,9 @@ fn reply(word: &[u8]) -> Result<ScriptReply, Reason>
     }
     if let Some(rest) = behind(word, b"blank:".as_slice()) {
         return Ok(ScriptReply::Blank(rcode(rest)?));
+    }
+    if let Some(rest) = behind(word, b"live:".as_slice()) {
+        return timed_reply(rest);
     }
     sized_reply(word)
 }

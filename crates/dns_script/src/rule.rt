@@ -3,7 +3,7 @@
 ghost use Rattle.std.specs.Prelude.{◌≡◌, IfOk};
 
 use crate::rule_list::RuleList;
-use dns_name::{Name, OutOfMemory, Rcode};
+use dns_name::{Name, OutOfMemory, Rcode, Ttl};
 use dns_service::{ServiceError, ServiceFeedback};
 use std::alloc::Global;
 use std::marker::Model;
@@ -20,6 +20,8 @@ pub enum ScriptReply {
     Fill(u16),
     /// A reply with the request's questions and an OPT record with a padding of so many zeros.
     Opt(u16),
+    /// A reply with the request's questions and an answer of this time to live and no data.
+    Live(Ttl),
 }
 
 /// The answer of one poll.

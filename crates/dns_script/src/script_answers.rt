@@ -1,12 +1,12 @@
 //! The answers of a script, made for a message.
 
-ghost use Rattle.std.specs.Prelude.{◌≡◌, IfErr, IfOk, MatchOption, OnOk, Some, true, false};
+ghost use Rattle.std.specs.Prelude.{◌≡◌, IfErr, IfOk, MatchOption, OnOk, Some, replicate, true, false};
 ghost use Rattle.std.specs.Result.{result_map_both};
 ghost use Rattle.dns_base.specs.Built.{with_answer};
 ghost use Rattle.dns_base.specs.Records.{IsLawful, record_of};
 ghost use Rattle.dns_base.specs.Replies.{answer_to, have_room, within_limit};
 ghost use Rattle.dns_opt.specs.Drafts.{with_opt, with_opt_record};
-ghost use Rattle.dns_script.specs.Played.{PutsPadding, blank_reply, fill_record, fill_reply, given, new_builder, opt_reply, padded_draft, played_reply, replied_within, reply_item, told_with};
+ghost use Rattle.dns_script.specs.Played.{PutsPadding, blank_reply, answered_with, given, new_builder, opt_reply, padded_draft, played_reply, private_record, replied_within, reply_item, told_with};
 
 use crate::rule::{ScriptAnswer, ScriptReply};
 use dns_base::{
@@ -47,8 +47,9 @@ fn make_item(
     match reply {
         ScriptReply::Rcode(rcode) => make_reply(alloc, message, rcode),
         ScriptReply::Blank(rcode) => make_blank(alloc, rcode),
-        ScriptReply::Fill(len) => make_filled(alloc, message, len),
+        ScriptReply::Fill(len) => make_answered(alloc, message, Ttl::from_secs(0), len),
         ScriptReply::Opt(len) => make_padded(alloc, message, len),
+        ScriptReply::Live(ttl) => make_answered(alloc, message, ttl, 0),
     }
 }
 
@@ -113,34 +114,45 @@ fn make_blank(alloc: Global, rcode: Rcode) -> Result<ServiceResult, OutOfMemory>
     Ok(Ok(CallResult::new(reply.additional())))
 }
 
-/// A reply with an answer of so many zeros, or the error `servfail` where something has no room.
-fn make_filled(alloc: Global, message: &Message, len: u16) -> Result<ServiceResult, OutOfMemory>
-    ensures { IfOk result (λ i. i ≡ fill_reply message.now len) }
+/// A reply with an answer of this time to live and so many zeros, or the error `servfail` where
+/// something has no room.
+fn make_answered(
+    alloc: Global,
+    message: &Message,
+    ttl: Ttl,
+    len: u16,
+) -> Result<ServiceResult, OutOfMemory>
+    ensures { IfOk result (λ i. i ≡ answered_with message.now (private_record ttl (replicate len 0))) }
 {
     match begin(alloc, message, Rcode::NOERROR)? {
-        Some(reply) => fill(alloc, reply, len),
+        Some(reply) => append(alloc, reply, ttl, len),
         None => Ok(Err(ServiceError::InternalError)),
     }
 }
 
-/// What is begun with an answer of so many zeros more.
-fn fill(alloc: Global, reply: AnswerBuilder, len: u16) -> Result<ServiceResult, OutOfMemory>
-    ensures { IfOk result (λ i. i ≡ replied_within (with_answer reply (fill_record len)) (with_answer reply (fill_record len))) }
+/// What is begun with an answer of this time to live and so many zeros more.
+fn append(
+    alloc: Global,
+    reply: AnswerBuilder,
+    ttl: Ttl,
+    len: u16,
+) -> Result<ServiceResult, OutOfMemory>
+    ensures { IfOk result (λ i. i ≡ replied_within (with_answer reply (private_record ttl (replicate len 0))) (with_answer reply (private_record ttl (replicate len 0)))) }
 {
     let mut reply = reply;
-    match put_zeros(&mut reply, alloc, len) {
+    match put_zeros(&mut reply, alloc, ttl, len) {
         Ok(()) => Ok(Ok(CallResult::new(reply.additional()))),
         Err(PushError::ShortBuf) => Ok(Err(ServiceError::InternalError)),
         Err(PushError::OutOfMemory) => Err(OutOfMemory),
     }
 }
 
-/// Appends an answer of so many zeros, where it has room.
-fn put_zeros(reply: &mut AnswerBuilder, alloc: Global, len: u16) -> Result<(), PushError>
-    ensures added { OnOk result ((reply.new ≡ with_answer reply.old (fill_record len)) × (within_limit (with_answer reply.old (fill_record len)) ≡ true)) }
-    ensures full { IfErr result (λ e. e ≡ PushError.ShortBuf → within_limit (with_answer reply.old (fill_record len)) ≡ false) }
+/// Appends an answer of this time to live and so many zeros, where it has room.
+fn put_zeros(reply: &mut AnswerBuilder, alloc: Global, ttl: Ttl, len: u16) -> Result<(), PushError>
+    ensures added { OnOk result ((reply.new ≡ with_answer reply.old (private_record ttl (replicate len 0))) × (within_limit (with_answer reply.old (private_record ttl (replicate len 0))) ≡ true)) }
+    ensures full { IfErr result (λ e. e ≡ PushError.ShortBuf → within_limit (with_answer reply.old (private_record ttl (replicate len 0))) ≡ false) }
 {
-    match zeros(alloc, len) {
+    match zeros(alloc, ttl, len) {
         Ok(record) => put_record(reply, alloc, record),
         Err(OutOfMemory) => Err(PushError::OutOfMemory),
     }
@@ -155,9 +167,9 @@ fn put_record(reply: &mut AnswerBuilder, alloc: Global, answer: Record) -> Resul
     reply.push(alloc, &answer)
 }
 
-/// The record of so many zeros.
-fn zeros(alloc: Global, len: u16) -> Result<Record, OutOfMemory>
-    ensures value { IfOk result (λ r. record_of r ≡ fill_record len) }
+/// The record of this time to live and so many zeros.
+fn zeros(alloc: Global, ttl: Ttl, len: u16) -> Result<Record, OutOfMemory>
+    ensures value { IfOk result (λ r. record_of r ≡ private_record ttl (replicate len 0)) }
     ensures lawful { IfOk result (λ r. IsLawful r.rdata) }
 {
     let octets = Octets::from_vec(vec![in alloc; 0u8; len as usize]?);
@@ -166,7 +178,7 @@ fn zeros(alloc: Global, len: u16) -> Result<Record, OutOfMemory>
     Ok(Record {
         owner,
         class: Class::IN,
-        ttl: Ttl::from_secs(0),
+        ttl,
         rdata: RecordData::Unknown { rtype, octets },
     })
 }

@@ -24,8 +24,8 @@ strict yes|no, edns yes|no   settings, once; secret HEX   of cookies; deny ADDR
 dgram none|SIZE WRITE, stream IDLE WRITE QUEUE LIMIT yes|no   the two servers
 budget none|COUNT WINDOW   how many replies a connection queues in WINDOW ms
 rule NAME|* ANSWER ..   a request's polls: pend, rcode:0 to 15, blank:0 to 15,
-           fill:LEN, opt:LEN, an error (formerr, servfail, notimp, refused), or
-           begin, end, idle:MS, alone or with + before one of the four replies
+    fill:LEN, opt:LEN, live:TTL, an error (formerr, servfail, notimp, refused),
+    or begin, end, idle:MS, alone or with + before one of the five replies
 notify NAME pend .. ok|notauth|other   what is answered to a NOTIFY
 datagram AT SECS CLIENT ADDR PORT HEX  a query came from an address
 offer AT SECS CLIENT ADDR PORT         a connection is offered
