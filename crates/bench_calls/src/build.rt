@@ -4,7 +4,7 @@ ghost use Rattle.std.specs.Prelude.{◌≡◌};
 ghost use Rattle.dns_base.specs.Records.{IsLawful};
 
 use dns_base::{
-    AdditionalBuilder, AnswerBuilder, AuthorityBuilder, Header, Message, MessageBuilder,
+    AdditionalBuilder, AnswerBuilder, AuthorityBuilder, Header, MessageBuilder, MessageRef,
     ParseError, Question, QuestionBuilder, Record, RecordIter, RecordRef, Rtype, StreamTarget,
 };
 use dns_cookie::{Cookie, siphash24};
@@ -30,102 +30,75 @@ impl Model for Held {
     ghost invariant = { λ h. IsLawful h.entry.rdata };
 }
 
-/// The records of the three sections, but for an OPT record.
+/// What the response is built of: its records stand by sections, but for an OPT record.
 #[derive(Drop)]
-struct Records {
+pub struct Parts {
+    header: Header,
+    question: Question,
+    cookie: Cookie,
     answer: Vec<Held>,
     authority: Vec<Held>,
     additional: Vec<Held>,
 }
 
-/// What the response is built of.
-#[derive(Drop)]
-pub struct Parts {
-    header: Header,
-    question: Question,
-    records: Records,
-    cookie: Cookie,
-}
-
 impl Parts {
     /// The parts of a message of one question with a cookie, without its options.
     pub fn of(alloc: Global, octets: &[u8]) -> Result<Parts, ParseError> {
-        let message = Message::from_octets(Vec::from_slice(alloc, octets)?)?;
-        parts_of(alloc, &message)
-    }
-}
-
-fn parts_of(alloc: Global, message: &Message) -> Result<Parts, ParseError> {
-    let cookie = cookie_of(message).ok_or(ParseError::ShortInput)?;
-    let question = question_of(alloc, message)?;
-    match records_of(alloc, message) {
-        Ok(records) => Ok(Parts {
+        let message = MessageRef::from_slice(octets)?;
+        let cookie = cookie_of(&message).ok_or(ParseError::ShortInput)?;
+        let mut parts = Parts {
             header: message.header(),
-            question,
-            records,
+            question: question_of(alloc, &message)?,
             cookie,
-        }),
-        Err(error) => Err(error),
+            answer: Vec::new(alloc),
+            authority: Vec::new(alloc),
+            additional: Vec::new(alloc),
+        };
+        match parts.hold_all(alloc, &message) {
+            Ok(()) => Ok(parts),
+            Err(error) => Err(error),
+        }
+    }
+
+    /// Appends the records of a message.
+    fn hold_all(&mut self, alloc: Global, message: &MessageRef<'_>) -> Result<(), ParseError> {
+        let (_, answer, authority, additional) = message.sections()?;
+        hold_section(alloc, &mut self.answer, answer)?;
+        hold_section(alloc, &mut self.authority, authority)?;
+        hold_section(alloc, &mut self.additional, additional)
     }
 }
 
-fn records_of(alloc: Global, message: &Message) -> Result<Records, ParseError> {
-    let answer = section(alloc, message.answer())?;
-    records_behind(alloc, message, answer)
-}
-
-/// The records of a message whose answer records are these.
-fn records_behind(
-    alloc: Global,
-    message: &Message,
-    answer: Vec<Held>,
-) -> Result<Records, ParseError> {
-    let authority = section(alloc, message.authority())?;
-    match section(alloc, message.additional()) {
-        Ok(additional) => Ok(Records {
-            answer,
-            authority,
-            additional,
-        }),
-        Err(error) => Err(error),
-    }
-}
-
-fn question_of(alloc: Global, message: &Message) -> Result<Question, ParseError> {
+fn question_of(alloc: Global, message: &MessageRef<'_>) -> Result<Question, ParseError> {
     match message.first_question() {
         Some(question) => Ok(question.to_question(alloc)?),
         None => Err(ParseError::ShortInput),
     }
 }
 
-fn cookie_of(message: &Message) -> Option<Cookie> {
+fn cookie_of(message: &MessageRef<'_>) -> Option<Cookie> {
     message.opt()?.opt().cookie()
 }
 
-/// The records of a section, but for an OPT record.
-fn section(
+/// Appends the records of a section, but for an OPT record.
+fn hold_section(
     alloc: Global,
-    records: Result<RecordIter<'_>, ParseError>,
-) -> Result<Vec<Held>, ParseError> {
-    let mut all = Vec::new(alloc);
-    for record in records? {
-        hold(alloc, &mut all, record)?;
+    held: &mut Vec<Held>,
+    records: RecordIter<'_>,
+) -> Result<(), ParseError> {
+    for record in records {
+        hold(alloc, held, record?)?;
     }
-    Ok(all)
+    Ok(())
 }
 
 /// Appends a record, but for an OPT record.
-fn hold(
-    alloc: Global,
-    all: &mut Vec<Held>,
-    record: Result<RecordRef<'_>, ParseError>,
-) -> Result<(), ParseError> {
-    let record = record?;
-    if record.rtype() != Rtype::OPT {
-        let entry = record.to_record(alloc)?;
-        all.push(Held { entry })?;
+fn hold(alloc: Global, held: &mut Vec<Held>, record: RecordRef<'_>) -> Result<(), ParseError> {
+    if record.rtype() == Rtype::OPT {
+        return Ok(());
     }
-    Ok(())
+    let entry = record.to_record(alloc)?;
+    Ok(held.push(Held { entry })?)
 }
 
 /// Builds the response so many times, each time under another identifier, and gives the sum of the lengths and of
@@ -156,7 +129,7 @@ fn up_to_additional(
     id: u16,
 ) -> Result<AdditionalBuilder, BuildDataError> {
     let mut builder = up_to_authority(alloc, parts, id)?.additional();
-    for held in &parts.records.additional {
+    for held in &parts.additional {
         builder.push(alloc, &held.entry)?;
     }
     Ok(builder)
@@ -169,7 +142,7 @@ fn up_to_authority(
     id: u16,
 ) -> Result<AuthorityBuilder, BuildDataError> {
     let mut builder = up_to_answer(alloc, parts, id)?.authority();
-    for held in &parts.records.authority {
+    for held in &parts.authority {
         builder.push(alloc, &held.entry)?;
     }
     Ok(builder)
@@ -178,7 +151,7 @@ fn up_to_authority(
 /// The response up to its answer records.
 fn up_to_answer(alloc: Global, parts: &Parts, id: u16) -> Result<AnswerBuilder, BuildDataError> {
     let mut builder = asked(alloc, parts, id)?.answer();
-    for held in &parts.records.answer {
+    for held in &parts.answer {
         builder.push(alloc, &held.entry)?;
     }
     Ok(builder)

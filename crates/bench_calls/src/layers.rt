@@ -4,7 +4,7 @@ ghost use Rattle.std.specs.Prelude.{◌≡◌, ◌≤◌, IfOk, None, Some, Ok, 
 ghost use Rattle.std.specs.Result.{ForOk};
 ghost use Rattle.dns_base.specs.Records.{IsLawful};
 
-use crate::work::WorkError;
+use crate::work::Work;
 use crate::wrapped::in_all;
 use dns_base::{
     AdditionalBuilder, AnswerBuilder, Class, Message, MessageBuilder, Name, OutOfMemory,
@@ -19,11 +19,11 @@ use dns_service::{
 use std::alloc::Global;
 
 /// The query for the root's address, with RD and an OPT record of size 1232.
-const QUERY: [u8; 28] =
+pub(crate) const QUERY: [u8; 28] =
     *b"\x12\x34\x01\x00\x00\x01\x00\x00\x00\x00\x00\x01\x00\x00\x01\x00\x01\x00\x00\x29\x04\xd0\x00\x00\x00\x00\x00\x00";
 
 /// The same without the OPT record.
-const BARE_QUERY: [u8; 17] =
+pub(crate) const BARE_QUERY: [u8; 17] =
     *b"\x12\x34\x01\x00\x00\x01\x00\x00\x00\x00\x00\x00\x00\x00\x01\x00\x01";
 
 /// The reply that stands beside the closure, to any request.
@@ -44,51 +44,30 @@ fn given(
     Ok(Ok(CallResult::new(reply.try_clone(alloc)?)))
 }
 
-/// What stands round the service.
-#[derive(Clone, Copy)]
-pub enum Round {
-    /// Nothing.
-    Nothing,
-    /// The EDNS layer within the mandatory one.
-    Two,
-    /// All layers, with cookies on.
-    All,
-}
-
-/// The sum of the replies to so many queries of a service that answers at once.
-pub fn replies_to_query(alloc: Global, round: Round, count: u64) -> Result<u64, WorkError> {
-    served(alloc, round, &mut QUERY, count)
-}
-
-/// The same for queries without an OPT record.
-pub fn replies_to_bare(alloc: Global, round: Round, count: u64) -> Result<u64, WorkError> {
-    served(alloc, round, &mut BARE_QUERY, count)
-}
-
-/// The sum of the replies to so many queries of the service, within the layers or alone.
-fn served(alloc: Global, round: Round, query: &mut [u8], count: u64) -> Result<u64, WorkError>
+/// The sum of the replies to so many queries of a service that answers at once, within layers or alone.
+pub(crate) fn served(alloc: Global, work: Work, query: &mut [u8], count: u64) -> Option<u64>
     requires { 2 ≤ length query.old }
 {
     let answer = answer(alloc)?;
     let service = service_fn::<Same, _, AdditionalBuilder>(given, answer);
-    within(alloc, service, round, query, count)
+    within(alloc, service, work, query, count)
 }
 
-/// The sum of the replies of a service, within the layers or alone.
+/// The sum of the replies of a service, within the layers that the work names, or alone.
 fn within<S: Service<()>>(
     alloc: Global,
     service: S,
-    round: Round,
+    work: Work,
     query: &mut [u8],
     count: u64,
-) -> Result<u64, WorkError>
+) -> Option<u64>
     requires can_call { S.can_call service }
     requires identifier { 2 ≤ length query.old }
 {
-    match round {
-        Round::Nothing => replies(alloc, &service, query, count),
-        Round::Two => in_mandatory(alloc, EdnsMiddlewareSvc::new(service), query, count),
-        Round::All => in_all(alloc, query, count, service),
+    match work {
+        Work::Plain => replies(alloc, &service, query, count),
+        Work::Wrapped | Work::BareWrapped => in_all(alloc, query, count, service),
+        _ => in_mandatory(alloc, EdnsMiddlewareSvc::new(service), query, count),
     }
 }
 
@@ -98,37 +77,32 @@ fn in_mandatory<S: Service<()>>(
     service: S,
     query: &mut [u8],
     count: u64,
-) -> Result<u64, WorkError>
+) -> Option<u64>
     requires can_call { S.can_call service }
     requires identifier { 2 ≤ length query.old }
 {
     replies(alloc, &MandatoryMiddlewareSvc::new(service), query, count)
 }
 
-/// The answer without a record.
-fn started(alloc: Global) -> Result<AnswerBuilder, WorkError> {
-    let query = message(alloc, &QUERY)?;
-    Ok(MessageBuilder::new(alloc)?.start_answer(alloc, &query, Rcode::NOERROR)?)
-}
-
 /// The answer of one address.
-fn answer(alloc: Global) -> Result<AdditionalBuilder, WorkError> {
+fn answer(alloc: Global) -> Option<AdditionalBuilder> {
     let mut answer = started(alloc)?;
-    push_address(alloc, &mut answer)?;
-    Ok(answer.additional())
-}
-
-fn push_address(alloc: Global, answer: &mut AnswerBuilder) -> Result<(), WorkError> {
-    match address(alloc) {
-        Ok(record) => push(alloc, answer, &record),
-        Err(error) => Err(error.into()),
+    match push_address(alloc, &mut answer) {
+        Some(()) => Some(answer.additional()),
+        None => None,
     }
 }
 
-fn push(alloc: Global, answer: &mut AnswerBuilder, record: &Record) -> Result<(), WorkError>
-    requires { IsLawful record.now.rdata }
-{
-    Ok(answer.push(alloc, record)?)
+/// The answer without a record.
+fn started(alloc: Global) -> Option<AnswerBuilder> {
+    let query = message(alloc, &QUERY).ok()?;
+    let builder = MessageBuilder::new(alloc).ok()?;
+    builder.start_answer(alloc, &query, Rcode::NOERROR).ok()
+}
+
+fn push_address(alloc: Global, answer: &mut AnswerBuilder) -> Option<()> {
+    let record = address(alloc).ok()?;
+    answer.push(alloc, &record).ok()
 }
 
 /// The root's address 192.0.2.1.
@@ -152,7 +126,7 @@ pub(crate) fn replies<S: Service<()>>(
     service: &S,
     query: &mut [u8],
     count: u64,
-) -> Result<u64, WorkError>
+) -> Option<u64>
     requires can_call { S.can_call service.now }
     requires identifier { 2 ≤ length query.old }
 {
@@ -162,15 +136,17 @@ pub(crate) fn replies<S: Service<()>>(
         query[1] = (i % 256) as u8;
         sum = sum.wrapping_add(asked_sum(alloc, service, query)?);
     }
-    Ok(sum)
+    Some(sum)
 }
 
 /// The sum of the octets of the one reply to a query.
-fn asked_sum<S: Service<()>>(alloc: Global, service: &S, query: &[u8]) -> Result<u64, WorkError>
+fn asked_sum<S: Service<()>>(alloc: Global, service: &S, query: &[u8]) -> Option<u64>
     requires { S.can_call service.now }
 {
-    let mut request = request(alloc, query)?;
-    reply_sum(alloc, service, &mut request)
+    match request(alloc, query) {
+        Ok(mut request) => reply_sum(alloc, service, &mut request),
+        Err(_) => None,
+    }
 }
 
 fn message(alloc: Global, octets: &[u8]) -> Result<Message, ParseError> {
@@ -189,78 +165,52 @@ fn request(alloc: Global, octets: &[u8]) -> Result<Request<()>, ParseError> {
 }
 
 /// The sum of the octets of the one reply that a service gives at once.
-fn reply_sum<S: Service<()>>(
-    alloc: Global,
-    service: &S,
-    request: &mut Request<()>,
-) -> Result<u64, WorkError>
+fn reply_sum<S: Service<()>>(alloc: Global, service: &S, request: &mut Request<()>) -> Option<u64>
     requires { S.can_call service.now }
 {
-    let mut future = service.call(alloc, request)?;
-    future_sum(alloc, &mut future)
+    match service.call(alloc, request) {
+        Ok(mut future) => future_sum(alloc, &mut future),
+        Err(OutOfMemory) => None,
+    }
 }
 
 /// The sum of the octets of the one reply of a future's stream.
-fn future_sum<F: ReplyFuture>(alloc: Global, future: &mut F) -> Result<u64, WorkError> {
-    match future.poll(alloc)? {
-        Polled::Ready(mut stream) => stream_sum(alloc, &mut stream),
-        Polled::Pending => Err(WorkError::Service),
+fn future_sum<F: ReplyFuture>(alloc: Global, future: &mut F) -> Option<u64> {
+    match future.poll(alloc) {
+        Ok(Polled::Ready(mut stream)) => stream_sum(alloc, &mut stream),
+        _ => None,
     }
 }
 
-/// The sum of the octets of a stream's one reply.
-fn stream_sum<R: ReplyStream>(alloc: Global, stream: &mut R) -> Result<u64, WorkError> {
-    let sum = next_sum(alloc, stream)?;
-    end(alloc, stream)?;
-    Ok(sum)
+/// The sum of the octets of a stream's one reply, behind which it ends.
+fn stream_sum<R: ReplyStream>(alloc: Global, stream: &mut R) -> Option<u64> {
+    let sum = item_sum(next_item(alloc, stream)?)?;
+    match next_item(alloc, stream) {
+        Some(None) => Some(sum),
+        _ => None,
+    }
 }
 
-/// The sum of the octets of a stream's next reply.
-fn next_sum<R: ReplyStream>(alloc: Global, stream: &mut R) -> Result<u64, WorkError> {
-    let polled = stream.poll_next(alloc)?;
-    polled_sum(polled).ok_or(WorkError::Service)
-}
-
-/// The end of a stream, which is to come at the next poll.
-fn end<R: ReplyStream>(alloc: Global, stream: &mut R) -> Result<(), WorkError> {
+/// The item that a stream gives at its next poll, or its end.
+fn next_item<R: ReplyStream>(alloc: Global, stream: &mut R) -> Option<Option<ServiceResult>> {
     match stream.poll_next(alloc) {
-        Ok(polled) => ended(polled),
-        Err(error) => Err(error.into()),
-    }
-}
-
-fn ended(polled: Polled<Option<ServiceResult>>) -> Result<(), WorkError> {
-    match polled {
-        Polled::Ready(None) => Ok(()),
-        _ => Err(WorkError::Service),
-    }
-}
-
-/// The sum of the octets of the reply that a poll gave.
-fn polled_sum(polled: Polled<Option<ServiceResult>>) -> Option<u64> {
-    match polled {
-        Polled::Ready(item) => given_sum(item?),
-        Polled::Pending => None,
-    }
-}
-
-/// The sum of the octets of an item's reply, where it isn't an error.
-fn given_sum(item: ServiceResult) -> Option<u64> {
-    match item {
-        Ok(given) => item_sum(&given),
-        Err(_) => None,
+        Ok(Polled::Ready(item)) => Some(item),
+        _ => None,
     }
 }
 
 /// The sum of the octets of an item's reply.
-fn item_sum(item: &CallResult) -> Option<u64> {
-    Some(octet_sum(item.response()?.as_slice()))
+fn item_sum(item: Option<ServiceResult>) -> Option<u64> {
+    match item? {
+        Ok(given) => given_sum(&given),
+        Err(_) => None,
+    }
 }
 
-fn octet_sum(octets: &[u8]) -> u64 {
+fn given_sum(given: &CallResult) -> Option<u64> {
     let mut sum = 0u64;
-    for octet in octets {
+    for octet in given.response()?.as_slice() {
         sum = sum.wrapping_add(u64::from(*octet));
     }
-    sum
+    Some(sum)
 }

@@ -11,7 +11,7 @@ mod wrapped;
 
 use std::io;
 use std::process::ExitCode;
-use work::{Work, WorkError, done};
+use work::{Work, done};
 
 const USAGE: &str =
     "Usage: bench_calls sip20|sip64|check|read|build|plain|layers|bare|wrapped|bare_wrapped COUNT";
@@ -37,24 +37,19 @@ fn read_count(word: Option<String>) -> Option<u64> {
     word?.parse::<u64>().ok()
 }
 
-/// Says the number that work gave, or why it was not done.
-fn said(rt: &HostRuntime, done: Result<u64, WorkError>) -> io::Result<ExitCode> {
-    match done {
-        Ok(sum) => {
-            println!(rt; "{sum:016x}")?;
-            Ok(ExitCode::SUCCESS)
-        }
-        Err(error) => {
-            println!(rt; "{error}")?;
-            Ok(ExitCode::from(1))
-        }
-    }
-}
-
 fn main(rt: HostRuntime) -> io::Result<ExitCode> {
     let Some((work, count)) = read_words(&rt)? else {
         println!(rt; "{USAGE}")?;
         return Ok(ExitCode::from(2));
     };
-    said(&rt, done(rt.alloc(), work, count))
+    match done(rt.alloc(), work, count) {
+        Some(sum) => {
+            println!(rt; "{sum:016x}")?;
+            Ok(ExitCode::SUCCESS)
+        }
+        None => {
+            println!(rt; "the work was not done")?;
+            Ok(ExitCode::from(1))
+        }
+    }
 }

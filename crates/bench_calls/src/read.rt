@@ -2,7 +2,7 @@
 
 ghost use Rattle.std.specs.Prelude.{◌≤◌, length};
 
-use dns_base::{Header, MessageRef, ParseError, QuestionIter, RecordIter, RecordRef, Rtype};
+use dns_base::{MessageRef, ParseError, QuestionIter, RecordIter, RecordRef, Rtype};
 use dns_opt::{AllOptData, ComposeOptData, OptData, OptRef};
 
 /// The sum of so many readings of a message, whose identifier is another each time.
@@ -22,27 +22,16 @@ pub fn readings(octets: &mut [u8], count: u64) -> Result<u64, ParseError>
 fn reading(octets: &[u8]) -> Result<u64, ParseError> {
     let message = MessageRef::from_slice(octets)?;
     let behind = behind_header(&message)?;
-    Ok(of_header(message.header()).wrapping_add(behind))
-}
-
-fn of_header(header: Header) -> u64 {
-    u64::from(header.id) + u64::from(header.rcode.to_int())
+    let header = message.header();
+    let sum = u64::from(header.id) + u64::from(header.rcode.to_int());
+    Ok(sum.wrapping_add(behind))
 }
 
 /// The sum of the numbers of a message's sections.
 fn behind_header(message: &MessageRef<'_>) -> Result<u64, ParseError> {
     let (questions, answer, authority, additional) = message.sections()?;
-    let sum = asked(questions)?;
-    Ok(sum.wrapping_add(all_records(answer, authority, additional)?))
-}
-
-/// The sum of the numbers of three sections.
-fn all_records(
-    answer: RecordIter<'_>,
-    authority: RecordIter<'_>,
-    additional: RecordIter<'_>,
-) -> Result<u64, ParseError> {
-    let mut sum = records(answer)?;
+    let mut sum = asked(questions)?;
+    sum = sum.wrapping_add(records(answer)?);
     sum = sum.wrapping_add(records(authority)?);
     Ok(sum.wrapping_add(records(additional)?))
 }
@@ -67,29 +56,21 @@ fn records(records: RecordIter<'_>) -> Result<u64, ParseError> {
     Ok(sum)
 }
 
-fn of_record(record: &RecordRef<'_>) -> Result<u64, ParseError> {
-    let mut sum = of_head(record);
-    if record.rtype() == Rtype::OPT {
-        sum = sum.wrapping_add(options(record.rdata())?);
-    }
-    Ok(sum)
-}
-
 /// The sum of a record's type, class, TTL and length.
-fn of_head(record: &RecordRef<'_>) -> u64 {
-    u64::from(record.rtype().to_int())
+fn of_record(record: &RecordRef<'_>) -> Result<u64, ParseError> {
+    let sum = u64::from(record.rtype().to_int())
         .wrapping_add(u64::from(record.class().to_int()))
         .wrapping_add(u64::from(record.ttl().as_secs()))
-        .wrapping_add(record.rdata().len() as u64)
+        .wrapping_add(record.rdata().len() as u64);
+    if record.rtype() != Rtype::OPT {
+        return Ok(sum);
+    }
+    Ok(sum.wrapping_add(options(record.rdata())?))
 }
 
 /// The sum of the codes and lengths of a list's options, each read as its kind.
 fn options(octets: &[u8]) -> Result<u64, ParseError> {
     let list = OptRef::from_slice(octets)?;
-    all_options(&list)
-}
-
-fn all_options(list: &OptRef<'_>) -> Result<u64, ParseError> {
     let mut sum = 0u64;
     for option in list.iter::<AllOptData>() {
         sum = sum.wrapping_add(of_option(&option?));

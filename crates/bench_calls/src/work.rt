@@ -2,13 +2,10 @@
 
 use crate::build::{Parts, built};
 use crate::hash::{checks, hash_chain};
-use crate::layers::{Round, replies_to_bare, replies_to_query};
+use crate::layers::{BARE_QUERY, QUERY, served};
 use crate::read::readings;
 use crate::response::RESPONSE;
-use dns_base::PushError;
-use dns_name::{BuildDataError, OutOfMemory, ParseError};
 use std::alloc::Global;
-use thiserror::Error;
 
 /// What is done many times over.
 #[derive(Clone, Copy)]
@@ -54,65 +51,28 @@ impl Work {
     }
 }
 
-/// Why work was not done.
-#[derive(Clone, Copy, Debug, Error)]
-pub enum WorkError {
-    #[error("a message is not read: {0}")]
-    Parse(ParseError),
-    #[error("a message is not built: {0}")]
-    Build(BuildDataError),
-    #[error("the service gives no reply, or more than one")]
-    Service,
-}
-
-impl From<ParseError> for WorkError {
-    fn from(error: ParseError) -> WorkError {
-        WorkError::Parse(error)
-    }
-}
-
-impl From<BuildDataError> for WorkError {
-    fn from(error: BuildDataError) -> WorkError {
-        WorkError::Build(error)
-    }
-}
-
-impl From<PushError> for WorkError {
-    fn from(error: PushError) -> WorkError {
-        WorkError::Build(error.into())
-    }
-}
-
-impl From<OutOfMemory> for WorkError {
-    fn from(error: OutOfMemory) -> WorkError {
-        WorkError::Build(error.into())
-    }
-}
-
-/// Does work so many times, and gives a number that tells on each of its results.
-pub fn done(alloc: Global, work: Work, count: u64) -> Result<u64, WorkError> {
+/// Does work so many times, and gives a number that tells on each of its results; none where memory is short, or a service
+/// gives no reply or more than one.
+pub fn done(alloc: Global, work: Work, count: u64) -> Option<u64> {
     match work {
-        Work::Sip20 => Ok(hash_chain(&mut [0; 20], count)),
-        Work::Sip64 => Ok(hash_chain(&mut [0; 64], count)),
-        Work::Check => Ok(checks(count)),
+        Work::Sip20 => Some(hash_chain(&mut [0; 20], count)),
+        Work::Sip64 => Some(hash_chain(&mut [0; 64], count)),
+        Work::Check => Some(checks(count)),
         Work::Read => read_often(alloc, count),
         Work::Build => build_often(alloc, count),
-        Work::Plain => replies_to_query(alloc, Round::Nothing, count),
-        Work::Layers => replies_to_query(alloc, Round::Two, count),
-        Work::Bare => replies_to_bare(alloc, Round::Two, count),
-        Work::Wrapped => replies_to_query(alloc, Round::All, count),
-        Work::BareWrapped => replies_to_bare(alloc, Round::All, count),
+        Work::Bare | Work::BareWrapped => served(alloc, work, &mut BARE_QUERY, count),
+        _ => served(alloc, work, &mut QUERY, count),
     }
 }
 
 /// Reads the response so many times.
-fn read_often(alloc: Global, count: u64) -> Result<u64, WorkError> {
-    let mut octets = Vec::from_slice(alloc, RESPONSE).map_err(|_| ParseError::OutOfMemory)?;
-    Ok(readings(octets.as_mut_slice(), count)?)
+fn read_often(alloc: Global, count: u64) -> Option<u64> {
+    let mut octets = Vec::from_slice(alloc, RESPONSE).ok()?;
+    readings(octets.as_mut_slice(), count).ok()
 }
 
 /// Builds the response so many times.
-fn build_often(alloc: Global, count: u64) -> Result<u64, WorkError> {
-    let parts = Parts::of(alloc, RESPONSE)?;
-    Ok(built(alloc, &parts, count)?)
+fn build_often(alloc: Global, count: u64) -> Option<u64> {
+    let parts = Parts::of(alloc, RESPONSE).ok()?;
+    built(alloc, &parts, count).ok()
 }

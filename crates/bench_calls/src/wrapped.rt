@@ -5,7 +5,6 @@ ghost use Rattle.dns_service.specs.declared.service.Polled.TheVariants.{Ready};
 ghost use Rattle.dns_middleware.specs.declared.notifiable.NotifyError.TheVariants.{NotAuthForZone};
 
 use crate::layers::replies;
-use crate::work::WorkError;
 use dns_base::{Class, IpAddr, Name, OutOfMemory, Serial};
 use dns_middleware::{Notifiable, NotifyError, Settings, VerdictFuture, wrap};
 use dns_service::{Polled, Service};
@@ -56,12 +55,12 @@ pub(crate) fn in_all<S: Service<()>>(
     query: &mut [u8],
     count: u64,
     service: S,
-) -> Result<u64, WorkError>
+) -> Option<u64>
     requires can_call { S.can_call service }
     requires identifier { 2 ≤ length query.old }
 {
     match wrap(alloc, &settings(alloc), service, Nobody {}) {
         Ok(service) => replies(alloc, &service, query, count),
-        Err(OutOfMemory) => Err(OutOfMemory.into()),
+        Err(OutOfMemory) => None,
     }
 }

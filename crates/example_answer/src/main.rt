@@ -40,10 +40,23 @@ fn refuse(
 
 fn main(rt: HostRuntime) -> anyhow::Result<()> {
     let service = service_fn::<Refusal, _, _>(refuse, OptRcode::NXDOMAIN);
-    let service = MandatoryMiddlewareSvc::new(EdnsMiddlewareSvc::new(service));
-    let reply = reply_to(rt.alloc(), &service, QUERY)?;
+    let reply = reply_in_edns(rt.alloc(), service)?;
     println!(rt; "{}", hex::encode(rt.alloc(), reply.as_slice())?)?;
     Ok(())
+}
+
+/// The reply of a service in the EDNS layer, and that in the mandatory one.
+fn reply_in_edns<S: Service<()>>(alloc: Global, service: S) -> anyhow::Result<Vec<u8>>
+    requires { S.can_call service }
+{
+    reply_in_mandatory(alloc, EdnsMiddlewareSvc::new(service))
+}
+
+/// The reply of a service in the mandatory layer.
+fn reply_in_mandatory<S: Service<()>>(alloc: Global, service: S) -> anyhow::Result<Vec<u8>>
+    requires { S.can_call service }
+{
+    reply_to(alloc, &MandatoryMiddlewareSvc::new(service), QUERY)
 }
 
 /// The octets of the first reply to a query that came in a datagram.
@@ -74,14 +87,23 @@ fn first_reply<S: Service<()>>(
     requires { S.can_call service.now }
 {
     let mut future = service.call(alloc, request)?;
-    let Polled::Ready(mut stream) = future.poll(alloc)? else {
-        bail!("the service gives no stream at once");
-    };
-    let Polled::Ready(Some(Ok(given))) = stream.poll_next(alloc)? else {
-        bail!("the service gives no reply at once");
-    };
-    let (Some(reply), _) = given.into_inner() else {
-        bail!("the service gives feedback alone");
-    };
-    Ok(Vec::from_slice(alloc, reply.as_slice())?)
+    match future.poll(alloc)? {
+        Polled::Ready(mut stream) => first_given(alloc, &mut stream),
+        Polled::Pending => bail!("the service gives no stream at once"),
+    }
+}
+
+/// The octets of the reply that a stream gives at its first poll.
+fn first_given<R: ReplyStream>(alloc: Global, stream: &mut R) -> anyhow::Result<Vec<u8>> {
+    match stream.poll_next(alloc)? {
+        Polled::Ready(Some(Ok(given))) => given_octets(alloc, &given),
+        _ => bail!("the service gives no reply at once"),
+    }
+}
+
+fn given_octets(alloc: Global, given: &CallResult) -> anyhow::Result<Vec<u8>> {
+    match given.response() {
+        Some(reply) => Ok(Vec::from_slice(alloc, reply.as_slice())?),
+        None => bail!("the service gives feedback alone"),
+    }
 }
