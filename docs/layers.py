@@ -14,7 +14,8 @@ HERE = os.path.dirname(os.path.realpath(__file__))
 ROWS = [
     ("#f6d6c4", [("nutscythe", "the program: main alone"), ("example_answer", "a small program over the libraries")]),
     ("#f6d6c4", [("dns_server", "run, floods, plans of a server")]),
-    ("#f6d6c4", [("dns_script", "scripts, the lines written"), ("dns_servers", "servers with controls"), ("dns_host", "accepts beside datagrams"), ("dns_drivers", "loops of serving")]),
+    ("#f6d6c4", [("dns_script", "scripts, the lines written"), ("dns_servers", "servers with controls"), ("dns_host", "accepts, datagrams")]),
+    ("#f6d6c4", [("dns_drivers", "a connection is served"), ("dns_datagrams", "datagrams are served"), ("dns_notes", "what both note")]),
     ("#f8e7b9", [("dns_core", "all clients: serve_events"), ("dns_trace", "the lines of a script"), ("dns_book", "what servers share"), ("dns_outside", "sources, sinks, sockets")]),
     ("#f8e7b9", [("dns_client", "one client: frames, requests, queue"), ("dns_middleware", "the four layers, as one"), ("dns_route", "routers, single services")]),
     ("#d7e8c8", [("dns_service", "requests, services, replies, events, outputs"), ("dns_stream", "polled streams"), ("dns_admission", "slots, configurations")]),
