@@ -4,6 +4,7 @@
 
 mod accept;
 mod clock;
+mod eagerness;
 mod host_clock;
 mod kept_threads;
 mod link;

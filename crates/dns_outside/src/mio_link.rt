@@ -49,7 +49,10 @@ impl Link for MioLink {
     fn read(&mut self, buf: &mut [u8]) -> LinkRead {
         match self.stream.read(buf) {
             Ok(0) if !buf.is_empty() => LinkRead::End,
-            Ok(count) => LinkRead::Got(count),
+            Ok(count) => {
+                self.waiting.found(&mut self.stream);
+                LinkRead::Got(count)
+            }
             Err(error) if error.kind() == ErrorKind::WouldBlock => LinkRead::Again,
             Err(_) => {
                 self.faults = self.faults.saturating_add(1);
@@ -70,7 +73,7 @@ impl Link for MioLink {
     }
 
     fn wait<R: Wait>(&mut self, rt: &R, millis: u64) {
-        self.waiting.wait(rt, millis);
+        self.waiting.wait_on(rt, &mut self.stream, millis);
     }
 
     fn close(&mut self) {

@@ -2,6 +2,7 @@
 
 ghost use Rattle.std.specs.Prelude.{◌≡◌, [], IfOk};
 
+use crate::eagerness::Eagerness;
 use crate::mio_addr::{from_std, to_std};
 use crate::sock::{AsyncDgramSock, DgramRecv, DgramSend};
 use crate::waiting::Waiting;
@@ -14,14 +15,19 @@ use std::io::ErrorKind;
 use std::net::Net;
 use std::sync::Wait;
 
+/// How often the socket is asked whether a datagram is there before the system waits for one: some 20 microseconds.
+const ASKS: usize = 64;
+
 /// A UDP socket, which tells nothing and counts its failed calls. A send of less than the datagram is a failed call.
 /// A wait is for a datagram alone, but for the first one after a send that answered Again, which is for room too: each
 /// datagram that leaves makes room, and would wake who waits for it. Where the system refuses to wait for room, that
-/// wait is no longer than a millisecond, so that a send is tried again soon and nothing spins.
+/// wait is no longer than a millisecond, so that a send is tried again soon and nothing spins. While datagrams follow
+/// each other closely the socket is asked for the next one a few times before the system waits for it.
 #[derive(Drop)]
 pub struct MioSock {
     socket: UdpSocket,
     waiting: Waiting,
+    eagerness: Eagerness,
     // Whether a send answered Again since the last wait.
     full: bool,
     failed_receives: u64,
@@ -39,6 +45,7 @@ impl MioSock {
             Ok(waiting) => Ok(MioSock {
                 socket,
                 waiting,
+                eagerness: Eagerness::new(),
                 full: false,
                 failed_receives: 0,
                 failed_sends: 0,
@@ -50,6 +57,33 @@ impl MioSock {
     /// The socket's own address.
     pub fn local_addr(&self) -> io::Result<SocketAddr> {
         Ok(from_std(self.socket.local_addr()?))
+    }
+
+    // Whether there is something to receive, or becomes so while it is asked for.
+    fn comes_soon(&self) -> bool {
+        let mut octet = [0];
+        for _ in 0..ASKS {
+            match self.socket.peek_from(&mut octet) {
+                Err(error) if error.kind() == ErrorKind::WouldBlock => {}
+                _ => return true,
+            }
+        }
+        false
+    }
+
+    // Waits for a datagram.
+    fn wait_for_datagram<R: Wait>(&mut self, rt: &R, millis: u64)
+        ensures receives { self.new.failed_receives ≡ self.old.failed_receives }
+        ensures sends { self.new.failed_sends ≡ self.old.failed_sends }
+    {
+        if self.eagerness.is_worthwhile() {
+            let is_there = self.comes_soon();
+            self.eagerness.learn(is_there);
+            if is_there {
+                return;
+            }
+        }
+        self.waiting.wait_on(rt, &mut self.socket, millis);
     }
 }
 
@@ -78,7 +112,7 @@ impl AsyncDgramSock for MioSock {
 
     fn readable<R: Wait>(&mut self, rt: &R, millis: u64) {
         if !self.full {
-            self.waiting.wait(rt, millis);
+            self.wait_for_datagram(rt, millis);
             return;
         }
         self.full = false;
@@ -87,7 +121,10 @@ impl AsyncDgramSock for MioSock {
 
     fn try_recv_buf_from(&mut self, buf: &mut [u8]) -> DgramRecv {
         match self.socket.recv_from(buf) {
-            Ok((count, from)) => DgramRecv::Got(count, from_std(from)),
+            Ok((count, from)) => {
+                self.waiting.found(&mut self.socket);
+                DgramRecv::Got(count, from_std(from))
+            }
             Err(error) if error.kind() == ErrorKind::WouldBlock => DgramRecv::Again,
             Err(_) => {
                 self.failed_receives = self.failed_receives.saturating_add(1);

@@ -8,11 +8,18 @@ use std::net::Net;
 use std::sync::Wait;
 use std::time::Duration;
 
-/// What waits for one socket.
+/// After how many reads that found something, one after the other, a socket is waited for no more.
+const BUSY: u32 = 16;
+
+/// What waits for one socket. A socket in which each read finds something isn't registered, so that the system needn't tell of it.
 #[derive(Drop)]
 pub(crate) struct Waiting {
     poll: Poll,
     events: Events,
+    interests: Interest,
+    registered: bool,
+    // How many reads found something since the last wait.
+    found: u32,
 }
 
 impl Waiting {
@@ -25,15 +32,38 @@ impl Waiting {
     ) -> io::Result<Waiting> {
         let poll = Poll::new(net)?;
         match poll.registry().register(socket, Token(0), interests) {
-            Ok(()) => Waiting::over(alloc, poll),
+            Ok(()) => Waiting::over(alloc, poll, interests),
             Err(error) => Err(error),
         }
     }
 
-    fn over(alloc: Global, poll: Poll) -> io::Result<Waiting> {
+    fn over(alloc: Global, poll: Poll, interests: Interest) -> io::Result<Waiting> {
         match Events::with_capacity(alloc, 1) {
-            Ok(events) => Ok(Waiting { poll, events }),
+            Ok(events) => Ok(Waiting {
+                poll,
+                events,
+                interests,
+                registered: true,
+                found: 0,
+            }),
             Err(error) => Err(io::Error::from(error)),
+        }
+    }
+
+    /// A read found something.
+    #[inline(always)]
+    pub(crate) fn found<S: Source>(&mut self, socket: &mut S) {
+        if self.registered {
+            self.count(socket);
+        }
+    }
+
+    #[inline(never)]
+    fn count<S: Source>(&mut self, socket: &mut S) {
+        self.found = self.found.saturating_add(1);
+        if self.found >= BUSY {
+            self.registered = self.poll.registry().deregister(socket).is_err();
+            self.found = 0;
         }
     }
 
@@ -42,6 +72,23 @@ impl Waiting {
         let _ = self
             .poll
             .poll(&mut self.events, Some(Duration::from_millis(millis)));
+    }
+
+    /// Waits so many milliseconds at most for the socket. If the system refuses that, one millisecond at most.
+    pub(crate) fn wait_on<R: Wait, S: Source>(&mut self, rt: &R, socket: &mut S, millis: u64) {
+        self.found = 0;
+        if !self.registered {
+            self.registered = self
+                .poll
+                .registry()
+                .register(socket, Token(0), self.interests)
+                .is_ok();
+        }
+        if self.registered {
+            self.wait(rt, millis);
+        } else {
+            self.wait(rt, millis.min(1));
+        }
     }
 
     /// Waits so many milliseconds at most for what a socket that is waited for reading alone can read, or has room for.
@@ -53,6 +100,9 @@ impl Waiting {
         socket: &mut S,
         millis: u64,
     ) {
+        if !self.registered {
+            self.wait_on(rt, socket, 0);
+        }
         let both = Interest::READABLE | Interest::WRITABLE;
         if self.ask(socket, both).is_err() {
             self.wait(rt, millis.min(1));
