@@ -65,7 +65,7 @@ all_more P (y ∷ ys) x h p = (h.0, all_more P ys x h.1 p)
 -- ---- octets of a message
 
 -- octets with this header, these counts and this body
-abbrev framed : Header → ℕ → ℕ → ℕ → ℕ → List ℕ → List ℕ
+abbrev pub framed : Header → ℕ → ℕ → ℕ → ℕ → List ℕ → List ℕ
 framed h nq na nn nr t = header_octets h ++ ((two nq ++ (two na ++ (two nn ++ two nr))) ++ t)
 
 pub fields : (m : Msg) → (field 4 (wire m) ≡ length m.questions) × (field 6 (wire m) ≡ length m.answers) × (field 8 (wire m) ≡ length m.authority) × (field 10 (wire m) ≡ length m.additional)
@@ -127,6 +127,14 @@ room o limit d =
     let f8 : field 8 (drop 2 o) ≡ length m.authority = ap (field 8) b.whole ∙ f.2 in
     let f10 : field 10 (drop 2 o) ≡ length m.additional = ap (field 10) b.whole ∙ f.3 in
     (omega (arith, s.0, length-drop 2 o), omega (arith, s.0), omega (arith, s.1), omega (arith, s.2), omega (arith, s.3))
+
+-- a message of a header alone has no questions
+no_items : {A : Type 0} (xs : List A) → length xs ≡ 0 → xs ≡ []
+no_items [] h = refl
+no_items (x ∷ xs) h = absurd (omega arith)
+
+pub no_questions : (m : Msg) → length (wire m) ≡ 12 → m.questions ≡ []
+no_questions m h = no_items m.questions (omega (arith, (sizes m).0))
 
 -- the count of questions has room, also with octets behind the message
 pub room_on : (o p x : List ℕ) (limit : ℕ) (b : Built) → IsDraft o limit → viewed o limit ≡ b → p ≡ o ++ x → (13 < length p) × (field 4 (drop 2 p) < 65535)

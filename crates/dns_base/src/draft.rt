@@ -4,11 +4,12 @@ ghost use Rattle.std.specs.Prelude.{◌≡◌, ◌≤◌, ◌<◌, ◌+◌, ◌+
 ghost use Rattle.dns_base.specs.Header.{header_octets, IsHeader};
 ghost use Rattle.dns_base.specs.Msg.{IsMessage, item_counts};
 ghost use Rattle.dns_base.specs.Wire.{wire};
-ghost use Rattle.dns_base.specs.Sections.{field, questions_of};
+ghost use Rattle.dns_base.specs.Sections.{field};
 ghost use Rattle.dns_base.specs.Built.{Built, NoRecords, Pushes, empty, with_header, with_question, with_record, less_questions, less_section, IsLast};
 ghost use Rattle.dns_base.specs.Draft.{all_at, count_place, counted, moved_behind, start_in, start_of};
-ghost use Rattle.dns_base.specs.Replies.{Copies, with_copied};
 ghost use Rattle.dns_base.specs.Replaced.{AreSpelt, less_type, other_than, records_at, spelling};
+
+mod copying;
 
 use crate::compose_record::ComposeRecord;
 use crate::error::PushError;
@@ -110,15 +111,15 @@ impl Model for Draft {
     ghost invariant = { λ b. IsDraft b.octets.items b.limit × AreStarts b.starts (drop 2 b.octets.items) };
 }
 
-/// How many octets a draft has room for at first: those of a usual reply that is a header and one question.
-const ROOM: usize = 64;
+/// How many octets a draft has room for at first: those of a usual reply, a header, one question and a record or two.
+const ROOM: usize = 128;
 
 /// Two octets for a length, and a header of zeros.
 fn blank(alloc: Global) -> Result<Vec<u8>, OutOfMemory>
     ensures { IfOk result (λ v. v.items ≡ replicate 14 0) }
 {
-    let mut octets = Vec::with_capacity(alloc, ROOM)?;
-    octets.extend_from_slice(&[0; 14])?;
+    let mut octets = vec![in alloc; 0u8; ROOM]?;
+    octets.truncate(14);
     Ok(octets)
 }
 
@@ -238,23 +239,6 @@ impl Draft {
         count_more(&mut self.octets, count_place(section));
         let end = self.octets.len() - 2;
         self.starts = self.starts.behind(section, end);
-        Ok(())
-    }
-
-    /// Adds the questions of a message up to its first unreadable one, as far as each has room.
-    pub(crate) fn copy_questions(
-        &mut self,
-        alloc: Global,
-        message: &Message,
-    ) -> Result<(), PushError>
-        requires { NoRecords self.old.message }
-        ensures value { Copies (with_copied self.old (questions_of message.now).0) self.new result }
-        ensures records { NoRecords self.new.message }
-    {
-        let mut questions = message.question();
-        'questions: while let Some(Ok(question)) = questions.next() {
-            self.push_question(alloc, &question)?;
-        }
         Ok(())
     }
 
@@ -381,6 +365,16 @@ fn put_header(octets: &mut Vec<u8>, header: &Header)
     octets[5] = d;
 }
 
+/// Writes a count at a place of a message that stands behind two octets.
+fn put_count(octets: &mut Vec<u8>, at: usize, count: u16)
+    requires within { at + 3 < length octets.old.items }
+    ensures message { drop 2 octets.new.items ≡ counted at count (drop 2 octets.old.items) }
+    ensures len { length octets.new.items ≡ length octets.old.items }
+{
+    octets[at + 2] = (count / 256) as u8;
+    octets[at + 3] = (count % 256) as u8;
+}
+
 /// Counts one item more at a place of a message that stands behind two octets.
 fn count_more(octets: &mut Vec<u8>, at: usize)
     requires within { at + 3 < length octets.old.items }
@@ -389,8 +383,7 @@ fn count_more(octets: &mut Vec<u8>, at: usize)
     ensures len { length octets.new.items ≡ length octets.old.items }
 {
     let count = number_at(&octets.as_slice()[2..], at) + 1;
-    octets[at + 2] = (count / 256) as u8;
-    octets[at + 3] = (count % 256) as u8;
+    put_count(octets, at, count);
 }
 
 /// Cuts a message that stands behind two octets, and sets the count at a place of it to 0.
@@ -401,6 +394,5 @@ fn cut(octets: &mut Vec<u8>, start: usize, at: usize)
     ensures len { length octets.new.items ≡ start + 2 }
 {
     octets.truncate(start + 2);
-    octets[at + 2] = 0;
-    octets[at + 3] = 0;
+    put_count(octets, at, 0);
 }

@@ -24,7 +24,7 @@ pub use header::{Header, HeaderCounts, number_at};
 pub use laws::{messages_read_back, plain_queries_ask_once, records_stand};
 pub use message::{Message, MessageRef, Sections};
 pub use option_list::{first_option, is_option_list};
-pub use plain::is_plain;
+pub use plain::{is_plain, plain_questions};
 pub use question::{ComposeQuestion, Question, QuestionIter, QuestionRef};
 pub use rdata::RecordData;
 pub use record::{Record, RecordIter, RecordRef, record_in};

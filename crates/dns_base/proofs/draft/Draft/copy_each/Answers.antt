@@ -3,7 +3,7 @@ use Rattle.dns_base.specs.Sections.{questions_of}
 use Rattle.dns_base.specs.Replies.{with_copied}
 use Rattle.dns_base.specs.Readers.{readable_items}
 use Rattle.dns_base.proofs.Copied.{readable_all}
-use Rattle.dns_base.proofs.draft.Draft.copy_questions.Goals as goal
+use Rattle.dns_base.proofs.draft.Draft.copy_each.Goals as goal
 
 pub questions-init : goal.questions-init
 questions-init c = record {

@@ -3,7 +3,7 @@ use Rattle.dns_base.specs.Built.{NoRecords}
 use Rattle.dns_base.specs.Sections.{questions_of}
 use Rattle.dns_base.specs.Replies.{with_copied}
 use Rattle.dns_base.specs.Readers.{readable_items}
-use Rattle.dns_base.proofs.draft.Draft.copy_questions.Given as goal
+use Rattle.dns_base.proofs.draft.Draft.copy_each.Given as goal
 
 abbrev pub invariant-questions : goal.invariant-questions
 invariant-questions l = record {
