@@ -1,5 +1,5 @@
 -- What the service in its layers answers, by what a call finds and makes on its way.
-use Rattle.std.proofs.Common.{◌≡◌, ◌∙◌, sym, ℕ, List, Option, Some, None, option_map, Result, Ok, Err, IfOk, refl, ap}
+use Rattle.std.proofs.Common.{◌≡◌, ◌∙◌, sym, ℕ, Option, Some, None, option_map, Result, Ok, Err, IfOk, refl, ap}
 use Rattle.dns_base.specs.Built.{Built}
 use Rattle.dns_base.specs.Msg.{Msg}
 use Rattle.dns_service.specs.declared.asked.Asked.{Asked}
@@ -11,15 +11,14 @@ use Rattle.dns_service.specs.Req.{Req}
 use Rattle.dns_service.specs.Transport.{hint_of, limit}
 use Rattle.dns_middleware.specs.declared.notice.Notice.{Notice}
 use Rattle.dns_middleware.specs.declared.refusal.Refusal.{Refusal}
-use Rattle.dns_middleware.specs.declared.refusal.Refusal.TheVariants.{FromOutside, FromInside}
 use Rattle.dns_middleware.specs.declared.settings.Settings.{Settings}
 use Rattle.dns_middleware.specs.declared.wrap_post.WrapPost.{WrapPost}
 use Rattle.dns_middleware.specs.Cookies.{cookie_own}
 use Rattle.dns_middleware.specs.Edns.{passed_by, transport_by}
-use Rattle.dns_middleware.specs.Notify.{PolledVerdict, asking, notice_of, notify_by}
-use Rattle.dns_middleware.specs.Rewritten.{own_reply, rewritten}
+use Rattle.dns_middleware.specs.Notify.{PolledVerdict, notice_of, notify_by}
+use Rattle.dns_middleware.specs.Rewritten.{rewritten}
 use Rattle.dns_middleware.specs.Wrapped.{Pass, ask_or, by_gate, inner_gate, inner_or, left_by, passed, refusal_by, refusal_of, refused_or, replies, size_by}
-use Rattle.dns_middleware.specs.WrappedStreams.{refused_reply, wrap_by, wrap_rule}
+use Rattle.dns_middleware.specs.WrappedStreams.{wrap_by, wrap_rule}
 
 -- the rule for the replies to a request that leaves this hint
 abbrev pub rule_for : {Meta : Type 0} → Settings → Req Meta → Option ℕ → WrapPost

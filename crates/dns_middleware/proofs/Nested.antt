@@ -1,5 +1,5 @@
 -- The layers one inside the other answer as the service in its layers does.
-use Rattle.std.proofs.Common.{◌≡◌, ◌∙◌, sym, ℕ, zero, suc, Bool, true, false, if◌then◌else◌, List, Option, Some, None, Result, Ok, Err, option_map, refl, ap}
+use Rattle.std.proofs.Common.{◌≡◌, ◌∙◌, sym, ℕ, zero, suc, Bool, true, false, if◌then◌else◌, List, Option, Some, None, Ok, Err, option_map, refl, ap}
 use Rattle.dns_name.specs.declared.address.IpAddr.{IpAddr}
 use Rattle.dns_base.specs.Msg.{Msg}
 use Rattle.dns_service.specs.Config.{Dgram, Stream}
@@ -18,7 +18,7 @@ use Rattle.dns_middleware.specs.Edns.{edns, edns_by_code, edns_hint, edns_passed
 use Rattle.dns_middleware.specs.Mandatory.{hint_by, mandatory, mandatory_by, mandatory_hint, mandatory_refusal}
 use Rattle.dns_middleware.specs.Notify.{PolledVerdict, notice_of, notify, notify_by}
 use Rattle.dns_middleware.specs.Rewritten.{own_reply, rewritten}
-use Rattle.dns_middleware.specs.Wrapped.{Gate, Pass, ask_or, by_gate, hint_left, inner_or, inner_refusal, left_by, outer_refusal, passed, refused_or, replies}
+use Rattle.dns_middleware.specs.Wrapped.{Pass, ask_or, by_gate, hint_left, inner_or, inner_refusal, left_by, outer_refusal, passed, refused_or, replies}
 
 -- EDNS changes nothing of who is denied
 denied-passed : (size : Option ℕ) (t : TransportSpecificContext) (denied : List IpAddr) (address : IpAddr) → denied_over (transport_by size t) denied address ≡ denied_over t denied address

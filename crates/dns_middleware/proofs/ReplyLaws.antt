@@ -1,5 +1,5 @@
 -- Each reply of the service in its layers is rewritten by the mandatory rule.
-use Rattle.std.proofs.Common.{◌≡◌, ℕ, ◌≤◌, zero, suc, Bool, Option, Some, None, Result, Ok, Err, option_map, if◌then◌else◌, length, refl}
+use Rattle.std.proofs.Common.{◌≡◌, ℕ, ◌≤◌, zero, suc, Option, Some, None, Ok, Err, option_map, if◌then◌else◌, length, refl}
 use Rattle.std.specs.Prelude.{IfSome}
 use Rattle.dns_base.specs.Msg.{Msg}
 use Rattle.dns_base.specs.Wire.{wire}
@@ -7,7 +7,6 @@ use Rattle.dns_service.specs.declared.message.TransportSpecificContext.TheVarian
 use Rattle.dns_service.specs.declared.service.Polled.TheVariants.{Pending, Ready}
 use Rattle.dns_service.specs.Answer.{Answer, mapped}
 use Rattle.dns_service.specs.Req.{Req}
-use Rattle.dns_service.specs.Transport.{limit}
 use Rattle.dns_middleware.specs.declared.notice.Notice.{Notice}
 use Rattle.dns_middleware.specs.declared.settings.Settings.{Settings}
 use Rattle.dns_middleware.specs.Edns.{edns_post}

@@ -1,6 +1,6 @@
 -- The service in its layers: how a request is taken, and what is answered, by the settings, the given service and the target. No
 -- layer is named here.
-use Rattle.std.specs.Prelude.{ℕ, Bool, true, false, List, Option, Some, None, if◌then◌else◌}
+use Rattle.std.specs.Prelude.{ℕ, List, Option, Some, None, if◌then◌else◌}
 use Rattle.dns_base.specs.Msg.{Msg}
 use Rattle.dns_service.specs.declared.asked.Asked.{Asked}
 use Rattle.dns_service.specs.declared.message.TransportSpecificContext.{TransportSpecificContext}

@@ -110,12 +110,27 @@ pub(crate) fn cookie_own<Meta>(
     let Some(secret) = secret else {
         return Ok(None);
     };
-    match cookie_answer(&secret, denied, request, asked) {
+    own_where_on(alloc, &secret, denied, request, asked)
+}
+
+/// The own reply of a layer that is on, where it has one. This was read of the request.
+#[inline(never)]
+fn own_where_on<Meta>(
+    alloc: Global,
+    secret: &[u8; 16],
+    denied: &[IpAddr],
+    request: &Request<Meta>,
+    asked: &Asked,
+) -> Result<Option<AdditionalBuilder>, OutOfMemory>
+    requires { asked.now ≡ asked_of request.now.octets }
+    ensures { IfOk result (λ own. message_in own ≡ cookie_own (Some secret.now) denied.now request.now) }
+{
+    match cookie_answer(secret, denied, request, asked) {
         None => Ok(None),
         Some(answer) => {
             let address = request.client_addr().ip;
             let now = now_of(request);
-            let reply = own_message(alloc, &secret, request.message(), now, address, answer)?;
+            let reply = own_message(alloc, secret, request.message(), now, address, answer)?;
             Ok(Some(reply))
         }
     }

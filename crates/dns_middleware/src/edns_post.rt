@@ -1,6 +1,6 @@
 //! What the EDNS layer makes of a reply (RFC 6891, section 7; RFC 7828, section 3).
 
-ghost use Rattle.std.specs.Prelude.{◌≡◌, OnOk};
+ghost use Rattle.std.specs.Prelude.{◌≡◌, Some, true, OnOk};
 ghost use Rattle.dns_base.specs.Readers.{resources};
 ghost use Rattle.dns_middleware.specs.Edns.{and_fitting, edns_by, edns_rule, has_opt, in_kind, keepalive_over, units_of, with_keepalive, with_some_opt};
 
@@ -94,6 +94,19 @@ fn with_keepalive(
     let Some(timeout) = keepalive else {
         return Ok(());
     };
+    put_keepalive(alloc, timeout, reply)
+}
+
+/// Adds a keepalive where it has room.
+#[inline(never)]
+fn put_keepalive(
+    alloc: Global,
+    timeout: IdleTimeout,
+    reply: &mut AdditionalBuilder,
+) -> Result<(), OutOfMemory>
+    requires { reply.old.limit ≡ 65535 }
+    ensures { OnOk result (reply.new ≡ record reply.old { message = with_keepalive (Some timeout) reply.old.message }) }
+{
     match add_edns_option(alloc, reply, &TcpKeepalive::new(Some(timeout))) {
         Err(BuildDataError::OutOfMemory) => Err(OutOfMemory),
         _ => Ok(()),
@@ -109,7 +122,19 @@ fn with_some_opt(
     requires { reply.old.limit ≡ 65535 }
     ensures { OnOk result (reply.new ≡ record reply.old { message = with_some_opt answered reply.old.message }) }
 {
-    if !answered || has_opt(reply) {
+    if !answered {
+        return Ok(());
+    }
+    and_some_opt(alloc, reply)
+}
+
+/// Adds an empty OPT record where the reply has none and it has room.
+#[inline(never)]
+fn and_some_opt(alloc: Global, reply: &mut AdditionalBuilder) -> Result<(), OutOfMemory>
+    requires { reply.old.limit ≡ 65535 }
+    ensures { OnOk result (reply.new ≡ record reply.old { message = with_some_opt true reply.old.message }) }
+{
+    if has_opt(reply) {
         return Ok(());
     }
     and_fitting(alloc, reply)

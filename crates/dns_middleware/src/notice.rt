@@ -27,6 +27,7 @@ pub struct Notice {
 }
 
 /// What a request asks the target, where this was read of the request.
+#[inline(always)]
 pub(crate) fn notice_of<Meta>(
     alloc: Global,
     request: &Request<Meta>,

@@ -99,6 +99,7 @@ fn own<S: Service<Meta>, N: Notifiable, Meta>(
 }
 
 /// The reply of the cookie layer's own, where it has one, rewritten. This was read of the request.
+#[inline(always)]
 fn own_rewritten<Meta>(
     alloc: Global,
     settings: &Settings,

@@ -30,6 +30,7 @@ where
 
     ghost answer = { future_answer ⟦<Once as ReplyStream>⟧.answer F.answer V.verdict };
 
+    #[inline(always)]
     fn poll(&mut self, alloc: Global) -> Result<Polled<WrappedStream<F::Stream, V>>, OutOfMemory> {
         match self {
             WrappedFuture::Own(stream) => Ok(take_own(stream)),

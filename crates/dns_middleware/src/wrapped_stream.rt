@@ -32,6 +32,7 @@ where
 
     ghost size = { wrapped_size ⟦<Once as ReplyStream>⟧.size R.size };
 
+    #[inline(always)]
     fn poll_next(&mut self, alloc: Global) -> Result<Polled<Option<ServiceResult>>, OutOfMemory> {
         match self {
             WrappedStream::Own(stream) => stream.poll_next(alloc),
@@ -50,6 +51,7 @@ where
 }
 
 /// Polls a stream, and rewrites the reply that it gives.
+#[inline(always)]
 fn poll_rewritten<R: ReplyStream>(
     alloc: Global,
     stream: &mut R,
@@ -64,6 +66,7 @@ fn poll_rewritten<R: ReplyStream>(
 }
 
 /// Rewrites in place the reply in what a poll gave.
+#[inline(always)]
 fn rewrite_polled(
     alloc: Global,
     polled: &mut Result<Polled<Option<ServiceResult>>, OutOfMemory>,

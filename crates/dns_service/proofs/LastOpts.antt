@@ -1,5 +1,5 @@
 -- What has no room has none with an OPT record more.
-use Rattle.std.proofs.Common.{◌≡◌, ℕ, ◌+◌, ◌≤◌, ◌<◌, length, Err, Option, Some, None, arith}
+use Rattle.std.proofs.Common.{◌≤◌, length, Err, Option, Some, None, arith}
 use Rattle.dns_base.specs.declared.error.PushError.{PushError}
 use Rattle.dns_base.specs.declared.error.PushError.TheVariants.{ShortBuf, OutOfMemory as NoMemory}
 use Rattle.dns_base.specs.Builds.{Builds, unlimited}

@@ -1,5 +1,5 @@
 -- The error reply to a query (RFC 1035, section 4.1.1), with a response code of twelve bits (RFC 6891, section 6.1.3).
-use Rattle.std.specs.Prelude.{ℕ, ◌/◌, ◌%◌, List, [], if◌then◌else◌}
+use Rattle.std.specs.Prelude.{ℕ, ◌/◌, ◌%◌, List, if◌then◌else◌}
 use Rattle.dns_base.specs.Msg.{Msg}
 use Rattle.dns_base.specs.Built.{Built, empty}
 use Rattle.dns_base.specs.Replies.{error_to, within_limit}

@@ -1,5 +1,5 @@
 -- An OPT record as a message's last (RFC 6891, section 6.1.1).
-use Rattle.std.specs.Prelude.{List, [], ◌∷◌, ◌++◌, Option, Some, None}
+use Rattle.std.specs.Prelude.{[], ◌∷◌, ◌++◌, Option, Some, None}
 use Rattle.dns_base.specs.Msg.{Msg}
 use Rattle.dns_opt.specs.OptRecords.{OptState, opt_record}
 

@@ -1,5 +1,5 @@
 -- The OPT items of a request (RFC 6891, section 6.1.1): what stands for an OPT record in its additional section, in order.
-use Rattle.std.specs.Prelude.{ℕ, List, [], ◌∷◌, Option, Some, None, Result, Ok, Err, nat_eq, if◌then◌else◌}
+use Rattle.std.specs.Prelude.{ℕ, List, [], ◌∷◌, Option, None, Result, Ok, Err, nat_eq, if◌then◌else◌}
 use Rattle.dns_name.specs.declared.error.ParseError.{ParseError}
 use Rattle.dns_base.specs.Sections.{authority_of, reached, standing_additional}
 use Rattle.dns_base.specs.Standing.{Standing}

@@ -1,8 +1,8 @@
 //! Requests that are polled: a future, and then its stream.
 
-ghost use Rattle.std.specs.Prelude.{◌≡◌, ℕ, suc, IfOk};
+ghost use Rattle.std.specs.Prelude.{◌≡◌, ℕ, suc, IfOk, OnOk};
 ghost use Rattle.dns_service.specs.Answer.{IfPending, IfReady};
-ghost use Rattle.dns_service.specs.PolledRequest.{request_answer, request_size};
+ghost use Rattle.dns_service.specs.PolledRequest.{ComesToStream, HasStream, request_answer, request_size};
 
 use crate::service::{Polled, ReplyFuture, ReplyStream, ServiceResult};
 use dns_name::OutOfMemory;
@@ -26,6 +26,43 @@ pub fn poll_future<F: ReplyFuture<Stream = R>, R: ReplyStream>(
     }
 }
 
+/// Whether a request has come to its stream: a future that is ready gives way to it, and one that is pending takes an answer.
+#[inline(always)]
+fn come_to_stream<F: ReplyFuture<Stream = R>, R: ReplyStream>(
+    alloc: Global,
+    request: &mut PolledRequest<F, R>,
+) -> Result<bool, OutOfMemory>
+    ensures { IfOk result (ComesToStream F.answer R.answer request.old request.new) }
+{
+    match request {
+        PolledRequest::Future(future) => match future.poll(alloc) {
+            Ok(Polled::Pending) => Ok(false),
+            Ok(Polled::Ready(stream)) => {
+                *request = PolledRequest::Stream(stream);
+                Ok(true)
+            }
+            Err(error) => Err(error),
+        },
+        PolledRequest::Stream(_) => Ok(true),
+    }
+}
+
+/// Takes the next answer of a request that has come to its stream.
+#[inline(always)]
+fn poll_stream<F: ReplyFuture<Stream = R>, R: ReplyStream>(
+    alloc: Global,
+    request: &mut PolledRequest<F, R>,
+) -> Result<Polled<Option<ServiceResult>>, OutOfMemory>
+    requires { HasStream request.old }
+    ensures now { IfOk result (λ p. p ≡ request_answer F.answer R.answer request.old 0) }
+    ensures later { OnOk result ((k : ℕ) → request_answer F.answer R.answer request.new k ≡ request_answer F.answer R.answer request.old (suc k)) }
+{
+    match request {
+        PolledRequest::Future(_) => unreachable!(),
+        PolledRequest::Stream(stream) => stream.poll_next(alloc),
+    }
+}
+
 /// A request from its call on.
 #[derive(Drop)]
 pub enum PolledRequest<F, R> {
@@ -45,17 +82,12 @@ where
     ghost size = { request_size R.size };
 
     /// Takes the next answer. A future that is ready is followed by the first poll of its stream.
+    #[inline(always)]
     fn poll_next(&mut self, alloc: Global) -> Result<Polled<Option<ServiceResult>>, OutOfMemory> {
-        match self {
-            PolledRequest::Future(future) => match poll_future(alloc, future) {
-                Ok(Polled::Pending) => Ok(Polled::Pending),
-                Ok(Polled::Ready((stream, answer))) => {
-                    *self = PolledRequest::Stream(stream);
-                    Ok(answer)
-                }
-                Err(error) => Err(error),
-            },
-            PolledRequest::Stream(stream) => stream.poll_next(alloc),
+        match come_to_stream(alloc, self) {
+            Ok(true) => poll_stream(alloc, self),
+            Ok(false) => Ok(Polled::Pending),
+            Err(error) => Err(error),
         }
     }
 

@@ -1,4 +1,4 @@
-use Rattle.std.proofs.Common.{rules, ◌≡◌, ℕ}
+use Rattle.std.proofs.Common.{rules}
 use Rattle.dns_service.proofs.ErrorReplies.{code_put}
 use Rattle.dns_service.proofs.reply.put_code.Goals as goal
 
