@@ -1,5 +1,5 @@
 -- The rule that the cell and its passes keep, and what each step tells its pass. Callers need nothing of it.
-use Rattle.std.specs.Prelude.{◌≡◌, ◌≢◌, ℕ, true, false, List, [], ◌∷◌, ◌++◌, ◌⊎◌, Option, Some, None}
+use Rattle.std.specs.Prelude.{◌≡◌, ◌≢◌, ℕ, Bool, true, false, List, [], ◌∷◌, ◌++◌, ◌⊎◌}
 use mathlib.Core.Option.{some}
 use lib.ListN.{get_elem?}
 use Rattle.dns_admission.specs.declared.look.Look.{Look as State}
@@ -119,10 +119,16 @@ abbrev pub Settles : View → List ℕ → List ℕ → View → Type 0
 Settles v before after w = Settled v w × CanCall w
 
 -- The first seat opens the book at its first step. Until then it holds the state that the book will open with.
-abbrev pub view_of : Option State → View → View
-view_of (Some s) v = opened_as s
-view_of None v = v
+abbrev pub view_of : Bool → State → View → View
+view_of false shown v = opened_as shown
+view_of true shown v = v
 
-abbrev pub IsReady : Option State → View → Type 0
-IsReady (Some s) v = v ≡ newcomer
-IsReady None v = CanCall v × IsSound v.known
+-- what was shown: the state after a part of a history
+pub record WasShown (s opening : State) (seen : List Entry) : Type 0 where
+  pub before : List Entry
+  pub began : Begins before seen
+  pub is : s ≡ states_after opening before
+
+abbrev pub IsReady : Bool → State → View → Type 0
+IsReady false shown v = v ≡ newcomer
+IsReady true shown v = CanCall v × IsSound v.known × WasShown shown v.known.opening v.known.seen

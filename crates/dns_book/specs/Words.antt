@@ -1,6 +1,6 @@
 -- The state that the words of the cell stand for: slots taken; version; flags and response size;
 -- datagram write timeout; idle timeout; stream write timeout; bound of a queue; limit of connections; budget, 0 for none; window.
-use Rattle.std.specs.Prelude.{ℕ, ◌/◌, ◌%◌, ◌==◌, if◌then◌else◌, List, slice_index, Option, Some, None}
+use Rattle.std.specs.Prelude.{◌≡◌, ℕ, ◌/◌, ◌%◌, ◌==◌, if◌then◌else◌, List, slice_index, Option, Some, None}
 use Rattle.dns_service.specs.Config.{in_range, limited_budget}
 use Rattle.dns_admission.specs.declared.look.Look.{Look as State}
 
@@ -31,3 +31,8 @@ state_of words =
         };
       };
     }
+
+-- both states have the same configurations
+pub record HasConfigs (s t : State) : Type 0 where
+  pub dgram : s.dgram ≡ t.dgram
+  pub stream : s.stream ≡ t.stream

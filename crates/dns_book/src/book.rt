@@ -9,12 +9,12 @@ ghost use Rattle.dns_book.specs.Causes.{WasShutDown};
 ghost use Rattle.dns_book.specs.Seats.{IsSound, Called, Joined, new_known, state_met, first_half, second_half};
 ghost use Rattle.dns_book.specs.Words.{state_of};
 ghost use Rattle.crossbeam_utils.specs.Register.{Turns, Forks, Merges};
-ghost use Rattle.dns_book.specs.Rule.{KeptInOrder, CanCall, Made, Settled, view_of, IsReady};
+ghost use Rattle.dns_book.specs.Rule.{KeptInOrder, CanCall, Made, Settled, newcomer, opened_as, view_of, IsReady};
 
 use crate::rule::{
     Asked, Halves, HandOver, Looked, OneHistory, Opened, Read, Settle, TakeIn, Try, View,
 };
-use crate::words::{COUNT, Words, look_of, words_after, words_of};
+use crate::words::{COUNT, Words, look_of, renew, words_after, words_of};
 use atomic_table::{Join, Split};
 use crossbeam_utils::atomic::seq_cell::{Pass, RuledSeqCell};
 use crossbeam_utils::rule::Outcome;
@@ -45,8 +45,10 @@ impl Model for Book {
 #[derive(Drop)]
 pub struct BookSeat {
     pass: Pass<Words, View>,
-    // Of the first seat, until it opens the book at its first call.
-    pending: Option<BookState>,
+    // Whether the book is open. The first seat opens it at its first call.
+    opened: bool,
+    // What the book showed the seat last, and before that what it opens with.
+    shown: Look,
 }
 
 impl Model for BookSeat {
@@ -56,9 +58,9 @@ impl Model for BookSeat {
 
     ghost Value = { Seated };
 
-    ghost view = { λ s. record { book = s.pass.table_id; known = (view_of s.pending (cell_view s.pass)).known } };
+    ghost view = { λ s. record { book = s.pass.table_id; known = (view_of s.opened s.shown (cell_view s.pass)).known } };
 
-    ghost invariant = { λ s. IsReady s.pending (cell_view s.pass) };
+    ghost invariant = { λ s. IsReady s.opened s.shown (cell_view s.pass) };
 }
 
 impl Book {
@@ -66,10 +68,12 @@ impl Book {
     pub fn new(alloc: Global, state: BookState) -> Result<(Book, BookSeat), OutOfMemory>
         ensures { IfOk result (λ r. (r.1.book ≡ r.0) × (r.1.known ≡ new_known state)) }
     {
-        let (cell, pass): (Cell, SeatPass) = Cell::ruled(alloc, words_of(&state.shown()))?;
+        let shown = state.shown();
+        let (cell, pass): (Cell, SeatPass) = Cell::ruled(alloc, words_of(&shown))?;
         let seat = BookSeat {
             pass,
-            pending: Some(state),
+            opened: false,
+            shown,
         };
         Ok((Book { cell }, seat))
     }
@@ -130,10 +134,11 @@ impl Book {
         ensures called { Called seat.old.known Call.Look (Reply.Look result) seat.new.known }
         ensures shown { result ≡ state_met seat.new.known }
     {
-        self.open(rt, &mut seat.pass, &seat.pending);
-        seat.pending = None;
+        self.open(rt, &mut seat.pass, seat.opened, &seat.shown);
+        seat.opened = true;
         let now = self.load::<Looked, R>(rt, &mut seat.pass);
-        look_of(&now)
+        renew(&mut seat.shown, &now);
+        seat.shown
     }
 
     /// Two seats of one, which have seen what it had seen. The first keeps its calls.
@@ -145,16 +150,22 @@ impl Book {
         ensures second { result.1.known ≡ second_half seat.known }
         ensures sound { IsSound seat.known × IsSound result.0.known × IsSound result.1.known }
     {
-        let BookSeat { mut pass, pending } = seat;
-        self.open(rt, &mut pass, &pending);
+        let BookSeat {
+            mut pass,
+            opened,
+            shown,
+        } = seat;
+        self.open(rt, &mut pass, opened, &shown);
         let second = self.cut::<Halves>(&mut pass);
         let first = BookSeat {
             pass,
-            pending: None,
+            opened: true,
+            shown,
         };
         let second = BookSeat {
             pass: second,
-            pending: None,
+            opened: true,
+            shown,
         };
         (first, second)
     }
@@ -166,19 +177,25 @@ impl Book {
         ensures book { result.book ≡ first.book }
         ensures joined { Joined first.known second.known result.known }
     {
-        let BookSeat { mut pass, pending } = first;
-        self.open(rt, &mut pass, &pending);
+        let BookSeat {
+            mut pass,
+            opened,
+            shown,
+        } = first;
+        self.open(rt, &mut pass, opened, &shown);
         let BookSeat {
             pass: mut other,
-            pending,
+            opened: other_opened,
+            shown: other_shown,
         } = second;
-        self.open(rt, &mut other, &pending);
+        self.open(rt, &mut other, other_opened, &other_shown);
         let all = self.cut::<HandOver>(&mut other);
         self.merge::<TakeIn>(&mut pass, all);
         self.settle(rt, &mut pass);
         BookSeat {
             pass,
-            pending: None,
+            opened: true,
+            shown,
         }
     }
 
@@ -200,16 +217,27 @@ impl Book {
     }
 
     // Opens the book, if it is not open.
-    fn open<R: Wait>(&self, rt: &R, pass: &mut SeatPass, pending: &Option<BookState>)
+    fn open<R: Wait>(&self, rt: &R, pass: &mut SeatPass, opened: bool, shown: &Look)
         requires book { pass.old.table_id ≡ self.now }
-        requires ready { IsReady pending.now (cell_view pass.old) }
+        requires ready { IsReady opened shown.now (cell_view pass.old) }
         ensures pass { IsSamePass pass.old pass.new }
-        ensures view { cell_view pass.new ≡ view_of pending.now (cell_view pass.old) }
-        ensures open { CanCall (cell_view pass.new) × IsSound (cell_view pass.new).known }
+        ensures view { cell_view pass.new ≡ view_of opened shown.now (cell_view pass.old) }
+        ensures open { IsReady true shown.now (cell_view pass.new) }
     {
-        if let Some(state) = pending {
-            self.swap::<Opened, R>(rt, pass, words_of(&state.shown()));
+        if !opened {
+            self.write_opening(rt, pass, shown);
         }
+    }
+
+    // Writes the words that the book opens with.
+    #[cold]
+    fn write_opening<R: Wait>(&self, rt: &R, pass: &mut SeatPass, shown: &Look)
+        requires book { pass.old.table_id ≡ self.now }
+        requires new { cell_view pass.old ≡ newcomer }
+        ensures pass { IsSamePass pass.old pass.new }
+        ensures view { cell_view pass.new ≡ opened_as shown.now }
+    {
+        self.swap::<Opened, R>(rt, pass, words_of(shown));
     }
 
     // The load after a join, by which the pass has seen the whole history.
@@ -340,8 +368,8 @@ impl Book {
         ensures called { Called seat.old.known call (reply_of result call) seat.new.known }
         ensures met { state_met seat.new.known ≡ result }
     {
-        self.open(rt, &mut seat.pass, &seat.pending);
-        seat.pending = None;
+        self.open(rt, &mut seat.pass, seat.opened, &seat.shown);
+        seat.opened = true;
         self.make_at(rt, &mut seat.pass, call)
     }
 }

@@ -1,7 +1,7 @@
 //! A book's state as the words of the cell. Nothing else knows how they are packed.
 ghost use Rattle.std.specs.Prelude.{◌≡◌};
 ghost use Rattle.dns_admission.specs.Machine.{state_after};
-ghost use Rattle.dns_book.specs.Words.{state_of, budget_of};
+ghost use Rattle.dns_book.specs.Words.{state_of, budget_of, HasConfigs};
 ghost use Rattle.dns_service.specs.Config.{limited_budget, IsBudget};
 
 use dns_admission::{BookState, Call, Look};
@@ -103,6 +103,19 @@ pub fn look_of(words: &Words) -> Look
         taken: words[0],
         dgram,
         stream,
+    }
+}
+
+/// What was shown becomes what the words stand for. Where it has their version, its configurations are theirs.
+pub fn renew(shown: &mut Look, words: &Words)
+    requires { shown.old.version ≡ (state_of words.now).version → HasConfigs shown.old (state_of words.now) }
+    ensures { shown.new ≡ state_of words.now }
+{
+    if words[1] == shown.version {
+        shown.closed = words[2] % 2 == 1;
+        shown.taken = words[0];
+    } else {
+        *shown = look_of(words);
     }
 }
 
