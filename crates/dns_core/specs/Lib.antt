@@ -8,10 +8,10 @@ pub use Rattle.dns_service.specs.Config
 pub use Rattle.dns_service.specs.Req
 pub use Rattle.dns_middleware.specs.Verdicts
 pub use Rattle.dns_middleware.specs.Wrapped
-pub mod Settings
-pub mod Own
-pub mod Sent
-pub mod Out
+pub use Rattle.dns_sent.specs.Settings
+pub use Rattle.dns_sent.specs.Own
+pub use Rattle.dns_sent.specs.Sent
+pub use Rattle.dns_sent.specs.Out
 pub mod ByClient
 pub mod Books
 pub mod Placed

@@ -1,7 +1,7 @@
-pub use Rattle.dns_core.specs.Out
-pub use Rattle.dns_core.specs.Own
-pub use Rattle.dns_core.specs.Sent
-pub use Rattle.dns_core.specs.Settings
+pub use Rattle.dns_sent.specs.Out
+pub use Rattle.dns_sent.specs.Own
+pub use Rattle.dns_sent.specs.Sent
+pub use Rattle.dns_sent.specs.Settings
 pub mod Clocks
 pub mod Notes
 pub mod Woven

@@ -3,7 +3,7 @@ use Rattle.std.specs.Prelude.{◌≡◌, ℕ, List, [], ◌∷◌, ◌++◌, tru
 use Rattle.dns_name.specs.declared.error.OutOfMemory.{OutOfMemory}
 use Rattle.dns_service.specs.declared.event.Event.{Event}
 use Rattle.dns_service.specs.declared.event.EventKind.{EventKind}
-use Rattle.dns_core.specs.Own.{is_wide}
+use Rattle.dns_sent.specs.Own.{is_wide}
 use Rattle.dns_notes.specs.Woven.{kinds}
 
 -- the event at the end, or nothing where there is no memory

@@ -8,7 +8,7 @@ use Rattle.dns_book.specs.declared.history.Entry.{Entry}
 use Rattle.dns_service.specs.declared.event.Event.{Event}
 use Rattle.dns_service.specs.declared.event.EventKind.{EventKind}
 use Rattle.dns_client.specs.News.{news}
-use Rattle.dns_core.specs.Own.{is_wide}
+use Rattle.dns_sent.specs.Own.{is_wide}
 
 abbrev pub kinds : List Event → List EventKind
 kinds [] = []

@@ -7,8 +7,8 @@ use Rattle.dns_service.specs.declared.event.Output.{Output}
 use Rattle.dns_service.specs.declared.event.Output.TheVariants.{TurnedAway}
 use Rattle.dns_client.specs.Slate.{Slate, Phase, Unused, Exchange}
 use Rattle.dns_client.specs.Rule.{rule}
-use Rattle.dns_core.specs.Own.{concerns}
-use Rattle.dns_core.specs.Sent.{conf, slate}
+use Rattle.dns_sent.specs.Own.{concerns}
+use Rattle.dns_sent.specs.Sent.{conf, slate}
 use Rattle.dns_middleware.specs.declared.settings.Settings.{Settings}
 
 abbrev pub is_unused : Phase → Bool

@@ -1,0 +1,4 @@
+pub mod Settings
+pub mod Own
+pub mod Sent
+pub mod Out
