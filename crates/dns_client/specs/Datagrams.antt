@@ -1,6 +1,6 @@
 -- The exchange that a datagram makes (RFC 1035, section 4.2.1). A datagram is cut at 1,024 octets. One that is shorter than a header
 -- makes no request, though its number is used; nor does a response, which is answered with FORMERR at once.
-use Rattle.std.specs.Prelude.{ℕ, List, [], ◌∷◌, length, take, nat_lt, Bool, ◌||◌, if◌then◌else◌}
+use Rattle.std.specs.Prelude.{ℕ, List, [], ◌∷◌, length, take, nat_lt, Bool, ◌||◌, if◌then◌else◌, Option, Some, None}
 use Rattle.dns_name.specs.declared.address.SocketAddr.{SocketAddr}
 use Rattle.dns_base.specs.Header.{header_of}
 use Rattle.dns_base.specs.Wire.{wire}
@@ -32,6 +32,11 @@ exchange client addr at secs o s = record s {
   phase = Exchange;
   requests = (if asks_nothing o then [] else asked (request_of_datagram s.conf.dgram addr at secs o) ∷ []);
 }
+
+-- octets that a client is sent, where it is sent some
+abbrev pub datagrams_to : ℕ → Option (List ℕ) → List Output
+datagrams_to client None = []
+datagrams_to client (Some o) = Datagram client o ∷ []
 
 -- what is sent to the sender of a response
 abbrev pub refused_datagram : ℕ → Dgram → List ℕ → List Output

@@ -1,17 +1,24 @@
 -- When a client's core stands for a slate. The answers are those of the wrapped service.
 use Rattle.std.specs.Prelude.{◌≡◌, ℕ, zero, suc, ◌+◌, ◌<◌, ◌≤◌, List, [], ◌∷◌, ◌++◌, length, filter, slice_get, nat_lt, if◌then◌else◌, not, is_some, Bool, true, false, Option, Some, None}
 use Rattle.std.specs.Arc.{arc_value}
+use Rattle.dns_name.specs.declared.address.SocketAddr.{SocketAddr}
 use Rattle.dns_base.specs.Header.{header_of}
 use Rattle.dns_base.specs.Wire.{wire}
 use Rattle.dns_service.specs.Answer.{Answer}
+use Rattle.dns_service.specs.Config.{Dgram}
 use Rattle.dns_service.specs.ErrorReply.{error_reply}
 use Rattle.dns_service.specs.Req.{Req}
+use Rattle.dns_service.specs.declared.event.Event.{Event}
+use Rattle.dns_service.specs.declared.event.EventKind.TheVariants.{Turn}
 use Rattle.dns_service.specs.declared.event.Output.{Output}
 use Rattle.dns_service.specs.declared.event.Output.TheVariants.{Frame, Closed as Closed_output}
 use Rattle.dns_service.specs.declared.event.Why.{Why}
 use Rattle.dns_client.specs.Frames.{framed, frames, past}
 use Rattle.dns_client.specs.Serving.{Serving}
-use Rattle.dns_client.specs.Slate.{Slate, SlateRequest, Told, Exchange, Open, Flushing, Closed}
+use Rattle.dns_client.specs.Slate.{Slate, SlateRequest, Told, Exchange, Open, Flushing, Closed, IsUnused}
+use Rattle.dns_client.specs.Datagrams.{at_once, datagrams_to, exchange}
+use Rattle.dns_client.specs.Rule.{rule}
+use Rattle.dns_client.specs.Spent.{is_spent}
 use Rattle.dns_client.specs.Requests.{asked, most_requests, request_of_frame}
 use Rattle.dns_client.specs.Connections.{in_transaction, spending, take_frames}
 use Rattle.dns_client.specs.Invoker.{offered}
@@ -62,6 +69,10 @@ KeepsGoing answer answers (Some q) (Some r) = IsGoing answer answers q r
 abbrev pub sole : {Q : Type 0} → Option Q → ℕ → Option Q
 sole kept zero = kept
 sole kept (suc k) = None
+
+-- a request that is done is kept no more
+abbrev pub unless_done : {Q : Type 0} → Bool → Q → Option Q
+unless_done done q = if done then None else Some q
 
 -- and of the one that is kept the number
 abbrev pub sole_number : {Q : Type 0} → Option Q → Option ℕ
@@ -176,6 +187,18 @@ module _ {R F : Type 0} (answer : PolledRequest F R → ℕ → Answer) (answers
   -- at every slate of the exchange, the outputs are those that are told, and it is the exchange of the slate after
   abbrev pub Exchanges : ℕ → Option (KeptRequest F R) → Option (KeptRequest F R) → List Output → (Slate → Told) → Type 0
   Exchanges number old new outs after = (s : Slate) → IsExchange number old s → (outs ≡ (after s).1) × IsExchange number new (after s).0
+
+  -- whatever the number of an exchange: what is kept of it, and the octets that its client is sent, as it begins by a datagram that was
+  -- cut, and by a Turn of its one request
+  abbrev pub BeginsAs : SocketAddr → ℕ → ℕ → Dgram → List ℕ → Option (KeptRequest F R) → Option (List ℕ) → Type 0
+  BeginsAs addr at secs dgram o new octets = (number : ℕ) (s : Slate) → IsUnused s → s.conf.dgram ≡ dgram → (datagrams_to number octets ≡ at_once number s.conf.dgram o) × IsExchange number new (exchange number addr at secs o s)
+
+  abbrev pub TurnsAs : Option (KeptRequest F R) → Option (KeptRequest F R) → Option (List ℕ) → Type 0
+  TurnsAs old new octets = (number : ℕ) (e : Event) → e.kind ≡ Turn 0 → Exchanges number old new (datagrams_to number octets) (rule answers e)
+
+  -- nothing changes any more at the slate of an exchange of which this is kept
+  abbrev pub SpentWith : Bool → Option (KeptRequest F R) → Type 0
+  SpentWith over kept = (number : ℕ) (s : Slate) → IsExchange number kept s → over ≡ is_spent s
 
   module _ {W : Type 0} where
     -- what is kept of an open connection; no Shutdown came yet

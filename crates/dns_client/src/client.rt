@@ -15,9 +15,10 @@ ghost use Rattle.dns_client.specs.Waiting.{first_unfinished, next_unfinished};
 ghost use Rattle.dns_service.specs.PolledRequest.{request_answer};
 
 use crate::connection::OpenConnection;
-use crate::exchange::begin_exchange;
+use crate::exchange::{begin_cut, datagrams_to};
 use crate::flushing::FlushingConnection;
 use crate::kept::KeptRequest;
+use crate::requests::cut;
 use crate::states::{lose, shut_down, step_state};
 use dns_admission::Look;
 use dns_base::SocketAddr;
@@ -81,9 +82,9 @@ impl<W: Served> ClientCore<W> {
         ensures version { IfOk result (λ p. p.0.version ≡ look.now.version) }
     {
         let config = &look.dgram;
-        let (unfinished, outs) = begin_exchange(
-            alloc, service, client, addr, at, secs, octets, config,
-        )?;
+        let octets = cut(alloc, octets)?;
+        let (unfinished, sent) = begin_cut(alloc, service, addr, at, secs, octets, config)?;
+        let outs = datagrams_to(alloc, client, sent)?;
         let core = ClientCore {
             client,
             state: State::Exchange(unfinished),

@@ -1,25 +1,22 @@
 //! An exchange: one datagram, and its request until that is done.
 
-ghost use Rattle.std.specs.Prelude.{◌≡◌, ◌≤◌, ℕ, ◌∷◌, [], IfOk, MatchOption, None, length, slice_get};
-ghost use Rattle.dns_base.specs.Wire.{wire};
+ghost use Rattle.std.specs.Prelude.{◌≡◌, ◌≤◌, ℕ, ◌∷◌, [], IfOk, MatchOption, None, length, slice_get, not, is_some};
 ghost use Rattle.dns_service.specs.PolledRequest.{request_answer};
-ghost use Rattle.dns_service.specs.declared.event.Output.{Output};
-ghost use Rattle.dns_client.specs.Datagrams.{at_once, datagram, exchange, refused_datagram};
+ghost use Rattle.dns_client.specs.Datagrams.{cut_datagram, datagrams_to, refused_datagram};
 ghost use Rattle.dns_client.specs.Requests.{asked};
 ghost use Rattle.dns_client.specs.Rule.{rule};
 ghost use Rattle.dns_client.specs.Serving.{Serving, serving};
-ghost use Rattle.dns_client.specs.Slate.{Slate, IsUnused};
-ghost use Rattle.dns_client.specs.Stands.{Exchanges, IsExchange, IsKept};
+ghost use Rattle.dns_client.specs.Stands.{BeginsAs, SpentWith, Exchanges, IsKept};
 ghost use Rattle.dns_client.specs.Turns.{exchange_turn};
 
 use crate::kept::{KeptRequest, call, refused};
-use crate::polling::poll_kept;
-use crate::requests::{cut, datagram_of, datagram_request};
-use dns_base::{AdditionalBuilder, Message, SocketAddr};
+use crate::polling::turn_unfinished;
+use crate::requests::{cut_given, datagram_of, datagram_request};
+use dns_base::{Message, SocketAddr};
 use dns_name::OptRcode;
 use dns_service::{
-    DgramConfig, Event, EventKind, OutOfMemory, Output, ReplyFuture, ReplyStream, Request, Served,
-    reply_limit,
+    DgramConfig, Event, EventKind, Octets, OutOfMemory, Output, ReplyFuture, ReplyStream, Request,
+    Served, reply_limit,
 };
 use std::alloc::Global;
 
@@ -32,41 +29,68 @@ pub fn one(alloc: Global, output: Output) -> Result<Vec<Output>, OutOfMemory>
     Ok(outs)
 }
 
-/// What is kept of an exchange, and what its client is sent at once.
+/// What a client is sent, where it is sent a datagram.
+pub fn datagrams_to(
+    alloc: Global,
+    client: u64,
+    octets: Option<Octets>,
+) -> Result<Vec<Output>, OutOfMemory>
+    ensures { IfOk result (λ outs. outs.items ≡ datagrams_to client octets) }
+{
+    match octets {
+        Some(octets) => one(alloc, Output::Datagram { client, octets }),
+        None => Ok(Vec::new(alloc)),
+    }
+}
+
+/// What is kept of an exchange, and the octets that its client is sent at once.
 pub type BegunExchange<W> = (
     Option<KeptRequest<<W as Served>::Future, <W as Served>::Stream>>,
-    Vec<Output>,
+    Option<Octets>,
 );
 
-/// Begins an exchange by its datagram. Below 12 octets no request is made, and of a response neither, which is refused at
-/// once.
+/// Begins an exchange by its datagram, at a moment in ms and seconds. What is longer than 1,024 octets is cut, and nothing is
+/// copied. Below 12 octets no request is made, and of a response neither, which is refused at once.
 pub fn begin_exchange<W: Served>(
     alloc: Global,
     service: &W,
-    client: u64,
     addr: SocketAddr,
     at: u64,
     secs: u64,
-    octets: &[u8],
+    octets: Octets,
     config: &DgramConfig,
 ) -> Result<BegunExchange<W>, OutOfMemory>
     requires { W.can_call service.now }
-    ensures { IfOk result (λ p. (s : Slate) → IsUnused s → s.conf.dgram ≡ config.now
-        → (p.1.items ≡ (datagram client addr at secs octets.now s).1)
-        × IsExchange (request_answer W.Future.answer W.Stream.answer) (serving (W.answer service.now) (W.hint service.now)) client p.0 (datagram client addr at secs octets.now s).0) }
+    ensures begun { IfOk result (λ p. BeginsAs (request_answer W.Future.answer W.Stream.answer) (serving (W.answer service.now) (W.hint service.now)) addr at secs config.now (cut_datagram octets) p.0 p.1) }
+    ensures spent { IfOk result (λ p. SpentWith (request_answer W.Future.answer W.Stream.answer) (serving (W.answer service.now) (W.hint service.now)) (not (is_some p.0)) p.0) }
 {
-    let octets = cut(alloc, octets)?;
+    let octets = cut_given(octets);
+    begin_cut(alloc, service, addr, at, secs, octets, config)
+}
+
+/// The same by what is read of the datagram.
+pub fn begin_cut<W: Served>(
+    alloc: Global,
+    service: &W,
+    addr: SocketAddr,
+    at: u64,
+    secs: u64,
+    octets: Vec<u8>,
+    config: &DgramConfig,
+) -> Result<BegunExchange<W>, OutOfMemory>
+    requires { W.can_call service.now }
+    ensures { IfOk result (λ p. BeginsAs (request_answer W.Future.answer W.Stream.answer) (serving (W.answer service.now) (W.hint service.now)) addr at secs config.now octets.items p.0 p.1) }
+{
     let Ok(message) = Message::from_octets(octets) else {
-        return Ok((None, Vec::new(alloc)));
+        return Ok((None, None));
     };
-    begin_message(alloc, service, client, addr, at, secs, message, config)
+    begin_message(alloc, service, addr, at, secs, message, config)
 }
 
 /// The same by the message that the datagram is: a response is refused, and a query asked.
 fn begin_message<W: Served>(
     alloc: Global,
     service: &W,
-    client: u64,
     addr: SocketAddr,
     at: u64,
     secs: u64,
@@ -74,12 +98,10 @@ fn begin_message<W: Served>(
     config: &DgramConfig,
 ) -> Result<BegunExchange<W>, OutOfMemory>
     requires { W.can_call service.now }
-    ensures { IfOk result (λ p. (s : Slate) → IsUnused s → s.conf.dgram ≡ config.now → 12 ≤ length message
-        → (p.1.items ≡ at_once client s.conf.dgram message)
-        × IsExchange (request_answer W.Future.answer W.Stream.answer) (serving (W.answer service.now) (W.hint service.now)) client p.0 (exchange client addr at secs message s)) }
+    ensures { IfOk result (λ p. 12 ≤ length message → BeginsAs (request_answer W.Future.answer W.Stream.answer) (serving (W.answer service.now) (W.hint service.now)) addr at secs config.now message p.0 p.1) }
 {
     if message.header().qr {
-        return refuse::<W>(alloc, client, &message, config);
+        return refuse::<W>(alloc, &message, config);
     }
     match datagram_request(alloc, config, addr, at, secs, message) {
         Ok(request) => ask(alloc, service, request),
@@ -94,34 +116,26 @@ fn ask<W: Served>(
     request: Request<()>,
 ) -> Result<BegunExchange<W>, OutOfMemory>
     requires { W.can_call service.now }
-    ensures { IfOk result (λ p. (p.1.items ≡ [])
+    ensures { IfOk result (λ p. (p.1 ≡ None)
         × MatchOption p.0 ⊥ (λ q. IsKept (request_answer W.Future.answer W.Stream.answer) (serving (W.answer service.now) (W.hint service.now)) q (asked request))) }
 {
-    let kept = call(alloc, service, request)?;
-    Ok((Some(kept), Vec::new(alloc)))
+    match call(alloc, service, request) {
+        Ok(kept) => Ok((Some(kept), None)),
+        Err(error) => Err(error),
+    }
 }
 
 /// What the sender of a response is sent.
 fn refuse<W: Served>(
     alloc: Global,
-    client: u64,
     message: &Message,
     config: &DgramConfig,
 ) -> Result<BegunExchange<W>, OutOfMemory>
-    ensures { IfOk result (λ p. (p.0 ≡ None) × (p.1.items ≡ refused_datagram client config.now message.now)) }
+    ensures { IfOk result (λ p. (p.0 ≡ None) × ((client : ℕ) → datagrams_to client p.1 ≡ refused_datagram client config.now message.now)) }
 {
     let limit = reply_limit(config.max_response_size()) as u16;
     let reply = refused(alloc, message, Some(limit), OptRcode::FORMERR)?;
-    let outs = sent(alloc, client, reply)?;
-    Ok((None, outs))
-}
-
-/// A reply as what an exchange is sent.
-fn sent(alloc: Global, client: u64, reply: AdditionalBuilder) -> Result<Vec<Output>, OutOfMemory>
-    ensures { IfOk result (λ outs. outs.items ≡ Output.Datagram client (wire reply.message) ∷ []) }
-{
-    let octets = datagram_of(reply);
-    one(alloc, Output::Datagram { client, octets })
+    Ok((None, Some(datagram_of(reply))))
 }
 
 /// Polls a request of an exchange once. No request but the first is made.
@@ -137,10 +151,10 @@ fn turn<F: ReplyFuture<Stream = R>, R: ReplyStream>(
     if request != 0 {
         return Ok(Vec::new(alloc));
     }
-    let Some(reply) = poll_kept(alloc, unfinished)? else {
-        return Ok(Vec::new(alloc));
-    };
-    sent(alloc, client, reply)
+    match turn_unfinished(alloc, unfinished) {
+        Ok(octets) => datagrams_to(alloc, client, octets),
+        Err(error) => Err(error),
+    }
 }
 
 /// An event of an exchange.

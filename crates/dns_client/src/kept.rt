@@ -1,7 +1,8 @@
 //! What is kept of a request that isn't done.
 
-ghost use Rattle.std.specs.Prelude.{◌≡◌, ℕ, IfOk, Some};
+ghost use Rattle.std.specs.Prelude.{◌≡◌, ℕ, IfOk, Some, option_map};
 ghost use Rattle.std.specs.Arc.{arc_value};
+ghost use Rattle.dns_base.specs.Wire.{wire};
 ghost use Rattle.dns_service.specs.Cut.{sized};
 ghost use Rattle.dns_service.specs.ErrorReply.{error_reply};
 ghost use Rattle.dns_service.specs.Given.{message_in};
@@ -9,13 +10,16 @@ ghost use Rattle.dns_service.specs.PolledRequest.{request_answer};
 ghost use Rattle.dns_service.specs.Transport.{hint_of, limit, limit_over};
 ghost use Rattle.dns_service.specs.declared.service.Polled.TheVariants.{Ready};
 ghost use Rattle.dns_client.specs.PolledAt.{IsPolled};
+ghost use Rattle.dns_client.specs.Serving.{Serving};
+ghost use Rattle.dns_client.specs.Stands.{SpentWith, TurnsAs, unless_done};
 ghost use Rattle.dns_client.specs.Turns.{ends, reply_to};
 
+use crate::requests::datagram_of;
 use dns_base::{AdditionalBuilder, Message};
 use dns_name::OptRcode;
 use dns_service::{
-    OutOfMemory, Polled, PolledRequest, ReplyFuture, ReplyStream, Request, Served, ServiceResult,
-    fit, limit_over, mk_error_response,
+    Octets, OutOfMemory, Polled, PolledRequest, ReplyFuture, ReplyStream, Request, Served,
+    ServiceResult, fit, limit_over, mk_error_response,
 };
 use std::alloc::Global;
 use std::sync::Arc;
@@ -104,6 +108,28 @@ where
             Polled::Ready(None) => Ok((None, true)),
             Polled::Ready(Some(item)) => answered(alloc, &self.message, self.limit, item),
         }
+    }
+
+    /// A Turn of the one request of an exchange: the octets that its client is sent, where there are some, and whether the request
+    /// is done.
+    pub fn turn(&mut self, alloc: Global) -> Result<(Option<Octets>, bool), OutOfMemory>
+        ensures told { IfOk result (λ p. (answers : Serving) → TurnsAs (request_answer F.answer R.answer) answers (Some self.old) (unless_done p.1 self.new) p.0) }
+        ensures spent { IfOk result (λ p. (answers : Serving) → SpentWith (request_answer F.answer R.answer) answers p.1 (unless_done p.1 self.new)) }
+    {
+        match self.poll(alloc) {
+            Ok((reply, done)) => Ok((datagram_in(reply), done)),
+            Err(error) => Err(error),
+        }
+    }
+}
+
+/// A reply as a datagram, where there is one.
+fn datagram_in(reply: Option<AdditionalBuilder>) -> Option<Octets>
+    ensures { result ≡ option_map wire (message_in reply) }
+{
+    match reply {
+        Some(reply) => Some(datagram_of(reply)),
+        None => None,
     }
 }
 

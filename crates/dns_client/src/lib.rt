@@ -21,6 +21,7 @@ mod unfinished;
 pub use client::ClientCore;
 pub use connection_request::ConnectionRequest;
 pub use dns_service::PolledRequest;
+pub use exchange::{BegunExchange, begin_exchange};
 pub use framer::Framer;
 pub use invoker::ConnectionInvoker;
 pub use kept::KeptRequest;

@@ -25,6 +25,15 @@ pub fn cut(alloc: Global, octets: &[u8]) -> Result<Vec<u8>, OutOfMemory>
     Ok(read)
 }
 
+/// The same of octets that are given away, which are not copied.
+pub fn cut_given(octets: Octets) -> Vec<u8>
+    ensures { result.items ≡ cut_datagram octets }
+{
+    let mut octets = octets.into_vec();
+    octets.truncate(MOST_READ);
+    octets
+}
+
 /// The request of a datagram.
 pub fn datagram_request(
     alloc: Global,

@@ -1,9 +1,8 @@
 -- How the parts of the loop of datagrams follow each other, and how it ends.
-use Rattle.std.proofs.Common.{◌≡◌, ◌≢◌, ◌≤◌, ◌<◌, ℕ, ◌+◌, ◌-◌, ◌^◌, min, List, [], ◌∷◌, ◌++◌, length, take, drop, get_or, drop-cons, add-one, Bool, true, false, refl, ap, sym, ◌∙◌, append_assoc, append-nil, arith}
-use Rattle.std.specs.Prelude.{Option, Some, None, nat_eq, if◌then◌else◌}
+use Rattle.std.proofs.Common.{◌≡◌, ℕ, ◌+◌, min, List, [], ◌∷◌, length, take, drop, Bool, true, false, refl, sym, ◌∙◌, arith}
+use Rattle.std.specs.Prelude.{Option, Some, nat_eq, if◌then◌else◌}
 use Rattle.std.specs.List.{list_any}
 use Rattle.std.specs.VecDeque.{deque_len}
-use Rattle.std.proofs.lemmas.Grind.{common_steps}
 use Rattle.std.proofs.lemmas.List.{nil_from_length, take_min}
 use Rattle.dns_name.specs.declared.address.SocketAddr.{SocketAddr}
 use Rattle.dns_admission.specs.declared.look.Look.{Look}
@@ -17,7 +16,7 @@ use Rattle.dns_notes.specs.Clocks.{ClockReading}
 use Rattle.dns_datagrams.specs.DatagramsSent.{settings_of}
 use Rattle.dns_datagrams.specs.DatagramsServed.{World, world, IsFull}
 use Rattle.dns_datagrams.specs.DatagramSteps.{kept_at, numbers_of, left_to}
-use Rattle.dns_datagrams.specs.DatagramLoop.{Among, Ran, Goes, Breaks, Looks, Turns, Fails, Begins, BeginFails, Idles, Finished}
+use Rattle.dns_datagrams.specs.DatagramLoop.{Ran, Goes, Breaks, Looks, Turns, Fails, Begins, BeginFails, Idles, Finished}
 use Rattle.dns_datagrams.specs.declared.running.KeptExchange.{KeptExchange}
 use Rattle.dns_datagrams.specs.declared.running.Running.{Running}
 use Rattle.dns_datagrams.proofs.DatagramOrderings.{ordered_rest}

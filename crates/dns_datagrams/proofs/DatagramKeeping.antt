@@ -1,43 +1,28 @@
 -- What is kept of an exchange that begins, or that is polled.
-use Rattle.std.proofs.Common.{◌≡◌, ℕ, ◌-◌, take, List, [], ◌∷◌, ◌++◌, Bool, true, false, refl, ap, sym, ◌∙◌, subst, append-nil, Option, Some, None}
-use Rattle.std.specs.Prelude.{◌&&◌, slice_get, if◌then◌else◌}
-use Rattle.std.specs.List.{list_all}
-use Rattle.std.specs.Option.{option_to_list}
+use Rattle.std.proofs.Common.{◌≡◌, ℕ, List, [], ◌∷◌, ◌++◌, Bool, true, false, refl, ap, sym, ◌∙◌, subst, append-nil, Option, Some, None}
+use Rattle.std.specs.Prelude.{if◌then◌else◌, not, is_some}
 use Rattle.dns_name.specs.declared.address.SocketAddr.{SocketAddr}
 use Rattle.dns_admission.specs.declared.look.Look.{Look}
 use Rattle.dns_outside.specs.declared.sock.Letter.{Letter}
 use Rattle.dns_service.specs.Answer.{Answer}
 use Rattle.dns_service.specs.declared.event.Event.{Event}
 use Rattle.dns_service.specs.declared.event.EventKind.TheVariants.{Turn}
-use Rattle.dns_service.specs.declared.event.Output.{Output}
 use Rattle.dns_service.specs.declared.polled.PolledRequest.{PolledRequest}
 use Rattle.dns_client.specs.Serving.{Serving}
-use Rattle.dns_client.specs.Slate.{Slate, SlateRequest, Told, Phase, Unused, Exchange, Open, Flushing, Closed, IsUnused, conf_of, conf_rule, with_conf}
-use Rattle.dns_client.specs.Datagrams.{datagram}
-use Rattle.dns_client.specs.Turns.{exchange_turn, turn, polled, with_request, sent_at_once, sent_for, turn_request}
-use Rattle.dns_client.specs.Rule.{rule, in_phase}
+use Rattle.dns_client.specs.Slate.{Conf, Slate, Phase, Unused, Exchange, IsUnused}
+use Rattle.dns_client.specs.Datagrams.{cut_datagram, datagram, datagrams_to}
+use Rattle.dns_client.specs.Rule.{rule}
 use Rattle.dns_client.specs.Spent.{is_spent, is_spent_in}
-use Rattle.dns_client.specs.Stands.{Stands, GoesAs}
-use Rattle.dns_client.specs.declared.client.ClientCore.{ClientCore}
+use Rattle.dns_client.specs.Stands.{BeginsAs, SpentWith, IsExchange, TurnsAs, unless_done}
+use Rattle.dns_client.specs.declared.kept.KeptRequest.{KeptRequest}
 use Rattle.dns_datagrams.specs.DatagramsPolled.{is_finished}
-use Rattle.dns_datagrams.specs.DatagramSteps.{octets_of, last_octets, letter_to, IsKeptOf, Keeps, Turned, TurnedOne, Begun}
+use Rattle.dns_datagrams.specs.DatagramSteps.{last_octets, letter_to, kept_under, IsKeptOf, Keeps, Turned, TurnedOne, Begun}
 use Rattle.dns_datagrams.specs.declared.running.KeptExchange.{KeptExchange}
 use Rattle.dns_datagrams.proofs.DatagramSlates.{exchange_stays}
 
-last_more : (xs : List Output) (o : Output) → last_octets (xs ++ o ∷ []) ≡ octets_of o
-last_more [] o = refl
-last_more (x ∷ []) o = refl
-last_more (x ∷ y ∷ xs) o = last_more (y ∷ xs) o
-
--- the last of some outputs, by what is left before it
-pub last_of : (xs ys : List Output) (r : Option Output) (o : Output) → xs ≡ ys ++ option_to_list r → r ≡ Some o → octets_of o ≡ last_octets xs
-last_of xs ys r o e h = let e1 : xs ≡ ys ++ o ∷ [] = rw h at e in sym (ap last_octets e1 ∙ last_more ys o)
-
-pub last_none : (xs ys : List Output) (n : ℕ) → n ≡ 0 → ys ≡ take (n - 1) xs → xs ≡ ys ++ [] → None ≡ last_octets xs
-last_none xs ys n z r e =
-    let y : ys ≡ [] = rw z at r in
-    let x : xs ≡ [] = rw y at e in
-    sym (ap last_octets x)
+last_is : (number : ℕ) (octets : Option (List ℕ)) → last_octets (datagrams_to number octets) ≡ octets
+last_is number None = refl
+last_is number (Some o) = refl
 
 spent_is : (s : Slate) → s.phase ≡ Exchange → is_spent s ≡ is_finished s
 spent_is s h = subst (λ (p : Phase). is_spent_in p s ≡ is_finished s) (sym h) refl
@@ -47,16 +32,18 @@ unused_not s u h = let g : s.phase ≡ Unused = ap (λ (t : Slate). t.phase) u i
 
 module _ {W R F : Type 0} (answer : PolledRequest F R → ℕ → Answer) (answers : Serving) where
   -- a Turn of one that is kept
-  pub turned_one : (e : Event) (old : KeptExchange W R F) (core : ClientCore W R F) (outs : List Output) (octets : Option (List ℕ)) (letter : Option Letter) (done : Bool) → e.kind ≡ Turn 0
-      → GoesAs answer answers old.core core outs (rule answers e) → octets ≡ last_octets outs → letter ≡ letter_to octets old.addr → ((s : Slate) → Stands answer answers core s → done ≡ is_spent s)
-      → TurnedOne answer answers e old letter done (record old { core = core })
-  turned_one e old core outs octets letter done k goes o l spent =
-      let stays = λ (s : Slate) (i : IsKeptOf answer answers old s). exchange_stays answers e s (rw k refl) i.phase_is in
-      let finished : (s : Slate) → IsKeptOf answer answers old s → done ≡ is_finished (rule answers e s).0 = λ s i. spent (rule answers e s).0 (goes s i.stands).1 ∙ spent_is (rule answers e s).0 (stays s i).0 in
+  pub turned_one : (old : KeptExchange W R F) (q : KeptRequest F R) (octets : Option (List ℕ)) (letter : Option Letter) (done : Bool)
+      → TurnsAs answer answers (Some old.request) (unless_done done q) octets → SpentWith answer answers done (unless_done done q) → letter ≡ letter_to octets old.addr
+      → TurnedOne answer answers old letter done (record old { request = q })
+  turned_one old q octets letter done turns ends l =
+      let goes = λ (e : Event) (s : Slate) (k : e.kind ≡ Turn 0) (i : IsKeptOf answer answers old s). turns old.number e k s i.is_exchange in
+      let stays = λ (e : Event) (s : Slate) (k : e.kind ≡ Turn 0) (i : IsKeptOf answer answers old s). exchange_stays answers e s (rw k refl) i.phase_is in
+      let finished : (e : Event) (s : Slate) → e.kind ≡ Turn 0 → IsKeptOf answer answers old s → done ≡ is_finished (rule answers e s).0 =
+      λ e s k i. ends old.number (rule answers e s).0 (goes e s k i).1 ∙ spent_is (rule answers e s).0 (stays e s k i).0 in
       record {
-        letter_is = λ s i. l ∙ ap (λ (x : Option (List ℕ)). letter_to x old.addr) (o ∙ ap last_octets (goes s i.stands).0) ∙ ap (letter_to (last_octets (rule answers e s).1)) (i.addr_is ∙ sym (stays s i).1);
+        letter_is = λ e s k i. l ∙ ap (λ (x : Option (List ℕ)). letter_to x old.addr) (sym (last_is old.number octets) ∙ ap last_octets (goes e s k i).0) ∙ ap (letter_to (last_octets (rule answers e s).1)) (i.addr_is ∙ sym (stays e s k i).1);
         done_is = finished;
-        left = λ s i n. record { stands = (goes s i.stands).1; addr_is = i.addr_is ∙ sym (stays s i).1; phase_is = (stays s i).0; unfinished = sym (finished s i) ∙ n };
+        left = λ e s k i n. record { is_exchange = rw n at (goes e s k i).1; addr_is = i.addr_is ∙ sym (stays e s k i).1; phase_is = (stays e s k i).0; unfinished = sym (finished e s k i) ∙ n };
       }
 
   left_case : (done : Bool) (x : KeptExchange W R F) (s : Slate) → done ≡ is_finished s → (done ≡ false → IsKeptOf answer answers x s) → Keeps answer answers (if done then [] else x ∷ []) s
@@ -74,13 +61,13 @@ module _ {W R F : Type 0} (answer : PolledRequest F R → ℕ → Answer) (answe
   keeps_beside before behind xs s a b h = rw (a, b, append-nil xs) h
 
   -- it is kept no more once it is finished
-  pub turned_beside : (e : Event) (before behind : List (KeptExchange W R F)) (old : KeptExchange W R F) (letter : Option Letter) (done : Bool) (new : KeptExchange W R F) → TurnedOne answer answers e old letter done new
-      → Turned answer answers e (before ++ old ∷ behind) letter (before ++ ((if done then [] else new ∷ []) ++ behind))
-  turned_beside e before behind old letter done new t = record {
-    leads = λ s h.
+  pub turned_beside : (before behind : List (KeptExchange W R F)) (old : KeptExchange W R F) (letter : Option Letter) (done : Bool) (new : KeptExchange W R F) → TurnedOne answer answers old letter done new
+      → Turned answer answers (before ++ old ∷ behind) letter (before ++ ((if done then [] else new ∷ []) ++ behind))
+  turned_beside before behind old letter done new t = record {
+    leads = λ e s turn h.
         let k = keeps_one before behind old s h in (
-          t.letter_is s k.2,
-          keeps_beside before behind (if done then [] else new ∷ []) (rule answers e s).0 k.0 k.1 (left_case done new (rule answers e s).0 (t.done_is s k.2) (t.left s k.2)),
+          t.letter_is e s turn k.2,
+          keeps_beside before behind (if done then [] else new ∷ []) (rule answers e s).0 k.0 k.1 (left_case done new (rule answers e s).0 (t.done_is e s turn k.2) (t.left e s turn k.2)),
         );
   }
 
@@ -91,20 +78,19 @@ module _ {W R F : Type 0} (answer : PolledRequest F R → ℕ → Answer) (answe
   unkept (x ∷ []) s u h = absurd (unused_not s u h.phase_is)
   unkept (x ∷ y ∷ xs) s u h = absurd h
 
-  begun_case : (spent : Bool) (old new : List (KeptExchange W R F)) (x : KeptExchange W R F) (s : Slate) → spent ≡ is_finished s → new ≡ old ++ (if spent then [] else x ∷ []) → old ≡ [] → (spent ≡ false → IsKeptOf answer answers x s) → Keeps answer answers new s
-  begun_case true old new x s d n o l = rw (n, o) (sym d)
-  begun_case false old new x s d n o l = rw (n, o) (l refl)
+  begun_case : (q : Option (KeptRequest F R)) (number : ℕ) (addr : SocketAddr) (old new : List (KeptExchange W R F)) (s : Slate) → not (is_some q) ≡ is_finished s → new ≡ old ++ kept_under number addr q → old ≡ []
+      → IsExchange answer answers number q s → addr ≡ s.addr → s.phase ≡ Exchange → Keeps answer answers new s
+  begun_case None number addr old new s d n o h a p = rw (n, o) (sym d)
+  begun_case (Some q) number addr old new s d n o h a p = rw (n, o) (record { is_exchange = h; addr_is = a; phase_is = p; unfinished = sym d })
 
-  pub begun_one : (heard : Look) (e : Event) (addr : SocketAddr) (octets : List ℕ) (old new : List (KeptExchange W R F)) (core : ClientCore W R F) (outs : List Output) (o : Option (List ℕ)) (letter : Option Letter) (spent : Bool)
-      → ((s : Slate) → IsUnused s → s.conf ≡ conf_of heard → (outs ≡ (datagram e.client addr e.at e.secs octets s).1) × Stands answer answers core (datagram e.client addr e.at e.secs octets s).0)
-      → ((s : Slate) → Stands answer answers core s → spent ≡ is_spent s) → new ≡ old ++ (if spent then [] else record { number = e.client; core = core; addr = addr } ∷ []) → o ≡ last_octets outs → letter ≡ letter_to o addr
+  pub begun_one : (heard : Look) (e : Event) (addr : SocketAddr) (octets : List ℕ) (old new : List (KeptExchange W R F)) (q : Option (KeptRequest F R)) (o : Option (List ℕ)) (letter : Option Letter)
+      → BeginsAs answer answers addr e.at e.secs heard.dgram (cut_datagram octets) q o → SpentWith answer answers (not (is_some q)) q → new ≡ old ++ kept_under e.client addr q → letter ≡ letter_to o addr
       → Begun answer answers heard e addr octets old letter new
-  begun_one heard e addr octets old new core outs o letter spent begun is kept oc l = record {
+  begun_one heard e addr octets old new q o letter begun ends kept l = record {
     leads = λ s u h i.
-        let b = begun s u h in
-        let t = datagram e.client addr e.at e.secs octets s in
-        let f : spent ≡ is_finished t.0 = is t.0 b.1 in (
-          l ∙ ap (λ (x : Option (List ℕ)). letter_to x addr) (oc ∙ ap last_octets b.0),
-          begun_case spent old new (record { number = e.client; core = core; addr = addr }) t.0 f kept (unkept old s u i) (λ n. record { stands = b.1; addr_is = refl; phase_is = refl; unfinished = sym f ∙ n }),
+        let b = begun e.client s u (ap (λ (c : Conf). c.dgram) h) in
+        let t = datagram e.client addr e.at e.secs octets s in (
+          l ∙ ap (λ (x : Option (List ℕ)). letter_to x addr) (sym (last_is e.client o) ∙ ap last_octets b.0),
+          begun_case q e.client addr old new t.0 (ends e.client t.0 b.1 ∙ spent_is t.0 refl) kept (unkept old s u i) b.1 refl refl,
         );
   }

@@ -1,6 +1,6 @@
 -- What was received and what was sent, a step further.
-use Rattle.std.proofs.Common.{◌≡◌, ◌≤◌, ℕ, ◌+◌, ◌-◌, ◌^◌, min, List, [], ◌∷◌, ◌++◌, length, take, Bool, true, false, refl, ap, sym, ◌∙◌, append_assoc, append-nil, arith, add-zero, length-append}
-use Rattle.std.specs.Prelude.{Option, Some, None, nat_eq, not, ◌&&◌, is_some}
+use Rattle.std.proofs.Common.{◌≡◌, ◌≤◌, ℕ, ◌+◌, ◌-◌, ◌^◌, min, List, [], ◌∷◌, ◌++◌, length, true, false, refl, ap, sym, ◌∙◌, append_assoc, append-nil, arith, add-zero, length-append}
+use Rattle.std.specs.Prelude.{Option, Some, None, is_some}
 use Rattle.dns_name.specs.declared.address.SocketAddr.{SocketAddr}
 use Rattle.dns_admission.specs.declared.look.Look.{Look}
 use Rattle.dns_outside.specs.Mail.{Mail}
@@ -12,20 +12,19 @@ use Rattle.dns_client.specs.Serving.{Serving}
 use Rattle.dns_client.specs.Datagrams.{cut_datagram}
 use Rattle.dns_middleware.specs.declared.settings.Settings.{Settings}
 use Rattle.dns_notes.specs.Own.{is_wide}
-use Rattle.dns_notes.specs.Sent.{conf, slate}
-use Rattle.dns_notes.specs.Out.{gained}
+use Rattle.dns_notes.specs.Sent.{conf}
 use Rattle.dns_notes.specs.Clocks.{faults_in}
 use Rattle.dns_notes.specs.Woven.{kinds}
 use Rattle.dns_notes.specs.Notes.{AllWide}
-use Rattle.dns_datagrams.specs.DatagramEvents.{IsOwnKind, IsDatagramKind, AllDatagramKinds, letters_in, cut_letters, numbers_in, numbers_below, turns_in}
+use Rattle.dns_datagrams.specs.DatagramEvents.{IsOwnKind, IsDatagramKind, AllDatagramKinds, letters_in, numbers_in}
 use Rattle.dns_datagrams.specs.DatagramOrder.{fault_events, IsFaultOf}
-use Rattle.dns_datagrams.specs.DatagramsPolled.{is_finished, waits, TurnsBetween}
+use Rattle.dns_datagrams.specs.DatagramsPolled.{waits}
 use Rattle.dns_datagrams.specs.DatagramsSent.{is_fault, unless, count_if, fails_before, posted, all_addressed, letters_delivered, early_faults}
 use Rattle.dns_datagrams.specs.DatagramsServed.{Input, Delivered}
 use Rattle.dns_datagrams.specs.DatagramSteps.{Posts}
 use Rattle.dns_datagrams.proofs.DatagramMembers.{kinds_more, gained_wide}
 use Rattle.dns_datagrams.proofs.DatagramSendings.{faults_more, letters_more, letters_lost, early_more, early_lost}
-use Rattle.dns_datagrams.proofs.DatagramRoundings.{letters_in_more, numbers_in_more, turns_in_more, cut_letters_more, numbers_below_more, waits_more, turns_more}
+use Rattle.dns_datagrams.proofs.DatagramRoundings.{letters_in_more, numbers_in_more, turns_in_more, cut_letters_more, numbers_below_more, turns_more}
 use Rattle.dns_datagrams.proofs.DatagramQuiet.{AllQuiet, quiet_kind, wide_quiet, append_two, letters_quiet, numbers_quiet, turns_quiet, between_quiet}
 
 -- own events are no Faults

@@ -1,14 +1,15 @@
 -- Where exchanges are kept, and what is kept under a number once one of them was polled, or one more is kept.
-use Rattle.std.proofs.Common.{◌≡◌, ◌≢◌, ℕ, zero, suc, ◌+◌, ◌<◌, ◌≤◌, List, [], ◌∷◌, ◌++◌, length, drop, add-one, Bool, true, false, refl, ap, sym, ◌∙◌, append-nil, append_assoc, arith}
-use Rattle.std.specs.Prelude.{Option, nat_eq, if◌then◌else◌, slice_index_or, slice_set}
+use Rattle.std.proofs.Common.{◌≡◌, ◌≢◌, ℕ, zero, suc, ◌+◌, ◌<◌, ◌≤◌, List, [], ◌∷◌, ◌++◌, length, drop, add-one, Bool, true, false, refl, ap, sym, ◌∙◌, append-nil, arith}
+use Rattle.std.specs.Prelude.{Option, Some, None, nat_eq, if◌then◌else◌, slice_index_or, slice_set}
 use Rattle.std.specs.List.{remove}
 use Rattle.std.proofs.lemmas.Bool.Decides.{nat_tests}
+use Rattle.dns_name.specs.declared.address.SocketAddr.{SocketAddr}
 use Rattle.dns_outside.specs.declared.sock.Letter.{Letter}
 use Rattle.dns_service.specs.Answer.{Answer}
-use Rattle.dns_service.specs.declared.event.Event.{Event}
 use Rattle.dns_service.specs.declared.polled.PolledRequest.{PolledRequest}
 use Rattle.dns_client.specs.Serving.{Serving}
-use Rattle.dns_datagrams.specs.DatagramSteps.{Turned, TurnedOne, TurnedItem, numbers_of, kept_at}
+use Rattle.dns_client.specs.declared.kept.KeptRequest.{KeptRequest}
+use Rattle.dns_datagrams.specs.DatagramSteps.{Turned, TurnedOne, TurnedItem, IsNumberAt, numbers_of, kept_at, kept_under}
 use Rattle.dns_datagrams.specs.declared.running.KeptExchange.{KeptExchange}
 use Rattle.dns_datagrams.proofs.DatagramKeeping.{turned_beside}
 
@@ -77,20 +78,20 @@ module _ {W R F : Type 0} where
 
   -- ---- one more
 
-  pub pushed_here : (c : ℕ) (xs ys : List (KeptExchange W R F)) (x : KeptExchange W R F) (done : Bool) → x.number ≡ c → ys ≡ xs ++ (if done then [] else x ∷ []) → kept_at c ys ≡ kept_at c xs ++ (if done then [] else x ∷ [])
-  pushed_here c xs ys x true n h = rw (h, append-nil xs) (sym (append-nil (kept_at c xs)))
-  pushed_here c xs ys x false n h = rw h (kept_more c xs (x ∷ []) ∙ ap (λ z. kept_at c xs ++ z) (kept_here c x [] n))
+  pub pushed_here : (c : ℕ) (addr : SocketAddr) (xs ys : List (KeptExchange W R F)) (q : Option (KeptRequest F R)) → ys ≡ xs ++ kept_under c addr q → kept_at c ys ≡ kept_at c xs ++ kept_under c addr q
+  pushed_here c addr xs ys None h = rw (h, append-nil xs) (sym (append-nil (kept_at c xs)))
+  pushed_here c addr xs ys (Some q) h = let x : KeptExchange W R F = record { number = c; request = q; addr = addr } in rw h (kept_more c xs (x ∷ []) ∙ ap (λ z. kept_at c xs ++ z) (kept_here c x [] refl))
 
-  pub pushed_others : (c : ℕ) (xs ys : List (KeptExchange W R F)) (x : KeptExchange W R F) (done : Bool) → c ≢ x.number → ys ≡ xs ++ (if done then [] else x ∷ []) → kept_at c ys ≡ kept_at c xs
-  pushed_others c xs ys x true n h = rw (h, append-nil xs) refl
-  pushed_others c xs ys x false n h = rw h (kept_more c xs (x ∷ []) ∙ ap (λ z. kept_at c xs ++ z) (kept_not c x [] n) ∙ append-nil (kept_at c xs))
+  pub pushed_others : (c n : ℕ) (addr : SocketAddr) (xs ys : List (KeptExchange W R F)) (q : Option (KeptRequest F R)) → c ≢ n → ys ≡ xs ++ kept_under n addr q → kept_at c ys ≡ kept_at c xs
+  pushed_others c n addr xs ys None d h = rw (h, append-nil xs) refl
+  pushed_others c n addr xs ys (Some q) d h = let x : KeptExchange W R F = record { number = n; request = q; addr = addr } in rw h (kept_more c xs (x ∷ []) ∙ ap (λ z. kept_at c xs ++ z) (kept_not c x [] d) ∙ append-nil (kept_at c xs))
 
 -- ---- one that was polled
 
-module _ {W R F : Type 0} (answer : PolledRequest F R → ℕ → Answer) (answers : Serving) where
-  pub turned_item : (e : Event) (xs ys : List (KeptExchange W R F)) (i : ℕ) (x w : KeptExchange W R F) (letter : Option Letter) (done : Bool) → i < length xs → x ≡ slice_index_or xs i x → ys ≡ slice_set xs i w → w.number ≡ x.number
-      → TurnedOne answer answers e x letter done w → TurnedItem answer answers i e xs letter done ys
-  turned_item e xs ys i x w letter done h is set n t =
+module _ {W R F : Type 0} (answer : PolledRequest F R → ℕ → Answer) where
+  pub turned_item : (xs ys : List (KeptExchange W R F)) (i : ℕ) (x w : KeptExchange W R F) (letter : Option Letter) (done : Bool) → i < length xs → x ≡ slice_index_or xs i x → ys ≡ slice_set xs i w → w.number ≡ x.number
+      → ((answers : Serving) → TurnedOne answer answers x letter done w) → TurnedItem answer i xs letter done ys
+  turned_item xs ys i x w letter done h is set n t =
       let r = split xs i x h is in
       record { before = r.before; behind = r.behind; was = x; now = w; old_is = r.is; new_is = set ∙ r.with_item w; place = r.place; number = n; turned = t }
 
@@ -110,20 +111,25 @@ module _ {W R F : Type 0} (answer : PolledRequest F R → ℕ → Answer) (answe
   rest_not c behind w true n = refl
   rest_not c behind w false n = kept_not c w behind n
 
-  module _ {e : Event} {i : ℕ} {old there new : List (KeptExchange W R F)} {letter : Option Letter} {done : Bool} (t : TurnedItem answer answers i e old letter done there) (l : new ≡ (if done then remove there i else there)) where
+  module _ {i : ℕ} {old there new : List (KeptExchange W R F)} {letter : Option Letter} {done : Bool} (t : TurnedItem answer i old letter done there) (l : new ≡ (if done then remove there i else there)) where
     left : new ≡ t.before ++ (rest t.now done ++ t.behind)
     left = left_is i t.before t.behind there new t.now done t.place t.new_is l
 
-    pub turned_here : t.was.number ≡ e.client → Turned answer answers e (kept_at e.client old) letter (kept_at e.client new)
-    turned_here n =
-        let c = e.client in
+    -- whose number it is
+    turned_number : (n : ℕ) → IsNumberAt n i old → t.was.number ≡ n
+    turned_number n h = let g : drop i (numbers_of old) ≡ t.was.number ∷ numbers_of t.behind = rw (t.old_is, ← t.place) (numbers_behind t.before (t.was ∷ t.behind)) in cc
+
+    pub turned_here : (c : ℕ) (answers : Serving) → IsNumberAt c i old → Turned answer answers (kept_at c old) letter (kept_at c new)
+    turned_here c answers is =
+        let n = turned_number c is in
         let a : kept_at c old ≡ kept_at c t.before ++ t.was ∷ kept_at c t.behind = rw t.old_is (kept_more c t.before (t.was ∷ t.behind) ∙ ap (λ z. kept_at c t.before ++ z) (kept_here c t.was t.behind n)) in
         let b : kept_at c new ≡ kept_at c t.before ++ (rest t.now done ++ kept_at c t.behind) =
         rw left (kept_more c t.before (rest t.now done ++ t.behind) ∙ ap (λ z. kept_at c t.before ++ z) (rest_here c t.behind t.now done (t.number ∙ n))) in
-        rw (a, b) (turned_beside answer answers e (kept_at c t.before) (kept_at c t.behind) t.was letter done t.now t.turned)
+        rw (a, b) (turned_beside answer answers (kept_at c t.before) (kept_at c t.behind) t.was letter done t.now (t.turned answers))
 
-    pub turned_others : t.was.number ≡ e.client → (c : ℕ) → c ≢ e.client → kept_at c new ≡ kept_at c old
-    turned_others n c h =
+    pub turned_others : (m c : ℕ) → IsNumberAt m i old → c ≢ m → kept_at c new ≡ kept_at c old
+    turned_others m c is h =
+        let n = turned_number m is in
         let a : kept_at c old ≡ kept_at c t.before ++ kept_at c t.behind = rw t.old_is (kept_more c t.before (t.was ∷ t.behind) ∙ ap (λ z. kept_at c t.before ++ z) (kept_not c t.was t.behind (λ (y : c ≡ t.was.number). h (y ∙ n)))) in
         let b : kept_at c new ≡ kept_at c t.before ++ kept_at c t.behind =
         rw left (kept_more c t.before (rest t.now done ++ t.behind) ∙ ap (λ z. kept_at c t.before ++ z) (rest_not c t.behind t.now done (λ (y : c ≡ t.now.number). h (y ∙ (t.number ∙ n))))) in
@@ -136,7 +142,3 @@ module _ {W R F : Type 0} (answer : PolledRequest F R → ℕ → Answer) (answe
         by : (d : Bool) → drop (if d then length t.before else length t.before + 1) (numbers_of (t.before ++ (rest t.now d ++ t.behind))) ≡ drop (length t.before + 1) (numbers_of (t.before ++ t.was ∷ t.behind))
         by true = numbers_behind t.before t.behind ∙ sym (numbers_beyond t.before t.was t.behind)
         by false = numbers_beyond t.before t.now t.behind ∙ sym (numbers_beyond t.before t.was t.behind)
-
-    -- whose number it is
-    pub turned_number : (n : ℕ) (ns : List ℕ) → drop i (numbers_of old) ≡ n ∷ ns → t.was.number ≡ n
-    turned_number n ns h = let g : drop i (numbers_of old) ≡ t.was.number ∷ numbers_of t.behind = rw (t.old_is, ← t.place) (numbers_behind t.before (t.was ∷ t.behind)) in cc

@@ -1,5 +1,5 @@
 -- A letter is sent, or a Fault is noted in its place.
-use Rattle.std.proofs.Common.{◌≡◌, ℕ, ◌+◌, ◌-◌, ◌≤◌, List, [], ◌∷◌, ◌++◌, Bool, true, false, refl, sym, ◌∙◌, append_assoc, append-nil, length-append, arith, Some, None}
+use Rattle.std.proofs.Common.{◌≡◌, ℕ, ◌+◌, ◌≤◌, List, [], ◌∷◌, ◌++◌, Bool, true, false, refl, sym, ◌∙◌, append_assoc, append-nil, length-append, arith, Some, None}
 use Rattle.std.proofs.lemmas.Bool.{le-ltb}
 use Rattle.dns_outside.specs.Causes.{Rose}
 use Rattle.dns_outside.specs.Mail.{Mail}
@@ -8,8 +8,9 @@ use Rattle.dns_service.specs.declared.event.Event.{Event}
 use Rattle.dns_service.specs.declared.event.EventKind.TheVariants.{Fault}
 use Rattle.dns_notes.specs.Clocks.{ClockReading}
 use Rattle.dns_datagrams.specs.DatagramsSent.{count_if, fails_before}
+use Rattle.dns_datagrams.specs.declared.notes.Stamp.{Stamp}
 use Rattle.dns_datagrams.specs.DatagramSteps.{Stamped, Posts, SentSo, LateSo, Sends, Unsent}
-use Rattle.dns_datagrams.proofs.DatagramClocks.{clocked_none, clocked_then, clocked_one, clocked_waited, clocked_late}
+use Rattle.dns_datagrams.proofs.DatagramClocks.{clocked_then, clocked_one, clocked_waited, clocked_late}
 
 pub sent_none : (m : Mail) (c : List ClockReading) → SentSo [] m m c c
 sent_none m c = record {
@@ -52,13 +53,13 @@ sent_failed m m1 m2 c c1 s e = rw e s
 
 -- ---- what an event led to
 
-pub sends_whole : (e : Event) (ls : List Letter) (write : ℕ) (n : List Event) (m m' : Mail) (f f' : ℕ) (c c' : List ClockReading) → SentSo ls m m' c c' → f' ≡ f → Sends e ls write n n m m' f f' c c'
+pub sends_whole : (e : Stamp) (ls : List Letter) (write : ℕ) (n : List Event) (m m' : Mail) (f f' : ℕ) (c c' : List ClockReading) → SentSo ls m m' c c' → f' ≡ f → Sends e ls write n n m m' f f' c c'
 sends_whole e ls write n m m' f f' c c' s g = record {
   fault = None;
   late = 0;
   failed = 0;
   noted = sym (append-nil n);
-  is_fault_of = tt;
+  is_fault_of = λ _ _. tt;
   one = refl;
   early = omega arith;
   posts = s.posts;
@@ -74,14 +75,14 @@ at_most_one : (b : Bool) → count_if b ≤ 1
 at_most_one true = omega arith
 at_most_one false = omega arith
 
-pub sends_late : (e v : Event) (ls : List Letter) (write : ℕ) (n n' : List Event) (m m' : Mail) (f f' : ℕ) (c c' : List ClockReading) → v.kind ≡ Fault → v.client ≡ e.client → LateSo v.at v.secs e.at write m m' c c' → n' ≡ n ++ v ∷ [] → f' ≡ f
+pub sends_late : (e : Stamp) (v : Event) (ls : List Letter) (write : ℕ) (n n' : List Event) (m m' : Mail) (f f' : ℕ) (c c' : List ClockReading) → v.kind ≡ Fault → v.client ≡ e.client → LateSo v.at v.secs e.at write m m' c c' → n' ≡ n ++ v ∷ [] → f' ≡ f
     → Sends e ls write n n' m m' f f' c c'
 sends_late e v ls write n n' m m' f f' c c' k i s h g = record {
   fault = Some v;
   late = 1;
   failed = 0;
   noted = h;
-  is_fault_of = (k, i);
+  is_fault_of = λ _ h. (k, i ∙ sym h);
   one = refl;
   early = not_early (e.at + write) v k s.late;
   posts = s.posts;
@@ -90,14 +91,14 @@ sends_late e v ls write n n' m m' f f' c c' k i s h g = record {
   clock = clocked_late v c c' m.full_sends m'.full_sends (rw k tt) s.waited;
 }
 
-pub sends_failed : (e v : Event) (ls : List Letter) (write : ℕ) (n n' : List Event) (m m' : Mail) (f f' : ℕ) (c c1 c' : List ClockReading) → v.kind ≡ Fault → v.client ≡ e.client → SentSo [] m m' c c1 → Stamped v n n' c1 c' → Rose f f'
+pub sends_failed : (e : Stamp) (v : Event) (ls : List Letter) (write : ℕ) (n n' : List Event) (m m' : Mail) (f f' : ℕ) (c c1 c' : List ClockReading) → v.kind ≡ Fault → v.client ≡ e.client → SentSo [] m m' c c1 → Stamped v n n' c1 c' → Rose f f'
     → Sends e ls write n n' m m' f f' c c'
 sends_failed e v ls write n n' m m' f f' c c1 c' k i s h g = record {
   fault = Some v;
   late = 0;
   failed = 1;
   noted = h.noted;
-  is_fault_of = (k, i);
+  is_fault_of = λ _ h. (k, i ∙ sym h);
   one = refl;
   early = at_most_one (fails_before (e.at + write) (v ∷ []));
   posts = s.posts;

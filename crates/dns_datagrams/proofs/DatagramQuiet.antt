@@ -1,13 +1,12 @@
 -- Events that are neither a Datagram nor a Turn: a Fault, and what all clients hear.
-use Rattle.std.proofs.Common.{◌≡◌, ℕ, ◌+◌, List, [], ◌∷◌, ◌++◌, Bool, true, false, refl, ap, sym, ◌∙◌, append_assoc, append-nil, arith, add-zero, length, inl, inr}
+use Rattle.std.proofs.Common.{◌≡◌, ℕ, ◌+◌, List, [], ◌∷◌, ◌++◌, Bool, true, refl, ap, sym, ◌∙◌, append_assoc, append-nil, add-zero, inl, inr}
 use Rattle.std.specs.Prelude.{Option, Some, None, nat_eq}
 use Rattle.std.proofs.lemmas.Bool.Decides.{eqb_tells}
 use Rattle.dns_service.specs.declared.event.Event.{Event}
 use Rattle.dns_service.specs.declared.event.EventKind.{EventKind}
 use Rattle.dns_service.specs.declared.event.EventKind.TheVariants.{Datagram, Turn, Offer, Piece, End, Fault, Close, Write, Tick, Release, Reconfigure, Shutdown}
 use Rattle.dns_client.specs.Serving.{Serving}
-use Rattle.dns_client.specs.Slate.{Slate, Told}
-use Rattle.dns_client.specs.Rule.{rule}
+use Rattle.dns_client.specs.Slate.{Told}
 use Rattle.dns_middleware.specs.declared.settings.Settings.{Settings}
 use Rattle.dns_notes.specs.Own.{is_wide}
 use Rattle.dns_notes.specs.Sent.{conf, slate}
@@ -15,7 +14,7 @@ use Rattle.dns_notes.specs.Woven.{kinds}
 use Rattle.dns_notes.specs.Notes.{AllWide}
 use Rattle.dns_datagrams.specs.DatagramEvents.{IsDatagramKind, AllDatagramKinds, letter_in, letters_in, number_in, numbers_in, turn_count, turns_in}
 use Rattle.dns_datagrams.specs.DatagramOrder.{fault_events, IsFaultOf}
-use Rattle.dns_datagrams.specs.DatagramsPolled.{is_finished, waits_by, MayFollow, waits_with, waits, TurnsBetween}
+use Rattle.dns_datagrams.specs.DatagramsPolled.{is_finished, waits_by, MayFollow, waits, TurnsBetween}
 use Rattle.dns_datagrams.proofs.DatagramMembers.{kinds_more, conf_more, slate_own, slate_other}
 use Rattle.dns_datagrams.proofs.DatagramSendings.{fault_idle}
 use Rattle.dns_datagrams.proofs.DatagramRoundings.{letters_in_more, numbers_in_more, turns_in_more, waits_more, turns_more}

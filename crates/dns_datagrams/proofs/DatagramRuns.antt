@@ -1,8 +1,6 @@
 -- What was done from the start of the loop of datagrams to now, a step further.
-use Rattle.std.proofs.Common.{◌≡◌, ◌≢◌, ◌≤◌, ℕ, ◌+◌, ◌-◌, ◌^◌, min, List, [], ◌∷◌, ◌++◌, length, take, Bool, true, false, refl, ap, sym, ◌∙◌, subst, append_assoc, append-nil, arith}
-use Rattle.std.specs.Prelude.{Option, Some, None, nat_eq, not, ◌&&◌, ◌||◌, is_some}
-use Rattle.std.specs.List.{list_any}
-use Rattle.dns_name.specs.declared.address.SocketAddr.{SocketAddr}
+use Rattle.std.proofs.Common.{◌≡◌, ℕ, ◌+◌, List, [], ◌∷◌, ◌++◌, Bool, true, false, refl, ap, sym, ◌∙◌, append_assoc, arith}
+use Rattle.std.specs.Prelude.{Option}
 use Rattle.dns_admission.specs.declared.look.Look.{Look}
 use Rattle.dns_book.specs.declared.history.Known.{Known}
 use Rattle.dns_outside.specs.Mail.{Mail}
@@ -11,27 +9,22 @@ use Rattle.dns_service.specs.Answer.{Answer}
 use Rattle.dns_service.specs.declared.event.Event.{Event}
 use Rattle.dns_service.specs.declared.polled.PolledRequest.{PolledRequest}
 use Rattle.dns_client.specs.Serving.{Serving}
-use Rattle.dns_client.specs.Slate.{Conf, conf_of}
+use Rattle.dns_client.specs.Slate.{Conf}
 use Rattle.dns_middleware.specs.declared.settings.Settings.{Settings}
-use Rattle.dns_notes.specs.Sent.{conf}
-use Rattle.dns_notes.specs.Out.{out}
 use Rattle.dns_notes.specs.Clocks.{ClockReading}
-use Rattle.dns_notes.specs.Woven.{kinds, news_kinds}
-use Rattle.dns_notes.specs.Notes.{AllWide}
-use Rattle.dns_datagrams.specs.DatagramEvents.{IsOwnKind, IsDatagramKind, AllDatagramKinds, letters_in, cut_letters, numbers_in, numbers_below}
+use Rattle.dns_datagrams.specs.DatagramEvents.{IsOwnKind, AllDatagramKinds, letters_in, cut_letters, numbers_in, numbers_below}
 use Rattle.dns_datagrams.specs.DatagramOrder.{fault_events, IsFaultOf}
 use Rattle.dns_datagrams.specs.DatagramsPolled.{waits}
-use Rattle.dns_datagrams.specs.DatagramsSent.{settings_of, posted, unless, count_if, IsPart, all_addressed, letters_delivered}
-use Rattle.dns_datagrams.specs.DatagramsServed.{World, world, LooksOnly, Clocked, Input, Delivered, CutOff}
-use Rattle.dns_datagrams.specs.DatagramSteps.{hears, NewsNoted, Stamped, Posts, Sends, Unsent, listed, Keeps}
-use Rattle.dns_datagrams.specs.DatagramLoop.{Ordered, Among, Serves, Ran, Goes, Breaks}
-use Rattle.dns_datagrams.specs.declared.running.KeptExchange.{KeptExchange}
+use Rattle.dns_datagrams.specs.DatagramsSent.{settings_of, posted, letters_delivered}
+use Rattle.dns_datagrams.specs.DatagramsServed.{World, world, LooksOnly, Input, CutOff}
+use Rattle.dns_datagrams.specs.DatagramSteps.{stamp_of, hears, NewsNoted, Stamped, Sends}
+use Rattle.dns_datagrams.specs.DatagramLoop.{Among, Serves, Ran}
 use Rattle.dns_datagrams.specs.declared.running.Running.{Running}
 use Rattle.dns_datagrams.proofs.DatagramClocks.{clocked_then, clocked_one, clocked_any}
 use Rattle.dns_datagrams.proofs.DatagramMembers.{kinds_more}
-use Rattle.dns_datagrams.proofs.DatagramOrderings.{hears_closed, ordered_look, ordered_own, ordered_rest}
-use Rattle.dns_datagrams.proofs.DatagramParts.{OwnKind, own_kind, input_quiet, input_look, input_same, delivered_wide, delivered_same, delivered_act}
-use Rattle.dns_datagrams.proofs.DatagramQuiet.{AllQuiet, all_wide_quiet, faults_quiet, append_two, kinds_append, waits_quiet, slate_lost, conf_lost}
+use Rattle.dns_datagrams.proofs.DatagramOrderings.{ordered_look, ordered_own}
+use Rattle.dns_datagrams.proofs.DatagramParts.{own_kind, input_quiet, input_look, input_same, delivered_wide, delivered_same, delivered_act}
+use Rattle.dns_datagrams.proofs.DatagramQuiet.{all_wide_quiet, faults_quiet, append_two, kinds_append, waits_quiet, slate_lost, conf_lost}
 use Rattle.dns_datagrams.proofs.DatagramSeats.{looks_then}
 use Rattle.dns_datagrams.proofs.DatagramSendings.{letters_part, letters_part_list}
 use Rattle.dns_datagrams.proofs.DatagramServings.{TypeOf, news_wide, serves_news}
@@ -73,7 +66,7 @@ module _ {W R F : Type 0} (answer : PolledRequest F R → ℕ → Answer) (answe
   -- an own event, and what was sent for it
   pub ran_act : (first : Look) (start : World) (n n1 n' : List Event) (m m1 m' : Mail) (f f' : ℕ) (c c1 c' : List ClockReading) (k : Known) (s : Running W R F) (owed owed' : List ℕ) (spare : ℕ)
       (e : Event) (letters : List Letter) (exchanges : TypeOf s.exchanges) (next : ℕ) (send_failed : Bool)
-      → IsOwnKind e.kind → Stamped e n n1 c c1 → Sends e letters s.heard.dgram.write_timeout n1 n' m1 m' f f' c1 c'
+      → IsOwnKind e.kind → Stamped e n n1 c c1 → Sends (stamp_of e) letters s.heard.dgram.write_timeout n1 n' m1 m' f f' c1 c'
       → m1.sent ≡ m.sent → m1.full_sends ≡ m.full_sends
       → (r : Ran answer answers first start (world n m f c k) s true owed spare)
       → posted answers (settings_of first) r.events e ≡ letters
@@ -84,26 +77,27 @@ module _ {W R F : Type 0} (answer : PolledRequest F R → ℕ → Answer) (answe
   ran_act first start n n1 n' m m1 m' f f' c c1 c' k s owed owed' spare e letters exchanges next send_failed own t x sent full r p i wait serves =
       let settings = settings_of first in
       let kind = own_kind e.kind own in
+      let lost = x.is_fault_of e refl in
       let q1 = r.events ++ e ∷ [] in
       let plain : AllDatagramKinds q1 = kinds_more r.events e r.plain kind.plain in
       let fs = fault_events x.fault in
-      let quiet = faults_quiet e x.fault x.is_fault_of in
+      let quiet = faults_quiet e x.fault lost in
       let two : r.events ++ e ∷ fs ≡ q1 ++ fs = append_two r.events e fs in record {
         looks = r.looks;
         events = r.events ++ e ∷ fs;
         noted = noted_more start.noted n n' r.events (e ∷ fs) r.noted (rw (x.noted, t.noted) (append_assoc n (e ∷ []) fs));
         seat = r.seat;
         plain = rw two (kinds_append q1 fs plain quiet);
-        order = ordered_own first r.looks r.events s.heard e x.fault own x.is_fault_of r.order;
+        order = ordered_own first r.looks r.events s.heard e x.fault own lost r.order;
         input = rw two (input_same answers settings (q1 ++ fs) (first ∷ r.looks) (spare + 0) (spare + 0) next start.mail m1 m' x.posts.received x.posts.empty (omega arith)
             (input_quiet answers settings q1 fs (first ∷ r.looks) (spare + 0) next start.mail m1 plain quiet i));
         waiting = λ d h. wait d (sym (waits_quiet answers settings d q1 fs plain quiet) ∙ (ap (waits answers settings d) (sym two) ∙ h));
         clock = clocked_then r.events (e ∷ fs) start.readings c c' start.mail.full_sends m.full_sends m'.full_sends r.clock
             (rw (← full) (clocked_then (e ∷ []) fs c c1 c' m1.full_sends m1.full_sends m'.full_sends (clocked_one e c c1 m1.full_sends t.clock kind.plain) x.clock));
-        output = delivered_act answers settings r.events e x.fault letters s.heard.dgram.write_timeout x.late x.failed start.mail m1 m' start.failed_sends f f' r.plain kind x.is_fault_of p
+        output = delivered_act answers settings r.events e x.fault letters s.heard.dgram.write_timeout x.late x.failed start.mail m1 m' start.failed_sends f f' r.plain kind lost p
             (ap (λ (y : Conf). y.dgram.write_timeout) r.serves.heard) x.one x.early x.posts x.again x.rose
             (delivered_same answers settings r.events start.mail m m1 start.failed_sends f sent full r.output);
-        serves = rw two (serves_lost settings q1 e x.fault (record { exchanges = exchanges; next = next; heard = s.heard; send_failed = send_failed }) plain x.is_fault_of (record { each = serves.each; unused = serves.unused; heard = serves.heard }));
+        serves = rw two (serves_lost settings q1 e x.fault (record { exchanges = exchanges; next = next; heard = s.heard; send_failed = send_failed }) plain lost (record { each = serves.each; unused = serves.unused; heard = serves.heard }));
       }
 
   -- memory ran out, after these events and looks more

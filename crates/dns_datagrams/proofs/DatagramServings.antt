@@ -1,5 +1,5 @@
 -- What is kept stands for the slates, with one event more of a driver of datagrams.
-use Rattle.std.proofs.Common.{◌≡◌, ◌≢◌, ℕ, ◌+◌, ◌≤◌, List, [], ◌∷◌, ◌++◌, Bool, true, false, refl, ap, sym, ◌∙◌, subst, append_assoc, append-nil, arith, Option, Some, None, inl, inr}
+use Rattle.std.proofs.Common.{◌≡◌, ◌≢◌, ℕ, ◌+◌, ◌≤◌, List, [], ◌∷◌, ◌++◌, Bool, true, false, refl, ap, sym, ◌∙◌, subst, append_assoc, append-nil, arith, Option, inl, inr}
 use Rattle.std.specs.Prelude.{◌==◌, ◌||◌, ◌&&◌, not, if◌then◌else◌}
 use Rattle.std.proofs.lemmas.Bool.Decides.{eqb_tells}
 use Rattle.dns_name.specs.declared.address.SocketAddr.{SocketAddr}
@@ -17,9 +17,6 @@ use Rattle.dns_client.specs.Slate.{Slate, Conf, Told, Phase, Unused, Exchange, O
 use Rattle.dns_client.specs.Datagrams.{datagram}
 use Rattle.dns_client.specs.News.{news, wide}
 use Rattle.dns_client.specs.Rule.{rule, in_phase}
-use Rattle.dns_client.specs.Stands.{StandsIn}
-use Rattle.dns_client.specs.declared.client.State.{State}
-use Rattle.dns_client.specs.declared.client.State.TheVariants.{Exchange as Is_exchange, Open as Is_open, Flushing as Is_flushing, Closed as Is_closed, Lost as Is_lost}
 use Rattle.dns_middleware.specs.declared.settings.Settings.{Settings}
 use Rattle.dns_notes.specs.Settings.{opening}
 use Rattle.dns_notes.specs.Own.{is_wide}
@@ -142,18 +139,11 @@ TypeOf {X} x = X
 -- ---- what is kept, under other configurations
 
 module _ {W R F : Type 0} (answer : PolledRequest F R → ℕ → Answer) (answers : Serving) where
-  stands_conf : (n : ℕ) (state : State W R F) (k : Conf) (s : Slate) → s.phase ≡ Exchange → StandsIn answer answers n state s → StandsIn answer answers n state (with_conf k s)
-  stands_conf n (Is_exchange kept) k s h i = record { client = i.client; freed = i.freed; phase = i.phase; requests = i.requests; queue = i.queue }
-  stands_conf n (Is_open x) k s h i = let p = i.phase in absurd cc
-  stands_conf n (Is_flushing x) k s h i = let p = i.phase in absurd cc
-  stands_conf n (Is_closed freed) k s h i = let p = i.phase in absurd cc
-  stands_conf n Is_lost k s h i = absurd i
-
   keeps_conf : (x : List (KeptExchange W R F)) (k : Conf) (s : Slate) → Keeps answer answers x s → Keeps answer answers x (with_conf k s)
   keeps_conf [] k s h = h
   keeps_conf (x ∷ y ∷ xs) k s h = absurd h
   keeps_conf (x ∷ []) k s h = record {
-    stands = stands_conf x.core.client x.core.state k s h.phase_is h.stands;
+    is_exchange = let i = h.is_exchange in record { client = i.client; freed = i.freed; phase = i.phase; requests = i.requests; queue = i.queue };
     addr_is = h.addr_is;
     phase_is = h.phase_is;
     unfinished = h.unfinished;
@@ -196,12 +186,12 @@ module _ {W R F : Type 0} (answer : PolledRequest F R → ℕ → Answer) (answe
 
     -- a Turn
     pub serves_turn : (q : List Event) (s : Running W R F) (e : Event) (letter : Option Letter) (m : TypeOf s.exchanges) → AllDatagramKinds q → e.kind ≡ Turn 0
-        → Turned answer answers e (kept_at e.client s.exchanges.items) letter (kept_at e.client m.items) → ((c : ℕ) → c ≢ e.client → kept_at c m.items ≡ kept_at c s.exchanges.items)
+        → Turned answer answers (kept_at e.client s.exchanges.items) letter (kept_at e.client m.items) → ((c : ℕ) → c ≢ e.client → kept_at c m.items ≡ kept_at c s.exchanges.items)
         → Serves answer answers settings q s → Serves answer answers settings (q ++ e ∷ []) (record s { exchanges = m })
     serves_turn q s e letter m d h t others serves = record {
       each = λ c. (elim (eqb_tells e.client c) [
         | inl x ↦ subst (λ (n : ℕ). Keeps answer answers (kept_at n m.items) (slate answers settings n (q ++ e ∷ []))) x.1
-            (rw (slate_own answers settings e.client q e refl) (t.leads (slate answers settings e.client q) (serves.each e.client)).1)
+            (rw (slate_own answers settings e.client q e refl) (t.leads e (slate answers settings e.client q) h (serves.each e.client)).1)
         | inr x ↦ rw (slate_other answers settings c q e (rw h refl) x.1, others c (λ (y : c ≡ e.client). x.1 (sym y))) (serves.each c)
       ]);
       unused = λ c l. (elim (eqb_tells e.client c) [
@@ -212,9 +202,9 @@ module _ {W R F : Type 0} (answer : PolledRequest F R → ℕ → Answer) (answe
     }
 
     pub posted_turn : (q : List Event) (s : Running W R F) (e : Event) (letter : Option Letter) (new : List (KeptExchange W R F)) → AllDatagramKinds q → e.kind ≡ Turn 0
-        → Turned answer answers e (kept_at e.client s.exchanges.items) letter new → Serves answer answers settings q s → posted answers settings q e ≡ listed letter
+        → Turned answer answers (kept_at e.client s.exchanges.items) letter new → Serves answer answers settings q s → posted answers settings q e ≡ listed letter
     posted_turn q s e letter new d h t serves =
-        posted_is answers settings q e d (rw h refl) ∙ ap (λ (l : Option Letter). listed l) (sym (t.leads (slate answers settings e.client q) (serves.each e.client)).0)
+        posted_is answers settings q e d (rw h refl) ∙ ap (λ (l : Option Letter). listed l) (sym (t.leads e (slate answers settings e.client q) h (serves.each e.client)).0)
 
     -- a Datagram under the next number
     begun_at : (q : List Event) (s : Running W R F) (e : Event) (addr : SocketAddr) (octets : List ℕ) (letter : Option Letter) (new : List (KeptExchange W R F)) → AllDatagramKinds q → e.kind ≡ Datagram addr octets → e.client ≡ s.next

@@ -1,6 +1,6 @@
 -- The slates of the clients of a driver of datagrams: nothing came yet, or each is an exchange.
 use Rattle.std.proofs.Common.{◌≡◌, ℕ, List, [], ◌∷◌, Bool, true, false, cond, refl, ap, sym, ◌∙◌, subst}
-use Rattle.std.specs.Prelude.{Option, Some, None, slice_get, if◌then◌else◌, nat_eq, not, ◌||◌}
+use Rattle.std.specs.Prelude.{Option, Some, None, slice_get, if◌then◌else◌, nat_eq, ◌||◌}
 use Rattle.std.proofs.lemmas.Bool.{eqb-true}
 use Rattle.dns_name.specs.declared.address.SocketAddr.{SocketAddr}
 use Rattle.dns_base.specs.Msg.{Msg}
@@ -11,7 +11,7 @@ use Rattle.dns_service.specs.declared.event.Output.{Output}
 use Rattle.dns_service.specs.declared.event.Output.TheVariants as output
 use Rattle.dns_client.specs.Serving.{Serving}
 use Rattle.dns_client.specs.Slate.{Slate, SlateRequest, Conf, Told, Phase, Unused, Exchange, Open, Flushing, Closed, fresh, conf_rule, with_conf}
-use Rattle.dns_client.specs.Datagrams.{datagram, exchange}
+use Rattle.dns_client.specs.Datagrams.{datagram}
 use Rattle.dns_client.specs.Turns.{exchange_turn, polled, sent_at_once, sent_for, with_request}
 use Rattle.dns_client.specs.Rule.{rule, in_phase, exchange_rule}
 use Rattle.dns_middleware.specs.declared.settings.Settings.{Settings}

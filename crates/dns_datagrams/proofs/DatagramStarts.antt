@@ -1,6 +1,6 @@
 -- How the serving of datagrams begins, and what it then says.
-use Rattle.std.proofs.Common.{◌≡◌, ◌≢◌, ◌≤◌, ℕ, ◌+◌, ◌-◌, ◌^◌, min, List, [], ◌∷◌, ◌++◌, length, Bool, true, false, refl, ap, sym, ◌∙◌, append-nil, arith}
-use Rattle.std.specs.Prelude.{Option, Some, None, nat_eq}
+use Rattle.std.proofs.Common.{◌≡◌, ◌≢◌, ℕ, ◌+◌, List, [], ◌∷◌, Bool, true, false, refl, sym, ◌∙◌, append-nil, arith}
+use Rattle.std.specs.Prelude.{nat_eq}
 use Rattle.std.specs.List.{list_any}
 use Rattle.dns_admission.specs.declared.look.Look.{Look}
 use Rattle.dns_admission.specs.declared.call.Call.TheVariants.{Look as ToLook}
@@ -16,10 +16,10 @@ use Rattle.dns_middleware.specs.declared.settings.Settings.{Settings}
 use Rattle.dns_notes.specs.Clocks.{ClockReading}
 use Rattle.dns_notes.specs.Notes.{NotedWide}
 use Rattle.dns_datagrams.specs.DatagramsPolled.{waits, TurnsBetween, AllFinished}
-use Rattle.dns_datagrams.specs.DatagramsSent.{settings_of, letters_delivered, delivered, early_faults, all_addressed}
-use Rattle.dns_datagrams.specs.DatagramsServed.{World, world, LooksOnly, Input, Delivered, Served, CutOff, ServedTo, EndsBy}
-use Rattle.dns_datagrams.specs.DatagramSteps.{hears, NewsNoted, Keeps, kept_at}
-use Rattle.dns_datagrams.specs.DatagramLoop.{Serves, Ran, Goes, Breaks, Idles, Stopped, Finished, Ended}
+use Rattle.dns_datagrams.specs.DatagramsSent.{settings_of, letters_delivered, delivered, early_faults}
+use Rattle.dns_datagrams.specs.DatagramsServed.{World, world, Served, CutOff, ServedTo, EndsBy}
+use Rattle.dns_datagrams.specs.DatagramSteps.{hears, NewsNoted, kept_at}
+use Rattle.dns_datagrams.specs.DatagramLoop.{Serves, Ran, Breaks, Stopped, Finished, Ended}
 use Rattle.dns_datagrams.specs.declared.serving.DgramEnd.{DgramEnd}
 use Rattle.dns_datagrams.specs.declared.serving.DgramEnd.TheVariants.{Shutdown, Counted, Fault, OutOfMemory}
 use Rattle.dns_datagrams.specs.declared.running.Running.{Running}
@@ -27,7 +27,7 @@ use Rattle.dns_datagrams.proofs.DatagramClocks.{clocked_any}
 use Rattle.dns_datagrams.proofs.DatagramEndings.{ran_rest, end_shutdown, end_count, end_fails, idles_finish}
 use Rattle.dns_datagrams.proofs.DatagramOrderings.{ordered_first}
 use Rattle.dns_datagrams.proofs.DatagramParts.{input_quiet, delivered_wide}
-use Rattle.dns_datagrams.proofs.DatagramQuiet.{AllQuiet, all_wide_quiet, waits_quiet, kinds_append, letters_quiet, numbers_quiet}
+use Rattle.dns_datagrams.proofs.DatagramQuiet.{all_wide_quiet, waits_quiet, kinds_append, letters_quiet, numbers_quiet}
 use Rattle.dns_datagrams.proofs.DatagramSeats.{looks_one}
 use Rattle.dns_datagrams.proofs.DatagramSendings.{part_none}
 use Rattle.dns_datagrams.proofs.DatagramServings.{news_wide, serves_news, serves_none}

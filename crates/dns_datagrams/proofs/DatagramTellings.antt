@@ -11,6 +11,10 @@ pub on_ok_by : {X Y T E : Type 0} (r : Result T E) → OnOk r X → (X → Y) �
 on_ok_by (Ok v) x f = f x
 on_ok_by (Err e) x f = tt
 
+pub if_ok_on : {X T E : Type 0} (r : Result T E) (P Q : T → Type 0) → IfOk r P → OnOk r X → ((v : T) → P v → X → Q v) → IfOk r Q
+if_ok_on (Ok v) P Q h x f = f v h x
+if_ok_on (Err e) P Q h x f = tt
+
 pub on_err_by : {X Y T E : Type 0} (r : Result T E) → OnErr r X → (X → Y) → OnErr r Y
 on_err_by (Ok v) x f = tt
 on_err_by (Err e) x f = f x
@@ -46,9 +50,6 @@ tells_dc x f = record { told = λ t. let u = x.told (t.0, t.1) in ((u.0.0, u.0.1
 
 pub tells_dc_j : {d c j d1 c1 j1 p q r : Type 0} → Tells (d1 × c1) (d × c) p → Tells j1 j q → (p → q → r) → Tells (d1 × c1 × j1) (d × c × j) r
 tells_dc_j x y f = record { told = λ t. let u = x.told (t.0, t.1) in let v = y.told t.2 in ((u.0.0, u.0.1, v.0), f u.1 v.1) }
-
-pub tells_dc_cj : {d c j d1 c1 c2 j1 p q r : Type 0} → Tells (d1 × c1) (d × c) p → Tells (c2 × j1) (c1 × j) q → (p → q → r) → Tells (d1 × c2 × j1) (d × c × j) r
-tells_dc_cj x y f = record { told = λ t. let v = y.told (t.1, t.2) in let u = x.told (t.0, v.0.0) in ((u.0.0, u.0.1, v.0.1), f u.1 v.1) }
 
 pub tells_cj_dcj : {d c j c1 j1 d1 c2 j2 p q r : Type 0} → Tells (c1 × j1) (c × j) p → Tells (d1 × c2 × j2) (d × c1 × j1) q → (p → q → r) → Tells (d1 × c2 × j2) (d × c × j) r
 tells_cj_dcj x y f = record { told = λ t. let v = y.told t in let u = x.told (v.0.1, v.0.2) in ((v.0.0, u.0.0, u.0.1), f u.1 v.1) }

@@ -1,6 +1,6 @@
 -- What the functions of the loop of datagrams do, wherever it began: looks, Turns and Datagrams.
-use Rattle.std.proofs.Common.{◌≡◌, ◌≢◌, ◌≤◌, ℕ, ◌+◌, ◌-◌, ◌^◌, min, List, [], ◌∷◌, ◌++◌, length, take, Bool, true, false, refl, ap, sym, ◌∙◌, subst, append_assoc, append-nil, arith}
-use Rattle.std.specs.Prelude.{Option, Some, None, nat_eq, not, ◌&&◌, ◌||◌, is_some}
+use Rattle.std.proofs.Common.{◌≡◌, ◌≢◌, ℕ, ◌+◌, List, [], ◌∷◌, ◌++◌, take, Bool, true, false, refl, ap, sym, ◌∙◌, append_assoc, append-nil, arith}
+use Rattle.std.specs.Prelude.{Option, nat_eq, not, ◌&&◌, ◌||◌}
 use Rattle.std.specs.List.{list_any}
 use Rattle.std.proofs.lemmas.Bool.Decides.{nat_tests}
 use Rattle.dns_name.specs.declared.address.SocketAddr.{SocketAddr}
@@ -17,17 +17,15 @@ use Rattle.dns_service.specs.declared.event.EventKind.TheVariants.{Datagram, Tur
 use Rattle.dns_service.specs.declared.polled.PolledRequest.{PolledRequest}
 use Rattle.dns_client.specs.Serving.{Serving}
 use Rattle.dns_client.specs.Slate.{Slate}
-use Rattle.dns_middleware.specs.declared.settings.Settings.{Settings}
 use Rattle.dns_notes.specs.Sent.{slate}
 use Rattle.dns_notes.specs.Clocks.{ClockReading}
-use Rattle.dns_notes.specs.Woven.{kinds}
-use Rattle.dns_notes.specs.Notes.{AllWide, NotedWide}
-use Rattle.dns_datagrams.specs.DatagramEvents.{IsOwnKind, IsDatagramKind, AllDatagramKinds, letters_in, cut_letters, numbers_in, numbers_below}
+use Rattle.dns_notes.specs.Notes.{NotedWide}
+use Rattle.dns_datagrams.specs.DatagramEvents.{IsOwnKind, IsDatagramKind, AllDatagramKinds, letters_in, cut_letters, numbers_in}
 use Rattle.dns_datagrams.specs.DatagramsPolled.{is_finished, waits}
 use Rattle.dns_datagrams.specs.DatagramsSent.{settings_of}
 use Rattle.dns_datagrams.specs.DatagramsServed.{World, world, LooksOnly, CutOff}
-use Rattle.dns_datagrams.specs.DatagramSteps.{hears, NewsNoted, Stamped, Sends, Unsent, listed, Keeps, IsKeptOf, Turned, Begun, kept_at, numbers_of}
-use Rattle.dns_datagrams.specs.DatagramLoop.{Among, Ran, Goes, Breaks, Looks, Turns, Fails, Begins, BeginFails}
+use Rattle.dns_datagrams.specs.DatagramSteps.{hears, NewsNoted, Stamped, stamp_of, Sends, Unsent, listed, Keeps, Turned, Begun, kept_at, numbers_of}
+use Rattle.dns_datagrams.specs.DatagramLoop.{Among, Ran, Looks, Turns, Fails, Begins, BeginFails}
 use Rattle.dns_datagrams.specs.declared.running.KeptExchange.{KeptExchange}
 use Rattle.dns_datagrams.specs.declared.running.Running.{Running}
 use Rattle.dns_datagrams.proofs.DatagramOrderings.{hears_closed}
@@ -139,8 +137,8 @@ module _ {W R F : Type 0} (answer : PolledRequest F R → ℕ → Answer) (answe
   -- ---- Turns
 
   pub turns_by : {n n1 n' : List Event} {m m' : Mail} {f f' : ℕ} {c c1 c' : List ClockReading} {k : Known} (s : Running W R F) {number : ℕ} {e : Event} {letter : Option Letter} {x : TypeOf s.exchanges} {send_failed : Bool}
-      → e.client ≡ number → e.kind ≡ Turn 0 → Turned answer answers e (kept_at e.client s.exchanges.items) letter (kept_at e.client x.items) → ((d : ℕ) → d ≢ e.client → kept_at d x.items ≡ kept_at d s.exchanges.items)
-      → Stamped e n n1 c c1 → Sends e (listed letter) s.heard.dgram.write_timeout n1 n' m m' f f' c1 c'
+      → e.client ≡ number → e.kind ≡ Turn 0 → Turned answer answers (kept_at e.client s.exchanges.items) letter (kept_at e.client x.items) → ((d : ℕ) → d ≢ e.client → kept_at d x.items ≡ kept_at d s.exchanges.items)
+      → Stamped e n n1 c c1 → Sends (stamp_of e) (listed letter) s.heard.dgram.write_timeout n1 n' m m' f f' c1 c'
       → Turns answer answers number true (world n m f c k) s (world n' m' f' c' k) (record s { exchanges = x; send_failed = send_failed })
   turns_by {n} {n1} {n'} {m} {m'} {f} {f'} {c} {c1} {c'} {k} s {number} {e} {letter} {x} {send_failed} of kind turned others t sends = record {
     goes = λ rest. record {
@@ -188,7 +186,7 @@ module _ {W R F : Type 0} (answer : PolledRequest F R → ℕ → Answer) (answe
   pub begins_by : {n n1 n' : List Event} {m1 m' : Mail} {f f' : ℕ} {c c1 c' : List ClockReading} {k : Known} (s : Running W R F) {e : Event} {letter : Option Letter} {x : TypeOf s.exchanges} {send_failed : Bool} (octets : List ℕ) (from : SocketAddr)
       → s.heard.closed ≡ false → e.client ≡ s.next → e.kind ≡ Datagram from octets
       → Begun answer answers s.heard e from octets (kept_at e.client s.exchanges.items) letter (kept_at e.client x.items) → ((d : ℕ) → d ≢ e.client → kept_at d x.items ≡ kept_at d s.exchanges.items)
-      → Stamped e n n1 c c1 → Sends e (listed letter) s.heard.dgram.write_timeout n1 n' m1 m' f f' c1 c'
+      → Stamped e n n1 c c1 → Sends (stamp_of e) (listed letter) s.heard.dgram.write_timeout n1 n' m1 m' f f' c1 c'
       → Begins answer answers octets from (world n m1 f c k) s (world n' m' f' c' k) (record s { exchanges = x; next = s.next + 1; send_failed = send_failed })
   begins_by {n} {n1} {n'} {m1} {m'} {f} {f'} {c} {c1} {c'} {k} s {e} {letter} {x} {send_failed} octets from running of kind begun others t sends = record {
     goes = λ whole m front got. record {

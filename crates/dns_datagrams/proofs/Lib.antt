@@ -4,6 +4,7 @@ pub mod DatagramSendings
 pub mod DatagramRoundings
 pub mod DatagramOrderings
 pub mod DatagramServings
+pub mod DatagramStamps
 pub mod DatagramClocks
 pub mod DatagramSeats
 pub mod DatagramPasses

@@ -7,23 +7,38 @@ use Rattle.dns_outside.specs.Mail.{Mail}
 use Rattle.dns_outside.specs.declared.sock.Letter.{Letter}
 use Rattle.dns_service.specs.Answer.{Answer}
 use Rattle.dns_service.specs.declared.event.Event.{Event}
+use Rattle.dns_service.specs.declared.event.EventKind.{EventKind}
+use Rattle.dns_service.specs.declared.event.EventKind.TheVariants.{Turn, Datagram as ADatagram}
 use Rattle.dns_service.specs.declared.event.Output.{Output}
 use Rattle.dns_service.specs.declared.event.Output.TheVariants.{Datagram}
 use Rattle.dns_service.specs.declared.polled.PolledRequest.{PolledRequest}
 use Rattle.dns_client.specs.Serving.{Serving}
 use Rattle.dns_client.specs.Slate.{Slate, Told, Exchange, IsUnused, conf_of}
 use Rattle.dns_client.specs.Datagrams.{datagram}
-use Rattle.dns_client.specs.Stands.{Stands}
+use Rattle.dns_client.specs.Stands.{IsExchange}
 use Rattle.dns_client.specs.Rule.{rule}
+use Rattle.dns_client.specs.declared.kept.KeptRequest.{KeptRequest}
 use Rattle.dns_notes.specs.Clocks.{ClockReading, Waited, LateAt}
 use Rattle.dns_notes.specs.Woven.{news_kinds, kinds}
 use Rattle.dns_datagrams.specs.DatagramOrder.{fault_events, IsFaultOf}
 use Rattle.dns_datagrams.specs.DatagramsPolled.{is_finished}
 use Rattle.dns_datagrams.specs.DatagramsSent.{unless, count_if, fails_before}
 use Rattle.dns_datagrams.specs.DatagramsServed.{Clocked}
+use Rattle.dns_datagrams.specs.declared.notes.Stamp.{Stamp}
 use Rattle.dns_datagrams.specs.declared.running.KeptExchange.{KeptExchange}
 use Rattle.dns_datagrams.specs.declared.sends.SendEnd.{SendEnd}
 use Rattle.dns_datagrams.specs.declared.sends.SendEnd.TheVariants.{Sent, Failed, Late}
+
+-- whose an event is, and when it was noted
+abbrev pub stamp_of : Event → Stamp
+stamp_of e = record { client = e.client; at = e.at; secs = e.secs }
+
+abbrev pub stamped_event : Stamp → EventKind → Event
+stamped_event stamp kind = record { at = stamp.at; secs = stamp.secs; client = stamp.client; kind = kind }
+
+abbrev pub noted_octets : EventKind → Option (List ℕ)
+noted_octets (ADatagram addr o) = Some o
+noted_octets _ = None
 
 -- an event was noted, with a reading of its own
 pub record Stamped (e : Event) (n n' : List Event) (c c' : List ClockReading) : Type 0 where
@@ -75,14 +90,14 @@ SendsRose before now fails fails' = ((now ≡ before) × (fails' ≡ fails)) ⊎
 
 -- What an event led to was sent, or a Fault of its exchange was noted: late with a send that answered Again, or by a send that
 -- failed.
-pub record Sends (e : Event) (letters : List Letter) (write : ℕ) (n n' : List Event) (m m' : Mail) (fails fails' : ℕ) (c c' : List ClockReading) : Type 0 where
+pub record Sends (stamp : Stamp) (letters : List Letter) (write : ℕ) (n n' : List Event) (m m' : Mail) (fails fails' : ℕ) (c c' : List ClockReading) : Type 0 where
   pub fault : Option Event
   pub late : ℕ
   pub failed : ℕ
   pub noted : n' ≡ n ++ fault_events fault
-  pub is_fault_of : IsFaultOf e fault
+  pub is_fault_of : (e : Event) → e.client ≡ stamp.client → IsFaultOf e fault
   pub one : length (fault_events fault) ≡ late + failed
-  pub early : count_if (fails_before (e.at + write) (fault_events fault)) ≤ failed
+  pub early : count_if (fails_before (stamp.at + write) (fault_events fault)) ≤ failed
   pub posts : Posts (unless (is_some fault) letters) m m'
   pub again : m.full_sends + late ≤ m'.full_sends
   pub rose : min (fails + failed) (2 ^ 64 - 1) ≤ fails'
@@ -117,6 +132,10 @@ abbrev pub numbers_of : {W R F : Type 0} → List (KeptExchange W R F) → List 
 numbers_of [] = []
 numbers_of (x ∷ xs) = x.number ∷ numbers_of xs
 
+-- the number at a place
+abbrev pub IsNumberAt : {W R F : Type 0} → ℕ → ℕ → List (KeptExchange W R F) → Type 0
+IsNumberAt n i xs = drop i (numbers_of xs) ≡ n ∷ drop (i + 1) (numbers_of xs)
+
 -- the numbers from a place on, and none where no place is left
 abbrev pub left_to : {W R F : Type 0} → Option ℕ → List (KeptExchange W R F) → List ℕ
 left_to None xs = []
@@ -126,10 +145,15 @@ abbrev pub kept_at : {W R F : Type 0} → ℕ → List (KeptExchange W R F) → 
 kept_at c [] = []
 kept_at c (x ∷ xs) = if nat_eq c x.number then x ∷ kept_at c xs else kept_at c xs
 
+-- what is kept of an exchange that begins
+abbrev pub kept_under : {W R F : Type 0} → ℕ → SocketAddr → Option (KeptRequest F R) → List (KeptExchange W R F)
+kept_under n addr None = []
+kept_under n addr (Some q) = record { number = n; request = q; addr = addr } ∷ []
+
 module _ {W R F : Type 0} (answer : PolledRequest F R → ℕ → Answer) (answers : Serving) where
-  -- the core of an exchange that is unfinished, and the address that its datagrams go to
+  -- what is kept of an exchange that is unfinished: its number, its one request, and the address that its datagrams go to
   pub record IsKeptOf (x : KeptExchange W R F) (s : Slate) : Type 0 where
-    pub stands : Stands answer answers x.core s
+    pub is_exchange : IsExchange answer answers x.number (Some x.request) s
     pub addr_is : x.addr ≡ s.addr
     pub phase_is : s.phase ≡ Exchange
     pub unfinished : is_finished s ≡ false
@@ -144,28 +168,28 @@ module _ {W R F : Type 0} (answer : PolledRequest F R → ℕ → Answer) (answe
   abbrev pub Leads : List (KeptExchange W R F) → Option Letter → List (KeptExchange W R F) → Slate → Told → Type 0
   Leads old letter new s t = Keeps old s → (letter ≡ letter_to (last_octets t.1) t.0.addr) × Keeps new t.0
 
-  -- an event of an exchange
-  pub record Turned (e : Event) (old : List (KeptExchange W R F)) (letter : Option Letter) (new : List (KeptExchange W R F)) : Type 0 where
-    pub leads : (s : Slate) → Leads old letter new s (rule answers e s)
+  -- a Turn of an exchange
+  pub record Turned (old : List (KeptExchange W R F)) (letter : Option Letter) (new : List (KeptExchange W R F)) : Type 0 where
+    pub leads : (e : Event) (s : Slate) → e.kind ≡ Turn 0 → Leads old letter new s (rule answers e s)
 
   -- the same of one that is kept, and whether it is finished then
-  pub record TurnedOne (e : Event) (old : KeptExchange W R F) (letter : Option Letter) (done : Bool) (new : KeptExchange W R F) : Type 0 where
-    pub letter_is : (s : Slate) → IsKeptOf old s → letter ≡ letter_to (last_octets (rule answers e s).1) (rule answers e s).0.addr
-    pub done_is : (s : Slate) → IsKeptOf old s → done ≡ is_finished (rule answers e s).0
-    pub left : (s : Slate) → IsKeptOf old s → done ≡ false → IsKeptOf new (rule answers e s).0
-
-  -- the same of the one at a place
-  pub record TurnedItem (at : ℕ) (e : Event) (old : List (KeptExchange W R F)) (letter : Option Letter) (done : Bool) (new : List (KeptExchange W R F)) : Type 0 where
-    pub before : List (KeptExchange W R F)
-    pub behind : List (KeptExchange W R F)
-    pub was : KeptExchange W R F
-    pub now : KeptExchange W R F
-    pub old_is : old ≡ before ++ was ∷ behind
-    pub new_is : new ≡ before ++ now ∷ behind
-    pub place : length before ≡ at
-    pub number : now.number ≡ was.number
-    pub turned : TurnedOne e was letter done now
+  pub record TurnedOne (old : KeptExchange W R F) (letter : Option Letter) (done : Bool) (new : KeptExchange W R F) : Type 0 where
+    pub letter_is : (e : Event) (s : Slate) → e.kind ≡ Turn 0 → IsKeptOf old s → letter ≡ letter_to (last_octets (rule answers e s).1) (rule answers e s).0.addr
+    pub done_is : (e : Event) (s : Slate) → e.kind ≡ Turn 0 → IsKeptOf old s → done ≡ is_finished (rule answers e s).0
+    pub left : (e : Event) (s : Slate) → e.kind ≡ Turn 0 → IsKeptOf old s → done ≡ false → IsKeptOf new (rule answers e s).0
 
   -- its datagram, by what was heard of the book
   pub record Begun (heard : Look) (e : Event) (addr : SocketAddr) (octets : List ℕ) (old : List (KeptExchange W R F)) (letter : Option Letter) (new : List (KeptExchange W R F)) : Type 0 where
     pub leads : (s : Slate) → IsUnused s → s.conf ≡ conf_of heard → Leads old letter new s (datagram e.client addr e.at e.secs octets s)
+
+-- a Turn of the one at a place
+pub record TurnedItem {W R F : Type 0} (answer : PolledRequest F R → ℕ → Answer) (at : ℕ) (old : List (KeptExchange W R F)) (letter : Option Letter) (done : Bool) (new : List (KeptExchange W R F)) : Type 0 where
+  pub before : List (KeptExchange W R F)
+  pub behind : List (KeptExchange W R F)
+  pub was : KeptExchange W R F
+  pub now : KeptExchange W R F
+  pub old_is : old ≡ before ++ was ∷ behind
+  pub new_is : new ≡ before ++ now ∷ behind
+  pub place : length before ≡ at
+  pub number : now.number ≡ was.number
+  pub turned : (answers : Serving) → TurnedOne answer answers was letter done now

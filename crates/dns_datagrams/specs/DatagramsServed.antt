@@ -1,5 +1,5 @@
 -- How the serving of datagrams ends, by what socket, clock, recorder and seat tell.
-use Rattle.std.specs.Prelude.{◌≡◌, ◌≢◌, ◌≤◌, ◌⊎◌, ℕ, ◌+◌, ◌-◌, ◌^◌, min, List, [], ◌∷◌, ◌++◌, length, Bool, true, false}
+use Rattle.std.specs.Prelude.{◌≡◌, ◌≢◌, ◌≤◌, ◌⊎◌, ℕ, ◌+◌, ◌-◌, ◌^◌, min, List, ◌∷◌, ◌++◌, length, Bool, true, false}
 use Rattle.std.specs.List.{list_any}
 use Rattle.dns_admission.specs.declared.look.Look.{Look}
 use Rattle.dns_book.specs.Gains.{Gained}

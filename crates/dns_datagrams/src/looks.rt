@@ -31,6 +31,7 @@ fn hear_look(heard: &mut Look, look: &Look)
 }
 
 /// Notes the news of a look, and hears them.
+#[inline(always)]
 pub(crate) fn hear_news<C: Clock, J: Recorder>(
     alloc: Global,
     clock: &mut C,

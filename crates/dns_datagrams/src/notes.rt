@@ -1,8 +1,9 @@
 //! Events are noted.
 
-ghost use Rattle.std.specs.Prelude.{◌≡◌, IfOk, OnErr};
+ghost use Rattle.std.specs.Prelude.{◌≡◌, IfOk, IsSome, OnErr, Some};
 ghost use Rattle.dns_outside.specs.Causes.{Tells};
-ghost use Rattle.dns_datagrams.specs.DatagramSteps.{Stamped};
+ghost use Rattle.dns_service.specs.declared.event.EventKind.TheVariants.{Datagram, Turn};
+ghost use Rattle.dns_datagrams.specs.DatagramSteps.{Stamped, stamp_of, stamped_event, noted_octets};
 
 use dns_name::SocketAddr;
 use dns_notes::{Recorder, now_is};
@@ -10,8 +11,16 @@ use dns_outside::Clock;
 use dns_service::{Event, EventKind, Octets, OutOfMemory};
 use std::alloc::Global;
 
+/// Whose an event is, and when it was noted.
+#[derive(Clone, Copy)]
+pub(crate) struct Stamp {
+    pub(crate) client: u64,
+    pub(crate) at: u64,
+    pub(crate) secs: u64,
+}
+
 /// Notes an event of now.
-pub(crate) fn note_now<C: Clock, J: Recorder>(
+fn note_now<C: Clock, J: Recorder>(
     alloc: Global,
     clock: &mut C,
     journal: &mut J,
@@ -29,7 +38,47 @@ pub(crate) fn note_now<C: Clock, J: Recorder>(
     Ok(event)
 }
 
-/// Notes a datagram of now, under a number.
+/// The stamp of an event.
+fn stamp_of(event: &Event) -> Stamp
+    ensures { result ≡ stamp_of event.now }
+{
+    Stamp {
+        client: event.client,
+        at: event.at,
+        secs: event.secs,
+    }
+}
+
+/// Notes a Turn of now.
+pub(crate) fn note_turn<C: Clock, J: Recorder>(
+    alloc: Global,
+    clock: &mut C,
+    journal: &mut J,
+    client: u64,
+) -> Result<Stamp, OutOfMemory>
+    ensures of { IfOk result (λ stamp. stamp.client ≡ client) }
+    ensures told { IfOk result (λ stamp. Tells (C.tells clock.new × J.tells journal.new) (C.tells clock.old × J.tells journal.old)
+        (Stamped (stamped_event stamp (Turn 0)) (J.noted journal.old) (J.noted journal.new) (C.readings clock.old) (C.readings clock.new))) }
+    ensures no_memory { OnErr result (Tells (C.tells clock.new × J.tells journal.new) (C.tells clock.old × J.tells journal.old)
+        (J.noted journal.new ≡ J.noted journal.old)) }
+{
+    let kind = EventKind::Turn { request: 0 };
+    let event = note_now(alloc, clock, journal, client, kind)?;
+    Ok(stamp_of(&event))
+}
+
+/// The octets of a datagram that was noted, which are not copied.
+fn noted_octets(kind: EventKind) -> Octets
+    requires { IsSome (noted_octets kind) }
+    ensures { noted_octets kind ≡ Some result }
+{
+    match kind {
+        EventKind::Datagram { octets, .. } => octets,
+        _ => unreachable!(),
+    }
+}
+
+/// Notes a datagram of now, under a number. The octets that were noted are given back.
 pub(crate) fn note_datagram<C: Clock, J: Recorder>(
     alloc: Global,
     clock: &mut C,
@@ -37,10 +86,10 @@ pub(crate) fn note_datagram<C: Clock, J: Recorder>(
     client: u64,
     octets: &[u8],
     from: SocketAddr,
-) -> Result<Event, OutOfMemory>
-    ensures of { IfOk result (λ event. (event.client ≡ client) × (event.kind ≡ EventKind.Datagram from octets.now)) }
-    ensures told { IfOk result (λ event. Tells (C.tells clock.new × J.tells journal.new) (C.tells clock.old × J.tells journal.old)
-        (Stamped event (J.noted journal.old) (J.noted journal.new) (C.readings clock.old) (C.readings clock.new))) }
+) -> Result<(Stamp, Octets), OutOfMemory>
+    ensures of { IfOk result (λ p. (p.0.client ≡ client) × (p.1 ≡ octets.now)) }
+    ensures told { IfOk result (λ p. Tells (C.tells clock.new × J.tells journal.new) (C.tells clock.old × J.tells journal.old)
+        (Stamped (stamped_event p.0 (Datagram from p.1)) (J.noted journal.old) (J.noted journal.new) (C.readings clock.old) (C.readings clock.new))) }
     ensures no_memory { OnErr result (Tells (C.tells clock.new × J.tells journal.new) (C.tells clock.old × J.tells journal.old)
         (J.noted journal.new ≡ J.noted journal.old)) }
 {
@@ -50,5 +99,6 @@ pub(crate) fn note_datagram<C: Clock, J: Recorder>(
         octets: copy,
     };
     let event = note_now(alloc, clock, journal, client, kind)?;
-    Ok(event)
+    let stamp = stamp_of(&event);
+    Ok((stamp, noted_octets(event.kind)))
 }

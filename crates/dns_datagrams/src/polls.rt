@@ -7,18 +7,18 @@ ghost use Rattle.dns_client.specs.Serving.{serving};
 ghost use Rattle.dns_service.specs.PolledRequest.{request_answer};
 ghost use Rattle.dns_service.specs.declared.event.EventKind.TheVariants.{Turn};
 ghost use Rattle.dns_datagrams.specs.DatagramsServed.{world};
-ghost use Rattle.dns_datagrams.specs.DatagramSteps.{numbers_of, left_to};
+ghost use Rattle.dns_datagrams.specs.DatagramSteps.{IsNumberAt, stamped_event, numbers_of, left_to};
 ghost use Rattle.dns_datagrams.specs.DatagramLoop.{Turns, Fails, Goes, Breaks, Finished, Passes, SinceNoted};
 
 use crate::exchanges::{number_at, turn_at};
 use crate::looks::look_once;
-use crate::notes::note_now;
+use crate::notes::{Stamp, note_turn};
 use crate::running::Running;
 use crate::sends::deliver;
 use dns_book::{Book, BookSeat};
 use dns_notes::Recorder;
 use dns_outside::{AsyncDgramSock, Clock};
-use dns_service::{Event, EventKind, OutOfMemory, Served};
+use dns_service::{OutOfMemory, Served};
 use std::alloc::Global;
 use std::sync::Wait;
 
@@ -31,45 +31,42 @@ fn turn_noted<R: Wait, D: AsyncDgramSock, C: Clock, J: Recorder, W: Served>(
     rt: &R,
     alloc: Global,
     _seat: &BookSeat,
-    service: &W,
+    _service: &W,
     sock: &mut D,
     clock: &mut C,
     journal: &mut J,
     state: &mut Running<W>,
     at: usize,
-    event: &Event,
+    stamp: Stamp,
 ) -> Result<bool, OutOfMemory>
-    requires can_call { W.can_call service.now }
-    requires kind { event.now.kind ≡ Turn 0 }
     requires there { at < deque_len state.old.exchanges }
-    requires number { drop at (numbers_of state.old.exchanges.items) ≡ event.now.client ∷ drop (at + 1) (numbers_of state.old.exchanges.items) }
+    requires number { IsNumberAt stamp.client at state.old.exchanges.items }
     ensures owed { IfOk result (λ done. drop (if done then at else at + 1) (numbers_of state.new.exchanges.items) ≡ drop (at + 1) (numbers_of state.old.exchanges.items)) }
     ensures next { OnOk result (state.new.next ≡ state.old.next) }
     ensures passes { Passes _seat.now.known _seat.now.known state.old state.new (D.failed_sends sock.old) (D.failed_sends sock.new) }
     ensures receives { D.failed_receives sock.new ≡ D.failed_receives sock.old }
     ensures told { OnOk result (Tells (D.tells sock.new × C.tells clock.new × J.tells journal.new) (D.tells sock.old × C.tells clock.old × J.tells journal.old)
-        (SinceNoted event.now (λ w. Turns (request_answer W.Future.answer W.Stream.answer) (serving (W.answer service.now) (W.hint service.now)) event.now.client true w state.old
+        (SinceNoted (stamped_event stamp (Turn 0)) (λ w. Turns (request_answer W.Future.answer W.Stream.answer) (serving (W.answer _service.now) (W.hint _service.now)) stamp.client true w state.old
         (world (J.noted journal.new) (D.mail sock.new) (D.failed_sends sock.new) (C.readings clock.new) _seat.now.known) state.new)
         (world (J.noted journal.old) (D.mail sock.old) (D.failed_sends sock.old) (C.readings clock.old) _seat.now.known))) }
     ensures no_memory { OnErr result (Tells (D.tells sock.new × C.tells clock.new × J.tells journal.new) (D.tells sock.old × C.tells clock.old × J.tells journal.old)
-        (SinceNoted event.now (λ w. Fails (request_answer W.Future.answer W.Stream.answer) (serving (W.answer service.now) (W.hint service.now)) true w state.old
+        (SinceNoted (stamped_event stamp (Turn 0)) (λ w. Fails (request_answer W.Future.answer W.Stream.answer) (serving (W.answer _service.now) (W.hint _service.now)) true w state.old
         (world (J.noted journal.new) (D.mail sock.new) (D.failed_sends sock.new) (C.readings clock.new) _seat.now.known))
         (world (J.noted journal.old) (D.mail sock.old) (D.failed_sends sock.old) (C.readings clock.old) _seat.now.known))) }
 {
-    let (letter, done) = turn_at(alloc, service, &mut state.exchanges, at, event)?;
     let limit = state.heard.dgram.write_timeout();
-    deliver(
-        rt,
-        alloc,
-        sock,
-        clock,
-        journal,
-        &mut state.send_failed,
-        event,
-        letter,
-        limit,
-    )?;
-    Ok(done)
+    match turn_at(alloc, &mut state.exchanges, at) {
+        Ok((letter, done)) => {
+            let failed = &mut state.send_failed;
+            match deliver(
+                rt, alloc, sock, clock, journal, failed, stamp, letter, limit,
+            ) {
+                Ok(()) => Ok(done),
+                Err(error) => Err(error),
+            }
+        }
+        Err(error) => Err(error),
+    }
 }
 
 #[tactic(auto, using(crate::proofs::DatagramPasses::passes_same))]
@@ -86,9 +83,8 @@ fn turn<R: Wait, D: AsyncDgramSock, C: Clock, J: Recorder, W: Served>(
     at: usize,
     number: u64,
 ) -> Result<bool, OutOfMemory>
-    requires can_call { W.can_call service.now }
     requires there { at < deque_len state.old.exchanges }
-    requires number { drop at (numbers_of state.old.exchanges.items) ≡ number ∷ drop (at + 1) (numbers_of state.old.exchanges.items) }
+    requires number { IsNumberAt number at state.old.exchanges.items }
     ensures owed { IfOk result (λ done. drop (if done then at else at + 1) (numbers_of state.new.exchanges.items) ≡ drop (at + 1) (numbers_of state.old.exchanges.items)) }
     ensures next { OnOk result (state.new.next ≡ state.old.next) }
     ensures passes { Passes _seat.now.known _seat.now.known state.old state.new (D.failed_sends sock.old) (D.failed_sends sock.new) }
@@ -102,17 +98,12 @@ fn turn<R: Wait, D: AsyncDgramSock, C: Clock, J: Recorder, W: Served>(
         (world (J.noted journal.old) (D.mail sock.old) (D.failed_sends sock.old) (C.readings clock.old) _seat.now.known) state.old
         (world (J.noted journal.new) (D.mail sock.new) (D.failed_sends sock.new) (C.readings clock.new) _seat.now.known))) }
 {
-    let event = note_now(
-        alloc,
-        clock,
-        journal,
-        number,
-        EventKind::Turn { request: 0 },
-    )?;
-    let done = turn_noted(
-        rt, alloc, _seat, service, sock, clock, journal, state, at, &event,
-    )?;
-    Ok(done)
+    match note_turn(alloc, clock, journal, number) {
+        Ok(stamp) => turn_noted(
+            rt, alloc, _seat, service, sock, clock, journal, state, at, stamp,
+        ),
+        Err(error) => Err(error),
+    }
 }
 
 /// The same with its look.
@@ -132,7 +123,7 @@ fn poll_one<R: Wait, D: AsyncDgramSock, C: Clock, J: Recorder, W: Served>(
     requires book { seat.old.book ≡ book.now }
     requires can_call { W.can_call service.now }
     requires there { at < deque_len state.old.exchanges }
-    requires number { drop at (numbers_of state.old.exchanges.items) ≡ number ∷ drop (at + 1) (numbers_of state.old.exchanges.items) }
+    requires number { IsNumberAt number at state.old.exchanges.items }
     ensures owed { IfOk result (λ done. drop (if done then at else at + 1) (numbers_of state.new.exchanges.items) ≡ drop (at + 1) (numbers_of state.old.exchanges.items)) }
     ensures next { OnOk result (state.new.next ≡ state.old.next) }
     ensures passes { Passes seat.old.known seat.new.known state.old state.new (D.failed_sends sock.old) (D.failed_sends sock.new) }
@@ -147,11 +138,12 @@ fn poll_one<R: Wait, D: AsyncDgramSock, C: Clock, J: Recorder, W: Served>(
         (world (J.noted journal.old) (D.mail sock.old) (D.failed_sends sock.old) (C.readings clock.old) seat.old.known) state.old
         (world (J.noted journal.new) (D.mail sock.new) (D.failed_sends sock.new) (C.readings clock.new) seat.new.known))) }
 {
-    look_once(rt, alloc, book, seat, service, sock, clock, journal, state)?;
-    let done = turn(
-        rt, alloc, seat, service, sock, clock, journal, state, at, number,
-    )?;
-    Ok(done)
+    match look_once(rt, alloc, book, seat, service, sock, clock, journal, state) {
+        Ok(()) => turn(
+            rt, alloc, seat, service, sock, clock, journal, state, at, number,
+        ),
+        Err(error) => Err(error),
+    }
 }
 
 /// The place behind one, unless what was there is kept no more.
@@ -193,10 +185,12 @@ fn poll_at<R: Wait, D: AsyncDgramSock, C: Clock, J: Recorder, W: Served>(
     let Some(number) = number_at(&state.exchanges, at) else {
         return Ok(None);
     };
-    let done = poll_one(
+    match poll_one(
         rt, alloc, book, seat, service, sock, clock, journal, state, at, number,
-    )?;
-    Ok(Some(behind(at, done)))
+    ) {
+        Ok(done) => Ok(Some(behind(at, done))),
+        Err(error) => Err(error),
+    }
 }
 
 /// Polls each exchange whose request isn't done once, by rising number.

@@ -5,12 +5,13 @@ ghost use Rattle.dns_outside.specs.Causes.{Tells};
 ghost use Rattle.dns_client.specs.Serving.{serving};
 ghost use Rattle.dns_service.specs.PolledRequest.{request_answer};
 ghost use Rattle.dns_service.specs.declared.event.EventKind.TheVariants.{Datagram};
-ghost use Rattle.dns_datagrams.specs.DatagramsServed.{ReceivesBy, world};
+ghost use Rattle.dns_datagrams.specs.DatagramSteps.{stamped_event};
+ghost use Rattle.dns_datagrams.specs.DatagramsServed.{IsFull, ReceivesBy, world};
 ghost use Rattle.dns_datagrams.specs.DatagramLoop.{Begins, BeginFails, Receives, ReceivedSo, Rounded, RoundedSo, Stopped, Breaks, Passes, SinceNoted};
 
 use crate::exchanges::begin;
 use crate::looks::look_once;
-use crate::notes::note_datagram;
+use crate::notes::{Stamp, note_datagram};
 use crate::polls::{PAUSE, poll_all};
 use crate::running::Running;
 use crate::sends::deliver;
@@ -19,7 +20,7 @@ use dns_book::{Book, BookSeat};
 use dns_name::SocketAddr;
 use dns_notes::{PATIENCE, Recorder};
 use dns_outside::{AsyncDgramSock, Clock, DgramRecv};
-use dns_service::{Event, OutOfMemory, Served};
+use dns_service::{Octets, OutOfMemory, Served};
 use std::alloc::Global;
 use std::sync::Wait;
 
@@ -49,47 +50,37 @@ fn begin_noted<R: Wait, D: AsyncDgramSock, C: Clock, J: Recorder, W: Served>(
     clock: &mut C,
     journal: &mut J,
     state: &mut Running<W>,
-    event: &Event,
-    octets: &[u8],
+    stamp: Stamp,
+    octets: Octets,
     from: SocketAddr,
 ) -> Result<(), OutOfMemory>
     requires can_call { W.can_call service.now }
     requires running { state.old.heard.closed ≡ false }
     requires room { state.old.next < 2 ^ 64 - 1 }
-    requires of { (event.now.client ≡ state.old.next) × (event.now.kind ≡ Datagram from octets.now) }
+    requires of { stamp.client ≡ state.old.next }
     ensures receives { D.failed_receives sock.new ≡ D.failed_receives sock.old }
     ensures passes { Passes _seat.now.known _seat.now.known state.old state.new (D.failed_sends sock.old) (D.failed_sends sock.new) }
     ensures told { OnOk result (Tells (D.tells sock.new × C.tells clock.new × J.tells journal.new) (D.tells sock.old × C.tells clock.old × J.tells journal.old)
-        (SinceNoted event.now (λ w. Begins (request_answer W.Future.answer W.Stream.answer) (serving (W.answer service.now) (W.hint service.now)) octets.now from w state.old
+        (SinceNoted (stamped_event stamp (Datagram from octets)) (λ w. Begins (request_answer W.Future.answer W.Stream.answer) (serving (W.answer service.now) (W.hint service.now)) octets from w state.old
         (world (J.noted journal.new) (D.mail sock.new) (D.failed_sends sock.new) (C.readings clock.new) _seat.now.known) state.new)
         (world (J.noted journal.old) (D.mail sock.old) (D.failed_sends sock.old) (C.readings clock.old) _seat.now.known))) }
     ensures no_memory { OnErr result (Tells (D.tells sock.new × C.tells clock.new × J.tells journal.new) (D.tells sock.old × C.tells clock.old × J.tells journal.old)
-        (SinceNoted event.now (λ w. BeginFails (request_answer W.Future.answer W.Stream.answer) (serving (W.answer service.now) (W.hint service.now)) octets.now from w state.old
+        (SinceNoted (stamped_event stamp (Datagram from octets)) (λ w. BeginFails (request_answer W.Future.answer W.Stream.answer) (serving (W.answer service.now) (W.hint service.now)) octets from w state.old
         (world (J.noted journal.new) (D.mail sock.new) (D.failed_sends sock.new) (C.readings clock.new) _seat.now.known))
         (world (J.noted journal.old) (D.mail sock.old) (D.failed_sends sock.old) (C.readings clock.old) _seat.now.known))) }
 {
-    let letter = begin(
-        alloc,
-        service,
-        &mut state.exchanges,
-        event,
-        from,
-        octets,
-        &state.heard,
-    )?;
-    state.next += 1;
     let limit = state.heard.dgram.write_timeout();
-    deliver(
-        rt,
-        alloc,
-        sock,
-        clock,
-        journal,
-        &mut state.send_failed,
-        event,
-        letter,
-        limit,
-    )
+    let (exchanges, heard) = (&mut state.exchanges, &state.heard);
+    match begin(alloc, service, exchanges, stamp, from, octets, heard) {
+        Ok(letter) => {
+            state.next += 1;
+            let failed = &mut state.send_failed;
+            deliver(
+                rt, alloc, sock, clock, journal, failed, stamp, letter, limit,
+            )
+        }
+        Err(error) => Err(error),
+    }
 }
 
 #[tactic(auto, using(crate::proofs::DatagramPasses::passes_same))]
@@ -120,11 +111,12 @@ fn take_datagram<R: Wait, D: AsyncDgramSock, C: Clock, J: Recorder, W: Served>(
         (world (J.noted journal.old) (D.mail sock.old) (D.failed_sends sock.old) (C.readings clock.old) _seat.now.known) state.old
         (world (J.noted journal.new) (D.mail sock.new) (D.failed_sends sock.new) (C.readings clock.new) _seat.now.known))) }
 {
-    let event = note_datagram(alloc, clock, journal, state.next, octets, from)?;
-    begin_noted(
-        rt, alloc, _seat, service, sock, clock, journal, state, &event, octets, from,
-    )?;
-    Ok(())
+    match note_datagram(alloc, clock, journal, state.next, octets, from) {
+        Ok((stamp, octets)) => begin_noted(
+            rt, alloc, _seat, service, sock, clock, journal, state, stamp, octets, from,
+        ),
+        Err(error) => Err(error),
+    }
 }
 
 /// How long a receive may be waited for: not long where an exchange is to be polled again.
@@ -173,10 +165,12 @@ fn receive<R: Wait, D: AsyncDgramSock, C: Clock, J: Recorder, W: Served>(
         }
         DgramRecv::Got(count, from) => {
             let octets = &buf[..count];
-            take_datagram(
+            match take_datagram(
                 rt, alloc, seat, service, sock, clock, journal, state, octets, from,
-            )?;
-            Ok(Receipt::Made)
+            ) {
+                Ok(()) => Ok(Receipt::Made),
+                Err(error) => Err(error),
+            }
         }
     }
 }
@@ -216,13 +210,27 @@ fn round<R: Wait, D: AsyncDgramSock, C: Clock, J: Recorder, W: Served>(
     if state.heard.closed {
         return Ok(Lap::Over);
     }
-    match receive(rt, alloc, seat, service, sock, clock, journal, state, buf)? {
-        Receipt::Failed => Ok(Lap::Failed),
-        Receipt::Made => {
-            poll_all(rt, alloc, book, seat, service, sock, clock, journal, state)?;
-            Ok(Lap::Whole)
+    match receive(rt, alloc, seat, service, sock, clock, journal, state, buf) {
+        Ok(Receipt::Failed) => Ok(Lap::Failed),
+        Ok(Receipt::Made) => {
+            match poll_all(rt, alloc, book, seat, service, sock, clock, journal, state) {
+                Ok(()) => Ok(Lap::Whole),
+                Err(error) => Err(error),
+            }
         }
+        Err(error) => Err(error),
     }
+}
+
+/// Whether so many datagrams came as were to be served, where the count isn't 0, or as can be numbered.
+fn is_full(next: u64, count: u64) -> bool
+    ensures full { result ≡ true → IsFull count next }
+    ensures room { result ≡ false → next < 2 ^ 64 - 1 }
+{
+    if next == u64::MAX {
+        return true;
+    }
+    count != 0 && next == count
 }
 
 /// Receives until so many datagrams came, a look shows a shutdown, or a receive fails.
@@ -253,10 +261,7 @@ pub(crate) fn take_all<R: Wait, D: AsyncDgramSock, C: Clock, J: Recorder, W: Ser
         (world (J.noted journal.new) (D.mail sock.new) (D.failed_sends sock.new) (C.readings clock.new) seat.new.known) state.new) }
 {
     for _ in rt.forever() {
-        if state.next == u64::MAX {
-            return DgramEnd::Counted;
-        }
-        if count != 0 && state.next == count {
+        if is_full(state.next, count) {
             return DgramEnd::Counted;
         }
         match round(

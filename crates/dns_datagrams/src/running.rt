@@ -4,17 +4,17 @@ ghost use Rattle.std.specs.Prelude.{◌≡◌, ℕ, [], false};
 ghost use Rattle.dns_datagrams.specs.DatagramSteps.{kept_at};
 
 use dns_admission::Look;
-use dns_client::ClientCore;
+use dns_client::KeptRequest;
 use dns_name::SocketAddr;
 use dns_service::Served;
 use std::alloc::Global;
 use std::collections::VecDeque;
 
-/// What is kept of an exchange whose request isn't done: its number, its core, and where its answers go.
+/// What is kept of an exchange whose request isn't done: its number, what is kept of the request, and where its answers go.
 #[derive(Drop)]
 pub(crate) struct KeptExchange<W: Served> {
     pub(crate) number: u64,
-    pub(crate) core: ClientCore<W>,
+    pub(crate) request: KeptRequest<W::Future, W::Stream>,
     pub(crate) addr: SocketAddr,
 }
 

@@ -6,6 +6,7 @@ ghost use Rattle.dns_service.specs.declared.event.EventKind.TheVariants.{Fault};
 ghost use Rattle.dns_notes.specs.Notes.{NoteMoves};
 ghost use Rattle.dns_datagrams.specs.DatagramSteps.{Sends, SendsTo, SendsCause, SendsRose, Unsent, listed};
 
+use crate::notes::Stamp;
 use dns_notes::{PATIENCE, Recorder};
 use dns_outside::{AsyncDgramSock, Clock, DgramSend, Letter};
 use dns_service::{Event, EventKind, OutOfMemory};
@@ -22,6 +23,7 @@ pub(crate) enum SendEnd {
 
 #[tactic(auto, using(crate::proofs::DatagramPosting::sent_none, crate::proofs::DatagramPosting::sent_again, crate::proofs::DatagramPosting::sent_late, crate::proofs::DatagramPosting::sent_whole, crate::proofs::DatagramPosting::sent_failed))]
 /// Sends a letter. Where there is no room for it yet it waits, until so much time has passed since a moment.
+#[inline(always)]
 fn send<R: Wait, D: AsyncDgramSock, C: Clock>(
     rt: &R,
     sock: &mut D,
@@ -52,28 +54,6 @@ fn send<R: Wait, D: AsyncDgramSock, C: Clock>(
     unreachable!()
 }
 
-#[tactic(auto, using(crate::proofs::DatagramPosting::sent_none))]
-/// Sends a letter, where there is one.
-fn post<R: Wait, D: AsyncDgramSock, C: Clock>(
-    rt: &R,
-    sock: &mut D,
-    clock: &mut C,
-    letter: Option<Letter>,
-    since: u64,
-    limit: u64,
-) -> SendEnd
-    ensures receives { D.failed_receives sock.new ≡ D.failed_receives sock.old }
-    ensures sends { D.failed_sends sock.old ≤ D.failed_sends sock.new }
-    ensures cause { SendsCause result (D.failed_sends sock.old) (D.failed_sends sock.new) }
-    ensures told { Tells (D.tells sock.new × C.tells clock.new) (D.tells sock.old × C.tells clock.old)
-        (SendsTo result (listed letter) since limit (D.mail sock.old) (D.mail sock.new) (C.readings clock.old) (C.readings clock.new)) }
-{
-    match letter {
-        Some(letter) => send(rt, sock, clock, &letter, since, limit),
-        None => SendEnd::Sent,
-    }
-}
-
 /// Notes a Fault of an exchange at a moment.
 fn note_fault<J: Recorder>(
     alloc: Global,
@@ -94,6 +74,7 @@ fn note_fault<J: Recorder>(
 }
 
 /// Sends what an event led to, where that is a letter. Where it isn't sent a Fault is noted; whether a send failed is kept.
+#[inline(always)]
 pub(crate) fn deliver<R: Wait, D: AsyncDgramSock, C: Clock, J: Recorder>(
     rt: &R,
     alloc: Global,
@@ -101,7 +82,7 @@ pub(crate) fn deliver<R: Wait, D: AsyncDgramSock, C: Clock, J: Recorder>(
     clock: &mut C,
     journal: &mut J,
     send_failed: &mut bool,
-    event: &Event,
+    stamp: Stamp,
     letter: Option<Letter>,
     limit: u64,
 ) -> Result<(), OutOfMemory>
@@ -109,18 +90,21 @@ pub(crate) fn deliver<R: Wait, D: AsyncDgramSock, C: Clock, J: Recorder>(
     ensures sends { D.failed_sends sock.old ≤ D.failed_sends sock.new }
     ensures rose { SendsRose send_failed.old send_failed.new (D.failed_sends sock.old) (D.failed_sends sock.new) }
     ensures told { OnOk result (Tells (D.tells sock.new × C.tells clock.new × J.tells journal.new) (D.tells sock.old × C.tells clock.old × J.tells journal.old)
-        (Sends event.now (listed letter) limit (J.noted journal.old) (J.noted journal.new) (D.mail sock.old) (D.mail sock.new)
+        (Sends stamp (listed letter) limit (J.noted journal.old) (J.noted journal.new) (D.mail sock.old) (D.mail sock.new)
         (D.failed_sends sock.old) (D.failed_sends sock.new) (C.readings clock.old) (C.readings clock.new))) }
     ensures no_memory { OnErr result (Tells (D.tells sock.new × C.tells clock.new × J.tells journal.new) (D.tells sock.old × C.tells clock.old × J.tells journal.old)
         (Unsent (J.noted journal.old) (J.noted journal.new) (D.mail sock.old) (D.mail sock.new))) }
 {
-    match post(rt, sock, clock, letter, event.at, limit) {
+    let Some(letter) = letter else {
+        return Ok(());
+    };
+    match send(rt, sock, clock, &letter, stamp.at, limit) {
         SendEnd::Sent => Ok(()),
-        SendEnd::Late(at, secs) => note_fault(alloc, journal, at, secs, event.client),
+        SendEnd::Late(at, secs) => note_fault(alloc, journal, at, secs, stamp.client),
         SendEnd::Failed => {
             *send_failed = true;
             let (at, secs) = clock.now();
-            note_fault(alloc, journal, at, secs, event.client)
+            note_fault(alloc, journal, at, secs, stamp.client)
         }
     }
 }

@@ -1,5 +1,4 @@
 use Rattle.std.proofs.Common.{◌<◌, length, arith, refl}
-use Rattle.dns_client.specs.Serving.{serving}
 use Rattle.dns_service.specs.PolledRequest.{request_answer}
 use Rattle.dns_datagrams.proofs.DatagramPlaces.{turned_item}
 use Rattle.dns_datagrams.proofs.exchanges.turn_item.Goals as goal
@@ -7,7 +6,6 @@ use Rattle.dns_datagrams.proofs.exchanges.turn_item.Goals as goal
 pub returns : goal.returns
 returns g c =
     let answer = request_answer g.W.Future.ReplyFuture.answer g.W.Stream.ReplyStream.answer in
-    let answers = serving (g.W.Served.answer c.args.service.now) (g.W.Served.hint c.args.service.now) in
     let xs = c.args.exchanges.now.items in
-    let h : c.args.at < length xs = let a = c.args.exchanges.now.ok.0 in let b = c.requires.there in omega arith in
-    turned_item answer answers c.args.event.now xs _ c.args.at c.index_mut.result.now c.turn_kept.new.kept c.in_ok-letter.letter c.in_ok-letter.done h c.index_mut.ensures.value refl c.turn_kept.ensures.number c.in_ok-letter.ensures.turned
+    let h : c.args.at < length xs = let a = c.args.exchanges.now.ok.0 in let b = c.requires in omega arith in
+    turned_item answer xs _ c.args.at c.index_mut.result.now c.turn_kept.new.kept c.in_ok-letter.letter c.in_ok-letter.done h c.index_mut.ensures.value refl c.turn_kept.ensures.number c.in_ok-letter.ensures.turned

@@ -1,6 +1,6 @@
 use Rattle.dns_client.specs.Serving.{serving}
 use Rattle.dns_service.specs.PolledRequest.{request_answer}
-use Rattle.std.proofs.Common.{rules, arith, refl, ◌≡◌, ◌∙◌}
+use Rattle.std.proofs.Common.{rules, refl, ◌≡◌, ◌∙◌}
 use Rattle.std.specs.VecDeque.{deque_len}
 use Rattle.dns_datagrams.proofs.DatagramTellings.{on_err, tells_none, tells_one, tells_two, tells_d_dcj}
 use Rattle.dns_datagrams.proofs.DatagramEndings.{goes_same, goes_waited, breaks_waited, finish_more, finish_fails, finished_by}

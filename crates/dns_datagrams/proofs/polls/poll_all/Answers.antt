@@ -1,6 +1,6 @@
 use Rattle.dns_client.specs.Serving.{serving}
 use Rattle.dns_service.specs.PolledRequest.{request_answer}
-use Rattle.std.proofs.Common.{arith, refl, Some, None, ◌≡◌, ◌∙◌}
+use Rattle.std.proofs.Common.{refl, Some, None, ◌∙◌}
 use Rattle.dns_datagrams.proofs.DatagramTellings.{on_err, tells_none, tells_two}
 use Rattle.dns_datagrams.proofs.DatagramEndings.{goes_same, goes_then, goes_left, breaks_then}
 use Rattle.dns_datagrams.proofs.DatagramPasses.{passes_same, passes_then}

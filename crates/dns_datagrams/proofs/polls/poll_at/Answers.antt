@@ -1,6 +1,6 @@
 use Rattle.dns_client.specs.Serving.{serving}
 use Rattle.dns_service.specs.PolledRequest.{request_answer}
-use Rattle.dns_datagrams.proofs.DatagramTellings.{on_err, tells_one}
+use Rattle.dns_datagrams.proofs.DatagramTellings.{tells_one}
 use Rattle.dns_datagrams.proofs.DatagramEndings.{goes_turn, next_left}
 use Rattle.dns_datagrams.proofs.DatagramPasses.{passes_same}
 use Rattle.dns_datagrams.proofs.polls.poll_at.Goals as goal
@@ -8,8 +8,8 @@ use Rattle.dns_datagrams.proofs.polls.poll_at.Goals as goal
 pub returns-in_default-clause-passes : goal.returns-in_default-clause-passes
 returns-in_default-clause-passes g c = passes_same c.args.seat.now.known c.args.state.now _
 
-pub returns-in_err-done-clause-no_memory : goal.returns-in_err-done-clause-no_memory
-returns-in_err-done-clause-no_memory g c = on_err c.from_residual.result (tells_one c.in_err-done.ensures.no_memory (λ f. f.breaks _))
+pub returns-in-Err-clause-no_memory : goal.returns-in-Err-clause-no_memory
+returns-in-Err-clause-no_memory g c = tells_one c.in-Err.ensures.no_memory (λ f. f.breaks _)
 
-pub returns-clause-told : goal.returns-clause-told
-returns-clause-told g c = tells_one c.in_ok-done.ensures.told (goes_turn (request_answer g.W.Future.ReplyFuture.answer g.W.Stream.ReplyStream.answer) (serving (g.W.Served.answer c.args.service.now) (g.W.Served.hint c.args.service.now)) c.in-Some.ensures.number (next_left c.args.state.now.exchanges.items c.poll_one.new.state.exchanges.items c.args.at c.behind.result c.in_ok-done.done c.behind.ensures c.in_ok-done.ensures.owed))
+pub returns-in-Ok-clause-told : goal.returns-in-Ok-clause-told
+returns-in-Ok-clause-told g c = tells_one c.in-Ok.ensures.told (goes_turn (request_answer g.W.Future.ReplyFuture.answer g.W.Stream.ReplyStream.answer) (serving (g.W.Served.answer c.args.service.now) (g.W.Served.hint c.args.service.now)) c.in-Some.ensures.number (next_left c.args.state.now.exchanges.items c.poll_one.new.state.exchanges.items c.args.at c.behind.result c.in-Ok.done c.behind.ensures c.in-Ok.ensures.owed))

@@ -1,7 +1,7 @@
 use Rattle.dns_client.specs.Serving.{serving}
 use Rattle.dns_service.specs.PolledRequest.{request_answer}
-use Rattle.std.proofs.Common.{arith, refl, ◌∙◌, inl, inr}
-use Rattle.dns_datagrams.proofs.DatagramTellings.{on_err, tells_none, tells_one, tells_two}
+use Rattle.std.proofs.Common.{refl, ◌∙◌}
+use Rattle.dns_datagrams.proofs.DatagramTellings.{tells_none, tells_one, tells_two}
 use Rattle.dns_datagrams.proofs.DatagramEndings.{goes_same, goes_then, breaks_then, full_goes, idles_over, idles_then}
 use Rattle.dns_datagrams.proofs.DatagramPasses.{passes_same, passes_then}
 use Rattle.dns_datagrams.proofs.receipts.take_all.Goals as goal
@@ -9,11 +9,8 @@ use Rattle.dns_datagrams.proofs.receipts.take_all.Goals as goal
 pub loop-init : goal.loop-init
 loop-init g c = record { receives = refl; passes = passes_same c.args.seat.now.known c.args.state.now _; book = refl; told = tells_none (goes_same (request_answer g.W.Future.ReplyFuture.answer g.W.Stream.ReplyStream.answer) (serving (g.W.Served.answer c.args.service.now) (g.W.Served.hint c.args.service.now))) }
 
-pub returns-then-state-clause-told : goal.returns-then-state-clause-told
-returns-then-state-clause-told g c = tells_one c.loop.invariant.told (full_goes (request_answer g.W.Future.ReplyFuture.answer g.W.Stream.ReplyStream.answer) (serving (g.W.Served.answer c.args.service.now) (g.W.Served.hint c.args.service.now)) (inr c.if-state.true))
-
-pub returns-then-state-count-clause-told : goal.returns-then-state-count-clause-told
-returns-then-state-count-clause-told g c = tells_one c.loop.invariant.told (full_goes (request_answer g.W.Future.ReplyFuture.answer g.W.Stream.ReplyStream.answer) (serving (g.W.Served.answer c.args.service.now) (g.W.Served.hint c.args.service.now)) (inl (c.if-count-ne0.true, c.if-state-count.true)))
+pub returns-then-is_full-clause-told : goal.returns-then-is_full-clause-told
+returns-then-is_full-clause-told g c = tells_one c.loop.invariant.told (full_goes (request_answer g.W.Future.ReplyFuture.answer g.W.Stream.ReplyStream.answer) (serving (g.W.Served.answer c.args.service.now) (g.W.Served.hint c.args.service.now)) (c.is_full.ensures.full c.if-is_full.true))
 
 pub loop-preserved : goal.loop-preserved
 loop-preserved g c = record {
