@@ -1,5 +1,5 @@
 -- An own event is chosen, and then noted and taken, by calls of which the last decides.
-use Rattle.std.proofs.Common.{◌≡◌, ℕ, List, ◌∷◌, [], slice_get, Option, Some, None, Result, Ok, Err, IfOk, OnErr, inr}
+use Rattle.std.proofs.Common.{◌≡◌, ℕ, List, [], slice_get, Option, None, Result, Ok, Err, IfOk, OnErr, inr}
 use Rattle.dns_name.specs.declared.error.OutOfMemory.{OutOfMemory}
 use Rattle.dns_outside.specs.Causes.{Tells}
 use Rattle.dns_outside.specs.Traffic.{Traffic}

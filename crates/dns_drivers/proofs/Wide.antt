@@ -11,7 +11,7 @@ use Rattle.dns_service.specs.declared.event.Why.{Why}
 use Rattle.dns_service.specs.declared.event.Why.TheVariants.{Shutdown as ByShutdown}
 use Rattle.dns_client.specs.After.{slate_after, sent_after}
 use Rattle.dns_client.specs.Connections.{wind_up}
-use Rattle.dns_client.specs.News.{wide, new_configurations, new_end, news}
+use Rattle.dns_client.specs.News.{wide, new_end, news}
 use Rattle.dns_client.specs.Rule.{rule, in_phase, unused_rule, open_rule}
 use Rattle.dns_client.specs.Serving.{Serving}
 use Rattle.dns_client.specs.Slate.{Slate, Told, Phase, Unused, Exchange, Open, Flushing, Closed, Conf, conf_rule, with_conf}

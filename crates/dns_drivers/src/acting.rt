@@ -13,7 +13,7 @@ ghost use Rattle.dns_drivers.specs.Steps.{Chosen, TakesEvent, NotedOrNot, Acted,
 ghost use Rattle.dns_drivers.specs.Links.{Unread};
 
 use crate::closing::closed_by;
-use crate::reading::read_event;
+use crate::reading::{ROOM, read_event};
 use crate::writing::write_event;
 use dns_client::ClientCore;
 use dns_notes::{Recorder, now_is};
@@ -93,6 +93,7 @@ fn own_event<R: Wait, L: Link, C: Clock, W: Served>(
     last: Option<u64>,
     link: &mut L,
     clock: &mut C,
+    buf: &mut [u8; ROOM],
 ) -> Result<Event, OutOfMemory>
     ensures chosen { IfOk result (λ event. Tells (L.tells link.new) (L.tells link.old)
         (Chosen (request_answer W.Future.answer W.Stream.answer) client (below_of last) core.now event (L.traffic link.old) (L.traffic link.new))) }
@@ -107,7 +108,7 @@ fn own_event<R: Wait, L: Link, C: Clock, W: Served>(
     }
     match next_request(core, last) {
         Some(request) => Ok(now_is(clock, client, EventKind::Turn { request })),
-        None => read_event(rt, alloc, client, link, clock),
+        None => read_event(rt, alloc, client, link, clock, buf),
     }
 }
 
@@ -134,6 +135,7 @@ pub(crate) fn act<R: Wait, L: Link, C: Clock, J: Recorder, W: Served>(
     link: &mut L,
     clock: &mut C,
     journal: &mut J,
+    buf: &mut [u8; ROOM],
 ) -> Result<Option<Why>, OutOfMemory>
     requires { W.can_call service.now }
     ensures told { IfOk result (λ why. Tells (L.tells link.new × J.tells journal.new) (L.tells link.old × J.tells journal.old)
@@ -148,7 +150,7 @@ pub(crate) fn act<R: Wait, L: Link, C: Clock, J: Recorder, W: Served>(
         (ActedPart (request_answer W.Future.answer W.Stream.answer) client (below_of turn.old) core.old
         (J.noted journal.old) (J.noted journal.new) (L.traffic link.old) (L.traffic link.new))) }
 {
-    match own_event(rt, alloc, client, core, *turn, link, clock) {
+    match own_event(rt, alloc, client, core, *turn, link, clock, buf) {
         Ok(event) => hand_over(alloc, core, service, turn, journal, event),
         Err(error) => Err(error),
     }

@@ -8,7 +8,7 @@ ghost use Rattle.dns_drivers.specs.Story.{LooksAlone, LooksAndRelease};
 ghost use Rattle.dns_drivers.specs.Endings.{WasOffered, Unserved, EndsSo, WhereClosed, ShownFrom, EndShown, EndCauses};
 ghost use Rattle.dns_drivers.specs.Shown.{Causes};
 
-use crate::turning::serve_rounds;
+use crate::turning::serve_core;
 use dns_admission::Look;
 use dns_book::{Book, BookSeat};
 use dns_client::ClientCore;
@@ -26,6 +26,11 @@ pub enum ConnectionEnd {
     Closed(Why),
     /// A call found no memory.
     OutOfMemory,
+}
+
+/// Lets go of the core of a connection.
+fn let_go<W: Served>(core: ClientCore<W>) {
+    let _core = core;
 }
 
 #[tactic(auto, using(crate::proofs::Ends::unserved_early))]
@@ -62,9 +67,13 @@ fn serve_offer<R: Wait, L: Link, C: Clock, J: Recorder, W: Served>(
 {
     let at = note_moment(alloc, client, EventKind::Offer { addr }, clock, journal)?;
     match ClientCore::admit(alloc, client, addr, at, look) {
-        Ok(core) => serve_rounds(
-            rt, alloc, book, seat, client, core, look, service, link, clock, journal,
-        ),
+        Ok(mut core) => {
+            let served = serve_core(
+                rt, alloc, book, seat, client, &mut core, look, service, link, clock, journal,
+            );
+            let_go(core);
+            served
+        }
         Err(error) => Err(error),
     }
 }

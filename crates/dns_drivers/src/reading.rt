@@ -13,7 +13,7 @@ use std::alloc::Global;
 use std::sync::Wait;
 
 /// How many octets one read takes at most.
-const ROOM: usize = 4096;
+pub(crate) const ROOM: usize = 4096;
 
 #[tactic(auto, using(crate::proofs::Movings::moved_piece, crate::proofs::Movings::moved_again, crate::proofs::Movings::moved_end, crate::proofs::Movings::moved_none, crate::proofs::Movings::unread, crate::proofs::Blamings::blames_read, crate::proofs::Blamings::blames_tick, crate::proofs::Blamings::blames_end, crate::proofs::Blamings::blames_fault, crate::proofs::Blamings::whole_got, crate::proofs::Blamings::whole_again, crate::proofs::Blamings::whole_end, crate::proofs::Blamings::whole_fault))]
 /// Makes one read, and says of which kind its event is: of a Piece, an End or a Fault, or of a Tick after a wait, where nothing
@@ -22,6 +22,7 @@ fn read_kind<R: Wait, L: Link>(
     rt: &R,
     alloc: Global,
     link: &mut L,
+    buf: &mut [u8; ROOM],
 ) -> Result<EventKind, OutOfMemory>
     ensures moved { IfOk result (λ kind. Tells (L.tells link.new) (L.tells link.old) (MovedBy kind [] 0 (L.traffic link.old) (L.traffic link.new))) }
     ensures kind { IfOk result (λ kind. IsReadEvent kind) }
@@ -30,8 +31,7 @@ fn read_kind<R: Wait, L: Link>(
     ensures room { IfOk result (λ kind. Tells (L.tells link.new) (L.tells link.old) ((L.traffic link.new).full_writes ≡ (L.traffic link.old).full_writes)) }
     ensures no_memory { OnErr result (Tells (L.tells link.new) (L.tells link.old) (Unread (L.traffic link.old) (L.traffic link.new))) }
 {
-    let mut buf = [0u8; ROOM];
-    match link.read(&mut buf) {
+    match link.read(buf) {
         LinkRead::Got(count) => {
             let octets = Octets::from_slice(alloc, &buf[..count])?;
             Ok(EventKind::Piece(octets))
@@ -52,6 +52,7 @@ pub(crate) fn read_event<R: Wait, L: Link, C: Clock>(
     client: u64,
     link: &mut L,
     clock: &mut C,
+    buf: &mut [u8; ROOM],
 ) -> Result<Event, OutOfMemory>
     ensures moved { IfOk result (λ event. Tells (L.tells link.new) (L.tells link.old) (MovedBy event.kind [] 0 (L.traffic link.old) (L.traffic link.new))) }
     ensures clock { IfOk result (λ event. Tells (L.tells link.new × C.tells clock.new) (L.tells link.old × C.tells clock.old) (TimedOne event (L.traffic link.old).full_writes (L.traffic link.new).full_writes (C.readings clock.old) (C.readings clock.new))) }
@@ -60,7 +61,7 @@ pub(crate) fn read_event<R: Wait, L: Link, C: Clock>(
     ensures again { IfOk result (λ event. Tells (L.tells link.new) (L.tells link.old) (WroteWhole event.kind [] (L.traffic link.old) (L.traffic link.new))) }
     ensures no_memory { OnErr result (Tells (L.tells link.new) (L.tells link.old) (Unread (L.traffic link.old) (L.traffic link.new))) }
 {
-    match read_kind(rt, alloc, link) {
+    match read_kind(rt, alloc, link, buf) {
         Ok(kind) => Ok(now_is(clock, client, kind)),
         Err(error) => Err(error),
     }

@@ -14,6 +14,7 @@ ghost use Rattle.dns_drivers.specs.Turning.{MadeTurn, TurnedPart, TurnedFor, Beg
 
 use crate::acting::act;
 use crate::hearing::hear;
+use crate::reading::ROOM;
 use dns_admission::Look;
 use dns_book::{Book, BookSeat};
 use dns_client::ClientCore;
@@ -23,6 +24,13 @@ use dns_service::{OutOfMemory, Served, Why};
 use std::alloc::Global;
 use std::sync::Wait;
 
+/// What the loop keeps from one turn to the next: what was seen, and the request that was polled last in this round.
+#[derive(Drop)]
+struct TurnState {
+    last: Look,
+    turn: Option<u64>,
+}
+
 /// One look, and one own event where that doesn't close the connection. The answer is why it is closed, if it is.
 fn turn_once<R: Wait, L: Link, C: Clock, J: Recorder, W: Served>(
     rt: &R,
@@ -30,87 +38,54 @@ fn turn_once<R: Wait, L: Link, C: Clock, J: Recorder, W: Served>(
     book: &Book,
     seat: &mut BookSeat,
     client: u64,
+    kept: &mut TurnState,
     core: &mut ClientCore<W>,
-    last: &mut Look,
     service: &W,
-    turn: &mut Option<u64>,
     link: &mut L,
     clock: &mut C,
     journal: &mut J,
+    buf: &mut [u8; ROOM],
 ) -> Result<Option<Why>, OutOfMemory>
     requires book { seat.old.book ≡ book.now }
     requires can_call { W.can_call service.now }
     ensures told { IfOk result (λ why. Tells (L.tells link.new × J.tells journal.new) (L.tells link.old × J.tells journal.old)
-        (MadeTurn (request_answer W.Future.answer W.Stream.answer) (serving (W.answer service.now) (W.hint service.now)) client (below_of turn.old) (below_of turn.new) why core.old core.new last.old last.new
+        (MadeTurn (request_answer W.Future.answer W.Stream.answer) (serving (W.answer service.now) (W.hint service.now)) client (below_of kept.old.turn) (below_of kept.new.turn) why core.old core.new kept.old.last kept.new.last
         (J.noted journal.old) (J.noted journal.new) seat.old.known seat.new.known (L.traffic link.old) (L.traffic link.new))) }
     ensures clock { IfOk result (λ why. Tells (L.tells link.new × C.tells clock.new × J.tells journal.new) (L.tells link.old × C.tells clock.old × J.tells journal.old)
         (Timed (J.noted journal.old) (J.noted journal.new) (L.traffic link.old).full_writes (L.traffic link.new).full_writes (C.readings clock.old) (C.readings clock.new))) }
     ensures no_memory { OnErr result (Tells (L.tells link.new × J.tells journal.new) (L.tells link.old × J.tells journal.old)
-        (TurnedPart (request_answer W.Future.answer W.Stream.answer) (serving (W.answer service.now) (W.hint service.now)) client (below_of turn.old) core.old last.old
+        (TurnedPart (request_answer W.Future.answer W.Stream.answer) (serving (W.answer service.now) (W.hint service.now)) client (below_of kept.old.turn) core.old kept.old.last
         (J.noted journal.old) (J.noted journal.new) seat.old.known seat.new.known (L.traffic link.old) (L.traffic link.new))) }
     ensures cause { IfOk result (λ why. TurnedFor (request_answer W.Future.answer W.Stream.answer) (serving (W.answer service.now) (W.hint service.now)) why core.old core.new seat.old.known seat.new.known (L.faults link.old) (L.faults link.new)) }
     ensures looked { LookedOnce seat.old.known seat.new.known }
     ensures same { seat.new.book ≡ seat.old.book }
 {
-    match hear(rt, alloc, book, seat, core, last, clock, journal) {
-        Ok(None) => act(rt, alloc, client, core, service, turn, link, clock, journal),
+    match hear(rt, alloc, book, seat, core, &mut kept.last, clock, journal) {
+        Ok(None) => act(
+            rt,
+            alloc,
+            client,
+            core,
+            service,
+            &mut kept.turn,
+            link,
+            clock,
+            journal,
+            buf,
+        ),
         Ok(Some(why)) => Ok(Some(why)),
         Err(error) => Err(error),
     }
 }
 
-/// Serves the connection of a core, turn by turn, until it is closed.
-fn serve_core<R: Wait, L: Link, C: Clock, J: Recorder, W: Served>(
+/// Serves the connection of a core that saw a look, turn by turn, until it is closed.
+pub(crate) fn serve_core<R: Wait, L: Link, C: Clock, J: Recorder, W: Served>(
     rt: &R,
     alloc: Global,
     book: &Book,
     seat: &mut BookSeat,
     client: u64,
     core: &mut ClientCore<W>,
-    last: &mut Look,
-    service: &W,
-    link: &mut L,
-    clock: &mut C,
-    journal: &mut J,
-) -> Result<Why, OutOfMemory>
-    requires book { seat.old.book ≡ book.now }
-    requires can_call { W.can_call service.now }
-    ensures told { IfOk result (λ why. Tells (L.tells link.new × J.tells journal.new) (L.tells link.old × J.tells journal.old)
-        ((s : Slate) → BeginsOpen (request_answer W.Future.answer W.Stream.answer) (serving (W.answer service.now) (W.hint service.now)) core.old last.old s
-        → ClosingStory (serving (W.answer service.now) (W.hint service.now)) s client last.old why
-        (J.noted journal.old) (J.noted journal.new) seat.old.known seat.new.known (L.traffic link.old) (L.traffic link.new))) }
-    ensures clock { IfOk result (λ why. Tells (L.tells link.new × C.tells clock.new × J.tells journal.new) (L.tells link.old × C.tells clock.old × J.tells journal.old)
-        (Timed (J.noted journal.old) (J.noted journal.new) (L.traffic link.old).full_writes (L.traffic link.new).full_writes (C.readings clock.old) (C.readings clock.new))) }
-    ensures no_memory { OnErr result (Tells (L.tells link.new × J.tells journal.new) (L.tells link.old × J.tells journal.old)
-        ((s : Slate) → BeginsOpen (request_answer W.Future.answer W.Stream.answer) (serving (W.answer service.now) (W.hint service.now)) core.old last.old s
-        → Broken (serving (W.answer service.now) (W.hint service.now)) s client
-        (J.noted journal.old) (J.noted journal.new) (L.traffic link.old) (L.traffic link.new))) }
-    ensures cause { IfOk result (λ why. (s : Slate) → BeginsOpen (request_answer W.Future.answer W.Stream.answer) (serving (W.answer service.now) (W.hint service.now)) core.old last.old s
-        → Causes why seat.old.known seat.new.known (L.faults link.old) (L.faults link.new)) }
-    ensures seat { LooksAlone seat.old.known seat.new.known }
-    ensures same { seat.new.book ≡ seat.old.book }
-{
-    let mut turn = None;
-    for _ in rt.forever() {
-        match turn_once(
-            rt, alloc, book, seat, client, core, last, service, &mut turn, link, clock, journal,
-        ) {
-            Ok(None) => {}
-            Ok(Some(why)) => return Ok(why),
-            Err(error) => return Err(error),
-        }
-    }
-    unreachable!()
-}
-
-/// Serves the connection of a core that saw a look, until it is closed, and lets go of the core.
-pub(crate) fn serve_rounds<R: Wait, L: Link, C: Clock, J: Recorder, W: Served>(
-    rt: &R,
-    alloc: Global,
-    book: &Book,
-    seat: &mut BookSeat,
-    client: u64,
-    mut core: ClientCore<W>,
     look: &Look,
     service: &W,
     link: &mut L,
@@ -120,22 +95,33 @@ pub(crate) fn serve_rounds<R: Wait, L: Link, C: Clock, J: Recorder, W: Served>(
     requires book { seat.old.book ≡ book.now }
     requires can_call { W.can_call service.now }
     ensures told { IfOk result (λ why. Tells (L.tells link.new × J.tells journal.new) (L.tells link.old × J.tells journal.old)
-        ((s : Slate) → BeginsOpen (request_answer W.Future.answer W.Stream.answer) (serving (W.answer service.now) (W.hint service.now)) core look.now s
+        ((s : Slate) → BeginsOpen (request_answer W.Future.answer W.Stream.answer) (serving (W.answer service.now) (W.hint service.now)) core.old look.now s
         → ClosingStory (serving (W.answer service.now) (W.hint service.now)) s client look.now why
         (J.noted journal.old) (J.noted journal.new) seat.old.known seat.new.known (L.traffic link.old) (L.traffic link.new))) }
     ensures clock { IfOk result (λ why. Tells (L.tells link.new × C.tells clock.new × J.tells journal.new) (L.tells link.old × C.tells clock.old × J.tells journal.old)
         (Timed (J.noted journal.old) (J.noted journal.new) (L.traffic link.old).full_writes (L.traffic link.new).full_writes (C.readings clock.old) (C.readings clock.new))) }
     ensures no_memory { OnErr result (Tells (L.tells link.new × J.tells journal.new) (L.tells link.old × J.tells journal.old)
-        ((s : Slate) → BeginsOpen (request_answer W.Future.answer W.Stream.answer) (serving (W.answer service.now) (W.hint service.now)) core look.now s
+        ((s : Slate) → BeginsOpen (request_answer W.Future.answer W.Stream.answer) (serving (W.answer service.now) (W.hint service.now)) core.old look.now s
         → Broken (serving (W.answer service.now) (W.hint service.now)) s client
         (J.noted journal.old) (J.noted journal.new) (L.traffic link.old) (L.traffic link.new))) }
-    ensures cause { IfOk result (λ why. (s : Slate) → BeginsOpen (request_answer W.Future.answer W.Stream.answer) (serving (W.answer service.now) (W.hint service.now)) core look.now s
+    ensures cause { IfOk result (λ why. (s : Slate) → BeginsOpen (request_answer W.Future.answer W.Stream.answer) (serving (W.answer service.now) (W.hint service.now)) core.old look.now s
         → Causes why seat.old.known seat.new.known (L.faults link.old) (L.faults link.new)) }
     ensures seat { LooksAlone seat.old.known seat.new.known }
     ensures same { seat.new.book ≡ seat.old.book }
 {
-    let mut last = *look;
-    serve_core(
-        rt, alloc, book, seat, client, &mut core, &mut last, service, link, clock, journal,
-    )
+    let mut kept = TurnState {
+        last: *look,
+        turn: None,
+    };
+    let mut buf = [0u8; ROOM];
+    for _ in rt.forever() {
+        match turn_once(
+            rt, alloc, book, seat, client, &mut kept, core, service, link, clock, journal, &mut buf,
+        ) {
+            Ok(None) => {}
+            Ok(Some(why)) => return Ok(why),
+            Err(error) => return Err(error),
+        }
+    }
+    unreachable!()
 }

@@ -1,6 +1,6 @@
 //! A frame is written.
 
-ghost use Rattle.std.specs.Prelude.{◌≡◌, [], ◌∷◌, ◌++◌, length};
+ghost use Rattle.std.specs.Prelude.{◌≡◌, ◌-◌, [], ◌∷◌, ◌++◌, length};
 ghost use Rattle.dns_outside.specs.Causes.{Tells};
 ghost use Rattle.dns_notes.specs.Clocks.{TimedOne};
 ghost use Rattle.dns_drivers.specs.Blames.{EndBlames, EndAgain, Blames, WroteWhole};
@@ -69,6 +69,20 @@ fn write_frame<R: Wait, L: Link, C: Clock>(
     unreachable!()
 }
 
+/// The Write of a frame that was begun at a moment, at the reading behind it.
+fn written(client: u64, start: u64, at: u64, secs: u64) -> Event
+    ensures { result ≡ record { at = at; secs = secs; client = client; kind = EventKind.Write (at - start) } }
+{
+    Event {
+        at,
+        secs,
+        client,
+        kind: EventKind::Write {
+            took: at.saturating_sub(start),
+        },
+    }
+}
+
 #[tactic(auto, using(crate::proofs::Movings::moved_whole, crate::proofs::Movings::moved_late, crate::proofs::Movings::moved_failed, crate::proofs::Waits::timed_whole, crate::proofs::Waits::timed_late, crate::proofs::Waits::timed_failed, crate::proofs::Blamings::blames_write, crate::proofs::Blamings::blames_failed, crate::proofs::Blamings::whole_written, crate::proofs::Blamings::whole_late, crate::proofs::Blamings::whole_failed))]
 /// Writes the first frame of a queue. The event is a Write, or a Fault where a call failed.
 pub(crate) fn write_event<R: Wait, L: Link, C: Clock>(
@@ -90,23 +104,9 @@ pub(crate) fn write_event<R: Wait, L: Link, C: Clock>(
     match write_frame(rt, link, clock, frame, start, limit) {
         (_, WriteEnd::Whole) => {
             let (at, secs) = clock.now();
-            let took = at.saturating_sub(start);
-            Event {
-                at,
-                secs,
-                client,
-                kind: EventKind::Write { took },
-            }
+            written(client, start, at, secs)
         }
-        (_, WriteEnd::Late(at, secs)) => {
-            let took = at.saturating_sub(start);
-            Event {
-                at,
-                secs,
-                client,
-                kind: EventKind::Write { took },
-            }
-        }
+        (_, WriteEnd::Late(at, secs)) => written(client, start, at, secs),
         (_, WriteEnd::Failed) => now_is(clock, client, EventKind::Fault),
     }
 }

@@ -33,50 +33,50 @@ pub returns-in-Ok-clause-told : goal.returns-in-Ok-clause-told
 returns-in-Ok-clause-told g c =
     let a = request_answer g.W.Future.ReplyFuture.answer g.W.Stream.ReplyStream.answer in
     let b = serving (g.W.Served.answer c.args.service.now) (g.W.Served.hint c.args.service.now) in
-    tells_then c.serve_rounds.result (g.L.Link.tells c.serve_rounds.new.link × g.J.Recorder.tells c.serve_rounds.new.journal) (g.L.Link.tells c.args.link.now × g.J.Recorder.tells c.note_moment.new.journal) (g.L.Link.tells c.args.link.now × g.J.Recorder.tells c.args.journal.now)
-    (λ (why : Why). (u : Slate) → BeginsOpen a b c.in-Ok.core c.args.look.now u → ClosingStory b u c.args.client c.args.look.now why (g.J.Recorder.noted c.note_moment.new.journal) (g.J.Recorder.noted c.serve_rounds.new.journal) c.args.seat.now.known c.serve_rounds.new.seat.known (g.L.Link.traffic c.args.link.now) (g.L.Link.traffic c.serve_rounds.new.link))
-    (λ (why : Why). WasOffered b why c.args.client c.args.addr c.args.look.now (g.J.Recorder.noted c.args.journal.now) (g.J.Recorder.noted c.serve_rounds.new.journal) c.args.seat.now.known c.serve_rounds.new.seat.known (g.L.Link.traffic c.args.link.now) (g.L.Link.traffic c.serve_rounds.new.link))
-    (λ (m : g.L.Link.tells c.args.link.now × g.J.Recorder.tells c.note_moment.new.journal). let o = c.in_ok-at.ensures.told.told m.1 in ((m.0, o.0), λ why p. offered b why c.args.client c.args.addr c.in_ok-at.at c.args.look.now (g.J.Recorder.noted c.args.journal.now) (g.J.Recorder.noted c.note_moment.new.journal) (g.J.Recorder.noted c.serve_rounds.new.journal) c.args.seat.now.known c.serve_rounds.new.seat.known (g.L.Link.traffic c.args.link.now) (g.L.Link.traffic c.serve_rounds.new.link) o.1 (p (began c.args.client c.args.addr c.in_ok-at.at c.args.look.now) (begins a b c.in-Ok.core c.args.client c.args.addr c.in_ok-at.at c.args.look.now c.in-Ok.ensures.begun c.in-Ok.ensures.version)).story))
-    c.serve_rounds.ensures.told
+    tells_then c.serve_core-served.result (g.L.Link.tells c.serve_core-served.new.link × g.J.Recorder.tells c.serve_core-served.new.journal) (g.L.Link.tells c.args.link.now × g.J.Recorder.tells c.note_moment.new.journal) (g.L.Link.tells c.args.link.now × g.J.Recorder.tells c.args.journal.now)
+    (λ (why : Why). (u : Slate) → BeginsOpen a b c.in-Ok.core c.args.look.now u → ClosingStory b u c.args.client c.args.look.now why (g.J.Recorder.noted c.note_moment.new.journal) (g.J.Recorder.noted c.serve_core-served.new.journal) c.args.seat.now.known c.serve_core-served.new.seat.known (g.L.Link.traffic c.args.link.now) (g.L.Link.traffic c.serve_core-served.new.link))
+    (λ (why : Why). WasOffered b why c.args.client c.args.addr c.args.look.now (g.J.Recorder.noted c.args.journal.now) (g.J.Recorder.noted c.serve_core-served.new.journal) c.args.seat.now.known c.serve_core-served.new.seat.known (g.L.Link.traffic c.args.link.now) (g.L.Link.traffic c.serve_core-served.new.link))
+    (λ (m : g.L.Link.tells c.args.link.now × g.J.Recorder.tells c.note_moment.new.journal). let o = c.in_ok-at.ensures.told.told m.1 in ((m.0, o.0), λ why p. offered b why c.args.client c.args.addr c.in_ok-at.at c.args.look.now (g.J.Recorder.noted c.args.journal.now) (g.J.Recorder.noted c.note_moment.new.journal) (g.J.Recorder.noted c.serve_core-served.new.journal) c.args.seat.now.known c.serve_core-served.new.seat.known (g.L.Link.traffic c.args.link.now) (g.L.Link.traffic c.serve_core-served.new.link) o.1 (p (began c.args.client c.args.addr c.in_ok-at.at c.args.look.now) (begins a b c.in-Ok.core c.args.client c.args.addr c.in_ok-at.at c.args.look.now c.in-Ok.ensures.begun c.in-Ok.ensures.version)).story))
+    c.serve_core-served.ensures.told
 
 pub returns-in-Ok-clause-shown : goal.returns-in-Ok-clause-shown
 returns-in-Ok-clause-shown g c =
     let a = request_answer g.W.Future.ReplyFuture.answer g.W.Stream.ReplyStream.answer in
     let b = serving (g.W.Served.answer c.args.service.now) (g.W.Served.hint c.args.service.now) in
-    tells_then c.serve_rounds.result (g.L.Link.tells c.serve_rounds.new.link × g.J.Recorder.tells c.serve_rounds.new.journal) (g.L.Link.tells c.args.link.now × g.J.Recorder.tells c.note_moment.new.journal) (g.L.Link.tells c.args.link.now × g.J.Recorder.tells c.args.journal.now)
-    (λ (why : Why). (u : Slate) → BeginsOpen a b c.in-Ok.core c.args.look.now u → ClosingStory b u c.args.client c.args.look.now why (g.J.Recorder.noted c.note_moment.new.journal) (g.J.Recorder.noted c.serve_rounds.new.journal) c.args.seat.now.known c.serve_rounds.new.seat.known (g.L.Link.traffic c.args.link.now) (g.L.Link.traffic c.serve_rounds.new.link))
-    (λ (why : Why). ShownFrom b why c.args.client c.args.addr c.args.look.now (g.J.Recorder.noted c.args.journal.now) (g.J.Recorder.noted c.serve_rounds.new.journal) (g.L.Link.traffic c.args.link.now) (g.L.Link.traffic c.serve_rounds.new.link))
-    (λ (m : g.L.Link.tells c.args.link.now × g.J.Recorder.tells c.note_moment.new.journal). let o = c.in_ok-at.ensures.told.told m.1 in ((m.0, o.0), λ why p. shown_offered b why c.args.client c.args.addr c.in_ok-at.at c.args.look.now (g.J.Recorder.noted c.args.journal.now) (g.J.Recorder.noted c.note_moment.new.journal) (g.J.Recorder.noted c.serve_rounds.new.journal) (g.L.Link.traffic c.args.link.now) (g.L.Link.traffic c.serve_rounds.new.link) o.1 (p (began c.args.client c.args.addr c.in_ok-at.at c.args.look.now) (begins a b c.in-Ok.core c.args.client c.args.addr c.in_ok-at.at c.args.look.now c.in-Ok.ensures.begun c.in-Ok.ensures.version)).shown))
-    c.serve_rounds.ensures.told
+    tells_then c.serve_core-served.result (g.L.Link.tells c.serve_core-served.new.link × g.J.Recorder.tells c.serve_core-served.new.journal) (g.L.Link.tells c.args.link.now × g.J.Recorder.tells c.note_moment.new.journal) (g.L.Link.tells c.args.link.now × g.J.Recorder.tells c.args.journal.now)
+    (λ (why : Why). (u : Slate) → BeginsOpen a b c.in-Ok.core c.args.look.now u → ClosingStory b u c.args.client c.args.look.now why (g.J.Recorder.noted c.note_moment.new.journal) (g.J.Recorder.noted c.serve_core-served.new.journal) c.args.seat.now.known c.serve_core-served.new.seat.known (g.L.Link.traffic c.args.link.now) (g.L.Link.traffic c.serve_core-served.new.link))
+    (λ (why : Why). ShownFrom b why c.args.client c.args.addr c.args.look.now (g.J.Recorder.noted c.args.journal.now) (g.J.Recorder.noted c.serve_core-served.new.journal) (g.L.Link.traffic c.args.link.now) (g.L.Link.traffic c.serve_core-served.new.link))
+    (λ (m : g.L.Link.tells c.args.link.now × g.J.Recorder.tells c.note_moment.new.journal). let o = c.in_ok-at.ensures.told.told m.1 in ((m.0, o.0), λ why p. shown_offered b why c.args.client c.args.addr c.in_ok-at.at c.args.look.now (g.J.Recorder.noted c.args.journal.now) (g.J.Recorder.noted c.note_moment.new.journal) (g.J.Recorder.noted c.serve_core-served.new.journal) (g.L.Link.traffic c.args.link.now) (g.L.Link.traffic c.serve_core-served.new.link) o.1 (p (began c.args.client c.args.addr c.in_ok-at.at c.args.look.now) (begins a b c.in-Ok.core c.args.client c.args.addr c.in_ok-at.at c.args.look.now c.in-Ok.ensures.begun c.in-Ok.ensures.version)).shown))
+    c.serve_core-served.ensures.told
 
 pub returns-in-Ok-clause-no_memory : goal.returns-in-Ok-clause-no_memory
 returns-in-Ok-clause-no_memory g c =
     let a = request_answer g.W.Future.ReplyFuture.answer g.W.Stream.ReplyStream.answer in
     let b = serving (g.W.Served.answer c.args.service.now) (g.W.Served.hint c.args.service.now) in
-    refused_then c.serve_rounds.result (g.L.Link.tells c.serve_rounds.new.link × g.J.Recorder.tells c.serve_rounds.new.journal) (g.L.Link.tells c.args.link.now × g.J.Recorder.tells c.note_moment.new.journal) (g.L.Link.tells c.args.link.now × g.J.Recorder.tells c.args.journal.now)
-    ((u : Slate) → BeginsOpen a b c.in-Ok.core c.args.look.now u → Broken b u c.args.client (g.J.Recorder.noted c.note_moment.new.journal) (g.J.Recorder.noted c.serve_rounds.new.journal) (g.L.Link.traffic c.args.link.now) (g.L.Link.traffic c.serve_rounds.new.link))
-    (Unserved b c.args.client c.args.addr c.args.look.now (g.J.Recorder.noted c.args.journal.now) (g.J.Recorder.noted c.serve_rounds.new.journal) (g.L.Link.traffic c.args.link.now) (g.L.Link.traffic c.serve_rounds.new.link))
-    (λ (m : g.L.Link.tells c.args.link.now × g.J.Recorder.tells c.note_moment.new.journal). let o = c.in_ok-at.ensures.told.told m.1 in ((m.0, o.0), λ p. unserved_late b c.args.client c.args.addr c.in_ok-at.at c.args.look.now (g.J.Recorder.noted c.args.journal.now) (g.J.Recorder.noted c.note_moment.new.journal) (g.J.Recorder.noted c.serve_rounds.new.journal) (g.L.Link.traffic c.args.link.now) (g.L.Link.traffic c.serve_rounds.new.link) o.1 (p (began c.args.client c.args.addr c.in_ok-at.at c.args.look.now) (begins a b c.in-Ok.core c.args.client c.args.addr c.in_ok-at.at c.args.look.now c.in-Ok.ensures.begun c.in-Ok.ensures.version))))
-    c.serve_rounds.ensures.no_memory
+    refused_then c.serve_core-served.result (g.L.Link.tells c.serve_core-served.new.link × g.J.Recorder.tells c.serve_core-served.new.journal) (g.L.Link.tells c.args.link.now × g.J.Recorder.tells c.note_moment.new.journal) (g.L.Link.tells c.args.link.now × g.J.Recorder.tells c.args.journal.now)
+    ((u : Slate) → BeginsOpen a b c.in-Ok.core c.args.look.now u → Broken b u c.args.client (g.J.Recorder.noted c.note_moment.new.journal) (g.J.Recorder.noted c.serve_core-served.new.journal) (g.L.Link.traffic c.args.link.now) (g.L.Link.traffic c.serve_core-served.new.link))
+    (Unserved b c.args.client c.args.addr c.args.look.now (g.J.Recorder.noted c.args.journal.now) (g.J.Recorder.noted c.serve_core-served.new.journal) (g.L.Link.traffic c.args.link.now) (g.L.Link.traffic c.serve_core-served.new.link))
+    (λ (m : g.L.Link.tells c.args.link.now × g.J.Recorder.tells c.note_moment.new.journal). let o = c.in_ok-at.ensures.told.told m.1 in ((m.0, o.0), λ p. unserved_late b c.args.client c.args.addr c.in_ok-at.at c.args.look.now (g.J.Recorder.noted c.args.journal.now) (g.J.Recorder.noted c.note_moment.new.journal) (g.J.Recorder.noted c.serve_core-served.new.journal) (g.L.Link.traffic c.args.link.now) (g.L.Link.traffic c.serve_core-served.new.link) o.1 (p (began c.args.client c.args.addr c.in_ok-at.at c.args.look.now) (begins a b c.in-Ok.core c.args.client c.args.addr c.in_ok-at.at c.args.look.now c.in-Ok.ensures.begun c.in-Ok.ensures.version))))
+    c.serve_core-served.ensures.no_memory
 
 pub returns-in-Ok-clause-cause : goal.returns-in-Ok-clause-cause
 returns-in-Ok-clause-cause g c =
     let a = request_answer g.W.Future.ReplyFuture.answer g.W.Stream.ReplyStream.answer in
     let b = serving (g.W.Served.answer c.args.service.now) (g.W.Served.hint c.args.service.now) in
-    if_ok c.serve_rounds.result
-    (λ (why : Why). (u : Slate) → BeginsOpen a b c.in-Ok.core c.args.look.now u → Causes why c.args.seat.now.known c.serve_rounds.new.seat.known (g.L.Link.faults c.args.link.now) (g.L.Link.faults c.serve_rounds.new.link))
-    (λ (why : Why). Causes why c.args.seat.now.known c.serve_rounds.new.seat.known (g.L.Link.faults c.args.link.now) (g.L.Link.faults c.serve_rounds.new.link))
+    if_ok c.serve_core-served.result
+    (λ (why : Why). (u : Slate) → BeginsOpen a b c.in-Ok.core c.args.look.now u → Causes why c.args.seat.now.known c.serve_core-served.new.seat.known (g.L.Link.faults c.args.link.now) (g.L.Link.faults c.serve_core-served.new.link))
+    (λ (why : Why). Causes why c.args.seat.now.known c.serve_core-served.new.seat.known (g.L.Link.faults c.args.link.now) (g.L.Link.faults c.serve_core-served.new.link))
     (λ why p. p (began c.args.client c.args.addr c.in_ok-at.at c.args.look.now) (begins a b c.in-Ok.core c.args.client c.args.addr c.in_ok-at.at c.args.look.now c.in-Ok.ensures.begun c.in-Ok.ensures.version))
-    c.serve_rounds.ensures.cause
+    c.serve_core-served.ensures.cause
 
 pub returns-in-Ok-clause-clock : goal.returns-in-Ok-clause-clock
 returns-in-Ok-clause-clock g c =
     let f = (g.L.Link.traffic c.args.link.now).full_writes in
     let q = g.C.Clock.readings c.args.clock.now in
     let q1 = g.C.Clock.readings c.note_moment.new.clock in
-    tells_then c.serve_rounds.result (g.L.Link.tells c.serve_rounds.new.link × g.C.Clock.tells c.serve_rounds.new.clock × g.J.Recorder.tells c.serve_rounds.new.journal) (g.L.Link.tells c.args.link.now × g.C.Clock.tells c.note_moment.new.clock × g.J.Recorder.tells c.note_moment.new.journal) (g.L.Link.tells c.args.link.now × g.C.Clock.tells c.args.clock.now × g.J.Recorder.tells c.args.journal.now)
-    (λ (why : Why). Timed (g.J.Recorder.noted c.note_moment.new.journal) (g.J.Recorder.noted c.serve_rounds.new.journal) f (g.L.Link.traffic c.serve_rounds.new.link).full_writes q1 (g.C.Clock.readings c.serve_rounds.new.clock))
-    (λ (why : Why). Timed (g.J.Recorder.noted c.args.journal.now) (g.J.Recorder.noted c.serve_rounds.new.journal) f (g.L.Link.traffic c.serve_rounds.new.link).full_writes q (g.C.Clock.readings c.serve_rounds.new.clock))
+    tells_then c.serve_core-served.result (g.L.Link.tells c.serve_core-served.new.link × g.C.Clock.tells c.serve_core-served.new.clock × g.J.Recorder.tells c.serve_core-served.new.journal) (g.L.Link.tells c.args.link.now × g.C.Clock.tells c.note_moment.new.clock × g.J.Recorder.tells c.note_moment.new.journal) (g.L.Link.tells c.args.link.now × g.C.Clock.tells c.args.clock.now × g.J.Recorder.tells c.args.journal.now)
+    (λ (why : Why). Timed (g.J.Recorder.noted c.note_moment.new.journal) (g.J.Recorder.noted c.serve_core-served.new.journal) f (g.L.Link.traffic c.serve_core-served.new.link).full_writes q1 (g.C.Clock.readings c.serve_core-served.new.clock))
+    (λ (why : Why). Timed (g.J.Recorder.noted c.args.journal.now) (g.J.Recorder.noted c.serve_core-served.new.journal) f (g.L.Link.traffic c.serve_core-served.new.link).full_writes q (g.C.Clock.readings c.serve_core-served.new.clock))
     (λ (m : g.L.Link.tells c.args.link.now × g.C.Clock.tells c.note_moment.new.clock × g.J.Recorder.tells c.note_moment.new.journal). let o = c.in_ok-at.ensures.clock.told (m.1, m.2) in
-    ((m.0, o.0.0, o.0.1), λ why p. timed_then (g.J.Recorder.noted c.args.journal.now) (g.J.Recorder.noted c.note_moment.new.journal) (g.J.Recorder.noted c.serve_rounds.new.journal) f f (g.L.Link.traffic c.serve_rounds.new.link).full_writes q q1 (g.C.Clock.readings c.serve_rounds.new.clock) (timed_shift (g.J.Recorder.noted c.args.journal.now) (g.J.Recorder.noted c.note_moment.new.journal) f q q1 o.1) p))
-    c.serve_rounds.ensures.clock
+    ((m.0, o.0.0, o.0.1), λ why p. timed_then (g.J.Recorder.noted c.args.journal.now) (g.J.Recorder.noted c.note_moment.new.journal) (g.J.Recorder.noted c.serve_core-served.new.journal) f f (g.L.Link.traffic c.serve_core-served.new.link).full_writes q q1 (g.C.Clock.readings c.serve_core-served.new.clock) (timed_shift (g.J.Recorder.noted c.args.journal.now) (g.J.Recorder.noted c.note_moment.new.journal) f q q1 o.1) p))
+    c.serve_core-served.ensures.clock

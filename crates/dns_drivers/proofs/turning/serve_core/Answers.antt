@@ -13,7 +13,7 @@ loop-init g c =
     let a = request_answer g.W.Future.ReplyFuture.answer g.W.Stream.ReplyStream.answer in
     let b = serving (g.W.Served.answer c.args.service.now) (g.W.Served.hint c.args.service.now) in
     record {
-      run = record { told = λ t. (t, λ s h. going_begun a b s c.args.client c.args.last.now c.args.core.now (g.J.Recorder.noted c.args.journal.now) c.args.seat.now.known (g.L.Link.traffic c.args.link.now) h) };
+      run = record { told = λ t. (t, λ s h. going_begun a b s c.args.client c.args.look.now c.args.core.now (g.J.Recorder.noted c.args.journal.now) c.args.seat.now.known (g.L.Link.traffic c.args.link.now) h) };
       clock = record { told = λ t. (t, timed_none (g.J.Recorder.noted c.args.journal.now) (g.L.Link.traffic c.args.link.now).full_writes (g.C.Clock.readings c.args.clock.now)) };
       goes = λ s h. goes_begun a b c.args.core.now s c.args.seat.now.known (g.L.Link.faults c.args.link.now) h.stands h.opened;
       seat = looks_none c.args.seat.now.known;
@@ -29,7 +29,7 @@ loop-preserved g c =
         told = λ t.
             let m = (rw c.in-Ok-None.field-0-is at c.in-Ok-None.ensures.told).told t in
             let r = c.loop.invariant.run.told m.0 in
-            (r.0, λ s h. going_turned a b s c.args.client (below_of c.loop.turn) (below_of c.turn_once.new.turn) c.args.last.now c.loop.last c.turn_once.new.last c.loop.core c.turn_once.new.core (g.J.Recorder.noted c.args.journal.now) (g.J.Recorder.noted c.loop.journal) (g.J.Recorder.noted c.turn_once.new.journal) c.args.seat.now.known c.loop.seat.known c.turn_once.new.seat.known (g.L.Link.traffic c.args.link.now) (g.L.Link.traffic c.loop.link) (g.L.Link.traffic c.turn_once.new.link) (r.1 s h) m.1);
+            (r.0, λ s h. going_turned a b s c.args.client (below_of c.loop.kept.turn) (below_of c.turn_once.new.kept.turn) c.args.look.now c.loop.kept.last c.turn_once.new.kept.last c.loop.core c.turn_once.new.core (g.J.Recorder.noted c.args.journal.now) (g.J.Recorder.noted c.loop.journal) (g.J.Recorder.noted c.turn_once.new.journal) c.args.seat.now.known c.loop.seat.known c.turn_once.new.seat.known (g.L.Link.traffic c.args.link.now) (g.L.Link.traffic c.loop.link) (g.L.Link.traffic c.turn_once.new.link) (r.1 s h) m.1);
       };
       clock = record {
         told = λ t.
@@ -50,7 +50,7 @@ returns-in-Ok-Some-clause-told g c =
       told = λ t.
           let m = (rw c.in-Ok-Some.field-0-is at c.in-Ok-Some.ensures.told).told t in
           let r = c.loop.invariant.run.told m.0 in
-          (r.0, λ s h. closed_turned a b s c.args.client (below_of c.loop.turn) (below_of c.turn_once.new.turn) c.args.last.now c.loop.last c.turn_once.new.last c.in-Ok-Some.why c.loop.core c.turn_once.new.core (g.J.Recorder.noted c.args.journal.now) (g.J.Recorder.noted c.loop.journal) (g.J.Recorder.noted c.turn_once.new.journal) c.args.seat.now.known c.loop.seat.known c.turn_once.new.seat.known (g.L.Link.traffic c.args.link.now) (g.L.Link.traffic c.loop.link) (g.L.Link.traffic c.turn_once.new.link) h.opened h.nothing (r.1 s h) m.1);
+          (r.0, λ s h. closed_turned a b s c.args.client (below_of c.loop.kept.turn) (below_of c.turn_once.new.kept.turn) c.args.look.now c.loop.kept.last c.turn_once.new.kept.last c.in-Ok-Some.why c.loop.core c.turn_once.new.core (g.J.Recorder.noted c.args.journal.now) (g.J.Recorder.noted c.loop.journal) (g.J.Recorder.noted c.turn_once.new.journal) c.args.seat.now.known c.loop.seat.known c.turn_once.new.seat.known (g.L.Link.traffic c.args.link.now) (g.L.Link.traffic c.loop.link) (g.L.Link.traffic c.turn_once.new.link) h.opened h.nothing (r.1 s h) m.1);
     }
 
 pub returns-in-Ok-Some-clause-clock : goal.returns-in-Ok-Some-clause-clock
@@ -80,7 +80,7 @@ returns-in-Err-clause-no_memory g c =
       told = λ t.
           let m = c.in-Err.ensures.no_memory.told t in
           let r = c.loop.invariant.run.told m.0 in
-          (r.0, λ s h. broken_turned a b s c.args.client (below_of c.loop.turn) c.args.last.now c.loop.last c.loop.core (g.J.Recorder.noted c.args.journal.now) (g.J.Recorder.noted c.loop.journal) (g.J.Recorder.noted c.turn_once.new.journal) c.args.seat.now.known c.loop.seat.known c.turn_once.new.seat.known (g.L.Link.traffic c.args.link.now) (g.L.Link.traffic c.loop.link) (g.L.Link.traffic c.turn_once.new.link) (r.1 s h) m.1);
+          (r.0, λ s h. broken_turned a b s c.args.client (below_of c.loop.kept.turn) c.args.look.now c.loop.kept.last c.loop.core (g.J.Recorder.noted c.args.journal.now) (g.J.Recorder.noted c.loop.journal) (g.J.Recorder.noted c.turn_once.new.journal) c.args.seat.now.known c.loop.seat.known c.turn_once.new.seat.known (g.L.Link.traffic c.args.link.now) (g.L.Link.traffic c.loop.link) (g.L.Link.traffic c.turn_once.new.link) (r.1 s h) m.1);
     }
 
 pub returns-in-Err-clause-seat : goal.returns-in-Err-clause-seat
