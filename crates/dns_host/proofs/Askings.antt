@@ -1,6 +1,7 @@
 -- A connection is asked for, and what came of it.
-use Rattle.std.proofs.Common.{◌≡◌, ℕ, List, [], ◌∷◌, ◌++◌, refl, sym, ◌∙◌, subst, append-nil, Ok, Err, ◌⊎◌, inl, inr}
+use Rattle.std.proofs.Common.{◌≡◌, ℕ, List, [], ◌∷◌, ◌++◌, refl, sym, ◌∙◌, subst, append-nil, Result, Ok, Err, ◌⊎◌, inl, inr}
 use Rattle.dns_name.specs.declared.address.SocketAddr.{SocketAddr}
+use Rattle.dns_name.specs.declared.error.OutOfMemory.{OutOfMemory}
 use Rattle.dns_admission.specs.declared.look.Look.{Look}
 use Rattle.dns_admission.specs.declared.look.Admission.TheVariants.{Admitted, Full, Closed}
 use Rattle.dns_admission.specs.declared.call.Call.TheVariants.{Admit}
@@ -9,8 +10,12 @@ use Rattle.dns_book.specs.Seats.{Called, first_half}
 use Rattle.dns_book.specs.Gains.{Gained}
 use Rattle.dns_book.specs.declared.history.Known.{Known}
 use Rattle.dns_outside.specs.Causes.{Tells}
+use Rattle.dns_outside.specs.Starts.{StartMoves, StartCause}
+use Rattle.dns_outside.specs.declared.spawner.Start.{Start}
+use Rattle.dns_outside.specs.declared.spawner.Start.TheVariants.{Started, Failed}
 use Rattle.dns_host.specs.Accepting.{Caller, if_admitted, halved, admit_entries}
-use Rattle.dns_host.specs.Arrivals.{AskedOne, GaveSo}
+use Rattle.dns_host.specs.Arrivals.{AskedOne, GaveSo, StartFaults, arrival_of}
+use Rattle.dns_host.specs.declared.taking.Arrival.{Arrival}
 use Rattle.dns_host.specs.declared.taking.Arrival.TheVariants.{Served, Refused, TurnedAway}
 use Rattle.dns_host.proofs.Gainings.{gained_one, gained_half}
 use Rattle.dns_host.proofs.Tellings.{tells_map}
@@ -22,7 +27,7 @@ half_calls from look k k1 k' c h = subst (λ (x : Known). Gained k (admit_entrie
 half_name : (from : SocketAddr) (look : Look) (k k1 k' : Known) → Called k Admit (Answered (Admitted look)) k1 → k' ≡ first_half k1 → k'.name ≡ halved k.name (if_admitted from (Admitted look))
 half_name from look k k1 k' c h = rw (h, c.same_name) refl
 
-pub asked_served : (from : SocketAddr) (now before : Type 0) (look : Look) (k k1 k' : Known) (g g' : List SocketAddr) →
+asked_served : (from : SocketAddr) (now before : Type 0) (look : Look) (k k1 k' : Known) (g g' : List SocketAddr) →
     Called k Admit (Answered (Admitted look)) k1 → k' ≡ first_half k1 → Tells now before (g' ≡ g ++ from ∷ []) → AskedOne (Ok Served) from now before k k' g g'
 asked_served from now before look k k1 k' g g' c h t = record {
   answer = Admitted look;
@@ -32,7 +37,7 @@ asked_served from now before look k k1 k' g g' c h t = record {
   works = t;
 }
 
-pub asked_refused : (from : SocketAddr) (now before : Type 0) (look : Look) (k k1 k' : Known) (g g' : List SocketAddr) →
+asked_refused : (from : SocketAddr) (now before : Type 0) (look : Look) (k k1 k' : Known) (g g' : List SocketAddr) →
     Called k Admit (Answered (Admitted look)) k1 → k' ≡ first_half k1 → Tells now before (g' ≡ g ++ from ∷ []) → AskedOne (Ok Refused) from now before k k' g g'
 asked_refused from now before look k k1 k' g g' c h t = record {
   answer = Admitted look;
@@ -43,7 +48,7 @@ asked_refused from now before look k k1 k' g g' c h t = record {
 }
 
 -- memory ran out: the work may have been given
-pub asked_lost : (from : SocketAddr) (now before : Type 0) (look : Look) (k k1 k' : Known) (g g' : List SocketAddr) →
+asked_lost : (from : SocketAddr) (now before : Type 0) (look : Look) (k k1 k' : Known) (g g' : List SocketAddr) →
     Called k Admit (Answered (Admitted look)) k1 → k' ≡ first_half k1 → Tells now before ((g' ≡ g ++ from ∷ []) ⊎ (g' ≡ g)) → AskedOne (Err (record {})) from now before k k' g g'
 asked_lost from now before look k k1 k' g g' c h t = record {
   answer = Admitted look;
@@ -52,6 +57,18 @@ asked_lost from now before look k k1 k' g g' c h t = record {
   arrival_is = tt;
   works = tells_map now before _ _ (λ s. elim s as (λ z. GaveSo (Err (record {})) (from ∷ []) g g') [ inl same ↦ inl same | inr none ↦ inr (none ∙ sym (append-nil g)) ]) t;
 }
+
+-- an admitted connection, by what the start of its work answered
+pub asked_started : (arrival : Result Arrival OutOfMemory) (started : Result Start OutOfMemory) (from : SocketAddr) (now before : Type 0) (look : Look) (k k1 k' : Known) (g g' : List SocketAddr) →
+    Called k Admit (Answered (Admitted look)) k1 → k' ≡ first_half k1 → Tells now before (StartMoves started from g g') → arrival ≡ arrival_of started → AskedOne arrival from now before k k' g g'
+asked_started arrival (Ok Started) from now before look k k1 k' g g' c h t is = rw is (asked_served from now before look k k1 k' g g' c h t)
+asked_started arrival (Ok Failed) from now before look k k1 k' g g' c h t is = rw is (asked_refused from now before look k k1 k' g g' c h t)
+asked_started arrival (Err e) from now before look k k1 k' g g' c h t is = rw is (asked_lost from now before look k k1 k' g g' c h t)
+
+pub cause_of_start : (arrival : Result Arrival OutOfMemory) (started : Result Start OutOfMemory) (f f' : ℕ) → StartCause started f f' → arrival ≡ arrival_of started → StartFaults arrival f f'
+cause_of_start arrival (Ok Started) f f' c is = rw is c
+cause_of_start arrival (Ok Failed) f f' c is = rw is c
+cause_of_start arrival (Err e) f f' c is = rw is c
 
 -- every other answer turns the connection away
 pub asked_full : (from : SocketAddr) (now : Type 0) (taken limit : ℕ) (accepted : _) (k k' : Known) (g : List SocketAddr) →

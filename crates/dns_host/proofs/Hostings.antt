@@ -1,5 +1,5 @@
 -- How a host was served.
-use Rattle.std.proofs.Common.{◌≡◌, ℕ, Bool, true, false, List, refl, sym, ◌∙◌, subst, ◌⊎◌, inl, inr}
+use Rattle.std.proofs.Common.{◌≡◌, ℕ, Bool, true, false, List, refl, ◌∙◌, subst, ◌⊎◌, inl, inr, arith}
 use Rattle.std.specs.Prelude.{◌||◌}
 use Rattle.dns_name.specs.declared.address.SocketAddr.{SocketAddr}
 use Rattle.dns_admission.specs.declared.look.Look.{Look}
@@ -8,7 +8,7 @@ use Rattle.dns_admission.specs.declared.call.Reply.TheVariants.{Look as Shown}
 use Rattle.dns_book.specs.Seats.{Called, Joined, first_half, second_half}
 use Rattle.dns_book.specs.declared.history.Entry.{Entry}
 use Rattle.dns_book.specs.declared.history.Known.{Known}
-use Rattle.dns_outside.specs.Causes.{Rose, Tells}
+use Rattle.dns_outside.specs.Causes.{Tells}
 use Rattle.dns_outside.specs.Doors.{Door}
 use Rattle.dns_outside.specs.Mail.{Mail}
 use Rattle.dns_service.specs.declared.event.Event.{Event}
@@ -19,7 +19,8 @@ use Rattle.dns_datagrams.specs.declared.serving.DgramEnd.{DgramEnd}
 use Rattle.dns_datagrams.specs.declared.serving.DgramEnd.TheVariants.{Shutdown as DgramShutdown, Counted as DgramCounted, Fault as DgramFault, OutOfMemory as DgramOutOfMemory}
 use Rattle.dns_host.specs.Accepting.{AcceptTurn, Gave, TookTurns, AcceptsTo}
 use Rattle.dns_host.specs.Arrivals.{RoseWhere}
-use Rattle.dns_host.specs.Hosting.{host_end, host_world, HostRose, AcceptsBeside, DgramsBeside, AcceptsWent, BothServed, NeitherBegan}
+use Rattle.dns_host.specs.Hosting.{HostWorld, host_end, host_world, HostRose, AcceptsBeside, DgramsBeside, AcceptsWent, DgramsWent, BothServed, NeitherBegan, host_seen, door_told, mail_told, HostServed}
+use Rattle.dns_host.specs.declared.host.Host.{Host}
 use Rattle.dns_host.specs.declared.accepts.AcceptEnd.{AcceptEnd}
 use Rattle.dns_host.specs.declared.accepts.AcceptEnd.TheVariants.{Shutdown as AcceptShutdown, Counted as AcceptCounted, OutOfMemory as AcceptOutOfMemory}
 use Rattle.dns_host.specs.declared.host.HostEnd.{HostEnd}
@@ -61,7 +62,7 @@ accepts_joined AcceptOutOfMemory count na mp np before k k' a b g h h' f f' t s 
       (λ same w. elim w [ inl x ↦ inl (gave_joined _ g h h' same x) | inr x ↦ inr (gave_joined _ g h h' same x) ]) s.turned;
 }
 
-pub both_served : (answers : Serving) (end : HostEnd) (count : ℕ) (accepts_end : AcceptEnd) (dgrams_end : DgramEnd) (risen send_failed : Bool) (look : Look)
+both_served : (answers : Serving) (end : HostEnd) (count : ℕ) (accepts_end : AcceptEnd) (dgrams_end : DgramEnd) (risen send_failed : Bool) (look : Look)
     (na mp np before mail_now mail_before other : Type 0) (k one two first second joined k' : Known)
     (a b : Door) (g h h' : List SocketAddr) (n n' : List Event) (m m' : Mail) (c c' : List ClockReading) (f f' p p1 p' r r' s s' : ℕ) →
     one ≡ first_half k → two ≡ second_half k →
@@ -92,9 +93,6 @@ both_served answers end count accepts_end dgrams_end risen send_failed look na m
       shut = record { look = look; called = shut };
     })
 
-pub neither_began : (end : HostEnd) (look : Look) (k k' : Known) (other same : Type 0) → end ≡ OutOfMemory → Called k ToShutdown (Shown look) k' → same → other ⊎ (NeitherBegan end k k' × same)
-neither_began end look k k' other same is shut h = inr (record { end_is = is; shut = record { look = look; called = shut } }, h)
-
 -- a fault is answered exactly where something failed, unless memory was wanting
 any_rose : (end : Bool → HostEnd) (risen send_failed : Bool) (f f' p p' r r' s s' : ℕ) → end true ≡ HostFault → end false ≡ Done → RoseWhere risen f f' p p' → r' ≡ r → RoseIf send_failed s s' →
     HostRose (end (risen || send_failed)) f f' p p' r r' s s'
@@ -115,14 +113,56 @@ rose_end DgramShutdown AcceptCounted risen send_failed f f' p p' r r' s s' rose 
 rose_end DgramCounted AcceptShutdown risen send_failed f f' p p' r r' s s' rose receives sends = any_rose (host_end DgramCounted AcceptShutdown) risen send_failed f f' p p' r r' s s' refl refl rose receives sends
 rose_end DgramCounted AcceptCounted risen send_failed f f' p p' r r' s s' rose receives sends = any_rose (host_end DgramCounted AcceptCounted) risen send_failed f f' p p' r r' s s' refl refl rose receives sends
 
-pub rose_of_host : (end : HostEnd) (dgrams_end : DgramEnd) (accepts_end : AcceptEnd) (risen send_failed : Bool) (f f' p p1 p' r r' s s' : ℕ) → end ≡ host_end dgrams_end accepts_end (risen || send_failed) →
+rose_of_host : (end : HostEnd) (dgrams_end : DgramEnd) (accepts_end : AcceptEnd) (risen send_failed : Bool) (f f' p p1 p' r r' s s' : ℕ) → end ≡ host_end dgrams_end accepts_end (risen || send_failed) →
     RoseWhere risen f f' p p1 → p' ≡ p1 → ReceivesBy dgrams_end r r' → RoseIf send_failed s s' → HostRose end f f' p p' r r' s s'
 rose_of_host end dgrams_end accepts_end risen send_failed f f' p p1 p' r r' s s' is rose same receives sends =
     rw is (rose_end dgrams_end accepts_end risen send_failed f f' p p' r r' s s' (rw same rose) receives sends)
 
+-- both were served, and then all work was joined
+pub host_served : {A D C P J : Type 0} (tells : A → Type 0) (door : A → Door) (failed : A → ℕ) (works : P → Type 0) (given : P → List SocketAddr) (refused : P → ℕ)
+    (mails : D → Type 0) (mail : D → Mail) (failed_receives failed_sends : D → ℕ) (ticks : C → Type 0) (readings : C → List ClockReading) (notes : J → Type 0) (noted : J → List Event)
+    (answers : Serving) (end : HostEnd) (count : ℕ) (accepts_end : AcceptEnd) (dgrams_end : DgramEnd) (risen send_failed : Bool) (look : Look)
+    (k one two first second joined k' : Known) (h h' : Host A D C P J) (p : P) →
+    one ≡ first_half k → two ≡ second_half k →
+    AcceptsWent tells door failed works given refused accepts_end risen count one first h.accept h'.accept h.spawner p →
+    DgramsWent mails mail failed_receives failed_sends ticks readings notes noted answers dgrams_end send_failed count two second h.sock h'.sock h.clock h'.clock h.journal h'.journal →
+    Tells (works h'.spawner) (works p) (given h'.spawner ≡ given p) → refused h'.spawner ≡ refused p →
+    Joined first second joined → Called joined ToShutdown (Shown look) k' → end ≡ host_end dgrams_end accepts_end (risen || send_failed) →
+    HostServed (host_seen door given noted mail readings failed refused failed_receives failed_sends) (door_told tells works) (mail_told mails ticks notes) answers end count k k' h h'
+host_served tells door failed works given refused mails mail failed_receives failed_sends ticks readings notes noted answers end count accepts_end dgrams_end risen send_failed look
+    k one two first second joined k' h h' p halves others accepted served gave starts join shut ends = record {
+      told = both_served answers end count accepts_end dgrams_end risen send_failed look
+          (tells h'.accept) (works p) (works h'.spawner) (tells h.accept × works h.spawner)
+          (mails h'.sock × ticks h'.clock × notes h'.journal) (mails h.sock × ticks h.clock × notes h.journal) (NeitherBegan end k k' × (h' ≡ h))
+          k one two first second joined k' (door h.accept) (door h'.accept) (given h.spawner) (given p) (given h'.spawner)
+          (noted h.journal) (noted h'.journal) (mail h.sock) (mail h'.sock) (readings h.clock) (readings h'.clock)
+          (failed h.accept) (failed h'.accept) (refused h.spawner) (refused p) (refused h'.spawner)
+          (failed_receives h.sock) (failed_receives h'.sock) (failed_sends h.sock) (failed_sends h'.sock)
+          halves others (record { between = accepted.between; accepts = accepted.ran.told; shut = accepted.shut }) accepted.ran.rose
+          served.dgrams served.receives served.sends gave starts join shut ends;
+      fault = rose_of_host end dgrams_end accepts_end risen send_failed (failed h.accept) (failed h'.accept) (refused h.spawner) (refused p) (refused h'.spawner)
+          (failed_receives h.sock) (failed_receives h'.sock) (failed_sends h.sock) (failed_sends h'.sock)
+          ends accepted.ran.rose starts served.receives served.sends;
+      accepts_later = accepted.ran.accepts_later;
+      starts_later = rw starts accepted.ran.starts_later;
+      receives_later = served.receives_later;
+      sends_later = served.sends_later;
+    }
+
+-- memory ran out before either began, and the book was shut down
+pub none_served : {H : Type 0} (seen : H → HostWorld) (door mail : H → Type 0) (answers : Serving) (end : HostEnd) (count : ℕ) (look : Look) (k k' : Known) (h : H) →
+    end ≡ OutOfMemory → Called k ToShutdown (Shown look) k' → HostServed seen door mail answers end count k k' h h
+none_served seen door mail answers end count look k k' h is shut = record {
+  told = inr (record { end_is = is; shut = record { look = look; called = shut } }, refl);
+  fault = rw is tt;
+  accepts_later = omega arith;
+  starts_later = omega arith;
+  receives_later = omega arith;
+  sends_later = omega arith;
+}
+
 -- what was done to an accept object and a spawner, by what they are afterwards
-pub went_over : (S P : Type 0) (tells : S → Type 0) (door : S → Door) (faults : S → ℕ) (also : P → Type 0) (given : P → List SocketAddr) (refused : P → ℕ)
+pub went_over : {S P : Type 0} (tells : S → Type 0) (door : S → Door) (failed : S → ℕ) (works : P → Type 0) (given : P → List SocketAddr) (refused : P → ℕ)
     (end : AcceptEnd) (risen : Bool) (count : ℕ) (k k' : Known) (a b c : S) (p q r : P) →
-    AcceptsWent end risen count (tells b × also q) (tells a × also p) k k' (door a) (door b) (given p) (given q) (faults a) (faults b) (refused p) (refused q) → c ≡ b → r ≡ q →
-    AcceptsWent end risen count (tells c × also r) (tells a × also p) k k' (door a) (door c) (given p) (given r) (faults a) (faults c) (refused p) (refused r)
-went_over S P tells door faults also given refused end risen count k k' a b c p q r went same still = rw (same, still) went
+    AcceptsWent tells door failed works given refused end risen count k k' a b p q → c ≡ b → r ≡ q → AcceptsWent tells door failed works given refused end risen count k k' a c p r
+went_over tells door failed works given refused end risen count k k' a b c p q r went same still = rw (same, still) went

@@ -1,5 +1,5 @@
 -- The loop of accepts: how it begins, goes on and ends.
-use Rattle.std.proofs.Common.{◌≡◌, ◌≢◌, ℕ, ◌+◌, ◌^◌, ◌-◌, min, Bool, true, false, List, [], ◌∷◌, ◌++◌, length, refl, sym, ap, ◌∙◌, subst, append-nil, append_assoc, Ok, Err, inl, inr, ◌≤◌, arith, add-zero, ◌||◌}
+use Rattle.std.proofs.Common.{◌≡◌, ◌≢◌, ℕ, ◌+◌, ◌^◌, ◌-◌, min, Bool, true, false, List, [], ◌∷◌, ◌++◌, length, refl, sym, ap, ◌∙◌, subst, append-nil, append_assoc, Ok, Err, Some, inl, inr, ◌≤◌, arith, add-zero, ◌||◌}
 use Rattle.std.proofs.lemmas.List.{length-append}
 use Rattle.std.proofs.lemmas.List.Elements.{All-nil}
 use Rattle.dns_name.specs.declared.address.SocketAddr.{SocketAddr}
@@ -15,8 +15,10 @@ use Rattle.dns_book.specs.declared.history.Entry.{Entry}
 use Rattle.dns_book.specs.declared.history.Known.{Known}
 use Rattle.dns_outside.specs.Causes.{Rose}
 use Rattle.dns_outside.specs.Doors.{Door}
-use Rattle.dns_host.specs.Accepting.{Came, Caller, Nobody, Fault, AcceptTurn, caller, callers_in, admitted_caller, admitted_callers_in, look_entry, turn_entries, Gave, EndsAdmitted, TookCount, TookUntilShut, TookAlmost}
-use Rattle.dns_host.specs.Arrivals.{ArrivalOf, Brought, arrival_callers, is_faulty, StartFaults, AcceptFaults, RoseWhere, TookSoFar}
+use Rattle.dns_host.specs.Accepting.{Came, Caller, Nobody, Fault, AcceptTurn, caller, callers_in, admitted_caller, admitted_callers_in, look_entry, turn_entries, Gave, EndsAdmitted, TookCount, TookUntilShut, TookAlmost, AcceptsTo}
+use Rattle.dns_host.specs.declared.accepts.AcceptEnd.{AcceptEnd}
+use Rattle.dns_host.specs.declared.accepts.AcceptEnd.TheVariants.{Shutdown, Counted, OutOfMemory as NoMemory}
+use Rattle.dns_host.specs.Arrivals.{ArrivalOf, Brought, arrival_callers, is_faulty, StartFaults, AcceptFaults, RoseWhere, TookSoFar, EndedSo}
 use Rattle.dns_host.specs.declared.taking.Arrival.{Arrival}
 use Rattle.dns_host.specs.declared.taking.Arrival.TheVariants.{Served, Refused, TurnedAway, Nobody as NobodyCame, Fault as FaultCame}
 use Rattle.dns_host.proofs.Gainings.{gained_none, gained_one, gained_both}
@@ -70,7 +72,7 @@ so_far_more arrival count taken taken' look now mid before k k1 k2 k3 a b c g h 
 }
 
 -- so many were to come
-pub so_far_counted : (count taken : ℕ) (now before : Type 0) (k k' : Known) (a b : Door) (g h : List SocketAddr) (f f' : ℕ) →
+so_far_counted : (count taken : ℕ) (now before : Type 0) (k k' : Known) (a b : Door) (g h : List SocketAddr) (f f' : ℕ) →
     TookSoFar count taken now before k k' a b g h f f' → count ≢ 0 → taken ≡ count → TookCount count now before k k' a b g h f f'
 so_far_counted count taken now before k k' a b g h f f' s some all = record {
   turns = s.turns;
@@ -80,7 +82,7 @@ so_far_counted count taken now before k k' a b g h f f' s some all = record {
 }
 
 -- a look showed a shutdown
-pub so_far_shut : (count taken : ℕ) (look : Look) (now before : Type 0) (k k1 k2 : Known) (a b : Door) (g h : List SocketAddr) (f f' : ℕ) →
+so_far_shut : (count taken : ℕ) (look : Look) (now before : Type 0) (k k1 k2 : Known) (a b : Door) (g h : List SocketAddr) (f f' : ℕ) →
     TookSoFar count taken now before k k1 a b g h f f' → Called k1 ToLook (Shown look) k2 → look.closed ≡ true → TookUntilShut now before k k2 a b g h f f'
 so_far_shut count taken look now before k k1 k2 a b g h f f' s l shut = record {
   turns = s.turns;
@@ -97,6 +99,14 @@ so_far_shut count taken look now before k k1 k2 a b g h f f' s l shut = record {
     told = s.turned.told;
   };
 }
+
+-- the loop ends before an accept
+pub so_far_ended : (end : AcceptEnd) (count taken : ℕ) (now before : Type 0) (k k1 k2 : Known) (a b : Door) (g h : List SocketAddr) (f f' : ℕ) →
+    TookSoFar count taken now before k k1 a b g h f f' → EndedSo (Some end) count taken k1 k2 → AcceptsTo end count now before k k2 a b g h f f'
+so_far_ended Counted count taken now before k k1 k2 a b g h f f' s e =
+    subst (λ (x : Known). TookCount count now before k x a b g h f f') (sym e.2) (so_far_counted count taken now before k k1 a b g h f f' s e.0 e.1)
+so_far_ended Shutdown count taken now before k k1 k2 a b g h f f' s e = so_far_shut count taken e.look now before k k1 k2 a b g h f f' s e.called e.shown
+so_far_ended NoMemory count taken now before k k1 k2 a b g h f f' s e = absurd e
 
 ends_admitted : (turns : List AcceptTurn) (look : Look) (came : Came) (e : OutOfMemory) → ArrivalOf (Err e) came → EndsAdmitted (turns ++ (record { look = look; came = came }) ∷ []) turns
 ends_admitted turns look (Caller from (Admitted shown)) e h = record { look = look; from = from; shown = shown; is = refl }

@@ -1,14 +1,22 @@
 -- What the steps of the loop of accepts do.
-use Rattle.std.specs.Prelude.{◌≡◌, ◌≢◌, ◌≤◌, ◌⊎◌, ℕ, ◌+◌, List, [], ◌++◌, length, Bool, true, false, Result, Ok, Err}
+use Rattle.std.specs.Prelude.{◌≡◌, ◌≢◌, ◌≤◌, ◌⊎◌, ℕ, ◌+◌, List, [], ◌++◌, length, Bool, true, false, Result, Ok, Err, Option, Some, None}
 use Rattle.dns_name.specs.declared.address.SocketAddr.{SocketAddr}
 use Rattle.dns_name.specs.declared.error.OutOfMemory.{OutOfMemory}
 use Rattle.dns_admission.specs.declared.look.Admission.{Admission}
 use Rattle.dns_admission.specs.declared.look.Admission.TheVariants.{Admitted, Full, Closed}
+use Rattle.dns_admission.specs.declared.look.Look.{Look}
+use Rattle.dns_admission.specs.declared.call.Call.TheVariants.{Look as ToLook}
+use Rattle.dns_admission.specs.declared.call.Reply.TheVariants.{Look as Shown}
 use Rattle.dns_book.specs.Gains.{Gained}
+use Rattle.dns_book.specs.Seats.{Called}
 use Rattle.dns_book.specs.declared.history.Known.{Known}
 use Rattle.dns_outside.specs.Causes.{Rose, Tells}
 use Rattle.dns_outside.specs.Doors.{Door}
-use Rattle.dns_host.specs.Accepting.{Came, Caller, Nobody, Fault, AcceptTurn, caller, callers_in, if_admitted, admitted_caller, admitted_callers_in, one_if_nobody, one_if_failure, halved, admit_entries, RoseBy, Gave, TookTurns}
+use Rattle.dns_outside.specs.declared.spawner.Start.{Start}
+use Rattle.dns_outside.specs.declared.spawner.Start.TheVariants.{Started, Failed}
+use Rattle.dns_host.specs.Accepting.{Came, Caller, Nobody, Fault, AcceptTurn, caller, callers_in, if_admitted, admitted_caller, admitted_callers_in, one_if_nobody, one_if_failure, halved, admit_entries, RoseBy, Gave, TookTurns, AcceptsTo}
+use Rattle.dns_host.specs.declared.accepts.AcceptEnd.{AcceptEnd}
+use Rattle.dns_host.specs.declared.accepts.AcceptEnd.TheVariants.{Shutdown, Counted, OutOfMemory as NoMemory}
 use Rattle.dns_host.specs.declared.taking.Arrival.{Arrival}
 use Rattle.dns_host.specs.declared.taking.Arrival.TheVariants.{Served, Refused, TurnedAway, Nobody as NobodyCame, Fault as FaultCame}
 
@@ -19,6 +27,12 @@ arrival_callers Refused = 1
 arrival_callers TurnedAway = 1
 arrival_callers NobodyCame = 0
 arrival_callers FaultCame = 0
+
+-- what the start of an admitted connection's work brought
+abbrev pub arrival_of : Result Start OutOfMemory → Result Arrival OutOfMemory
+arrival_of (Ok Started) = Ok Served
+arrival_of (Ok Failed) = Ok Refused
+arrival_of (Err e) = Err e
 
 -- the accept failed, or the start was refused
 abbrev pub is_faulty : Arrival → Bool
@@ -100,3 +114,25 @@ pub record TookSoFar (count taken : ℕ) (now before : Type 0) (k k' : Known) (a
   pub turns : List AcceptTurn
   pub turned : TookTurns turns [] now before (Gave (admitted_callers_in turns) given given') k k' a b f f'
   pub counted : count ≢ 0 → (taken ≡ length (callers_in turns)) × (taken ≤ count)
+
+-- a look was made, and shows whether the book is closed
+pub record LookedAt (closed : Bool) (k k' : Known) : Type 0 where
+  pub look : Look
+  pub called : Called k ToLook (Shown look) k'
+  pub shown : look.closed ≡ closed
+
+-- before an accept the loop ends without a look where so many connections came, else where a look shows a shutdown
+abbrev pub EndedSo : Option AcceptEnd → ℕ → ℕ → Known → Known → Type 0
+EndedSo (Some Counted) count taken k k' = (count ≢ 0) × (taken ≡ count) × (k' ≡ k)
+EndedSo (Some Shutdown) count taken k k' = LookedAt true k k'
+EndedSo (Some NoMemory) count taken k k' = ⊥
+EndedSo None count taken k k' = (count ≢ 0 → taken ≢ count) × LookedAt false k k'
+
+-- How a loop of accepts went with an accept object and a spawner, which are read so, and whether an accept failed or a start was
+-- refused. Neither count fell.
+pub record AcceptsRan {S P : Type 0} (tells : S → Type 0) (door : S → Door) (failed : S → ℕ) (works : P → Type 0) (given : P → List SocketAddr) (refused : P → ℕ)
+    (end : AcceptEnd) (risen : Bool) (count : ℕ) (k k' : Known) (a b : S) (p q : P) : Type 0 where
+  pub told : AcceptsTo end count (tells b × works q) (tells a × works p) k k' (door a) (door b) (given p) (given q) (failed a) (failed b)
+  pub rose : RoseWhere risen (failed a) (failed b) (refused p) (refused q)
+  pub accepts_later : failed a ≤ failed b
+  pub starts_later : refused p ≤ refused q

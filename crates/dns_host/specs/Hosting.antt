@@ -16,9 +16,10 @@ use Rattle.dns_datagrams.specs.DatagramsServed.{World, world, LooksBy, ReceivesB
 use Rattle.dns_datagrams.specs.declared.serving.DgramEnd.{DgramEnd}
 use Rattle.dns_datagrams.specs.declared.serving.DgramEnd.TheVariants.{Shutdown as DgramShutdown, Counted as DgramCounted, Fault as DgramFault, OutOfMemory as DgramOutOfMemory}
 use Rattle.dns_host.specs.Accepting.{AcceptsTo}
-use Rattle.dns_host.specs.Arrivals.{RoseWhere}
+use Rattle.dns_host.specs.Arrivals.{RoseWhere, AcceptsRan}
 use Rattle.dns_host.specs.declared.accepts.AcceptEnd.{AcceptEnd}
 use Rattle.dns_host.specs.declared.accepts.AcceptEnd.TheVariants.{Shutdown as AcceptShutdown, Counted as AcceptCounted, OutOfMemory as AcceptOutOfMemory}
+use Rattle.dns_host.specs.declared.host.Host.{Host}
 use Rattle.dns_host.specs.declared.host.HostEnd.{HostEnd}
 use Rattle.dns_host.specs.declared.host.HostEnd.TheVariants.{Done, OutOfMemory, HostFault}
 
@@ -87,20 +88,23 @@ pub record DgramsBeside (answers : Serving) (end : DgramEnd) (count : ℕ) (now 
   pub served : Tells now before (ServedTo answers end count (start k) (stop between))
   pub shut : DgramsShut end between k'
 
--- what accepts beside datagrams did to the seat, the accept object and the spawner: no count of faults fell
-pub record AcceptsWent (end : AcceptEnd) (risen : Bool) (count : ℕ) (now before : Type 0) (k k' : Known) (a b : Door) (given given' : List SocketAddr) (f f' p p' : ℕ) : Type 0 where
-  pub accepts : AcceptsBeside end count now before k k' a b given given' f f'
-  pub rose : RoseWhere risen f f' p p'
-  pub accepts_later : f ≤ f'
-  pub starts_later : p ≤ p'
+-- what accepts beside datagrams did to the seat, the accept object and the spawner, which are read so
+pub record AcceptsWent {S P : Type 0} (tells : S → Type 0) (door : S → Door) (failed : S → ℕ) (works : P → Type 0) (given : P → List SocketAddr) (refused : P → ℕ)
+    (end : AcceptEnd) (risen : Bool) (count : ℕ) (k k' : Known) (a b : S) (p q : P) : Type 0 where
+  pub between : Known
+  pub ran : AcceptsRan tells door failed works given refused end risen count k between a b p q
+  pub shut : AcceptsShut end between k'
 
--- what datagrams beside accepts did to the seat, the socket, the clock and the journal
-pub record DgramsWent (answers : Serving) (end : DgramEnd) (send_failed : Bool) (count : ℕ) (now before : Type 0) (k k' : Known) (start stop : Known → World) (r r' s s' : ℕ) : Type 0 where
-  pub dgrams : DgramsBeside answers end count now before k k' start stop
-  pub receives : ReceivesBy end r r'
-  pub sends : RoseIf send_failed s s'
-  pub receives_later : r ≤ r'
-  pub sends_later : s ≤ s'
+-- What datagrams beside accepts did to the seat, the socket, the clock and the journal, which are read so, and whether a send failed.
+-- Neither count fell.
+pub record DgramsWent {D C J : Type 0} (tells : D → Type 0) (mail : D → Mail) (failed_receives failed_sends : D → ℕ) (ticks : C → Type 0) (readings : C → List ClockReading)
+    (notes : J → Type 0) (noted : J → List Event) (answers : Serving) (end : DgramEnd) (send_failed : Bool) (count : ℕ) (k k' : Known) (d d' : D) (c c' : C) (j j' : J) : Type 0 where
+  pub dgrams : DgramsBeside answers end count (tells d' × ticks c' × notes j') (tells d × ticks c × notes j) k k'
+      (world (noted j) (mail d) (failed_sends d) (readings c)) (world (noted j') (mail d') (failed_sends d') (readings c'))
+  pub receives : ReceivesBy end (failed_receives d) (failed_receives d')
+  pub sends : RoseIf send_failed (failed_sends d) (failed_sends d')
+  pub receives_later : failed_receives d ≤ failed_receives d'
+  pub sends_later : failed_sends d ≤ failed_sends d'
 
 -- Accepts from the first half of a seat beside datagrams from the second. Then both halves are joined and the book is shut down.
 pub record BothServed (answers : Serving) (end : HostEnd) (count : ℕ) (door_now door_before mail_now mail_before : Type 0) (k k' : Known) (h h' : HostWorld) : Type 0 where
@@ -124,3 +128,25 @@ pub record BothServed (answers : Serving) (end : HostEnd) (count : ℕ) (door_no
 pub record NeitherBegan (end : HostEnd) (k k' : Known) : Type 0 where
   pub end_is : end ≡ OutOfMemory
   pub shut : ShutDown k k'
+
+-- what is seen of a host whose objects are read so
+abbrev pub host_seen : {A D C P J : Type 0} → (A → Door) → (P → List SocketAddr) → (J → List Event) → (D → Mail) → (C → List ClockReading) → (A → ℕ) → (P → ℕ) → (D → ℕ) → (D → ℕ) → Host A D C P J → HostWorld
+host_seen door given noted mail readings failed refused failed_receives failed_sends h =
+    host_world (door h.accept) (given h.spawner) (noted h.journal) (mail h.sock) (readings h.clock) (failed h.accept) (refused h.spawner) (failed_receives h.sock) (failed_sends h.sock)
+
+-- that a host's accept object and spawner tell, and that its socket, clock and journal do
+abbrev pub door_told : {A D C P J : Type 0} → (A → Type 0) → (P → Type 0) → Host A D C P J → Type 0
+door_told tells works h = tells h.accept × works h.spawner
+
+abbrev pub mail_told : {A D C P J : Type 0} → (D → Type 0) → (C → Type 0) → (J → Type 0) → Host A D C P J → Type 0
+mail_told tells ticks notes h = tells h.sock × ticks h.clock × notes h.journal
+
+-- how a host was served, of which this is seen, and whose two sides tell so; no count of faults fell
+pub record HostServed {H : Type 0} (seen : H → HostWorld) (door mail : H → Type 0) (answers : Serving) (end : HostEnd) (count : ℕ) (k k' : Known) (h h' : H) : Type 0 where
+  pub told : BothServed answers end count (door h') (door h) (mail h') (mail h) k k' (seen h) (seen h') ⊎ (NeitherBegan end k k' × (h' ≡ h))
+  pub fault : HostRose end (seen h).failed_accepts (seen h').failed_accepts (seen h).refused_starts (seen h').refused_starts
+      (seen h).failed_receives (seen h').failed_receives (seen h).failed_sends (seen h').failed_sends
+  pub accepts_later : (seen h).failed_accepts ≤ (seen h').failed_accepts
+  pub starts_later : (seen h).refused_starts ≤ (seen h').refused_starts
+  pub receives_later : (seen h).failed_receives ≤ (seen h').failed_receives
+  pub sends_later : (seen h).failed_sends ≤ (seen h').failed_sends

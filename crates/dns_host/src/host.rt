@@ -1,19 +1,18 @@
 //! Accepts and datagrams beside each other.
 
-ghost use Rattle.std.specs.Prelude.{◌≡◌, ◌≤◌, ◌⊎◌, ◌||◌, MatchOption};
+ghost use Rattle.std.specs.Prelude.{◌≡◌, ◌||◌, MatchOption, IfOk};
 ghost use Rattle.std.specs.Arc.{arc_value};
-ghost use Rattle.dns_outside.specs.Causes.{Tells};
 ghost use Rattle.dns_client.specs.Serving.{serving};
-ghost use Rattle.dns_datagrams.specs.DatagramsServed.{world};
-ghost use Rattle.dns_host.specs.Arrivals.{RoseWhere};
-ghost use Rattle.dns_host.specs.Hosting.{host_end, host_world, HostRose, AcceptsWent, DgramsWent, BothServed, NeitherBegan};
+ghost use Rattle.dns_host.specs.Hosting.{host_end, host_seen, door_told, mail_told, AcceptsWent, DgramsWent, HostServed};
 
-use crate::accepts::{AcceptEnd, accept_all};
+use crate::accepts::AcceptEnd;
 use crate::pre_connect::NoHook;
+use crate::reception::Reception;
 use crate::work::ConnectionWork;
 use dns_book::{Book, BookSeat};
 use dns_datagrams::{DgramEnd, serve_datagrams_and_say};
 use dns_drivers::{Recorder, Silent};
+use dns_name::OutOfMemory;
 use dns_outside::{AsyncAccept, AsyncDgramSock, Clock, Spawner};
 use dns_service::Served;
 use std::alloc::Global;
@@ -45,162 +44,6 @@ pub enum HostEnd {
     HostFault,
 }
 
-/// Serves datagrams from the seat that stands in its place. Where they end by a fault or for want of memory, the book is shut
-/// down. Whether a send failed is given too.
-fn datagrams_beside<R: Wait, D: AsyncDgramSock, C: Clock, J: Recorder, W: Served>(
-    rt: &R,
-    alloc: Global,
-    book: &Book,
-    place: &mut Option<BookSeat>,
-    service: &W,
-    sock: &mut D,
-    clock: &mut C,
-    journal: &mut J,
-    count: u64,
-) -> (BookSeat, DgramEnd, bool)
-    requires place { MatchOption place.old ⊥ (λ seat. seat.book ≡ book.now) }
-    requires can_call { W.can_call service.now }
-    ensures went { MatchOption place.old ⊥ (λ seat. DgramsWent (serving (W.answer service.now) (W.hint service.now)) result.1 result.2 count
-        (D.tells sock.new × C.tells clock.new × J.tells journal.new) (D.tells sock.old × C.tells clock.old × J.tells journal.old) seat.known result.0.known
-        (world (J.noted journal.old) (D.mail sock.old) (D.failed_sends sock.old) (C.readings clock.old))
-        (world (J.noted journal.new) (D.mail sock.new) (D.failed_sends sock.new) (C.readings clock.new))
-        (D.failed_receives sock.old) (D.failed_receives sock.new) (D.failed_sends sock.old) (D.failed_sends sock.new)) }
-    ensures same { result.0.book ≡ book.now }
-{
-    let Some(seat) = place.take() else {
-        unreachable!()
-    };
-    let (mut seat, end, send_failed) = serve_datagrams_and_say(
-        rt, alloc, book, seat, service, sock, clock, journal, count,
-    );
-    match end {
-        DgramEnd::Fault | DgramEnd::OutOfMemory => {
-            book.shutdown(rt, &mut seat);
-        }
-        DgramEnd::Shutdown | DgramEnd::Counted => {}
-    }
-    (seat, end, send_failed)
-}
-
-/// Accepts connections from the seat that stands in its place. Where that ends for want of memory, the book is shut down.
-fn accepts_beside<
-    R: Threads + Wait + Copy + Send + 'static,
-    A: AsyncAccept,
-    C: Clock + Send + Drop + 'static,
-    W: Served + Send + Sync + 'static,
-    P: Spawner<ConnectionWork<A::Link, C, Silent, W>>,
->(
-    rt: &R,
-    alloc: Global,
-    book: &Arc<Book>,
-    place: &mut Option<BookSeat>,
-    service: &Arc<W>,
-    accept: &mut A,
-    clock: &C,
-    spawner: &mut P,
-    count: u64,
-) -> (BookSeat, AcceptEnd, bool)
-where
-    A::Link: Send + Drop + 'static,
-    W::Future: Send,
-    W::Stream: Send,
-    requires place { MatchOption place.old ⊥ (λ seat. seat.book ≡ arc_value book.now) }
-    requires can_call { W.can_call (arc_value service.now) }
-    ensures went { MatchOption place.old ⊥ (λ seat. AcceptsWent result.1 result.2 count (A.tells accept.new × P.tells spawner.new) (A.tells accept.old × P.tells spawner.old)
-        seat.known result.0.known (A.door accept.old) (A.door accept.new) (P.given spawner.old) (P.given spawner.new)
-        (A.faults accept.old) (A.faults accept.new) (P.faults spawner.old) (P.faults spawner.new)) }
-    ensures same { result.0.book ≡ arc_value book.now }
-{
-    let Some(seat) = place.take() else {
-        unreachable!()
-    };
-    let (mut seat, end, faulted) = accept_all(
-        rt, alloc, book, seat, service, accept, clock, spawner, &NoHook, count,
-    );
-    match end {
-        AcceptEnd::OutOfMemory => {
-            book.shutdown(rt, &mut seat);
-        }
-        AcceptEnd::Shutdown | AcceptEnd::Counted => {}
-    }
-    (seat, end, faulted)
-}
-
-/// Both beside each other, datagrams in a thread of their own.
-fn both_beside<
-    R: Threads + Wait + Copy + Send + Sync + 'static,
-    A: AsyncAccept,
-    D: AsyncDgramSock + Send,
-    C: Clock + Send + Drop + 'static,
-    W: Served + Send + Sync + 'static,
-    P: Spawner<ConnectionWork<A::Link, C, Silent, W>>,
-    J: Recorder + Send,
->(
-    rt: &R,
-    alloc: Global,
-    book: &Arc<Book>,
-    first: BookSeat,
-    second: BookSeat,
-    service: &Arc<W>,
-    accept: &mut A,
-    other: &C,
-    spawner: &mut P,
-    sock: &mut D,
-    clock: &mut C,
-    journal: &mut J,
-    count: u64,
-) -> ((BookSeat, DgramEnd, bool), (BookSeat, AcceptEnd, bool))
-where
-    A::Link: Send + Drop + 'static,
-    W::Future: Send,
-    W::Stream: Send,
-    requires first { first.book ≡ arc_value book.now }
-    requires second { second.book ≡ arc_value book.now }
-    requires can_call { W.can_call (arc_value service.now) }
-    ensures dgrams { DgramsWent (serving (W.answer (arc_value service.now)) (W.hint (arc_value service.now))) result.0.1 result.0.2 count
-        (D.tells sock.new × C.tells clock.new × J.tells journal.new) (D.tells sock.old × C.tells clock.old × J.tells journal.old) second.known result.0.0.known
-        (world (J.noted journal.old) (D.mail sock.old) (D.failed_sends sock.old) (C.readings clock.old))
-        (world (J.noted journal.new) (D.mail sock.new) (D.failed_sends sock.new) (C.readings clock.new))
-        (D.failed_receives sock.old) (D.failed_receives sock.new) (D.failed_sends sock.old) (D.failed_sends sock.new) }
-    ensures dgrams_seat { result.0.0.book ≡ arc_value book.now }
-    ensures accepts { AcceptsWent result.1.1 result.1.2 count (A.tells accept.new × P.tells spawner.new) (A.tells accept.old × P.tells spawner.old)
-        first.known result.1.0.known (A.door accept.old) (A.door accept.new) (P.given spawner.old) (P.given spawner.new)
-        (A.faults accept.old) (A.faults accept.new) (P.faults spawner.old) (P.faults spawner.new) }
-    ensures accepts_seat { result.1.0.book ≡ arc_value book.now }
-{
-    let mut left = Some(first);
-    let mut right = Some(second);
-    join_mut(
-        rt,
-        &mut || -> (BookSeat, DgramEnd, bool)
-            requires place { MatchOption right ⊥ (λ seat. seat.book ≡ arc_value book.now) }
-            requires can_call { W.can_call (arc_value service.now) }
-            ensures went { MatchOption right.entry ⊥ (λ seat. DgramsWent (serving (W.answer (arc_value service.entry.now)) (W.hint (arc_value service.entry.now))) result.1 result.2 count
-                (D.tells sock.exit.now × C.tells clock.exit.now × J.tells journal.exit.now) (D.tells sock.entry.now × C.tells clock.entry.now × J.tells journal.entry.now) seat.known result.0.known
-                (world (J.noted journal.entry.now) (D.mail sock.entry.now) (D.failed_sends sock.entry.now) (C.readings clock.entry.now))
-                (world (J.noted journal.exit.now) (D.mail sock.exit.now) (D.failed_sends sock.exit.now) (C.readings clock.exit.now))
-                (D.failed_receives sock.entry.now) (D.failed_receives sock.exit.now) (D.failed_sends sock.entry.now) (D.failed_sends sock.exit.now)) }
-            ensures same { result.0.book ≡ arc_value book.entry.now }
-        {
-            datagrams_beside(
-                rt, alloc, book, &mut right, &**service, sock, clock, journal, count,
-            )
-        },
-        &mut || -> (BookSeat, AcceptEnd, bool)
-            requires place { MatchOption left ⊥ (λ seat. seat.book ≡ arc_value book.now) }
-            requires can_call { W.can_call (arc_value service.now) }
-            ensures went { MatchOption left.entry ⊥ (λ seat. AcceptsWent result.1 result.2 count (A.tells accept.exit.now × P.tells spawner.exit.now) (A.tells accept.entry.now × P.tells spawner.entry.now)
-                seat.known result.0.known (A.door accept.entry.now) (A.door accept.exit.now) (P.given spawner.entry.now) (P.given spawner.exit.now)
-                (A.faults accept.entry.now) (A.faults accept.exit.now) (P.faults spawner.entry.now) (P.faults spawner.exit.now)) }
-            ensures same { result.0.book ≡ arc_value book.entry.now }
-        {
-            accepts_beside(
-                rt, alloc, book, &mut left, service, accept, other, spawner, count,
-            )
-        },
-    )
-}
-
 /// How a host was served, by how the two ended and whether an accept or a send failed or a start was refused.
 fn host_end(datagrams: DgramEnd, accepts: AcceptEnd, faulted: bool, send_failed: bool) -> HostEnd
     ensures { result ≡ host_end datagrams accepts (faulted || send_failed) }
@@ -218,10 +61,155 @@ fn host_end(datagrams: DgramEnd, accepts: AcceptEnd, faulted: bool, send_failed:
     }
 }
 
-#[tactic(auto, using(crate::proofs::Hostings::neither_began, crate::proofs::Hostings::rose_of_host))]
+/// Serves datagrams from the seat that stands in its place. Where they end by a fault or for want of memory, the book is shut
+/// down. Whether a send failed is given too.
+fn datagrams_beside<R: Wait, D: AsyncDgramSock, C: Clock, J: Recorder, W: Served>(
+    rt: &R,
+    alloc: Global,
+    book: &Arc<Book>,
+    service: &Arc<W>,
+    count: u64,
+    place: &mut Option<BookSeat>,
+    sock: &mut D,
+    clock: &mut C,
+    journal: &mut J,
+) -> (BookSeat, DgramEnd, bool)
+    requires place { MatchOption place.old ⊥ (λ seat. seat.book ≡ arc_value book.now) }
+    requires can_call { W.can_call (arc_value service.now) }
+    ensures went { MatchOption place.old ⊥ (λ seat. DgramsWent D.tells D.mail D.failed_receives D.failed_sends C.tells C.readings J.tells J.noted
+        (serving (W.answer (arc_value service.now)) (W.hint (arc_value service.now))) result.1 result.2 count seat.known result.0.known sock.old sock.new clock.old clock.new journal.old journal.new) }
+    ensures same { result.0.book ≡ arc_value book.now }
+{
+    let Some(seat) = place.take() else {
+        unreachable!()
+    };
+    let (mut seat, end, send_failed) = serve_datagrams_and_say(
+        rt, alloc, book, seat, &**service, sock, clock, journal, count,
+    );
+    match end {
+        DgramEnd::Fault | DgramEnd::OutOfMemory => {
+            book.shutdown(rt, &mut seat);
+        }
+        DgramEnd::Shutdown | DgramEnd::Counted => {}
+    }
+    (seat, end, send_failed)
+}
+
+impl<
+    A: AsyncAccept,
+    D: AsyncDgramSock + Send,
+    C: Clock + Send + Drop + 'static,
+    P,
+    J: Recorder + Send,
+> Host<A, D, C, P, J>
+where
+    A::Link: Send + Drop + 'static,
+{
+    /// Both beside each other, datagrams in a thread of their own.
+    fn both_beside<
+        R: Threads + Wait + Copy + Send + Sync + 'static,
+        W: Served + Send + Sync + 'static,
+    >(
+        &mut self,
+        reception: &Reception<'_, R, C, W, NoHook>,
+        first: BookSeat,
+        second: BookSeat,
+        count: u64,
+    ) -> ((BookSeat, DgramEnd, bool), (BookSeat, AcceptEnd, bool))
+    where
+        W::Future: Send,
+        W::Stream: Send,
+        P: Spawner<ConnectionWork<A::Link, C, Silent, W>>,
+        requires first { first.book ≡ arc_value reception.now.book.now }
+        requires second { second.book ≡ arc_value reception.now.book.now }
+        requires can_call { W.can_call (arc_value reception.now.service.now) }
+        ensures dgrams { DgramsWent D.tells D.mail D.failed_receives D.failed_sends C.tells C.readings J.tells J.noted
+            (serving (W.answer (arc_value reception.now.service.now)) (W.hint (arc_value reception.now.service.now))) result.0.1 result.0.2 count second.known result.0.0.known
+            self.old.sock self.new.sock self.old.clock self.new.clock self.old.journal self.new.journal }
+        ensures dgrams_seat { result.0.0.book ≡ arc_value reception.now.book.now }
+        ensures accepts { AcceptsWent A.tells A.door A.faults P.tells P.given P.faults result.1.1 result.1.2 count first.known result.1.0.known
+            self.old.accept self.new.accept self.old.spawner self.new.spawner }
+        ensures accepts_seat { result.1.0.book ≡ arc_value reception.now.book.now }
+    {
+        let Host {
+            accept,
+            sock,
+            clock,
+            spawner,
+            journal,
+        } = self;
+        let Reception {
+            rt,
+            alloc,
+            book,
+            service,
+            ..
+        } = *reception;
+        let mut left = Some(first);
+        let mut right = Some(second);
+        join_mut(
+            rt,
+            &mut || datagrams_beside(
+                rt, alloc, book, service, count, &mut right, sock, clock, journal,
+            ),
+            &mut || -> (BookSeat, AcceptEnd, bool)
+                requires place { MatchOption left ⊥ (λ seat. seat.book ≡ arc_value reception.now.book.now) }
+                requires can_call { W.can_call (arc_value reception.now.service.now) }
+            { reception.accepts_beside(accept, spawner, &mut left, count) },
+        )
+    }
+
+    #[tactic(auto, using(crate::proofs::Hostings::host_served))]
+    /// Serves both from the halves of a seat. Then all work is joined, and the book is shut down.
+    fn serve_both<
+        R: Threads + Wait + Copy + Send + Sync + 'static,
+        W: Served + Send + Sync + 'static,
+    >(
+        &mut self,
+        reception: &Reception<'_, R, C, W, NoHook>,
+        seat: BookSeat,
+        count: u64,
+    ) -> (BookSeat, HostEnd)
+    where
+        W::Future: Send,
+        W::Stream: Send,
+        P: Spawner<ConnectionWork<A::Link, C, Silent, W>>,
+        requires book { seat.book ≡ arc_value reception.now.book.now }
+        requires can_call { W.can_call (arc_value reception.now.service.now) }
+        ensures served { HostServed (host_seen A.door P.given J.noted D.mail C.readings A.faults P.faults D.failed_receives D.failed_sends)
+            (door_told A.tells P.tells) (mail_told D.tells C.tells J.tells)
+            (serving (W.answer (arc_value reception.now.service.now)) (W.hint (arc_value reception.now.service.now))) result.1 count seat.known result.0.known self.old self.new }
+        ensures same { result.0.book ≡ seat.book }
+    {
+        let (rt, book) = (reception.rt, reception.book);
+        let (first, second) = book.split(rt, seat);
+        let ((second, datagrams, send_failed), (first, accepts, faulted)) = self.both_beside(
+            reception, first, second, count,
+        );
+        self.spawner.join_all(rt);
+        let mut seat = book.join(rt, first, second);
+        book.shutdown(rt, &mut seat);
+        (seat, host_end(datagrams, accepts, faulted, send_failed))
+    }
+}
+
+/// The service, to be shared, and a clock.
+fn shared<C: Clock, W: Served>(
+    alloc: Global,
+    service: W,
+    clock: &C,
+) -> Result<(Arc<W>, C), OutOfMemory>
+    ensures { IfOk result (λ r. arc_value r.0 ≡ service) }
+{
+    let service = Arc::new(alloc, service)?;
+    let clock = clock.another(alloc)?;
+    Ok((service, clock))
+}
+
+#[tactic(auto, using(crate::proofs::Hostings::none_served))]
 /// Serves connections and datagrams beside each other, until `count` of each were taken, `count` not 0, or a look shows a
 /// shutdown. Then all work is joined, and the book is shut down.
-pub fn serve_host<
+pub fn host_service<
     R: Threads + Wait + Copy + Send + Sync + 'static,
     A: AsyncAccept,
     D: AsyncDgramSock + Send,
@@ -244,49 +232,22 @@ where
     W::Stream: Send,
     requires book { seat.book ≡ arc_value book.now }
     requires can_call { W.can_call service }
-    ensures told { BothServed (serving (W.answer service) (W.hint service)) result.1 count
-        (A.tells host.new.accept × P.tells host.new.spawner) (A.tells host.old.accept × P.tells host.old.spawner)
-        (D.tells host.new.sock × C.tells host.new.clock × J.tells host.new.journal) (D.tells host.old.sock × C.tells host.old.clock × J.tells host.old.journal)
-        seat.known result.0.known
-        (host_world (A.door host.old.accept) (P.given host.old.spawner) (J.noted host.old.journal) (D.mail host.old.sock) (C.readings host.old.clock)
-        (A.faults host.old.accept) (P.faults host.old.spawner) (D.failed_receives host.old.sock) (D.failed_sends host.old.sock))
-        (host_world (A.door host.new.accept) (P.given host.new.spawner) (J.noted host.new.journal) (D.mail host.new.sock) (C.readings host.new.clock)
-        (A.faults host.new.accept) (P.faults host.new.spawner) (D.failed_receives host.new.sock) (D.failed_sends host.new.sock))
-        ⊎ (NeitherBegan result.1 seat.known result.0.known × (host.new ≡ host.old)) }
-    ensures fault { HostRose result.1 (A.faults host.old.accept) (A.faults host.new.accept) (P.faults host.old.spawner) (P.faults host.new.spawner)
-        (D.failed_receives host.old.sock) (D.failed_receives host.new.sock) (D.failed_sends host.old.sock) (D.failed_sends host.new.sock) }
+    ensures served { HostServed (host_seen A.door P.given J.noted D.mail C.readings A.faults P.faults D.failed_receives D.failed_sends)
+        (door_told A.tells P.tells) (mail_told D.tells C.tells J.tells)
+        (serving (W.answer service) (W.hint service)) result.1 count seat.known result.0.known host.old host.new }
     ensures same { result.0.book ≡ seat.book }
-    ensures accepts_later { A.faults host.old.accept ≤ A.faults host.new.accept }
-    ensures starts_later { P.faults host.old.spawner ≤ P.faults host.new.spawner }
-    ensures receives_later { D.failed_receives host.old.sock ≤ D.failed_receives host.new.sock }
-    ensures sends_later { D.failed_sends host.old.sock ≤ D.failed_sends host.new.sock }
 {
-    let Ok(service) = Arc::new(alloc, service) else {
+    let Ok((service, clock)) = shared(alloc, service, &host.clock) else {
         book.shutdown(rt, &mut seat);
         return (seat, HostEnd::OutOfMemory);
     };
-    let Ok(other) = host.clock.another(alloc) else {
-        book.shutdown(rt, &mut seat);
-        return (seat, HostEnd::OutOfMemory);
-    };
-    let (first, second) = book.split(rt, seat);
-    let ((second, datagrams, send_failed), (first, accepts, faulted)) = both_beside(
+    let reception = Reception {
         rt,
         alloc,
         book,
-        first,
-        second,
-        &service,
-        &mut host.accept,
-        &other,
-        &mut host.spawner,
-        &mut host.sock,
-        &mut host.clock,
-        &mut host.journal,
-        count,
-    );
-    host.spawner.join_all(rt);
-    let mut seat = book.join(rt, first, second);
-    book.shutdown(rt, &mut seat);
-    (seat, host_end(datagrams, accepts, faulted, send_failed))
+        service: &service,
+        clock: &clock,
+        hook: &NoHook,
+    };
+    host.serve_both(&reception, seat, count)
 }

@@ -4,12 +4,13 @@
 mod accepts;
 mod host;
 mod pre_connect;
+mod reception;
 mod taking;
 mod work;
 
 pub use accepts::{AcceptEnd, serve_accepts};
 pub use dns_datagrams::{DgramEnd, serve_datagrams};
 pub use dns_drivers::{ConnectionEnd, Kept, Recorder, Silent, serve_connection};
-pub use host::{Host, HostEnd, serve_host};
+pub use host::{Host, HostEnd, host_service};
 pub use pre_connect::{NoHook, PreConnect};
 pub use work::ConnectionWork;

@@ -1,22 +1,10 @@
-//! One connection is taken.
+//! What a loop of accepts takes and counts.
 
-ghost use Rattle.std.specs.Prelude.{◌≡◌, ◌≤◌, false, IfOk};
-ghost use Rattle.std.specs.Arc.{arc_value};
-ghost use Rattle.dns_outside.specs.Causes.{Tells};
-ghost use Rattle.dns_outside.specs.Starts.{StartMoves, StartCause};
-ghost use Rattle.dns_host.specs.Arrivals.{AskedOne, StartFaults, arrival_callers, is_faulty};
+ghost use Rattle.std.specs.Prelude.{◌≡◌, ◌+◌, ◌-◌, ◌^◌, ◌||◌, min, false};
+ghost use Rattle.dns_host.specs.Arrivals.{arrival_callers, arrival_of, is_faulty};
 
-use crate::pre_connect::PreConnect;
-use crate::work::ConnectionWork;
-use dns_admission::Look;
-use dns_book::{Admission, Book, BookSeat};
-use dns_drivers::Silent;
-use dns_name::{OutOfMemory, SocketAddr};
-use dns_outside::{Clock, Link, Spawner, Start};
-use dns_service::Served;
-use std::alloc::Global;
-use std::sync::{Arc, Wait};
-use std::thread::Threads;
+use dns_name::OutOfMemory;
+use dns_outside::Start;
 
 /// What one turn of the loop of accepts brought.
 #[derive(Clone, Copy, Debug, PartialEq, Eq)]
@@ -63,125 +51,47 @@ impl Arrival {
     }
 }
 
-/// What a connection shares with all others, and a clock of its own.
-#[derive(Drop)]
-struct Shares<C, W> {
-    book: Arc<Book>,
-    service: Arc<W>,
-    clock: C,
+/// What the start of an admitted connection's work brought.
+pub(crate) fn arrival_of(started: Result<Start, OutOfMemory>) -> Result<Arrival, OutOfMemory>
+    ensures { result ≡ arrival_of started }
+{
+    match started {
+        Ok(Start::Started) => Ok(Arrival::Served),
+        Ok(Start::Failed) => Ok(Arrival::Refused),
+        Err(error) => Err(error),
+    }
 }
 
-/// Takes the memory that the work of a connection needs.
-fn shares_of<C: Clock + Drop, W: Served>(
-    alloc: Global,
-    book: &Arc<Book>,
-    service: &Arc<W>,
-    clock: &C,
-) -> Result<Shares<C, W>, OutOfMemory>
-    ensures { IfOk result (λ s. (arc_value s.book ≡ arc_value book.now) × (arc_value s.service ≡ arc_value service.now)) }
-{
-    Ok(Shares {
-        book: Arc::try_clone(book)?,
-        service: Arc::try_clone(service)?,
-        clock: clock.another(alloc)?,
-    })
+/// What a loop of accepts counts.
+#[derive(Clone, Copy)]
+pub(crate) struct Tally {
+    /// The number of the next connection that is admitted.
+    pub(crate) client: u64,
+    /// How many connections came.
+    pub(crate) taken: u64,
+    /// Whether an accept failed or a start was refused.
+    pub(crate) faulted: bool,
 }
 
-/// Gives an admitted connection to the spawner, with a seat of its own. Where there is no memory for it, its slot is given back
-/// and the link closed.
-fn start_admitted<
-    R: Threads + Wait + Copy + Send + 'static,
-    L: Link + Send + Drop + 'static,
-    C: Clock + Send + Drop + 'static,
-    W: Served + Send + Sync + 'static,
-    P: Spawner<ConnectionWork<L, C, Silent, W>>,
->(
-    rt: &R,
-    alloc: Global,
-    book: &Arc<Book>,
-    mut seat: BookSeat,
-    client: u64,
-    from: SocketAddr,
-    look: &Look,
-    service: &Arc<W>,
-    mut link: L,
-    clock: &C,
-    spawner: &mut P,
-) -> Result<Start, OutOfMemory>
-where
-    W::Future: Send,
-    W::Stream: Send,
-    requires book { seat.book ≡ arc_value book.now }
-    requires running { look.now.closed ≡ false }
-    requires can_call { W.can_call (arc_value service.now) }
-    ensures given { Tells (P.tells spawner.new) (P.tells spawner.old) (StartMoves result from (P.given spawner.old) (P.given spawner.new)) }
-    ensures later { P.faults spawner.old ≤ P.faults spawner.new }
-    ensures cause { StartCause result (P.faults spawner.old) (P.faults spawner.new) }
-{
-    let Ok(shares) = shares_of(alloc, book, service, clock) else {
-        book.release(rt, &mut seat);
-        link.close();
-        return Err(OutOfMemory);
-    };
-    let Shares {
-        book,
-        service,
-        clock,
-    } = shares;
-    let work = ConnectionWork::new(
-        book, seat, client, from, *look, service, link, clock, Silent,
-    );
-    spawner.start(rt, alloc, work)
-}
-
-#[tactic(auto, using(crate::proofs::Askings::asked_served, crate::proofs::Askings::asked_refused, crate::proofs::Askings::asked_lost, crate::proofs::Askings::asked_full, crate::proofs::Askings::asked_closed))]
-/// Asks the book for a slot. A connection that is admitted is served by work of its own, with the second half of the seat;
-/// every other one is closed.
-pub(crate) fn take_connection<
-    R: Threads + Wait + Copy + Send + 'static,
-    L: Link + Send + Drop + 'static,
-    C: Clock + Send + Drop + 'static,
-    W: Served + Send + Sync + 'static,
-    P: Spawner<ConnectionWork<L, C, Silent, W>>,
-    H: PreConnect<L>,
->(
-    rt: &R,
-    alloc: Global,
-    book: &Arc<Book>,
-    mut seat: BookSeat,
-    client: u64,
-    from: SocketAddr,
-    service: &Arc<W>,
-    mut link: L,
-    clock: &C,
-    spawner: &mut P,
-    hook: &H,
-) -> (BookSeat, Result<Arrival, OutOfMemory>)
-where
-    W::Future: Send,
-    W::Stream: Send,
-    requires book { seat.book ≡ arc_value book.now }
-    requires can_call { W.can_call (arc_value service.now) }
-    ensures asked { AskedOne result.1 from (P.tells spawner.new) (P.tells spawner.old) seat.known result.0.known (P.given spawner.old) (P.given spawner.new) }
-    ensures same { result.0.book ≡ seat.book }
-    ensures later { P.faults spawner.old ≤ P.faults spawner.new }
-    ensures cause { StartFaults result.1 (P.faults spawner.old) (P.faults spawner.new) }
-{
-    match book.admit(rt, &mut seat) {
-        Admission::Admitted(look) => {
-            hook.call(&mut link);
-            let (first, second) = book.split(rt, seat);
-            match start_admitted(
-                rt, alloc, book, second, client, from, &look, service, link, clock, spawner,
-            ) {
-                Ok(Start::Started) => (first, Ok(Arrival::Served)),
-                Ok(Start::Failed) => (first, Ok(Arrival::Refused)),
-                Err(_) => (first, Err(OutOfMemory)),
-            }
+impl Tally {
+    /// Nothing came.
+    pub(crate) fn new() -> Tally
+        ensures { result ≡ record { client = 0; taken = 0; faulted = false } }
+    {
+        Tally {
+            client: 0,
+            taken: 0,
+            faulted: false,
         }
-        Admission::Full { .. } | Admission::Closed => {
-            link.close();
-            (seat, Ok(Arrival::TurnedAway))
-        }
+    }
+
+    /// Counts what one turn brought.
+    pub(crate) fn note(&mut self, arrival: Arrival)
+        ensures taken { self.new.taken ≡ min (self.old.taken + arrival_callers arrival) (2 ^ 64 - 1) }
+        ensures faulted { self.new.faulted ≡ (self.old.faulted || is_faulty arrival) }
+    {
+        self.client = self.client.wrapping_add(arrival.admitted());
+        self.taken = self.taken.saturating_add(arrival.callers());
+        self.faulted = self.faulted || arrival.is_fault();
     }
 }

@@ -14,6 +14,8 @@ use Rattle.dns_host.specs.DatagramsServed.{World, ServedTo}
 use Rattle.dns_host.specs.DgramEnd.{DgramEnd}
 use Rattle.dns_host.specs.DgramEnd.TheVariants.{Shutdown}
 use Rattle.dns_host.specs.Accepting.{TookUntilShut, TookAlmost}
+use Rattle.dns_host.specs.declared.accepts.AcceptEnd.{AcceptEnd}
+use Rattle.dns_host.specs.declared.accepts.AcceptEnd.TheVariants.{Shutdown as Stopped, OutOfMemory as Lacking}
 use Rattle.dns_servers.specs.declared.stream.StreamEnd.{StreamEnd}
 use Rattle.dns_servers.specs.declared.stream.StreamEnd.TheVariants.{Shutdown as ShutDown, OutOfMemory}
 
@@ -48,6 +50,12 @@ abbrev pub DatagramsRan : Serving → DgramEnd → World → World → Type 0
 DatagramsRan answers end start now =
     InSlot (λ k k'. ServedTo answers end 0 (where_known start k) (where_known now k'))
     ((end ≡ Shutdown) × (now ≡ where_known start now.known)) start.known now.known
+
+-- a server ends as its loop without a count does
+abbrev pub EndsAs : AcceptEnd → StreamEnd → Type 0
+EndsAs Stopped ShutDown = Unit {0}
+EndsAs Lacking OutOfMemory = Unit {0}
+EndsAs end result = ⊥
 
 -- connections were accepted without a count, until a look showed a shutdown, or memory ran out
 abbrev pub ConnectionsRan : StreamEnd → Type 0 → Type 0 → Known → Known → Door → Door → List SocketAddr → List SocketAddr → ℕ → ℕ → Type 0

@@ -143,48 +143,22 @@ impl<D: AsyncDgramSock + Drop, B: BufSource + Drop, W: Served, C: Clock + Drop> 
         ensures receives { D.failed_receives self.old.sock ≤ D.failed_receives self.new.sock }
         ensures sends { D.failed_sends self.old.sock ≤ D.failed_sends self.new.sock }
     {
-        serve_from(
+        let Some(seat) = self.seat.take() else {
+            unreachable!()
+        };
+        let (seat, end) = serve_in_slot(
             rt,
             alloc,
             &self.book,
-            &mut self.seat,
-            &self.service,
+            &*self.service,
+            seat,
             &mut self.sock,
             &mut self.clock,
             journal,
-        )
+        );
+        self.seat = Some(seat);
+        end
     }
-}
-
-/// Serves datagrams from the seat in its place, which is put back there.
-fn serve_from<R: Wait, D: AsyncDgramSock, C: Clock, J: Recorder, W: Served>(
-    rt: &R,
-    alloc: Global,
-    book: &Arc<Book>,
-    place: &mut Option<BookSeat>,
-    service: &Arc<W>,
-    sock: &mut D,
-    clock: &mut C,
-    journal: &mut J,
-) -> DgramEnd
-    requires seat { IsSeatAt (arc_value book.now) place.old }
-    requires can_call { W.can_call (arc_value service.now) }
-    ensures told { Tells (D.tells sock.new × C.tells clock.new × J.tells journal.new) (D.tells sock.old × C.tells clock.old × J.tells journal.old)
-        (DatagramsRan (serving (W.answer (arc_value service.now)) (W.hint (arc_value service.now))) result
-        (world (J.noted journal.old) (D.mail sock.old) (D.failed_sends sock.old) (C.readings clock.old) (known_of place.old))
-        (world (J.noted journal.new) (D.mail sock.new) (D.failed_sends sock.new) (C.readings clock.new) (known_of place.new))) }
-    ensures seat { InSlot (LooksBy result) (result ≡ DgramEnd.Shutdown) (known_of place.old) (known_of place.new) }
-    ensures place { IsSeatAt (arc_value book.now) place.new }
-    ensures cause { result ≡ DgramEnd.Fault → Rose (D.failed_receives sock.old) (D.failed_receives sock.new) }
-    ensures receives { D.failed_receives sock.old ≤ D.failed_receives sock.new }
-    ensures sends { D.failed_sends sock.old ≤ D.failed_sends sock.new }
-{
-    let Some(seat) = place.take() else {
-        unreachable!()
-    };
-    let (seat, end) = serve_in_slot(rt, alloc, book, seat, &**service, sock, clock, journal);
-    *place = Some(seat);
-    end
 }
 
 /// Serves datagrams without a count, in a slot where one is free.
@@ -192,8 +166,8 @@ fn serve_in_slot<R: Wait, D: AsyncDgramSock, C: Clock, J: Recorder, W: Served>(
     rt: &R,
     alloc: Global,
     book: &Book,
-    mut seat: BookSeat,
     service: &W,
+    mut seat: BookSeat,
     sock: &mut D,
     clock: &mut C,
     journal: &mut J,

@@ -20,7 +20,7 @@ pub use control::Control;
 pub use dgram::{DgramServer, UdpServer};
 pub use dns_host::{
     AcceptEnd, ConnectionEnd, ConnectionWork, DgramEnd, Host, HostEnd, Kept, NoHook, PreConnect,
-    Recorder, Silent, serve_accepts, serve_connection, serve_datagrams, serve_host,
+    Recorder, Silent, host_service, serve_accepts, serve_connection, serve_datagrams,
 };
 pub use metered::Metered;
 pub use metered_accept::MeteredAccept;

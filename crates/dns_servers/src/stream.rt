@@ -1,12 +1,12 @@
 //! A server of connections.
 
-ghost use Rattle.std.specs.Prelude.{◌≡◌, ◌≤◌, true, IfOk};
+ghost use Rattle.std.specs.Prelude.{◌≡◌, ◌≢◌, ◌≤◌, true, IfOk};
 ghost use Rattle.std.specs.Arc.{arc_value};
 ghost use Rattle.dns_service.specs.Config.{default_dgram, default_stream};
 ghost use Rattle.dns_admission.specs.Machine.{new_state};
 ghost use Rattle.dns_book.specs.Seats.{IsSound, new_known, first_half, second_half};
 ghost use Rattle.dns_servers.specs.Parts.{IsSeatAt, known_of};
-ghost use Rattle.dns_servers.specs.Runs.{ConnectionsRan};
+ghost use Rattle.dns_servers.specs.Runs.{EndsAs, ConnectionsRan};
 
 use crate::buf::{BufSource, VecBufSource};
 use crate::control::Control;
@@ -32,6 +32,18 @@ pub enum StreamEnd {
     Shutdown,
     /// A call found no memory.
     OutOfMemory,
+}
+
+/// The end of a server, by that of its loop without a count.
+fn end_of(end: AcceptEnd) -> StreamEnd
+    requires { end ≢ AcceptEnd.Counted }
+    ensures { EndsAs end result }
+{
+    match end {
+        AcceptEnd::Shutdown => StreamEnd::Shutdown,
+        AcceptEnd::OutOfMemory => StreamEnd::OutOfMemory,
+        AcceptEnd::Counted => unreachable!(),
+    }
 }
 
 /// A server of connections over a real socket.
@@ -219,6 +231,7 @@ where
     W::Future: Send,
     W::Stream: Send,
 {
+    #[tactic(auto, using(crate::proofs::Joinings::not_counted, crate::proofs::Joinings::ran_joined))]
     /// Accepts connections until a look shows a shutdown, and then waits for the end of those that are served.
     pub fn run<R: Threads + Wait + Copy + Send + 'static>(
         &mut self,
@@ -233,98 +246,23 @@ where
         ensures accepts_later { A.faults self.old.accept ≤ A.faults self.new.accept }
         ensures starts_later { P.faults self.old.spawner ≤ P.faults self.new.spawner }
     {
-        accept_from(
+        let Some(seat) = self.seat.take() else {
+            unreachable!()
+        };
+        let (seat, end) = serve_accepts(
             rt,
             alloc,
             &self.book,
-            &mut self.seat,
+            seat,
             &self.service,
             &mut self.accept,
             &self.clock,
             &mut self.spawner,
             &self.hook,
-        )
-    }
-}
-
-/// Accepts connections from the seat in its place, which is put back there.
-fn accept_from<
-    R: Threads + Wait + Copy + Send + 'static,
-    A: AsyncAccept,
-    C: Clock + Send + Drop + 'static,
-    W: Served + Send + Sync + 'static,
-    P: Spawner<ConnectionWork<A::Link, C, Silent, W>>,
-    H: PreConnect<A::Link>,
->(
-    rt: &R,
-    alloc: Global,
-    book: &Arc<Book>,
-    place: &mut Option<BookSeat>,
-    service: &Arc<W>,
-    accept: &mut A,
-    clock: &C,
-    spawner: &mut P,
-    hook: &H,
-) -> StreamEnd
-where
-    A::Link: Send + Drop + 'static,
-    W::Future: Send,
-    W::Stream: Send,
-    requires seat { IsSeatAt (arc_value book.now) place.old }
-    requires can_call { W.can_call (arc_value service.now) }
-    ensures told { ConnectionsRan result (A.tells accept.new × P.tells spawner.new) (A.tells accept.old × P.tells spawner.old) (known_of place.old) (known_of place.new)
-        (A.door accept.old) (A.door accept.new) (P.given spawner.old) (P.given spawner.new) (A.faults accept.old) (A.faults accept.new) }
-    ensures place { IsSeatAt (arc_value book.now) place.new }
-    ensures accepts_later { A.faults accept.old ≤ A.faults accept.new }
-    ensures starts_later { P.faults spawner.old ≤ P.faults spawner.new }
-{
-    let Some(seat) = place.take() else {
-        unreachable!()
-    };
-    let (seat, end) = accept_and_join(rt, alloc, book, seat, service, accept, clock, spawner, hook);
-    *place = Some(seat);
-    end
-}
-
-#[tactic(auto, using(crate::proofs::Joinings::shut_joined, crate::proofs::Joinings::almost_joined))]
-/// Accepts connections without a count, and then joins all work.
-fn accept_and_join<
-    R: Threads + Wait + Copy + Send + 'static,
-    A: AsyncAccept,
-    C: Clock + Send + Drop + 'static,
-    W: Served + Send + Sync + 'static,
-    P: Spawner<ConnectionWork<A::Link, C, Silent, W>>,
-    H: PreConnect<A::Link>,
->(
-    rt: &R,
-    alloc: Global,
-    book: &Arc<Book>,
-    seat: BookSeat,
-    service: &Arc<W>,
-    accept: &mut A,
-    clock: &C,
-    spawner: &mut P,
-    hook: &H,
-) -> (BookSeat, StreamEnd)
-where
-    A::Link: Send + Drop + 'static,
-    W::Future: Send,
-    W::Stream: Send,
-    requires book { seat.book ≡ arc_value book.now }
-    requires can_call { W.can_call (arc_value service.now) }
-    ensures told { ConnectionsRan result.1 (A.tells accept.new × P.tells spawner.new) (A.tells accept.old × P.tells spawner.old) seat.known result.0.known
-        (A.door accept.old) (A.door accept.new) (P.given spawner.old) (P.given spawner.new) (A.faults accept.old) (A.faults accept.new) }
-    ensures same { result.0.book ≡ seat.book }
-    ensures accepts_later { A.faults accept.old ≤ A.faults accept.new }
-    ensures starts_later { P.faults spawner.old ≤ P.faults spawner.new }
-{
-    let (seat, end) = serve_accepts(
-        rt, alloc, book, seat, service, accept, clock, spawner, hook, 0,
-    );
-    spawner.join_all(rt);
-    match end {
-        AcceptEnd::Shutdown => (seat, StreamEnd::Shutdown),
-        AcceptEnd::OutOfMemory => (seat, StreamEnd::OutOfMemory),
-        AcceptEnd::Counted => unreachable!(),
+            0,
+        );
+        self.seat = Some(seat);
+        self.spawner.join_all(rt);
+        end_of(end)
     }
 }

@@ -1,0 +1,279 @@
+//! Connections are received, one by one.
+
+ghost use Rattle.std.specs.Prelude.{◌≡◌, ◌≤◌, false, IfOk, MatchOption};
+ghost use Rattle.std.specs.Arc.{arc_value};
+ghost use Rattle.dns_outside.specs.Causes.{Tells};
+ghost use Rattle.dns_outside.specs.Starts.{StartMoves, StartCause};
+ghost use Rattle.dns_host.specs.Hosting.{AcceptsWent};
+ghost use Rattle.dns_host.specs.Arrivals.{AskedOne, Brought, StartFaults, AcceptFaults, EndedSo, AcceptsRan};
+
+use crate::accepts::AcceptEnd;
+use crate::pre_connect::PreConnect;
+use crate::taking::{Arrival, Tally, arrival_of};
+use crate::work::ConnectionWork;
+use dns_admission::Look;
+use dns_book::{Admission, Book, BookSeat};
+use dns_drivers::{PATIENCE, Silent};
+use dns_name::{OutOfMemory, SocketAddr};
+use dns_outside::{AcceptAnswer, AsyncAccept, Clock, Link, Spawner, Start};
+use dns_service::Served;
+use std::alloc::Global;
+use std::sync::{Arc, Wait};
+use std::thread::Threads;
+
+/// How long the loop waits after an accept that failed, in ms.
+const WAIT_AFTER_FAULT: u64 = 10;
+
+/// What connections are received with. No call changes it.
+#[derive(Drop)]
+pub(crate) struct Reception<'a, R, C, W, H> {
+    pub(crate) rt: &'a R,
+    pub(crate) alloc: Global,
+    pub(crate) book: &'a Arc<Book>,
+    pub(crate) service: &'a Arc<W>,
+    /// What the clock of each connection is made of.
+    pub(crate) clock: &'a C,
+    pub(crate) hook: &'a H,
+}
+
+/// What a connection shares with all others, and a clock of its own.
+#[derive(Drop)]
+struct Shares<C, W> {
+    book: Arc<Book>,
+    service: Arc<W>,
+    clock: C,
+}
+
+impl<C, W: Served> Shares<C, W> {
+    /// The work of a connection that was admitted by a look that shows no shutdown.
+    fn work<L>(
+        self,
+        seat: BookSeat,
+        client: u64,
+        addr: SocketAddr,
+        look: &Look,
+        link: L,
+    ) -> ConnectionWork<L, C, Silent, W>
+        requires book { seat.book ≡ arc_value self.book }
+        requires running { look.now.closed ≡ false }
+        requires can_call { W.can_call (arc_value self.service) }
+        ensures addr { result.addr ≡ addr }
+        ensures seat { result.seat.book ≡ arc_value result.book }
+        ensures running { result.look.closed ≡ false }
+        ensures can_call { W.can_call (arc_value result.service) }
+    {
+        let Shares {
+            book,
+            service,
+            clock,
+        } = self;
+        ConnectionWork::new(
+            book, seat, client, addr, *look, service, link, clock, Silent,
+        )
+    }
+}
+
+impl<
+    R: Threads + Wait + Copy + Send + 'static,
+    C: Clock + Send + Drop + 'static,
+    W: Served + Send + Sync + 'static,
+    H,
+> Reception<'_, R, C, W, H>
+where
+    W::Future: Send,
+    W::Stream: Send,
+{
+    /// Takes the memory that the work of a connection needs.
+    fn shares(&self) -> Result<Shares<C, W>, OutOfMemory>
+        ensures { IfOk result (λ s. (arc_value s.book ≡ arc_value self.now.book.now) × (arc_value s.service ≡ arc_value self.now.service.now)) }
+    {
+        Ok(Shares {
+            book: Arc::try_clone(self.book)?,
+            service: Arc::try_clone(self.service)?,
+            clock: self.clock.another(self.alloc)?,
+        })
+    }
+
+    /// Gives an admitted connection to the spawner, with a seat of its own. Where there is no memory for it, its slot is given
+    /// back and the link closed.
+    fn start_admitted<L: Link + Send + Drop + 'static, P: Spawner<ConnectionWork<L, C, Silent, W>>>(
+        &self,
+        mut seat: BookSeat,
+        client: u64,
+        from: SocketAddr,
+        look: &Look,
+        mut link: L,
+        spawner: &mut P,
+    ) -> Result<Start, OutOfMemory>
+        requires book { seat.book ≡ arc_value self.now.book.now }
+        requires running { look.now.closed ≡ false }
+        requires can_call { W.can_call (arc_value self.now.service.now) }
+        ensures given { Tells (P.tells spawner.new) (P.tells spawner.old) (StartMoves result from (P.given spawner.old) (P.given spawner.new)) }
+        ensures later { P.faults spawner.old ≤ P.faults spawner.new }
+        ensures cause { StartCause result (P.faults spawner.old) (P.faults spawner.new) }
+    {
+        match self.shares() {
+            Ok(shares) => {
+                let work = shares.work(seat, client, from, look, link);
+                spawner.start(self.rt, self.alloc, work)
+            }
+            Err(error) => {
+                self.book.release(self.rt, &mut seat);
+                link.close();
+                Err(error)
+            }
+        }
+    }
+
+    #[tactic(auto, using(crate::proofs::Askings::asked_started, crate::proofs::Askings::cause_of_start, crate::proofs::Askings::asked_full, crate::proofs::Askings::asked_closed))]
+    /// Asks the book for a slot. A connection that is admitted is served by work of its own, with the second half of the seat;
+    /// every other one is closed.
+    fn take_connection<
+        L: Link + Send + Drop + 'static,
+        P: Spawner<ConnectionWork<L, C, Silent, W>>,
+    >(
+        &self,
+        mut seat: BookSeat,
+        client: u64,
+        from: SocketAddr,
+        mut link: L,
+        spawner: &mut P,
+    ) -> (BookSeat, Result<Arrival, OutOfMemory>)
+    where
+        H: PreConnect<L>,
+        requires book { seat.book ≡ arc_value self.now.book.now }
+        requires can_call { W.can_call (arc_value self.now.service.now) }
+        ensures asked { AskedOne result.1 from (P.tells spawner.new) (P.tells spawner.old) seat.known result.0.known (P.given spawner.old) (P.given spawner.new) }
+        ensures same { result.0.book ≡ seat.book }
+        ensures later { P.faults spawner.old ≤ P.faults spawner.new }
+        ensures cause { StartFaults result.1 (P.faults spawner.old) (P.faults spawner.new) }
+    {
+        match self.book.admit(self.rt, &mut seat) {
+            Admission::Admitted(look) => {
+                self.hook.call(&mut link);
+                let (first, second) = self.book.split(self.rt, seat);
+                let started = self.start_admitted(second, client, from, &look, link, spawner);
+                (first, arrival_of(started))
+            }
+            Admission::Full { .. } | Admission::Closed => {
+                link.close();
+                (seat, Ok(Arrival::TurnedAway))
+            }
+        }
+    }
+
+    #[tactic(auto, using(crate::proofs::Bringings::brought_caller, crate::proofs::Bringings::brought_nobody, crate::proofs::Bringings::brought_fault))]
+    /// Makes one accept. A connection that comes is taken; where none came, it waits.
+    fn accept_once<A: AsyncAccept, P: Spawner<ConnectionWork<A::Link, C, Silent, W>>>(
+        &self,
+        seat: BookSeat,
+        client: u64,
+        accept: &mut A,
+        spawner: &mut P,
+    ) -> (BookSeat, Result<Arrival, OutOfMemory>)
+    where
+        A::Link: Send + Drop + 'static,
+        H: PreConnect<A::Link>,
+        requires book { seat.book ≡ arc_value self.now.book.now }
+        requires can_call { W.can_call (arc_value self.now.service.now) }
+        ensures brought { Brought result.1 (A.tells accept.new × P.tells spawner.new) (A.tells accept.old × P.tells spawner.old) seat.known result.0.known
+            (A.door accept.old) (A.door accept.new) (P.given spawner.old) (P.given spawner.new) (A.faults accept.old) (A.faults accept.new) }
+        ensures same { result.0.book ≡ seat.book }
+        ensures accepts { AcceptFaults result.1 (A.faults accept.old) (A.faults accept.new) }
+        ensures accepts_later { A.faults accept.old ≤ A.faults accept.new }
+        ensures starts { StartFaults result.1 (P.faults spawner.old) (P.faults spawner.new) }
+        ensures starts_later { P.faults spawner.old ≤ P.faults spawner.new }
+    {
+        match accept.poll_accept() {
+            AcceptAnswer::Accepted(link, from) => {
+                self.take_connection(seat, client, from, link, spawner)
+            }
+            AcceptAnswer::Again => {
+                accept.wait(self.rt, PATIENCE);
+                (seat, Ok(Arrival::Nobody))
+            }
+            AcceptAnswer::Failed => {
+                accept.wait(self.rt, WAIT_AFTER_FAULT);
+                (seat, Ok(Arrival::Fault))
+            }
+        }
+    }
+
+    /// How the loop ends before an accept: so many connections came, or a look shows a shutdown.
+    fn ended(&self, seat: &mut BookSeat, taken: u64, count: u64) -> Option<AcceptEnd>
+        requires { seat.old.book ≡ arc_value self.now.book.now }
+        ensures same { seat.new.book ≡ seat.old.book }
+        ensures ended { EndedSo result count taken seat.old.known seat.new.known }
+    {
+        if count != 0 && taken == count {
+            return Some(AcceptEnd::Counted);
+        }
+        if self.book.look(self.rt, seat).closed {
+            return Some(AcceptEnd::Shutdown);
+        }
+        None
+    }
+
+    #[tactic(auto, using(crate::proofs::Loops::so_far_none, crate::proofs::Loops::so_far_ended, crate::proofs::Loops::so_far_lost, crate::proofs::Loops::so_far_more, crate::proofs::Loops::rose_where_none, crate::proofs::Loops::rose_where_more, crate::proofs::Loops::rose_where_lost))]
+    /// Accepts connections, and gives each that the book admits to the spawner as work. The answer's last part says whether an
+    /// accept failed or a start was refused.
+    pub(crate) fn accept_all<A: AsyncAccept, P: Spawner<ConnectionWork<A::Link, C, Silent, W>>>(
+        &self,
+        mut seat: BookSeat,
+        accept: &mut A,
+        spawner: &mut P,
+        count: u64,
+    ) -> (BookSeat, AcceptEnd, bool)
+    where
+        A::Link: Send + Drop + 'static,
+        H: PreConnect<A::Link>,
+        requires book { seat.book ≡ arc_value self.now.book.now }
+        requires can_call { W.can_call (arc_value self.now.service.now) }
+        ensures ran { AcceptsRan A.tells A.door A.faults P.tells P.given P.faults result.1 result.2 count seat.known result.0.known accept.old accept.new spawner.old spawner.new }
+        ensures same { result.0.book ≡ seat.book }
+    {
+        let mut tally = Tally::new();
+        for _ in self.rt.forever() {
+            if let Some(end) = self.ended(&mut seat, tally.taken, count) {
+                return (seat, end, tally.faulted);
+            }
+            let (next, arrival) = self.accept_once(seat, tally.client, accept, spawner);
+            seat = next;
+            let Ok(arrival) = arrival else {
+                return (seat, AcceptEnd::OutOfMemory, tally.faulted);
+            };
+            tally.note(arrival);
+        }
+        unreachable!()
+    }
+
+    /// Accepts connections from the seat that stands in its place. Where that ends for want of memory, the book is shut down.
+    pub(crate) fn accepts_beside<A: AsyncAccept, P: Spawner<ConnectionWork<A::Link, C, Silent, W>>>(
+        &self,
+        accept: &mut A,
+        spawner: &mut P,
+        place: &mut Option<BookSeat>,
+        count: u64,
+    ) -> (BookSeat, AcceptEnd, bool)
+    where
+        A::Link: Send + Drop + 'static,
+        H: PreConnect<A::Link>,
+        requires place { MatchOption place.old ⊥ (λ seat. seat.book ≡ arc_value self.now.book.now) }
+        requires can_call { W.can_call (arc_value self.now.service.now) }
+        ensures went { MatchOption place.old ⊥ (λ seat. AcceptsWent A.tells A.door A.faults P.tells P.given P.faults
+            result.1 result.2 count seat.known result.0.known accept.old accept.new spawner.old spawner.new) }
+        ensures same { result.0.book ≡ arc_value self.now.book.now }
+    {
+        let Some(seat) = place.take() else {
+            unreachable!()
+        };
+        let (mut seat, end, faulted) = self.accept_all(seat, accept, spawner, count);
+        match end {
+            AcceptEnd::OutOfMemory => {
+                self.book.shutdown(self.rt, &mut seat);
+            }
+            AcceptEnd::Shutdown | AcceptEnd::Counted => {}
+        }
+        (seat, end, faulted)
+    }
+}
