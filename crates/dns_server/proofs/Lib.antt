@@ -1,3 +1,4 @@
 pub mod Batches
 pub mod Flooded
+pub mod Hosted
 pub mod Running

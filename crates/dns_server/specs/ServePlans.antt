@@ -1,5 +1,5 @@
 -- How words and a script plan a server.
-use Rattle.std.specs.Prelude.{◌≡◌, ℕ, List, Option, Some, None, IsSome, Result, Ok, Err}
+use Rattle.std.specs.Prelude.{◌≡◌, ℕ, Option, Some, None, IsSome, Result, Ok, Err}
 use Rattle.dns_middleware.specs.Verdicts.{Verdicts}
 use Rattle.dns_middleware.specs.declared.settings.Settings.{Settings}
 use Rattle.dns_trace.specs.declared.reason.Reason.{Reason}

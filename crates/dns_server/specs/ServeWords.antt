@@ -1,5 +1,5 @@
 -- The words by which a server is started.
-use Rattle.std.specs.Prelude.{◌≡◌, ℕ, ◌==◌, List, length, codes, Option, Some, None, IsSome, Result, Ok, Err, if◌then◌else◌}
+use Rattle.std.specs.Prelude.{◌≡◌, ℕ, ◌==◌, List, length, codes, Option, Some, None, Result, Ok, Err, if◌then◌else◌}
 use Rattle.std.specs.Str.{bytes_eq}
 use Rattle.dns_trace.specs.Reading.{◌>>=◌}
 use Rattle.dns_trace.specs.Values.{addr_of, port_of, num_of}

@@ -35,6 +35,13 @@ status_of_host HostDone = Done
 status_of_host HostOutOfMemory = OutOfMemory
 status_of_host HostFailed = HostFault
 
+-- What is so of how a host was served, by the status that stands for it. No other status is that of a host.
+abbrev pub OfHost : (HostEnd → Type 0) → Status → Type 0
+OfHost P Done = P HostDone
+OfHost P OutOfMemory = P HostOutOfMemory
+OfHost P HostFault = P HostFailed
+OfHost P _ = ⊥
+
 -- the source's count rises with ReadFault, and with no other status
 abbrev pub SourceFaults : Status → ℕ → ℕ → Type 0
 SourceFaults ReadFault a b = Rose a b

@@ -8,6 +8,7 @@ mod flood;
 mod generator;
 mod program;
 mod serve_words;
+mod server_host;
 mod server_plan;
 mod status;
 mod whole_script;
@@ -27,13 +28,14 @@ pub use dns_servers::{
     AcceptEnd, BufSource, ConnectionEnd, ConnectionWork, Control, DgramEnd, DgramServer, Host,
     HostEnd, Kept, Metered, MeteredAccept, MeteredSock, NoHook, PreConnect, Recorder,
     ServerCommand, ServerMetrics, Silent, StreamEnd, StreamServer, TcpServer, UdpServer,
-    VecBufSource, serve_accepts, serve_connection, serve_datagrams, serve_host,
+    VecBufSource, host_service, serve_accepts, serve_connection, serve_datagrams,
 };
 pub use dns_service::Plainly;
 pub use flood::count_flood;
 pub use generator::{event_at, next_event, next_number};
 pub use program::run;
 pub use serve_words::{ServeWords, read_serve};
+pub use server_host::serve_host;
 pub use server_plan::{ServePlan, serve_plan};
 pub use status::Status;
 pub use whole_script::read_whole;

@@ -22,7 +22,7 @@ pub enum Status {
     OutOfMemory,
     /// The source has more than 67,108,864 octets.
     TooLong,
-    /// A socket, a link or a thread of a running server failed.
+    /// A socket, an accept or a thread of a running server failed.
     HostFault,
 }
 

@@ -95,7 +95,7 @@ fn ended(rt: &impl Eprint, status: Status) -> ExitCode {
 fn warn_of(rt: &impl Eprint, status: Status) {
     if status == Status::HostFault {
         let logged = Logged::new(rt, LevelFilter::Warn, Console(rt));
-        warn!(logged; "a socket, a connection or a thread failed");
+        warn!(logged; "a socket, an accept or a thread failed");
     }
 }
 

@@ -7,7 +7,7 @@ use dns_name::{OutOfMemory, SocketAddr};
 use dns_outside::{HostClock, MioAccept, MioLink, MioSock, ThreadSpawner};
 use dns_server::{
     Book, BookSeat, BookState, ConnectionWork, Host, Plainly, ScriptService, ScriptTarget,
-    ServePlan, Silent, Status, Wrapped, serve_host, wrap,
+    ServePlan, Settings, Silent, Status, Wrapped, serve_host,
 };
 use std::alloc::Global;
 use std::net::Net;
@@ -73,10 +73,11 @@ fn machine<R: Net + rt::Clock + Copy + Send + 'static>(
     }
 }
 
-/// A book that is shared, and its seat.
-fn open_book(alloc: Global, state: BookState) -> Result<(Arc<Book>, BookSeat), OutOfMemory>
+/// A book that is shared, of the configurations of these settings, and its seat.
+fn open_book(alloc: Global, settings: &Settings) -> Result<(Arc<Book>, BookSeat), OutOfMemory>
     ensures { IfOk result (λ r. r.1.book ≡ arc_value r.0) }
 {
+    let state = BookState::new(settings.dgram, settings.stream);
     let (book, seat) = Book::new(alloc, state)?;
     match Arc::new(alloc, book) {
         Ok(book) => Ok((book, seat)),
@@ -84,35 +85,28 @@ fn open_book(alloc: Global, state: BookState) -> Result<(Arc<Book>, BookSeat), O
     }
 }
 
-/// Serves by a service and a book, over sockets that are open.
+/// Serves what is planned by a book, over sockets that are open.
 fn serve_book<R: Net + rt::Clock + Threads + Wait + Copy + Send + Sync + 'static>(
     rt: R,
     alloc: Global,
-    service: Answering,
+    plan: ServePlan,
     book: Arc<Book>,
     seat: BookSeat,
     machine: &mut Machine<R>,
-    count: u64,
 ) -> Status
     requires { seat.book ≡ arc_value book }
 {
-    let (_seat, end) = serve_host(&rt, alloc, service, &book, seat, machine, count);
-    Status::from(end)
-}
-
-/// Serves by a service, over sockets that are open.
-fn serve_service<R: Net + rt::Clock + Threads + Wait + Copy + Send + Sync + 'static>(
-    rt: R,
-    alloc: Global,
-    service: Answering,
-    state: BookState,
-    machine: &mut Machine<R>,
-    count: u64,
-) -> Status {
-    match open_book(alloc, state) {
-        Ok((book, seat)) => serve_book(rt, alloc, service, book, seat, machine, count),
-        Err(OutOfMemory) => Status::OutOfMemory,
-    }
+    let ServePlan {
+        addr: _addr,
+        count,
+        settings,
+        service,
+        target,
+    } = plan;
+    let (_seat, status) = serve_host(
+        &rt, alloc, &settings, service, target, &book, seat, machine, count,
+    );
+    status
 }
 
 /// Serves what is planned, over sockets that are open.
@@ -122,16 +116,8 @@ fn serve_over<R: Net + rt::Clock + Threads + Wait + Copy + Send + Sync + 'static
     plan: ServePlan,
     machine: &mut Machine<R>,
 ) -> Status {
-    let ServePlan {
-        addr: _addr,
-        count,
-        settings,
-        service,
-        target,
-    } = plan;
-    let state = BookState::new(settings.dgram, settings.stream);
-    match wrap(alloc, &settings, service, target) {
-        Ok(service) => serve_service(rt, alloc, Plainly { service }, state, machine, count),
+    match open_book(alloc, &plan.settings) {
+        Ok((book, seat)) => serve_book(rt, alloc, plan, book, seat, machine),
         Err(OutOfMemory) => Status::OutOfMemory,
     }
 }
