@@ -18,6 +18,7 @@ use dns_service::{CallResult, Polled, ServiceError, ServiceFeedback, ServiceResu
 use std::alloc::Global;
 
 /// One answer to a message.
+#[inline(always)]
 pub fn make_answer(
     alloc: Global,
     message: &Message,
@@ -37,6 +38,7 @@ pub fn make_answer(
 }
 
 /// A reply to a message, or the error `servfail` where something has no room.
+#[inline(always)]
 fn make_item(
     alloc: Global,
     message: &Message,
@@ -78,6 +80,7 @@ fn ready(
 }
 
 /// An answer to a message is begun; none where there is no room for the questions.
+#[inline(always)]
 fn begin(
     alloc: Global,
     message: &Message,
@@ -94,6 +97,7 @@ fn begin(
 }
 
 /// A reply with this response code, or the error `servfail` where the questions have no room.
+#[inline(always)]
 fn make_reply(alloc: Global, message: &Message, rcode: Rcode) -> Result<ServiceResult, OutOfMemory>
     ensures { IfOk result (λ i. i ≡ played_reply message.now rcode) }
 {

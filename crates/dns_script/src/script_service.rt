@@ -40,6 +40,7 @@ impl Service<()> for ScriptService {
 
     ghost hint = { λ _ r. hint_of r.transport };
 
+    #[inline(always)]
     fn call(&self, alloc: Global, request: &mut Request<()>) -> Result<ScriptFuture, OutOfMemory> {
         let answers = answers_for(alloc, self.rules.as_slice(), request.message())?;
         let message = Arc::try_clone(request.message())?;
@@ -114,6 +115,7 @@ impl ReplyStream for ScriptStream {
 
     ghost size = { λ s. (0, Some (length s.answers - s.next)) };
 
+    #[inline(always)]
     fn poll_next(&mut self, alloc: Global) -> Result<Polled<Option<ServiceResult>>, OutOfMemory> {
         let Some(answer) = self.answers.as_slice().get(self.next).copied() else {
             return Ok(Polled::Ready(None));
