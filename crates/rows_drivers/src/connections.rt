@@ -30,6 +30,13 @@ const QUERY: &[u8] =
 const REPLY: &[u8] =
     b"\x00\x1c\x12\x34\x81\x03\x00\x01\x00\x00\x00\x00\x00\x01\x00\x00\x01\x00\x01\x00\x00\x29\x00\x00\x00\x00\x00\x00\x00\x00";
 
+/// Both twice.
+const TWICE: &[u8] =
+    b"\x00\x11\x12\x34\x01\x00\x00\x01\x00\x00\x00\x00\x00\x00\x00\x00\x01\x00\x01\x00\x11\x12\x34\x01\x00\x00\x01\x00\x00\x00\x00\x00\x00\x00\x00\x01\x00\x01";
+
+const REPLIES: &[u8] =
+    b"\x00\x1c\x12\x34\x81\x03\x00\x01\x00\x00\x00\x00\x00\x01\x00\x00\x01\x00\x01\x00\x00\x29\x00\x00\x00\x00\x00\x00\x00\x00\x00\x1c\x12\x34\x81\x03\x00\x01\x00\x00\x00\x00\x00\x01\x00\x00\x01\x00\x01\x00\x00\x29\x00\x00\x00\x00\x00\x00\x00\x00";
+
 /// A query with an OPT record, and its reply, which says after how many units of 100 ms an idle connection is closed (RFC 7828).
 const QUERY_WITH_OPT: &[u8] =
     b"\x00\x1c\x12\x34\x01\x00\x00\x01\x00\x00\x00\x00\x00\x01\x00\x00\x01\x00\x01\x00\x00\x29\x00\x00\x00\x00\x00\x00\x00\x00";
@@ -37,13 +44,17 @@ const QUERY_WITH_OPT: &[u8] =
 const REPLY_WITH_OPT: &[u8] =
     b"\x00\x22\x12\x34\x81\x00\x00\x01\x00\x00\x00\x00\x00\x01\x00\x00\x01\x00\x01\x00\x00\x29\x00\x00\x00\x00\x00\x00\x00\x06\x00\x0b\x00\x02\x01\x2c";
 
-/// The letter of an event.
+/// What a write may take, in ms.
+const LATE: u64 = 30_000;
+
+/// The letter of an event. A write that took longer than it may has one of its own.
 fn letter(kind: &EventKind) -> u8 {
     match kind {
         EventKind::Datagram { .. } => b'D',
         EventKind::Offer { .. } => b'O',
         EventKind::Piece(_) => b'P',
         EventKind::Turn { .. } => b'T',
+        EventKind::Write { took } if *took > LATE => b'L',
         EventKind::Write { .. } => b'W',
         EventKind::Tick => b'I',
         EventKind::End => b'E',
@@ -109,8 +120,26 @@ pub(crate) fn calls(
     ))
 }
 
-/// A link that gives the query, of which these reads and writes fail and those writes answer Again, and which moves so many
-/// octets a call.
+/// A link that gives these octets, of which these reads and writes fail and those writes answer Again, and which moves so
+/// many octets a call.
+fn link_of(
+    alloc: Global,
+    octets: &[u8],
+    most: usize,
+    reads: &[u64],
+    writes: &[u64],
+    again: &[u64],
+) -> Result<MemoryLink, OutOfMemory> {
+    Ok(MemoryLink::new(
+        Vec::from_slice(alloc, octets)?,
+        Vec::new(alloc),
+        most,
+        calls(alloc, reads, &[])?,
+        calls(alloc, writes, again)?,
+    ))
+}
+
+/// The same of a link that gives the query.
 fn link(
     alloc: Global,
     most: usize,
@@ -118,13 +147,7 @@ fn link(
     writes: &[u64],
     again: &[u64],
 ) -> Result<MemoryLink, OutOfMemory> {
-    Ok(MemoryLink::new(
-        Vec::from_slice(alloc, QUERY)?,
-        Vec::new(alloc),
-        most,
-        calls(alloc, reads, &[])?,
-        calls(alloc, writes, again)?,
-    ))
+    link_of(alloc, QUERY, most, reads, writes, again)
 }
 
 /// Whether a connection to the service over the link ends for this reason after these events, with its slot given back.
@@ -194,14 +217,14 @@ fn a_query_is_answered(rt: HostRuntime) -> Result<(), OutOfMemory> {
     Ok(())
 }
 
-/// A link that moves one octet a call: one Write for the frame.
+/// A link that moves one octet a call, and gives the query twice: one Write for each frame.
 #[test]
 fn one_octet_a_call(rt: HostRuntime) -> Result<(), OutOfMemory> {
-    let mut link = link(rt.alloc(), 1, &[], &[], &[1, 3])?;
-    let letters = b"OPPPPPPPPPPPPPPPPPPPTWE";
+    let mut link = link_of(rt.alloc(), TWICE, 1, &[], &[], &[1, 3])?;
+    let letters = b"OPPPPPPPPPPPPPPPPPPPTWPTPPPPPPPPPPPPPPPPPPTWE";
     assert!(&rt;
         refuses(&rt, rt.alloc(), false, &mut link, &[], Why::Ended, letters)?
-            && link.written() == REPLY
+            && link.written() == REPLIES
     );
     Ok(())
 }
@@ -228,16 +251,31 @@ fn a_write_fails(rt: HostRuntime) -> Result<(), OutOfMemory> {
     Ok(())
 }
 
-/// A write finds no room for longer than it may take, by the readings of the clock.
-#[test]
-fn a_write_takes_too_long(rt: HostRuntime) -> Result<(), OutOfMemory> {
-    let mut link = link(rt.alloc(), 4096, &[], &[], &[0])?;
+/// Whether a write that takes an hour by the readings of the clock ends the connection, and these octets were written. The
+/// write answers Again first, where that is asked for.
+fn is_late<R: Wait>(
+    rt: &R,
+    alloc: Global,
+    again: &[u64],
+    written: &[u8],
+) -> Result<bool, OutOfMemory> {
+    let mut link = link(alloc, 4096, &[], &[], again)?;
     let times = [(0, 0), (1, 0), (2, 0), (3, 0), (3_600_004, 3_600)];
     let why = Why::WriteTimeout;
-    assert!(&rt;
-        refuses(&rt, rt.alloc(), false, &mut link, &times, why, b"OPTW")?
-            && link.written().is_empty()
-    );
+    Ok(refuses(rt, alloc, false, &mut link, &times, why, b"OPTL")? && link.written() == written)
+}
+
+/// A write finds no room for longer than it may take.
+#[test]
+fn a_write_takes_too_long(rt: HostRuntime) -> Result<(), OutOfMemory> {
+    assert!(&rt; is_late(&rt, rt.alloc(), &[0], &[])?);
+    Ok(())
+}
+
+/// A frame is written whole, but that takes longer than it may.
+#[test]
+fn a_whole_write_is_late(rt: HostRuntime) -> Result<(), OutOfMemory> {
+    assert!(&rt; is_late(&rt, rt.alloc(), &[], REPLY)?);
     Ok(())
 }
 

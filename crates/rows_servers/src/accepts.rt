@@ -4,32 +4,21 @@ ghost use Rattle.std.specs.Prelude.{◌≡◌};
 ghost use Rattle.std.specs.Arc.{arc_value};
 
 use crate::holding::Holding;
-use crate::links::{Seen, SeenLink, shows};
+use crate::links::{Marking, Seen, SeenLink, marks, shows};
 use crate::places::{Given, MemoryHost, NOTHING, book_of, host_of};
 use dns_book::{Book, BookSeat};
 use dns_name::OutOfMemory;
 use dns_outside::Spawner;
-use dns_servers::{AcceptEnd, PreConnect, serve_accepts};
+use dns_servers::{AcceptEnd, serve_accepts};
+use dns_service::Plainly;
 use std::alloc::Global;
-use std::sync::atomic::{AtomicBool, AtomicU64, Ordering};
+use std::sync::atomic::{AtomicBool, Ordering};
 use std::sync::{Arc, Wait};
 use std::thread::Threads;
 
 /// A query for the root's address, with id 1, behind its length.
 const QUERY: &[u8] =
     b"\x00\x11\x00\x01\x01\x00\x00\x01\x00\x00\x00\x00\x00\x00\x00\x00\x01\x00\x01";
-
-/// Counts the links that are about to be served.
-#[derive(Drop)]
-struct Counting {
-    calls: AtomicU64,
-}
-
-impl<L> PreConnect<L> for Counting {
-    fn call(&self, _link: &mut L) {
-        self.calls.fetch_add(1, Ordering::SeqCst);
-    }
-}
 
 /// Accepts the links of a host, then lets polls that are held go on, and joins all work. How that ended, and how many slots
 /// are taken then.
@@ -38,9 +27,8 @@ fn accept_in<R: Threads + Wait + Copy + Send + Sync + Drop + 'static>(
     alloc: Global,
     book: &Arc<Book>,
     seat: BookSeat,
-    service: &Arc<Holding>,
-    host: &mut MemoryHost<SeenLink<R>, Holding>,
-    hook: &Counting,
+    service: &Arc<Plainly<Holding>>,
+    host: &mut MemoryHost<SeenLink<R>, Plainly<Holding>>,
     count: u64,
 ) -> (AcceptEnd, u64)
     requires { seat.book ≡ arc_value book.now }
@@ -54,10 +42,10 @@ fn accept_in<R: Threads + Wait + Copy + Send + Sync + Drop + 'static>(
         &mut host.accept,
         &host.clock,
         &mut host.spawner,
-        hook,
+        &Marking,
         count,
     );
-    service.flag.store(true, Ordering::SeqCst);
+    service.service.flag.store(true, Ordering::SeqCst);
     host.spawner.join_all(rt);
     (end, book.look(rt, &mut seat).taken)
 }
@@ -66,18 +54,22 @@ fn accept_in<R: Threads + Wait + Copy + Send + Sync + Drop + 'static>(
 fn accept_beside<R: Threads + Wait + Copy + Send + Sync + Drop + 'static>(
     rt: &R,
     alloc: Global,
-    host: &mut MemoryHost<SeenLink<R>, Holding>,
-    hook: &Counting,
+    host: &mut MemoryHost<SeenLink<R>, Plainly<Holding>>,
     shut: bool,
     count: u64,
 ) -> Result<(AcceptEnd, u64), OutOfMemory> {
     let flag = Arc::new(alloc, AtomicBool::new(false))?;
-    let service = Arc::new(alloc, Holding { flag })?;
+    let service = Arc::new(
+        alloc,
+        Plainly {
+            service: Holding { flag },
+        },
+    )?;
     let (book, mut seat) = book_of(alloc, 2)?;
     if shut {
         book.shutdown(rt, &mut seat);
     }
-    Ok(accept_in(rt, alloc, &book, seat, &service, host, hook, count))
+    Ok(accept_in(rt, alloc, &book, seat, &service, host, count))
 }
 
 /// The same of a host that is given these queries.
@@ -86,29 +78,27 @@ fn accept_links<R: Threads + Wait + Copy + Send + Sync + Drop + 'static>(
     alloc: Global,
     queries: &[&[u8]],
     seen: &mut Vec<Arc<Seen>>,
-    hook: &Counting,
     shut: bool,
     count: u64,
 ) -> Result<(AcceptEnd, u64), OutOfMemory> {
     let given = Given { queries, ..NOTHING };
     let mut host = host_of(rt, alloc, &given, seen)?;
-    accept_beside(&rt, alloc, &mut host, hook, shut, count)
+    accept_beside(&rt, alloc, &mut host, shut, count)
 }
 
-/// Of three connections two are admitted, since there are two slots: for each of these the hook is called once, and each is
+/// Of three connections two are admitted, since there are two slots: the hook is handed each of these once, and each is
 /// answered. The third is closed at once. Afterwards no slot is taken.
 #[test]
 fn the_hook_is_called_once_a_link(rt: HostRuntime) -> Result<(), OutOfMemory> {
-    let hook = Counting {
-        calls: AtomicU64::new(0),
-    };
     let mut seen = Vec::new(rt.alloc());
     let queries: [&[u8]; 3] = [QUERY, QUERY, QUERY];
-    let end = accept_links(rt, rt.alloc(), &queries, &mut seen, &hook, false, 3)?;
+    let end = accept_links(rt, rt.alloc(), &queries, &mut seen, false, 3)?;
     let written = shows(&rt, &seen, 0, 30, b"") && shows(&rt, &seen, 1, 30, b"");
-    let calls = hook.calls.load(Ordering::SeqCst);
     assert!(&rt;
-        written && shows(&rt, &seen, 2, 0, b"") && calls == 2 && end == (AcceptEnd::Counted, 0)
+        written
+            && shows(&rt, &seen, 2, 0, b"")
+            && marks(&seen, 3, 2)
+            && end == (AcceptEnd::Counted, 0)
     );
     Ok(())
 }
@@ -116,12 +106,9 @@ fn the_hook_is_called_once_a_link(rt: HostRuntime) -> Result<(), OutOfMemory> {
 /// A look that shows a shutdown ends the loop before it accepts.
 #[test]
 fn a_shutdown_ends_the_loop(rt: HostRuntime) -> Result<(), OutOfMemory> {
-    let hook = Counting {
-        calls: AtomicU64::new(0),
-    };
     let mut seen = Vec::new(rt.alloc());
-    let end = accept_links(rt, rt.alloc(), &[QUERY], &mut seen, &hook, true, 0)?;
+    let end = accept_links(rt, rt.alloc(), &[QUERY], &mut seen, true, 0)?;
     let open = seen.len() == 1 && seen[0].closed.load(Ordering::SeqCst) == 0;
-    assert!(&rt; open && end == (AcceptEnd::Shutdown, 0));
+    assert!(&rt; open && marks(&seen, 1, 0) && end == (AcceptEnd::Shutdown, 0));
     Ok(())
 }

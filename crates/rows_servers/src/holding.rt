@@ -7,7 +7,7 @@ ghost use Rattle.dns_service.specs.ServiceFn.{hint_at_entry};
 
 use dns_name::{OptRcode, OutOfMemory};
 use dns_service::{
-    CallResult, Once, Polled, ReplyFuture, ReplyStream, Request, Served, mk_error_response,
+    CallResult, Once, Polled, ReplyFuture, ReplyStream, Request, Service, mk_error_response,
 };
 use std::alloc::Global;
 use std::sync::Arc;
@@ -70,7 +70,7 @@ impl ReplyFuture for Held {
     }
 }
 
-impl Served for Holding {
+impl Service<()> for Holding {
     type Stream = Once;
 
     type Future = Held;

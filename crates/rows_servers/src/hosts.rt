@@ -6,7 +6,7 @@ use crate::holding::Holding;
 use crate::links::{Seen, shows};
 use crate::places::{Given, NOTHING, host_of, serve};
 use dns_name::OutOfMemory;
-use dns_servers::HostEnd;
+use dns_server::Status;
 use std::alloc::Global;
 use std::sync::atomic::AtomicBool;
 use std::sync::{Arc, Wait};
@@ -29,7 +29,7 @@ fn serve_given<R: Threads + Wait + Copy + Send + Sync + Drop + 'static>(
     given: &Given<'_>,
     count: u64,
     seen: &mut Vec<Arc<Seen>>,
-) -> Result<(HostEnd, u64), OutOfMemory> {
+) -> Result<(Status, u64), OutOfMemory> {
     let flag = Arc::new(alloc, AtomicBool::new(flag))?;
     let mut host = host_of(rt, alloc, given, seen)?;
     serve(&rt, alloc, Holding { flag }, &mut host, count)
@@ -37,7 +37,7 @@ fn serve_given<R: Threads + Wait + Copy + Send + Sync + Drop + 'static>(
 
 /// Whether a frame of this id and RCODE 0 was written on the link at a place, and the link was closed once.
 fn answered<R: Wait>(rt: &R, seen: &[Arc<Seen>], place: usize, id: u8) -> bool {
-    shows(rt, seen, place, 30, &[0, 28, 0, id, 0x81, 0])
+    shows(rt, seen, place, 19, &[0, 17, 0, id, 0x81, 0])
 }
 
 /// The first poll of one client is held until the other client's request is polled.
@@ -51,7 +51,7 @@ fn held_poll(rt: HostRuntime) -> Result<(), OutOfMemory> {
     };
     let end = serve_given(rt, rt.alloc(), false, &given, 2, &mut seen)?;
     let both = answered(&rt, &seen, 0, 1) && answered(&rt, &seen, 1, 2);
-    assert!(&rt; both && end == (HostEnd::Done, 0));
+    assert!(&rt; both && end == (Status::Done, 0));
     Ok(())
 }
 
@@ -68,7 +68,7 @@ fn a_refused_start_is_given_up(rt: HostRuntime) -> Result<(), OutOfMemory> {
     };
     let end = serve_given(rt, rt.alloc(), true, &given, 3, &mut seen)?;
     let served = answered(&rt, &seen, 0, 2) && answered(&rt, &seen, 2, 2);
-    assert!(&rt; served && shows(&rt, &seen, 1, 0, b"") && end == (HostEnd::HostFault, 0));
+    assert!(&rt; served && shows(&rt, &seen, 1, 0, b"") && end == (Status::HostFault, 0));
     Ok(())
 }
 
@@ -83,7 +83,7 @@ fn a_failed_accept_is_passed_over(rt: HostRuntime) -> Result<(), OutOfMemory> {
         ..NOTHING
     };
     let end = serve_given(rt, rt.alloc(), true, &given, 1, &mut seen)?;
-    assert!(&rt; end == (HostEnd::HostFault, 0) && answered(&rt, &seen, 0, 2));
+    assert!(&rt; end == (Status::HostFault, 0) && answered(&rt, &seen, 0, 2));
     Ok(())
 }
 
@@ -97,7 +97,7 @@ fn a_failed_receive_ends_all(rt: HostRuntime) -> Result<(), OutOfMemory> {
         ..NOTHING
     };
     let end = serve_given(rt, rt.alloc(), true, &given, 0, &mut seen)?;
-    assert!(&rt; end == (HostEnd::HostFault, 0));
+    assert!(&rt; end == (Status::HostFault, 0));
     Ok(())
 }
 
@@ -112,6 +112,6 @@ fn a_failed_send_is_told(rt: HostRuntime) -> Result<(), OutOfMemory> {
         ..NOTHING
     };
     let end = serve_given(rt, rt.alloc(), true, &given, 1, &mut seen)?;
-    assert!(&rt; end == (HostEnd::HostFault, 0) && answered(&rt, &seen, 0, 2));
+    assert!(&rt; end == (Status::HostFault, 0) && answered(&rt, &seen, 0, 2));
     Ok(())
 }

@@ -3,13 +3,12 @@
 ghost use Rattle.std.specs.Prelude.{◌≡◌};
 
 use crate::links::{Seen, SeenLink, shows};
-use crate::places::{Given, MemoryHost, NOTHING, host_of, serve};
-use crate::refusing::{Nobody, Refusal, refuse};
-use dns_middleware::{Settings, wrap};
+use crate::places::{Given, LayeredHost, NOTHING, host_of, serve};
+use crate::refusing::{Refusal, refuse};
 use dns_name::{OptRcode, OutOfMemory};
 use dns_outside::MemorySock;
-use dns_servers::HostEnd;
-use dns_service::{Plainly, Served, service_fn};
+use dns_server::Status;
+use dns_service::{Service, service_fn};
 use std::alloc::Global;
 use std::sync::{Arc, Wait};
 use std::thread::Threads;
@@ -29,24 +28,24 @@ fn was_sent(sock: &MemorySock, octets: &[u8]) -> bool {
 /// Serves one connection and one datagram. Whether that is done, the connection got this frame and the datagram this reply.
 fn gives_in<
     R: Threads + Wait + Copy + Send + Sync + Drop + 'static,
-    W: Served + Send + Sync + 'static,
+    S: Service<()> + Send + Sync + 'static,
 >(
     rt: &R,
     alloc: Global,
-    service: W,
-    host: &mut MemoryHost<SeenLink<R>, W>,
+    service: S,
+    host: &mut LayeredHost<SeenLink<R>, S>,
     seen: &[Arc<Seen>],
     frame: &[u8],
     reply: &[u8],
 ) -> Result<bool, OutOfMemory>
 where
-    W::Future: Send,
-    W::Stream: Send,
-    requires { W.can_call service }
+    S::Future: Send,
+    S::Stream: Send,
+    requires { S.can_call service }
 {
-    let (end, _) = serve(rt, alloc, service, host, 1)?;
+    let (status, _) = serve(rt, alloc, service, host, 1)?;
     Ok(
-        end == HostEnd::Done
+        status == Status::Done
             && was_sent(&host.sock, reply)
             && shows(rt, seen, 0, frame.len(), frame),
     )
@@ -55,12 +54,12 @@ where
 /// The same of a host of its own.
 fn gives<
     R: Threads + Wait + Copy + Send + Sync + Drop + 'static,
-    W: Served + Send + Sync + 'static,
->(rt: R, alloc: Global, service: W, frame: &[u8], reply: &[u8]) -> Result<bool, OutOfMemory>
+    S: Service<()> + Send + Sync + 'static,
+>(rt: R, alloc: Global, service: S, frame: &[u8], reply: &[u8]) -> Result<bool, OutOfMemory>
 where
-    W::Future: Send,
-    W::Stream: Send,
-    requires { W.can_call service }
+    S::Future: Send,
+    S::Stream: Send,
+    requires { S.can_call service }
 {
     let given = Given {
         queries: &[FRAME],
@@ -72,7 +71,7 @@ where
     gives_in(&rt, alloc, service, &mut host, &seen, frame, reply)
 }
 
-/// The same of a service in all layers that refuses each request with this code.
+/// The same of a service that refuses each request with this code.
 fn refuses<R: Threads + Wait + Copy + Send + Sync + Drop + 'static>(
     rt: R,
     alloc: Global,
@@ -80,9 +79,13 @@ fn refuses<R: Threads + Wait + Copy + Send + Sync + Drop + 'static>(
     frame: &[u8],
     reply: &[u8],
 ) -> Result<bool, OutOfMemory> {
-    let service = service_fn::<Refusal, _, _>(refuse, rcode);
-    let service = wrap(alloc, &Settings::new(alloc), service, Nobody {})?;
-    gives(rt, alloc, Plainly { service }, frame, reply)
+    gives(
+        rt,
+        alloc,
+        service_fn::<Refusal, _, _>(refuse, rcode),
+        frame,
+        reply,
+    )
 }
 
 /// The name isn't there.

@@ -5,6 +5,7 @@ ghost use Rattle.std.specs.Prelude.{[]};
 use crate::places::PEER;
 use dns_name::{OutOfMemory, SocketAddr};
 use dns_outside::{Link, LinkRead, LinkWrite};
+use dns_servers::PreConnect;
 use std::alloc::Global;
 use std::collections::VecDeque;
 use std::sync::atomic::{AtomicU64, Ordering};
@@ -16,6 +17,8 @@ use std::thread::yield_now;
 pub struct Seen {
     /// The octets that were written.
     pub written: Mutex<Vec<u8>>,
+    /// The number of times that it was handed to a hook.
+    pub hooked: AtomicU64,
     /// The number of times that it was closed.
     pub closed: AtomicU64,
 }
@@ -33,6 +36,7 @@ pub struct SeenLink<R> {
 fn unseen(alloc: Global, seen: &mut Vec<Arc<Seen>>) -> Result<Arc<Seen>, OutOfMemory> {
     let sight = Seen {
         written: Mutex::new(Vec::new(alloc)),
+        hooked: AtomicU64::new(0),
         closed: AtomicU64::new(0),
     };
     let sight = Arc::new(alloc, sight)?;
@@ -58,6 +62,30 @@ pub fn links_of<R: Wait + Copy + Drop>(
         links.push_back((link, PEER))?;
     }
     Ok(links)
+}
+
+/// A hook that marks each link that it is handed.
+#[derive(Clone, Copy, Debug)]
+pub struct Marking;
+
+impl<R> PreConnect<SeenLink<R>> for Marking {
+    fn call(&self, link: &mut SeenLink<R>) {
+        link.seen.hooked.fetch_add(1, Ordering::SeqCst);
+    }
+}
+
+/// Whether so many links were seen, of which the hook was handed the first `count` once each and no other.
+pub fn marks(seen: &[Arc<Seen>], links: usize, count: usize) -> bool {
+    if seen.len() != links {
+        return false;
+    }
+    for (place, sight) in seen.iter().enumerate() {
+        let wanted = u64::from(place < count);
+        if sight.hooked.load(Ordering::SeqCst) != wanted {
+            return false;
+        }
+    }
+    true
 }
 
 /// Whether the octets begin with a whole frame.

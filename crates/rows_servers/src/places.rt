@@ -4,13 +4,16 @@ ghost use Rattle.std.specs.Prelude.{◌≡◌, IfOk};
 ghost use Rattle.std.specs.Arc.{arc_value};
 
 use crate::links::{Seen, SeenLink, links_of};
+use crate::refusing::Nobody;
 use dns_book::{Book, BookSeat, BookState};
+use dns_middleware::{Settings, Wrapped};
 use dns_name::{IpAddr, Octets, OutOfMemory, SocketAddr};
 use dns_outside::{
     Letter, Link, ListedCalls, MemoryAccept, MemoryClock, MemorySock, MemorySpawner,
 };
-use dns_servers::{ConnectionWork, Host, HostEnd, Silent, serve_host};
-use dns_service::{DgramConfig, Served, StreamConfig};
+use dns_server::{Status, serve_host};
+use dns_servers::{ConnectionWork, Host, Silent};
+use dns_service::{DgramConfig, Plainly, Served, Service, StreamConfig};
 use std::alloc::Global;
 use std::collections::VecDeque;
 use std::sync::{Arc, Wait};
@@ -29,6 +32,9 @@ pub type MemoryHost<L, W> = Host<
     MemorySpawner<ConnectionWork<L, MemoryClock, Silent, W>>,
     Silent,
 >;
+
+/// A host in memory whose service stands in all layers, over a target that nobody may change.
+pub type LayeredHost<L, S> = MemoryHost<L, Plainly<Wrapped<S, Nobody>>>;
 
 /// What a host is given: a link for each of these queries, these datagrams, and the accepts, receives and starts that fail.
 #[derive(Clone, Copy)]
@@ -144,24 +150,36 @@ where
     }
 }
 
-/// Serves a host in a book with ten slots. How it ended, and how many slots are taken then.
+/// Serves a host by a service in the layers of the first settings, in a book with ten slots. How it ended, and how many slots
+/// are taken then.
 pub fn serve<
     R: Threads + Wait + Copy + Send + Sync + 'static,
     L: Link + Send + Drop + 'static,
-    W: Served + Send + Sync + 'static,
+    S: Service<()> + Send + Sync + 'static,
 >(
     rt: &R,
     alloc: Global,
-    service: W,
-    host: &mut MemoryHost<L, W>,
+    service: S,
+    host: &mut LayeredHost<L, S>,
     count: u64,
-) -> Result<(HostEnd, u64), OutOfMemory>
+) -> Result<(Status, u64), OutOfMemory>
 where
-    W::Future: Send,
-    W::Stream: Send,
-    requires { W.can_call service }
+    S::Future: Send,
+    S::Stream: Send,
+    requires { S.can_call service }
 {
     let (book, seat) = book_of(alloc, 10)?;
-    let (mut seat, end) = serve_host(rt, alloc, service, &book, seat, host, count);
-    Ok((end, book.look(rt, &mut seat).taken))
+    let settings = Settings::new(alloc);
+    let (mut seat, status) = serve_host(
+        rt,
+        alloc,
+        &settings,
+        service,
+        Nobody {},
+        &book,
+        seat,
+        host,
+        count,
+    );
+    Ok((status, book.look(rt, &mut seat).taken))
 }

@@ -2,10 +2,11 @@
 
 ghost use Rattle.std.specs.Prelude.{◌≡◌, IfOk};
 
+use crate::links::{Marking, SeenLink, links_of, marks};
 use crate::places::{PEER, letter};
 use crate::refusing::{Refusal, refuse};
-use dns_name::{OptRcode, OutOfMemory};
-use dns_outside::{MemoryClock, MemorySpawner, SteadyAccept, SteadyLink, SteadySock};
+use dns_name::{OptRcode, OutOfMemory, SocketAddr};
+use dns_outside::{Link, MemoryClock, MemorySpawner, SteadyAccept, SteadyLink, SteadySock};
 use dns_servers::{
     ConnectionWork, Control, DgramEnd, DgramServer, Kept, Metered, NoHook, PreConnect,
     ServerMetrics, Silent, StreamEnd, StreamServer, VecBufSource,
@@ -13,7 +14,6 @@ use dns_servers::{
 use dns_service::{Plainly, Served, service_fn};
 use std::alloc::Global;
 use std::collections::VecDeque;
-use std::sync::atomic::{AtomicUsize, Ordering};
 use std::sync::{Arc, Wait};
 use std::thread;
 use std::thread::{Parker, Threads};
@@ -23,19 +23,23 @@ use std::time::Duration;
 const QUERY: &[u8] =
     b"\x00\x11\x12\x34\x01\x00\x00\x01\x00\x00\x00\x00\x00\x00\x00\x00\x01\x00\x01";
 
+/// The reply that the name isn't there, with the OPT record of an error reply.
+const REPLY: &[u8] =
+    b"\x12\x34\x81\x03\x00\x01\x00\x00\x00\x00\x00\x01\x00\x00\x01\x00\x01\x00\x00\x29\x00\x00\x00\x00\x00\x00\x00\x00";
+
 /// How often a test looks whether what it waits for has come.
 const TURNS: u64 = 20_000;
 
 /// A server of datagrams over memory.
 type Datagrams<W> = DgramServer<SteadySock, VecBufSource, W, MemoryClock>;
 
-/// A server of connections over memory.
-type Connections<W, H = NoHook> = StreamServer<
-    SteadyAccept<SteadyLink>,
+/// A server of connections over memory, by links of any type.
+type Connections<L, W, H = NoHook> = StreamServer<
+    SteadyAccept<L>,
     VecBufSource,
     W,
     MemoryClock,
-    MemorySpawner<ConnectionWork<Metered<SteadyLink>, MemoryClock, Silent, W>>,
+    MemorySpawner<ConnectionWork<Metered<L>, MemoryClock, Silent, W>>,
     H,
 >;
 
@@ -80,22 +84,20 @@ fn datagrams<W: Served>(alloc: Global, service: W) -> Result<Datagrams<W>, OutOf
     )
 }
 
-/// So many links, each with one query.
-fn links(alloc: Global, count: usize) -> Result<SteadyAccept<SteadyLink>, OutOfMemory> {
+/// One link with one query.
+fn link(alloc: Global) -> Result<VecDeque<(SteadyLink, SocketAddr)>, OutOfMemory> {
     let mut connections = VecDeque::new(alloc);
-    for _ in 0..count {
-        let link = SteadyLink::new(Vec::from_slice(alloc, QUERY)?, Vec::new(alloc));
-        connections.push_back((link, PEER))?;
-    }
-    Ok(SteadyAccept::new(alloc, connections))
+    let link = SteadyLink::new(Vec::from_slice(alloc, QUERY)?, Vec::new(alloc));
+    connections.push_back((link, PEER))?;
+    Ok(connections)
 }
 
-/// A server of so many links.
-fn connections<W: Served + Send + Sync + 'static>(
+/// A server of these links.
+fn connections<L: Link + Send + Drop + 'static, W: Served + Send + Sync + 'static>(
     alloc: Global,
-    count: usize,
+    links: VecDeque<(L, SocketAddr)>,
     service: W,
-) -> Result<Connections<W>, OutOfMemory>
+) -> Result<Connections<L, W>, OutOfMemory>
 where
     W::Future: Send,
     W::Stream: Send,
@@ -104,7 +106,7 @@ where
     let service = Arc::new(alloc, service)?;
     StreamServer::new(
         alloc,
-        links(alloc, count)?,
+        SteadyAccept::new(alloc, links),
         VecBufSource,
         service,
         MemoryClock::new(Vec::new(alloc)),
@@ -136,12 +138,13 @@ fn run_datagrams<R: Threads + Wait + Sync, W: Served>(
 /// Runs the server until so many responses were sent. Whether it was shut down then, as the control shows that shut it down.
 fn run_connections<
     R: Threads + Wait + Copy + Send + Sync + 'static,
+    L: Link + Send + Drop + 'static,
     W: Served + Send + Sync + 'static,
-    H: PreConnect<SteadyLink> + Drop,
+    H: PreConnect<L> + Drop,
 >(
     rt: &R,
     alloc: Global,
-    server: &mut Connections<W, H>,
+    server: &mut Connections<L, W, H>,
     responses: usize,
 ) -> Result<bool, OutOfMemory>
 where
@@ -178,6 +181,12 @@ fn answers<R: Threads + Wait + Sync, W: Served>(
     )
 }
 
+/// Whether the reply alone was sent, to where the query came from.
+fn sent_the_reply(sock: &SteadySock) -> bool {
+    let sent = sock.sent();
+    sent.len() == 1 && sent[0].octets.as_slice() == REPLY && sent[0].addr == PEER
+}
+
 /// Whether the server does so, and shows what it counted.
 fn answers_and_counts<R: Threads + Wait + Sync, W: Served>(
     rt: &R,
@@ -190,7 +199,7 @@ fn answers_and_counts<R: Threads + Wait + Sync, W: Served>(
     Ok(
         answers(rt, alloc, server, journal)?
             && shows_one(server.metrics())
-            && server.source().sent().len() == 1
+            && sent_the_reply(server.source())
             && journal.events().len() > 2,
     )
 }
@@ -269,7 +278,7 @@ fn a_closed_server_serves_nothing(rt: HostRuntime) -> Result<(), OutOfMemory> {
 fn is_answered<R: Threads + Wait + Copy + Send + Sync + 'static, W: Served + Send + Sync + 'static>(
     rt: &R,
     alloc: Global,
-    server: &mut Connections<W>,
+    server: &mut Connections<SteadyLink, W>,
 ) -> Result<bool, OutOfMemory>
 where
     W::Future: Send,
@@ -295,7 +304,7 @@ where
     W::Stream: Send,
     requires { W.can_call service }
 {
-    let mut server = connections(alloc, 1, service)?;
+    let mut server = connections(alloc, link(alloc)?, service)?;
     is_answered(rt, alloc, &mut server)
 }
 
@@ -309,43 +318,35 @@ fn a_connection_is_answered(rt: HostRuntime) -> Result<(), OutOfMemory> {
     Ok(())
 }
 
-/// A hook that counts its calls.
-#[derive(Drop)]
-struct Calls {
-    count: Arc<AtomicUsize>,
-}
-
-impl PreConnect<SteadyLink> for Calls {
-    fn call(&self, _link: &mut SteadyLink) {
-        self.count.fetch_add(1, Ordering::Relaxed);
-    }
-}
-
-/// Whether a server with this hook answers three connections and is shut down.
+/// Whether a server of these links with a hook that marks them answers each and is shut down.
 fn answers_with_hook<
-    R: Threads + Wait + Copy + Send + Sync + 'static,
+    R: Threads + Wait + Copy + Send + Sync + Drop + 'static,
     W: Served + Send + Sync + 'static,
->(rt: &R, alloc: Global, service: W, hook: Calls) -> Result<bool, OutOfMemory>
+>(
+    rt: &R,
+    alloc: Global,
+    links: VecDeque<(SeenLink<R>, SocketAddr)>,
+    service: W,
+) -> Result<bool, OutOfMemory>
 where
     W::Future: Send,
     W::Stream: Send,
     requires { W.can_call service }
 {
-    let mut server = connections(alloc, 3, service)?.with_pre_connect_hook(hook);
-    run_connections(rt, alloc, &mut server, 3)
+    let count = links.len();
+    let mut server = connections(alloc, links, service)?.with_pre_connect_hook(Marking);
+    run_connections(rt, alloc, &mut server, count)
 }
 
-/// The hook is called once on each link that is admitted.
+/// The hook is handed each link that is admitted, once.
 #[test]
 fn the_hook_is_called(rt: HostRuntime) -> Result<(), OutOfMemory> {
-    let count = Arc::new(rt.alloc(), AtomicUsize::new(0))?;
-    let hook = Calls {
-        count: Arc::try_clone(&count)?,
-    };
+    let mut seen = Vec::new(rt.alloc());
+    let queries: [&[u8]; 3] = [QUERY, QUERY, QUERY];
+    let links = links_of(rt, rt.alloc(), &queries, &mut seen)?;
     let service = Plainly {
         service: service_fn::<Refusal, _, _>(refuse, OptRcode::NXDOMAIN),
     };
-    assert!(&rt; answers_with_hook(&rt, rt.alloc(), service, hook)?);
-    assert!(&rt; count.load(Ordering::Relaxed) == 3);
+    assert!(&rt; answers_with_hook(&rt, rt.alloc(), links, service)? && marks(&seen, 3, 3));
     Ok(())
 }
