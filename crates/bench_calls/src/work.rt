@@ -1,78 +1,35 @@
 //! The pieces of work by name.
 
-use crate::build::{Parts, built};
+use crate::build::built;
 use crate::hash::{checks, hash_chain};
-use crate::layers::{BARE_QUERY, QUERY, served};
+use crate::layers::{BARE_QUERY, Layers, QUERY, served};
 use crate::read::readings;
-use crate::response::RESPONSE;
 use std::alloc::Global;
 
-/// What is done many times over.
-#[derive(Clone, Copy)]
-pub enum Work {
-    /// A hash of 20 octets.
-    Sip20,
-    /// A hash of 64 octets.
-    Sip64,
-    /// A check of a server cookie's hash.
-    Check,
-    /// A reading of a response into borrowed views.
-    Read,
-    /// The building of that response.
-    Build,
-    /// A query to a service that answers at once.
-    Plain,
-    /// The same through the mandatory layer and the EDNS layer.
-    Layers,
-    /// The same for a query without an OPT record.
-    Bare,
-    /// A query to a service that answers at once, in all layers.
-    Wrapped,
-    /// The same for a query without an OPT record.
-    BareWrapped,
+/// What is left of work.
+pub(crate) enum Done {
+    /// A number that tells on each of its results.
+    Sum(u64),
+    /// Memory is short, or a service gives no reply.
+    Nothing,
+    /// No work has this name.
+    NoSuchWork,
 }
 
-impl Work {
-    /// The work of this name.
-    pub fn named(name: &str) -> Option<Work> {
-        match name {
-            "sip20" => Some(Work::Sip20),
-            "sip64" => Some(Work::Sip64),
-            "check" => Some(Work::Check),
-            "read" => Some(Work::Read),
-            "build" => Some(Work::Build),
-            "plain" => Some(Work::Plain),
-            "layers" => Some(Work::Layers),
-            "bare" => Some(Work::Bare),
-            "wrapped" => Some(Work::Wrapped),
-            "bare_wrapped" => Some(Work::BareWrapped),
-            _ => None,
-        }
-    }
-}
-
-/// Does work so many times, and gives a number that tells on each of its results; none where memory is short, or a service
-/// gives no reply or more than one.
-pub fn done(alloc: Global, work: Work, count: u64) -> Option<u64> {
+/// Does work so many times: a hash of 20 or of 64 octets, a check of a server cookie's hash, the reading of a response into
+/// borrowed views, the building of that response, or a query to a service that answers at once; a bare one has no OPT record.
+pub(crate) fn carried_out(alloc: Global, work: &str, count: u64) -> Done {
     match work {
-        Work::Sip20 => Some(hash_chain(&mut [0; 20], count)),
-        Work::Sip64 => Some(hash_chain(&mut [0; 64], count)),
-        Work::Check => Some(checks(count)),
-        Work::Read => read_often(alloc, count),
-        Work::Build => build_often(alloc, count),
-        Work::Bare | Work::BareWrapped => served(alloc, work, &mut BARE_QUERY, count),
-        _ => served(alloc, work, &mut QUERY, count),
+        "sip20" => Done::Sum(hash_chain(&mut [0; 20], count)),
+        "sip64" => Done::Sum(hash_chain(&mut [0; 64], count)),
+        "check" => Done::Sum(checks(count)),
+        "read" => readings(alloc, count),
+        "build" => built(alloc, count),
+        "plain" => served(alloc, Layers::None, &mut QUERY, count),
+        "layers" => served(alloc, Layers::Two, &mut QUERY, count),
+        "bare" => served(alloc, Layers::Two, &mut BARE_QUERY, count),
+        "wrapped" => served(alloc, Layers::All, &mut QUERY, count),
+        "bare_wrapped" => served(alloc, Layers::All, &mut BARE_QUERY, count),
+        _ => Done::NoSuchWork,
     }
-}
-
-/// Reads the response so many times.
-fn read_often(alloc: Global, count: u64) -> Option<u64> {
-    let mut octets = Vec::from_slice(alloc, RESPONSE).ok()?;
-    readings(octets.as_mut_slice(), count).ok()
-}
-
-/// Builds the response so many times.
-fn build_often(alloc: Global, count: u64) -> Option<u64> {
-    let parts = Parts::of(alloc, RESPONSE).ok()?;
-    built(alloc, &parts, count).ok()
 }

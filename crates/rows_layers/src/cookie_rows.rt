@@ -1,13 +1,14 @@
 //! Rows of the cookie layer: a request through it to a service that answers at once.
 
 use crate::inner::{AsPlanned, planned};
-use crate::layer_rows::{item, only_item};
+use crate::layer_rows::item;
 use crate::request_rows::request_from;
+use crate::said::{Shown, called};
 use dns_base::MessageRef;
 use dns_middleware::CookiesMiddlewareSvc;
 use dns_name::{IpAddr, ParseError};
 use dns_opt::{Cookie, MessageOpt, OptRef};
-use dns_service::{Polled, ReplyFuture, ReplyStream, Request, Service, ServiceResult, service_fn};
+use dns_service::{OutOfMemory, Polled, Request, Service, ServiceResult, service_fn};
 use rows_table::{Row, RowError, address_of};
 
 /// Under a secret, from an address at a second, with one denied address or `-` for none: a request to a service that
@@ -17,8 +18,10 @@ pub(crate) fn with_cookies(call: &str, row: &mut Row<'_>) -> Result<(), RowError
     let address = row.address();
     let second = row.number::<u64>();
     let denied = denied(row)?;
-    let mut request = request_from(row, address, second)?;
-    asked_with(call, row, &secret, denied, &mut request)
+    match request_from(row, address, second) {
+        Ok(mut request) => asked_with(call, row, &secret, denied, &mut request),
+        Err(error) => Err(error),
+    }
 }
 
 /// The same of a request.
@@ -29,12 +32,43 @@ fn asked_with(
     denied: Vec<IpAddr>,
     request: &mut Request<()>,
 ) -> Result<(), RowError> {
-    let service = service_fn::<AsPlanned, _, _>(planned, item(row, request)?);
-    let layer = CookiesMiddlewareSvc::new(row.alloc(), service, *secret).with_denied_ips(denied);
-    match call {
-        "made_cookies" => made(row, &layer, request, secret),
-        _ => only_item(row, &layer.enable(call == "cookies"), request),
+    let shown = match call {
+        "made_cookies" => Shown::Cookies(request.client_addr().ip, secret),
+        _ => Shown::Only,
+    };
+    match item(row, request) {
+        Ok(item) => Ok(in_cookies(
+            row,
+            service_fn::<AsPlanned, _, _>(planned, item),
+            secret,
+            denied,
+            request,
+            call != "cookies_disabled",
+            shown,
+        )),
+        Err(error) => Err(error),
     }
+}
+
+/// What a service gives to a request through the cookie layer.
+fn in_cookies<S: Service<()>>(
+    row: &mut Row<'_>,
+    service: S,
+    secret: &[u8; 16],
+    denied: Vec<IpAddr>,
+    request: &mut Request<()>,
+    enabled: bool,
+    shown: Shown<'_>,
+)
+    requires { S.can_call service }
+{
+    let layer = CookiesMiddlewareSvc::new(row.alloc(), service, *secret);
+    called(
+        row,
+        layer.with_denied_ips(denied).enable(enabled),
+        request,
+        shown,
+    )
 }
 
 /// The denied address of the next word.
@@ -47,72 +81,31 @@ fn denied(row: &mut Row<'_>) -> Result<Vec<IpAddr>, RowError> {
     Ok(denied)
 }
 
-/// How many cookies the reply has that a service gives to a request, and how many of them check for the sender under a
-/// secret, whatever their timestamp.
-fn made<S: Service<()>>(
+/// How many cookies the reply has that a poll gives, and how many of them check for an address under a secret, whatever
+/// their timestamp.
+pub(crate) fn cookies_said(
     row: &mut Row<'_>,
-    service: &S,
-    request: &mut Request<()>,
-    secret: &[u8; 16],
-) -> Result<(), RowError>
-    requires { S.can_call service.now }
-{
-    let address = request.client_addr().ip;
-    let mut future = service.call(row.alloc(), request)?;
-    stream_said(row, &mut future, address, secret)
-}
-
-fn stream_said<F: ReplyFuture>(
-    row: &mut Row<'_>,
-    future: &mut F,
+    polled: &Result<Polled<Option<ServiceResult>>, OutOfMemory>,
     address: IpAddr,
     secret: &[u8; 16],
-) -> Result<(), RowError> {
-    match future.poll(row.alloc())? {
-        Polled::Ready(mut stream) => first_said(row, &mut stream, address, secret),
-        Polled::Pending => Err(RowError::Missing),
-    }
-}
-
-fn first_said<S: ReplyStream>(
-    row: &mut Row<'_>,
-    stream: &mut S,
-    address: IpAddr,
-    secret: &[u8; 16],
-) -> Result<(), RowError> {
-    match stream.poll_next(row.alloc())? {
-        Polled::Ready(Some(item)) => made_said(row, item, address, secret),
-        _ => Err(RowError::Missing),
-    }
-}
-
-fn made_said(
-    row: &mut Row<'_>,
-    item: ServiceResult,
-    address: IpAddr,
-    secret: &[u8; 16],
-) -> Result<(), RowError> {
-    match item {
-        Ok(given) => match given.response() {
+) {
+    match polled {
+        Ok(Polled::Ready(Some(Ok(given)))) => match given.response() {
             Some(reply) => reply_said(row, reply.as_slice(), address, secret),
-            None => Err(RowError::Missing),
+            None => row.fail(RowError::Missing),
         },
-        Err(error) => Ok(row.debug(&error)),
+        _ => row.fail(RowError::Missing),
     }
 }
 
-fn reply_said(
-    row: &mut Row<'_>,
-    reply: &[u8],
-    address: IpAddr,
-    secret: &[u8; 16],
-) -> Result<(), RowError> {
-    let message = MessageRef::from_slice(reply).or(Err(RowError::OutOfForm))?;
-    match message.opt() {
-        Some(record) => count_said(row, record.opt(), address, secret),
-        None => row.say("no record"),
+fn reply_said(row: &mut Row<'_>, reply: &[u8], address: IpAddr, secret: &[u8; 16]) {
+    match MessageRef::from_slice(reply) {
+        Ok(message) => match message.opt() {
+            Some(record) => count_said(row, record.opt(), address, secret),
+            None => row.say("no record"),
+        },
+        Err(_) => row.fail(RowError::OutOfForm),
     }
-    Ok(())
 }
 
 /// How many of some options are cookies, and how many of these check.

@@ -27,16 +27,12 @@ pub(crate) fn planned(
     }
 }
 
-/// A copy of a reply or a feedback; there is none of nothing.
+/// A copy of a reply; there is none of a feedback.
 fn copied(alloc: Global, given: &CallResult) -> Result<CallResult, OutOfMemory>
     ensures { IfOk result (λ copy. copy ≡ given.now) }
 {
     match (given.response(), given.feedback()) {
         (Some(reply), None) => Ok(CallResult::new(reply.try_clone(alloc)?)),
-        (Some(reply), Some(feedback)) => {
-            Ok(CallResult::new(reply.try_clone(alloc)?).with_feedback(feedback))
-        }
-        (None, Some(feedback)) => Ok(CallResult::feedback_only(feedback)),
-        (None, None) => Err(OutOfMemory),
+        _ => Err(OutOfMemory),
     }
 }

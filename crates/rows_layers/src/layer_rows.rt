@@ -4,16 +4,13 @@ use crate::cookie_rows::with_cookies;
 use crate::inner::{AsPlanned, planned};
 use crate::notify_rows::notified;
 use crate::request_rows::hint_said;
-use crate::said::poll_said;
+use crate::said::{Shown, called};
 use crate::stream_rows::watched;
 use crate::words::{opt_rcode, reply, service_error};
 use crate::wrap_rows::wrapped;
 use dns_base::AdditionalBuilder;
 use dns_middleware::{EdnsMiddlewareSvc, MandatoryMiddlewareSvc, cut};
-use dns_service::{
-    CallResult, OutOfMemory, Polled, ReplyFuture, ReplyStream, Request, Service, ServiceResult,
-    mk_error_response, service_fn,
-};
+use dns_service::{CallResult, Request, Service, ServiceResult, mk_error_response, service_fn};
 use rows_table::{Calls, Row, RowError};
 
 /// The layers and their streams.
@@ -44,14 +41,41 @@ fn cut_reply(row: &mut Row<'_>) -> Result<(), RowError> {
     Ok(())
 }
 
-/// A request through layers to a service that answers with the item behind it.
+/// Layers round a service, each strict or on where it says so.
+#[derive(Drop)]
+enum Layers {
+    Mandatory(bool),
+    Edns(bool),
+    /// The EDNS layer within the mandatory one.
+    Both(bool),
+}
+
+/// The layers that a call names.
+fn layers_of(call: &str) -> Option<Layers> {
+    match call {
+        "mandatory" => Some(Layers::Mandatory(true)),
+        "mandatory_relaxed" => Some(Layers::Mandatory(false)),
+        "edns_hint" => Some(Layers::Edns(true)),
+        "edns_disabled" => Some(Layers::Edns(false)),
+        "both" => Some(Layers::Both(true)),
+        "both_relaxed" => Some(Layers::Both(false)),
+        _ => None,
+    }
+}
+
+/// A request through the layers that a call names to a service that answers with the item behind it.
 pub(crate) fn layered(
     call: &str,
     row: &mut Row<'_>,
     request: &mut Request<()>,
 ) -> Result<(), RowError> {
-    let service = service_fn::<AsPlanned, _, _>(planned, item(row, request)?);
-    through(row, call, service, request)
+    match item(row, request) {
+        Ok(item) => {
+            let service = service_fn::<AsPlanned, _, _>(planned, item);
+            Ok(through(row, layers_of(call), service, request))
+        }
+        Err(error) => Err(error),
+    }
 }
 
 /// The item of the next word: an error by its name, the error reply to the request with a response code, or octets.
@@ -80,28 +104,22 @@ fn item_reply(
     }
 }
 
-/// Through the layers that a call names.
+/// Through layers.
 fn through<S: Service<()>>(
     row: &mut Row<'_>,
-    call: &str,
+    layers: Option<Layers>,
     service: S,
     request: &mut Request<()>,
-) -> Result<(), RowError>
+)
     requires { S.can_call service }
 {
-    match call {
-        "mandatory" => in_mandatory(row, true, service, request),
-        "mandatory_relaxed" => in_mandatory(row, false, service, request),
-        "edns_disabled" => {
-            only_item(row, &EdnsMiddlewareSvc::new(service).enable(false), request)
+    match layers {
+        Some(Layers::Mandatory(strict)) => in_mandatory(row, strict, service, request),
+        Some(Layers::Edns(on)) => in_edns(row, on, service, request),
+        Some(Layers::Both(strict)) => {
+            in_mandatory(row, strict, EdnsMiddlewareSvc::new(service), request)
         }
-        "edns_hint" => hint_after(row, &EdnsMiddlewareSvc::new(service), request),
-        _ => in_mandatory(
-            row,
-            call == "both",
-            EdnsMiddlewareSvc::new(service),
-            request,
-        ),
+        None => row.fail(RowError::NoSuchCall),
     }
 }
 
@@ -111,56 +129,38 @@ fn in_mandatory<S: Service<()>>(
     strict: bool,
     service: S,
     request: &mut Request<()>,
-) -> Result<(), RowError>
+)
     requires { S.can_call service }
 {
     if strict {
-        only_item(row, &MandatoryMiddlewareSvc::new(service), request)
+        called(
+            row,
+            MandatoryMiddlewareSvc::new(service),
+            request,
+            Shown::Only,
+        )
     } else {
-        only_item(row, &MandatoryMiddlewareSvc::relaxed(service), request)
+        called(
+            row,
+            MandatoryMiddlewareSvc::relaxed(service),
+            request,
+            Shown::Only,
+        )
     }
 }
 
-/// The hint that the request has after a call.
-fn hint_after<S: Service<()>>(
-    row: &mut Row<'_>,
-    service: &S,
-    request: &mut Request<()>,
-) -> Result<(), RowError>
-    requires { S.can_call service.now }
+/// The hint that a request has after it went through the EDNS layer; or the item, where the layer is off.
+fn in_edns<S: Service<()>>(row: &mut Row<'_>, on: bool, service: S, request: &mut Request<()>)
+    requires { S.can_call service }
 {
-    service.call(row.alloc(), request)?;
-    hint_said(row, request.transport_ctx());
-    Ok(())
-}
-
-/// The item that a service gives at the first poll, where the second poll gives the end.
-pub(crate) fn only_item<S: Service<()>>(
-    row: &mut Row<'_>,
-    service: &S,
-    request: &mut Request<()>,
-) -> Result<(), RowError>
-    requires { S.can_call service.now }
-{
-    let mut future = service.call(row.alloc(), request)?;
-    only_stream(row, &mut future)
-}
-
-fn only_stream<F: ReplyFuture>(row: &mut Row<'_>, future: &mut F) -> Result<(), RowError> {
-    match future.poll(row.alloc())? {
-        Polled::Ready(mut stream) => {
-            poll_said(row, stream.poll_next(row.alloc()));
-            end_said(row, stream.poll_next(row.alloc()));
-        }
-        Polled::Pending => row.say("no stream"),
-    }
-    Ok(())
-}
-
-/// Says where a stream doesn't end.
-fn end_said(row: &mut Row<'_>, polled: Result<Polled<Option<ServiceResult>>, OutOfMemory>) {
-    match polled {
-        Ok(Polled::Ready(None)) => {}
-        _ => row.say("no end"),
+    let shown = if on { Shown::Polls(0) } else { Shown::Only };
+    called(
+        row,
+        EdnsMiddlewareSvc::new(service).enable(on),
+        request,
+        shown,
+    );
+    if on {
+        hint_said(row, request.transport_ctx())
     }
 }

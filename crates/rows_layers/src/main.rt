@@ -31,8 +31,8 @@ fn main(rt: HostRuntime) -> io::Result<ExitCode> {
     run(
         &rt,
         &(
-            (RequestRows, ServiceRows),
-            (ReplyRows, (RouteRows, LayerRows)),
+            (ServiceRows, ReplyRows),
+            (RouteRows, (LayerRows, RequestRows)),
         ),
     )
 }

@@ -3,18 +3,20 @@
 use crate::inner::{AsPlanned, planned};
 use crate::layer_rows::item;
 use crate::request_rows::request;
-use crate::stream_rows::polled;
+use crate::said::{Shown, called};
 use crate::target::Target;
 use dns_middleware::NotifyMiddlewareSvc;
-use dns_service::{Polled, ReplyFuture, Request, Service, service_fn};
+use dns_service::{Request, Service, service_fn};
 use rows_table::{Row, RowError};
 
 /// So many polls of a request, with a target, to a service that answers with the item behind it.
 pub(crate) fn notified(row: &mut Row<'_>) -> Result<(), RowError> {
     let polls = row.number::<u8>();
     let target = Target::next(row)?;
-    let mut request = request(row)?;
-    asked_with(row, target, &mut request, polls)
+    match request(row) {
+        Ok(mut request) => asked_with(row, target, &mut request, polls),
+        Err(error) => Err(error),
+    }
 }
 
 /// The same of a request.
@@ -24,32 +26,28 @@ fn asked_with(
     request: &mut Request<()>,
     polls: u8,
 ) -> Result<(), RowError> {
-    let service = service_fn::<AsPlanned, _, _>(planned, item(row, request)?);
-    let layer = NotifyMiddlewareSvc::new(service, target);
-    some_polls(row, &layer, request, polls)
+    match item(row, request) {
+        Ok(item) => Ok(in_notify(
+            row,
+            service_fn::<AsPlanned, _, _>(planned, item),
+            target,
+            request,
+            polls,
+        )),
+        Err(error) => Err(error),
+    }
 }
 
-/// What so many polls of a service's stream give to a request.
-pub(crate) fn some_polls<S: Service<()>>(
+/// What so many polls give of a service through the NOTIFY layer.
+fn in_notify<S: Service<()>>(
     row: &mut Row<'_>,
-    service: &S,
+    service: S,
+    target: Target,
     request: &mut Request<()>,
     polls: u8,
-) -> Result<(), RowError>
-    requires { S.can_call service.now }
+)
+    requires { S.can_call service }
 {
-    let mut future = service.call(row.alloc(), request)?;
-    future_polls(row, &mut future, polls)
-}
-
-fn future_polls<F: ReplyFuture>(
-    row: &mut Row<'_>,
-    future: &mut F,
-    polls: u8,
-) -> Result<(), RowError> {
-    match future.poll(row.alloc())? {
-        Polled::Ready(mut stream) => polled(row, &mut stream, polls),
-        Polled::Pending => row.say("no stream"),
-    }
-    Ok(())
+    let layer = NotifyMiddlewareSvc::new(service, target);
+    called(row, layer, request, Shown::Polls(polls))
 }

@@ -13,6 +13,7 @@ use dns_service::{
 };
 use rows_table::{Calls, Row, RowError};
 use std::alloc::Global;
+use std::fmt::Debug;
 
 /// Replies.
 pub(crate) struct ReplyRows;
@@ -119,54 +120,56 @@ fn steps_taken(row: &mut Row<'_>, reply: &mut AdditionalBuilder) {
     }
 }
 
+/// A step: an OPT record of a size and with the code BADCOOKIE, an OPT record with padding, padding, an NSID or an address
+/// that is added, a push limit, or the OPT record that is removed.
 fn step_said(row: &mut Row<'_>, reply: &mut AdditionalBuilder, step: &str) {
     let (name, argument) = step.split_once(':').unwrap_or((step, "0"));
-    if let Err(error) = step_taken(row, reply, name, argument) {
-        row.debug(&error);
+    match name {
+        "nsid" => option_added(row, reply, argument),
+        "address" => address_pushed(row, reply),
+        "remove" => row.keep(remove_edns_opt_record(row.alloc(), reply)),
+        _ => numbered_step_said(row, reply, name, argument),
     }
 }
 
-/// A step: an OPT record of a size and with the code BADCOOKIE, an OPT record with padding, padding, an NSID or an address
-/// that is added, a push limit, or the OPT record that is removed.
-fn step_taken(
+/// A step whose argument is a number.
+fn numbered_step_said(
     row: &mut Row<'_>,
     reply: &mut AdditionalBuilder,
     name: &str,
     argument: &str,
-) -> Result<(), BuildDataError> {
+) {
+    let number = row.number_of::<u16>(argument);
     match name {
-        "nsid" => option_added(row, reply, argument),
-        "address" => address_pushed(row.alloc(), reply),
-        "remove" => Ok(remove_edns_opt_record(row.alloc(), reply)?),
-        "opt" => sized_opt(row.alloc(), reply, row.number_of(argument)),
-        "padding" => padded(row.alloc(), reply, true, row.number_of(argument)),
-        "add_padding" => padded(row.alloc(), reply, false, row.number_of(argument)),
-        "limit" => Ok(reply.set_push_limit(row.number_of(argument))),
-        _ => Ok(row.fail(RowError::NoSuchStep)),
+        "opt" => sized_opt(row, reply, number),
+        "padding" => padded(row, reply, true, number),
+        "add_padding" => padded(row, reply, false, number),
+        "limit" => reply.set_push_limit(usize::from(number)),
+        _ => row.fail(RowError::NoSuchStep),
+    }
+}
+
+/// Says the refusal of a step.
+fn refusal_said<E: Debug + Drop>(row: &mut Row<'_>, done: Result<(), E>) {
+    if let Err(error) = done {
+        row.debug(&error);
     }
 }
 
 /// An OPT record of a size, and with the response code BADCOOKIE where there is a size.
-fn sized_opt(
-    alloc: Global,
-    reply: &mut AdditionalBuilder,
-    size: u16,
-) -> Result<(), BuildDataError> {
-    reply.opt(alloc, |opt: &mut OptBuilder| sized(opt, size))
+fn sized_opt(row: &mut Row<'_>, reply: &mut AdditionalBuilder, size: u16) {
+    let done = reply.opt(row.alloc(), |opt: &mut OptBuilder| sized(opt, size));
+    refusal_said(row, done)
 }
 
 /// An OPT record with padding, or padding that is added.
-fn padded(
-    alloc: Global,
-    reply: &mut AdditionalBuilder,
-    alone: bool,
-    number: u16,
-) -> Result<(), BuildDataError> {
+fn padded(row: &mut Row<'_>, reply: &mut AdditionalBuilder, alone: bool, number: u16) {
+    let alloc = row.alloc();
     let padding = |opt: &mut OptBuilder| opt.padding(alloc, number);
     if alone {
-        reply.opt(alloc, padding)
+        refusal_said(row, reply.opt(alloc, padding))
     } else {
-        add_edns_options(alloc, reply, padding)
+        refusal_said(row, add_edns_options(alloc, reply, padding))
     }
 }
 
@@ -179,20 +182,18 @@ fn sized(opt: &mut OptBuilder, size: u16) -> Result<(), BuildDataError> {
     Ok(())
 }
 
-fn option_added(
-    row: &mut Row<'_>,
-    reply: &mut AdditionalBuilder,
-    octets: &str,
-) -> Result<(), BuildDataError> {
-    let octets = row.octets_of(octets);
-    add_edns_option(row.alloc(), reply, &NsidRef::from_slice(octets)?)
+fn option_added(row: &mut Row<'_>, reply: &mut AdditionalBuilder, octets: &str) {
+    match NsidRef::from_slice(row.octets_of(octets)) {
+        Ok(identifier) => refusal_said(row, add_edns_option(row.alloc(), reply, &identifier)),
+        Err(error) => row.debug(&error),
+    }
 }
 
 /// Pushes the root's address.
-fn address_pushed(alloc: Global, reply: &mut AdditionalBuilder) -> Result<(), BuildDataError> {
-    match address(alloc) {
-        Some(item) => Ok(reply.push(alloc, &item)?),
-        None => Err(BuildDataError::OutOfMemory),
+fn address_pushed(row: &mut Row<'_>, reply: &mut AdditionalBuilder) {
+    match address(row.alloc()) {
+        Some(item) => refusal_said(row, reply.push(row.alloc(), &item)),
+        None => row.fail(RowError::OutOfMemory),
     }
 }
 

@@ -8,35 +8,25 @@ use dns_name::{IpAddr, SocketAddr};
 use dns_service::{NonUdpTransportContext, Request, TransportSpecificContext, UdpTransportContext};
 use rows_table::{Calls, Row, RowError};
 
-/// Calls whose first words are a request: a transport and a message.
+/// Calls whose first words are a request: a transport and a message. They are asked last, since the request is read before
+/// its call is looked for.
 pub(crate) struct RequestRows;
 
 impl Calls for RequestRows {
     fn answer(&self, call: &str, row: &mut Row<'_>) -> Result<(), RowError> {
         match call {
-            "request"
-            | "try_clone"
-            | "reserve_bytes"
-            | "set_max_response_size_hint"
-            | "served"
-            | "arc"
-            | "request_message"
-            | "mandatory"
-            | "mandatory_relaxed"
-            | "both"
-            | "both_relaxed"
-            | "edns_disabled"
-            | "edns_hint" => of_request(call, row),
             "with_new_metadata" => other_metadata(row),
-            _ => Err(RowError::NoSuchCall),
+            _ => of_request(call, row),
         }
     }
 }
 
 /// What a call says of the next words' request.
 fn of_request(call: &str, row: &mut Row<'_>) -> Result<(), RowError> {
-    let mut request = request(row)?;
-    asked(call, row, &mut request)
+    match request(row) {
+        Ok(mut request) => asked(call, row, &mut request),
+        Err(error) => Err(error),
+    }
 }
 
 /// What a call says of a request; through layers where it names none of these.
@@ -46,8 +36,8 @@ fn asked(call: &str, row: &mut Row<'_>, request: &mut Request<()>) -> Result<(),
         "try_clone" => copied(row, request),
         "reserve_bytes" => Ok(reserve(row, request)),
         "set_max_response_size_hint" => Ok(other_hint(row, request)),
-        "served" => served(row, request),
-        "arc" => of_arc(row, request),
+        "served" => Ok(served(row, request)),
+        "arc" => Ok(of_arc(row, request)),
         "request_message" => Ok(request_message(row, request)),
         _ => layered(call, row, request),
     }

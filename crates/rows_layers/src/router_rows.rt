@@ -5,7 +5,7 @@ ghost use Rattle.dns_service.specs.declared.service.Polled.TheVariants.{Pending,
 
 use crate::request_rows::request;
 use crate::route_rows::composed_said;
-use crate::stream_rows::polled;
+use crate::said::polled;
 use crate::words::service_error;
 use dns_base::Message;
 use dns_name::Name;

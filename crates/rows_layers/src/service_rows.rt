@@ -7,7 +7,7 @@ ghost use Rattle.dns_service.specs.Transport.{hint_of};
 use crate::error_rows::{next_error, rcode, reply_error, service_text, text};
 use crate::inner::{AsPlanned, planned};
 use crate::request_rows::request;
-use crate::said::{poll_said, size_said};
+use crate::said::{next_said, size_said};
 use dns_service::{
     CallResult, Now, Once, OutOfMemory, Plainly, Polled, ReplyFuture, ReplyStream, Request, Served,
     Service, ServiceError, ServiceFeedback, ServiceResult, service_fn,
@@ -71,7 +71,7 @@ impl Calls for ServiceRows {
     fn answer(&self, call: &str, row: &mut Row<'_>) -> Result<(), RowError> {
         match call {
             "service_fn" => of_closure(row),
-            "once" => once(row),
+            "once" => Ok(once(row)),
             "rcode" => rcode(row),
             "service_error" => service_text(row),
             "error" => text(row),
@@ -82,75 +82,84 @@ impl Calls for ServiceRows {
 }
 
 /// What the silent service gives as a shared one.
-pub(crate) fn served(row: &mut Row<'_>, request: &mut Request<()>) -> Result<(), RowError> {
-    let shared = Arc::new(row.alloc(), Plainly { service: Silent {} })?;
-    let mut future = Served::call(&shared, row.alloc(), request)?;
-    future_said(row, &mut future)
+pub(crate) fn served(row: &mut Row<'_>, request: &mut Request<()>) {
+    match Arc::new(row.alloc(), Plainly { service: Silent {} }) {
+        Ok(shared) => match Served::call(&shared, row.alloc(), request) {
+            Ok(mut future) => future_said(row, &mut future),
+            Err(OutOfMemory) => row.fail(RowError::OutOfMemory),
+        },
+        Err(_) => row.fail(RowError::OutOfMemory),
+    }
 }
 
 /// What the silent service gives as a service behind a shared reference.
-pub(crate) fn of_arc(row: &mut Row<'_>, request: &mut Request<()>) -> Result<(), RowError> {
-    let shared = Arc::new(row.alloc(), Silent {})?;
-    answered(row, &shared, request)
+pub(crate) fn of_arc(row: &mut Row<'_>, request: &mut Request<()>) {
+    match Arc::new(row.alloc(), Silent {}) {
+        Ok(shared) => answered(row, shared, request),
+        Err(_) => row.fail(RowError::OutOfMemory),
+    }
 }
 
 /// What a service gives to a request.
-fn answered<S: Service<()>>(
-    row: &mut Row<'_>,
-    service: &S,
-    request: &mut Request<()>,
-) -> Result<(), RowError>
-    requires { S.can_call service.now }
+fn answered<S: Service<()>>(row: &mut Row<'_>, service: S, request: &mut Request<()>)
+    requires { S.can_call service }
 {
-    let mut future = service.call(row.alloc(), request)?;
-    future_said(row, &mut future)
+    match service.call(row.alloc(), request) {
+        Ok(mut future) => future_said(row, &mut future),
+        Err(OutOfMemory) => row.fail(RowError::OutOfMemory),
+    }
 }
 
 /// What a service of a closure gives that answers with this error.
 fn of_closure(row: &mut Row<'_>) -> Result<(), RowError> {
     let error = next_error(row)?;
-    let mut request = request(row)?;
-    refused(row, &mut request, error)
+    match request(row) {
+        Ok(mut request) => Ok(refused(row, &mut request, error)),
+        Err(error) => Err(error),
+    }
 }
 
 /// The same of a request, and how many octets it has reserved.
-fn refused(
-    row: &mut Row<'_>,
-    request: &mut Request<()>,
-    error: ServiceError,
-) -> Result<(), RowError> {
-    let service = service_fn::<AsPlanned, _, _>(planned, Err(error));
-    answered(row, &service, request)?;
+fn refused(row: &mut Row<'_>, request: &mut Request<()>, error: ServiceError) {
+    answered(
+        row,
+        service_fn::<AsPlanned, _, _>(planned, Err(error)),
+        request,
+    );
     row.close(", reserved");
-    row.show(&request.num_reserved_bytes());
-    Ok(())
+    row.show(&request.num_reserved_bytes())
 }
 
 /// What a future gives that is ready with an item that comes once.
-fn once(row: &mut Row<'_>) -> Result<(), RowError> {
+fn once(row: &mut Row<'_>) {
     if row.word() != "BeginTransaction" {
-        return Err(RowError::OutOfForm);
+        return row.fail(RowError::OutOfForm);
     }
     let item = CallResult::feedback_only(ServiceFeedback::BeginTransaction);
     future_said(row, &mut Now::new(Once::new(Ok(item))))
 }
 
 /// What a future's stream gives at three polls, its sizes in front of each, and what the future is afterwards.
-fn future_said<F: ReplyFuture>(row: &mut Row<'_>, future: &mut F) -> Result<(), RowError> {
-    match future.poll(row.alloc())? {
-        Polled::Ready(mut stream) => stream_said(row, &mut stream),
-        Polled::Pending => row.say("pending"),
+fn future_said<F: ReplyFuture>(row: &mut Row<'_>, future: &mut F) {
+    match future.poll(row.alloc()) {
+        Ok(Polled::Ready(mut stream)) => stream_said(row, &mut stream),
+        Ok(Polled::Pending) => row.say("pending"),
+        Err(OutOfMemory) => row.fail(RowError::OutOfMemory),
     }
-    match future.poll(row.alloc())? {
-        Polled::Ready(_) => row.close(", then ready"),
-        Polled::Pending => row.close(", then pending"),
+    afterwards_said(row, future)
+}
+
+fn afterwards_said<F: ReplyFuture>(row: &mut Row<'_>, future: &mut F) {
+    match future.poll(row.alloc()) {
+        Ok(Polled::Ready(_)) => row.close(", then ready"),
+        Ok(Polled::Pending) => row.close(", then pending"),
+        Err(OutOfMemory) => row.fail(RowError::OutOfMemory),
     }
-    Ok(())
 }
 
 fn stream_said<S: ReplyStream>(row: &mut Row<'_>, stream: &mut S) {
     for _ in 0..3 {
         size_said(row, stream.size_hint());
-        poll_said(row, stream.poll_next(row.alloc()));
+        next_said(row, stream);
     }
 }

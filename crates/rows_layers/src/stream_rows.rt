@@ -2,9 +2,12 @@
 
 use crate::error_rows::next_error;
 use crate::request_rows::request;
-use crate::said::{poll_said, size_said};
+use crate::said::{polled, size_said};
 use crate::slow::{Later, SameError, Slow};
-use dns_service::{CallResult, ReplyStream, Request, ServiceError, ServiceFeedback};
+use dns_service::{
+    CallResult, OutOfMemory, Polled, ReplyStream, Request, ServiceError, ServiceFeedback,
+    ServiceResult,
+};
 use dns_stream::{MiddlewareStream, Once, PostprocessingStream};
 use rows_table::{Row, RowError, pages};
 use std::alloc::Global;
@@ -80,20 +83,18 @@ fn feedback() -> Once {
     Once::new(Ok(CallResult::feedback_only(ServiceFeedback::EndTransaction)))
 }
 
-/// What so many polls give.
-pub(crate) fn polled<S: ReplyStream>(row: &mut Row<'_>, stream: &mut S, polls: u8) {
-    for _ in 0..polls {
-        poll_said(row, stream.poll_next(row.alloc()));
-    }
-}
-
 /// The size at first, and after each of so many polls, whatever they answer.
 fn sized<S: ReplyStream>(row: &mut Row<'_>, stream: &mut S, polls: u8) {
     size_said(row, stream.size_hint());
     for _ in 0..polls {
-        if stream.poll_next(row.alloc()).is_err() {
-            row.fail(RowError::OutOfMemory);
-        }
+        unsaid(row, &stream.poll_next(row.alloc()));
         size_said(row, stream.size_hint());
+    }
+}
+
+/// Says nothing of a poll.
+fn unsaid(row: &mut Row<'_>, polled: &Result<Polled<Option<ServiceResult>>, OutOfMemory>) {
+    if let Err(_) = polled {
+        row.fail(RowError::OutOfMemory);
     }
 }

@@ -2,11 +2,11 @@
 
 use crate::inner::{AsPlanned, planned};
 use crate::layer_rows::item;
-use crate::notify_rows::some_polls;
 use crate::request_rows::{hint_said, request};
+use crate::said::{Shown, called};
 use crate::target::Target;
 use dns_middleware::{Settings, wrap};
-use dns_service::{Request, Service, service_fn};
+use dns_service::{OutOfMemory, Request, Service, service_fn};
 use rows_table::{Row, RowError, array_of};
 
 /// Settings, so many polls of a request, with a target, to a service that answers with the item behind it; and the hint
@@ -20,8 +20,10 @@ pub(crate) fn wrapped(row: &mut Row<'_>) -> Result<(), RowError> {
 /// The same by settings.
 fn wrapped_by(row: &mut Row<'_>, settings: &Settings, polls: u8) -> Result<(), RowError> {
     let target = Target::next(row)?;
-    let mut request = request(row)?;
-    asked_with(row, settings, target, &mut request, polls)
+    match request(row) {
+        Ok(mut request) => asked_with(row, settings, target, &mut request, polls),
+        Err(error) => Err(error),
+    }
 }
 
 /// The same of a request.
@@ -32,26 +34,32 @@ fn asked_with(
     request: &mut Request<()>,
     polls: u8,
 ) -> Result<(), RowError> {
-    let service = service_fn::<AsPlanned, _, _>(planned, item(row, request)?);
-    round(row, settings, service, target, request, polls)?;
-    row.close(", hint");
-    hint_said(row, request.transport_ctx());
-    Ok(())
+    match item(row, request) {
+        Ok(item) => {
+            let service = service_fn::<AsPlanned, _, _>(planned, item);
+            Ok(in_all(row, settings, service, target, request, polls))
+        }
+        Err(error) => Err(error),
+    }
 }
 
 /// So many polls of a request to a service in its layers.
-fn round<S: Service<()>>(
+fn in_all<S: Service<()>>(
     row: &mut Row<'_>,
     settings: &Settings,
     service: S,
     target: Target,
     request: &mut Request<()>,
     polls: u8,
-) -> Result<(), RowError>
+)
     requires { S.can_call service }
 {
-    let service = wrap(row.alloc(), settings, service, target)?;
-    some_polls(row, &service, request, polls)
+    match wrap(row.alloc(), settings, service, target) {
+        Ok(service) => called(row, service, request, Shown::Polls(polls)),
+        Err(OutOfMemory) => row.fail(RowError::OutOfMemory),
+    }
+    row.close(", hint");
+    hint_said(row, request.transport_ctx())
 }
 
 /// The settings of the next words: `strict` or `relaxed`, `edns` or `plain`, and the secret of cookies or `-`.

@@ -7,8 +7,8 @@ ghost use Rattle.dns_base.specs.Standing.{Gives};
 use crate::data::record_in_words;
 use crate::stages::Stage;
 use dns_base::{
-    AdditionalBuilder, Message, MessageBuilder, Record, StreamTarget, data_has_names,
-    typed_records_read_back,
+    AdditionalBuilder, AnswerBuilder, Message, MessageBuilder, PushError, Record, StreamTarget,
+    data_has_names, typed_records_read_back,
 };
 use dns_name::{OutOfMemory, ParseError, Rcode};
 use rows_table::{Calls, Row, RowError};
@@ -87,38 +87,27 @@ fn started(row: &mut Row<'_>, error: bool) -> Result<(), RowError> {
     let limit = row.number();
     let rcode = rcode(row);
     let query = query(row)?;
-    let builder = within(row.alloc(), limit)?;
-    if error {
-        error_to(row, builder, rcode, &query)
-    } else {
-        answer_to(row, builder, rcode, &query)
-    }
-}
-
-/// The answer to a query, and what the steps say of it.
-fn answer_to(
-    row: &mut Row<'_>,
-    builder: MessageBuilder,
-    rcode: Rcode,
-    query: &Message,
-) -> Result<(), RowError> {
-    match builder.start_answer(row.alloc(), query, rcode) {
+    match begun(row.alloc(), limit, rcode, &query, error) {
         Ok(answer) => shown(row, &mut Stage::Answer(answer)),
         Err(error) => row.debug(&error),
     }
     Ok(())
 }
 
-/// The error answer to a query, and what the steps say of it.
-fn error_to(
-    row: &mut Row<'_>,
-    builder: MessageBuilder,
+/// The answer or the error answer to a query, of at most so many octets and with a response code.
+fn begun(
+    alloc: Global,
+    limit: usize,
     rcode: Rcode,
     query: &Message,
-) -> Result<(), RowError> {
-    let error = builder.start_error(row.alloc(), query, rcode)?;
-    shown(row, &mut Stage::Answer(error));
-    Ok(())
+    error: bool,
+) -> Result<AnswerBuilder, PushError> {
+    let builder = within(alloc, limit)?;
+    if error {
+        Ok(builder.start_error(alloc, query, rcode)?)
+    } else {
+        builder.start_answer(alloc, query, rcode)
+    }
 }
 
 /// A message whose additional section is one record.

@@ -50,6 +50,18 @@ impl Stage {
         }
     }
 
+    /// The name of the section.
+    fn section(&self) -> &'static str {
+        match self {
+            Stage::Gone => "",
+            Stage::Message(_) => "message",
+            Stage::Question(_) => "question",
+            Stage::Answer(_) => "answer",
+            Stage::Authority(_) => "authority",
+            Stage::Additional(_) => "additional",
+        }
+    }
+
     /// Lets the message take so many octets.
     fn limit(&mut self, limit: usize) -> Result<(), RowError> {
         match self {
@@ -115,54 +127,26 @@ impl Stage {
     }
 }
 
-/// A message of nothing but a header, at a section.
-fn from_header(builder: MessageBuilder, section: &str) -> Result<Stage, RowError> {
-    match section {
-        "question" => Ok(Stage::Question(builder.question())),
-        "answer" => Ok(Stage::Answer(builder.answer())),
-        "authority" => Ok(Stage::Authority(builder.authority())),
-        "additional" => Ok(Stage::Additional(builder.additional())),
-        _ => Err(RowError::NoSuchStep),
-    }
-}
-
-/// A message with questions, at a later section.
-fn from_questions(builder: QuestionBuilder, section: &str) -> Result<Stage, RowError> {
-    match section {
-        "answer" => Ok(Stage::Answer(builder.answer())),
-        "authority" => Ok(Stage::Authority(builder.authority())),
-        "additional" => Ok(Stage::Additional(builder.additional())),
-        _ => Err(RowError::NoSuchStep),
-    }
-}
-
-/// A message with answers, at a later section.
-fn from_answers(builder: AnswerBuilder, section: &str) -> Result<Stage, RowError> {
-    match section {
-        "authority" => Ok(Stage::Authority(builder.authority())),
-        "additional" => Ok(Stage::Additional(builder.additional())),
-        _ => Err(RowError::NoSuchStep),
-    }
-}
-
-/// The message at a later section.
-fn moved(stage: Stage, section: &str) -> Result<Stage, RowError> {
+/// The message at the section behind its own; the last one has none.
+fn moved(stage: Stage) -> Stage {
     match stage {
-        Stage::Message(builder) => from_header(builder, section),
-        Stage::Question(builder) => from_questions(builder, section),
-        Stage::Answer(builder) => from_answers(builder, section),
-        Stage::Authority(builder) if section == "additional" => {
-            Ok(Stage::Additional(builder.additional()))
-        }
-        _ => Err(RowError::NoSuchStep),
+        Stage::Message(builder) => Stage::Question(builder.question()),
+        Stage::Question(builder) => Stage::Answer(builder.answer()),
+        Stage::Answer(builder) => Stage::Authority(builder.authority()),
+        Stage::Authority(builder) => Stage::Additional(builder.additional()),
+        _ => Stage::Gone,
     }
 }
 
 /// Moves the message on to a later section.
 fn move_on(stage: &mut Stage, section: &str) -> Result<(), RowError> {
-    let before = replace(stage, Stage::Gone);
-    *stage = moved(before, section)?;
-    Ok(())
+    for _ in 0..4 {
+        *stage = moved(replace(stage, Stage::Gone));
+        if stage.section() == section {
+            return Ok(());
+        }
+    }
+    Err(RowError::NoSuchStep)
 }
 
 /// The question that octets are.
