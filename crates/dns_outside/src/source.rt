@@ -72,7 +72,10 @@ pub fn read_all<S: Source>(alloc: Global, source: &mut S) -> Result<Vec<u8>, Rea
     'pieces: while out.len() <= LIMIT {
         let room = (LIMIT + 1 - out.len()).min(4096);
         match source.read(&mut buf[..room]) {
-            SourceRead::Got(count) => out.extend_from_slice(&buf[..count])?,
+            SourceRead::Got(count) => match out.extend_from_slice(&buf[..count]) {
+                Ok(()) => {}
+                Err(_) => return Err(ReadError::OutOfMemory),
+            },
             SourceRead::End => return Ok(out),
             SourceRead::Failed => return Err(ReadError::Fault),
         }
