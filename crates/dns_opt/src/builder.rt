@@ -1,8 +1,9 @@
 //! OPT records under construction.
 
-ghost use Rattle.std.specs.Prelude.{◌≡◌, ◌/◌, ◌%◌, ℕ, List, length, IfOk};
+ghost use Rattle.std.specs.Prelude.{◌≡◌, ◌+◌, ◌<◌, ◌/◌, ◌%◌, ℕ, length};
 ghost use Rattle.dns_opt.specs.Drafts.{OptDraft, PushedIn, PushedRawIn};
 ghost use Rattle.dns_opt.specs.OptRecords.{with_do};
+ghost use Rattle.dns_options.specs.Pushes.{Fits};
 ghost use Rattle.dns_options.specs.Writes.{Writes};
 
 use crate::header::OptHeader;
@@ -95,27 +96,32 @@ impl OptBuilder {
         if self.room >= total + 11 {
             return self.options.push_raw_option(alloc, code, len, write);
         }
-        match count_written(alloc, write) {
-            Ok(written) if written != len as usize => Err(BuildDataError::WrongLength {
-                stated: len,
-                written,
-            }),
-            Ok(_) => Err(BuildDataError::ShortBuf),
-            Err(_) => Err(BuildDataError::OutOfMemory),
-        }
+        Err(refused_without_room(alloc, len, write))
     }
 }
 
-/// How many octets a closure writes, of which none is kept.
-fn count_written<F: FnOnce(&mut Vec<u8>) -> Result<(), OutOfMemory>>(
+/// Why an option of so many octets is refused where the message has no room for it. The closure is called, and what it
+/// writes isn't kept.
+fn refused_without_room<F: FnOnce(&mut Vec<u8>) -> Result<(), OutOfMemory>>(
     alloc: Global,
+    len: u16,
     write: F,
-) -> Result<usize, OutOfMemory>
+) -> BuildDataError
     requires { F.IsAlwaysCallable write }
-    ensures { IfOk result (λ n. (d : List ℕ) × Writes F.FnOnce write d × (n ≡ length d)) }
+    ensures { (code : ℕ) → (d : OptDraft) → Fits d.options len → d.room < length d.options + 4 + len + 11 → PushedRawIn (Writes F.FnOnce write) code len d d (Err result) }
 {
     match written_by(alloc, write) {
-        Ok(octets) => Ok(octets.len()),
-        Err(error) => Err(error),
+        Ok(octets) => {
+            let written = octets.len();
+            if written == len as usize {
+                BuildDataError::ShortBuf
+            } else {
+                BuildDataError::WrongLength {
+                    stated: len,
+                    written,
+                }
+            }
+        }
+        Err(_) => BuildDataError::OutOfMemory,
     }
 }

@@ -50,18 +50,20 @@ impl OptBuilder {
         if algorithms.len() + self.options.len() + 4 > 65535 {
             return Err(BuildDataError::LongOptData);
         }
-        let octets = numbers(alloc, algorithms)?;
-        self.understood_of::<K>(alloc, octets.as_slice())
+        match numbers(alloc, algorithms) {
+            Ok(octets) => self.understood_of::<K>(alloc, octets),
+            Err(_) => Err(BuildDataError::OutOfMemory),
+        }
     }
 
     fn understood_of<K: Variant>(
         &mut self,
         alloc: Global,
-        octets: &[u8],
+        octets: Vec<u8>,
     ) -> Result<(), BuildDataError>
-        ensures { PushedIn K.number octets.now self.old self.new result }
+        ensures { PushedIn K.number octets.items self.old self.new result }
     {
-        match UnderstoodRef::<K>::from_slice(octets) {
+        match UnderstoodRef::<K>::from_slice(octets.as_slice()) {
             Ok(list) => self.push(alloc, &list),
             Err(_) => Err(BuildDataError::LongOptData),
         }
@@ -192,14 +194,16 @@ impl OptBuilder {
         if self.options.len() + 4 + len as usize > 65535 {
             return Err(BuildDataError::LongOptData);
         }
-        let octets = zeros(alloc, len)?;
-        self.padding_of(alloc, octets.as_slice())
+        match zeros(alloc, len) {
+            Ok(octets) => self.padding_of(alloc, octets),
+            Err(_) => Err(BuildDataError::OutOfMemory),
+        }
     }
 
-    fn padding_of(&mut self, alloc: Global, octets: &[u8]) -> Result<(), BuildDataError>
-        ensures { PushedIn 12 octets.now self.old self.new result }
+    fn padding_of(&mut self, alloc: Global, octets: Vec<u8>) -> Result<(), BuildDataError>
+        ensures { PushedIn 12 octets.items self.old self.new result }
     {
-        match PaddingRef::from_slice(octets) {
+        match PaddingRef::from_slice(octets.as_slice()) {
             Ok(padding) => self.push(alloc, &padding),
             Err(_) => Err(BuildDataError::LongOptData),
         }

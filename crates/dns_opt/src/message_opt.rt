@@ -32,10 +32,7 @@ pub(crate) fn first_opt(records: RecordIter<'_>) -> Option<OptRecordRef<'_>>
     ensures { result ≡ first_opt records.entry }
 {
     let mut left = records;
-    'walk: while let Some(item) = left.next() {
-        let Ok(record) = item else {
-            return None;
-        };
+    'walk: while let Some(Ok(record)) = left.next() {
         if record.rtype() == Rtype::OPT {
             return readable(&record);
         }

@@ -120,13 +120,7 @@ impl OptRecord {
         requires { IsLawful source.rdata }
         ensures { result ≡ from_record source }
     {
-        let Record {
-            class,
-            ttl,
-            rdata,
-            ..
-        } = source;
-        from_data(head_by(class, ttl), rdata)
+        from_data(head_by(source.class, source.ttl), source.rdata)
     }
 
     /// Sets the greatest payload over UDP.
