@@ -1,6 +1,6 @@
 //! What answers go through on their way to a connection: what they tell is heard, and what they reply is queued.
 
-ghost use Rattle.std.specs.Prelude.{◌≡◌, ℕ, suc, IfOk, OnOk, Some};
+ghost use Rattle.std.specs.Prelude.{◌≡◌, ℕ, suc, IfOk, OnOk};
 ghost use Rattle.dns_service.specs.Given.{message_in};
 ghost use Rattle.dns_service.specs.Invokers.{Invoking, dispatched_by, after_answer, after_feedback, after_item, reply_in};
 
@@ -123,31 +123,32 @@ pub trait ServiceInvoker {
         ensures answer { IfOk result (λ dispatched. dispatched ≡ dispatched_by (T.answer stream.old 0)) }
         ensures later { OnOk result ((k : ℕ) → T.answer stream.new k ≡ T.answer stream.old (suc k)) }
     {
-        match stream.poll_next(alloc) {
-            Ok(Polled::Pending) => Ok(Dispatched::Pending),
-            Ok(Polled::Ready(None)) => Ok(Dispatched::Ended),
-            Ok(Polled::Ready(Some(item))) => {
-                let dispatched = dispatched_by(&item);
-                match self.process_response_stream_item(alloc, item, message) {
-                    Ok(None) => Ok(dispatched),
-                    Ok(Some(reply)) => {
-                        let _fate = self.enqueue_response(reply);
-                        Ok(dispatched)
+        let Ok(polled) = stream.poll_next(alloc) else {
+            return Err(OutOfMemory);
+        };
+        let dispatched = dispatched_by(&polled);
+        if let Polled::Ready(Some(item)) = polled {
+            match self.process_response_stream_item(alloc, item, message) {
+                Ok(reply) => {
+                    if let Some(reply) = reply {
+                        self.enqueue_response(reply);
                     }
-                    Err(error) => Err(error),
                 }
+                Err(_) => return Err(OutOfMemory),
             }
-            Err(error) => Err(error),
         }
+        Ok(dispatched)
     }
 }
 
-/// What the poll that gave an item led to.
-fn dispatched_by(item: &ServiceResult) -> Dispatched
-    ensures { result ≡ dispatched_by (Polled.Ready (Some item.now)) }
+/// What a poll led to.
+fn dispatched_by(polled: &Polled<Option<ServiceResult>>) -> Dispatched
+    ensures { result ≡ dispatched_by polled.now }
 {
-    match item {
-        Ok(_) => Dispatched::Item,
-        Err(_) => Dispatched::Aborted,
+    match polled {
+        Polled::Pending => Dispatched::Pending,
+        Polled::Ready(None) => Dispatched::Ended,
+        Polled::Ready(Some(Ok(_))) => Dispatched::Item,
+        Polled::Ready(Some(Err(_))) => Dispatched::Aborted,
     }
 }
