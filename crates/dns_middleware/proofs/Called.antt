@@ -16,7 +16,7 @@ use Rattle.dns_middleware.specs.declared.wrap_post.WrapPost.{WrapPost}
 use Rattle.dns_middleware.specs.Cookies.{cookie_own}
 use Rattle.dns_middleware.specs.Edns.{passed_by, transport_by}
 use Rattle.dns_middleware.specs.Notify.{PolledVerdict, notice_of, notify_by}
-use Rattle.dns_middleware.specs.Rewritten.{rewritten}
+use Rattle.dns_middleware.specs.Rewritten.{own_reply, rewritten}
 use Rattle.dns_middleware.specs.Wrapped.{Pass, ask_or, by_gate, inner_gate, inner_or, left_by, passed, refusal_by, refusal_of, refused_or, replies, size_by}
 use Rattle.dns_middleware.specs.WrappedStreams.{wrap_by, wrap_rule}
 
@@ -59,6 +59,22 @@ no-message f (Some m) e = absurd (cc)
 
 pub no-own : (f : Msg → Msg) (own : Option Msg) (found : Option Built) → message_in found ≡ option_map f own → found ≡ None → None ≡ own
 no-own f own found e is = no-message f own (sym (ap message_in is) ∙ e)
+
+-- the cookie layer has this reply
+own-known : {Meta : Type 0} → (s : Settings) (svc : Req Meta → ℕ → Answer) (tgt : Notice → ℕ → PolledVerdict) (r : Req Meta) (k : ℕ) (post : WrapPost) (m : Msg) (own : Option Msg)
+    → own ≡ cookie_own s.cookies s.denied r → Some m ≡ option_map (wrap_by post) own → post ≡ rule_for s r (hint_of (passed s r).transport)
+    → own_reply m k ≡ by_gate s svc tgt (limit (hint_of (passed s r).transport)) r (inner_gate s r) k
+own-known s svc tgt r k post m None is e p = absurd (cc)
+own-known s svc tgt r k post m (Some x) is e p =
+    let rewrite : m ≡ wrap_by post x = cc in
+    ap (λ (y : Msg). own_reply y k) rewrite
+    ∙ ap (λ (q : WrapPost). own_reply (wrap_by q x) k) p
+    ∙ ap (λ (y : Option Msg). by_gate s svc tgt (limit (hint_of (passed s r).transport)) r (inner_or y (ask_or (notice_of r) (Pass (passed s r)))) k) is
+
+pub own-found : {Meta : Type 0} → (s : Settings) (svc : Req Meta → ℕ → Answer) (tgt : Notice → ℕ → PolledVerdict) (r : Req Meta) (k : ℕ) (post : WrapPost) (found : Option Built) (reply : Built)
+    → message_in found ≡ option_map (wrap_by post) (cookie_own s.cookies s.denied r) → found ≡ Some reply → post ≡ rule_for s r (hint_of (passed s r).transport)
+    → own_reply reply.message k ≡ by_gate s svc tgt (limit (hint_of (passed s r).transport)) r (inner_gate s r) k
+own-found s svc tgt r k post found reply e is p = own-known s svc tgt r k post reply.message (cookie_own s.cookies s.denied r) refl (sym (ap message_in is) ∙ e) p
 
 -- what holds of a value that is there
 pub if-ok : {A E : Type 0} {P Q : A → Type 0} → (r : Result A E) → ((x : A) → P x → Q x) → IfOk r P → IfOk r Q

@@ -99,10 +99,16 @@ fn pass<S: Service<Meta>, Meta>(
     ensures kept { OnOk result (request.new ≡ record request.old { transport = hinted (S.hint next.now request.old) request.old.transport; reserved = request.new.reserved }) }
     ensures refused { OnErr result (request.new ≡ request.old) }
 {
-    let original = request.try_clone(alloc, ())?;
-    let future = next.call(alloc, request)?;
-    let rule = rule_now(asked, request);
-    Ok(of_mapped::<S, Meta, _>(future, original, rule))
+    let Ok(original) = request.try_clone(alloc, ()) else {
+        return Err(OutOfMemory);
+    };
+    match next.call(alloc, request) {
+        Ok(future) => {
+            let rule = rule_now(asked, request);
+            Ok(of_mapped::<S, Meta, _>(future, original, rule))
+        }
+        Err(error) => Err(error),
+    }
 }
 
 /// The rule for the replies to what is asked, by the hint that the request has now.

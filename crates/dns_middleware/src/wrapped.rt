@@ -18,9 +18,9 @@ use std::alloc::Global;
 /// A service in its layers.
 #[derive(Drop)]
 pub struct Wrapped<S, N> {
-    settings: Settings,
-    service: S,
-    target: N,
+    pub(crate) settings: Settings,
+    pub(crate) service: S,
+    pub(crate) target: N,
 }
 
 /// The replies of the service in its layers.
@@ -60,14 +60,7 @@ where
         let asked = read_request(request);
         match refusal_of(settings, request, &asked) {
             Some(refusal) => refused::<S, N, Meta>(alloc, settings, &asked, request, refusal),
-            None => not_refused(
-                alloc,
-                settings,
-                &self.service,
-                &self.target,
-                &asked,
-                request,
-            ),
+            None => not_refused(alloc, self, &asked, request),
         }
     }
 }

@@ -11,7 +11,7 @@ ghost use Rattle.dns_middleware.specs.Edns.{passed_by, transport_by};
 ghost use Rattle.dns_middleware.specs.Notify.{asking, notice_of, notify_by};
 ghost use Rattle.dns_middleware.specs.Rewritten.{own_reply, rewritten};
 ghost use Rattle.dns_middleware.specs.Verdicts.{verdict_on};
-ghost use Rattle.dns_middleware.specs.Wrapped.{by_gate, inner_gate, passed};
+ghost use Rattle.dns_middleware.specs.Wrapped.{by_gate, inner_gate, passed, size_by};
 ghost use Rattle.dns_middleware.specs.WrappedStreams.{refused_reply, wrap_by, wrap_rule};
 
 use crate::ask_stream::ask_owned;
@@ -24,11 +24,18 @@ use crate::refusal::{Refusal, size_by};
 use crate::rewrite::Rewrite;
 use crate::settings::Settings;
 use crate::wrap_post::WrapPost;
-use crate::wrapped::ComingReplies;
+use crate::wrapped::{ComingReplies, Wrapped};
 use crate::wrapped_future::WrappedFuture;
 use dns_base::AdditionalBuilder;
 use dns_service::{Asked, OutOfMemory, ReplyFuture, Request, Service};
 use std::alloc::Global;
+
+/// How a request is passed on: by the client's size, and by this rule for its replies.
+#[derive(Clone, Copy)]
+struct Passage {
+    size: Option<u16>,
+    post: WrapPost,
+}
 
 /// The reply to a request that is refused. This was read of the request.
 pub(crate) fn refused<S: Service<Meta>, N: Notifiable, Meta>(
@@ -51,38 +58,61 @@ pub(crate) fn refused<S: Service<Meta>, N: Notifiable, Meta>(
 #[tactic(auto, using(crate::proofs::EdnsLaws::passed_hinted, crate::proofs::EdnsLaws::kept_hint))]
 pub(crate) fn not_refused<S: Service<Meta>, N: Notifiable, Meta>(
     alloc: Global,
-    settings: &Settings,
-    service: &S,
-    target: &N,
+    wrapped: &Wrapped<S, N>,
     asked: &Asked,
     request: &mut Request<Meta>,
 ) -> Result<ComingReplies<S, N, Meta>, OutOfMemory>
-    requires can_call { S.can_call service.now }
+    requires can_call { S.can_call wrapped.now.service }
     requires asked { asked.now ≡ asked_of request.old.octets }
-    ensures answers { let r = request.old in IfOk result (λ f. (k : ℕ) → ⟦<ComingReplies<S, N, Meta> as ReplyFuture>⟧.answer f k ≡ by_gate settings.now (S.answer service.now) (verdict_on (N.verdict target.now)) (limit (hint_of (passed settings.now r).transport)) r (inner_gate settings.now r) k) }
-    ensures kept { OnOk result (request.new ≡ record request.old { transport = hinted (hint_of (passed settings.now request.old).transport) request.old.transport; reserved = request.new.reserved }) }
+    ensures answers { let r = request.old in let s = wrapped.now.settings in IfOk result (λ f. (k : ℕ) → ⟦<ComingReplies<S, N, Meta> as ReplyFuture>⟧.answer f k ≡ by_gate s (S.answer wrapped.now.service) (verdict_on (N.verdict wrapped.now.target)) (limit (hint_of (passed s r).transport)) r (inner_gate s r) k) }
+    ensures kept { OnOk result (request.new ≡ record request.old { transport = hinted (hint_of (passed wrapped.now.settings request.old).transport) request.old.transport; reserved = request.new.reserved }) }
     ensures refused { OnErr result (request.new ≡ request.old) }
 {
-    let size = size_by(settings, asked);
-    let post = post_passed(settings, asked, size, request);
-    match own_rewritten(alloc, settings, &post, request, asked)? {
-        Some(reply) => Ok(own::<S, N, Meta>(reply, size, request)),
-        None => past_cookies(alloc, service, target, size, post, asked, request),
+    let settings = &wrapped.settings;
+    let passage = passage_by(settings, asked, request);
+    match own_rewritten(alloc, settings, &passage.post, request, asked) {
+        Ok(found) => own_or_past(alloc, wrapped, found, passage, asked, request),
+        Err(error) => Err(error),
     }
 }
 
-/// The rule for the replies to a request that is passed on by this size.
-fn post_passed<Meta>(
-    settings: &Settings,
+/// The reply of the cookie layer's own, where it has this one, and else the replies past that layer. This was read of
+/// the request.
+#[tactic(auto, using(crate::proofs::EdnsLaws::passed_hinted, crate::proofs::EdnsLaws::kept_hint))]
+#[inline(always)]
+fn own_or_past<S: Service<Meta>, N: Notifiable, Meta>(
+    alloc: Global,
+    wrapped: &Wrapped<S, N>,
+    found: Option<AdditionalBuilder>,
+    passage: Passage,
     asked: &Asked,
-    size: Option<u16>,
-    request: &Request<Meta>,
-) -> WrapPost
-    ensures { let t = request.now.transport in result ≡ wrap_rule settings.now.edns t (limit (hint_of (transport_by size t))) asked.now }
+    request: &mut Request<Meta>,
+) -> Result<ComingReplies<S, N, Meta>, OutOfMemory>
+    requires can_call { S.can_call wrapped.now.service }
+    requires asked { asked.now ≡ asked_of request.old.octets }
+    requires size { passage.size ≡ size_by wrapped.now.settings asked.now }
+    requires post { let t = request.old.transport in passage.post ≡ wrap_rule wrapped.now.settings.edns t (limit (hint_of (transport_by (size_by wrapped.now.settings asked.now) t))) asked.now }
+    requires found { message_in found ≡ option_map (wrap_by passage.post) (cookie_own wrapped.now.settings.cookies wrapped.now.settings.denied request.old) }
+    ensures answers { let r = request.old in let s = wrapped.now.settings in IfOk result (λ f. (k : ℕ) → ⟦<ComingReplies<S, N, Meta> as ReplyFuture>⟧.answer f k ≡ by_gate s (S.answer wrapped.now.service) (verdict_on (N.verdict wrapped.now.target)) (limit (hint_of (passed s r).transport)) r (inner_gate s r) k) }
+    ensures kept { OnOk result (request.new ≡ record request.old { transport = hinted (hint_of (passed wrapped.now.settings request.old).transport) request.old.transport; reserved = request.new.reserved }) }
+    ensures refused { OnErr result (request.new ≡ request.old) }
 {
+    match found {
+        Some(reply) => own::<S, N, Meta>(reply, passage.size, request),
+        None => past_cookies(alloc, wrapped, passage, asked, request),
+    }
+}
+
+/// How a request is passed on, of which this was read.
+fn passage_by<Meta>(settings: &Settings, asked: &Asked, request: &Request<Meta>) -> Passage
+    ensures size { result.size ≡ size_by settings.now asked.now }
+    ensures post { let t = request.now.transport in result.post ≡ wrap_rule settings.now.edns t (limit (hint_of (transport_by (size_by settings.now asked.now) t))) asked.now }
+{
+    let size = size_by(settings, asked);
     let transport = request.transport_ctx();
     let hint = hint_passed(size, transport);
-    WrapPost::new(settings.edns, asked, transport, hint)
+    let post = WrapPost::new(settings.edns, asked, transport, hint);
+    Passage { size, post }
 }
 
 /// A reply of the cookie layer's own, to a request that is left as it would be passed on.
@@ -90,12 +120,13 @@ fn own<S: Service<Meta>, N: Notifiable, Meta>(
     reply: AdditionalBuilder,
     size: Option<u16>,
     request: &mut Request<Meta>,
-) -> ComingReplies<S, N, Meta>
-    ensures answers { (k : ℕ) → ⟦<ComingReplies<S, N, Meta> as ReplyFuture>⟧.answer result k ≡ own_reply reply.message k }
-    ensures passed { request.new ≡ passed_by size request.old }
+) -> Result<ComingReplies<S, N, Meta>, OutOfMemory>
+    ensures answers { IfOk result (λ f. (k : ℕ) → ⟦<ComingReplies<S, N, Meta> as ReplyFuture>⟧.answer f k ≡ own_reply reply.message k) }
+    ensures passed { OnOk result (request.new ≡ passed_by size request.old) }
+    ensures refused { OnErr result (request.new ≡ request.old) }
 {
     pass_on(size, request);
-    WrappedFuture::Own(Some(alone(reply)))
+    Ok(WrappedFuture::Own(Some(alone(reply))))
 }
 
 /// The reply of the cookie layer's own, where it has one, rewritten. This was read of the request.
@@ -129,22 +160,20 @@ fn own_rewritten<Meta>(
 #[tactic(auto, using(crate::proofs::EdnsLaws::passed_hinted, crate::proofs::EdnsLaws::kept_hint))]
 fn past_cookies<S: Service<Meta>, N: Notifiable, Meta>(
     alloc: Global,
-    service: &S,
-    target: &N,
-    size: Option<u16>,
-    post: WrapPost,
+    wrapped: &Wrapped<S, N>,
+    passage: Passage,
     asked: &Asked,
     request: &mut Request<Meta>,
 ) -> Result<ComingReplies<S, N, Meta>, OutOfMemory>
-    requires can_call { S.can_call service.now }
+    requires can_call { S.can_call wrapped.now.service }
     requires asked { asked.now ≡ asked_of request.old.octets }
-    ensures answers { let r = request.old in IfOk result (λ f. (k : ℕ) → ⟦<ComingReplies<S, N, Meta> as ReplyFuture>⟧.answer f k ≡ mapped (rewritten (wrap_by post)) (notify_by (verdict_on (N.verdict target.now)) (λ q. S.answer service.now (passed_by size q)) r k (notice_of r))) }
-    ensures kept { OnOk result (request.new ≡ record request.old { transport = hinted (hint_of (transport_by size request.old.transport)) request.old.transport; reserved = request.new.reserved }) }
+    ensures answers { let r = request.old in IfOk result (λ f. (k : ℕ) → ⟦<ComingReplies<S, N, Meta> as ReplyFuture>⟧.answer f k ≡ mapped (rewritten (wrap_by passage.post)) (notify_by (verdict_on (N.verdict wrapped.now.target)) (λ q. S.answer wrapped.now.service (passed_by passage.size q)) r k (notice_of r))) }
+    ensures kept { OnOk result (request.new ≡ record request.old { transport = hinted (hint_of (transport_by passage.size request.old.transport)) request.old.transport; reserved = request.new.reserved }) }
     ensures refused { OnErr result (request.new ≡ request.old) }
 {
     match notice_of(alloc, request, asked) {
-        Ok(Some(notice)) => told::<S, N, Meta>(alloc, target, notice, size, post, request),
-        Ok(None) => passed_on::<S, N, Meta>(alloc, service, size, post, request),
+        Ok(Some(notice)) => told::<S, N, Meta>(alloc, &wrapped.target, notice, passage, request),
+        Ok(None) => passed_on::<S, N, Meta>(alloc, &wrapped.service, passage, request),
         Err(error) => Err(error),
     }
 }
@@ -154,32 +183,30 @@ fn told<S: Service<Meta>, N: Notifiable, Meta>(
     alloc: Global,
     target: &N,
     notice: Notice,
-    size: Option<u16>,
-    post: WrapPost,
+    passage: Passage,
     request: &mut Request<Meta>,
 ) -> Result<ComingReplies<S, N, Meta>, OutOfMemory>
-    ensures answers { IfOk result (λ f. (k : ℕ) → ⟦<ComingReplies<S, N, Meta> as ReplyFuture>⟧.answer f k ≡ mapped (rewritten (wrap_by post)) (asking request.old.octets (verdict_on (N.verdict target.now) notice) k)) }
-    ensures passed { OnOk result (request.new ≡ passed_by size request.old) }
+    ensures answers { IfOk result (λ f. (k : ℕ) → ⟦<ComingReplies<S, N, Meta> as ReplyFuture>⟧.answer f k ≡ mapped (rewritten (wrap_by passage.post)) (asking request.old.octets (verdict_on (N.verdict target.now) notice) k)) }
+    ensures passed { OnOk result (request.new ≡ passed_by passage.size request.old) }
     ensures refused { OnErr result (request.new ≡ request.old) }
 {
     let stream = ask_owned(alloc, target, request.message(), notice)?;
-    pass_on(size, request);
-    Ok(WrappedFuture::Asking(Some(stream), post))
+    pass_on(passage.size, request);
+    Ok(WrappedFuture::Asking(Some(stream), passage.post))
 }
 
 /// The replies of the given service to the request as it is passed on, rewritten.
 fn passed_on<S: Service<Meta>, N: Notifiable, Meta>(
     alloc: Global,
     service: &S,
-    size: Option<u16>,
-    post: WrapPost,
+    passage: Passage,
     request: &mut Request<Meta>,
 ) -> Result<ComingReplies<S, N, Meta>, OutOfMemory>
     requires { S.can_call service.now }
-    ensures answers { IfOk result (λ f. (k : ℕ) → ⟦<ComingReplies<S, N, Meta> as ReplyFuture>⟧.answer f k ≡ mapped (rewritten (wrap_by post)) (S.answer service.now (passed_by size request.old) k)) }
-    ensures kept { OnOk result (request.new ≡ record request.old { transport = hinted (hint_of (transport_by size request.old.transport)) request.old.transport; reserved = request.new.reserved }) }
+    ensures answers { IfOk result (λ f. (k : ℕ) → ⟦<ComingReplies<S, N, Meta> as ReplyFuture>⟧.answer f k ≡ mapped (rewritten (wrap_by passage.post)) (S.answer service.now (passed_by passage.size request.old) k)) }
+    ensures kept { OnOk result (request.new ≡ record request.old { transport = hinted (hint_of (transport_by passage.size request.old.transport)) request.old.transport; reserved = request.new.reserved }) }
     ensures refused { OnErr result (request.new ≡ request.old) }
 {
-    let future = call_passed(alloc, service, size, request)?;
-    Ok(WrappedFuture::Passing(future, post))
+    let future = call_passed(alloc, service, passage.size, request)?;
+    Ok(WrappedFuture::Passing(future, passage.post))
 }
