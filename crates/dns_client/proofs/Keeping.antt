@@ -1,6 +1,6 @@
 -- What is kept of the requests after a poll, and with one more.
 use Rattle.dns_client.specs.Serving.{Serving}
-use Rattle.std.proofs.Common.{◌≡◌, ◌≢◌, ℕ, zero, suc, ◌+◌, ◌<◌, ◌≤◌, List, [], ◌∷◌, ◌++◌, length, Option, Some, None, Bool, true, false, refl, ap, sym, ◌∙◌, subst, arith, set, ⊎_elim, ◌⊎◌, inl, inr, length-append}
+use Rattle.std.proofs.Common.{◌≡◌, ◌≢◌, ℕ, zero, suc, ◌+◌, ◌<◌, ◌≤◌, List, [], ◌∷◌, ◌++◌, length, Option, Some, None, Bool, true, false, refl, ap, sym, ◌∙◌, arith, set, ⊎_elim, ◌⊎◌, inl, inr, length-append}
 use Rattle.std.specs.Arc.{arc_value}
 use Rattle.std.specs.Prelude.{slice_get}
 use Rattle.std.proofs.lemmas.Bool.{cases_eq, cases_lt}
@@ -11,9 +11,9 @@ use Rattle.dns_service.specs.Answer.{Answer}
 use Rattle.dns_service.specs.declared.polled.PolledRequest.{PolledRequest}
 use Rattle.dns_client.specs.Slate.{SlateRequest}
 use Rattle.dns_client.specs.Turns.{polled, ends, limit_for, reply_to, sent_for}
-use Rattle.dns_client.specs.PolledAt.{GoesOn, PolledAt, Left}
+use Rattle.dns_client.specs.IsPolled.{IsPolled}
 use Rattle.dns_client.specs.Unfinished.{request_at}
-use Rattle.dns_client.specs.Stands.{IsKept, Keeps, KeepsGoing, sole}
+use Rattle.dns_client.specs.Stands.{IsKept, Keeps, KeepsGoing, sole, unless_done}
 use Rattle.dns_client.specs.declared.connection_request.ConnectionRequest.{ConnectionRequest}
 use Rattle.dns_client.specs.declared.kept.KeptRequest.{KeptRequest}
 use Rattle.dns_client.specs.declared.unfinished.Unfinished.{Unfinished}
@@ -23,24 +23,22 @@ below_or_above a b ne = ⊎_elim (λ (h : a < b). inl h) (λ (h : b ≤ a). inr 
 
 module _ {F R : Type 0} (answer : PolledRequest F R → ℕ → Answer) (answers : Serving) where
   -- what a poll finds, and what is kept after it
-  pub record Found (x : Option SlateRequest) (reply : Option Msg) (g : Option (KeptRequest F R)) : Type 0 where
+  pub record Found (x : Option SlateRequest) (reply : Option Msg) (new : Option (KeptRequest F R)) : Type 0 where
     pub r : SlateRequest
     pub is : x ≡ Some r
     pub open_yet : r.done ≡ false
     pub says : reply ≡ sent_for answers r.request (answers.answer r.request r.polls)
-    pub keeps : Keeps answer answers g (Some (polled (answers.answer r.request r.polls) r))
+    pub keeps : Keeps answer answers new (Some (polled (answers.answer r.request r.polls) r))
 
-  later : (q q' : KeptRequest F R) (r : SlateRequest) → GoesOn answer q q' → IsKept answer answers q r → (j : ℕ) → answer q'.polled j ≡ answers.answer r.request (r.polls + 1 + j)
-  later q q' r p k j = let e : r.polls + suc j ≡ r.polls + 1 + j = omega arith in p.polled j ∙ k.polled (suc j) ∙ ap (answers.answer r.request) e
+  later : (q q' : KeptRequest F R) (r : SlateRequest) → ((k : ℕ) → answer q'.polled k ≡ answer q.polled (suc k)) → IsKept answer answers q r → (j : ℕ) → answer q'.polled j ≡ answers.answer r.request (r.polls + 1 + j)
+  later q q' r p k j = let e : r.polls + suc j ≡ r.polls + 1 + j = omega arith in p j ∙ k.polled (suc j) ∙ ap (answers.answer r.request) e
 
   now : (q : KeptRequest F R) (r : SlateRequest) → IsKept answer answers q r → answer q.polled 0 ≡ answers.answer r.request r.polls
   now q r k = let e : r.polls + 0 ≡ r.polls = omega arith in k.polled 0 ∙ ap (answers.answer r.request) e
 
-  left_keeps : (q : KeptRequest F R) (r : SlateRequest) (a : Answer) (g : Option (KeptRequest F R)) (b : Bool) → ends a ≡ b → Left answer q b g → IsKept answer answers q r → Keeps answer answers g (Some (polled a r))
-  left_keeps q r a None true e l k = e
-  left_keeps q r a (Some g) true e l k = let h : Some g ≡ None = l in cc
-  left_keeps q r a None false e l k = absurd l
-  left_keeps q r a (Some g) false e l k = record { going = e; polled = later q g r l k; message = ap arc_value l.message ∙ k.message; limit = l.limit ∙ k.limit }
+  left_keeps : (q q' : KeptRequest F R) (r : SlateRequest) (a : Answer) (reply : Option Msg) (done : Bool) → ends a ≡ done → IsPolled answer q reply done q' → IsKept answer answers q r → Keeps answer answers (unless_done done q') (Some (polled a r))
+  left_keeps q q' r a reply true e p k = e
+  left_keeps q q' r a reply false e p k = record { going = e; polled = later q q' r p.polled k; message = ap arc_value p.message ∙ k.message; limit = p.limit ∙ k.limit }
 
   -- the reply by what is kept is the one by the request
   same_reply : (q : KeptRequest F R) (r : SlateRequest) → IsKept answer answers q r → reply_to q.limit (arc_value q.message) (answer q.polled 0) ≡ sent_for answers r.request (answers.answer r.request r.polls)
@@ -49,17 +47,15 @@ module _ {F R : Type 0} (answer : PolledRequest F R → ℕ → Answer) (answers
       ∙ (ap (λ (o : List ℕ). reply_to (limit_for answers r.request) o (answer q.polled 0)) k.message
       ∙ ap (λ (a : Answer). reply_to (limit_for answers r.request) r.request.octets a) (now q r k))
 
-  pub found : (q : KeptRequest F R) (x : Option SlateRequest) (reply : Option Msg) (g : Option (KeptRequest F R)) → Keeps answer answers (Some q) x → PolledAt answer (Some q) reply g → Found x reply g
-  found q None reply g k p = absurd k
-  found q (Some r) reply g k p =
-      let n = now q r k in
-      record {
-        r = r;
-        is = refl;
-        open_yet = k.going;
-        says = p.0 ∙ same_reply q r k;
-        keeps = left_keeps q r (answers.answer r.request r.polls) g (ends (answers.answer r.request r.polls)) refl (subst (λ (a : Answer). Left answer q (ends a) g) n p.1) k;
-      }
+  pub found : (q q' : KeptRequest F R) (x : Option SlateRequest) (reply : Option Msg) (done : Bool) → Keeps answer answers (Some q) x → IsPolled answer q reply done q' → Found x reply (unless_done done q')
+  found q q' None reply done k p = absurd k
+  found q q' (Some r) reply done k p = record {
+    r = r;
+    is = refl;
+    open_yet = k.going;
+    says = p.says ∙ same_reply q r k;
+    keeps = left_keeps q q' r (answers.answer r.request r.polls) reply done (ap ends (sym (now q r k)) ∙ sym p.ended) p k;
+  }
 
   -- a place that is written
   pub keeps_set : (old new : Unfinished (ConnectionRequest F R)) (rs : List SlateRequest) (k : ℕ) (r r' : SlateRequest)

@@ -18,7 +18,7 @@ pub mod Rule
 pub mod After
 pub mod News
 pub mod Waiting
-pub mod PolledAt
+pub mod IsPolled
 pub mod Invoker
 pub mod TurnedAt
 pub mod Unfinished

@@ -4,7 +4,7 @@ ghost use Rattle.std.specs.Prelude.{◌≡◌, ◌≤◌, ℕ, [], true, false, 
 ghost use Rattle.std.specs.Result.{IsOkAnd};
 ghost use Rattle.dns_client.specs.Serving.{Serving, serving};
 ghost use Rattle.dns_client.specs.Slate.{Slate, IsUnused, conf_of, phase_is_closed};
-ghost use Rattle.dns_client.specs.Datagrams.{datagram};
+ghost use Rattle.dns_client.specs.Datagrams.{datagram, datagrams_to};
 ghost use Rattle.dns_client.specs.Connections.{opened};
 ghost use Rattle.dns_client.specs.Rule.{rule};
 ghost use Rattle.dns_client.specs.After.{slate_after};
@@ -15,7 +15,7 @@ ghost use Rattle.dns_client.specs.Waiting.{first_unfinished, next_unfinished};
 ghost use Rattle.dns_service.specs.PolledRequest.{request_answer};
 
 use crate::connection::OpenConnection;
-use crate::exchange::{begin_cut, datagrams_to};
+use crate::exchange::{BegunExchange, begin_cut, datagrams_to};
 use crate::flushing::FlushingConnection;
 use crate::kept::KeptRequest;
 use crate::requests::cut;
@@ -81,16 +81,34 @@ impl<W: Served> ClientCore<W> {
             × Stands (request_answer W.Future.answer W.Stream.answer) (serving (W.answer service.now) (W.hint service.now)) p.0 (datagram client addr at secs octets.now s).0) }
         ensures version { IfOk result (λ p. p.0.version ≡ look.now.version) }
     {
-        let config = &look.dgram;
         let octets = cut(alloc, octets)?;
-        let (unfinished, sent) = begin_cut(alloc, service, addr, at, secs, octets, config)?;
-        let outs = datagrams_to(alloc, client, sent)?;
-        let core = ClientCore {
-            client,
-            state: State::Exchange(unfinished),
-            version: look.version,
-        };
-        Ok((core, outs))
+        match begin_cut(alloc, service, addr, at, secs, octets, &look.dgram) {
+            Ok(begun) => ClientCore::exchange(alloc, client, look.version, begun),
+            Err(error) => Err(error),
+        }
+    }
+
+    /// What is kept of an exchange that began, under a version, and what its client is sent at once.
+    fn exchange(
+        alloc: Global,
+        client: u64,
+        version: u64,
+        begun: BegunExchange<W>,
+    ) -> Result<(Self, Vec<Output>), OutOfMemory>
+        ensures { IfOk result (λ p. (p.0 ≡ record { client = client; state = State.Exchange begun.0; version = version }) × (p.1.items ≡ datagrams_to client begun.1)) }
+    {
+        let (unfinished, sent) = begun;
+        match datagrams_to(alloc, client, sent) {
+            Ok(outs) => {
+                let core = ClientCore {
+                    client,
+                    state: State::Exchange(unfinished),
+                    version,
+                };
+                Ok((core, outs))
+            }
+            Err(error) => Err(error),
+        }
     }
 
     /// An open connection from a moment on, by a look that shows no shutdown. It takes the memory of its queue.

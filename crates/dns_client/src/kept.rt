@@ -9,7 +9,7 @@ ghost use Rattle.dns_service.specs.Given.{message_in};
 ghost use Rattle.dns_service.specs.PolledRequest.{request_answer};
 ghost use Rattle.dns_service.specs.Transport.{hint_of, limit, limit_over};
 ghost use Rattle.dns_service.specs.declared.service.Polled.TheVariants.{Ready};
-ghost use Rattle.dns_client.specs.PolledAt.{IsPolled};
+ghost use Rattle.dns_client.specs.IsPolled.{IsPolled};
 ghost use Rattle.dns_client.specs.Serving.{Serving};
 ghost use Rattle.dns_client.specs.Stands.{SpentWith, TurnsAs, unless_done};
 ghost use Rattle.dns_client.specs.Turns.{ends, reply_to};

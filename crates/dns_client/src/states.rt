@@ -30,7 +30,7 @@ fn wound_up<W: Served>(state: State<W>, why: Why) -> State<W>
 fn set<W: Served>(state: &mut State<W>, new: State<W>)
     ensures { state.new ≡ new }
 {
-    *state = new;
+    drop(replace(state, new));
 }
 
 /// A connection that is open only writes what waits from now on.
@@ -68,7 +68,36 @@ fn last(alloc: Global, client: u64, octets: Octets, why: Why) -> Result<Vec<Outp
     Ok(outs)
 }
 
-/// What a client is sent for an outcome. Of a connection that ends nothing is kept but its number.
+/// The last frame is written, and the connection closed behind it. Nothing is kept of it but its number.
+fn close_behind<W: Served>(
+    state: &mut State<W>,
+    alloc: Global,
+    client: u64,
+    octets: Octets,
+    why: Why,
+) -> Result<Vec<Output>, OutOfMemory>
+    ensures outs { IfOk result (λ outs. outs.items ≡ Output.Frame client octets ∷ Output.Closed client why ∷ []) }
+    ensures state { state.new ≡ State.Closed false }
+{
+    set(state, State::Closed { freed: false });
+    last(alloc, client, octets, why)
+}
+
+/// The connection is closed. Nothing is kept of it but its number.
+fn close<W: Served>(
+    state: &mut State<W>,
+    alloc: Global,
+    client: u64,
+    why: Why,
+) -> Result<Vec<Output>, OutOfMemory>
+    ensures outs { IfOk result (λ outs. outs.items ≡ Output.Closed client why ∷ []) }
+    ensures state { state.new ≡ State.Closed false }
+{
+    set(state, State::Closed { freed: false });
+    one(alloc, Output::Closed { client, why })
+}
+
+/// What a client is sent for an outcome.
 fn carry_out<W: Served>(
     state: &mut State<W>,
     alloc: Global,
@@ -81,18 +110,12 @@ fn carry_out<W: Served>(
     match outcome {
         Outcome::Nothing => Ok(Vec::new(alloc)),
         Outcome::Written(octets) => one(alloc, Output::Frame { client, octets }),
-        Outcome::WrittenLast(octets, why) => {
-            set(state, State::Closed { freed: false });
-            last(alloc, client, octets, why)
-        }
+        Outcome::WrittenLast(octets, why) => close_behind(state, alloc, client, octets, why),
         Outcome::WindsUp(why) => {
             wind_up(state, why);
             Ok(Vec::new(alloc))
         }
-        Outcome::Ends(why) => {
-            set(state, State::Closed { freed: false });
-            one(alloc, Output::Closed { client, why })
-        }
+        Outcome::Ends(why) => close(state, alloc, client, why),
     }
 }
 
