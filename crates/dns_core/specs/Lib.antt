@@ -1,7 +1,6 @@
 pub use Rattle.dns_admission.specs.Machine
 pub use Rattle.dns_client.specs.Pieces
 pub use Rattle.dns_client.specs.Serving
-pub use Rattle.dns_client.specs.PolledAt
 pub use Rattle.dns_client.specs.Slate
 pub use Rattle.dns_service.specs.Answer
 pub use Rattle.dns_service.specs.Config

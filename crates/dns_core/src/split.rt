@@ -58,12 +58,7 @@ impl<W: Served> SplitServer<W> {
     }
 
     /// One event of any kind.
-    fn event(
-        &mut self,
-        alloc: Global,
-        service: &W,
-        event: &Event,
-    ) -> Result<Vec<Output>, OutOfMemory>
+    fn one(&mut self, alloc: Global, service: &W, event: &Event) -> Result<Vec<Output>, OutOfMemory>
         requires { W.can_call service.now }
         ensures { IfOk result (λ outs. StepGoes (request_answer W.Future.answer W.Stream.answer) (serving (W.answer service.now) (W.hint service.now)) self.old.inner self.new.inner (Step.Own event.now) outs.items) }
     {
@@ -81,13 +76,13 @@ impl<W: Served> SplitServer<W> {
         }
     }
 
-    /// One step.
-    fn one(&mut self, alloc: Global, service: &W, step: &Step) -> Result<Vec<Output>, OutOfMemory>
+    /// Takes one step.
+    fn take(&mut self, alloc: Global, service: &W, step: &Step) -> Result<Vec<Output>, OutOfMemory>
         requires { W.can_call service.now }
         ensures { IfOk result (λ outs. StepGoes (request_answer W.Future.answer W.Stream.answer) (serving (W.answer service.now) (W.hint service.now)) self.old.inner self.new.inner step.now outs.items) }
     {
         match step {
-            Step::Own(event) => self.event(alloc, service, event),
+            Step::Own(event) => self.one(alloc, service, event),
             Step::Look { at, secs, client } => {
                 let outs = self.look(alloc, *at, *secs, *client)?;
                 Ok(outs)
@@ -107,7 +102,7 @@ impl<W: Served> SplitServer<W> {
         requires { W.can_call service.now }
         ensures { OnOk result (AddsStep (request_answer W.Future.answer W.Stream.answer) (serving (W.answer service.now) (W.hint service.now)) self.old.inner self.new.inner step.now outs.old.items outs.new.items) }
     {
-        let more = self.one(alloc, service, step)?;
+        let more = self.take(alloc, service, step)?;
         append(outs, more)?;
         Ok(())
     }
@@ -144,8 +139,10 @@ pub fn serve_each_step<W: Served>(
 {
     let mut server = SplitServer::new(alloc, settings);
     let mut outs = Vec::new(alloc);
-    each_step(alloc, service, &mut server, steps, &mut outs)?;
-    Ok(outs)
+    match each_step(alloc, service, &mut server, steps, &mut outs) {
+        Ok(()) => Ok(outs),
+        Err(error) => Err(error),
+    }
 }
 
 /// What all clients are sent, where each hears of the server's changes only when it looks. The wrapped service is that of

@@ -1,4 +1,5 @@
+use Rattle.dns_client.specs.Serving.{serving}
 use Rattle.dns_core.proofs.split.SplitServer.one.Goals as goal
 
-pub returns-in-Own : goal.returns-in-Own
-returns-in-Own g c = rw c.in-Own.is c.event.ensures
+pub returns-in-Offer : goal.returns-in-Offer
+returns-in-Offer g c = c.offer.ensures.steps (serving (g.W.Served.answer c.args.service.now) (g.W.Served.hint c.args.service.now))

@@ -1,5 +1,0 @@
-use Rattle.dns_client.specs.Serving.{serving}
-use Rattle.dns_core.proofs.split.SplitServer.event.Goals as goal
-
-pub returns-in-Offer : goal.returns-in-Offer
-returns-in-Offer g c = c.offer.ensures.steps (serving (g.W.Served.answer c.args.service.now) (g.W.Served.hint c.args.service.now))
