@@ -13,7 +13,7 @@ use Rattle.dns_client.specs.Slate.{Slate}
 use Rattle.dns_client.specs.Stands.{Stands}
 use Rattle.dns_client.specs.declared.client.ClientCore.{ClientCore}
 use Rattle.dns_drivers.specs.Blames.{EndBlames, EndAgain, Blames, WroteWhole, WroteFirst, ChosenFor}
-use Rattle.dns_drivers.specs.Links.{front, WroteFront, IsWrittenEvent, IsReadEvent}
+use Rattle.dns_drivers.specs.Links.{front, WroteUntil, IsWrittenEvent, IsReadEvent}
 use Rattle.dns_drivers.specs.Rounds.{next_turn}
 use Rattle.dns_drivers.specs.declared.writing.WriteEnd.{WriteEnd}
 use Rattle.dns_drivers.specs.declared.writing.WriteEnd.TheVariants.{Whole, Failed, Late}
@@ -28,12 +28,6 @@ end_late at secs f f' l = record { later = l; failed = λ e. absurd cc }
 
 pub end_failed : (f f1 f2 : ℕ) → f ≤ f1 → f1 ≤ f2 → Rose f1 f2 → EndBlames Failed f f2
 end_failed f f1 f2 l m r = record { later = omega arith; failed = λ e. omega (arith, r) }
-
-pub again_took : (a : ℕ) (went : List ℕ) (w w' : Traffic) → a ≤ w.full_writes → w' ≡ record w { went = went } → a ≤ w'.full_writes
-again_took a went w w' l e = rw e l
-
-pub again_more : (a : ℕ) (w w1 w2 : Traffic) → a ≤ w.full_writes → w1 ≡ record w { full_writes = w.full_writes + 1 } → w2 ≡ w1 → a ≤ w2.full_writes
-again_more a w w1 w2 l e f = rw (f, e) (omega arith)
 
 pub again_whole : (a b : ℕ) → a ≤ b → EndAgain Whole a b
 again_whole a b l = record { later = l; late = λ at secs e. absurd cc }
@@ -54,8 +48,8 @@ blames_failed kind f f' k b = record { later = b.later; fault = λ e. b.failed r
 take_all : (k : ℕ) (m : List ℕ) → length m ≤ k → take k m ≡ m
 take_all k m l = grind (arith, common_steps)
 
-pub whole_written : (frame : List ℕ) (took k : ℕ) (w w' : Traffic) → WroteFront k frame w w' → length frame ≤ k → EndAgain Whole w.full_writes w'.full_writes → WroteWhole (Write took) frame w w'
-whole_written frame took k w w' r l a = record { later = a.later; write = λ i e. inl (r.went ∙ ap (λ (o : List ℕ). w.went ++ o) (take_all k frame l)) }
+pub whole_written : (frame : List ℕ) (start limit took : ℕ) (w w' : Traffic) → WroteUntil Whole frame start limit w w' → EndAgain Whole w.full_writes w'.full_writes → WroteWhole (Write took) frame w w'
+whole_written frame start limit took w w' r a = record { later = a.later; write = λ i e. inl (r.front.went ∙ ap (λ (o : List ℕ). w.went ++ o) (take_all r.written frame r.bound)) }
 
 pub whole_late : (frame : List ℕ) (took at secs : ℕ) (w w' : Traffic) → EndAgain (Late at secs) w.full_writes w'.full_writes → WroteWhole (Write took) frame w w'
 whole_late frame took at secs w w' a = record { later = a.later; write = λ i e. inr (a.late at secs refl) }

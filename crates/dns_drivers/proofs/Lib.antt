@@ -15,5 +15,6 @@ pub mod Running
 pub mod Servings
 pub mod Showings
 pub mod Waits
+pub mod Writings
 pub mod Turnings
 pub mod Wide

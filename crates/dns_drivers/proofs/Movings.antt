@@ -1,24 +1,14 @@
 -- What reads and writes do to a link.
-use Rattle.std.proofs.Common.{◌≡◌, ℕ, ◌+◌, ◌-◌, ◌≤◌, ◌<◌, List, [], ◌∷◌, ◌++◌, take, drop, length, arith, refl, sym, ◌∙◌, ap, append_assoc, append-nil}
-use Rattle.std.proofs.Math.Seq.{take-add}
+use Rattle.std.proofs.Common.{◌≡◌, ℕ, ◌+◌, ◌-◌, ◌≤◌, ◌<◌, List, [], ◌∷◌, ◌++◌, take, length, arith, refl, sym, ◌∙◌, append-nil}
 use Rattle.std.proofs.lemmas.Grind.{common_steps}
 use Rattle.dns_outside.specs.Traffic.{Traffic}
 use Rattle.dns_service.specs.declared.event.EventKind.{EventKind}
 use Rattle.dns_service.specs.declared.event.EventKind.TheVariants.{Write, Fault, Piece, End, Tick}
-use Rattle.dns_drivers.specs.Links.{piece_octets, HasOctets, tick_count, end_count, WroteFront, WrittenPart, MovedBy, Unread}
+use Rattle.dns_drivers.specs.Links.{piece_octets, HasOctets, tick_count, end_count, WroteFront, WroteUntil, WrittenPart, MovedBy, Unread}
+use Rattle.dns_drivers.specs.declared.writing.WriteEnd.TheVariants.{Whole, Failed, Late}
 
 pub wrote_none : (piece : List ℕ) (w : Traffic) → WroteFront 0 piece w w
 wrote_none piece w = record { came = refl; went = sym (append-nil w.went); ticks = refl; ends = refl }
-
-pub wrote_more : (d n : ℕ) (frame : List ℕ) (w0 w1 w2 : Traffic) → WroteFront d frame w0 w1 →
-    w2 ≡ record w1 { went = w1.went ++ take n (take (length frame - d) (drop d frame)) } → WroteFront (d + n) frame w0 w2
-wrote_more d n frame w0 w1 w2 r e0 = let full : take (length frame - d) (drop d frame) ≡ drop d frame = grind (arith, common_steps) in
-    let e = rw full at e0 in record {
-      came = rw e r.came;
-      went = rw (e, take-add d n frame, ← append_assoc w0.went (take d frame) (take n (drop d frame))) (ap (λ t. t ++ take n (drop d frame)) r.went);
-      ticks = rw e r.ticks;
-      ends = rw e r.ends;
-    }
 
 pub wrote_again : (d : ℕ) (frame : List ℕ) (w0 w1 w2 w3 : Traffic) → WroteFront d frame w0 w1 →
     w2 ≡ record w1 { full_writes = w1.full_writes + 1 } → w3 ≡ w2 → WroteFront d frame w0 w3
@@ -41,14 +31,15 @@ moved_by_read : (kind : EventKind) (w w' : Traffic) → HasOctets kind → w'.ca
     w'.went ≡ w.went → WrittenPart kind [] 0 [] → MovedBy kind [] 0 w w'
 moved_by_read kind w w' f c t e o q = record { part = []; came = c; full = f; ticks = t; ends = e; went = o ∙ sym (append-nil w.went); part_is = q }
 
-pub moved_whole : (frame : List ℕ) (limit took k : ℕ) (w w' : Traffic) → WroteFront k frame w w' → length frame ≤ k → MovedBy (Write took) (frame ∷ []) limit w w'
-moved_whole frame limit took k w w' r l = moved_by_write (Write took) frame limit k w w' refl tt refl refl r (record { written = k; is = refl; whole = λ _. l })
+pub moved_whole : (frame : List ℕ) (start limit took : ℕ) (w w' : Traffic) → WroteUntil Whole frame start limit w w' → MovedBy (Write took) (frame ∷ []) limit w w'
+moved_whole frame start limit took w w' r = moved_by_write (Write took) frame limit r.written w w' refl tt refl refl r.front (record { written = r.written; is = refl; whole = λ _. r.bound })
 
-pub moved_late : (frame : List ℕ) (limit took k : ℕ) (w w' : Traffic) → WroteFront k frame w w' → limit < took → MovedBy (Write took) (frame ∷ []) limit w w'
-moved_late frame limit took k w w' r l = moved_by_write (Write took) frame limit k w w' refl tt refl refl r (record { written = k; is = refl; whole = λ (h : took ≤ limit). absurd (omega arith) })
+pub moved_late : (frame : List ℕ) (start limit at secs : ℕ) (w w' : Traffic) → WroteUntil (Late at secs) frame start limit w w' → MovedBy (Write (at - start)) (frame ∷ []) limit w w'
+moved_late frame start limit at secs w w' r = let l : limit < at - start = r.bound in
+    moved_by_write (Write (at - start)) frame limit r.written w w' refl tt refl refl r.front (record { written = r.written; is = refl; whole = λ (h : at - start ≤ limit). absurd (omega arith) })
 
-pub moved_failed : (frame : List ℕ) (limit k : ℕ) (w w' : Traffic) → WroteFront k frame w w' → MovedBy Fault (frame ∷ []) limit w w'
-moved_failed frame limit k w w' r = moved_by_write Fault frame limit k w w' refl tt refl refl r (record { written = k; is = refl })
+pub moved_failed : (frame : List ℕ) (start limit : ℕ) (w w' : Traffic) → WroteUntil Failed frame start limit w w' → MovedBy Fault (frame ∷ []) limit w w'
+moved_failed frame start limit w w' r = moved_by_write Fault frame limit r.written w w' refl tt refl refl r.front (record { written = r.written; is = refl })
 
 pub moved_piece : (n : ℕ) (buf o : List ℕ) (w w' : Traffic) → w' ≡ record w { came = w.came ++ take n buf } → o ≡ take n buf → 1 ≤ n → n ≤ length buf → MovedBy (Piece o) [] 0 w w'
 moved_piece n buf o w w' e h l m = moved_by_read (Piece o) w w' (rw h (grind (arith, common_steps))) (rw (e, h) refl) (rw e (omega arith)) (rw e (omega arith)) (rw e refl) refl

@@ -11,9 +11,6 @@ use Rattle.dns_drivers.specs.Links.{IsReadEvent}
 pub waited_none : (f : ℕ) (c : List ClockReading) → Waited f f c c
 waited_none f c = record { readings = []; clock = sym (append-nil c); count = omega arith }
 
-pub waited_took : (w w1 : Traffic) (f : ℕ) (c c1 : List ClockReading) (went : List ℕ) → Waited f w.full_writes c c1 → w1 ≡ record w { went = went } → Waited f w1.full_writes c c1
-waited_took w w1 f c c1 went a e = rw e a
-
 pub waited_again : (f : ℕ) (w1 w2 w3 : Traffic) (c c1 c2 : List ClockReading) (r : ClockReading) → Waited f w1.full_writes c c1 → w2 ≡ record w1 { full_writes = w1.full_writes + 1 } → w3 ≡ w2 → c2 ≡ c1 ++ r ∷ [] → Waited f w3.full_writes c c2
 waited_again f w1 w2 w3 c c1 c2 r a e g h = let x = g ∙ e in record {
   readings = a.readings ++ r ∷ [];

@@ -77,6 +77,12 @@ EndsWriting Whole done size start limit = size ≤ done
 EndsWriting Failed done size start limit = done ≤ size
 EndsWriting (Late at secs) done size start limit = limit < at - start
 
+-- the writing of a frame ended so, with a front of it written
+pub record WroteUntil (end : WriteEnd) (frame : List ℕ) (start limit : ℕ) (a b : Traffic) : Type 0 where
+  pub written : ℕ
+  pub front : WroteFront written frame a b
+  pub bound : EndsWriting end written (length frame) start limit
+
 -- one reading for each write that answered Again, of which the last is that of a late end
 abbrev pub WaitedTo : WriteEnd → ℕ → ℕ → List ClockReading → List ClockReading → Type 0
 WaitedTo Whole again again' c c' = Waited again again' c c'

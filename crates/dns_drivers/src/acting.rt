@@ -1,10 +1,10 @@
 //! One own event.
 
-ghost use Rattle.std.specs.Prelude.{◌≡◌, IfOk, OnErr};
+ghost use Rattle.std.specs.Prelude.{◌≡◌, IfOk, OnErr, None, slice_get};
 ghost use Rattle.dns_outside.specs.Causes.{Tells};
 ghost use Rattle.dns_client.specs.Serving.{Serving, serving};
 ghost use Rattle.dns_client.specs.Slate.{Slate};
-ghost use Rattle.dns_client.specs.Stands.{Stands};
+ghost use Rattle.dns_client.specs.Stands.{Stands, waiting};
 ghost use Rattle.dns_service.specs.PolledRequest.{request_answer};
 ghost use Rattle.dns_notes.specs.Clocks.{TimedOne, Timed};
 ghost use Rattle.dns_drivers.specs.Blames.{WroteFirst, ChosenFor, NotedWrite, ActedFor};
@@ -14,6 +14,7 @@ ghost use Rattle.dns_drivers.specs.Links.{Unread};
 
 use crate::closing::closed_by;
 use crate::reading::{ROOM, read_event};
+use crate::turn_state::TurnState;
 use crate::writing::write_event;
 use dns_client::ClientCore;
 use dns_notes::{Recorder, now_is};
@@ -59,16 +60,17 @@ fn hand_over<J: Recorder, W: Served>(
     alloc: Global,
     core: &mut ClientCore<W>,
     service: &W,
-    turn: &mut Option<u64>,
+    kept: &mut TurnState,
     journal: &mut J,
     event: Event,
 ) -> Result<Option<Why>, OutOfMemory>
     requires { W.can_call service.now }
     ensures taken { IfOk result (λ why. TakesEvent (request_answer W.Future.answer W.Stream.answer) (serving (W.answer service.now) (W.hint service.now)) core.old core.new event why) }
     ensures noted { Tells (J.tells journal.new) (J.tells journal.old) (NotedOrNot result (J.noted journal.old) event (J.noted journal.new)) }
-    ensures turn { below_of turn.new ≡ turned (below_of turn.old) event.kind }
+    ensures turn { below_of kept.new.turn ≡ turned (below_of kept.old.turn) event.kind }
+    ensures last { kept.new.last ≡ kept.old.last }
 {
-    *turn = after_event(*turn, &event.kind);
+    kept.turn = after_event(kept.turn, &event.kind);
     take(alloc, core, service, journal, &event)
 }
 
@@ -82,7 +84,35 @@ fn next_request<W: Served>(core: &ClientCore<W>, last: Option<u64>) -> Option<u6
     }
 }
 
-#[tactic(auto, using(crate::proofs::Choices::chosen_write, crate::proofs::Blamings::for_write, crate::proofs::Blamings::first_write, crate::proofs::Blamings::first_turn))]
+#[tactic(auto, using(crate::proofs::Blamings::first_turn))]
+/// Polls the next request; where none is left, makes one read. The event says what was done.
+fn turn_or_read<R: Wait, L: Link, C: Clock, W: Served>(
+    rt: &R,
+    alloc: Global,
+    client: u64,
+    core: &ClientCore<W>,
+    last: Option<u64>,
+    link: &mut L,
+    clock: &mut C,
+    buf: &mut [u8; ROOM],
+) -> Result<Event, OutOfMemory>
+    requires value { None ≡ slice_get (waiting core.now.state) 0 }
+    requires queue { (answers : Serving) (s : Slate) → Stands (request_answer W.Future.answer W.Stream.answer) answers core.now s → None ≡ slice_get s.queue 0 }
+    ensures chosen { IfOk result (λ event. Tells (L.tells link.new) (L.tells link.old)
+        (Chosen (request_answer W.Future.answer W.Stream.answer) client (below_of last) core.now event (L.traffic link.old) (L.traffic link.new))) }
+    ensures clock { IfOk result (λ event. Tells (L.tells link.new × C.tells clock.new) (L.tells link.old × C.tells clock.old) (TimedOne event (L.traffic link.old).full_writes (L.traffic link.new).full_writes (C.readings clock.old) (C.readings clock.new))) }
+    ensures blame { IfOk result (λ event. ChosenFor (request_answer W.Future.answer W.Stream.answer) (below_of last) core.now event (L.faults link.old) (L.faults link.new)) }
+    ensures again { IfOk result (λ event. Tells (L.tells link.new) (L.tells link.old)
+        (WroteFirst (request_answer W.Future.answer W.Stream.answer) core.now event.kind (L.traffic link.old) (L.traffic link.new))) }
+    ensures no_memory { OnErr result (Tells (L.tells link.new) (L.tells link.old) (Unread (L.traffic link.old) (L.traffic link.new))) }
+{
+    match next_request(core, last) {
+        Some(request) => Ok(now_is(clock, client, EventKind::Turn { request })),
+        None => read_event(rt, alloc, client, link, clock, buf),
+    }
+}
+
+#[tactic(auto, using(crate::proofs::Choices::chosen_write, crate::proofs::Blamings::for_write, crate::proofs::Blamings::first_write))]
 /// Writes the first frame that waits; where none does, polls the next request; where none is left, makes one read. The
 /// event says what was done, and is not noted yet.
 fn own_event<R: Wait, L: Link, C: Clock, W: Served>(
@@ -103,12 +133,9 @@ fn own_event<R: Wait, L: Link, C: Clock, W: Served>(
         (WroteFirst (request_answer W.Future.answer W.Stream.answer) core.now event.kind (L.traffic link.old) (L.traffic link.new))) }
     ensures no_memory { OnErr result (Tells (L.tells link.new) (L.tells link.old) (Unread (L.traffic link.old) (L.traffic link.new))) }
 {
-    if let Some(frame) = core.front_frame() {
-        return Ok(write_event(rt, client, link, clock, frame, core.write_timeout()));
-    }
-    match next_request(core, last) {
-        Some(request) => Ok(now_is(clock, client, EventKind::Turn { request })),
-        None => read_event(rt, alloc, client, link, clock, buf),
+    match core.front_frame() {
+        Some(frame) => Ok(write_event(rt, client, link, clock, frame, core.write_timeout())),
+        None => turn_or_read(rt, alloc, client, core, last, link, clock, buf),
     }
 }
 
@@ -131,7 +158,7 @@ pub(crate) fn act<R: Wait, L: Link, C: Clock, J: Recorder, W: Served>(
     client: u64,
     core: &mut ClientCore<W>,
     service: &W,
-    turn: &mut Option<u64>,
+    kept: &mut TurnState,
     link: &mut L,
     clock: &mut C,
     journal: &mut J,
@@ -139,7 +166,7 @@ pub(crate) fn act<R: Wait, L: Link, C: Clock, J: Recorder, W: Served>(
 ) -> Result<Option<Why>, OutOfMemory>
     requires { W.can_call service.now }
     ensures told { IfOk result (λ why. Tells (L.tells link.new × J.tells journal.new) (L.tells link.old × J.tells journal.old)
-        (Acted (request_answer W.Future.answer W.Stream.answer) (serving (W.answer service.now) (W.hint service.now)) client (below_of turn.old) (below_of turn.new) why core.old core.new
+        (Acted (request_answer W.Future.answer W.Stream.answer) (serving (W.answer service.now) (W.hint service.now)) client (below_of kept.old.turn) (below_of kept.new.turn) why core.old core.new
         (J.noted journal.old) (J.noted journal.new) (L.traffic link.old) (L.traffic link.new))) }
     ensures clock { IfOk result (λ why. Tells (L.tells link.new × C.tells clock.new × J.tells journal.new) (L.tells link.old × C.tells clock.old × J.tells journal.old)
         (Timed (J.noted journal.old) (J.noted journal.new) (L.traffic link.old).full_writes (L.traffic link.new).full_writes (C.readings clock.old) (C.readings clock.new))) }
@@ -147,11 +174,12 @@ pub(crate) fn act<R: Wait, L: Link, C: Clock, J: Recorder, W: Served>(
     ensures again { IfOk result (λ why. Tells (L.tells link.new × J.tells journal.new) (L.tells link.old × J.tells journal.old)
         (NotedWrite (request_answer W.Future.answer W.Stream.answer) core.old (J.noted journal.old) (J.noted journal.new) (L.traffic link.old) (L.traffic link.new))) }
     ensures no_memory { OnErr result (Tells (L.tells link.new × J.tells journal.new) (L.tells link.old × J.tells journal.old)
-        (ActedPart (request_answer W.Future.answer W.Stream.answer) client (below_of turn.old) core.old
+        (ActedPart (request_answer W.Future.answer W.Stream.answer) client (below_of kept.old.turn) core.old
         (J.noted journal.old) (J.noted journal.new) (L.traffic link.old) (L.traffic link.new))) }
+    ensures last { kept.new.last ≡ kept.old.last }
 {
-    match own_event(rt, alloc, client, core, *turn, link, clock, buf) {
-        Ok(event) => hand_over(alloc, core, service, turn, journal, event),
+    match own_event(rt, alloc, client, core, kept.turn, link, clock, buf) {
+        Ok(event) => hand_over(alloc, core, service, kept, journal, event),
         Err(error) => Err(error),
     }
 }

@@ -4,9 +4,10 @@ ghost use Rattle.std.specs.Prelude.{◌≡◌, false, IfOk, OnErr};
 ghost use Rattle.dns_outside.specs.Causes.{Tells};
 ghost use Rattle.dns_client.specs.Serving.{serving};
 ghost use Rattle.dns_notes.specs.Clocks.{Timed, TimedWhole};
-ghost use Rattle.dns_drivers.specs.Story.{LooksAlone, LooksAndRelease};
+ghost use Rattle.dns_drivers.specs.Story.{Broken, LooksAlone, LooksAndRelease, began};
 ghost use Rattle.dns_drivers.specs.Endings.{WasOffered, Unserved, EndsSo, WhereClosed, ShownFrom, EndShown, EndCauses};
 ghost use Rattle.dns_drivers.specs.Shown.{Causes};
+ghost use Rattle.dns_drivers.specs.Turning.{ClosingStory};
 
 use crate::turning::serve_core;
 use dns_admission::Look;
@@ -28,9 +29,46 @@ pub enum ConnectionEnd {
     OutOfMemory,
 }
 
-/// Lets go of the core of a connection.
-fn let_go<W: Served>(core: ClientCore<W>) {
-    let _core = core;
+/// Admits a connection that was offered at a moment, and serves it.
+fn admit_and_serve<R: Wait, L: Link, C: Clock, J: Recorder, W: Served>(
+    rt: &R,
+    alloc: Global,
+    client: u64,
+    addr: SocketAddr,
+    at: u64,
+    look: &Look,
+    link: &mut L,
+    clock: &mut C,
+    journal: &mut J,
+    service: &W,
+    book: &Book,
+    seat: &mut BookSeat,
+) -> Result<Why, OutOfMemory>
+    requires book { seat.old.book ≡ book.now }
+    requires running { look.now.closed ≡ false }
+    requires can_call { W.can_call service.now }
+    ensures told { IfOk result (λ why. Tells (L.tells link.new × J.tells journal.new) (L.tells link.old × J.tells journal.old)
+        (ClosingStory (serving (W.answer service.now) (W.hint service.now)) (began client addr at look.now) client look.now why
+        (J.noted journal.old) (J.noted journal.new) seat.old.known seat.new.known (L.traffic link.old) (L.traffic link.new))) }
+    ensures clock { IfOk result (λ why. Tells (L.tells link.new × C.tells clock.new × J.tells journal.new) (L.tells link.old × C.tells clock.old × J.tells journal.old)
+        (Timed (J.noted journal.old) (J.noted journal.new) (L.traffic link.old).full_writes (L.traffic link.new).full_writes (C.readings clock.old) (C.readings clock.new))) }
+    ensures no_memory { OnErr result (Tells (L.tells link.new × J.tells journal.new) (L.tells link.old × J.tells journal.old)
+        (Broken (serving (W.answer service.now) (W.hint service.now)) (began client addr at look.now) client
+        (J.noted journal.old) (J.noted journal.new) (L.traffic link.old) (L.traffic link.new))) }
+    ensures cause { IfOk result (λ why. Causes why seat.old.known seat.new.known (L.faults link.old) (L.faults link.new)) }
+    ensures seat { LooksAlone seat.old.known seat.new.known }
+    ensures same { seat.new.book ≡ seat.old.book }
+{
+    match ClientCore::admit(alloc, client, addr, at, look) {
+        Ok(mut core) => {
+            let served = serve_core(
+                rt, alloc, &mut core, look, client, service, book, seat, link, clock, journal,
+            );
+            drop(core);
+            served
+        }
+        Err(error) => Err(error),
+    }
 }
 
 #[tactic(auto, using(crate::proofs::Ends::unserved_early))]
@@ -38,15 +76,15 @@ fn let_go<W: Served>(core: ClientCore<W>) {
 fn serve_offer<R: Wait, L: Link, C: Clock, J: Recorder, W: Served>(
     rt: &R,
     alloc: Global,
+    link: &mut L,
+    clock: &mut C,
+    journal: &mut J,
     book: &Book,
     seat: &mut BookSeat,
     client: u64,
     addr: SocketAddr,
     look: &Look,
     service: &W,
-    link: &mut L,
-    clock: &mut C,
-    journal: &mut J,
 ) -> Result<Why, OutOfMemory>
     requires book { seat.old.book ≡ book.now }
     requires running { look.now.closed ≡ false }
@@ -65,15 +103,10 @@ fn serve_offer<R: Wait, L: Link, C: Clock, J: Recorder, W: Served>(
     ensures seat { LooksAlone seat.old.known seat.new.known }
     ensures same { seat.new.book ≡ seat.old.book }
 {
-    let at = note_moment(alloc, client, EventKind::Offer { addr }, clock, journal)?;
-    match ClientCore::admit(alloc, client, addr, at, look) {
-        Ok(mut core) => {
-            let served = serve_core(
-                rt, alloc, book, seat, client, &mut core, look, service, link, clock, journal,
-            );
-            let_go(core);
-            served
-        }
+    match note_moment(alloc, client, EventKind::Offer { addr }, clock, journal) {
+        Ok(at) => admit_and_serve(
+            rt, alloc, client, addr, at, look, link, clock, journal, service, book, seat,
+        ),
         Err(error) => Err(error),
     }
 }
@@ -114,7 +147,7 @@ pub fn serve_connection<R: Wait, L: Link, C: Clock, J: Recorder, W: Served>(
     ensures same { result.0.book ≡ seat.book }
 {
     let served = serve_offer(
-        rt, alloc, book, &mut seat, client, addr, look, service, link, clock, journal,
+        rt, alloc, link, clock, journal, book, &mut seat, client, addr, look, service,
     );
     book.release(rt, &mut seat);
     link.close();

@@ -10,6 +10,7 @@ ghost use Rattle.dns_drivers.specs.Blames.{HeardFor};
 ghost use Rattle.dns_drivers.specs.Steps.{SeesLook, HeardNews, LookedOnce};
 
 use crate::closing::closed_by;
+use crate::turn_state::TurnState;
 use dns_admission::Look;
 use dns_book::{Book, BookSeat};
 use dns_client::ClientCore;
@@ -23,33 +24,20 @@ use std::sync::Wait;
 /// Notes the news of a look, by what was seen before.
 fn note_news<C: Clock, J: Recorder>(
     alloc: Global,
+    kept: &TurnState,
+    look: &Look,
     clock: &mut C,
     journal: &mut J,
-    last: &Look,
-    look: &Look,
 ) -> Result<(), OutOfMemory>
     ensures told { OnOk result (Tells (J.tells journal.new) (J.tells journal.old)
-        (NotedKinds (news_kinds last.now look.now) (J.noted journal.old) (J.noted journal.new))) }
+        (NotedKinds (news_kinds kept.now.last look.now) (J.noted journal.old) (J.noted journal.new))) }
     ensures clock { OnOk result (Tells (C.tells clock.new × J.tells journal.new) (C.tells clock.old × J.tells journal.old)
         (Timed (J.noted journal.old) (J.noted journal.new) 0 0 (C.readings clock.old) (C.readings clock.new))) }
     ensures no_memory { OnErr result (Tells (J.tells journal.new) (J.tells journal.old) (NotedWide (J.noted journal.old) (J.noted journal.new))) }
 {
-    note_version(alloc, clock, journal, last, look)?;
-    note_shutdown(alloc, clock, journal, last, look)?;
+    note_version(alloc, clock, journal, &kept.last, look)?;
+    note_shutdown(alloc, clock, journal, &kept.last, look)?;
     Ok(())
-}
-
-/// The core sees the look. The answer is why the connection is closed by that, if it is.
-fn see<W: Served>(
-    alloc: Global,
-    core: &mut ClientCore<W>,
-    look: &Look,
-) -> Result<Option<Why>, OutOfMemory>
-    ensures { IfOk result (λ why. SeesLook (request_answer W.Future.answer W.Stream.answer) core.old core.new look.now why) }
-{
-    let outs = core.saw(alloc, look)?;
-    let why = closed_by(&outs);
-    Ok(why)
 }
 
 /// What was seen, with a look more.
@@ -62,6 +50,23 @@ fn with_look(last: &Look, look: &Look) -> Look
     }
 }
 
+/// The look is added to what was seen, and the core sees it. The answer is why the connection is closed by that, if it is.
+fn see<W: Served>(
+    alloc: Global,
+    core: &mut ClientCore<W>,
+    kept: &mut TurnState,
+    look: &Look,
+) -> Result<Option<Why>, OutOfMemory>
+    ensures last { kept.new.last ≡ seen_with kept.old.last look.now }
+    ensures turn { kept.new.turn ≡ kept.old.turn }
+    ensures sees { IfOk result (λ why. SeesLook (request_answer W.Future.answer W.Stream.answer) core.old core.new look.now why) }
+{
+    kept.last = with_look(&kept.last, look);
+    let outs = core.saw(alloc, look)?;
+    let why = closed_by(&outs);
+    Ok(why)
+}
+
 #[tactic(auto, using(crate::proofs::Hearings::looked_once))]
 /// One look. Its news are noted, and then the core sees it. The answer is why the connection is closed by that, if it is.
 pub(crate) fn hear<R: Wait, C: Clock, J: Recorder, W: Served>(
@@ -70,26 +75,24 @@ pub(crate) fn hear<R: Wait, C: Clock, J: Recorder, W: Served>(
     book: &Book,
     seat: &mut BookSeat,
     core: &mut ClientCore<W>,
-    last: &mut Look,
+    kept: &mut TurnState,
     clock: &mut C,
     journal: &mut J,
 ) -> Result<Option<Why>, OutOfMemory>
     requires { seat.old.book ≡ book.now }
     ensures told { IfOk result (λ why. Tells (J.tells journal.new) (J.tells journal.old)
-        (HeardNews (request_answer W.Future.answer W.Stream.answer) why core.old core.new last.old last.new (J.noted journal.old) (J.noted journal.new) seat.old.known seat.new.known)) }
+        (HeardNews (request_answer W.Future.answer W.Stream.answer) why core.old core.new kept.old.last kept.new.last (J.noted journal.old) (J.noted journal.new) seat.old.known seat.new.known)) }
     ensures no_memory { OnErr result (Tells (J.tells journal.new) (J.tells journal.old) (NotedWide (J.noted journal.old) (J.noted journal.new))) }
     ensures clock { IfOk result (λ why. Tells (C.tells clock.new × J.tells journal.new) (C.tells clock.old × J.tells journal.old)
         (Timed (J.noted journal.old) (J.noted journal.new) 0 0 (C.readings clock.old) (C.readings clock.new))) }
     ensures blame { IfOk result (λ why. HeardFor (request_answer W.Future.answer W.Stream.answer) why core.old core.new seat.old.known seat.new.known) }
     ensures looked { LookedOnce seat.old.known seat.new.known }
+    ensures turn { kept.new.turn ≡ kept.old.turn }
     ensures book { seat.new.book ≡ seat.old.book }
 {
     let look = book.look(rt, seat);
-    match note_news(alloc, clock, journal, last, &look) {
-        Ok(()) => {
-            *last = with_look(last, &look);
-            see(alloc, core, &look)
-        }
+    match note_news(alloc, kept, &look, clock, journal) {
+        Ok(()) => see(alloc, core, kept, &look),
         Err(error) => Err(error),
     }
 }

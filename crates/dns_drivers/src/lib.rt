@@ -6,6 +6,7 @@ mod closing;
 mod connection;
 mod hearing;
 mod reading;
+mod turn_state;
 mod turning;
 mod writing;
 

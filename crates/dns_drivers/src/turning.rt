@@ -15,6 +15,7 @@ ghost use Rattle.dns_drivers.specs.Turning.{MadeTurn, TurnedPart, TurnedFor, Beg
 use crate::acting::act;
 use crate::hearing::hear;
 use crate::reading::ROOM;
+use crate::turn_state::TurnState;
 use dns_admission::Look;
 use dns_book::{Book, BookSeat};
 use dns_client::ClientCore;
@@ -23,13 +24,6 @@ use dns_outside::{Clock, Link};
 use dns_service::{OutOfMemory, Served, Why};
 use std::alloc::Global;
 use std::sync::Wait;
-
-/// What the loop keeps from one turn to the next: what was seen, and the request that was polled last in this round.
-#[derive(Drop)]
-struct TurnState {
-    last: Look,
-    turn: Option<u64>,
-}
 
 /// One look, and one own event where that doesn't close the connection. The answer is why it is closed, if it is.
 fn turn_once<R: Wait, L: Link, C: Clock, J: Recorder, W: Served>(
@@ -60,18 +54,9 @@ fn turn_once<R: Wait, L: Link, C: Clock, J: Recorder, W: Served>(
     ensures looked { LookedOnce seat.old.known seat.new.known }
     ensures same { seat.new.book ≡ seat.old.book }
 {
-    match hear(rt, alloc, book, seat, core, &mut kept.last, clock, journal) {
+    match hear(rt, alloc, book, seat, core, kept, clock, journal) {
         Ok(None) => act(
-            rt,
-            alloc,
-            client,
-            core,
-            service,
-            &mut kept.turn,
-            link,
-            clock,
-            journal,
-            buf,
+            rt, alloc, client, core, service, kept, link, clock, journal, buf,
         ),
         Ok(Some(why)) => Ok(Some(why)),
         Err(error) => Err(error),
@@ -82,12 +67,12 @@ fn turn_once<R: Wait, L: Link, C: Clock, J: Recorder, W: Served>(
 pub(crate) fn serve_core<R: Wait, L: Link, C: Clock, J: Recorder, W: Served>(
     rt: &R,
     alloc: Global,
-    book: &Book,
-    seat: &mut BookSeat,
-    client: u64,
     core: &mut ClientCore<W>,
     look: &Look,
+    client: u64,
     service: &W,
+    book: &Book,
+    seat: &mut BookSeat,
     link: &mut L,
     clock: &mut C,
     journal: &mut J,

@@ -1,10 +1,10 @@
 //! A frame is written.
 
-ghost use Rattle.std.specs.Prelude.{◌≡◌, ◌-◌, [], ◌∷◌, ◌++◌, length};
+ghost use Rattle.std.specs.Prelude.{◌≡◌, ◌≤◌, ◌+◌, ◌-◌, [], ◌∷◌, ◌++◌, drop, length, MatchResult};
 ghost use Rattle.dns_outside.specs.Causes.{Tells};
-ghost use Rattle.dns_notes.specs.Clocks.{TimedOne};
+ghost use Rattle.dns_notes.specs.Clocks.{TimedOne, Waited};
 ghost use Rattle.dns_drivers.specs.Blames.{EndBlames, EndAgain, Blames, WroteWhole};
-ghost use Rattle.dns_drivers.specs.Links.{WaitedTo, MovedBy, IsWrittenEvent, WroteFront, EndsWriting};
+ghost use Rattle.dns_drivers.specs.Links.{WaitedTo, MovedBy, IsWrittenEvent, WroteFront, WroteUntil, EndsWriting};
 
 use dns_notes::{PATIENCE, now_is};
 use dns_outside::{Clock, Link, LinkWrite};
@@ -34,8 +34,47 @@ fn wait_for_room<R: Wait, L: Link, C: Clock>(
     clock.now()
 }
 
-#[tactic(auto, using(crate::proofs::Movings::wrote_none, crate::proofs::Movings::wrote_more, crate::proofs::Movings::wrote_again, crate::proofs::Waits::waited_none, crate::proofs::Waits::waited_again, crate::proofs::Waits::late_again, crate::proofs::Blamings::end_whole, crate::proofs::Blamings::end_late, crate::proofs::Blamings::end_failed, crate::proofs::Blamings::again_more, crate::proofs::Blamings::again_whole, crate::proofs::Blamings::again_failed, crate::proofs::Blamings::again_late))]
-/// Writes the frame, and says how much of it was written. It is late where more than the limit has passed since the start.
+#[tactic(auto, using(crate::proofs::Movings::wrote_none, crate::proofs::Waits::waited_none, crate::proofs::Blamings::end_whole, crate::proofs::Blamings::again_whole, crate::proofs::Writings::took_no_time, crate::proofs::Writings::took_no_room, crate::proofs::Writings::waited_once, crate::proofs::Writings::wrote_nothing, crate::proofs::Writings::late_once, crate::proofs::Writings::room_once, crate::proofs::Writings::none_failed, crate::proofs::Blamings::end_late, crate::proofs::Blamings::end_failed, crate::proofs::Blamings::again_failed, crate::proofs::Blamings::again_late))]
+/// One write of what is left of a frame of which so much is done, and a wait where that answered Again. The answer is how many
+/// octets were written, or how the writing of the frame ended.
+fn write_some<R: Wait, L: Link, C: Clock>(
+    rt: &R,
+    link: &mut L,
+    clock: &mut C,
+    frame: &[u8],
+    done: usize,
+    start: u64,
+    limit: u64,
+) -> Result<usize, WriteEnd>
+    requires { done ≤ length frame.now }
+    ensures moves { Tells (L.tells link.new) (L.tells link.old)
+        (MatchResult result (λ n. WroteFront n (drop done frame.now) (L.traffic link.old) (L.traffic link.new)) (λ end. WroteFront 0 (drop done frame.now) (L.traffic link.old) (L.traffic link.new))) }
+    ensures clock { Tells (L.tells link.new × C.tells clock.new) (L.tells link.old × C.tells clock.old)
+        (MatchResult result (λ n. Waited (L.traffic link.old).full_writes (L.traffic link.new).full_writes (C.readings clock.old) (C.readings clock.new))
+        (λ end. WaitedTo end (L.traffic link.old).full_writes (L.traffic link.new).full_writes (C.readings clock.old) (C.readings clock.new))) }
+    ensures bound { MatchResult result (λ n. done + n ≤ length frame.now) (λ end. EndsWriting end done (length frame.now) start limit) }
+    ensures blame { MatchResult result (λ n. L.faults link.old ≤ L.faults link.new) (λ end. EndBlames end (L.faults link.old) (L.faults link.new)) }
+    ensures again { Tells (L.tells link.new) (L.tells link.old)
+        (MatchResult result (λ n. (L.traffic link.old).full_writes ≤ (L.traffic link.new).full_writes) (λ end. EndAgain end (L.traffic link.old).full_writes (L.traffic link.new).full_writes)) }
+{
+    if done >= frame.len() {
+        return Err(WriteEnd::Whole);
+    }
+    match link.write(&frame[done..]) {
+        LinkWrite::Took(count) => Ok(count),
+        LinkWrite::Again => {
+            let (at, secs) = wait_for_room(rt, link, clock, limit);
+            if at.saturating_sub(start) > limit {
+                return Err(WriteEnd::Late(at, secs));
+            }
+            Ok(0)
+        }
+        LinkWrite::Failed => Err(WriteEnd::Failed),
+    }
+}
+
+#[tactic(auto, using(crate::proofs::Movings::wrote_none, crate::proofs::Waits::waited_none))]
+/// Writes the frame, and says how that ended. It is late where more than the limit has passed since the start.
 fn write_frame<R: Wait, L: Link, C: Clock>(
     rt: &R,
     link: &mut L,
@@ -43,27 +82,17 @@ fn write_frame<R: Wait, L: Link, C: Clock>(
     frame: &[u8],
     start: u64,
     limit: u64,
-) -> (usize, WriteEnd)
-    ensures moves { Tells (L.tells link.new) (L.tells link.old) (WroteFront result.0 frame.now (L.traffic link.old) (L.traffic link.new)) }
-    ensures clock { Tells (L.tells link.new × C.tells clock.new) (L.tells link.old × C.tells clock.old) (WaitedTo result.1 (L.traffic link.old).full_writes (L.traffic link.new).full_writes (C.readings clock.old) (C.readings clock.new)) }
-    ensures bound { EndsWriting result.1 result.0 (length frame.now) start limit }
-    ensures blame { EndBlames result.1 (L.faults link.old) (L.faults link.new) }
-    ensures again { Tells (L.tells link.new) (L.tells link.old) (EndAgain result.1 (L.traffic link.old).full_writes (L.traffic link.new).full_writes) }
+) -> WriteEnd
+    ensures moves { Tells (L.tells link.new) (L.tells link.old) (WroteUntil result frame.now start limit (L.traffic link.old) (L.traffic link.new)) }
+    ensures clock { Tells (L.tells link.new × C.tells clock.new) (L.tells link.old × C.tells clock.old) (WaitedTo result (L.traffic link.old).full_writes (L.traffic link.new).full_writes (C.readings clock.old) (C.readings clock.new)) }
+    ensures blame { EndBlames result (L.faults link.old) (L.faults link.new) }
+    ensures again { Tells (L.tells link.new) (L.tells link.old) (EndAgain result (L.traffic link.old).full_writes (L.traffic link.new).full_writes) }
 {
     let mut done = 0;
     for _ in rt.forever() {
-        if done >= frame.len() {
-            return (done, WriteEnd::Whole);
-        }
-        match link.write(&frame[done..]) {
-            LinkWrite::Took(count) => done += count,
-            LinkWrite::Again => {
-                let (at, secs) = wait_for_room(rt, link, clock, limit);
-                if at.saturating_sub(start) > limit {
-                    return (done, WriteEnd::Late(at, secs));
-                }
-            }
-            LinkWrite::Failed => return (done, WriteEnd::Failed),
+        match write_some(rt, link, clock, frame, done, start, limit) {
+            Ok(count) => done += count,
+            Err(end) => return end,
         }
     }
     unreachable!()
@@ -102,11 +131,11 @@ pub(crate) fn write_event<R: Wait, L: Link, C: Clock>(
 {
     let (start, _) = clock.now();
     match write_frame(rt, link, clock, frame, start, limit) {
-        (_, WriteEnd::Whole) => {
+        WriteEnd::Whole => {
             let (at, secs) = clock.now();
             written(client, start, at, secs)
         }
-        (_, WriteEnd::Late(at, secs)) => written(client, start, at, secs),
-        (_, WriteEnd::Failed) => now_is(clock, client, EventKind::Fault),
+        WriteEnd::Late(at, secs) => written(client, start, at, secs),
+        WriteEnd::Failed => now_is(clock, client, EventKind::Fault),
     }
 }

@@ -1,82 +1,56 @@
-use Rattle.dns_service.specs.PolledRequest.{request_answer}
 use Rattle.dns_service.specs.declared.event.Why.{Why}
 use Rattle.dns_client.specs.Serving.{serving}
-use Rattle.dns_client.specs.Slate.{Slate}
 use Rattle.dns_notes.specs.Clocks.{Timed}
 use Rattle.dns_notes.proofs.Timings.{timed_then, timed_shift}
 use Rattle.dns_drivers.specs.Endings.{WasOffered, Unserved, ShownFrom}
-use Rattle.dns_drivers.specs.Shown.{Causes}
 use Rattle.dns_drivers.specs.Story.{Broken, began}
-use Rattle.dns_drivers.specs.Turning.{BeginsOpen, ClosingStory}
+use Rattle.dns_drivers.specs.Turning.{ClosingStory}
 use Rattle.dns_drivers.proofs.Appends.{looks_none}
-use Rattle.dns_drivers.proofs.Breaking.{broken_none}
-use Rattle.dns_drivers.proofs.Ends.{begins, offered, shown_offered, unserved_late}
-use Rattle.dns_drivers.proofs.Results.{if_ok, tells_then, refused_then}
+use Rattle.dns_drivers.proofs.Ends.{offered, shown_offered, unserved_late}
+use Rattle.dns_drivers.proofs.Results.{tells_then, refused_then}
 use Rattle.dns_drivers.proofs.connection.serve_offer.Goals as goal
-
-pub returns-in_err-at-clause-seat : goal.returns-in_err-at-clause-seat
-returns-in_err-at-clause-seat g c = looks_none c.args.seat.now.known
 
 pub returns-in-Err-clause-seat : goal.returns-in-Err-clause-seat
 returns-in-Err-clause-seat g c = looks_none c.args.seat.now.known
 
-pub returns-in-Err-clause-no_memory : goal.returns-in-Err-clause-no_memory
-returns-in-Err-clause-no_memory g c =
-    let b = serving (g.W.Served.answer c.args.service.now) (g.W.Served.hint c.args.service.now) in
-    record {
-      told = λ m.
-          let o = c.in_ok-at.ensures.told.told m.1 in
-          ((m.0, o.0), unserved_late b c.args.client c.args.addr c.in_ok-at.at c.args.look.now (g.J.Recorder.noted c.args.journal.now) (g.J.Recorder.noted c.note_moment.new.journal) (g.J.Recorder.noted c.note_moment.new.journal) (g.L.Link.traffic c.args.link.now) (g.L.Link.traffic c.args.link.now) o.1 (broken_none b (began c.args.client c.args.addr c.in_ok-at.at c.args.look.now) c.args.client (g.J.Recorder.noted c.note_moment.new.journal) (g.L.Link.traffic c.args.link.now)));
-    }
-
 pub returns-in-Ok-clause-told : goal.returns-in-Ok-clause-told
 returns-in-Ok-clause-told g c =
-    let a = request_answer g.W.Future.ReplyFuture.answer g.W.Stream.ReplyStream.answer in
     let b = serving (g.W.Served.answer c.args.service.now) (g.W.Served.hint c.args.service.now) in
-    tells_then c.serve_core-served.result (g.L.Link.tells c.serve_core-served.new.link × g.J.Recorder.tells c.serve_core-served.new.journal) (g.L.Link.tells c.args.link.now × g.J.Recorder.tells c.note_moment.new.journal) (g.L.Link.tells c.args.link.now × g.J.Recorder.tells c.args.journal.now)
-    (λ (why : Why). (u : Slate) → BeginsOpen a b c.in-Ok.core c.args.look.now u → ClosingStory b u c.args.client c.args.look.now why (g.J.Recorder.noted c.note_moment.new.journal) (g.J.Recorder.noted c.serve_core-served.new.journal) c.args.seat.now.known c.serve_core-served.new.seat.known (g.L.Link.traffic c.args.link.now) (g.L.Link.traffic c.serve_core-served.new.link))
-    (λ (why : Why). WasOffered b why c.args.client c.args.addr c.args.look.now (g.J.Recorder.noted c.args.journal.now) (g.J.Recorder.noted c.serve_core-served.new.journal) c.args.seat.now.known c.serve_core-served.new.seat.known (g.L.Link.traffic c.args.link.now) (g.L.Link.traffic c.serve_core-served.new.link))
-    (λ (m : g.L.Link.tells c.args.link.now × g.J.Recorder.tells c.note_moment.new.journal). let o = c.in_ok-at.ensures.told.told m.1 in ((m.0, o.0), λ why p. offered b why c.args.client c.args.addr c.in_ok-at.at c.args.look.now (g.J.Recorder.noted c.args.journal.now) (g.J.Recorder.noted c.note_moment.new.journal) (g.J.Recorder.noted c.serve_core-served.new.journal) c.args.seat.now.known c.serve_core-served.new.seat.known (g.L.Link.traffic c.args.link.now) (g.L.Link.traffic c.serve_core-served.new.link) o.1 (p (began c.args.client c.args.addr c.in_ok-at.at c.args.look.now) (begins a b c.in-Ok.core c.args.client c.args.addr c.in_ok-at.at c.args.look.now c.in-Ok.ensures.begun c.in-Ok.ensures.version)).story))
-    c.serve_core-served.ensures.told
+    tells_then c.admit_and_serve.result (g.L.Link.tells c.admit_and_serve.new.link × g.J.Recorder.tells c.admit_and_serve.new.journal) (g.L.Link.tells c.args.link.now × g.J.Recorder.tells c.note_moment.new.journal) (g.L.Link.tells c.args.link.now × g.J.Recorder.tells c.args.journal.now)
+    (λ (why : Why). ClosingStory b (began c.args.client c.args.addr c.in-Ok.at c.args.look.now) c.args.client c.args.look.now why (g.J.Recorder.noted c.note_moment.new.journal) (g.J.Recorder.noted c.admit_and_serve.new.journal) c.args.seat.now.known c.admit_and_serve.new.seat.known (g.L.Link.traffic c.args.link.now) (g.L.Link.traffic c.admit_and_serve.new.link))
+    (λ (why : Why). WasOffered b why c.args.client c.args.addr c.args.look.now (g.J.Recorder.noted c.args.journal.now) (g.J.Recorder.noted c.admit_and_serve.new.journal) c.args.seat.now.known c.admit_and_serve.new.seat.known (g.L.Link.traffic c.args.link.now) (g.L.Link.traffic c.admit_and_serve.new.link))
+    (λ (m : g.L.Link.tells c.args.link.now × g.J.Recorder.tells c.note_moment.new.journal). let o = c.in-Ok.ensures.told.told m.1 in ((m.0, o.0), λ why p. offered b why c.args.client c.args.addr c.in-Ok.at c.args.look.now (g.J.Recorder.noted c.args.journal.now) (g.J.Recorder.noted c.note_moment.new.journal) (g.J.Recorder.noted c.admit_and_serve.new.journal) c.args.seat.now.known c.admit_and_serve.new.seat.known (g.L.Link.traffic c.args.link.now) (g.L.Link.traffic c.admit_and_serve.new.link) o.1 p.story))
+    c.admit_and_serve.ensures.told
 
 pub returns-in-Ok-clause-shown : goal.returns-in-Ok-clause-shown
 returns-in-Ok-clause-shown g c =
-    let a = request_answer g.W.Future.ReplyFuture.answer g.W.Stream.ReplyStream.answer in
     let b = serving (g.W.Served.answer c.args.service.now) (g.W.Served.hint c.args.service.now) in
-    tells_then c.serve_core-served.result (g.L.Link.tells c.serve_core-served.new.link × g.J.Recorder.tells c.serve_core-served.new.journal) (g.L.Link.tells c.args.link.now × g.J.Recorder.tells c.note_moment.new.journal) (g.L.Link.tells c.args.link.now × g.J.Recorder.tells c.args.journal.now)
-    (λ (why : Why). (u : Slate) → BeginsOpen a b c.in-Ok.core c.args.look.now u → ClosingStory b u c.args.client c.args.look.now why (g.J.Recorder.noted c.note_moment.new.journal) (g.J.Recorder.noted c.serve_core-served.new.journal) c.args.seat.now.known c.serve_core-served.new.seat.known (g.L.Link.traffic c.args.link.now) (g.L.Link.traffic c.serve_core-served.new.link))
-    (λ (why : Why). ShownFrom b why c.args.client c.args.addr c.args.look.now (g.J.Recorder.noted c.args.journal.now) (g.J.Recorder.noted c.serve_core-served.new.journal) (g.L.Link.traffic c.args.link.now) (g.L.Link.traffic c.serve_core-served.new.link))
-    (λ (m : g.L.Link.tells c.args.link.now × g.J.Recorder.tells c.note_moment.new.journal). let o = c.in_ok-at.ensures.told.told m.1 in ((m.0, o.0), λ why p. shown_offered b why c.args.client c.args.addr c.in_ok-at.at c.args.look.now (g.J.Recorder.noted c.args.journal.now) (g.J.Recorder.noted c.note_moment.new.journal) (g.J.Recorder.noted c.serve_core-served.new.journal) (g.L.Link.traffic c.args.link.now) (g.L.Link.traffic c.serve_core-served.new.link) o.1 (p (began c.args.client c.args.addr c.in_ok-at.at c.args.look.now) (begins a b c.in-Ok.core c.args.client c.args.addr c.in_ok-at.at c.args.look.now c.in-Ok.ensures.begun c.in-Ok.ensures.version)).shown))
-    c.serve_core-served.ensures.told
+    tells_then c.admit_and_serve.result (g.L.Link.tells c.admit_and_serve.new.link × g.J.Recorder.tells c.admit_and_serve.new.journal) (g.L.Link.tells c.args.link.now × g.J.Recorder.tells c.note_moment.new.journal) (g.L.Link.tells c.args.link.now × g.J.Recorder.tells c.args.journal.now)
+    (λ (why : Why). ClosingStory b (began c.args.client c.args.addr c.in-Ok.at c.args.look.now) c.args.client c.args.look.now why (g.J.Recorder.noted c.note_moment.new.journal) (g.J.Recorder.noted c.admit_and_serve.new.journal) c.args.seat.now.known c.admit_and_serve.new.seat.known (g.L.Link.traffic c.args.link.now) (g.L.Link.traffic c.admit_and_serve.new.link))
+    (λ (why : Why). ShownFrom b why c.args.client c.args.addr c.args.look.now (g.J.Recorder.noted c.args.journal.now) (g.J.Recorder.noted c.admit_and_serve.new.journal) (g.L.Link.traffic c.args.link.now) (g.L.Link.traffic c.admit_and_serve.new.link))
+    (λ (m : g.L.Link.tells c.args.link.now × g.J.Recorder.tells c.note_moment.new.journal). let o = c.in-Ok.ensures.told.told m.1 in ((m.0, o.0), λ why p. shown_offered b why c.args.client c.args.addr c.in-Ok.at c.args.look.now (g.J.Recorder.noted c.args.journal.now) (g.J.Recorder.noted c.note_moment.new.journal) (g.J.Recorder.noted c.admit_and_serve.new.journal) (g.L.Link.traffic c.args.link.now) (g.L.Link.traffic c.admit_and_serve.new.link) o.1 p.shown))
+    c.admit_and_serve.ensures.told
 
 pub returns-in-Ok-clause-no_memory : goal.returns-in-Ok-clause-no_memory
 returns-in-Ok-clause-no_memory g c =
-    let a = request_answer g.W.Future.ReplyFuture.answer g.W.Stream.ReplyStream.answer in
     let b = serving (g.W.Served.answer c.args.service.now) (g.W.Served.hint c.args.service.now) in
-    refused_then c.serve_core-served.result (g.L.Link.tells c.serve_core-served.new.link × g.J.Recorder.tells c.serve_core-served.new.journal) (g.L.Link.tells c.args.link.now × g.J.Recorder.tells c.note_moment.new.journal) (g.L.Link.tells c.args.link.now × g.J.Recorder.tells c.args.journal.now)
-    ((u : Slate) → BeginsOpen a b c.in-Ok.core c.args.look.now u → Broken b u c.args.client (g.J.Recorder.noted c.note_moment.new.journal) (g.J.Recorder.noted c.serve_core-served.new.journal) (g.L.Link.traffic c.args.link.now) (g.L.Link.traffic c.serve_core-served.new.link))
-    (Unserved b c.args.client c.args.addr c.args.look.now (g.J.Recorder.noted c.args.journal.now) (g.J.Recorder.noted c.serve_core-served.new.journal) (g.L.Link.traffic c.args.link.now) (g.L.Link.traffic c.serve_core-served.new.link))
-    (λ (m : g.L.Link.tells c.args.link.now × g.J.Recorder.tells c.note_moment.new.journal). let o = c.in_ok-at.ensures.told.told m.1 in ((m.0, o.0), λ p. unserved_late b c.args.client c.args.addr c.in_ok-at.at c.args.look.now (g.J.Recorder.noted c.args.journal.now) (g.J.Recorder.noted c.note_moment.new.journal) (g.J.Recorder.noted c.serve_core-served.new.journal) (g.L.Link.traffic c.args.link.now) (g.L.Link.traffic c.serve_core-served.new.link) o.1 (p (began c.args.client c.args.addr c.in_ok-at.at c.args.look.now) (begins a b c.in-Ok.core c.args.client c.args.addr c.in_ok-at.at c.args.look.now c.in-Ok.ensures.begun c.in-Ok.ensures.version))))
-    c.serve_core-served.ensures.no_memory
+    refused_then c.admit_and_serve.result (g.L.Link.tells c.admit_and_serve.new.link × g.J.Recorder.tells c.admit_and_serve.new.journal) (g.L.Link.tells c.args.link.now × g.J.Recorder.tells c.note_moment.new.journal) (g.L.Link.tells c.args.link.now × g.J.Recorder.tells c.args.journal.now)
+    (Broken b (began c.args.client c.args.addr c.in-Ok.at c.args.look.now) c.args.client (g.J.Recorder.noted c.note_moment.new.journal) (g.J.Recorder.noted c.admit_and_serve.new.journal) (g.L.Link.traffic c.args.link.now) (g.L.Link.traffic c.admit_and_serve.new.link))
+    (Unserved b c.args.client c.args.addr c.args.look.now (g.J.Recorder.noted c.args.journal.now) (g.J.Recorder.noted c.admit_and_serve.new.journal) (g.L.Link.traffic c.args.link.now) (g.L.Link.traffic c.admit_and_serve.new.link))
+    (λ (m : g.L.Link.tells c.args.link.now × g.J.Recorder.tells c.note_moment.new.journal). let o = c.in-Ok.ensures.told.told m.1 in ((m.0, o.0), λ p. unserved_late b c.args.client c.args.addr c.in-Ok.at c.args.look.now (g.J.Recorder.noted c.args.journal.now) (g.J.Recorder.noted c.note_moment.new.journal) (g.J.Recorder.noted c.admit_and_serve.new.journal) (g.L.Link.traffic c.args.link.now) (g.L.Link.traffic c.admit_and_serve.new.link) o.1 p))
+    c.admit_and_serve.ensures.no_memory
 
 pub returns-in-Ok-clause-cause : goal.returns-in-Ok-clause-cause
-returns-in-Ok-clause-cause g c =
-    let a = request_answer g.W.Future.ReplyFuture.answer g.W.Stream.ReplyStream.answer in
-    let b = serving (g.W.Served.answer c.args.service.now) (g.W.Served.hint c.args.service.now) in
-    if_ok c.serve_core-served.result
-    (λ (why : Why). (u : Slate) → BeginsOpen a b c.in-Ok.core c.args.look.now u → Causes why c.args.seat.now.known c.serve_core-served.new.seat.known (g.L.Link.faults c.args.link.now) (g.L.Link.faults c.serve_core-served.new.link))
-    (λ (why : Why). Causes why c.args.seat.now.known c.serve_core-served.new.seat.known (g.L.Link.faults c.args.link.now) (g.L.Link.faults c.serve_core-served.new.link))
-    (λ why p. p (began c.args.client c.args.addr c.in_ok-at.at c.args.look.now) (begins a b c.in-Ok.core c.args.client c.args.addr c.in_ok-at.at c.args.look.now c.in-Ok.ensures.begun c.in-Ok.ensures.version))
-    c.serve_core-served.ensures.cause
+returns-in-Ok-clause-cause g c = c.admit_and_serve.ensures.cause
 
 pub returns-in-Ok-clause-clock : goal.returns-in-Ok-clause-clock
 returns-in-Ok-clause-clock g c =
     let f = (g.L.Link.traffic c.args.link.now).full_writes in
     let q = g.C.Clock.readings c.args.clock.now in
     let q1 = g.C.Clock.readings c.note_moment.new.clock in
-    tells_then c.serve_core-served.result (g.L.Link.tells c.serve_core-served.new.link × g.C.Clock.tells c.serve_core-served.new.clock × g.J.Recorder.tells c.serve_core-served.new.journal) (g.L.Link.tells c.args.link.now × g.C.Clock.tells c.note_moment.new.clock × g.J.Recorder.tells c.note_moment.new.journal) (g.L.Link.tells c.args.link.now × g.C.Clock.tells c.args.clock.now × g.J.Recorder.tells c.args.journal.now)
-    (λ (why : Why). Timed (g.J.Recorder.noted c.note_moment.new.journal) (g.J.Recorder.noted c.serve_core-served.new.journal) f (g.L.Link.traffic c.serve_core-served.new.link).full_writes q1 (g.C.Clock.readings c.serve_core-served.new.clock))
-    (λ (why : Why). Timed (g.J.Recorder.noted c.args.journal.now) (g.J.Recorder.noted c.serve_core-served.new.journal) f (g.L.Link.traffic c.serve_core-served.new.link).full_writes q (g.C.Clock.readings c.serve_core-served.new.clock))
-    (λ (m : g.L.Link.tells c.args.link.now × g.C.Clock.tells c.note_moment.new.clock × g.J.Recorder.tells c.note_moment.new.journal). let o = c.in_ok-at.ensures.clock.told (m.1, m.2) in
-    ((m.0, o.0.0, o.0.1), λ why p. timed_then (g.J.Recorder.noted c.args.journal.now) (g.J.Recorder.noted c.note_moment.new.journal) (g.J.Recorder.noted c.serve_core-served.new.journal) f f (g.L.Link.traffic c.serve_core-served.new.link).full_writes q q1 (g.C.Clock.readings c.serve_core-served.new.clock) (timed_shift (g.J.Recorder.noted c.args.journal.now) (g.J.Recorder.noted c.note_moment.new.journal) f q q1 o.1) p))
-    c.serve_core-served.ensures.clock
+    tells_then c.admit_and_serve.result (g.L.Link.tells c.admit_and_serve.new.link × g.C.Clock.tells c.admit_and_serve.new.clock × g.J.Recorder.tells c.admit_and_serve.new.journal) (g.L.Link.tells c.args.link.now × g.C.Clock.tells c.note_moment.new.clock × g.J.Recorder.tells c.note_moment.new.journal) (g.L.Link.tells c.args.link.now × g.C.Clock.tells c.args.clock.now × g.J.Recorder.tells c.args.journal.now)
+    (λ (why : Why). Timed (g.J.Recorder.noted c.note_moment.new.journal) (g.J.Recorder.noted c.admit_and_serve.new.journal) f (g.L.Link.traffic c.admit_and_serve.new.link).full_writes q1 (g.C.Clock.readings c.admit_and_serve.new.clock))
+    (λ (why : Why). Timed (g.J.Recorder.noted c.args.journal.now) (g.J.Recorder.noted c.admit_and_serve.new.journal) f (g.L.Link.traffic c.admit_and_serve.new.link).full_writes q (g.C.Clock.readings c.admit_and_serve.new.clock))
+    (λ (m : g.L.Link.tells c.args.link.now × g.C.Clock.tells c.note_moment.new.clock × g.J.Recorder.tells c.note_moment.new.journal). let o = c.in-Ok.ensures.clock.told (m.1, m.2) in
+    ((m.0, o.0.0, o.0.1), λ why p. timed_then (g.J.Recorder.noted c.args.journal.now) (g.J.Recorder.noted c.note_moment.new.journal) (g.J.Recorder.noted c.admit_and_serve.new.journal) f f (g.L.Link.traffic c.admit_and_serve.new.link).full_writes q q1 (g.C.Clock.readings c.admit_and_serve.new.clock) (timed_shift (g.J.Recorder.noted c.args.journal.now) (g.J.Recorder.noted c.note_moment.new.journal) f q q1 o.1) p))
+    c.admit_and_serve.ensures.clock

@@ -13,13 +13,13 @@ use Rattle.dns_drivers.proofs.hearing.hear.Goals as goal
 pub returns-in-Ok-clause-told : goal.returns-in-Ok-clause-told
 returns-in-Ok-clause-told g c =
     if_ok c.see.result (λ (why : Option Why). SeesLook (request_answer g.W.Future.ReplyFuture.answer g.W.Stream.ReplyStream.answer) c.args.core.now c.see.new.core c.look-look.result why)
-    (λ (why : Option Why). Tells (g.J.Recorder.tells c.note_news.new.journal) (g.J.Recorder.tells c.args.journal.now) (HeardNews (request_answer g.W.Future.ReplyFuture.answer g.W.Stream.ReplyStream.answer) why c.args.core.now c.see.new.core c.args.last.now c.with_look.result (g.J.Recorder.noted c.args.journal.now) (g.J.Recorder.noted c.note_news.new.journal) c.args.seat.now.known c.look-look.new.seat.known))
+    (λ (why : Option Why). Tells (g.J.Recorder.tells c.note_news.new.journal) (g.J.Recorder.tells c.args.journal.now) (HeardNews (request_answer g.W.Future.ReplyFuture.answer g.W.Stream.ReplyStream.answer) why c.args.core.now c.see.new.core c.args.kept.now.last c.see.new.kept.last (g.J.Recorder.noted c.args.journal.now) (g.J.Recorder.noted c.note_news.new.journal) c.args.seat.now.known c.look-look.new.seat.known))
     (λ why s. record {
       told = λ t.
           let a = c.in-Ok.ensures.told.told t in
-          (a.0, heard_news (request_answer g.W.Future.ReplyFuture.answer g.W.Stream.ReplyStream.answer) why c.args.core.now c.see.new.core c.args.last.now c.with_look.result c.look-look.result (g.J.Recorder.noted c.args.journal.now) (g.J.Recorder.noted c.note_news.new.journal) c.args.seat.now.known c.look-look.new.seat.known c.look-look.ensures.called a.1 c.with_look.ensures s);
+          (a.0, heard_news (request_answer g.W.Future.ReplyFuture.answer g.W.Stream.ReplyStream.answer) why c.args.core.now c.see.new.core c.args.kept.now.last c.see.new.kept.last c.look-look.result (g.J.Recorder.noted c.args.journal.now) (g.J.Recorder.noted c.note_news.new.journal) c.args.seat.now.known c.look-look.new.seat.known c.look-look.ensures.called a.1 c.see.ensures.last s);
     })
-    c.see.ensures
+    c.see.ensures.sees
 
 pub returns-in-Ok-clause-no_memory : goal.returns-in-Ok-clause-no_memory
 returns-in-Ok-clause-no_memory g c =
@@ -27,7 +27,7 @@ returns-in-Ok-clause-no_memory g c =
     (record {
       told = λ t.
           let a = c.in-Ok.ensures.told.told t in
-          (a.0, wide_news c.args.last.now c.look-look.result (g.J.Recorder.noted c.args.journal.now) (g.J.Recorder.noted c.note_news.new.journal) a.1);
+          (a.0, wide_news c.args.kept.now.last c.look-look.result (g.J.Recorder.noted c.args.journal.now) (g.J.Recorder.noted c.note_news.new.journal) a.1);
     })
 
 pub returns-in-Ok-clause-clock : goal.returns-in-Ok-clause-clock
@@ -35,11 +35,11 @@ returns-in-Ok-clause-clock g c =
     if_ok c.see.result (λ (why : Option Why). SeesLook (request_answer g.W.Future.ReplyFuture.answer g.W.Stream.ReplyStream.answer) c.args.core.now c.see.new.core c.look-look.result why)
     (λ (why : Option Why). Tells (g.C.Clock.tells c.note_news.new.clock × g.J.Recorder.tells c.note_news.new.journal) (g.C.Clock.tells c.args.clock.now × g.J.Recorder.tells c.args.journal.now) (Timed (g.J.Recorder.noted c.args.journal.now) (g.J.Recorder.noted c.note_news.new.journal) 0 0 (g.C.Clock.readings c.args.clock.now) (g.C.Clock.readings c.note_news.new.clock)))
     (λ why s. c.in-Ok.ensures.clock)
-    c.see.ensures
+    c.see.ensures.sees
 
 pub returns-in-Ok-clause-blame : goal.returns-in-Ok-clause-blame
 returns-in-Ok-clause-blame g c =
     if_ok c.see.result (λ (why : Option Why). SeesLook (request_answer g.W.Future.ReplyFuture.answer g.W.Stream.ReplyStream.answer) c.args.core.now c.see.new.core c.look-look.result why)
     (λ (why : Option Why). HeardFor (request_answer g.W.Future.ReplyFuture.answer g.W.Stream.ReplyStream.answer) why c.args.core.now c.see.new.core c.args.seat.now.known c.look-look.new.seat.known)
     (λ why s. heard_for (request_answer g.W.Future.ReplyFuture.answer g.W.Stream.ReplyStream.answer) why c.args.core.now c.see.new.core c.look-look.result c.args.seat.now.known c.look-look.new.seat.known c.look-look.ensures.called s)
-    c.see.ensures
+    c.see.ensures.sees

@@ -7,7 +7,7 @@ returns-clause-told g c = record {
   told = λ t.
       let b = c.in_ok-note_shutdown.ensures.told.told t in
       let a = c.in_ok-note_version.ensures.told.told b.0 in
-      (a.0, noted_news c.args.last.now c.args.look.now (g.J.Recorder.noted c.args.journal.now) (g.J.Recorder.noted c.note_version.new.journal) (g.J.Recorder.noted c.note_shutdown.new.journal) a.1 b.1);
+      (a.0, noted_news c.args.kept.now.last c.args.look.now (g.J.Recorder.noted c.args.journal.now) (g.J.Recorder.noted c.note_version.new.journal) (g.J.Recorder.noted c.note_shutdown.new.journal) a.1 b.1);
 }
 
 pub returns-clause-clock : goal.returns-clause-clock

@@ -15,11 +15,11 @@ pub returns-in-Ok-None-clause-told : goal.returns-in-Ok-None-clause-told
 returns-in-Ok-None-clause-told g c =
     let a = request_answer g.W.Future.ReplyFuture.answer g.W.Stream.ReplyStream.answer in
     let b = serving (g.W.Served.answer c.args.service.now) (g.W.Served.hint c.args.service.now) in
-    tells_then c.act.result (g.L.Link.tells c.act.new.link × g.J.Recorder.tells c.act.new.journal) (g.L.Link.tells c.args.link.now × g.J.Recorder.tells c.hear.new.journal) (g.L.Link.tells c.args.link.now × g.J.Recorder.tells c.args.journal.now)
-    (λ (why : Option Why). (Acted a b c.args.client (below_of c.args.kept.now.turn) (below_of c.act.new.turn) why c.hear.new.core c.act.new.core (g.J.Recorder.noted c.hear.new.journal) (g.J.Recorder.noted c.act.new.journal) (g.L.Link.traffic c.args.link.now) (g.L.Link.traffic c.act.new.link)) × (NotedWrite a c.hear.new.core (g.J.Recorder.noted c.hear.new.journal) (g.J.Recorder.noted c.act.new.journal) (g.L.Link.traffic c.args.link.now) (g.L.Link.traffic c.act.new.link)))
-    (λ (why : Option Why). MadeTurn a b c.args.client (below_of c.args.kept.now.turn) (below_of c.act.new.turn) why c.args.core.now c.act.new.core c.args.kept.now.last c.hear.new.last (g.J.Recorder.noted c.args.journal.now) (g.J.Recorder.noted c.act.new.journal) c.args.seat.now.known c.hear.new.seat.known (g.L.Link.traffic c.args.link.now) (g.L.Link.traffic c.act.new.link))
+    rw (← c.hear.ensures.turn, c.act.ensures.last) (tells_then c.act.result (g.L.Link.tells c.act.new.link × g.J.Recorder.tells c.act.new.journal) (g.L.Link.tells c.args.link.now × g.J.Recorder.tells c.hear.new.journal) (g.L.Link.tells c.args.link.now × g.J.Recorder.tells c.args.journal.now)
+    (λ (why : Option Why). (Acted a b c.args.client (below_of c.hear.new.kept.turn) (below_of c.act.new.kept.turn) why c.hear.new.core c.act.new.core (g.J.Recorder.noted c.hear.new.journal) (g.J.Recorder.noted c.act.new.journal) (g.L.Link.traffic c.args.link.now) (g.L.Link.traffic c.act.new.link)) × (NotedWrite a c.hear.new.core (g.J.Recorder.noted c.hear.new.journal) (g.J.Recorder.noted c.act.new.journal) (g.L.Link.traffic c.args.link.now) (g.L.Link.traffic c.act.new.link)))
+    (λ (why : Option Why). MadeTurn a b c.args.client (below_of c.hear.new.kept.turn) (below_of c.act.new.kept.turn) why c.args.core.now c.act.new.core c.args.kept.now.last c.hear.new.kept.last (g.J.Recorder.noted c.args.journal.now) (g.J.Recorder.noted c.act.new.journal) c.args.seat.now.known c.hear.new.seat.known (g.L.Link.traffic c.args.link.now) (g.L.Link.traffic c.act.new.link))
     (λ (m : g.L.Link.tells c.args.link.now × g.J.Recorder.tells c.hear.new.journal). let h = (rw c.in-Ok-None.field-0-is at c.in-Ok-None.ensures.told).told m.1 in ((m.0, h.0), λ why p. record { either = inr (record { between = c.hear.new.core; seen = (g.J.Recorder.noted c.hear.new.journal); heard = h.1; acted = p.0; wrote = p.1 }) }))
-    (tells_both c.act.result (g.L.Link.tells c.act.new.link × g.J.Recorder.tells c.act.new.journal) (g.L.Link.tells c.args.link.now × g.J.Recorder.tells c.hear.new.journal) (λ (why : Option Why). Acted a b c.args.client (below_of c.args.kept.now.turn) (below_of c.act.new.turn) why c.hear.new.core c.act.new.core (g.J.Recorder.noted c.hear.new.journal) (g.J.Recorder.noted c.act.new.journal) (g.L.Link.traffic c.args.link.now) (g.L.Link.traffic c.act.new.link)) (λ (why : Option Why). NotedWrite a c.hear.new.core (g.J.Recorder.noted c.hear.new.journal) (g.J.Recorder.noted c.act.new.journal) (g.L.Link.traffic c.args.link.now) (g.L.Link.traffic c.act.new.link)) c.act.ensures.told c.act.ensures.again)
+    (tells_both c.act.result (g.L.Link.tells c.act.new.link × g.J.Recorder.tells c.act.new.journal) (g.L.Link.tells c.args.link.now × g.J.Recorder.tells c.hear.new.journal) (λ (why : Option Why). Acted a b c.args.client (below_of c.hear.new.kept.turn) (below_of c.act.new.kept.turn) why c.hear.new.core c.act.new.core (g.J.Recorder.noted c.hear.new.journal) (g.J.Recorder.noted c.act.new.journal) (g.L.Link.traffic c.args.link.now) (g.L.Link.traffic c.act.new.link)) (λ (why : Option Why). NotedWrite a c.hear.new.core (g.J.Recorder.noted c.hear.new.journal) (g.J.Recorder.noted c.act.new.journal) (g.L.Link.traffic c.args.link.now) (g.L.Link.traffic c.act.new.link)) c.act.ensures.told c.act.ensures.again))
 
 pub returns-in-Ok-None-clause-clock : goal.returns-in-Ok-None-clause-clock
 returns-in-Ok-None-clause-clock g c =
@@ -34,11 +34,11 @@ pub returns-in-Ok-None-clause-no_memory : goal.returns-in-Ok-None-clause-no_memo
 returns-in-Ok-None-clause-no_memory g c =
     let a = request_answer g.W.Future.ReplyFuture.answer g.W.Stream.ReplyStream.answer in
     let b = serving (g.W.Served.answer c.args.service.now) (g.W.Served.hint c.args.service.now) in
-    refused_then c.act.result (g.L.Link.tells c.act.new.link × g.J.Recorder.tells c.act.new.journal) (g.L.Link.tells c.args.link.now × g.J.Recorder.tells c.hear.new.journal) (g.L.Link.tells c.args.link.now × g.J.Recorder.tells c.args.journal.now)
-    (ActedPart a c.args.client (below_of c.args.kept.now.turn) c.hear.new.core (g.J.Recorder.noted c.hear.new.journal) (g.J.Recorder.noted c.act.new.journal) (g.L.Link.traffic c.args.link.now) (g.L.Link.traffic c.act.new.link))
-    (TurnedPart a b c.args.client (below_of c.args.kept.now.turn) c.args.core.now c.args.kept.now.last (g.J.Recorder.noted c.args.journal.now) (g.J.Recorder.noted c.act.new.journal) c.args.seat.now.known c.hear.new.seat.known (g.L.Link.traffic c.args.link.now) (g.L.Link.traffic c.act.new.link))
-    (λ (m : g.L.Link.tells c.args.link.now × g.J.Recorder.tells c.hear.new.journal). let h = (rw c.in-Ok-None.field-0-is at c.in-Ok-None.ensures.told).told m.1 in ((m.0, h.0), λ p. record { either = inr (record { between = c.hear.new.core; look = c.hear.new.last; seen = (g.J.Recorder.noted c.hear.new.journal); heard = h.1; acted = p }) }))
-    c.act.ensures.no_memory
+    rw (← c.hear.ensures.turn) (refused_then c.act.result (g.L.Link.tells c.act.new.link × g.J.Recorder.tells c.act.new.journal) (g.L.Link.tells c.args.link.now × g.J.Recorder.tells c.hear.new.journal) (g.L.Link.tells c.args.link.now × g.J.Recorder.tells c.args.journal.now)
+    (ActedPart a c.args.client (below_of c.hear.new.kept.turn) c.hear.new.core (g.J.Recorder.noted c.hear.new.journal) (g.J.Recorder.noted c.act.new.journal) (g.L.Link.traffic c.args.link.now) (g.L.Link.traffic c.act.new.link))
+    (TurnedPart a b c.args.client (below_of c.hear.new.kept.turn) c.args.core.now c.args.kept.now.last (g.J.Recorder.noted c.args.journal.now) (g.J.Recorder.noted c.act.new.journal) c.args.seat.now.known c.hear.new.seat.known (g.L.Link.traffic c.args.link.now) (g.L.Link.traffic c.act.new.link))
+    (λ (m : g.L.Link.tells c.args.link.now × g.J.Recorder.tells c.hear.new.journal). let h = (rw c.in-Ok-None.field-0-is at c.in-Ok-None.ensures.told).told m.1 in ((m.0, h.0), λ p. record { either = inr (record { between = c.hear.new.core; look = c.hear.new.kept.last; seen = (g.J.Recorder.noted c.hear.new.journal); heard = h.1; acted = p }) }))
+    c.act.ensures.no_memory)
 
 pub returns-in-Ok-None-clause-cause : goal.returns-in-Ok-None-clause-cause
 returns-in-Ok-None-clause-cause g c =

@@ -1,30 +1,60 @@
-use Rattle.std.proofs.Common.{◌-◌, ◌++◌, take, drop, length, arith}
-use Rattle.std.proofs.lemmas.Grind.{common_steps}
-use Rattle.dns_drivers.proofs.Blamings.{again_took}
-use Rattle.dns_drivers.proofs.Waits.{waited_took}
-use Rattle.dns_drivers.proofs.Movings.{wrote_more}
+use Rattle.std.proofs.Common.{arith}
+use Rattle.dns_drivers.proofs.Writings.{wrote_on, wrote_end, waited_on, waited_end, blames_on, again_on}
 use Rattle.dns_drivers.proofs.writing.write_frame.Goals as goal
 
-pub loop-preserved-in-Took : goal.loop-preserved-in-Took
-loop-preserved-in-Took g c = record {
+pub loop-preserved : goal.loop-preserved
+loop-preserved g c = record {
   moves = record {
     told = λ t.
-        let m = c.in-Took.ensures.moves.told t in
+        let m = c.in-Ok.ensures.moves.told t in
         let r = c.loop.invariant.moves.told m.0 in
-        (r.0, wrote_more c.loop.done c.in-Took.count c.args.frame.now (g.L.Link.traffic c.args.link.now) (g.L.Link.traffic c.loop.link) (g.L.Link.traffic c.write.new.self) r.1 m.1);
+        (r.0, wrote_on c.loop.done c.in-Ok.count c.args.frame.now (g.L.Link.traffic c.args.link.now) (g.L.Link.traffic c.loop.link) (g.L.Link.traffic c.write_some.new.link) r.1 m.1);
   };
   clock = record {
     told = λ t.
-        let m = c.in-Took.ensures.moves.told t.0 in
-        let r = c.loop.invariant.clock.told (m.0, t.1) in
-        (r.0, waited_took (g.L.Link.traffic c.loop.link) (g.L.Link.traffic c.write.new.self) (g.L.Link.traffic c.args.link.now).full_writes (g.C.Clock.readings c.args.clock.now) (g.C.Clock.readings c.loop.clock) ((g.L.Link.traffic c.loop.link).went ++ take c.in-Took.count (take (length c.args.frame.now - c.loop.done) (drop c.loop.done c.args.frame.now))) r.1 m.1);
+        let m = c.in-Ok.ensures.clock.told t in
+        let r = c.loop.invariant.clock.told m.0 in
+        (r.0, waited_on (g.L.Link.traffic c.args.link.now).full_writes (g.L.Link.traffic c.loop.link).full_writes (g.L.Link.traffic c.write_some.new.link).full_writes (g.C.Clock.readings c.args.clock.now) (g.C.Clock.readings c.loop.clock) (g.C.Clock.readings c.write_some.new.clock) r.1 m.1);
   };
-  faults = let l = c.in-Took.ensures.later in let i = c.loop.invariant.faults in omega arith;
+  faults = let l = c.in-Ok.ensures.blame in let i = c.loop.invariant.faults in omega arith;
   again = record {
     told = λ t.
-        let m = c.in-Took.ensures.moves.told t in
+        let m = c.in-Ok.ensures.again.told t in
         let r = c.loop.invariant.again.told m.0 in
-        (r.0, again_took (g.L.Link.traffic c.args.link.now).full_writes ((g.L.Link.traffic c.loop.link).went ++ take c.in-Took.count (take (length c.args.frame.now - c.loop.done) (drop c.loop.done c.args.frame.now))) (g.L.Link.traffic c.loop.link) (g.L.Link.traffic c.write.new.self) r.1 m.1);
+        (r.0, let p = r.1 in let q = m.1 in omega arith);
   };
-  bound = let b = c.in-Took.ensures.bound.0 in grind (arith, common_steps, b);
+  bound = c.in-Ok.ensures.bound;
+}
+
+pub returns-in-Err-clause-moves : goal.returns-in-Err-clause-moves
+returns-in-Err-clause-moves g c = record {
+  told = λ t.
+      let m = c.in-Err.ensures.moves.told t in
+      let r = c.loop.invariant.moves.told m.0 in (
+        r.0,
+        record {
+          written = c.loop.done;
+          front = wrote_end c.loop.done c.args.frame.now (g.L.Link.traffic c.args.link.now) (g.L.Link.traffic c.loop.link) (g.L.Link.traffic c.write_some.new.link) r.1 m.1;
+          bound = c.in-Err.ensures.bound;
+        },
+      );
+}
+
+pub returns-in-Err-clause-clock : goal.returns-in-Err-clause-clock
+returns-in-Err-clause-clock g c = record {
+  told = λ t.
+      let m = c.in-Err.ensures.clock.told t in
+      let r = c.loop.invariant.clock.told m.0 in
+      (r.0, waited_end c.in-Err.end (g.L.Link.traffic c.args.link.now).full_writes (g.L.Link.traffic c.loop.link).full_writes (g.L.Link.traffic c.write_some.new.link).full_writes (g.C.Clock.readings c.args.clock.now) (g.C.Clock.readings c.loop.clock) (g.C.Clock.readings c.write_some.new.clock) r.1 m.1);
+}
+
+pub returns-in-Err-clause-blame : goal.returns-in-Err-clause-blame
+returns-in-Err-clause-blame g c = blames_on c.in-Err.end (g.L.Link.faults c.args.link.now) (g.L.Link.faults c.loop.link) (g.L.Link.faults c.write_some.new.link) c.loop.invariant.faults c.in-Err.ensures.blame
+
+pub returns-in-Err-clause-again : goal.returns-in-Err-clause-again
+returns-in-Err-clause-again g c = record {
+  told = λ t.
+      let m = c.in-Err.ensures.again.told t in
+      let r = c.loop.invariant.again.told m.0 in
+      (r.0, again_on c.in-Err.end (g.L.Link.traffic c.args.link.now).full_writes (g.L.Link.traffic c.loop.link).full_writes (g.L.Link.traffic c.write_some.new.link).full_writes r.1 m.1);
 }
