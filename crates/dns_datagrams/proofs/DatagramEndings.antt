@@ -16,7 +16,9 @@ use Rattle.dns_notes.specs.Clocks.{ClockReading}
 use Rattle.dns_datagrams.specs.DatagramsSent.{settings_of}
 use Rattle.dns_datagrams.specs.DatagramsServed.{World, world, IsFull}
 use Rattle.dns_datagrams.specs.DatagramSteps.{kept_at, numbers_of, left_to}
-use Rattle.dns_datagrams.specs.DatagramLoop.{Ran, Goes, Breaks, Looks, Turns, Fails, Begins, BeginFails, Idles, Finished}
+use Rattle.dns_datagrams.specs.DatagramLoop.{Ran, Goes, Breaks, Looks, Turns, Fails, Begins, BeginFails, Rounded, Idles, Finished}
+use Rattle.dns_datagrams.specs.declared.receipts.Lap.{Lap}
+use Rattle.dns_datagrams.specs.declared.receipts.Lap.TheVariants.{Whole, Over, Failed}
 use Rattle.dns_datagrams.specs.declared.running.KeptExchange.{KeptExchange}
 use Rattle.dns_datagrams.specs.declared.running.Running.{Running}
 use Rattle.dns_datagrams.proofs.DatagramOrderings.{ordered_rest}
@@ -135,8 +137,10 @@ module _ {W R F : Type 0} (answer : PolledRequest F R → ℕ → Answer) (answe
   pub look_goes : {w w1 w2 : World} {s s1 s2 : Running W R F} {b : Bool} {ns : List ℕ} → Looks answer answers w s w1 s1 → Goes answer answers w1 s1 true [] w2 s2 b ns → Goes answer answers w s false [] w2 s2 b ns
   look_goes a b = goes_then (a.goes []) b
 
-  pub look_over : {w w1 : World} {s s1 : Running W R F} → s1.heard.closed ≡ true → Looks answer answers w s w1 s1 → Goes answer answers w s false [] w1 s1 true [] × (s1.heard.closed ≡ true)
-  look_over h a = (a.goes [], h)
+  pub look_rounds : (lap : Lap) {w w1 : World} {s s1 : Running W R F} (w2 : World) (s2 : Running W R F) → Looks answer answers w s w1 s1 → Rounded answer answers true lap w1 s1 w2 s2 → Rounded answer answers false lap w s w2 s2
+  look_rounds Whole w2 s2 a b = look_goes a b
+  look_rounds Over w2 s2 a b = (look_goes a b.0, b.1)
+  look_rounds Failed w2 s2 a b = look_goes a b
 
   pub look_breaks : {w w1 w2 : World} {s s1 : Running W R F} → Looks answer answers w s w1 s1 → Breaks answer answers w1 s1 true [] w2 → Breaks answer answers w s false [] w2
   look_breaks a b = breaks_then (a.goes []) b

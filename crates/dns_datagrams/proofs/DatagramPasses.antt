@@ -7,6 +7,7 @@ use Rattle.dns_admission.specs.declared.look.Look.{Look}
 use Rattle.dns_admission.specs.declared.call.Call.TheVariants.{Look as ToLook}
 use Rattle.dns_admission.specs.declared.call.Reply.TheVariants.{Look as Shown}
 use Rattle.dns_book.specs.Seats.{Called}
+use Rattle.dns_book.specs.declared.book.BookSeat.{BookSeat}
 use Rattle.dns_book.specs.declared.history.Known.{Known}
 use Rattle.dns_outside.specs.Causes.{Rose}
 use Rattle.dns_datagrams.specs.DatagramsServed.{LooksBy, ReceivesBy, RoseIf}
@@ -50,25 +51,27 @@ shown_then false false false w h g = g
 
 module _ {W R F : Type 0} where
   -- nothing was heard
-  pub passes_kept : (k : Known) (s s' : Running W R F) (f f' : ℕ) → s'.heard ≡ s.heard → f ≤ f' → SendsRose s.send_failed s'.send_failed f f' → Passes k k s s' f f'
-  passes_kept k s s' f f' h l r = record {
+  pub passes_kept : (s s' : Running W R F) (f f' : ℕ) → s'.heard ≡ s.heard → s'.seat ≡ s.seat → f ≤ f' → SendsRose s.send_failed s'.send_failed f f' → Passes s s' f f'
+  passes_kept s s' f f' h q l r = record {
     looks = [];
-    made = looks_none k;
+    made = rw q (looks_none s.seat.known);
+    book = ap (λ (b : BookSeat). b.book) q;
     over = λ c. ap (λ (m : Look). m.closed) h ∙ c;
     shown = λ c. or_false s.heard.closed ∙ (ap (λ (m : Look). m.closed) (sym h) ∙ c);
     later = l;
     rose = r;
   }
 
-  pub passes_same : (k : Known) (s : Running W R F) (f : ℕ) → Passes k k s s f f
-  passes_same k s f = passes_kept k s s f f refl (omega arith) (inl (refl, refl))
+  pub passes_same : (s : Running W R F) (f : ℕ) → Passes s s f f
+  passes_same s f = passes_kept s s f f refl refl (omega arith) (inl (refl, refl))
 
   -- a look
-  pub passes_look : (k k' : Known) (s s' : Running W R F) (f : ℕ) (look : Look) → Called k ToLook (Shown look) k' → s'.heard ≡ hears s.heard look → s'.send_failed ≡ s.send_failed → Passes k k' s s' f f
-  passes_look k k' s s' f look c h r =
+  pub passes_look : (s s' : Running W R F) (f : ℕ) (look : Look) → Called s.seat.known ToLook (Shown look) s'.seat.known → s'.seat.book ≡ s.seat.book → s'.heard ≡ hears s.heard look → s'.send_failed ≡ s.send_failed → Passes s s' f f
+  passes_look s s' f look c q h r =
       let closed : s'.heard.closed ≡ (s.heard.closed || look.closed) = ap (λ (m : Look). m.closed) h ∙ hears_closed s.heard look in record {
         looks = look ∷ [];
-        made = looks_one k k' look c;
+        made = looks_one s.seat.known s'.seat.known look c;
+        book = q;
         over = λ d. closed ∙ or_left s.heard.closed look.closed d;
         shown = λ d. ap (λ b. s.heard.closed || b) (or_false look.closed) ∙ (sym closed ∙ d);
         later = omega arith;
@@ -76,21 +79,23 @@ module _ {W R F : Type 0} where
       }
 
   -- a look whose news weren't noted
-  pub passes_unheard : (k k' : Known) (s s' : Running W R F) (f : ℕ) (look : Look) → Called k ToLook (Shown look) k' → s'.heard ≡ s.heard → s'.send_failed ≡ s.send_failed → Passes k k' s s' f f
-  passes_unheard k k' s s' f look c h r =
+  pub passes_unheard : (s s' : Running W R F) (f : ℕ) (look : Look) → Called s.seat.known ToLook (Shown look) s'.seat.known → s'.seat.book ≡ s.seat.book → s'.heard ≡ s.heard → s'.send_failed ≡ s.send_failed → Passes s s' f f
+  passes_unheard s s' f look c q h r =
       let closed : s'.heard.closed ≡ s.heard.closed = ap (λ (m : Look). m.closed) h in record {
         looks = look ∷ [];
-        made = looks_one k k' look c;
+        made = looks_one s.seat.known s'.seat.known look c;
+        book = q;
         over = λ d. closed ∙ d;
         shown = λ d. or_left s.heard.closed (look.closed || false) (sym closed ∙ d);
         later = omega arith;
         rose = inl (r, refl);
       }
 
-  pub passes_then : (k k1 k2 : Known) (s s1 s2 : Running W R F) (f f1 f2 : ℕ) → Passes k k1 s s1 f f1 → Passes k1 k2 s1 s2 f1 f2 → Passes k k2 s s2 f f2
-  passes_then k k1 k2 s s1 s2 f f1 f2 a b = record {
+  pub passes_then : (s s1 s2 : Running W R F) (f f1 f2 : ℕ) → Passes s s1 f f1 → Passes s1 s2 f1 f2 → Passes s s2 f f2
+  passes_then s s1 s2 f f1 f2 a b = record {
     looks = a.looks ++ b.looks;
-    made = looks_then k k1 k2 a.looks b.looks a.made b.made;
+    made = looks_then s.seat.known s1.seat.known s2.seat.known a.looks b.looks a.made b.made;
+    book = b.book ∙ a.book;
     over = λ c. b.over (a.over c);
     shown = λ c. ap (λ x. s.heard.closed || x) (list_any-append (λ l. l.closed) a.looks b.looks)
         ∙ shown_then s.heard.closed s1.heard.closed (list_any (λ l. l.closed) a.looks) (list_any (λ l. l.closed) b.looks) a.shown (b.shown c);
@@ -99,12 +104,12 @@ module _ {W R F : Type 0} where
   }
 
   -- from the first look on
-  pub passes_first : (end : DgramEnd) (first : Look) (k k1 k2 : Known) (s s' : Running W R F) (f f' : ℕ) → Called k ToLook (Shown first) k1 → s.heard ≡ hears (record first { closed = false }) first
-      → Passes k1 k2 s s' f f' → (end ≡ Shutdown → s'.heard.closed ≡ true) → LooksBy end k k2
-  passes_first end first k k1 k2 s s' f f' c h p over =
+  pub passes_first : (end : DgramEnd) (first : Look) (k : Known) (s s' : Running W R F) (f f' : ℕ) → Called k ToLook (Shown first) s.seat.known → s.heard ≡ hears (record first { closed = false }) first
+      → Passes s s' f f' → (end ≡ Shutdown → s'.heard.closed ≡ true) → LooksBy end k s'.seat.known
+  passes_first end first k s s' f f' c h p over =
       let closed : s.heard.closed ≡ first.closed = ap (λ (m : Look). m.closed) h ∙ hears_closed (record first { closed = false }) first in record {
         looks = first ∷ p.looks;
-        made = looks_then k k1 k2 (first ∷ []) p.looks (looks_one k k1 first c) p.made;
+        made = looks_then k s.seat.known s'.seat.known (first ∷ []) p.looks (looks_one k s.seat.known first c) p.made;
         shown = λ e. ap (λ b. b || list_any (λ l. l.closed) p.looks) (sym closed) ∙ p.shown (over e);
       }
 

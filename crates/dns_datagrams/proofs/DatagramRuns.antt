@@ -34,13 +34,14 @@ noted_more n0 n n' es fs h g = rw (g, h) (append_assoc n0 es fs)
 
 module _ {W R F : Type 0} (answer : PolledRequest F R → ℕ → Answer) (answers : Serving) where
   -- a look, and its news
-  pub ran_look : (first : Look) (start : World) (n n' : List Event) (m : Mail) (f : ℕ) (c c' : List ClockReading) (k k' : Known) (s : Running W R F) (owed : List ℕ) (spare : ℕ) (look : Look)
+  pub ran_look : (first : Look) (start : World) (n n' : List Event) (m : Mail) (f : ℕ) (c c' : List ClockReading) (k k' : Known) (s : Running W R F) (seat : TypeOf s.seat) (owed : List ℕ) (spare : ℕ) (look : Look)
       → NewsNoted s.heard look n n' c c' → LooksOnly k (look ∷ []) k'
-      → Ran answer answers first start (world n m f c k) s false owed spare → Ran answer answers first start (world n' m f c' k') (record s { heard = hears s.heard look }) true owed spare
-  ran_look first start n n' m f c c' k k' s owed spare look x l r =
+      → Ran answer answers first start (world n m f c k) s false owed spare → Ran answer answers first start (world n' m f c' k') (record s { heard = hears s.heard look; seat = seat }) true owed spare
+  ran_look first start n n' m f c c' k k' s seat owed spare look x l r =
       let settings = settings_of first in
       let wide = news_wide s.heard look x.events x.news in
-      let quiet = all_wide_quiet x.events wide in record {
+      let quiet = all_wide_quiet x.events wide in
+      let serves = serves_news answer answers settings r.events s look x.events r.plain x.news r.serves in record {
         looks = r.looks ++ look ∷ [];
         events = r.events ++ x.events;
         noted = noted_more start.noted n n' r.events x.events r.noted x.noted;
@@ -52,7 +53,7 @@ module _ {W R F : Type 0} (answer : PolledRequest F R → ℕ → Answer) (answe
         waiting = λ d h. r.waiting d (sym (waits_quiet answers settings d r.events x.events r.plain quiet) ∙ h);
         clock = clocked_then r.events x.events start.readings c c' start.mail.full_sends m.full_sends m.full_sends r.clock (clocked_any x.events c c' m.full_sends x.clock);
         output = delivered_wide answers settings r.events x.events start.mail m start.failed_sends f r.plain wide r.output;
-        serves = serves_news answer answers settings r.events s look x.events r.plain x.news r.serves;
+        serves = record { each = serves.each; unused = serves.unused; heard = serves.heard };
       }
 
   -- the exchanges after an own event and the Fault of its exchange, if there is one
@@ -73,7 +74,7 @@ module _ {W R F : Type 0} (answer : PolledRequest F R → ℕ → Answer) (answe
       → Input answers (settings_of first) (r.events ++ e ∷ []) (first ∷ r.looks) (spare + 0) next start.mail m1
       → ((d : ℕ) → waits answers (settings_of first) d (r.events ++ e ∷ []) ≡ true → Among d owed')
       → Serves answer answers (settings_of first) (r.events ++ e ∷ []) (record s { exchanges = exchanges; next = next })
-      → Ran answer answers first start (world n' m' f' c' k) (record { exchanges = exchanges; next = next; heard = s.heard; send_failed = send_failed }) false owed' spare
+      → Ran answer answers first start (world n' m' f' c' k) (record s { exchanges = exchanges; next = next; send_failed = send_failed }) false owed' spare
   ran_act first start n n1 n' m m1 m' f f' c c1 c' k s owed owed' spare e letters exchanges next send_failed own t x sent full r p i wait serves =
       let settings = settings_of first in
       let kind = own_kind e.kind own in
@@ -97,7 +98,7 @@ module _ {W R F : Type 0} (answer : PolledRequest F R → ℕ → Answer) (answe
         output = delivered_act answers settings r.events e x.fault letters s.heard.dgram.write_timeout x.late x.failed start.mail m1 m' start.failed_sends f f' r.plain kind lost p
             (ap (λ (y : Conf). y.dgram.write_timeout) r.serves.heard) x.one x.early x.posts x.again x.rose
             (delivered_same answers settings r.events start.mail m m1 start.failed_sends f sent full r.output);
-        serves = rw two (serves_lost settings q1 e x.fault (record { exchanges = exchanges; next = next; heard = s.heard; send_failed = send_failed }) plain lost (record { each = serves.each; unused = serves.unused; heard = serves.heard }));
+        serves = rw two (serves_lost settings q1 e x.fault (record s { exchanges = exchanges; next = next; send_failed = send_failed }) plain lost (record { each = serves.each; unused = serves.unused; heard = serves.heard }));
       }
 
   -- memory ran out, after these events and looks more

@@ -15,6 +15,10 @@ pub if_ok_on : {X T E : Type 0} (r : Result T E) (P Q : T → Type 0) → IfOk r
 if_ok_on (Ok v) P Q h x f = f v h x
 if_ok_on (Err e) P Q h x f = tt
 
+pub if_ok_by : {T E : Type 0} (r : Result T E) (P Q : T → Type 0) → IfOk r P → ((v : T) → P v → Q v) → IfOk r Q
+if_ok_by (Ok v) P Q h f = f v h
+if_ok_by (Err e) P Q h f = tt
+
 pub on_err_by : {X Y T E : Type 0} (r : Result T E) → OnErr r X → (X → Y) → OnErr r Y
 on_err_by (Ok v) x f = tt
 on_err_by (Err e) x f = f x

@@ -114,12 +114,12 @@ module _ {W R F : Type 0} (answer : PolledRequest F R → ℕ → Answer) (answe
 
   -- ---- looks
 
-  pub looks_by : {n n' : List Event} {m : Mail} {f : ℕ} {c c' : List ClockReading} {k k' : Known} (s : Running W R F) {look : Look} → Called k ToLook (Shown look) k' → NewsNoted s.heard look n n' c c'
-      → Looks answer answers (world n m f c k) s (world n' m f c' k') (record s { heard = hears s.heard look })
-  looks_by {n} {n'} {m} {f} {c} {c'} {k} {k'} s {look} l x = record {
+  pub looks_by : {n n' : List Event} {m : Mail} {f : ℕ} {c c' : List ClockReading} {k k' : Known} (s : Running W R F) {look : Look} (seat : TypeOf s.seat) → Called k ToLook (Shown look) k' → NewsNoted s.heard look n n' c c'
+      → Looks answer answers (world n m f c k) s (world n' m f c' k') (record s { heard = hears s.heard look; seat = seat })
+  looks_by {n} {n'} {m} {f} {c} {c'} {k} {k'} s {look} seat l x = record {
     goes = λ owed. record {
       over = λ h. hears_closed s.heard look ∙ or_true s.heard.closed look.closed h;
-      goes = λ first start spare r. ran_look answer answers first start n n' m f c c' k k' s owed spare look x (looks_one k k' look l) r;
+      goes = λ first start spare r. ran_look answer answers first start n n' m f c c' k k' s seat owed spare look x (looks_one k k' look l) r;
     };
   }
 

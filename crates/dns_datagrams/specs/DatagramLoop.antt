@@ -3,7 +3,6 @@ use Rattle.std.specs.Prelude.{◌≡◌, ◌≤◌, ℕ, ◌+◌, nat_eq, List, 
 use Rattle.std.specs.List.{list_any}
 use Rattle.dns_name.specs.declared.address.SocketAddr.{SocketAddr}
 use Rattle.dns_admission.specs.declared.look.Look.{Look}
-use Rattle.dns_book.specs.declared.history.Known.{Known}
 use Rattle.dns_name.specs.declared.error.OutOfMemory.{OutOfMemory as No_memory}
 use Rattle.dns_outside.specs.Causes.{Rose}
 use Rattle.dns_outside.specs.Mail.{Mail}
@@ -51,11 +50,12 @@ pub record Ordered (first : Look) (looks : List Look) (events : List Event) (hea
 abbrev pub Among : ℕ → List ℕ → Type 0
 Among c ns = list_any (nat_eq c) ns ≡ true
 
--- Whatever socket, clock and recorder tell: the seat made looks and no other calls. A shutdown that was heard of stays so, and a new one was
+-- Whatever socket, clock and recorder tell: the seat made looks and no other calls, of the same book. A shutdown that was heard of stays so, and a new one was
 -- shown by one of these looks. The count of failed sends rose where a failed one is known of since, and else it is the same.
-pub record Passes {W R F : Type 0} (k k' : Known) (s s' : Running W R F) (f f' : ℕ) : Type 0 where
+pub record Passes {W R F : Type 0} (s s' : Running W R F) (f f' : ℕ) : Type 0 where
   pub looks : List Look
-  pub made : LooksOnly k looks k'
+  pub made : LooksOnly s.seat.known looks s'.seat.known
+  pub book : s'.seat.book ≡ s.seat.book
   pub over : s.heard.closed ≡ true → s'.heard.closed ≡ true
   pub shown : s'.heard.closed ≡ true → (s.heard.closed || list_any (λ l. l.closed) looks) ≡ true
   pub later : f ≤ f'
@@ -129,15 +129,15 @@ module _ {W R F : Type 0} (answer : PolledRequest F R → ℕ → Answer) (answe
     pub breaks : (whole : List ℕ) (m : Mail) → octets ≡ take 1024 whole → w.mail ≡ record m { received = m.received ++ (record { octets = whole; addr = from }) ∷ [] }
         → Breaks (record w { mail = m }) s true [] w'
 
-  -- a receive; a round; the rounds; and the last polls
+  -- a receive; a round, before its look or after it; the rounds; and the last polls
   abbrev pub Receives : Receipt → World → Running W R F → World → Running W R F → Type 0
   Receives Made w s w' s' = Goes w s true [] w' s' false (numbers_of s'.exchanges.items)
   Receives Failed_receive w s w' s' = Goes w s true [] w' s' true []
 
-  abbrev pub Rounded : Lap → World → Running W R F → World → Running W R F → Type 0
-  Rounded Whole w s w' s' = Goes w s false [] w' s' false []
-  Rounded Over w s w' s' = Goes w s false [] w' s' true [] × (s'.heard.closed ≡ true)
-  Rounded Failed w s w' s' = Goes w s false [] w' s' true []
+  abbrev pub Rounded : Bool → Lap → World → Running W R F → World → Running W R F → Type 0
+  Rounded ready Whole w s w' s' = Goes w s ready [] w' s' false []
+  Rounded ready Over w s w' s' = Goes w s ready [] w' s' true [] × (s'.heard.closed ≡ true)
+  Rounded ready Failed w s w' s' = Goes w s ready [] w' s' true []
 
   -- the rounds and what comes behind them, with one look at most that came to nothing
   pub record Idles (w : World) (s : Running W R F) (w' : World) (s' : Running W R F) : Type 0 where

@@ -4,6 +4,7 @@
 mod exchanges;
 mod looks;
 mod notes;
+mod office;
 mod polls;
 mod receipts;
 mod running;

@@ -9,9 +9,9 @@ ghost use Rattle.dns_datagrams.specs.DatagramsServed.{world};
 ghost use Rattle.dns_datagrams.specs.DatagramSteps.{NewsNoted, hears};
 ghost use Rattle.dns_datagrams.specs.DatagramLoop.{Looks, Fails, Passes};
 
+use crate::office::Office;
 use crate::running::Running;
 use dns_admission::Look;
-use dns_book::{Book, BookSeat};
 use dns_notes::{Recorder, note_shutdown, note_version};
 use dns_outside::{AsyncDgramSock, Clock};
 use dns_service::{OutOfMemory, Served};
@@ -52,34 +52,31 @@ pub(crate) fn hear_news<C: Clock, J: Recorder>(
     Ok(())
 }
 
-#[tactic(auto, using(crate::proofs::DatagramPasses::passes_look, crate::proofs::DatagramPasses::passes_unheard))]
-/// One look, and its news.
-pub(crate) fn look_once<R: Wait, D: AsyncDgramSock, C: Clock, J: Recorder, W: Served>(
-    rt: &R,
-    alloc: Global,
-    book: &Book,
-    seat: &mut BookSeat,
-    _service: &W,
-    _sock: &D,
-    clock: &mut C,
-    journal: &mut J,
-    state: &mut Running<W>,
-) -> Result<(), OutOfMemory>
-    requires { seat.old.book ≡ book.now }
-    ensures next { OnOk result (state.new.next ≡ state.old.next) }
-    ensures exchanges { OnOk result (state.new.exchanges ≡ state.old.exchanges) }
-    ensures passes { Passes seat.old.known seat.new.known state.old state.new (D.failed_sends _sock.now) (D.failed_sends _sock.now) }
-    ensures book { seat.new.book ≡ seat.old.book }
-    ensures told { OnOk result (Tells (C.tells clock.new × J.tells journal.new) (C.tells clock.old × J.tells journal.old)
-        (Looks (request_answer W.Future.answer W.Stream.answer) (serving (W.answer _service.now) (W.hint _service.now))
-        (world (J.noted journal.old) (D.mail _sock.now) (D.failed_sends _sock.now) (C.readings clock.old) seat.old.known) state.old
-        (world (J.noted journal.new) (D.mail _sock.now) (D.failed_sends _sock.now) (C.readings clock.new) seat.new.known) state.new)) }
-    ensures no_memory { OnErr result (Tells (C.tells clock.new × J.tells journal.new) (C.tells clock.old × J.tells journal.old)
-        (Fails (request_answer W.Future.answer W.Stream.answer) (serving (W.answer _service.now) (W.hint _service.now)) false
-        (world (J.noted journal.old) (D.mail _sock.now) (D.failed_sends _sock.now) (C.readings clock.old) seat.old.known) state.old
-        (world (J.noted journal.new) (D.mail _sock.now) (D.failed_sends _sock.now) (C.readings clock.new) seat.new.known))) }
-{
-    let look = book.look(rt, seat);
-    hear_news(alloc, clock, journal, &mut state.heard, &look)?;
-    Ok(())
+impl<R: Wait, W: Served> Office<'_, R, W> {
+    #[tactic(auto, using(crate::proofs::DatagramPasses::passes_look, crate::proofs::DatagramPasses::passes_unheard))]
+    /// One look, and its news.
+    pub(crate) fn look_once<D: AsyncDgramSock, C: Clock, J: Recorder>(
+        &self,
+        _sock: &D,
+        clock: &mut C,
+        journal: &mut J,
+        state: &mut Running<W>,
+    ) -> Result<(), OutOfMemory>
+        requires { state.old.seat.book ≡ self.now.book.now }
+        ensures next { OnOk result (state.new.next ≡ state.old.next) }
+        ensures exchanges { OnOk result (state.new.exchanges ≡ state.old.exchanges) }
+        ensures passes { Passes state.old state.new (D.failed_sends _sock.now) (D.failed_sends _sock.now) }
+        ensures told { OnOk result (Tells (C.tells clock.new × J.tells journal.new) (C.tells clock.old × J.tells journal.old)
+            (Looks (request_answer W.Future.answer W.Stream.answer) (serving (W.answer self.now.service.now) (W.hint self.now.service.now))
+            (world (J.noted journal.old) (D.mail _sock.now) (D.failed_sends _sock.now) (C.readings clock.old) state.old.seat.known) state.old
+            (world (J.noted journal.new) (D.mail _sock.now) (D.failed_sends _sock.now) (C.readings clock.new) state.new.seat.known) state.new)) }
+        ensures no_memory { OnErr result (Tells (C.tells clock.new × J.tells journal.new) (C.tells clock.old × J.tells journal.old)
+            (Fails (request_answer W.Future.answer W.Stream.answer) (serving (W.answer self.now.service.now) (W.hint self.now.service.now)) false
+            (world (J.noted journal.old) (D.mail _sock.now) (D.failed_sends _sock.now) (C.readings clock.old) state.old.seat.known) state.old
+            (world (J.noted journal.new) (D.mail _sock.now) (D.failed_sends _sock.now) (C.readings clock.new) state.new.seat.known))) }
+    {
+        let look = self.book.look(self.rt, &mut state.seat);
+        hear_news(self.alloc, clock, journal, &mut state.heard, &look)?;
+        Ok(())
+    }
 }

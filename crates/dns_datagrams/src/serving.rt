@@ -8,9 +8,8 @@ ghost use Rattle.dns_datagrams.specs.DatagramLoop.{Ended, Passes};
 ghost use Rattle.dns_datagrams.specs.DatagramsServed.{LooksBy, ReceivesBy, RoseIf, ServedTo, world};
 
 use crate::looks::hear_news;
-use crate::polls::finish;
-use crate::receipts::take_all;
-use crate::running::{Running, begun};
+use crate::office::Office;
+use crate::running::{Running, begun, left};
 use dns_admission::Look;
 use dns_book::{Book, BookSeat};
 use dns_notes::Recorder;
@@ -35,83 +34,74 @@ pub enum DgramEnd {
 /// How many octets of a datagram are received.
 const ROOM: usize = 1024;
 
-/// All that comes after the news of the first look.
-fn serve_all<R: Wait, D: AsyncDgramSock, C: Clock, J: Recorder, W: Served>(
-    rt: &R,
-    alloc: Global,
-    book: &Book,
-    seat: &mut BookSeat,
-    service: &W,
-    sock: &mut D,
-    clock: &mut C,
-    journal: &mut J,
-    state: &mut Running<W>,
-    count: u64,
-) -> DgramEnd
-    requires book { seat.old.book ≡ book.now }
-    requires can_call { W.can_call service.now }
-    ensures passes { Passes seat.old.known seat.new.known state.old state.new (D.failed_sends sock.old) (D.failed_sends sock.new) }
-    ensures book { seat.new.book ≡ seat.old.book }
-    ensures receives { D.failed_receives sock.old ≤ D.failed_receives sock.new }
-    ensures cause { ReceivesBy result (D.failed_receives sock.old) (D.failed_receives sock.new) }
-    ensures closed { result ≡ DgramEnd.Shutdown → state.new.heard.closed ≡ true }
-    ensures told { Tells (D.tells sock.new × C.tells clock.new × J.tells journal.new) (D.tells sock.old × C.tells clock.old × J.tells journal.old)
-        (Ended (request_answer W.Future.answer W.Stream.answer) (serving (W.answer service.now) (W.hint service.now)) result count
-        (world (J.noted journal.old) (D.mail sock.old) (D.failed_sends sock.old) (C.readings clock.old) seat.old.known) state.old
-        (world (J.noted journal.new) (D.mail sock.new) (D.failed_sends sock.new) (C.readings clock.new) seat.new.known) state.new) }
-{
-    let mut buf = [0u8; ROOM];
-    let end = take_all(
-        rt, alloc, book, seat, service, sock, clock, journal, state, &mut buf, count,
-    );
-    match end {
-        DgramEnd::Fault => DgramEnd::Fault,
-        DgramEnd::OutOfMemory => DgramEnd::OutOfMemory,
-        _ => match finish(rt, alloc, book, seat, service, sock, clock, journal, state) {
-            Ok(()) => end,
-            Err(_) => DgramEnd::OutOfMemory,
-        },
+impl<R: Wait, W: Served> Office<'_, R, W> {
+    /// All that comes after the news of the first look.
+    fn serve_all<D: AsyncDgramSock, C: Clock, J: Recorder>(
+        &self,
+        sock: &mut D,
+        clock: &mut C,
+        journal: &mut J,
+        state: &mut Running<W>,
+        count: u64,
+    ) -> DgramEnd
+        requires book { state.old.seat.book ≡ self.now.book.now }
+        requires can_call { W.can_call self.now.service.now }
+        ensures passes { Passes state.old state.new (D.failed_sends sock.old) (D.failed_sends sock.new) }
+        ensures receives { D.failed_receives sock.old ≤ D.failed_receives sock.new }
+        ensures cause { ReceivesBy result (D.failed_receives sock.old) (D.failed_receives sock.new) }
+        ensures closed { result ≡ DgramEnd.Shutdown → state.new.heard.closed ≡ true }
+        ensures told { Tells (D.tells sock.new × C.tells clock.new × J.tells journal.new) (D.tells sock.old × C.tells clock.old × J.tells journal.old)
+            (Ended (request_answer W.Future.answer W.Stream.answer) (serving (W.answer self.now.service.now) (W.hint self.now.service.now)) result count
+            (world (J.noted journal.old) (D.mail sock.old) (D.failed_sends sock.old) (C.readings clock.old) state.old.seat.known) state.old
+            (world (J.noted journal.new) (D.mail sock.new) (D.failed_sends sock.new) (C.readings clock.new) state.new.seat.known) state.new) }
+    {
+        let mut buf = [0u8; ROOM];
+        let end = self.take_all(sock, clock, journal, state, &mut buf, count);
+        match end {
+            DgramEnd::Fault => DgramEnd::Fault,
+            DgramEnd::OutOfMemory => DgramEnd::OutOfMemory,
+            _ => match self.finish(sock, clock, journal, state) {
+                Ok(()) => end,
+                Err(_) => DgramEnd::OutOfMemory,
+            },
+        }
     }
-}
 
-/// Serves from a seat, beginning with its first look. Whether a send failed is given too.
-fn serve_seat<R: Wait, D: AsyncDgramSock, C: Clock, J: Recorder, W: Served>(
-    rt: &R,
-    alloc: Global,
-    book: &Book,
-    seat: &mut BookSeat,
-    service: &W,
-    sock: &mut D,
-    clock: &mut C,
-    journal: &mut J,
-    count: u64,
-) -> (DgramEnd, bool)
-    requires book { seat.old.book ≡ book.now }
-    requires can_call { W.can_call service.now }
-    ensures seat { LooksBy result.0 seat.old.known seat.new.known }
-    ensures book { seat.new.book ≡ seat.old.book }
-    ensures receives { D.failed_receives sock.old ≤ D.failed_receives sock.new }
-    ensures cause { ReceivesBy result.0 (D.failed_receives sock.old) (D.failed_receives sock.new) }
-    ensures sends { D.failed_sends sock.old ≤ D.failed_sends sock.new }
-    ensures rose { RoseIf result.1 (D.failed_sends sock.old) (D.failed_sends sock.new) }
-    ensures told { Tells (D.tells sock.new × C.tells clock.new × J.tells journal.new) (D.tells sock.old × C.tells clock.old × J.tells journal.old)
-        (ServedTo (serving (W.answer service.now) (W.hint service.now)) result.0 count
-        (world (J.noted journal.old) (D.mail sock.old) (D.failed_sends sock.old) (C.readings clock.old) seat.old.known)
-        (world (J.noted journal.new) (D.mail sock.new) (D.failed_sends sock.new) (C.readings clock.new) seat.new.known)) }
-{
-    let first = book.look(rt, seat);
-    let mut heard = Look {
-        closed: false,
-        ..first
-    };
-    let Ok(()) = hear_news(alloc, clock, journal, &mut heard, &first) else {
-        return (DgramEnd::OutOfMemory, false);
-    };
-    let mut state: Running<W> = begun(alloc, heard);
-    let end = serve_all(
-        rt, alloc, book, seat, service, sock, clock, journal, &mut state, count,
-    );
-    (end, state.send_failed)
+    /// Serves from a seat, beginning with its first look. Whether a send failed is given too.
+    fn serve_seat<D: AsyncDgramSock, C: Clock, J: Recorder>(
+        &self,
+        mut seat: BookSeat,
+        sock: &mut D,
+        clock: &mut C,
+        journal: &mut J,
+        count: u64,
+    ) -> (BookSeat, DgramEnd, bool)
+        requires book { seat.book ≡ self.now.book.now }
+        requires can_call { W.can_call self.now.service.now }
+        ensures told { Tells (D.tells sock.new × C.tells clock.new × J.tells journal.new) (D.tells sock.old × C.tells clock.old × J.tells journal.old)
+            (ServedTo (serving (W.answer self.now.service.now) (W.hint self.now.service.now)) result.1 count
+            (world (J.noted journal.old) (D.mail sock.old) (D.failed_sends sock.old) (C.readings clock.old) seat.known)
+            (world (J.noted journal.new) (D.mail sock.new) (D.failed_sends sock.new) (C.readings clock.new) result.0.known)) }
+        ensures seat { LooksBy result.1 seat.known result.0.known }
+        ensures same { result.0.book ≡ seat.book }
+        ensures cause { ReceivesBy result.1 (D.failed_receives sock.old) (D.failed_receives sock.new) }
+        ensures rose { RoseIf result.2 (D.failed_sends sock.old) (D.failed_sends sock.new) }
+        ensures receives { D.failed_receives sock.old ≤ D.failed_receives sock.new }
+        ensures sends { D.failed_sends sock.old ≤ D.failed_sends sock.new }
+    {
+        let first = self.book.look(self.rt, &mut seat);
+        let mut heard = Look {
+            closed: false,
+            ..first
+        };
+        let Ok(()) = hear_news(self.alloc, clock, journal, &mut heard, &first) else {
+            return (seat, DgramEnd::OutOfMemory, false);
+        };
+        let mut state: Running<W> = begun(self.alloc, heard, seat);
+        let end = self.serve_all(sock, clock, journal, &mut state, count);
+        let (seat, send_failed) = left(state);
+        (seat, end, send_failed)
+    }
 }
 
 /// Serves datagrams as `serve_datagrams` does, and says whether a send failed.
@@ -119,7 +109,7 @@ pub fn serve_datagrams_and_say<R: Wait, D: AsyncDgramSock, C: Clock, J: Recorder
     rt: &R,
     alloc: Global,
     book: &Book,
-    mut seat: BookSeat,
+    seat: BookSeat,
     service: &W,
     sock: &mut D,
     clock: &mut C,
@@ -141,10 +131,13 @@ pub fn serve_datagrams_and_say<R: Wait, D: AsyncDgramSock, C: Clock, J: Recorder
     ensures receives { D.failed_receives sock.old ≤ D.failed_receives sock.new }
     ensures sends { D.failed_sends sock.old ≤ D.failed_sends sock.new }
 {
-    let (end, send_failed) = serve_seat(
-        rt, alloc, book, &mut seat, service, sock, clock, journal, count,
-    );
-    (seat, end, send_failed)
+    let office = Office {
+        rt,
+        alloc,
+        book,
+        service,
+    };
+    office.serve_seat(seat, sock, clock, journal, count)
 }
 
 #[tactic(auto, using(crate::proofs::DatagramPasses::fault_rose))]
