@@ -11,7 +11,7 @@ use Rattle.dns_host.specs.Arrivals.{AskedOne, ArrivalOfAnswer, ArrivalOf, Brough
 use Rattle.dns_host.specs.declared.taking.Arrival.{Arrival}
 use Rattle.dns_host.specs.declared.taking.Arrival.TheVariants.{Nobody as NobodyCame, Fault as FaultCame}
 use Rattle.dns_host.proofs.Gainings.{gained_none}
-use Rattle.dns_host.proofs.Tellings.{tells_then, tells_both}
+use Rattle.dns_host.proofs.Tellings.{tells_both}
 
 pub rose_none : (f f' : ℕ) → f' ≡ f → RoseBy 0 f f'
 rose_none f f' same = grind (arith, same)
@@ -33,30 +33,30 @@ brought_caller arrival from na ba np bp k k' a b g g' f f' t same q = record {
       (λ d w. record { callers = ap (λ (x : Door). x.callers) d; nobody = ap (λ (x : Door). x.empty_accepts) d ∙ sym (add-zero a.empty_accepts); works = w }) t q.works;
 }
 
--- none came, and then it waited
-pub brought_nobody : (na ma ba np : Type 0) (k : Known) (a b c : Door) (g : List SocketAddr) (f f1 f2 : ℕ) →
-    Tells ma ba (b ≡ record a { empty_accepts = a.empty_accepts + 1 }) → Tells na ma (c ≡ b) → f1 ≡ f → f2 ≡ f1 → Brought (Ok NobodyCame) (na × np) (ba × np) k k a c g g f f2
-brought_nobody na ma ba np k a b c g f f1 f2 t u same still = record {
+-- none came
+pub brought_nobody : (na ba np : Type 0) (k : Known) (a b : Door) (g : List SocketAddr) (f f' : ℕ) →
+    Tells na ba (b ≡ record a { empty_accepts = a.empty_accepts + 1 }) → f' ≡ f → Brought (Ok NobodyCame) (na × np) (ba × np) k k a b g g f f'
+brought_nobody na ba np k a b g f f' t same = record {
   came = Nobody;
   calls = gained_none k;
   name = sym (append-nil k.name);
   arrival_is = refl;
-  faults = rose_none f f2 (still ∙ same);
-  told = tells_both na np ba np _ (Unit {0}) (BroughtIn (Ok NobodyCame) Nobody a c g g)
+  faults = rose_none f f' same;
+  told = tells_both na np ba np _ (Unit {0}) (BroughtIn (Ok NobodyCame) Nobody a b g g)
       (λ d w. record { callers = ap (λ (x : Door). x.callers) d ∙ sym (append-nil a.callers); nobody = ap (λ (x : Door). x.empty_accepts) d; works = sym (append-nil g) })
-      (tells_then na ma ba (b ≡ record a { empty_accepts = a.empty_accepts + 1 }) (c ≡ b) (c ≡ record a { empty_accepts = a.empty_accepts + 1 }) (λ x y. y ∙ x) t u) (record { told = λ n. (n, tt) });
+      t (record { told = λ n. (n, tt) });
 }
 
--- the accept failed, and then it waited
-pub brought_fault : (na ma ba np : Type 0) (k : Known) (a b c : Door) (g : List SocketAddr) (f f1 f2 : ℕ) →
-    Tells ma ba (b ≡ a) → Tells na ma (c ≡ b) → Rose f f1 → f2 ≡ f1 → Brought (Ok FaultCame) (na × np) (ba × np) k k a c g g f f2
-brought_fault na ma ba np k a b c g f f1 f2 t u rose still = record {
+-- the accept failed
+pub brought_fault : (na ba np : Type 0) (k : Known) (a b : Door) (g : List SocketAddr) (f f' : ℕ) →
+    Tells na ba (b ≡ a) → Rose f f' → Brought (Ok FaultCame) (na × np) (ba × np) k k a b g g f f'
+brought_fault na ba np k a b g f f' t rose = record {
   came = Fault;
   calls = gained_none k;
   name = sym (append-nil k.name);
   arrival_is = refl;
-  faults = rw still rose;
-  told = tells_both na np ba np _ (Unit {0}) (BroughtIn (Ok FaultCame) Fault a c g g)
+  faults = rose;
+  told = tells_both na np ba np _ (Unit {0}) (BroughtIn (Ok FaultCame) Fault a b g g)
       (λ d w. record { callers = ap (λ (x : Door). x.callers) d ∙ sym (append-nil a.callers); nobody = ap (λ (x : Door). x.empty_accepts) d ∙ sym (add-zero a.empty_accepts); works = sym (append-nil g) })
-      (tells_then na ma ba (b ≡ a) (c ≡ b) (c ≡ a) (λ x y. y ∙ x) t u) (record { told = λ n. (n, tt) });
+      t (record { told = λ n. (n, tt) });
 }

@@ -28,6 +28,12 @@ pub record ShutDown (k k' : Known) : Type 0 where
   pub look : Look
   pub called : Called k ToShutdown (Shown look) k'
 
+-- both halves of a seat were joined, and the book was shut down
+pub record HalvesClosed (first second k' : Known) : Type 0 where
+  pub joined : Known
+  pub join : Joined first second joined
+  pub shut : ShutDown joined k'
+
 -- datagrams that end by a fault or for want of memory shut the book down, and so do accepts that end for want of memory
 abbrev pub DgramsShut : DgramEnd → Known → Known → Type 0
 DgramsShut DgramShutdown k k' = k' ≡ k

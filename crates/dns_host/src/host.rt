@@ -3,7 +3,7 @@
 ghost use Rattle.std.specs.Prelude.{◌≡◌, ◌||◌, MatchOption, IfOk};
 ghost use Rattle.std.specs.Arc.{arc_value};
 ghost use Rattle.dns_client.specs.Serving.{serving};
-ghost use Rattle.dns_host.specs.Hosting.{host_end, host_seen, door_told, mail_told, AcceptsWent, DgramsWent, HostServed};
+ghost use Rattle.dns_host.specs.Hosting.{host_end, host_seen, door_told, mail_told, DgramsShut, AcceptsWent, DgramsWent, HalvesClosed, HostServed};
 
 use crate::accepts::AcceptEnd;
 use crate::pre_connect::NoHook;
@@ -61,6 +61,20 @@ fn host_end(datagrams: DgramEnd, accepts: AcceptEnd, faulted: bool, send_failed:
     }
 }
 
+/// Shuts the book down where datagrams ended by a fault or for want of memory.
+fn shut_after_datagrams<R: Wait>(rt: &R, book: &Book, seat: &mut BookSeat, end: DgramEnd)
+    requires { seat.old.book ≡ book.now }
+    ensures shut { DgramsShut end seat.old.known seat.new.known }
+    ensures same { seat.new.book ≡ seat.old.book }
+{
+    match end {
+        DgramEnd::Fault | DgramEnd::OutOfMemory => {
+            book.shutdown(rt, seat);
+        }
+        DgramEnd::Shutdown | DgramEnd::Counted => {}
+    }
+}
+
 /// Serves datagrams from the seat that stands in its place. Where they end by a fault or for want of memory, the book is shut
 /// down. Whether a send failed is given too.
 fn datagrams_beside<R: Wait, D: AsyncDgramSock, C: Clock, J: Recorder, W: Served>(
@@ -80,18 +94,11 @@ fn datagrams_beside<R: Wait, D: AsyncDgramSock, C: Clock, J: Recorder, W: Served
         (serving (W.answer (arc_value service.now)) (W.hint (arc_value service.now))) result.1 result.2 count seat.known result.0.known sock.old sock.new clock.old clock.new journal.old journal.new) }
     ensures same { result.0.book ≡ arc_value book.now }
 {
-    let Some(seat) = place.take() else {
-        unreachable!()
-    };
+    let seat = place.take().unwrap();
     let (mut seat, end, send_failed) = serve_datagrams_and_say(
         rt, alloc, book, seat, &**service, sock, clock, journal, count,
     );
-    match end {
-        DgramEnd::Fault | DgramEnd::OutOfMemory => {
-            book.shutdown(rt, &mut seat);
-        }
-        DgramEnd::Shutdown | DgramEnd::Counted => {}
-    }
+    shut_after_datagrams(rt, book, &mut seat, end);
     (seat, end, send_failed)
 }
 
@@ -112,22 +119,20 @@ where
     >(
         &mut self,
         reception: &Reception<'_, R, C, W, NoHook>,
-        first: BookSeat,
-        second: BookSeat,
+        halves: (BookSeat, BookSeat),
         count: u64,
     ) -> ((BookSeat, DgramEnd, bool), (BookSeat, AcceptEnd, bool))
     where
         W::Future: Send,
         W::Stream: Send,
         P: Spawner<ConnectionWork<A::Link, C, Silent, W>>,
-        requires first { first.book ≡ arc_value reception.now.book.now }
-        requires second { second.book ≡ arc_value reception.now.book.now }
+        requires halves { (halves.0.book ≡ arc_value reception.now.book.now) × (halves.1.book ≡ arc_value reception.now.book.now) }
         requires can_call { W.can_call (arc_value reception.now.service.now) }
         ensures dgrams { DgramsWent D.tells D.mail D.failed_receives D.failed_sends C.tells C.readings J.tells J.noted
-            (serving (W.answer (arc_value reception.now.service.now)) (W.hint (arc_value reception.now.service.now))) result.0.1 result.0.2 count second.known result.0.0.known
+            (serving (W.answer (arc_value reception.now.service.now)) (W.hint (arc_value reception.now.service.now))) result.0.1 result.0.2 count halves.1.known result.0.0.known
             self.old.sock self.new.sock self.old.clock self.new.clock self.old.journal self.new.journal }
         ensures dgrams_seat { result.0.0.book ≡ arc_value reception.now.book.now }
-        ensures accepts { AcceptsWent A.tells A.door A.faults P.tells P.given P.faults result.1.1 result.1.2 count first.known result.1.0.known
+        ensures accepts { AcceptsWent A.tells A.door A.faults P.tells P.given P.faults result.1.1 result.1.2 count halves.0.known result.1.0.known
             self.old.accept self.new.accept self.old.spawner self.new.spawner }
         ensures accepts_seat { result.1.0.book ≡ arc_value reception.now.book.now }
     {
@@ -145,8 +150,7 @@ where
             service,
             ..
         } = *reception;
-        let mut left = Some(first);
-        let mut right = Some(second);
+        let (mut left, mut right) = (Some(halves.0), Some(halves.1));
         join_mut(
             rt,
             &mut || datagrams_beside(
@@ -181,16 +185,65 @@ where
             (serving (W.answer (arc_value reception.now.service.now)) (W.hint (arc_value reception.now.service.now))) result.1 count seat.known result.0.known self.old self.new }
         ensures same { result.0.book ≡ seat.book }
     {
-        let (rt, book) = (reception.rt, reception.book);
-        let (first, second) = book.split(rt, seat);
-        let ((second, datagrams, send_failed), (first, accepts, faulted)) = self.both_beside(
-            reception, first, second, count,
-        );
-        self.spawner.join_all(rt);
-        let mut seat = book.join(rt, first, second);
-        book.shutdown(rt, &mut seat);
-        (seat, host_end(datagrams, accepts, faulted, send_failed))
+        let halves = reception.book.split(reception.rt, seat);
+        let ends = self.both_beside(reception, halves, count);
+        self.spawner.join_all(reception.rt);
+        close_both(reception.rt, reception.book, ends)
     }
+
+    /// Serves both with a service and a clock of connections of their own.
+    fn serve_shared<
+        R: Threads + Wait + Copy + Send + Sync + 'static,
+        W: Served + Send + Sync + 'static,
+    >(
+        &mut self,
+        rt: &R,
+        alloc: Global,
+        book: &Arc<Book>,
+        seat: BookSeat,
+        count: u64,
+        made: (Arc<W>, C),
+    ) -> (BookSeat, HostEnd)
+    where
+        W::Future: Send,
+        W::Stream: Send,
+        P: Spawner<ConnectionWork<A::Link, C, Silent, W>>,
+        requires book { seat.book ≡ arc_value book.now }
+        requires can_call { W.can_call (arc_value made.0) }
+        ensures served { HostServed (host_seen A.door P.given J.noted D.mail C.readings A.faults P.faults D.failed_receives D.failed_sends)
+            (door_told A.tells P.tells) (mail_told D.tells C.tells J.tells)
+            (serving (W.answer (arc_value made.0)) (W.hint (arc_value made.0))) result.1 count seat.known result.0.known self.old self.new }
+        ensures same { result.0.book ≡ seat.book }
+    {
+        let (service, clock) = made;
+        let reception = Reception {
+            rt,
+            alloc,
+            book,
+            service: &service,
+            clock: &clock,
+            hook: &NoHook,
+        };
+        self.serve_both(&reception, seat, count)
+    }
+}
+
+/// Joins the halves of a seat after both loops, and shuts the book down.
+fn close_both<R: Wait>(
+    rt: &R,
+    book: &Book,
+    ends: ((BookSeat, DgramEnd, bool), (BookSeat, AcceptEnd, bool)),
+) -> (BookSeat, HostEnd)
+    requires first { ends.1.0.book ≡ book.now }
+    requires second { ends.0.0.book ≡ book.now }
+    ensures closed { HalvesClosed ends.1.0.known ends.0.0.known result.0.known }
+    ensures same { result.0.book ≡ ends.1.0.book }
+    ensures end { result.1 ≡ host_end ends.0.1 ends.1.1 (ends.1.2 || ends.0.2) }
+{
+    let ((second, datagrams, send_failed), (first, accepts, faulted)) = ends;
+    let mut seat = book.join(rt, first, second);
+    book.shutdown(rt, &mut seat);
+    (seat, host_end(datagrams, accepts, faulted, send_failed))
 }
 
 /// The service, to be shared, and a clock.
@@ -237,17 +290,11 @@ where
         (serving (W.answer service) (W.hint service)) result.1 count seat.known result.0.known host.old host.new }
     ensures same { result.0.book ≡ seat.book }
 {
-    let Ok((service, clock)) = shared(alloc, service, &host.clock) else {
-        book.shutdown(rt, &mut seat);
-        return (seat, HostEnd::OutOfMemory);
-    };
-    let reception = Reception {
-        rt,
-        alloc,
-        book,
-        service: &service,
-        clock: &clock,
-        hook: &NoHook,
-    };
-    host.serve_both(&reception, seat, count)
+    match shared(alloc, service, &host.clock) {
+        Ok(made) => host.serve_shared(rt, alloc, book, seat, count, made),
+        Err(_) => {
+            book.shutdown(rt, &mut seat);
+            (seat, HostEnd::OutOfMemory)
+        }
+    }
 }

@@ -3,9 +3,11 @@
 ghost use Rattle.std.specs.Prelude.{◌≡◌, ◌≤◌, false, IfOk, MatchOption};
 ghost use Rattle.std.specs.Arc.{arc_value};
 ghost use Rattle.dns_outside.specs.Causes.{Tells};
+ghost use Rattle.dns_outside.specs.Doors.{AcceptMoves, AcceptCause};
 ghost use Rattle.dns_outside.specs.Starts.{StartMoves, StartCause};
-ghost use Rattle.dns_host.specs.Hosting.{AcceptsWent};
-ghost use Rattle.dns_host.specs.Arrivals.{AskedOne, Brought, StartFaults, AcceptFaults, EndedSo, AcceptsRan};
+ghost use Rattle.dns_host.specs.Hosting.{AcceptsShut, AcceptsWent};
+ghost use Rattle.dns_book.specs.Seats.{first_half};
+ghost use Rattle.dns_host.specs.Arrivals.{AskedOne, Brought, StartFaults, AcceptFaults, EndedSo, AcceptsRan, arrival_of};
 
 use crate::accepts::AcceptEnd;
 use crate::pre_connect::PreConnect;
@@ -36,6 +38,14 @@ pub(crate) struct Reception<'a, R, C, W, H> {
     pub(crate) hook: &'a H,
 }
 
+/// A connection that came. Its number is that of the next client that is admitted.
+#[derive(Drop)]
+struct Guest<L> {
+    client: u64,
+    from: SocketAddr,
+    link: L,
+}
+
 /// What a connection shares with all others, and a clock of its own.
 #[derive(Drop)]
 struct Shares<C, W> {
@@ -49,15 +59,13 @@ impl<C, W: Served> Shares<C, W> {
     fn work<L>(
         self,
         seat: BookSeat,
-        client: u64,
-        addr: SocketAddr,
         look: &Look,
-        link: L,
+        guest: Guest<L>,
     ) -> ConnectionWork<L, C, Silent, W>
         requires book { seat.book ≡ arc_value self.book }
         requires running { look.now.closed ≡ false }
         requires can_call { W.can_call (arc_value self.service) }
-        ensures addr { result.addr ≡ addr }
+        ensures addr { result.addr ≡ guest.from }
         ensures seat { result.seat.book ≡ arc_value result.book }
         ensures running { result.look.closed ≡ false }
         ensures can_call { W.can_call (arc_value result.service) }
@@ -67,9 +75,65 @@ impl<C, W: Served> Shares<C, W> {
             service,
             clock,
         } = self;
+        let Guest { client, from, link } = guest;
         ConnectionWork::new(
-            book, seat, client, addr, *look, service, link, clock, Silent,
+            book, seat, client, from, *look, service, link, clock, Silent,
         )
+    }
+}
+
+/// What a connection shares with all others, once more.
+fn clones<W>(book: &Arc<Book>, service: &Arc<W>) -> Result<(Arc<Book>, Arc<W>), OutOfMemory>
+    ensures { IfOk result (λ s. (arc_value s.0 ≡ arc_value book.now) × (arc_value s.1 ≡ arc_value service.now)) }
+{
+    let book = Arc::try_clone(book)?;
+    let service = Arc::try_clone(service)?;
+    Ok((book, service))
+}
+
+/// Closes the link of a connection.
+fn turn_away<L: Link + Drop>(mut guest: Guest<L>) {
+    guest.link.close();
+}
+
+/// Gives the slot of an admitted connection back, and closes its link.
+fn give_up<R: Wait, L: Link + Drop>(rt: &R, book: &Book, mut seat: BookSeat, guest: Guest<L>)
+    requires { seat.book ≡ book.now }
+{
+    book.release(rt, &mut seat);
+    turn_away(guest);
+}
+
+/// Shuts the book down where accepts ended for want of memory.
+fn shut_after_accepts<R: Wait>(rt: &R, book: &Book, seat: &mut BookSeat, end: AcceptEnd)
+    requires { seat.old.book ≡ book.now }
+    ensures shut { AcceptsShut end seat.old.known seat.new.known }
+    ensures same { seat.new.book ≡ seat.old.book }
+{
+    match end {
+        AcceptEnd::OutOfMemory => {
+            book.shutdown(rt, seat);
+        }
+        AcceptEnd::Shutdown | AcceptEnd::Counted => {}
+    }
+}
+
+/// Makes one accept. Where it brought no connection, it waits.
+fn accept_or_wait<R: Wait, A: AsyncAccept>(rt: &R, accept: &mut A) -> AcceptAnswer<A::Link>
+    ensures moves { Tells (A.tells accept.new) (A.tells accept.old) (AcceptMoves result (A.door accept.old) (A.door accept.new)) }
+    ensures later { A.faults accept.old ≤ A.faults accept.new }
+    ensures cause { AcceptCause result (A.faults accept.old) (A.faults accept.new) }
+{
+    match accept.poll_accept() {
+        AcceptAnswer::Again => {
+            accept.wait(rt, PATIENCE);
+            AcceptAnswer::Again
+        }
+        AcceptAnswer::Failed => {
+            accept.wait(rt, WAIT_AFTER_FAULT);
+            AcceptAnswer::Failed
+        }
+        accepted => accepted,
     }
 }
 
@@ -87,45 +151,89 @@ where
     fn shares(&self) -> Result<Shares<C, W>, OutOfMemory>
         ensures { IfOk result (λ s. (arc_value s.book ≡ arc_value self.now.book.now) × (arc_value s.service ≡ arc_value self.now.service.now)) }
     {
-        Ok(Shares {
-            book: Arc::try_clone(self.book)?,
-            service: Arc::try_clone(self.service)?,
-            clock: self.clock.another(self.alloc)?,
-        })
+        match clones(self.book, self.service) {
+            Ok((book, service)) => match self.clock.another(self.alloc) {
+                Ok(clock) => Ok(Shares {
+                    book,
+                    service,
+                    clock,
+                }),
+                Err(error) => Err(error),
+            },
+            Err(error) => Err(error),
+        }
     }
 
-    /// Gives an admitted connection to the spawner, with a seat of its own. Where there is no memory for it, its slot is given
-    /// back and the link closed.
-    fn start_admitted<L: Link + Send + Drop + 'static, P: Spawner<ConnectionWork<L, C, Silent, W>>>(
+    /// The work of an admitted connection, with a seat of its own. Where there is no memory for it, its slot is given back and
+    /// the link closed.
+    fn work_admitted<L: Link + Drop>(
         &self,
-        mut seat: BookSeat,
-        client: u64,
-        from: SocketAddr,
+        seat: BookSeat,
         look: &Look,
-        mut link: L,
-        spawner: &mut P,
-    ) -> Result<Start, OutOfMemory>
+        guest: Guest<L>,
+    ) -> Result<ConnectionWork<L, C, Silent, W>, OutOfMemory>
         requires book { seat.book ≡ arc_value self.now.book.now }
         requires running { look.now.closed ≡ false }
         requires can_call { W.can_call (arc_value self.now.service.now) }
-        ensures given { Tells (P.tells spawner.new) (P.tells spawner.old) (StartMoves result from (P.given spawner.old) (P.given spawner.new)) }
-        ensures later { P.faults spawner.old ≤ P.faults spawner.new }
-        ensures cause { StartCause result (P.faults spawner.old) (P.faults spawner.new) }
+        ensures { IfOk result (λ w. (w.addr ≡ guest.from) × (w.seat.book ≡ arc_value w.book) × (w.look.closed ≡ false) × W.can_call (arc_value w.service)) }
     {
         match self.shares() {
-            Ok(shares) => {
-                let work = shares.work(seat, client, from, look, link);
-                spawner.start(self.rt, self.alloc, work)
-            }
+            Ok(shares) => Ok(shares.work(seat, look, guest)),
             Err(error) => {
-                self.book.release(self.rt, &mut seat);
-                link.close();
+                give_up(self.rt, self.book, seat, guest);
                 Err(error)
             }
         }
     }
 
-    #[tactic(auto, using(crate::proofs::Askings::asked_started, crate::proofs::Askings::cause_of_start, crate::proofs::Askings::asked_full, crate::proofs::Askings::asked_closed))]
+    /// Gives an admitted connection to the spawner, as work with a seat of its own.
+    fn start_admitted<L: Link + Send + Drop + 'static, P: Spawner<ConnectionWork<L, C, Silent, W>>>(
+        &self,
+        seat: BookSeat,
+        look: &Look,
+        guest: Guest<L>,
+        spawner: &mut P,
+    ) -> Result<Start, OutOfMemory>
+        requires book { seat.book ≡ arc_value self.now.book.now }
+        requires running { look.now.closed ≡ false }
+        requires can_call { W.can_call (arc_value self.now.service.now) }
+        ensures given { Tells (P.tells spawner.new) (P.tells spawner.old) (StartMoves result guest.from (P.given spawner.old) (P.given spawner.new)) }
+        ensures later { P.faults spawner.old ≤ P.faults spawner.new }
+        ensures cause { StartCause result (P.faults spawner.old) (P.faults spawner.new) }
+    {
+        match self.work_admitted(seat, look, guest) {
+            Ok(work) => spawner.start(self.rt, self.alloc, work),
+            Err(error) => Err(error),
+        }
+    }
+
+    #[tactic(auto, using(crate::proofs::Askings::cause_of_start))]
+    /// Serves an admitted connection by work of its own, with the second half of the seat.
+    fn serve_admitted<L: Link + Send + Drop + 'static, P: Spawner<ConnectionWork<L, C, Silent, W>>>(
+        &self,
+        seat: BookSeat,
+        look: &Look,
+        mut guest: Guest<L>,
+        spawner: &mut P,
+    ) -> (BookSeat, Result<Arrival, OutOfMemory>)
+    where
+        H: PreConnect<L>,
+        requires book { seat.book ≡ arc_value self.now.book.now }
+        requires running { look.now.closed ≡ false }
+        requires can_call { W.can_call (arc_value self.now.service.now) }
+        ensures half { result.0.known ≡ first_half seat.known }
+        ensures same { result.0.book ≡ seat.book }
+        ensures started { (started : _) × (result.1 ≡ arrival_of started) × Tells (P.tells spawner.new) (P.tells spawner.old) (StartMoves started guest.from (P.given spawner.old) (P.given spawner.new)) }
+        ensures later { P.faults spawner.old ≤ P.faults spawner.new }
+        ensures cause { StartFaults result.1 (P.faults spawner.old) (P.faults spawner.new) }
+    {
+        self.hook.call(&mut guest.link);
+        let (first, second) = self.book.split(self.rt, seat);
+        let started = self.start_admitted(second, look, guest, spawner);
+        (first, arrival_of(started))
+    }
+
+    #[tactic(auto, using(crate::proofs::Askings::asked_started, crate::proofs::Askings::asked_full, crate::proofs::Askings::asked_closed))]
     /// Asks the book for a slot. A connection that is admitted is served by work of its own, with the second half of the seat;
     /// every other one is closed.
     fn take_connection<
@@ -134,29 +242,22 @@ where
     >(
         &self,
         mut seat: BookSeat,
-        client: u64,
-        from: SocketAddr,
-        mut link: L,
+        guest: Guest<L>,
         spawner: &mut P,
     ) -> (BookSeat, Result<Arrival, OutOfMemory>)
     where
         H: PreConnect<L>,
         requires book { seat.book ≡ arc_value self.now.book.now }
         requires can_call { W.can_call (arc_value self.now.service.now) }
-        ensures asked { AskedOne result.1 from (P.tells spawner.new) (P.tells spawner.old) seat.known result.0.known (P.given spawner.old) (P.given spawner.new) }
+        ensures asked { AskedOne result.1 guest.from (P.tells spawner.new) (P.tells spawner.old) seat.known result.0.known (P.given spawner.old) (P.given spawner.new) }
         ensures same { result.0.book ≡ seat.book }
         ensures later { P.faults spawner.old ≤ P.faults spawner.new }
         ensures cause { StartFaults result.1 (P.faults spawner.old) (P.faults spawner.new) }
     {
         match self.book.admit(self.rt, &mut seat) {
-            Admission::Admitted(look) => {
-                self.hook.call(&mut link);
-                let (first, second) = self.book.split(self.rt, seat);
-                let started = self.start_admitted(second, client, from, &look, link, spawner);
-                (first, arrival_of(started))
-            }
+            Admission::Admitted(look) => self.serve_admitted(seat, &look, guest, spawner),
             Admission::Full { .. } | Admission::Closed => {
-                link.close();
+                turn_away(guest);
                 (seat, Ok(Arrival::TurnedAway))
             }
         }
@@ -184,18 +285,12 @@ where
         ensures starts { StartFaults result.1 (P.faults spawner.old) (P.faults spawner.new) }
         ensures starts_later { P.faults spawner.old ≤ P.faults spawner.new }
     {
-        match accept.poll_accept() {
+        match accept_or_wait(self.rt, accept) {
             AcceptAnswer::Accepted(link, from) => {
-                self.take_connection(seat, client, from, link, spawner)
+                self.take_connection(seat, Guest { client, from, link }, spawner)
             }
-            AcceptAnswer::Again => {
-                accept.wait(self.rt, PATIENCE);
-                (seat, Ok(Arrival::Nobody))
-            }
-            AcceptAnswer::Failed => {
-                accept.wait(self.rt, WAIT_AFTER_FAULT);
-                (seat, Ok(Arrival::Fault))
-            }
+            AcceptAnswer::Again => (seat, Ok(Arrival::Nobody)),
+            AcceptAnswer::Failed => (seat, Ok(Arrival::Fault)),
         }
     }
 
@@ -264,16 +359,9 @@ where
             result.1 result.2 count seat.known result.0.known accept.old accept.new spawner.old spawner.new) }
         ensures same { result.0.book ≡ arc_value self.now.book.now }
     {
-        let Some(seat) = place.take() else {
-            unreachable!()
-        };
+        let seat = place.take().unwrap();
         let (mut seat, end, faulted) = self.accept_all(seat, accept, spawner, count);
-        match end {
-            AcceptEnd::OutOfMemory => {
-                self.book.shutdown(self.rt, &mut seat);
-            }
-            AcceptEnd::Shutdown | AcceptEnd::Counted => {}
-        }
+        shut_after_accepts(self.rt, self.book, &mut seat, end);
         (seat, end, faulted)
     }
 }
