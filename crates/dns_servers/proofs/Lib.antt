@@ -1,2 +1,3 @@
 mod Awaiting
 mod Joinings
+mod Seatings

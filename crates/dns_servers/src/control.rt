@@ -90,9 +90,9 @@ impl Control {
         ensures looks { Awaited result self.old.known self.new.known }
         ensures clock { Tells (C.tells clock.new) (C.tells clock.old) (TimePassed result millis (C.readings clock.old) (C.readings clock.new)) }
     {
-        let (start, _) = clock.now();
+        let first = clock.now();
         for _ in rt.forever() {
-            if let Some(down) = self.look_again(rt, clock, start, millis) {
+            if let Some(down) = self.look_again(rt, clock, first.0, millis) {
                 return down;
             }
         }

@@ -1,10 +1,10 @@
 //! A server of datagrams.
 
-ghost use Rattle.std.specs.Prelude.{◌≡◌, ◌≤◌, false, IfOk};
+ghost use Rattle.std.specs.Prelude.{◌≡◌, ◌≤◌, ℕ, false, IfOk};
 ghost use Rattle.std.specs.Arc.{arc_value};
 ghost use Rattle.dns_service.specs.Config.{default_dgram, default_stream};
 ghost use Rattle.dns_admission.specs.Machine.{new_state};
-ghost use Rattle.dns_book.specs.Seats.{IsSound, new_known, first_half, second_half};
+ghost use Rattle.dns_book.specs.Seats.{Called, IsSound, new_known, first_half, second_half};
 ghost use Rattle.dns_outside.specs.Causes.{Rose, Tells};
 ghost use Rattle.dns_client.specs.Serving.{serving};
 ghost use Rattle.dns_host.specs.DatagramsServed.{LooksBy, world};
@@ -15,12 +15,12 @@ use crate::buf::{BufSource, VecBufSource};
 use crate::control::Control;
 use crate::metered_sock::MeteredSock;
 use crate::metrics::ServerMetrics;
-use crate::seating::{Ground, make_ground, split_off};
-use dns_book::{Admission, Book, BookSeat, BookState};
+use crate::seating::{Ground, put_seat, split_off, take_seat};
+use dns_book::{Admission, Book, BookSeat, Call, Reply};
 use dns_host::{DgramEnd, Recorder, serve_datagrams};
 use dns_name::OutOfMemory;
 use dns_outside::{AsyncDgramSock, Clock, MioSock};
-use dns_service::{DgramConfig, Served, StreamConfig};
+use dns_service::{DgramConfig, Served};
 use std::alloc::Global;
 use std::marker::Model;
 use std::sync::{Arc, Wait};
@@ -86,14 +86,25 @@ impl<D: AsyncDgramSock + Drop, B: BufSource + Drop, W: Served, C: Clock + Drop> 
         ensures parts { IfOk result (λ s. (s.sock ≡ sock) × (s.service ≡ arc_value service) × (s.clock ≡ clock)) }
         ensures known { IfOk result (λ s. s.known ≡ new_known (new_state config default_stream)) }
     {
-        let state = BookState::new(config, StreamConfig::new());
+        match Ground::of_datagrams(alloc, config) {
+            Ok(ground) => Ok(DgramServer::on(ground, sock, buf, service, clock)),
+            Err(error) => Err(error),
+        }
+    }
+
+    // A server on this ground, whose metrics count no connections.
+    fn on(ground: Ground, sock: D, buf: B, service: Arc<W>, clock: C) -> Self
+        requires seat { ground.seat.book ≡ arc_value ground.book }
+        requires metrics { arc_value ground.metrics ≡ false }
+        ensures { result ≡ record { sock = sock; service = arc_value service; clock = clock; book = arc_value ground.book; known = ground.seat.known } }
+    {
         let Ground {
             book,
             seat,
             metrics,
             counting,
-        } = make_ground(alloc, state, ServerMetrics::connection_less())?;
-        Ok(DgramServer {
+        } = ground;
+        DgramServer {
             sock: MeteredSock::new(sock, counting),
             buf,
             service,
@@ -101,7 +112,7 @@ impl<D: AsyncDgramSock + Drop, B: BufSource + Drop, W: Served, C: Clock + Drop> 
             metrics,
             book,
             seat: Some(seat),
-        })
+        }
     }
 
     /// The socket.
@@ -143,22 +154,59 @@ impl<D: AsyncDgramSock + Drop, B: BufSource + Drop, W: Served, C: Clock + Drop> 
         ensures receives { D.failed_receives self.old.sock ≤ D.failed_receives self.new.sock }
         ensures sends { D.failed_sends self.old.sock ≤ D.failed_sends self.new.sock }
     {
-        let Some(seat) = self.seat.take() else {
-            unreachable!()
-        };
-        let (seat, end) = serve_in_slot(
+        serve_from(
             rt,
             alloc,
             &self.book,
             &*self.service,
-            seat,
+            &mut self.seat,
             &mut self.sock,
             &mut self.clock,
             journal,
-        );
-        self.seat = Some(seat);
-        end
+        )
     }
+}
+
+#[tactic(auto, using(crate::proofs::Seatings::is_there))]
+/// The same from the seat that stands in its place.
+fn serve_from<R: Wait, D: AsyncDgramSock, C: Clock, J: Recorder, W: Served>(
+    rt: &R,
+    alloc: Global,
+    book: &Book,
+    service: &W,
+    place: &mut Option<BookSeat>,
+    sock: &mut D,
+    clock: &mut C,
+    journal: &mut J,
+) -> DgramEnd
+    requires place { IsSeatAt book.now place.old }
+    requires can_call { W.can_call service.now }
+    ensures told { Tells (D.tells sock.new × C.tells clock.new × J.tells journal.new) (D.tells sock.old × C.tells clock.old × J.tells journal.old)
+        (DatagramsRan (serving (W.answer service.now) (W.hint service.now)) result
+        (world (J.noted journal.old) (D.mail sock.old) (D.failed_sends sock.old) (C.readings clock.old) (known_of place.old))
+        (world (J.noted journal.new) (D.mail sock.new) (D.failed_sends sock.new) (C.readings clock.new) (known_of place.new))) }
+    ensures seat { InSlot (LooksBy result) (result ≡ DgramEnd.Shutdown) (known_of place.old) (known_of place.new) }
+    ensures place { IsSeatAt book.now place.new }
+    ensures cause { result ≡ DgramEnd.Fault → Rose (D.failed_receives sock.old) (D.failed_receives sock.new) }
+    ensures receives { D.failed_receives sock.old ≤ D.failed_receives sock.new }
+    ensures sends { D.failed_sends sock.old ≤ D.failed_sends sock.new }
+{
+    let seat = take_seat(place);
+    let (seat, end) = serve_in_slot(rt, alloc, book, service, seat, sock, clock, journal);
+    put_seat(place, seat);
+    end
+}
+
+/// Gives back the slot in which datagrams were served.
+fn give_back<R: Wait>(rt: &R, book: &Book, served: (BookSeat, DgramEnd)) -> (BookSeat, DgramEnd)
+    requires { served.0.book ≡ book.now }
+    ensures released { (left : ℕ) × Called served.0.known Call.Release (Reply.Left left) result.0.known }
+    ensures same { result.0.book ≡ served.0.book }
+    ensures end { result.1 ≡ served.1 }
+{
+    let (mut seat, end) = served;
+    book.release(rt, &mut seat);
+    (seat, end)
 }
 
 /// Serves datagrams without a count, in a slot where one is free.
@@ -189,12 +237,10 @@ fn serve_in_slot<R: Wait, D: AsyncDgramSock, C: Clock, J: Recorder, W: Served>(
         Admission::Full { .. } => serve_datagrams(
             rt, alloc, book, seat, service, sock, clock, journal, 0,
         ),
-        Admission::Admitted(_) => {
-            let (mut seat, end) = serve_datagrams(
-                rt, alloc, book, seat, service, sock, clock, journal, 0,
-            );
-            book.release(rt, &mut seat);
-            (seat, end)
-        }
+        Admission::Admitted(_) => give_back(
+            rt,
+            book,
+            serve_datagrams(rt, alloc, book, seat, service, sock, clock, journal, 0),
+        ),
     }
 }

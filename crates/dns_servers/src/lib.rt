@@ -11,6 +11,7 @@ mod metered;
 mod metered_accept;
 mod metered_sock;
 mod metrics;
+mod provision;
 mod seating;
 mod stream;
 

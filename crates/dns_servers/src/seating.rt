@@ -1,7 +1,9 @@
 //! A server's seat at its book.
 
-ghost use Rattle.std.specs.Prelude.{◌≡◌, Some, IfOk};
+ghost use Rattle.std.specs.Prelude.{◌≡◌, true, false, Some, IfOk, IsSome};
 ghost use Rattle.std.specs.Arc.{arc_value};
+ghost use Rattle.dns_service.specs.Config.{default_dgram, default_stream};
+ghost use Rattle.dns_admission.specs.Machine.{new_state};
 ghost use Rattle.dns_book.specs.Seats.{IsSound, new_known, first_half, second_half};
 ghost use Rattle.dns_servers.specs.Parts.{IsSeatAt, known_of};
 
@@ -9,6 +11,7 @@ use crate::control::Control;
 use crate::metrics::ServerMetrics;
 use dns_book::{Book, BookSeat, BookState};
 use dns_name::OutOfMemory;
+use dns_service::{DgramConfig, StreamConfig};
 use std::alloc::Global;
 use std::sync::{Arc, Wait};
 
@@ -45,7 +48,7 @@ fn share(
 }
 
 /// A book in this state, and these metrics.
-pub(crate) fn make_ground(
+fn make_ground(
     alloc: Global,
     state: BookState,
     metrics: ServerMetrics,
@@ -65,6 +68,26 @@ pub(crate) fn make_ground(
     }
 }
 
+impl Ground {
+    /// For datagrams at this configuration. That of streams is the default one.
+    pub(crate) fn of_datagrams(alloc: Global, config: DgramConfig) -> Result<Ground, OutOfMemory>
+        ensures seat { IfOk result (λ g. (g.seat.book ≡ arc_value g.book) × (g.seat.known ≡ new_known (new_state config default_stream))) }
+        ensures metrics { IfOk result (λ g. arc_value g.metrics ≡ false) }
+    {
+        let state = BookState::new(config, StreamConfig::new());
+        make_ground(alloc, state, ServerMetrics::connection_less())
+    }
+
+    /// For connections at this configuration. That of datagrams is the default one.
+    pub(crate) fn of_connections(alloc: Global, config: StreamConfig) -> Result<Ground, OutOfMemory>
+        ensures seat { IfOk result (λ g. (g.seat.book ≡ arc_value g.book) × (g.seat.known ≡ new_known (new_state default_dgram config))) }
+        ensures metrics { IfOk result (λ g. arc_value g.metrics ≡ true) }
+    {
+        let state = BookState::new(DgramConfig::new(), config);
+        make_ground(alloc, state, ServerMetrics::connection_oriented())
+    }
+}
+
 /// The book once more. It waits where the book has so many owners that one more has no room.
 fn another<R: Wait>(rt: &R, book: &Arc<Book>) -> Arc<Book>
     ensures { arc_value result ≡ arc_value book.now }
@@ -75,6 +98,24 @@ fn another<R: Wait>(rt: &R, book: &Arc<Book>) -> Arc<Book>
         }
     }
     unreachable!()
+}
+
+/// Takes the seat out of its place.
+pub(crate) fn take_seat(place: &mut Option<BookSeat>) -> BookSeat
+    requires { IsSome place.old }
+    ensures { place.old ≡ Some result }
+{
+    let Some(seat) = place.take() else {
+        unreachable!()
+    };
+    seat
+}
+
+/// Puts a seat into its place.
+pub(crate) fn put_seat(place: &mut Option<BookSeat>, seat: BookSeat)
+    ensures { place.new ≡ Some seat }
+{
+    *place = Some(seat);
 }
 
 /// Splits the seat in its place, which keeps the first half. The control has the second.

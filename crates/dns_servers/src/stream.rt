@@ -14,12 +14,13 @@ use crate::hook::CountingHook;
 use crate::metered::Metered;
 use crate::metered_accept::MeteredAccept;
 use crate::metrics::ServerMetrics;
-use crate::seating::{Ground, make_ground, split_off};
-use dns_book::{Book, BookSeat, BookState};
-use dns_host::{AcceptEnd, ConnectionWork, NoHook, PreConnect, Silent, serve_accepts};
+use crate::provision::Provision;
+use crate::seating::{Ground, split_off};
+use dns_book::{Book, BookSeat};
+use dns_host::{AcceptEnd, ConnectionWork, NoHook, PreConnect, Silent};
 use dns_name::OutOfMemory;
 use dns_outside::{AsyncAccept, Clock, MioAccept, Spawner};
-use dns_service::{DgramConfig, Served, StreamConfig};
+use dns_service::{Served, StreamConfig};
 use std::alloc::Global;
 use std::marker::Model;
 use std::sync::{Arc, Wait};
@@ -55,12 +56,9 @@ pub type TcpServer<N, W, C, P, H = NoHook> = StreamServer<MioAccept<N>, VecBufSo
 pub struct StreamServer<A, B, W, C, P, H = NoHook> {
     accept: MeteredAccept<A>,
     buf: B,
-    service: Arc<W>,
-    clock: C,
+    provision: Provision<W, C, CountingHook<H>>,
     spawner: P,
-    hook: CountingHook<H>,
     metrics: Arc<ServerMetrics>,
-    book: Arc<Book>,
     // None while a call has it.
     seat: Option<BookSeat>,
 }
@@ -72,9 +70,9 @@ impl<A, B, W, C, P, H> Model for StreamServer<A, B, W, C, P, H> {
 
     ghost Value = { StreamParts A W C P };
 
-    ghost view = { λ s. record { accept = s.accept; service = arc_value s.service; clock = s.clock; spawner = s.spawner; book = arc_value s.book; known = known_of s.seat } };
+    ghost view = { λ s. record { accept = s.accept; service = arc_value s.provision.service; clock = s.provision.clock; spawner = s.spawner; book = arc_value s.provision.book; known = known_of s.seat } };
 
-    ghost invariant = { λ s. IsSeatAt (arc_value s.book) s.seat × (arc_value s.metrics ≡ true) };
+    ghost invariant = { λ s. IsSeatAt (arc_value s.provision.book) s.seat × (arc_value s.metrics ≡ true) };
 }
 
 impl<A: AsyncAccept + Drop, B: BufSource + Drop, W: Served, C: Clock + Drop, P: Drop> StreamServer<
@@ -121,8 +119,7 @@ impl<A: AsyncAccept + Drop, B: BufSource + Drop, W: Served, C: Clock + Drop, P: 
         ensures parts { IfOk result (λ s. (s.accept ≡ accept) × (s.service ≡ arc_value service) × (s.clock ≡ clock) × (s.spawner ≡ spawner)) }
         ensures known { IfOk result (λ s. s.known ≡ new_known (new_state default_dgram config)) }
     {
-        let state = BookState::new(DgramConfig::new(), config);
-        match make_ground(alloc, state, ServerMetrics::connection_oriented()) {
+        match Ground::of_connections(alloc, config) {
             Ok(ground) => Ok(StreamServer::on(ground, accept, buf, service, clock, spawner)),
             Err(error) => Err(error),
         }
@@ -143,12 +140,14 @@ impl<A: AsyncAccept + Drop, B: BufSource + Drop, W: Served, C: Clock + Drop, P: 
         StreamServer {
             accept: MeteredAccept::new(accept, counting),
             buf,
-            service,
-            clock,
+            provision: Provision {
+                book,
+                service,
+                clock,
+                hook: CountingHook { inner: NoHook },
+            },
             spawner,
-            hook: CountingHook { inner: NoHook },
             metrics,
-            book,
             seat: Some(seat),
         }
     }
@@ -173,23 +172,17 @@ impl<
         let StreamServer {
             accept,
             buf,
-            service,
-            clock,
+            provision,
             spawner,
-            hook: _old,
             metrics,
-            book,
             seat,
         } = self;
         StreamServer {
             accept,
             buf,
-            service,
-            clock,
+            provision: provision.with_hook(CountingHook { inner: hook }),
             spawner,
-            hook: CountingHook { inner: hook },
             metrics,
-            book,
             seat,
         }
     }
@@ -214,7 +207,7 @@ impl<
         ensures control { result ≡ record { book = self.old.book; known = second_half self.old.known } }
         ensures sound { IsSound self.new.known × IsSound result.known }
     {
-        split_off(rt, &self.book, &mut self.seat)
+        split_off(rt, &self.provision.book, &mut self.seat)
     }
 }
 
@@ -246,22 +239,13 @@ where
         ensures accepts_later { A.faults self.old.accept ≤ A.faults self.new.accept }
         ensures starts_later { P.faults self.old.spawner ≤ P.faults self.new.spawner }
     {
-        let Some(seat) = self.seat.take() else {
-            unreachable!()
-        };
-        let (seat, end) = serve_accepts(
+        let end = self.provision.accept_all(
             rt,
             alloc,
-            &self.book,
-            seat,
-            &self.service,
+            &mut self.seat,
             &mut self.accept,
-            &self.clock,
             &mut self.spawner,
-            &self.hook,
-            0,
         );
-        self.seat = Some(seat);
         self.spawner.join_all(rt);
         end_of(end)
     }

@@ -13,6 +13,6 @@ loop-preserved g c = record {
   book = c.look_again.ensures.book ∙ c.loop.invariant.book;
   looks = only_more c.args.self.now.known c.loop.self.known c.look_again.new.self.known (state_met c.look_again.new.self.known)
       c.loop.invariant.looks c.look_again.ensures.called;
-  clock = read_on (g.C.Clock.tells c.look_again.new.clock) (g.C.Clock.tells c.loop.clock) (g.C.Clock.tells c.args.clock.now) c.now-start.result.0 c.args.millis
+  clock = read_on (g.C.Clock.tells c.look_again.new.clock) (g.C.Clock.tells c.loop.clock) (g.C.Clock.tells c.args.clock.now) c.now-first.result.0 c.args.millis
       (g.C.Clock.readings c.args.clock.now) (g.C.Clock.readings c.loop.clock) (g.C.Clock.readings c.look_again.new.clock) c.in_default.ensures.clock c.loop.invariant.clock;
 }

@@ -8,5 +8,5 @@ abbrev pub invariant-loop : goal.invariant-loop
 invariant-loop g l = record {
   book : l.self.book ≡ l.fn.self.book;
   looks : OnlyLooks l.fn.self.known l.self.known;
-  clock : Tells (g.C.Clock.tells l.clock) (g.C.Clock.tells l.fn.clock) (Since l.start (g.C.Clock.readings l.fn.clock) (g.C.Clock.readings l.clock));
+  clock : Tells (g.C.Clock.tells l.clock) (g.C.Clock.tells l.fn.clock) (Since l.first.0 (g.C.Clock.readings l.fn.clock) (g.C.Clock.readings l.clock));
 }
