@@ -176,8 +176,6 @@ pub fn read_script<E: ScriptLine>(alloc: Global, text: &[u8]) -> Result<Script<E
     ensures { ReadsScript result (script E.reading text.now) }
 {
     let mut script = Script::new(alloc);
-    match read_lines(alloc, &mut script, text) {
-        Ok(()) => Ok(script),
-        Err(error) => Err(error),
-    }
+    let read = read_lines(alloc, &mut script, text);
+    read.and(Ok(script))
 }

@@ -1,14 +1,16 @@
 -- A host that was served, by the status that stands for it.
-use Rattle.std.proofs.Common.{◌≡◌, ℕ, Option}
+use Rattle.std.proofs.Common.{◌≡◌, ℕ, Option, refl, inr, rules}
+use Rattle.std.specs.Prelude.{Result, Ok, Err, IfOk}
 use Rattle.dns_book.specs.declared.history.Known.{Known}
 use Rattle.dns_service.specs.Answer.{Answer}
 use Rattle.dns_service.specs.Req.{Req}
-use Rattle.dns_client.specs.Serving.{serving}
-use Rattle.dns_host.specs.Hosting.{HostWorld, HostServed}
+use Rattle.dns_client.specs.Serving.{Serving, serving}
+use Rattle.dns_host.specs.Hosting.{HostWorld, HostServed, ShutDown}
 use Rattle.dns_host.specs.declared.host.HostEnd.{HostEnd}
 use Rattle.dns_host.specs.declared.host.HostEnd.TheVariants.{Done, OutOfMemory, HostFault}
 use Rattle.dns_server.specs.Status.{status_of_host, OfHost}
 use Rattle.dns_server.specs.declared.status.Status.{Status}
+use Rattle.dns_server.specs.declared.status.Status.TheVariants.{OutOfMemory as NoMemory}
 
 -- what is so of the end is so of its status
 of_host : (P : HostEnd → Type 0) (end : HostEnd) (s : Status) → s ≡ status_of_host end → P end → OfHost P s
@@ -16,10 +18,30 @@ of_host P Done s is h = rw is h
 of_host P OutOfMemory s is h = rw is h
 of_host P HostFault s is h = rw is h
 
--- a host that was served by a service that answers so
-pub served_of : {H : Type 0} (seen : H → HostWorld) (door mail : H → Type 0) (answer given : Req (Unit {0}) → ℕ → Answer) (hint left : Req (Unit {0}) → Option ℕ)
-    (end : HostEnd) (s : Status) (count : ℕ) (k k' : Known) (h h' : H) → s ≡ status_of_host end → answer ≡ given → hint ≡ left →
-    HostServed seen door mail (serving answer hint) end count k k' h h' →
-    OfHost (λ e. HostServed seen door mail (serving given left) e count k k' h h') s
-served_of seen door mail answer given hint left end s count k k' h h' is answers hints served =
-    of_host (λ e. HostServed seen door mail (serving given left) e count k k' h h') end s is (rw (answers, hints) at served)
+-- a host that was served
+pub served_as : {H : Type 0} (seen : H → HostWorld) (door mail : H → Type 0) (answers : Serving) (end : HostEnd) (s : Status) (count : ℕ) (k k' : Known) (h h' : H) → s ≡ status_of_host end →
+    HostServed seen door mail answers end count k k' h h' → OfHost (λ e. HostServed seen door mail answers e count k k' h h') s
+served_as seen door mail answers end s count k k' h h' is served = of_host (λ e. HostServed seen door mail answers e count k k' h h') end s is served
+
+-- a host that was not served, since memory ran out before
+pub unserved : {H : Type 0} (seen : H → HostWorld) (door mail : H → Type 0) (answers : Serving) (s : Status) (count : ℕ) (k k' : Known) (h : H) → s ≡ NoMemory → ShutDown k k' →
+    OfHost (λ e. HostServed seen door mail answers e count k k' h h) s
+unserved seen door mail answers s count k k' h is shut = rw is (record {
+  told = inr (record { end_is = refl; shut = shut }, refl);
+  fault = tt;
+  accepts_later = search rules;
+  starts_later = search rules;
+  receives_later = search rules;
+  sends_later = search rules;
+})
+
+-- what a service in its layers answers and leaves
+pub serving_so : {T E : Type 0} (made : Result T E) (answer : T → Req (Unit {0}) → ℕ → Answer) (hint : T → Req (Unit {0}) → Option ℕ) (given : Req (Unit {0}) → ℕ → Answer) (left : Req (Unit {0}) → Option ℕ) →
+    IfOk made (λ s. answer s ≡ given) → IfOk made (λ s. hint s ≡ left) → IfOk made (λ s. serving given left ≡ serving (answer s) (hint s))
+serving_so (Ok s) answer hint given left a h = rw (a, h) refl
+serving_so (Err e) answer hint given left a h = tt
+
+-- such a service may be called where the one within may be
+pub may_call : {T E : Type 0} (made : Result T E) (inner : Type 0) (can : T → Type 0) → IfOk made (λ s. inner → can s) → inner → IfOk made (λ s. can s)
+may_call (Ok s) inner can h i = h i
+may_call (Err e) inner can h i = tt

@@ -19,14 +19,15 @@ ghost use Rattle.dns_server.specs.Writes.{Wrote, WroteFaults};
 
 use crate::counts::{Counts, summary};
 use crate::generator::next_event;
+use crate::layered::layered;
 use crate::writing::WriteError;
-use dns_core::{Notifiable, Server, Settings, wrap};
+use dns_core::{Notifiable, Server, Settings};
 use dns_name::{OutOfMemory, Rcode};
 use dns_outside::{Sink, write_all};
 use dns_script::{
     NotifyRules, Rule, Rules, ScriptAnswer, ScriptAnswers, ScriptReply, ScriptService, ScriptTarget,
 };
-use dns_service::{ConnectionConfig, Event, Plainly, Served, Service, StreamConfig};
+use dns_service::{ConnectionConfig, Event, Served, Service, StreamConfig};
 use std::alloc::Global;
 
 /// The configuration of the stream server: `stream 1000 1000 4 10000 yes`.
@@ -164,8 +165,8 @@ fn count_served<S: Service<()>, N: Notifiable>(
     requires { S.can_call service }
     ensures { IfOk result (λ c. c ≡ output_counts (out (serving (replies settings.now (S.answer service) (verdict_on (N.verdict target))) (hint_left settings.now)) settings.now (flood_events seed count))) }
 {
-    match wrap(alloc, settings, service, target) {
-        Ok(service) => count_events(alloc, settings, Plainly { service }, seed, count),
+    match layered(alloc, settings, service, target) {
+        Ok(service) => count_events(alloc, settings, service, seed, count),
         Err(error) => Err(error),
     }
 }

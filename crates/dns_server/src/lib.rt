@@ -6,6 +6,7 @@ mod command;
 mod counts;
 mod flood;
 mod generator;
+mod layered;
 mod program;
 mod serve_words;
 mod server_host;

@@ -1,24 +1,83 @@
 //! A server that runs, as a whole.
 
-ghost use Rattle.std.specs.Prelude.{◌≡◌};
+ghost use Rattle.std.specs.Prelude.{◌≡◌, IfOk};
 ghost use Rattle.std.specs.Arc.{arc_value};
 ghost use Rattle.dns_middleware.specs.Verdicts.{verdict_on};
 ghost use Rattle.dns_middleware.specs.Wrapped.{hint_left, replies};
-ghost use Rattle.dns_client.specs.Serving.{serving};
-ghost use Rattle.dns_host.specs.Hosting.{HostServed, host_seen, door_told, mail_told};
-ghost use Rattle.dns_server.specs.Status.{OfHost};
+ghost use Rattle.dns_client.specs.Serving.{Serving, serving};
+ghost use Rattle.dns_host.specs.Hosting.{HostServed, ShutDown, host_seen, door_told, mail_told};
+ghost use Rattle.dns_server.specs.Status.{OfHost, status_of_host};
 
+use crate::layered::layered;
 use crate::status::Status;
 use dns_book::{Book, BookSeat};
-use dns_core::{Notifiable, Settings, wrap};
+use dns_core::{Notifiable, Settings};
 use dns_middleware::Wrapped;
+use dns_name::OutOfMemory;
 use dns_outside::{AsyncAccept, AsyncDgramSock, Clock, Spawner};
-use dns_servers::{ConnectionWork, Host, Recorder, Silent, host_service};
-use dns_service::{Plainly, Service};
+use dns_servers::{ConnectionWork, Host, HostEnd, Recorder, Silent, host_service};
+use dns_service::{Plainly, Served, Service};
 use std::alloc::Global;
 use std::sync::{Arc, Wait};
 use std::thread::Threads;
 
+/// A host's end as a status, beside the seat.
+fn by_status(served: (BookSeat, HostEnd)) -> (BookSeat, Status)
+    ensures seat { result.0 ≡ served.0 }
+    ensures status { result.1 ≡ status_of_host served.1 }
+{
+    let (seat, end) = served;
+    (seat, Status::from(end))
+}
+
+/// Shuts the book down for want of memory.
+fn without_memory<R: Wait>(rt: &R, book: &Book, seat: BookSeat) -> (BookSeat, Status)
+    requires { seat.book ≡ book.now }
+    ensures shut { ShutDown seat.known result.0.known }
+    ensures same { result.0.book ≡ seat.book }
+    ensures status { result.1 ≡ Status.OutOfMemory }
+{
+    let mut seat = seat;
+    book.shutdown(rt, &mut seat);
+    (seat, Status::OutOfMemory)
+}
+
+/// Serves both by a service in its layers, where there was memory for them.
+fn serve_layered<
+    R: Threads + Wait + Copy + Send + Sync + 'static,
+    A: AsyncAccept,
+    D: AsyncDgramSock + Send,
+    C: Clock + Send + Drop + 'static,
+    T: Served + Send + Sync + 'static,
+    P: Spawner<ConnectionWork<A::Link, C, Silent, T>>,
+    J: Recorder + Send,
+>(
+    rt: &R,
+    alloc: Global,
+    host: &mut Host<A, D, C, P, J>,
+    made: Result<T, OutOfMemory>,
+    book: &Arc<Book>,
+    seat: BookSeat,
+    count: u64,
+) -> (BookSeat, Status)
+where
+    A::Link: Send + Drop + 'static,
+    T::Future: Send,
+    T::Stream: Send,
+    requires book { seat.book ≡ arc_value book.now }
+    requires can_call { IfOk made (λ s. T.can_call s) }
+    ensures served { (answers : Serving) → IfOk made (λ s. answers ≡ serving (T.answer s) (T.hint s))
+        → OfHost (λ end. HostServed (host_seen A.door P.given J.noted D.mail C.readings A.faults P.faults D.failed_receives D.failed_sends)
+        (door_told A.tells P.tells) (mail_told D.tells C.tells J.tells) answers end count seat.known result.0.known host.old host.new) result.1 }
+    ensures same { result.0.book ≡ seat.book }
+{
+    match made {
+        Ok(service) => by_status(host_service(rt, alloc, service, book, seat, host, count)),
+        Err(_) => without_memory(rt, book, seat),
+    }
+}
+
+#[tactic(auto, using(crate::proofs::Hosted::may_call))]
 /// Serves connections and datagrams beside each other, until `count` of each were taken, `count` not 0, or a look shows a
 /// shutdown. Then all work is joined, and the book is shut down. The wrapped service is the given one in the layers of the
 /// settings, where the target is told of changed zones.
@@ -38,7 +97,7 @@ pub fn serve_host<
     service: S,
     target: N,
     book: &Arc<Book>,
-    mut seat: BookSeat,
+    seat: BookSeat,
     host: &mut Host<A, D, C, P, J>,
     count: u64,
 ) -> (BookSeat, Status)
@@ -56,14 +115,6 @@ where
         end count seat.known result.0.known host.old host.new) result.1 }
     ensures same { result.0.book ≡ seat.book }
 {
-    match wrap(alloc, settings, service, target) {
-        Ok(service) => {
-            let (seat, end) = host_service(rt, alloc, Plainly { service }, book, seat, host, count);
-            (seat, Status::from(end))
-        }
-        Err(_) => {
-            book.shutdown(rt, &mut seat);
-            (seat, Status::OutOfMemory)
-        }
-    }
+    let made = layered(alloc, settings, service, target);
+    serve_layered(rt, alloc, host, made, book, seat, count)
 }

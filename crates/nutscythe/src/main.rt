@@ -123,17 +123,36 @@ fn of_run(rt: &HostRuntime, words: &[String]) -> ExitCode {
     ended(rt, status)
 }
 
+/// A form of the command line.
+enum Form {
+    Help,
+    Version,
+    Server,
+    /// All else, words of no form too.
+    Run,
+}
+
+/// The form that the first word says.
+fn form_of(words: &[String]) -> Form {
+    match words.first().map(|word| word.as_str()) {
+        Some("--help") => Form::Help,
+        Some("--version") => Form::Version,
+        Some("serve") => Form::Server,
+        _ => Form::Run,
+    }
+}
+
 /// Does what the words ask for.
 fn answered<R: Net + rt::Clock + Threads + Wait + Copy + Send + Sync + 'static>(
     machine: R,
     rt: &HostRuntime,
     words: &[String],
 ) -> ExitCode {
-    match words.first().map(|word| word.as_str()) {
-        Some("--help") => printed(rt, HELP),
-        Some("--version") => printed(rt, VERSION),
-        Some("serve") => of_server(machine, rt, words),
-        _ => of_run(rt, words),
+    match form_of(words) {
+        Form::Help => printed(rt, HELP),
+        Form::Version => printed(rt, VERSION),
+        Form::Server => of_server(machine, rt, words),
+        Form::Run => of_run(rt, words),
     }
 }
 
