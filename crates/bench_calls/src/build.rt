@@ -2,7 +2,6 @@
 
 use crate::hash::cookie;
 use crate::response::RESPONSE;
-use crate::work::Done;
 use dns_base::MessageRef;
 use dns_cookie::siphash24;
 use dns_name::ExtendedErrorCode;
@@ -11,7 +10,7 @@ use dns_service::CopiedMessage;
 use std::alloc::Global;
 
 /// The parts of a message, but for its OPT record.
-pub(crate) fn parts(alloc: Global, octets: &[u8]) -> Option<CopiedMessage> {
+fn parts(alloc: Global, octets: &[u8]) -> Option<CopiedMessage> {
     match MessageRef::from_slice(octets) {
         Ok(message) => CopiedMessage::read(alloc, &message).ok(),
         Err(_) => None,
@@ -19,15 +18,15 @@ pub(crate) fn parts(alloc: Global, octets: &[u8]) -> Option<CopiedMessage> {
 }
 
 /// Builds the response so many times, and gives the sum of the lengths and of the hash of the last one.
-pub(crate) fn built(alloc: Global, count: u64) -> Done {
-    match parts(alloc, RESPONSE) {
+pub(crate) fn built(alloc: Global, count: u64) -> Option<u64> {
+    match parts(alloc, &RESPONSE) {
         Some(mut parts) => built_of(alloc, &mut parts, count),
-        None => Done::Nothing,
+        None => None,
     }
 }
 
 /// The same of these parts, each time under another identifier.
-fn built_of(alloc: Global, parts: &mut CopiedMessage, count: u64) -> Done {
+fn built_of(alloc: Global, parts: &mut CopiedMessage, count: u64) -> Option<u64> {
     let mut sum = 0u64;
     for i in 0..count {
         let mut header = parts.header();
@@ -35,10 +34,10 @@ fn built_of(alloc: Global, parts: &mut CopiedMessage, count: u64) -> Done {
         parts.set_header(header);
         match response_sum(alloc, parts, i == count - 1) {
             Some(of_one) => sum = sum.wrapping_add(of_one),
-            None => return Done::Nothing,
+            None => return None,
         }
     }
-    Done::Sum(sum)
+    Some(sum)
 }
 
 /// The length of the response of these parts and its five options, and its hash where it is the last.

@@ -1,22 +1,23 @@
 //! Hashes and checks of server cookies.
 
-ghost use Rattle.std.specs.Prelude.{◌≤◌, length};
+ghost use Rattle.std.specs.Prelude.{◌≤◌};
 
 use dns_cookie::{ClientCookie, Cookie, ServerCookie, siphash24, timestamp_ok};
 use dns_name::{IpAddr, Serial};
 
 /// The key of RFC 9018, appendix A.1.
-pub(crate) const SECRET: [u8; 16] =
-    *b"\xe5\xe9\x73\xe5\xa6\xb2\xa4\x3f\x48\xe7\xdc\x84\x9e\x37\xbf\xcf";
+const SECRET: [u8; 16] = *b"\xe5\xe9\x73\xe5\xa6\xb2\xa4\x3f\x48\xe7\xdc\x84\x9e\x37\xbf\xcf";
 
-/// The last of so many hashes, before each of which the hash before it is written over the first eight octets.
-pub(crate) fn hash_chain(octets: &mut [u8], count: u64) -> u64
-    requires { 8 ≤ length octets.old }
+/// The last of so many hashes of so many octets, before each of which the hash before it is written over the first eight.
+pub(crate) fn hash_chain(len: usize, count: u64) -> u64
+    requires least { 8 ≤ len }
+    requires most { len ≤ 64 }
 {
+    let mut octets = [0u8; 64];
     let mut hash = 0u64;
     for _i in 0..count {
         octets[..8].copy_from_slice(&hash.to_le_bytes());
-        hash = siphash24(&SECRET, octets);
+        hash = siphash24(&SECRET, &octets[..len]);
     }
     hash
 }

@@ -3,44 +3,53 @@
 
 mod build;
 mod hash;
-mod layers;
 mod read;
-mod replies;
 mod response;
-mod work;
 
+use build::built;
+use hash::{checks, hash_chain};
+use read::readings;
 use std::alloc::Global;
 use std::env::Args;
 use std::io;
-use std::process::ExitCode;
-use work::{Done, carried_out};
 
-const USAGE: &str =
-    "Usage: bench_calls sip20|sip64|check|read|build|plain|layers|bare|wrapped|bare_wrapped COUNT";
+const USAGE: &str = "Usage: bench_calls sip20|sip64|check|read|build COUNT";
 
-/// What the work gives that the words behind the program's name ask for, so often.
-fn asked(alloc: Global, words: Args) -> Done {
-    match words.collect::<Vec<String>>(alloc) {
-        Ok(words) => match words.as_slice() {
-            [_, work, count] => match count.parse::<u64>() {
-                Ok(count) => carried_out(alloc, work, count),
-                Err(_) => Done::NoSuchWork,
-            },
-            _ => Done::NoSuchWork,
-        },
-        Err(_) => Done::Nothing,
+/// Does work so many times: a hash of 20 or of 64 octets, a check of a server cookie's hash, the reading of a response into
+/// borrowed views, or the building of that response. What is left of it is a number that tells on each of its results, and
+/// nothing where memory is short or no work has this name.
+fn done(alloc: Global, work: &str, count: u64) -> Option<u64> {
+    match work {
+        "sip20" => Some(hash_chain(20, count)),
+        "sip64" => Some(hash_chain(64, count)),
+        "check" => Some(checks(count)),
+        "read" => Some(readings(count)),
+        "build" => built(alloc, count),
+        _ => None,
     }
 }
 
-fn main(rt: HostRuntime) -> io::Result<ExitCode> {
-    let (line, status) = match asked(rt.alloc(), std::env::args(&rt)?) {
-        Done::Sum(sum) => {
-            println!(rt; "{sum:016x}")?;
-            return Ok(ExitCode::SUCCESS);
-        }
-        Done::Nothing => ("the work was not done", 1),
-        Done::NoSuchWork => (USAGE, 2),
-    };
-    rt.println(line)?;
-    Ok(ExitCode::from(status))
+/// The same of the words behind the program's name.
+fn asked(alloc: Global, words: Args) -> Option<u64> {
+    match words.collect::<Vec<String>>(alloc) {
+        Ok(words) => asked_by(alloc, words.as_slice()),
+        Err(_) => None,
+    }
+}
+
+fn asked_by(alloc: Global, words: &[String]) -> Option<u64> {
+    match words {
+        [_, work, count] => match count.parse::<u64>() {
+            Ok(count) => done(alloc, work, count),
+            Err(_) => None,
+        },
+        _ => None,
+    }
+}
+
+fn main(rt: HostRuntime) -> io::Result<()> {
+    match asked(rt.alloc(), std::env::args(&rt)?) {
+        Some(sum) => println!(rt; "{sum:016x}"),
+        None => Err(io::Error::other(USAGE)),
+    }
 }

@@ -3,7 +3,7 @@
 /// A response of 512 octets with names uncompressed: a question, four answer records, two authority records, four
 /// additional ones, and an OPT record whose five options are a cookie, a server's name, an extended error, a
 /// keepalive and padding up to the end.
-pub const RESPONSE: &[u8] = b"\
+pub(crate) const RESPONSE: [u8; 512] = *b"\
 \x124\x81\x80\x00\x01\x00\x04\x00\x02\x00\x05\
 \x07example\x03com\x00\x00\x01\x00\x01\
 \x07example\x03com\x00\x00\x01\x00\x01\x00\x00\x01,\x00\x04\xc0\x00\x02\x01\

@@ -6,6 +6,7 @@ mod error_rows;
 mod inner;
 mod layer_rows;
 mod notify_rows;
+mod often_rows;
 mod reply_rows;
 mod request_rows;
 mod route_rows;
@@ -19,6 +20,7 @@ mod words;
 mod wrap_rows;
 
 use layer_rows::LayerRows;
+use often_rows::OftenRows;
 use reply_rows::ReplyRows;
 use request_rows::RequestRows;
 use route_rows::RouteRows;
@@ -32,7 +34,7 @@ fn main(rt: HostRuntime) -> io::Result<ExitCode> {
         &rt,
         &(
             (ServiceRows, ReplyRows),
-            (RouteRows, (LayerRows, RequestRows)),
+            (RouteRows, (LayerRows, (OftenRows, RequestRows))),
         ),
     )
 }

@@ -60,3 +60,13 @@ impl VerdictFuture for Target {
         }
     }
 }
+
+impl Target {
+    /// A target that is authoritative for nothing, at once.
+    pub(crate) fn refusing() -> Target {
+        Target {
+            waits: 0,
+            verdict: Err(NotifyError::NotAuthForZone),
+        }
+    }
+}
