@@ -7,46 +7,40 @@ mod routes;
 use queries::answers;
 use routes::{MOST, router_of};
 use std::alloc::Global;
+use std::env::Args;
 use std::io;
-use std::process::ExitCode;
 
 const USAGE: &str = "Usage: bench_router NAMES TURNS   (1 to 100000 NAMES)";
 
-/// The numbers of names and of turns that the words behind the program's name give.
-fn read_words(rt: &HostRuntime) -> io::Result<Option<(u64, u64)>> {
-    let mut words = std::env::args(rt)?.skip(1);
-    let names = read_number(words.next());
-    let turns = read_number(words.next());
-    if words.next().is_some() {
-        return Ok(None);
+/// The sum of the answers of a router of so many names over so many turns, as the words behind the program's name say; none
+/// where they say something else or memory is short.
+fn sum_by(alloc: Global, words: &[String]) -> Option<u64> {
+    match words {
+        [_, names, turns] => match (names.parse::<u64>(), turns.parse::<u64>()) {
+            (Ok(names), Ok(turns)) if 0 < names && names <= MOST => sum_of(alloc, names, turns),
+            _ => None,
+        },
+        _ => None,
     }
-    Ok(names.zip(turns))
 }
 
-/// The number that a word is.
-fn read_number(word: Option<String>) -> Option<u64> {
-    word?.parse::<u64>().ok()
+fn sum_of(alloc: Global, names: u64, turns: u64) -> Option<u64> {
+    match router_of(alloc, names) {
+        Some(router) => answers(alloc, &router, names, turns),
+        None => None,
+    }
 }
 
-/// The sum of a router's answers.
-fn sum_of(alloc: Global, names: u64, turns: u64) -> anyhow::Result<u64> {
-    let router = router_of(alloc, names)?;
-    answers(alloc, &router, names, turns)
+fn wanted_sum(alloc: Global, words: Args) -> Option<u64> {
+    match words.collect::<Vec<String>>(alloc) {
+        Ok(words) => sum_by(alloc, &words),
+        Err(_) => None,
+    }
 }
 
-/// Says that sum.
-fn say_sum(rt: &HostRuntime, names: u64, turns: u64) -> anyhow::Result<ExitCode> {
-    let sum = sum_of(rt.alloc(), names, turns)?;
-    println!(rt; "{sum}")?;
-    Ok(ExitCode::SUCCESS)
-}
-
-fn main(rt: HostRuntime) -> anyhow::Result<ExitCode> {
-    match read_words(&rt)? {
-        Some((names, turns)) if 0 < names && names <= MOST => say_sum(&rt, names, turns),
-        _ => {
-            println!(rt; "{USAGE}")?;
-            Ok(ExitCode::from(2))
-        }
+fn main(rt: HostRuntime) -> io::Result<()> {
+    match wanted_sum(rt.alloc(), std::env::args(&rt)?) {
+        Some(sum) => println!(rt; "{sum}"),
+        None => Err(io::Error::other(USAGE)),
     }
 }

@@ -54,25 +54,28 @@ pub(crate) fn write_digits(octets: &mut [u8], at: usize, number: u64)
 }
 
 /// The name of a number.
-fn name_of(alloc: Global, number: u64) -> anyhow::Result<Name> {
+fn name_of(alloc: Global, number: u64) -> Option<Name> {
     let mut octets = FIRST;
     write_digits(&mut octets, 2, number);
-    let octets = octets.to_vec(alloc)?;
-    Ok(Name::from_octets(octets)?)
+    match Vec::from_slice(alloc, &octets) {
+        Ok(octets) => Name::from_octets(octets).ok(),
+        Err(_) => None,
+    }
 }
 
-fn add(alloc: Global, router: &mut QnameRouter<Refusing>, number: u64) -> anyhow::Result<()> {
-    let name = name_of(alloc, number)?;
+fn add(alloc: Global, router: &mut QnameRouter<Refusing>, number: u64) -> Option<()> {
     let error = error_of(number);
-    router.add(alloc, name, Refusing { error })?;
-    Ok(())
+    match name_of(alloc, number) {
+        Some(name) => router.add(alloc, name, Refusing { error }).ok(),
+        None => None,
+    }
 }
 
 /// A router of so many names.
-pub(crate) fn router_of(alloc: Global, names: u64) -> anyhow::Result<QnameRouter<Refusing>> {
+pub(crate) fn router_of(alloc: Global, names: u64) -> Option<QnameRouter<Refusing>> {
     let mut router = QnameRouter::new(alloc);
     for number in 0..names {
         add(alloc, &mut router, number)?;
     }
-    Ok(router)
+    Some(router)
 }
