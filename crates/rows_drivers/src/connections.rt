@@ -2,11 +2,11 @@
 
 ghost use Rattle.std.specs.Prelude.{◌≡◌};
 
-use crate::counting::Counting;
-use crate::forgetful::Forgetful;
-use crate::nobody::Nobody;
-use crate::services::{Refusal, refuse};
-use crate::watched::Watched;
+use crate::forms::counting::Counting;
+use crate::forms::forgetful::Forgetful;
+use crate::forms::nobody::Nobody;
+use crate::forms::services::{Refusal, refuse};
+use crate::forms::watched::Watched;
 use dns_book::{Admission, Book, BookState};
 use dns_drivers::{ConnectionEnd, Kept, Recorder, serve_connection};
 use dns_middleware::{Settings, wrap};
@@ -324,17 +324,13 @@ fn a_wait_follows_each_again(rt: HostRuntime) -> Result<(), OutOfMemory> {
 /// A connection to a service that counts, with memory for so many notes: how often the service was called, and how often
 /// its future was polled.
 fn counted<R: Wait>(rt: &R, alloc: Global, notes: u64) -> Result<(u64, u64), OutOfMemory> {
-    let calls = Cell::new(0);
-    let polls = Cell::new(0);
+    let counts = Cell::new((0, 0));
     let service = Plainly {
-        service: Counting {
-            calls: &calls,
-            polls: &polls,
-        },
+        service: Counting { counts: &counts },
     };
     let mut link = steady(alloc, QUERY)?;
     forgets(rt, alloc, &service, &mut link, notes)?;
-    Ok((calls.get(), polls.get()))
+    Ok(counts.get())
 }
 
 /// An event is noted before the core takes it: what is not noted neither calls nor polls the service.

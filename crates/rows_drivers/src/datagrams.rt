@@ -3,7 +3,7 @@
 ghost use Rattle.std.specs.Prelude.{◌≡◌};
 
 use crate::connections::{are, calls};
-use crate::services::{Refusal, refuse};
+use crate::forms::services::{Refusal, refuse};
 use dns_book::{Book, BookState};
 use dns_datagrams::{DgramEnd, Kept, serve_datagrams};
 use dns_name::{IpAddr, Octets, OptRcode, OutOfMemory, SocketAddr};

@@ -5,16 +5,8 @@
 #[cfg(test)]
 mod connections;
 #[cfg(test)]
-mod counting;
-#[cfg(test)]
 mod datagrams;
 #[cfg(test)]
-mod forgetful;
-#[cfg(test)]
-mod nobody;
-#[cfg(test)]
-mod services;
+mod forms;
 #[cfg(test)]
 mod shutdowns;
-#[cfg(test)]
-mod watched;

@@ -3,7 +3,7 @@
 ghost use Rattle.std.specs.Prelude.{◌≡◌, false};
 
 use crate::connections::{PEER, are, calls};
-use crate::services::{Refusal, refuse};
+use crate::forms::services::{Refusal, refuse};
 use dns_admission::Look;
 use dns_book::{Admission, Book, BookSeat, BookState};
 use dns_drivers::{ConnectionEnd, Kept, serve_connection};

@@ -7,12 +7,12 @@ use crate::holding::Holding;
 use crate::links::{Marking, Seen, SeenLink, marks, shows};
 use crate::places::{Given, MemoryHost, NOTHING, book_of, host_of};
 use dns_book::{Book, BookSeat};
-use dns_name::OutOfMemory;
+use dns_name::{OptRcode, OutOfMemory};
 use dns_outside::Spawner;
 use dns_servers::{AcceptEnd, serve_accepts};
 use dns_service::Plainly;
 use std::alloc::Global;
-use std::sync::atomic::{AtomicBool, Ordering};
+use std::sync::atomic::Ordering;
 use std::sync::{Arc, Wait};
 use std::thread::Threads;
 
@@ -58,13 +58,8 @@ fn accept_beside<R: Threads + Wait + Copy + Send + Sync + Drop + 'static>(
     shut: bool,
     count: u64,
 ) -> Result<(AcceptEnd, u64), OutOfMemory> {
-    let flag = Arc::new(alloc, AtomicBool::new(false))?;
-    let service = Arc::new(
-        alloc,
-        Plainly {
-            service: Holding { flag },
-        },
-    )?;
+    let service = Holding::new(alloc, false, OptRcode::NOERROR)?;
+    let service = Arc::new(alloc, Plainly { service })?;
     let (book, mut seat) = book_of(alloc, 2)?;
     if shut {
         book.shutdown(rt, &mut seat);

@@ -16,11 +16,20 @@ use std::sync::atomic::{AtomicBool, Ordering};
 /// The number of turns that a held poll makes at most, each one load of the flag.
 const TURNS: u64 = 1_000_000_000;
 
-/// Answers each request with RCODE 0 at its first poll. A poll of a request with id 1 waits for the flag, and is out of
-/// memory where it was not set; that of a request with id 2 sets it.
+/// Answers each request with its response code at its first poll. A poll of a request with id 1 waits for the flag, and is out
+/// of memory where it was not set; that of a request with id 2 sets it.
 #[derive(Drop)]
 pub struct Holding {
     pub flag: Arc<AtomicBool>,
+    pub rcode: OptRcode,
+}
+
+impl Holding {
+    /// A service with a flag of its own.
+    pub fn new(alloc: Global, flag: bool, rcode: OptRcode) -> Result<Holding, OutOfMemory> {
+        let flag = Arc::new(alloc, AtomicBool::new(flag))?;
+        Ok(Holding { flag, rcode })
+    }
 }
 
 /// What a poll does with the flag.
@@ -75,14 +84,14 @@ impl Service<()> for Holding {
 
     type Future = Held;
 
-    ghost answer = { λ _ request. once (Ok (record { response = Some (error_reply request.octets 0); feedback = None })) };
+    ghost answer = { λ h request. once (Ok (record { response = Some (error_reply request.octets h.rcode); feedback = None })) };
 
     ghost hint = { λ _. hint_at_entry };
 
     ghost can_call = { λ _. Unit {0} };
 
     fn call(&self, alloc: Global, request: &mut Request<()>) -> Result<Held, OutOfMemory> {
-        let reply = mk_error_response(alloc, request.message(), OptRcode::NOERROR)?;
+        let reply = mk_error_response(alloc, request.message(), self.rcode)?;
         let part = match request.message().header().id() {
             1 => Part::Waits,
             2 => Part::Sets,

@@ -5,10 +5,9 @@ ghost use Rattle.std.specs.Prelude.{◌≡◌};
 use crate::holding::Holding;
 use crate::links::{Seen, shows};
 use crate::places::{Given, NOTHING, host_of, serve};
-use dns_name::OutOfMemory;
+use dns_name::{OptRcode, OutOfMemory};
 use dns_server::Status;
 use std::alloc::Global;
-use std::sync::atomic::AtomicBool;
 use std::sync::{Arc, Wait};
 use std::thread::Threads;
 
@@ -30,9 +29,9 @@ fn serve_given<R: Threads + Wait + Copy + Send + Sync + Drop + 'static>(
     count: u64,
     seen: &mut Vec<Arc<Seen>>,
 ) -> Result<(Status, u64), OutOfMemory> {
-    let flag = Arc::new(alloc, AtomicBool::new(flag))?;
+    let service = Holding::new(alloc, flag, OptRcode::NOERROR)?;
     let mut host = host_of(rt, alloc, given, seen)?;
-    serve(&rt, alloc, Holding { flag }, &mut host, count)
+    serve(&rt, alloc, service, &mut host, count)
 }
 
 /// Whether a frame of this id and RCODE 0 was written on the link at a place, and the link was closed once.

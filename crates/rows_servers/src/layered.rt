@@ -2,13 +2,13 @@
 
 ghost use Rattle.std.specs.Prelude.{◌≡◌};
 
+use crate::holding::Holding;
 use crate::links::{Seen, SeenLink, shows};
 use crate::places::{Given, LayeredHost, NOTHING, host_of, serve};
-use crate::refusing::{Refusal, refuse};
 use dns_name::{OptRcode, OutOfMemory};
 use dns_outside::MemorySock;
 use dns_server::Status;
-use dns_service::{Service, service_fn};
+use dns_service::Service;
 use std::alloc::Global;
 use std::sync::{Arc, Wait};
 use std::thread::Threads;
@@ -71,7 +71,7 @@ where
     gives_in(&rt, alloc, service, &mut host, &seen, frame, reply)
 }
 
-/// The same of a service that refuses each request with this code.
+/// The same of a service that answers with this code.
 fn refuses<R: Threads + Wait + Copy + Send + Sync + Drop + 'static>(
     rt: R,
     alloc: Global,
@@ -79,13 +79,8 @@ fn refuses<R: Threads + Wait + Copy + Send + Sync + Drop + 'static>(
     frame: &[u8],
     reply: &[u8],
 ) -> Result<bool, OutOfMemory> {
-    gives(
-        rt,
-        alloc,
-        service_fn::<Refusal, _, _>(refuse, rcode),
-        frame,
-        reply,
-    )
+    let service = Holding::new(alloc, false, rcode)?;
+    gives(rt, alloc, service, frame, reply)
 }
 
 /// The name isn't there.

@@ -17,6 +17,4 @@ mod parts;
 #[cfg(test)]
 mod places;
 #[cfg(test)]
-mod refusing;
-#[cfg(test)]
 mod servers;

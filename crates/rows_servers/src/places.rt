@@ -4,14 +4,13 @@ ghost use Rattle.std.specs.Prelude.{◌≡◌, IfOk};
 ghost use Rattle.std.specs.Arc.{arc_value};
 
 use crate::links::{Seen, SeenLink, links_of};
-use crate::refusing::Nobody;
 use dns_book::{Book, BookSeat, BookState};
 use dns_middleware::{Settings, Wrapped};
 use dns_name::{IpAddr, Octets, OutOfMemory, SocketAddr};
 use dns_outside::{
     Letter, Link, ListedCalls, MemoryAccept, MemoryClock, MemorySock, MemorySpawner,
 };
-use dns_server::{Status, serve_host};
+use dns_server::{NotifyRules, ScriptTarget, Status, serve_host};
 use dns_servers::{ConnectionWork, Host, Silent};
 use dns_service::{DgramConfig, Plainly, Served, Service, StreamConfig};
 use std::alloc::Global;
@@ -33,8 +32,8 @@ pub type MemoryHost<L, W> = Host<
     Silent,
 >;
 
-/// A host in memory whose service stands in all layers, over a target that nobody may change.
-pub type LayeredHost<L, S> = MemoryHost<L, Plainly<Wrapped<S, Nobody>>>;
+/// A host in memory whose service stands in all layers, over the target of a script.
+pub type LayeredHost<L, S> = MemoryHost<L, Plainly<Wrapped<S, ScriptTarget>>>;
 
 /// What a host is given: a link for each of these queries, these datagrams, and the accepts, receives and starts that fail.
 #[derive(Clone, Copy)]
@@ -175,7 +174,7 @@ where
         alloc,
         &settings,
         service,
-        Nobody {},
+        ScriptTarget::new(NotifyRules::new(alloc)),
         &book,
         seat,
         host,

@@ -2,16 +2,16 @@
 
 ghost use Rattle.std.specs.Prelude.{◌≡◌, IfOk};
 
+use crate::holding::Holding;
 use crate::links::{Marking, SeenLink, links_of, marks};
 use crate::places::{PEER, letter};
-use crate::refusing::{Refusal, refuse};
 use dns_name::{OptRcode, OutOfMemory, SocketAddr};
 use dns_outside::{Link, MemoryClock, MemorySpawner, SteadyAccept, SteadyLink, SteadySock};
 use dns_servers::{
     ConnectionWork, Control, DgramEnd, DgramServer, Kept, Metered, NoHook, PreConnect,
     ServerMetrics, Silent, StreamEnd, StreamServer, VecBufSource,
 };
-use dns_service::{Plainly, Served, service_fn};
+use dns_service::{Plainly, Served};
 use std::alloc::Global;
 use std::collections::VecDeque;
 use std::sync::{Arc, Wait};
@@ -59,6 +59,12 @@ fn shut_down_after<R: Wait>(
     }
     let _ = control.shutdown(rt);
     control
+}
+
+/// A service that says of each name that it isn't there.
+fn refusing(alloc: Global) -> Result<Plainly<Holding>, OutOfMemory> {
+    let service = Holding::new(alloc, false, OptRcode::NXDOMAIN)?;
+    Ok(Plainly { service })
 }
 
 /// Whether one request was received and one response sent, and no connection is left.
@@ -164,40 +170,27 @@ where
     Ok(end == StreamEnd::Shutdown && control.is_shutdown(rt))
 }
 
-/// Whether a server that answered one datagram was shut down, as a control shows that was made before the run.
-fn answers<R: Threads + Wait + Sync, W: Served>(
-    rt: &R,
-    alloc: Global,
-    server: &mut Datagrams<W>,
-    journal: &mut Kept,
-) -> Result<bool, OutOfMemory>
-    requires { W.can_call server.old.service }
-{
-    let mut early = server.control(rt);
-    Ok(
-        !early.is_shutdown(rt)
-            && run_datagrams(rt, alloc, server, journal)?
-            && early.is_shutdown(rt),
-    )
-}
-
 /// Whether the reply alone was sent, to where the query came from.
 fn sent_the_reply(sock: &SteadySock) -> bool {
     let sent = sock.sent();
     sent.len() == 1 && sent[0].octets.as_slice() == REPLY && sent[0].addr == PEER
 }
 
-/// Whether the server does so, and shows what it counted.
-fn answers_and_counts<R: Threads + Wait + Sync, W: Served>(
+/// Whether a server answers one datagram, notes it, is shut down, as a control shows that was made before, and shows what it
+/// counted.
+fn answers<R: Threads + Wait + Sync, W: Served>(
     rt: &R,
     alloc: Global,
     server: &mut Datagrams<W>,
-    journal: &mut Kept,
 ) -> Result<bool, OutOfMemory>
     requires { W.can_call server.old.service }
 {
+    let mut journal = Kept::new(alloc);
+    let mut early = server.control(rt);
     Ok(
-        answers(rt, alloc, server, journal)?
+        !early.is_shutdown(rt)
+            && run_datagrams(rt, alloc, server, &mut journal)?
+            && early.is_shutdown(rt)
             && shows_one(server.metrics())
             && sent_the_reply(server.source())
             && journal.events().len() > 2,
@@ -213,17 +206,13 @@ fn answers_a_datagram<R: Threads + Wait + Sync, W: Served>(
     requires { W.can_call service }
 {
     let mut server = datagrams(alloc, service)?;
-    let mut journal = Kept::new(alloc);
-    answers_and_counts(rt, alloc, &mut server, &mut journal)
+    answers(rt, alloc, &mut server)
 }
 
 /// A server of datagrams answers a query, is shut down, and shows what it counted.
 #[test]
 fn a_datagram_is_answered(rt: HostRuntime) -> Result<(), OutOfMemory> {
-    let service = Plainly {
-        service: service_fn::<Refusal, _, _>(refuse, OptRcode::NXDOMAIN),
-    };
-    assert!(&rt; answers_a_datagram(&rt, rt.alloc(), service)?);
+    assert!(&rt; answers_a_datagram(&rt, rt.alloc(), refusing(rt.alloc())?)?);
     Ok(())
 }
 
@@ -253,11 +242,7 @@ fn stays_shut<R: Wait, W: Served>(
 }
 
 /// The same of a server of this service.
-fn serves_nothing<R: Wait, W: Served>(
-    rt: &R,
-    alloc: Global,
-    service: W,
-) -> Result<bool, OutOfMemory>
+fn serves_none<R: Wait, W: Served>(rt: &R, alloc: Global, service: W) -> Result<bool, OutOfMemory>
     requires { W.can_call service }
 {
     let mut server = datagrams(alloc, service)?;
@@ -267,10 +252,7 @@ fn serves_nothing<R: Wait, W: Served>(
 /// Where the book is closed before, nothing is served.
 #[test]
 fn a_closed_server_serves_nothing(rt: HostRuntime) -> Result<(), OutOfMemory> {
-    let service = Plainly {
-        service: service_fn::<Refusal, _, _>(refuse, OptRcode::NXDOMAIN),
-    };
-    assert!(&rt; serves_nothing(&rt, rt.alloc(), service)?);
+    assert!(&rt; serves_none(&rt, rt.alloc(), refusing(rt.alloc())?)?);
     Ok(())
 }
 
@@ -311,10 +293,7 @@ where
 /// A server of connections answers a query, is shut down, and shows what it counted.
 #[test]
 fn a_connection_is_answered(rt: HostRuntime) -> Result<(), OutOfMemory> {
-    let service = Plainly {
-        service: service_fn::<Refusal, _, _>(refuse, OptRcode::NXDOMAIN),
-    };
-    assert!(&rt; answers_a_connection(&rt, rt.alloc(), service)?);
+    assert!(&rt; answers_a_connection(&rt, rt.alloc(), refusing(rt.alloc())?)?);
     Ok(())
 }
 
@@ -344,9 +323,8 @@ fn the_hook_is_called(rt: HostRuntime) -> Result<(), OutOfMemory> {
     let mut seen = Vec::new(rt.alloc());
     let queries: [&[u8]; 3] = [QUERY, QUERY, QUERY];
     let links = links_of(rt, rt.alloc(), &queries, &mut seen)?;
-    let service = Plainly {
-        service: service_fn::<Refusal, _, _>(refuse, OptRcode::NXDOMAIN),
-    };
-    assert!(&rt; answers_with_hook(&rt, rt.alloc(), links, service)? && marks(&seen, 3, 3));
+    assert!(&rt;
+        answers_with_hook(&rt, rt.alloc(), links, refusing(rt.alloc())?)? && marks(&seen, 3, 3)
+    );
     Ok(())
 }

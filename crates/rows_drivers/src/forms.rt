@@ -1,0 +1,7 @@
+//! What the tests serve, and what they are served by.
+
+pub mod counting;
+pub mod forgetful;
+pub mod nobody;
+pub mod services;
+pub mod watched;
