@@ -18,6 +18,19 @@ pub trait Clock: Sized {
     fn now(&mut self) -> (u64, u64)
         ensures { Tells (tells self.new) (tells self.old) (readings self.new ≡ readings self.old ++ result ∷ []) };
 
+    /// The reading that was given last, where the clock keeps it and hasn't been told since that it is old; else one of now. What
+    /// comes right behind an event may have its moment.
+    fn latest(&mut self) -> (u64, u64)
+        ensures { Tells (tells self.new) (tells self.old) (readings self.new ≡ readings self.old ++ result ∷ []) }
+    {
+        self.now()
+    }
+
+    /// Time has passed, so that the reading that was given last is old.
+    fn outdate(&mut self)
+        ensures { Tells (tells self.new) (tells self.old) (readings self.new ≡ readings self.old) }
+    {}
+
     /// Another clock of this kind, which has given no reading yet.
     fn another(&self, alloc: Global) -> Result<Self, OutOfMemory>
         ensures { IfOk result (λ other. readings other ≡ []) };

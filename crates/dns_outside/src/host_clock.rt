@@ -12,12 +12,17 @@ use std::rt;
 pub struct HostClock<T> {
     rt: T,
     last: (u64, u64),
+    is_old: bool,
 }
 
 impl<T: rt::Clock> HostClock<T> {
     /// A clock that has given no reading.
     pub fn new(rt: T) -> HostClock<T> {
-        HostClock { rt, last: (0, 0) }
+        HostClock {
+            rt,
+            last: (0, 0),
+            is_old: true,
+        }
     }
 }
 
@@ -32,7 +37,19 @@ impl<T: rt::Clock + Copy> Clock for HostClock<T> {
             let millis = u64::from(since.subsec_millis());
             self.last = (secs.saturating_mul(1000).saturating_add(millis), secs);
         }
+        self.is_old = false;
         self.last
+    }
+
+    fn latest(&mut self) -> (u64, u64) {
+        if self.is_old {
+            return Clock::now(self);
+        }
+        self.last
+    }
+
+    fn outdate(&mut self) {
+        self.is_old = true;
     }
 
     fn another(&self, _alloc: Global) -> Result<HostClock<T>, OutOfMemory> {

@@ -6,13 +6,12 @@ ghost use Rattle.dns_outside.specs.Doors.{AcceptCause};
 use crate::accept::{AcceptAnswer, AsyncAccept};
 use crate::mio_addr::{from_std, to_std};
 use crate::mio_link::MioLink;
-use crate::waiting::Waiting;
+use crate::waiting::{Waiting, is_again};
 use dns_name::SocketAddr;
 use mio::Interest;
 use mio::net::{TcpListener, TcpStream};
 use std::alloc::Global;
 use std::io;
-use std::io::ErrorKind;
 use std::net::Net;
 use std::sync::Wait;
 
@@ -87,7 +86,7 @@ impl<N: Net> AsyncAccept for MioAccept<N> {
     fn poll_accept(&mut self) -> AcceptAnswer<MioLink> {
         match self.listener.accept() {
             Ok((stream, from)) => self.linked(stream, from_std(from)),
-            Err(error) if error.kind() == ErrorKind::WouldBlock => AcceptAnswer::Again,
+            Err(error) if is_again(&error) => AcceptAnswer::Again,
             Err(_) => {
                 self.faults = self.faults.saturating_add(1);
                 AcceptAnswer::Failed

@@ -3,17 +3,17 @@
 ghost use Rattle.std.specs.Prelude.{◌≡◌, [], IfOk};
 
 use crate::link::{Link, LinkRead, LinkWrite};
-use crate::waiting::Waiting;
+use crate::waiting::{Waiting, is_again, is_read_again};
 use mio::Interest;
 use mio::net::TcpStream;
 use std::alloc::Global;
 use std::io;
-use std::io::{ErrorKind, Read, Write};
+use std::io::{Read, Write};
 use std::net::{Net, Shutdown};
 use std::sync::Wait;
 
-/// A TCP connection, which tells nothing and counts its failed calls. An error of the stream is a failed call, also
-/// `ErrorKind::Interrupted`, and so is a write that takes nothing of a piece that is not empty.
+/// A TCP connection, which tells nothing and counts its failed calls. A call that was interrupted, and a read that took too long,
+/// answer Again. Every other error of the stream is a failed call, and so is a write that takes nothing of a piece that is not empty.
 #[derive(Drop)]
 pub struct MioLink {
     stream: TcpStream,
@@ -53,7 +53,7 @@ impl Link for MioLink {
                 self.waiting.found(&mut self.stream);
                 LinkRead::Got(count)
             }
-            Err(error) if error.kind() == ErrorKind::WouldBlock => LinkRead::Again,
+            Err(error) if is_read_again(&error) => LinkRead::Again,
             Err(_) => {
                 self.faults = self.faults.saturating_add(1);
                 LinkRead::Failed
@@ -64,7 +64,7 @@ impl Link for MioLink {
     fn write(&mut self, piece: &[u8]) -> LinkWrite {
         match self.stream.write(piece) {
             Ok(count) if count > 0 || piece.is_empty() => LinkWrite::Took(count),
-            Err(error) if error.kind() == ErrorKind::WouldBlock => LinkWrite::Again,
+            Err(error) if is_again(&error) => LinkWrite::Again,
             _ => {
                 self.faults = self.faults.saturating_add(1);
                 LinkWrite::Failed

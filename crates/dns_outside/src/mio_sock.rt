@@ -5,20 +5,20 @@ ghost use Rattle.std.specs.Prelude.{◌≡◌, [], IfOk};
 use crate::eagerness::Eagerness;
 use crate::mio_addr::{from_std, to_std};
 use crate::sock::{AsyncDgramSock, DgramRecv, DgramSend};
-use crate::waiting::Waiting;
+use crate::waiting::{Waiting, is_again, is_read_again};
 use dns_name::SocketAddr;
 use mio::Interest;
 use mio::net::UdpSocket;
 use std::alloc::Global;
 use std::io;
-use std::io::ErrorKind;
 use std::net::Net;
 use std::sync::Wait;
 
 /// How often the socket is asked whether a datagram is there before the system waits for one: some 20 microseconds.
 const ASKS: usize = 64;
 
-/// A UDP socket, which tells nothing and counts its failed calls. A send of less than the datagram is a failed call.
+/// A UDP socket, which tells nothing and counts its failed calls. A call that was interrupted, and a receive that took too long,
+/// answer Again; a send of less than the datagram is a failed call.
 /// A wait is for a datagram alone, but for the first one after a send that answered Again, which is for room too: each
 /// datagram that leaves makes room, and would wake who waits for it. Where the system refuses to wait for room, that
 /// wait is no longer than a millisecond, so that a send is tried again soon and nothing spins. While datagrams follow
@@ -64,7 +64,7 @@ impl MioSock {
         let mut octet = [0];
         for _ in 0..ASKS {
             match self.socket.peek_from(&mut octet) {
-                Err(error) if error.kind() == ErrorKind::WouldBlock => {}
+                Err(error) if is_read_again(&error) => {}
                 _ => return true,
             }
         }
@@ -99,7 +99,7 @@ impl AsyncDgramSock for MioSock {
     fn poll_send_to(&mut self, data: &[u8], to: SocketAddr) -> DgramSend {
         match self.socket.send_to(data, to_std(to)) {
             Ok(count) if count == data.len() => DgramSend::Took(count),
-            Err(error) if error.kind() == ErrorKind::WouldBlock => {
+            Err(error) if is_again(&error) => {
                 self.full = true;
                 DgramSend::Again
             }
@@ -125,7 +125,7 @@ impl AsyncDgramSock for MioSock {
                 self.waiting.found(&mut self.socket);
                 DgramRecv::Got(count, from_std(from))
             }
-            Err(error) if error.kind() == ErrorKind::WouldBlock => DgramRecv::Again,
+            Err(error) if is_read_again(&error) => DgramRecv::Again,
             Err(_) => {
                 self.failed_receives = self.failed_receives.saturating_add(1);
                 DgramRecv::Failed

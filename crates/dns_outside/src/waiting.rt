@@ -4,9 +4,20 @@ use mio::event::Source;
 use mio::{Events, Interest, Poll, Token};
 use std::alloc::Global;
 use std::io;
+use std::io::ErrorKind;
 use std::net::Net;
 use std::sync::Wait;
 use std::time::Duration;
+
+/// Whether a call that gave this error is to be made again: nothing was ready, or the call was interrupted.
+pub(crate) fn is_again(error: &io::Error) -> bool {
+    matches!(error.kind(), ErrorKind::WouldBlock | ErrorKind::Interrupted)
+}
+
+/// The same of a read, which is made again where it took too long too.
+pub(crate) fn is_read_again(error: &io::Error) -> bool {
+    is_again(error) || error.kind() == ErrorKind::TimedOut
+}
 
 /// After how many reads that found something, one after the other, a socket is waited for no more.
 const BUSY: u32 = 16;
