@@ -261,6 +261,15 @@ impl<Meta> Request<Meta> {
         &self.message
     }
 
+    /// The message, shared no longer with the request.
+    pub fn into_message(self) -> Arc<Message>
+    where
+        Meta: Drop,
+        ensures { arc_value result ≡ self.octets }
+    {
+        self.message
+    }
+
     /// Keeps so many octets more of the response free, 65,535 at most.
     pub fn reserve_bytes(&mut self, bytes: u16)
         ensures { self.new ≡ record self.old { reserved = min (self.old.reserved + bytes) 65535 } }
