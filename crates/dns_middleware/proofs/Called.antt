@@ -88,13 +88,14 @@ by-notice : {Meta : Type 0} → (s : Settings) (svc : Req Meta → ℕ → Answe
 by-notice s svc tgt r k None = refl
 by-notice s svc tgt r k (Some notice) = refl
 
-pub past-cookies : {Meta : Type 0} → (s : Settings) (svc : Req Meta → ℕ → Answer) (tgt : Notice → ℕ → PolledVerdict) (r : Req Meta) (k : ℕ) (size : Option ℕ) (post : WrapPost)
-    → None ≡ cookie_own s.cookies s.denied r → size ≡ size_by s (asked_of r.octets) → post ≡ rule_for s r (hint_of (passed s r).transport)
-    → mapped (rewritten (wrap_by post)) (notify_by tgt (λ (q : Req Meta). svc (passed_by size q)) r k (notice_of r)) ≡ by_gate s svc tgt (limit (hint_of (passed s r).transport)) r (inner_gate s r) k
-past-cookies s svc tgt r k size post o es p =
-    ap (λ (q : WrapPost). mapped (rewritten (wrap_by q)) (notify_by tgt (λ (x : Req _). svc (passed_by size x)) r k (notice_of r))) p
-    ∙ ap (λ (n : Option ℕ). mapped (rewritten (wrap_by (rule_for s r (hint_of (passed s r).transport)))) (notify_by tgt (λ (x : Req _). svc (passed_by n x)) r k (notice_of r))) es
-    ∙ by-notice s svc tgt r k (notice_of r)
+pub past-cookies : {Meta : Type 0} → (s : Settings) (svc : Req Meta → ℕ → Answer) (tgt : Notice → ℕ → PolledVerdict) (r : Req Meta) (k : ℕ) (size : Option ℕ) (post : WrapPost) (notice : Option Notice)
+    → None ≡ cookie_own s.cookies s.denied r → size ≡ size_by s (asked_of r.octets) → post ≡ rule_for s r (hint_of (passed s r).transport) → notice ≡ notice_of r
+    → mapped (rewritten (wrap_by post)) (notify_by tgt (λ (q : Req Meta). svc (passed_by size q)) r k notice) ≡ by_gate s svc tgt (limit (hint_of (passed s r).transport)) r (inner_gate s r) k
+past-cookies s svc tgt r k size post notice o es p en =
+    ap (λ (q : WrapPost). mapped (rewritten (wrap_by q)) (notify_by tgt (λ (x : Req _). svc (passed_by size x)) r k notice)) p
+    ∙ ap (λ (n : Option ℕ). mapped (rewritten (wrap_by (rule_for s r (hint_of (passed s r).transport)))) (notify_by tgt (λ (x : Req _). svc (passed_by n x)) r k notice)) es
+    ∙ by-notice s svc tgt r k notice
+    ∙ ap (λ (n : Option Notice). by_gate s svc tgt (limit (hint_of (passed s r).transport)) r (inner_or None (ask_or n (Pass (passed s r)))) k) en
     ∙ ap (λ (y : Option Msg). by_gate s svc tgt (limit (hint_of (passed s r).transport)) r (inner_or y (ask_or (notice_of r) (Pass (passed s r)))) k) o
 
 -- a request that isn't refused

@@ -99,7 +99,10 @@ fn own_or_past<S: Service<Meta>, N: Notifiable, Meta>(
 {
     match found {
         Some(reply) => own::<S, N, Meta>(reply, passage.size, request),
-        None => past_cookies(alloc, wrapped, passage, asked, request),
+        None => match notice_of(alloc, request, asked) {
+            Ok(notice) => told_or_passed(alloc, wrapped, notice, passage, request),
+            Err(_) => Err(OutOfMemory),
+        },
     }
 }
 
@@ -156,25 +159,23 @@ fn own_rewritten<Meta>(
     Ok(Some(reply))
 }
 
-/// The replies of the target or of the given service, rewritten. This was read of the request.
+/// The replies of the target where there is a notice, and else of the given service, rewritten.
 #[tactic(auto, using(crate::proofs::EdnsLaws::passed_hinted, crate::proofs::EdnsLaws::kept_hint))]
-fn past_cookies<S: Service<Meta>, N: Notifiable, Meta>(
+fn told_or_passed<S: Service<Meta>, N: Notifiable, Meta>(
     alloc: Global,
     wrapped: &Wrapped<S, N>,
+    notice: Option<Notice>,
     passage: Passage,
-    asked: &Asked,
     request: &mut Request<Meta>,
 ) -> Result<ComingReplies<S, N, Meta>, OutOfMemory>
-    requires can_call { S.can_call wrapped.now.service }
-    requires asked { asked.now ≡ asked_of request.old.octets }
-    ensures answers { let r = request.old in IfOk result (λ f. (k : ℕ) → ⟦<ComingReplies<S, N, Meta> as ReplyFuture>⟧.answer f k ≡ mapped (rewritten (wrap_by passage.post)) (notify_by (verdict_on (N.verdict wrapped.now.target)) (λ q. S.answer wrapped.now.service (passed_by passage.size q)) r k (notice_of r))) }
+    requires { S.can_call wrapped.now.service }
+    ensures answers { let r = request.old in IfOk result (λ f. (k : ℕ) → ⟦<ComingReplies<S, N, Meta> as ReplyFuture>⟧.answer f k ≡ mapped (rewritten (wrap_by passage.post)) (notify_by (verdict_on (N.verdict wrapped.now.target)) (λ q. S.answer wrapped.now.service (passed_by passage.size q)) r k notice)) }
     ensures kept { OnOk result (request.new ≡ record request.old { transport = hinted (hint_of (transport_by passage.size request.old.transport)) request.old.transport; reserved = request.new.reserved }) }
     ensures refused { OnErr result (request.new ≡ request.old) }
 {
-    match notice_of(alloc, request, asked) {
-        Ok(Some(notice)) => told::<S, N, Meta>(alloc, &wrapped.target, notice, passage, request),
-        Ok(None) => passed_on::<S, N, Meta>(alloc, &wrapped.service, passage, request),
-        Err(error) => Err(error),
+    match notice {
+        Some(notice) => told::<S, N, Meta>(alloc, &wrapped.target, notice, passage, request),
+        None => passed_on::<S, N, Meta>(alloc, &wrapped.service, passage, request),
     }
 }
 

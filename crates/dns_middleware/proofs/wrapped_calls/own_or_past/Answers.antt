@@ -8,15 +8,15 @@ use Rattle.dns_middleware.specs.WrappedStreams.{wrap_by}
 use Rattle.dns_middleware.proofs.Called.{if-ok, no-own, own-found, past-cookies, rule-passed, size-read}
 use Rattle.dns_middleware.proofs.wrapped_calls.own_or_past.Goals as goal
 
-pub returns-in-None-clause-answers : goal.returns-in-None-clause-answers
-returns-in-None-clause-answers g c =
+pub returns-in-Ok-clause-answers : goal.returns-in-Ok-clause-answers
+returns-in-Ok-clause-answers g c =
     let r = c.args.request.now in
     let w = c.args.wrapped.now in
     let s = w.settings in
     let size = size-read s r _ _ c.requires.asked c.requires.size in
     let post = rule-passed s r r.transport _ (size_by s c.args.asked.now) (hint_of (transport_by (size_by s c.args.asked.now) r.transport)) _ refl c.requires.asked (size-read s r _ _ c.requires.asked refl) refl c.requires.post in
     let own = no-own (wrap_by c.args.passage.post) _ _ c.requires.found c.in-None.is in
-    if-ok c.past_cookies.result (λ f h k. h k ∙ past-cookies s (g.S.Service.answer w.service) (verdict_on (g.N.Notifiable.verdict w.target)) r k _ _ own size post) c.past_cookies.ensures.answers
+    if-ok c.told_or_passed.result (λ f h k. h k ∙ past-cookies s (g.S.Service.answer w.service) (verdict_on (g.N.Notifiable.verdict w.target)) r k _ _ c.in-Ok.notice own size post c.in-Ok.ensures) c.told_or_passed.ensures.answers
 
 pub returns-in-Some-clause-answers : goal.returns-in-Some-clause-answers
 returns-in-Some-clause-answers g c =
