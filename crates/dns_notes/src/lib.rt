@@ -5,6 +5,6 @@ mod moments;
 mod news;
 mod recorder;
 
-pub use moments::{PATIENCE, note_moment, now_is};
+pub use moments::{PATIENCE, PAUSE, note_moment, now_is, pause};
 pub use news::{note_shutdown, note_version};
 pub use recorder::{Kept, Recorder, Silent};

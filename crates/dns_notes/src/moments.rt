@@ -9,9 +9,21 @@ use crate::recorder::Recorder;
 use dns_outside::Clock;
 use dns_service::{Event, EventKind, OutOfMemory};
 use std::alloc::Global;
+use std::sync::Wait;
+use std::thread::Parker;
+use std::time::Duration;
 
 /// How many milliseconds one wait lasts at most.
 pub const PATIENCE: u64 = 250;
+
+/// How many milliseconds one wait lasts at most where a request is to be polled again.
+pub const PAUSE: u64 = 1;
+
+/// Waits for so many milliseconds, or less.
+pub fn pause<R: Wait>(rt: &R, millis: u64) {
+    let parker = Parker::new();
+    parker.park_timeout(rt, Duration::from_millis(millis));
+}
 
 /// An event of now, by one reading of the clock.
 pub fn now_is<C: Clock>(clock: &mut C, client: u64, kind: EventKind) -> Event
