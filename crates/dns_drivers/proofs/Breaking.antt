@@ -1,5 +1,5 @@
 -- Memory ran out in a story.
-use Rattle.std.proofs.Common.{◌≡◌, ℕ, List, [], ◌∷◌, ◌++◌, refl, sym, ◌∙◌, append_assoc, append-nil, Option, Some, None, inl, inr}
+use Rattle.std.proofs.Common.{◌≡◌, ℕ, List, [], ◌∷◌, ◌++◌, refl, sym, ◌∙◌, append_assoc, append-nil, None, inl, inr}
 use Rattle.dns_admission.specs.declared.look.Look.{Look}
 use Rattle.dns_book.specs.declared.history.Known.{Known}
 use Rattle.dns_outside.specs.Traffic.{Traffic}
@@ -7,8 +7,6 @@ use Rattle.dns_service.specs.Answer.{Answer}
 use Rattle.dns_service.specs.declared.event.Event.{Event}
 use Rattle.dns_service.specs.declared.event.EventKind.{EventKind}
 use Rattle.dns_service.specs.declared.event.EventKind.TheVariants.{Datagram, Turn, Offer, Piece, End, Fault, Close, Write, Tick, Release, Reconfigure, Shutdown}
-use Rattle.dns_service.specs.declared.event.Why.{Why}
-use Rattle.dns_service.specs.declared.event.Why.TheVariants.{Ended, Fault as ByFault, Short, Idle, WriteTimeout, Commanded, Shutdown as ByShutdown}
 use Rattle.dns_service.specs.declared.polled.PolledRequest.{PolledRequest}
 use Rattle.dns_client.specs.After.{slate_after, sent_after}
 use Rattle.dns_client.specs.Rule.{rule}
@@ -22,24 +20,14 @@ use Rattle.dns_drivers.specs.Links.{pieces_in, piece_octets, frame_octets, IsFro
 use Rattle.dns_drivers.specs.Rounds.{turned_all}
 use Rattle.dns_drivers.specs.Runs.{Run}
 use Rattle.dns_drivers.specs.Steps.{Chosen, ActedPart}
-use Rattle.dns_drivers.specs.Story.{Broken, Extra}
-use Rattle.dns_drivers.proofs.Appends.{all_of_append, pieces_append, all_but_snoc, sent_append, rounds_append}
+use Rattle.dns_drivers.specs.Story.{Broken}
+use Rattle.dns_drivers.proofs.Appends.{all_of_append, pieces_append, all_but_snoc, sent_append, rounds_append, closed_more}
 use Rattle.dns_drivers.proofs.ByKind.{Does}
 use Rattle.dns_drivers.proofs.Running.{waits, chosen_does, went_more}
 use Rattle.dns_drivers.proofs.Wide.{quiet, frames_append, rounds_wide, wide_frames}
 
 no_cut : (q : List (List ℕ)) (extra : List ℕ) → extra ≡ [] → IsFrontCut q extra
 no_cut q extra e = record { written = 0; is = e }
-
-extra_cut : (why : Option Why) (q : List (List ℕ)) (extra : List ℕ) → Extra why q extra → IsFrontCut q extra
-extra_cut None q extra e = no_cut q extra e
-extra_cut (Some Ended) q extra e = no_cut q extra e
-extra_cut (Some ByFault) q extra e = e
-extra_cut (Some Short) q extra e = no_cut q extra e
-extra_cut (Some Idle) q extra e = no_cut q extra e
-extra_cut (Some WriteTimeout) q extra e = e
-extra_cut (Some Commanded) q extra e = no_cut q extra e
-extra_cut (Some ByShutdown) q extra e = no_cut q extra e
 
 part_cut : (kind : EventKind) (q : List (List ℕ)) (limit : ℕ) (part : List ℕ) → WrittenPart kind q limit part → IsFrontCut q part
 part_cut (Datagram addr o) q limit part e = no_cut q part e
@@ -110,6 +98,7 @@ module _ {W R F : Type 0} (answer : PolledRequest F R → ℕ → Answer) (answe
       let s1 : Slate = slate_after answers s y.events in
       let g : Does s1.queue m.part s1.conf (fault_count event.kind) (rule answers event s1) = chosen_does answer answers client below core event s1 t1 t2 r.stands r.goes_on c in
       let events : List Event = y.events ++ event ∷ [] in
+      let closes : closed_by (sent_after answers s events) ≡ closed_by (rule answers event s1).1 = rw (sent_append answers s y.events (event ∷ []), append-nil (rule answers event s1).1) (closed_more (sent_after answers s y.events) (rule answers event s1).1 (closed_by (rule answers event s1).1) y.closed refl) in
       let fs : frame_octets (sent_after answers s events) ≡ frame_octets (sent_after answers s y.events) ++ frame_octets (rule answers event s1).1 = rw (sent_append answers s y.events (event ∷ []), append-nil (rule answers event s1).1) (frames_append (sent_after answers s y.events) (rule answers event s1).1) in
       record {
         events = events;
@@ -120,7 +109,7 @@ module _ {W R F : Type 0} (answer : PolledRequest F R → ℕ → Answer) (answe
         rounds = rounds_append answers 0 s y.events (event ∷ []) y.rounds (rw (← r.below_is) (c.may answers s1 r.stands), tt);
         came = rw (m.came, y.came, pieces_append y.events (event ∷ [])) (simp (append_assoc, append-nil));
         went = went_more t.went t1.went t2.went (frame_octets (sent_after answers s y.events)) y.extra m.part (frame_octets (rule answers event s1).1) g.extra (frame_octets (sent_after answers s events)) m.went y.went y.cut g.is fs;
-        cut = inr (rw (all_but_snoc y.events event) (extra_cut (closed_by (rule answers event s1).1) s1.queue g.extra g.cut));
+        cut = inr (rw (all_but_snoc y.events event, closes) g.cut);
       }
 
   broken_lost : (s : Slate) (client below : ℕ) (first last : Look) (core : ClientCore W R F) (event : Event) (n n1 n2 : List Event) (k k1 : Known) (t t1 t2 : Traffic) →

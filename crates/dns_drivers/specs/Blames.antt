@@ -1,11 +1,12 @@
 -- What the steps of the loop of a connection say of why it is closed.
-use Rattle.std.specs.Prelude.{◌≡◌, ◌≤◌, ◌<◌, ◌⊎◌, ℕ, List, [], ◌∷◌, ◌++◌, false, Option}
+use Rattle.std.specs.Prelude.{◌≡◌, ◌≤◌, ◌<◌, ◌⊎◌, ℕ, List, [], ◌∷◌, ◌++◌, false, Option, Result, IfOk, OnErr}
+use Rattle.dns_name.specs.declared.error.OutOfMemory.{OutOfMemory}
 use Rattle.dns_admission.specs.declared.look.Look.{Look}
 use Rattle.dns_admission.specs.declared.call.Call.TheVariants.{Look as ToLook}
 use Rattle.dns_admission.specs.declared.call.Reply.TheVariants.{Look as LookReply}
 use Rattle.dns_book.specs.Seats.{Called}
 use Rattle.dns_book.specs.declared.history.Known.{Known}
-use Rattle.dns_outside.specs.Causes.{Rose}
+use Rattle.dns_outside.specs.Causes.{Rose, Tells}
 use Rattle.dns_outside.specs.Traffic.{Traffic}
 use Rattle.dns_service.specs.Answer.{Answer}
 use Rattle.dns_service.specs.declared.event.Event.{Event}
@@ -17,10 +18,11 @@ use Rattle.dns_client.specs.Serving.{Serving}
 use Rattle.dns_client.specs.Slate.{Slate}
 use Rattle.dns_client.specs.Stands.{Stands}
 use Rattle.dns_client.specs.declared.client.ClientCore.{ClientCore}
+use Rattle.dns_notes.specs.Clocks.{ClockReading, TimedOne}
 use Rattle.dns_notes.specs.Own.{is_wide}
-use Rattle.dns_drivers.specs.Links.{front}
+use Rattle.dns_drivers.specs.Links.{front, Unread}
 use Rattle.dns_drivers.specs.Rounds.{May}
-use Rattle.dns_drivers.specs.Steps.{SeesLook, TakesEvent}
+use Rattle.dns_drivers.specs.Steps.{Chosen, SeesLook, TakesEvent}
 use Rattle.dns_drivers.specs.declared.writing.WriteEnd.{WriteEnd}
 use Rattle.dns_drivers.specs.declared.writing.WriteEnd.TheVariants.{Failed, Late}
 
@@ -54,6 +56,16 @@ module _ {W R F : Type 0} (answer : PolledRequest F R → ℕ → Answer) where
     pub is_own : is_wide event.kind ≡ false
     pub may : (answers : Serving) (s : Slate) → Stands answer answers core s → May below event.kind s
     pub blames : Blames event.kind faults faults'
+
+  -- An own event that was chosen for a core and done, with its readings of the clock, or memory ran out at a read. The link and the
+  -- clock are read so.
+  pub record OwnEvent {L C : Type 0} (tells : L → Type 0) (traffic : L → Traffic) (faults_of : L → ℕ) (ticks : C → Type 0) (readings : C → List ClockReading)
+      (client below : ℕ) (core : ClientCore W R F) (result : Result Event OutOfMemory) (l l' : L) (c c' : C) : Type 0 where
+    pub chosen : IfOk result (λ event. Tells (tells l') (tells l) (Chosen answer client below core event (traffic l) (traffic l')))
+    pub clock : IfOk result (λ event. Tells (tells l' × ticks c') (tells l × ticks c) (TimedOne event (traffic l).full_writes (traffic l').full_writes (readings c) (readings c')))
+    pub blame : IfOk result (λ event. ChosenFor below core event (faults_of l) (faults_of l'))
+    pub again : IfOk result (λ event. Tells (tells l') (tells l) (WroteFirst core event.kind (traffic l) (traffic l')))
+    pub no_memory : OnErr result (Tells (tells l') (tells l) (Unread (traffic l) (traffic l')))
 
   -- one that was noted
   pub record NotedWrite (core : ClientCore W R F) (n n' : List Event) (t t' : Traffic) : Type 0 where

@@ -74,7 +74,7 @@ pub record Story (answers : Serving) (s : Slate) (client : ℕ) (first : Look) (
 
 -- Memory ran out. Each noted event may come where it stands, so no Offer is one. The noted pieces are a front of what was read. What was
 -- written are the frames of the noted events, and then perhaps a part of one frame more, which stood first in the queue after these
--- events, or before the last of them.
+-- events, or before the last of them, where that one is of a write that failed or took too long.
 pub record Broken (answers : Serving) (s : Slate) (client : ℕ) (n n' : List Event) (t t' : Traffic) : Type 0 where
   pub events : List Event
   pub unread : List ℕ
@@ -84,7 +84,7 @@ pub record Broken (answers : Serving) (s : Slate) (client : ℕ) (n n' : List Ev
   pub rounds : Rounds answers 0 s events
   pub came : t'.came ≡ t.came ++ (pieces_in events ++ unread)
   pub went : t'.went ≡ t.went ++ (frame_octets (sent_after answers s events) ++ extra)
-  pub cut : IsFrontCut (slate_after answers s events).queue extra ⊎ IsFrontCut (slate_after answers s (all_but_last events)).queue extra
+  pub cut : IsFrontCut (slate_after answers s events).queue extra ⊎ Extra (closed_by (sent_after answers s events)) (slate_after answers s (all_but_last events)).queue extra
 
 -- a seat made looks alone; looks, and then a release
 pub record LooksAlone (k k' : Known) : Type 0 where

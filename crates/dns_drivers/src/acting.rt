@@ -6,18 +6,17 @@ ghost use Rattle.dns_client.specs.Serving.{Serving, serving};
 ghost use Rattle.dns_client.specs.Slate.{Slate};
 ghost use Rattle.dns_client.specs.Stands.{Stands, waiting};
 ghost use Rattle.dns_service.specs.PolledRequest.{request_answer};
-ghost use Rattle.dns_notes.specs.Clocks.{TimedOne, Timed};
-ghost use Rattle.dns_drivers.specs.Blames.{WroteFirst, ChosenFor, NotedWrite, ActedFor};
+ghost use Rattle.dns_notes.specs.Clocks.{Timed};
+ghost use Rattle.dns_drivers.specs.Blames.{NotedWrite, ActedFor, OwnEvent};
 ghost use Rattle.dns_drivers.specs.Rounds.{below_of, next_turn, turned};
-ghost use Rattle.dns_drivers.specs.Steps.{Chosen, TakesEvent, NotedOrNot, Acted, ActedPart};
-ghost use Rattle.dns_drivers.specs.Links.{Unread};
+ghost use Rattle.dns_drivers.specs.Steps.{TakesEvent, NotedOrNot, Acted, ActedPart};
 
 use crate::closing::closed_by;
 use crate::reading::{ROOM, read_event};
 use crate::turn_state::TurnState;
 use crate::writing::write_event;
 use dns_client::ClientCore;
-use dns_notes::{Recorder, now_is};
+use dns_notes::{PATIENCE, PAUSE, Recorder, now_is};
 use dns_outside::{Clock, Link};
 use dns_service::{Event, EventKind, OutOfMemory, Served, Why};
 use std::alloc::Global;
@@ -84,35 +83,35 @@ fn next_request<W: Served>(core: &ClientCore<W>, last: Option<u64>) -> Option<u6
     }
 }
 
-#[tactic(auto, using(crate::proofs::Blamings::first_turn))]
+/// How long a read is waited for: not long where a request is to be polled again.
+fn patience<W: Served>(core: &ClientCore<W>) -> u64 {
+    match core.first_unfinished() {
+        Some(_) => PAUSE,
+        None => PATIENCE,
+    }
+}
+
 /// Polls the next request; where none is left, makes one read. The event says what was done.
 fn turn_or_read<R: Wait, L: Link, C: Clock, W: Served>(
     rt: &R,
     alloc: Global,
-    client: u64,
-    core: &ClientCore<W>,
-    last: Option<u64>,
     link: &mut L,
     clock: &mut C,
     buf: &mut [u8; ROOM],
+    client: u64,
+    core: &ClientCore<W>,
+    last: Option<u64>,
 ) -> Result<Event, OutOfMemory>
     requires value { None ≡ slice_get (waiting core.now.state) 0 }
     requires queue { (answers : Serving) (s : Slate) → Stands (request_answer W.Future.answer W.Stream.answer) answers core.now s → None ≡ slice_get s.queue 0 }
-    ensures chosen { IfOk result (λ event. Tells (L.tells link.new) (L.tells link.old)
-        (Chosen (request_answer W.Future.answer W.Stream.answer) client (below_of last) core.now event (L.traffic link.old) (L.traffic link.new))) }
-    ensures clock { IfOk result (λ event. Tells (L.tells link.new × C.tells clock.new) (L.tells link.old × C.tells clock.old) (TimedOne event (L.traffic link.old).full_writes (L.traffic link.new).full_writes (C.readings clock.old) (C.readings clock.new))) }
-    ensures blame { IfOk result (λ event. ChosenFor (request_answer W.Future.answer W.Stream.answer) (below_of last) core.now event (L.faults link.old) (L.faults link.new)) }
-    ensures again { IfOk result (λ event. Tells (L.tells link.new) (L.tells link.old)
-        (WroteFirst (request_answer W.Future.answer W.Stream.answer) core.now event.kind (L.traffic link.old) (L.traffic link.new))) }
-    ensures no_memory { OnErr result (Tells (L.tells link.new) (L.tells link.old) (Unread (L.traffic link.old) (L.traffic link.new))) }
+    ensures { OwnEvent (request_answer W.Future.answer W.Stream.answer) L.tells L.traffic L.faults C.tells C.readings client (below_of last) core.now result link.old link.new clock.old clock.new }
 {
     match next_request(core, last) {
         Some(request) => Ok(now_is(clock, client, EventKind::Turn { request })),
-        None => read_event(rt, alloc, client, link, clock, buf),
+        None => read_event(rt, alloc, client, link, clock, buf, patience(core)),
     }
 }
 
-#[tactic(auto, using(crate::proofs::Choices::chosen_write, crate::proofs::Blamings::for_write, crate::proofs::Blamings::first_write))]
 /// Writes the first frame that waits; where none does, polls the next request; where none is left, makes one read. The
 /// event says what was done, and is not noted yet.
 fn own_event<R: Wait, L: Link, C: Clock, W: Served>(
@@ -125,17 +124,11 @@ fn own_event<R: Wait, L: Link, C: Clock, W: Served>(
     clock: &mut C,
     buf: &mut [u8; ROOM],
 ) -> Result<Event, OutOfMemory>
-    ensures chosen { IfOk result (λ event. Tells (L.tells link.new) (L.tells link.old)
-        (Chosen (request_answer W.Future.answer W.Stream.answer) client (below_of last) core.now event (L.traffic link.old) (L.traffic link.new))) }
-    ensures clock { IfOk result (λ event. Tells (L.tells link.new × C.tells clock.new) (L.tells link.old × C.tells clock.old) (TimedOne event (L.traffic link.old).full_writes (L.traffic link.new).full_writes (C.readings clock.old) (C.readings clock.new))) }
-    ensures blame { IfOk result (λ event. ChosenFor (request_answer W.Future.answer W.Stream.answer) (below_of last) core.now event (L.faults link.old) (L.faults link.new)) }
-    ensures again { IfOk result (λ event. Tells (L.tells link.new) (L.tells link.old)
-        (WroteFirst (request_answer W.Future.answer W.Stream.answer) core.now event.kind (L.traffic link.old) (L.traffic link.new))) }
-    ensures no_memory { OnErr result (Tells (L.tells link.new) (L.tells link.old) (Unread (L.traffic link.old) (L.traffic link.new))) }
+    ensures { OwnEvent (request_answer W.Future.answer W.Stream.answer) L.tells L.traffic L.faults C.tells C.readings client (below_of last) core.now result link.old link.new clock.old clock.new }
 {
     match core.front_frame() {
         Some(frame) => Ok(write_event(rt, client, link, clock, frame, core.write_timeout())),
-        None => turn_or_read(rt, alloc, client, core, last, link, clock, buf),
+        None => turn_or_read(rt, alloc, link, clock, buf, client, core, last),
     }
 }
 
@@ -180,6 +173,6 @@ pub(crate) fn act<R: Wait, L: Link, C: Clock, J: Recorder, W: Served>(
 {
     match own_event(rt, alloc, client, core, kept.turn, link, clock, buf) {
         Ok(event) => hand_over(alloc, core, service, kept, journal, event),
-        Err(error) => Err(error),
+        Err(_) => Err(OutOfMemory),
     }
 }

@@ -6,7 +6,7 @@ ghost use Rattle.dns_notes.specs.Clocks.{TimedOne};
 ghost use Rattle.dns_drivers.specs.Blames.{Blames, WroteWhole};
 ghost use Rattle.dns_drivers.specs.Links.{MovedBy, IsReadEvent, Unread};
 
-use dns_notes::{PATIENCE, now_is};
+use dns_notes::now_is;
 use dns_outside::{Clock, Link, LinkRead};
 use dns_service::{Event, EventKind, Octets, OutOfMemory};
 use std::alloc::Global;
@@ -16,13 +16,14 @@ use std::sync::Wait;
 pub(crate) const ROOM: usize = 4096;
 
 #[tactic(auto, using(crate::proofs::Movings::moved_piece, crate::proofs::Movings::moved_again, crate::proofs::Movings::moved_end, crate::proofs::Movings::moved_none, crate::proofs::Movings::unread, crate::proofs::Blamings::blames_read, crate::proofs::Blamings::blames_tick, crate::proofs::Blamings::blames_end, crate::proofs::Blamings::blames_fault, crate::proofs::Blamings::whole_got, crate::proofs::Blamings::whole_again, crate::proofs::Blamings::whole_end, crate::proofs::Blamings::whole_fault))]
-/// Makes one read, and says of which kind its event is: of a Piece, an End or a Fault, or of a Tick after a wait, where nothing
-/// came yet.
+/// Makes one read, and says of which kind its event is: of a Piece, an End or a Fault, or of a Tick after a wait of so many
+/// milliseconds at most, where nothing came yet.
 fn read_kind<R: Wait, L: Link>(
     rt: &R,
     alloc: Global,
     link: &mut L,
     buf: &mut [u8; ROOM],
+    patience: u64,
 ) -> Result<EventKind, OutOfMemory>
     ensures moved { IfOk result (λ kind. Tells (L.tells link.new) (L.tells link.old) (MovedBy kind [] 0 (L.traffic link.old) (L.traffic link.new))) }
     ensures kind { IfOk result (λ kind. IsReadEvent kind) }
@@ -37,7 +38,7 @@ fn read_kind<R: Wait, L: Link>(
             Ok(EventKind::Piece(octets))
         }
         LinkRead::Again => {
-            link.wait(rt, PATIENCE);
+            link.wait(rt, patience);
             Ok(EventKind::Tick)
         }
         LinkRead::End => Ok(EventKind::End),
@@ -53,6 +54,7 @@ pub(crate) fn read_event<R: Wait, L: Link, C: Clock>(
     link: &mut L,
     clock: &mut C,
     buf: &mut [u8; ROOM],
+    patience: u64,
 ) -> Result<Event, OutOfMemory>
     ensures moved { IfOk result (λ event. Tells (L.tells link.new) (L.tells link.old) (MovedBy event.kind [] 0 (L.traffic link.old) (L.traffic link.new))) }
     ensures clock { IfOk result (λ event. Tells (L.tells link.new × C.tells clock.new) (L.tells link.old × C.tells clock.old) (TimedOne event (L.traffic link.old).full_writes (L.traffic link.new).full_writes (C.readings clock.old) (C.readings clock.new))) }
@@ -61,7 +63,7 @@ pub(crate) fn read_event<R: Wait, L: Link, C: Clock>(
     ensures again { IfOk result (λ event. Tells (L.tells link.new) (L.tells link.old) (WroteWhole event.kind [] (L.traffic link.old) (L.traffic link.new))) }
     ensures no_memory { OnErr result (Tells (L.tells link.new) (L.tells link.old) (Unread (L.traffic link.old) (L.traffic link.new))) }
 {
-    match read_kind(rt, alloc, link, buf) {
+    match read_kind(rt, alloc, link, buf, patience) {
         Ok(kind) => Ok(now_is(clock, client, kind)),
         Err(error) => Err(error),
     }

@@ -59,7 +59,7 @@ fn turn_once<R: Wait, L: Link, C: Clock, J: Recorder, W: Served>(
             rt, alloc, client, core, service, kept, link, clock, journal, buf,
         ),
         Ok(Some(why)) => Ok(Some(why)),
-        Err(error) => Err(error),
+        Err(_) => Err(OutOfMemory),
     }
 }
 
@@ -105,7 +105,7 @@ pub(crate) fn serve_core<R: Wait, L: Link, C: Clock, J: Recorder, W: Served>(
         ) {
             Ok(None) => {}
             Ok(Some(why)) => return Ok(why),
-            Err(error) => return Err(error),
+            Err(_) => return Err(OutOfMemory),
         }
     }
     unreachable!()
