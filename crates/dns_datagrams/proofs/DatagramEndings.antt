@@ -1,6 +1,6 @@
 -- How the parts of the loop of datagrams follow each other, and how it ends.
-use Rattle.std.proofs.Common.{◌≡◌, ℕ, ◌+◌, min, List, [], ◌∷◌, length, take, drop, Bool, true, false, refl, sym, ◌∙◌, arith}
-use Rattle.std.specs.Prelude.{Option, Some, nat_eq, if◌then◌else◌}
+use Rattle.std.proofs.Common.{◌≡◌, ℕ, ◌+◌, ◌≤◌, min, List, [], ◌∷◌, length, take, Bool, true, false, refl, sym, ◌∙◌, arith}
+use Rattle.std.specs.Prelude.{Option, Some, None, nat_eq}
 use Rattle.std.specs.List.{list_any}
 use Rattle.std.specs.VecDeque.{deque_len}
 use Rattle.std.proofs.lemmas.List.{nil_from_length, take_min}
@@ -13,16 +13,15 @@ use Rattle.dns_service.specs.declared.event.Event.{Event}
 use Rattle.dns_service.specs.declared.polled.PolledRequest.{PolledRequest}
 use Rattle.dns_client.specs.Serving.{Serving}
 use Rattle.dns_notes.specs.Clocks.{ClockReading}
-use Rattle.dns_datagrams.specs.DatagramsSent.{settings_of}
+use Rattle.dns_datagrams.specs.DatagramsSent.{settings_of, count_if}
 use Rattle.dns_datagrams.specs.DatagramsServed.{World, world, IsFull}
-use Rattle.dns_datagrams.specs.DatagramSteps.{kept_at, numbers_of, left_to}
-use Rattle.dns_datagrams.specs.DatagramLoop.{Ran, Goes, Breaks, Looks, Turns, Fails, Begins, BeginFails, Rounded, Idles, Finished}
-use Rattle.dns_datagrams.specs.declared.receipts.Lap.{Lap}
-use Rattle.dns_datagrams.specs.declared.receipts.Lap.TheVariants.{Whole, Over, Failed}
-use Rattle.dns_datagrams.specs.declared.running.KeptExchange.{KeptExchange}
+use Rattle.dns_datagrams.specs.DatagramSteps.{kept_at, numbers_of}
+use Rattle.dns_datagrams.specs.DatagramLoop.{Among, Ran, Ordered, Goes, Breaks, Looks, Turns, Fails, Begins, BeginFails, Rounded, Idles, Stopped, Finished}
+use Rattle.dns_datagrams.specs.declared.serving.DgramEnd.{DgramEnd}
+use Rattle.dns_datagrams.specs.declared.serving.DgramEnd.TheVariants.{Shutdown, Counted, Fault, OutOfMemory}
 use Rattle.dns_datagrams.specs.declared.running.Running.{Running}
 use Rattle.dns_datagrams.proofs.DatagramOrderings.{ordered_rest}
-use Rattle.dns_datagrams.proofs.DatagramParts.{input_same, input_again, delivered_same}
+use Rattle.dns_datagrams.proofs.DatagramParts.{input_same, delivered_same}
 use Rattle.dns_datagrams.proofs.DatagramTurns.{fails_same}
 
 take_least : (d : List ℕ) (n : ℕ) → n ≡ min (length d) 1024 → take n d ≡ take 1024 d
@@ -35,9 +34,8 @@ front_of d n size front z m e = e ∙ take_least d n (rw z at m)
 never : (a b : Bool) → a ≡ false → a ≡ true → b ≡ true
 never a b e h = cc
 
--- the place of the next one is the place behind, unless what was there is kept no more
-pub next_left : {W R F : Type 0} (old new : List (KeptExchange W R F)) (at next : ℕ) (done : Bool) → next ≡ (if done then at else at + 1) → drop (if done then at else at + 1) (numbers_of new) ≡ drop (at + 1) (numbers_of old) → left_to (Some next) new ≡ drop (at + 1) (numbers_of old)
-next_left old new at next done h o = rw h o
+nobody : (c : ℕ) (ns : List ℕ) → Among c [] → Among c ns
+nobody c ns h = never (list_any (nat_eq c) []) (list_any (nat_eq c) ns) refl h
 
 module _ {W R F : Type 0} (answer : PolledRequest F R → ℕ → Answer) (answers : Serving) where
   pub goes_then : {w w1 w2 : World} {s s1 s2 : Running W R F} {a b c : Bool} {xs ys zs : List ℕ} → Goes answer answers w s a xs w1 s1 b ys → Goes answer answers w1 s1 b ys w2 s2 c zs → Goes answer answers w s a xs w2 s2 c zs
@@ -49,32 +47,34 @@ module _ {W R F : Type 0} (answer : PolledRequest F R → ℕ → Answer) (answe
   pub goes_same : {w : World} {s : Running W R F} {a : Bool} {xs : List ℕ} → Goes answer answers w s a xs w s a xs
   goes_same = record { over = λ h. h; goes = λ first start spare r. r }
 
+  -- No more was done, but that receives gave none: of the looks before them that stood ready one each is spare no more. What stands
+  -- ready and who is owed may be said otherwise.
+  ran_as : {first : Look} {start now : World} {s : Running W R F} {ready ready' : Bool} {owed owed' : List ℕ} {spare spare' : ℕ} (m : Mail)
+      → m.received ≡ now.mail.received → m.sent ≡ now.mail.sent → m.full_sends ≡ now.mail.full_sends → spare + count_if ready + now.mail.empty_receives ≤ spare' + count_if ready' + m.empty_receives
+      → ((looks : List Look) (events : List Event) → Ordered first looks events s.heard ready → Ordered first looks events s.heard ready') → ((c : ℕ) → Among c owed → Among c owed')
+      → Ran answer answers first start now s ready owed spare → Ran answer answers first start (record now { mail = m }) s ready' owed' spare'
+  ran_as {first} {start} {now} {s} {ready} {ready'} {owed} {owed'} {spare} {spare'} m received sent full more order among r = record {
+    looks = r.looks;
+    events = r.events;
+    noted = r.noted;
+    seat = r.seat;
+    plain = r.plain;
+    serves = r.serves;
+    order = order r.looks r.events r.order;
+    input = input_same answers (settings_of first) r.events (first ∷ r.looks) (spare + count_if ready) (spare' + count_if ready') s.next start.mail now.mail m received more r.input;
+    waiting = λ c h. among c (r.waiting c h);
+    clock = rw full r.clock;
+    output = delivered_same answers (settings_of first) r.events start.mail now.mail m start.failed_sends now.failed_sends sent full r.output;
+  }
+
   -- where nobody waits, any may be owed
   pub goes_owing : {w : World} {s : Running W R F} (ns : List ℕ) → Goes answer answers w s false [] w s false ns
-  goes_owing ns = record {
-    over = λ h. h;
-    goes = λ first start spare r. record {
-      looks = r.looks;
-      events = r.events;
-      noted = r.noted;
-      seat = r.seat;
-      plain = r.plain;
-      order = r.order;
-      input = r.input;
-      clock = r.clock;
-      output = r.output;
-      serves = r.serves;
-      waiting = λ c h. never (list_any (nat_eq c) []) (list_any (nat_eq c) ns) refl (r.waiting c h);
-    };
-  }
+  goes_owing {w} {s} ns = record { over = λ h. h; goes = λ first start spare r. ran_as {spare = spare} {spare' = spare} w.mail refl refl refl (omega arith) (λ looks events o. o) (λ c. nobody c ns) r }
 
   -- ---- the polls of some exchanges
 
-  pub goes_done : {w : World} {s : Running W R F} {ns : List ℕ} → ns ≡ [] → Goes answer answers w s false ns w s false []
-  goes_done e = rw e goes_same
-
-  pub goes_left : {w w1 : World} {s s1 : Running W R F} {a : Bool} {ns : List ℕ} (o p : Option ℕ) → o ≡ p → Goes answer answers w s a ns w1 s1 false (left_to o s1.exchanges.items) → Goes answer answers w s a ns w1 s1 false (left_to p s1.exchanges.items)
-  goes_left o p e g = rw e at g
+  pub goes_left : {w w1 : World} {s s1 : Running W R F} {a : Bool} {ns ms : List ℕ} → ms ≡ [] → Goes answer answers w s a ns w1 s1 false ms → Goes answer answers w s a ns w1 s1 false []
+  goes_left e g = rw e at g
 
   pub goes_turn : {w w1 : World} {s s1 : Running W R F} {ns rest rest' : List ℕ} {n : ℕ} → ns ≡ n ∷ rest → rest' ≡ rest → Turns answer answers n false w s w1 s1 → Goes answer answers w s false ns w1 s1 false rest'
   goes_turn {rest = rest} e f t = rw (e, f) (t.goes rest)
@@ -85,44 +85,30 @@ module _ {W R F : Type 0} (answer : PolledRequest F R → ℕ → Answer) (answe
   pub breaks_now : {n : List Event} {m : Mail} {f : ℕ} {c : List ClockReading} {k : Known} {s : Running W R F} {a : Bool} {ns : List ℕ} → Breaks answer answers (world n m f c k) s a ns (world n m f c k)
   breaks_now {n} {m} {f} {c} {k} {s} {a} {ns} = (fails_same answer answers s (record { noted = refl; received = refl; sent = refl })).breaks ns
 
-  pub goes_listed : {w w1 : World} {s s1 : Running W R F} {ns ms : List ℕ} → ns ≡ ms → Goes answer answers w s false ns w1 s1 false [] → Goes answer answers w s false ms w1 s1 false []
-  goes_listed e a = rw e at a
-
-  pub breaks_listed : {w w1 : World} {s : Running W R F} {ns ms : List ℕ} → ns ≡ ms → Breaks answer answers w s false ns w1 → Breaks answer answers w s false ms w1
-  breaks_listed e a = rw e at a
-
   -- ---- waits and receives
 
-  -- the socket waited
-  pub goes_waited : {n : List Event} {m m1 : Mail} {f f1 : ℕ} {c : List ClockReading} {k : Known} {s s1 : Running W R F} {w : World} {a b : Bool} {xs ys : List ℕ} → f1 ≡ f → m1 ≡ m
-      → Goes answer answers (world n m1 f1 c k) s a xs w s1 b ys → Goes answer answers (world n m f c k) s a xs w s1 b ys
-  goes_waited e g p = rw (← e, ← g) p
+  -- the socket waited, by which the clock's latest reading is old
+  pub goes_waited : {n : List Event} {m m1 : Mail} {f f1 : ℕ} {c c1 : List ClockReading} {k : Known} {s s1 : Running W R F} {w : World} {a b : Bool} {xs ys : List ℕ} → f1 ≡ f → m1 ≡ m → c1 ≡ c
+      → Goes answer answers (world n m1 f1 c1 k) s a xs w s1 b ys → Goes answer answers (world n m f c k) s a xs w s1 b ys
+  goes_waited e g h p = rw (← e, ← g, ← h) p
 
-  pub breaks_waited : {n : List Event} {m m1 : Mail} {f f1 : ℕ} {c : List ClockReading} {k : Known} {s : Running W R F} {w : World} {a : Bool} {xs : List ℕ} → f1 ≡ f → m1 ≡ m
-      → Breaks answer answers (world n m1 f1 c k) s a xs w → Breaks answer answers (world n m f c k) s a xs w
-  breaks_waited e g p = rw (← e, ← g) p
+  pub breaks_waited : {n : List Event} {m m1 : Mail} {f f1 : ℕ} {c c1 : List ClockReading} {k : Known} {s : Running W R F} {w : World} {a : Bool} {xs : List ℕ} → f1 ≡ f → m1 ≡ m → c1 ≡ c
+      → Breaks answer answers (world n m1 f1 c1 k) s a xs w → Breaks answer answers (world n m f c k) s a xs w
+  breaks_waited e g h p = rw (← e, ← g, ← h) p
 
   pub received_failed : {n : List Event} {m m1 : Mail} {f f1 : ℕ} {c : List ClockReading} {k : Known} {s : Running W R F} → f1 ≡ f → m1 ≡ m → Goes answer answers (world n m f c k) s true [] (world n m1 f1 c k) s true []
   received_failed e g = rw (e, g) goes_same
 
-  pub received_again : {n : List Event} {m m1 m2 : Mail} {f f1 : ℕ} {c : List ClockReading} {k : Known} {s : Running W R F} → f1 ≡ f → m1 ≡ record m { empty_receives = m.empty_receives + 1 } → m2 ≡ m1
-      → Goes answer answers (world n m f c k) s true [] (world n m2 f1 c k) s false (numbers_of s.exchanges.items)
-  received_again {n} {m} {m1} {m2} {f} {f1} {c} {k} {s} e g h = let i = h ∙ g in rw e (record {
-    over = λ x. x;
-    goes = λ first start spare r. record {
-      looks = r.looks;
-      events = r.events;
-      noted = r.noted;
-      seat = r.seat;
-      plain = r.plain;
-      serves = r.serves;
-      order = ordered_rest first r.looks r.events s.heard true r.order;
-      input = input_again answers (settings_of first) r.events (first ∷ r.looks) (spare + 1) (spare + 0) s.next start.mail m m2 (rw i refl) (rw i refl) (omega arith) r.input;
-      waiting = λ d w. never (list_any (nat_eq d) []) (list_any (nat_eq d) (numbers_of s.exchanges.items)) refl (r.waiting d w);
-      clock = rw i r.clock;
-      output = delivered_same answers (settings_of first) r.events start.mail m m2 start.failed_sends f (rw i refl) (rw i refl) r.output;
-    };
-  })
+  pub received_again : {n : List Event} {m m1 m2 : Mail} {f f1 : ℕ} {c c1 : List ClockReading} {k : Known} {s : Running W R F} → f1 ≡ f → m1 ≡ record m { empty_receives = m.empty_receives + 1 } → m2 ≡ m1 → c1 ≡ c
+      → Goes answer answers (world n m f c k) s true [] (world n m2 f1 c1 k) s false (numbers_of s.exchanges.items)
+  received_again {n} {m} {m1} {m2} {f} {f1} {c} {c1} {k} {s} e g h o =
+      let i = h ∙ g in
+      let none : m2.empty_receives ≡ m.empty_receives + 1 = rw i refl in rw (e, o) (record {
+        over = λ x. x;
+        goes = λ first start spare r.
+            let more : spare + 1 + m.empty_receives ≤ spare + 0 + m2.empty_receives = omega arith in
+            ran_as m2 (rw i refl) (rw i refl) (rw i refl) more (λ looks events. ordered_rest first looks events s.heard true) (λ d. nobody d (numbers_of s.exchanges.items)) r;
+      })
 
   pub got_goes : {n0 : List Event} {m m1 : Mail} {f f1 : ℕ} {c : List ClockReading} {k : Known} {s s1 : Running W R F} {w : World} {n : ℕ} {buf : List ℕ} {from : SocketAddr} → f1 ≡ f → length buf ≡ 1024 → Received n from buf m m1
       → Begins answer answers (take n buf) from (world n0 m1 f1 c k) s w s1 → Goes answer answers (world n0 m f c k) s true [] w s1 false (numbers_of s1.exchanges.items)
@@ -137,13 +123,12 @@ module _ {W R F : Type 0} (answer : PolledRequest F R → ℕ → Answer) (answe
   pub look_goes : {w w1 w2 : World} {s s1 s2 : Running W R F} {b : Bool} {ns : List ℕ} → Looks answer answers w s w1 s1 → Goes answer answers w1 s1 true [] w2 s2 b ns → Goes answer answers w s false [] w2 s2 b ns
   look_goes a b = goes_then (a.goes []) b
 
-  pub look_rounds : (lap : Lap) {w w1 : World} {s s1 : Running W R F} (w2 : World) (s2 : Running W R F) → Looks answer answers w s w1 s1 → Rounded answer answers true lap w1 s1 w2 s2 → Rounded answer answers false lap w s w2 s2
-  look_rounds Whole w2 s2 a b = look_goes a b
-  look_rounds Over w2 s2 a b = (look_goes a b.0, b.1)
-  look_rounds Failed w2 s2 a b = look_goes a b
-
-  pub look_breaks : {w w1 w2 : World} {s s1 : Running W R F} → Looks answer answers w s w1 s1 → Breaks answer answers w1 s1 true [] w2 → Breaks answer answers w s false [] w2
-  look_breaks a b = breaks_then (a.goes []) b
+  pub look_rounds : (end : Option DgramEnd) {w w1 : World} {s s1 : Running W R F} (w2 : World) (s2 : Running W R F) (count : ℕ) → Looks answer answers w s w1 s1 → Rounded answer answers true 0 end w1 s1 w2 s2 → Rounded answer answers false count end w s w2 s2
+  look_rounds None w2 s2 count a b = look_goes a b
+  look_rounds (Some Shutdown) w2 s2 count a b = (look_goes a b.0, b.1)
+  look_rounds (Some Counted) w2 s2 count a b = absurd (cc b.0)
+  look_rounds (Some Fault) w2 s2 count a b = look_goes a b
+  look_rounds (Some OutOfMemory) w2 s2 count a b = breaks_then (a.goes []) b
 
   pub look_fails : {w w1 : World} {s : Running W R F} → Fails answer answers false w s w1 → Breaks answer answers w s false [] w1
   look_fails a = a.breaks []
@@ -152,34 +137,14 @@ module _ {W R F : Type 0} (answer : PolledRequest F R → ℕ → Answer) (answe
 
   -- the look isn't needed any more
   pub ran_rest : {first : Look} {start now : World} {s : Running W R F} {owed : List ℕ} {spare : ℕ} → Ran answer answers first start now s true owed spare → Ran answer answers first start now s false owed (1 + spare)
-  ran_rest {first} {start} {now} {s} {owed} {spare} r = record {
-    looks = r.looks;
-    events = r.events;
-    noted = r.noted;
-    seat = r.seat;
-    plain = r.plain;
-    serves = r.serves;
-    waiting = r.waiting;
-    clock = r.clock;
-    output = r.output;
-    order = ordered_rest first r.looks r.events s.heard true r.order;
-    input = input_same answers (settings_of first) r.events (first ∷ r.looks) (spare + 1) (1 + spare + 0) s.next start.mail now.mail now.mail refl refl (omega arith) r.input;
-  }
+  ran_rest {first} {start} {now} {s} {owed} {spare} r =
+      let more : spare + 1 + now.mail.empty_receives ≤ 1 + spare + 0 + now.mail.empty_receives = omega arith in
+      ran_as now.mail refl refl refl more (λ looks events. ordered_rest first looks events s.heard true) (λ c h. h) r
 
   ran_spare : {first : Look} {start now : World} {s : Running W R F} {owed : List ℕ} {spare : ℕ} → Ran answer answers first start now s false owed spare → Ran answer answers first start now s false owed (1 + spare)
-  ran_spare {first} {start} {now} {s} {owed} {spare} r = record {
-    looks = r.looks;
-    events = r.events;
-    noted = r.noted;
-    seat = r.seat;
-    plain = r.plain;
-    serves = r.serves;
-    waiting = r.waiting;
-    clock = r.clock;
-    output = r.output;
-    order = r.order;
-    input = input_same answers (settings_of first) r.events (first ∷ r.looks) (spare + 0) (1 + spare + 0) s.next start.mail now.mail now.mail refl refl (omega arith) r.input;
-  }
+  ran_spare {first} {start} {now} {s} {owed} {spare} r =
+      let more : spare + 0 + now.mail.empty_receives ≤ 1 + spare + 0 + now.mail.empty_receives = omega arith in
+      ran_as now.mail refl refl refl more (λ looks events o. o) (λ c h. h) r
 
   pub idles_goes : {w w1 : World} {s s1 : Running W R F} → Goes answer answers w s false [] w1 s1 false [] → Idles answer answers w s w1 s1
   idles_goes a = record { over = a.over; goes = λ first start spare r. ran_spare (a.goes first start spare r) }
@@ -187,11 +152,15 @@ module _ {W R F : Type 0} (answer : PolledRequest F R → ℕ → Answer) (answe
   pub idles_then : {w w1 w2 : World} {s s1 s2 : Running W R F} → Goes answer answers w s false [] w1 s1 false [] → Goes answer answers w1 s1 false [] w2 s2 true [] → Idles answer answers w s w2 s2
   idles_then a b = record { over = λ h. b.over (a.over h); goes = λ first start spare r. ran_rest (b.goes first start spare (a.goes first start spare r)) }
 
-  pub idles_over : {w w1 w2 : World} {s s1 s2 : Running W R F} → Goes answer answers w s false [] w1 s1 false [] → Goes answer answers w1 s1 false [] w2 s2 true [] × (s2.heard.closed ≡ true) → Idles answer answers w s w2 s2 × (s2.heard.closed ≡ true)
-  idles_over a b = (idles_then a b.0, b.1)
+  stopped_by : (end : DgramEnd) {w w1 : World} {s s1 : Running W R F} (w2 : World) (s2 : Running W R F) (count : ℕ) → Goes answer answers w s false [] w1 s1 false [] → Rounded answer answers false count (Some end) w1 s1 w2 s2 → Stopped answer answers end count w s w2 s2
+  stopped_by Shutdown w2 s2 count a b = (idles_then a b.0, b.1)
+  stopped_by Counted w2 s2 count a b = (idles_goes (goes_then a b.1), b.2)
+  stopped_by Fault w2 s2 count a b = idles_then a b
+  stopped_by OutOfMemory w2 s2 count a b = breaks_then a b
 
-  pub full_goes : {w w1 : World} {s s1 : Running W R F} {count : ℕ} → IsFull count s1.next → Goes answer answers w s false [] w1 s1 false [] → Idles answer answers w s w1 s1 × IsFull count s1.next
-  full_goes h a = (idles_goes a, h)
+  -- the rounds end with one of them
+  pub stopped_at : (r : Option DgramEnd) (end : DgramEnd) {w w1 : World} {s s1 : Running W R F} (w2 : World) (s2 : Running W R F) (count : ℕ) → r ≡ Some end → Goes answer answers w s false [] w1 s1 false [] → Rounded answer answers false count r w1 s1 w2 s2 → Stopped answer answers end count w s w2 s2
+  stopped_at r end w2 s2 count e a b = stopped_by end w2 s2 count a (rw e at b)
 
   -- each is polled once more; the socket may have waited before that
   pub finish_more : {w w1 w2 : World} {s s1 s2 : Running W R F} → Goes answer answers w s false [] w1 s1 false [] → Goes answer answers w1 s1 false (numbers_of s1.exchanges.items) w2 s2 false [] → Goes answer answers w s false [] w2 s2 false []

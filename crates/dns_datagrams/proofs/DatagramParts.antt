@@ -106,28 +106,16 @@ module _ (answers : Serving) (settings : Settings) where
     looked = let b = i.looked in omega (arith, length-append looks (l ∷ []), e);
   }
 
-  -- the socket's receives are as they were, and more looks may be spare
-  pub input_same : (q : List Event) (looks : List Look) (more more' number : ℕ) (m m1 m2 : Mail) → m2.received ≡ m1.received → m2.empty_receives ≡ m1.empty_receives → more ≤ more'
+  -- no datagram came; each look that is spare no more is one whose receive gave none
+  pub input_same : (q : List Event) (looks : List Look) (more more' number : ℕ) (m m1 m2 : Mail) → m2.received ≡ m1.received → more + m1.empty_receives ≤ more' + m2.empty_receives
       → Input answers settings q looks more number m m1 → Input answers settings q looks more' number m m2
-  input_same q looks more more' number m m1 m2 r e l i = record {
+  input_same q looks more more' number m m1 m2 r l i = record {
     came = i.came;
     received = r ∙ i.received;
     recorded = i.recorded;
     numbered = i.numbered;
     polled = i.polled;
-    looked = rw e (let b = i.looked in omega arith);
-  }
-
-  -- a receive gave none
-  pub input_again : (q : List Event) (looks : List Look) (more more' number : ℕ) (m m1 m2 : Mail) → m2.received ≡ m1.received → m2.empty_receives ≡ m1.empty_receives + 1 → more ≡ more' + 1
-      → Input answers settings q looks more number m m1 → Input answers settings q looks more' number m m2
-  input_again q looks more more' number m m1 m2 r e l i = record {
-    came = i.came;
-    received = r ∙ i.received;
-    recorded = i.recorded;
-    numbered = i.numbered;
-    polled = i.polled;
-    looked = rw e (let b = i.looked in omega arith);
+    looked = let b = i.looked in omega arith;
   }
 
   -- a Turn

@@ -1,6 +1,6 @@
 -- What holds of a stretch of the loop of datagrams whatever socket, clock and recorder tell.
 use Rattle.std.proofs.Common.{◌≡◌, ◌≤◌, ℕ, [], ◌∷◌, ◌++◌, Bool, true, false, refl, ap, sym, ◌∙◌, arith, inl, inr}
-use Rattle.std.specs.Prelude.{◌||◌}
+use Rattle.std.specs.Prelude.{◌||◌, Result, Ok, Err, OnOk, OnErr}
 use Rattle.std.specs.List.{list_any}
 use Rattle.std.proofs.lemmas.List.Folds.{list_any-append}
 use Rattle.dns_admission.specs.declared.look.Look.{Look}
@@ -90,6 +90,11 @@ module _ {W R F : Type 0} where
         later = omega arith;
         rose = inl (r, refl);
       }
+
+  pub passes_news : {E : Type 0} (s s' : Running W R F) (f : ℕ) (look : Look) (r : Result (Unit {0}) E) → OnOk r (s'.heard ≡ hears s.heard look) → OnErr r (s'.heard ≡ s.heard) → Called s.seat.known ToLook (Shown look) s'.seat.known
+      → s'.seat.book ≡ s.seat.book → s'.send_failed ≡ s.send_failed → Passes s s' f f
+  passes_news s s' f look (Ok u) h g c q r = passes_look s s' f look c q h r
+  passes_news s s' f look (Err e) h g c q r = passes_unheard s s' f look c q g r
 
   pub passes_then : (s s1 s2 : Running W R F) (f f1 f2 : ℕ) → Passes s s1 f f1 → Passes s1 s2 f1 f2 → Passes s s2 f f2
   passes_then s s1 s2 f f1 f2 a b = record {

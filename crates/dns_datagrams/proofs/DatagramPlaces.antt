@@ -1,8 +1,9 @@
 -- Where exchanges are kept, and what is kept under a number once one of them was polled, or one more is kept.
-use Rattle.std.proofs.Common.{◌≡◌, ◌≢◌, ℕ, zero, suc, ◌+◌, ◌<◌, ◌≤◌, List, [], ◌∷◌, ◌++◌, length, drop, add-one, Bool, true, false, refl, ap, sym, ◌∙◌, append-nil, arith}
+use Rattle.std.proofs.Common.{◌≡◌, ◌≢◌, ℕ, zero, suc, ◌+◌, ◌<◌, ◌≤◌, List, [], ◌∷◌, ◌++◌, length, drop, add-one, Bool, true, false, refl, ap, sym, ◌∙◌, append-nil, arith, length-drop}
 use Rattle.std.specs.Prelude.{Option, Some, None, nat_eq, if◌then◌else◌, slice_index_or, slice_set}
 use Rattle.std.specs.List.{remove}
 use Rattle.std.proofs.lemmas.Bool.Decides.{nat_tests}
+use Rattle.std.proofs.lemmas.List.{nil_from_length}
 use Rattle.dns_name.specs.declared.address.SocketAddr.{SocketAddr}
 use Rattle.dns_outside.specs.declared.sock.Letter.{Letter}
 use Rattle.dns_service.specs.Answer.{Answer}
@@ -12,6 +13,13 @@ use Rattle.dns_client.specs.declared.kept.KeptRequest.{KeptRequest}
 use Rattle.dns_datagrams.specs.DatagramSteps.{Turned, TurnedOne, TurnedItem, IsNumberAt, numbers_of, kept_at, kept_under}
 use Rattle.dns_datagrams.specs.declared.running.KeptExchange.{KeptExchange}
 use Rattle.dns_datagrams.proofs.DatagramKeeping.{turned_beside}
+
+-- what is left behind a place, and what was passed, is all
+pub one_less : (xs : List ℕ) (i k n : ℕ) → length (drop i xs) + k ≡ n → k < n → length (drop (i + 1) xs) + (k + 1) ≡ n
+one_less xs i k n h l = omega (arith, h, l, length-drop i xs, length-drop (i + 1) xs)
+
+pub none_behind : (xs : List ℕ) (k n : ℕ) → length xs + k ≡ n → n ≤ k → xs ≡ []
+none_behind xs k n h l = nil_from_length xs (omega (arith, h, l))
 
 -- a list, split at a place
 record Split {X : Type 0} (xs : List X) (i : ℕ) (x : X) : Type 0 where
@@ -64,11 +72,13 @@ module _ {W R F : Type 0} where
   numbers_beyond : (xs : List (KeptExchange W R F)) (x : KeptExchange W R F) (ys : List (KeptExchange W R F)) → drop (length xs + 1) (numbers_of (xs ++ x ∷ ys)) ≡ numbers_of ys
   numbers_beyond xs x ys = rw add-one (numbers_past xs x ys)
 
-  pub none_left : (xs : List (KeptExchange W R F)) (i : ℕ) → length xs ≤ i → drop i (numbers_of xs) ≡ []
-  none_left [] zero h = refl
-  none_left [] (suc i) h = refl
-  none_left (x ∷ xs) zero h = absurd (omega (arith, h))
-  none_left (x ∷ xs) (suc i) h = none_left xs i (omega (arith, h))
+  pub numbers_length : (xs : List (KeptExchange W R F)) → length (numbers_of xs) ≡ length xs
+  numbers_length [] = refl
+  numbers_length (x ∷ xs) = ap suc (numbers_length xs)
+
+  -- where something is left, the place is one of the list's
+  pub place_left : (xs : List (KeptExchange W R F)) (i : ℕ) → 1 ≤ length (drop i (numbers_of xs)) → i < length xs
+  place_left xs i h = omega (arith, h, length-drop i (numbers_of xs), numbers_length xs)
 
   one_by : (xs before behind : List (KeptExchange W R F)) (i : ℕ) (x : KeptExchange W R F) → xs ≡ before ++ x ∷ behind → length before ≡ i → drop i (numbers_of xs) ≡ x.number ∷ drop (i + 1) (numbers_of xs)
   one_by xs before behind i x h p = rw (h, ← p) (numbers_behind before (x ∷ behind) ∙ ap (λ z. x.number ∷ z) (sym (numbers_beyond before x behind)))

@@ -90,7 +90,7 @@ module _ {W R F : Type 0} (answer : PolledRequest F R → ℕ → Answer) (answe
         seat = r.seat;
         plain = rw two (kinds_append q1 fs plain quiet);
         order = ordered_own first r.looks r.events s.heard e x.fault own lost r.order;
-        input = rw two (input_same answers settings (q1 ++ fs) (first ∷ r.looks) (spare + 0) (spare + 0) next start.mail m1 m' x.posts.received x.posts.empty (omega arith)
+        input = rw two (input_same answers settings (q1 ++ fs) (first ∷ r.looks) (spare + 0) (spare + 0) next start.mail m1 m' x.posts.received (let e = x.posts.empty in omega arith)
             (input_quiet answers settings q1 fs (first ∷ r.looks) (spare + 0) next start.mail m1 plain quiet i));
         waiting = λ d h. wait d (sym (waits_quiet answers settings d q1 fs plain quiet) ∙ (ap (waits answers settings d) (sym two) ∙ h));
         clock = clocked_then r.events (e ∷ fs) start.readings c c' start.mail.full_sends m.full_sends m'.full_sends r.clock

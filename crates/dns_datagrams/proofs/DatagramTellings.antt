@@ -19,6 +19,14 @@ pub if_ok_by : {T E : Type 0} (r : Result T E) (P Q : T → Type 0) → IfOk r P
 if_ok_by (Ok v) P Q h f = f v h
 if_ok_by (Err e) P Q h f = tt
 
+pub if_ok_one : {X Z T E : Type 0} (r : Result T E) → OnOk r X → (X → Z) → IfOk r (λ v. Z)
+if_ok_one (Ok v) x f = f x
+if_ok_one (Err e) x f = tt
+
+pub if_ok_two : {X Y Z T E : Type 0} (r : Result T E) → OnOk r X → OnOk r Y → (X → Y → Z) → IfOk r (λ v. Z)
+if_ok_two (Ok v) x y f = f x y
+if_ok_two (Err e) x y f = tt
+
 pub on_err_by : {X Y T E : Type 0} (r : Result T E) → OnErr r X → (X → Y) → OnErr r Y
 on_err_by (Ok v) x f = tt
 on_err_by (Err e) x f = f x
@@ -43,8 +51,8 @@ tells_two x y f = record { told = λ t. let v = y.told t in let u = x.told v.0 i
 pub tells_d : {d c j d1 p r : Type 0} → Tells d1 d p → (p → r) → Tells (d1 × c × j) (d × c × j) r
 tells_d x f = record { told = λ t. let u = x.told t.0 in ((u.0, t.1, t.2), f u.1) }
 
-pub tells_dd : {d c j d1 d2 p q r : Type 0} → Tells d1 d p → Tells d2 d1 q → (p → q → r) → Tells (d2 × c × j) (d × c × j) r
-tells_dd x y f = record { told = λ t. let v = y.told t.0 in let u = x.told v.0 in ((u.0, t.1, t.2), f u.1 v.1) }
+pub tells_dd_c : {d c j d1 d2 c1 p q s r : Type 0} → Tells d1 d p → Tells d2 d1 q → Tells c1 c s → (p → q → s → r) → Tells (d2 × c1 × j) (d × c × j) r
+tells_dd_c x y z f = record { told = λ t. let v = y.told t.0 in let u = x.told v.0 in let w = z.told t.1 in ((u.0, w.0, t.2), f u.1 v.1 w.1) }
 
 pub tells_cj : {d c j c1 j1 p r : Type 0} → Tells (c1 × j1) (c × j) p → (p → r) → Tells (d × c1 × j1) (d × c × j) r
 tells_cj x f = record { told = λ t. let u = x.told (t.1, t.2) in ((t.0, u.0.0, u.0.1), f u.1) }
@@ -60,6 +68,9 @@ tells_cj_dcj x y f = record { told = λ t. let v = y.told t in let u = x.told (v
 
 pub tells_d_dcj : {d c j d1 d2 c1 j1 p q r : Type 0} → Tells d1 d p → Tells (d2 × c1 × j1) (d1 × c × j) q → (p → q → r) → Tells (d2 × c1 × j1) (d × c × j) r
 tells_d_dcj x y f = record { told = λ t. let v = y.told t in let u = x.told v.0.0 in ((u.0, v.0.1, v.0.2), f u.1 v.1) }
+
+pub tells_d_c_dcj : {d c j d1 d2 c1 c2 j1 p q s r : Type 0} → Tells d1 d p → Tells c1 c q → Tells (d2 × c2 × j1) (d1 × c1 × j) s → (p → q → s → r) → Tells (d2 × c2 × j1) (d × c × j) r
+tells_d_c_dcj x y z f = record { told = λ t. let w = z.told t in let u = x.told w.0.0 in let v = y.told w.0.1 in ((u.0, v.0, w.0.2), f u.1 v.1 w.1) }
 
 pub tells_dc_c_j : {d c j d1 c1 c2 j1 p q s r : Type 0} → Tells (d1 × c1) (d × c) p → Tells c2 c1 q → Tells j1 j s → (p → q → s → r) → Tells (d1 × c2 × j1) (d × c × j) r
 tells_dc_c_j x y z f = record { told = λ t. let v = y.told t.1 in let u = x.told (t.0, v.0) in let w = z.told t.2 in ((u.0.0, u.0.1, w.0), f u.1 v.1 w.1) }

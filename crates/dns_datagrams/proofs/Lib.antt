@@ -20,3 +20,4 @@ pub mod DatagramTurns
 pub mod DatagramNews
 pub mod DatagramEndings
 pub mod DatagramStarts
+pub mod DatagramWent

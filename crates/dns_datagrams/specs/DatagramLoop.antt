@@ -1,5 +1,5 @@
 -- What the loop of datagrams did from its start to now, and what each part of it does, wherever it began.
-use Rattle.std.specs.Prelude.{◌≡◌, ◌≤◌, ℕ, ◌+◌, nat_eq, List, [], ◌∷◌, ◌++◌, take, Bool, true, false, ◌||◌, Result, Ok, Err}
+use Rattle.std.specs.Prelude.{◌≡◌, ◌≤◌, ℕ, ◌+◌, nat_eq, List, [], ◌∷◌, ◌++◌, take, Bool, true, false, ◌||◌, Option, Some, None, Result, Ok, Err}
 use Rattle.std.specs.List.{list_any}
 use Rattle.dns_name.specs.declared.address.SocketAddr.{SocketAddr}
 use Rattle.dns_admission.specs.declared.look.Look.{Look}
@@ -19,13 +19,11 @@ use Rattle.dns_datagrams.specs.DatagramEvents.{AllDatagramKinds}
 use Rattle.dns_datagrams.specs.DatagramOrder.{Record, looked, acted, IsInOrder}
 use Rattle.dns_datagrams.specs.DatagramsPolled.{waits}
 use Rattle.dns_datagrams.specs.DatagramsSent.{settings_of, count_if}
-use Rattle.dns_datagrams.specs.DatagramsServed.{World, LooksOnly, Clocked, Input, Delivered, CutOff, IsFull}
+use Rattle.dns_datagrams.specs.DatagramsServed.{World, ReceivesBy, LooksOnly, Clocked, Input, Delivered, CutOff, IsFull}
 use Rattle.dns_datagrams.specs.DatagramSteps.{Keeps, SendsRose, Stamped, kept_at, numbers_of}
 use Rattle.dns_datagrams.specs.declared.running.Running.{Running}
 use Rattle.dns_datagrams.specs.declared.serving.DgramEnd.{DgramEnd}
 use Rattle.dns_datagrams.specs.declared.serving.DgramEnd.TheVariants.{Shutdown, Counted, Fault, OutOfMemory}
-use Rattle.dns_datagrams.specs.declared.receipts.Lap.{Lap}
-use Rattle.dns_datagrams.specs.declared.receipts.Lap.TheVariants.{Whole, Over, Failed}
 use Rattle.dns_datagrams.specs.declared.receipts.Receipt.{Receipt}
 use Rattle.dns_datagrams.specs.declared.receipts.Receipt.TheVariants.{Made, Failed as Failed_receive}
 
@@ -67,11 +65,9 @@ ReceivedSo (Ok Failed_receive) r r' = Rose r r'
 ReceivedSo (Ok Made) r r' = r' ≡ r
 ReceivedSo (Err e) r r' = r' ≡ r
 
-abbrev pub RoundedSo : Result Lap No_memory → ℕ → ℕ → Type 0
-RoundedSo (Ok Failed) r r' = Rose r r'
-RoundedSo (Ok Whole) r r' = r' ≡ r
-RoundedSo (Ok Over) r r' = r' ≡ r
-RoundedSo (Err e) r r' = r' ≡ r
+abbrev pub RoundedSo : Option DgramEnd → ℕ → ℕ → Type 0
+RoundedSo None r r' = r' ≡ r
+RoundedSo (Some end) r r' = ReceivesBy end r r'
 
 -- what is so of the world before an event was noted, which is the last thing that was done
 pub record SinceNoted (e : Event) (is : World → Type 0) (w : World) : Type 0 where
@@ -134,10 +130,12 @@ module _ {W R F : Type 0} (answer : PolledRequest F R → ℕ → Answer) (answe
   Receives Made w s w' s' = Goes w s true [] w' s' false (numbers_of s'.exchanges.items)
   Receives Failed_receive w s w' s' = Goes w s true [] w' s' true []
 
-  abbrev pub Rounded : Bool → Lap → World → Running W R F → World → Running W R F → Type 0
-  Rounded ready Whole w s w' s' = Goes w s ready [] w' s' false []
-  Rounded ready Over w s w' s' = Goes w s ready [] w' s' true [] × (s'.heard.closed ≡ true)
-  Rounded ready Failed w s w' s' = Goes w s ready [] w' s' true []
+  abbrev pub Rounded : Bool → ℕ → Option DgramEnd → World → Running W R F → World → Running W R F → Type 0
+  Rounded ready count None w s w' s' = Goes w s ready [] w' s' false []
+  Rounded ready count (Some Shutdown) w s w' s' = Goes w s ready [] w' s' true [] × (s'.heard.closed ≡ true)
+  Rounded ready count (Some Counted) w s w' s' = (ready ≡ false) × Goes w s false [] w' s' false [] × IsFull count s'.next
+  Rounded ready count (Some Fault) w s w' s' = Goes w s ready [] w' s' true []
+  Rounded ready count (Some OutOfMemory) w s w' s' = Breaks w s ready [] w'
 
   -- the rounds and what comes behind them, with one look at most that came to nothing
   pub record Idles (w : World) (s : Running W R F) (w' : World) (s' : Running W R F) : Type 0 where

@@ -136,11 +136,6 @@ numbers_of (x ∷ xs) = x.number ∷ numbers_of xs
 abbrev pub IsNumberAt : {W R F : Type 0} → ℕ → ℕ → List (KeptExchange W R F) → Type 0
 IsNumberAt n i xs = drop i (numbers_of xs) ≡ n ∷ drop (i + 1) (numbers_of xs)
 
--- the numbers from a place on, and none where no place is left
-abbrev pub left_to : {W R F : Type 0} → Option ℕ → List (KeptExchange W R F) → List ℕ
-left_to None xs = []
-left_to (Some i) xs = drop i (numbers_of xs)
-
 abbrev pub kept_at : {W R F : Type 0} → ℕ → List (KeptExchange W R F) → List (KeptExchange W R F)
 kept_at c [] = []
 kept_at c (x ∷ xs) = if nat_eq c x.number then x ∷ kept_at c xs else kept_at c xs

@@ -8,3 +8,4 @@ pub mod DatagramsSent
 pub mod DatagramsServed
 pub mod DatagramSteps
 pub mod DatagramLoop
+pub mod DatagramOffice

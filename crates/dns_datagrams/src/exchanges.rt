@@ -1,6 +1,6 @@
 //! Exchanges begin, and are polled.
 
-ghost use Rattle.std.specs.Prelude.{◌≡◌, ◌≢◌, ℕ, ◌+◌, ◌<◌, ◌^◌, [], ◌++◌, drop, IfOk, OnOk, IsSome, MatchOption, if◌then◌else◌};
+ghost use Rattle.std.specs.Prelude.{◌≡◌, ◌≢◌, ℕ, ◌+◌, ◌<◌, ◌^◌, ◌++◌, drop, IfOk, OnOk, if◌then◌else◌};
 ghost use Rattle.std.specs.List.{remove};
 ghost use Rattle.std.specs.VecDeque.{deque_len};
 ghost use Rattle.dns_client.specs.Serving.{Serving, serving};
@@ -9,8 +9,7 @@ ghost use Rattle.dns_service.specs.declared.event.EventKind.TheVariants.{Datagra
 ghost use Rattle.dns_datagrams.specs.DatagramSteps.{Turned, TurnedOne, TurnedItem, Begun, IsNumberAt, stamped_event, numbers_of, kept_at, kept_under, letter_to};
 
 use crate::notes::Stamp;
-use crate::running::KeptExchange;
-use dns_admission::Look;
+use crate::running::{KeptExchange, Running};
 use dns_client::{KeptRequest, begin_exchange};
 use dns_name::SocketAddr;
 use dns_outside::Letter;
@@ -69,19 +68,19 @@ fn enter<W: Served>(
 pub(crate) fn begin<W: Served>(
     alloc: Global,
     service: &W,
-    exchanges: &mut VecDeque<KeptExchange<W>>,
+    state: &mut Running<W>,
     stamp: Stamp,
     addr: SocketAddr,
     octets: Octets,
-    heard: &Look,
 ) -> Result<Option<Letter>, OutOfMemory>
     requires { W.can_call service.now }
-    ensures here { IfOk result (λ letter. Begun (request_answer W.Future.answer W.Stream.answer) (serving (W.answer service.now) (W.hint service.now)) heard.now (stamped_event stamp (Datagram addr octets)) addr octets (kept_at stamp.client exchanges.old.items) letter (kept_at stamp.client exchanges.new.items)) }
-    ensures others { OnOk result ((c : ℕ) → c ≢ stamp.client → kept_at c exchanges.new.items ≡ kept_at c exchanges.old.items) }
+    ensures here { IfOk result (λ letter. Begun (request_answer W.Future.answer W.Stream.answer) (serving (W.answer service.now) (W.hint service.now)) state.old.heard (stamped_event stamp (Datagram addr octets)) addr octets (kept_at stamp.client state.old.exchanges.items) letter (kept_at stamp.client state.new.exchanges.items)) }
+    ensures others { OnOk result ((c : ℕ) → c ≢ stamp.client → kept_at c state.new.exchanges.items ≡ kept_at c state.old.exchanges.items) }
+    ensures rest { state.new ≡ record state.old { exchanges = state.new.exchanges } }
 {
-    let config = &heard.dgram;
+    let config = &state.heard.dgram;
     match begin_exchange(alloc, service, addr, stamp.at, stamp.secs, octets, config) {
-        Ok((request, sent)) => enter(exchanges, stamp.client, request, addr, sent),
+        Ok((request, sent)) => enter(&mut state.exchanges, stamp.client, request, addr, sent),
         Err(error) => Err(error),
     }
 }
@@ -113,26 +112,35 @@ fn turn_item<W: Served>(
     Ok((letter, done))
 }
 
+/// The exchange at a place is kept no more. Mostly it is the first.
+fn end<W: Served>(exchanges: &mut VecDeque<KeptExchange<W>>, at: usize)
+    requires { at < deque_len exchanges.old }
+    ensures { exchanges.new.items ≡ remove exchanges.old.items at }
+{
+    let _ended = if at == 0 {
+        exchanges.pop_front()
+    } else {
+        exchanges.remove(at)
+    };
+}
+
 /// An exchange whose request is done is kept no more.
 fn leave<W: Served>(exchanges: &mut VecDeque<KeptExchange<W>>, at: usize, done: bool)
     requires { at < deque_len exchanges.old }
     ensures { exchanges.new.items ≡ (if done then remove exchanges.old.items at else exchanges.old.items) }
 {
     if done {
-        let _done = exchanges.remove(at);
+        end(exchanges, at);
     }
 }
 
-/// The number of the exchange at a place, where there is one.
-pub(crate) fn number_at<W: Served>(exchanges: &VecDeque<KeptExchange<W>>, at: usize) -> Option<u64>
-    ensures number { MatchOption result (drop at (numbers_of exchanges.now.items) ≡ []) (λ n. IsNumberAt n at exchanges.now.items) }
-    ensures there { IsSome result → at < deque_len exchanges.now }
-    ensures room { IsSome result → at < 2 ^ 63 }
+/// The number of the exchange at a place.
+pub(crate) fn number_at<W: Served>(exchanges: &VecDeque<KeptExchange<W>>, at: usize) -> u64
+    requires { at < deque_len exchanges.now }
+    ensures number { IsNumberAt result at exchanges.now.items }
+    ensures room { at < 2 ^ 63 }
 {
-    if at >= exchanges.len() {
-        return None;
-    }
-    Some(exchanges[at].number)
+    exchanges[at].number
 }
 
 /// A Turn of the exchange at a place: what is sent for it, and whether its request is done, and it is kept no more.

@@ -11,5 +11,5 @@ mod running;
 mod sends;
 mod serving;
 
-pub use dns_notes::{Kept, PATIENCE, Recorder, Silent};
-pub use serving::{DgramEnd, serve_datagrams, serve_datagrams_and_say};
+pub use dns_notes::{Kept, PATIENCE, Recorder, Silent, pause};
+pub use serving::{DgramEnd, serve_datagrams, serve_datagrams_with_sends};

@@ -5,12 +5,11 @@ ghost use Rattle.dns_outside.specs.Causes.{Tells};
 ghost use Rattle.dns_client.specs.Serving.{serving};
 ghost use Rattle.dns_service.specs.PolledRequest.{request_answer};
 ghost use Rattle.dns_notes.specs.Notes.{NotedWide};
-ghost use Rattle.dns_datagrams.specs.DatagramsServed.{world};
 ghost use Rattle.dns_datagrams.specs.DatagramSteps.{NewsNoted, hears};
-ghost use Rattle.dns_datagrams.specs.DatagramLoop.{Looks, Fails, Passes};
+ghost use Rattle.dns_datagrams.specs.DatagramLoop.{Looks, Fails};
+ghost use Rattle.dns_datagrams.specs.DatagramOffice.{OnlyPolls, ToldSo, office_seen, office_told};
 
 use crate::office::Office;
-use crate::running::Running;
 use dns_admission::Look;
 use dns_notes::{Recorder, note_shutdown, note_version};
 use dns_outside::{AsyncDgramSock, Clock};
@@ -52,31 +51,19 @@ pub(crate) fn hear_news<C: Clock, J: Recorder>(
     Ok(())
 }
 
-impl<R: Wait, W: Served> Office<'_, R, W> {
-    #[tactic(auto, using(crate::proofs::DatagramPasses::passes_look, crate::proofs::DatagramPasses::passes_unheard))]
+impl<R: Wait, W: Served, D: AsyncDgramSock, C: Clock, J: Recorder> Office<'_, R, W, D, C, J> {
+    #[tactic(auto, using(crate::proofs::DatagramPasses::passes_news))]
     /// One look, and its news.
-    pub(crate) fn look_once<D: AsyncDgramSock, C: Clock, J: Recorder>(
-        &self,
-        _sock: &D,
-        clock: &mut C,
-        journal: &mut J,
-        state: &mut Running<W>,
-    ) -> Result<(), OutOfMemory>
-        requires { state.old.seat.book ≡ self.now.book.now }
-        ensures next { OnOk result (state.new.next ≡ state.old.next) }
-        ensures exchanges { OnOk result (state.new.exchanges ≡ state.old.exchanges) }
-        ensures passes { Passes state.old state.new (D.failed_sends _sock.now) (D.failed_sends _sock.now) }
-        ensures told { OnOk result (Tells (C.tells clock.new × J.tells journal.new) (C.tells clock.old × J.tells journal.old)
-            (Looks (request_answer W.Future.answer W.Stream.answer) (serving (W.answer self.now.service.now) (W.hint self.now.service.now))
-            (world (J.noted journal.old) (D.mail _sock.now) (D.failed_sends _sock.now) (C.readings clock.old) state.old.seat.known) state.old
-            (world (J.noted journal.new) (D.mail _sock.now) (D.failed_sends _sock.now) (C.readings clock.new) state.new.seat.known) state.new)) }
-        ensures no_memory { OnErr result (Tells (C.tells clock.new × J.tells journal.new) (C.tells clock.old × J.tells journal.old)
-            (Fails (request_answer W.Future.answer W.Stream.answer) (serving (W.answer self.now.service.now) (W.hint self.now.service.now)) false
-            (world (J.noted journal.old) (D.mail _sock.now) (D.failed_sends _sock.now) (C.readings clock.old) state.old.seat.known) state.old
-            (world (J.noted journal.new) (D.mail _sock.now) (D.failed_sends _sock.now) (C.readings clock.new) state.new.seat.known))) }
+    pub(crate) fn look_once(&mut self) -> Result<(), OutOfMemory>
+        requires { self.old.state.now.seat.book ≡ self.old.book.now }
+        ensures polls { OnlyPolls D.failed_receives D.failed_sends self.old self.new }
+        ensures exchanges { self.new.state.now.exchanges ≡ self.old.state.now.exchanges }
+        ensures told { ToldSo (office_told D.tells C.tells J.tells) (office_seen D.mail D.failed_sends C.readings J.noted)
+            (λ u. Looks (request_answer W.Future.answer W.Stream.answer) (serving (W.answer self.old.service.now) (W.hint self.old.service.now)))
+            (Fails (request_answer W.Future.answer W.Stream.answer) (serving (W.answer self.old.service.now) (W.hint self.old.service.now)) false) result self.old self.new }
     {
-        let look = self.book.look(self.rt, &mut state.seat);
-        hear_news(self.alloc, clock, journal, &mut state.heard, &look)?;
-        Ok(())
+        let look = self.book.look(self.rt, &mut self.state.seat);
+        let heard = &mut self.state.heard;
+        hear_news(self.alloc, self.clock, self.journal, heard, &look)
     }
 }

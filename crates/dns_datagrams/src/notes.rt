@@ -3,6 +3,7 @@
 ghost use Rattle.std.specs.Prelude.{◌≡◌, IfOk, IsSome, OnErr, Some};
 ghost use Rattle.dns_outside.specs.Causes.{Tells};
 ghost use Rattle.dns_service.specs.declared.event.EventKind.TheVariants.{Datagram, Turn};
+ghost use Rattle.dns_notes.specs.Notes.{NoteMoves};
 ghost use Rattle.dns_datagrams.specs.DatagramSteps.{Stamped, stamp_of, stamped_event, noted_octets};
 
 use dns_name::SocketAddr;
@@ -49,7 +50,27 @@ fn stamp_of(event: &Event) -> Stamp
     }
 }
 
-/// Notes a Turn of now.
+/// Notes an event of a moment.
+pub(crate) fn note_kind<J: Recorder>(
+    alloc: Global,
+    journal: &mut J,
+    at: u64,
+    secs: u64,
+    client: u64,
+    kind: EventKind,
+) -> Result<(), OutOfMemory>
+    ensures { Tells (J.tells journal.new) (J.tells journal.old) (NoteMoves result (record { at = at; secs = secs; client = client; kind = kind }) (J.noted journal.old) (J.noted journal.new)) }
+{
+    let event = Event {
+        at,
+        secs,
+        client,
+        kind,
+    };
+    journal.note(alloc, &event)
+}
+
+/// Notes a Turn of the latest moment, which is that of the datagram before it where no wait came between.
 pub(crate) fn note_turn<C: Clock, J: Recorder>(
     alloc: Global,
     clock: &mut C,
@@ -62,9 +83,18 @@ pub(crate) fn note_turn<C: Clock, J: Recorder>(
     ensures no_memory { OnErr result (Tells (C.tells clock.new × J.tells journal.new) (C.tells clock.old × J.tells journal.old)
         (J.noted journal.new ≡ J.noted journal.old)) }
 {
-    let kind = EventKind::Turn { request: 0 };
-    let event = note_now(alloc, clock, journal, client, kind)?;
-    Ok(stamp_of(&event))
+    let (at, secs) = clock.latest();
+    match note_kind(
+        alloc,
+        journal,
+        at,
+        secs,
+        client,
+        EventKind::Turn { request: 0 },
+    ) {
+        Ok(()) => Ok(Stamp { client, at, secs }),
+        Err(error) => Err(error),
+    }
 }
 
 /// The octets of a datagram that was noted, which are not copied.

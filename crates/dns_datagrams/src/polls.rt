@@ -1,131 +1,73 @@
 //! Polls of exchanges.
 
-ghost use Rattle.std.specs.Prelude.{◌≡◌, ◌≤◌, ◌<◌, ◌+◌, ◌^◌, [], ◌∷◌, drop, true, false, IfOk, OnOk, OnErr, if◌then◌else◌};
+ghost use Rattle.std.specs.Prelude.{◌≡◌, ◌<◌, ◌+◌, ◌^◌, [], ◌∷◌, drop, true, false, IfOk, if◌then◌else◌};
 ghost use Rattle.std.specs.VecDeque.{deque_len};
-ghost use Rattle.dns_outside.specs.Causes.{Tells};
 ghost use Rattle.dns_client.specs.Serving.{serving};
 ghost use Rattle.dns_service.specs.PolledRequest.{request_answer};
 ghost use Rattle.dns_service.specs.declared.event.EventKind.TheVariants.{Turn};
-ghost use Rattle.dns_datagrams.specs.DatagramsServed.{world};
-ghost use Rattle.dns_datagrams.specs.DatagramSteps.{IsNumberAt, stamped_event, numbers_of, left_to};
-ghost use Rattle.dns_datagrams.specs.DatagramLoop.{Turns, Fails, Goes, Breaks, Finished, Passes, SinceNoted};
+ghost use Rattle.dns_datagrams.specs.DatagramSteps.{IsNumberAt, stamped_event, numbers_of};
+ghost use Rattle.dns_datagrams.specs.DatagramLoop.{Turns, Fails, Goes, Breaks, Finished, SinceNoted};
+ghost use Rattle.dns_datagrams.specs.DatagramOffice.{OnlyPolls, ToldSo, office_seen, office_told};
 
 use crate::exchanges::{number_at, turn_at};
 use crate::notes::{Stamp, note_turn};
 use crate::office::Office;
-use crate::running::Running;
-use crate::sends::deliver;
-use dns_notes::Recorder;
+use dns_notes::{PAUSE, Recorder, pause};
 use dns_outside::{AsyncDgramSock, Clock};
 use dns_service::{OutOfMemory, Served};
 use std::sync::Wait;
 
-/// How many milliseconds one wait lasts at most where an exchange is to be polled again.
-pub(crate) const PAUSE: u64 = 1;
-
-impl<R: Wait, W: Served> Office<'_, R, W> {
+impl<R: Wait, W: Served, D: AsyncDgramSock, C: Clock, J: Recorder> Office<'_, R, W, D, C, J> {
     #[tactic(auto, using(crate::proofs::DatagramPasses::passes_kept))]
     /// A Turn of the exchange at a place, after it was noted, and what is sent for it. Whether its request is done is given.
-    fn turn_noted<D: AsyncDgramSock, C: Clock, J: Recorder>(
-        &self,
-        sock: &mut D,
-        clock: &mut C,
-        journal: &mut J,
-        state: &mut Running<W>,
-        at: usize,
-        stamp: Stamp,
-    ) -> Result<bool, OutOfMemory>
-        requires there { at < deque_len state.old.exchanges }
-        requires number { IsNumberAt stamp.client at state.old.exchanges.items }
-        ensures owed { IfOk result (λ done. drop (if done then at else at + 1) (numbers_of state.new.exchanges.items) ≡ drop (at + 1) (numbers_of state.old.exchanges.items)) }
-        ensures next { OnOk result (state.new.next ≡ state.old.next) }
-        ensures passes { Passes state.old state.new (D.failed_sends sock.old) (D.failed_sends sock.new) }
-        ensures receives { D.failed_receives sock.new ≡ D.failed_receives sock.old }
-        ensures told { OnOk result (Tells (D.tells sock.new × C.tells clock.new × J.tells journal.new) (D.tells sock.old × C.tells clock.old × J.tells journal.old)
-            (SinceNoted (stamped_event stamp (Turn 0)) (λ w. Turns (request_answer W.Future.answer W.Stream.answer) (serving (W.answer self.now.service.now) (W.hint self.now.service.now)) stamp.client true w state.old
-            (world (J.noted journal.new) (D.mail sock.new) (D.failed_sends sock.new) (C.readings clock.new) state.new.seat.known) state.new)
-            (world (J.noted journal.old) (D.mail sock.old) (D.failed_sends sock.old) (C.readings clock.old) state.old.seat.known))) }
-        ensures no_memory { OnErr result (Tells (D.tells sock.new × C.tells clock.new × J.tells journal.new) (D.tells sock.old × C.tells clock.old × J.tells journal.old)
-            (SinceNoted (stamped_event stamp (Turn 0)) (λ w. Fails (request_answer W.Future.answer W.Stream.answer) (serving (W.answer self.now.service.now) (W.hint self.now.service.now)) true w state.old
-            (world (J.noted journal.new) (D.mail sock.new) (D.failed_sends sock.new) (C.readings clock.new) state.new.seat.known))
-            (world (J.noted journal.old) (D.mail sock.old) (D.failed_sends sock.old) (C.readings clock.old) state.old.seat.known))) }
+    fn turn_noted(&mut self, at: usize, stamp: Stamp) -> Result<bool, OutOfMemory>
+        requires there { at < deque_len self.old.state.now.exchanges }
+        requires number { IsNumberAt stamp.client at self.old.state.now.exchanges.items }
+        ensures owed { IfOk result (λ done. drop (if done then at else at + 1) (numbers_of self.new.state.now.exchanges.items) ≡ drop (at + 1) (numbers_of self.old.state.now.exchanges.items)) }
+        ensures polls { OnlyPolls D.failed_receives D.failed_sends self.old self.new }
+        ensures told { ToldSo (office_told D.tells C.tells J.tells) (office_seen D.mail D.failed_sends C.readings J.noted)
+            (λ done w s w' s'. SinceNoted (stamped_event stamp (Turn 0)) (λ v. Turns (request_answer W.Future.answer W.Stream.answer) (serving (W.answer self.old.service.now) (W.hint self.old.service.now)) stamp.client true v s w' s') w)
+            (λ w s w'. SinceNoted (stamped_event stamp (Turn 0)) (λ v. Fails (request_answer W.Future.answer W.Stream.answer) (serving (W.answer self.old.service.now) (W.hint self.old.service.now)) true v s w') w) result self.old self.new }
     {
-        let limit = state.heard.dgram.write_timeout();
-        match turn_at(self.alloc, &mut state.exchanges, at) {
-            Ok((letter, done)) => {
-                let failed = &mut state.send_failed;
-                match deliver(
-                    self.rt, self.alloc, sock, clock, journal, failed, stamp, letter, limit,
-                ) {
-                    Ok(()) => Ok(done),
-                    Err(error) => Err(error),
-                }
-            }
+        match turn_at(self.alloc, &mut self.state.exchanges, at) {
+            Ok((letter, done)) => match self.send_for(stamp, letter) {
+                Ok(()) => Ok(done),
+                Err(error) => Err(error),
+            },
             Err(error) => Err(error),
         }
     }
 
     #[tactic(auto, using(crate::proofs::DatagramPasses::passes_same))]
     /// Polls the exchange at a place, which has this number, after its look. Whether its request is done is given.
-    fn turn<D: AsyncDgramSock, C: Clock, J: Recorder>(
-        &self,
-        sock: &mut D,
-        clock: &mut C,
-        journal: &mut J,
-        state: &mut Running<W>,
-        at: usize,
-        number: u64,
-    ) -> Result<bool, OutOfMemory>
-        requires there { at < deque_len state.old.exchanges }
-        requires number { IsNumberAt number at state.old.exchanges.items }
-        ensures owed { IfOk result (λ done. drop (if done then at else at + 1) (numbers_of state.new.exchanges.items) ≡ drop (at + 1) (numbers_of state.old.exchanges.items)) }
-        ensures next { OnOk result (state.new.next ≡ state.old.next) }
-        ensures passes { Passes state.old state.new (D.failed_sends sock.old) (D.failed_sends sock.new) }
-        ensures receives { D.failed_receives sock.new ≡ D.failed_receives sock.old }
-        ensures told { OnOk result (Tells (D.tells sock.new × C.tells clock.new × J.tells journal.new) (D.tells sock.old × C.tells clock.old × J.tells journal.old)
-            (Turns (request_answer W.Future.answer W.Stream.answer) (serving (W.answer self.now.service.now) (W.hint self.now.service.now)) number true
-            (world (J.noted journal.old) (D.mail sock.old) (D.failed_sends sock.old) (C.readings clock.old) state.old.seat.known) state.old
-            (world (J.noted journal.new) (D.mail sock.new) (D.failed_sends sock.new) (C.readings clock.new) state.new.seat.known) state.new)) }
-        ensures no_memory { OnErr result (Tells (D.tells sock.new × C.tells clock.new × J.tells journal.new) (D.tells sock.old × C.tells clock.old × J.tells journal.old)
-            (Fails (request_answer W.Future.answer W.Stream.answer) (serving (W.answer self.now.service.now) (W.hint self.now.service.now)) true
-            (world (J.noted journal.old) (D.mail sock.old) (D.failed_sends sock.old) (C.readings clock.old) state.old.seat.known) state.old
-            (world (J.noted journal.new) (D.mail sock.new) (D.failed_sends sock.new) (C.readings clock.new) state.new.seat.known))) }
+    fn turn(&mut self, at: usize, number: u64) -> Result<bool, OutOfMemory>
+        requires there { at < deque_len self.old.state.now.exchanges }
+        requires number { IsNumberAt number at self.old.state.now.exchanges.items }
+        ensures owed { IfOk result (λ done. drop (if done then at else at + 1) (numbers_of self.new.state.now.exchanges.items) ≡ drop (at + 1) (numbers_of self.old.state.now.exchanges.items)) }
+        ensures polls { OnlyPolls D.failed_receives D.failed_sends self.old self.new }
+        ensures told { ToldSo (office_told D.tells C.tells J.tells) (office_seen D.mail D.failed_sends C.readings J.noted)
+            (λ done. Turns (request_answer W.Future.answer W.Stream.answer) (serving (W.answer self.old.service.now) (W.hint self.old.service.now)) number true)
+            (Fails (request_answer W.Future.answer W.Stream.answer) (serving (W.answer self.old.service.now) (W.hint self.old.service.now)) true) result self.old self.new }
     {
-        match note_turn(self.alloc, clock, journal, number) {
-            Ok(stamp) => self.turn_noted(sock, clock, journal, state, at, stamp),
+        match note_turn(self.alloc, self.clock, self.journal, number) {
+            Ok(stamp) => self.turn_noted(at, stamp),
             Err(error) => Err(error),
         }
     }
 
     /// The same with its look.
-    fn poll_one<D: AsyncDgramSock, C: Clock, J: Recorder>(
-        &self,
-        sock: &mut D,
-        clock: &mut C,
-        journal: &mut J,
-        state: &mut Running<W>,
-        at: usize,
-        number: u64,
-    ) -> Result<bool, OutOfMemory>
-        requires book { state.old.seat.book ≡ self.now.book.now }
-        requires can_call { W.can_call self.now.service.now }
-        requires there { at < deque_len state.old.exchanges }
-        requires number { IsNumberAt number at state.old.exchanges.items }
-        ensures owed { IfOk result (λ done. drop (if done then at else at + 1) (numbers_of state.new.exchanges.items) ≡ drop (at + 1) (numbers_of state.old.exchanges.items)) }
-        ensures next { OnOk result (state.new.next ≡ state.old.next) }
-        ensures passes { Passes state.old state.new (D.failed_sends sock.old) (D.failed_sends sock.new) }
-        ensures receives { D.failed_receives sock.new ≡ D.failed_receives sock.old }
-        ensures told { OnOk result (Tells (D.tells sock.new × C.tells clock.new × J.tells journal.new) (D.tells sock.old × C.tells clock.old × J.tells journal.old)
-            (Turns (request_answer W.Future.answer W.Stream.answer) (serving (W.answer self.now.service.now) (W.hint self.now.service.now)) number false
-            (world (J.noted journal.old) (D.mail sock.old) (D.failed_sends sock.old) (C.readings clock.old) state.old.seat.known) state.old
-            (world (J.noted journal.new) (D.mail sock.new) (D.failed_sends sock.new) (C.readings clock.new) state.new.seat.known) state.new)) }
-        ensures no_memory { OnErr result (Tells (D.tells sock.new × C.tells clock.new × J.tells journal.new) (D.tells sock.old × C.tells clock.old × J.tells journal.old)
-            (Fails (request_answer W.Future.answer W.Stream.answer) (serving (W.answer self.now.service.now) (W.hint self.now.service.now)) false
-            (world (J.noted journal.old) (D.mail sock.old) (D.failed_sends sock.old) (C.readings clock.old) state.old.seat.known) state.old
-            (world (J.noted journal.new) (D.mail sock.new) (D.failed_sends sock.new) (C.readings clock.new) state.new.seat.known))) }
+    fn poll_one(&mut self, at: usize, number: u64) -> Result<bool, OutOfMemory>
+        requires book { self.old.state.now.seat.book ≡ self.old.book.now }
+        requires there { at < deque_len self.old.state.now.exchanges }
+        requires number { IsNumberAt number at self.old.state.now.exchanges.items }
+        ensures owed { IfOk result (λ done. drop (if done then at else at + 1) (numbers_of self.new.state.now.exchanges.items) ≡ drop (at + 1) (numbers_of self.old.state.now.exchanges.items)) }
+        ensures polls { OnlyPolls D.failed_receives D.failed_sends self.old self.new }
+        ensures told { ToldSo (office_told D.tells C.tells J.tells) (office_seen D.mail D.failed_sends C.readings J.noted)
+            (λ done. Turns (request_answer W.Future.answer W.Stream.answer) (serving (W.answer self.old.service.now) (W.hint self.old.service.now)) number false)
+            (Fails (request_answer W.Future.answer W.Stream.answer) (serving (W.answer self.old.service.now) (W.hint self.old.service.now)) false) result self.old self.new }
     {
-        match self.look_once(sock, clock, journal, state) {
-            Ok(()) => self.turn(sock, clock, journal, state, at, number),
+        match self.look_once() {
+            Ok(()) => self.turn(at, number),
             Err(error) => Err(error),
         }
     }
@@ -139,100 +81,60 @@ fn behind(at: usize, done: bool) -> usize
     if done { at } else { at + 1 }
 }
 
-impl<R: Wait, W: Served> Office<'_, R, W> {
-    /// Polls the exchange at a place, where there is one. The place of the next one is given.
-    fn poll_at<D: AsyncDgramSock, C: Clock, J: Recorder>(
-        &self,
-        sock: &mut D,
-        clock: &mut C,
-        journal: &mut J,
-        state: &mut Running<W>,
-        at: usize,
-    ) -> Result<Option<usize>, OutOfMemory>
-        requires book { state.old.seat.book ≡ self.now.book.now }
-        requires can_call { W.can_call self.now.service.now }
-        ensures next { OnOk result (state.new.next ≡ state.old.next) }
-        ensures passes { Passes state.old state.new (D.failed_sends sock.old) (D.failed_sends sock.new) }
-        ensures receives { D.failed_receives sock.new ≡ D.failed_receives sock.old }
-        ensures told { IfOk result (λ next. Tells (D.tells sock.new × C.tells clock.new × J.tells journal.new) (D.tells sock.old × C.tells clock.old × J.tells journal.old)
-            (Goes (request_answer W.Future.answer W.Stream.answer) (serving (W.answer self.now.service.now) (W.hint self.now.service.now))
-            (world (J.noted journal.old) (D.mail sock.old) (D.failed_sends sock.old) (C.readings clock.old) state.old.seat.known) state.old false (drop at (numbers_of state.old.exchanges.items))
-            (world (J.noted journal.new) (D.mail sock.new) (D.failed_sends sock.new) (C.readings clock.new) state.new.seat.known) state.new false (left_to next state.new.exchanges.items))) }
-        ensures no_memory { OnErr result (Tells (D.tells sock.new × C.tells clock.new × J.tells journal.new) (D.tells sock.old × C.tells clock.old × J.tells journal.old)
-            (Breaks (request_answer W.Future.answer W.Stream.answer) (serving (W.answer self.now.service.now) (W.hint self.now.service.now))
-            (world (J.noted journal.old) (D.mail sock.old) (D.failed_sends sock.old) (C.readings clock.old) state.old.seat.known) state.old false (drop at (numbers_of state.old.exchanges.items))
-            (world (J.noted journal.new) (D.mail sock.new) (D.failed_sends sock.new) (C.readings clock.new) state.new.seat.known))) }
+impl<R: Wait, W: Served, D: AsyncDgramSock, C: Clock, J: Recorder> Office<'_, R, W, D, C, J> {
+    /// Polls the exchange at a place. The place of the next one is given.
+    fn poll_at(&mut self, at: usize) -> Result<usize, OutOfMemory>
+        requires book { self.old.state.now.seat.book ≡ self.old.book.now }
+        requires there { at < deque_len self.old.state.now.exchanges }
+        ensures owed { IfOk result (λ next. drop next (numbers_of self.new.state.now.exchanges.items) ≡ drop (at + 1) (numbers_of self.old.state.now.exchanges.items)) }
+        ensures polls { OnlyPolls D.failed_receives D.failed_sends self.old self.new }
+        ensures told { ToldSo (office_told D.tells C.tells J.tells) (office_seen D.mail D.failed_sends C.readings J.noted)
+            (λ next w s w' s'. Goes (request_answer W.Future.answer W.Stream.answer) (serving (W.answer self.old.service.now) (W.hint self.old.service.now)) w s false (drop at (numbers_of s.exchanges.items)) w' s' false (drop next (numbers_of s'.exchanges.items)))
+            (λ w s w'. Breaks (request_answer W.Future.answer W.Stream.answer) (serving (W.answer self.old.service.now) (W.hint self.old.service.now)) w s false (drop at (numbers_of s.exchanges.items)) w') result self.old self.new }
     {
-        let Some(number) = number_at(&state.exchanges, at) else {
-            return Ok(None);
-        };
-        match self.poll_one(sock, clock, journal, state, at, number) {
-            Ok(done) => Ok(Some(behind(at, done))),
+        let number = number_at(&self.state.exchanges, at);
+        match self.poll_one(at, number) {
+            Ok(done) => Ok(behind(at, done)),
             Err(error) => Err(error),
         }
     }
 
     /// Polls each exchange whose request isn't done once, by rising number.
-    pub(crate) fn poll_all<D: AsyncDgramSock, C: Clock, J: Recorder>(
-        &self,
-        sock: &mut D,
-        clock: &mut C,
-        journal: &mut J,
-        state: &mut Running<W>,
-    ) -> Result<(), OutOfMemory>
-        requires book { state.old.seat.book ≡ self.now.book.now }
-        requires can_call { W.can_call self.now.service.now }
-        ensures next { OnOk result (state.new.next ≡ state.old.next) }
-        ensures passes { Passes state.old state.new (D.failed_sends sock.old) (D.failed_sends sock.new) }
-        ensures receives { D.failed_receives sock.new ≡ D.failed_receives sock.old }
-        ensures told { OnOk result (Tells (D.tells sock.new × C.tells clock.new × J.tells journal.new) (D.tells sock.old × C.tells clock.old × J.tells journal.old)
-            (Goes (request_answer W.Future.answer W.Stream.answer) (serving (W.answer self.now.service.now) (W.hint self.now.service.now))
-            (world (J.noted journal.old) (D.mail sock.old) (D.failed_sends sock.old) (C.readings clock.old) state.old.seat.known) state.old false (numbers_of state.old.exchanges.items)
-            (world (J.noted journal.new) (D.mail sock.new) (D.failed_sends sock.new) (C.readings clock.new) state.new.seat.known) state.new false [])) }
-        ensures no_memory { OnErr result (Tells (D.tells sock.new × C.tells clock.new × J.tells journal.new) (D.tells sock.old × C.tells clock.old × J.tells journal.old)
-            (Breaks (request_answer W.Future.answer W.Stream.answer) (serving (W.answer self.now.service.now) (W.hint self.now.service.now))
-            (world (J.noted journal.old) (D.mail sock.old) (D.failed_sends sock.old) (C.readings clock.old) state.old.seat.known) state.old false (numbers_of state.old.exchanges.items)
-            (world (J.noted journal.new) (D.mail sock.new) (D.failed_sends sock.new) (C.readings clock.new) state.new.seat.known))) }
+    pub(crate) fn poll_all(&mut self) -> Result<(), OutOfMemory>
+        requires book { self.old.state.now.seat.book ≡ self.old.book.now }
+        ensures polls { OnlyPolls D.failed_receives D.failed_sends self.old self.new }
+        ensures told { ToldSo (office_told D.tells C.tells J.tells) (office_seen D.mail D.failed_sends C.readings J.noted)
+            (λ u w s w' s'. Goes (request_answer W.Future.answer W.Stream.answer) (serving (W.answer self.old.service.now) (W.hint self.old.service.now)) w s false (numbers_of s.exchanges.items) w' s' false [])
+            (λ w s w'. Breaks (request_answer W.Future.answer W.Stream.answer) (serving (W.answer self.old.service.now) (W.hint self.old.service.now)) w s false (numbers_of s.exchanges.items) w') result self.old self.new }
     {
         let mut at = 0;
-        for _ in self.rt.forever() {
-            match self.poll_at(sock, clock, journal, state, at) {
-                Ok(Some(next)) => at = next,
-                Ok(None) => return Ok(()),
+        for _polled in 0..self.state.exchanges.len() {
+            match self.poll_at(at) {
+                Ok(next) => at = next,
                 Err(error) => return Err(error),
             }
         }
-        unreachable!()
+        Ok(())
     }
 
     /// Polls each exchange to its end.
-    pub(crate) fn finish<D: AsyncDgramSock, C: Clock, J: Recorder>(
-        &self,
-        sock: &mut D,
-        clock: &mut C,
-        journal: &mut J,
-        state: &mut Running<W>,
-    ) -> Result<(), OutOfMemory>
-        requires book { state.old.seat.book ≡ self.now.book.now }
-        requires can_call { W.can_call self.now.service.now }
-        ensures next { OnOk result (state.new.next ≡ state.old.next) }
-        ensures passes { Passes state.old state.new (D.failed_sends sock.old) (D.failed_sends sock.new) }
-        ensures receives { D.failed_receives sock.new ≡ D.failed_receives sock.old }
-        ensures told { OnOk result (Tells (D.tells sock.new × C.tells clock.new × J.tells journal.new) (D.tells sock.old × C.tells clock.old × J.tells journal.old)
-            (Finished (request_answer W.Future.answer W.Stream.answer) (serving (W.answer self.now.service.now) (W.hint self.now.service.now))
-            (world (J.noted journal.old) (D.mail sock.old) (D.failed_sends sock.old) (C.readings clock.old) state.old.seat.known) state.old
-            (world (J.noted journal.new) (D.mail sock.new) (D.failed_sends sock.new) (C.readings clock.new) state.new.seat.known) state.new)) }
-        ensures no_memory { OnErr result (Tells (D.tells sock.new × C.tells clock.new × J.tells journal.new) (D.tells sock.old × C.tells clock.old × J.tells journal.old)
-            (Breaks (request_answer W.Future.answer W.Stream.answer) (serving (W.answer self.now.service.now) (W.hint self.now.service.now))
-            (world (J.noted journal.old) (D.mail sock.old) (D.failed_sends sock.old) (C.readings clock.old) state.old.seat.known) state.old false []
-            (world (J.noted journal.new) (D.mail sock.new) (D.failed_sends sock.new) (C.readings clock.new) state.new.seat.known))) }
+    pub(crate) fn finish(&mut self) -> Result<(), OutOfMemory>
+        requires book { self.old.state.now.seat.book ≡ self.old.book.now }
+        ensures polls { OnlyPolls D.failed_receives D.failed_sends self.old self.new }
+        ensures told { ToldSo (office_told D.tells C.tells J.tells) (office_seen D.mail D.failed_sends C.readings J.noted)
+            (λ u. Finished (request_answer W.Future.answer W.Stream.answer) (serving (W.answer self.old.service.now) (W.hint self.old.service.now)))
+            (λ w s w'. Breaks (request_answer W.Future.answer W.Stream.answer) (serving (W.answer self.old.service.now) (W.hint self.old.service.now)) w s false [] w') result self.old self.new }
     {
         for _ in self.rt.forever() {
-            if state.exchanges.is_empty() {
+            if self.state.exchanges.is_empty() {
                 return Ok(());
             }
-            sock.readable(self.rt, PAUSE);
-            self.poll_all(sock, clock, journal, state)?;
+            pause(self.rt, PAUSE);
+            self.clock.outdate();
+            match self.poll_all() {
+                Ok(()) => {}
+                Err(error) => return Err(error),
+            }
         }
         unreachable!()
     }

@@ -1,87 +1,55 @@
 //! Receives.
 
-ghost use Rattle.std.specs.Prelude.{◌≡◌, ◌≤◌, ◌<◌, ◌-◌, ◌^◌, [], true, false, length, IfOk, OnOk, OnErr};
+ghost use Rattle.std.specs.Prelude.{◌≡◌, ◌≤◌, ◌<◌, ◌-◌, ◌^◌, [], true, false, length};
 ghost use Rattle.dns_outside.specs.Causes.{Tells};
 ghost use Rattle.dns_client.specs.Serving.{serving};
 ghost use Rattle.dns_service.specs.PolledRequest.{request_answer};
 ghost use Rattle.dns_service.specs.declared.event.EventKind.TheVariants.{Datagram};
 ghost use Rattle.dns_datagrams.specs.DatagramSteps.{stamped_event};
-ghost use Rattle.dns_datagrams.specs.DatagramsServed.{IsFull, ReceivesBy, world};
-ghost use Rattle.dns_datagrams.specs.DatagramLoop.{Begins, BeginFails, Receives, ReceivedSo, Rounded, RoundedSo, Stopped, Breaks, Passes, SinceNoted};
+ghost use Rattle.dns_datagrams.specs.DatagramsServed.{IsFull, ReceivesBy};
+ghost use Rattle.dns_datagrams.specs.DatagramLoop.{Begins, BeginFails, Receives, ReceivedSo, Rounded, Stopped, Breaks, SinceNoted};
+ghost use Rattle.dns_datagrams.specs.DatagramOffice.{Laps, MayReceive, ToldSo, Went, office_seen, office_told};
 
 use crate::exchanges::begin;
 use crate::notes::{Stamp, note_datagram};
 use crate::office::Office;
-use crate::polls::PAUSE;
-use crate::running::Running;
-use crate::sends::deliver;
 use crate::serving::DgramEnd;
 use dns_name::SocketAddr;
-use dns_notes::{PATIENCE, Recorder};
+use dns_notes::{PATIENCE, PAUSE, Recorder};
 use dns_outside::{AsyncDgramSock, Clock, DgramRecv};
 use dns_service::{Octets, OutOfMemory, Served};
 use std::sync::Wait;
 
 /// A receive was made, by which a datagram began an exchange or none was there yet; or it failed.
-#[derive(Clone, Copy, Debug, PartialEq, Eq)]
+#[derive(Clone, Copy)]
 pub(crate) enum Receipt {
     Made,
     Failed,
 }
 
-/// How a round ended: with a look that showed a shutdown, or a receive that failed.
-#[derive(Clone, Copy, Debug, PartialEq, Eq)]
-pub(crate) enum Lap {
-    Whole,
-    Over,
-    Failed,
-}
-
-impl<R: Wait, W: Served> Office<'_, R, W> {
+impl<R: Wait, W: Served, D: AsyncDgramSock, C: Clock, J: Recorder> Office<'_, R, W, D, C, J> {
     #[tactic(auto, using(crate::proofs::DatagramPasses::passes_kept))]
     /// Begins the exchange of a datagram that was noted, and sends what it leads to at once.
-    fn begin_noted<D: AsyncDgramSock, C: Clock, J: Recorder>(
-        &self,
-        sock: &mut D,
-        clock: &mut C,
-        journal: &mut J,
-        state: &mut Running<W>,
+    fn begin_noted(
+        &mut self,
         stamp: Stamp,
         octets: Octets,
         from: SocketAddr,
     ) -> Result<(), OutOfMemory>
-        requires can_call { W.can_call self.now.service.now }
-        requires running { state.old.heard.closed ≡ false }
-        requires room { state.old.next < 2 ^ 64 - 1 }
-        requires of { stamp.client ≡ state.old.next }
-        ensures receives { D.failed_receives sock.new ≡ D.failed_receives sock.old }
-        ensures passes { Passes state.old state.new (D.failed_sends sock.old) (D.failed_sends sock.new) }
-        ensures told { OnOk result (Tells (D.tells sock.new × C.tells clock.new × J.tells journal.new) (D.tells sock.old × C.tells clock.old × J.tells journal.old)
-            (SinceNoted (stamped_event stamp (Datagram from octets)) (λ w. Begins (request_answer W.Future.answer W.Stream.answer) (serving (W.answer self.now.service.now) (W.hint self.now.service.now)) octets from w state.old
-            (world (J.noted journal.new) (D.mail sock.new) (D.failed_sends sock.new) (C.readings clock.new) state.new.seat.known) state.new)
-            (world (J.noted journal.old) (D.mail sock.old) (D.failed_sends sock.old) (C.readings clock.old) state.old.seat.known))) }
-        ensures no_memory { OnErr result (Tells (D.tells sock.new × C.tells clock.new × J.tells journal.new) (D.tells sock.old × C.tells clock.old × J.tells journal.old)
-            (SinceNoted (stamped_event stamp (Datagram from octets)) (λ w. BeginFails (request_answer W.Future.answer W.Stream.answer) (serving (W.answer self.now.service.now) (W.hint self.now.service.now)) octets from w state.old
-            (world (J.noted journal.new) (D.mail sock.new) (D.failed_sends sock.new) (C.readings clock.new) state.new.seat.known))
-            (world (J.noted journal.old) (D.mail sock.old) (D.failed_sends sock.old) (C.readings clock.old) state.old.seat.known))) }
+        requires can_call { W.can_call self.old.service.now }
+        requires running { self.old.state.now.heard.closed ≡ false }
+        requires room { self.old.state.now.next < 2 ^ 64 - 1 }
+        requires of { stamp.client ≡ self.old.state.now.next }
+        ensures went { Went D.failed_sends self.old self.new }
+        ensures receives { D.failed_receives self.new.sock.now ≡ D.failed_receives self.old.sock.now }
+        ensures told { ToldSo (office_told D.tells C.tells J.tells) (office_seen D.mail D.failed_sends C.readings J.noted)
+            (λ u w s w' s'. SinceNoted (stamped_event stamp (Datagram from octets)) (λ v. Begins (request_answer W.Future.answer W.Stream.answer) (serving (W.answer self.old.service.now) (W.hint self.old.service.now)) octets from v s w' s') w)
+            (λ w s w'. SinceNoted (stamped_event stamp (Datagram from octets)) (λ v. BeginFails (request_answer W.Future.answer W.Stream.answer) (serving (W.answer self.old.service.now) (W.hint self.old.service.now)) octets from v s w') w) result self.old self.new }
     {
-        let limit = state.heard.dgram.write_timeout();
-        let (exchanges, heard) = (&mut state.exchanges, &state.heard);
-        match begin(
-            self.alloc,
-            self.service,
-            exchanges,
-            stamp,
-            from,
-            octets,
-            heard,
-        ) {
+        match begin(self.alloc, self.service, self.state, stamp, from, octets) {
             Ok(letter) => {
-                state.next += 1;
-                let failed = &mut state.send_failed;
-                deliver(
-                    self.rt, self.alloc, sock, clock, journal, failed, stamp, letter, limit,
-                )
+                self.state.next += 1;
+                self.send_for(stamp, letter)
             }
             Err(error) => Err(error),
         }
@@ -89,158 +57,80 @@ impl<R: Wait, W: Served> Office<'_, R, W> {
 
     #[tactic(auto, using(crate::proofs::DatagramPasses::passes_same))]
     /// Notes a datagram that was received, and begins its exchange.
-    fn take_datagram<D: AsyncDgramSock, C: Clock, J: Recorder>(
-        &self,
-        sock: &mut D,
-        clock: &mut C,
-        journal: &mut J,
-        state: &mut Running<W>,
-        octets: &[u8],
-        from: SocketAddr,
-    ) -> Result<(), OutOfMemory>
-        requires can_call { W.can_call self.now.service.now }
-        requires running { state.old.heard.closed ≡ false }
-        requires room { state.old.next < 2 ^ 64 - 1 }
-        ensures receives { D.failed_receives sock.new ≡ D.failed_receives sock.old }
-        ensures passes { Passes state.old state.new (D.failed_sends sock.old) (D.failed_sends sock.new) }
-        ensures told { OnOk result (Tells (D.tells sock.new × C.tells clock.new × J.tells journal.new) (D.tells sock.old × C.tells clock.old × J.tells journal.old)
-            (Begins (request_answer W.Future.answer W.Stream.answer) (serving (W.answer self.now.service.now) (W.hint self.now.service.now)) octets.now from
-            (world (J.noted journal.old) (D.mail sock.old) (D.failed_sends sock.old) (C.readings clock.old) state.old.seat.known) state.old
-            (world (J.noted journal.new) (D.mail sock.new) (D.failed_sends sock.new) (C.readings clock.new) state.new.seat.known) state.new)) }
-        ensures no_memory { OnErr result (Tells (D.tells sock.new × C.tells clock.new × J.tells journal.new) (D.tells sock.old × C.tells clock.old × J.tells journal.old)
-            (BeginFails (request_answer W.Future.answer W.Stream.answer) (serving (W.answer self.now.service.now) (W.hint self.now.service.now)) octets.now from
-            (world (J.noted journal.old) (D.mail sock.old) (D.failed_sends sock.old) (C.readings clock.old) state.old.seat.known) state.old
-            (world (J.noted journal.new) (D.mail sock.new) (D.failed_sends sock.new) (C.readings clock.new) state.new.seat.known))) }
+    fn take_datagram(&mut self, octets: &[u8], from: SocketAddr) -> Result<(), OutOfMemory>
+        requires can_call { W.can_call self.old.service.now }
+        requires running { self.old.state.now.heard.closed ≡ false }
+        requires room { self.old.state.now.next < 2 ^ 64 - 1 }
+        ensures went { Went D.failed_sends self.old self.new }
+        ensures receives { D.failed_receives self.new.sock.now ≡ D.failed_receives self.old.sock.now }
+        ensures told { ToldSo (office_told D.tells C.tells J.tells) (office_seen D.mail D.failed_sends C.readings J.noted)
+            (λ u. Begins (request_answer W.Future.answer W.Stream.answer) (serving (W.answer self.old.service.now) (W.hint self.old.service.now)) octets.now from)
+            (BeginFails (request_answer W.Future.answer W.Stream.answer) (serving (W.answer self.old.service.now) (W.hint self.old.service.now)) octets.now from) result self.old self.new }
     {
-        match note_datagram(self.alloc, clock, journal, state.next, octets, from) {
-            Ok((stamp, octets)) => self.begin_noted(
-                sock, clock, journal, state, stamp, octets, from,
-            ),
+        let number = self.state.next;
+        match note_datagram(self.alloc, self.clock, self.journal, number, octets, from) {
+            Ok((stamp, octets)) => self.begin_noted(stamp, octets, from),
             Err(error) => Err(error),
         }
     }
-}
 
-/// How long a receive may be waited for: not long where an exchange is to be polled again.
-fn patience<W: Served>(state: &Running<W>) -> u64 {
-    if state.exchanges.is_empty() {
-        PATIENCE
-    } else {
-        PAUSE
+    /// How long a receive may be waited for: not long where an exchange is to be polled again.
+    fn patience(&self) -> u64 {
+        if self.state.exchanges.is_empty() {
+            PATIENCE
+        } else {
+            PAUSE
+        }
     }
-}
 
-impl<R: Wait, W: Served> Office<'_, R, W> {
     #[tactic(auto, using(crate::proofs::DatagramPasses::passes_same))]
     /// One receive. Where no datagram is there it waits.
-    fn receive<D: AsyncDgramSock, C: Clock, J: Recorder>(
-        &self,
-        sock: &mut D,
-        clock: &mut C,
-        journal: &mut J,
-        state: &mut Running<W>,
-        buf: &mut [u8],
-    ) -> Result<Receipt, OutOfMemory>
-        requires can_call { W.can_call self.now.service.now }
-        requires running { state.old.heard.closed ≡ false }
-        requires room { state.old.next < 2 ^ 64 - 1 }
+    fn receive(&mut self, buf: &mut [u8]) -> Result<Receipt, OutOfMemory>
+        requires can_call { W.can_call self.old.service.now }
+        requires running { self.old.state.now.heard.closed ≡ false }
+        requires room { self.old.state.now.next < 2 ^ 64 - 1 }
         requires buffer { length buf.old ≡ 1024 }
-        ensures receives { D.failed_receives sock.old ≤ D.failed_receives sock.new }
-        ensures passes { Passes state.old state.new (D.failed_sends sock.old) (D.failed_sends sock.new) }
-        ensures cause { ReceivedSo result (D.failed_receives sock.old) (D.failed_receives sock.new) }
-        ensures told { IfOk result (λ receipt. Tells (D.tells sock.new × C.tells clock.new × J.tells journal.new) (D.tells sock.old × C.tells clock.old × J.tells journal.old)
-            (Receives (request_answer W.Future.answer W.Stream.answer) (serving (W.answer self.now.service.now) (W.hint self.now.service.now)) receipt
-            (world (J.noted journal.old) (D.mail sock.old) (D.failed_sends sock.old) (C.readings clock.old) state.old.seat.known) state.old
-            (world (J.noted journal.new) (D.mail sock.new) (D.failed_sends sock.new) (C.readings clock.new) state.new.seat.known) state.new)) }
-        ensures no_memory { OnErr result (Tells (D.tells sock.new × C.tells clock.new × J.tells journal.new) (D.tells sock.old × C.tells clock.old × J.tells journal.old)
-            (Breaks (request_answer W.Future.answer W.Stream.answer) (serving (W.answer self.now.service.now) (W.hint self.now.service.now))
-            (world (J.noted journal.old) (D.mail sock.old) (D.failed_sends sock.old) (C.readings clock.old) state.old.seat.known) state.old true []
-            (world (J.noted journal.new) (D.mail sock.new) (D.failed_sends sock.new) (C.readings clock.new) state.new.seat.known))) }
+        ensures went { Went D.failed_sends self.old self.new }
+        ensures receives { D.failed_receives self.old.sock.now ≤ D.failed_receives self.new.sock.now }
+        ensures cause { ReceivedSo result (D.failed_receives self.old.sock.now) (D.failed_receives self.new.sock.now) }
+        ensures told { ToldSo (office_told D.tells C.tells J.tells) (office_seen D.mail D.failed_sends C.readings J.noted)
+            (λ receipt. Receives (request_answer W.Future.answer W.Stream.answer) (serving (W.answer self.old.service.now) (W.hint self.old.service.now)) receipt)
+            (λ w s w'. Breaks (request_answer W.Future.answer W.Stream.answer) (serving (W.answer self.old.service.now) (W.hint self.old.service.now)) w s true [] w') result self.old self.new }
     {
-        match sock.try_recv_buf_from(buf) {
+        match self.sock.try_recv_buf_from(buf) {
             DgramRecv::Failed => Ok(Receipt::Failed),
             DgramRecv::Again => {
-                sock.readable(self.rt, patience(state));
+                let patience = self.patience();
+                self.sock.readable(self.rt, patience);
+                self.clock.outdate();
                 Ok(Receipt::Made)
             }
-            DgramRecv::Got(count, from) => {
-                let octets = &buf[..count];
-                match self.take_datagram(sock, clock, journal, state, octets, from) {
-                    Ok(()) => Ok(Receipt::Made),
-                    Err(error) => Err(error),
-                }
-            }
-        }
-    }
-
-    /// What follows a look: one receive, and a poll of each unfinished exchange, unless a shutdown was heard of.
-    fn lap<D: AsyncDgramSock, C: Clock, J: Recorder>(
-        &self,
-        sock: &mut D,
-        clock: &mut C,
-        journal: &mut J,
-        state: &mut Running<W>,
-        buf: &mut [u8],
-    ) -> Result<Lap, OutOfMemory>
-        requires book { state.old.seat.book ≡ self.now.book.now }
-        requires can_call { W.can_call self.now.service.now }
-        requires room { state.old.next < 2 ^ 64 - 1 }
-        requires buffer { length buf.old ≡ 1024 }
-        ensures passes { Passes state.old state.new (D.failed_sends sock.old) (D.failed_sends sock.new) }
-        ensures receives { D.failed_receives sock.old ≤ D.failed_receives sock.new }
-        ensures cause { RoundedSo result (D.failed_receives sock.old) (D.failed_receives sock.new) }
-        ensures closed { IfOk result (λ lap. lap ≡ Lap.Over → state.new.heard.closed ≡ true) }
-        ensures told { IfOk result (λ lap. Tells (D.tells sock.new × C.tells clock.new × J.tells journal.new) (D.tells sock.old × C.tells clock.old × J.tells journal.old)
-            (Rounded (request_answer W.Future.answer W.Stream.answer) (serving (W.answer self.now.service.now) (W.hint self.now.service.now)) true lap
-            (world (J.noted journal.old) (D.mail sock.old) (D.failed_sends sock.old) (C.readings clock.old) state.old.seat.known) state.old
-            (world (J.noted journal.new) (D.mail sock.new) (D.failed_sends sock.new) (C.readings clock.new) state.new.seat.known) state.new)) }
-        ensures no_memory { OnErr result (Tells (D.tells sock.new × C.tells clock.new × J.tells journal.new) (D.tells sock.old × C.tells clock.old × J.tells journal.old)
-            (Breaks (request_answer W.Future.answer W.Stream.answer) (serving (W.answer self.now.service.now) (W.hint self.now.service.now))
-            (world (J.noted journal.old) (D.mail sock.old) (D.failed_sends sock.old) (C.readings clock.old) state.old.seat.known) state.old true []
-            (world (J.noted journal.new) (D.mail sock.new) (D.failed_sends sock.new) (C.readings clock.new) state.new.seat.known))) }
-    {
-        if state.heard.closed {
-            return Ok(Lap::Over);
-        }
-        match self.receive(sock, clock, journal, state, buf) {
-            Ok(Receipt::Failed) => Ok(Lap::Failed),
-            Ok(Receipt::Made) => match self.poll_all(sock, clock, journal, state) {
-                Ok(()) => Ok(Lap::Whole),
+            DgramRecv::Got(count, from) => match self.take_datagram(&buf[..count], from) {
+                Ok(()) => Ok(Receipt::Made),
                 Err(error) => Err(error),
             },
-            Err(error) => Err(error),
         }
     }
 
-    /// One look, one receive, and a poll of each unfinished exchange.
-    fn round<D: AsyncDgramSock, C: Clock, J: Recorder>(
-        &self,
-        sock: &mut D,
-        clock: &mut C,
-        journal: &mut J,
-        state: &mut Running<W>,
-        buf: &mut [u8],
-    ) -> Result<Lap, OutOfMemory>
-        requires book { state.old.seat.book ≡ self.now.book.now }
-        requires can_call { W.can_call self.now.service.now }
-        requires room { state.old.next < 2 ^ 64 - 1 }
+    /// What follows a look: one receive, and a poll of each unfinished exchange, unless a shutdown was heard of. How the loop ends by
+    /// that is given, where it ends.
+    fn lap(&mut self, buf: &mut [u8]) -> Option<DgramEnd>
+        requires ready { MayReceive W.can_call self.old }
         requires buffer { length buf.old ≡ 1024 }
-        ensures passes { Passes state.old state.new (D.failed_sends sock.old) (D.failed_sends sock.new) }
-        ensures receives { D.failed_receives sock.old ≤ D.failed_receives sock.new }
-        ensures cause { RoundedSo result (D.failed_receives sock.old) (D.failed_receives sock.new) }
-        ensures closed { IfOk result (λ lap. lap ≡ Lap.Over → state.new.heard.closed ≡ true) }
-        ensures told { IfOk result (λ lap. Tells (D.tells sock.new × C.tells clock.new × J.tells journal.new) (D.tells sock.old × C.tells clock.old × J.tells journal.old)
-            (Rounded (request_answer W.Future.answer W.Stream.answer) (serving (W.answer self.now.service.now) (W.hint self.now.service.now)) false lap
-            (world (J.noted journal.old) (D.mail sock.old) (D.failed_sends sock.old) (C.readings clock.old) state.old.seat.known) state.old
-            (world (J.noted journal.new) (D.mail sock.new) (D.failed_sends sock.new) (C.readings clock.new) state.new.seat.known) state.new)) }
-        ensures no_memory { OnErr result (Tells (D.tells sock.new × C.tells clock.new × J.tells journal.new) (D.tells sock.old × C.tells clock.old × J.tells journal.old)
-            (Breaks (request_answer W.Future.answer W.Stream.answer) (serving (W.answer self.now.service.now) (W.hint self.now.service.now))
-            (world (J.noted journal.old) (D.mail sock.old) (D.failed_sends sock.old) (C.readings clock.old) state.old.seat.known) state.old false []
-            (world (J.noted journal.new) (D.mail sock.new) (D.failed_sends sock.new) (C.readings clock.new) state.new.seat.known))) }
+        ensures laps { Laps D.failed_receives D.failed_sends result self.old self.new }
+        ensures told { Tells (office_told D.tells C.tells J.tells self.new) (office_told D.tells C.tells J.tells self.old)
+            (Rounded (request_answer W.Future.answer W.Stream.answer) (serving (W.answer self.old.service.now) (W.hint self.old.service.now)) true 0 result (office_seen D.mail D.failed_sends C.readings J.noted self.old) self.old.state.now (office_seen D.mail D.failed_sends C.readings J.noted self.new) self.new.state.now) }
     {
-        match self.look_once(sock, clock, journal, state) {
-            Ok(()) => self.lap(sock, clock, journal, state, buf),
-            Err(error) => Err(error),
+        if self.state.heard.closed {
+            return Some(DgramEnd::Shutdown);
+        }
+        match self.receive(buf) {
+            Ok(Receipt::Failed) => Some(DgramEnd::Fault),
+            Ok(Receipt::Made) => match self.poll_all() {
+                Ok(()) => None,
+                Err(_) => Some(DgramEnd::OutOfMemory),
+            },
+            Err(_) => Some(DgramEnd::OutOfMemory),
         }
     }
 }
@@ -256,38 +146,41 @@ fn is_full(next: u64, count: u64) -> bool
     count != 0 && next == count
 }
 
-impl<R: Wait, W: Served> Office<'_, R, W> {
-    /// Receives until so many datagrams came, a look shows a shutdown, or a receive fails.
-    pub(crate) fn take_all<D: AsyncDgramSock, C: Clock, J: Recorder>(
-        &self,
-        sock: &mut D,
-        clock: &mut C,
-        journal: &mut J,
-        state: &mut Running<W>,
-        buf: &mut [u8],
-        count: u64,
-    ) -> DgramEnd
-        requires book { state.old.seat.book ≡ self.now.book.now }
-        requires can_call { W.can_call self.now.service.now }
+impl<R: Wait, W: Served, D: AsyncDgramSock, C: Clock, J: Recorder> Office<'_, R, W, D, C, J> {
+    /// One look, one receive, and a poll of each unfinished exchange, unless so many datagrams came. How the loop ends by that is
+    /// given, where it ends.
+    fn round(&mut self, buf: &mut [u8], count: u64) -> Option<DgramEnd>
+        requires book { self.old.state.now.seat.book ≡ self.old.book.now }
+        requires can_call { W.can_call self.old.service.now }
         requires buffer { length buf.old ≡ 1024 }
-        ensures passes { Passes state.old state.new (D.failed_sends sock.old) (D.failed_sends sock.new) }
-        ensures receives { D.failed_receives sock.old ≤ D.failed_receives sock.new }
-        ensures cause { ReceivesBy result (D.failed_receives sock.old) (D.failed_receives sock.new) }
-        ensures closed { result ≡ DgramEnd.Shutdown → state.new.heard.closed ≡ true }
-        ensures told { Tells (D.tells sock.new × C.tells clock.new × J.tells journal.new) (D.tells sock.old × C.tells clock.old × J.tells journal.old)
-            (Stopped (request_answer W.Future.answer W.Stream.answer) (serving (W.answer self.now.service.now) (W.hint self.now.service.now)) result count
-            (world (J.noted journal.old) (D.mail sock.old) (D.failed_sends sock.old) (C.readings clock.old) state.old.seat.known) state.old
-            (world (J.noted journal.new) (D.mail sock.new) (D.failed_sends sock.new) (C.readings clock.new) state.new.seat.known) state.new) }
+        ensures laps { Laps D.failed_receives D.failed_sends result self.old self.new }
+        ensures told { Tells (office_told D.tells C.tells J.tells self.new) (office_told D.tells C.tells J.tells self.old)
+            (Rounded (request_answer W.Future.answer W.Stream.answer) (serving (W.answer self.old.service.now) (W.hint self.old.service.now)) false count result (office_seen D.mail D.failed_sends C.readings J.noted self.old) self.old.state.now (office_seen D.mail D.failed_sends C.readings J.noted self.new) self.new.state.now) }
+    {
+        if is_full(self.state.next, count) {
+            return Some(DgramEnd::Counted);
+        }
+        match self.look_once() {
+            Ok(()) => self.lap(buf),
+            Err(_) => Some(DgramEnd::OutOfMemory),
+        }
+    }
+
+    /// Receives until so many datagrams came, a look shows a shutdown, or a receive fails.
+    pub(crate) fn take_all(&mut self, buf: &mut [u8], count: u64) -> DgramEnd
+        requires book { self.old.state.now.seat.book ≡ self.old.book.now }
+        requires can_call { W.can_call self.old.service.now }
+        requires buffer { length buf.old ≡ 1024 }
+        ensures went { Went D.failed_sends self.old self.new }
+        ensures receives { D.failed_receives self.old.sock.now ≤ D.failed_receives self.new.sock.now }
+        ensures cause { ReceivesBy result (D.failed_receives self.old.sock.now) (D.failed_receives self.new.sock.now) }
+        ensures closed { result ≡ DgramEnd.Shutdown → self.new.state.now.heard.closed ≡ true }
+        ensures told { Tells (office_told D.tells C.tells J.tells self.new) (office_told D.tells C.tells J.tells self.old)
+            (Stopped (request_answer W.Future.answer W.Stream.answer) (serving (W.answer self.old.service.now) (W.hint self.old.service.now)) result count (office_seen D.mail D.failed_sends C.readings J.noted self.old) self.old.state.now (office_seen D.mail D.failed_sends C.readings J.noted self.new) self.new.state.now) }
     {
         for _ in self.rt.forever() {
-            if is_full(state.next, count) {
-                return DgramEnd::Counted;
-            }
-            match self.round(sock, clock, journal, state, buf) {
-                Ok(Lap::Whole) => {}
-                Ok(Lap::Over) => return DgramEnd::Shutdown,
-                Ok(Lap::Failed) => return DgramEnd::Fault,
-                Err(_) => return DgramEnd::OutOfMemory,
+            if let Some(end) = self.round(buf, count) {
+                return end;
             }
         }
         unreachable!()

@@ -2,19 +2,19 @@
 
 ghost use Rattle.std.specs.Prelude.{◌≡◌, ◌≤◌, [], ◌∷◌, OnOk, OnErr};
 ghost use Rattle.dns_outside.specs.Causes.{Tells};
-ghost use Rattle.dns_service.specs.declared.event.EventKind.TheVariants.{Fault};
-ghost use Rattle.dns_notes.specs.Notes.{NoteMoves};
+ghost use Rattle.dns_datagrams.specs.DatagramOffice.{OnlyPolls, ToldSo, office_seen, office_told};
 ghost use Rattle.dns_datagrams.specs.DatagramSteps.{Sends, SendsTo, SendsCause, SendsRose, Unsent, listed};
 
-use crate::notes::Stamp;
+use crate::notes::{Stamp, note_kind};
+use crate::office::Office;
 use dns_notes::{PATIENCE, Recorder};
 use dns_outside::{AsyncDgramSock, Clock, DgramSend, Letter};
-use dns_service::{Event, EventKind, OutOfMemory};
+use dns_service::{EventKind, OutOfMemory, Served};
 use std::alloc::Global;
 use std::sync::Wait;
 
 /// How the sending of a letter ended: it was sent, a call failed, or it is late, at a reading of the clock.
-#[derive(Clone, Copy, Debug, PartialEq, Eq)]
+#[derive(Clone, Copy)]
 pub(crate) enum SendEnd {
     Sent,
     Failed,
@@ -48,29 +48,11 @@ fn send<R: Wait, D: AsyncDgramSock, C: Clock>(
                     return SendEnd::Late(at, secs);
                 }
                 sock.readable(rt, PATIENCE.min(limit));
+                clock.outdate();
             }
         }
     }
     unreachable!()
-}
-
-/// Notes a Fault of an exchange at a moment.
-fn note_fault<J: Recorder>(
-    alloc: Global,
-    journal: &mut J,
-    at: u64,
-    secs: u64,
-    client: u64,
-) -> Result<(), OutOfMemory>
-    ensures { Tells (J.tells journal.new) (J.tells journal.old) (NoteMoves result (record { at = at; secs = secs; client = client; kind = Fault }) (J.noted journal.old) (J.noted journal.new)) }
-{
-    let fault = Event {
-        at,
-        secs,
-        client,
-        kind: EventKind::Fault,
-    };
-    journal.note(alloc, &fault)
 }
 
 /// Sends what an event led to, where that is a letter. Where it isn't sent a Fault is noted; whether a send failed is kept.
@@ -100,11 +82,44 @@ pub(crate) fn deliver<R: Wait, D: AsyncDgramSock, C: Clock, J: Recorder>(
     };
     match send(rt, sock, clock, &letter, stamp.at, limit) {
         SendEnd::Sent => Ok(()),
-        SendEnd::Late(at, secs) => note_fault(alloc, journal, at, secs, stamp.client),
+        SendEnd::Late(at, secs) => {
+            note_kind(alloc, journal, at, secs, stamp.client, EventKind::Fault)
+        }
         SendEnd::Failed => {
             *send_failed = true;
             let (at, secs) = clock.now();
-            note_fault(alloc, journal, at, secs, stamp.client)
+            note_kind(alloc, journal, at, secs, stamp.client, EventKind::Fault)
         }
+    }
+}
+
+impl<R: Wait, W: Served, D: AsyncDgramSock, C: Clock, J: Recorder> Office<'_, R, W, D, C, J> {
+    #[tactic(auto, using(crate::proofs::DatagramPasses::passes_kept))]
+    /// Sends what an event of an exchange led to, within the write timeout that is in force.
+    #[inline(always)]
+    pub(crate) fn send_for(
+        &mut self,
+        stamp: Stamp,
+        letter: Option<Letter>,
+    ) -> Result<(), OutOfMemory>
+        ensures polls { OnlyPolls D.failed_receives D.failed_sends self.old self.new }
+        ensures rest { self.new.state.now ≡ record self.old.state.now { send_failed = self.new.state.now.send_failed } }
+        ensures told { ToldSo (office_told D.tells C.tells J.tells) (office_seen D.mail D.failed_sends C.readings J.noted)
+            (λ u w s w' s'. Sends stamp (listed letter) s.heard.dgram.write_timeout w.noted w'.noted w.mail w'.mail w.failed_sends w'.failed_sends w.readings w'.readings)
+            (λ w s w'. Unsent w.noted w'.noted w.mail w'.mail) result self.old self.new }
+    {
+        let limit = self.state.heard.dgram.write_timeout();
+        let failed = &mut self.state.send_failed;
+        deliver(
+            self.rt,
+            self.alloc,
+            self.sock,
+            self.clock,
+            self.journal,
+            failed,
+            stamp,
+            letter,
+            limit,
+        )
     }
 }

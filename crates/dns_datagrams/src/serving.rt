@@ -5,6 +5,7 @@ ghost use Rattle.dns_client.specs.Serving.{serving};
 ghost use Rattle.dns_outside.specs.Causes.{Rose, Tells};
 ghost use Rattle.dns_service.specs.PolledRequest.{request_answer};
 ghost use Rattle.dns_datagrams.specs.DatagramLoop.{Ended, Passes};
+ghost use Rattle.dns_datagrams.specs.DatagramOffice.{Went, office_seen, office_told};
 ghost use Rattle.dns_datagrams.specs.DatagramsServed.{LooksBy, ReceivesBy, RoseIf, ServedTo, world};
 
 use crate::looks::hear_news;
@@ -34,78 +35,69 @@ pub enum DgramEnd {
 /// How many octets of a datagram are received.
 const ROOM: usize = 1024;
 
-impl<R: Wait, W: Served> Office<'_, R, W> {
+impl<R: Wait, W: Served, D: AsyncDgramSock, C: Clock, J: Recorder> Office<'_, R, W, D, C, J> {
     /// All that comes after the news of the first look.
-    fn serve_all<D: AsyncDgramSock, C: Clock, J: Recorder>(
-        &self,
-        sock: &mut D,
-        clock: &mut C,
-        journal: &mut J,
-        state: &mut Running<W>,
-        count: u64,
-    ) -> DgramEnd
-        requires book { state.old.seat.book ≡ self.now.book.now }
-        requires can_call { W.can_call self.now.service.now }
-        ensures passes { Passes state.old state.new (D.failed_sends sock.old) (D.failed_sends sock.new) }
-        ensures receives { D.failed_receives sock.old ≤ D.failed_receives sock.new }
-        ensures cause { ReceivesBy result (D.failed_receives sock.old) (D.failed_receives sock.new) }
-        ensures closed { result ≡ DgramEnd.Shutdown → state.new.heard.closed ≡ true }
-        ensures told { Tells (D.tells sock.new × C.tells clock.new × J.tells journal.new) (D.tells sock.old × C.tells clock.old × J.tells journal.old)
-            (Ended (request_answer W.Future.answer W.Stream.answer) (serving (W.answer self.now.service.now) (W.hint self.now.service.now)) result count
-            (world (J.noted journal.old) (D.mail sock.old) (D.failed_sends sock.old) (C.readings clock.old) state.old.seat.known) state.old
-            (world (J.noted journal.new) (D.mail sock.new) (D.failed_sends sock.new) (C.readings clock.new) state.new.seat.known) state.new) }
+    fn serve_all(&mut self, count: u64) -> DgramEnd
+        requires book { self.old.state.now.seat.book ≡ self.old.book.now }
+        requires can_call { W.can_call self.old.service.now }
+        ensures went { Went D.failed_sends self.old self.new }
+        ensures receives { D.failed_receives self.old.sock.now ≤ D.failed_receives self.new.sock.now }
+        ensures cause { ReceivesBy result (D.failed_receives self.old.sock.now) (D.failed_receives self.new.sock.now) }
+        ensures closed { result ≡ DgramEnd.Shutdown → self.new.state.now.heard.closed ≡ true }
+        ensures told { Tells (office_told D.tells C.tells J.tells self.new) (office_told D.tells C.tells J.tells self.old)
+            (Ended (request_answer W.Future.answer W.Stream.answer) (serving (W.answer self.old.service.now) (W.hint self.old.service.now)) result count (office_seen D.mail D.failed_sends C.readings J.noted self.old) self.old.state.now (office_seen D.mail D.failed_sends C.readings J.noted self.new) self.new.state.now) }
     {
         let mut buf = [0u8; ROOM];
-        let end = self.take_all(sock, clock, journal, state, &mut buf, count);
+        let end = self.take_all(&mut buf, count);
         match end {
             DgramEnd::Fault => DgramEnd::Fault,
             DgramEnd::OutOfMemory => DgramEnd::OutOfMemory,
-            _ => match self.finish(sock, clock, journal, state) {
+            _ => match self.finish() {
                 Ok(()) => end,
                 Err(_) => DgramEnd::OutOfMemory,
             },
         }
     }
+}
 
-    /// Serves from a seat, beginning with its first look. Whether a send failed is given too.
-    fn serve_seat<D: AsyncDgramSock, C: Clock, J: Recorder>(
-        &self,
-        mut seat: BookSeat,
-        sock: &mut D,
-        clock: &mut C,
-        journal: &mut J,
-        count: u64,
-    ) -> (BookSeat, DgramEnd, bool)
-        requires book { seat.book ≡ self.now.book.now }
-        requires can_call { W.can_call self.now.service.now }
-        ensures told { Tells (D.tells sock.new × C.tells clock.new × J.tells journal.new) (D.tells sock.old × C.tells clock.old × J.tells journal.old)
-            (ServedTo (serving (W.answer self.now.service.now) (W.hint self.now.service.now)) result.1 count
-            (world (J.noted journal.old) (D.mail sock.old) (D.failed_sends sock.old) (C.readings clock.old) seat.known)
-            (world (J.noted journal.new) (D.mail sock.new) (D.failed_sends sock.new) (C.readings clock.new) result.0.known)) }
-        ensures seat { LooksBy result.1 seat.known result.0.known }
-        ensures same { result.0.book ≡ seat.book }
-        ensures cause { ReceivesBy result.1 (D.failed_receives sock.old) (D.failed_receives sock.new) }
-        ensures rose { RoseIf result.2 (D.failed_sends sock.old) (D.failed_sends sock.new) }
-        ensures receives { D.failed_receives sock.old ≤ D.failed_receives sock.new }
-        ensures sends { D.failed_sends sock.old ≤ D.failed_sends sock.new }
-    {
-        let first = self.book.look(self.rt, &mut seat);
-        let mut heard = Look {
-            closed: false,
-            ..first
-        };
-        let Ok(()) = hear_news(self.alloc, clock, journal, &mut heard, &first) else {
-            return (seat, DgramEnd::OutOfMemory, false);
-        };
-        let mut state: Running<W> = begun(self.alloc, heard, seat);
-        let end = self.serve_all(sock, clock, journal, &mut state, count);
-        let (seat, send_failed) = left(state);
-        (seat, end, send_failed)
-    }
+/// The same by what they are lent for.
+fn serve_begun<'x, R: Wait, D: AsyncDgramSock, C: Clock, J: Recorder, W: Served>(
+    rt: &'x R,
+    alloc: Global,
+    book: &'x Book,
+    service: &'x W,
+    sock: &'x mut D,
+    clock: &'x mut C,
+    journal: &'x mut J,
+    state: &'x mut Running<W>,
+    count: u64,
+) -> DgramEnd
+    requires book { state.old.seat.book ≡ book.now }
+    requires can_call { W.can_call service.now }
+    ensures passes { Passes state.old state.new (D.failed_sends sock.old) (D.failed_sends sock.new) }
+    ensures receives { D.failed_receives sock.old ≤ D.failed_receives sock.new }
+    ensures cause { ReceivesBy result (D.failed_receives sock.old) (D.failed_receives sock.new) }
+    ensures closed { result ≡ DgramEnd.Shutdown → state.new.heard.closed ≡ true }
+    ensures told { Tells (D.tells sock.new × C.tells clock.new × J.tells journal.new) (D.tells sock.old × C.tells clock.old × J.tells journal.old)
+        (Ended (request_answer W.Future.answer W.Stream.answer) (serving (W.answer service.now) (W.hint service.now)) result count
+        (world (J.noted journal.old) (D.mail sock.old) (D.failed_sends sock.old) (C.readings clock.old) state.old.seat.known) state.old
+        (world (J.noted journal.new) (D.mail sock.new) (D.failed_sends sock.new) (C.readings clock.new) state.new.seat.known) state.new) }
+{
+    let mut office = Office {
+        rt,
+        alloc,
+        book,
+        service,
+        sock,
+        clock,
+        journal,
+        state,
+    };
+    office.serve_all(count)
 }
 
 /// Serves datagrams as `serve_datagrams` does, and says whether a send failed.
-pub fn serve_datagrams_and_say<R: Wait, D: AsyncDgramSock, C: Clock, J: Recorder, W: Served>(
+pub fn serve_datagrams_with_sends<R: Wait, D: AsyncDgramSock, C: Clock, J: Recorder, W: Served>(
     rt: &R,
     alloc: Global,
     book: &Book,
@@ -131,13 +123,21 @@ pub fn serve_datagrams_and_say<R: Wait, D: AsyncDgramSock, C: Clock, J: Recorder
     ensures receives { D.failed_receives sock.old ≤ D.failed_receives sock.new }
     ensures sends { D.failed_sends sock.old ≤ D.failed_sends sock.new }
 {
-    let office = Office {
-        rt,
-        alloc,
-        book,
-        service,
+    let mut seat = seat;
+    let first = book.look(rt, &mut seat);
+    let mut heard = Look {
+        closed: false,
+        ..first
     };
-    office.serve_seat(seat, sock, clock, journal, count)
+    let Ok(()) = hear_news(alloc, clock, journal, &mut heard, &first) else {
+        return (seat, DgramEnd::OutOfMemory, false);
+    };
+    let mut state = begun(alloc, heard, seat);
+    let end = serve_begun(
+        rt, alloc, book, service, sock, clock, journal, &mut state, count,
+    );
+    let (seat, send_failed) = left(state);
+    (seat, end, send_failed)
 }
 
 #[tactic(auto, using(crate::proofs::DatagramPasses::fault_rose))]
@@ -169,7 +169,7 @@ pub fn serve_datagrams<R: Wait, D: AsyncDgramSock, C: Clock, J: Recorder, W: Ser
     ensures receives { D.failed_receives sock.old ≤ D.failed_receives sock.new }
     ensures sends { D.failed_sends sock.old ≤ D.failed_sends sock.new }
 {
-    let (seat, end, _) = serve_datagrams_and_say(
+    let (seat, end, _) = serve_datagrams_with_sends(
         rt, alloc, book, seat, service, sock, clock, journal, count,
     );
     (seat, end)

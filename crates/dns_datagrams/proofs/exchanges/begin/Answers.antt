@@ -13,9 +13,9 @@ returns-in-Ok-clause-here g c =
     let answers = serving (g.W.Served.answer c.args.service.now) (g.W.Served.hint c.args.service.now) in
     let k = c.args.stamp.client in
     if_ok_on c.enter.result _ _ c.enter.ensures.letter c.enter.ensures.kept
-    (λ letter l kept. begun_one answer answers c.args.heard.now (stamped_event c.args.stamp (Datagram c.args.addr c.args.octets)) c.args.addr c.args.octets (kept_at k c.args.exchanges.now.items) (kept_at k c.enter.new.exchanges.items) c.in-Ok.request c.in-Ok.sent letter
-    c.in-Ok.ensures.begun c.in-Ok.ensures.spent (pushed_here k c.args.addr c.args.exchanges.now.items c.enter.new.exchanges.items c.in-Ok.request kept) l)
+    (λ letter l kept. begun_one answer answers c.args.state.now.heard (stamped_event c.args.stamp (Datagram c.args.addr c.args.octets)) c.args.addr c.args.octets (kept_at k c.args.state.now.exchanges.items) (kept_at k c.enter.new.exchanges.items) c.in-Ok.request c.in-Ok.sent letter
+    c.in-Ok.ensures.begun c.in-Ok.ensures.spent (pushed_here k c.args.addr c.args.state.now.exchanges.items c.enter.new.exchanges.items c.in-Ok.request kept) l)
 
 pub returns-in-Ok-clause-others : goal.returns-in-Ok-clause-others
 returns-in-Ok-clause-others g c =
-    on_ok_by c.enter.result c.enter.ensures.kept (λ kept n h. pushed_others n c.args.stamp.client c.args.addr c.args.exchanges.now.items c.enter.new.exchanges.items c.in-Ok.request h kept)
+    on_ok_by c.enter.result c.enter.ensures.kept (λ kept n h. pushed_others n c.args.stamp.client c.args.addr c.args.state.now.exchanges.items c.enter.new.exchanges.items c.in-Ok.request h kept)

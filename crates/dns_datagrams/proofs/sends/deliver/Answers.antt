@@ -11,15 +11,15 @@ pub returns-in-Sent-clause-told : goal.returns-in-Sent-clause-told
 returns-in-Sent-clause-told g c = rw c.in-Some.is (tells_dc c.in-Sent.ensures.told (λ x. sends_whole c.args.stamp (c.in-Some.letter ∷ []) c.args.limit _ _ _ _ _ _ _ x c.in-Sent.ensures.cause))
 
 pub returns-in-Late-clause-told : goal.returns-in-Late-clause-told
-returns-in-Late-clause-told g c = rw c.in-Some.is (on_ok_is c.note_fault.result (λ u is. tells_dc_j c.in-Late.ensures.told (rw is at c.note_fault.ensures)
+returns-in-Late-clause-told g c = rw c.in-Some.is (on_ok_is c.note_kind.result (λ u is. tells_dc_j c.in-Late.ensures.told (rw is at c.note_kind.ensures)
     (λ x n. sends_late c.args.stamp (record { at = c.in-Late.at; secs = c.in-Late.secs; client = c.args.stamp.client; kind = Fault }) (c.in-Some.letter ∷ []) c.args.limit _ _ _ _ _ _ _ _ refl refl x n c.in-Late.ensures.cause)))
 
 pub returns-in-Late-clause-no_memory : goal.returns-in-Late-clause-no_memory
-returns-in-Late-clause-no_memory g c = on_err_is c.note_fault.result (λ u is. tells_dc_j c.in-Late.ensures.told (rw is at c.note_fault.ensures) (λ x n. unsent_posts _ _ _ _ x.posts n))
+returns-in-Late-clause-no_memory g c = on_err_is c.note_kind.result (λ u is. tells_dc_j c.in-Late.ensures.told (rw is at c.note_kind.ensures) (λ x n. unsent_posts _ _ _ _ x.posts n))
 
 pub returns-clause-told : goal.returns-clause-told
-returns-clause-told g c = rw c.in-Some.is (on_ok_is c.note_fault-in-Failed.result (λ u is. tells_dc_c_j c.in-Failed.ensures.told c.now-at.ensures (rw is at c.note_fault-in-Failed.ensures)
+returns-clause-told g c = rw c.in-Some.is (on_ok_is c.note_kind-in-Failed.result (λ u is. tells_dc_c_j c.in-Failed.ensures.told c.now-at.ensures (rw is at c.note_kind-in-Failed.ensures)
     (λ x r n. sends_failed c.args.stamp (record { at = c.now-at.result.0; secs = c.now-at.result.1; client = c.args.stamp.client; kind = Fault }) (c.in-Some.letter ∷ []) c.args.limit _ _ _ _ _ _ _ _ _ refl refl x (record { clock = r; noted = n }) c.in-Failed.ensures.cause)))
 
 pub returns-clause-no_memory : goal.returns-clause-no_memory
-returns-clause-no_memory g c = on_err_is c.note_fault-in-Failed.result (λ u is. tells_dc_c_j c.in-Failed.ensures.told c.now-at.ensures (rw is at c.note_fault-in-Failed.ensures) (λ x r n. unsent_posts _ _ _ _ x.posts n))
+returns-clause-no_memory g c = on_err_is c.note_kind-in-Failed.result (λ u is. tells_dc_c_j c.in-Failed.ensures.told c.now-at.ensures (rw is at c.note_kind-in-Failed.ensures) (λ x r n. unsent_posts _ _ _ _ x.posts n))

@@ -1,0 +1,60 @@
+-- How what parts of the loop of datagrams did to their office follows each other.
+use Rattle.std.proofs.Common.{◌≡◌, ℕ, refl, ap, ◌∙◌}
+use Rattle.std.specs.Prelude.{Result}
+use Rattle.dns_name.specs.declared.error.OutOfMemory.{OutOfMemory as No_memory}
+use Rattle.dns_outside.specs.Causes.{Tells}
+use Rattle.dns_datagrams.specs.DatagramsServed.{World}
+use Rattle.dns_datagrams.specs.DatagramOffice.{MayReceive, SameOffice, Went, OnlyPolls, ToldSo}
+use Rattle.dns_datagrams.specs.declared.office.Office.{Office}
+use Rattle.dns_datagrams.specs.declared.running.Running.{Running}
+use Rattle.dns_datagrams.proofs.DatagramPasses.{passes_same, passes_then}
+use Rattle.dns_datagrams.proofs.DatagramTellings.{if_ok_by, on_err_by, tells_two}
+
+module _ {T W D C J R F : Type 0} where
+  pub same_office : {o : Office T W D C J R F} → SameOffice o o
+  same_office = record { book = refl; service = refl; sock = refl; clock = refl; journal = refl; state = refl }
+
+  pub same_then : {o o1 o2 : Office T W D C J R F} → SameOffice o o1 → SameOffice o1 o2 → SameOffice o o2
+  same_then a b = record {
+    book = b.book ∙ a.book;
+    service = b.service ∙ a.service;
+    sock = b.sock ∙ a.sock;
+    clock = b.clock ∙ a.clock;
+    journal = b.journal ∙ a.journal;
+    state = b.state ∙ a.state;
+  }
+
+  module _ {failed_sends : D → ℕ} where
+    pub went_same : {o : Office T W D C J R F} → Went failed_sends o o
+    went_same {o} = record { same = same_office; passes = passes_same o.state.now (failed_sends o.sock.now) }
+
+    pub went_then : {o o1 o2 : Office T W D C J R F} → Went failed_sends o o1 → Went failed_sends o1 o2 → Went failed_sends o o2
+    went_then a b = record { same = same_then a.same b.same; passes = passes_then _ _ _ _ _ _ a.passes b.passes }
+
+    -- the seat is still of the office's book
+    pub same_seat : {o o1 : Office T W D C J R F} → Went failed_sends o o1 → o.state.now.seat.book ≡ o.book.now → o1.state.now.seat.book ≡ o1.book.now
+    same_seat w h = rw w.same.book (w.passes.book ∙ h)
+
+  module _ {failed_receives failed_sends : D → ℕ} where
+    pub polls_same : {o : Office T W D C J R F} → OnlyPolls failed_receives failed_sends o o
+    polls_same = record { went = went_same; receives = refl; next = refl }
+
+    pub polls_then : {o o1 o2 : Office T W D C J R F} → OnlyPolls failed_receives failed_sends o o1 → OnlyPolls failed_receives failed_sends o1 o2 → OnlyPolls failed_receives failed_sends o o2
+    polls_then a b = record { went = went_then a.went b.went; receives = b.receives ∙ a.receives; next = b.next ∙ a.next }
+
+    -- and so is what comes after a part that only polls
+    pub still_ready : {can_call : W → Type 0} {o o1 : Office T W D C J R F} → OnlyPolls failed_receives failed_sends o o1 → MayReceive can_call o → MayReceive can_call o1
+    still_ready p m = record { seat = same_seat p.went m.seat; callable = rw p.went.same.service m.callable; room = rw p.next m.room }
+
+    -- the socket waited before
+    pub polls_waited : {o o1 o2 : Office T W D C J R F} → SameOffice o o1 → o1.state.now ≡ o.state.now → failed_sends o1.sock.now ≡ failed_sends o.sock.now → failed_receives o1.sock.now ≡ failed_receives o.sock.now
+        → OnlyPolls failed_receives failed_sends o1 o2 → OnlyPolls failed_receives failed_sends o o2
+    polls_waited same state sends receives p =
+        record { went = record { same = same_then same p.went.same; passes = rw (state, sends) at p.went.passes }; receives = p.receives ∙ receives; next = p.next ∙ ap (λ (s : Running W R F). s.next) state }
+
+  module _ {X Y : Type 0} {told_by : Office T W D C J R F → Type 0} {seen : Office T W D C J R F → World} {did did1 : X → World → Running W R F → World → Running W R F → Type 0} {broke broke1 : World → Running W R F → World → Type 0} where
+    -- a part that ends as another one did, which came after something
+    pub told_then : {o o1 o2 : Office T W D C J R F} {r : Result X No_memory} → Tells (told_by o1) (told_by o) Y → ToldSo told_by seen did1 broke1 r o1 o2
+        → ((x : X) → Y → did1 x (seen o1) o1.state.now (seen o2) o2.state.now → did x (seen o) o.state.now (seen o2) o2.state.now)
+        → (Y → broke1 (seen o1) o1.state.now (seen o2) → broke (seen o) o.state.now (seen o2)) → ToldSo told_by seen did broke r o o2
+    told_then {r = r} x y f h = record { told = if_ok_by r _ _ y.told (λ v d. tells_two x d (f v)); no_memory = on_err_by r y.no_memory (λ d. tells_two x d h) }
