@@ -4,6 +4,7 @@ ghost use Rattle.std.specs.Prelude.{◌≡◌, ◌≤◌};
 ghost use Rattle.std.specs.Arc.{arc_value};
 ghost use Rattle.dns_host.specs.Accepting.{AcceptsTo};
 
+use crate::house::House;
 use crate::pre_connect::PreConnect;
 use crate::reception::Reception;
 use crate::work::ConnectionWork;
@@ -61,14 +62,13 @@ where
     ensures accepts_later { A.faults accept.old ≤ A.faults accept.new }
     ensures starts_later { P.faults spawner.old ≤ P.faults spawner.new }
 {
-    let reception = Reception {
+    let house = House {
         rt,
         alloc,
         book,
         service,
-        clock,
-        hook,
     };
+    let reception = Reception { house, clock, hook };
     let (seat, end, _) = reception.accept_all(seat, accept, spawner, count);
     (seat, end)
 }

@@ -3,14 +3,15 @@
 ghost use Rattle.std.specs.Prelude.{◌≡◌, ◌||◌, MatchOption, IfOk};
 ghost use Rattle.std.specs.Arc.{arc_value};
 ghost use Rattle.dns_client.specs.Serving.{serving};
-ghost use Rattle.dns_host.specs.Hosting.{host_end, host_seen, door_told, mail_told, DgramsShut, AcceptsWent, DgramsWent, HalvesClosed, HostServed};
+ghost use Rattle.dns_host.specs.Hosting.{host_end, host_seen, door_told, mail_told, AcceptsWent, DgramsWent, HalvesClosed, HostServed};
 
 use crate::accepts::AcceptEnd;
+use crate::house::House;
 use crate::pre_connect::NoHook;
 use crate::reception::Reception;
 use crate::work::ConnectionWork;
 use dns_book::{Book, BookSeat};
-use dns_datagrams::{DgramEnd, serve_datagrams_and_say};
+use dns_datagrams::DgramEnd;
 use dns_drivers::{Recorder, Silent};
 use dns_name::OutOfMemory;
 use dns_outside::{AsyncAccept, AsyncDgramSock, Clock, Spawner};
@@ -61,47 +62,6 @@ fn host_end(datagrams: DgramEnd, accepts: AcceptEnd, faulted: bool, send_failed:
     }
 }
 
-/// Shuts the book down where datagrams ended by a fault or for want of memory.
-fn shut_after_datagrams<R: Wait>(rt: &R, book: &Book, seat: &mut BookSeat, end: DgramEnd)
-    requires { seat.old.book ≡ book.now }
-    ensures shut { DgramsShut end seat.old.known seat.new.known }
-    ensures same { seat.new.book ≡ seat.old.book }
-{
-    match end {
-        DgramEnd::Fault | DgramEnd::OutOfMemory => {
-            book.shutdown(rt, seat);
-        }
-        DgramEnd::Shutdown | DgramEnd::Counted => {}
-    }
-}
-
-/// Serves datagrams from the seat that stands in its place. Where they end by a fault or for want of memory, the book is shut
-/// down. Whether a send failed is given too.
-fn datagrams_beside<R: Wait, D: AsyncDgramSock, C: Clock, J: Recorder, W: Served>(
-    rt: &R,
-    alloc: Global,
-    book: &Arc<Book>,
-    service: &Arc<W>,
-    count: u64,
-    place: &mut Option<BookSeat>,
-    sock: &mut D,
-    clock: &mut C,
-    journal: &mut J,
-) -> (BookSeat, DgramEnd, bool)
-    requires place { MatchOption place.old ⊥ (λ seat. seat.book ≡ arc_value book.now) }
-    requires can_call { W.can_call (arc_value service.now) }
-    ensures went { MatchOption place.old ⊥ (λ seat. DgramsWent D.tells D.mail D.failed_receives D.failed_sends C.tells C.readings J.tells J.noted
-        (serving (W.answer (arc_value service.now)) (W.hint (arc_value service.now))) result.1 result.2 count seat.known result.0.known sock.old sock.new clock.old clock.new journal.old journal.new) }
-    ensures same { result.0.book ≡ arc_value book.now }
-{
-    let seat = place.take().unwrap();
-    let (mut seat, end, send_failed) = serve_datagrams_and_say(
-        rt, alloc, book, seat, &**service, sock, clock, journal, count,
-    );
-    shut_after_datagrams(rt, book, &mut seat, end);
-    (seat, end, send_failed)
-}
-
 impl<
     A: AsyncAccept,
     D: AsyncDgramSock + Send,
@@ -126,15 +86,14 @@ where
         W::Future: Send,
         W::Stream: Send,
         P: Spawner<ConnectionWork<A::Link, C, Silent, W>>,
-        requires halves { (halves.0.book ≡ arc_value reception.now.book.now) × (halves.1.book ≡ arc_value reception.now.book.now) }
-        requires can_call { W.can_call (arc_value reception.now.service.now) }
+        requires halves { (halves.0.book ≡ arc_value reception.now.house.book.now) × (halves.1.book ≡ arc_value reception.now.house.book.now) }
+        requires can_call { W.can_call (arc_value reception.now.house.service.now) }
         ensures dgrams { DgramsWent D.tells D.mail D.failed_receives D.failed_sends C.tells C.readings J.tells J.noted
-            (serving (W.answer (arc_value reception.now.service.now)) (W.hint (arc_value reception.now.service.now))) result.0.1 result.0.2 count halves.1.known result.0.0.known
+            (serving (W.answer (arc_value reception.now.house.service.now)) (W.hint (arc_value reception.now.house.service.now))) result.0.1 result.0.2 count halves.1.known result.0.0.known
             self.old.sock self.new.sock self.old.clock self.new.clock self.old.journal self.new.journal }
-        ensures dgrams_seat { result.0.0.book ≡ arc_value reception.now.book.now }
         ensures accepts { AcceptsWent A.tells A.door A.faults P.tells P.given P.faults result.1.1 result.1.2 count halves.0.known result.1.0.known
             self.old.accept self.new.accept self.old.spawner self.new.spawner }
-        ensures accepts_seat { result.1.0.book ≡ arc_value reception.now.book.now }
+        ensures seats { (result.0.0.book ≡ arc_value reception.now.house.book.now) × (result.1.0.book ≡ arc_value reception.now.house.book.now) }
     {
         let Host {
             accept,
@@ -143,32 +102,21 @@ where
             spawner,
             journal,
         } = self;
-        let Reception {
-            rt,
-            alloc,
-            book,
-            service,
-            ..
-        } = *reception;
+        let house = &reception.house;
         let (mut left, mut right) = (Some(halves.0), Some(halves.1));
         join_mut(
-            rt,
-            &mut || datagrams_beside(
-                rt, alloc, book, service, count, &mut right, sock, clock, journal,
-            ),
+            house.rt,
+            &mut || house.datagrams_beside(&mut right, sock, clock, journal, count),
             &mut || -> (BookSeat, AcceptEnd, bool)
-                requires place { MatchOption left ⊥ (λ seat. seat.book ≡ arc_value reception.now.book.now) }
-                requires can_call { W.can_call (arc_value reception.now.service.now) }
+                requires place { MatchOption left ⊥ (λ seat. seat.book ≡ arc_value reception.now.house.book.now) }
+                requires can_call { W.can_call (arc_value reception.now.house.service.now) }
             { reception.accepts_beside(accept, spawner, &mut left, count) },
         )
     }
 
     #[tactic(auto, using(crate::proofs::Hostings::host_served))]
     /// Serves both from the halves of a seat. Then all work is joined, and the book is shut down.
-    fn serve_both<
-        R: Threads + Wait + Copy + Send + Sync + 'static,
-        W: Served + Send + Sync + 'static,
-    >(
+    fn serve<R: Threads + Wait + Copy + Send + Sync + 'static, W: Served + Send + Sync + 'static>(
         &mut self,
         reception: &Reception<'_, R, C, W, NoHook>,
         seat: BookSeat,
@@ -178,17 +126,18 @@ where
         W::Future: Send,
         W::Stream: Send,
         P: Spawner<ConnectionWork<A::Link, C, Silent, W>>,
-        requires book { seat.book ≡ arc_value reception.now.book.now }
-        requires can_call { W.can_call (arc_value reception.now.service.now) }
+        requires book { seat.book ≡ arc_value reception.now.house.book.now }
+        requires can_call { W.can_call (arc_value reception.now.house.service.now) }
         ensures served { HostServed (host_seen A.door P.given J.noted D.mail C.readings A.faults P.faults D.failed_receives D.failed_sends)
             (door_told A.tells P.tells) (mail_told D.tells C.tells J.tells)
-            (serving (W.answer (arc_value reception.now.service.now)) (W.hint (arc_value reception.now.service.now))) result.1 count seat.known result.0.known self.old self.new }
+            (serving (W.answer (arc_value reception.now.house.service.now)) (W.hint (arc_value reception.now.house.service.now))) result.1 count seat.known result.0.known self.old self.new }
         ensures same { result.0.book ≡ seat.book }
     {
-        let halves = reception.book.split(reception.rt, seat);
+        let House { rt, book, .. } = reception.house;
+        let halves = book.split(rt, seat);
         let ends = self.both_beside(reception, halves, count);
-        self.spawner.join_all(reception.rt);
-        close_both(reception.rt, reception.book, ends)
+        self.spawner.join_all(rt);
+        close_both(rt, book, ends)
     }
 
     /// Serves both with a service and a clock of connections of their own.
@@ -217,14 +166,16 @@ where
     {
         let (service, clock) = made;
         let reception = Reception {
-            rt,
-            alloc,
-            book,
-            service: &service,
+            house: House {
+                rt,
+                alloc,
+                book,
+                service: &service,
+            },
             clock: &clock,
             hook: &NoHook,
         };
-        self.serve_both(&reception, seat, count)
+        self.serve(&reception, seat, count)
     }
 }
 

@@ -3,13 +3,14 @@
 
 mod accepts;
 mod host;
+mod house;
 mod pre_connect;
 mod reception;
 mod taking;
 mod work;
 
 pub use accepts::{AcceptEnd, serve_accepts};
-pub use dns_datagrams::{DgramEnd, serve_datagrams};
+pub use dns_datagrams::{DgramEnd, pause, serve_datagrams};
 pub use dns_drivers::{ConnectionEnd, Kept, Recorder, Silent, serve_connection};
 pub use host::{Host, HostEnd, host_service};
 pub use pre_connect::{NoHook, PreConnect};

@@ -10,6 +10,7 @@ ghost use Rattle.dns_book.specs.Seats.{first_half};
 ghost use Rattle.dns_host.specs.Arrivals.{AskedOne, Brought, StartFaults, AcceptFaults, EndedSo, AcceptsRan, arrival_of};
 
 use crate::accepts::AcceptEnd;
+use crate::house::House;
 use crate::pre_connect::PreConnect;
 use crate::taking::{Arrival, Tally, arrival_of};
 use crate::work::ConnectionWork;
@@ -29,10 +30,7 @@ const WAIT_AFTER_FAULT: u64 = 10;
 /// What connections are received with. No call changes it.
 #[derive(Drop)]
 pub(crate) struct Reception<'a, R, C, W, H> {
-    pub(crate) rt: &'a R,
-    pub(crate) alloc: Global,
-    pub(crate) book: &'a Arc<Book>,
-    pub(crate) service: &'a Arc<W>,
+    pub(crate) house: House<'a, R, W>,
     /// What the clock of each connection is made of.
     pub(crate) clock: &'a C,
     pub(crate) hook: &'a H,
@@ -149,10 +147,10 @@ where
 {
     /// Takes the memory that the work of a connection needs.
     fn shares(&self) -> Result<Shares<C, W>, OutOfMemory>
-        ensures { IfOk result (λ s. (arc_value s.book ≡ arc_value self.now.book.now) × (arc_value s.service ≡ arc_value self.now.service.now)) }
+        ensures { IfOk result (λ s. (arc_value s.book ≡ arc_value self.now.house.book.now) × (arc_value s.service ≡ arc_value self.now.house.service.now)) }
     {
-        match clones(self.book, self.service) {
-            Ok((book, service)) => match self.clock.another(self.alloc) {
+        match clones(self.house.book, self.house.service) {
+            Ok((book, service)) => match self.clock.another(self.house.alloc) {
                 Ok(clock) => Ok(Shares {
                     book,
                     service,
@@ -172,15 +170,15 @@ where
         look: &Look,
         guest: Guest<L>,
     ) -> Result<ConnectionWork<L, C, Silent, W>, OutOfMemory>
-        requires book { seat.book ≡ arc_value self.now.book.now }
+        requires book { seat.book ≡ arc_value self.now.house.book.now }
         requires running { look.now.closed ≡ false }
-        requires can_call { W.can_call (arc_value self.now.service.now) }
+        requires can_call { W.can_call (arc_value self.now.house.service.now) }
         ensures { IfOk result (λ w. (w.addr ≡ guest.from) × (w.seat.book ≡ arc_value w.book) × (w.look.closed ≡ false) × W.can_call (arc_value w.service)) }
     {
         match self.shares() {
             Ok(shares) => Ok(shares.work(seat, look, guest)),
             Err(error) => {
-                give_up(self.rt, self.book, seat, guest);
+                give_up(self.house.rt, self.house.book, seat, guest);
                 Err(error)
             }
         }
@@ -194,15 +192,15 @@ where
         guest: Guest<L>,
         spawner: &mut P,
     ) -> Result<Start, OutOfMemory>
-        requires book { seat.book ≡ arc_value self.now.book.now }
+        requires book { seat.book ≡ arc_value self.now.house.book.now }
         requires running { look.now.closed ≡ false }
-        requires can_call { W.can_call (arc_value self.now.service.now) }
+        requires can_call { W.can_call (arc_value self.now.house.service.now) }
         ensures given { Tells (P.tells spawner.new) (P.tells spawner.old) (StartMoves result guest.from (P.given spawner.old) (P.given spawner.new)) }
         ensures later { P.faults spawner.old ≤ P.faults spawner.new }
         ensures cause { StartCause result (P.faults spawner.old) (P.faults spawner.new) }
     {
         match self.work_admitted(seat, look, guest) {
-            Ok(work) => spawner.start(self.rt, self.alloc, work),
+            Ok(work) => spawner.start(self.house.rt, self.house.alloc, work),
             Err(error) => Err(error),
         }
     }
@@ -218,9 +216,9 @@ where
     ) -> (BookSeat, Result<Arrival, OutOfMemory>)
     where
         H: PreConnect<L>,
-        requires book { seat.book ≡ arc_value self.now.book.now }
+        requires book { seat.book ≡ arc_value self.now.house.book.now }
         requires running { look.now.closed ≡ false }
-        requires can_call { W.can_call (arc_value self.now.service.now) }
+        requires can_call { W.can_call (arc_value self.now.house.service.now) }
         ensures half { result.0.known ≡ first_half seat.known }
         ensures same { result.0.book ≡ seat.book }
         ensures started { (started : _) × (result.1 ≡ arrival_of started) × Tells (P.tells spawner.new) (P.tells spawner.old) (StartMoves started guest.from (P.given spawner.old) (P.given spawner.new)) }
@@ -228,7 +226,7 @@ where
         ensures cause { StartFaults result.1 (P.faults spawner.old) (P.faults spawner.new) }
     {
         self.hook.call(&mut guest.link);
-        let (first, second) = self.book.split(self.rt, seat);
+        let (first, second) = self.house.book.split(self.house.rt, seat);
         let started = self.start_admitted(second, look, guest, spawner);
         (first, arrival_of(started))
     }
@@ -247,14 +245,14 @@ where
     ) -> (BookSeat, Result<Arrival, OutOfMemory>)
     where
         H: PreConnect<L>,
-        requires book { seat.book ≡ arc_value self.now.book.now }
-        requires can_call { W.can_call (arc_value self.now.service.now) }
+        requires book { seat.book ≡ arc_value self.now.house.book.now }
+        requires can_call { W.can_call (arc_value self.now.house.service.now) }
         ensures asked { AskedOne result.1 guest.from (P.tells spawner.new) (P.tells spawner.old) seat.known result.0.known (P.given spawner.old) (P.given spawner.new) }
         ensures same { result.0.book ≡ seat.book }
         ensures later { P.faults spawner.old ≤ P.faults spawner.new }
         ensures cause { StartFaults result.1 (P.faults spawner.old) (P.faults spawner.new) }
     {
-        match self.book.admit(self.rt, &mut seat) {
+        match self.house.book.admit(self.house.rt, &mut seat) {
             Admission::Admitted(look) => self.serve_admitted(seat, &look, guest, spawner),
             Admission::Full { .. } | Admission::Closed => {
                 turn_away(guest);
@@ -275,8 +273,8 @@ where
     where
         A::Link: Send + Drop + 'static,
         H: PreConnect<A::Link>,
-        requires book { seat.book ≡ arc_value self.now.book.now }
-        requires can_call { W.can_call (arc_value self.now.service.now) }
+        requires book { seat.book ≡ arc_value self.now.house.book.now }
+        requires can_call { W.can_call (arc_value self.now.house.service.now) }
         ensures brought { Brought result.1 (A.tells accept.new × P.tells spawner.new) (A.tells accept.old × P.tells spawner.old) seat.known result.0.known
             (A.door accept.old) (A.door accept.new) (P.given spawner.old) (P.given spawner.new) (A.faults accept.old) (A.faults accept.new) }
         ensures same { result.0.book ≡ seat.book }
@@ -285,7 +283,7 @@ where
         ensures starts { StartFaults result.1 (P.faults spawner.old) (P.faults spawner.new) }
         ensures starts_later { P.faults spawner.old ≤ P.faults spawner.new }
     {
-        match accept_or_wait(self.rt, accept) {
+        match accept_or_wait(self.house.rt, accept) {
             AcceptAnswer::Accepted(link, from) => {
                 self.take_connection(seat, Guest { client, from, link }, spawner)
             }
@@ -296,14 +294,14 @@ where
 
     /// How the loop ends before an accept: so many connections came, or a look shows a shutdown.
     fn ended(&self, seat: &mut BookSeat, taken: u64, count: u64) -> Option<AcceptEnd>
-        requires { seat.old.book ≡ arc_value self.now.book.now }
+        requires { seat.old.book ≡ arc_value self.now.house.book.now }
         ensures same { seat.new.book ≡ seat.old.book }
         ensures ended { EndedSo result count taken seat.old.known seat.new.known }
     {
         if count != 0 && taken == count {
             return Some(AcceptEnd::Counted);
         }
-        if self.book.look(self.rt, seat).closed {
+        if self.house.book.look(self.house.rt, seat).closed {
             return Some(AcceptEnd::Shutdown);
         }
         None
@@ -322,13 +320,13 @@ where
     where
         A::Link: Send + Drop + 'static,
         H: PreConnect<A::Link>,
-        requires book { seat.book ≡ arc_value self.now.book.now }
-        requires can_call { W.can_call (arc_value self.now.service.now) }
+        requires book { seat.book ≡ arc_value self.now.house.book.now }
+        requires can_call { W.can_call (arc_value self.now.house.service.now) }
         ensures ran { AcceptsRan A.tells A.door A.faults P.tells P.given P.faults result.1 result.2 count seat.known result.0.known accept.old accept.new spawner.old spawner.new }
         ensures same { result.0.book ≡ seat.book }
     {
         let mut tally = Tally::new();
-        for _ in self.rt.forever() {
+        for _ in self.house.rt.forever() {
             if let Some(end) = self.ended(&mut seat, tally.taken, count) {
                 return (seat, end, tally.faulted);
             }
@@ -353,15 +351,15 @@ where
     where
         A::Link: Send + Drop + 'static,
         H: PreConnect<A::Link>,
-        requires place { MatchOption place.old ⊥ (λ seat. seat.book ≡ arc_value self.now.book.now) }
-        requires can_call { W.can_call (arc_value self.now.service.now) }
+        requires place { MatchOption place.old ⊥ (λ seat. seat.book ≡ arc_value self.now.house.book.now) }
+        requires can_call { W.can_call (arc_value self.now.house.service.now) }
         ensures went { MatchOption place.old ⊥ (λ seat. AcceptsWent A.tells A.door A.faults P.tells P.given P.faults
             result.1 result.2 count seat.known result.0.known accept.old accept.new spawner.old spawner.new) }
-        ensures same { result.0.book ≡ arc_value self.now.book.now }
+        ensures same { result.0.book ≡ arc_value self.now.house.book.now }
     {
         let seat = place.take().unwrap();
         let (mut seat, end, faulted) = self.accept_all(seat, accept, spawner, count);
-        shut_after_accepts(self.rt, self.book, &mut seat, end);
+        shut_after_accepts(self.house.rt, self.house.book, &mut seat, end);
         (seat, end, faulted)
     }
 }

@@ -1,5 +1,5 @@
 use Rattle.dns_host.proofs.Hostings.{host_served}
-use Rattle.dns_host.proofs.host.Host.serve_both.Goals as goal
+use Rattle.dns_host.proofs.host.Host.serve.Goals as goal
 
 pub returns-clause-served : goal.returns-clause-served
 returns-clause-served g c =
