@@ -7,12 +7,11 @@ ghost use Rattle.dns_book.specs.Seats.{Called, state_met};
 ghost use Rattle.dns_servers.specs.Controls.{IsDown, Reconfigured, Awaited, ReadAgain, TimePassed};
 
 use dns_book::{Book, BookSeat, Call, Reply};
+use dns_host::pause;
 use dns_outside::Clock;
 use dns_service::{DgramConfig, Error, StreamConfig};
 use std::marker::Model;
 use std::sync::{Arc, Wait};
-use std::thread::Parker;
-use std::time::Duration;
 
 /// How long is waited between two looks, in milliseconds.
 const LONGEST_PAUSE: u64 = 100;
@@ -121,13 +120,7 @@ impl Control {
         if passed >= millis {
             return Some(false);
         }
-        pause(rt, millis - passed);
+        pause(rt, LONGEST_PAUSE.min(millis - passed));
         None
     }
-}
-
-/// Waits for so long, in milliseconds, but no longer than between two looks.
-fn pause<R: Wait>(rt: &R, millis: u64) {
-    let parker = Parker::new();
-    parker.park_timeout(rt, Duration::from_millis(millis.min(LONGEST_PAUSE)));
 }
