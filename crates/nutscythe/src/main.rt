@@ -46,14 +46,6 @@ const VERSION: &str = "nutscythe 0.1.0\n";
 const USAGE: &str =
     "usage: nutscythe replay|steps < SCRIPT, nutscythe serve ADDR PORT COUNT < SCRIPT, nutscythe flood SEED COUNT, nutscythe --help or --version";
 
-/// Prints a text, and says how that went.
-fn printed(rt: &impl Print, text: &str) -> ExitCode {
-    match rt.print(text) {
-        Ok(()) => ExitCode::SUCCESS,
-        Err(_) => ExitCode::from(Status::WriteFault.number()),
-    }
-}
-
 /// The words of the command line behind the program's name. A word that isn't UTF-8 is a faulty command line.
 fn read_words(rt: &HostRuntime) -> Result<Vec<String>, Status> {
     match env::args(rt) {
@@ -89,6 +81,14 @@ fn ended(rt: &impl Eprint, status: Status) -> ExitCode {
         let _said = rt.eprintln(line);
     }
     ExitCode::from(status.number())
+}
+
+/// Prints a text, and says how that went.
+fn printed(rt: &(impl Print + Eprint), text: &str) -> ExitCode {
+    match rt.print(text) {
+        Ok(()) => ExitCode::SUCCESS,
+        Err(_) => ended(rt, Status::WriteFault),
+    }
 }
 
 /// Says on standard error that something of the machine failed. That this can't be said changes no status.
