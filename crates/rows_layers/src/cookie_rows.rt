@@ -1,100 +1,123 @@
-//! Rows of the cookie layer: a request through it to a service that answers at once.
+//! Rows of the cookie layer.
 
-use crate::inner::{AsPlanned, planned};
-use crate::layer_rows::item;
-use crate::request_rows::request_from;
-use crate::said::{Shown, called};
+use crate::layer_rows::{Layers, through_from};
+use crate::said::{PollAnswer, Says, Shown, called};
+use crate::words::kept;
 use dns_base::MessageRef;
 use dns_middleware::CookiesMiddlewareSvc;
 use dns_name::{IpAddr, ParseError};
 use dns_opt::{Cookie, MessageOpt, OptRef};
-use dns_service::{OutOfMemory, Polled, Request, Service, ServiceResult, service_fn};
-use rows_table::{Row, RowError, address_of};
+use dns_service::{CallResult, Polled, Request, Service};
+use rows_table::{Calls, Row, RowError, address_of};
 
-/// Under a secret, from an address at a second, with one denied address or `-` for none: a request to a service that
-/// answers with the item behind it.
-pub(crate) fn with_cookies(call: &str, row: &mut Row<'_>) -> Result<(), RowError> {
+/// The cookie layer.
+pub(crate) struct CookieRows;
+
+impl Calls for CookieRows {
+    fn answer(&self, call: &str, row: &mut Row<'_>) -> Result<(), RowError> {
+        match call {
+            "cookies" => guarded(row, true, false),
+            "cookies_disabled" => guarded(row, false, false),
+            "made_cookies" => guarded(row, true, true),
+            _ => return Err(RowError::NoSuchCall),
+        }
+        Ok(())
+    }
+}
+
+/// What the cookie layer of the next words gives.
+fn guarded(row: &mut Row<'_>, on: bool, made: bool) {
+    let guard = next_guard(row, on, made);
+    through_from(row, &guard, guard.address, guard.second)
+}
+
+/// The cookie layer, on or not, under a secret and with one denied address or none; the address and the second of the
+/// request; and whether the reply's cookies are told.
+#[derive(Drop)]
+struct Guard {
+    secret: [u8; 16],
+    address: IpAddr,
+    second: u64,
+    denied: Option<IpAddr>,
+    on: bool,
+    made: bool,
+}
+
+/// The cookie layer of the next words.
+fn next_guard(row: &mut Row<'_>, on: bool, made: bool) -> Guard {
     let secret = row.array::<16>();
     let address = row.address();
     let second = row.number::<u64>();
-    let denied = denied(row)?;
-    match request_from(row, address, second) {
-        Ok(mut request) => asked_with(call, row, &secret, denied, &mut request),
-        Err(error) => Err(error),
+    let denied = next_denied(row);
+    Guard {
+        secret,
+        address,
+        second,
+        denied,
+        on,
+        made,
     }
 }
 
-/// The same of a request.
-fn asked_with(
-    call: &str,
-    row: &mut Row<'_>,
-    secret: &[u8; 16],
-    denied: Vec<IpAddr>,
-    request: &mut Request<()>,
-) -> Result<(), RowError> {
-    let shown = match call {
-        "made_cookies" => Shown::Cookies(request.client_addr().ip, secret),
-        _ => Shown::Only,
-    };
-    match item(row, request) {
-        Ok(item) => Ok(in_cookies(
-            row,
-            service_fn::<AsPlanned, _, _>(planned, item),
-            secret,
-            denied,
-            request,
-            call != "cookies_disabled",
-            shown,
-        )),
-        Err(error) => Err(error),
+/// The denied address of the next word, or none where it is `-`.
+fn next_denied(row: &mut Row<'_>) -> Option<IpAddr> {
+    match row.word() {
+        "-" => None,
+        word => kept(row, address_of(word)),
     }
 }
 
-/// What a service gives to a request through the cookie layer.
-fn in_cookies<S: Service<()>>(
-    row: &mut Row<'_>,
-    service: S,
-    secret: &[u8; 16],
-    denied: Vec<IpAddr>,
-    request: &mut Request<()>,
-    enabled: bool,
-    shown: Shown<'_>,
-)
-    requires { S.can_call service }
-{
-    let layer = CookiesMiddlewareSvc::new(row.alloc(), service, *secret);
-    called(
-        row,
-        layer.with_denied_ips(denied).enable(enabled),
-        request,
-        shown,
-    )
+impl Guard {
+    /// The denied addresses.
+    fn denied(&self, row: &mut Row<'_>) -> Vec<IpAddr> {
+        let mut denied = Vec::new(row.alloc());
+        if let Some(address) = self.denied {
+            row.keep(denied.push(address));
+        }
+        denied
+    }
+
+    /// How a reply is said.
+    fn shown(&self) -> Shown<'_> {
+        if self.made {
+            Shown::Cookies(self.address, &self.secret)
+        } else {
+            Shown::Only
+        }
+    }
 }
 
-/// The denied address of the next word.
-fn denied(row: &mut Row<'_>) -> Result<Vec<IpAddr>, RowError> {
-    let mut denied = Vec::new(row.alloc());
-    let word = row.word();
-    if word != "-" {
-        denied.push(address_of(word)?)?;
+impl Layers for Guard {
+    fn ask<S: Service<()>>(&self, row: &mut Row<'_>, service: S, request: &mut Request<()>) {
+        let denied = self.denied(row);
+        let layer = CookiesMiddlewareSvc::new(row.alloc(), service, self.secret);
+        let layer = layer.with_denied_ips(denied).enable(self.on);
+        called(row, layer, request, self.shown())
     }
-    Ok(denied)
 }
 
 /// How many cookies the reply has that a poll gives, and how many of them check for an address under a secret, whatever
 /// their timestamp.
-pub(crate) fn cookies_said(
-    row: &mut Row<'_>,
-    polled: &Result<Polled<Option<ServiceResult>>, OutOfMemory>,
-    address: IpAddr,
-    secret: &[u8; 16],
-) {
-    match polled {
-        Ok(Polled::Ready(Some(Ok(given)))) => match given.response() {
-            Some(reply) => reply_said(row, reply.as_slice(), address, secret),
-            None => row.fail(RowError::Missing),
-        },
-        _ => row.fail(RowError::Missing),
+#[derive(Drop)]
+pub(crate) struct CookiesIn<'a> {
+    pub(crate) address: IpAddr,
+    pub(crate) secret: &'a [u8; 16],
+}
+
+impl Says<PollAnswer> for CookiesIn<'_> {
+    fn says(&self, row: &mut Row<'_>, value: &PollAnswer) {
+        match value {
+            Ok(Polled::Ready(Some(Ok(given)))) => given_said(row, self, given),
+            _ => row.fail(RowError::Missing),
+        }
+    }
+}
+
+/// The same of what is given.
+fn given_said(row: &mut Row<'_>, cookies: &CookiesIn<'_>, given: &CallResult) {
+    match given.response() {
+        Some(reply) => reply_said(row, reply.as_slice(), cookies.address, cookies.secret),
+        None => row.fail(RowError::Missing),
     }
 }
 

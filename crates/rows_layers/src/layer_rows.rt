@@ -1,89 +1,104 @@
-//! Rows of the layers and of their streams: a request through them to a service that answers at once.
+//! Rows of the layers: a request through them to a service that answers at once.
 
-use crate::cookie_rows::with_cookies;
 use crate::inner::{AsPlanned, planned};
-use crate::notify_rows::notified;
-use crate::request_rows::hint_said;
+use crate::request_rows::{hint_said, request_from};
 use crate::said::{Shown, called};
-use crate::stream_rows::watched;
+use crate::target::Target;
 use crate::words::{opt_rcode, reply, service_error};
-use crate::wrap_rows::wrapped;
+use crate::wrap_rows::All;
 use dns_base::AdditionalBuilder;
-use dns_middleware::{EdnsMiddlewareSvc, MandatoryMiddlewareSvc, cut};
+use dns_middleware::{EdnsMiddlewareSvc, MandatoryMiddlewareSvc, NotifyMiddlewareSvc};
+use dns_name::IpAddr;
 use dns_service::{CallResult, Request, Service, ServiceResult, mk_error_response, service_fn};
 use rows_table::{Calls, Row, RowError};
 
-/// The layers and their streams.
+/// The mandatory layer, round the service or round the EDNS layer.
+pub(crate) struct MandatoryRows;
+
+impl Calls for MandatoryRows {
+    fn answer(&self, call: &str, row: &mut Row<'_>) -> Result<(), RowError> {
+        match call {
+            "mandatory" => through(row, &Mandatory { strict: true }),
+            "mandatory_relaxed" => through(row, &Mandatory { strict: false }),
+            "both" => through(row, &Both { strict: true }),
+            "both_relaxed" => through(row, &Both { strict: false }),
+            _ => return Err(RowError::NoSuchCall),
+        }
+        Ok(())
+    }
+}
+
+/// The EDNS layer, the NOTIFY layer and all layers.
 pub(crate) struct LayerRows;
 
 impl Calls for LayerRows {
     fn answer(&self, call: &str, row: &mut Row<'_>) -> Result<(), RowError> {
         match call {
-            "cookies" | "cookies_disabled" | "made_cookies" => with_cookies(call, row),
+            "edns_hint" => through(row, &Edns { on: true }),
+            "edns_disabled" => through(row, &Edns { on: false }),
             "notify" => notified(row),
             "wrap" => wrapped(row),
-            "cut" => cut_reply(row),
-            "polls" => watched(row, false),
-            "sizes" => watched(row, true),
-            _ => Err(RowError::NoSuchCall),
+            _ => return Err(RowError::NoSuchCall),
         }
+        Ok(())
     }
 }
 
-/// A reply is cut to so many octets: its limit and its octets.
-fn cut_reply(row: &mut Row<'_>) -> Result<(), RowError> {
-    let octets = row.octets();
-    let mut message = reply(row, octets)?;
-    let done = cut(row.alloc(), &mut message, row.number());
-    row.keep(done);
-    row.show(&message.push_limit());
-    row.hexadecimal(message.as_slice());
-    Ok(())
+/// Layers round a service.
+pub(crate) trait Layers {
+    /// What the service gives to the request in these layers.
+    fn ask<S: Service<()>>(&self, row: &mut Row<'_>, service: S, request: &mut Request<()>)
+        requires { S.can_call service };
 }
 
-/// Layers round a service, each strict or on where it says so.
-#[derive(Drop)]
-enum Layers {
-    Mandatory(bool),
-    Edns(bool),
-    /// The EDNS layer within the mandatory one.
-    Both(bool),
+/// The NOTIFY layer of the next words: how often it is polled, and its target.
+fn notified(row: &mut Row<'_>) {
+    let polls = row.number();
+    let target = Target::next(row);
+    through(row, &Notify { polls, target })
 }
 
-/// The layers that a call names.
-fn layers_of(call: &str) -> Option<Layers> {
-    match call {
-        "mandatory" => Some(Layers::Mandatory(true)),
-        "mandatory_relaxed" => Some(Layers::Mandatory(false)),
-        "edns_hint" => Some(Layers::Edns(true)),
-        "edns_disabled" => Some(Layers::Edns(false)),
-        "both" => Some(Layers::Both(true)),
-        "both_relaxed" => Some(Layers::Both(false)),
-        _ => None,
+/// All layers, as the next words set them.
+fn wrapped(row: &mut Row<'_>) {
+    let all = All::next(row);
+    through(row, &all)
+}
+
+/// What layers give to the request of the next words, round a service that answers with the item behind it.
+fn through<L: Layers>(row: &mut Row<'_>, layers: &L) {
+    through_from(row, layers, IpAddr::V4([192, 0, 2, 1]), 100)
+}
+
+/// The same of a request from an address at a second.
+pub(crate) fn through_from<L: Layers>(row: &mut Row<'_>, layers: &L, ip: IpAddr, second: u64) {
+    match request_from(row, ip, second) {
+        Ok(mut request) => asked(row, layers, &mut request),
+        Err(fault) => row.fail(fault),
     }
 }
 
-/// A request through the layers that a call names to a service that answers with the item behind it.
-pub(crate) fn layered(
-    call: &str,
-    row: &mut Row<'_>,
-    request: &mut Request<()>,
-) -> Result<(), RowError> {
+/// The same of a request.
+fn asked<L: Layers>(row: &mut Row<'_>, layers: &L, request: &mut Request<()>) {
     match item(row, request) {
-        Ok(item) => {
-            let service = service_fn::<AsPlanned, _, _>(planned, item);
-            Ok(through(row, layers_of(call), service, request))
-        }
-        Err(error) => Err(error),
+        Ok(item) => layers.ask(row, service_fn::<AsPlanned, _, _>(planned, item), request),
+        Err(fault) => row.fail(fault),
     }
 }
 
 /// The item of the next word: an error by its name, the error reply to the request with a response code, or octets.
-pub(crate) fn item(row: &mut Row<'_>, request: &Request<()>) -> Result<ServiceResult, RowError> {
+fn item(row: &mut Row<'_>, request: &Request<()>) -> Result<ServiceResult, RowError> {
     let word = row.word();
     match service_error(word) {
         Some(error) => Ok(Err(error)),
-        None => Ok(Ok(CallResult::new(item_reply(row, request, word)?))),
+        None => reply_item(item_reply(row, request, word)),
+    }
+}
+
+/// The item that a reply is.
+fn reply_item(reply: Result<AdditionalBuilder, RowError>) -> Result<ServiceResult, RowError> {
+    match reply {
+        Ok(reply) => Ok(Ok(CallResult::new(reply))),
+        Err(fault) => Err(fault),
     }
 }
 
@@ -97,70 +112,83 @@ fn item_reply(
             let rcode = opt_rcode(row.number_of(number));
             Ok(mk_error_response(row.alloc(), request.message(), rcode)?)
         }
-        None => {
-            let octets = row.octets_of(word);
-            reply(row, octets)
-        }
+        None => reply(row.alloc(), row.octets_of(word)),
     }
 }
 
-/// Through layers.
-fn through<S: Service<()>>(
-    row: &mut Row<'_>,
-    layers: Option<Layers>,
-    service: S,
-    request: &mut Request<()>,
-)
-    requires { S.can_call service }
-{
-    match layers {
-        Some(Layers::Mandatory(strict)) => in_mandatory(row, strict, service, request),
-        Some(Layers::Edns(on)) => in_edns(row, on, service, request),
-        Some(Layers::Both(strict)) => {
-            in_mandatory(row, strict, EdnsMiddlewareSvc::new(service), request)
-        }
-        None => row.fail(RowError::NoSuchCall),
-    }
-}
-
-/// Through the mandatory layer.
-fn in_mandatory<S: Service<()>>(
-    row: &mut Row<'_>,
+/// The mandatory layer, strict or not.
+#[derive(Drop)]
+struct Mandatory {
     strict: bool,
-    service: S,
-    request: &mut Request<()>,
-)
-    requires { S.can_call service }
-{
-    if strict {
-        called(
-            row,
-            MandatoryMiddlewareSvc::new(service),
-            request,
-            Shown::Only,
-        )
-    } else {
-        called(
-            row,
-            MandatoryMiddlewareSvc::relaxed(service),
-            request,
-            Shown::Only,
-        )
+}
+
+impl Layers for Mandatory {
+    fn ask<S: Service<()>>(&self, row: &mut Row<'_>, service: S, request: &mut Request<()>) {
+        if self.strict {
+            called(
+                row,
+                MandatoryMiddlewareSvc::new(service),
+                request,
+                Shown::Only,
+            )
+        } else {
+            called(
+                row,
+                MandatoryMiddlewareSvc::relaxed(service),
+                request,
+                Shown::Only,
+            )
+        }
     }
 }
 
-/// The hint that a request has after it went through the EDNS layer; or the item, where the layer is off.
-fn in_edns<S: Service<()>>(row: &mut Row<'_>, on: bool, service: S, request: &mut Request<()>)
-    requires { S.can_call service }
-{
-    let shown = if on { Shown::Polls(0) } else { Shown::Only };
-    called(
-        row,
-        EdnsMiddlewareSvc::new(service).enable(on),
-        request,
-        shown,
-    );
-    if on {
-        hint_said(row, request.transport_ctx())
+/// The EDNS layer within the mandatory one, which is strict or not.
+#[derive(Drop)]
+struct Both {
+    strict: bool,
+}
+
+impl Layers for Both {
+    fn ask<S: Service<()>>(&self, row: &mut Row<'_>, service: S, request: &mut Request<()>) {
+        let mandatory = Mandatory {
+            strict: self.strict,
+        };
+        mandatory.ask(row, EdnsMiddlewareSvc::new(service), request)
+    }
+}
+
+/// The EDNS layer, on or not.
+#[derive(Drop)]
+struct Edns {
+    on: bool,
+}
+
+impl Layers for Edns {
+    /// The hint that the request has afterwards; or the item, where the layer is off.
+    fn ask<S: Service<()>>(&self, row: &mut Row<'_>, service: S, request: &mut Request<()>) {
+        let shown = if self.on {
+            Shown::Polls(0)
+        } else {
+            Shown::Only
+        };
+        let layer = EdnsMiddlewareSvc::new(service).enable(self.on);
+        called(row, layer, request, shown);
+        if self.on {
+            hint_said(row, request.transport_ctx())
+        }
+    }
+}
+
+/// The NOTIFY layer with a target, and how often its stream is polled.
+#[derive(Drop)]
+struct Notify {
+    polls: u8,
+    target: Target,
+}
+
+impl Layers for Notify {
+    fn ask<S: Service<()>>(&self, row: &mut Row<'_>, service: S, request: &mut Request<()>) {
+        let layer = NotifyMiddlewareSvc::new(service, self.target);
+        called(row, layer, request, Shown::Polls(self.polls))
     }
 }

@@ -5,7 +5,6 @@ mod cookie_rows;
 mod error_rows;
 mod inner;
 mod layer_rows;
-mod notify_rows;
 mod often_rows;
 mod reply_rows;
 mod request_rows;
@@ -19,22 +18,32 @@ mod target;
 mod words;
 mod wrap_rows;
 
-use layer_rows::LayerRows;
+use cookie_rows::CookieRows;
+use error_rows::ErrorRows;
+use layer_rows::{LayerRows, MandatoryRows};
 use often_rows::OftenRows;
 use reply_rows::ReplyRows;
 use request_rows::RequestRows;
 use route_rows::RouteRows;
+use router_rows::RouterRows;
 use rows_table::run;
 use service_rows::ServiceRows;
 use std::io;
 use std::process::ExitCode;
+use stream_rows::StreamRows;
 
 fn main(rt: HostRuntime) -> io::Result<ExitCode> {
     run(
         &rt,
         &(
-            (ServiceRows, ReplyRows),
-            (RouteRows, (LayerRows, (OftenRows, RequestRows))),
+            ((ServiceRows, ErrorRows), (ReplyRows, RouteRows)),
+            (
+                (RouterRows, StreamRows),
+                (
+                    (MandatoryRows, (LayerRows, CookieRows)),
+                    (OftenRows, RequestRows),
+                ),
+            ),
         ),
     )
 }

@@ -2,12 +2,13 @@
 
 use crate::inner::{AsPlanned, planned};
 use crate::target::Target;
-use dns_base::{AdditionalBuilder, Message, MessageRef};
+use crate::words;
+use dns_base::Message;
 use dns_middleware::{EdnsMiddlewareSvc, MandatoryMiddlewareSvc, Settings, wrap};
 use dns_name::{IpAddr, SocketAddr};
 use dns_service::{
-    CallResult, CopiedMessage, OutOfMemory, Polled, ReplyFuture, ReplyStream, Request, Service,
-    ServiceResult, TransportSpecificContext, UdpTransportContext, service_fn,
+    CallResult, OutOfMemory, Polled, ReplyFuture, ReplyStream, Request, Service, ServiceResult,
+    TransportSpecificContext, UdpTransportContext, service_fn,
 };
 use rows_table::{Calls, Row, RowError};
 use std::alloc::Global;
@@ -51,23 +52,12 @@ fn sum_said(row: &mut Row<'_>, layers: Layers) {
 
 /// The sum of all replies. What can't be asked, and what isn't answered, counts as zero.
 fn served(alloc: Global, layers: Layers, query: &[u8], reply: &[u8], count: u64) -> u64 {
-    match built(alloc, reply) {
-        Some(reply) => {
+    match words::reply(alloc, reply) {
+        Ok(reply) => {
             let service = service_fn::<AsPlanned, _, _>(planned, Ok(CallResult::new(reply)));
             within(alloc, service, layers, query, count)
         }
-        None => 0,
-    }
-}
-
-/// The reply of these octets, which has no OPT record.
-fn built(alloc: Global, octets: &[u8]) -> Option<AdditionalBuilder> {
-    match MessageRef::from_slice(octets) {
-        Ok(message) => match CopiedMessage::read(alloc, &message) {
-            Ok(copied) => copied.build(alloc, None).ok(),
-            Err(_) => None,
-        },
-        Err(_) => None,
+        Err(_) => 0,
     }
 }
 
@@ -134,7 +124,7 @@ fn asked_sum<S: Service<()>>(alloc: Global, service: &S, query: &[u8]) -> u64
 }
 
 /// A query that came in a datagram, with the hint 1232.
-fn datagram(alloc: Global, octets: &[u8]) -> Option<Request<()>> {
+pub(crate) fn datagram(alloc: Global, octets: &[u8]) -> Option<Request<()>> {
     let ip = IpAddr::V4([192, 0, 2, 1]);
     let transport = TransportSpecificContext::Udp(UdpTransportContext::new(Some(1232)));
     match Vec::from_slice(alloc, octets) {

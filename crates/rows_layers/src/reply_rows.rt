@@ -1,10 +1,9 @@
 //! Rows of replies: the helpers of whoever writes one.
 
-ghost use Rattle.std.specs.Prelude.{IfSome};
 ghost use Rattle.dns_base.specs.Records.{IsLawful};
 
 use crate::words::{message, opt_rcode};
-use dns_base::{AdditionalBuilder, Record, RecordData};
+use dns_base::{AdditionalBuilder, Message, PushError, Record, RecordData};
 use dns_name::{BuildDataError, Class, Name, OptRcode, Ttl};
 use dns_opt::{AllOptData, BuildOpt, MessageOpt, NsidRef, OptBuilder, OptRecordRef};
 use dns_service::{
@@ -24,72 +23,101 @@ impl Calls for ReplyRows {
             "mk_builder_for_target" => empty(row),
             "mk_error_response" => error_response(row),
             "response_mut" => response_mut(row),
-            "reply" => reply(row),
-            "reply_opt" => reply_opt(row),
-            _ => Err(RowError::NoSuchCall),
+            "reply" => replied(row, true),
+            "reply_opt" => replied(row, false),
+            _ => return Err(RowError::NoSuchCall),
         }
+        Ok(())
     }
 }
 
-fn empty(row: &mut Row<'_>) -> Result<(), RowError> {
-    let builder = mk_builder_for_target(row.alloc())?;
-    row.hexadecimal(builder.as_slice());
-    Ok(())
+fn empty(row: &mut Row<'_>) {
+    match mk_builder_for_target(row.alloc()) {
+        Ok(builder) => row.hexadecimal(builder.as_slice()),
+        Err(_) => row.fail(RowError::OutOfMemory),
+    }
 }
 
 /// The error reply to a message with a response code.
 fn error_reply(row: &mut Row<'_>) -> Result<AdditionalBuilder, RowError> {
-    let query = message(row)?;
+    match message(row) {
+        Ok(query) => error_reply_to(row, &query),
+        Err(fault) => Err(fault),
+    }
+}
+
+/// The same of a message.
+fn error_reply_to(row: &mut Row<'_>, query: &Message) -> Result<AdditionalBuilder, RowError> {
     let rcode = opt_rcode(row.number());
-    Ok(mk_error_response(row.alloc(), &query, rcode)?)
+    mk_error_response(row.alloc(), query, rcode).or(Err(RowError::OutOfMemory))
 }
 
 /// Its push limit and its octets.
-fn error_response(row: &mut Row<'_>) -> Result<(), RowError> {
-    let reply = error_reply(row)?;
-    row.show(&reply.push_limit());
-    row.hexadecimal(reply.as_slice());
-    Ok(())
+fn error_response(row: &mut Row<'_>) {
+    match error_reply(row) {
+        Ok(reply) => {
+            row.show(&reply.push_limit());
+            row.hexadecimal(reply.as_slice())
+        }
+        Err(fault) => row.fail(fault),
+    }
 }
 
 /// The error reply as a call's result holds it after steps: its octets.
-fn response_mut(row: &mut Row<'_>) -> Result<(), RowError> {
-    let mut given = CallResult::new(error_reply(row)?);
-    match given.response_mut() {
-        Some(reply) => steps_taken(row, reply),
-        None => row.fail(RowError::Missing),
+fn response_mut(row: &mut Row<'_>) {
+    match error_reply(row) {
+        Ok(reply) => given_said(row, CallResult::new(reply)),
+        Err(fault) => row.fail(fault),
     }
+}
+
+/// The same of a call's result.
+fn given_said(row: &mut Row<'_>, given: CallResult) {
+    let mut given = given;
+    given_stepped(row, &mut given);
     match given.response() {
         Some(reply) => row.hexadecimal(reply.as_slice()),
         None => row.fail(RowError::Missing),
     }
-    Ok(())
 }
 
-/// The empty message after steps.
-fn stepped(row: &mut Row<'_>) -> Result<AdditionalBuilder, RowError> {
-    let mut reply = mk_builder_for_target(row.alloc())?.additional();
+/// Takes the steps of the next word with the reply that a call's result holds.
+fn given_stepped(row: &mut Row<'_>, given: &mut CallResult) {
+    match given.response_mut() {
+        Some(reply) => steps_taken(row, reply),
+        None => row.fail(RowError::Missing),
+    }
+}
+
+/// The refusals of the steps that an empty message takes, and the message's octets or what its OPT record says.
+fn replied(row: &mut Row<'_>, whole: bool) {
+    match mk_builder_for_target(row.alloc()) {
+        Ok(builder) => stepped(row, builder.additional(), whole),
+        Err(_) => row.fail(RowError::OutOfMemory),
+    }
+}
+
+/// The same of a message.
+fn stepped(row: &mut Row<'_>, reply: AdditionalBuilder, whole: bool) {
+    let mut reply = reply;
     steps_taken(row, &mut reply);
-    Ok(reply)
+    if whole {
+        row.hexadecimal(reply.as_slice())
+    } else {
+        written_said(row, &reply)
+    }
 }
 
-/// The refusals of the steps, and the message's octets.
-fn reply(row: &mut Row<'_>) -> Result<(), RowError> {
-    let reply = stepped(row)?;
-    row.hexadecimal(reply.as_slice());
-    Ok(())
-}
-
-/// What the message's OPT record says after steps: how many additional records there are, the header's response code,
-/// the whole response code, the size, how many octets of options there are, and how many options are read.
-fn reply_opt(row: &mut Row<'_>) -> Result<(), RowError> {
-    let reply = stepped(row)?;
-    let written = reply.as_message();
-    match written.opt() {
-        Some(opt) => opt_said(row, &reply, &opt),
+/// What a message's OPT record says: how many additional records there are, the header's response code, the whole
+/// response code, the size, how many octets of options there are, and how many options are read.
+fn written_said(row: &mut Row<'_>, reply: &AdditionalBuilder) {
+    match reply.as_message().opt() {
+        Some(opt) => {
+            opt_said(row, reply, &opt);
+            row.show(&readable(&opt))
+        }
         None => row.say("none"),
     }
-    Ok(())
 }
 
 fn opt_said(row: &mut Row<'_>, reply: &AdditionalBuilder, opt: &OptRecordRef<'_>) {
@@ -98,8 +126,7 @@ fn opt_said(row: &mut Row<'_>, reply: &AdditionalBuilder, opt: &OptRecordRef<'_>
     row.show(&header.rcode.to_int());
     row.show(&opt.rcode(header).to_int());
     row.show(&opt.udp_payload_size());
-    row.show(&opt.opt().len());
-    row.show(&readable(opt))
+    row.show(&opt.opt().len())
 }
 
 /// How many options of any kind a record has that are read.
@@ -127,9 +154,14 @@ fn step_said(row: &mut Row<'_>, reply: &mut AdditionalBuilder, step: &str) {
     match name {
         "nsid" => option_added(row, reply, argument),
         "address" => address_pushed(row, reply),
-        "remove" => row.keep(remove_edns_opt_record(row.alloc(), reply)),
+        "remove" => removed(row, reply),
         _ => numbered_step_said(row, reply, name, argument),
     }
+}
+
+/// Removes the OPT record.
+fn removed(row: &mut Row<'_>, reply: &mut AdditionalBuilder) {
+    row.keep(remove_edns_opt_record(row.alloc(), reply))
 }
 
 /// A step whose argument is a number.
@@ -191,19 +223,26 @@ fn option_added(row: &mut Row<'_>, reply: &mut AdditionalBuilder, octets: &str) 
 
 /// Pushes the root's address.
 fn address_pushed(row: &mut Row<'_>, reply: &mut AdditionalBuilder) {
-    match address(row.alloc()) {
-        Some(item) => refusal_said(row, reply.push(row.alloc(), &item)),
-        None => row.fail(RowError::OutOfMemory),
+    match Name::root(row.alloc()) {
+        Ok(owner) => refusal_said(row, push(row.alloc(), reply, address(owner))),
+        Err(_) => row.fail(RowError::OutOfMemory),
     }
 }
 
-fn address(alloc: Global) -> Option<Record>
-    ensures { IfSome result (λ r. IsLawful r.rdata) }
+fn push(alloc: Global, reply: &mut AdditionalBuilder, item: Record) -> Result<(), PushError>
+    requires { IsLawful item.rdata }
 {
-    Some(Record {
-        owner: Name::root(alloc).ok()?,
+    reply.push(alloc, &item)
+}
+
+/// The address of a name.
+fn address(owner: Name) -> Record
+    ensures { IsLawful result.rdata }
+{
+    Record {
+        owner,
         class: Class::IN,
         ttl: Ttl::from_secs(5),
         rdata: RecordData::A([192, 0, 2, 1]),
-    })
+    }
 }

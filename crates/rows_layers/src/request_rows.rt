@@ -1,12 +1,13 @@
 //! Rows of requests.
 
-use crate::layer_rows::layered;
 use crate::route_rows::request_message;
 use crate::service_rows::{of_arc, served};
 use crate::words::message;
+use dns_base::Message;
 use dns_name::{IpAddr, SocketAddr};
 use dns_service::{NonUdpTransportContext, Request, TransportSpecificContext, UdpTransportContext};
 use rows_table::{Calls, Row, RowError};
+use std::alloc::Global;
 
 /// Calls whose first words are a request: a transport and a message. They are asked last, since the request is read before
 /// its call is looked for.
@@ -14,33 +15,34 @@ pub(crate) struct RequestRows;
 
 impl Calls for RequestRows {
     fn answer(&self, call: &str, row: &mut Row<'_>) -> Result<(), RowError> {
-        match call {
-            "with_new_metadata" => other_metadata(row),
-            _ => of_request(call, row),
+        match request(row) {
+            Ok(mut request) => asked(call, row, &mut request),
+            Err(fault) => Err(fault),
         }
     }
 }
 
-/// What a call says of the next words' request.
-fn of_request(call: &str, row: &mut Row<'_>) -> Result<(), RowError> {
-    match request(row) {
-        Ok(mut request) => asked(call, row, &mut request),
-        Err(error) => Err(error),
-    }
-}
-
-/// What a call says of a request; through layers where it names none of these.
+/// What a call says of a request.
 fn asked(call: &str, row: &mut Row<'_>, request: &mut Request<()>) -> Result<(), RowError> {
     match call {
-        "request" => Ok(parts_said(row, request)),
+        "request" => parts_said(row, request),
         "try_clone" => copied(row, request),
-        "reserve_bytes" => Ok(reserve(row, request)),
-        "set_max_response_size_hint" => Ok(other_hint(row, request)),
-        "served" => Ok(served(row, request)),
-        "arc" => Ok(of_arc(row, request)),
-        "request_message" => Ok(request_message(row, request)),
-        _ => layered(call, row, request),
+        "reserve_bytes" => reserve(row, request),
+        "set_max_response_size_hint" => other_hint(row, request),
+        _ => return passed_on(call, row, request),
     }
+    Ok(())
+}
+
+/// What a call says of a request that goes on to a service or a transport.
+fn passed_on(call: &str, row: &mut Row<'_>, request: &mut Request<()>) -> Result<(), RowError> {
+    match call {
+        "served" => served(row, request),
+        "arc" => of_arc(row, request),
+        "request_message" => request_message(row, request),
+        _ => return Err(RowError::NoSuchCall),
+    }
+    Ok(())
 }
 
 /// A request from 192.0.2.1 at second 100: its transport, `udp` with a hint in octets or `stream` with an idle timeout in
@@ -55,19 +57,35 @@ pub(crate) fn request_from(
     ip: IpAddr,
     second: u64,
 ) -> Result<Request<()>, RowError> {
-    let transport = transport(row)?;
-    let message = message(row)?;
+    let transport = transport(row);
     let sender = SocketAddr { ip, port: 5353 };
-    Ok(Request::new(row.alloc(), sender, 5, second, message, transport, ())?)
+    match message(row) {
+        Ok(message) => made(row.alloc(), sender, second, message, transport),
+        Err(fault) => Err(fault),
+    }
 }
 
-fn transport(row: &mut Row<'_>) -> Result<TransportSpecificContext, RowError> {
+/// A request of these parts, at moment 5.
+fn made(
+    alloc: Global,
+    sender: SocketAddr,
+    second: u64,
+    message: Message,
+    transport: TransportSpecificContext,
+) -> Result<Request<()>, RowError> {
+    Request::new(alloc, sender, 5, second, message, transport, ()).or(Err(RowError::OutOfMemory))
+}
+
+/// The transport of the next words.
+fn transport(row: &mut Row<'_>) -> TransportSpecificContext {
     match row.word() {
-        "udp" => Ok(TransportSpecificContext::Udp(UdpTransportContext::new(row.optional()))),
-        "stream" => Ok(TransportSpecificContext::NonUdp(NonUdpTransportContext::new(
-            row.optional(),
-        ))),
-        _ => Err(RowError::OutOfForm),
+        "udp" => TransportSpecificContext::Udp(UdpTransportContext::new(row.optional())),
+        word => {
+            if word != "stream" {
+                row.fail(RowError::OutOfForm);
+            }
+            TransportSpecificContext::NonUdp(NonUdpTransportContext::new(row.optional()))
+        }
     }
 }
 
@@ -83,11 +101,12 @@ fn parts_said(row: &mut Row<'_>, request: &Request<()>) {
 }
 
 /// Octets are reserved, and the copy gets other metadata: these, the copy's octets and how many it has reserved.
-fn copied(row: &mut Row<'_>, request: &mut Request<()>) -> Result<(), RowError> {
+fn copied(row: &mut Row<'_>, request: &mut Request<()>) {
     request.reserve_bytes(row.number());
-    let copy = request.try_clone(row.alloc(), row.number::<u8>())?;
-    copy_said(row, &copy);
-    Ok(())
+    match request.try_clone(row.alloc(), row.number::<u8>()) {
+        Ok(copy) => copy_said(row, &copy),
+        Err(_) => row.fail(RowError::OutOfMemory),
+    }
 }
 
 fn copy_said(row: &mut Row<'_>, copy: &Request<u8>) {
@@ -96,7 +115,8 @@ fn copy_said(row: &mut Row<'_>, copy: &Request<u8>) {
     row.show(&copy.num_reserved_bytes())
 }
 
-fn other_metadata(row: &mut Row<'_>) -> Result<(), RowError> {
+/// The next words' request with other metadata: these.
+pub(crate) fn other_metadata(row: &mut Row<'_>) -> Result<(), RowError> {
     let request = request(row)?;
     let metadata = row.number::<u8>();
     row.show(request.with_new_metadata(metadata).metadata());

@@ -5,7 +5,7 @@ ghost use Rattle.dns_service.specs.declared.service.Polled.TheVariants.{Pending,
 
 use crate::request_rows::request;
 use crate::route_rows::composed_said;
-use crate::said::polled;
+use crate::said::{Shown, called};
 use crate::words::service_error;
 use dns_base::Message;
 use dns_name::Name;
@@ -13,10 +13,27 @@ use dns_route::{
     BoxClientTransportToSingleService, ClientTransportToSingleService, QnameRouter, ReplyMessage,
     RequestMessage, SendError, SendRequest, SingleService, SingleServiceToService, Turned,
 };
-use dns_service::{OutOfMemory, Polled, ReplyFuture, Request, Service, ServiceError};
-use rows_table::{Row, RowError};
+use dns_service::{OutOfMemory, Polled, Request, ServiceError};
+use rows_table::{Calls, Row, RowError};
 use std::alloc::Global;
 use std::sync::Arc;
+
+/// Routers, and what these stand on.
+pub(crate) struct RouterRows;
+
+impl Calls for RouterRows {
+    fn answer(&self, call: &str, row: &mut Row<'_>) -> Result<(), RowError> {
+        match call {
+            "router" => router(row),
+            "send_error" => error_text(row),
+            "transport" => transport(row, false),
+            "boxed_transport" => transport(row, true),
+            "to_service" => to_service(row),
+            _ => return Err(RowError::NoSuchCall),
+        }
+        Ok(())
+    }
+}
 
 /// Gives the same error to any request.
 #[derive(Drop)]
@@ -67,57 +84,58 @@ fn copy(alloc: Global, message: &Message) -> Result<Message, OutOfMemory>
 }
 
 /// What a router says at turn 0: the next word has its names, each with the error that its service gives, `-` for none.
-pub(crate) fn router(row: &mut Row<'_>) -> Result<(), RowError> {
-    let names = row.word();
+fn router(row: &mut Row<'_>) {
     let mut router = QnameRouter::new(row.alloc());
-    add_all(row, &mut router, names)?;
+    add_all(row, &mut router);
     asked_at(row, &router, 0)
 }
 
-/// Adds the names of a word.
-fn add_all(
-    row: &mut Row<'_>,
-    router: &mut QnameRouter<Refusing>,
-    names: &str,
-) -> Result<(), RowError> {
-    for route in names.split(',') {
+/// Adds the names of the next word.
+fn add_all(row: &mut Row<'_>, router: &mut QnameRouter<Refusing>) {
+    for route in row.word().split(',') {
         if let Some((name, error)) = route.split_once(':') {
-            add(row, router, name, error)?;
+            add(row, router, name, error);
         }
     }
-    Ok(())
 }
 
-/// What a single service says at a turn of the request of the next words.
-fn asked_at<S: SingleService>(row: &mut Row<'_>, service: &S, k: u64) -> Result<(), RowError> {
-    let request = request(row)?;
-    turn_said(row, service, &request, k)
+/// Adds a name whose service gives an error.
+fn add(row: &mut Row<'_>, router: &mut QnameRouter<Refusing>, name: &str, error: &str) {
+    match service_error(error) {
+        Some(error) => add_refusing(row, router, name, Refusing { error }),
+        None => row.fail(RowError::OutOfForm),
+    }
 }
 
-fn add(
+/// Adds a name with its service.
+fn add_refusing(
     row: &mut Row<'_>,
     router: &mut QnameRouter<Refusing>,
     name: &str,
-    error: &str,
-) -> Result<(), RowError> {
-    let error = service_error(error).ok_or(RowError::OutOfForm)?;
+    service: Refusing,
+) {
     let octets = row.octets_of(name);
-    let name = Name::from_octets(row.copied(octets)).or(Err(RowError::OutOfForm))?;
-    Ok(router.add(row.alloc(), name, Refusing { error })?)
+    match Name::from_octets(row.copied(octets)) {
+        Ok(name) => row.keep(router.add(row.alloc(), name, service)),
+        Err(_) => row.fail(RowError::OutOfForm),
+    }
+}
+
+/// What a single service says at a turn of the request of the next words.
+fn asked_at<S: SingleService>(row: &mut Row<'_>, service: &S, k: u64) {
+    match request(row) {
+        Ok(request) => turn_said(row, service, &request, k),
+        Err(fault) => row.fail(fault),
+    }
 }
 
 /// What a single service says at a turn.
-fn turn_said<S: SingleService>(
-    row: &mut Row<'_>,
-    service: &S,
-    request: &Request<()>,
-    k: u64,
-) -> Result<(), RowError> {
-    match service.turn(row.alloc(), request, k)? {
-        Polled::Pending => row.say("pending"),
-        Polled::Ready(turned) => turned_said(row, turned),
+fn turn_said<S: SingleService>(row: &mut Row<'_>, service: &S, request: &Request<()>, k: u64) {
+    match service.turn(row.alloc(), request, k) {
+        Ok(Polled::Ready(turned)) => turned_said(row, turned),
+        Ok(Polled::Pending) => row.say("pending"),
+        Err(_) => row.fail(RowError::OutOfMemory),
     }
-    Ok(())
 }
 
 /// A reply or an error.
@@ -139,77 +157,83 @@ fn send_error(name: &str) -> Option<SendError> {
 }
 
 /// Its text.
-pub(crate) fn error_text(row: &mut Row<'_>) -> Result<(), RowError> {
-    let error = send_error(row.word()).ok_or(RowError::OutOfForm)?;
-    row.show(&error);
-    Ok(())
+fn error_text(row: &mut Row<'_>) {
+    match send_error(row.word()) {
+        Some(error) => row.show(&error),
+        None => row.fail(RowError::OutOfForm),
+    }
 }
 
 /// A transport: how often it is pending, and its error or the octets of its message.
 fn next_transport(row: &mut Row<'_>) -> Result<Planned, RowError> {
     let waits = row.number();
     let answer = row.word();
-    if let Some(error) = send_error(answer) {
-        return Ok(Planned {
+    match send_error(answer) {
+        Some(error) => Ok(Planned {
             waits,
             answer: Err(error),
-        });
+        }),
+        None => Ok(Planned {
+            waits,
+            answer: Ok(message_of(row, answer)?),
+        }),
     }
-    let octets = row.octets_of(answer);
-    let message = Message::from_octets(row.copied(octets)).or(Err(RowError::OutOfForm))?;
-    Ok(Planned {
-        waits,
-        answer: Ok(message),
-    })
+}
+
+/// The message that the octets of a word are.
+fn message_of(row: &mut Row<'_>, word: &str) -> Result<Message, RowError> {
+    let octets = row.octets_of(word);
+    Message::from_octets(row.copied(octets)).or(Err(RowError::OutOfForm))
 }
 
 /// What a single service over a transport, or over it in a box, says at a turn.
-pub(crate) fn transport(row: &mut Row<'_>, in_box: bool) -> Result<(), RowError> {
+fn transport(row: &mut Row<'_>, in_box: bool) {
     let k = row.number();
-    let conn = next_transport(row)?;
-    if in_box {
-        boxed(row, conn, k)
-    } else {
-        asked_at(row, &ClientTransportToSingleService::new(conn), k)
+    match next_transport(row) {
+        Ok(conn) if in_box => boxed(row, conn, k),
+        Ok(conn) => asked_at(row, &ClientTransportToSingleService::new(conn), k),
+        Err(fault) => row.fail(fault),
     }
 }
 
 /// The same over a transport in a box.
-fn boxed(row: &mut Row<'_>, conn: Planned, k: u64) -> Result<(), RowError> {
-    let conn: Box<dyn SendRequest + Send + Sync> = Box::new(row.alloc(), conn).or(Err(
-        RowError::OutOfMemory,
-    ))?;
+fn boxed(row: &mut Row<'_>, conn: Planned, k: u64) {
+    match Box::new(row.alloc(), conn) {
+        Ok(conn) => over_box(row, conn, k),
+        Err(_) => row.fail(RowError::OutOfMemory),
+    }
+}
+
+/// The same over a box.
+fn over_box(row: &mut Row<'_>, conn: Box<dyn SendRequest + Send + Sync>, k: u64) {
     asked_at(row, &BoxClientTransportToSingleService::new(conn), k)
 }
 
 /// What a service over such a single service says at four polls at most, up to the end.
-pub(crate) fn to_service(row: &mut Row<'_>) -> Result<(), RowError> {
-    let conn = next_transport(row)?;
-    let mut request = request(row)?;
-    over_single(row, ClientTransportToSingleService::new(conn), &mut request)
-}
-
-/// The same over a single service.
-fn over_single<S: SingleService>(
-    row: &mut Row<'_>,
-    single: S,
-    request: &mut Request<()>,
-) -> Result<(), RowError> {
-    let service = SingleServiceToService::new(Arc::new(row.alloc(), single)?);
-    let mut future = service.call(row.alloc(), request)?;
-    four_polls(row, &mut future)
-}
-
-/// What a future says at four polls at most, and then its stream.
-fn four_polls<F: ReplyFuture>(row: &mut Row<'_>, future: &mut F) -> Result<(), RowError> {
-    for _ in 0..4 {
-        match future.poll(row.alloc())? {
-            Polled::Pending => row.say("pending"),
-            Polled::Ready(mut stream) => {
-                polled(row, &mut stream, 2);
-                return Ok(());
-            }
-        }
+fn to_service(row: &mut Row<'_>) {
+    match next_transport(row) {
+        Ok(conn) => asked_over(row, ClientTransportToSingleService::new(conn)),
+        Err(fault) => row.fail(fault),
     }
-    Ok(())
+}
+
+/// The same over a single service, of the request of the next words.
+fn asked_over<S: SingleService>(row: &mut Row<'_>, single: S) {
+    match request(row) {
+        Ok(mut request) => over_single(row, single, &mut request),
+        Err(fault) => row.fail(fault),
+    }
+}
+
+/// The same of a request.
+fn over_single<S: SingleService>(row: &mut Row<'_>, single: S, request: &mut Request<()>) {
+    match Arc::new(row.alloc(), single) {
+        Ok(single) => called(
+            row,
+            SingleServiceToService::new(single),
+            request,
+            Shown::Polls(2),
+        ),
+        Err(_) => row.fail(RowError::OutOfMemory),
+    }
 }

@@ -1,6 +1,6 @@
 //! What polls gave, as a row says it.
 
-use crate::cookie_rows::cookies_said;
+use crate::cookie_rows::CookiesIn;
 use dns_name::IpAddr;
 use dns_service::{OutOfMemory, Polled, ReplyFuture, ReplyStream, Request, Service, ServiceResult};
 use rows_table::{Row, RowError};
@@ -31,12 +31,23 @@ pub(crate) fn called<S: Service<()>>(
     }
 }
 
+/// What a future's stream gives, behind `pending` for each poll that gives none yet; there are four polls at most.
 fn future_said<F: ReplyFuture>(row: &mut Row<'_>, future: &mut F, shown: Shown<'_>) {
+    for _ in 0..4 {
+        if let Some(mut stream) = ready(row, future) {
+            return stream_said(row, &mut stream, shown);
+        }
+    }
+}
+
+/// The stream that a future gives at its next poll; where there is none, it says so.
+pub(crate) fn ready<F: ReplyFuture>(row: &mut Row<'_>, future: &mut F) -> Option<F::Stream> {
     match future.poll(row.alloc()) {
-        Ok(Polled::Ready(mut stream)) => stream_said(row, &mut stream, shown),
-        Ok(Polled::Pending) => row.say("no stream"),
+        Ok(Polled::Ready(stream)) => return Some(stream),
+        Ok(Polled::Pending) => row.say("pending"),
         Err(OutOfMemory) => row.fail(RowError::OutOfMemory),
     }
+    None
 }
 
 fn stream_said<S: ReplyStream>(row: &mut Row<'_>, stream: &mut S, shown: Shown<'_>) {
@@ -44,7 +55,8 @@ fn stream_said<S: ReplyStream>(row: &mut Row<'_>, stream: &mut S, shown: Shown<'
         Shown::Polls(polls) => polled(row, stream, polls),
         Shown::Only => only_said(row, stream),
         Shown::Cookies(address, secret) => {
-            cookies_said(row, &stream.poll_next(row.alloc()), address, secret)
+            let cookies = stream.poll_next(row.alloc());
+            say(row, &CookiesIn { address, secret }, cookies)
         }
     }
 }
@@ -56,33 +68,57 @@ pub(crate) fn polled<S: ReplyStream>(row: &mut Row<'_>, stream: &mut S, polls: u
     }
 }
 
+/// What is said of values.
+pub(crate) trait Says<T> {
+    /// Says it of a value.
+    fn says(&self, row: &mut Row<'_>, value: &T);
+}
+
+/// Says it of a value that nothing else has.
+fn say<T: Drop, S: Says<T>>(row: &mut Row<'_>, what: &S, value: T) {
+    what.says(row, &value)
+}
+
+/// What one poll of a stream answers.
+pub(crate) type PollAnswer = Result<Polled<Option<ServiceResult>>, OutOfMemory>;
+
+/// All that a poll gives: `pending`, the item or `end`.
+struct AllOfIt {}
+
+impl Says<PollAnswer> for AllOfIt {
+    fn says(&self, row: &mut Row<'_>, value: &PollAnswer) {
+        match value {
+            Ok(Polled::Ready(Some(item))) => item_said(row, item),
+            Ok(Polled::Ready(None)) => row.say("end"),
+            Ok(Polled::Pending) => row.say("pending"),
+            Err(_) => row.fail(RowError::OutOfMemory),
+        }
+    }
+}
+
+/// Where a stream doesn't end.
+struct NoEnd {}
+
+impl Says<PollAnswer> for NoEnd {
+    fn says(&self, row: &mut Row<'_>, value: &PollAnswer) {
+        match value {
+            Ok(Polled::Ready(None)) => {}
+            _ => row.say("no end"),
+        }
+    }
+}
+
 /// What the next poll gives.
 pub(crate) fn next_said<S: ReplyStream>(row: &mut Row<'_>, stream: &mut S) {
-    poll_said(row, &stream.poll_next(row.alloc()))
+    let answer = stream.poll_next(row.alloc());
+    say(row, &AllOfIt {}, answer)
 }
 
 /// What the first poll gives, and where the second doesn't give the end.
 fn only_said<S: ReplyStream>(row: &mut Row<'_>, stream: &mut S) {
     next_said(row, stream);
-    end_said(row, &stream.poll_next(row.alloc()))
-}
-
-/// Says where a stream doesn't end.
-fn end_said(row: &mut Row<'_>, polled: &Result<Polled<Option<ServiceResult>>, OutOfMemory>) {
-    match polled {
-        Ok(Polled::Ready(None)) => {}
-        _ => row.say("no end"),
-    }
-}
-
-/// What a stream gave at one poll: `pending`, the item or `end`.
-fn poll_said(row: &mut Row<'_>, polled: &Result<Polled<Option<ServiceResult>>, OutOfMemory>) {
-    match polled {
-        Ok(Polled::Ready(Some(item))) => item_said(row, item),
-        Ok(Polled::Ready(None)) => row.say("end"),
-        Ok(Polled::Pending) => row.say("pending"),
-        Err(_) => row.fail(RowError::OutOfMemory),
-    }
+    let answer = stream.poll_next(row.alloc());
+    say(row, &NoEnd {}, answer)
 }
 
 /// The octets of the reply, the feedback or the error of an item.
@@ -101,13 +137,9 @@ fn item_said(row: &mut Row<'_>, item: &ServiceResult) {
 
 /// How many items are left, at least and at most: `1..2`, or `1..` where the most isn't known.
 pub(crate) fn size_said(row: &mut Row<'_>, size: (usize, Option<usize>)) {
-    let (least, most) = size;
-    let said = match most {
-        Some(most) => format!(in row.alloc(); "{least}..{most}"),
-        None => format!(in row.alloc(); "{least}.."),
-    };
-    match said {
-        Ok(said) => row.say(said.as_str()),
-        Err(_) => row.fail(RowError::OutOfMemory),
+    row.show(&size.0);
+    row.close("..");
+    if let Some(most) = size.1 {
+        row.close_shown(&most);
     }
 }

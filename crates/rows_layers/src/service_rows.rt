@@ -4,10 +4,10 @@ ghost use Rattle.std.specs.Prelude.{None, Some};
 ghost use Rattle.dns_service.specs.declared.service.Polled.TheVariants.{Ready};
 ghost use Rattle.dns_service.specs.Transport.{hint_of};
 
-use crate::error_rows::{next_error, rcode, reply_error, service_text, text};
+use crate::error_rows::next_error;
 use crate::inner::{AsPlanned, planned};
-use crate::request_rows::request;
-use crate::said::{next_said, size_said};
+use crate::request_rows::{other_metadata, request};
+use crate::said::{next_said, ready, size_said};
 use dns_service::{
     CallResult, Now, Once, OutOfMemory, Plainly, Polled, ReplyFuture, ReplyStream, Request, Served,
     Service, ServiceError, ServiceFeedback, ServiceResult, service_fn,
@@ -64,20 +64,18 @@ impl Service<()> for Silent {
     }
 }
 
-/// Services that stand by themselves, and the errors of services and replies.
+/// Services that stand by themselves, and requests with other metadata.
 pub(crate) struct ServiceRows;
 
 impl Calls for ServiceRows {
     fn answer(&self, call: &str, row: &mut Row<'_>) -> Result<(), RowError> {
         match call {
             "service_fn" => of_closure(row),
-            "once" => Ok(once(row)),
-            "rcode" => rcode(row),
-            "service_error" => service_text(row),
-            "error" => text(row),
-            "reply_error" => reply_error(row),
-            _ => Err(RowError::NoSuchCall),
+            "once" => once(row),
+            "with_new_metadata" => return other_metadata(row),
+            _ => return Err(RowError::NoSuchCall),
         }
+        Ok(())
     }
 }
 
@@ -85,7 +83,7 @@ impl Calls for ServiceRows {
 pub(crate) fn served(row: &mut Row<'_>, request: &mut Request<()>) {
     match Arc::new(row.alloc(), Plainly { service: Silent {} }) {
         Ok(shared) => match Served::call(&shared, row.alloc(), request) {
-            Ok(mut future) => future_said(row, &mut future),
+            Ok(future) => future_said(row, future),
             Err(OutOfMemory) => row.fail(RowError::OutOfMemory),
         },
         Err(_) => row.fail(RowError::OutOfMemory),
@@ -105,17 +103,17 @@ fn answered<S: Service<()>>(row: &mut Row<'_>, service: S, request: &mut Request
     requires { S.can_call service }
 {
     match service.call(row.alloc(), request) {
-        Ok(mut future) => future_said(row, &mut future),
+        Ok(future) => future_said(row, future),
         Err(OutOfMemory) => row.fail(RowError::OutOfMemory),
     }
 }
 
 /// What a service of a closure gives that answers with this error.
-fn of_closure(row: &mut Row<'_>) -> Result<(), RowError> {
-    let error = next_error(row)?;
+fn of_closure(row: &mut Row<'_>) {
+    let error = next_error(row);
     match request(row) {
-        Ok(mut request) => Ok(refused(row, &mut request, error)),
-        Err(error) => Err(error),
+        Ok(mut request) => refused(row, &mut request, error),
+        Err(fault) => row.fail(fault),
     }
 }
 
@@ -133,28 +131,34 @@ fn refused(row: &mut Row<'_>, request: &mut Request<()>, error: ServiceError) {
 /// What a future gives that is ready with an item that comes once.
 fn once(row: &mut Row<'_>) {
     if row.word() != "BeginTransaction" {
-        return row.fail(RowError::OutOfForm);
+        row.fail(RowError::OutOfForm);
     }
     let item = CallResult::feedback_only(ServiceFeedback::BeginTransaction);
-    future_said(row, &mut Now::new(Once::new(Ok(item))))
+    future_said(row, Now::new(Once::new(Ok(item))))
 }
 
 /// What a future's stream gives at three polls, its sizes in front of each, and what the future is afterwards.
-fn future_said<F: ReplyFuture>(row: &mut Row<'_>, future: &mut F) {
-    match future.poll(row.alloc()) {
-        Ok(Polled::Ready(mut stream)) => stream_said(row, &mut stream),
-        Ok(Polled::Pending) => row.say("pending"),
-        Err(OutOfMemory) => row.fail(RowError::OutOfMemory),
-    }
-    afterwards_said(row, future)
+fn future_said<F: ReplyFuture>(row: &mut Row<'_>, future: F) {
+    let mut future = future;
+    first_said(row, &mut future);
+    afterwards_said(row, &mut future)
 }
 
-fn afterwards_said<F: ReplyFuture>(row: &mut Row<'_>, future: &mut F) {
-    match future.poll(row.alloc()) {
-        Ok(Polled::Ready(_)) => row.close(", then ready"),
-        Ok(Polled::Pending) => row.close(", then pending"),
-        Err(OutOfMemory) => row.fail(RowError::OutOfMemory),
+/// What a future's stream gives.
+fn first_said<F: ReplyFuture>(row: &mut Row<'_>, future: &mut F) {
+    if let Some(mut stream) = ready(row, future) {
+        stream_said(row, &mut stream);
     }
+}
+
+/// What a future is afterwards.
+fn afterwards_said<F: ReplyFuture>(row: &mut Row<'_>, future: &mut F) {
+    let said = match future.poll(row.alloc()) {
+        Ok(Polled::Ready(_)) => ", then ready",
+        Ok(Polled::Pending) => ", then pending",
+        Err(OutOfMemory) => ", then out of memory",
+    };
+    row.close(said)
 }
 
 fn stream_said<S: ReplyStream>(row: &mut Row<'_>, stream: &mut S) {

@@ -18,15 +18,21 @@ pub(crate) struct Target {
 
 impl Target {
     /// The target of the next words: how often it is pending, and `ok`, `notauth` or `other`.
-    pub(crate) fn next(row: &mut Row<'_>) -> Result<Target, RowError> {
-        let waits = row.number();
-        let verdict = match row.word() {
-            "ok" => Ok(()),
-            "notauth" => Err(NotifyError::NotAuthForZone),
-            "other" => Err(NotifyError::Other),
-            _ => return Err(RowError::OutOfForm),
-        };
-        Ok(Target { waits, verdict })
+    pub(crate) fn next(row: &mut Row<'_>) -> Target {
+        Target {
+            waits: row.number(),
+            verdict: next_verdict(row),
+        }
+    }
+}
+
+/// The verdict of the next word.
+fn next_verdict(row: &mut Row<'_>) -> Result<(), NotifyError> {
+    match row.word() {
+        "ok" => Ok(()),
+        "notauth" => Err(NotifyError::NotAuthForZone),
+        "other" => Err(NotifyError::Other),
+        _ => Ok(row.fail(RowError::OutOfForm)),
     }
 }
 

@@ -2,9 +2,9 @@
 
 use dns_base::{AdditionalBuilder, Message, MessageRef};
 use dns_name::{OptRcode, Rcode};
-use dns_opt::{MessageOpt, OptRecord};
+use dns_opt::{MessageOpt, OptRecordRef};
 use dns_route::CopiedMessage;
-use dns_service::{OutOfMemory, ServiceError};
+use dns_service::ServiceError;
 use rows_table::{Row, RowError};
 use std::alloc::Global;
 
@@ -19,30 +19,53 @@ pub(crate) fn message_ref<'a>(row: &mut Row<'a>) -> Result<MessageRef<'a>, RowEr
 }
 
 /// Octets as a reply under construction: each section as it stands, with uncompressed names, and the OPT record last.
-pub(crate) fn reply(row: &mut Row<'_>, octets: &[u8]) -> Result<AdditionalBuilder, RowError> {
-    let message = MessageRef::from_slice(octets).or(Err(RowError::OutOfForm))?;
-    let opt = opt_record(row.alloc(), &message)?;
-    copied(row.alloc(), &message, opt)
-}
-
-/// A copy of a message with this OPT record in place of its own, as its last.
-fn copied(
-    alloc: Global,
-    message: &MessageRef<'_>,
-    opt: Option<OptRecord>,
-) -> Result<AdditionalBuilder, RowError> {
-    match CopiedMessage::read(alloc, message) {
-        Ok(copied) => copied
-            .build(alloc, opt.as_ref())
-            .or(Err(RowError::OutOfForm)),
+pub(crate) fn reply(alloc: Global, octets: &[u8]) -> Result<AdditionalBuilder, RowError> {
+    match MessageRef::from_slice(octets) {
+        Ok(message) => copied(alloc, &message),
         Err(_) => Err(RowError::OutOfForm),
     }
 }
 
-fn opt_record(alloc: Global, message: &MessageRef<'_>) -> Result<Option<OptRecord>, OutOfMemory> {
-    match message.opt() {
-        Some(opt) => Ok(Some(opt.to_owned(alloc)?)),
-        None => Ok(None),
+/// The same of a message.
+fn copied(alloc: Global, message: &MessageRef<'_>) -> Result<AdditionalBuilder, RowError> {
+    match CopiedMessage::read(alloc, message) {
+        Ok(copied) => built(alloc, &copied, message.opt()),
+        Err(_) => Err(RowError::OutOfForm),
+    }
+}
+
+/// A copy that is built, with this OPT record.
+fn built(
+    alloc: Global,
+    copied: &CopiedMessage,
+    opt: Option<OptRecordRef<'_>>,
+) -> Result<AdditionalBuilder, RowError> {
+    match opt {
+        Some(opt) => with_opt(alloc, copied, &opt),
+        None => copied.build(alloc, None).or(Err(RowError::OutOfForm)),
+    }
+}
+
+/// The same with an OPT record.
+fn with_opt(
+    alloc: Global,
+    copied: &CopiedMessage,
+    opt: &OptRecordRef<'_>,
+) -> Result<AdditionalBuilder, RowError> {
+    match opt.to_owned(alloc) {
+        Ok(opt) => copied.build(alloc, Some(&opt)).or(Err(RowError::OutOfForm)),
+        Err(_) => Err(RowError::OutOfMemory),
+    }
+}
+
+/// A value that was read, or none with a fault.
+pub(crate) fn kept<T: Drop>(row: &mut Row<'_>, read: Result<T, RowError>) -> Option<T> {
+    match read {
+        Ok(value) => Some(value),
+        Err(fault) => {
+            row.fail(fault);
+            None
+        }
     }
 }
 

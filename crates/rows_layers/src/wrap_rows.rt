@@ -1,77 +1,79 @@
 //! Rows of a service in all layers, which are set as the row says.
 
-use crate::inner::{AsPlanned, planned};
-use crate::layer_rows::item;
-use crate::request_rows::{hint_said, request};
+use crate::layer_rows::Layers;
+use crate::request_rows::hint_said;
 use crate::said::{Shown, called};
 use crate::target::Target;
+use crate::words::kept;
 use dns_middleware::{Settings, wrap};
-use dns_service::{OutOfMemory, Request, Service, service_fn};
+use dns_service::{OutOfMemory, Request, Service};
 use rows_table::{Row, RowError, array_of};
 
-/// Settings, so many polls of a request, with a target, to a service that answers with the item behind it; and the hint
-/// that the request has after the call.
-pub(crate) fn wrapped(row: &mut Row<'_>) -> Result<(), RowError> {
-    let settings = settings(row)?;
-    let polls = row.number::<u8>();
-    wrapped_by(row, &settings, polls)
-}
-
-/// The same by settings.
-fn wrapped_by(row: &mut Row<'_>, settings: &Settings, polls: u8) -> Result<(), RowError> {
-    let target = Target::next(row)?;
-    match request(row) {
-        Ok(mut request) => asked_with(row, settings, target, &mut request, polls),
-        Err(error) => Err(error),
-    }
-}
-
-/// The same of a request.
-fn asked_with(
-    row: &mut Row<'_>,
-    settings: &Settings,
-    target: Target,
-    request: &mut Request<()>,
+/// All layers as a row sets them, with a target, and how often their stream is polled.
+#[derive(Drop)]
+pub(crate) struct All {
+    strict: bool,
+    edns: bool,
+    cookies: Option<[u8; 16]>,
     polls: u8,
-) -> Result<(), RowError> {
-    match item(row, request) {
-        Ok(item) => {
-            let service = service_fn::<AsPlanned, _, _>(planned, item);
-            Ok(in_all(row, settings, service, target, request, polls))
+    target: Target,
+}
+
+impl All {
+    /// The layers of the next words: `strict` or `relaxed`, `edns` or `plain`, the secret of cookies or `-`, how often the
+    /// stream is polled, and the target.
+    pub(crate) fn next(row: &mut Row<'_>) -> All {
+        All {
+            strict: either(row, "strict", "relaxed"),
+            edns: either(row, "edns", "plain"),
+            cookies: next_secret(row),
+            polls: row.number(),
+            target: Target::next(row),
         }
-        Err(error) => Err(error),
+    }
+
+    /// The same as settings.
+    fn settings(&self, row: &Row<'_>) -> Settings {
+        let mut settings = Settings::new(row.alloc());
+        settings.strict = self.strict;
+        settings.edns = self.edns;
+        settings.cookies = self.cookies;
+        settings
     }
 }
 
-/// So many polls of a request to a service in its layers.
-fn in_all<S: Service<()>>(
+impl Layers for All {
+    /// So many polls, and the hint that the request has after the call.
+    fn ask<S: Service<()>>(&self, row: &mut Row<'_>, service: S, request: &mut Request<()>) {
+        let settings = self.settings(row);
+        in_settings(row, self, &settings, service, request);
+        row.close(", hint");
+        hint_said(row, request.transport_ctx())
+    }
+}
+
+/// So many polls of a request to a service in its layers by settings.
+fn in_settings<S: Service<()>>(
     row: &mut Row<'_>,
+    all: &All,
     settings: &Settings,
     service: S,
-    target: Target,
     request: &mut Request<()>,
-    polls: u8,
 )
     requires { S.can_call service }
 {
-    match wrap(row.alloc(), settings, service, target) {
-        Ok(service) => called(row, service, request, Shown::Polls(polls)),
+    match wrap(row.alloc(), settings, service, all.target) {
+        Ok(service) => called(row, service, request, Shown::Polls(all.polls)),
         Err(OutOfMemory) => row.fail(RowError::OutOfMemory),
     }
-    row.close(", hint");
-    hint_said(row, request.transport_ctx())
 }
 
-/// The settings of the next words: `strict` or `relaxed`, `edns` or `plain`, and the secret of cookies or `-`.
-fn settings(row: &mut Row<'_>) -> Result<Settings, RowError> {
-    let mut settings = Settings::new(row.alloc());
-    settings.strict = either(row, "strict", "relaxed");
-    settings.edns = either(row, "edns", "plain");
-    settings.cookies = match row.word() {
+/// The secret of the next word, or none where it is `-`.
+fn next_secret(row: &mut Row<'_>) -> Option<[u8; 16]> {
+    match row.word() {
         "-" => None,
-        word => Some(array_of(word)?),
-    };
-    Ok(settings)
+        word => kept(row, array_of(word)),
+    }
 }
 
 /// Whether the next word is the first of two, and not the second.

@@ -5,10 +5,11 @@ ghost use Rattle.dns_base.specs.Records.{IsLawful, record_of};
 ghost use Rattle.dns_base.specs.Standing.{Gives};
 
 use crate::data::record_in_words;
+use crate::messages::{Takes, hand_on};
 use crate::stages::Stage;
 use dns_base::{
-    AdditionalBuilder, AnswerBuilder, Message, MessageBuilder, PushError, Record, StreamTarget,
-    data_has_names, typed_records_read_back,
+    AdditionalBuilder, AnswerBuilder, Message, MessageBuilder, PushError, Record, RecordRef,
+    StreamTarget, data_has_names, typed_records_read_back,
 };
 use dns_name::{OutOfMemory, ParseError, Rcode};
 use rows_table::{Calls, Row, RowError};
@@ -20,42 +21,47 @@ pub struct Builders;
 impl Calls for Builders {
     fn answer(&self, call: &str, row: &mut Row<'_>) -> Result<(), RowError> {
         match call {
-            "built" => built(row),
-            "framed" => framed(row),
+            "built" => built(row, false),
+            "framed" => built(row, true),
             "start_answer" => started(row, false),
             "start_error" => started(row, true),
             "typed" => typed(row),
-            _ => Err(RowError::NoSuchCall),
+            _ => return Err(RowError::NoSuchCall),
         }
+        Ok(())
+    }
+}
+
+/// What the steps say of an empty message, and the message as it is then or as it is finished.
+fn built(row: &mut Row<'_>, framed: bool) {
+    match MessageBuilder::new(row.alloc()) {
+        Ok(builder) if framed => finished(row, Stage::Message(builder)),
+        Ok(builder) => shown(row, Stage::Message(builder)),
+        Err(_) => row.fail(RowError::OutOfMemory),
     }
 }
 
 /// What the steps say, and the octets that the message has behind them.
-fn shown(row: &mut Row<'_>, stage: &mut Stage) {
-    row.take_steps(", ", stage);
+fn shown(row: &mut Row<'_>, stage: Stage) {
+    let mut stage = stage;
+    row.take_steps(", ", &mut stage);
     row.hexadecimal(stage.as_slice())
 }
 
-/// The same for an empty message.
-fn built(row: &mut Row<'_>) -> Result<(), RowError> {
-    let builder = MessageBuilder::new(row.alloc())?;
-    shown(row, &mut Stage::Message(builder));
-    Ok(())
-}
-
-/// The finished message that the steps build.
-fn finished(row: &mut Row<'_>) -> Result<StreamTarget, RowError> {
-    let mut stage = Stage::Message(MessageBuilder::new(row.alloc())?);
+/// What the steps say, and the finished message.
+fn finished(row: &mut Row<'_>, stage: Stage) {
+    let mut stage = stage;
     row.take_steps(", ", &mut stage);
-    stage.finish().ok_or(RowError::NoSuchStep)
+    match stage.finish() {
+        Some(frame) => frame_said(row, &frame),
+        None => row.fail(RowError::NoSuchStep),
+    }
 }
 
-/// What the steps say, and the finished message as a stream and as a datagram has it.
-fn framed(row: &mut Row<'_>) -> Result<(), RowError> {
-    let frame = finished(row)?;
+/// A finished message as a stream and as a datagram has it.
+fn frame_said(row: &mut Row<'_>, frame: &StreamTarget) {
     row.hexadecimal(frame.as_stream_slice());
-    row.hexadecimal(frame.as_dgram_slice());
-    Ok(())
+    row.hexadecimal(frame.as_dgram_slice())
 }
 
 /// An empty message of at most so many octets.
@@ -76,26 +82,27 @@ fn rcode(row: &mut Row<'_>) -> Rcode {
     }
 }
 
-/// The message of the next word.
-fn query(row: &mut Row<'_>) -> Result<Message, RowError> {
-    Message::from_octets(row.vector()).or(Err(RowError::OutOfForm))
-}
-
 /// The answer or the error answer to a query, of at most so many octets and with a response code, and what the steps say of
 /// it.
-fn started(row: &mut Row<'_>, error: bool) -> Result<(), RowError> {
+fn started(row: &mut Row<'_>, error: bool) {
     let limit = row.number();
     let rcode = rcode(row);
-    let query = query(row)?;
-    match begun(row.alloc(), limit, rcode, &query, error) {
-        Ok(answer) => shown(row, &mut Stage::Answer(answer)),
+    match Message::from_octets(row.vector()) {
+        Ok(query) => begun(row, limit, rcode, &query, error),
+        Err(_) => row.fail(RowError::OutOfForm),
+    }
+}
+
+/// The same of a query.
+fn begun(row: &mut Row<'_>, limit: usize, rcode: Rcode, query: &Message, error: bool) {
+    match answer(row.alloc(), limit, rcode, query, error) {
+        Ok(answer) => shown(row, Stage::Answer(answer)),
         Err(error) => row.debug(&error),
     }
-    Ok(())
 }
 
 /// The answer or the error answer to a query, of at most so many octets and with a response code.
-fn begun(
+fn answer(
     alloc: Global,
     limit: usize,
     rcode: Rcode,
@@ -111,24 +118,62 @@ fn begun(
 }
 
 /// A message whose additional section is one record.
-fn with_record(alloc: Global, item: &Record) -> Result<AdditionalBuilder, ParseError>
+fn with_record(alloc: Global, item: &Record) -> Result<AdditionalBuilder, PushError>
     requires { IsLawful item.now.rdata }
     ensures { IfOk result (λ b. b.message.additional ≡ record_of item.now ∷ []) }
 {
     let mut builder = MessageBuilder::new(alloc)?.additional();
     match builder.push(alloc, item) {
         Ok(()) => Ok(builder),
-        Err(_) => Err(ParseError::OutOfMemory),
+        Err(error) => Err(error),
     }
 }
 
-/// Says the octets of the first additional record's data.
-fn data_octets(row: &mut Row<'_>, builder: &AdditionalBuilder) -> Result<(), RowError> {
-    match builder.as_message().additional()?.next() {
-        Some(found) => row.hexadecimal(found?.rdata()),
-        None => row.fail(RowError::Missing),
+/// The data's octets of a record that is pushed, and whether all fields come back when they are read, names up to ASCII
+/// case.
+fn typed(row: &mut Row<'_>) {
+    let read = record_in_words(row);
+    hand_on(row, &mut Pushed {}, read)
+}
+
+/// The same of a record.
+#[derive(Drop)]
+struct Pushed {}
+
+impl Takes<Record> for Pushed {
+    ghost fits = { λ r. IsLawful r.rdata };
+
+    fn take(&mut self, row: &mut Row<'_>, item: &Record) {
+        match with_record(row.alloc(), item) {
+            Ok(builder) => read_again(row, &builder, item),
+            Err(_) => row.fail(RowError::OutOfMemory),
+        }
     }
-    Ok(())
+}
+
+/// The same of what was built of the record.
+fn read_again(row: &mut Row<'_>, builder: &AdditionalBuilder, item: &Record)
+    requires pushed { builder.now.message.additional ≡ record_of item.now ∷ [] }
+    requires lawful { IsLawful item.now.rdata }
+{
+    data_said(row, builder);
+    back_said(row, item, first_read(row.alloc(), builder, item))
+}
+
+/// Says the octets of the first additional record's data.
+fn data_said(row: &mut Row<'_>, builder: &AdditionalBuilder) {
+    match first_of(builder) {
+        Ok(found) => row.hexadecimal(found.rdata()),
+        Err(error) => row.refuse(error),
+    }
+}
+
+/// The first additional record of what is built.
+fn first_of<'a>(builder: &'a AdditionalBuilder) -> Result<RecordRef<'a>, ParseError> {
+    match builder.as_message().additional()?.next() {
+        Some(found) => found,
+        None => Err(ParseError::ShortInput),
+    }
 }
 
 /// The first additional record of what is built, which was pushed to an empty section.
@@ -151,37 +196,22 @@ fn first_read(
     }
 }
 
-/// Whether all fields of the first additional record of what is built are those of the record that was pushed, names up to
-/// ASCII case.
-fn reads_back(alloc: Global, builder: &AdditionalBuilder, item: &Record) -> Result<bool, RowError>
-    requires pushed { builder.now.message.additional ≡ record_of item.now ∷ [] }
-    requires lawful { IsLawful item.now.rdata }
-{
-    let read = first_read(alloc, builder, item)?;
-    Ok(*item == read && item.ttl == read.ttl)
+/// What comes back when it is read.
+trait ComesBack: Drop {
+    /// Whether all fields are those of what was read.
+    fn comes_back(&self, read: &Self) -> bool;
 }
 
-/// The data's octets of a record that is pushed, and whether all fields come back when they are read.
-fn pushed_and_read(row: &mut Row<'_>, item: &Record) -> Result<(), RowError>
-    requires { IsLawful item.now.rdata }
-{
-    let builder = with_record(row.alloc(), item)?;
-    read_again(row, &builder, item)
+impl ComesBack for Record {
+    fn comes_back(&self, read: &Record) -> bool {
+        *self == *read && self.ttl == read.ttl
+    }
 }
 
-/// The same of what was built of the record.
-fn read_again(row: &mut Row<'_>, builder: &AdditionalBuilder, item: &Record) -> Result<(), RowError>
-    requires pushed { builder.now.message.additional ≡ record_of item.now ∷ [] }
-    requires lawful { IsLawful item.now.rdata }
-{
-    data_octets(row, builder)?;
-    let back = reads_back(row.alloc(), builder, item)?;
-    row.tell_whether("reads_back", back);
-    Ok(())
-}
-
-/// The same for a record whose data stands in words.
-fn typed(row: &mut Row<'_>) -> Result<(), RowError> {
-    let item = record_in_words(row)?;
-    pushed_and_read(row, &item)
+/// Whether all fields came back.
+fn back_said<T: ComesBack>(row: &mut Row<'_>, item: &T, read: Result<T, ParseError>) {
+    match read {
+        Ok(read) => row.tell_whether("reads_back", item.comes_back(&read)),
+        Err(error) => row.refuse(error),
+    }
 }

@@ -5,30 +5,31 @@ use dns_name::{
 };
 use rows_table::{Calls, Row, RowError};
 
-/// The registries of dns_name.
+/// The registries of dns_name of questions, records and options.
 pub struct Codes;
 
-const CLASSES: [Class; 5] = [Class::IN, Class::CH, Class::HS, Class::NONE, Class::ANY];
-
-const OPCODES: [Opcode; 6] = [
-    Opcode::QUERY,
-    Opcode::IQUERY,
-    Opcode::STATUS,
-    Opcode::NOTIFY,
-    Opcode::UPDATE,
-    Opcode::DSO,
-];
+/// The registries of dns_name of errors and replies.
+pub struct ReplyCodes;
 
 impl Calls for Codes {
     fn answer(&self, call: &str, row: &mut Row<'_>) -> Result<(), RowError> {
         match call {
-            "classes" => numbered(row, "IN CH HS NONE ANY", &CLASSES),
+            "classes" => classes(row),
             "rtypes" => rtypes(row),
             "more_rtypes" => more_rtypes(row),
+            "opcodes" => opcodes(row),
             "option_codes" => option_codes(row),
+            _ => return Err(RowError::NoSuchCall),
+        }
+        Ok(())
+    }
+}
+
+impl Calls for ReplyCodes {
+    fn answer(&self, call: &str, row: &mut Row<'_>) -> Result<(), RowError> {
+        match call {
             "extended_error_codes" => error_codes(row),
             "more_extended_error_codes" => more_error_codes(row),
-            "opcodes" => numbered(row, "QUERY IQUERY STATUS NOTIFY UPDATE DSO", &OPCODES),
             "rcodes" => rcodes(row),
             "opt_rcodes" => opt_rcodes(row),
             "more_opt_rcodes" => more_opt_rcodes(row),
@@ -36,6 +37,25 @@ impl Calls for Codes {
         }
         Ok(())
     }
+}
+
+/// The classes.
+fn classes(row: &mut Row<'_>) {
+    let codes = [Class::IN, Class::CH, Class::HS, Class::NONE, Class::ANY];
+    numbered(row, "IN CH HS NONE ANY", &codes)
+}
+
+/// The opcodes.
+fn opcodes(row: &mut Row<'_>) {
+    let codes = [
+        Opcode::QUERY,
+        Opcode::IQUERY,
+        Opcode::STATUS,
+        Opcode::NOTIFY,
+        Opcode::UPDATE,
+        Opcode::DSO,
+    ];
+    numbered(row, "QUERY IQUERY STATUS NOTIFY UPDATE DSO", &codes)
 }
 
 /// The record types.
@@ -235,7 +255,8 @@ impl HasNumber for OptRcode {
 
 /// Says the numbers of codes, each under the name in its place.
 fn numbered<C: HasNumber>(row: &mut Row<'_>, names: &str, codes: &[C]) {
-    for (name, code) in names.split(' ').zip(codes) {
-        row.tell(name, &code.number());
+    let mut names = names.split(' ');
+    for code in codes {
+        row.tell(names.next().unwrap_or(""), &code.number());
     }
 }

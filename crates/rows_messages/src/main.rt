@@ -7,6 +7,7 @@ mod copies;
 mod data;
 mod messages;
 mod names;
+mod places;
 mod stages;
 
 use std::io;
@@ -16,8 +17,14 @@ fn main(rt: HostRuntime) -> io::Result<ExitCode> {
     rows_table::run(
         &rt,
         &(
-            (codes::Codes, names::Names),
-            (messages::Messages, (copies::Copies, builders::Builders)),
+            (
+                (codes::Codes, codes::ReplyCodes),
+                (names::MadeNames, names::Names),
+            ),
+            (
+                (places::PlacedNames, messages::Messages),
+                (builders::Builders, copies::Copies),
+            ),
         ),
     )
 }

@@ -3,14 +3,12 @@
 ghost use Rattle.std.specs.Prelude.{IfOk};
 ghost use Rattle.dns_message.specs.Records.{IsLawful};
 
-use dns_message::{
-    ComposeQuestion, MessageRef, QuestionIter, Record, RecordIter, is_plain, number_at,
-};
+use dns_message::{ComposeQuestion, MessageRef, QuestionIter, QuestionRef, Record, RecordIter};
 use dns_name::ParseError;
 use rows_table::{Calls, Row, RowError};
 use std::alloc::Global;
 
-/// The calls of dns_message.
+/// The calls of messages and their sections.
 pub struct Messages;
 
 impl Calls for Messages {
@@ -19,43 +17,29 @@ impl Calls for Messages {
             "header_octets" => header_octets(row),
             "first_question" => first_question(row),
             "compose_question" => compose_question(row),
-            "is_plain" => plain(row),
-            "number_at" => number_in(row),
-            "sections" => sections(row),
-            "answer" => answer_types(row),
-            _ => Err(RowError::NoSuchCall),
+            "sections" => return sections(row),
+            "answer" => return answer_types(row),
+            _ => return Err(RowError::NoSuchCall),
         }
+        Ok(())
     }
 }
 
 /// The message of the next word.
-pub(crate) fn next_message<'a>(row: &mut Row<'a>) -> Result<MessageRef<'a>, RowError> {
-    MessageRef::from_slice(row.octets()).or(Err(RowError::OutOfForm))
+pub(crate) fn next_message<'a>(row: &mut Row<'a>) -> MessageRef<'a> {
+    match MessageRef::from_slice(row.octets()) {
+        Ok(message) => message,
+        Err(_) => {
+            row.fail(RowError::OutOfForm);
+            MessageRef::of(b"\0\0\0\0\0\0\0\0\0\0\0\0")
+        }
+    }
 }
 
 /// The first four octets of a message's header.
-fn header_octets(row: &mut Row<'_>) -> Result<(), RowError> {
-    let header = next_message(row)?.header();
-    row.hexadecimal(&header.octets());
-    Ok(())
-}
-
-/// Whether a message is a plain query.
-fn plain(row: &mut Row<'_>) -> Result<(), RowError> {
-    let octets = row.octets();
-    row.whether(is_plain(octets));
-    Ok(())
-}
-
-/// The number of two octets at a place of a message.
-fn number_in(row: &mut Row<'_>) -> Result<(), RowError> {
-    let octets = row.octets();
-    let place = row.number::<usize>();
-    if place > octets.len() {
-        return Err(RowError::OutOfForm);
-    }
-    row.show(&number_at(octets, place));
-    Ok(())
+fn header_octets(row: &mut Row<'_>) {
+    let header = next_message(row).header();
+    row.hexadecimal(&header.octets())
 }
 
 /// What a question appends to none.
@@ -66,42 +50,76 @@ pub(crate) fn composed<Q: ComposeQuestion>(row: &mut Row<'_>, question: &Q) {
 }
 
 /// The first question, owned, and how many octets it says that it takes.
-fn first_question(row: &mut Row<'_>) -> Result<(), RowError> {
-    let Some(found) = next_message(row)?.first_question() else {
-        row.say("none");
-        return Ok(());
-    };
-    let question = found.to_question(row.alloc())?;
-    composed(row, &question);
-    row.tell("compose_len", &question.compose_len());
-    Ok(())
+fn first_question(row: &mut Row<'_>) {
+    match next_message(row).first_question() {
+        Some(found) => question_owned(row, &found),
+        None => row.say("none"),
+    }
+}
+
+/// The same of a question.
+fn question_owned(row: &mut Row<'_>, found: &QuestionRef<'_>) {
+    match found.to_question(row.alloc()) {
+        Ok(question) => {
+            composed(row, &question);
+            row.tell("compose_len", &question.compose_len())
+        }
+        Err(_) => row.fail(RowError::OutOfMemory),
+    }
 }
 
 /// The first question, where it stands.
-fn compose_question(row: &mut Row<'_>) -> Result<(), RowError> {
-    match next_message(row)?.first_question() {
+fn compose_question(row: &mut Row<'_>) {
+    match next_message(row).first_question() {
         Some(found) => composed(row, &found),
         None => row.say("none"),
     }
-    Ok(())
 }
 
-/// The first answer record, owned; where there is none, octets are missing.
-fn answer_in(alloc: Global, octets: &[u8]) -> Result<Record, ParseError>
+/// The first of some records, owned; where there is none, octets are missing.
+fn first_owned(alloc: Global, records: RecordIter<'_>) -> Result<Record, ParseError>
     ensures { IfOk result (λ r. IsLawful r.rdata) }
 {
-    match MessageRef::from_slice(octets)?.answer()?.next() {
-        Some(found) => found?.to_record(alloc),
+    let mut records = records;
+    match records.next() {
+        Some(Ok(found)) => found.to_record(alloc),
+        Some(Err(error)) => Err(error),
         None => Err(ParseError::ShortInput),
     }
 }
 
-/// The first answer record of the next word's message.
+/// The first answer record of the next word's message, owned.
 pub(crate) fn next_answer(row: &mut Row<'_>) -> Result<Record, RowError>
     ensures { IfOk result (λ r. IsLawful r.rdata) }
 {
-    let octets = row.octets();
-    Ok(answer_in(row.alloc(), octets)?)
+    match next_message(row).answer() {
+        Ok(records) => first_owned(row.alloc(), records).map_err(RowError::from),
+        Err(error) => Err(error.into()),
+    }
+}
+
+/// What a value that was read is handed to.
+pub(crate) trait Takes<V> {
+    /// Which values it takes.
+    ghost fits: { V → Type 0 };
+
+    /// Takes it, and says what a row says of it.
+    fn take(&mut self, row: &mut Row<'_>, item: &V)
+        requires { fits item.now };
+}
+
+/// Hands a value on that was read; or says why there is none.
+pub(crate) fn hand_on<V: Drop, T: Takes<V>>(
+    row: &mut Row<'_>,
+    to: &mut T,
+    read: Result<V, RowError>,
+)
+    requires { IfOk read T.fits }
+{
+    match read {
+        Ok(item) => to.take(row, &item),
+        Err(fault) => row.give_up(fault),
+    }
 }
 
 /// What a record appends to none.
@@ -140,8 +158,18 @@ fn asked(row: &mut Row<'_>, questions: QuestionIter<'_>) -> Result<(), RowError>
 
 /// The types of all four sections.
 fn sections(row: &mut Row<'_>) -> Result<(), RowError> {
-    let (questions, answer, authority, additional) = next_message(row)?.sections()?;
+    let (questions, answer, authority, additional) = next_message(row).sections()?;
     asked(row, questions)?;
+    records_said(row, answer, authority, additional)
+}
+
+/// The types of three sections.
+fn records_said(
+    row: &mut Row<'_>,
+    answer: RecordIter<'_>,
+    authority: RecordIter<'_>,
+    additional: RecordIter<'_>,
+) -> Result<(), RowError> {
     types(row, "answer", answer)?;
     types(row, "authority", authority)?;
     types(row, "additional", additional)
@@ -149,6 +177,8 @@ fn sections(row: &mut Row<'_>) -> Result<(), RowError> {
 
 /// The types of the answer records.
 fn answer_types(row: &mut Row<'_>) -> Result<(), RowError> {
-    let answer = next_message(row)?.answer()?;
-    types(row, "answer", answer)
+    match next_message(row).answer() {
+        Ok(answer) => types(row, "answer", answer),
+        Err(error) => Err(error.into()),
+    }
 }

@@ -4,6 +4,7 @@ ghost use Rattle.std.specs.Prelude.{◌≡◌, ◌≤◌, IfOk, true, length};
 ghost use Rattle.dns_base.specs.Options.{IsOptionList};
 ghost use Rattle.dns_base.specs.Records.{IsLawful};
 
+use crate::messages::{Takes, hand_on};
 use dns_base::{
     AdditionalBuilder, AnswerBuilder, AuthorityBuilder, MessageBuilder, Question, QuestionBuilder,
     Record, StreamTarget, is_option_list, record_in,
@@ -63,7 +64,7 @@ impl Stage {
     }
 
     /// Lets the message take so many octets.
-    fn limit(&mut self, limit: usize) -> Result<(), RowError> {
+    fn limit(&mut self, limit: usize) {
         match self {
             Stage::Gone => {}
             Stage::Message(builder) => builder.set_push_limit(limit),
@@ -72,11 +73,10 @@ impl Stage {
             Stage::Authority(builder) => builder.set_push_limit(limit),
             Stage::Additional(builder) => builder.set_push_limit(limit),
         }
-        Ok(())
     }
 
     /// Lets the message take as many octets as any.
-    fn unlimit(&mut self) -> Result<(), RowError> {
+    fn unlimit(&mut self) {
         match self {
             Stage::Gone => {}
             Stage::Message(builder) => builder.clear_push_limit(),
@@ -85,45 +85,43 @@ impl Stage {
             Stage::Authority(builder) => builder.clear_push_limit(),
             Stage::Additional(builder) => builder.clear_push_limit(),
         }
-        Ok(())
     }
 
     /// Drops the section's items.
-    fn rewind(&mut self) -> Result<(), RowError> {
+    fn rewind(&mut self, row: &mut Row<'_>) {
         match self {
-            Stage::Gone | Stage::Message(_) => return Err(RowError::NoSuchStep),
+            Stage::Gone | Stage::Message(_) => row.fail(RowError::NoSuchStep),
             Stage::Question(builder) => builder.rewind(),
             Stage::Answer(builder) => builder.rewind(),
             Stage::Authority(builder) => builder.rewind(),
             Stage::Additional(builder) => builder.rewind(),
         }
-        Ok(())
-    }
-
-    /// The message at its additional records.
-    fn additional(&mut self) -> Result<&mut AdditionalBuilder, RowError> {
-        match self {
-            Stage::Additional(builder) => Ok(builder),
-            _ => Err(RowError::NoSuchStep),
-        }
     }
 
     /// Goes on with a copy.
-    fn clone_in_place(&mut self, alloc: Global) -> Result<(), RowError> {
-        *self = self.try_clone(alloc)?;
-        Ok(())
+    fn clone_in_place(&mut self, row: &mut Row<'_>) {
+        match self.try_clone(row.alloc()) {
+            Ok(copy) => *self = copy,
+            Err(_) => row.fail(RowError::OutOfMemory),
+        }
     }
 
     /// A copy.
     fn try_clone(&self, alloc: Global) -> Result<Stage, OutOfMemory> {
         match self {
             Stage::Gone => Ok(Stage::Gone),
-            Stage::Message(builder) => Ok(Stage::Message(builder.try_clone(alloc)?)),
-            Stage::Question(builder) => Ok(Stage::Question(builder.try_clone(alloc)?)),
-            Stage::Answer(builder) => Ok(Stage::Answer(builder.try_clone(alloc)?)),
-            Stage::Authority(builder) => Ok(Stage::Authority(builder.try_clone(alloc)?)),
-            Stage::Additional(builder) => Ok(Stage::Additional(builder.try_clone(alloc)?)),
+            Stage::Message(builder) => builder.try_clone(alloc).map(Stage::Message),
+            Stage::Question(builder) => builder.try_clone(alloc).map(Stage::Question),
+            Stage::Answer(builder) => builder.try_clone(alloc).map(Stage::Answer),
+            Stage::Authority(builder) => builder.try_clone(alloc).map(Stage::Authority),
+            Stage::Additional(builder) => builder.try_clone(alloc).map(Stage::Additional),
         }
+    }
+
+    /// Moves the message on to the section behind its own, and tells whether that has this name.
+    fn move_to(&mut self, section: &str) -> bool {
+        *self = moved(replace(self, Stage::Gone));
+        self.section() == section
     }
 }
 
@@ -139,67 +137,108 @@ fn moved(stage: Stage) -> Stage {
 }
 
 /// Moves the message on to a later section.
-fn move_on(stage: &mut Stage, section: &str) -> Result<(), RowError> {
+fn move_on(stage: &mut Stage, section: &str, row: &mut Row<'_>) {
     for _ in 0..4 {
-        *stage = moved(replace(stage, Stage::Gone));
-        if stage.section() == section {
-            return Ok(());
+        if stage.move_to(section) {
+            return;
         }
     }
-    Err(RowError::NoSuchStep)
+    row.fail(RowError::NoSuchStep)
 }
 
 /// The question that octets are.
 fn question_of(alloc: Global, octets: &[u8]) -> Result<Question, ParseError> {
     let mut parser = Parser::from_ref(octets);
-    let name = NameRef::parse(&mut parser)?;
-    let qtype = parser.parse_u16_be()?;
-    let qclass = parser.parse_u16_be()?;
-    Ok(Question {
-        qname: name.to_owned(alloc)?,
-        qtype: Rtype::from_int(qtype),
-        qclass: Class::from_int(qclass),
-    })
+    match NameRef::parse(&mut parser) {
+        Ok(name) => question_behind(alloc, &name, &mut parser),
+        Err(error) => Err(error),
+    }
 }
 
-/// The record that the octets of the next word are.
-fn next_record(row: &mut Row<'_>) -> Result<Record, RowError>
+/// The question of a name, whose type and class are behind it.
+fn question_behind(
+    alloc: Global,
+    name: &NameRef<'_>,
+    parser: &mut Parser<'_>,
+) -> Result<Question, ParseError> {
+    let qtype = Rtype::from_int(parser.parse_u16_be()?);
+    let qclass = Class::from_int(parser.parse_u16_be()?);
+    match name.to_owned(alloc) {
+        Ok(qname) => Ok(Question {
+            qname,
+            qtype,
+            qclass,
+        }),
+        Err(error) => Err(error.into()),
+    }
+}
+
+/// Adds the question of the next word, and says what that answers.
+fn push_question(builder: &mut QuestionBuilder, row: &mut Row<'_>) {
+    match question_of(row.alloc(), row.octets()) {
+        Ok(question) => row.outcome(builder.push(row.alloc(), &question)),
+        Err(error) => row.fail(error.into()),
+    }
+}
+
+/// The record that octets are.
+fn record_of(alloc: Global, octets: &[u8]) -> Result<Record, RowError>
     ensures { IfOk result (λ r. IsLawful r.rdata) }
 {
-    let octets = row.octets();
-    let (found, _) = record_in(octets, 0)?;
-    Ok(found.to_record(row.alloc())?)
+    match record_in(octets, 0) {
+        Ok((found, _)) => found.to_record(alloc).or(Err(RowError::OutOfForm)),
+        Err(_) => Err(RowError::OutOfForm),
+    }
 }
 
-/// Adds the question of the next word.
-fn push_question(builder: &mut QuestionBuilder, row: &mut Row<'_>) -> Result<(), RowError> {
-    let octets = row.octets();
-    let question = question_of(row.alloc(), octets)?;
-    row.outcome(builder.push(row.alloc(), &question));
-    Ok(())
+/// A message that a record is added to, or in which it replaces others.
+#[derive(Drop)]
+struct Put<'a> {
+    stage: &'a mut Stage,
+    replaces: bool,
 }
 
-/// Adds a record to the section, or puts it in place of those of its type, and says what that answers.
-fn put_record(stage: &mut Stage, row: &mut Row<'_>, item: &Record, replaces: bool)
+impl Takes<Record> for Put<'_> {
+    ghost fits = { λ r. IsLawful r.rdata };
+
+    fn take(&mut self, row: &mut Row<'_>, item: &Record) {
+        if self.replaces {
+            replace_record(self.stage, row, item)
+        } else {
+            push_record(self.stage, row, item)
+        }
+    }
+}
+
+/// Adds a record to the section, and says what that answers.
+fn push_record(stage: &mut Stage, row: &mut Row<'_>, item: &Record)
     requires { IsLawful item.now.rdata }
 {
+    let alloc = row.alloc();
     match stage {
-        Stage::Additional(builder) if replaces => {
-            row.outcome(builder.replace_type(row.alloc(), item.rdata.rtype(), item));
-        }
-        Stage::Answer(builder) => row.outcome(builder.push(row.alloc(), item)),
-        Stage::Authority(builder) => row.outcome(builder.push(row.alloc(), item)),
-        Stage::Additional(builder) => row.outcome(builder.push(row.alloc(), item)),
+        Stage::Answer(builder) => row.outcome(builder.push(alloc, item)),
+        Stage::Authority(builder) => row.outcome(builder.push(alloc, item)),
+        Stage::Additional(builder) => row.outcome(builder.push(alloc, item)),
         _ => row.fail(RowError::NoSuchStep),
     }
 }
 
-/// Adds the record of the next word, or puts it in place of those of its type.
-fn with_record(stage: &mut Stage, row: &mut Row<'_>, replaces: bool) -> Result<(), RowError> {
-    match next_record(row) {
-        Ok(item) => Ok(put_record(stage, row, &item, replaces)),
-        Err(error) => Err(error),
+/// Puts a record in place of the additional ones of its type, and says what that answers.
+fn replace_record(stage: &mut Stage, row: &mut Row<'_>, item: &Record)
+    requires { IsLawful item.now.rdata }
+{
+    match stage {
+        Stage::Additional(builder) => {
+            row.outcome(builder.replace_type(row.alloc(), item.rdata.rtype(), item))
+        }
+        _ => row.fail(RowError::NoSuchStep),
     }
+}
+
+/// Puts in the record of the next word.
+fn put_next(stage: &mut Stage, row: &mut Row<'_>, replaces: bool) {
+    let read = record_of(row.alloc(), row.octets());
+    hand_on(row, &mut Put { stage, replaces }, read)
 }
 
 /// Whether octets may be the data of an OPT record.
@@ -211,50 +250,61 @@ fn are_options(octets: &[u8]) -> bool
 
 /// Adds the OPT record of the next words, its size, its TTL and its options, or puts it in place of the OPT records, and says
 /// what that answers.
-fn with_opt(stage: &mut Stage, row: &mut Row<'_>, replaces: bool) -> Result<(), RowError> {
+fn with_opt(builder: &mut AdditionalBuilder, row: &mut Row<'_>, replaces: bool) {
     let (size, ttl) = (row.number(), Ttl::from_secs(row.number()));
     let options = row.octets();
     if !are_options(options) {
-        return Err(RowError::OutOfForm);
-    }
-    let builder = stage.additional()?;
-    if replaces {
-        row.outcome(builder.replace_opt(row.alloc(), size, ttl, options));
+        row.fail(RowError::OutOfForm)
+    } else if replaces {
+        row.outcome(builder.replace_opt(row.alloc(), size, ttl, options))
     } else {
-        row.outcome(builder.push_opt(row.alloc(), size, ttl, options));
+        row.outcome(builder.push_opt(row.alloc(), size, ttl, options))
     }
-    Ok(())
-}
-
-/// Drops the additional records of the type of the next word.
-fn remove_next(stage: &mut Stage, row: &mut Row<'_>) -> Result<(), RowError> {
-    stage
-        .additional()?
-        .remove_type(Rtype::from_int(row.number()));
-    Ok(())
 }
 
 impl Steps for Stage {
-    fn take_step(&mut self, step: &str, row: &mut Row<'_>) -> Result<(), RowError> {
+    fn take_step(&mut self, step: &str, row: &mut Row<'_>) {
         match step {
             "push" => push_next(self, row),
-            "replace" => with_record(self, row, true),
-            "remove" => remove_next(self, row),
-            "push_opt" => with_opt(self, row, false),
-            "replace_opt" => with_opt(self, row, true),
+            "replace" => put_next(self, row, true),
             "limit" => self.limit(row.number()),
             "unlimit" => self.unlimit(),
-            "rewind" => self.rewind(),
-            "clone" => self.clone_in_place(row.alloc()),
-            section => move_on(self, section),
+            _ => take_another(self, step, row),
         }
     }
 }
 
+/// Another step.
+fn take_another(stage: &mut Stage, step: &str, row: &mut Row<'_>) {
+    match step {
+        "rewind" => stage.rewind(row),
+        "clone" => stage.clone_in_place(row),
+        _ => take_last(stage, step, row),
+    }
+}
+
+/// A step of the additional records alone, or a move to a later section.
+fn take_last(stage: &mut Stage, step: &str, row: &mut Row<'_>) {
+    match stage {
+        Stage::Additional(builder) => at_additional(builder, step, row),
+        _ => move_on(stage, step, row),
+    }
+}
+
+/// A step of the additional records alone.
+fn at_additional(builder: &mut AdditionalBuilder, step: &str, row: &mut Row<'_>) {
+    match step {
+        "remove" => builder.remove_type(Rtype::from_int(row.number())),
+        "push_opt" => with_opt(builder, row, false),
+        "replace_opt" => with_opt(builder, row, true),
+        _ => row.fail(RowError::NoSuchStep),
+    }
+}
+
 /// Adds the question or record of the next word, and says what that answers.
-fn push_next(stage: &mut Stage, row: &mut Row<'_>) -> Result<(), RowError> {
+fn push_next(stage: &mut Stage, row: &mut Row<'_>) {
     match stage {
         Stage::Question(builder) => push_question(builder, row),
-        _ => with_record(stage, row, false),
+        _ => put_next(stage, row, false),
     }
 }

@@ -1,80 +1,111 @@
 //! The calls of dns_cookie.
 
-use crate::said::shown;
+use crate::said::{Next, order_said, shown};
 use dns_cookie::{
     ClientCookie, Cookie, ServerCookie, StandardServerCookie, check_response, siphash24,
     timestamp_ok,
 };
-use dns_name::{ComposeOptData, IpAddr, OptionCode, ParseOptData, Parser, Serial};
+use dns_name::{ComposeOptData, IpAddr, OptionCode, ParseError, ParseOptData, Parser, Serial};
 use rows_table::{Calls, Row, RowError};
 
-/// The calls of dns_cookie.
+/// Calls of cookies as they are made and checked.
 pub struct Cookies;
+
+/// Calls of the parts of cookies.
+pub struct CookieParts;
+
+/// Calls of hashes, timestamps and the order of cookies.
+pub struct CookieOrders;
 
 impl Calls for Cookies {
     fn answer(&self, call: &str, row: &mut Row<'_>) -> Result<(), RowError> {
         match call {
-            "siphash24" => hash(row),
-            "timestamp_ok" => timely(row),
             "check_server_hash" => check_server_hash(row),
             "check_hash" => check_hash(row),
             "check_response" => check_created(row),
             "create_response" => create_response(row),
+            _ => return Err(RowError::NoSuchCall),
+        }
+        Ok(())
+    }
+}
+
+impl Calls for CookieParts {
+    fn answer(&self, call: &str, row: &mut Row<'_>) -> Result<(), RowError> {
+        match call {
             "cookie" => cookie(row),
             "standard_server_cookie" => standard_server_cookie(row),
             "server_cookie" => server_cookie(row),
             "client_copied" => client_copied(row),
-            "client_cmp" => client_cmp(row),
-            "server_cmp" => server_cmp(row),
-            "cookie_cmp" => cookie_cmp(row),
-            _ => Err(RowError::NoSuchCall),
+            _ => return Err(RowError::NoSuchCall),
         }
+        Ok(())
+    }
+}
+
+impl Calls for CookieOrders {
+    fn answer(&self, call: &str, row: &mut Row<'_>) -> Result<(), RowError> {
+        match call {
+            "siphash24" => hash(row),
+            "timestamp_ok" => timely(row),
+            "client_cmp" => order_said::<ClientCookie>(row),
+            "server_cmp" => order_said::<ServerCookie>(row),
+            "cookie_cmp" => order_said::<Cookie>(row),
+            _ => return Err(RowError::NoSuchCall),
+        }
+        Ok(())
     }
 }
 
 /// The hash of octets under a key.
-fn hash(row: &mut Row<'_>) -> Result<(), RowError> {
+fn hash(row: &mut Row<'_>) {
     let key = row.array::<16>();
     let hash = siphash24(&key, row.octets());
-    row.hexadecimal(&hash.to_be_bytes());
-    Ok(())
+    row.hexadecimal(&hash.to_be_bytes())
 }
 
 /// Whether a timestamp is timely.
-fn timely(row: &mut Row<'_>) -> Result<(), RowError> {
+fn timely(row: &mut Row<'_>) {
     let timestamp = Serial(row.number());
     let now = Serial(row.number());
-    row.whether(timestamp_ok(timestamp, now));
-    Ok(())
+    row.whether(timestamp_ok(timestamp, now))
 }
 
-/// The cookie of the next word.
-fn next_cookie(row: &mut Row<'_>) -> Result<Cookie, RowError> {
-    let mut parser = Parser::from_ref(row.octets());
-    Cookie::parse(&mut parser).or(Err(RowError::OutOfForm))
+impl Next for Cookie {
+    /// The cookie of the next word.
+    fn next(row: &mut Row<'_>) -> Cookie {
+        let mut parser = Parser::from_ref(row.octets());
+        match Cookie::parse(&mut parser) {
+            Ok(cookie) => cookie,
+            Err(_) => {
+                row.fail(RowError::OutOfForm);
+                Cookie::new(ClientCookie::from_octets([0; 8]), None)
+            }
+        }
+    }
 }
 
 /// Whether a cookie checks for an address under a secret, where only one timestamp is accepted.
-fn check_server_hash(row: &mut Row<'_>) -> Result<(), RowError> {
-    let cookie = next_cookie(row)?;
+fn check_server_hash(row: &mut Row<'_>) {
+    let cookie = Cookie::next(row);
     let client_ip = row.address();
     let secret = row.array::<16>();
     let timestamp = row.number::<u32>();
     let checks = cookie.check_server_hash(client_ip, &secret, |at: Serial| {
         at.into_int() == timestamp
     });
-    row.whether(checks);
-    Ok(())
+    row.whether(checks)
 }
 
 /// Whether the hash of a cookie's standard server part is that of an address under a secret.
-fn check_hash(row: &mut Row<'_>) -> Result<(), RowError> {
-    let cookie = next_cookie(row)?;
+fn check_hash(row: &mut Row<'_>) {
+    let cookie = Cookie::next(row);
     let client_ip = row.address();
     let secret = row.array::<16>();
-    let standard = standard_part(&cookie).ok_or(RowError::OutOfForm)?;
-    row.whether(standard.check_hash(cookie.client(), client_ip, &secret));
-    Ok(())
+    match standard_part(&cookie) {
+        Some(standard) => row.whether(standard.check_hash(cookie.client(), client_ip, &secret)),
+        None => row.fail(RowError::OutOfForm),
+    }
 }
 
 /// The standard server cookie of a cookie.
@@ -92,39 +123,45 @@ fn client_words(row: &mut Row<'_>) -> (Cookie, Serial, IpAddr, [u8; 16]) {
 }
 
 /// The cookie that a response has: the octets of both parts, one behind the other.
-fn create_response(row: &mut Row<'_>) -> Result<(), RowError> {
+fn create_response(row: &mut Row<'_>) {
     let (cookie, timestamp, client_ip, secret) = client_words(row);
-    let response = cookie.create_response(timestamp, client_ip, &secret);
+    parts_said(row, &cookie.create_response(timestamp, client_ip, &secret))
+}
+
+/// The octets of both parts of a cookie.
+fn parts_said(row: &mut Row<'_>, response: &Cookie) {
     let mut octets = Vec::new(row.alloc());
     row.keep(response.client().compose(row.alloc(), &mut octets));
     if let Some(server) = response.server() {
         row.keep(server.compose(row.alloc(), &mut octets));
     }
-    row.hexadecimal(&octets);
-    Ok(())
+    row.hexadecimal(&octets)
 }
 
 /// Whether the cookie that a response has checks, where every timestamp is accepted.
-fn check_created(row: &mut Row<'_>) -> Result<(), RowError> {
+fn check_created(row: &mut Row<'_>) {
     let (cookie, timestamp, client_ip, secret) = client_words(row);
-    row.whether(check_response(&cookie, timestamp, client_ip, &secret, |_| true));
-    Ok(())
+    row.whether(check_response(&cookie, timestamp, client_ip, &secret, |_| true))
 }
 
 /// The option that octets are under a code, how many octets it says that it takes, and how many are left.
-fn cookie(row: &mut Row<'_>) -> Result<(), RowError> {
+fn cookie(row: &mut Row<'_>) {
     let code = OptionCode::from_int(row.number());
     let mut parser = Parser::from_ref(row.octets());
-    match Cookie::parse_option(code, &mut parser) {
+    parsed_said(row, Cookie::parse_option(code, &mut parser));
+    row.tell("left", &parser.remaining())
+}
+
+/// An option, and how many octets it says that it takes; or why there is none.
+fn parsed_said(row: &mut Row<'_>, parsed: Result<Option<Cookie>, ParseError>) {
+    match parsed {
         Ok(Some(cookie)) => {
             shown(row, &cookie);
-            row.tell("compose_len", &cookie.compose_len());
+            row.tell("compose_len", &cookie.compose_len())
         }
         Ok(None) => row.say("none"),
         Err(error) => row.debug(&error),
     }
-    row.tell("left", &parser.remaining());
-    Ok(())
 }
 
 /// The parts of a standard server cookie.
@@ -143,6 +180,11 @@ fn server_said(row: &mut Row<'_>, server: &ServerCookie) {
     row.hexadecimal(&octets);
     row.tell("compose_len", &server.compose_len());
     row.quote(server);
+    standard_part_said(row, server)
+}
+
+/// The standard server cookie that a server cookie is.
+fn standard_part_said(row: &mut Row<'_>, server: &ServerCookie) {
     row.say("standard");
     match server.try_to_standard() {
         Some(standard) => standard_said(row, standard),
@@ -151,61 +193,44 @@ fn server_said(row: &mut Row<'_>, server: &ServerCookie) {
 }
 
 /// The server cookie of a version, three octets, a timestamp and a hash that is set afterwards.
-fn standard_server_cookie(row: &mut Row<'_>) -> Result<(), RowError> {
+fn standard_server_cookie(row: &mut Row<'_>) {
     let version = row.number();
     let reserved = row.array::<3>();
     let timestamp = Serial(row.number());
     let mut standard = StandardServerCookie::new(version, reserved, timestamp, [0; 8]);
     standard.set_hash(row.array::<8>());
-    server_said(row, &ServerCookie::from(standard));
-    Ok(())
+    server_said(row, &ServerCookie::from(standard))
 }
 
-/// The server cookie of the next word.
-fn next_server(row: &mut Row<'_>) -> Result<ServerCookie, RowError> {
-    let octets = row.octets();
-    if octets.len() < 8 || octets.len() > 32 {
-        return Err(RowError::OutOfForm);
+impl Next for ServerCookie {
+    /// The server cookie of the next word.
+    fn next(row: &mut Row<'_>) -> ServerCookie {
+        let octets = row.octets();
+        if octets.len() < 8 || octets.len() > 32 {
+            row.fail(RowError::OutOfForm);
+            return ServerCookie::from_octets(&[0; 8]);
+        }
+        ServerCookie::from_octets(octets)
     }
-    Ok(ServerCookie::from_octets(octets))
 }
 
 /// The server cookie of octets.
-fn server_cookie(row: &mut Row<'_>) -> Result<(), RowError> {
-    let server = next_server(row)?;
-    server_said(row, &server);
-    Ok(())
+fn server_cookie(row: &mut Row<'_>) {
+    let server = ServerCookie::next(row);
+    server_said(row, &server)
 }
 
 /// The octets of a client cookie to which those of another were copied.
-fn client_copied(row: &mut Row<'_>) -> Result<(), RowError> {
+fn client_copied(row: &mut Row<'_>) {
     let mut client = ClientCookie::from_octets(row.array());
     let other = ClientCookie::from(row.array::<8>());
     client.as_slice_mut().copy_from_slice(other.as_slice());
-    row.hexadecimal(&<[u8; 8]>::from(client));
-    Ok(())
+    row.hexadecimal(&<[u8; 8]>::from(client))
 }
 
-/// How two client cookies compare.
-fn client_cmp(row: &mut Row<'_>) -> Result<(), RowError> {
-    let client = ClientCookie::from_octets(row.array());
-    let other = ClientCookie::from_octets(row.array());
-    row.debug(&client.cmp(&other));
-    Ok(())
-}
-
-/// How two server cookies compare.
-fn server_cmp(row: &mut Row<'_>) -> Result<(), RowError> {
-    let server = next_server(row)?;
-    let other = next_server(row)?;
-    row.debug(&server.cmp(&other));
-    Ok(())
-}
-
-/// How two cookies compare.
-fn cookie_cmp(row: &mut Row<'_>) -> Result<(), RowError> {
-    let cookie = next_cookie(row)?;
-    let other = next_cookie(row)?;
-    row.debug(&cookie.cmp(&other));
-    Ok(())
+impl Next for ClientCookie {
+    /// The client cookie of the next word.
+    fn next(row: &mut Row<'_>) -> ClientCookie {
+        ClientCookie::from_octets(row.array())
+    }
 }

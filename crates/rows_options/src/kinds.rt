@@ -1,6 +1,6 @@
 //! The calls of dns_kinds.
 
-use crate::said::{both_shown, shown};
+use crate::said::{Next, both_said, both_shown, shown};
 use dns_kinds::{
     Chain, ChainRef, ClientSubnet, Expire, ExtendedError, ExtendedErrorRef, IdleTimeout,
     TcpKeepalive,
@@ -9,94 +9,120 @@ use dns_name::{ExtendedErrorCode, Parser};
 use rows_table::{Calls, Row, RowError};
 use std::hash::{DefaultHasher, Hash, Hasher};
 
-/// The calls of dns_kinds.
+/// Calls of extended errors and chains.
 pub struct Kinds;
+
+/// Calls of subnets.
+pub struct Subnets;
+
+/// Calls of times.
+pub struct Times;
 
 impl Calls for Kinds {
     fn answer(&self, call: &str, row: &mut Row<'_>) -> Result<(), RowError> {
         match call {
             "extended_error" => extended_error(row),
             "extended_error_new" => extended_error_new(row),
-            "extended_error_private" => extended_error_private(row),
-            "subnet" => subnet(row),
-            "subnet_parse" => subnet_parse(row),
-            "subnet_cmp" => subnet_cmp(row),
-            "expire" => expire(row),
-            "expire_cmp" => expire_cmp(row),
-            "keepalive_millis" => keepalive_millis(row),
-            "keepalive_parse" => keepalive_parse(row),
-            "keepalive_cmp" => keepalive_cmp(row),
             "chain" => chain(row),
             "chain_new" => chain_new(row),
             "chain_cmp" => chain_cmp(row),
-            _ => Err(RowError::NoSuchCall),
+            _ => return Err(RowError::NoSuchCall),
         }
+        Ok(())
+    }
+}
+
+impl Calls for Subnets {
+    fn answer(&self, call: &str, row: &mut Row<'_>) -> Result<(), RowError> {
+        match call {
+            "extended_error_private" => extended_error_private(row),
+            "subnet" => subnet(row),
+            "subnet_parse" => subnet_parse(row),
+            "subnet_cmp" => next_compared::<ClientSubnet>(row),
+            _ => return Err(RowError::NoSuchCall),
+        }
+        Ok(())
+    }
+}
+
+impl Calls for Times {
+    fn answer(&self, call: &str, row: &mut Row<'_>) -> Result<(), RowError> {
+        match call {
+            "expire" => expire(row),
+            "expire_cmp" => next_compared::<Expire>(row),
+            "keepalive_millis" => keepalive_millis(row),
+            "keepalive_parse" => keepalive_parse(row),
+            "keepalive_cmp" => next_compared::<TcpKeepalive>(row),
+            _ => return Err(RowError::NoSuchCall),
+        }
+        Ok(())
     }
 }
 
 /// An extended error that is read, borrowed and owned.
-fn extended_error(row: &mut Row<'_>) -> Result<(), RowError> {
+fn extended_error(row: &mut Row<'_>) {
     let mut parser = Parser::from_ref(row.octets());
-    let found = ExtendedErrorRef::parse(&mut parser)?;
-    let owned = found.to_owned(row.alloc())?;
-    both_shown(row, &found, &owned);
-    Ok(())
+    match ExtendedErrorRef::parse(&mut parser) {
+        Ok(found) => both_shown(row, &found, found.to_owned(row.alloc())),
+        Err(error) => row.refuse(error),
+    }
 }
 
 /// An extended error of a code and a text.
-fn extended_error_new(row: &mut Row<'_>) -> Result<(), RowError> {
+fn extended_error_new(row: &mut Row<'_>) {
     let code = ExtendedErrorCode::from_int(row.number());
     match ExtendedError::new_with_str(row.alloc(), code, row.text()) {
         Ok(error) => shown(row, &error),
         Err(error) => row.debug(&error),
     }
-    Ok(())
 }
 
 /// Whether a code is for private use.
-fn extended_error_private(row: &mut Row<'_>) -> Result<(), RowError> {
+fn extended_error_private(row: &mut Row<'_>) {
     let error = ExtendedError::from(row.number::<u16>());
-    row.whether(error.is_private());
-    Ok(())
+    row.whether(error.is_private())
 }
 
 /// A time of so many seconds, or none.
-fn expire(row: &mut Row<'_>) -> Result<(), RowError> {
-    let expire = Expire::new(row.optional());
-    shown(row, &expire);
-    Ok(())
+fn expire(row: &mut Row<'_>) {
+    let expire = Expire::next(row);
+    shown(row, &expire)
 }
 
 /// A timeout of so many milliseconds.
-fn keepalive_millis(row: &mut Row<'_>) -> Result<(), RowError> {
+fn keepalive_millis(row: &mut Row<'_>) {
     match IdleTimeout::try_from_millis(row.number()) {
         Ok(timeout) => shown(row, &TcpKeepalive::new(Some(timeout))),
         Err(error) => row.debug(&error),
     }
-    Ok(())
 }
 
 /// A timeout that is read.
-fn keepalive_parse(row: &mut Row<'_>) -> Result<(), RowError> {
+fn keepalive_parse(row: &mut Row<'_>) {
     let mut parser = Parser::from_ref(row.octets());
-    let keepalive = TcpKeepalive::parse(&mut parser)?;
-    shown(row, &keepalive);
-    Ok(())
+    match TcpKeepalive::parse(&mut parser) {
+        Ok(keepalive) => shown(row, &keepalive),
+        Err(error) => row.refuse(error),
+    }
 }
 
 /// A chain from a name that is borrowed.
-fn chain(row: &mut Row<'_>) -> Result<(), RowError> {
-    let given = ChainRef::new(row.name()?);
-    let owned = given.to_owned(row.alloc())?;
-    both_shown(row, &given, &owned);
-    Ok(())
+fn chain(row: &mut Row<'_>) {
+    let given = ChainRef::new(row.name());
+    both_shown(row, &given, given.to_owned(row.alloc()))
 }
 
 /// A chain from a name that is owned.
-fn chain_new(row: &mut Row<'_>) -> Result<(), RowError> {
-    let owned = Chain::new(row.name()?.to_owned(row.alloc())?);
-    both_shown(row, &owned.for_slice(), &owned);
-    Ok(())
+fn chain_new(row: &mut Row<'_>) {
+    match row.name().to_owned(row.alloc()) {
+        Ok(start) => chain_of(row, Chain::new(start)),
+        Err(_) => row.fail(RowError::OutOfMemory),
+    }
+}
+
+/// The same of a chain.
+fn chain_of(row: &mut Row<'_>, owned: Chain) {
+    both_said(row, &owned.for_slice(), &owned)
 }
 
 /// What a value is hashed to.
@@ -113,27 +139,43 @@ fn compared<K: Ord + Hash>(row: &mut Row<'_>, first: &K, second: &K) {
     row.tell_whether("hash", hashed(first) == hashed(second))
 }
 
-/// How two chains compare as they are owned, and whether one is hashed alike in both forms.
-fn owned_compared(
-    row: &mut Row<'_>,
-    first: &ChainRef<'_>,
-    second: &ChainRef<'_>,
-) -> Result<(), RowError> {
-    let kept = first.to_owned(row.alloc())?;
-    let other = second.to_owned(row.alloc())?;
-    compared(row, &kept, &other);
-    row.close(", both");
-    row.tell_whether("hash", hashed(first) == hashed(&kept));
-    Ok(())
+/// How two values of the next words compare.
+fn next_compared<K: Next + Ord + Hash + Drop>(row: &mut Row<'_>) {
+    let first = K::next(row);
+    let second = K::next(row);
+    compared(row, &first, &second)
 }
 
-/// How the chains from the names of two words compare, both as they are borrowed and as they are owned.
-fn chain_cmp(row: &mut Row<'_>) -> Result<(), RowError> {
-    let first = ChainRef::new(row.name()?);
-    let second = ChainRef::new(row.name()?);
-    compared(row, &first, &second);
+/// How two chains compare as they are owned, and whether one is hashed alike in both forms.
+fn owned_compared(row: &mut Row<'_>, first: &ChainRef<'_>, kept: &Chain, other: &Chain) {
+    compared(row, kept, other);
+    row.close(", both");
+    row.tell_whether("hash", hashed(first) == hashed(kept))
+}
+
+/// The same of a chain that is owned and one that is borrowed.
+fn other_owned(row: &mut Row<'_>, first: &ChainRef<'_>, kept: &Chain, second: &ChainRef<'_>) {
+    match second.to_owned(row.alloc()) {
+        Ok(other) => owned_compared(row, first, kept, &other),
+        Err(_) => row.fail(RowError::OutOfMemory),
+    }
+}
+
+/// The same of two chains that are borrowed, behind how they compare as such.
+fn both_compared(row: &mut Row<'_>, first: &ChainRef<'_>, second: &ChainRef<'_>) {
+    compared(row, first, second);
     row.close(", owned");
-    owned_compared(row, &first, &second)
+    match first.to_owned(row.alloc()) {
+        Ok(kept) => other_owned(row, first, &kept, second),
+        Err(_) => row.fail(RowError::OutOfMemory),
+    }
+}
+
+/// The same of the chains from the names of two words.
+fn chain_cmp(row: &mut Row<'_>) {
+    let first = ChainRef::new(row.name());
+    let second = ChainRef::new(row.name());
+    both_compared(row, &first, &second)
 }
 
 /// A subnet's address and source prefix, and its option.
@@ -144,52 +186,39 @@ fn subnet_said(row: &mut Row<'_>, subnet: &ClientSubnet) {
 }
 
 /// A subnet of two prefixes and an address.
-fn subnet(row: &mut Row<'_>) -> Result<(), RowError> {
-    let subnet = next_subnet(row);
-    subnet_said(row, &subnet);
-    Ok(())
+fn subnet(row: &mut Row<'_>) {
+    let subnet = ClientSubnet::next(row);
+    subnet_said(row, &subnet)
 }
 
-/// The subnet of the next two prefixes and address.
-fn next_subnet(row: &mut Row<'_>) -> ClientSubnet {
-    let source = row.number();
-    let scope = row.number();
-    ClientSubnet::new(source, scope, row.address())
+impl Next for ClientSubnet {
+    /// The subnet of the next two prefixes and address.
+    fn next(row: &mut Row<'_>) -> ClientSubnet {
+        let source = row.number();
+        let scope = row.number();
+        ClientSubnet::new(source, scope, row.address())
+    }
 }
 
-/// How two subnets compare.
-fn subnet_cmp(row: &mut Row<'_>) -> Result<(), RowError> {
-    let first = next_subnet(row);
-    let second = next_subnet(row);
-    compared(row, &first, &second);
-    Ok(())
+impl Next for Expire {
+    /// The time of the next number of seconds, or none.
+    fn next(row: &mut Row<'_>) -> Expire {
+        Expire::new(row.optional())
+    }
 }
 
-/// How two times of so many seconds, or none, compare.
-fn expire_cmp(row: &mut Row<'_>) -> Result<(), RowError> {
-    let first = Expire::new(row.optional());
-    let second = Expire::new(row.optional());
-    compared(row, &first, &second);
-    Ok(())
-}
-
-/// The timeout of the next number of units, or none.
-fn next_keepalive(row: &mut Row<'_>) -> TcpKeepalive {
-    TcpKeepalive::new(row.optional::<u16>().map(IdleTimeout::from))
-}
-
-/// How two timeouts compare.
-fn keepalive_cmp(row: &mut Row<'_>) -> Result<(), RowError> {
-    let first = next_keepalive(row);
-    let second = next_keepalive(row);
-    compared(row, &first, &second);
-    Ok(())
+impl Next for TcpKeepalive {
+    /// The timeout of the next number of units, or none.
+    fn next(row: &mut Row<'_>) -> TcpKeepalive {
+        TcpKeepalive::new(row.optional::<u16>().map(IdleTimeout::from))
+    }
 }
 
 /// A subnet that is read.
-fn subnet_parse(row: &mut Row<'_>) -> Result<(), RowError> {
+fn subnet_parse(row: &mut Row<'_>) {
     let mut parser = Parser::from_ref(row.octets());
-    let subnet = ClientSubnet::parse(&mut parser)?;
-    subnet_said(row, &subnet);
-    Ok(())
+    match ClientSubnet::parse(&mut parser) {
+        Ok(subnet) => subnet_said(row, &subnet),
+        Err(error) => row.refuse(error),
+    }
 }

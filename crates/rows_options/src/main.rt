@@ -11,14 +11,23 @@ mod records;
 mod said;
 mod steps;
 
-use cookies::Cookies;
-use kinds::Kinds;
-use lists::Lists;
-use options::Options;
+use cookies::{CookieOrders, CookieParts, Cookies};
+use kinds::{Kinds, Subnets, Times};
+use lists::{Algorithms, Lists};
+use options::{Options, SingleOptions};
 use records::Records;
 use std::io;
 use std::process::ExitCode;
 
 fn main(rt: HostRuntime) -> io::Result<ExitCode> {
-    rows_table::run(&rt, &(Lists, (Kinds, (Cookies, (Options, Records)))))
+    rows_table::run(
+        &rt,
+        &(
+            ((Lists, Algorithms), (Kinds, (Subnets, Times))),
+            (
+                (Cookies, (CookieParts, CookieOrders)),
+                (Options, (SingleOptions, Records)),
+            ),
+        ),
+    )
 }

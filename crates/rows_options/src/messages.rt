@@ -17,10 +17,25 @@ fn reopened(message: &mut AdditionalBuilder, row: &mut Row<'_>) -> Result<(), Bu
     message.reopen(row.alloc(), |opt: &mut OptBuilder| build(opt, row))
 }
 
+/// A message under construction.
+#[derive(Drop)]
+struct Built {
+    message: AdditionalBuilder,
+}
+
+impl Built {
+    /// Goes on with a message with nothing but an OPT record like its own.
+    fn copy(&mut self, row: &mut Row<'_>) {
+        match copied(&self.message, row.alloc()) {
+            Ok(copy) => self.message = copy,
+            Err(fault) => row.fail(fault),
+        }
+    }
+}
+
 /// A message with nothing but an OPT record like that of another.
 fn copied(message: &AdditionalBuilder, alloc: Global) -> Result<AdditionalBuilder, RowError> {
-    let read = message.as_message();
-    match read.opt() {
+    match message.as_message().opt() {
         Some(found) => taken_over(alloc, &found),
         None => Err(RowError::OutOfForm),
     }
@@ -35,30 +50,25 @@ fn taken_over(alloc: Global, found: &OptRecordRef<'_>) -> Result<AdditionalBuild
     }
 }
 
-/// A message under construction.
-#[derive(Drop)]
-struct Built {
-    message: AdditionalBuilder,
-}
-
 impl Steps for Built {
-    fn take_step(&mut self, step: &str, row: &mut Row<'_>) -> Result<(), RowError> {
+    fn take_step(&mut self, step: &str, row: &mut Row<'_>) {
         match step {
             "limit" => self.message.set_push_limit(row.number()),
-            "copy" => self.message = copied(&self.message, row.alloc())?,
+            "copy" => self.copy(row),
             "append" => append(&mut self.message, row),
-            "opt" => {
-                let done = opened(&mut self.message, row);
-                built(row, done);
-            }
-            "reopen" => {
-                let done = reopened(&mut self.message, row);
-                built(row, done);
-            }
-            _ => return Err(RowError::NoSuchStep),
+            _ => opt_step(&mut self.message, step, row),
         }
-        Ok(())
     }
+}
+
+/// A step that builds an OPT record.
+fn opt_step(message: &mut AdditionalBuilder, step: &str, row: &mut Row<'_>) {
+    let done = match step {
+        "opt" => opened(message, row),
+        "reopen" => reopened(message, row),
+        _ => return row.fail(RowError::NoSuchStep),
+    };
+    built(row, done)
 }
 
 /// Appends an OPT record of the next word's payload size, and says what that answers.
@@ -75,24 +85,32 @@ fn message_said(row: &mut Row<'_>, message: &AdditionalBuilder) {
     row.tell("len", &message.as_slice().len());
     row.tell("header", &header.rcode.to_int());
     row.tell("arcount", &message.counts().arcount);
+    opt_said(row, message, header)
+}
+
+/// A message's OPT record: the response code with that of the header, the size and the options.
+fn opt_said(row: &mut Row<'_>, message: &AdditionalBuilder, header: Header) {
     match message.opt_record() {
-        Some(found) => opt_said(row, &found, header),
+        Some(found) => {
+            row.tell("rcode", &found.rcode(header).to_int());
+            row.tell("udp_payload_size", &found.udp_payload_size());
+            row.tell_octets("options", found.opt().as_slice())
+        }
         None => row.say("none"),
     }
 }
 
-/// An OPT record: the response code with that of the header, the size and the options.
-fn opt_said(row: &mut Row<'_>, found: &OptRecordRef<'_>, header: Header) {
-    row.tell("rcode", &found.rcode(header).to_int());
-    row.tell("udp_payload_size", &found.udp_payload_size());
-    row.tell_octets("options", found.opt().as_slice())
+/// What the steps, which a slash parts, answer with an empty message, and the message that it is then.
+pub fn opt_message(row: &mut Row<'_>) {
+    match MessageBuilder::new(row.alloc()) {
+        Ok(builder) => stepped(row, builder.additional()),
+        Err(_) => row.fail(RowError::OutOfMemory),
+    }
 }
 
-/// What the steps, which a slash parts, answer with an empty message, and the message that it is then.
-pub fn opt_message(row: &mut Row<'_>) -> Result<(), RowError> {
-    let message = MessageBuilder::new(row.alloc())?.additional();
+/// The same of a message.
+fn stepped(row: &mut Row<'_>, message: AdditionalBuilder) {
     let mut built = Built { message };
     row.take_steps(" / ", &mut built);
-    message_said(row, &built.message);
-    Ok(())
+    message_said(row, &built.message)
 }

@@ -6,43 +6,58 @@ use dns_name::{ComposeOptData, ParseError, Parser};
 use dns_options::{AllOptData, Cookie, NsidRef, Opt, OptRef, OptionHeader, PaddingRef, written_by};
 use rows_table::{Calls, Row, RowError};
 
-/// The calls of dns_options.
+/// Calls of lists of options.
 pub struct Options;
+
+/// Calls of single options.
+pub struct SingleOptions;
 
 impl Calls for Options {
     fn answer(&self, call: &str, row: &mut Row<'_>) -> Result<(), RowError> {
         match call {
             "opt_from_octets" => from_octets(row),
-            "opt_from_slice" => from_slice(row),
-            "all_options" => all_options(row),
-            "option_header" => option_header(row),
-            "written_by" => written(row),
+            "opt_from_slice" => return from_slice(row),
+            "all_options" => return all_options(row),
             "list" => list(row, true),
             "list_len" => list(row, false),
-            "first" => first(row),
-            _ => Err(RowError::NoSuchCall),
+            _ => return Err(RowError::NoSuchCall),
         }
+        Ok(())
+    }
+}
+
+impl Calls for SingleOptions {
+    fn answer(&self, call: &str, row: &mut Row<'_>) -> Result<(), RowError> {
+        match call {
+            "option_header" => option_header(row),
+            "written_by" => written(row),
+            "first" => first(row),
+            _ => return Err(RowError::NoSuchCall),
+        }
+        Ok(())
     }
 }
 
 /// What pushes to an empty list answer, and the list's octets or only their number.
-fn list(row: &mut Row<'_>, whole: bool) -> Result<(), RowError> {
+fn list(row: &mut Row<'_>, whole: bool) {
     let mut list = Opt::empty(row.alloc());
     row.take_steps(", ", &mut Target::List(&mut list));
     if whole {
-        row.hexadecimal(list.as_slice());
+        row.hexadecimal(list.as_slice())
     } else {
-        row.show(&list.len());
+        row.show(&list.len())
     }
-    Ok(())
 }
 
 /// The text of a list that owns its octets, and how many of its options are read.
-fn from_octets(row: &mut Row<'_>) -> Result<(), RowError> {
-    let list = Opt::from_octets(row.vector())?;
-    row.quote(&list);
-    row.tell("readable", &readable(&list.for_slice_ref()));
-    Ok(())
+fn from_octets(row: &mut Row<'_>) {
+    match Opt::from_octets(row.vector()) {
+        Ok(list) => {
+            row.quote(&list);
+            row.tell("readable", &readable(&list.for_slice_ref()))
+        }
+        Err(error) => row.give_up(error.into()),
+    }
 }
 
 /// How many options of any kind a list has that are read.
@@ -87,20 +102,31 @@ fn option_said(row: &mut Row<'_>, item: Result<AllOptData<'_>, ParseError>) {
     }
 }
 
-/// The data of the first option of a kind in a list; of the first identifier in an owned copy, where the kind is none of these.
-fn first(row: &mut Row<'_>) -> Result<(), RowError> {
+/// The data of the first option of a kind in a list.
+fn first(row: &mut Row<'_>) {
     let kind = row.word();
-    let list = next_list(row)?;
+    match next_list(row) {
+        Ok(list) => first_in(row, kind, &list),
+        Err(fault) => row.fail(fault),
+    }
+}
+
+/// The same in a list; of the first identifier in an owned copy, where the kind is none of these.
+fn first_in(row: &mut Row<'_>, kind: &str, list: &OptRef<'_>) {
     match kind {
         "nsid" => first_said(row, list.first::<NsidRef>()),
         "padding" => first_said(row, list.first::<PaddingRef>()),
         "cookie" => first_said(row, list.first::<Cookie>()),
-        _ => {
-            let owned = list.to_owned(row.alloc())?;
-            first_said(row, owned.nsid());
-        }
+        _ => owned_first_said(row, list),
     }
-    Ok(())
+}
+
+/// The first identifier in an owned copy.
+fn owned_first_said(row: &mut Row<'_>, list: &OptRef<'_>) {
+    match list.to_owned(row.alloc()) {
+        Ok(owned) => first_said(row, owned.nsid()),
+        Err(_) => row.fail(RowError::OutOfMemory),
+    }
 }
 
 /// The data of an option, or `none`.
@@ -112,19 +138,28 @@ fn first_said<D: ComposeOptData + Drop>(row: &mut Row<'_>, found: Option<D>) {
 }
 
 /// The head of an option, and how many octets are left behind it.
-fn option_header(row: &mut Row<'_>) -> Result<(), RowError> {
+fn option_header(row: &mut Row<'_>) {
     let mut parser = Parser::from_ref(row.octets());
-    let head = OptionHeader::parse(&mut parser)?;
+    match OptionHeader::parse(&mut parser) {
+        Ok(head) => {
+            head_said(row, &head);
+            row.tell("left", &parser.remaining())
+        }
+        Err(error) => row.refuse(error),
+    }
+}
+
+/// An option's code and its length.
+fn head_said(row: &mut Row<'_>, head: &OptionHeader) {
     row.tell("code", &head.code().to_int());
-    row.tell("len", &head.len());
-    row.tell("left", &parser.remaining());
-    Ok(())
+    row.tell("len", &head.len())
 }
 
 /// What a closure writes to an empty vector.
-fn written(row: &mut Row<'_>) -> Result<(), RowError> {
+fn written(row: &mut Row<'_>) {
     let octets = row.octets();
-    let written = written_by(row.alloc(), |target: &mut Vec<u8>| write(target, octets))?;
-    row.hexadecimal(&written);
-    Ok(())
+    match written_by(row.alloc(), |target: &mut Vec<u8>| write(target, octets)) {
+        Ok(written) => row.hexadecimal(&written),
+        Err(_) => row.fail(RowError::OutOfMemory),
+    }
 }

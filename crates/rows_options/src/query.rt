@@ -28,28 +28,42 @@ fn begun(alloc: Global) -> Result<MessageBuilder, OutOfMemory> {
 
 /// A query for the root's address, at its additional records.
 fn asking(alloc: Global) -> Result<AdditionalBuilder, PushError> {
-    let question = question(alloc)?;
+    match question(alloc) {
+        Ok(question) => asking_for(alloc, &question),
+        Err(error) => Err(error.into()),
+    }
+}
+
+/// A query with a question, at its additional records.
+fn asking_for(alloc: Global, question: &Question) -> Result<AdditionalBuilder, PushError> {
     let mut builder = begun(alloc)?.question();
-    builder.push(alloc, &question)?;
-    Ok(builder.additional())
+    match builder.push(alloc, question) {
+        Ok(()) => Ok(builder.additional()),
+        Err(error) => Err(error),
+    }
 }
 
 /// The type that a query asks for, and the size and the identifier's data of its OPT record.
-fn query_said(row: &mut Row<'_>, octets: &[u8]) -> Result<(), RowError> {
-    let query = MessageRef::from_slice(octets).or(Err(RowError::OutOfForm))?;
-    match query.opt() {
-        Some(opt) => asked_said(row, &query, &opt),
-        None => row.say("none"),
+fn query_said(row: &mut Row<'_>, octets: &[u8]) {
+    match MessageRef::from_slice(octets) {
+        Ok(query) => read_said(row, &query),
+        Err(_) => row.fail(RowError::OutOfForm),
     }
-    Ok(())
 }
 
-/// The type that a query with an OPT record asks for, the size of that record and its identifier's data.
-fn asked_said(row: &mut Row<'_>, query: &MessageRef<'_>, opt: &OptRecordRef<'_>) {
-    let Some(question) = query.first_question() else {
-        return row.say("none");
-    };
-    row.tell("qtype", &question.qtype().to_int());
+/// The same of a query.
+fn read_said(row: &mut Row<'_>, query: &MessageRef<'_>) {
+    match (query.first_question(), query.opt()) {
+        (Some(question), Some(opt)) => {
+            row.tell("qtype", &question.qtype().to_int());
+            opt_said(row, &opt)
+        }
+        _ => row.say("none"),
+    }
+}
+
+/// The size of an OPT record and its identifier's data.
+fn opt_said(row: &mut Row<'_>, opt: &OptRecordRef<'_>) {
     row.tell("udp_payload_size", &opt.udp_payload_size());
     match opt.opt().nsid() {
         Some(identifier) => row.tell_octets("nsid", identifier.as_slice()),
@@ -58,21 +72,27 @@ fn asked_said(row: &mut Row<'_>, query: &MessageRef<'_>, opt: &OptRecordRef<'_>)
 }
 
 /// What is read of a query.
-pub fn read_query(row: &mut Row<'_>) -> Result<(), RowError> {
+pub fn read_query(row: &mut Row<'_>) {
     let octets = row.octets();
     query_said(row, octets)
 }
 
 /// The query with an OPT record that the steps build, and what is read of it.
-pub fn query(row: &mut Row<'_>) -> Result<(), RowError> {
-    let Ok(mut builder) = asking(row.alloc()) else {
-        return Err(RowError::OutOfMemory);
-    };
+pub fn query(row: &mut Row<'_>) {
+    match asking(row.alloc()) {
+        Ok(builder) => built(row, builder),
+        Err(_) => row.fail(RowError::OutOfMemory),
+    }
+}
+
+/// The same of a query without one.
+fn built(row: &mut Row<'_>, builder: AdditionalBuilder) {
+    let mut builder = builder;
     match opened(&mut builder, row) {
         Ok(()) => {
             row.hexadecimal(builder.as_slice());
             query_said(row, builder.as_slice())
         }
-        Err(refusal) => Ok(row.debug(&refusal)),
+        Err(refusal) => row.debug(&refusal),
     }
 }

@@ -23,8 +23,9 @@ impl Calls for Records {
             "opt_message" => opt_message(row),
             "query" => query(row),
             "read_query" => read_query(row),
-            _ => Err(RowError::NoSuchCall),
+            _ => return Err(RowError::NoSuchCall),
         }
+        Ok(())
     }
 }
 
@@ -39,12 +40,11 @@ fn next_head(row: &mut Row<'_>) -> OptHeader {
 }
 
 /// The octets of a head with a size, both parts of a response code and a version, that wants DNSSEC records.
-fn opt_header(row: &mut Row<'_>) -> Result<(), RowError> {
+fn opt_header(row: &mut Row<'_>) {
     let head = next_head(row);
     let mut octets = Vec::new(row.alloc());
     row.keep(head.compose(row.alloc(), &mut octets));
-    row.hexadecimal(&octets);
-    Ok(())
+    row.hexadecimal(&octets)
 }
 
 /// What a record appends to none.
@@ -65,18 +65,26 @@ fn as_record(alloc: Global, given: &OptRecord) -> Result<Record, OutOfMemory>
 }
 
 /// The octets of an OPT record as a message holds it, and the options of the record that is made of that.
-fn record_said(row: &mut Row<'_>, given: &OptRecord) -> Result<(), RowError> {
-    let item = as_record(row.alloc(), given)?;
+fn record_said(row: &mut Row<'_>, given: &OptRecord) {
+    match as_record(row.alloc(), given) {
+        Ok(item) => item_said(row, item),
+        Err(_) => row.fail(RowError::OutOfMemory),
+    }
+}
+
+/// The same of the record.
+fn item_said(row: &mut Row<'_>, item: Record)
+    requires { IsLawful item.rdata }
+{
     record_octets(row, &item);
     match OptRecord::from_record(item) {
         Some(opt) => row.tell_octets("options", opt.opt().as_slice()),
         None => row.say("options=none"),
     }
-    Ok(())
 }
 
 /// What pushes to an empty OPT record answer, and the record.
-fn opt_record(row: &mut Row<'_>) -> Result<(), RowError> {
+fn opt_record(row: &mut Row<'_>) {
     let mut given = OptRecord::default(row.alloc());
     row.take_steps(", ", &mut Target::Record(&mut given));
     record_said(row, &given)

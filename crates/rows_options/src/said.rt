@@ -1,6 +1,6 @@
 //! How rows say an option.
 
-use dns_name::{BuildDataError, ComposeOptData};
+use dns_name::{BuildDataError, ComposeOptData, OutOfMemory};
 use rows_table::{Row, RowError};
 use std::alloc::Global;
 use std::fmt::Display;
@@ -25,14 +25,33 @@ pub fn shown<D: ComposeOptData + Display>(row: &mut Row<'_>, option: &D) {
 }
 
 /// The same of both forms of an option; the owned one is said only where it differs.
-pub fn both_shown<B: ComposeOptData + Display, O: ComposeOptData + Display>(
+pub fn both_shown<B: ComposeOptData + Display, O: ComposeOptData + Display + Drop>(
+    row: &mut Row<'_>,
+    borrowed: &B,
+    owned: Result<O, OutOfMemory>,
+) {
+    match owned {
+        Ok(owned) => both_said(row, borrowed, &owned),
+        Err(_) => row.fail(RowError::OutOfMemory),
+    }
+}
+
+/// The same of both forms, the owned one in memory of its own. Nothing is said in front of them.
+pub fn both_said<B: ComposeOptData + Display, O: ComposeOptData + Display>(
     row: &mut Row<'_>,
     borrowed: &B,
     owned: &O,
 ) {
-    let first = shown_apart(row.alloc(), borrowed);
-    let other = shown_apart(row.alloc(), owned);
-    both_said(row, first.said(), other.said())
+    shown(row, borrowed);
+    other_said(row, &shown_apart(row.alloc(), owned))
+}
+
+/// What is said in the other row, where that differs.
+fn other_said(row: &mut Row<'_>, other: &Row<'_>) {
+    if row.said() != other.said() {
+        row.close(", but owned");
+        row.say(other.said())
+    }
 }
 
 /// An option as it is shown in a row of its own.
@@ -40,15 +59,6 @@ fn shown_apart<D: ComposeOptData + Display>(alloc: Global, option: &D) -> Row<'s
     let mut said = Row::of(alloc, "", &[]);
     shown(&mut said, option);
     said
-}
-
-/// What is said of both forms; the owned one is said only where it differs.
-fn both_said(row: &mut Row<'_>, first: &str, other: &str) {
-    row.say(first);
-    if first != other {
-        row.close(", but owned");
-        row.say(other);
-    }
 }
 
 /// What building answers.
@@ -61,8 +71,22 @@ pub fn built(row: &mut Row<'_>, done: Result<(), BuildDataError>) {
 
 /// Says how long an option was to be, and how long it is.
 fn wrong_length(row: &mut Row<'_>, stated: u16, written: usize) {
-    match format!(in row.alloc(); "WrongLength({stated},{written})") {
-        Ok(said) => row.say(said.as_str()),
-        Err(_) => row.fail(RowError::OutOfMemory),
-    }
+    row.say("WrongLength(");
+    row.close_shown(&stated);
+    row.close(",");
+    row.close_shown(&written);
+    row.close(")")
+}
+
+/// What the next words of a row may be.
+pub trait Next {
+    /// It; where it can't be read, some other one, with a fault.
+    fn next(row: &mut Row<'_>) -> Self;
+}
+
+/// How two values of the next words compare.
+pub fn order_said<T: Next + Ord + Drop>(row: &mut Row<'_>) {
+    let first = T::next(row);
+    let second = T::next(row);
+    row.debug(&first.cmp(&second))
 }

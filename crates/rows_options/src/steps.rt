@@ -58,6 +58,17 @@ impl Target<'_> {
         }
     }
 
+    /// Pushes the identifier of the next word.
+    fn next_nsid(&mut self, row: &mut Row<'_>) -> Stepped {
+        let octets = row.octets();
+        self.nsid(row, octets)
+    }
+
+    /// Pushes the cookie of the next word.
+    fn next_cookie(&mut self, row: &mut Row<'_>) -> Stepped {
+        self.push(row.alloc(), &client_alone(row))
+    }
+
     /// Pushes an identifier.
     fn nsid(&mut self, row: &mut Row<'_>, octets: &[u8]) -> Stepped {
         match NsidRef::from_slice(octets) {
@@ -69,12 +80,9 @@ impl Target<'_> {
     /// Pushes an option as it is, or one of no kind.
     fn step(&mut self, step: &str, row: &mut Row<'_>) -> Stepped {
         match step {
-            "push_nsid" => {
-                let octets = row.octets();
-                self.nsid(row, octets)
-            }
+            "push_nsid" => self.next_nsid(row),
             "push_zeros" => self.zeros(row),
-            "push_cookie" => self.push(row.alloc(), &client_alone(row)),
+            "push_cookie" => self.next_cookie(row),
             "raw" => self.raw(row),
             _ => out_of_form(row),
         }
@@ -88,10 +96,9 @@ impl Target<'_> {
 }
 
 impl Steps for Target<'_> {
-    fn take_step(&mut self, step: &str, row: &mut Row<'_>) -> Result<(), RowError> {
+    fn take_step(&mut self, step: &str, row: &mut Row<'_>) {
         let done = self.step(step, row);
-        built(row, done);
-        Ok(())
+        built(row, done)
     }
 }
 
@@ -103,14 +110,26 @@ fn client_alone(row: &mut Row<'_>) -> Cookie {
 /// Pushes the algorithms of the next word's octets, which a client understands.
 fn understood(opt: &mut OptBuilder, step: &str, row: &mut Row<'_>) -> Stepped {
     let numbers = row.octets();
-    let listed: Vec<SecurityAlgorithm> = numbers
+    let listed = numbers
         .iter()
-        .map(|number| SecurityAlgorithm::from_int(*number))
-        .collect(row.alloc())?;
+        .map(|number| SecurityAlgorithm::from_int(*number));
+    match listed.collect::<Vec<SecurityAlgorithm>>(row.alloc()) {
+        Ok(listed) => push_understood(opt, step, row.alloc(), &listed),
+        Err(error) => Err(error.into()),
+    }
+}
+
+/// Pushes algorithms that a client understands.
+fn push_understood(
+    opt: &mut OptBuilder,
+    step: &str,
+    alloc: Global,
+    listed: &[SecurityAlgorithm],
+) -> Stepped {
     match step {
-        "dau" => opt.dau(row.alloc(), &listed),
-        "dhu" => opt.dhu(row.alloc(), &listed),
-        _ => opt.n3u(row.alloc(), &listed),
+        "dau" => opt.dau(alloc, listed),
+        "dhu" => opt.dhu(alloc, listed),
+        _ => opt.n3u(alloc, listed),
     }
 }
 
@@ -152,17 +171,38 @@ fn tcp_keepalive(opt: &mut OptBuilder, row: &mut Row<'_>) -> Stepped {
 /// Pushes an option of one kind by the call of its name, or as it is.
 fn push_kind(opt: &mut OptBuilder, step: &str, row: &mut Row<'_>) -> Stepped {
     match step {
-        "dau" | "dhu" | "n3u" => understood(opt, step, row),
-        "chain" => chain(opt, row),
-        "key_tag" => key_tag(opt, row),
         "nsid" => opt.nsid(row.alloc(), row.octets()),
         "client_nsid" => opt.client_nsid(row.alloc()),
-        "expire" => opt.expire(row.alloc(), row.optional()),
-        "extended_error" => extended_error(opt, row),
-        "tcp_keepalive" => tcp_keepalive(opt, row),
-        "client_subnet" => client_subnet(opt, row),
-        "cookie" => opt.cookie(row.alloc(), client_alone(row)),
         "padding" => opt.padding(row.alloc(), row.number()),
+        _ => push_fields(opt, step, row),
+    }
+}
+
+/// The same of kinds with several fields.
+fn push_fields(opt: &mut OptBuilder, step: &str, row: &mut Row<'_>) -> Stepped {
+    match step {
+        "chain" => chain(opt, row),
+        "key_tag" => key_tag(opt, row),
+        "extended_error" => extended_error(opt, row),
+        "client_subnet" => client_subnet(opt, row),
+        _ => push_field(opt, step, row),
+    }
+}
+
+/// The same of kinds with one field.
+fn push_field(opt: &mut OptBuilder, step: &str, row: &mut Row<'_>) -> Stepped {
+    match step {
+        "expire" => opt.expire(row.alloc(), row.optional()),
+        "tcp_keepalive" => tcp_keepalive(opt, row),
+        "cookie" => opt.cookie(row.alloc(), client_alone(row)),
+        _ => push_listed(opt, step, row),
+    }
+}
+
+/// The same of lists of algorithms, and of an option as it is.
+fn push_listed(opt: &mut OptBuilder, step: &str, row: &mut Row<'_>) -> Stepped {
+    match step {
+        "dau" | "dhu" | "n3u" => understood(opt, step, row),
         _ => Target::Built(opt).step(step, row),
     }
 }
@@ -187,13 +227,12 @@ struct Building<'a> {
 }
 
 impl Steps for Building<'_> {
-    fn take_step(&mut self, step: &str, row: &mut Row<'_>) -> Result<(), RowError> {
+    fn take_step(&mut self, step: &str, row: &mut Row<'_>) {
         if self.done.is_err() {
             row.all_words();
-            return Ok(());
+        } else {
+            self.done = set_or_push(self.opt, step, row);
         }
-        self.done = set_or_push(self.opt, step, row);
-        Ok(())
     }
 }
 

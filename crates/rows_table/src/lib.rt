@@ -4,13 +4,14 @@
 mod error;
 mod page;
 mod repeats;
+mod report;
 mod row;
 mod said;
 mod table;
 mod words;
 
 pub use error::RowError;
-pub use page::{Page, pages};
+pub use page::Page;
 pub use row::Row;
 pub use table::{Calls, Steps, run};
 pub use words::{address_of, array_of, number_of};

@@ -12,7 +12,7 @@ pub struct Page<'a> {
 }
 
 /// The octets of each word of a text that is hexadecimal; spaces, commas and colons part them.
-pub fn pages<'a>(alloc: Global, text: &'a str) -> Result<Vec<Page<'a>>, RowError> {
+pub(crate) fn pages<'a>(alloc: Global, text: &'a str) -> Result<Vec<Page<'a>>, RowError> {
     let mut pages = Vec::new(alloc);
     for word in text.split([' ', ',', ':']) {
         push_page(alloc, &mut pages, word)?;

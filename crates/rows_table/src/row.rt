@@ -7,6 +7,14 @@ use dns_name::{IpAddr, NameRef};
 use std::alloc::Global;
 use std::str::FromStr;
 
+/// The name of no labels.
+fn root<'a>() -> NameRef<'a> {
+    match NameRef::from_slice(b"\0") {
+        Ok(root) => root,
+        Err(_) => unreachable!(),
+    }
+}
+
 /// The words of a row that are still to be read, the octets that they are, what its call says so far, and the first fault,
 /// if there is one. A row with a fault doesn't hold, whatever its call says: so what can't be read is zero or empty, and
 /// reading goes on.
@@ -16,7 +24,7 @@ pub struct Row<'a> {
     words: &'a str,
     pages: &'a [Page<'a>],
     pub(crate) said: String,
-    fault: Option<RowError>,
+    pub(crate) fault: Option<RowError>,
 }
 
 impl<'a> Row<'a> {
@@ -43,6 +51,14 @@ impl<'a> Row<'a> {
         }
     }
 
+    /// Keeps a fault, where it is the first; a refusal of octets is no fault, but then all that the row says.
+    pub fn give_up(&mut self, fault: RowError) {
+        match fault {
+            RowError::Refused(error) => self.refuse(error),
+            fault => self.fail(fault),
+        }
+    }
+
     /// The value that was read, or else the other one and a fault.
     fn read<T: Drop>(&mut self, read: Result<T, RowError>, other: T) -> T {
         match read {
@@ -54,20 +70,14 @@ impl<'a> Row<'a> {
         }
     }
 
-    /// The next word, or none.
-    pub fn next_word(&mut self) -> Option<&'a str> {
+    /// The next word, which has to be there.
+    pub fn word(&mut self) -> &'a str {
         if self.words.is_empty() {
-            return None;
+            self.fail(RowError::Missing);
         }
         let (word, rest) = self.words.split_once(' ').unwrap_or((self.words, ""));
         self.words = rest.trim();
-        Some(word)
-    }
-
-    /// The next word, which has to be there.
-    pub fn word(&mut self) -> &'a str {
-        let word = self.next_word().ok_or(RowError::Missing);
-        self.read(word, "")
+        word
     }
 
     /// The octets of the next word in hexadecimal, `-` for none.
@@ -108,15 +118,20 @@ impl<'a> Row<'a> {
     }
 
     /// The uncompressed name that the octets of the next word are.
-    pub fn name(&mut self) -> Result<NameRef<'a>, RowError> {
+    pub fn name(&mut self) -> NameRef<'a> {
         let word = self.word();
         self.name_of(word)
     }
 
     /// The uncompressed name that the octets of a word are.
-    pub fn name_of(&mut self, word: &str) -> Result<NameRef<'a>, RowError> {
-        let octets = self.octets_of(word);
-        NameRef::from_slice(octets).or(Err(RowError::OutOfForm))
+    pub fn name_of(&mut self, word: &str) -> NameRef<'a> {
+        match NameRef::from_slice(self.octets_of(word)) {
+            Ok(name) => name,
+            Err(_) => {
+                self.fail(RowError::OutOfForm);
+                root()
+            }
+        }
     }
 
     /// So many octets of the next word in hexadecimal.
@@ -188,27 +203,22 @@ impl<'a> Row<'a> {
             return;
         }
         for step in steps.split(parted) {
-            self.words = step.trim();
-            let name = self.word();
-            if let Err(error) = target.take_step(name, self) {
-                self.fail(error);
-            }
-            self.end();
+            self.take_step(step, target);
         }
+    }
+
+    /// Takes the step of a text.
+    fn take_step<T: Steps>(&mut self, step: &'a str, target: &mut T) {
+        self.words = step.trim();
+        let name = self.word();
+        target.take_step(name, self);
+        self.end();
     }
 
     /// Refuses words that nothing has read.
     pub(crate) fn end(&mut self) {
         if !self.words.is_empty() {
             self.fail(RowError::TooMany);
-        }
-    }
-
-    /// All that the call says, where there is no fault.
-    pub(crate) fn into_said(self) -> Result<String, RowError> {
-        match self.fault {
-            Some(fault) => Err(fault),
-            None => Ok(self.said),
         }
     }
 }

@@ -11,8 +11,9 @@ impl Row<'_> {
 
     /// Keeps the want of memory that a call met, whose only refusal that is.
     pub fn keep<E: Drop>(&mut self, done: Result<(), E>) {
-        if done.is_err() {
-            self.fail(RowError::OutOfMemory);
+        match done {
+            Ok(()) => {}
+            Err(_) => self.fail(RowError::OutOfMemory),
         }
     }
 
@@ -37,18 +38,23 @@ impl Row<'_> {
         }
     }
 
-    /// Says what a value displays.
-    pub fn show<T: Display>(&mut self, value: &T) {
-        self.part();
+    /// Says what a value displays, behind what stands there with no space between.
+    pub fn close_shown<T: Display>(&mut self, value: &T) {
         let done = write!(self.said, "{value}");
         self.keep(done);
     }
 
+    /// Says what a value displays.
+    pub fn show<T: Display>(&mut self, value: &T) {
+        self.part();
+        self.close_shown(value);
+    }
+
     /// Says what a value displays, in quotation marks.
     pub fn quote<T: Display>(&mut self, value: &T) {
-        self.part();
-        let done = write!(self.said, "\"{value}\"");
-        self.keep(done);
+        self.say("\"");
+        self.close_shown(value);
+        self.close("\"");
     }
 
     /// Says a value by the names of its variants.
@@ -69,8 +75,8 @@ impl Row<'_> {
     /// Says what a value displays, under a name.
     pub fn tell<T: Display>(&mut self, name: &str, value: &T) {
         self.say(name);
-        let done = write!(self.said, "={value}");
-        self.keep(done);
+        self.close("=");
+        self.close_shown(value);
     }
 
     /// Says under a name whether something holds.
@@ -109,7 +115,7 @@ impl Row<'_> {
     }
 
     /// Says why octets are refused, and nothing else.
-    pub(crate) fn refuse(&mut self, error: dns_name::ParseError) {
+    pub fn refuse(&mut self, error: dns_name::ParseError) {
         self.said.clear();
         self.debug(&error);
     }
