@@ -10,7 +10,7 @@ use crate::forms::watched::Watched;
 use dns_book::{Admission, Book, BookState};
 use dns_drivers::{ConnectionEnd, Kept, Recorder, serve_connection};
 use dns_middleware::{Settings, wrap};
-use dns_name::{IpAddr, OptRcode, OutOfMemory, SocketAddr};
+use dns_name::{IpAddr, OutOfMemory, Rcode, SocketAddr};
 use dns_outside::{Link, ListedCalls, MemoryClock, MemoryLink, SteadyLink};
 use dns_service::{DgramConfig, Event, EventKind, Plainly, Served, StreamConfig, Why, service_fn};
 use std::alloc::Global;
@@ -48,7 +48,7 @@ const REPLY_WITH_OPT: &[u8] =
 const LATE: u64 = 30_000;
 
 /// The letter of an event. A write that took longer than it may has one of its own.
-fn letter(kind: &EventKind) -> u8 {
+pub(crate) fn letter(kind: &EventKind) -> u8 {
     match kind {
         EventKind::Datagram { .. } => b'D',
         EventKind::Offer { .. } => b'O',
@@ -180,7 +180,7 @@ fn refuses<R: Wait, L: Link>(
     letters: &[u8],
 ) -> Result<bool, OutOfMemory> {
     let service = Plainly {
-        service: service_fn::<Refusal, _, _>(refuse, OptRcode::NXDOMAIN),
+        service: service_fn::<Refusal, _, _>(refuse, Rcode::NXDOMAIN),
     };
     ends(rt, alloc, &service, shut, link, times, why, letters)
 }
@@ -337,9 +337,8 @@ fn counted<R: Wait>(rt: &R, alloc: Global, notes: u64) -> Result<(u64, u64), Out
 #[test]
 fn an_event_is_noted_first(rt: HostRuntime) -> Result<(), OutOfMemory> {
     let alloc = rt.alloc();
-    assert!(&rt; counted(&rt, alloc, 1)? == (0, 0));
-    assert!(&rt; counted(&rt, alloc, 2)? == (1, 0));
-    assert!(&rt; counted(&rt, alloc, 3)? == (1, 1));
+    let first = counted(&rt, alloc, 1)? == (0, 0) && counted(&rt, alloc, 2)? == (1, 0);
+    assert!(&rt; first && counted(&rt, alloc, 3)? == (1, 1));
     Ok(())
 }
 
@@ -347,7 +346,7 @@ fn an_event_is_noted_first(rt: HostRuntime) -> Result<(), OutOfMemory> {
 #[test]
 fn what_is_not_noted_is_not_written(rt: HostRuntime) -> Result<(), OutOfMemory> {
     let service = Plainly {
-        service: service_fn::<Refusal, _, _>(refuse, OptRcode::NXDOMAIN),
+        service: service_fn::<Refusal, _, _>(refuse, Rcode::NXDOMAIN),
     };
     let mut link = steady(rt.alloc(), QUERY)?;
     let (end, taken) = forgets(&rt, rt.alloc(), &service, &mut link, 2)?;
@@ -383,7 +382,7 @@ fn answers<R: Wait, W: Served>(
 #[test]
 fn a_wrapped_service_answers(rt: HostRuntime) -> Result<(), OutOfMemory> {
     let alloc = rt.alloc();
-    let inner = service_fn::<Refusal, _, _>(refuse, OptRcode::NOERROR);
+    let inner = service_fn::<Refusal, _, _>(refuse, Rcode::NOERROR);
     let service = Plainly {
         service: wrap(alloc, &Settings::new(alloc), inner, Nobody {})?,
     };

@@ -7,7 +7,7 @@ use crate::forms::services::{Refusal, refuse};
 use dns_admission::Look;
 use dns_book::{Admission, Book, BookSeat, BookState};
 use dns_drivers::{ConnectionEnd, Kept, serve_connection};
-use dns_name::{OptRcode, OutOfMemory};
+use dns_name::{OutOfMemory, Rcode};
 use dns_outside::{Link, LinkRead, LinkWrite, MemoryClock, MemoryLink};
 use dns_service::{DgramConfig, Plainly, Served, StreamConfig, Why, service_fn};
 use std::alloc::Global;
@@ -21,7 +21,7 @@ const RESPONSES: &[u8] =
 const WRITTEN: &[u8] =
     b"\x00\x17\x00\x01\x80\x01\x00\x00\x00\x00\x00\x00\x00\x01\x00\x00\x29\x00\x00\x00\x00\x00\x00\x00\x00\x00\x17\x00\x02\x80\x01\x00\x00\x00\x00\x00\x00\x00\x01\x00\x00\x29\x00\x00\x00\x00\x00\x00\x00\x00\x00\x17\x00\x03\x80\x01\x00\x00\x00\x00";
 
-/// A link that takes ten octets a write at most, and at whose wait the book is shut down.
+/// A link that takes ten octets a write at most, and at whose wait the book gets other configurations and is shut down.
 #[derive(Drop)]
 struct Halting<'a, L> {
     link: L,
@@ -46,6 +46,8 @@ impl<L: Link> Link for Halting<'_, L> {
     }
 
     fn wait<R: Wait>(&mut self, rt: &R, _millis: u64) {
+        let (dgram, stream) = (DgramConfig::new(), StreamConfig::new());
+        let _ = self.book.reconfigure(rt, &mut self.seat, dgram, stream);
         self.book.shutdown(rt, &mut self.seat);
     }
 
@@ -90,7 +92,7 @@ fn halts<R: Wait, W: Served>(
     Ok((end, book.look(rt, &mut seat).taken, agrees))
 }
 
-/// The same in a book that the link's wait shuts down.
+/// The same in a book that the link's wait changes and shuts down.
 fn halted<R: Wait, W: Served>(
     rt: &R,
     alloc: Global,
@@ -118,8 +120,8 @@ fn halted<R: Wait, W: Served>(
     halts(rt, alloc, service, seat, &look, &mut link, written, letters)
 }
 
-/// While the first of three frames is written, the server shuts down; of the two that wait then the first is written, and
-/// the second in part: its second write fails.
+/// While the first of three frames is written, the server is reconfigured and shuts down, which is noted in this order; of the
+/// two frames that wait then the first is written, and the second in part: its second write fails.
 #[test]
 fn a_flush_fails(rt: HostRuntime) -> Result<(), OutOfMemory> {
     let alloc = rt.alloc();
@@ -131,9 +133,9 @@ fn a_flush_fails(rt: HostRuntime) -> Result<(), OutOfMemory> {
         calls(alloc, &[8], &[0])?,
     );
     let service = Plainly {
-        service: service_fn::<Refusal, _, _>(refuse, OptRcode::NXDOMAIN),
+        service: service_fn::<Refusal, _, _>(refuse, Rcode::NXDOMAIN),
     };
-    let (end, taken, agrees) = halted(&rt, alloc, &service, link, WRITTEN, b"OPWSWF")?;
+    let (end, taken, agrees) = halted(&rt, alloc, &service, link, WRITTEN, b"OPWRSWF")?;
     assert!(&rt; end == ConnectionEnd::Closed(Why::Fault) && taken == 0 && agrees);
     Ok(())
 }

@@ -4,12 +4,13 @@ ghost use Rattle.std.specs.Prelude.{◌≡◌};
 ghost use Rattle.std.specs.Arc.{arc_value};
 
 use crate::holding::Holding;
-use crate::links::{Marking, Seen, SeenLink, marks, shows};
-use crate::places::{Given, MemoryHost, NOTHING, book_of, host_of};
+use crate::links::{Marking, Seen, SeenLink, links_of, marks, shows};
+use crate::places::book_of;
+use crate::watched::WatchedAccept;
 use dns_book::{Book, BookSeat};
 use dns_name::{OptRcode, OutOfMemory};
-use dns_outside::Spawner;
-use dns_servers::{AcceptEnd, serve_accepts};
+use dns_outside::{ListedCalls, MemoryAccept, MemoryClock, MemorySpawner, Spawner};
+use dns_servers::{AcceptEnd, ConnectionWork, Silent, serve_accepts};
 use dns_service::Plainly;
 use std::alloc::Global;
 use std::sync::atomic::Ordering;
@@ -20,41 +21,51 @@ use std::thread::Threads;
 const QUERY: &[u8] =
     b"\x00\x11\x00\x01\x01\x00\x00\x01\x00\x00\x00\x00\x00\x00\x00\x00\x01\x00\x01";
 
-/// Accepts the links of a host, then lets polls that are held go on, and joins all work. How that ended, and how many slots
-/// are taken then.
+/// Its reply, behind its length, with the OPT record of an error reply.
+const REPLY: &[u8] =
+    b"\x00\x1c\x00\x01\x81\x00\x00\x01\x00\x00\x00\x00\x00\x01\x00\x00\x01\x00\x01\x00\x00\x29\x00\x00\x00\x00\x00\x00\x00\x00";
+
+/// What links come from, which keeps its calls.
+type WatchedLinks<R> = WatchedAccept<MemoryAccept<SeenLink<R>>>;
+
+/// Accepts links, then lets polls that are held go on, and joins all work. How that ended, and how many slots are taken then.
 fn accept_in<R: Threads + Wait + Copy + Send + Sync + Drop + 'static>(
     rt: &R,
     alloc: Global,
     book: &Arc<Book>,
     seat: BookSeat,
     service: &Arc<Plainly<Holding>>,
-    host: &mut MemoryHost<SeenLink<R>, Plainly<Holding>>,
+    accept: &mut WatchedLinks<R>,
     count: u64,
 ) -> (AcceptEnd, u64)
     requires { seat.book ≡ arc_value book.now }
 {
+    let clock = MemoryClock::new(Vec::new(alloc));
+    let mut spawner: MemorySpawner<
+        ConnectionWork<SeenLink<R>, MemoryClock, Silent, Plainly<Holding>>,
+    > = MemorySpawner::new(alloc, Vec::new(alloc));
     let (mut seat, end) = serve_accepts(
         rt,
         alloc,
         book,
         seat,
         service,
-        &mut host.accept,
-        &host.clock,
-        &mut host.spawner,
+        accept,
+        &clock,
+        &mut spawner,
         &Marking,
         count,
     );
     service.service.flag.store(true, Ordering::SeqCst);
-    host.spawner.join_all(rt);
+    spawner.join_all(rt);
     (end, book.look(rt, &mut seat).taken)
 }
 
-/// Accepts so many links of a host in a book with two slots, which may be shut down before.
+/// Accepts so many links in a book with two slots, which may be shut down before.
 fn accept_beside<R: Threads + Wait + Copy + Send + Sync + Drop + 'static>(
     rt: &R,
     alloc: Global,
-    host: &mut MemoryHost<SeenLink<R>, Plainly<Holding>>,
+    accept: &mut WatchedLinks<R>,
     shut: bool,
     count: u64,
 ) -> Result<(AcceptEnd, u64), OutOfMemory> {
@@ -64,21 +75,43 @@ fn accept_beside<R: Threads + Wait + Copy + Send + Sync + Drop + 'static>(
     if shut {
         book.shutdown(rt, &mut seat);
     }
-    Ok(accept_in(rt, alloc, &book, seat, &service, host, count))
+    Ok(accept_in(rt, alloc, &book, seat, &service, accept, count))
 }
 
-/// The same of a host that is given these queries.
-fn accept_links<R: Threads + Wait + Copy + Send + Sync + Drop + 'static>(
+/// Links that give these queries. Of the accepts these fail and those answer Again.
+fn watched<R: Wait + Copy + Drop>(
     rt: R,
     alloc: Global,
     queries: &[&[u8]],
+    failing: &[u64],
+    again: &[u64],
     seen: &mut Vec<Arc<Seen>>,
+) -> Result<WatchedLinks<R>, OutOfMemory> {
+    let calls = ListedCalls::new(
+        Vec::from_slice(alloc, failing)?,
+        Vec::from_slice(alloc, again)?,
+    );
+    match links_of(rt, alloc, queries, seen) {
+        Ok(links) => Ok(WatchedAccept {
+            inner: MemoryAccept::new(alloc, links, calls),
+            calls: Vec::new(alloc),
+        }),
+        Err(error) => Err(error),
+    }
+}
+
+/// Accepts so many of these links in a book that may be shut down before. How that ended, how many slots are taken then, and
+/// whether these are the calls of the accept object.
+fn accept_links<R: Threads + Wait + Copy + Send + Sync + Drop + 'static>(
+    rt: &R,
+    alloc: Global,
+    mut accept: WatchedLinks<R>,
     shut: bool,
     count: u64,
-) -> Result<(AcceptEnd, u64), OutOfMemory> {
-    let given = Given { queries, ..NOTHING };
-    let mut host = host_of(rt, alloc, &given, seen)?;
-    accept_beside(&rt, alloc, &mut host, shut, count)
+    calls: &[u8],
+) -> Result<(AcceptEnd, u64, bool), OutOfMemory> {
+    let (end, taken) = accept_beside(rt, alloc, &mut accept, shut, count)?;
+    Ok((end, taken, accept.calls.as_slice() == calls))
 }
 
 /// Of three connections two are admitted, since there are two slots: the hook is handed each of these once, and each is
@@ -86,15 +119,25 @@ fn accept_links<R: Threads + Wait + Copy + Send + Sync + Drop + 'static>(
 #[test]
 fn the_hook_is_called_once_a_link(rt: HostRuntime) -> Result<(), OutOfMemory> {
     let mut seen = Vec::new(rt.alloc());
-    let queries: [&[u8]; 3] = [QUERY, QUERY, QUERY];
-    let end = accept_links(rt, rt.alloc(), &queries, &mut seen, false, 3)?;
-    let written = shows(&rt, &seen, 0, 30, b"") && shows(&rt, &seen, 1, 30, b"");
+    let accept = watched(rt, rt.alloc(), &[QUERY, QUERY, QUERY], &[], &[], &mut seen)?;
+    let end = accept_links(&rt, rt.alloc(), accept, false, 3, b"aaa")?;
+    let written = shows(&rt, &seen, 0, REPLY) && shows(&rt, &seen, 1, REPLY);
     assert!(&rt;
         written
-            && shows(&rt, &seen, 2, 0, b"")
+            && shows(&rt, &seen, 2, b"")
             && marks(&seen, 3, 2)
-            && end == (AcceptEnd::Counted, 0)
+            && end == (AcceptEnd::Counted, 0, true)
     );
+    Ok(())
+}
+
+/// Each accept that brought no connection, also one that failed, is followed by a wait, and no other is.
+#[test]
+fn a_wait_follows_each_again(rt: HostRuntime) -> Result<(), OutOfMemory> {
+    let mut seen = Vec::new(rt.alloc());
+    let accept = watched(rt, rt.alloc(), &[QUERY, QUERY], &[1], &[0, 3, 4], &mut seen)?;
+    let end = accept_links(&rt, rt.alloc(), accept, false, 2, b"AzFzaAzAza")?;
+    assert!(&rt; end == (AcceptEnd::Counted, 0, true));
     Ok(())
 }
 
@@ -102,8 +145,9 @@ fn the_hook_is_called_once_a_link(rt: HostRuntime) -> Result<(), OutOfMemory> {
 #[test]
 fn a_shutdown_ends_the_loop(rt: HostRuntime) -> Result<(), OutOfMemory> {
     let mut seen = Vec::new(rt.alloc());
-    let end = accept_links(rt, rt.alloc(), &[QUERY], &mut seen, true, 0)?;
+    let accept = watched(rt, rt.alloc(), &[QUERY], &[], &[], &mut seen)?;
+    let end = accept_links(&rt, rt.alloc(), accept, true, 0, b"")?;
     let open = seen.len() == 1 && seen[0].closed.load(Ordering::SeqCst) == 0;
-    assert!(&rt; open && marks(&seen, 1, 0) && end == (AcceptEnd::Shutdown, 0));
+    assert!(&rt; open && marks(&seen, 1, 0) && end == (AcceptEnd::Shutdown, 0, true));
     Ok(())
 }

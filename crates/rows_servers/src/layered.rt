@@ -44,11 +44,7 @@ where
     requires { S.can_call service }
 {
     let (status, _) = serve(rt, alloc, service, host, 1)?;
-    Ok(
-        status == Status::Done
-            && was_sent(&host.sock, reply)
-            && shows(rt, seen, 0, frame.len(), frame),
-    )
+    Ok(status == Status::Done && was_sent(&host.sock, reply) && shows(rt, seen, 0, frame))
 }
 
 /// The same of a host of its own.

@@ -13,8 +13,12 @@ mod layered;
 #[cfg(test)]
 mod links;
 #[cfg(test)]
+mod loopback;
+#[cfg(test)]
 mod parts;
 #[cfg(test)]
 mod places;
 #[cfg(test)]
 mod servers;
+#[cfg(test)]
+mod watched;

@@ -131,17 +131,11 @@ impl<R: Wait + Copy + Drop> Link for SeenLink<R> {
     }
 }
 
-/// Whether the link at a place was closed once, after so many octets were written on it that begin so.
-pub fn shows<R: Wait>(
-    rt: &R,
-    seen: &[Arc<Seen>],
-    place: usize,
-    count: usize,
-    begin: &[u8],
-) -> bool {
+/// Whether the link at a place was closed once, after these octets were written on it.
+pub fn shows<R: Wait>(rt: &R, seen: &[Arc<Seen>], place: usize, octets: &[u8]) -> bool {
     let Some(sight) = seen.get(place) else {
         return false;
     };
     let written = sight.written.lock(rt);
-    written.len() == count && written.starts_with(begin) && sight.closed.load(Ordering::SeqCst) == 1
+    written.as_slice() == octets && sight.closed.load(Ordering::SeqCst) == 1
 }

@@ -32,8 +32,11 @@ pub type MemoryHost<L, W> = Host<
     Silent,
 >;
 
-/// A host in memory whose service stands in all layers, over the target of a script.
-pub type LayeredHost<L, S> = MemoryHost<L, Plainly<Wrapped<S, ScriptTarget>>>;
+/// A service in all layers, over the target of a script.
+pub type LayeredService<S> = Plainly<Wrapped<S, ScriptTarget>>;
+
+/// A host in memory whose service stands in all layers.
+pub type LayeredHost<L, S> = MemoryHost<L, LayeredService<S>>;
 
 /// What a host is given: a link for each of these queries, these datagrams, and the accepts, receives and starts that fail.
 #[derive(Clone, Copy)]

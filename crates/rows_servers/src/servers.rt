@@ -3,10 +3,12 @@
 ghost use Rattle.std.specs.Prelude.{◌≡◌, IfOk};
 
 use crate::holding::Holding;
-use crate::links::{Marking, SeenLink, links_of, marks};
-use crate::places::{PEER, letter};
+use crate::links::{Marking, Seen, SeenLink, links_of, marks, shows};
+use crate::places::{LayeredService, PEER, letter};
+use dns_middleware::{Settings, wrap};
 use dns_name::{OptRcode, OutOfMemory, SocketAddr};
 use dns_outside::{Link, MemoryClock, MemorySpawner, SteadyAccept, SteadyLink, SteadySock};
+use dns_server::{NotifyRules, ScriptTarget};
 use dns_servers::{
     ConnectionWork, Control, DgramEnd, DgramServer, Kept, Metered, NoHook, PreConnect,
     ServerMetrics, Silent, StreamEnd, StreamServer, VecBufSource,
@@ -19,13 +21,18 @@ use std::thread;
 use std::thread::{Parker, Threads};
 use std::time::Duration;
 
-/// A query for the root's address, behind its length.
-const QUERY: &[u8] =
-    b"\x00\x11\x12\x34\x01\x00\x00\x01\x00\x00\x00\x00\x00\x00\x00\x00\x01\x00\x01";
+/// A query for the root's address, and the reply that the name isn't there.
+const QUERY: &[u8] = b"\x12\x34\x01\x00\x00\x01\x00\x00\x00\x00\x00\x00\x00\x00\x01\x00\x01";
 
-/// The reply that the name isn't there, with the OPT record of an error reply.
-const REPLY: &[u8] =
-    b"\x12\x34\x81\x03\x00\x01\x00\x00\x00\x00\x00\x01\x00\x00\x01\x00\x01\x00\x00\x29\x00\x00\x00\x00\x00\x00\x00\x00";
+const REPLY: &[u8] = b"\x12\x34\x81\x03\x00\x01\x00\x00\x00\x00\x00\x00\x00\x00\x01\x00\x01";
+
+/// The query with an OPT record, and the reply that all is well, which says after how many units of 100 ms an idle connection is
+/// closed (RFC 7828), both behind their length.
+const FRAME: &[u8] =
+    b"\x00\x1c\x12\x34\x01\x00\x00\x01\x00\x00\x00\x00\x00\x01\x00\x00\x01\x00\x01\x00\x00\x29\x00\x00\x00\x00\x00\x00\x00\x00";
+
+const ANSWER: &[u8] =
+    b"\x00\x22\x12\x34\x81\x00\x00\x01\x00\x00\x00\x00\x00\x01\x00\x00\x01\x00\x01\x00\x00\x29\x00\x00\x00\x00\x00\x00\x00\x06\x00\x0b\x00\x02\x01\x2c";
 
 /// How often a test looks whether what it waits for has come.
 const TURNS: u64 = 20_000;
@@ -61,9 +68,11 @@ fn shut_down_after<R: Wait>(
     control
 }
 
-/// A service that says of each name that it isn't there.
-fn refusing(alloc: Global) -> Result<Plainly<Holding>, OutOfMemory> {
-    let service = Holding::new(alloc, false, OptRcode::NXDOMAIN)?;
+/// A service in all layers that answers with this code.
+fn layered(alloc: Global, rcode: OptRcode) -> Result<LayeredService<Holding>, OutOfMemory> {
+    let inner = Holding::new(alloc, false, rcode)?;
+    let target = ScriptTarget::new(NotifyRules::new(alloc));
+    let service = wrap(alloc, &Settings::new(alloc), inner, target)?;
     Ok(Plainly { service })
 }
 
@@ -80,7 +89,7 @@ fn datagrams<W: Served>(alloc: Global, service: W) -> Result<Datagrams<W>, OutOf
 {
     let service = Arc::new(alloc, service)?;
     let mut letters = Vec::new(alloc);
-    letters.push(letter(alloc, &QUERY[2..])?)?;
+    letters.push(letter(alloc, QUERY)?)?;
     DgramServer::new(
         alloc,
         SteadySock::new(alloc, letters),
@@ -93,7 +102,7 @@ fn datagrams<W: Served>(alloc: Global, service: W) -> Result<Datagrams<W>, OutOf
 /// One link with one query.
 fn link(alloc: Global) -> Result<VecDeque<(SteadyLink, SocketAddr)>, OutOfMemory> {
     let mut connections = VecDeque::new(alloc);
-    let link = SteadyLink::new(Vec::from_slice(alloc, QUERY)?, Vec::new(alloc));
+    let link = SteadyLink::new(Vec::from_slice(alloc, FRAME)?, Vec::new(alloc));
     connections.push_back((link, PEER))?;
     Ok(connections)
 }
@@ -212,7 +221,8 @@ fn answers_a_datagram<R: Threads + Wait + Sync, W: Served>(
 /// A server of datagrams answers a query, is shut down, and shows what it counted.
 #[test]
 fn a_datagram_is_answered(rt: HostRuntime) -> Result<(), OutOfMemory> {
-    assert!(&rt; answers_a_datagram(&rt, rt.alloc(), refusing(rt.alloc())?)?);
+    let service = layered(rt.alloc(), OptRcode::NXDOMAIN)?;
+    assert!(&rt; answers_a_datagram(&rt, rt.alloc(), service)?);
     Ok(())
 }
 
@@ -252,7 +262,8 @@ fn serves_none<R: Wait, W: Served>(rt: &R, alloc: Global, service: W) -> Result<
 /// Where the book is closed before, nothing is served.
 #[test]
 fn a_closed_server_serves_nothing(rt: HostRuntime) -> Result<(), OutOfMemory> {
-    assert!(&rt; serves_none(&rt, rt.alloc(), refusing(rt.alloc())?)?);
+    let service = layered(rt.alloc(), OptRcode::NXDOMAIN)?;
+    assert!(&rt; serves_none(&rt, rt.alloc(), service)?);
     Ok(())
 }
 
@@ -293,7 +304,8 @@ where
 /// A server of connections answers a query, is shut down, and shows what it counted.
 #[test]
 fn a_connection_is_answered(rt: HostRuntime) -> Result<(), OutOfMemory> {
-    assert!(&rt; answers_a_connection(&rt, rt.alloc(), refusing(rt.alloc())?)?);
+    let service = layered(rt.alloc(), OptRcode::NOERROR)?;
+    assert!(&rt; answers_a_connection(&rt, rt.alloc(), service)?);
     Ok(())
 }
 
@@ -317,14 +329,21 @@ where
     run_connections(rt, alloc, &mut server, count)
 }
 
-/// The hook is handed each link that is admitted, once.
+/// Whether each of three links was handed to the hook once, given the answer and closed once.
+fn are_answered<R: Wait>(rt: &R, seen: &[Arc<Seen>]) -> bool {
+    marks(seen, 3, 3)
+        && shows(rt, seen, 0, ANSWER)
+        && shows(rt, seen, 1, ANSWER)
+        && shows(rt, seen, 2, ANSWER)
+}
+
+/// The hook is handed each link that is admitted, once, and each is answered.
 #[test]
 fn the_hook_is_called(rt: HostRuntime) -> Result<(), OutOfMemory> {
     let mut seen = Vec::new(rt.alloc());
-    let queries: [&[u8]; 3] = [QUERY, QUERY, QUERY];
+    let queries: [&[u8]; 3] = [FRAME, FRAME, FRAME];
     let links = links_of(rt, rt.alloc(), &queries, &mut seen)?;
-    assert!(&rt;
-        answers_with_hook(&rt, rt.alloc(), links, refusing(rt.alloc())?)? && marks(&seen, 3, 3)
-    );
+    let service = layered(rt.alloc(), OptRcode::NOERROR)?;
+    assert!(&rt; answers_with_hook(&rt, rt.alloc(), links, service)? && are_answered(&rt, &seen));
     Ok(())
 }

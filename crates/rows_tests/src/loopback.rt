@@ -180,6 +180,25 @@ fn stands_later<C: Clock + Drop>(alloc: Global, clock: &mut C) -> Result<bool, O
     )
 }
 
+/// Whether the latest reading is the last one, and another one some time after it was called old.
+fn goes_on<C: Clock>(clock: &mut C) -> bool {
+    let first = clock.latest();
+    let again = clock.latest();
+    for _ in 0..100_000_000u64 {
+        clock.outdate();
+        if clock.latest() != first {
+            return again == first && first.1 > 1_000_000_000;
+        }
+    }
+    false
+}
+
+/// The machine's clock gives its last reading as the latest one until that is called old.
+#[test]
+fn the_latest_reading_stays(rt: HostRuntime) {
+    assert!(&rt; goes_on(&mut HostClock::new(rt)));
+}
+
 /// The machine's clock stands after 2001, in milliseconds and in seconds, and so does another.
 #[test]
 fn the_clock_is_read(rt: HostRuntime) -> Result<(), OutOfMemory> {

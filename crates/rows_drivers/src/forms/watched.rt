@@ -1,25 +1,26 @@
-//! A link that keeps which calls were made of it.
+//! A link or a socket that keeps which calls were made of it.
 
 ghost use Rattle.std.specs.Prelude.{◌≡◌, ◌≤◌};
 ghost use Rattle.dns_outside.specs.Causes.{Tells};
 
-use dns_outside::{Link, LinkRead, LinkWrite};
+use dns_name::SocketAddr;
+use dns_outside::{AsyncDgramSock, DgramRecv, DgramSend, Link, LinkRead, LinkWrite};
 use std::alloc::Global;
 use std::sync::Wait;
 
-/// A link, and a letter for each call: `r` for a read, `w` for a write, `R` and `W` where these answered Again, `z` for a
-/// wait, and `c` for a close.
+/// A link or a socket for datagrams, and a letter for each call: `r` for a read or a receive, `w` for a write or a send, `R`
+/// and `W` where these answered Again, `z` for a wait, `0` for one of no time, and `c` for a close.
 #[derive(Drop)]
-pub struct Watched<L> {
-    link: L,
+pub struct Watched<T> {
+    inner: T,
     calls: Vec<u8>,
 }
 
-impl<L: Link> Watched<L> {
+impl<T> Watched<T> {
     /// No call was made so far.
-    pub fn new(alloc: Global, link: L) -> Watched<L> {
+    pub fn new(alloc: Global, inner: T) -> Watched<T> {
         Watched {
-            link,
+            inner,
             calls: Vec::new(alloc),
         }
     }
@@ -30,21 +31,21 @@ impl<L: Link> Watched<L> {
     }
 
     fn keep(&mut self, letter: u8)
-        ensures { self.new.link ≡ self.old.link }
+        ensures { self.new.inner ≡ self.old.inner }
     {
         let _ = self.calls.push(letter);
     }
 }
 
 impl<L: Link> Link for Watched<L> {
-    ghost tells = { λ w. L.tells w.link };
+    ghost tells = { λ w. L.tells w.inner };
 
-    ghost traffic = { λ w. L.traffic w.link };
+    ghost traffic = { λ w. L.traffic w.inner };
 
-    ghost faults = { λ w. L.faults w.link };
+    ghost faults = { λ w. L.faults w.inner };
 
     fn read(&mut self, buf: &mut [u8]) -> LinkRead {
-        let answer = self.link.read(buf);
+        let answer = self.inner.read(buf);
         self.keep(if answer == LinkRead::Again {
             b'R'
         } else {
@@ -54,7 +55,7 @@ impl<L: Link> Link for Watched<L> {
     }
 
     fn write(&mut self, piece: &[u8]) -> LinkWrite {
-        let answer = self.link.write(piece);
+        let answer = self.inner.write(piece);
         self.keep(if answer == LinkWrite::Again {
             b'W'
         } else {
@@ -64,12 +65,47 @@ impl<L: Link> Link for Watched<L> {
     }
 
     fn wait<R: Wait>(&mut self, rt: &R, millis: u64) {
-        self.link.wait(rt, millis);
-        self.keep(b'z');
+        self.inner.wait(rt, millis);
+        self.keep(if millis == 0 { b'0' } else { b'z' });
     }
 
     fn close(&mut self) {
-        self.link.close();
+        self.inner.close();
         self.keep(b'c');
+    }
+}
+
+impl<D: AsyncDgramSock> AsyncDgramSock for Watched<D> {
+    ghost tells = { λ w. D.tells w.inner };
+
+    ghost mail = { λ w. D.mail w.inner };
+
+    ghost failed_receives = { λ w. D.failed_receives w.inner };
+
+    ghost failed_sends = { λ w. D.failed_sends w.inner };
+
+    fn poll_send_to(&mut self, octets: &[u8], to: SocketAddr) -> DgramSend {
+        let answer = self.inner.poll_send_to(octets, to);
+        self.keep(if answer == DgramSend::Again {
+            b'W'
+        } else {
+            b'w'
+        });
+        answer
+    }
+
+    fn readable<R: Wait>(&mut self, rt: &R, millis: u64) {
+        self.inner.readable(rt, millis);
+        self.keep(if millis == 0 { b'0' } else { b'z' });
+    }
+
+    fn try_recv_buf_from(&mut self, buf: &mut [u8]) -> DgramRecv {
+        let answer = self.inner.try_recv_buf_from(buf);
+        self.keep(if answer == DgramRecv::Again {
+            b'R'
+        } else {
+            b'r'
+        });
+        answer
     }
 }
