@@ -1,5 +1,6 @@
 /* Refuses one request for memory of the program that is started with it, the one of the number REFUSED, from 1. An octet on the
-   descriptor TOLD then says that there was one. tools/memory builds it and starts programs with it. */
+   descriptor TOLD then says that there was one. tools/memory builds it and starts programs with it. A program that is linked
+   by `rt` asks by malloc and realloc alone; tools/memory looks whether that is so. */
 #include <stdlib.h>
 #include <unistd.h>
 
