@@ -6,14 +6,15 @@ ghost use Rattle.std.specs.Arc.{arc_value};
 use crate::holding::Holding;
 use crate::links::{Marking, Seen, SeenLink, links_of, marks, shows};
 use crate::places::book_of;
+use crate::servers::{ANSWER, FRAME, layered};
 use crate::watched::WatchedAccept;
 use dns_book::{Book, BookSeat};
 use dns_name::{OptRcode, OutOfMemory};
 use dns_outside::{ListedCalls, MemoryAccept, MemoryClock, MemorySpawner, Spawner};
 use dns_servers::{AcceptEnd, ConnectionWork, Silent, serve_accepts};
-use dns_service::Plainly;
+use dns_service::{Plainly, Served};
 use std::alloc::Global;
-use std::sync::atomic::Ordering;
+use std::sync::atomic::{AtomicBool, Ordering};
 use std::sync::{Arc, Wait};
 use std::thread::Threads;
 
@@ -29,21 +30,28 @@ const REPLY: &[u8] =
 type WatchedLinks<R> = WatchedAccept<MemoryAccept<SeenLink<R>>>;
 
 /// Accepts links, then lets polls that are held go on, and joins all work. How that ended, and how many slots are taken then.
-fn accept_in<R: Threads + Wait + Copy + Send + Sync + Drop + 'static>(
+fn accept_in<
+    R: Threads + Wait + Copy + Send + Sync + Drop + 'static,
+    W: Served + Send + Sync + 'static,
+>(
     rt: &R,
     alloc: Global,
     book: &Arc<Book>,
     seat: BookSeat,
-    service: &Arc<Plainly<Holding>>,
+    service: &Arc<W>,
+    flag: &AtomicBool,
     accept: &mut WatchedLinks<R>,
     count: u64,
 ) -> (AcceptEnd, u64)
-    requires { seat.book ≡ arc_value book.now }
+where
+    W::Future: Send,
+    W::Stream: Send,
+    requires book { seat.book ≡ arc_value book.now }
+    requires can_call { W.can_call (arc_value service.now) }
 {
     let clock = MemoryClock::new(Vec::new(alloc));
-    let mut spawner: MemorySpawner<
-        ConnectionWork<SeenLink<R>, MemoryClock, Silent, Plainly<Holding>>,
-    > = MemorySpawner::new(alloc, Vec::new(alloc));
+    let mut spawner: MemorySpawner<ConnectionWork<SeenLink<R>, MemoryClock, Silent, W>> =
+        MemorySpawner::new(alloc, Vec::new(alloc));
     let (mut seat, end) = serve_accepts(
         rt,
         alloc,
@@ -56,26 +64,35 @@ fn accept_in<R: Threads + Wait + Copy + Send + Sync + Drop + 'static>(
         &Marking,
         count,
     );
-    service.service.flag.store(true, Ordering::SeqCst);
+    flag.store(true, Ordering::SeqCst);
     spawner.join_all(rt);
     (end, book.look(rt, &mut seat).taken)
 }
 
 /// Accepts so many links in a book with two slots, which may be shut down before.
-fn accept_beside<R: Threads + Wait + Copy + Send + Sync + Drop + 'static>(
+fn accept_beside<
+    R: Threads + Wait + Copy + Send + Sync + Drop + 'static,
+    W: Served + Send + Sync + 'static,
+>(
     rt: &R,
     alloc: Global,
+    service: W,
+    flag: &AtomicBool,
     accept: &mut WatchedLinks<R>,
     shut: bool,
     count: u64,
-) -> Result<(AcceptEnd, u64), OutOfMemory> {
-    let service = Holding::new(alloc, false, OptRcode::NOERROR)?;
-    let service = Arc::new(alloc, Plainly { service })?;
+) -> Result<(AcceptEnd, u64), OutOfMemory>
+where
+    W::Future: Send,
+    W::Stream: Send,
+    requires { W.can_call service }
+{
+    let service = Arc::new(alloc, service)?;
     let (book, mut seat) = book_of(alloc, 2)?;
     if shut {
         book.shutdown(rt, &mut seat);
     }
-    Ok(accept_in(rt, alloc, &book, seat, &service, accept, count))
+    Ok(accept_in(rt, alloc, &book, seat, &service, flag, accept, count))
 }
 
 /// Links that give these queries. Of the accepts these fail and those answer Again.
@@ -110,7 +127,10 @@ fn accept_links<R: Threads + Wait + Copy + Send + Sync + Drop + 'static>(
     count: u64,
     calls: &[u8],
 ) -> Result<(AcceptEnd, u64, bool), OutOfMemory> {
-    let (end, taken) = accept_beside(rt, alloc, &mut accept, shut, count)?;
+    let service = Holding::new(alloc, false, OptRcode::NOERROR)?;
+    let flag = Arc::try_clone(&service.flag)?;
+    let service = Plainly { service };
+    let (end, taken) = accept_beside(rt, alloc, service, &flag, &mut accept, shut, count)?;
     Ok((end, taken, accept.calls.as_slice() == calls))
 }
 
@@ -128,6 +148,28 @@ fn the_hook_is_called_once_a_link(rt: HostRuntime) -> Result<(), OutOfMemory> {
             && marks(&seen, 3, 2)
             && end == (AcceptEnd::Counted, 0, true)
     );
+    Ok(())
+}
+
+/// Whether one connection to a service in all layers is accepted, and given this frame.
+fn is_layered<R: Threads + Wait + Copy + Send + Sync + Drop + 'static>(
+    rt: &R,
+    alloc: Global,
+    mut accept: WatchedLinks<R>,
+    seen: &[Arc<Seen>],
+) -> Result<bool, OutOfMemory> {
+    let service = layered(alloc, OptRcode::NOERROR)?;
+    let flag = AtomicBool::new(false);
+    let end = accept_beside(rt, alloc, service, &flag, &mut accept, false, 1)?;
+    Ok(end == (AcceptEnd::Counted, 0) && shows(rt, seen, 0, ANSWER))
+}
+
+/// A query with an OPT record over a connection to a service in all layers gets its frame.
+#[test]
+fn a_connection_is_answered(rt: HostRuntime) -> Result<(), OutOfMemory> {
+    let mut seen = Vec::new(rt.alloc());
+    let accept = watched(rt, rt.alloc(), &[FRAME], &[], &[], &mut seen)?;
+    assert!(&rt; is_layered(&rt, rt.alloc(), accept, &seen)?);
     Ok(())
 }
 

@@ -28,10 +28,10 @@ const REPLY: &[u8] = b"\x12\x34\x81\x03\x00\x01\x00\x00\x00\x00\x00\x00\x00\x00\
 
 /// The query with an OPT record, and the reply that all is well, which says after how many units of 100 ms an idle connection is
 /// closed (RFC 7828), both behind their length.
-const FRAME: &[u8] =
+pub const FRAME: &[u8] =
     b"\x00\x1c\x12\x34\x01\x00\x00\x01\x00\x00\x00\x00\x00\x01\x00\x00\x01\x00\x01\x00\x00\x29\x00\x00\x00\x00\x00\x00\x00\x00";
 
-const ANSWER: &[u8] =
+pub const ANSWER: &[u8] =
     b"\x00\x22\x12\x34\x81\x00\x00\x01\x00\x00\x00\x00\x00\x01\x00\x00\x01\x00\x01\x00\x00\x29\x00\x00\x00\x00\x00\x00\x00\x06\x00\x0b\x00\x02\x01\x2c";
 
 /// How often a test looks whether what it waits for has come.
@@ -69,7 +69,7 @@ fn shut_down_after<R: Wait>(
 }
 
 /// A service in all layers that answers with this code.
-fn layered(alloc: Global, rcode: OptRcode) -> Result<LayeredService<Holding>, OutOfMemory> {
+pub fn layered(alloc: Global, rcode: OptRcode) -> Result<LayeredService<Holding>, OutOfMemory> {
     let inner = Holding::new(alloc, false, rcode)?;
     let target = ScriptTarget::new(NotifyRules::new(alloc));
     let service = wrap(alloc, &Settings::new(alloc), inner, target)?;
