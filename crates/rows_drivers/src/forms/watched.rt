@@ -9,11 +9,20 @@ use std::alloc::Global;
 use std::sync::Wait;
 
 /// A link or a socket for datagrams, and a letter for each call: `r` for a read or a receive, `w` for a write or a send, `R`
-/// and `W` where these answered Again, `z` for a wait, `0` for one of no time, and `c` for a close.
+/// and `W` where these answered Again, `z` for a wait, `y` for one of a millisecond, `0` for one of no time, and `c` for a close.
 #[derive(Drop)]
 pub struct Watched<T> {
     inner: T,
     calls: Vec<u8>,
+}
+
+/// The letter of a wait of so many milliseconds.
+fn wait_letter(millis: u64) -> u8 {
+    match millis {
+        0 => b'0',
+        1 => b'y',
+        _ => b'z',
+    }
 }
 
 impl<T> Watched<T> {
@@ -66,7 +75,7 @@ impl<L: Link> Link for Watched<L> {
 
     fn wait<R: Wait>(&mut self, rt: &R, millis: u64) {
         self.inner.wait(rt, millis);
-        self.keep(if millis == 0 { b'0' } else { b'z' });
+        self.keep(wait_letter(millis));
     }
 
     fn close(&mut self) {
@@ -96,7 +105,7 @@ impl<D: AsyncDgramSock> AsyncDgramSock for Watched<D> {
 
     fn readable<R: Wait>(&mut self, rt: &R, millis: u64) {
         self.inner.readable(rt, millis);
-        self.keep(if millis == 0 { b'0' } else { b'z' });
+        self.keep(wait_letter(millis));
     }
 
     fn try_recv_buf_from(&mut self, buf: &mut [u8]) -> DgramRecv {
