@@ -1,40 +1,35 @@
 -- What is built of a router's own replies.
 use Rattle.std.proofs.Common.{◌≡◌, ℕ, ◌%◌, ◌<◌, Bool, true, false, if◌then◌else◌, List, [], ◌∷◌, ◌++◌, Option, Some, None, Result, Ok, Err, refl, ap, sym, subst, ◌∙◌, arith, inl, inr}
-use Rattle.std.specs.Prelude.{map}
-use Rattle.std.specs.List.{AllZip}
+use Rattle.std.specs.Prelude.{◌||◌, map, nat_eq, option_map}
+use Rattle.std.specs.List.{AllZip, list_any}
 use Rattle.dns_name.specs.declared.error.ParseError.{ParseError}
 use Rattle.dns_base.specs.Built.{Built, empty, with_header, with_question}
 use Rattle.dns_base.specs.Msg.{Msg, IsMessage, ResourceRecord}
-use Rattle.dns_base.specs.Records.{record_of}
 use Rattle.dns_base.specs.Replaced.{other_than}
 use Rattle.dns_base.specs.Header.{header_of}
 use Rattle.dns_base.specs.Replies.{answer_header, error_by, with_copied, within_limit}
 use Rattle.dns_base.specs.Sections.{Items, all_of, answers_of, authority_of, message_of, questions_of, reached, standing_additional, standing_answers, standing_authority}
 use Rattle.dns_base.specs.Standing.{Standing}
 use Rattle.dns_base.specs.Wire.{wire}
-use Rattle.dns_message.specs.TypedData.{IsReadAs, IsTyped, ReadsBack}
+use Rattle.dns_message.specs.TypedData.{IsReadAs, ReadsBack}
 use Rattle.dns_message.specs.declared.question.Question.{Question}
 use Rattle.dns_message.specs.declared.header.Header.{Header}
 use Rattle.dns_message.specs.declared.rdata.RecordData.TheVariants.{Opt as OptList}
 use Rattle.dns_message.specs.declared.record.Record.{Record}
 use Rattle.dns_opt.specs.Drafts.{with_opt, with_opt_record}
-use Rattle.dns_opt.specs.OptRecords.{OptState, opt_record, opt_state, zero_head}
+use Rattle.dns_opt.specs.OptRecords.{OptState, listed, opt_record, opt_record_among, opt_state, opt_state_of, zero_head}
 use Rattle.dns_opt.specs.Reopened.{opt_among, opt_or_empty}
 use Rattle.dns_service.specs.ErrorReply.{code_draft, error_begun, error_reply}
 use Rattle.dns_service.specs.WithOption.{and_option, optioned}
 use Rattle.dns_service.specs.LastOpt.{and_opt}
 use Rattle.dns_service.specs.Copied.{copied, copied_item, copied_records, in_front, others_of, whole_list}
 use Rattle.dns_base.specs.CopiedRecord.{plainly}
-use Rattle.dns_route.specs.OwnReplies.{error_state}
+use Rattle.dns_route.specs.OwnReplies.{error_state, kept_whole}
+use Rattle.dns_route.specs.Typed.{AreTyped, IsTypedMessage}
 use Rattle.dns_route.specs.ReplyMessage.{begun, reply_message, reply_with_opt, with_reply_option}
 use Rattle.dns_route.proofs.OwnLaws.{AreBare, error_records, options_empty}
 
 -- ---- the copy of a message that was built of typed records
-
--- records that were written of typed data
-abbrev pub AreTyped : List ResourceRecord → Type 0
-AreTyped [] = Unit {0}
-AreTyped (x ∷ xs) = ((r : Record) × IsTyped r.rdata × (record_of r ≡ x)) × AreTyped xs
 
 copied_section : (xs : List ResourceRecord) (items : List (Result Standing ParseError)) → AreTyped xs → AllZip IsReadAs xs items → copied_records items ≡ Ok xs
 copied_section [] [] t h = refl
@@ -74,7 +69,7 @@ module _ (back : AreReadBack) where
   unfolding message_of
   questions_back m h = ap (λ (x : Msg). x.questions) (back.same m h)
 
-  copied_back : (m : Msg) → IsMessage m → AreTyped m.answers → AreTyped m.authority → AreTyped m.additional → copied (wire m) ≡ Ok (record m { additional = other_than 41 m.additional })
+  pub copied_back : (m : Msg) → IsMessage m → AreTyped m.answers → AreTyped m.authority → AreTyped m.additional → copied (wire m) ≡ Ok (record m { additional = other_than 41 m.additional })
   unfolding copied
   copied_back m h a b c =
       let o = wire m in
@@ -160,3 +155,29 @@ module _ (back : AreReadBack) (query : List ℕ) (code : ℕ) (l : code < 16) (h
       let m = error_reply query code in
       ap (reply_with_opt (with_reply_option c d (error_state query code)).opt) error_copied
       ∙ ap (λ (s : OptState). Ok (record m { additional = other_than 41 m.additional ++ opt_record (and_option s c d) ∷ [] })) (begun_or (opt_among m.additional))
+
+-- ---- messages of one's own
+
+others_step : (x : ResourceRecord) (xs : List ResourceRecord) (b : Bool) → (b || list_any (λ (r : ResourceRecord). nat_eq r.rtype 41) xs) ≡ false → (list_any (λ (r : ResourceRecord). nat_eq r.rtype 41) xs ≡ false → other_than 41 xs ≡ xs) → (if b then other_than 41 xs else x ∷ other_than 41 xs) ≡ x ∷ xs
+others_step x xs true h ih = absurd (cc)
+others_step x xs false h ih = ap (λ l. x ∷ l) (ih h)
+
+all_others : (xs : List ResourceRecord) → list_any (λ (r : ResourceRecord). nat_eq r.rtype 41) xs ≡ false → other_than 41 xs ≡ xs
+all_others [] h = refl
+all_others (x ∷ xs) h = others_step x xs (nat_eq x.rtype 41) h (all_others xs)
+
+among_step : (x : ResourceRecord) (xs : List ResourceRecord) (b : Bool) → (b || list_any (λ (r : ResourceRecord). nat_eq r.rtype 41) xs) ≡ false → (list_any (λ (r : ResourceRecord). nat_eq r.rtype 41) xs ≡ false → opt_record_among xs ≡ None) → (if b then listed x else opt_record_among xs) ≡ None
+among_step x xs true h ih = absurd (cc)
+among_step x xs false h ih = ih h
+
+none_among : (xs : List ResourceRecord) → list_any (λ (r : ResourceRecord). nat_eq r.rtype 41) xs ≡ false → opt_record_among xs ≡ None
+none_among [] h = refl
+none_among (x ∷ xs) h = among_step x xs (nat_eq x.rtype 41) h (none_among xs)
+
+module _ (back : AreReadBack) where
+  -- what is built of a message of one's own is that message
+  pub kept_built : (m : Msg) → IsMessage m → IsTypedMessage m → reply_message (kept_whole m) ≡ Ok m
+  kept_built m h t =
+      ap (reply_with_opt (opt_among m.additional)) (copied_back back m h t.answers t.authority t.additional)
+      ∙ (ap (λ (s : Option OptState). Ok (and_opt (record m { additional = other_than 41 m.additional }) s)) (ap (option_map opt_state_of) (none_among m.additional t.bare))
+      ∙ ap (λ (rs : List ResourceRecord). Ok (record m { additional = rs })) (all_others m.additional t.bare))

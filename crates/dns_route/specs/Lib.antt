@@ -13,11 +13,13 @@ pub use Rattle.dns_opt.specs.OptRecords
 pub use Rattle.dns_opt.specs.Pushes
 pub use Rattle.dns_service.specs.Copied
 pub use Rattle.dns_service.specs.LastOpt
+pub use Rattle.dns_message.specs.TypedData
 pub mod Kept
 pub mod ReplyMessage
 pub mod RequestMessage
 pub mod OwnReplies
 pub mod Turns
 pub mod Relays
+pub mod Typed
 pub mod Routes
 pub mod Places

@@ -16,7 +16,10 @@ mod to_service;
 
 pub use adapter::{BoxClientTransportToSingleService, ClientTransportToSingleService};
 pub use dns_service::CopiedMessage;
-pub use laws::{matches_are_suffixes, own_replies_are_error_replies};
+pub use laws::{
+    matches_are_suffixes, own_replies_are_error_replies, typed_messages_are_copied,
+    typed_replies_are_built,
+};
 pub use qname_router::QnameRouter;
 pub use reply::{ComposeReply, ReplyMessage};
 pub use request::RequestMessage;

@@ -99,6 +99,27 @@ impl ComposeReply for ReplyMessage {
 }
 
 impl ReplyMessage {
+    /// The reply of a message and the OPT record that takes the place of its own. The message is not copied.
+    pub fn of(message: Message, opt: Option<OptRecord>) -> ReplyMessage
+        ensures { result ≡ record { octets = message; opt = opt } }
+    {
+        ReplyMessage { message, opt }
+    }
+
+    /// The message that the reply is composed of. Its OPT record isn't the reply's.
+    pub fn message(&self) -> &Message
+        ensures { result.now ≡ self.now.octets }
+    {
+        &self.message
+    }
+
+    /// The OPT record that the reply gets.
+    pub fn opt(&self) -> Option<&OptRecord>
+        ensures { option_copied result ≡ self.now.opt }
+    {
+        self.opt.as_ref()
+    }
+
     /// Adds an option to an OPT record that is begun, all of whose numbers are 0.
     fn begin_opt<D: ComposeOptData>(&mut self, alloc: Global, opt: &D) -> Result<(), BuildDataError>
         requires { self.old.opt ≡ None }
@@ -112,7 +133,7 @@ impl ReplyMessage {
 
     /// A reply that is a message of our own. Its OPT record is kept whole; its octets are taken over, and only its additional
     /// records are read.
-    pub(crate) fn from_builder(
+    pub fn from_builder(
         alloc: Global,
         built: AdditionalBuilder,
     ) -> Result<ReplyMessage, OutOfMemory>

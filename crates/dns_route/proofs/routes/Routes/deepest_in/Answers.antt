@@ -2,7 +2,7 @@ use Rattle.std.proofs.Common.{◌≡◌, ◌+◌, length, drop, refl, ap, sym, �
 use Rattle.std.specs.Option.{option_copied}
 use Rattle.dns_route.specs.Places.{name_key}
 use Rattle.dns_route.proofs.PairLaws.{tail_behind, under_behind}
-use Rattle.dns_route.proofs.RouteLaws.{AllUnder, IsTail, found, missed, none_chosen}
+use Rattle.dns_route.proofs.RouteLaws.{AllUnder, found, missed, none_chosen}
 use Rattle.dns_route.proofs.SuffixLaws.{in_octets, next_octets, next_tail, rest_octets}
 use Rattle.dns_route.proofs.routes.Routes.deepest_in.Goals as goal
 
