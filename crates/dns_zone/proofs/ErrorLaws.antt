@@ -1,0 +1,100 @@
+-- Which cause a list is refused for, and what follows where it is for none.
+use Rattle.std.proofs.Common.{◌≡◌, ℕ, ◌+◌, Bool, true, false, List, [], ◌∷◌, ◌++◌, length, cond, nat_eq, Option, Some, None, Result, Ok, Err, refl, ap, sym, ◌∙◌}
+use Rattle.std.specs.Prelude.{⊤, not, if◌then◌else◌, option_map}
+use Rattle.std.specs.List.{AllByRecursion, filter, position, position_from}
+use Rattle.std.proofs.lemmas.Iterator.Adapters.{position_from-zero}
+use Rattle.dns_message.specs.declared.record.Record.{Record}
+use Rattle.dns_route.specs.Routes.{ends_name}
+use Rattle.dns_zone.specs.declared.error.ZoneError.{ZoneError}
+use Rattle.dns_zone.specs.declared.error.ZoneError.TheVariants.{Outside, Class, Opt, Soa, SoaPlace, Cname, OutOfMemory as NoMemory}
+use Rattle.dns_zone.specs.Faults.{list_error, refused}
+use Rattle.dns_zone.specs.Kept.{IsInZone}
+use Rattle.dns_zone.specs.Owned.{ZoneState, is_of}
+use Rattle.dns_zone.specs.ZoneErrors.{Makes, first_cause, has_other_class, is_crowded, is_misplaced, is_outside, miscounted, zone_error}
+use Rattle.dns_zone.proofs.PathLaws.{true_eq}
+
+refused_for : (cause : Option ZoneError) (e : ZoneError) → Err e ≡ refused cause → cause ≡ Some e
+refused_for None e h = absurd (cc)
+refused_for (Some f) e h = cc
+
+not_refused : (cause : Option ZoneError) → Ok tt ≡ refused cause → cause ≡ None
+not_refused None h = refl
+not_refused (Some f) h = absurd (cc)
+
+cause_kept : (xs ys : List (Option ZoneError)) (e : ZoneError) → first_cause xs ≡ Some e → first_cause (xs ++ ys) ≡ Some e
+cause_kept [] ys e h = absurd (cc)
+cause_kept (None ∷ xs) ys e h = cause_kept xs ys e h
+cause_kept (Some x ∷ xs) ys e h = h
+
+cause_next : (xs ys : List (Option ZoneError)) → first_cause xs ≡ None → first_cause (xs ++ ys) ≡ first_cause ys
+cause_next [] ys h = refl
+cause_next (None ∷ xs) ys h = cause_next xs ys h
+cause_next (Some x ∷ xs) ys h = absurd (cc)
+
+cause_none : (o : Option ZoneError) (xs : List (Option ZoneError)) → first_cause (o ∷ xs) ≡ None → (o ≡ None) × (first_cause xs ≡ None)
+cause_none None xs h = (refl, h)
+cause_none (Some e) xs h = absurd (cc)
+
+makes_refused : (cause : Option ZoneError) (z : ZoneState) (e : ZoneError) → cause ≡ Some e → Makes cause z (Err e)
+makes_refused cause z (Outside i) h = h
+makes_refused cause z (Class i) h = h
+makes_refused cause z (Opt i) h = h
+makes_refused cause z (Soa n) h = h
+makes_refused cause z (SoaPlace i) h = h
+makes_refused cause z (Cname i) h = h
+makes_refused cause z NoMemory h = tt
+
+within_step : (b : Bool) (i : ℕ) (more : Option ℕ) → cond (not b) (Some i) more ≡ None → (b ≡ true) × (more ≡ None)
+within_step true i more h = (refl, h)
+within_step false i more h = absurd (cc)
+
+within_from : (apex : List (List ℕ)) (i : ℕ) (rs : List Record) → position_from (is_outside apex) i rs ≡ None → AllByRecursion (IsInZone apex) rs
+within_from apex i [] h = tt
+within_from apex i (r ∷ rs) h =
+    let s = within_step (ends_name r.owner apex) i (position_from (is_outside apex) (i + 1) rs) h in
+    (s.0, within_from apex (i + 1) rs s.1)
+
+module _ (apex : List (List ℕ)) (rs : List Record) where
+  -- a list is refused for a cause other than its aliases
+  pub refused_list : (z : ZoneState) (e : ZoneError) → Err e ≡ refused (list_error apex rs) → Makes (zone_error apex rs) z (Err e)
+  refused_list z e h =
+      makes_refused (zone_error apex rs) z e
+      (cause_kept (option_map Outside (position (is_outside apex) rs) ∷ option_map Class (position has_other_class rs) ∷ option_map Opt (position (is_of 41) rs) ∷ miscounted (length (filter (is_of 6) rs)) ∷ option_map SoaPlace (position (is_misplaced apex) rs) ∷ []) (option_map Cname (position (is_crowded rs) rs) ∷ []) e (refused_for (list_error apex rs) e h))
+
+  module _ (h : Ok tt ≡ refused (list_error apex rs)) where
+    none : list_error apex rs ≡ None
+    none = not_refused (list_error apex rs) h
+
+    -- then its aliases decide
+    pub by_aliases : zone_error apex rs ≡ first_cause (option_map Cname (position (is_crowded rs) rs) ∷ [])
+    by_aliases =
+        cause_next (option_map Outside (position (is_outside apex) rs) ∷ option_map Class (position has_other_class rs) ∷ option_map Opt (position (is_of 41) rs) ∷ miscounted (length (filter (is_of 6) rs)) ∷ option_map SoaPlace (position (is_misplaced apex) rs) ∷ []) (option_map Cname (position (is_crowded rs) rs) ∷ []) none
+
+    pub refused_alias : (i : ℕ) → Some i ≡ position (is_crowded rs) rs → zone_error apex rs ≡ Some (Cname i)
+    refused_alias i e = by_aliases ∙ ap (λ (o : Option ℕ). first_cause (option_map Cname o ∷ [])) (sym e)
+
+    pub accepted : None ≡ position (is_crowded rs) rs → zone_error apex rs ≡ None
+    accepted e = by_aliases ∙ ap (λ (o : Option ℕ). first_cause (option_map Cname o ∷ [])) (sym e)
+
+    -- the list has one SOA record
+    one_counted : (n : ℕ) (b : Bool) → nat_eq n 1 ≡ b → (if b then None else Some (Soa n)) ≡ None → n ≡ 1
+    one_counted n true e g = true_eq n 1 e
+    one_counted n false e g = absurd (cc)
+
+    pub one_soa : length (filter (is_of 6) rs) ≡ 1
+    one_soa =
+        let a = cause_none (option_map Outside (position (is_outside apex) rs)) (option_map Class (position has_other_class rs) ∷ option_map Opt (position (is_of 41) rs) ∷ miscounted (length (filter (is_of 6) rs)) ∷ option_map SoaPlace (position (is_misplaced apex) rs) ∷ []) none in
+        let b = cause_none (option_map Class (position has_other_class rs)) (option_map Opt (position (is_of 41) rs) ∷ miscounted (length (filter (is_of 6) rs)) ∷ option_map SoaPlace (position (is_misplaced apex) rs) ∷ []) a.1 in
+        let c = cause_none (option_map Opt (position (is_of 41) rs)) (miscounted (length (filter (is_of 6) rs)) ∷ option_map SoaPlace (position (is_misplaced apex) rs) ∷ []) b.1 in
+        let d = cause_none (miscounted (length (filter (is_of 6) rs))) (option_map SoaPlace (position (is_misplaced apex) rs) ∷ []) c.1 in
+        one_counted (length (filter (is_of 6) rs)) (nat_eq (length (filter (is_of 6) rs)) 1) refl d.0
+
+    no_map : (o : Option ℕ) → option_map Outside o ≡ None → o ≡ None
+    no_map None e = refl
+    no_map (Some i) e = absurd (cc)
+
+    -- and its records are within the apex
+    pub all_within : AllByRecursion (IsInZone apex) rs
+    all_within =
+        let a = cause_none (option_map Outside (position (is_outside apex) rs)) (option_map Class (position has_other_class rs) ∷ option_map Opt (position (is_of 41) rs) ∷ miscounted (length (filter (is_of 6) rs)) ∷ option_map SoaPlace (position (is_misplaced apex) rs) ∷ []) none in
+        within_from apex 0 rs (sym (position_from-zero (is_outside apex) rs) ∙ no_map (position (is_outside apex) rs) a.0)

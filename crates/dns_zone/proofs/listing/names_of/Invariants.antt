@@ -1,0 +1,6 @@
+use Rattle.std.proofs.Common.{take}
+use Rattle.dns_zone.specs.Kept.{KnowsPlaces}
+use Rattle.dns_zone.proofs.listing.names_of.Given as goal
+
+abbrev pub invariant-each : goal.invariant-each
+invariant-each l = KnowsPlaces l.names (take l.place l.records)

@@ -1,0 +1,16 @@
+pub use Rattle.dns_base.specs.Builds
+pub use Rattle.dns_base.specs.Replies
+pub use Rattle.dns_route.specs.OwnReplies
+pub use Rattle.dns_route.specs.Routes
+pub use Rattle.dns_route.specs.Turns
+pub mod Owned
+pub mod Cuts
+pub mod Aliases
+pub mod ZoneReply
+pub mod ZoneTurns
+pub mod ZoneErrors
+pub mod Paths
+pub mod Places
+pub mod Kept
+pub mod Found
+pub mod Faults

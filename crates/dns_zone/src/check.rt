@@ -1,0 +1,140 @@
+//! Which lists of records are zones.
+
+ghost use Rattle.std.specs.Prelude.{◌≡◌, List, length, IfOk};
+ghost use Rattle.std.specs.List.{filter, position};
+ghost use Rattle.dns_route.specs.Routes.{ends_name};
+ghost use Rattle.dns_message.specs.declared.record.Record.{Record};
+ghost use Rattle.dns_zone.specs.Faults.{has_fault, list_error, refused, soa_error};
+ghost use Rattle.dns_zone.specs.Kept.{KnowsPlaces};
+ghost use Rattle.dns_zone.specs.Owned.{is_of};
+ghost use Rattle.dns_zone.specs.ZoneErrors.{is_crowded};
+
+use crate::error::ZoneError;
+use crate::kinds::ANY;
+use crate::name_places::NamePlaces;
+use crate::path::path_of_name;
+use dns_base::{Class, Record, Rtype};
+use dns_name::{Name, OutOfMemory};
+use dns_route::matches_are_suffixes;
+use std::alloc::Global;
+
+/// What is looked for among the records of a list.
+#[derive(Clone, Copy, Debug, PartialEq, Eq)]
+pub(crate) enum Fault {
+    /// An owner that doesn't end with the apex.
+    OutsideApex,
+    /// Another class than IN.
+    OtherClass,
+    /// The type OPT.
+    IsOpt,
+    /// The type SOA, and another owner than the apex.
+    Misplaced,
+}
+
+impl Fault {
+    /// Whether a record has it, where the apex is this name.
+    fn is_in(self, apex: &Name, record: &Record) -> bool
+        ensures { result ≡ has_fault self apex.now record.now }
+    {
+        match self {
+            Fault::OutsideApex => !ends(&record.owner, apex),
+            Fault::OtherClass => record.class != Class::IN,
+            Fault::IsOpt => record.rdata.rtype() == Rtype::OPT,
+            Fault::Misplaced => record.rdata.rtype() == Rtype::SOA && record.owner != *apex,
+        }
+    }
+}
+
+/// Whether a name ends with another, as definitions name it.
+pub(crate) fn ends(name: &Name, other: &Name) -> bool
+    ensures { result ≡ ends_name name.now other.now }
+{
+    matches_are_suffixes();
+    name.ends_with(&other.for_ref())
+}
+
+/// The place of the first record that has a fault.
+fn first_with(fault: Fault, apex: &Name, records: &[Record]) -> Option<usize>
+    ensures { result ≡ position (has_fault fault apex.now) records.now }
+{
+    'each: for (index, record) in records.iter().enumerate() {
+        if fault.is_in(apex, record) {
+            return Some(index);
+        }
+    }
+    None
+}
+
+/// How many SOA records there are.
+fn count_soa(records: &[Record]) -> usize
+    ensures { result ≡ length (filter (is_of 6) records.now) }
+{
+    let mut count = 0;
+    'each: for record in records {
+        if record.rdata.rtype() == Rtype::SOA {
+            count += 1;
+        }
+    }
+    count
+}
+
+/// Refuses a list that is no zone, aliases aside.
+pub(crate) fn check_list(apex: &Name, records: &[Record]) -> Result<(), ZoneError>
+    ensures { result ≡ refused (list_error apex.now records.now) }
+{
+    if let Some(index) = first_with(Fault::OutsideApex, apex, records) {
+        return Err(ZoneError::Outside { index });
+    }
+    if let Some(index) = first_with(Fault::OtherClass, apex, records) {
+        return Err(ZoneError::Class { index });
+    }
+    if let Some(index) = first_with(Fault::IsOpt, apex, records) {
+        return Err(ZoneError::Opt { index });
+    }
+    check_soa(apex, records)
+}
+
+/// Refuses a list without one SOA record at the apex.
+fn check_soa(apex: &Name, records: &[Record]) -> Result<(), ZoneError>
+    ensures { result ≡ refused (soa_error apex.now records.now) }
+{
+    let count = count_soa(records);
+    if count != 1 {
+        return Err(ZoneError::Soa { count });
+    }
+    if let Some(index) = first_with(Fault::Misplaced, apex, records) {
+        return Err(ZoneError::SoaPlace { index });
+    }
+    Ok(())
+}
+
+/// Whether a record is a CNAME whose owner has another record.
+fn is_crowded(alloc: Global, names: &NamePlaces, record: &Record) -> Result<bool, OutOfMemory>
+    ensures { (rs : List Record) → KnowsPlaces names.now rs → IfOk result (λ b. b ≡ is_crowded rs record.now) }
+{
+    if record.rdata.rtype() != Rtype::CNAME {
+        return Ok(false);
+    }
+    let path = path_of_name(alloc, &record.owner)?;
+    match names.find(path.as_slice(), ANY) {
+        Some(places) => Ok(places.len() > 1),
+        None => Ok(false),
+    }
+}
+
+/// The place of the first CNAME whose owner has another record.
+pub(crate) fn first_crowded(
+    alloc: Global,
+    names: &NamePlaces,
+    records: &[Record],
+) -> Result<Option<usize>, OutOfMemory>
+    requires { KnowsPlaces names.now records.now }
+    ensures { IfOk result (λ p. p ≡ position (is_crowded records.now) records.now) }
+{
+    'each: for (index, record) in records.iter().enumerate() {
+        if is_crowded(alloc, names, record)? {
+            return Ok(Some(index));
+        }
+    }
+    Ok(None)
+}

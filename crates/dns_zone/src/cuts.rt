@@ -1,0 +1,45 @@
+//! Cuts, at which a zone's authority ends, and what is found of a name.
+
+ghost use Rattle.std.specs.Prelude.{◌≡◌, true, false, ℕ, List, MatchOption};
+ghost use Rattle.std.specs.List.{list_any};
+ghost use Rattle.dns_zone.specs.Cuts.{cut_records, is_cut_off};
+ghost use Rattle.dns_zone.specs.Kept.{IsSought, begins_at};
+ghost use Rattle.dns_zone.specs.Owned.{is_asked};
+ghost use Rattle.dns_zone.specs.Paths.{name_path};
+ghost use Rattle.dns_zone.specs.Places.{at_places, places};
+ghost use Rattle.dns_zone.specs.ZoneReply.{exists};
+
+use crate::zone::Zone;
+use dns_base::Rtype;
+
+impl Zone {
+    /// The places of the NS records of the cut for the name of a path, where there is one. The names below the apex are
+    /// looked up from the shortest on.
+    pub(crate) fn cut(&self, path: &[u8]) -> Option<&[usize]>
+        requires { IsSought self.now.apex path.now }
+        ensures { (name : List (List ℕ)) → path.now ≡ name_path name → MatchOption result (is_cut_off self.now name ≡ false) (λ s. (is_cut_off self.now name ≡ true) × (at_places self.now.records s.now ≡ cut_records self.now name)) }
+    {
+        let mut end = self.apex.as_slice().len() - 1;
+        'labels: while end < path.len() {
+            end += path[end] as usize + 1;
+            if let Some(servers) = self.names.find(&path[..end], Rtype::NS.to_int()) {
+                return Some(servers);
+            }
+        }
+        None
+    }
+
+    /// The places of the records of a type that the name of a path owns, where there are any.
+    pub(crate) fn owned(&self, path: &[u8], rtype: u16) -> Option<&[usize]>
+        ensures { (name : List (List ℕ)) → path.now ≡ name_path name → MatchOption result (list_any (is_asked name rtype) self.now.records ≡ false) (λ s. (list_any (is_asked name rtype) self.now.records ≡ true) × (s.now ≡ places (is_asked name rtype) self.now.records)) }
+    {
+        self.names.find(path, rtype)
+    }
+
+    /// Whether the name of a path owns a record, or a name below it does.
+    pub(crate) fn has(&self, path: &Vec<u8>) -> bool
+        ensures { (name : List (List ℕ)) → path.now.items ≡ name_path name → result ≡ exists self.now name }
+    {
+        self.names.has_behind(path)
+    }
+}

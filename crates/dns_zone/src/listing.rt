@@ -1,0 +1,57 @@
+//! What is kept of a list of records: their places by names, and the SOA record of negative answers.
+
+ghost use Rattle.std.specs.Prelude.{◌≡◌, [], ◌∷◌, length, map, IfOk};
+ghost use Rattle.std.specs.List.{filter};
+ghost use Rattle.dns_zone.specs.Kept.{KnowsPlaces};
+ghost use Rattle.dns_zone.specs.Owned.{is_of};
+ghost use Rattle.dns_zone.specs.ZoneReply.{negative_soa, negative_ttl};
+
+use crate::name_places::NamePlaces;
+use crate::path::path_of_name;
+use dns_base::{Record, RecordData, Rtype, Ttl};
+use dns_name::OutOfMemory;
+use std::alloc::Global;
+
+/// The places of the records of a list.
+pub(crate) fn names_of(alloc: Global, records: &[Record]) -> Result<NamePlaces, OutOfMemory>
+    ensures { IfOk result (λ n. KnowsPlaces n records.now) }
+{
+    let mut names = NamePlaces::new(alloc);
+    'each: for (place, record) in records.iter().enumerate() {
+        let path = path_of_name(alloc, &record.owner)?;
+        names.put(alloc, path, record.rdata.rtype().to_int(), place)?;
+    }
+    Ok(names)
+}
+
+/// The TTL of a record in a negative answer (RFC 2308, section 3).
+fn negative_ttl(ttl: Ttl, rdata: &RecordData) -> Ttl
+    ensures { result ≡ negative_ttl ttl rdata.now }
+{
+    match rdata {
+        RecordData::Soa { minimum, .. } => Ttl::from_secs(ttl.as_secs().min(minimum.as_secs())),
+        _ => ttl,
+    }
+}
+
+/// The record as it is in a negative answer.
+fn negative_copy(alloc: Global, record: &Record) -> Result<Record, OutOfMemory>
+    ensures { IfOk result (λ r. r ≡ negative_soa record.now) }
+{
+    let mut copy = record.try_clone(alloc)?;
+    copy.ttl = negative_ttl(record.ttl, &record.rdata);
+    Ok(copy)
+}
+
+/// The one SOA record as it is in a negative answer.
+pub(crate) fn negative_of(alloc: Global, records: &[Record]) -> Result<Record, OutOfMemory>
+    requires { length (filter (is_of 6) records.now) ≡ 1 }
+    ensures { IfOk result (λ r. map negative_soa (filter (is_of 6) records.now) ≡ r ∷ []) }
+{
+    'each: for record in records {
+        if record.rdata.rtype() == Rtype::SOA {
+            return negative_copy(alloc, record);
+        }
+    }
+    unreachable!()
+}

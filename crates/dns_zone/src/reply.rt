@@ -1,0 +1,197 @@
+//! The replies of a zone.
+
+ghost use Rattle.std.specs.Prelude.{◌≡◌, ℕ, List, IsTrue, Some, false, if◌then◌else◌};
+ghost use Rattle.dns_base.specs.Builds.{Builds, unlimited};
+ghost use Rattle.dns_base.specs.Header.{header_of};
+ghost use Rattle.dns_base.specs.Sections.{first_of, questions_of};
+ghost use Rattle.dns_message.specs.declared.question.Question.{Question};
+ghost use Rattle.dns_route.specs.Routes.{ends_name};
+ghost use Rattle.dns_zone.specs.Aliases.{followed};
+ghost use Rattle.dns_zone.specs.Cuts.{is_cut_off};
+ghost use Rattle.dns_zone.specs.Kept.{IsSought};
+ghost use Rattle.dns_zone.specs.Paths.{name_path};
+ghost use Rattle.dns_zone.specs.Places.{at_places};
+ghost use Rattle.dns_zone.specs.ZoneReply.{authoritative, denied, follows, referral, zone_reply};
+ghost use Rattle.dns_zone.specs.ZoneTurns.{GivesReply, asks_zone, zone_answer, zone_message};
+
+use crate::kinds::ANY;
+use crate::path::path_of;
+use crate::sections::{add_places, begun};
+use crate::zone::Zone;
+use dns_base::{AdditionalBuilder, Class, Message, Opcode, PushError, QuestionRef, Rcode, Rtype};
+use dns_route::{ReplyMessage, matches_are_suffixes};
+use dns_service::{ReplyError, ServiceError};
+use std::alloc::Global;
+
+/// How many octets a name has at most (RFC 1035, section 2.3.4).
+const LONGEST: usize = 255;
+
+/// Whether an alias is followed for a type.
+fn follows(rtype: u16) -> bool
+    ensures { result ≡ follows rtype }
+{
+    rtype != Rtype::CNAME.to_int() && rtype != ANY
+}
+
+/// The response code of a negative answer.
+fn negative_code(exists: bool) -> Rcode
+    ensures { result ≡ (if exists then 0 else 3) }
+{
+    if exists {
+        return Rcode::NOERROR;
+    }
+    Rcode::NXDOMAIN
+}
+
+impl Zone {
+    ghost use Rattle.dns_zone.specs.Found.{AreAliases};
+
+    /// A referral to the name servers at places.
+    fn referred(
+        &self,
+        alloc: Global,
+        query: &Message,
+        servers: &[usize],
+    ) -> Result<AdditionalBuilder, PushError>
+        ensures { Builds (unlimited (zone_message query.now (referral self.now (at_places self.now.records servers.now)))) result }
+    {
+        let glue = self.glue(alloc, servers)?;
+        let mut referred = begun(alloc, query, Rcode::NOERROR, false)?.authority();
+        add_places(&mut referred, alloc, self.records.as_slice(), servers)?;
+        let mut reply = referred.additional();
+        add_places(&mut reply, alloc, self.records.as_slice(), glue.as_slice())?;
+        Ok(reply)
+    }
+
+    /// The answer that is the records at places.
+    fn found(
+        &self,
+        alloc: Global,
+        query: &Message,
+        found: &[usize],
+    ) -> Result<AdditionalBuilder, PushError>
+        ensures { Builds (unlimited (zone_message query.now (authoritative (at_places self.now.records found.now)))) result }
+    {
+        let mut reply = begun(alloc, query, Rcode::NOERROR, true)?;
+        add_places(&mut reply, alloc, self.records.as_slice(), found)?;
+        Ok(reply.additional())
+    }
+
+    /// The answer that begins with the aliases at places.
+    fn followed(
+        &self,
+        alloc: Global,
+        query: &Message,
+        rtype: u16,
+        aliases: &[usize],
+    ) -> Result<AdditionalBuilder, PushError>
+        ensures { (name : List (List ℕ)) → AreAliases self.now name aliases.now → Builds (unlimited (zone_message query.now (authoritative (followed self.now rtype 8 name)))) result }
+    {
+        let trail = self.trail(alloc, rtype, aliases)?;
+        self.found(alloc, query, trail.as_slice())
+    }
+
+    /// The negative answer: the name exists or not.
+    fn denied(
+        &self,
+        alloc: Global,
+        query: &Message,
+        exists: bool,
+    ) -> Result<AdditionalBuilder, PushError>
+        ensures { Builds (unlimited (zone_message query.now (denied self.now (if exists then 0 else 3)))) result }
+    {
+        let mut reply = begun(alloc, query, negative_code(exists), true)?.authority();
+        reply.push(alloc, &self.negative)?;
+        Ok(reply.additional())
+    }
+
+    /// The reply to a question for a type of the name of a path that isn't at or below a cut.
+    fn reply_within(
+        &self,
+        alloc: Global,
+        query: &Message,
+        rtype: u16,
+        path: &Vec<u8>,
+    ) -> Result<AdditionalBuilder, PushError>
+        ensures { (q : Question) → path.now.items ≡ name_path q.qname → q.qtype ≡ rtype → is_cut_off self.now q.qname ≡ false → Builds (unlimited (zone_message query.now (zone_reply self.now q))) result }
+    {
+        if follows(rtype) {
+            if let Some(aliases) = self.owned(path.as_slice(), Rtype::CNAME.to_int()) {
+                return self.followed(alloc, query, rtype, aliases);
+            }
+        }
+        match self.owned(path.as_slice(), rtype) {
+            Some(found) => self.found(alloc, query, found),
+            None => self.denied(alloc, query, self.has(path)),
+        }
+    }
+
+    /// The reply to a question for a type of the name of a path.
+    fn reply(
+        &self,
+        alloc: Global,
+        query: &Message,
+        rtype: u16,
+        path: &Vec<u8>,
+    ) -> Result<AdditionalBuilder, PushError>
+        requires { IsSought self.now.apex path.now.items }
+        ensures { (q : Question) → path.now.items ≡ name_path q.qname → q.qtype ≡ rtype → IsTrue (ends_name q.qname self.now.apex) → Builds (unlimited (zone_message query.now (zone_reply self.now q))) result }
+    {
+        match self.cut(path.as_slice()) {
+            Some(servers) => self.referred(alloc, query, servers),
+            None => self.reply_within(alloc, query, rtype, path),
+        }
+    }
+
+    /// Whether the zone is asked.
+    fn asks_zone(&self, question: &QuestionRef<'_>) -> bool
+        ensures { result ≡ asks_zone self.now question.now }
+    {
+        matches_are_suffixes();
+        question.qclass() == Class::IN && question.qname().ends_with(&self.apex.for_ref())
+    }
+
+    /// The reply to a question that the zone is asked.
+    fn built(
+        &self,
+        alloc: Global,
+        query: &Message,
+        question: &QuestionRef<'_>,
+    ) -> Result<AdditionalBuilder, PushError>
+        requires { IsTrue (ends_name question.now.qname self.now.apex) }
+        ensures { Builds (unlimited (zone_message query.now (zone_reply self.now question.now))) result }
+    {
+        let path = path_of(alloc, question.qname().labels(), LONGEST)?;
+        self.reply(alloc, query, question.qtype().to_int(), &path)
+    }
+
+    /// The answer to a question.
+    fn answer_to(
+        &self,
+        alloc: Global,
+        query: &Message,
+        question: &QuestionRef<'_>,
+    ) -> Result<ReplyMessage, ReplyError>
+        ensures { GivesReply (zone_answer self.now query.now (header_of query.now).opcode (Some question.now)) result }
+    {
+        if query.header().opcode != Opcode::QUERY {
+            return Err(ReplyError::Service(ServiceError::NotImplemented));
+        }
+        if !self.asks_zone(question) {
+            return Err(ReplyError::Service(ServiceError::Refused));
+        }
+        let built = self.built(alloc, query, question)?;
+        let reply = ReplyMessage::from_builder(alloc, built)?;
+        Ok(reply)
+    }
+
+    /// The answer to a query, by its first question.
+    pub(crate) fn answer(&self, alloc: Global, query: &Message) -> Result<ReplyMessage, ReplyError>
+        ensures { GivesReply (zone_answer self.now query.now (header_of query.now).opcode (first_of (questions_of query.now).0)) result }
+    {
+        match query.first_question() {
+            Some(question) => self.answer_to(alloc, query, &question),
+            None => Err(ReplyError::Service(ServiceError::FormatError)),
+        }
+    }
+}

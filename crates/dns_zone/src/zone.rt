@@ -1,0 +1,75 @@
+//! A zone: what a name server answers of a list of records.
+
+ghost use Rattle.dns_zone.specs.Owned.{AreLawful};
+ghost use Rattle.dns_zone.specs.ZoneErrors.{Makes, zone_error};
+ghost use Rattle.dns_zone.specs.ZoneTurns.{zone_turn};
+
+use crate::check::{check_list, first_crowded};
+use crate::error::ZoneError;
+use crate::listing::{names_of, negative_of};
+use crate::name_places::NamePlaces;
+use dns_base::Record;
+use dns_name::Name;
+use dns_route::{SingleService, Turned};
+use dns_service::{OutOfMemory, Polled, ReplyError, Request};
+use std::alloc::Global;
+use std::marker::Model;
+
+/// Answers from a list of records with authority (RFC 1034, section 4.3.2), and is never pending. Contracts see the apex and
+/// the records in order. The places of the records are kept by name and type, so that no turn looks at records that it
+/// doesn't give.
+#[derive(Drop)]
+pub struct Zone {
+    pub(crate) apex: Name,
+    pub(crate) records: Vec<Record>,
+    pub(crate) names: NamePlaces,
+    pub(crate) negative: Record,
+}
+
+impl Model for Zone {
+    ghost use Rattle.dns_zone.specs.Owned.{ZoneState};
+    ghost use Rattle.dns_zone.specs.Kept.{IsZone};
+
+    ghost Value = { ZoneState };
+
+    ghost view = { λ z. record { apex = z.apex; records = z.records.items } };
+
+    ghost invariant = { λ z. IsZone z.apex z.records.items z.names z.negative };
+}
+
+impl Zone {
+    /// The zone that begins at the apex and has these records. Refused for the first of the causes in the order of
+    /// `ZoneError`, whose places are those of the list.
+    pub fn new(alloc: Global, apex: Name, records: Vec<Record>) -> Result<Zone, ZoneError>
+        requires { AreLawful records.items }
+        ensures { Makes (zone_error apex records.items) (record { apex = apex; records = records.items }) result }
+    {
+        check_list(&apex, records.as_slice())?;
+        let names = names_of(alloc, records.as_slice())?;
+        if let Some(index) = first_crowded(alloc, &names, records.as_slice())? {
+            return Err(ZoneError::Cname { index });
+        }
+        let negative = negative_of(alloc, records.as_slice())?;
+        Ok(Zone {
+            apex,
+            records,
+            names,
+            negative,
+        })
+    }
+}
+
+impl SingleService for Zone {
+    ghost answer = { zone_turn };
+
+    /// The error is FormatError where there is no readable first question, NotImplemented for an opcode other than QUERY,
+    /// Refused for a class other than IN and for a name outside the zone, and InternalError where the reply doesn't fit
+    /// 65,535 octets.
+    fn turn(&self, alloc: Global, request: &Request<()>, _k: u64) -> Result<Turned, OutOfMemory> {
+        match self.answer(alloc, request.message()) {
+            Ok(reply) => Ok(Polled::Ready(Ok(reply))),
+            Err(ReplyError::Service(error)) => Ok(Polled::Ready(Err(error))),
+            Err(ReplyError::OutOfMemory) => Err(OutOfMemory),
+        }
+    }
+}
