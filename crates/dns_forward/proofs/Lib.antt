@@ -1,0 +1,5 @@
+mod Events
+mod Heard
+mod Hearing
+mod Led
+mod ForwardLaws

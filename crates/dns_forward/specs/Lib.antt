@@ -1,0 +1,4 @@
+pub mod Matching
+pub mod Asked
+pub mod Askings
+pub mod Forwarded

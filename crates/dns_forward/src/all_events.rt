@@ -1,0 +1,112 @@
+//! All events of a question, and what they lead to.
+
+ghost use Rattle.std.specs.Prelude.{◌≡◌, ◌≤◌, List, [], ◌∷◌, ◌++◌, IfOk, OnOk};
+ghost use Rattle.dns_forward.specs.declared.asking_event.AskingEvent.{AskingEvent as TheEvent};
+ghost use Rattle.dns_forward.specs.Asked.{Asks, asked, asked_by, led_on, led_to};
+ghost use Rattle.dns_forward.specs.Askings.{HasHeard};
+
+use crate::asking::Asking;
+use crate::asking_event::{AskingEvent, AskingOutcome, Ticked};
+use dns_base::Message;
+use dns_name::OutOfMemory;
+use dns_route::SendError;
+use dns_service::Polled;
+use std::alloc::Global;
+
+/// What comes of each event, where a message is asked as by `Asking::new`.
+pub fn ask_all(
+    alloc: Global,
+    message: Message,
+    id: u16,
+    tries: u8,
+    timeout: u64,
+    at: u64,
+    events: &[AskingEvent],
+) -> Result<Vec<AskingOutcome>, OutOfMemory>
+    requires some { 1 ≤ tries }
+    requires few { tries ≤ 8 }
+    requires timeout { 1 ≤ timeout }
+    ensures { IfOk result (λ os. os.items ≡ asked message id tries timeout at events.now) }
+{
+    let mut asking = Asking::new(alloc, message, id, tries, timeout, at)?;
+    all_heard(alloc, &mut asking, events)
+}
+
+/// What comes of each event of an asking that heard none yet.
+fn all_heard(
+    alloc: Global,
+    asking: &mut Asking,
+    events: &[AskingEvent],
+) -> Result<Vec<AskingOutcome>, OutOfMemory>
+    ensures { IfOk result (λ os. (q : Asks) → HasHeard q [] asking.old → os.items ≡ asked_by q events.now) }
+{
+    let mut outcomes = Vec::with_capacity(alloc, events.len())?;
+    hear_all(alloc, asking, events, &mut outcomes)?;
+    Ok(outcomes)
+}
+
+/// Each event is heard, and its outcome is appended to those before it.
+fn hear_all(
+    alloc: Global,
+    asking: &mut Asking,
+    events: &[AskingEvent],
+    outcomes: &mut Vec<AskingOutcome>,
+) -> Result<(), OutOfMemory>
+    requires { outcomes.old.items ≡ [] }
+    ensures { OnOk result ((q : Asks) → HasHeard q [] asking.old → outcomes.new.items ≡ asked_by q events.now) }
+{
+    'events: for event in events {
+        hear_next(alloc, asking, event, outcomes)?;
+    }
+    Ok(())
+}
+
+/// An event is heard, and its outcome is appended to those of the events before it.
+fn hear_next(
+    alloc: Global,
+    asking: &mut Asking,
+    event: &AskingEvent,
+    outcomes: &mut Vec<AskingOutcome>,
+) -> Result<(), OutOfMemory>
+    ensures { OnOk result ((q : Asks) (es : List TheEvent) → HasHeard q es asking.old → outcomes.old.items ≡ asked_by q es
+        → HasHeard q (es ++ event.now ∷ []) asking.new × (outcomes.new.items ≡ asked_by q (es ++ event.now ∷ []))) }
+{
+    let outcome = asking.hear(alloc, event)?;
+    outcomes.push(outcome)?;
+    Ok(())
+}
+
+/// What is answered to a question that was asked.
+type Answered = Polled<Result<Message, SendError>>;
+
+/// What one outcome leads to.
+fn led_by(outcome: AskingOutcome) -> Answered
+    ensures { result ≡ led_to (outcome ∷ []) }
+{
+    match outcome {
+        AskingOutcome::OfArrival(Some(message)) => Polled::Ready(Ok(message)),
+        AskingOutcome::OfTick(Ticked::GaveUp) => Polled::Ready(Err(SendError::Timeout)),
+        _ => Polled::Pending,
+    }
+}
+
+/// The answer that is there, or else what one outcome more leads to.
+fn led_on(answer: Answered, outcome: AskingOutcome) -> Answered
+    ensures { result ≡ led_on answer outcome }
+{
+    match answer {
+        Polled::Pending => led_by(outcome),
+        ready => ready,
+    }
+}
+
+/// What outcomes lead to: the first answer, Timeout where it was given up, and else nothing yet.
+pub fn led_to(outcomes: Vec<AskingOutcome>) -> Polled<Result<Message, SendError>>
+    ensures { result ≡ led_to outcomes.items }
+{
+    let mut answer = Polled::Pending;
+    'outcomes: for outcome in outcomes {
+        answer = led_on(answer, outcome);
+    }
+    answer
+}

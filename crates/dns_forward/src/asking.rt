@@ -1,0 +1,134 @@
+//! One question to one upstream.
+
+ghost use Rattle.std.specs.Prelude.{◌≡◌, ◌≤◌, ◌+◌, [], IfOk, OnErr, List};
+ghost use Rattle.dns_forward.specs.declared.asking_event.AskingEvent.{AskingEvent};
+ghost use Rattle.dns_forward.specs.declared.asking_event.AskingOutcome.{AskingOutcome};
+ghost use Rattle.dns_forward.specs.Asked.{Asks, is_due};
+ghost use Rattle.dns_forward.specs.Matching.{with_id};
+
+use crate::asking_event::{AskingEvent, AskingOutcome, Ticked};
+use crate::matching::{Expected, with_id};
+use dns_base::Message;
+use dns_name::OutOfMemory;
+use std::alloc::Global;
+
+/// A question that is asked of one upstream: which octets are sent and when again, and which are the answer. It does no input or
+/// output: its owner sends `octets` when it is made and wherever a tick says `Send`, and tells it what arrives and what time it is.
+/// Moments are in any unit, the timeout's.
+#[derive(Debug, Drop)]
+pub struct Asking {
+    /// The message under the identifier that it is sent under.
+    pub(crate) octets: Message,
+    /// The identifier that the answer is given under.
+    pub(crate) asker: u16,
+    /// What octets that arrive need to be the answer.
+    pub(crate) expected: Expected,
+    /// How long an answer is waited for after a send.
+    pub(crate) timeout: u64,
+    /// When the message was sent last.
+    pub(crate) last: u64,
+    /// How many ticks can be due until it has ended; 0 once an answer came or it was given up.
+    pub(crate) left: u8,
+}
+
+impl Asking {
+    ghost use Rattle.dns_forward.specs.Askings.{HasHeard, Hears};
+
+    /// A message that is sent under an identifier, at most `tries` times, and again where no answer came for `timeout`, since
+    /// queries may be lost (RFC 1035, section 4.2.1). It counts as sent at `at`.
+    pub fn new(
+        alloc: Global,
+        message: Message,
+        id: u16,
+        tries: u8,
+        timeout: u64,
+        at: u64,
+    ) -> Result<Asking, OutOfMemory>
+        requires some { 1 ≤ tries }
+        requires few { tries ≤ 8 }
+        requires timeout { 1 ≤ timeout }
+        ensures { IfOk result (HasHeard (record { message = message; id = id; tries = tries; timeout = timeout; at = at }) []) }
+    {
+        let expected = Expected::of(alloc, &message, id)?;
+        let asker = message.header().id;
+        Ok(Asking {
+            octets: with_id(message.into_octets(), id),
+            asker,
+            expected,
+            timeout,
+            last: at,
+            left: tries,
+        })
+    }
+
+    /// The message that is sent.
+    pub fn octets(&self) -> &[u8]
+        ensures { (q : Asks) (es : List AskingEvent) → HasHeard q es self.now → result.now ≡ with_id q.id q.message }
+    {
+        self.octets.as_slice()
+    }
+
+    /// The answer, where octets that arrive are the first that match: under the identifier of the message that was asked, and
+    /// as it is, truncated too. A refused call is as none.
+    pub fn arrived(
+        &mut self,
+        alloc: Global,
+        at: u64,
+        octets: &[u8],
+    ) -> Result<Option<Message>, OutOfMemory>
+        ensures ok { IfOk result (λ m. Hears self.old self.new (AskingEvent.Arrived at octets.now) (AskingOutcome.OfArrival m)) }
+        ensures err { OnErr result (self.new ≡ self.old) }
+    {
+        let _at = at;
+        if self.left == 0 || !self.expected.is_answer(octets) {
+            return Ok(None);
+        }
+        let octets = Vec::from_slice(alloc, octets)?;
+        self.left = 0;
+        Ok(Some(with_id(octets, self.asker)))
+    }
+
+    /// What is to be done at a moment: to send again where the last send is the timeout ago or more, or where the moment at
+    /// which it would be passes 2^64 - 1; or to give up, where no send is left.
+    pub fn tick(&mut self, at: u64) -> Ticked
+        ensures { Hears self.old self.new (AskingEvent.Tick at) (AskingOutcome.OfTick result) }
+    {
+        if self.left == 0 || !self.is_due(at) {
+            return Ticked::Nothing;
+        }
+        self.last = at;
+        self.left -= 1;
+        if self.left == 0 {
+            return Ticked::GaveUp;
+        }
+        Ticked::Send
+    }
+
+    /// Whether a tick is due.
+    fn is_due(&self, at: u64) -> bool
+        ensures { result ≡ is_due self.now.timeout self.now.last at }
+    {
+        match self.last.checked_add(self.timeout) {
+            Some(until) => until <= at,
+            None => true,
+        }
+    }
+
+    /// What comes of an event. A refused call is as none.
+    pub(crate) fn hear(
+        &mut self,
+        alloc: Global,
+        event: &AskingEvent,
+    ) -> Result<AskingOutcome, OutOfMemory>
+        ensures ok { IfOk result (Hears self.old self.new event.now) }
+        ensures err { OnErr result (self.new ≡ self.old) }
+    {
+        match event {
+            AskingEvent::Arrived { at, octets } => {
+                let answer = self.arrived(alloc, *at, octets.as_slice())?;
+                Ok(AskingOutcome::OfArrival(answer))
+            }
+            AskingEvent::Tick { at } => Ok(AskingOutcome::OfTick(self.tick(*at))),
+        }
+    }
+}
