@@ -1,0 +1,41 @@
+-- Requests that have a key.
+use Rattle.std.proofs.Common.{◌≡◌, ℕ, Bool, true, false, ◌&&◌, not, List, [], ◌∷◌, Option, Some, None, Ok, Err, refl, ap, sym, ◌∙◌}
+use Rattle.std.specs.Prelude.{nat_eq, option_map, if◌then◌else◌}
+use Rattle.std.specs.Cmp.{first_so, second_so}
+use borrow.Author.Tests.{eqb-true}
+use Rattle.dns_name.specs.Place.{Read}
+use Rattle.dns_message.specs.declared.question.Question.{Question}
+use Rattle.dns_base.specs.Header.{header_of}
+use Rattle.dns_message.specs.Read.{question_at}
+use Rattle.dns_base.specs.Sections.{Items, by_item, field, first_of, items_from, questions_of}
+use Rattle.dns_opt.specs.OptRecords.{opt_of}
+use Rattle.dns_cache.specs.Keys.{AskedKey, AsksOnce, asks_once, key_of, names_subnet, question_key, wants_dnssec}
+
+one_item : (one : ℕ → Read Question) (at : ℕ) (q : Question) → first_of (items_from one 1 at).0 ≡ Some q → (items_from one 1 at).0 ≡ q ∷ []
+one_item one at q h = by_read (one at) h
+  where
+    by_read : (x : Read Question) → first_of (by_item (items_from one 0) x).0 ≡ Some q → (by_item (items_from one 0) x).0 ≡ q ∷ []
+    by_read (Ok (p, end)) g = cc
+    by_read (Err e) g = cc
+
+one_question : (o : List ℕ) (q : Question) → field 4 o ≡ 1 → first_of (questions_of o).0 ≡ Some q → (questions_of o).0 ≡ q ∷ []
+unfolding questions_of
+one_question o q n h =
+    let e : items_from (question_at o) (field 4 o) 12 ≡ items_from (question_at o) 1 12 = ap (λ k. items_from (question_at o) k 12) n in
+    ap (λ (i : Items Question). i.0) e ∙ one_item (question_at o) 12 q (ap (λ (i : Items Question). first_of i.0) (sym e) ∙ h)
+
+asked_some : (x : Option Question) (ok : Bool) (key : AskedKey) → option_map (question_key ok) x ≡ Some key → (q : Question) × (x ≡ Some q)
+asked_some None ok key h = cc
+asked_some (Some q) ok key h = (q, refl)
+
+asked_by : (o : List ℕ) (b : Bool) (key : AskedKey) → (asks_once o && not (names_subnet (opt_of o))) ≡ b → (if b then option_map (question_key (wants_dnssec (opt_of o))) (first_of (questions_of o).0) else None) ≡ Some key → AsksOnce o
+asked_by o true key t h =
+    let a : asks_once o ≡ true = first_so (asks_once o) (not (names_subnet (opt_of o))) t in
+    let n : field 4 o ≡ 1 = eqb-true (field 4 o) 1 (second_so (nat_eq (header_of o).opcode 0) (nat_eq (field 4 o) 1) a) in
+    let q = asked_some (first_of (questions_of o).0) (wants_dnssec (opt_of o)) key h in
+    (q.0, one_question o q.0 n q.1)
+asked_by o false key t h = cc
+
+-- a request that has a key has one question
+pub key_asks_once : (o : List ℕ) (key : AskedKey) → key_of o ≡ Some key → AsksOnce o
+key_asks_once o key h = asked_by o (asks_once o && not (names_subnet (opt_of o))) key refl h

@@ -1,0 +1,9 @@
+pub mod SubnetLaws
+pub mod KeyLaws
+pub mod MarkLaws
+pub mod TypedLaws
+pub mod AgedLaws
+pub mod KeptLaws
+pub mod ReplyLaws
+pub mod EntryLaws
+pub mod CallLaws

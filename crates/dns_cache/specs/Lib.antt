@@ -1,0 +1,11 @@
+pub use Rattle.dns_route.specs.ReplyMessage
+pub use Rattle.dns_route.specs.Turns
+pub use Rattle.dns_service.specs.Req
+pub use Rattle.lru.specs.LruCache
+pub mod Keys
+pub mod Ttls
+pub mod Aged
+pub mod AskedCache
+pub mod Steps
+pub mod Marks
+pub mod Calls

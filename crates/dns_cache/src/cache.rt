@@ -1,0 +1,224 @@
+//! A bounded cache in front of a single service.
+
+ghost use Rattle.std.specs.Prelude.{◌≡◌, ◌<◌, ◌≤◌, [], IfOk, OnOk, OnErr, Some, option_and_then};
+ghost use Rattle.std.specs.Map.{lookup};
+ghost use Rattle.lru.specs.LruCache.{lru_cache};
+ghost use Rattle.dns_cache.specs.AskedCache.{Answers, asked_cache, cached_message, kept_answer, with_kept, young_message};
+ghost use Rattle.dns_cache.specs.Steps.{GivesMessage, used_where};
+ghost use Rattle.dns_cache.specs.Keys.{AsksOnce, key_of, same_key};
+
+use crate::kept::{Kept, kept_reply};
+use crate::key::{CacheKey, key_of};
+use dns_route::{ReplyMessage, SingleService, Turned};
+use dns_service::{OutOfMemory, Polled, Request};
+use lru::LruCache;
+use std::alloc::Global;
+use std::marker::Model;
+use std::num::NonZeroUsize;
+
+/// Replies of a single service, kept as long as the least TTL of their records, and each for one question, with the DO bit
+/// or without (RFC 2181, section 8; RFC 2308, section 5). Contracts see the entries, the most recently used first, and how
+/// many there may be.
+#[derive(Drop)]
+pub struct Cache {
+    entries: LruCache<CacheKey, Kept>,
+}
+
+impl Model for Cache {
+    ghost use Rattle.dns_cache.specs.AskedCache.{Cached};
+
+    ghost Value = { Cached };
+
+    ghost view = { λ c. c.entries };
+}
+
+impl Cache {
+    /// A cache of so many replies at most. Memory is taken as replies come.
+    pub fn new(alloc: Global, capacity: usize) -> Result<Cache, OutOfMemory>
+        requires some { 0 < capacity }
+        requires few { capacity ≤ 65536 }
+        ensures { IfOk result (λ c. c ≡ lru_cache [] capacity) }
+    {
+        let Some(capacity) = NonZeroUsize::new(capacity) else {
+            unreachable!();
+        };
+        let entries = LruCache::sparse(alloc, capacity)?;
+        Ok(Cache { entries })
+    }
+
+    /// Answers turn k of a request, whose seconds are the time: at turn 0 out of the cache, where a reply is kept that is
+    /// young, and else by the service, whose reply is kept where it can be. A reply out of the cache has the request's
+    /// identifier, RD bit and question, and its TTLs are lowered by its age. A refused call leaves the cache.
+    pub fn ask<S: SingleService>(
+        &mut self,
+        alloc: Global,
+        service: &S,
+        request: &Request<()>,
+        k: u64,
+    ) -> Result<Turned, OutOfMemory>
+        ensures answer { IfOk result (λ p. Answers (asked_cache self.old request.now k (S.answer service.now request.now k)).cached (S.answer service.now request.now k) p) }
+        ensures cache { OnOk result (self.new ≡ (asked_cache self.old request.now k (S.answer service.now request.now k)).behind) }
+        ensures err { OnErr result (self.new ≡ self.old) }
+    {
+        match key_of(alloc, request)? {
+            Some(key) => self.ask_for(alloc, service, request, k, key),
+            None => service.turn(alloc, request, k),
+        }
+    }
+
+    /// The same of a request that has a key.
+    fn ask_for<S: SingleService>(
+        &mut self,
+        alloc: Global,
+        service: &S,
+        request: &Request<()>,
+        k: u64,
+        key: CacheKey,
+    ) -> Result<Turned, OutOfMemory>
+        requires { key_of request.now.octets ≡ Some key }
+        ensures answer { IfOk result (λ p. Answers (asked_cache self.old request.now k (S.answer service.now request.now k)).cached (S.answer service.now request.now k) p) }
+        ensures cache { OnOk result (self.new ≡ (asked_cache self.old request.now k (S.answer service.now request.now k)).behind) }
+        ensures err { OnErr result (self.new ≡ self.old) }
+    {
+        match self.first_answer(alloc, request, k, &key) {
+            Ok(Some(reply)) => Ok(Polled::Ready(Ok(reply))),
+            Ok(None) => self.ask_service(alloc, service, request, k, key),
+            Err(error) => Err(error),
+        }
+    }
+
+    /// The reply of a young entry of the key, which comes first; none at a later turn than 0.
+    fn first_answer(
+        &mut self,
+        alloc: Global,
+        request: &Request<()>,
+        k: u64,
+        key: &CacheKey,
+    ) -> Result<Option<ReplyMessage>, OutOfMemory>
+        requires { key_of request.now.octets ≡ Some key.now }
+        ensures reply { IfOk result (λ r. GivesMessage (cached_message self.old request.now k (Some key.now)) r) }
+        ensures used { IfOk result (λ r. (self.new ≡ used_where r key.now self.old)) }
+        ensures err { OnErr result (self.new ≡ self.old) }
+    {
+        if k == 0 {
+            return self.use_entry(alloc, request, key);
+        }
+        Ok(None)
+    }
+
+    /// The service's answer, kept where it can be.
+    fn ask_service<S: SingleService>(
+        &mut self,
+        alloc: Global,
+        service: &S,
+        request: &Request<()>,
+        k: u64,
+        key: CacheKey,
+    ) -> Result<Turned, OutOfMemory>
+        requires { key_of request.now.octets ≡ Some key }
+        ensures answer { IfOk result (λ p. p ≡ S.answer service.now request.now k) }
+        ensures kept { OnOk result (self.new ≡ with_kept key self.old (kept_answer request.now (S.answer service.now request.now k))) }
+        ensures err { OnErr result (self.new ≡ self.old) }
+    {
+        match service.turn(alloc, request, k) {
+            Ok(turned) => self.keep_turn(alloc, request, key, turned),
+            Err(error) => Err(error),
+        }
+    }
+
+    /// The reply of a young entry of the key, which comes first.
+    fn use_entry(
+        &mut self,
+        alloc: Global,
+        request: &Request<()>,
+        key: &CacheKey,
+    ) -> Result<Option<ReplyMessage>, OutOfMemory>
+        requires { key_of request.now.octets ≡ Some key.now }
+        ensures reply { IfOk result (λ r. GivesMessage (option_and_then (young_message request.now) (lookup (same_key key.now) self.old.entries)) r) }
+        ensures used { IfOk result (λ r. (self.new ≡ used_where r key.now self.old)) }
+        ensures err { OnErr result (self.new ≡ self.old) }
+    {
+        let Some(kept) = self.entries.peek(key) else {
+            return Ok(None);
+        };
+        let reply = kept.aged(alloc, request)?;
+        if reply.is_some() {
+            self.entries.promote(key);
+        }
+        Ok(reply)
+    }
+
+    /// What the service answered at a turn, kept where it can be.
+    fn keep_turn(
+        &mut self,
+        alloc: Global,
+        request: &Request<()>,
+        key: CacheKey,
+        turned: Turned,
+    ) -> Result<Turned, OutOfMemory>
+        requires { key_of request.now.octets ≡ Some key }
+        ensures answer { IfOk result (λ p. p ≡ turned) }
+        ensures kept { OnOk result (self.new ≡ with_kept key self.old (kept_answer request.now turned)) }
+        ensures err { OnErr result (self.new ≡ self.old) }
+    {
+        match self.keep_answer(alloc, request, key, &turned) {
+            Ok(()) => Ok(turned),
+            Err(error) => Err(error),
+        }
+    }
+
+    /// The same of an answer that is lent.
+    fn keep_answer(
+        &mut self,
+        alloc: Global,
+        request: &Request<()>,
+        key: CacheKey,
+        turned: &Turned,
+    ) -> Result<(), OutOfMemory>
+        requires { key_of request.now.octets ≡ Some key }
+        ensures kept { OnOk result (self.new ≡ with_kept key self.old (kept_answer request.now turned.now)) }
+        ensures err { OnErr result (self.new ≡ self.old) }
+    {
+        match kept_turn(alloc, request, turned) {
+            Ok(kept) => self.keep(key, kept),
+            Err(error) => Err(error),
+        }
+    }
+
+    /// Puts an entry first, if there is one, in place of one of its key. Past the capacity the last one goes.
+    fn keep(&mut self, key: CacheKey, kept: Option<Kept>) -> Result<(), OutOfMemory>
+        ensures ok { OnOk result (self.new ≡ with_kept key self.old kept) }
+        ensures err { OnErr result (self.new ≡ self.old) }
+    {
+        match kept {
+            Some(kept) => self.put(key, kept),
+            None => Ok(()),
+        }
+    }
+
+    /// The same of an entry.
+    fn put(&mut self, key: CacheKey, kept: Kept) -> Result<(), OutOfMemory>
+        ensures ok { OnOk result (self.new ≡ with_kept key self.old (Some kept)) }
+        ensures err { OnErr result (self.new ≡ self.old) }
+    {
+        let _len = self.entries.len();
+        self.entries.put(key, kept)?;
+        Ok(())
+    }
+}
+
+/// What is kept of a service's answer, if anything.
+fn kept_turn(
+    alloc: Global,
+    request: &Request<()>,
+    turned: &Turned,
+) -> Result<Option<Kept>, OutOfMemory>
+    requires { AsksOnce request.now.octets }
+    ensures { IfOk result (λ k. k ≡ kept_answer request.now turned.now) }
+{
+    match turned {
+        Polled::Ready(Ok(reply)) => kept_reply(alloc, request, reply),
+        Polled::Ready(Err(_)) => Ok(None),
+        Polled::Pending => Ok(None),
+    }
+}
