@@ -1,9 +1,16 @@
 pub mod BudgetLine
 pub mod DgramLine
 pub mod EventLines
+pub mod InRange
 pub mod Lines
 pub mod NameWords
 pub mod Reading
+pub mod Said
+pub mod SettingLines
+pub mod Spelling
 pub mod StreamLine
+pub mod TextLines
+pub mod Trace
+pub mod Traced
 pub mod Values
 pub mod Words

@@ -22,3 +22,8 @@ Fails (Refused r) read = read ≡ Err r
 abbrev pub GivesLine : {X Y : Type 0} → (X → Y) → Result X LineError → Result Y Reason → Type 0
 GivesLine view (Ok x) read = read ≡ Ok (view x)
 GivesLine view (Err e) read = Fails e read
+
+-- what is said with a line more, or its refusal, unless memory was wanting
+abbrev pub TakesLine : {S : Type 0} → Result (Unit {0}) LineError → S → Result S Reason → Type 0
+TakesLine (Ok u) said read = read ≡ Ok said
+TakesLine (Err e) said read = Fails e read

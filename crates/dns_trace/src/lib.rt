@@ -1,22 +1,40 @@
-//! The text of a script: its lines, their words, and the values and events that the words spell.
+//! The text of a script and of recorded events: its lines, their words, and the values, settings and events that the words spell.
 #![tactic(auto)]
 
 mod budget_line;
 mod dgram_line;
 mod event_lines;
+mod laws;
 mod lines;
 mod name_words;
 mod reason;
+mod said;
+mod setting;
+mod setting_lines;
 mod stream_line;
+mod text_reader;
+mod text_writer;
+mod trace_lines;
+mod trace_reader;
+mod trace_settings;
+mod trace_writer;
 mod values;
 mod words;
 
 pub use budget_line::{Budget, read_budget, with_budget};
 pub use dgram_line::read_dgram;
 pub use event_lines::{read_event, read_step};
+pub use laws::a_trace_reads_back;
 pub use lines::{is_text, says_nothing, split_line};
 pub use name_words::name;
 pub use reason::{LineError, Reason};
+pub use said::SaidSettings;
+pub use setting::{Setting, setting_named};
+pub use setting_lines::{read_setting, unless};
 pub use stream_line::read_stream;
+pub use text_reader::{TakeLine, TraceError, read_lines};
+pub use trace_reader::read_trace;
+pub use trace_settings::TraceSettings;
+pub use trace_writer::TraceWriter;
 pub use values::{addr, decimal, num, octets, port, quad, secret, size, yes_no};
 pub use words::Words;

@@ -14,12 +14,16 @@ pub enum Reason {
     Word,
     /// What stands before the first event stands behind one.
     Order,
+    /// It is a service line of another kind than the first one.
+    Mix,
     /// It stands once, and stands again.
     Repeat,
     /// There are too few words, or too many.
     Count,
     /// A word spells no value.
     Value,
+    /// No line is bad, and the records of the zone that this line names make no zone.
+    Zone,
 }
 
 /// Why a line gave nothing.

@@ -1,0 +1,181 @@
+//! A text that is written word by word.
+
+ghost use Rattle.std.specs.Prelude.{◌≡◌, ◌++◌, ◌∷◌, [], OnErr, OnOk, decimal, map};
+ghost use Rattle.std.specs.List.{join_with_byte};
+ghost use Rattle.hex.specs.Hex.{encode_lower};
+ghost use Rattle.dns_trace.specs.Spelling.{address_word, number_or_none, octets_word, yes_no};
+
+use dns_name::{IpAddr, OutOfMemory};
+use itoa::Buffer;
+use std::alloc::Global;
+use std::marker::Model;
+
+const DIGITS: &[u8; 16] = b"0123456789abcdef";
+
+/// A text. After want of memory it has a part of what was to be written.
+#[derive(Debug, Drop)]
+pub(crate) struct TextWriter {
+    text: Vec<u8>,
+}
+
+impl Model for TextWriter {
+    ghost use Rattle.std.specs.Prelude.{List, ℕ};
+
+    ghost Value = { List ℕ };
+
+    ghost view = { λ w. w.text.items };
+}
+
+impl TextWriter {
+    /// No text.
+    pub(crate) fn new(alloc: Global) -> TextWriter
+        ensures { result ≡ [] }
+    {
+        TextWriter {
+            text: Vec::new(alloc),
+        }
+    }
+
+    /// Begins anew, in the memory that there is.
+    pub(crate) fn clear(&mut self)
+        ensures { self.new ≡ [] }
+    {
+        self.text.clear();
+    }
+
+    pub(crate) fn as_slice(&self) -> &[u8]
+        ensures { result.now ≡ self.now }
+    {
+        self.text.as_slice()
+    }
+
+    /// Gives the text, which is not copied.
+    pub(crate) fn into_vec(self) -> Vec<u8>
+        ensures { result.items ≡ self }
+    {
+        let TextWriter { text } = self;
+        text
+    }
+
+    /// A whole line.
+    pub(crate) fn append(&mut self, more: &[u8]) -> Result<(), OutOfMemory>
+        ensures ok { OnOk result (self.new ≡ self.old ++ more.now) }
+        ensures err { OnErr result (self.new ≡ self.old) }
+    {
+        self.text.extend_from_slice(more)?;
+        Ok(())
+    }
+
+    /// One character.
+    fn character(&mut self, character: u8) -> Result<(), OutOfMemory>
+        ensures { OnOk result (self.new ≡ self.old ++ character ∷ []) }
+    {
+        self.text.push(character)?;
+        Ok(())
+    }
+
+    /// The end of a line.
+    pub(crate) fn end_line(&mut self) -> Result<(), OutOfMemory>
+        ensures { OnOk result (self.new ≡ self.old ++ 10 ∷ []) }
+    {
+        self.character(b'\n')
+    }
+
+    /// The first word of a line.
+    pub(crate) fn name(&mut self, name: &str) -> Result<(), OutOfMemory>
+        ensures { OnOk result (self.new ≡ self.old ++ name.now) }
+    {
+        self.append(name.as_bytes())
+    }
+
+    /// A word behind a space.
+    fn word(&mut self, word: &str) -> Result<(), OutOfMemory>
+        ensures { OnOk result (self.new ≡ self.old ++ 32 ∷ word.now) }
+    {
+        self.character(b' ')?;
+        self.append(word.as_bytes())
+    }
+
+    /// A number behind a character, in decimal.
+    fn number_behind(&mut self, character: u8, number: u64) -> Result<(), OutOfMemory>
+        ensures { OnOk result (self.new ≡ self.old ++ character ∷ decimal number) }
+    {
+        let mut buffer = Buffer::new();
+        self.character(character)?;
+        self.append(buffer.format(number).as_bytes())
+    }
+
+    /// A number behind a space, in decimal.
+    pub(crate) fn number(&mut self, number: u64) -> Result<(), OutOfMemory>
+        ensures { OnOk result (self.new ≡ self.old ++ 32 ∷ decimal number) }
+    {
+        self.number_behind(b' ', number)
+    }
+
+    /// A number, or `none`, behind a space.
+    pub(crate) fn number_or_none(&mut self, number: Option<u64>) -> Result<(), OutOfMemory>
+        ensures { OnOk result (self.new ≡ self.old ++ 32 ∷ number_or_none number) }
+    {
+        match number {
+            Some(number) => self.number(number),
+            None => self.word("none"),
+        }
+    }
+
+    /// `yes` or `no` behind a space.
+    pub(crate) fn yes_no(&mut self, yes: bool) -> Result<(), OutOfMemory>
+        ensures { OnOk result (self.new ≡ self.old ++ 32 ∷ yes_no yes) }
+    {
+        self.word(if yes { "yes" } else { "no" })
+    }
+
+    /// Two hexadecimal digits for each octet, in lower case.
+    #[tactic(auto, unfolding(hex::specs::Hex::encode_with))]
+    fn digits(&mut self, octets: &[u8]) -> Result<(), OutOfMemory>
+        ensures { OnOk result (self.new ≡ self.old ++ encode_lower octets.now) }
+    {
+        for octet in octets {
+            self.character(DIGITS[(*octet / 16) as usize])?;
+            self.character(DIGITS[(*octet % 16) as usize])?;
+        }
+        Ok(())
+    }
+
+    /// Hexadecimal digits behind a space.
+    pub(crate) fn hex(&mut self, octets: &[u8]) -> Result<(), OutOfMemory>
+        ensures { OnOk result (self.new ≡ self.old ++ 32 ∷ encode_lower octets.now) }
+    {
+        self.character(b' ')?;
+        self.digits(octets)
+    }
+
+    /// Hexadecimal digits, or `-` for no octet, behind a space.
+    pub(crate) fn octets(&mut self, octets: &[u8]) -> Result<(), OutOfMemory>
+        ensures { OnOk result (self.new ≡ self.old ++ 32 ∷ octets_word octets.now) }
+    {
+        if octets.is_empty() {
+            return self.word("-");
+        }
+        self.hex(octets)
+    }
+
+    /// A dotted quad behind a space.
+    fn quad(&mut self, parts: &[u8; 4]) -> Result<(), OutOfMemory>
+        ensures { OnOk result (self.new ≡ self.old ++ 32 ∷ join_with_byte 46 (map decimal parts.now)) }
+    {
+        self.number_behind(b' ', u64::from(parts[0]))?;
+        self.number_behind(b'.', u64::from(parts[1]))?;
+        self.number_behind(b'.', u64::from(parts[2]))?;
+        self.number_behind(b'.', u64::from(parts[3]))
+    }
+
+    /// An address behind a space: a dotted quad, or 32 hexadecimal digits.
+    pub(crate) fn address(&mut self, address: &IpAddr) -> Result<(), OutOfMemory>
+        ensures { OnOk result (self.new ≡ self.old ++ 32 ∷ address_word address.now) }
+    {
+        match address {
+            IpAddr::V4(parts) => self.quad(parts),
+            IpAddr::V6(octets) => self.hex(octets.as_slice()),
+        }
+    }
+}

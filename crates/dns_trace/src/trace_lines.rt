@@ -1,0 +1,272 @@
+//! The lines of settings and of events, as they are written.
+
+ghost use Rattle.std.specs.Prelude.{◌≡◌, ◌++◌, ◌∷◌, [], OnOk, codes, decimal, flat_map, map};
+ghost use Rattle.hex.specs.Hex.{encode_lower};
+ghost use Rattle.dns_trace.specs.Spelling.{line_of_words, octets_word, spaced, yes_no};
+ghost use Rattle.dns_trace.specs.Trace.{addr_words, budget_words, client_words, config_lines, deny_words, dgram_words, event_text, secret_lines, settings_text, stream_words, wide_words};
+
+use crate::text_writer::TextWriter;
+use crate::trace_settings::TraceSettings;
+use dns_name::{IpAddr, Octets, OutOfMemory, SocketAddr};
+use dns_service::{ConnectionConfig, DgramConfig, Event, EventKind, StreamConfig};
+
+/// `SIZE WRITE`.
+fn dgram_words(text: &mut TextWriter, dgram: &DgramConfig) -> Result<(), OutOfMemory>
+    ensures { OnOk result (text.new ≡ text.old ++ spaced (dgram_words dgram.now)) }
+{
+    text.number_or_none(dgram.max_response_size().map(|size| size as u64))?;
+    text.number(dgram.write_timeout())
+}
+
+/// `IDLE WRITE QUEUE`.
+fn connection_words(text: &mut TextWriter, connection: &ConnectionConfig) -> Result<(), OutOfMemory>
+    ensures { OnOk result (text.new ≡ text.old ++ spaced (decimal connection.now.idle_timeout ∷ decimal connection.now.response_write_timeout ∷ decimal connection.now.max_queued_responses ∷ [])) }
+{
+    text.number(connection.idle_timeout())?;
+    text.number(connection.response_write_timeout())?;
+    text.number(connection.max_queued_responses() as u64)
+}
+
+/// `IDLE WRITE QUEUE LIMIT yes|no`.
+fn stream_words(text: &mut TextWriter, stream: &StreamConfig) -> Result<(), OutOfMemory>
+    ensures { OnOk result (text.new ≡ text.old ++ spaced (stream_words stream.now)) }
+{
+    connection_words(text, &stream.connection_config())?;
+    text.number(stream.max_concurrent_connections() as u64)?;
+    text.yes_no(stream.accept_connections_at_max())
+}
+
+/// `BUDGET WINDOW`.
+fn budget_words(text: &mut TextWriter, connection: &ConnectionConfig) -> Result<(), OutOfMemory>
+    ensures { OnOk result (text.new ≡ text.old ++ spaced (budget_words connection.now)) }
+{
+    text.number_or_none(connection.response_budget().map(|count| count as u64))?;
+    text.number(connection.budget_window())
+}
+
+/// `ADDR PORT`.
+fn addr_words(text: &mut TextWriter, addr: &SocketAddr) -> Result<(), OutOfMemory>
+    ensures { OnOk result (text.new ≡ text.old ++ spaced (addr_words addr.now)) }
+{
+    text.address(&addr.ip)?;
+    text.number(u64::from(addr.port))
+}
+
+/// A name and `AT SECS`.
+fn begin_wide(text: &mut TextWriter, name: &str, event: &Event) -> Result<(), OutOfMemory>
+    ensures { OnOk result (text.new ≡ text.old ++ name.now ++ spaced (decimal event.now.at ∷ decimal event.now.secs ∷ [])) }
+{
+    text.name(name)?;
+    text.number(event.at)?;
+    text.number(event.secs)
+}
+
+/// A name and `AT SECS CLIENT`.
+fn begin(text: &mut TextWriter, name: &str, event: &Event) -> Result<(), OutOfMemory>
+    ensures { OnOk result (text.new ≡ text.old ++ name.now ++ spaced (decimal event.now.at ∷ decimal event.now.secs ∷ decimal event.now.client ∷ [])) }
+{
+    begin_wide(text, name, event)?;
+    text.number(event.client)
+}
+
+/// The line of a name and `AT SECS CLIENT`.
+fn bare_line(text: &mut TextWriter, name: &str, event: &Event) -> Result<(), OutOfMemory>
+    ensures { OnOk result (text.new ≡ text.old ++ line_of_words (client_words name.now event.now [])) }
+{
+    begin(text, name, event)?;
+    text.end_line()
+}
+
+/// The line of a name, `AT SECS CLIENT` and a number.
+fn number_line(
+    text: &mut TextWriter,
+    name: &str,
+    event: &Event,
+    number: u64,
+) -> Result<(), OutOfMemory>
+    ensures { OnOk result (text.new ≡ text.old ++ line_of_words (client_words name.now event.now (decimal number ∷ []))) }
+{
+    begin(text, name, event)?;
+    text.number(number)?;
+    text.end_line()
+}
+
+/// The line of a piece.
+fn piece_line(text: &mut TextWriter, event: &Event, octets: &Octets) -> Result<(), OutOfMemory>
+    ensures { OnOk result (text.new ≡ text.old ++ line_of_words (client_words (codes "piece") event.now (octets_word octets.now ∷ []))) }
+{
+    begin(text, "piece", event)?;
+    text.octets(octets.as_slice())?;
+    text.end_line()
+}
+
+/// The line of an offer.
+fn offer_line(text: &mut TextWriter, event: &Event, addr: &SocketAddr) -> Result<(), OutOfMemory>
+    ensures { OnOk result (text.new ≡ text.old ++ line_of_words (client_words (codes "offer") event.now (addr_words addr.now))) }
+{
+    begin(text, "offer", event)?;
+    addr_words(text, addr)?;
+    text.end_line()
+}
+
+/// The line of a datagram.
+fn datagram_line(
+    text: &mut TextWriter,
+    event: &Event,
+    addr: &SocketAddr,
+    octets: &Octets,
+) -> Result<(), OutOfMemory>
+    ensures { OnOk result (text.new ≡ text.old ++ line_of_words (client_words (codes "datagram") event.now (addr_words addr.now ++ octets_word octets.now ∷ []))) }
+{
+    begin(text, "datagram", event)?;
+    addr_words(text, addr)?;
+    text.octets(octets.as_slice())?;
+    text.end_line()
+}
+
+/// `SIZE WRITE IDLE WRITE QUEUE LIMIT yes|no BUDGET WINDOW`.
+fn config_words(
+    text: &mut TextWriter,
+    dgram: &DgramConfig,
+    stream: &StreamConfig,
+) -> Result<(), OutOfMemory>
+    ensures { OnOk result (text.new ≡ text.old ++ spaced (dgram_words dgram.now ++ (stream_words stream.now ++ budget_words stream.now.connection_config))) }
+{
+    dgram_words(text, dgram)?;
+    stream_words(text, stream)?;
+    budget_words(text, &stream.connection_config())
+}
+
+/// The line of new configurations.
+fn reconfigure_line(
+    text: &mut TextWriter,
+    event: &Event,
+    dgram: &DgramConfig,
+    stream: &StreamConfig,
+) -> Result<(), OutOfMemory>
+    ensures { OnOk result (text.new ≡ text.old ++ line_of_words (wide_words (codes "reconfigure") event.now (dgram_words dgram.now ++ (stream_words stream.now ++ budget_words stream.now.connection_config)))) }
+{
+    begin_wide(text, "reconfigure", event)?;
+    config_words(text, dgram, stream)?;
+    text.end_line()
+}
+
+/// The line of a shutdown.
+fn shutdown_line(text: &mut TextWriter, event: &Event) -> Result<(), OutOfMemory>
+    ensures { OnOk result (text.new ≡ text.old ++ line_of_words (wide_words (codes "shutdown") event.now [])) }
+{
+    begin_wide(text, "shutdown", event)?;
+    text.end_line()
+}
+
+/// The line of an event.
+#[tactic(auto, unfolding(crate::specs::Trace::event_text))]
+pub(crate) fn write_event(text: &mut TextWriter, event: &Event) -> Result<(), OutOfMemory>
+    ensures { OnOk result (text.new ≡ text.old ++ event_text event.now) }
+{
+    match &event.kind {
+        EventKind::Datagram { addr, octets } => datagram_line(text, event, addr, octets),
+        EventKind::Turn { request } => number_line(text, "turn", event, *request),
+        EventKind::Offer { addr } => offer_line(text, event, addr),
+        EventKind::Piece(octets) => piece_line(text, event, octets),
+        EventKind::End => bare_line(text, "end", event),
+        EventKind::Fault => bare_line(text, "fault", event),
+        EventKind::Close => bare_line(text, "close", event),
+        EventKind::Write { took } => number_line(text, "write", event, *took),
+        EventKind::Tick => bare_line(text, "tick", event),
+        EventKind::Release => bare_line(text, "release", event),
+        EventKind::Reconfigure { dgram, stream } => reconfigure_line(text, event, dgram, stream),
+        EventKind::Shutdown => shutdown_line(text, event),
+    }
+}
+
+/// The line of a name and `yes|no`.
+fn yes_no_line(text: &mut TextWriter, name: &str, yes: bool) -> Result<(), OutOfMemory>
+    ensures { OnOk result (text.new ≡ text.old ++ line_of_words (name.now ∷ yes_no yes ∷ [])) }
+{
+    text.name(name)?;
+    text.yes_no(yes)?;
+    text.end_line()
+}
+
+/// The line of a secret, where there is one.
+fn secret_line(text: &mut TextWriter, secret: Option<[u8; 16]>) -> Result<(), OutOfMemory>
+    ensures { OnOk result (text.new ≡ text.old ++ flat_map line_of_words (secret_lines secret)) }
+{
+    let Some(secret) = secret else {
+        return Ok(());
+    };
+    text.name("secret")?;
+    text.hex(secret.as_slice())?;
+    text.end_line()
+}
+
+/// The line of an address that is denied.
+fn deny_line(text: &mut TextWriter, address: &IpAddr) -> Result<(), OutOfMemory>
+    ensures { OnOk result (text.new ≡ text.old ++ line_of_words (deny_words address.now)) }
+{
+    text.name("deny")?;
+    text.address(address)?;
+    text.end_line()
+}
+
+/// The lines of the addresses that are denied.
+fn deny_lines(text: &mut TextWriter, denied: &[IpAddr]) -> Result<(), OutOfMemory>
+    ensures { OnOk result (text.new ≡ text.old ++ flat_map line_of_words (map deny_words denied.now)) }
+{
+    for address in denied {
+        deny_line(text, address)?;
+    }
+    Ok(())
+}
+
+/// The line of the configuration of the datagram server.
+fn dgram_line(text: &mut TextWriter, dgram: &DgramConfig) -> Result<(), OutOfMemory>
+    ensures { OnOk result (text.new ≡ text.old ++ line_of_words (codes "dgram" ∷ dgram_words dgram.now)) }
+{
+    text.name("dgram")?;
+    dgram_words(text, dgram)?;
+    text.end_line()
+}
+
+/// The line of the configuration of the stream server.
+fn stream_line(text: &mut TextWriter, stream: &StreamConfig) -> Result<(), OutOfMemory>
+    ensures { OnOk result (text.new ≡ text.old ++ line_of_words (codes "stream" ∷ stream_words stream.now)) }
+{
+    text.name("stream")?;
+    stream_words(text, stream)?;
+    text.end_line()
+}
+
+/// The line of the budget of each connection.
+fn budget_line(text: &mut TextWriter, connection: &ConnectionConfig) -> Result<(), OutOfMemory>
+    ensures { OnOk result (text.new ≡ text.old ++ line_of_words (codes "budget" ∷ budget_words connection.now)) }
+{
+    text.name("budget")?;
+    budget_words(text, connection)?;
+    text.end_line()
+}
+
+/// The lines of the configurations.
+fn config_lines(text: &mut TextWriter, settings: &TraceSettings) -> Result<(), OutOfMemory>
+    ensures { OnOk result (text.new ≡ text.old ++ flat_map line_of_words (config_lines settings.now)) }
+{
+    dgram_line(text, &settings.dgram)?;
+    stream_line(text, &settings.stream)?;
+    budget_line(text, &settings.stream.connection_config())
+}
+
+/// The lines of settings.
+#[tactic(auto, unfolding(crate::specs::Trace::settings_text))]
+pub(crate) fn write_settings(
+    text: &mut TextWriter,
+    settings: &TraceSettings,
+) -> Result<(), OutOfMemory>
+    ensures { OnOk result (text.new ≡ text.old ++ settings_text settings.now) }
+{
+    yes_no_line(text, "strict", settings.strict)?;
+    yes_no_line(text, "edns", settings.edns)?;
+    secret_line(text, settings.cookies)?;
+    deny_lines(text, settings.denied.as_slice())?;
+    config_lines(text, settings)
+}
