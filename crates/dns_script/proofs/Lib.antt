@@ -1,4 +1,4 @@
 pub mod Between
 pub mod Names
-pub mod Numbered
 mod Padded
+mod TraceScripts

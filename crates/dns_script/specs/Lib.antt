@@ -11,3 +11,4 @@ pub mod ScriptReads
 pub mod ServeScript
 pub mod Streams
 pub mod Targets
+pub mod TraceScript

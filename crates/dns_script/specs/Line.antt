@@ -6,7 +6,7 @@ use Rattle.dns_service.specs.declared.event.Output.TheVariants.{Datagram, Frame,
 use Rattle.dns_service.specs.declared.event.Why.{Why}
 use Rattle.dns_service.specs.declared.event.Why.TheVariants.{Ended, Fault, Short, Idle, WriteTimeout, Commanded, Shutdown}
 use Rattle.dns_trace.specs.declared.reason.Reason.{Reason}
-use Rattle.dns_trace.specs.declared.reason.Reason.TheVariants.{Text, Word, Order, Repeat, Count, Value}
+use Rattle.dns_trace.specs.declared.reason.Reason.TheVariants.{Text, Word, Order, Mix, Repeat, Count, Value, Zone}
 
 abbrev pub why_word : Why → List ℕ
 why_word Ended = codes "ended"
@@ -35,9 +35,11 @@ abbrev pub reason_word : Reason → List ℕ
 reason_word Text = codes "text"
 reason_word Word = codes "word"
 reason_word Order = codes "order"
+reason_word Mix = codes "mix"
 reason_word Repeat = codes "repeat"
 reason_word Count = codes "count"
 reason_word Value = codes "value"
+reason_word Zone = codes "zone"
 
 -- refused LINE REASON
 unfoldable pub refused_line : ℕ → Reason → List ℕ

@@ -1,11 +1,12 @@
 -- What a script says: the settings of the server, where it sets one, the rules of its service and of its target, and its events,
 -- or its steps, each in the order of their lines.
-use Rattle.std.specs.Prelude.{ℕ, Bool, true, List, [], Option, None, unwrap_or}
+use Rattle.std.specs.Prelude.{ℕ, Bool, List, [], Option, None}
 use Rattle.dns_name.specs.declared.address.IpAddr.{IpAddr}
-use Rattle.dns_service.specs.Config.{Dgram, Stream, default_dgram, default_stream}
+use Rattle.dns_service.specs.Config.{Dgram, Stream}
 use Rattle.dns_middleware.specs.declared.settings.Settings.{Settings}
-use Rattle.dns_trace.specs.BudgetLine.{budgeted}
+use Rattle.dns_trace.specs.Said.{Said, settings_said}
 use Rattle.dns_trace.specs.declared.budget_line.Budget.{Budget}
+use Rattle.dns_trace.specs.declared.trace_settings.TraceSettings.{TraceSettings}
 use Rattle.dns_script.specs.declared.rule.Rule.{Rule}
 use Rattle.dns_script.specs.declared.notify_rule.NotifyRule.{NotifyRule}
 
@@ -24,13 +25,17 @@ pub record Plan (E : Type 0) : Type 0 where
 abbrev pub empty_plan : {E : Type 0} → Plan E
 empty_plan = record { strict = None; edns = None; secret = None; denied = []; dgram = None; stream = None; budget = None; rules = []; zones = []; events = [] }
 
--- the settings: strict, with EDNS and the default configurations where nothing else is said, and with the budget that is said
+-- what its lines of settings said
+abbrev pub said_of : {E : Type 0} → Plan E → Said
+said_of p = record { strict = p.strict; edns = p.edns; secret = p.secret; denied = p.denied; dgram = p.dgram; stream = p.stream; budget = p.budget }
+
+-- the same with what other lines of settings said
+abbrev pub with_said : {E : Type 0} → Plan E → Said → Plan E
+with_said p s = record p { strict = s.strict; edns = s.edns; secret = s.secret; denied = s.denied; dgram = s.dgram; stream = s.stream; budget = s.budget }
+
+-- the settings of a server whose events are recorded
+abbrev pub server_settings : TraceSettings → Settings
+server_settings s = record { strict = s.strict; edns = s.edns; cookies = s.cookies; denied = s.denied; dgram = s.dgram; stream = s.stream }
+
 abbrev pub settings_of : {E : Type 0} → Plan E → Settings
-settings_of p = record {
-  strict = unwrap_or p.strict true;
-  edns = unwrap_or p.edns true;
-  cookies = p.secret;
-  denied = p.denied;
-  dgram = unwrap_or p.dgram default_dgram;
-  stream = budgeted p.budget (unwrap_or p.stream default_stream);
-}
+settings_of p = server_settings (settings_said (said_of p))

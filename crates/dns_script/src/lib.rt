@@ -4,6 +4,7 @@
 
 mod answer_fmt;
 mod answer_words;
+mod laws;
 mod notify_lines;
 mod notify_rule;
 mod output_line;
@@ -19,6 +20,7 @@ mod script_target;
 mod scripted;
 mod setting_lines;
 
+pub use laws::a_trace_is_a_script;
 pub use notify_rule::{NotifyRule, NotifyRules};
 pub use output_line::{line, refusal};
 pub use reader::read_script;

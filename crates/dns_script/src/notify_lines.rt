@@ -3,9 +3,8 @@
 ghost use Rattle.std.specs.Prelude.{◌≡◌, codes};
 ghost use Rattle.std.specs.List.{list_all};
 ghost use Rattle.std.specs.Str.{bytes_eq};
-ghost use Rattle.dns_trace.specs.Reading.{GivesLine};
+ghost use Rattle.dns_trace.specs.Reading.{GivesLine, TakesLine};
 ghost use Rattle.dns_script.specs.Script.{notify_line, notify_of, verdict_word, words_between};
-ghost use Rattle.dns_script.specs.ScriptReads.{TakesLine};
 
 use crate::notify_rule::NotifyRule;
 use crate::script::Script;

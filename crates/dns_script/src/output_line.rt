@@ -72,9 +72,11 @@ fn reason_text(reason: Reason) -> &'static str
         Reason::Text => "text",
         Reason::Word => "word",
         Reason::Order => "order",
+        Reason::Mix => "mix",
         Reason::Repeat => "repeat",
         Reason::Count => "count",
         Reason::Value => "value",
+        Reason::Zone => "zone",
     }
 }
 

@@ -1,8 +1,7 @@
 //! The lines of the service's rules.
 
-ghost use Rattle.dns_trace.specs.Reading.{GivesLine};
+ghost use Rattle.dns_trace.specs.Reading.{GivesLine, TakesLine};
 ghost use Rattle.dns_script.specs.Script.{rule_line, rule_name, rule_of};
-ghost use Rattle.dns_script.specs.ScriptReads.{TakesLine};
 
 use crate::answer_words::answers;
 use crate::rule::Rule;

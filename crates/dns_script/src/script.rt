@@ -1,15 +1,18 @@
 //! What a script says.
 
 ghost use Rattle.std.specs.Prelude.{◌≡◌, ◌++◌, ◌∷◌, [], Some, OnOk};
-ghost use Rattle.dns_script.specs.Plan.{empty_plan, settings_of};
+ghost use Rattle.dns_trace.specs.Reading.{TakesLine};
+ghost use Rattle.dns_script.specs.Plan.{empty_plan, server_settings, settings_of};
+ghost use Rattle.dns_script.specs.Script.{next_setting_line};
 
 use crate::notify_rule::{NotifyRule, NotifyRules};
 use crate::rule::{Rule, Rules};
-use dns_base::Addrs;
 use dns_core::Settings;
 use dns_name::{IpAddr, OutOfMemory};
 use dns_service::{DgramConfig, StreamConfig};
-use dns_trace::{Budget, Reason, with_budget};
+use dns_trace::{
+    Budget, LineError, Reason, SaidSettings, Setting, TraceSettings, Words, read_setting,
+};
 use std::alloc::Global;
 use std::marker::Model;
 
@@ -21,16 +24,32 @@ pub enum ScriptError {
     Refused { line: u64, reason: Reason },
 }
 
+/// The settings of a server whose events are recorded.
+fn server_settings(settings: TraceSettings) -> Settings
+    ensures { result ≡ server_settings settings }
+{
+    let TraceSettings {
+        strict,
+        edns,
+        cookies,
+        denied,
+        dgram,
+        stream,
+    } = settings;
+    Settings {
+        strict,
+        edns,
+        cookies,
+        denied,
+        dgram,
+        stream,
+    }
+}
+
 /// The settings, the rules of the service and of the target, and the events, or the steps.
 #[derive(Debug, Drop)]
 pub struct Script<E> {
-    strict: Option<bool>,
-    edns: Option<bool>,
-    secret: Option<[u8; 16]>,
-    denied: Vec<IpAddr>,
-    dgram: Option<DgramConfig>,
-    stream: Option<StreamConfig>,
-    budget: Option<Budget>,
+    said: SaidSettings,
     rules: Rules,
     zones: NotifyRules,
     events: Vec<E>,
@@ -41,7 +60,7 @@ impl<E> Model for Script<E> {
 
     ghost Value = { Plan E };
 
-    ghost view = { λ s. record { strict = s.strict; edns = s.edns; secret = s.secret; denied = s.denied.items; dgram = s.dgram; stream = s.stream; budget = s.budget; rules = s.rules; zones = s.zones; events = s.events.items } };
+    ghost view = { λ s. record { strict = s.said.strict; edns = s.said.edns; secret = s.said.secret; denied = s.said.denied; dgram = s.said.dgram; stream = s.said.stream; budget = s.said.budget; rules = s.rules; zones = s.zones; events = s.events.items } };
 }
 
 impl<E: Drop> Script<E> {
@@ -50,13 +69,7 @@ impl<E: Drop> Script<E> {
         ensures { result ≡ empty_plan }
     {
         Script {
-            strict: None,
-            edns: None,
-            secret: None,
-            denied: Vec::new(alloc),
-            dgram: None,
-            stream: None,
-            budget: None,
+            said: SaidSettings::new(alloc),
             rules: Rules::new(alloc),
             zones: NotifyRules::new(alloc),
             events: Vec::new(alloc),
@@ -67,50 +80,63 @@ impl<E: Drop> Script<E> {
     pub fn set_strict(&mut self, strict: bool)
         ensures { self.new ≡ record self.old { strict = Some strict } }
     {
-        self.strict = Some(strict);
+        self.said.set_strict(strict);
     }
 
     /// Says whether EDNS is on.
     pub fn set_edns(&mut self, edns: bool)
         ensures { self.new ≡ record self.old { edns = Some edns } }
     {
-        self.edns = Some(edns);
+        self.said.set_edns(edns);
     }
 
     /// Says that cookies are on, under this secret.
     pub fn set_secret(&mut self, secret: [u8; 16])
         ensures { self.new ≡ record self.old { secret = Some secret } }
     {
-        self.secret = Some(secret);
+        self.said.set_secret(secret);
     }
 
     /// One address more that is denied.
     pub fn deny(&mut self, address: IpAddr) -> Result<(), OutOfMemory>
         ensures { OnOk result (self.new ≡ record self.old { denied = self.old.denied ++ address ∷ [] }) }
     {
-        self.denied.push(address)?;
-        Ok(())
+        self.said.deny(address)
     }
 
     /// The configuration of the datagram server.
     pub fn set_dgram(&mut self, dgram: DgramConfig)
         ensures { self.new ≡ record self.old { dgram = Some dgram } }
     {
-        self.dgram = Some(dgram);
+        self.said.set_dgram(dgram);
     }
 
     /// The configuration of the stream server.
     pub fn set_stream(&mut self, stream: StreamConfig)
         ensures { self.new ≡ record self.old { stream = Some stream } }
     {
-        self.stream = Some(stream);
+        self.said.set_stream(stream);
     }
 
     /// The budget of each connection.
     pub fn set_budget(&mut self, budget: Budget)
         ensures { self.new ≡ record self.old { budget = Some budget } }
     {
-        self.budget = Some(budget);
+        self.said.set_budget(budget);
+    }
+
+    /// What is said with the line of this setting more. The first word is not looked at.
+    #[tactic(auto, unfolding(crate::specs::Script::next_setting_line))]
+    pub(crate) fn take_setting(
+        &mut self,
+        alloc: Global,
+        setting: Setting,
+        words: &Words,
+    ) -> Result<(), LineError>
+        ensures { TakesLine result self.new (next_setting_line setting self.old words.now) }
+    {
+        let before_events = self.events.is_empty();
+        read_setting(alloc, &mut self.said, setting, before_events, words)
     }
 
     /// One rule of the service more.
@@ -139,42 +165,42 @@ impl<E: Drop> Script<E> {
     pub fn strict(&self) -> Option<bool>
         ensures { result ≡ self.now.strict }
     {
-        self.strict
+        self.said.strict()
     }
 
     /// Whether EDNS is on, where it is said.
     pub fn edns(&self) -> Option<bool>
         ensures { result ≡ self.now.edns }
     {
-        self.edns
+        self.said.edns()
     }
 
     /// The secret of cookies, where they are on.
     pub fn secret(&self) -> Option<[u8; 16]>
         ensures { result ≡ self.now.secret }
     {
-        self.secret
+        self.said.secret()
     }
 
     /// The configuration of the datagram server, where it is set.
     pub fn dgram(&self) -> Option<DgramConfig>
         ensures { result ≡ self.now.dgram }
     {
-        self.dgram
+        self.said.dgram()
     }
 
     /// The configuration of the stream server, where it is set.
     pub fn stream(&self) -> Option<StreamConfig>
         ensures { result ≡ self.now.stream }
     {
-        self.stream
+        self.said.stream()
     }
 
     /// The budget of each connection, where it is said.
     pub fn budget(&self) -> Option<Budget>
         ensures { result ≡ self.now.budget }
     {
-        self.budget
+        self.said.budget()
     }
 
     /// The events.
@@ -192,25 +218,11 @@ impl<E: Drop> Script<E> {
         ensures events { result.3.items ≡ self.events }
     {
         let Script {
-            strict,
-            edns,
-            secret,
-            denied,
-            dgram,
-            stream,
-            budget,
+            said,
             rules,
             zones,
             events,
         } = self;
-        let settings = Settings {
-            strict: strict.unwrap_or(true),
-            edns: edns.unwrap_or(true),
-            cookies: secret,
-            denied: Addrs::from_vec(denied),
-            dgram: dgram.unwrap_or(DgramConfig::new()),
-            stream: with_budget(budget, stream.unwrap_or(StreamConfig::new())),
-        };
-        (settings, rules, zones, events)
+        (server_settings(said.into_settings()), rules, zones, events)
     }
 }
