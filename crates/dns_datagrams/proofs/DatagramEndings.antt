@@ -1,5 +1,5 @@
 -- How the parts of the loop of datagrams follow each other, and how it ends.
-use Rattle.std.proofs.Common.{◌≡◌, ℕ, ◌+◌, ◌≤◌, min, List, [], ◌∷◌, length, take, Bool, true, false, refl, sym, ◌∙◌, arith}
+use Rattle.std.proofs.Common.{◌≡◌, ℕ, ◌+◌, ◌-◌, ◌^◌, ◌≤◌, ◌<◌, min, List, [], ◌∷◌, length, take, Bool, true, false, refl, sym, ◌∙◌, arith}
 use Rattle.std.specs.Prelude.{Option, Some, None, nat_eq}
 use Rattle.std.specs.List.{list_any}
 use Rattle.std.specs.VecDeque.{deque_len}
@@ -14,15 +14,15 @@ use Rattle.dns_service.specs.declared.polled.PolledRequest.{PolledRequest}
 use Rattle.dns_client.specs.Serving.{Serving}
 use Rattle.dns_notes.specs.Clocks.{ClockReading}
 use Rattle.dns_datagrams.specs.DatagramsSent.{settings_of, count_if}
-use Rattle.dns_datagrams.specs.DatagramsServed.{World, world, IsFull}
+use Rattle.dns_datagrams.specs.DatagramsServed.{World, world, IsFull, MayCome}
 use Rattle.dns_datagrams.specs.DatagramSteps.{kept_at, numbers_of}
-use Rattle.dns_datagrams.specs.DatagramLoop.{Among, Ran, Ordered, Goes, Breaks, Looks, Turns, Fails, Begins, BeginFails, Rounded, Idles, Stopped, Finished}
+use Rattle.dns_datagrams.specs.DatagramLoop.{Among, Ran, Ordered, Goes, Breaks, Looks, Turns, Fails, Begins, BeginFails, Rounded, Idles, CutsOff, Stopped, Finished}
 use Rattle.dns_datagrams.specs.declared.serving.DgramEnd.{DgramEnd}
 use Rattle.dns_datagrams.specs.declared.serving.DgramEnd.TheVariants.{Shutdown, Counted, Fault, OutOfMemory}
 use Rattle.dns_datagrams.specs.declared.running.Running.{Running}
+use Rattle.dns_datagrams.proofs.DatagramCounts.{may_come_any, may_come_less}
 use Rattle.dns_datagrams.proofs.DatagramOrderings.{ordered_rest}
 use Rattle.dns_datagrams.proofs.DatagramParts.{input_same, delivered_same}
-use Rattle.dns_datagrams.proofs.DatagramTurns.{fails_same}
 
 take_least : (d : List ℕ) (n : ℕ) → n ≡ min (length d) 1024 → take n d ≡ take 1024 d
 take_least d n m = let e : n ≡ min 1024 (length d) = omega arith in rw e (take_min 1024 d)
@@ -41,8 +41,8 @@ module _ {W R F : Type 0} (answer : PolledRequest F R → ℕ → Answer) (answe
   pub goes_then : {w w1 w2 : World} {s s1 s2 : Running W R F} {a b c : Bool} {xs ys zs : List ℕ} → Goes answer answers w s a xs w1 s1 b ys → Goes answer answers w1 s1 b ys w2 s2 c zs → Goes answer answers w s a xs w2 s2 c zs
   goes_then p q = record { over = λ h. q.over (p.over h); goes = λ first start spare r. q.goes first start spare (p.goes first start spare r) }
 
-  pub breaks_then : {w w1 w2 : World} {s s1 : Running W R F} {a b : Bool} {xs ys : List ℕ} → Goes answer answers w s a xs w1 s1 b ys → Breaks answer answers w1 s1 b ys w2 → Breaks answer answers w s a xs w2
-  breaks_then p q = record { breaks = λ first start spare r. q.breaks first start spare (p.goes first start spare r) }
+  pub breaks_then : {n n' : ℕ} {w w1 w2 : World} {s s1 : Running W R F} {a b : Bool} {xs ys : List ℕ} → n ≤ n' → Goes answer answers w s a xs w1 s1 b ys → Breaks answer answers n w1 s1 b ys w2 → Breaks answer answers n' w s a xs w2
+  breaks_then l p q = record { breaks = λ first start spare count may r. q.breaks first start spare count (may_come_less l may) (p.goes first start spare r) }
 
   pub goes_same : {w : World} {s : Running W R F} {a : Bool} {xs : List ℕ} → Goes answer answers w s a xs w s a xs
   goes_same = record { over = λ h. h; goes = λ first start spare r. r }
@@ -73,17 +73,14 @@ module _ {W R F : Type 0} (answer : PolledRequest F R → ℕ → Answer) (answe
 
   -- ---- the polls of some exchanges
 
+  pub polls_fail : {w w1 w2 : World} {s s1 : Running W R F} {a b : Bool} {xs ys : List ℕ} → s1.next ≡ s.next → Goes answer answers w s a xs w1 s1 b ys → Breaks answer answers s1.next w1 s1 b ys w2 → Breaks answer answers s.next w s a xs w2
+  polls_fail {s = s} {s1 = s1} e p q = let l : s1.next ≤ s.next = omega arith in breaks_then l p q
+
   pub goes_left : {w w1 : World} {s s1 : Running W R F} {a : Bool} {ns ms : List ℕ} → ms ≡ [] → Goes answer answers w s a ns w1 s1 false ms → Goes answer answers w s a ns w1 s1 false []
   goes_left e g = rw e at g
 
   pub goes_turn : {w w1 : World} {s s1 : Running W R F} {ns rest rest' : List ℕ} {n : ℕ} → ns ≡ n ∷ rest → rest' ≡ rest → Turns answer answers n false w s w1 s1 → Goes answer answers w s false ns w1 s1 false rest'
   goes_turn {rest = rest} e f t = rw (e, f) (t.goes rest)
-
-  pub breaks_after : {w w1 w2 : World} {s s1 : Running W R F} (ns ms : List ℕ) → Goes answer answers w s false ns w1 s1 false ms → Fails answer answers false w1 s1 w2 → Breaks answer answers w s false ns w2
-  breaks_after ns ms a b = record { breaks = λ first start spare r. (b.breaks ms).breaks first start spare (a.goes first start spare r) }
-
-  pub breaks_now : {n : List Event} {m : Mail} {f : ℕ} {c : List ClockReading} {k : Known} {s : Running W R F} {a : Bool} {ns : List ℕ} → Breaks answer answers (world n m f c k) s a ns (world n m f c k)
-  breaks_now {n} {m} {f} {c} {k} {s} {a} {ns} = (fails_same answer answers s (record { noted = refl; received = refl; sent = refl })).breaks ns
 
   -- ---- waits and receives
 
@@ -92,8 +89,8 @@ module _ {W R F : Type 0} (answer : PolledRequest F R → ℕ → Answer) (answe
       → Goes answer answers (world n m1 f1 c1 k) s a xs w s1 b ys → Goes answer answers (world n m f c k) s a xs w s1 b ys
   goes_waited e g h p = rw (← e, ← g, ← h) p
 
-  pub breaks_waited : {n : List Event} {m m1 : Mail} {f f1 : ℕ} {c c1 : List ClockReading} {k : Known} {s : Running W R F} {w : World} {a : Bool} {xs : List ℕ} → f1 ≡ f → m1 ≡ m → c1 ≡ c
-      → Breaks answer answers (world n m1 f1 c1 k) s a xs w → Breaks answer answers (world n m f c k) s a xs w
+  pub breaks_waited : {most : ℕ} {n : List Event} {m m1 : Mail} {f f1 : ℕ} {c c1 : List ClockReading} {k : Known} {s : Running W R F} {w : World} {a : Bool} {xs : List ℕ} → f1 ≡ f → m1 ≡ m → c1 ≡ c
+      → Breaks answer answers most (world n m1 f1 c1 k) s a xs w → Breaks answer answers most (world n m f c k) s a xs w
   breaks_waited e g h p = rw (← e, ← g, ← h) p
 
   pub received_failed : {n : List Event} {m m1 : Mail} {f f1 : ℕ} {c : List ClockReading} {k : Known} {s : Running W R F} → f1 ≡ f → m1 ≡ m → Goes answer answers (world n m f c k) s true [] (world n m1 f1 c k) s true []
@@ -115,7 +112,7 @@ module _ {W R F : Type 0} (answer : PolledRequest F R → ℕ → Answer) (answe
   got_goes {m = m} {n = n} {buf = buf} e z x b = rw (← e) (b.goes x.octets m (front_of x.octets n (length buf) (take n buf) z x.count x.front) x.more)
 
   pub got_fails : {n0 : List Event} {m m1 : Mail} {f f1 : ℕ} {c : List ClockReading} {k : Known} {s : Running W R F} {w : World} {n : ℕ} {buf : List ℕ} {from : SocketAddr} → f1 ≡ f → length buf ≡ 1024 → Received n from buf m m1
-      → BeginFails answer answers (take n buf) from (world n0 m1 f1 c k) s w → Breaks answer answers (world n0 m f c k) s true [] w
+      → BeginFails answer answers (take n buf) from (world n0 m1 f1 c k) s w → Breaks answer answers (s.next + 1) (world n0 m f c k) s true [] w
   got_fails {m = m} {n = n} {buf = buf} e z x b = rw (← e) (b.breaks x.octets m (front_of x.octets n (length buf) (take n buf) z x.count x.front) x.more)
 
   -- ---- rounds
@@ -123,15 +120,27 @@ module _ {W R F : Type 0} (answer : PolledRequest F R → ℕ → Answer) (answe
   pub look_goes : {w w1 w2 : World} {s s1 s2 : Running W R F} {b : Bool} {ns : List ℕ} → Looks answer answers w s w1 s1 → Goes answer answers w1 s1 true [] w2 s2 b ns → Goes answer answers w s false [] w2 s2 b ns
   look_goes a b = goes_then (a.goes []) b
 
-  pub look_rounds : (end : Option DgramEnd) {w w1 : World} {s s1 : Running W R F} (w2 : World) (s2 : Running W R F) (count : ℕ) → Looks answer answers w s w1 s1 → Rounded answer answers true 0 end w1 s1 w2 s2 → Rounded answer answers false count end w s w2 s2
-  look_rounds None w2 s2 count a b = look_goes a b
-  look_rounds (Some Shutdown) w2 s2 count a b = (look_goes a b.0, b.1)
-  look_rounds (Some Counted) w2 s2 count a b = absurd (cc b.0)
-  look_rounds (Some Fault) w2 s2 count a b = look_goes a b
-  look_rounds (Some OutOfMemory) w2 s2 count a b = breaks_then (a.goes []) b
+  -- memory ran out behind the look
+  look_breaks : {w w1 w2 : World} {s s1 : Running W R F} → s1.next ≡ s.next → Looks answer answers w s w1 s1 → Breaks answer answers (s1.next + 1) w1 s1 true [] w2 → Breaks answer answers (s.next + 1) w s false [] w2
+  look_breaks {s = s} {s1 = s1} e a b = let l : s1.next + 1 ≤ s.next + 1 = omega arith in breaks_then l (a.goes []) b
 
-  pub look_fails : {w w1 : World} {s : Running W R F} → Fails answer answers false w s w1 → Breaks answer answers w s false [] w1
-  look_fails a = a.breaks []
+  pub look_rounds : (end : Option DgramEnd) {w w1 : World} {s s1 : Running W R F} (w2 : World) (s2 : Running W R F) (count : ℕ) → s1.next ≡ s.next → MayCome count (s.next + 1) → Looks answer answers w s w1 s1 → Rounded answer answers true 0 end w1 s1 w2 s2 → Rounded answer answers false count end w s w2 s2
+  look_rounds None w2 s2 count e may a b = look_goes a b
+  look_rounds (Some Shutdown) w2 s2 count e may a b = (look_goes a b.0, b.1)
+  look_rounds (Some Counted) w2 s2 count e may a b = absurd (cc b.0)
+  look_rounds (Some Fault) w2 s2 count e may a b = look_goes a b
+  look_rounds (Some OutOfMemory) w2 s2 count e may a b = (may, look_breaks e a b.1)
+
+  pub look_fails : {count : ℕ} {w w1 : World} {s : Running W R F} → MayCome count (s.next + 1) → Fails answer answers false w s w1 → MayCome count (s.next + 1) × Breaks answer answers (s.next + 1) w s false [] w1
+  look_fails {s = s} may a = let l : s.next ≤ s.next + 1 = omega arith in (may, breaks_then l goes_same (a.breaks []))
+
+  -- memory ran out at the receive, or at the polls after it
+  pub lap_fails : {w w1 : World} {s : Running W R F} {a : Bool} {xs : List ℕ} → s.next < 2 ^ 64 - 1 → Breaks answer answers (s.next + 1) w s a xs w1 → MayCome 0 (s.next + 1) × Breaks answer answers (s.next + 1) w s a xs w1
+  lap_fails l b = (may_come_any l, b)
+
+  pub lap_breaks : {w w1 w2 : World} {s s1 : Running W R F} {a b : Bool} {xs ys : List ℕ} → s.next < 2 ^ 64 - 1 → s1.next ≤ s.next + 1 → Goes answer answers w s a xs w1 s1 b ys → Breaks answer answers s1.next w1 s1 b ys w2
+      → MayCome 0 (s.next + 1) × Breaks answer answers (s.next + 1) w s a xs w2
+  lap_breaks l e p q = lap_fails l (breaks_then e p q)
 
   -- ---- ends
 
@@ -156,7 +165,7 @@ module _ {W R F : Type 0} (answer : PolledRequest F R → ℕ → Answer) (answe
   stopped_by Shutdown w2 s2 count a b = (idles_then a b.0, b.1)
   stopped_by Counted w2 s2 count a b = (idles_goes (goes_then a b.1), b.2)
   stopped_by Fault w2 s2 count a b = idles_then a b
-  stopped_by OutOfMemory w2 s2 count a b = breaks_then a b
+  stopped_by OutOfMemory {s1 = s1} w2 s2 count a b = let l : s1.next + 1 ≤ s1.next + 1 = omega arith in record { most = s1.next + 1; may_come = b.0; breaks = breaks_then l a b.1 }
 
   -- the rounds end with one of them
   pub stopped_at : (r : Option DgramEnd) (end : DgramEnd) {w w1 : World} {s s1 : Running W R F} (w2 : World) (s2 : Running W R F) (count : ℕ) → r ≡ Some end → Goes answer answers w s false [] w1 s1 false [] → Rounded answer answers false count r w1 s1 w2 s2 → Stopped answer answers end count w s w2 s2
@@ -166,14 +175,14 @@ module _ {W R F : Type 0} (answer : PolledRequest F R → ℕ → Answer) (answe
   pub finish_more : {w w1 w2 : World} {s s1 s2 : Running W R F} → Goes answer answers w s false [] w1 s1 false [] → Goes answer answers w1 s1 false (numbers_of s1.exchanges.items) w2 s2 false [] → Goes answer answers w s false [] w2 s2 false []
   finish_more {s1 = s1} a b = goes_then a (goes_then (goes_owing (numbers_of s1.exchanges.items)) b)
 
-  pub finish_fails : {w w1 w2 : World} {s s1 : Running W R F} → Goes answer answers w s false [] w1 s1 false [] → Breaks answer answers w1 s1 false (numbers_of s1.exchanges.items) w2 → Breaks answer answers w s false [] w2
-  finish_fails {s1 = s1} a b = breaks_then a (breaks_then (goes_owing (numbers_of s1.exchanges.items)) b)
+  pub finish_fails : {w w1 w2 : World} {s s1 : Running W R F} → s1.next ≡ s.next → Goes answer answers w s false [] w1 s1 false [] → Breaks answer answers s1.next w1 s1 false (numbers_of s1.exchanges.items) w2 → Breaks answer answers s.next w s false [] w2
+  finish_fails {s1 = s1} e a b = polls_fail e (goes_then a (goes_owing (numbers_of s1.exchanges.items))) b
 
   pub idles_finish : {w w1 w2 : World} {s s1 s2 : Running W R F} → Idles answer answers w s w1 s1 → Finished answer answers w1 s1 w2 s2 → Idles answer answers w s w2 s2
   idles_finish a b = record { over = λ h. b.goes.over (a.over h); goes = λ first start spare r. b.goes.goes first start (1 + spare) (a.goes first start spare r) }
 
-  pub end_fails : {w w1 w2 : World} {s s1 : Running W R F} {q : Type 0} → Idles answer answers w s w1 s1 × q → Breaks answer answers w1 s1 false [] w2 → Breaks answer answers w s false [] w2
-  end_fails a b = record { breaks = λ first start spare r. b.breaks first start (1 + spare) (a.0.goes first start spare r) }
+  pub end_fails : {count : ℕ} {w w1 w2 : World} {s s1 : Running W R F} {q : Type 0} → MayCome count s1.next → Idles answer answers w s w1 s1 × q → Breaks answer answers s1.next w1 s1 false [] w2 → CutsOff answer answers count w s w2
+  end_fails {s1 = s1} may a b = record { most = s1.next; may_come = may; breaks = record { breaks = λ first start spare count h r. b.breaks first start (1 + spare) count h (a.0.goes first start spare r) } }
 
   pub end_shutdown : {w w1 w2 : World} {s s1 s2 : Running W R F} → Idles answer answers w s w1 s1 × (s1.heard.closed ≡ true) → Finished answer answers w1 s1 w2 s2
       → Idles answer answers w s w2 s2 × (s2.heard.closed ≡ true) × ((c : ℕ) → kept_at c s2.exchanges.items ≡ [])

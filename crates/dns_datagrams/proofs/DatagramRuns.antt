@@ -1,5 +1,5 @@
 -- What was done from the start of the loop of datagrams to now, a step further.
-use Rattle.std.proofs.Common.{◌≡◌, ℕ, ◌+◌, List, [], ◌∷◌, ◌++◌, Bool, true, false, refl, ap, sym, ◌∙◌, append_assoc, arith}
+use Rattle.std.proofs.Common.{◌≡◌, ℕ, ◌+◌, List, [], ◌∷◌, ◌++◌, length, Bool, true, false, refl, ap, sym, ◌∙◌, append_assoc, arith}
 use Rattle.std.specs.Prelude.{Option}
 use Rattle.dns_admission.specs.declared.look.Look.{Look}
 use Rattle.dns_book.specs.declared.history.Known.{Known}
@@ -16,7 +16,7 @@ use Rattle.dns_datagrams.specs.DatagramEvents.{IsOwnKind, AllDatagramKinds, lett
 use Rattle.dns_datagrams.specs.DatagramOrder.{fault_events, IsFaultOf}
 use Rattle.dns_datagrams.specs.DatagramsPolled.{waits}
 use Rattle.dns_datagrams.specs.DatagramsSent.{settings_of, posted, letters_delivered}
-use Rattle.dns_datagrams.specs.DatagramsServed.{World, world, LooksOnly, Input, CutOff}
+use Rattle.dns_datagrams.specs.DatagramsServed.{World, world, LooksOnly, Input, CutOff, MayCome}
 use Rattle.dns_datagrams.specs.DatagramSteps.{stamp_of, hears, NewsNoted, Stamped, Sends}
 use Rattle.dns_datagrams.specs.DatagramLoop.{Among, Serves, Ran}
 use Rattle.dns_datagrams.specs.declared.running.Running.{Running}
@@ -103,12 +103,12 @@ module _ {W R F : Type 0} (answer : PolledRequest F R → ℕ → Answer) (answe
 
   -- memory ran out, after these events and looks more
   pub cut_off : (first : Look) (start : World) (n n' : List Event) (m m' : Mail) (f f' : ℕ) (c c' : List ClockReading) (k k' : Known) (s : Running W R F) (ready : Bool) (owed : List ℕ) (spare : ℕ)
-      (es : List Event) (ls : List Look) (came unrecorded : List Letter) (number : ℕ)
-      → n' ≡ n ++ es → AllDatagramKinds es → LooksOnly k ls k' → m'.sent ≡ m.sent → m'.received ≡ start.mail.received ++ came
+      (es : List Event) (ls : List Look) (came unrecorded : List Letter) (number count : ℕ)
+      → MayCome count (length came) → n' ≡ n ++ es → AllDatagramKinds es → LooksOnly k ls k' → m'.sent ≡ m.sent → m'.received ≡ start.mail.received ++ came
       → (r : Ran answer answers first start (world n m f c k) s ready owed spare)
       → cut_letters came ≡ letters_in (r.events ++ es) ++ unrecorded → numbers_in (r.events ++ es) ≡ numbers_below number
-      → CutOff answers start (world n' m' f' c' k')
-  cut_off first start n n' m m' f f' c c' k k' s ready owed spare es ls came unrecorded number h plain l sent received r recorded numbered = record {
+      → CutOff answers count start (world n' m' f' c' k')
+  cut_off first start n n' m m' f f' c c' k k' s ready owed spare es ls came unrecorded number count within h plain l sent received r recorded numbered = record {
     first = first;
     looks = r.looks ++ ls;
     events = r.events ++ es;
@@ -119,6 +119,7 @@ module _ {W R F : Type 0} (answer : PolledRequest F R → ℕ → Answer) (answe
     noted = noted_more start.noted n n' r.events es r.noted h;
     seat = looks_then start.known k k' (first ∷ r.looks) ls r.seat l;
     received = received;
+    within = within;
     recorded = recorded;
     numbered = numbered;
     sent = sent ∙ r.output.sent;

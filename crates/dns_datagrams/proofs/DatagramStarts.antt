@@ -17,13 +17,14 @@ use Rattle.dns_notes.specs.Clocks.{ClockReading}
 use Rattle.dns_notes.specs.Notes.{NotedWide}
 use Rattle.dns_datagrams.specs.DatagramsPolled.{waits, TurnsBetween, AllFinished}
 use Rattle.dns_datagrams.specs.DatagramsSent.{settings_of, letters_delivered, delivered, early_faults}
-use Rattle.dns_datagrams.specs.DatagramsServed.{World, world, Served, CutOff, ServedTo, EndsBy}
+use Rattle.dns_datagrams.specs.DatagramsServed.{World, world, Served, CutOff, ServedTo, EndsBy, IsFull, MayCome}
 use Rattle.dns_datagrams.specs.DatagramSteps.{hears, NewsNoted, kept_at}
-use Rattle.dns_datagrams.specs.DatagramLoop.{Serves, Ran, Breaks, Stopped, Finished, Ended}
+use Rattle.dns_datagrams.specs.DatagramLoop.{Serves, Ran, Breaks, CutsOff, Stopped, Finished, Ended, TakenBy}
 use Rattle.dns_datagrams.specs.declared.serving.DgramEnd.{DgramEnd}
 use Rattle.dns_datagrams.specs.declared.serving.DgramEnd.TheVariants.{Shutdown, Counted, Fault, OutOfMemory}
 use Rattle.dns_datagrams.specs.declared.running.Running.{Running}
 use Rattle.dns_datagrams.proofs.DatagramClocks.{clocked_any}
+use Rattle.dns_datagrams.proofs.DatagramCounts.{came_number, may_come_is, may_come_none, not_full, taken_less}
 use Rattle.dns_datagrams.proofs.DatagramEndings.{ran_rest, end_shutdown, end_count, end_fails, idles_finish}
 use Rattle.dns_datagrams.proofs.DatagramOrderings.{ordered_first}
 use Rattle.dns_datagrams.proofs.DatagramParts.{input_quiet, delivered_wide}
@@ -84,8 +85,8 @@ module _ {W R F : Type 0} (answer : PolledRequest F R → ℕ → Answer) (answe
   all_finished : (settings : Settings) (es : List Event) (s : Running W R F) → Serves answer answers settings es s → ((d : ℕ) → kept_at d s.exchanges.items ≡ []) → AllFinished answers settings es
   all_finished settings es s h none d = rw (none d) at (h.each d)
 
-  served_ran : (end : DgramEnd) (count : ℕ) (first : Look) (w w1 : World) (s : Running W R F) (r : Ran answer answers first w w1 s false [] 2) → EndsBy answers end count s.next first r.looks r.events → Served answers end count w w1
-  served_ran end count first w w1 s r e = record {
+  served_ran : (end : DgramEnd) (count : ℕ) (first : Look) (w w1 : World) (s : Running W R F) (r : Ran answer answers first w w1 s false [] 2) → TakenBy end count s.next → (IsFull count s.next → end ≡ Counted) → EndsBy answers end count s.next first r.looks r.events → Served answers end count w w1
+  served_ran end count first w w1 s r taken full e = record {
     first = first;
     looks = r.looks;
     events = r.events;
@@ -94,27 +95,29 @@ module _ {W R F : Type 0} (answer : PolledRequest F R → ℕ → Answer) (answe
     seat = r.seat;
     order = r.order.order;
     input = r.input;
+    within = may_come_is (came_number answers (settings_of first) r.events (first ∷ r.looks) 2 s.next w.mail w1.mail r.input) (taken_less end taken);
     clock = r.clock;
     output = r.output;
     ends = e;
+    counted = full;
   }
 
-  ended_ran : (end : DgramEnd) (count : ℕ) (first : Look) (w w1 w2 : World) (s s2 : Running W R F) → Ran answer answers first w w1 s true [] 0 → Ended answer answers end count w1 s w2 s2 → ServedTo answers end count w w2
-  ended_ran Shutdown count first w w1 w2 s s2 r e =
+  ended_ran : (end : DgramEnd) (count : ℕ) (first : Look) (w w1 w2 : World) (s s2 : Running W R F) → Ran answer answers first w w1 s true [] 0 → TakenBy end count s2.next → Ended answer answers end count w1 s w2 s2 → ServedTo answers end count w w2
+  ended_ran Shutdown count first w w1 w2 s s2 r taken e =
       let z = e.0.goes first w 1 (ran_rest answer answers r) in
-      served_ran Shutdown count first w w2 s2 z (shown_closed first z.looks z.events s2.heard false e.1 z.order, all_finished (settings_of first) z.events s2 z.serves e.2)
-  ended_ran Counted count first w w1 w2 s s2 r e =
+      served_ran Shutdown count first w w2 s2 z taken (λ full. absurd (not_full taken full)) (shown_closed first z.looks z.events s2.heard false e.1 z.order, all_finished (settings_of first) z.events s2 z.serves e.2)
+  ended_ran Counted count first w w1 w2 s s2 r taken e =
       let z = e.0.goes first w 1 (ran_rest answer answers r) in
-      served_ran Counted count first w w2 s2 z (e.1, all_finished (settings_of first) z.events s2 z.serves e.2)
-  ended_ran Fault count first w w1 w2 s s2 r e = served_ran Fault count first w w2 s2 (e.goes first w 1 (ran_rest answer answers r)) tt
-  ended_ran OutOfMemory count first w w1 w2 s s2 r e = e.breaks first w 1 (ran_rest answer answers r)
+      served_ran Counted count first w w2 s2 z taken (λ full. refl) (e.1, all_finished (settings_of first) z.events s2 z.serves e.2)
+  ended_ran Fault count first w w1 w2 s s2 r taken e = served_ran Fault count first w w2 s2 (e.goes first w 1 (ran_rest answer answers r)) taken (λ full. absurd (not_full taken full)) tt
+  ended_ran OutOfMemory count first w w1 w2 s s2 r taken e = e.breaks.breaks first w 1 count e.may_come (ran_rest answer answers r)
 
   -- the news of the first look were noted, and then what came after them
   pub served_by : {n n1 : List Event} {c c1 : List ClockReading} {k k1 : Known} {first : Look} (m : Mail) (f : ℕ) (w : World) (end : DgramEnd) (count : ℕ) (s s2 : Running W R F)
-      → ((d : ℕ) → kept_at d s.exchanges.items ≡ []) → s.next ≡ 0 → s.heard ≡ hears (before_first first) first → Called k ToLook (Shown first) k1 → NewsNoted (before_first first) first n n1 c c1
+      → ((d : ℕ) → kept_at d s.exchanges.items ≡ []) → s.next ≡ 0 → s.heard ≡ hears (before_first first) first → Called k ToLook (Shown first) k1 → TakenBy end count s2.next → NewsNoted (before_first first) first n n1 c c1
       → Ended answer answers end count (world n1 m f c1 k1) s w s2 → ServedTo answers end count (world n m f c k) w
-  served_by {n} {n1} {c} {c1} {k} {k1} {first} m f w end count s s2 none zero heard l x e =
-      ended_ran end count first (world n m f c k) (world n1 m f c1 k1) w s s2 (ran_first first n n1 m f c c1 k k1 s none zero heard l x) e
+  served_by {n} {n1} {c} {c1} {k} {k1} {first} m f w end count s s2 none zero heard l taken x e =
+      ended_ran end count first (world n m f c k) (world n1 m f c1 k1) w s s2 (ran_first first n n1 m f c c1 k k1 s none zero heard l x) taken e
 
   -- ---- the rounds and the last polls
 
@@ -125,15 +128,15 @@ module _ {W R F : Type 0} (answer : PolledRequest F R → ℕ → Answer) (answe
   end_by w w1 w2 s s1 s2 count Fault h e a b = idles_finish answer answers a b
   end_by w w1 w2 s s1 s2 count OutOfMemory h e a b = absurd (h refl)
 
-  pub end_by_fails : (w w1 w2 : World) (s s1 : Running W R F) (count : ℕ) (end : DgramEnd) → end ≢ OutOfMemory → Stopped answer answers end count w s w1 s1 → Breaks answer answers w1 s1 false [] w2 → Breaks answer answers w s false [] w2
-  end_by_fails w w1 w2 s s1 count Shutdown h a b = end_fails answer answers a b
-  end_by_fails w w1 w2 s s1 count Counted h a b = end_fails answer answers a b
-  end_by_fails w w1 w2 s s1 count Fault h a b = end_fails answer answers {q = Unit {0}} (a, tt) b
-  end_by_fails w w1 w2 s s1 count OutOfMemory h a b = absurd (h refl)
+  pub end_by_fails : (w w1 w2 : World) (s s1 : Running W R F) (count : ℕ) (end : DgramEnd) → end ≢ OutOfMemory → MayCome count s1.next → Stopped answer answers end count w s w1 s1 → Breaks answer answers s1.next w1 s1 false [] w2 → CutsOff answer answers count w s w2
+  end_by_fails w w1 w2 s s1 count Shutdown h may a b = end_fails answer answers may a b
+  end_by_fails w w1 w2 s s1 count Counted h may a b = end_fails answer answers may a b
+  end_by_fails w w1 w2 s s1 count Fault h may a b = end_fails answer answers {q = Unit {0}} may (a, tt) b
+  end_by_fails w w1 w2 s s1 count OutOfMemory h may a b = absurd (h refl)
 
 -- memory ran out before the news of the first look were noted
-pub first_fails : {n n1 : List Event} {m : Mail} {f : ℕ} {c c1 : List ClockReading} {k k1 : Known} {first : Look} (answers : Serving) → Called k ToLook (Shown first) k1 → NotedWide n n1 → CutOff answers (world n m f c k) (world n1 m f c1 k1)
-first_fails {n} {n1} {m} {f} {c} {c1} {k} {k1} {first} answers l x =
+pub first_fails : {n n1 : List Event} {m : Mail} {f : ℕ} {c c1 : List ClockReading} {k k1 : Known} {first : Look} (answers : Serving) (count : ℕ) → Called k ToLook (Shown first) k1 → NotedWide n n1 → CutOff answers count (world n m f c k) (world n1 m f c1 k1)
+first_fails {n} {n1} {m} {f} {c} {c1} {k} {k1} {first} answers count l x =
     let quiet = all_wide_quiet x.events x.wide in record {
       first = first;
       looks = [];
@@ -145,6 +148,7 @@ first_fails {n} {n1} {m} {f} {c} {c1} {k} {k1} {first} answers l x =
       noted = x.noted;
       seat = looks_one k k1 first l;
       received = sym (append-nil m.received);
+      within = may_come_none refl;
       recorded = sym (append-nil _ ∙ letters_quiet [] x.events tt quiet);
       numbered = numbers_quiet [] x.events tt quiet;
       sent = sym (append-nil m.sent);

@@ -1,5 +1,5 @@
 -- What the functions of the loop of datagrams do, wherever it began: looks, Turns and Datagrams.
-use Rattle.std.proofs.Common.{◌≡◌, ◌≢◌, ℕ, ◌+◌, List, [], ◌∷◌, ◌++◌, take, Bool, true, false, refl, ap, sym, ◌∙◌, append_assoc, append-nil, arith}
+use Rattle.std.proofs.Common.{◌≡◌, ◌≢◌, ℕ, ◌+◌, List, [], ◌∷◌, ◌++◌, length, take, Bool, true, false, refl, ap, sym, ◌∙◌, append_assoc, append-nil, arith, length-append}
 use Rattle.std.specs.Prelude.{Option, nat_eq, not, ◌&&◌, ◌||◌}
 use Rattle.std.specs.List.{list_any}
 use Rattle.std.proofs.lemmas.Bool.Decides.{nat_tests}
@@ -22,12 +22,13 @@ use Rattle.dns_notes.specs.Clocks.{ClockReading}
 use Rattle.dns_notes.specs.Notes.{NotedWide}
 use Rattle.dns_datagrams.specs.DatagramEvents.{IsOwnKind, IsDatagramKind, AllDatagramKinds, letters_in, cut_letters, numbers_in}
 use Rattle.dns_datagrams.specs.DatagramsPolled.{is_finished, waits}
-use Rattle.dns_datagrams.specs.DatagramsSent.{settings_of}
-use Rattle.dns_datagrams.specs.DatagramsServed.{World, world, LooksOnly, CutOff}
+use Rattle.dns_datagrams.specs.DatagramsSent.{settings_of, count_if}
+use Rattle.dns_datagrams.specs.DatagramsServed.{World, world, LooksOnly, CutOff, MayCome}
 use Rattle.dns_datagrams.specs.DatagramSteps.{hears, NewsNoted, Stamped, stamp_of, Sends, Unsent, listed, Keeps, Turned, Begun, kept_at, numbers_of}
 use Rattle.dns_datagrams.specs.DatagramLoop.{Among, Ran, Looks, Turns, Fails, Begins, BeginFails}
 use Rattle.dns_datagrams.specs.declared.running.KeptExchange.{KeptExchange}
 use Rattle.dns_datagrams.specs.declared.running.Running.{Running}
+use Rattle.dns_datagrams.proofs.DatagramCounts.{came_number, may_come_is}
 use Rattle.dns_datagrams.proofs.DatagramOrderings.{hears_closed}
 use Rattle.dns_datagrams.proofs.DatagramParts.{input_turn, input_datagram}
 use Rattle.dns_datagrams.proofs.DatagramQuiet.{AllQuiet, all_wide_quiet, quiet_kind, letters_quiet, numbers_quiet}
@@ -105,11 +106,12 @@ numbers_turn q e h = rw (numbers_in_more q e, h) (append-nil (numbers_in q))
 module _ {W R F : Type 0} (answer : PolledRequest F R → ℕ → Answer) (answers : Serving) where
   -- memory ran out after events that are no Datagrams
   cut_same : (first : Look) (start : World) (n n' : List Event) (m m' : Mail) (f f' : ℕ) (c c' : List ClockReading) (k k' : Known) (s : Running W R F) (ready : Bool) (owed : List ℕ) (spare : ℕ)
-      (es : List Event) (ls : List Look) → n' ≡ n ++ es → AllDatagramKinds es → LooksOnly k ls k' → m'.sent ≡ m.sent → m'.received ≡ m.received
+      (es : List Event) (ls : List Look) (count : ℕ) → MayCome count s.next → n' ≡ n ++ es → AllDatagramKinds es → LooksOnly k ls k' → m'.sent ≡ m.sent → m'.received ≡ m.received
       → (r : Ran answer answers first start (world n m f c k) s ready owed spare)
-      → letters_in (r.events ++ es) ≡ letters_in r.events → numbers_in (r.events ++ es) ≡ numbers_in r.events → CutOff answers start (world n' m' f' c' k')
-  cut_same first start n n' m m' f f' c c' k k' s ready owed spare es ls h plain l sent received r ln nn =
-      cut_off answer answers first start n n' m m' f f' c c' k k' s ready owed spare es ls r.input.came [] s.next h plain l sent (received ∙ r.input.received) r
+      → letters_in (r.events ++ es) ≡ letters_in r.events → numbers_in (r.events ++ es) ≡ numbers_in r.events → CutOff answers count start (world n' m' f' c' k')
+  cut_same first start n n' m m' f f' c c' k k' s ready owed spare es ls count may h plain l sent received r ln nn =
+      cut_off answer answers first start n n' m m' f f' c c' k k' s ready owed spare es ls r.input.came [] s.next count
+      (may_come_is (came_number answers (settings_of first) r.events (first ∷ r.looks) (spare + count_if ready) s.next start.mail m r.input) may) h plain l sent (received ∙ r.input.received) r
       (sym (append-nil (letters_in (r.events ++ es)) ∙ ln ∙ r.input.recorded)) (nn ∙ r.input.numbered)
 
   -- ---- looks
@@ -127,9 +129,9 @@ module _ {W R F : Type 0} (answer : PolledRequest F R → ℕ → Answer) (answe
       → Fails answer answers false (world n m f c k) s (world n' m f c' k')
   fails_look {n} {n'} {m} {f} {c} {c'} {k} {k'} s {look} l x = record {
     breaks = λ owed. record {
-      breaks = λ first start spare r.
+      breaks = λ first start spare count may r.
           let quiet = all_wide_quiet x.events x.wide in
-          cut_same first start n n' m m f f c c' k k' s false owed spare x.events (look ∷ []) x.noted (all_quiet_plain x.events quiet) (looks_one k k' look l) refl refl r
+          cut_same first start n n' m m f f c c' k k' s false owed spare x.events (look ∷ []) count may x.noted (all_quiet_plain x.events quiet) (looks_one k k' look l) refl refl r
           (letters_quiet r.events x.events r.plain quiet) (numbers_quiet r.events x.events r.plain quiet);
     };
   }
@@ -157,8 +159,8 @@ module _ {W R F : Type 0} (answer : PolledRequest F R → ℕ → Answer) (answe
   pub fails_same : {n n' : List Event} {m m' : Mail} {f f' : ℕ} {c c' : List ClockReading} {k : Known} (s : Running W R F) {ready : Bool} → Unsent n n' m m' → Fails answer answers ready (world n m f c k) s (world n' m' f' c' k)
   fails_same {n} {n'} {m} {m'} {f} {f'} {c} {c'} {k} s {ready} u = record {
     breaks = λ owed. record {
-      breaks = λ first start spare r.
-          cut_same first start n n' m m' f f' c c' k k s ready owed spare [] [] (u.noted ∙ sym (append-nil n)) tt (looks_none k) u.sent u.received r (ap letters_in (append-nil r.events)) (ap numbers_in (append-nil r.events));
+      breaks = λ first start spare count may r.
+          cut_same first start n n' m m' f f' c c' k k s ready owed spare [] [] count may (u.noted ∙ sym (append-nil n)) tt (looks_none k) u.sent u.received r (ap letters_in (append-nil r.events)) (ap numbers_in (append-nil r.events));
     };
   }
 
@@ -167,16 +169,16 @@ module _ {W R F : Type 0} (answer : PolledRequest F R → ℕ → Answer) (answe
       → Fails answer answers ready (world n m f c k) s (world n' m' f' c' k)
   fails_turn {n} {n1} {n'} {m} {m'} {f} {f'} {c} {c1} {c'} {k} s {ready} {e} kind t u = record {
     breaks = λ owed. record {
-      breaks = λ first start spare r.
-          cut_same first start n n' m m' f f' c c' k k s ready owed spare (e ∷ []) [] (u.noted ∙ t.noted) (turn_plain e kind, tt) (looks_none k) u.sent u.received r (letters_turn r.events e kind) (numbers_turn r.events e kind);
+      breaks = λ first start spare count may r.
+          cut_same first start n n' m m' f f' c c' k k s ready owed spare (e ∷ []) [] count may (u.noted ∙ t.noted) (turn_plain e kind, tt) (looks_none k) u.sent u.received r (letters_turn r.events e kind) (numbers_turn r.events e kind);
     };
   }
 
   pub polls_one : {w w1 w2 : World} {s s1 s2 : Running W R F} {number : ℕ} → Looks answer answers w s w1 s1 → Turns answer answers number true w1 s1 w2 s2 → Turns answer answers number false w s w2 s2
   polls_one {number = number} a b = record { goes = λ rest. record { over = λ x. (b.goes rest).over ((a.goes (number ∷ rest)).over x); goes = λ first start spare r. (b.goes rest).goes first start spare ((a.goes (number ∷ rest)).goes first start spare r) } }
 
-  pub fails_polled : {w w1 w2 : World} {s s1 : Running W R F} → Looks answer answers w s w1 s1 → Fails answer answers true w1 s1 w2 → Fails answer answers false w s w2
-  fails_polled a b = record { breaks = λ owed. record { breaks = λ first start spare r. (b.breaks owed).breaks first start spare ((a.goes owed).goes first start spare r) } }
+  pub fails_polled : {w w1 w2 : World} {s s1 : Running W R F} → s1.next ≡ s.next → Looks answer answers w s w1 s1 → Fails answer answers true w1 s1 w2 → Fails answer answers false w s w2
+  fails_polled e a b = record { breaks = λ owed. record { breaks = λ first start spare count may r. (b.breaks owed).breaks first start spare count (may_come_is e may) ((a.goes owed).goes first start spare r) } }
 
   -- ---- Datagrams
 
@@ -204,14 +206,21 @@ module _ {W R F : Type 0} (answer : PolledRequest F R → ℕ → Answer) (answe
     };
   }
 
+  -- one datagram more was received
+  one_more : (first : Look) (start now : World) (s : Running W R F) (ready : Bool) (owed : List ℕ) (spare count : ℕ) (v : Letter) → MayCome count (s.next + 1)
+      → (r : Ran answer answers first start now s ready owed spare) → MayCome count (length (r.input.came ++ v ∷ []))
+  one_more first start now s ready owed spare count v may r =
+      may_come_is (length-append r.input.came (v ∷ []) ∙ ap (λ (n : ℕ). n + 1) (came_number answers (settings_of first) r.events (first ∷ r.looks) (spare + count_if ready) s.next start.mail now.mail r.input)) may
+
   -- it was received, and not noted
   pub begin_fails_unnoted : {n n' : List Event} {m1 : Mail} {f f' : ℕ} {c c' : List ClockReading} {k : Known} (s : Running W R F) {octets : List ℕ} {from : SocketAddr} → n' ≡ n
       → BeginFails answer answers octets from (world n m1 f c k) s (world n' m1 f' c' k)
   begin_fails_unnoted {n} {n'} {m1} {f} {f'} {c} {c'} {k} s {octets} {from} h = record {
     breaks = λ whole m front got. record {
-      breaks = λ first start spare r.
+      breaks = λ first start spare count may r.
           let v : Letter = record { octets = whole; addr = from } in
-          cut_off answer answers first start n n' m m1 f f' c c' k k s true [] spare [] [] (r.input.came ++ v ∷ []) (record { octets = take 1024 whole; addr = from } ∷ []) s.next (h ∙ sym (append-nil n)) tt (looks_none k) (rw got refl)
+          cut_off answer answers first start n n' m m1 f f' c c' k k s true [] spare [] [] (r.input.came ++ v ∷ []) (record { octets = take 1024 whole; addr = from } ∷ []) s.next count
+          (one_more first start (world n m f c k) s true [] spare count v may r) (h ∙ sym (append-nil n)) tt (looks_none k) (rw got refl)
           (rw got (rw r.input.received (append_assoc start.mail.received r.input.came (v ∷ [])))) r
           (rw (cut_letters_more r.input.came v, append-nil r.events, r.input.recorded) refl) (ap numbers_in (append-nil r.events) ∙ r.input.numbered);
     };
@@ -222,9 +231,10 @@ module _ {W R F : Type 0} (answer : PolledRequest F R → ℕ → Answer) (answe
       → Stamped e n n1 c c1 → Unsent n1 n' m1 m' → BeginFails answer answers octets from (world n m1 f c k) s (world n' m' f' c' k)
   begin_fails {n} {n1} {n'} {m1} {m'} {f} {f'} {c} {c1} {c'} {k} s {e} {octets} {from} of kind t u = record {
     breaks = λ whole m front got. record {
-      breaks = λ first start spare r.
+      breaks = λ first start spare count may r.
           let v : Letter = record { octets = whole; addr = from } in
-          cut_off answer answers first start n n' m m' f f' c c' k k s true [] spare (e ∷ []) [] (r.input.came ++ v ∷ []) [] (s.next + 1) (u.noted ∙ t.noted) (datagram_plain e from octets kind, tt) (looks_none k)
+          cut_off answer answers first start n n' m m' f f' c c' k k s true [] spare (e ∷ []) [] (r.input.came ++ v ∷ []) [] (s.next + 1) count
+          (one_more first start (world n m f c k) s true [] spare count v may r) (u.noted ∙ t.noted) (datagram_plain e from octets kind, tt) (looks_none k)
           (u.sent ∙ rw got refl) (u.received ∙ rw got (rw r.input.received (append_assoc start.mail.received r.input.came (v ∷ [])))) r
           (rw (cut_letters_more r.input.came v, letters_in_more r.events e, kind, r.input.recorded, front) (sym (append-nil (cut_letters r.input.came ++ (record { octets = take 1024 whole; addr = from }) ∷ []))))
           (rw (numbers_in_more r.events e, kind, of, numbers_below_more s.next, r.input.numbered) refl);

@@ -2,6 +2,7 @@ pub mod DatagramSlates
 pub mod DatagramMembers
 pub mod DatagramSendings
 pub mod DatagramRoundings
+pub mod DatagramCounts
 pub mod DatagramOrderings
 pub mod DatagramServings
 pub mod DatagramStamps

@@ -19,7 +19,7 @@ use Rattle.dns_datagrams.specs.DatagramEvents.{AllDatagramKinds}
 use Rattle.dns_datagrams.specs.DatagramOrder.{Record, looked, acted, IsInOrder}
 use Rattle.dns_datagrams.specs.DatagramsPolled.{waits}
 use Rattle.dns_datagrams.specs.DatagramsSent.{settings_of, count_if}
-use Rattle.dns_datagrams.specs.DatagramsServed.{World, ReceivesBy, LooksOnly, Clocked, Input, Delivered, CutOff, IsFull}
+use Rattle.dns_datagrams.specs.DatagramsServed.{World, ReceivesBy, LooksOnly, Clocked, Input, Delivered, CutOff, IsFull, MayCome}
 use Rattle.dns_datagrams.specs.DatagramSteps.{Keeps, SendsRose, Stamped, kept_at, numbers_of}
 use Rattle.dns_datagrams.specs.declared.running.Running.{Running}
 use Rattle.dns_datagrams.specs.declared.serving.DgramEnd.{DgramEnd}
@@ -65,6 +65,30 @@ ReceivedSo (Ok Failed_receive) r r' = Rose r r'
 ReceivedSo (Ok Made) r r' = r' ≡ r
 ReceivedSo (Err e) r r' = r' ≡ r
 
+-- a receive and a round begin one exchange at most, and none where the receive failed or none was made
+abbrev pub ReceivedUpTo : Result Receipt No_memory → ℕ → ℕ → Type 0
+ReceivedUpTo (Ok Failed_receive) next next' = next' ≡ next
+ReceivedUpTo (Ok Made) next next' = next' ≤ next + 1
+ReceivedUpTo (Err e) next next' = next' ≤ next + 1
+
+abbrev pub RoundedUpTo : Option DgramEnd → ℕ → ℕ → Type 0
+RoundedUpTo None next next' = next' ≤ next + 1
+RoundedUpTo (Some Shutdown) next next' = next' ≡ next
+RoundedUpTo (Some Counted) next next' = next' ≡ next
+RoundedUpTo (Some Fault) next next' = next' ≡ next
+RoundedUpTo (Some OutOfMemory) next next' = next' ≤ next + 1
+
+-- so many datagrams may come, and one more where the loop ended by a shutdown or a fault
+abbrev pub TakenBy : DgramEnd → ℕ → ℕ → Type 0
+TakenBy Shutdown count next = MayCome count (next + 1)
+TakenBy Counted count next = MayCome count next
+TakenBy Fault count next = MayCome count (next + 1)
+TakenBy OutOfMemory count next = MayCome count next
+
+abbrev pub TakenSo : Option DgramEnd → ℕ → ℕ → Type 0
+TakenSo None count next = MayCome count next
+TakenSo (Some end) count next = TakenBy end count next
+
 abbrev pub RoundedSo : Option DgramEnd → ℕ → ℕ → Type 0
 RoundedSo None r r' = r' ≡ r
 RoundedSo (Some end) r r' = ReceivesBy end r r'
@@ -100,9 +124,9 @@ module _ {W R F : Type 0} (answer : PolledRequest F R → ℕ → Answer) (answe
     pub over : s.heard.closed ≡ true → s'.heard.closed ≡ true
     pub goes : (first : Look) (start : World) (spare : ℕ) → Ran first start w s ready owed spare → Ran first start w' s' ready' owed' spare
 
-  -- want of memory in a step
-  pub record Breaks (w : World) (s : Running W R F) (ready : Bool) (owed : List ℕ) (w' : World) : Type 0 where
-    pub breaks : (first : Look) (start : World) (spare : ℕ) → Ran first start w s ready owed spare → CutOff answers start w'
+  -- want of memory in a step, after which no more than so many datagrams were received
+  pub record Breaks (most : ℕ) (w : World) (s : Running W R F) (ready : Bool) (owed : List ℕ) (w' : World) : Type 0 where
+    pub breaks : (first : Look) (start : World) (spare count : ℕ) → MayCome count most → Ran first start w s ready owed spare → CutOff answers count start w'
 
   -- a look, whoever waits
   pub record Looks (w : World) (s : Running W R F) (w' : World) (s' : Running W R F) : Type 0 where
@@ -114,7 +138,7 @@ module _ {W R F : Type 0} (answer : PolledRequest F R → ℕ → Answer) (answe
 
   -- want of memory, whoever waits
   pub record Fails (ready : Bool) (w : World) (s : Running W R F) (w' : World) : Type 0 where
-    pub breaks : (owed : List ℕ) → Breaks w s ready owed w'
+    pub breaks : (owed : List ℕ) → Breaks s.next w s ready owed w'
 
   -- the front of a datagram that was received before this world is noted, and begins an exchange
   pub record Begins (octets : List ℕ) (from : SocketAddr) (w : World) (s : Running W R F) (w' : World) (s' : Running W R F) : Type 0 where
@@ -123,7 +147,7 @@ module _ {W R F : Type 0} (answer : PolledRequest F R → ℕ → Answer) (answe
 
   pub record BeginFails (octets : List ℕ) (from : SocketAddr) (w : World) (s : Running W R F) (w' : World) : Type 0 where
     pub breaks : (whole : List ℕ) (m : Mail) → octets ≡ take 1024 whole → w.mail ≡ record m { received = m.received ++ (record { octets = whole; addr = from }) ∷ [] }
-        → Breaks (record w { mail = m }) s true [] w'
+        → Breaks (s.next + 1) (record w { mail = m }) s true [] w'
 
   -- a receive; a round, before its look or after it; the rounds; and the last polls
   abbrev pub Receives : Receipt → World → Running W R F → World → Running W R F → Type 0
@@ -135,18 +159,24 @@ module _ {W R F : Type 0} (answer : PolledRequest F R → ℕ → Answer) (answe
   Rounded ready count (Some Shutdown) w s w' s' = Goes w s ready [] w' s' true [] × (s'.heard.closed ≡ true)
   Rounded ready count (Some Counted) w s w' s' = (ready ≡ false) × Goes w s false [] w' s' false [] × IsFull count s'.next
   Rounded ready count (Some Fault) w s w' s' = Goes w s ready [] w' s' true []
-  Rounded ready count (Some OutOfMemory) w s w' s' = Breaks w s ready [] w'
+  Rounded ready count (Some OutOfMemory) w s w' s' = MayCome count (s.next + 1) × Breaks (s.next + 1) w s ready [] w'
 
   -- the rounds and what comes behind them, with one look at most that came to nothing
   pub record Idles (w : World) (s : Running W R F) (w' : World) (s' : Running W R F) : Type 0 where
     pub over : s.heard.closed ≡ true → s'.heard.closed ≡ true
     pub goes : (first : Look) (start : World) (spare : ℕ) → Ran first start w s false [] spare → Ran first start w' s' false [] (1 + spare)
 
+  -- want of memory in them, where so many datagrams were to come
+  pub record CutsOff (count : ℕ) (w : World) (s : Running W R F) (w' : World) : Type 0 where
+    pub most : ℕ
+    pub may_come : MayCome count most
+    pub breaks : Breaks most w s false [] w'
+
   abbrev pub Stopped : DgramEnd → ℕ → World → Running W R F → World → Running W R F → Type 0
   Stopped Shutdown count w s w' s' = Idles w s w' s' × (s'.heard.closed ≡ true)
   Stopped Counted count w s w' s' = Idles w s w' s' × IsFull count s'.next
   Stopped Fault count w s w' s' = Idles w s w' s'
-  Stopped OutOfMemory count w s w' s' = Breaks w s false [] w'
+  Stopped OutOfMemory count w s w' s' = CutsOff count w s w'
 
   pub record Finished (w : World) (s : Running W R F) (w' : World) (s' : Running W R F) : Type 0 where
     pub goes : Goes w s false [] w' s' false []
@@ -156,4 +186,4 @@ module _ {W R F : Type 0} (answer : PolledRequest F R → ℕ → Answer) (answe
   Ended Shutdown count w s w' s' = Idles w s w' s' × (s'.heard.closed ≡ true) × ((c : ℕ) → kept_at c s'.exchanges.items ≡ [])
   Ended Counted count w s w' s' = Idles w s w' s' × IsFull count s'.next × ((c : ℕ) → kept_at c s'.exchanges.items ≡ [])
   Ended Fault count w s w' s' = Idles w s w' s'
-  Ended OutOfMemory count w s w' s' = Breaks w s false [] w'
+  Ended OutOfMemory count w s w' s' = CutsOff count w s w'

@@ -6,7 +6,7 @@ use Rattle.dns_outside.specs.Mail.{Mail}
 use Rattle.dns_service.specs.declared.event.Event.{Event}
 use Rattle.dns_notes.specs.Clocks.{ClockReading}
 use Rattle.dns_datagrams.specs.DatagramsServed.{World, world}
-use Rattle.dns_datagrams.specs.DatagramLoop.{Passes, RoundedSo}
+use Rattle.dns_datagrams.specs.DatagramLoop.{Passes, RoundedSo, RoundedUpTo}
 use Rattle.dns_datagrams.specs.declared.office.Office.{Office}
 use Rattle.dns_datagrams.specs.declared.serving.DgramEnd.{DgramEnd}
 use Rattle.dns_datagrams.specs.declared.serving.DgramEnd.TheVariants.{Shutdown}
@@ -47,6 +47,7 @@ module _ {T W D C J R F : Type 0} where
 
   pub record Laps (failed_receives failed_sends : D → ℕ) (r : Option DgramEnd) (o o' : Office T W D C J R F) : Type 0 where
     pub went : Went failed_sends o o'
+    pub next : RoundedUpTo r o.state.now.next o'.state.now.next
     pub later : failed_receives o.sock.now ≤ failed_receives o'.sock.now
     pub cause : RoundedSo r (failed_receives o.sock.now) (failed_receives o'.sock.now)
     pub closed : r ≡ Some Shutdown → o'.state.now.heard.closed ≡ true

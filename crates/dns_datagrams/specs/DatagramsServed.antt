@@ -93,6 +93,14 @@ module _ (answers : Serving) (settings : Settings) where
     pub rose : min (fails + failed) (2 ^ 64 - 1) ≤ fails'
     pub early : early_faults answers settings events ≤ failed
 
+-- no more than so many, where the count isn't 0
+abbrev pub IsWithin : ℕ → ℕ → Type 0
+IsWithin count number = count ≢ 0 → number ≤ count
+
+-- so many datagrams may be received: no more than are to be served, and no more than can be numbered
+abbrev pub MayCome : ℕ → ℕ → Type 0
+MayCome count number = IsWithin count number × (number ≤ 2 ^ 64 - 1)
+
 -- so many datagrams came, or as many as can be numbered
 abbrev pub IsFull : ℕ → ℕ → Type 0
 IsFull count number = ((count ≢ 0) × (number ≡ count)) ⊎ (number ≡ 2 ^ 64 - 1)
@@ -103,7 +111,8 @@ EndsBy answers Counted count number first looks events = IsFull count number × 
 EndsBy answers Fault count number first looks events = Unit {0}
 EndsBy answers OutOfMemory count number first looks events = ⊥
 
--- What was noted from a world to another, by a first look and the looks after it.
+-- What was noted from a world to another, by a first look and the looks after it. No more datagrams were received than may come, and
+-- where so many came it ended by that.
 pub record Served (answers : Serving) (end : DgramEnd) (count : ℕ) (start now : World) : Type 0 where
   pub first : Look
   pub looks : List Look
@@ -113,12 +122,14 @@ pub record Served (answers : Serving) (end : DgramEnd) (count : ℕ) (start now 
   pub seat : LooksOnly start.known (first ∷ looks) now.known
   pub order : IsInOrder first looks events
   pub input : Input answers (settings_of first) events (first ∷ looks) 2 number start.mail now.mail
+  pub within : MayCome count (length input.came)
   pub clock : Clocked events start.readings now.readings start.mail.full_sends now.mail.full_sends
   pub output : Delivered answers (settings_of first) events start.mail now.mail start.failed_sends now.failed_sends
   pub ends : EndsBy answers end count number first looks events
+  pub counted : IsFull count number → end ≡ Counted
 
--- Memory ran out: the Datagrams recorded are the first datagrams received, and what was sent is a part of what the events lead to.
-pub record CutOff (answers : Serving) (start now : World) : Type 0 where
+-- Memory ran out: no more datagrams were received than may come, the Datagrams recorded are the first datagrams received, and what was sent is a part of what the events lead to.
+pub record CutOff (answers : Serving) (count : ℕ) (start now : World) : Type 0 where
   pub first : Look
   pub looks : List Look
   pub events : List Event
@@ -129,11 +140,12 @@ pub record CutOff (answers : Serving) (start now : World) : Type 0 where
   pub noted : now.noted ≡ start.noted ++ events
   pub seat : LooksOnly start.known (first ∷ looks) now.known
   pub received : now.mail.received ≡ start.mail.received ++ came
+  pub within : MayCome count (length came)
   pub recorded : cut_letters came ≡ letters_in events ++ unrecorded
   pub numbered : numbers_in events ≡ numbers_below number
   pub sent : now.mail.sent ≡ start.mail.sent ++ letters
   pub part : IsPart letters (all_addressed answers (settings_of first) events (out answers (settings_of first) events))
 
 abbrev pub ServedTo : Serving → DgramEnd → ℕ → World → World → Type 0
-ServedTo answers OutOfMemory count start now = CutOff answers start now
+ServedTo answers OutOfMemory count start now = CutOff answers count start now
 ServedTo answers end count start now = Served answers end count start now

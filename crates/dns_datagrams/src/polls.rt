@@ -90,7 +90,7 @@ impl<R: Wait, W: Served, D: AsyncDgramSock, C: Clock, J: Recorder> Office<'_, R,
         ensures polls { OnlyPolls D.failed_receives D.failed_sends self.old self.new }
         ensures told { ToldSo (office_told D.tells C.tells J.tells) (office_seen D.mail D.failed_sends C.readings J.noted)
             (λ next w s w' s'. Goes (request_answer W.Future.answer W.Stream.answer) (serving (W.answer self.old.service.now) (W.hint self.old.service.now)) w s false (drop at (numbers_of s.exchanges.items)) w' s' false (drop next (numbers_of s'.exchanges.items)))
-            (λ w s w'. Breaks (request_answer W.Future.answer W.Stream.answer) (serving (W.answer self.old.service.now) (W.hint self.old.service.now)) w s false (drop at (numbers_of s.exchanges.items)) w') result self.old self.new }
+            (λ w s w'. Breaks (request_answer W.Future.answer W.Stream.answer) (serving (W.answer self.old.service.now) (W.hint self.old.service.now)) s.next w s false (drop at (numbers_of s.exchanges.items)) w') result self.old self.new }
     {
         let number = number_at(&self.state.exchanges, at);
         match self.poll_one(at, number) {
@@ -105,7 +105,7 @@ impl<R: Wait, W: Served, D: AsyncDgramSock, C: Clock, J: Recorder> Office<'_, R,
         ensures polls { OnlyPolls D.failed_receives D.failed_sends self.old self.new }
         ensures told { ToldSo (office_told D.tells C.tells J.tells) (office_seen D.mail D.failed_sends C.readings J.noted)
             (λ u w s w' s'. Goes (request_answer W.Future.answer W.Stream.answer) (serving (W.answer self.old.service.now) (W.hint self.old.service.now)) w s false (numbers_of s.exchanges.items) w' s' false [])
-            (λ w s w'. Breaks (request_answer W.Future.answer W.Stream.answer) (serving (W.answer self.old.service.now) (W.hint self.old.service.now)) w s false (numbers_of s.exchanges.items) w') result self.old self.new }
+            (λ w s w'. Breaks (request_answer W.Future.answer W.Stream.answer) (serving (W.answer self.old.service.now) (W.hint self.old.service.now)) s.next w s false (numbers_of s.exchanges.items) w') result self.old self.new }
     {
         let mut at = 0;
         for _polled in 0..self.state.exchanges.len() {
@@ -123,7 +123,7 @@ impl<R: Wait, W: Served, D: AsyncDgramSock, C: Clock, J: Recorder> Office<'_, R,
         ensures polls { OnlyPolls D.failed_receives D.failed_sends self.old self.new }
         ensures told { ToldSo (office_told D.tells C.tells J.tells) (office_seen D.mail D.failed_sends C.readings J.noted)
             (λ u. Finished (request_answer W.Future.answer W.Stream.answer) (serving (W.answer self.old.service.now) (W.hint self.old.service.now)))
-            (λ w s w'. Breaks (request_answer W.Future.answer W.Stream.answer) (serving (W.answer self.old.service.now) (W.hint self.old.service.now)) w s false [] w') result self.old self.new }
+            (λ w s w'. Breaks (request_answer W.Future.answer W.Stream.answer) (serving (W.answer self.old.service.now) (W.hint self.old.service.now)) s.next w s false [] w') result self.old self.new }
     {
         for _ in self.rt.forever() {
             if self.state.exchanges.is_empty() {

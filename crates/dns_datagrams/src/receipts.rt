@@ -1,13 +1,13 @@
 //! Receives.
 
-ghost use Rattle.std.specs.Prelude.{◌≡◌, ◌≤◌, ◌<◌, ◌-◌, ◌^◌, [], true, false, length};
+ghost use Rattle.std.specs.Prelude.{◌≡◌, ◌≤◌, ◌<◌, ◌+◌, ◌-◌, ◌^◌, [], true, false, length};
 ghost use Rattle.dns_outside.specs.Causes.{Tells};
 ghost use Rattle.dns_client.specs.Serving.{serving};
 ghost use Rattle.dns_service.specs.PolledRequest.{request_answer};
 ghost use Rattle.dns_service.specs.declared.event.EventKind.TheVariants.{Datagram};
 ghost use Rattle.dns_datagrams.specs.DatagramSteps.{stamped_event};
-ghost use Rattle.dns_datagrams.specs.DatagramsServed.{IsFull, ReceivesBy};
-ghost use Rattle.dns_datagrams.specs.DatagramLoop.{Begins, BeginFails, Receives, ReceivedSo, Rounded, Stopped, Breaks, SinceNoted};
+ghost use Rattle.dns_datagrams.specs.DatagramsServed.{IsFull, MayCome, ReceivesBy};
+ghost use Rattle.dns_datagrams.specs.DatagramLoop.{Begins, BeginFails, Receives, ReceivedSo, ReceivedUpTo, Rounded, Stopped, TakenBy, TakenSo, Breaks, SinceNoted};
 ghost use Rattle.dns_datagrams.specs.DatagramOffice.{Laps, MayReceive, ToldSo, Went, office_seen, office_told};
 
 use crate::exchanges::begin;
@@ -41,6 +41,7 @@ impl<R: Wait, W: Served, D: AsyncDgramSock, C: Clock, J: Recorder> Office<'_, R,
         requires room { self.old.state.now.next < 2 ^ 64 - 1 }
         requires of { stamp.client ≡ self.old.state.now.next }
         ensures went { Went D.failed_sends self.old self.new }
+        ensures next { self.new.state.now.next ≤ self.old.state.now.next + 1 }
         ensures receives { D.failed_receives self.new.sock.now ≡ D.failed_receives self.old.sock.now }
         ensures told { ToldSo (office_told D.tells C.tells J.tells) (office_seen D.mail D.failed_sends C.readings J.noted)
             (λ u w s w' s'. SinceNoted (stamped_event stamp (Datagram from octets)) (λ v. Begins (request_answer W.Future.answer W.Stream.answer) (serving (W.answer self.old.service.now) (W.hint self.old.service.now)) octets from v s w' s') w)
@@ -62,6 +63,7 @@ impl<R: Wait, W: Served, D: AsyncDgramSock, C: Clock, J: Recorder> Office<'_, R,
         requires running { self.old.state.now.heard.closed ≡ false }
         requires room { self.old.state.now.next < 2 ^ 64 - 1 }
         ensures went { Went D.failed_sends self.old self.new }
+        ensures next { self.new.state.now.next ≤ self.old.state.now.next + 1 }
         ensures receives { D.failed_receives self.new.sock.now ≡ D.failed_receives self.old.sock.now }
         ensures told { ToldSo (office_told D.tells C.tells J.tells) (office_seen D.mail D.failed_sends C.readings J.noted)
             (λ u. Begins (request_answer W.Future.answer W.Stream.answer) (serving (W.answer self.old.service.now) (W.hint self.old.service.now)) octets.now from)
@@ -91,11 +93,12 @@ impl<R: Wait, W: Served, D: AsyncDgramSock, C: Clock, J: Recorder> Office<'_, R,
         requires room { self.old.state.now.next < 2 ^ 64 - 1 }
         requires buffer { length buf.old ≡ 1024 }
         ensures went { Went D.failed_sends self.old self.new }
+        ensures next { ReceivedUpTo result self.old.state.now.next self.new.state.now.next }
         ensures receives { D.failed_receives self.old.sock.now ≤ D.failed_receives self.new.sock.now }
         ensures cause { ReceivedSo result (D.failed_receives self.old.sock.now) (D.failed_receives self.new.sock.now) }
         ensures told { ToldSo (office_told D.tells C.tells J.tells) (office_seen D.mail D.failed_sends C.readings J.noted)
             (λ receipt. Receives (request_answer W.Future.answer W.Stream.answer) (serving (W.answer self.old.service.now) (W.hint self.old.service.now)) receipt)
-            (λ w s w'. Breaks (request_answer W.Future.answer W.Stream.answer) (serving (W.answer self.old.service.now) (W.hint self.old.service.now)) w s true [] w') result self.old self.new }
+            (λ w s w'. Breaks (request_answer W.Future.answer W.Stream.answer) (serving (W.answer self.old.service.now) (W.hint self.old.service.now)) (s.next + 1) w s true [] w') result self.old self.new }
     {
         match self.sock.try_recv_buf_from(buf) {
             DgramRecv::Failed => Ok(Receipt::Failed),
@@ -137,8 +140,9 @@ impl<R: Wait, W: Served, D: AsyncDgramSock, C: Clock, J: Recorder> Office<'_, R,
 
 /// Whether so many datagrams came as were to be served, where the count isn't 0, or as can be numbered.
 fn is_full(next: u64, count: u64) -> bool
+    requires within { MayCome count next }
     ensures full { result ≡ true → IsFull count next }
-    ensures room { result ≡ false → next < 2 ^ 64 - 1 }
+    ensures room { result ≡ false → MayCome count (next + 1) }
 {
     if next == u64::MAX {
         return true;
@@ -153,7 +157,9 @@ impl<R: Wait, W: Served, D: AsyncDgramSock, C: Clock, J: Recorder> Office<'_, R,
         requires book { self.old.state.now.seat.book ≡ self.old.book.now }
         requires can_call { W.can_call self.old.service.now }
         requires buffer { length buf.old ≡ 1024 }
+        requires within { MayCome count self.old.state.now.next }
         ensures laps { Laps D.failed_receives D.failed_sends result self.old self.new }
+        ensures taken { TakenSo result count self.new.state.now.next }
         ensures told { Tells (office_told D.tells C.tells J.tells self.new) (office_told D.tells C.tells J.tells self.old)
             (Rounded (request_answer W.Future.answer W.Stream.answer) (serving (W.answer self.old.service.now) (W.hint self.old.service.now)) false count result (office_seen D.mail D.failed_sends C.readings J.noted self.old) self.old.state.now (office_seen D.mail D.failed_sends C.readings J.noted self.new) self.new.state.now) }
     {
@@ -171,7 +177,9 @@ impl<R: Wait, W: Served, D: AsyncDgramSock, C: Clock, J: Recorder> Office<'_, R,
         requires book { self.old.state.now.seat.book ≡ self.old.book.now }
         requires can_call { W.can_call self.old.service.now }
         requires buffer { length buf.old ≡ 1024 }
+        requires within { MayCome count self.old.state.now.next }
         ensures went { Went D.failed_sends self.old self.new }
+        ensures taken { TakenBy result count self.new.state.now.next }
         ensures receives { D.failed_receives self.old.sock.now ≤ D.failed_receives self.new.sock.now }
         ensures cause { ReceivesBy result (D.failed_receives self.old.sock.now) (D.failed_receives self.new.sock.now) }
         ensures closed { result ≡ DgramEnd.Shutdown → self.new.state.now.heard.closed ≡ true }

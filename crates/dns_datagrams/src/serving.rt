@@ -4,9 +4,9 @@ ghost use Rattle.std.specs.Prelude.{◌≡◌, ◌≤◌, true};
 ghost use Rattle.dns_client.specs.Serving.{serving};
 ghost use Rattle.dns_outside.specs.Causes.{Rose, Tells};
 ghost use Rattle.dns_service.specs.PolledRequest.{request_answer};
-ghost use Rattle.dns_datagrams.specs.DatagramLoop.{Ended, Passes};
+ghost use Rattle.dns_datagrams.specs.DatagramLoop.{Ended, Passes, TakenBy};
 ghost use Rattle.dns_datagrams.specs.DatagramOffice.{Went, office_seen, office_told};
-ghost use Rattle.dns_datagrams.specs.DatagramsServed.{LooksBy, ReceivesBy, RoseIf, ServedTo, world};
+ghost use Rattle.dns_datagrams.specs.DatagramsServed.{LooksBy, MayCome, ReceivesBy, RoseIf, ServedTo, world};
 
 use crate::looks::hear_news;
 use crate::office::Office;
@@ -40,7 +40,9 @@ impl<R: Wait, W: Served, D: AsyncDgramSock, C: Clock, J: Recorder> Office<'_, R,
     fn serve_all(&mut self, count: u64) -> DgramEnd
         requires book { self.old.state.now.seat.book ≡ self.old.book.now }
         requires can_call { W.can_call self.old.service.now }
+        requires within { MayCome count self.old.state.now.next }
         ensures went { Went D.failed_sends self.old self.new }
+        ensures taken { TakenBy result count self.new.state.now.next }
         ensures receives { D.failed_receives self.old.sock.now ≤ D.failed_receives self.new.sock.now }
         ensures cause { ReceivesBy result (D.failed_receives self.old.sock.now) (D.failed_receives self.new.sock.now) }
         ensures closed { result ≡ DgramEnd.Shutdown → self.new.state.now.heard.closed ≡ true }
@@ -74,6 +76,8 @@ fn serve_begun<'x, R: Wait, D: AsyncDgramSock, C: Clock, J: Recorder, W: Served>
 ) -> DgramEnd
     requires book { state.old.seat.book ≡ book.now }
     requires can_call { W.can_call service.now }
+    requires within { MayCome count state.old.next }
+    ensures taken { TakenBy result count state.new.next }
     ensures passes { Passes state.old state.new (D.failed_sends sock.old) (D.failed_sends sock.new) }
     ensures receives { D.failed_receives sock.old ≤ D.failed_receives sock.new }
     ensures cause { ReceivesBy result (D.failed_receives sock.old) (D.failed_receives sock.new) }

@@ -52,12 +52,14 @@ accepts_joined AcceptShutdown count na mp np before k k' a b g h h' f f' t s = r
   turns = s.turns;
   look = s.look;
   shut = s.shut;
+  fewer = s.fewer;
   turned = turns_joined s.turns _ na mp np before _ _ k k' a b h h' f f' t (gave_joined _ g h h') s.turned;
 }
 accepts_joined AcceptOutOfMemory count na mp np before k k' a b g h h' f f' t s = record {
   turns = s.turns;
   whole = s.whole;
   last = s.last;
+  within = s.within;
   turned = turns_joined s.turns _ na mp np before _ _ k k' a b h h' f f' t
       (λ same w. elim w [ inl x ↦ inl (gave_joined _ g h h' same x) | inr x ↦ inr (gave_joined _ g h h' same x) ]) s.turned;
 }

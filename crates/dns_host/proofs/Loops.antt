@@ -1,5 +1,5 @@
 -- The loop of accepts: how it begins, goes on and ends.
-use Rattle.std.proofs.Common.{◌≡◌, ◌≢◌, ℕ, ◌+◌, ◌^◌, ◌-◌, min, Bool, true, false, List, [], ◌∷◌, ◌++◌, length, refl, sym, ap, ◌∙◌, subst, append-nil, append_assoc, Ok, Err, Some, inl, inr, ◌≤◌, arith, add-zero, ◌||◌}
+use Rattle.std.proofs.Common.{◌≡◌, ◌≢◌, ℕ, ◌+◌, ◌^◌, ◌-◌, min, ◌<◌, Bool, true, false, List, [], ◌∷◌, ◌++◌, length, refl, sym, ap, ◌∙◌, subst, append-nil, append_assoc, Ok, Err, Some, inl, inr, ◌≤◌, arith, add-zero, ◌||◌}
 use Rattle.std.proofs.lemmas.List.{length-append}
 use Rattle.std.proofs.lemmas.List.Elements.{All-nil}
 use Rattle.dns_name.specs.declared.address.SocketAddr.{SocketAddr}
@@ -44,6 +44,11 @@ gave_more turns look came g h i x y =
     y ∙ (ap (λ (l : List SocketAddr). l ++ admitted_caller came) x
     ∙ (append_assoc g (admitted_callers_in turns) (admitted_caller came) ∙ ap (λ (l : List SocketAddr). g ++ l) (sym (admitted-snoc turns (record { look = look; came = came })))))
 
+caller_one : (came : Came) → length (caller came) ≤ 1
+caller_one (Caller from answer) = omega arith
+caller_one Nobody = omega arith
+caller_one Fault = omega arith
+
 callers_few : (arrival : Arrival) → arrival_callers arrival ≤ 1
 callers_few Served = omega arith
 callers_few Refused = omega arith
@@ -81,13 +86,18 @@ so_far_counted count taken now before k k' a b g h f f' s some all = record {
   turned = s.turned;
 }
 
+fewer_by : (count taken n : ℕ) → taken ≡ n → taken ≤ count → taken ≢ count → n < count
+fewer_by count taken n is few less = grind (arith, is, few, less)
+
 -- a look showed a shutdown
 so_far_shut : (count taken : ℕ) (look : Look) (now before : Type 0) (k k1 k2 : Known) (a b : Door) (g h : List SocketAddr) (f f' : ℕ) →
-    TookSoFar count taken now before k k1 a b g h f f' → Called k1 ToLook (Shown look) k2 → look.closed ≡ true → TookUntilShut now before k k2 a b g h f f'
-so_far_shut count taken look now before k k1 k2 a b g h f f' s l shut = record {
+    TookSoFar count taken now before k k1 a b g h f f' → Called k1 ToLook (Shown look) k2 → look.closed ≡ true → (count ≢ 0 → taken ≢ count) →
+    TookUntilShut count now before k k2 a b g h f f'
+so_far_shut count taken look now before k k1 k2 a b g h f f' s l shut less = record {
   turns = s.turns;
   look = look;
   shut = shut;
+  fewer = λ some. let y = s.counted some in fewer_by count taken (length (callers_in s.turns)) y.0 y.1 (less some);
   turned = record {
     calls = subst (λ (es : List Entry). Gained k es k2)
         (ap (λ (es : List Entry). es ++ look_entry k1.name look ∷ []) (append-nil (turn_entries k.name s.turns))
@@ -105,7 +115,7 @@ pub so_far_ended : (end : AcceptEnd) (count taken : ℕ) (now before : Type 0) (
     TookSoFar count taken now before k k1 a b g h f f' → EndedSo (Some end) count taken k1 k2 → AcceptsTo end count now before k k2 a b g h f f'
 so_far_ended Counted count taken now before k k1 k2 a b g h f f' s e =
     subst (λ (x : Known). TookCount count now before k x a b g h f f') (sym e.2) (so_far_counted count taken now before k k1 a b g h f f' s e.0 e.1)
-so_far_ended Shutdown count taken now before k k1 k2 a b g h f f' s e = so_far_shut count taken e.look now before k k1 k2 a b g h f f' s e.called e.shown
+so_far_ended Shutdown count taken now before k k1 k2 a b g h f f' s e = so_far_shut count taken e.1.look now before k k1 k2 a b g h f f' s e.1.called e.1.shown e.0
 so_far_ended NoMemory count taken now before k k1 k2 a b g h f f' s e = absurd e
 
 ends_admitted : (turns : List AcceptTurn) (look : Look) (came : Came) (e : OutOfMemory) → ArrivalOf (Err e) came → EndsAdmitted (turns ++ (record { look = look; came = came }) ∷ []) turns
@@ -115,13 +125,23 @@ ends_admitted turns look (Caller from Closed) e h = absurd h
 ends_admitted turns look Nobody e h = absurd h
 ends_admitted turns look Fault e h = absurd h
 
+-- where fewer came than were to come, one more may
+one_more_within : (turns : List AcceptTurn) (look : Look) (came : Came) (count taken : ℕ) → taken ≡ length (callers_in turns) → taken ≤ count → taken ≢ count →
+    length (callers_in (turns ++ (record { look = look; came = came }) ∷ [])) ≤ count
+one_more_within turns look came count taken is few less =
+    let one = caller_one came in
+    let all : length (callers_in turns ++ caller came) ≡ length (callers_in turns) + length (caller came) = length-append (callers_in turns) (caller came) in
+    rw (callers-snoc turns (record { look = look; came = came })) (grind (arith, is, few, less, one, all))
+
 -- memory ran out
 pub so_far_lost : (e : OutOfMemory) (count taken : ℕ) (look : Look) (now mid before : Type 0) (k k1 k2 k3 : Known) (a b c : Door) (g h i : List SocketAddr) (f f1 f2 : ℕ) →
-    TookSoFar count taken mid before k k1 a b g h f f1 → Called k1 ToLook (Shown look) k2 → look.closed ≡ false → Brought (Err e) now mid k2 k3 b c h i f1 f2 → TookAlmost now before k k3 a c g i f f2
-so_far_lost e count taken look now mid before k k1 k2 k3 a b c g h i f f1 f2 s l running q = record {
+    TookSoFar count taken mid before k k1 a b g h f f1 → Called k1 ToLook (Shown look) k2 → look.closed ≡ false → Brought (Err e) now mid k2 k3 b c h i f1 f2 → (count ≢ 0 → taken ≢ count) →
+    TookAlmost count now before k k3 a c g i f f2
+so_far_lost e count taken look now mid before k k1 k2 k3 a b c g h i f f1 f2 s l running q less = record {
   turns = s.turns ++ (record { look = look; came = q.came }) ∷ [];
   whole = s.turns;
   last = ends_admitted s.turns look q.came e q.arrival_is;
+  within = λ some. let y = s.counted some in one_more_within s.turns look q.came count taken y.0 y.1 (less some);
   turned = turn_more s.turns look (Err e) now mid before (Gave (admitted_callers_in s.turns) g h) _ k k1 k2 k3 a b c h i f f1 f2 s.turned l running q
       (λ x y. elim y [ inl z ↦ inl (gave_more s.turns look q.came g h i x z) | inr z ↦ inr ((z ∙ append-nil h) ∙ x) ]);
 }

@@ -1,5 +1,5 @@
 -- How connections are accepted, turn by turn.
-use Rattle.std.specs.Prelude.{◌≡◌, ◌≢◌, ◌≤◌, ◌⊎◌, ℕ, ◌+◌, ◌-◌, ◌^◌, min, List, [], ◌∷◌, ◌++◌, length, replicate, true, false}
+use Rattle.std.specs.Prelude.{◌≡◌, ◌≢◌, ◌≤◌, ◌<◌, ◌⊎◌, ℕ, ◌+◌, ◌-◌, ◌^◌, min, List, [], ◌∷◌, ◌++◌, length, replicate, true, false}
 use Rattle.std.specs.List.{All}
 use Rattle.dns_name.specs.declared.address.SocketAddr.{SocketAddr}
 use Rattle.dns_admission.specs.declared.look.Look.{Look}
@@ -13,6 +13,7 @@ use Rattle.dns_book.specs.declared.history.Entry.{Entry}
 use Rattle.dns_book.specs.declared.history.Known.{Known}
 use Rattle.dns_outside.specs.Causes.{Tells}
 use Rattle.dns_outside.specs.Doors.{Door}
+use Rattle.dns_datagrams.specs.DatagramsServed.{IsWithin}
 use Rattle.dns_host.specs.declared.accepts.AcceptEnd.{AcceptEnd}
 use Rattle.dns_host.specs.declared.accepts.AcceptEnd.TheVariants.{Shutdown, Counted, OutOfMemory}
 
@@ -123,22 +124,24 @@ pub record TookCount (count : ℕ) (now before : Type 0) (k k' : Known) (a b : D
   pub all : length (callers_in turns) ≡ count
   pub turned : TookTurns turns [] now before (Gave (admitted_callers_in turns) given given') k k' a b f f'
 
--- one look more showed a shutdown
-pub record TookUntilShut (now before : Type 0) (k k' : Known) (a b : Door) (given given' : List SocketAddr) (f f' : ℕ) : Type 0 where
+-- one look more showed a shutdown, where fewer connections came than were to come
+pub record TookUntilShut (count : ℕ) (now before : Type 0) (k k' : Known) (a b : Door) (given given' : List SocketAddr) (f f' : ℕ) : Type 0 where
   pub turns : List AcceptTurn
   pub look : Look
   pub shut : look.closed ≡ true
+  pub fewer : count ≢ 0 → length (callers_in turns) < count
   pub turned : TookTurns turns (look_entry k'.name look ∷ []) now before (Gave (admitted_callers_in turns) given given') k k' a b f f'
 
--- memory ran out at the work of the connection that came last, which may be missing
-pub record TookAlmost (now before : Type 0) (k k' : Known) (a b : Door) (given given' : List SocketAddr) (f f' : ℕ) : Type 0 where
+-- memory ran out at the work of the connection that came last, which may be missing; no more came than were to come
+pub record TookAlmost (count : ℕ) (now before : Type 0) (k k' : Known) (a b : Door) (given given' : List SocketAddr) (f f' : ℕ) : Type 0 where
   pub turns : List AcceptTurn
   pub whole : List AcceptTurn
   pub last : EndsAdmitted turns whole
+  pub within : IsWithin count (length (callers_in turns))
   pub turned : TookTurns turns [] now before (Gave (admitted_callers_in turns) given given' ⊎ Gave (admitted_callers_in whole) given given') k k' a b f f'
 
 -- how a loop of accepts went, by its end
 abbrev pub AcceptsTo : AcceptEnd → ℕ → Type 0 → Type 0 → Known → Known → Door → Door → List SocketAddr → List SocketAddr → ℕ → ℕ → Type 0
 AcceptsTo Counted count now before k k' a b given given' f f' = TookCount count now before k k' a b given given' f f'
-AcceptsTo Shutdown count now before k k' a b given given' f f' = TookUntilShut now before k k' a b given given' f f'
-AcceptsTo OutOfMemory count now before k k' a b given given' f f' = TookAlmost now before k k' a b given given' f f'
+AcceptsTo Shutdown count now before k k' a b given given' f f' = TookUntilShut count now before k k' a b given given' f f'
+AcceptsTo OutOfMemory count now before k k' a b given given' f f' = TookAlmost count now before k k' a b given given' f f'

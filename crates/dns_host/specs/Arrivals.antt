@@ -28,6 +28,14 @@ arrival_callers TurnedAway = 1
 arrival_callers NobodyCame = 0
 arrival_callers FaultCame = 0
 
+-- those of them that were admitted
+abbrev pub arrival_admitted : Arrival → ℕ
+arrival_admitted Served = 1
+arrival_admitted Refused = 1
+arrival_admitted TurnedAway = 0
+arrival_admitted NobodyCame = 0
+arrival_admitted FaultCame = 0
+
 -- what the start of an admitted connection's work brought
 abbrev pub arrival_of : Result Start OutOfMemory → Result Arrival OutOfMemory
 arrival_of (Ok Started) = Ok Served
@@ -124,7 +132,7 @@ pub record LookedAt (closed : Bool) (k k' : Known) : Type 0 where
 -- before an accept the loop ends without a look where so many connections came, else where a look shows a shutdown
 abbrev pub EndedSo : Option AcceptEnd → ℕ → ℕ → Known → Known → Type 0
 EndedSo (Some Counted) count taken k k' = (count ≢ 0) × (taken ≡ count) × (k' ≡ k)
-EndedSo (Some Shutdown) count taken k k' = LookedAt true k k'
+EndedSo (Some Shutdown) count taken k k' = (count ≢ 0 → taken ≢ count) × LookedAt true k k'
 EndedSo (Some NoMemory) count taken k k' = ⊥
 EndedSo None count taken k k' = (count ≢ 0 → taken ≢ count) × LookedAt false k k'
 

@@ -1,7 +1,7 @@
 //! What a loop of accepts takes and counts.
 
-ghost use Rattle.std.specs.Prelude.{◌≡◌, ◌+◌, ◌-◌, ◌^◌, ◌||◌, min, false};
-ghost use Rattle.dns_host.specs.Arrivals.{arrival_callers, arrival_of, is_faulty};
+ghost use Rattle.std.specs.Prelude.{◌≡◌, ◌+◌, ◌-◌, ◌%◌, ◌^◌, ◌||◌, min, false};
+ghost use Rattle.dns_host.specs.Arrivals.{arrival_admitted, arrival_callers, arrival_of, is_faulty};
 
 use dns_name::OutOfMemory;
 use dns_outside::Start;
@@ -33,7 +33,9 @@ impl Arrival {
     }
 
     /// The number of connections that were admitted.
-    pub(crate) fn admitted(self) -> u64 {
+    pub(crate) fn admitted(self) -> u64
+        ensures { result ≡ arrival_admitted self }
+    {
         match self {
             Arrival::Served | Arrival::Refused => 1,
             Arrival::TurnedAway | Arrival::Nobody | Arrival::Fault => 0,
@@ -87,6 +89,7 @@ impl Tally {
 
     /// Counts what one turn brought.
     pub(crate) fn note(&mut self, arrival: Arrival)
+        ensures client { self.new.client ≡ (self.old.client + arrival_admitted arrival) % 2 ^ 64 }
         ensures taken { self.new.taken ≡ min (self.old.taken + arrival_callers arrival) (2 ^ 64 - 1) }
         ensures faulted { self.new.faulted ≡ (self.old.faulted || is_faulty arrival) }
     {

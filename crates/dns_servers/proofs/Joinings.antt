@@ -23,11 +23,12 @@ turns_joined turns more a p p' before works works' same k k' d d' f f' t j on = 
 }
 
 shut_joined : (a p p' before : Type 0) (k k' : Known) (d d' : Door) (g m n : List SocketAddr) (f f' : ℕ) →
-    TookUntilShut (a × p) before k k' d d' g m f f' → Tells p' p (n ≡ m) → TookUntilShut (a × p') before k k' d d' g n f f'
+    TookUntilShut 0 (a × p) before k k' d d' g m f f' → Tells p' p (n ≡ m) → TookUntilShut 0 (a × p') before k k' d d' g n f f'
 shut_joined a p p' before k k' d d' g m n f f' t j = record {
   turns = t.turns;
   look = t.look;
   shut = t.shut;
+  fewer = t.fewer;
   turned = turns_joined t.turns _ a p p' before (Gave (admitted_callers_in t.turns) g m) (Gave (admitted_callers_in t.turns) g n) (n ≡ m) k k' d d' f f' t.turned j (λ e w. e ∙ w);
 }
 
@@ -36,11 +37,12 @@ gave_on xs ys g m n e (inl w) = inl (e ∙ w)
 gave_on xs ys g m n e (inr w) = inr (e ∙ w)
 
 almost_joined : (a p p' before : Type 0) (k k' : Known) (d d' : Door) (g m n : List SocketAddr) (f f' : ℕ) →
-    TookAlmost (a × p) before k k' d d' g m f f' → Tells p' p (n ≡ m) → TookAlmost (a × p') before k k' d d' g n f f'
+    TookAlmost 0 (a × p) before k k' d d' g m f f' → Tells p' p (n ≡ m) → TookAlmost 0 (a × p') before k k' d d' g n f f'
 almost_joined a p p' before k k' d d' g m n f f' t j = record {
   turns = t.turns;
   whole = t.whole;
   last = t.last;
+  within = t.within;
   turned = turns_joined t.turns _ a p p' before _ _ (n ≡ m) k k' d d' f f' t.turned j (gave_on (admitted_callers_in t.turns) (admitted_callers_in t.whole) g m n);
 }
 

@@ -26,4 +26,4 @@ pub returns-in-Err-clause-polls : goal.returns-in-Err-clause-polls
 returns-in-Err-clause-polls g c = polls_then c.loop.invariant.polls (polls_waited (record { book = refl; service = refl; sock = refl; clock = refl; journal = refl; state = refl }) refl refl refl c.poll_all.ensures.polls)
 
 pub returns-in-Err-clause-told : goal.returns-in-Err-clause-told
-returns-in-Err-clause-told g c = record { told = tt; no_memory = tells_two c.loop.invariant.told (tells_d_c_dcj (record { told = λ t. (t, refl) }) c.outdate.ensures (rw c.loop.invariant.polls.went.same.service at c.in-Err.ensures.told.no_memory) (λ w h. breaks_waited (request_answer g.W.Future.ReplyFuture.answer g.W.Stream.ReplyStream.answer) (serving (g.W.Served.answer c.args.self.now.service.now) (g.W.Served.hint c.args.self.now.service.now)) refl w h)) (finish_fails (request_answer g.W.Future.ReplyFuture.answer g.W.Stream.ReplyStream.answer) (serving (g.W.Served.answer c.args.self.now.service.now) (g.W.Served.hint c.args.self.now.service.now))) }
+returns-in-Err-clause-told g c = record { told = tt; no_memory = tells_two c.loop.invariant.told (tells_d_c_dcj (record { told = λ t. (t, refl) }) c.outdate.ensures (rw c.loop.invariant.polls.went.same.service at c.in-Err.ensures.told.no_memory) (λ w h. breaks_waited (request_answer g.W.Future.ReplyFuture.answer g.W.Stream.ReplyStream.answer) (serving (g.W.Served.answer c.args.self.now.service.now) (g.W.Served.hint c.args.self.now.service.now)) refl w h)) (finish_fails (request_answer g.W.Future.ReplyFuture.answer g.W.Stream.ReplyStream.answer) (serving (g.W.Served.answer c.args.self.now.service.now) (g.W.Served.hint c.args.self.now.service.now)) c.loop.invariant.polls.next) }

@@ -4,7 +4,7 @@ use Rattle.std.proofs.Common.{drop, arith}
 use Rattle.dns_datagrams.specs.DatagramSteps.{numbers_of}
 use Rattle.dns_datagrams.proofs.DatagramPlaces.{numbers_length, one_less, none_behind, place_left}
 use Rattle.dns_datagrams.proofs.DatagramTellings.{tells_none, tells_one, tells_two}
-use Rattle.dns_datagrams.proofs.DatagramEndings.{goes_same, goes_then, goes_left, breaks_then}
+use Rattle.dns_datagrams.proofs.DatagramEndings.{goes_same, goes_then, goes_left, polls_fail}
 use Rattle.dns_datagrams.proofs.DatagramWent.{same_seat, polls_same, polls_then}
 use Rattle.dns_datagrams.proofs.office.Office.poll_all.Goals as goal
 
@@ -28,7 +28,7 @@ pub returns-in-Err-clause-polls : goal.returns-in-Err-clause-polls
 returns-in-Err-clause-polls g c = polls_then c.loop-polled.invariant.polls c.poll_at.ensures.polls
 
 pub returns-in-Err-clause-told : goal.returns-in-Err-clause-told
-returns-in-Err-clause-told g c = record { told = tt; no_memory = tells_two c.loop-polled.invariant.told (rw c.loop-polled.invariant.polls.went.same.service at c.in-Err.ensures.told.no_memory) (breaks_then (request_answer g.W.Future.ReplyFuture.answer g.W.Stream.ReplyStream.answer) (serving (g.W.Served.answer c.args.self.now.service.now) (g.W.Served.hint c.args.self.now.service.now))) }
+returns-in-Err-clause-told g c = record { told = tt; no_memory = tells_two c.loop-polled.invariant.told (rw c.loop-polled.invariant.polls.went.same.service at c.in-Err.ensures.told.no_memory) (polls_fail (request_answer g.W.Future.ReplyFuture.answer g.W.Stream.ReplyStream.answer) (serving (g.W.Served.answer c.args.self.now.service.now) (g.W.Served.hint c.args.self.now.service.now)) c.loop-polled.invariant.polls.next) }
 
 pub returns-clause-told : goal.returns-clause-told
 returns-clause-told g c = record {

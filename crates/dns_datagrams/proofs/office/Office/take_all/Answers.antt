@@ -7,7 +7,7 @@ use Rattle.dns_datagrams.proofs.DatagramWent.{same_seat, went_same, went_then}
 use Rattle.dns_datagrams.proofs.office.Office.take_all.Goals as goal
 
 pub loop-init : goal.loop-init
-loop-init g c = record { receives = refl; went = went_same; told = tells_none (goes_same (request_answer g.W.Future.ReplyFuture.answer g.W.Stream.ReplyStream.answer) (serving (g.W.Served.answer c.args.self.now.service.now) (g.W.Served.hint c.args.self.now.service.now))) }
+loop-init g c = record { receives = refl; went = went_same; within = c.requires.within; told = tells_none (goes_same (request_answer g.W.Future.ReplyFuture.answer g.W.Stream.ReplyStream.answer) (serving (g.W.Served.answer c.args.self.now.service.now) (g.W.Served.hint c.args.self.now.service.now))) }
 
 pub round-requires-clause-book : goal.round-requires-clause-book
 round-requires-clause-book g c = same_seat c.loop.invariant.went c.requires.book
@@ -16,6 +16,7 @@ pub loop-preserved : goal.loop-preserved
 loop-preserved g c = record {
   receives = c.in_default.ensures.laps.cause ∙ c.loop.invariant.receives;
   went = went_then c.loop.invariant.went c.round.ensures.laps.went;
+  within = c.in_default.ensures.taken;
   told = tells_two c.loop.invariant.told (rw c.loop.invariant.went.same.service at c.in_default.ensures.told) (goes_then (request_answer g.W.Future.ReplyFuture.answer g.W.Stream.ReplyStream.answer) (serving (g.W.Served.answer c.args.self.now.service.now) (g.W.Served.hint c.args.self.now.service.now)));
 }
 

@@ -4,12 +4,14 @@ use Rattle.dns_service.specs.PolledRequest.{request_answer}
 use Rattle.dns_outside.specs.Causes.{Tells}
 use Rattle.dns_datagrams.specs.DatagramLoop.{Goes}
 use Rattle.dns_datagrams.specs.DatagramOffice.{Went, office_seen, office_told}
+use Rattle.dns_datagrams.specs.DatagramsServed.{MayCome}
 use Rattle.dns_datagrams.proofs.office.Office.take_all.Given as goal
 
 abbrev pub invariant-loop : goal.invariant-loop
 invariant-loop g l = record {
   receives : g.D.AsyncDgramSock.failed_receives l.self.sock.now ≡ g.D.AsyncDgramSock.failed_receives l.fn.self.sock.now;
   went : Went g.D.AsyncDgramSock.failed_sends l.fn.self l.self;
+  within : MayCome l.count l.self.state.now.next;
   told : Tells (office_told g.D.AsyncDgramSock.tells g.C.Clock.tells g.J.Recorder.tells l.self) (office_told g.D.AsyncDgramSock.tells g.C.Clock.tells g.J.Recorder.tells l.fn.self)
       (Goes (request_answer g.W.Future.ReplyFuture.answer g.W.Stream.ReplyStream.answer) (serving (g.W.Served.answer l.fn.self.service.now) (g.W.Served.hint l.fn.self.service.now)) (office_seen g.D.AsyncDgramSock.mail g.D.AsyncDgramSock.failed_sends g.C.Clock.readings g.J.Recorder.noted l.fn.self) l.fn.self.state.now false [] (office_seen g.D.AsyncDgramSock.mail g.D.AsyncDgramSock.failed_sends g.C.Clock.readings g.J.Recorder.noted l.self) l.self.state.now false []);
 }

@@ -13,7 +13,7 @@ returns-in-Some-ended-clause-ran g c = record {
 pub returns-in_default-arrival-clause-ran : goal.returns-in_default-arrival-clause-ran
 returns-in_default-arrival-clause-ran g c = record {
   told = so_far_lost c.in_default-arrival.field-0 c.args.count c.loop.tally.taken c.in_default.ensures.ended.1.look _ _ _ _ _ _ _ _ _ _ _ _ _ _ _ _ c.loop.invariant.told
-      c.in_default.ensures.ended.1.called c.in_default.ensures.ended.1.shown (rw c.in_default-arrival.is at c.accept_once-next.ensures.brought);
+      c.in_default.ensures.ended.1.called c.in_default.ensures.ended.1.shown (rw c.in_default-arrival.is at c.accept_once-next.ensures.brought) c.in_default.ensures.ended.0;
   rose = rose_where_lost c.loop.tally.faulted c.in_default-arrival.field-0 _ _ _ _ _ _ c.loop.invariant.rose
       (rw c.in_default-arrival.is at c.accept_once-next.ensures.accepts) (rw c.in_default-arrival.is at c.accept_once-next.ensures.starts);
   accepts_later = le_trans c.loop.invariant.accepts_later c.accept_once-next.ensures.accepts_later;
