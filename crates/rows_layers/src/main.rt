@@ -3,6 +3,7 @@
 
 mod cookie_rows;
 mod error_rows;
+mod forward_rows;
 mod inner;
 mod layer_rows;
 mod often_rows;
@@ -20,6 +21,7 @@ mod wrap_rows;
 
 use cookie_rows::CookieRows;
 use error_rows::ErrorRows;
+use forward_rows::ForwardRows;
 use layer_rows::{LayerRows, MandatoryRows};
 use often_rows::OftenRows;
 use reply_rows::ReplyRows;
@@ -38,7 +40,7 @@ fn main(rt: HostRuntime) -> io::Result<ExitCode> {
         &(
             ((ServiceRows, ErrorRows), (ReplyRows, RouteRows)),
             (
-                (RouterRows, StreamRows),
+                ((RouterRows, ForwardRows), StreamRows),
                 (
                     (MandatoryRows, (LayerRows, CookieRows)),
                     (OftenRows, RequestRows),

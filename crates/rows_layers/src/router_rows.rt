@@ -51,7 +51,7 @@ impl SingleService for Refusing {
 
 /// A transport that is pending some times, and then has an answer.
 #[derive(Drop)]
-struct Planned {
+pub(crate) struct Planned {
     waits: u64,
     answer: Result<Message, SendError>,
 }
@@ -122,7 +122,7 @@ fn add_refusing(
 }
 
 /// What a single service says at a turn of the request of the next words.
-fn asked_at<S: SingleService>(row: &mut Row<'_>, service: &S, k: u64) {
+pub(crate) fn asked_at<S: SingleService>(row: &mut Row<'_>, service: &S, k: u64) {
     match request(row) {
         Ok(request) => turn_said(row, service, &request, k),
         Err(fault) => row.fail(fault),
@@ -165,7 +165,7 @@ fn error_text(row: &mut Row<'_>) {
 }
 
 /// A transport: how often it is pending, and its error or the octets of its message.
-fn next_transport(row: &mut Row<'_>) -> Result<Planned, RowError> {
+pub(crate) fn next_transport(row: &mut Row<'_>) -> Result<Planned, RowError> {
     let waits = row.number();
     let answer = row.word();
     match send_error(answer) {

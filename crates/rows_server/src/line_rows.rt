@@ -71,9 +71,11 @@ fn reason(name: &str) -> Result<Reason, RowError> {
         "Text" => Ok(Reason::Text),
         "Word" => Ok(Reason::Word),
         "Order" => Ok(Reason::Order),
+        "Mix" => Ok(Reason::Mix),
         "Repeat" => Ok(Reason::Repeat),
         "Count" => Ok(Reason::Count),
         "Value" => Ok(Reason::Value),
+        "Zone" => Ok(Reason::Zone),
         _ => Err(RowError::OutOfForm),
     }
 }

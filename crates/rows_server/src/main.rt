@@ -13,6 +13,7 @@ mod run_rows;
 mod serve_rows;
 mod service_rows;
 mod texts;
+mod trace_rows;
 mod value_rows;
 
 use book_rows::BookRows;
@@ -27,6 +28,7 @@ use serve_rows::ServeRows;
 use service_rows::ServiceRows;
 use std::io;
 use std::process::ExitCode;
+use trace_rows::TraceRows;
 use value_rows::ValueRows;
 
 fn main(rt: HostRuntime) -> io::Result<ExitCode> {
@@ -38,7 +40,7 @@ fn main(rt: HostRuntime) -> io::Result<ExitCode> {
                 (OutsideRows, EventRows),
             ),
             (
-                (LineRows, ServiceRows),
+                ((LineRows, TraceRows), ServiceRows),
                 ((RunRows, FloodRows), (ServeRows, ValueRows)),
             ),
         ),

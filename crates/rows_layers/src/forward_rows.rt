@@ -1,0 +1,221 @@
+//! Rows of a question that is asked of one upstream, and of a forwarder.
+
+ghost use Rattle.std.specs.Prelude.{◌≤◌};
+
+use crate::router_rows::{Planned, asked_at, next_transport};
+use dns_base::Message;
+use dns_forward::{Asking, AskingEvent, Forwarder, SendError, ask_all, led_to};
+use dns_name::{Name, Octets};
+use dns_route::SendRequest;
+use dns_service::Polled;
+use rows_table::{Calls, Row, RowError, Steps};
+
+/// Askings and forwarders.
+pub(crate) struct ForwardRows;
+
+impl Calls for ForwardRows {
+    fn answer(&self, call: &str, row: &mut Row<'_>) -> Result<(), RowError> {
+        match call {
+            "asking" => asking(row),
+            "ask_all" => asked_all(row),
+            "forwarder" => forwarder(row),
+            _ => return Err(RowError::NoSuchCall),
+        }
+        Ok(())
+    }
+}
+
+/// What a message is asked by.
+#[derive(Clone, Copy)]
+struct Terms {
+    id: u16,
+    tries: u8,
+    timeout: u64,
+    at: u64,
+}
+
+/// What a message is asked by, in the next words: an identifier, tries, a timeout and the moment of the first send.
+fn next_terms(row: &mut Row<'_>) -> Terms
+    ensures some { 1 ≤ result.tries }
+    ensures few { result.tries ≤ 8 }
+    ensures timeout { 1 ≤ result.timeout }
+{
+    let id: u16 = row.number();
+    let tries: u8 = row.number();
+    let timeout: u64 = row.number();
+    let at: u64 = row.number();
+    if tries == 0 || tries > 8 || timeout == 0 {
+        row.fail(RowError::OutOfForm);
+        return Terms {
+            id,
+            tries: 1,
+            timeout: 1,
+            at,
+        };
+    }
+    Terms {
+        id,
+        tries,
+        timeout,
+        at,
+    }
+}
+
+/// The message of the next word.
+fn next_message(row: &mut Row<'_>) -> Result<Message, RowError> {
+    Message::from_octets(row.vector()).or(Err(RowError::OutOfForm))
+}
+
+/// What an asking says at steps.
+fn asking(row: &mut Row<'_>) {
+    match next_message(row) {
+        Ok(message) => asked(row, message),
+        Err(fault) => row.fail(fault),
+    }
+}
+
+/// The same of a message.
+fn asked(row: &mut Row<'_>, message: Message) {
+    let terms = next_terms(row);
+    match Asking::new(
+        row.alloc(),
+        message,
+        terms.id,
+        terms.tries,
+        terms.timeout,
+        terms.at,
+    ) {
+        Ok(asking) => row.take_steps(";", &mut Stepped { asking }),
+        Err(_) => row.fail(RowError::OutOfMemory),
+    }
+}
+
+/// An asking that steps are taken with.
+#[derive(Drop)]
+struct Stepped {
+    asking: Asking,
+}
+
+impl Steps for Stepped {
+    fn take_step(&mut self, step: &str, row: &mut Row<'_>) {
+        match step {
+            "octets" => row.hexadecimal(self.asking.octets()),
+            "tick" => ticked(row, &mut self.asking),
+            "arrived" => arrived(row, &mut self.asking),
+            _ => row.fail(RowError::OutOfForm),
+        }
+    }
+}
+
+/// What is to be done at a moment.
+fn ticked(row: &mut Row<'_>, asking: &mut Asking) {
+    let at = row.number();
+    row.debug(&asking.tick(at))
+}
+
+/// The answer, if it arrived.
+fn arrived(row: &mut Row<'_>, asking: &mut Asking) {
+    let at = row.number();
+    let octets = row.octets();
+    match asking.arrived(row.alloc(), at, octets) {
+        Ok(Some(answer)) => row.hexadecimal(answer.as_slice()),
+        Ok(None) => row.say("none"),
+        Err(_) => row.fail(RowError::OutOfMemory),
+    }
+}
+
+/// What events lead to.
+fn asked_all(row: &mut Row<'_>) {
+    match next_message(row) {
+        Ok(message) => all_of(row, message),
+        Err(fault) => row.fail(fault),
+    }
+}
+
+/// The same where a message is asked.
+fn all_of(row: &mut Row<'_>, message: Message) {
+    let terms = next_terms(row);
+    let events = next_events(row);
+    match ask_all(
+        row.alloc(),
+        message,
+        terms.id,
+        terms.tries,
+        terms.timeout,
+        terms.at,
+        events.as_slice(),
+    ) {
+        Ok(outcomes) => led_said(row, led_to(outcomes)),
+        Err(_) => row.fail(RowError::OutOfMemory),
+    }
+}
+
+/// What was led to.
+fn led_said(row: &mut Row<'_>, answer: Polled<Result<Message, SendError>>) {
+    match answer {
+        Polled::Ready(Ok(message)) => row.hexadecimal(message.as_slice()),
+        Polled::Ready(Err(error)) => row.debug(&error),
+        Polled::Pending => row.say("pending"),
+    }
+}
+
+/// The events of the next word, which commas part: `tick:AT`, or `AT:OCTETS` for octets that arrive; `-` for none.
+fn next_events(row: &mut Row<'_>) -> Vec<AskingEvent> {
+    let mut events = Vec::new(row.alloc());
+    for event in row.word().split(',') {
+        if let Some((first, second)) = event.split_once(':') {
+            let event = event_of(row, first, second);
+            row.keep(events.push(event));
+        }
+    }
+    events
+}
+
+/// The event of two words.
+fn event_of(row: &mut Row<'_>, first: &str, second: &str) -> AskingEvent {
+    if first == "tick" {
+        return AskingEvent::Tick {
+            at: row.number_of(second),
+        };
+    }
+    let at = row.number_of(first);
+    let octets = row.octets_of(second);
+    AskingEvent::Arrived {
+        at,
+        octets: Octets::from_vec(row.copied(octets)),
+    }
+}
+
+/// What a forwarder says at a turn, to which a transport was added under the name of the next word.
+fn forwarder(row: &mut Row<'_>) {
+    let name = row.word();
+    let k = row.number();
+    match next_transport(row) {
+        Ok(conn) => over(row, name, k, conn),
+        Err(fault) => row.fail(fault),
+    }
+}
+
+/// The same over a transport.
+fn over(row: &mut Row<'_>, name: &str, k: u64, conn: Planned) {
+    match Box::new(row.alloc(), conn) {
+        Ok(conn) => over_box(row, name, k, conn),
+        Err(_) => row.fail(RowError::OutOfMemory),
+    }
+}
+
+/// The same over a transport in a box.
+fn over_box(row: &mut Row<'_>, name: &str, k: u64, conn: Box<dyn SendRequest + Send + Sync>) {
+    let octets = row.octets_of(name);
+    match Name::from_octets(row.copied(octets)) {
+        Ok(name) => forwarded(row, name, k, conn),
+        Err(_) => row.fail(RowError::OutOfForm),
+    }
+}
+
+/// The same under a name.
+fn forwarded(row: &mut Row<'_>, name: Name, k: u64, conn: Box<dyn SendRequest + Send + Sync>) {
+    let mut forwarder = Forwarder::new(row.alloc());
+    row.keep(forwarder.add(row.alloc(), name, conn));
+    asked_at(row, &forwarder, k)
+}

@@ -1,0 +1,50 @@
+//! Rows of traces: a text is read, and what it says is written again.
+
+use crate::texts::{next_text, say_text};
+use dns_service::Event;
+use dns_trace::{TraceError, TraceSettings, TraceWriter, read_trace};
+use rows_table::{Calls, Row, RowError};
+use std::alloc::Global;
+
+/// Traces that are read and written again.
+pub(crate) struct TraceRows;
+
+impl Calls for TraceRows {
+    fn answer(&self, call: &str, row: &mut Row<'_>) -> Result<(), RowError> {
+        match call {
+            "read_trace" => trace(row),
+            _ => Err(RowError::NoSuchCall),
+        }
+    }
+}
+
+/// The text that is written of what a text says, or its first bad line and the reason.
+fn trace(row: &mut Row<'_>) -> Result<(), RowError> {
+    let text = next_text(row);
+    match read_trace(row.alloc(), &text) {
+        Ok((settings, events)) => {
+            let written = written(row.alloc(), &settings, &events)?;
+            say_text(row, &written);
+            Ok(())
+        }
+        Err(error) => refused(row, error),
+    }
+}
+
+/// The text of settings and events.
+fn written(alloc: Global, settings: &TraceSettings, events: &[Event]) -> Result<Vec<u8>, RowError> {
+    let mut writer = TraceWriter::new(alloc, settings)?;
+    for event in events {
+        writer.note(event)?;
+    }
+    Ok(writer.finish())
+}
+
+/// The first bad line and the reason.
+fn refused(row: &mut Row<'_>, error: TraceError) -> Result<(), RowError> {
+    if error == TraceError::OutOfMemory {
+        return Err(RowError::OutOfMemory);
+    }
+    row.debug(&error);
+    Ok(())
+}
