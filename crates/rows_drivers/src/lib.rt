@@ -8,5 +8,3 @@ mod connections;
 mod datagrams;
 #[cfg(test)]
 mod forms;
-#[cfg(test)]
-mod shutdowns;

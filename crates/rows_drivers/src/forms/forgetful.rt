@@ -2,14 +2,30 @@
 
 ghost use Rattle.std.specs.Prelude.{[]};
 
-use dns_drivers::Recorder;
+use dns_drivers::{Kept, Recorder};
 use dns_service::{Event, OutOfMemory};
 use std::alloc::Global;
 
-/// A recorder that keeps nothing, and is refused memory after so many notes.
-#[derive(Clone, Copy, Debug)]
+/// A recorder that keeps what it notes, and is refused memory after so many notes. It tells nothing.
+#[derive(Drop)]
 pub struct Forgetful {
-    pub left: u64,
+    left: u64,
+    kept: Kept,
+}
+
+impl Forgetful {
+    /// A recorder with memory for so many notes, which has noted nothing.
+    pub fn new(alloc: Global, left: u64) -> Forgetful {
+        Forgetful {
+            left,
+            kept: Kept::new(alloc),
+        }
+    }
+
+    /// The events noted.
+    pub fn events(&self) -> &[Event] {
+        self.kept.events()
+    }
 }
 
 impl Recorder for Forgetful {
@@ -17,11 +33,11 @@ impl Recorder for Forgetful {
 
     ghost noted = { λ _. [] };
 
-    fn note(&mut self, _alloc: Global, _event: &Event) -> Result<(), OutOfMemory> {
+    fn note(&mut self, alloc: Global, event: &Event) -> Result<(), OutOfMemory> {
         if self.left == 0 {
             return Err(OutOfMemory);
         }
         self.left -= 1;
-        Ok(())
+        self.kept.note(alloc, event)
     }
 }

@@ -3,23 +3,25 @@
 ghost use Rattle.std.specs.Prelude.{[]};
 
 use dns_name::OutOfMemory;
-use dns_outside::Clock;
+use dns_outside::{Clock, MemoryClock};
 use std::alloc::Global;
 
-/// A clock that gives 1, 2, 3 and so on, in ms, and its last reading again as the latest one until it is told that this is old.
-/// It tells nothing.
+/// A clock that gives the readings of another. Where they stand, the latest one is given again until it is told that this is
+/// old. It tells nothing.
 #[derive(Drop)]
 pub struct Standing {
-    at: u64,
-    is_old: bool,
+    inner: MemoryClock,
+    stands: bool,
+    last: Option<(u64, u64)>,
 }
 
 impl Standing {
     /// A clock that has given no reading.
-    pub fn new() -> Standing {
+    pub fn new(inner: MemoryClock, stands: bool) -> Standing {
         Standing {
-            at: 0,
-            is_old: true,
+            inner,
+            stands,
+            last: None,
         }
     }
 }
@@ -30,23 +32,23 @@ impl Clock for Standing {
     ghost readings = { λ _. [] };
 
     fn now(&mut self) -> (u64, u64) {
-        self.at = self.at.saturating_add(1);
-        self.is_old = false;
-        (self.at, 0)
+        let reading = self.inner.now();
+        self.last = Some(reading);
+        reading
     }
 
     fn latest(&mut self) -> (u64, u64) {
-        if self.is_old {
-            return self.now();
+        match self.last {
+            Some(reading) if self.stands => reading,
+            _ => self.now(),
         }
-        (self.at, 0)
     }
 
     fn outdate(&mut self) {
-        self.is_old = true;
+        self.last = None;
     }
 
-    fn another(&self, _alloc: Global) -> Result<Standing, OutOfMemory> {
-        Ok(Standing::new())
+    fn another(&self, alloc: Global) -> Result<Standing, OutOfMemory> {
+        Ok(Standing::new(self.inner.another(alloc)?, self.stands))
     }
 }

@@ -34,6 +34,11 @@ impl<T> Watched<T> {
         }
     }
 
+    /// The link or the socket.
+    pub fn inner(&self) -> &T {
+        &self.inner
+    }
+
     /// The letters of the calls.
     pub fn calls(&self) -> &[u8] {
         self.calls.as_slice()
