@@ -18,6 +18,7 @@ ROWS = [
     ("#f6d6c4", [("dns_drivers", "a connection is served"), ("dns_datagrams", "datagrams are served")]),
     ("#f8e7b9", [("dns_core", "all clients: serve_events"), ("dns_notes", "what both loops of serving note")]),
     ("#f8e7b9", [("dns_sent", "what clients are sent"), ("dns_trace", "the lines of a script"), ("dns_book", "what servers share"), ("dns_outside", "sources, sinks, sockets")]),
+    ("#f8e7b9", [("dns_forward", "upstreams that requests go to"), ("dns_zone", "answers from records"), ("dns_cache", "replies that are kept")]),
     ("#f8e7b9", [("dns_client", "one client: frames, requests, queue"), ("dns_middleware", "the four layers, as one"), ("dns_route", "routers, single services")]),
     ("#d7e8c8", [("dns_service", "requests, services, replies, events, outputs"), ("dns_stream", "polled streams"), ("dns_admission", "slots, configurations")]),
     ("#c9e2e6", [("dns_opt", "OPT records, read and built"), ("dns_options", "lists of options")]),
