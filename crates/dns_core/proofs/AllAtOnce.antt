@@ -22,7 +22,7 @@ use Rattle.dns_core.specs.ByClient.{is_member}
 use Rattle.dns_core.specs.Books.{book_rule, is_entry}
 use Rattle.dns_core.specs.Placed.{Knowledge, book_now, entries, knows, looks, placed}
 use Rattle.dns_core.specs.Outs.{Hall, placed_slate, hall, step_gained, outs, outs_after}
-use Rattle.dns_middleware.specs.declared.settings.Settings.{Settings}
+use Rattle.dns_service.specs.declared.settings.Settings.{Settings}
 use Rattle.dns_core.proofs.AtOnce.{closed_if, enters}
 use Rattle.dns_core.proofs.Counted.{put_keeps}
 use Rattle.dns_core.proofs.Gained.{concerns_all, conf_more, members_away, members_joined, members_kept, none_away}

@@ -25,7 +25,7 @@ use Rattle.dns_core.specs.Sent.{slate}
 use Rattle.dns_core.specs.Out.{is_unused, holds_slot, taken, members, gain, heard, gained}
 use Rattle.dns_core.specs.Serves.{Holds, IsAt, LooksAll}
 use Rattle.dns_core.specs.Server.{Serves}
-use Rattle.dns_middleware.specs.declared.settings.Settings.{Settings}
+use Rattle.dns_service.specs.declared.settings.Settings.{Settings}
 use Rattle.dns_core.specs.declared.server.Server.{Server}
 use Rattle.dns_core.proofs.Gained.{concerns_all, conf_more, members_kept, none_away, taken_still}
 use Rattle.dns_core.proofs.OutLemmas.{slate_some}

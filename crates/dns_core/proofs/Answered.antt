@@ -32,7 +32,7 @@ use Rattle.dns_core.specs.Out.{gain, gained, heard, is_new, is_turned_away, is_u
 use Rattle.dns_core.specs.Own.{concerns, is_wide}
 use Rattle.dns_core.specs.ReplyTo.{Responds, AnswersFrame, IsReply}
 use Rattle.dns_core.specs.Sent.{conf, slate}
-use Rattle.dns_middleware.specs.declared.settings.Settings.{Settings}
+use Rattle.dns_service.specs.declared.settings.Settings.{Settings}
 use Rattle.dns_core.proofs.Exchanged.{Exchanges, exchange_polls, first_exchanges, first_sent, later_exchanges}
 use Rattle.dns_core.proofs.Gained.{concerns_own}
 use Rattle.dns_core.proofs.Listening.{Asks, Listens, RepliesTo, Takes, listens_weaker, queue_weaker, take_listens, turn_listens}

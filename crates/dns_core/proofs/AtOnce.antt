@@ -22,7 +22,7 @@ use Rattle.dns_core.specs.Sent.{sent}
 use Rattle.dns_core.specs.Books.{book_rule, is_entry, books}
 use Rattle.dns_core.specs.Placed.{Knowledge, book_now, entries, own_events, begins, looks, puts, learns, place, placed}
 use Rattle.dns_core.specs.AtOnce.{look_by, undelayed}
-use Rattle.dns_middleware.specs.declared.settings.Settings.{Settings}
+use Rattle.dns_service.specs.declared.settings.Settings.{Settings}
 use Rattle.dns_core.proofs.Plain.{narrow_conf, rule_conf}
 use Rattle.dns_core.proofs.Late.{NotOver, rule_over, never_open}
 use Rattle.dns_core.proofs.Looked.{told, over_idle}

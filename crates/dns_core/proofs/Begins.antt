@@ -25,7 +25,7 @@ use Rattle.dns_core.specs.Own.{is_wide}
 use Rattle.dns_core.specs.Sent.{slate}
 use Rattle.dns_core.specs.Out.{is_unused, holds_slot, is_new, joins, has_room, taken, members, put, gained}
 use Rattle.dns_core.specs.Server.{Serves}
-use Rattle.dns_middleware.specs.declared.settings.Settings.{Settings}
+use Rattle.dns_service.specs.declared.settings.Settings.{Settings}
 use Rattle.dns_core.specs.declared.server.Server.{Server}
 use Rattle.dns_core.proofs.Counted.{put_there, put_other}
 use Rattle.dns_core.proofs.Gained.{conf_kept, slate_same, slate_other, members_joined, members_away, taken_absent, taken_put, taken_put_not}

@@ -27,7 +27,7 @@ use Rattle.dns_client.specs.Turns.{exchange_turn, turn, turn_request, poll_reque
 use Rattle.dns_client.specs.Rule.{rule, in_phase, unused_rule, exchange_rule, open_rule, flushing_rule, closed_rule}
 use Rattle.dns_core.specs.Settings.{opening}
 use Rattle.dns_core.specs.Out.{is_unused}
-use Rattle.dns_middleware.specs.declared.settings.Settings.{Settings}
+use Rattle.dns_service.specs.declared.settings.Settings.{Settings}
 use Rattle.dns_core.proofs.Placing.{slate_append}
 use Rattle.dns_core.proofs.Plain.{offered, rule_used, unused_is}
 

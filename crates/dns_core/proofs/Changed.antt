@@ -15,7 +15,7 @@ use Rattle.dns_core.specs.Own.{is_wide}
 use Rattle.dns_core.specs.Books.{book_rule, books, is_entry}
 use Rattle.dns_core.specs.Changes.{changes, changes_from}
 use Rattle.dns_core.specs.Placed.{Knowledge, begins, book_now, entries, is_beginning, knows, learned, learns, looks, knowledge_at_first, own_events, place, placed, puts}
-use Rattle.dns_middleware.specs.declared.settings.Settings.{Settings}
+use Rattle.dns_service.specs.declared.settings.Settings.{Settings}
 use Rattle.dns_core.proofs.Looked.{Enter, entry_wide}
 use Rattle.dns_core.proofs.Placing.{knows_more}
 use Rattle.dns_core.proofs.Tied.{books_entries, enter_learns, now_learns}

@@ -8,7 +8,7 @@ use Rattle.dns_client.specs.Pieces.{IsCut}
 use Rattle.dns_client.specs.Rule.{rule}
 use Rattle.dns_core.specs.Settings.{opening}
 use Rattle.dns_core.specs.Sent.{sent_after, sent}
-use Rattle.dns_middleware.specs.declared.settings.Settings.{Settings}
+use Rattle.dns_service.specs.declared.settings.Settings.{Settings}
 
 module _ (answers : Serving) (whole former latter : Event) (cut : (s : Slate) → IsCut answers whole former latter s) where
   cut_after : (p r : List Event) (s : Slate) → sent_after answers s (p ++ whole ∷ r) ≡ sent_after answers s (p ++ former ∷ latter ∷ r)

@@ -25,7 +25,7 @@ use Rattle.dns_client.specs.Turns.{exchange_turn, polled, sent_at_once, sent_for
 use Rattle.dns_core.specs.Out.{is_new}
 use Rattle.dns_core.specs.ReplyTo.{Responds, datagram_limit, AnswersDatagram, IsReply}
 use Rattle.dns_core.specs.Sent.{conf}
-use Rattle.dns_middleware.specs.declared.settings.Settings.{Settings}
+use Rattle.dns_service.specs.declared.settings.Settings.{Settings}
 use Rattle.dns_core.proofs.Listening.{all_at}
 use Rattle.dns_core.proofs.Replied.{at_least, refused_responds}
 

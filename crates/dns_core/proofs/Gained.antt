@@ -12,7 +12,7 @@ use Rattle.dns_core.specs.Own.{is_wide, concerns}
 use Rattle.dns_core.specs.Settings.{opening}
 use Rattle.dns_core.specs.Sent.{conf, conf_after, slate}
 use Rattle.dns_core.specs.Out.{is_unused, holds_slot, is_new, taken, joins, members, put, turned_away}
-use Rattle.dns_middleware.specs.declared.settings.Settings.{Settings}
+use Rattle.dns_service.specs.declared.settings.Settings.{Settings}
 use Rattle.dns_core.proofs.OutLemmas.{slate_some, slate_none, members_more}
 use Rattle.dns_core.proofs.Counted.{filter_same, absent_other, filter_put, filter_put_not}
 use Rattle.dns_core.proofs.Plain.{narrow_conf, rule_used}

@@ -15,7 +15,7 @@ use Rattle.dns_service.specs.declared.event.Output.TheVariants.{TurnedAway}
 use Rattle.dns_core.specs.Own.{is_wide, concerns}
 use Rattle.dns_core.specs.Sent.{conf}
 use Rattle.dns_core.specs.Out.{gain, heard, is_new, is_turned_away, joins, members, turned_away, gained}
-use Rattle.dns_middleware.specs.declared.settings.Settings.{Settings}
+use Rattle.dns_service.specs.declared.settings.Settings.{Settings}
 use Rattle.dns_core.proofs.Counted.{filter_same, less_absent, put_there}
 use Rattle.dns_core.proofs.Gained.{concerns_own, members_kept, members_joined, members_away, none_away}
 use Rattle.dns_core.proofs.Rising.{rises, new_absent}

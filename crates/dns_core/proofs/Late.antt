@@ -20,7 +20,7 @@ use Rattle.dns_core.specs.Own.{is_wide, own}
 use Rattle.dns_core.specs.Runs.{IsReconfigure}
 use Rattle.dns_core.specs.Sent.{slate_after, sent_after, sent, slate}
 use Rattle.dns_core.specs.Trails.{is_open}
-use Rattle.dns_middleware.specs.declared.settings.Settings.{Settings}
+use Rattle.dns_service.specs.declared.settings.Settings.{Settings}
 use Rattle.dns_core.proofs.Plain.{narrow, rule_conf}
 use Rattle.dns_core.proofs.Settled.{exchange_turned}
 use Rattle.dns_core.proofs.OutLemmas.{sent_after_append}

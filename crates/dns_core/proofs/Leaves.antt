@@ -11,7 +11,7 @@ use Rattle.dns_core.specs.Own.{is_wide}
 use Rattle.dns_core.specs.Placed.{is_beginning}
 use Rattle.dns_core.specs.Settings.{opening}
 use Rattle.dns_core.specs.SlateBy.{slate_by}
-use Rattle.dns_middleware.specs.declared.settings.Settings.{Settings}
+use Rattle.dns_service.specs.declared.settings.Settings.{Settings}
 use Rattle.dns_core.proofs.Late.{NotOver, late_reconfigure, late_shutdown, never_open, over_after}
 use Rattle.dns_core.proofs.Plain.{narrow, unused_is}
 use Rattle.dns_core.proofs.Settled.{empty_idle, nothing_received, settled_after}

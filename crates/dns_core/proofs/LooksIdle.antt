@@ -17,7 +17,7 @@ use Rattle.dns_core.specs.Sent.{sent}
 use Rattle.dns_core.specs.Out.{is_unused}
 use Rattle.dns_core.specs.Placed.{Knowledge, book_now, entries, own_events, is_beginning, looks, puts, learns, learned, place, placed, knows, knowledge_at_first}
 use Rattle.dns_core.specs.Outs.{placed_slate}
-use Rattle.dns_middleware.specs.declared.settings.Settings.{Settings}
+use Rattle.dns_service.specs.declared.settings.Settings.{Settings}
 use Rattle.dns_core.proofs.OutLemmas.{sent_after_append}
 use Rattle.dns_core.proofs.Plain.{narrow, unused_is}
 use Rattle.dns_core.proofs.Placing.{slate_append}

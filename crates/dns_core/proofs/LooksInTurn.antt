@@ -18,7 +18,7 @@ use Rattle.dns_core.specs.AtOnce.{look_by}
 use Rattle.dns_core.specs.Out.{is_unused}
 use Rattle.dns_core.specs.Placed.{Knowledge, knows, puts}
 use Rattle.dns_core.specs.Outs.{Hall, placed_slate, placed_gain, hall, step_gained, outs_after}
-use Rattle.dns_middleware.specs.declared.settings.Settings.{Settings}
+use Rattle.dns_service.specs.declared.settings.Settings.{Settings}
 use Rattle.dns_core.proofs.Counted.{less_absent}
 use Rattle.dns_core.proofs.Placing.{knows_more, slate_more, gain_more}
 use Rattle.dns_core.proofs.Stepping.{look_quiet, quiet_slate}

@@ -28,7 +28,7 @@ use Rattle.dns_core.specs.Own.{is_wide, concerns, own}
 use Rattle.dns_core.specs.Sent.{slate_after, sent_after, sent, slate}
 use Rattle.dns_core.specs.Out.{is_unused}
 use Rattle.dns_core.specs.ByClient.{client_of, is_for}
-use Rattle.dns_middleware.specs.declared.settings.Settings.{Settings}
+use Rattle.dns_service.specs.declared.settings.Settings.{Settings}
 use Rattle.dns_core.proofs.Plain.{unused_is, rule_used, still_unused}
 use Rattle.dns_core.proofs.Taken.{takes}
 

@@ -15,7 +15,7 @@ use Rattle.dns_core.specs.Own.{is_wide, concerns}
 use Rattle.dns_core.specs.Sent.{conf, slate}
 use Rattle.dns_core.specs.Out.{is_unused, holds_slot, is_new, taken, has_room, joins, put, members, gain, heard, is_turned_away, turned_away, gained, out_after, out}
 use Rattle.dns_core.specs.ByClient.{IsPrefix}
-use Rattle.dns_middleware.specs.declared.settings.Settings.{Settings}
+use Rattle.dns_service.specs.declared.settings.Settings.{Settings}
 use Rattle.dns_core.proofs.Counted.{filter_same, put_other}
 use Rattle.dns_core.proofs.Plain.{plain, narrow_conf}
 use Rattle.dns_core.proofs.OutLemmas.{slate_some, slate_none}

@@ -29,7 +29,7 @@ use Rattle.dns_core.specs.Own.{is_wide}
 use Rattle.dns_core.specs.Out.{is_unused, holds_slot, gained}
 use Rattle.dns_core.specs.Sent.{slate}
 use Rattle.dns_core.specs.Server.{Serves}
-use Rattle.dns_middleware.specs.declared.settings.Settings.{Settings}
+use Rattle.dns_service.specs.declared.settings.Settings.{Settings}
 use Rattle.dns_core.specs.declared.server.Server.{Server}
 use Rattle.dns_core.proofs.Late.{late_datagram, late_offer}
 use Rattle.dns_core.proofs.Plain.{plain, unused_is, begun, offered, used_datagram, used_offer}

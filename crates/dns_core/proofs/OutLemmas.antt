@@ -12,7 +12,7 @@ use Rattle.dns_core.specs.Own.{concerns, own}
 use Rattle.dns_core.specs.Sent.{slate_after, sent_after, sent, slate}
 use Rattle.dns_core.specs.Out.{joined, members_after, members, gained, out_after, out}
 use Rattle.dns_core.specs.ByClient.{IsPrefix}
-use Rattle.dns_middleware.specs.declared.settings.Settings.{Settings}
+use Rattle.dns_service.specs.declared.settings.Settings.{Settings}
 
 pub one_longer : (q : List Event) (e : Event) (n : ℕ) → n ≤ length q → n ≤ length (q ++ e ∷ [])
 one_longer q e n h = simp length-append (omega arith)

@@ -12,7 +12,7 @@ use Rattle.dns_core.specs.Settings.{opening}
 use Rattle.dns_core.specs.Sent.{sent}
 use Rattle.dns_core.specs.Placed.{Knowledge, puts, learns, place, learned, placed, knows, knowledge_at_first}
 use Rattle.dns_core.specs.Outs.{Hall, placed_slate, placed_gain, next_hall, hall_after, hall, step_gained, outs_after, outs}
-use Rattle.dns_middleware.specs.declared.settings.Settings.{Settings}
+use Rattle.dns_service.specs.declared.settings.Settings.{Settings}
 use Rattle.dns_core.proofs.OutLemmas.{sent_after_append}
 
 place_snoc : (c : ℕ) (k : Knowledge) (q : List Step) (s : Step) → place c k (q ++ s ∷ []) ≡ place c k q ++ puts c (learned c k q) s

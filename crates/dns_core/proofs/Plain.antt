@@ -25,7 +25,7 @@ use Rattle.dns_core.specs.Settings.{opening}
 use Rattle.dns_core.specs.Own.{is_wide, own, concerns}
 use Rattle.dns_core.specs.Sent.{conf, conf_after, slate_after, slate}
 use Rattle.dns_core.specs.Out.{is_unused, is_connection, holds_slot}
-use Rattle.dns_middleware.specs.declared.settings.Settings.{Settings}
+use Rattle.dns_service.specs.declared.settings.Settings.{Settings}
 use Rattle.dns_core.proofs.Taken.{takes}
 
 -- what goes on keeps its configurations, a used number stays used, and a slot stays held

@@ -12,7 +12,7 @@ use Rattle.std.specs.Ordering.{nat_cmp}
 use Rattle.dns_service.specs.declared.event.Event.{Event}
 use Rattle.dns_core.specs.Sent.{slate}
 use Rattle.dns_core.specs.Out.{is_unused, holds_slot, has_room, put, is_new, joins, members}
-use Rattle.dns_middleware.specs.declared.settings.Settings.{Settings}
+use Rattle.dns_service.specs.declared.settings.Settings.{Settings}
 use Rattle.dns_core.proofs.Gained.{members_joined, members_away, new_was, new_became, used_more}
 use Rattle.dns_core.proofs.Counted.{put_other}
 

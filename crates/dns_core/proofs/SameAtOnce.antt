@@ -24,7 +24,7 @@ use Rattle.dns_core.specs.Books.{book_rule}
 use Rattle.dns_core.specs.Placed.{Knowledge, begins, is_beginning, knows, looks}
 use Rattle.dns_core.specs.Outs.{Hall, placed_slate, placed_gain, hall, step_gained, call_at, enters_at, refused_offer}
 use Rattle.dns_core.specs.StepsByClient.{slots_held}
-use Rattle.dns_middleware.specs.declared.settings.Settings.{Settings}
+use Rattle.dns_service.specs.declared.settings.Settings.{Settings}
 use Rattle.dns_core.proofs.Counted.{filter_same, put_there}
 use Rattle.dns_core.proofs.Gained.{conf_kept, members_away, members_joined, members_kept, slate_other, slate_same, used_not_new, unused_kept, unused_not_new}
 use Rattle.dns_core.proofs.Heard.{gained_away, gained_joined, gained_own}

@@ -26,7 +26,7 @@ use Rattle.dns_core.specs.Out.{is_unused, holds_slot, is_new, taken, members, ga
 use Rattle.dns_core.specs.Serves.{IsOver, IsAt, Holds, Steps, StepsKey}
 use Rattle.dns_core.specs.Placed.{is_beginning}
 use Rattle.dns_core.specs.Server.{Serves}
-use Rattle.dns_middleware.specs.declared.settings.Settings.{Settings}
+use Rattle.dns_service.specs.declared.settings.Settings.{Settings}
 use Rattle.dns_core.specs.declared.server.Server.{Server}
 use Rattle.dns_core.proofs.Gained.{conf_kept, slate_same, slate_other, used_not_new, unused_not_new, idle_not_new, unused_kept, members_kept, taken_still}
 use Rattle.dns_core.proofs.Heard.{gained_own}

@@ -22,7 +22,7 @@ use Rattle.dns_client.specs.Rule.{rule, in_phase, unused_rule, exchange_rule, op
 use Rattle.dns_core.specs.Settings.{opening}
 use Rattle.dns_core.specs.Own.{is_wide, own}
 use Rattle.dns_core.specs.Sent.{slate_after, slate}
-use Rattle.dns_middleware.specs.declared.settings.Settings.{Settings}
+use Rattle.dns_service.specs.declared.settings.Settings.{Settings}
 use Rattle.dns_core.proofs.Plain.{narrow}
 use Rattle.dns_core.proofs.Taken.{takes}
 

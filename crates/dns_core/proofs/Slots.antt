@@ -22,7 +22,7 @@ use Rattle.dns_core.specs.Own.{is_wide}
 use Rattle.dns_core.specs.Out.{is_connection, holds_slot, taken}
 use Rattle.dns_core.specs.Sent.{slate}
 use Rattle.dns_core.specs.Serves.{Holds, Steps}
-use Rattle.dns_middleware.specs.declared.settings.Settings.{Settings}
+use Rattle.dns_service.specs.declared.settings.Settings.{Settings}
 use Rattle.dns_core.proofs.Counted.{one_less}
 use Rattle.dns_core.proofs.Gained.{slate_same, slate_other, taken_absent}
 use Rattle.dns_core.proofs.Plain.{is_going, slot_kept}

@@ -37,7 +37,7 @@ use Rattle.dns_core.specs.Serves.{Holds, IsAt, EntersWith}
 use Rattle.dns_core.specs.Placed.{Knowledge, book_now, own_events, is_beginning, looks, learns, knows}
 use Rattle.dns_core.specs.Outs.{Hall, placed_slate, placed_gain, hall, step_gained, call_for, call_at, enters, enters_at, refused_offer}
 use Rattle.dns_core.specs.SplitServer.{ServesSteps}
-use Rattle.dns_middleware.specs.declared.settings.Settings.{Settings}
+use Rattle.dns_service.specs.declared.settings.Settings.{Settings}
 use Rattle.dns_core.specs.declared.server.Server.{Server}
 use Rattle.dns_core.proofs.Counted.{put_there, put_other}
 use Rattle.dns_core.proofs.Late.{late_datagram, late_offer}

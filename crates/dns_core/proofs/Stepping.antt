@@ -39,7 +39,7 @@ use Rattle.dns_core.specs.Serves.{Holds, IsAt, LooksOne, Steps, StepsKey}
 use Rattle.dns_core.specs.Placed.{Knowledge, own_events, is_beginning, looks, puts, knows}
 use Rattle.dns_core.specs.Outs.{Hall, placed_slate, placed_gain, hall, step_gained, call_for, call_at, enters, enters_at, refused_offer, stepping}
 use Rattle.dns_core.specs.SplitServer.{ServesSteps}
-use Rattle.dns_middleware.specs.declared.settings.Settings.{Settings}
+use Rattle.dns_service.specs.declared.settings.Settings.{Settings}
 use Rattle.dns_core.specs.declared.server.Server.{Server}
 use Rattle.dns_core.proofs.Plain.{is_going, slot_kept}
 use Rattle.dns_core.proofs.Slots.{exchange_freed}

@@ -21,7 +21,7 @@ use Rattle.dns_core.specs.Own.{is_wide}
 use Rattle.dns_core.specs.Out.{is_unused, put}
 use Rattle.dns_core.specs.Placed.{Knowledge, book_now, begins, is_beginning, looks, puts, learns, knows}
 use Rattle.dns_core.specs.Outs.{Hall, placed_slate, placed_gain, hall, step_gained, outs, outs_after, call_for, call_at, enters, enters_at, refused_offer, stepping}
-use Rattle.dns_middleware.specs.declared.settings.Settings.{Settings}
+use Rattle.dns_service.specs.declared.settings.Settings.{Settings}
 use Rattle.dns_core.proofs.Placing.{knows_more, slate_more, gain_more, hall_more}
 use Rattle.dns_core.proofs.Tied.{tied, unused_kept, unused_list, untaken}
 use Rattle.dns_core.proofs.Stepping.{quiet_slate, own_slate, wide_quiet, other_step}

@@ -24,7 +24,7 @@ use Rattle.dns_core.specs.Out.{is_unused, put}
 use Rattle.dns_core.specs.ByClient.{is_for}
 use Rattle.dns_core.specs.Placed.{Knowledge, own_events, is_beginning, looks, puts, learns, place, placed, knows, knowledge_at_first}
 use Rattle.dns_core.specs.Outs.{Hall, placed_slate, placed_gain, hall, step_gained, outs, outs_after, call_for, call_at, enters, enters_at, refused_offer, stepping}
-use Rattle.dns_middleware.specs.declared.settings.Settings.{Settings}
+use Rattle.dns_service.specs.declared.settings.Settings.{Settings}
 use Rattle.dns_core.proofs.Counted.{put_other}
 use Rattle.dns_core.proofs.Gained.{concerns_all}
 use Rattle.dns_core.proofs.Named.{AreFor, IsOf, for_both, filter_for, filter_others, first_for, of_step, quiet, rule_for, silent_after, still_used, wide_begins_nobody}

@@ -13,7 +13,7 @@ use Rattle.dns_client.specs.Slate.{Slate}
 use Rattle.dns_core.specs.Out.{is_unused}
 use Rattle.dns_core.specs.Outs.{Hall, placed_slate, placed_gain, hall, step_gained, outs, outs_after}
 use Rattle.dns_core.specs.Placed.{knows}
-use Rattle.dns_middleware.specs.declared.settings.Settings.{Settings}
+use Rattle.dns_service.specs.declared.settings.Settings.{Settings}
 use Rattle.dns_core.proofs.Placing.{knows_more}
 use Rattle.dns_core.proofs.Tied.{tied}
 use Rattle.dns_core.proofs.Stepping.{other_quiet, own_gain, own_slate, quiet_slate}

@@ -26,7 +26,7 @@ use Rattle.dns_core.specs.Books.{book_rule}
 use Rattle.dns_core.specs.Placed.{begins, is_beginning, knows, looks, puts}
 use Rattle.dns_core.specs.Outs.{Hall, placed_slate, hall, call_for, call_at, enters, enters_at, stepping}
 use Rattle.dns_core.specs.StepsByClient.{slots_held}
-use Rattle.dns_middleware.specs.declared.settings.Settings.{Settings}
+use Rattle.dns_service.specs.declared.settings.Settings.{Settings}
 use Rattle.dns_core.proofs.Counted.{absent_other, filter_put, filter_put_not, filter_same, one_less}
 use Rattle.dns_core.proofs.Plain.{slot_kept, slot_stays}
 use Rattle.dns_core.proofs.Rising.{sorted_none, sorted_put}

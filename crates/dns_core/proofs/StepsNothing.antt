@@ -25,7 +25,7 @@ use Rattle.dns_core.specs.Books.{is_entry}
 use Rattle.dns_core.specs.Placed.{Knowledge, book_now, begins, is_beginning, looks, puts, learns, knows, placed}
 use Rattle.dns_core.specs.Outs.{Hall, placed_slate, placed_gain, hall, step_gained, outs, call_for, call_at, enters, enters_at, refused_offer, stepping}
 use Rattle.dns_core.specs.StepsByClient.{is_first}
-use Rattle.dns_middleware.specs.declared.settings.Settings.{Settings}
+use Rattle.dns_service.specs.declared.settings.Settings.{Settings}
 use Rattle.dns_core.proofs.AtOnce.{own_no_entry}
 use Rattle.dns_core.proofs.Plain.{closed_idle}
 use Rattle.dns_core.proofs.Settled.{Settled, nothing_received, settled_after}

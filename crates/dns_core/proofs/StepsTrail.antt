@@ -8,7 +8,7 @@ use Rattle.dns_core.specs.Placed.{placed}
 use Rattle.dns_core.specs.Sent.{sent}
 use Rattle.dns_core.specs.Settings.{opening}
 use Rattle.dns_core.specs.Trails.{no_trail, octets_sent, trail_after}
-use Rattle.dns_middleware.specs.declared.settings.Settings.{Settings}
+use Rattle.dns_service.specs.declared.settings.Settings.{Settings}
 use Rattle.dns_core.proofs.Trailing.{Kept}
 use Rattle.dns_core.proofs.TrailRules.{first_kept, kept_after}
 

@@ -22,7 +22,7 @@ use Rattle.dns_core.specs.Outs.{placed_slate, hall, step_gained, outs, outs_afte
 use Rattle.dns_core.specs.Placed.{is_beginning, knows, learned, knowledge_at_first, place, placed}
 use Rattle.dns_core.specs.Sent.{sent}
 use Rattle.dns_core.specs.StepsByClient.{TurnedAwayIn, finds_no_slot, is_offer, was_refused}
-use Rattle.dns_middleware.specs.declared.settings.Settings.{Settings}
+use Rattle.dns_service.specs.declared.settings.Settings.{Settings}
 use Rattle.dns_core.proofs.Counted.{put_there, put_keeps}
 use Rattle.dns_core.proofs.LooksIdle.{place_append}
 use Rattle.dns_core.proofs.Named.{filter_for, filter_others}

@@ -24,7 +24,7 @@ use Rattle.dns_core.specs.Trails.{is_open}
 use Rattle.dns_core.specs.Books.{book_rule, is_entry, books}
 use Rattle.dns_core.specs.Placed.{Knowledge, book_now, entries, own_events, is_beginning, begins, looks, puts, learns, place, learned, placed, knows, knowledge_at_first}
 use Rattle.dns_core.specs.Outs.{Hall, placed_slate, call_for, next_hall, hall_after, hall}
-use Rattle.dns_middleware.specs.declared.settings.Settings.{Settings}
+use Rattle.dns_service.specs.declared.settings.Settings.{Settings}
 use Rattle.dns_core.proofs.Plain.{Plain, plain_rule, narrow_conf, rule_used, unused_is, begun, offered}
 use Rattle.dns_core.proofs.Late.{NotOver, over_after, never_open}
 use Rattle.dns_core.proofs.Wide.{wide_idle}

@@ -19,7 +19,7 @@ use Rattle.dns_core.specs.Own.{own}
 use Rattle.dns_core.specs.Sent.{sent, sent_after, slate, slate_after}
 use Rattle.dns_core.specs.Settings.{opening}
 use Rattle.dns_core.specs.Trails.{Mark, Trail, IsSomewhere, dropped_by, dropped_of, is_open, marks, no_trail, octets_sent, poll_of, reply_at, trail_after, trailed}
-use Rattle.dns_middleware.specs.declared.settings.Settings.{Settings}
+use Rattle.dns_service.specs.declared.settings.Settings.{Settings}
 use Rattle.dns_core.proofs.Trailing.{AsksAll, AsksAt, Has, Keeps, Kept, closes, has_still, stays, still, still_polls, waits_with}
 use Rattle.dns_core.proofs.TrailExchanges.{datagram_keeps, exchange_keeps}
 use Rattle.dns_core.proofs.TrailPieces.{piece_keeps}

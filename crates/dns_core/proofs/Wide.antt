@@ -11,7 +11,7 @@ use Rattle.dns_core.specs.Own.{is_wide}
 use Rattle.dns_core.specs.Out.{is_unused, holds_slot, is_new}
 use Rattle.dns_core.specs.Sent.{slate}
 use Rattle.dns_core.specs.Trails.{is_open}
-use Rattle.dns_middleware.specs.declared.settings.Settings.{Settings}
+use Rattle.dns_service.specs.declared.settings.Settings.{Settings}
 use Rattle.dns_core.proofs.Plain.{unused_is, is_going, rule_used, slot_kept}
 use Rattle.dns_core.proofs.Gained.{slate_same, used_not_new, unused_not_new}
 

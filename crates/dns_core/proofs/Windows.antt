@@ -24,7 +24,7 @@ use Rattle.dns_client.specs.Rule.{rule, in_phase, unused_rule, open_rule}
 use Rattle.dns_core.specs.Budgets.{AllowsAtMost, StaysAtMost, queued_in}
 use Rattle.dns_core.specs.Settings.{opening}
 use Rattle.dns_core.specs.Trails.{is_open}
-use Rattle.dns_middleware.specs.declared.settings.Settings.{Settings}
+use Rattle.dns_service.specs.declared.settings.Settings.{Settings}
 use Rattle.dns_core.proofs.Grows.{Grows, carries, growth, grown, left_in, pieces, rested, turns}
 use Rattle.dns_core.proofs.Plain.{rule_conf}
 use Rattle.dns_core.proofs.Rests.{Rests, closed_on, closes, exchange_on, flushing_on, same, tick_on, winds, write_on}

@@ -7,7 +7,7 @@ use Rattle.dns_service.specs.declared.event.Output.{Output}
 use Rattle.dns_service.specs.declared.event.Output.TheVariants.{Datagram, Frame, Closed, TurnedAway}
 use Rattle.dns_core.specs.Sent.{slate}
 use Rattle.dns_core.specs.Out.{is_unused, members}
-use Rattle.dns_middleware.specs.declared.settings.Settings.{Settings}
+use Rattle.dns_service.specs.declared.settings.Settings.{Settings}
 
 -- the client that an output is for
 abbrev pub client_of : Output → ℕ

@@ -6,7 +6,7 @@ use Rattle.dns_service.specs.declared.event.Event.{Event}
 use Rattle.dns_service.specs.declared.event.Step.{Step}
 use Rattle.dns_core.specs.Books.{books}
 use Rattle.dns_core.specs.Placed.{entries}
-use Rattle.dns_middleware.specs.declared.settings.Settings.{Settings}
+use Rattle.dns_service.specs.declared.settings.Settings.{Settings}
 
 abbrev pub changes_from : State → List Step → List Event
 changes_from b [] = []

@@ -21,7 +21,7 @@ use Rattle.dns_core.specs.Settings.{opening}
 use Rattle.dns_core.specs.Sent.{slate_after, sent}
 use Rattle.dns_core.specs.Out.{is_unused, put}
 use Rattle.dns_core.specs.Placed.{placed}
-use Rattle.dns_middleware.specs.declared.settings.Settings.{Settings}
+use Rattle.dns_service.specs.declared.settings.Settings.{Settings}
 
 abbrev pub stepping : Step → ℕ
 stepping (Own e) = e.client

@@ -10,7 +10,7 @@ use Rattle.dns_service.specs.declared.event.Step.{Step}
 use Rattle.dns_service.specs.declared.event.Step.TheVariants.{Own, Look}
 use Rattle.dns_core.specs.Own.{is_wide}
 use Rattle.dns_core.specs.Books.{books, is_entry}
-use Rattle.dns_middleware.specs.declared.settings.Settings.{Settings}
+use Rattle.dns_service.specs.declared.settings.Settings.{Settings}
 
 -- what a client knows of the book: whether it began, the book at its last look, and the entries since, of which it has not heard
 pub record Knowledge : Type 0 where

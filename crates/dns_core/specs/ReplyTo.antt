@@ -18,7 +18,7 @@ use Rattle.dns_client.specs.Serving.{Serving}
 use Rattle.dns_core.specs.ByClient.{IsPrefix}
 use Rattle.dns_core.specs.Out.{is_new}
 use Rattle.dns_core.specs.Sent.{conf, slate}
-use Rattle.dns_middleware.specs.declared.settings.Settings.{Settings}
+use Rattle.dns_service.specs.declared.settings.Settings.{Settings}
 
 -- a message answers one of these octets: it carries its identifier, and QR
 abbrev pub Responds : List ℕ → Msg → Type 0

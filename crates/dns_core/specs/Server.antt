@@ -14,7 +14,7 @@ use Rattle.dns_client.specs.Slate.{conf_of}
 use Rattle.dns_core.specs.Sent.{conf, slate}
 use Rattle.dns_core.specs.Out.{members, taken, gained, is_unused, out}
 use Rattle.dns_core.specs.Serves.{Holds, IsAt}
-use Rattle.dns_middleware.specs.declared.settings.Settings.{Settings}
+use Rattle.dns_service.specs.declared.settings.Settings.{Settings}
 use Rattle.dns_core.specs.declared.server.Server.{Server}
 
 -- what is appended to outputs is what is sent for q and e, behind what is sent for q

@@ -5,7 +5,7 @@ use Rattle.dns_client.specs.Serving.{Serving}
 use Rattle.dns_client.specs.Slate.{Slate, fresh}
 use Rattle.dns_core.specs.Sent.{slate_after}
 use Rattle.dns_core.specs.Settings.{opening}
-use Rattle.dns_middleware.specs.declared.settings.Settings.{Settings}
+use Rattle.dns_service.specs.declared.settings.Settings.{Settings}
 
 abbrev pub slate_by : Serving → Settings → List Event → Slate
 slate_by answers settings es = slate_after answers (fresh (opening settings)) es

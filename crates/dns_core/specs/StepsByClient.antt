@@ -10,7 +10,7 @@ use Rattle.dns_service.specs.declared.event.Step.TheVariants.{Own}
 use Rattle.dns_client.specs.Serving.{Serving}
 use Rattle.dns_core.specs.Out.{holds_slot, is_unused}
 use Rattle.dns_core.specs.Outs.{hall, placed_slate}
-use Rattle.dns_middleware.specs.declared.settings.Settings.{Settings}
+use Rattle.dns_service.specs.declared.settings.Settings.{Settings}
 
 abbrev pub is_offer : EventKind → Bool
 is_offer (Offer addr) = true

@@ -29,7 +29,7 @@ ghost use Rattle.dns_core.specs.SlateBy.{slate_by};
 ghost use Rattle.dns_core.specs.Trails.{AreMarked, IsRising, IsSomewhere, in_order, no_trail, octets_sent, poll_of, polls_of, reply_at, trail_after};
 ghost use Rattle.dns_middleware.specs.Verdicts.{Verdicts, verdict_on};
 ghost use Rattle.dns_middleware.specs.Wrapped.{hint_left, replies};
-ghost use Rattle.dns_middleware.specs.declared.settings.Settings.{Settings};
+ghost use Rattle.dns_service.specs.declared.settings.Settings.{Settings};
 
 /// The headline, read by client. Of all that is sent, what is for an exchange or a connection is what the rules for it
 /// alone send for the events that it hears; to a client that was turned away it is told so, once; and nothing is for any

@@ -9,7 +9,7 @@ ghost use Rattle.dns_admission.specs.Admissions.{Admits};
 ghost use Rattle.dns_admission.specs.declared.call.Call.TheVariants.{Admit, Release};
 ghost use Rattle.dns_admission.specs.declared.look.Look.{Look as TheLook};
 ghost use Rattle.dns_service.specs.PolledRequest.{request_answer};
-ghost use Rattle.dns_middleware.specs.declared.settings.Settings.{Settings as TheSettings};
+ghost use Rattle.dns_service.specs.declared.settings.Settings.{Settings as TheSettings};
 ghost use Rattle.dns_core.specs.Own.{is_wide};
 ghost use Rattle.dns_core.specs.Out.{out};
 ghost use Rattle.dns_core.specs.Server.{Serves};

@@ -31,7 +31,7 @@ ghost use Rattle.dns_core.specs.StepsByClient.{TurnedAwayIn, finds_no_slot, is_f
 ghost use Rattle.dns_core.specs.Trails.{AreMarked, IsRising, IsSomewhere, in_order, no_trail, octets_sent, poll_of, polls_of, reply_at, trail_after};
 ghost use Rattle.dns_middleware.specs.Verdicts.{Verdicts, verdict_on};
 ghost use Rattle.dns_middleware.specs.Wrapped.{hint_left, replies};
-ghost use Rattle.dns_middleware.specs.declared.settings.Settings.{Settings};
+ghost use Rattle.dns_service.specs.declared.settings.Settings.{Settings};
 
 /// The headline, read by client. Of all that is sent for some steps, what is for an exchange or a connection is what the rules for
 /// it alone send for its own events and, before each look of it, the changes of the server that it has not heard of. A client whose

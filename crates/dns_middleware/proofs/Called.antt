@@ -11,7 +11,7 @@ use Rattle.dns_service.specs.Req.{Req}
 use Rattle.dns_service.specs.Transport.{hint_of, limit}
 use Rattle.dns_middleware.specs.declared.notice.Notice.{Notice}
 use Rattle.dns_middleware.specs.declared.refusal.Refusal.{Refusal}
-use Rattle.dns_middleware.specs.declared.settings.Settings.{Settings}
+use Rattle.dns_service.specs.declared.settings.Settings.{Settings}
 use Rattle.dns_middleware.specs.declared.wrap_post.WrapPost.{WrapPost}
 use Rattle.dns_middleware.specs.Cookies.{cookie_own}
 use Rattle.dns_middleware.specs.Edns.{passed_by, transport_by}

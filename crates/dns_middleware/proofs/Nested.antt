@@ -12,7 +12,7 @@ use Rattle.dns_service.specs.Req.{Req}
 use Rattle.dns_service.specs.ServiceFn.{hint_at_entry}
 use Rattle.dns_service.specs.Transport.{is_stream, limit}
 use Rattle.dns_middleware.specs.declared.notice.Notice.{Notice}
-use Rattle.dns_middleware.specs.declared.settings.Settings.{Settings}
+use Rattle.dns_service.specs.declared.settings.Settings.{Settings}
 use Rattle.dns_middleware.specs.Cookies.{cookie_own, cookies, cookies_by, denied_over}
 use Rattle.dns_middleware.specs.Edns.{edns, edns_by_code, edns_hint, edns_passed, opt_refusal, passed_by, transport_by}
 use Rattle.dns_middleware.specs.Mandatory.{hint_by, mandatory, mandatory_by, mandatory_hint, mandatory_refusal}

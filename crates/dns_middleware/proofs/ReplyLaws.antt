@@ -8,7 +8,7 @@ use Rattle.dns_service.specs.declared.service.Polled.TheVariants.{Pending, Ready
 use Rattle.dns_service.specs.Answer.{Answer, mapped}
 use Rattle.dns_service.specs.Req.{Req}
 use Rattle.dns_middleware.specs.declared.notice.Notice.{Notice}
-use Rattle.dns_middleware.specs.declared.settings.Settings.{Settings}
+use Rattle.dns_service.specs.declared.settings.Settings.{Settings}
 use Rattle.dns_middleware.specs.Edns.{edns_post}
 use Rattle.dns_middleware.specs.Mandatory.{mand_post}
 use Rattle.dns_middleware.specs.Notify.{PolledVerdict, asking}

@@ -3,7 +3,7 @@ use Rattle.std.specs.Prelude.{ℕ, ◌≡◌}
 use Rattle.dns_service.specs.Answer.{Answer}
 use Rattle.dns_service.specs.Req.{Req}
 use Rattle.dns_middleware.specs.declared.notice.Notice.{Notice}
-use Rattle.dns_middleware.specs.declared.settings.Settings.{Settings}
+use Rattle.dns_service.specs.declared.settings.Settings.{Settings}
 use Rattle.dns_middleware.specs.Cookies.{cookies}
 use Rattle.dns_middleware.specs.Edns.{edns, edns_hint}
 use Rattle.dns_middleware.specs.Mandatory.{mandatory, mandatory_hint}

@@ -12,7 +12,7 @@ use Rattle.dns_service.specs.Transport.{hint_of, is_stream, limit}
 use Rattle.dns_middleware.specs.declared.notice.Notice.{Notice}
 use Rattle.dns_middleware.specs.declared.refusal.Refusal.{Refusal}
 use Rattle.dns_middleware.specs.declared.refusal.Refusal.TheVariants.{FromOutside, FromInside}
-use Rattle.dns_middleware.specs.declared.settings.Settings.{Settings}
+use Rattle.dns_service.specs.declared.settings.Settings.{Settings}
 use Rattle.dns_middleware.specs.Cookies.{cookie_own}
 use Rattle.dns_middleware.specs.Edns.{edns_post, opt_refusal, passed_by}
 use Rattle.dns_middleware.specs.Mandatory.{mand_post, mandatory_refusal}

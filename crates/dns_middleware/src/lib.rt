@@ -18,7 +18,6 @@ mod notify_reply;
 mod passing;
 mod refusal;
 mod rewrite;
-mod settings;
 mod wrap_post;
 mod wrapped;
 mod wrapped_calls;
@@ -28,7 +27,7 @@ mod wrapped_stream;
 pub use ask_stream::AskStream;
 pub use cookie_verdict::{CookieAnswer, CookieVerdict};
 pub use cookies::{CookieStream, CookiesMiddlewareSvc};
-pub use dns_service::{MINIMUM_RESPONSE_BYTE_LEN, cut, cut_fits, items_begin_with_opt};
+pub use dns_service::{MINIMUM_RESPONSE_BYTE_LEN, Settings, cut, cut_fits, items_begin_with_opt};
 pub use edns::EdnsMiddlewareSvc;
 pub use edns_post::EdnsPost;
 pub use layered::Layered;
@@ -39,7 +38,6 @@ pub use notifiable::{Notifiable, NotifyError, VerdictFuture};
 pub use notify::{NotifyMiddlewareSvc, NotifyStream};
 pub use refusal::Refusal;
 pub use rewrite::{Rewrite, Rewriting};
-pub use settings::Settings;
 pub use wrap_post::WrapPost;
 pub use wrapped::{
     ComingReplies, Wrapped, WrappedReplies, wrap, wrapped_is_nested, wrapped_replies_fit,

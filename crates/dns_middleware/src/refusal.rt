@@ -6,9 +6,8 @@ ghost use Rattle.dns_middleware.specs.Wrapped.{refusal_by, size_by};
 
 use crate::edns::opt_refusal;
 use crate::mandatory::mandatory_refusal;
-use crate::settings::Settings;
 use dns_name::OptRcode;
-use dns_service::{Asked, Request, TransportSpecificContext, read_asked};
+use dns_service::{Asked, Request, Settings, TransportSpecificContext, read_asked};
 
 /// Why a request is refused: by what each server does, or by EDNS, whose rule its reply then goes through.
 #[derive(Clone, Copy, Debug, PartialEq, Eq)]

@@ -8,11 +8,10 @@ ghost use Rattle.dns_middleware.specs.Wrapped.{hint_left, refusal_by, replies};
 
 use crate::notifiable::Notifiable;
 use crate::refusal::{Refusal, read_request, refusal_by};
-use crate::settings::Settings;
 use crate::wrapped_calls::{not_refused, refused};
 use crate::wrapped_future::WrappedFuture;
 use crate::wrapped_stream::WrappedStream;
-use dns_service::{Asked, OutOfMemory, Request, Service, cut_fits};
+use dns_service::{Asked, OutOfMemory, Request, Service, Settings, cut_fits};
 use std::alloc::Global;
 
 /// A service in its layers.

@@ -22,12 +22,11 @@ use crate::notifiable::Notifiable;
 use crate::passing::{call_passed, hint_passed, pass_on};
 use crate::refusal::{Refusal, size_by};
 use crate::rewrite::Rewrite;
-use crate::settings::Settings;
 use crate::wrap_post::WrapPost;
 use crate::wrapped::{ComingReplies, Wrapped};
 use crate::wrapped_future::WrappedFuture;
 use dns_base::AdditionalBuilder;
-use dns_service::{Asked, OutOfMemory, ReplyFuture, Request, Service};
+use dns_service::{Asked, OutOfMemory, ReplyFuture, Request, Service, Settings};
 use std::alloc::Global;
 
 /// How a request is passed on: by the client's size, and by this rule for its replies.

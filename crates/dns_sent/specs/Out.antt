@@ -9,7 +9,7 @@ use Rattle.dns_client.specs.Slate.{Slate, Phase, Unused, Exchange}
 use Rattle.dns_client.specs.Rule.{rule}
 use Rattle.dns_sent.specs.Own.{concerns}
 use Rattle.dns_sent.specs.Sent.{conf, slate}
-use Rattle.dns_middleware.specs.declared.settings.Settings.{Settings}
+use Rattle.dns_service.specs.declared.settings.Settings.{Settings}
 
 abbrev pub is_unused : Phase → Bool
 is_unused Unused = true

@@ -7,7 +7,7 @@ use Rattle.dns_client.specs.Slate.{Slate, Conf, conf_rule, fresh}
 pub use Rattle.dns_client.specs.After.{slate_after, sent_after}
 use Rattle.dns_sent.specs.Settings.{opening}
 use Rattle.dns_sent.specs.Own.{own}
-use Rattle.dns_middleware.specs.declared.settings.Settings.{Settings}
+use Rattle.dns_service.specs.declared.settings.Settings.{Settings}
 
 -- the configurations that are in force after some events
 abbrev pub conf_after : Conf → List Event → Conf

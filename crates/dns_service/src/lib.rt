@@ -22,6 +22,7 @@ mod reply;
 mod reply_error;
 mod served;
 mod service;
+mod settings;
 
 pub use asked::{Asked, AskedCookie, AskedOpt, AskedRecord, read_asked};
 pub use config::{ConnectionConfig, DgramConfig, StreamConfig};
@@ -45,3 +46,4 @@ pub use service::{
     CallResult, Polled, ReplyFuture, ReplyStream, Service, ServiceError, ServiceFeedback,
     ServiceResult,
 };
+pub use settings::Settings;

@@ -3,12 +3,12 @@
 ghost use Rattle.std.specs.Prelude.{◌≡◌, true, None, [], IfOk};
 ghost use Rattle.dns_service.specs.Config.{default_dgram, default_stream};
 
-use dns_base::Addrs;
-use dns_service::{DgramConfig, OutOfMemory, StreamConfig};
+use crate::config::{DgramConfig, StreamConfig};
+use dns_name::{Addrs, OutOfMemory};
 use std::alloc::Global;
 
 /// The settings of a server. The secret of server cookies has 16 octets (RFC 9018, section 4).
-#[derive(Drop)]
+#[derive(Debug, Drop)]
 pub struct Settings {
     /// Whether faulty queries are refused.
     pub strict: bool,
