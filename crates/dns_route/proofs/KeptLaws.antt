@@ -10,7 +10,7 @@ use Rattle.dns_route.specs.Kept.{keeps, kept_options, kept_of_list}
 
 -- ---- the first option of a list
 
-split_size : (code n : ℕ) (x : List ℕ) (c : ℕ) (d r : List ℕ) → split_at code n x ≡ Some (c, d, r) → length x ≡ length d + length r
+pub split_size : (code n : ℕ) (x : List ℕ) (c : ℕ) (d r : List ℕ) → split_at code n x ≡ Some (c, d, r) → length x ≡ length d + length r
 split_size code n x c d r e =
     let q = cond_some (nat_le n (length x)) (code, take n x, drop n x) (c, d, r) e in
     let h = leb-true n (length x) q.0 in
@@ -31,7 +31,7 @@ mapped p None ps e = cc
 mapped p (Some qs) ps e = (qs, refl, cc)
 
 -- the options by the first one, and those behind it
-first_pair : (n : ℕ) (o : List ℕ) (ps : List (ℕ × List ℕ)) (c : ℕ) (d r : List ℕ) → options_up_to n o ≡ Some ps → first_option o ≡ Some (c, d, r) → (m : ℕ) × (qs : List (ℕ × List ℕ)) × (options_up_to m r ≡ Some qs) × (ps ≡ (c, d) ∷ qs)
+pub first_pair : (n : ℕ) (o : List ℕ) (ps : List (ℕ × List ℕ)) (c : ℕ) (d r : List ℕ) → options_up_to n o ≡ Some ps → first_option o ≡ Some (c, d, r) → (m : ℕ) × (qs : List (ℕ × List ℕ)) × (options_up_to m r ≡ Some qs) × (ps ≡ (c, d) ∷ qs)
 first_pair zero [] ps c d r e f = cc
 first_pair zero (a ∷ o) ps c d r e f = cc
 first_pair (suc n) [] ps c d r e f = cc
@@ -40,7 +40,7 @@ first_pair (suc n) (a ∷ o) ps c d r e f =
     let q = mapped (c, d) (options_up_to n r) ps g in
     (n, q.0, q.1, q.2)
 
-no_pairs : (n : ℕ) (o : List ℕ) (ps : List (ℕ × List ℕ)) → options_up_to n o ≡ Some ps → first_option o ≡ None → ps ≡ []
+pub no_pairs : (n : ℕ) (o : List ℕ) (ps : List (ℕ × List ℕ)) → options_up_to n o ≡ Some ps → first_option o ≡ None → ps ≡ []
 no_pairs zero [] ps e f = cc
 no_pairs zero (a ∷ o) ps e f = cc
 no_pairs (suc n) [] ps e f = cc
@@ -50,7 +50,7 @@ no_pairs (suc n) (a ∷ o) ps e f =
 
 -- ---- the walk
 
-some_of : (x : Option (List (ℕ × List ℕ))) → is_some x ≡ true → (ps : List (ℕ × List ℕ)) × (x ≡ Some ps)
+pub some_of : (x : Option (List (ℕ × List ℕ))) → is_some x ≡ true → (ps : List (ℕ × List ℕ)) × (x ≡ Some ps)
 some_of None h = cc
 some_of (Some ps) h = (ps, refl)
 
