@@ -1,6 +1,6 @@
 //! A bounded cache in front of a single service.
 
-ghost use Rattle.std.specs.Prelude.{◌≡◌, ◌<◌, ◌≤◌, [], IfOk, OnOk, OnErr, Some, option_and_then};
+ghost use Rattle.std.specs.Prelude.{◌≡◌, ◌<◌, ◌≤◌, [], IfOk, Ok, OnOk, OnErr, Some, option_and_then};
 ghost use Rattle.std.specs.Map.{lookup};
 ghost use Rattle.lru.specs.LruCache.{lru_cache};
 ghost use Rattle.dns_cache.specs.AskedCache.{Answers, asked_cache, cached_message, kept_answer, with_kept, young_message};
@@ -82,7 +82,7 @@ impl Cache {
     {
         match self.first_answer(alloc, request, k, &key) {
             Ok(Some(reply)) => Ok(Polled::Ready(Ok(reply))),
-            Ok(None) => self.ask_service(alloc, service, request, k, key),
+            Ok(None) => self.keep_turn(alloc, request, key, service.turn(alloc, request, k)),
             Err(error) => Err(error),
         }
     }
@@ -104,26 +104,6 @@ impl Cache {
             return self.use_entry(alloc, request, key);
         }
         Ok(None)
-    }
-
-    /// The service's answer, kept where it can be.
-    fn ask_service<S: SingleService>(
-        &mut self,
-        alloc: Global,
-        service: &S,
-        request: &Request<()>,
-        k: u64,
-        key: CacheKey,
-    ) -> Result<Turned, OutOfMemory>
-        requires { key_of request.now.octets ≡ Some key }
-        ensures answer { IfOk result (λ p. p ≡ S.answer service.now request.now k) }
-        ensures kept { OnOk result (self.new ≡ with_kept key self.old (kept_answer request.now (S.answer service.now request.now k))) }
-        ensures err { OnErr result (self.new ≡ self.old) }
-    {
-        match service.turn(alloc, request, k) {
-            Ok(turned) => self.keep_turn(alloc, request, key, turned),
-            Err(error) => Err(error),
-        }
     }
 
     /// The reply of a young entry of the key, which comes first.
@@ -154,15 +134,18 @@ impl Cache {
         alloc: Global,
         request: &Request<()>,
         key: CacheKey,
-        turned: Turned,
+        turned: Result<Turned, OutOfMemory>,
     ) -> Result<Turned, OutOfMemory>
         requires { key_of request.now.octets ≡ Some key }
-        ensures answer { IfOk result (λ p. p ≡ turned) }
-        ensures kept { OnOk result (self.new ≡ with_kept key self.old (kept_answer request.now turned)) }
+        ensures answer { IfOk result (λ p. turned ≡ Ok p) }
+        ensures kept { IfOk result (λ p. self.new ≡ with_kept key self.old (kept_answer request.now p)) }
         ensures err { OnErr result (self.new ≡ self.old) }
     {
-        match self.keep_answer(alloc, request, key, &turned) {
-            Ok(()) => Ok(turned),
+        match turned {
+            Ok(turned) => match self.keep_answer(alloc, request, key, &turned) {
+                Ok(()) => Ok(turned),
+                Err(error) => Err(error),
+            },
             Err(error) => Err(error),
         }
     }
