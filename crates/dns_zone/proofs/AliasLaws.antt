@@ -1,11 +1,11 @@
 -- Aliases that are followed, as places.
-use Rattle.std.proofs.Common.{◌≡◌, ℕ, zero, suc, ◌+◌, ◌-◌, ◌<◌, Bool, true, false, List, [], ◌∷◌, ◌++◌, length, nat_eq, Option, Some, None, Bor, refl, ap, sym, ◌∙◌, arith, append_assoc, append-nil}
+use Rattle.std.proofs.Common.{◌≡◌, ℕ, zero, suc, ◌+◌, ◌-◌, ◌<◌, true, false, List, [], ◌∷◌, ◌++◌, length, Some, None, Bor, refl, ap, sym, ◌∙◌, arith, append_assoc, append-nil}
 use Rattle.std.specs.Prelude.{◌&&◌, not, if◌then◌else◌}
-use Rattle.std.specs.List.{cons_option, filter, filter_map, list_any, slice_get}
+use Rattle.std.specs.List.{cons_option, list_any, slice_get}
 use Rattle.std.proofs.lemmas.List.Elements.{filter_map-append}
 use Rattle.dns_message.specs.declared.record.Record.{Record}
 use Rattle.dns_route.specs.Routes.{ends_name}
-use Rattle.dns_zone.specs.declared.aliases.Lead.TheVariants.{Alias, Found, Nowhere}
+use Rattle.dns_zone.specs.declared.aliases.Lead.TheVariants.{Alias}
 use Rattle.dns_zone.specs.Aliases.{aliased, followed, gone_on, is_within, unaliased}
 use Rattle.dns_zone.specs.Cuts.{is_cut_off}
 use Rattle.dns_zone.specs.Found.{AreAliases, Leads, target_of}

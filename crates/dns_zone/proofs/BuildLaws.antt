@@ -1,11 +1,10 @@
--- How long messages are, and what has no room in them.
-use Rattle.std.proofs.Common.{◌≡◌, ℕ, zero, suc, ◌+◌, ◌≤◌, ◌<◌, Bool, true, false, List, [], ◌∷◌, ◌++◌, length, map, drop, cond, get_or, Err, Ok, refl, ap, sym, subst, ◌∙◌, arith, append_assoc, append-nil, length-append, nat_le}
-use Rattle.std.specs.Prelude.{⊤, if◌then◌else◌, Option, Some, None, Result}
-use Rattle.std.specs.List.{cons_option, filter, filter_map, flat_map, slice_get}
+-- Records that are added by their places, and what has no room in a message.
+use Rattle.std.proofs.Common.{◌≡◌, ℕ, zero, suc, ◌+◌, ◌≤◌, ◌<◌, Bool, true, false, List, [], ◌∷◌, ◌++◌, length, map, drop, cond, get_or, Err, Ok, refl, ap, sym, subst, ◌∙◌, arith, append_assoc, nat_le}
+use Rattle.std.specs.Prelude.{⊤, if◌then◌else◌, Some, None, Result}
+use Rattle.std.specs.List.{cons_option, filter, slice_get}
 use Rattle.std.proofs.lemmas.List.{drop_more, map-append}
 use Rattle.std.proofs.lemmas.List.Elements.{filter_map-append}
 use Rattle.std.proofs.lemmas.Bool.Decides.{nat_tests}
-use Rattle.std.proofs.lemmas.Grind.{flat_map-append}
 use Rattle.dns_base.specs.declared.draft.Section.{Section}
 use Rattle.dns_base.specs.declared.draft.Section.TheVariants.{Answer, Authority, Additional}
 use Rattle.dns_base.specs.declared.error.PushError.{PushError}
@@ -18,35 +17,13 @@ use Rattle.dns_base.specs.Msg.{Msg, ResourceRecord}
 use Rattle.dns_base.specs.Records.{IsLawful, record_of}
 use Rattle.dns_base.specs.Replies.{Answers, answer_header, have_room, with_copied, with_questions, within_limit}
 use Rattle.dns_base.specs.Sections.{questions_of}
-use Rattle.dns_base.specs.Wire.{question_octets, record_octets, wire}
+use Rattle.dns_base.specs.Wire.{wire}
 use Rattle.dns_message.specs.declared.record.Record.{Record}
+use Rattle.dns_base.proofs.BuildLaws.{grows, no_records, question_first, questions_grow, wire_size}
 use Rattle.dns_zone.specs.Owned.{AreLawful, HasLawfulData, ZoneState, is_of}
 use Rattle.dns_zone.specs.Places.{at_places}
-use Rattle.dns_zone.specs.ZoneReply.{ZoneReply, negative_soa, referral}
+use Rattle.dns_zone.specs.ZoneReply.{ZoneReply, delegation, negative_soa, referral}
 use Rattle.dns_zone.specs.ZoneTurns.{zone_begun, zone_message}
-
--- how many octets questions and records take
-abbrev pub questions_size : List Question → ℕ
-questions_size qs = length (flat_map question_octets qs)
-
-abbrev pub records_size : List ResourceRecord → ℕ
-records_size rs = length (flat_map record_octets rs)
-
-pub wire_size : (m : Msg) → length (wire m) ≡ 12 + (questions_size m.questions + (records_size m.answers + (records_size m.authority + records_size m.additional)))
-unfolding wire
-wire_size m =
-    omega (
-      arith,
-      length-append (flat_map question_octets m.questions) (flat_map record_octets m.answers ++ (flat_map record_octets m.authority ++ flat_map record_octets m.additional)),
-      length-append (flat_map record_octets m.answers) (flat_map record_octets m.authority ++ flat_map record_octets m.additional),
-      length-append (flat_map record_octets m.authority) (flat_map record_octets m.additional),
-    )
-
-questions_more : (xs ys : List Question) → questions_size (xs ++ ys) ≡ questions_size xs + questions_size ys
-questions_more xs ys = ap length (flat_map-append question_octets xs ys) ∙ length-append (flat_map question_octets xs) (flat_map question_octets ys)
-
-records_more : (xs ys : List ResourceRecord) → records_size (xs ++ ys) ≡ records_size xs + records_size ys
-records_more xs ys = ap length (flat_map-append record_octets xs ys) ∙ length-append (flat_map record_octets xs) (flat_map record_octets ys)
 
 -- ---- records that are added
 
@@ -55,17 +32,6 @@ pub records_then : (s : Section) (b : Built) (xs ys : List ResourceRecord) → w
 records_then Answer b xs ys = ap (λ l. record b { message = record b.message { answers = l } }) (append_assoc b.message.answers xs ys)
 records_then Authority b xs ys = ap (λ l. record b { message = record b.message { authority = l } }) (append_assoc b.message.authority xs ys)
 records_then Additional b xs ys = ap (λ l. record b { message = record b.message { additional = l } }) (append_assoc b.message.additional xs ys)
-
-pub no_records : (s : Section) (b : Built) → with_records s b [] ≡ b
-no_records Answer b = ap (λ l. record b { message = record b.message { answers = l } }) (append-nil b.message.answers)
-no_records Authority b = ap (λ l. record b { message = record b.message { authority = l } }) (append-nil b.message.authority)
-no_records Additional b = ap (λ l. record b { message = record b.message { additional = l } }) (append-nil b.message.additional)
-
--- a message grows by records
-pub grows : (s : Section) (b : Built) (rs : List ResourceRecord) → length (wire (with_records s b rs).message) ≡ length (wire b.message) + records_size rs
-grows Answer b rs = omega (arith, wire_size (with_records Answer b rs).message, wire_size b.message, records_more b.message.answers rs)
-grows Authority b rs = omega (arith, wire_size (with_records Authority b rs).message, wire_size b.message, records_more b.message.authority rs)
-grows Additional b rs = omega (arith, wire_size (with_records Additional b rs).message, wire_size b.message, records_more b.message.additional rs)
 
 pub limit_stays : (s : Section) (b : Built) (rs : List ResourceRecord) → (with_records s b rs).limit ≡ b.limit
 limit_stays Answer b rs = refl
@@ -152,12 +118,6 @@ begun_within o r = omega (arith, wire_size (zone_begun o r.rcode r.aa), wire_siz
 
 -- ---- questions that are copied
 
-question_first : (b : Built) (x : Question) (ys : List Question) → with_questions (with_question b x) ys ≡ with_questions b (x ∷ ys)
-question_first b x ys = ap (λ l. record b { message = record b.message { questions = l } }) (append_assoc b.message.questions (x ∷ []) ys)
-
-questions_grow : (b : Built) (qs : List Question) → length (wire (with_questions b qs).message) ≡ length (wire b.message) + questions_size qs
-questions_grow b qs = omega (arith, wire_size (with_questions b qs).message, wire_size b.message, questions_more b.message.questions qs)
-
 no_room_step : (b : Built) (q : Question) (qs : List Question) (w : Bool) → nat_le (length (wire (with_question b q).message)) b.limit ≡ w →
     ((with_copied (with_question b q) qs).1 ≡ false → b.limit < length (wire (with_questions (with_question b q) qs).message)) →
     (if w then with_copied (with_question b q) qs else (b, false)).1 ≡ false → b.limit < length (wire (with_questions (with_question b q) qs).message)
@@ -188,6 +148,11 @@ pub begun_short : (o : List ℕ) (r : ZoneReply) (code : ℕ) (e : PushError) �
 begun_short o r code e i h =
     more_refused (zone_begun o r.rcode r.aa) (zone_message o r) e (begun_within o r) (subst (λ (k : ℕ). Builds (unlimited (zone_begun o k r.aa)) (Err e)) i h)
 
+-- data of one more record can be written
+pub lawful_more : (rs : List Record) (r : Record) → AreLawful rs → IsLawful r.rdata → AreLawful (rs ++ r ∷ [])
+lawful_more [] r h k = (k, tt)
+lawful_more (x ∷ rs) r h k = (h.0, lawful_more rs r h.1 k)
+
 some_lawful : (p : Record → Bool) (rs : List Record) → AreLawful rs → AreLawful (filter p rs)
 some_lawful p [] h = tt
 some_lawful p (r ∷ rs) h = elim (p r) as (λ (b : Bool). AreLawful (cond b (r ∷ filter p rs) (filter p rs))) [ true ↦ (h.0, some_lawful p rs h.1) | false ↦ some_lawful p rs h.1 ]
@@ -206,12 +171,17 @@ builds_none : (new more : Built) (e : PushError) → Becomes new more (Err e) �
 builds_none new more ShortBuf h = h
 builds_none new more NoMemory h = tt
 
--- a referral whose authority section has no room has none
-pub referral_short : (o : List ℕ) (z : ZoneState) (rs : List Record) (b new : Built) (servers : List ℕ) (e : PushError) → b ≡ unlimited (zone_begun o 0 false) → rs ≡ z.records →
-    Becomes new (with_records Authority b (map record_of (at_places rs servers))) (Err e) → Builds (unlimited (zone_message o (referral z (at_places z.records servers)))) (Err e)
-referral_short o z rs b new servers e i j h =
-    let ns = map record_of (at_places z.records servers) in
-    let m = (with_records Authority (unlimited (zone_begun o 0 false)) ns).message in
+-- where the name servers of a cut have no room
+pub delegation_short : (o : List ℕ) (z rs : List Record) (b new : Built) (servers : List ℕ) (e : PushError) → b ≡ unlimited (zone_begun o 0 false) → rs ≡ z →
+    Becomes new (with_records Authority b (map record_of (at_places rs servers))) (Err e) → Builds (unlimited (zone_message o (delegation (at_places z servers)))) (Err e)
+delegation_short o z rs b new servers e i j h =
+    let m = zone_message o (delegation (at_places z servers)) in
     let k : with_records Authority b (map record_of (at_places rs servers)) ≡ unlimited m = ap (λ (c : Built). with_records Authority c (map record_of (at_places rs servers))) i ∙ ap (λ l. with_records Authority (unlimited (zone_begun o 0 false)) (map record_of (at_places l servers))) j in
-    more_refused m (zone_message o (referral z (at_places z.records servers))) e (omega (arith, wire_size m, wire_size (zone_message o (referral z (at_places z.records servers)))))
-    (builds_none new (unlimited m) e (subst (λ (c : Built). Becomes new c (Err e)) k h))
+    builds_none new (unlimited m) e (subst (λ (c : Built). Becomes new c (Err e)) k h)
+
+-- a referral whose authority section has no room has none
+pub referral_short : (o : List ℕ) (z : ZoneState) (servers : List Record) (e : PushError) → Builds (unlimited (zone_message o (delegation servers))) (Err e) → Builds (unlimited (zone_message o (referral z servers))) (Err e)
+referral_short o z servers e h =
+    let m = zone_message o (delegation servers) in
+    let n = zone_message o (referral z servers) in
+    more_refused m n e (omega (arith, wire_size m, wire_size n)) h

@@ -1,6 +1,6 @@
 -- The first record that passes a test, how many do, and what a list is refused for.
-use Rattle.std.proofs.Common.{◌≡◌, ℕ, ◌+◌, ◌<◌, Bool, true, false, List, [], ◌∷◌, length, map, drop, cond, get_or, nat_eq, Option, Some, None, Result, Ok, Err, refl, ap, sym, ◌∙◌, arith}
-use Rattle.std.specs.Prelude.{◌&&◌, nat_lt, option_map}
+use Rattle.std.proofs.Common.{◌≡◌, ℕ, ◌+◌, ◌<◌, Bool, true, false, List, [], ◌∷◌, length, map, drop, cond, get_or, Some, None, refl, ap, sym, ◌∙◌, arith}
+use Rattle.std.specs.Prelude.{◌&&◌, nat_lt}
 use Rattle.std.specs.List.{filter, position, position_from}
 use Rattle.std.proofs.lemmas.List.{at_drop_more, at_drop_all, nil_from_length}
 use Rattle.std.proofs.lemmas.Iterator.Adapters.{position_from-zero}
@@ -10,7 +10,6 @@ use Rattle.dns_zone.specs.declared.name_places.NamePlaces.{NamePlaces}
 use Rattle.dns_zone.specs.Kept.{KnowsPlaces, places_under}
 use Rattle.dns_zone.specs.Owned.{is_asked, is_of, is_owned}
 use Rattle.dns_zone.specs.Paths.{name_path}
-use Rattle.dns_zone.specs.Places.{places}
 use Rattle.dns_zone.specs.ZoneErrors.{is_crowded}
 use Rattle.dns_zone.proofs.KeepLaws.{places_asked}
 use Rattle.dns_zone.proofs.PlaceLaws.{places_count}

@@ -1,12 +1,11 @@
 -- The cut for a name, found label by label from the apex on.
-use Rattle.std.proofs.Common.{◌≡◌, ℕ, suc, ◌+◌, ◌-◌, ◌≤◌, ◌<◌, Bool, true, false, List, [], ◌∷◌, ◌++◌, length, map, take, drop, reverse, cond, get_or, nat_eq, nat_le, refl, ap, sym, subst, ◌∙◌, arith, length-append}
-use Rattle.std.specs.Prelude.{◌&&◌, ◌||◌, ◌==◌, not, IsTrue}
+use Rattle.std.proofs.Common.{◌≡◌, ℕ, ◌+◌, ◌-◌, ◌≤◌, ◌<◌, Bool, true, false, List, [], ◌∷◌, ◌++◌, length, map, take, drop, reverse, cond, get_or, nat_eq, nat_le, refl, ap, sym, ◌∙◌, arith, length-append}
+use Rattle.std.specs.Prelude.{◌&&◌, ◌||◌, ◌==◌, not}
 use Rattle.std.specs.Char.{to_ascii_lowercase}
 use Rattle.std.specs.Cmp.{both_ways}
 use Rattle.std.specs.List.{AllByRecursion, filter, list_all, list_any, starts_with}
-use Rattle.std.specs.Str.{bytes_eq}
 use Rattle.std.proofs.lemmas.Bool.Decides.{nat_tests}
-use Rattle.std.proofs.lemmas.List.{length-reverse, length-map, take-append-drop, take_all, take_at, drop_at, take_more, drop_more, get_or_at, length-take-le}
+use Rattle.std.proofs.lemmas.List.{length-reverse, length-map, take-append-drop, take_all, take_at, take_more, drop_more, get_or_at}
 use Rattle.dns_name.specs.Canonical.{same_name, same_name_Decides}
 use Rattle.dns_name.specs.Labels.{folded, spell}
 use Rattle.dns_message.specs.declared.record.Record.{Record}
@@ -17,7 +16,7 @@ use Rattle.dns_zone.specs.Kept.{IsInZone, KnowsPlaces, places_under, stands_unde
 use Rattle.dns_zone.specs.Owned.{ZoneState, is_of}
 use Rattle.dns_zone.specs.Paths.{marked, name_path}
 use Rattle.dns_zone.specs.Places.{at_places, places}
-use Rattle.dns_zone.proofs.PathLaws.{Begins, begins_of, both_true, coded, coded_append, ends_of, eq_true, first_true, le_true, path_at, path_begins, path_coded, second_true, true_eq, true_le, turned, turned_length}
+use Rattle.dns_zone.proofs.PathLaws.{begins_of, both_true, coded, coded_append, eq_true, first_true, le_true, path_at, path_begins, path_coded, second_true, true_eq, true_le, turned, turned_length}
 use Rattle.dns_zone.proofs.PlaceLaws.{at_places_of, places_agree, places_none, places_some}
 
 -- ---- records at a level: NS records whose owners have so many labels and end a name

@@ -1,6 +1,6 @@
 -- Which cause a list is refused for, and what follows where it is for none.
-use Rattle.std.proofs.Common.{◌≡◌, ℕ, ◌+◌, Bool, true, false, List, [], ◌∷◌, ◌++◌, length, cond, nat_eq, Option, Some, None, Result, Ok, Err, refl, ap, sym, ◌∙◌}
-use Rattle.std.specs.Prelude.{⊤, not, if◌then◌else◌, option_map}
+use Rattle.std.proofs.Common.{◌≡◌, ℕ, zero, suc, ◌+◌, Bool, true, false, List, [], ◌∷◌, ◌++◌, length, drop, cond, nat_eq, Option, Some, None, Ok, Err, refl, ap, sym, ◌∙◌}
+use Rattle.std.specs.Prelude.{not, if◌then◌else◌, option_map}
 use Rattle.std.specs.List.{AllByRecursion, filter, position, position_from}
 use Rattle.std.proofs.lemmas.Iterator.Adapters.{position_from-zero}
 use Rattle.dns_message.specs.declared.record.Record.{Record}
@@ -31,9 +31,20 @@ cause_next [] ys h = refl
 cause_next (None ∷ xs) ys h = cause_next xs ys h
 cause_next (Some x ∷ xs) ys h = absurd (cc)
 
-cause_none : (o : Option ZoneError) (xs : List (Option ZoneError)) → first_cause (o ∷ xs) ≡ None → (o ≡ None) × (first_cause xs ≡ None)
-cause_none None xs h = (refl, h)
+earlier_none : (xs ys : List (Option ZoneError)) → first_cause (xs ++ ys) ≡ None → first_cause xs ≡ None
+earlier_none [] ys h = refl
+earlier_none (None ∷ xs) ys h = earlier_none xs ys h
+earlier_none (Some x ∷ xs) ys h = absurd (cc)
+
+cause_none : (o : Option ZoneError) (xs : List (Option ZoneError)) → first_cause (o ∷ xs) ≡ None → o ≡ None
+cause_none None xs h = refl
 cause_none (Some e) xs h = absurd (cc)
+
+causes_none : (k : ℕ) (xs : List (Option ZoneError)) → first_cause xs ≡ None → first_cause (drop k xs) ≡ None
+causes_none zero xs h = h
+causes_none (suc k) [] h = h
+causes_none (suc k) (None ∷ xs) h = causes_none k xs h
+causes_none (suc k) (Some e ∷ xs) h = absurd (cc)
 
 makes_refused : (cause : Option ZoneError) (z : ZoneState) (e : ZoneError) → cause ≡ Some e → Makes cause z (Err e)
 makes_refused cause z (Outside i) h = h
@@ -55,20 +66,29 @@ within_from apex i (r ∷ rs) h =
     (s.0, within_from apex (i + 1) rs s.1)
 
 module _ (apex : List (List ℕ)) (rs : List Record) where
+  -- the causes but the last, and the last
+  abbrev alone : List (Option ZoneError)
+  alone =
+      option_map Outside (position (is_outside apex) rs)
+      ∷ option_map Class (position has_other_class rs)
+      ∷ option_map Opt (position (is_of 41) rs)
+      ∷ miscounted (length (filter (is_of 6) rs))
+      ∷ option_map SoaPlace (position (is_misplaced apex) rs)
+      ∷ []
+
+  abbrev crowded : List (Option ZoneError)
+  crowded = option_map Cname (position (is_crowded rs) rs) ∷ []
+
   -- a list is refused for a cause other than its aliases
   pub refused_list : (z : ZoneState) (e : ZoneError) → Err e ≡ refused (list_error apex rs) → Makes (zone_error apex rs) z (Err e)
   refused_list z e h =
       makes_refused (zone_error apex rs) z e
-      (cause_kept (option_map Outside (position (is_outside apex) rs) ∷ option_map Class (position has_other_class rs) ∷ option_map Opt (position (is_of 41) rs) ∷ miscounted (length (filter (is_of 6) rs)) ∷ option_map SoaPlace (position (is_misplaced apex) rs) ∷ []) (option_map Cname (position (is_crowded rs) rs) ∷ []) e (refused_for (list_error apex rs) e h))
+      (cause_kept alone crowded e (refused_for (list_error apex rs) e h))
 
   module _ (h : Ok tt ≡ refused (list_error apex rs)) where
-    none : list_error apex rs ≡ None
-    none = not_refused (list_error apex rs) h
-
     -- then its aliases decide
-    pub by_aliases : zone_error apex rs ≡ first_cause (option_map Cname (position (is_crowded rs) rs) ∷ [])
-    by_aliases =
-        cause_next (option_map Outside (position (is_outside apex) rs) ∷ option_map Class (position has_other_class rs) ∷ option_map Opt (position (is_of 41) rs) ∷ miscounted (length (filter (is_of 6) rs)) ∷ option_map SoaPlace (position (is_misplaced apex) rs) ∷ []) (option_map Cname (position (is_crowded rs) rs) ∷ []) none
+    by_aliases : zone_error apex rs ≡ first_cause crowded
+    by_aliases = cause_next alone crowded (not_refused (list_error apex rs) h)
 
     pub refused_alias : (i : ℕ) → Some i ≡ position (is_crowded rs) rs → zone_error apex rs ≡ Some (Cname i)
     refused_alias i e = by_aliases ∙ ap (λ (o : Option ℕ). first_cause (option_map Cname o ∷ [])) (sym e)
@@ -76,18 +96,19 @@ module _ (apex : List (List ℕ)) (rs : List Record) where
     pub accepted : None ≡ position (is_crowded rs) rs → zone_error apex rs ≡ None
     accepted e = by_aliases ∙ ap (λ (o : Option ℕ). first_cause (option_map Cname o ∷ [])) (sym e)
 
-    -- the list has one SOA record
+  module _ (h : zone_error apex rs ≡ None) where
+    none : (k : ℕ) → first_cause (drop k alone) ≡ None
+    none k = causes_none k alone (earlier_none alone crowded h)
+
+    -- a zone has one SOA record
     one_counted : (n : ℕ) (b : Bool) → nat_eq n 1 ≡ b → (if b then None else Some (Soa n)) ≡ None → n ≡ 1
     one_counted n true e g = true_eq n 1 e
     one_counted n false e g = absurd (cc)
 
     pub one_soa : length (filter (is_of 6) rs) ≡ 1
     one_soa =
-        let a = cause_none (option_map Outside (position (is_outside apex) rs)) (option_map Class (position has_other_class rs) ∷ option_map Opt (position (is_of 41) rs) ∷ miscounted (length (filter (is_of 6) rs)) ∷ option_map SoaPlace (position (is_misplaced apex) rs) ∷ []) none in
-        let b = cause_none (option_map Class (position has_other_class rs)) (option_map Opt (position (is_of 41) rs) ∷ miscounted (length (filter (is_of 6) rs)) ∷ option_map SoaPlace (position (is_misplaced apex) rs) ∷ []) a.1 in
-        let c = cause_none (option_map Opt (position (is_of 41) rs)) (miscounted (length (filter (is_of 6) rs)) ∷ option_map SoaPlace (position (is_misplaced apex) rs) ∷ []) b.1 in
-        let d = cause_none (miscounted (length (filter (is_of 6) rs))) (option_map SoaPlace (position (is_misplaced apex) rs) ∷ []) c.1 in
-        one_counted (length (filter (is_of 6) rs)) (nat_eq (length (filter (is_of 6) rs)) 1) refl d.0
+        let n = length (filter (is_of 6) rs) in
+        one_counted n (nat_eq n 1) refl (cause_none (miscounted n) (drop 4 alone) (none 3))
 
     no_map : (o : Option ℕ) → option_map Outside o ≡ None → o ≡ None
     no_map None e = refl
@@ -95,6 +116,4 @@ module _ (apex : List (List ℕ)) (rs : List Record) where
 
     -- and its records are within the apex
     pub all_within : AllByRecursion (IsInZone apex) rs
-    all_within =
-        let a = cause_none (option_map Outside (position (is_outside apex) rs)) (option_map Class (position has_other_class rs) ∷ option_map Opt (position (is_of 41) rs) ∷ miscounted (length (filter (is_of 6) rs)) ∷ option_map SoaPlace (position (is_misplaced apex) rs) ∷ []) none in
-        within_from apex 0 rs (sym (position_from-zero (is_outside apex) rs) ∙ no_map (position (is_outside apex) rs) a.0)
+    all_within = within_from apex 0 rs (sym (position_from-zero (is_outside apex) rs) ∙ no_map (position (is_outside apex) rs) (cause_none (option_map Outside (position (is_outside apex) rs)) (drop 1 alone) (none 0)))

@@ -1,12 +1,12 @@
 -- What is kept under octets, and what a place more changes.
-use Rattle.std.proofs.Common.{◌≡◌, ℕ, ◌+◌, ◌≤◌, ◌<◌, Bool, true, false, List, [], ◌∷◌, ◌++◌, length, take, cond, get_or, nat_eq, Option, Some, None, MatchOption, Bor, refl, ap, sym, subst, ◌∙◌, arith, append-nil}
-use Rattle.std.specs.Prelude.{◌&&◌, ◌||◌, ◌==◌, if◌then◌else◌, is_some, ⊤, IsSome, IfSome, IfOk, OnOk, Result, Ok, Err}
+use Rattle.std.proofs.Common.{◌≡◌, ℕ, ◌+◌, ◌<◌, Bool, true, false, List, [], ◌∷◌, ◌++◌, length, take, cond, get_or, nat_eq, Option, Some, None, MatchOption, Bor, refl, ap, sym, subst, ◌∙◌, arith, append-nil}
+use Rattle.std.specs.Prelude.{◌&&◌, ◌||◌, ◌==◌, if◌then◌else◌, is_some, ⊤, IfSome, IfOk, OnOk, Result, Ok, Err}
 use Rattle.dns_name.specs.declared.error.OutOfMemory.{OutOfMemory}
-use Rattle.std.specs.BTreeMap.{BTreeMap, UpdatesBy, get, get_by, is_at as finds}
+use Rattle.std.specs.BTreeMap.{BTreeMap, UpdatesBy, get_by, is_at as finds}
 use Rattle.std.specs.BTreeMap.Range.{IsEntryInRange, IsInRange, IsRangeOf}
 use Rattle.std.specs.Cmp.{both_ways}
 use Rattle.std.specs.Cmp.Lexicographic.{bytes_decides, nat_list_eq_equiv, slice_cmp}
-use Rattle.std.specs.List.{filter, list_any, slice_get, starts_with}
+use Rattle.std.specs.List.{list_any, slice_get, starts_with}
 use Rattle.std.specs.Map.{lookup, AreApart, IsKeyTest, KeepsOthers}
 use Rattle.std.specs.Ordering.{eq_by_cmp, is_eq, is_gt, nat_cmp}
 use Rattle.std.specs.Str.{bytes_eq}
@@ -21,9 +21,9 @@ use Rattle.dns_base.specs.Records.{data_type}
 use Rattle.dns_route.specs.Routes.{ends_name}
 use Rattle.dns_zone.specs.declared.name_places.NamePlaces.{NamePlaces}
 use Rattle.dns_zone.specs.Kept.{KnowsPlaces, Puts, begins_at, is_at, kinds_under, places_in, places_under, stands_under}
-use Rattle.dns_zone.specs.Owned.{is_asked, is_of, is_owned}
+use Rattle.dns_zone.specs.Owned.{is_asked, is_of}
 use Rattle.dns_zone.specs.Paths.{name_path}
-use Rattle.dns_zone.specs.Places.{Kinds, at_places, kind_places, places}
+use Rattle.dns_zone.specs.Places.{Kinds, kind_places, places}
 use Rattle.dns_zone.proofs.OrderLaws.{begins_behind, begins_between}
 use Rattle.dns_zone.proofs.PathLaws.{path_begins, path_same}
 use Rattle.dns_zone.proofs.PlaceLaws.{places_agree, places_more, places_none, places_some}
@@ -73,8 +73,11 @@ pub if_ok : {A : Type 0} (P Q : A → Type 0) (r : Result A OutOfMemory) → IfO
 if_ok P Q (Ok x) h f = f x h
 if_ok P Q (Err e) h f = tt
 
-kept_under : (old new : Option Kinds) (b : Bool) (u t place : ℕ) (was now : Kinds) → new ≡ (if b then Some now else old) → (b ≡ true → places_in u old ≡ kind_places u was) →
-    kind_places u now ≡ (if nat_eq u 255 || nat_eq t u then kind_places u was ++ place ∷ [] else kind_places u was) →
+pub none_there : (o : Option Kinds) → is_some o ≡ false → o ≡ None
+none_there None h = refl
+none_there (Some m) h = absurd (cc)
+
+kept_under : (old new : Option Kinds) (b : Bool) (u t place : ℕ) (was : List ℕ) (now : Kinds) → new ≡ (if b then Some now else old) → (b ≡ true → places_in u old ≡ was) → kind_places u now ≡ (if nat_eq u 255 || nat_eq t u then was ++ place ∷ [] else was) →
     places_in u new ≡ (if b && (nat_eq u 255 || nat_eq t u) then places_in u old ++ place ∷ [] else places_in u old)
 kept_under old new true u t place was now e w p =
     ap (places_in u) e ∙ (p ∙ ap (λ l. if nat_eq u 255 || nat_eq t u then l ++ place ∷ [] else l) (sym (w refl)))
@@ -85,13 +88,13 @@ some_under old new true now e = ap is_some e
 some_under old new false now e = ap is_some e
 
 -- the kinds under octets are others
-pub puts_of : (n m : NamePlaces) (o : List ℕ) (t place : ℕ) (was now : Kinds) → ((u : ℕ) → places_in u (kinds_under n o) ≡ kind_places u was) → ((p : List ℕ) → kinds_under m p ≡ (if bytes_eq o p then Some now else kinds_under n p)) →
-    ((u : ℕ) → kind_places u now ≡ (if nat_eq u 255 || nat_eq t u then kind_places u was ++ place ∷ [] else kind_places u was)) → Puts n o t place m
+pub puts_of : (n m : NamePlaces) (o : List ℕ) (t place : ℕ) (was : ℕ → List ℕ) (now : Kinds) → ((u : ℕ) → places_in u (kinds_under n o) ≡ was u) → ((p : List ℕ) → kinds_under m p ≡ (if bytes_eq o p then Some now else kinds_under n p)) →
+    ((u : ℕ) → kind_places u now ≡ (if nat_eq u 255 || nat_eq t u then was u ++ place ∷ [] else was u)) → Puts n o t place m
 puts_of n m o t place was now w e p =
     let turned : (q : List ℕ) → bytes_eq o q ≡ bytes_eq q o = λ q. nat_list_eq_equiv.symm o q in
     let f : (q : List ℕ) → kinds_under m q ≡ (if bytes_eq q o then Some now else kinds_under n q) = λ q. e q ∙ ap (λ b. if b then Some now else kinds_under n q) (turned q) in
     record {
-      kept = λ q u. kept_under (kinds_under n q) (kinds_under m q) (bytes_eq q o) u t place was now (f q) (λ b. ap (λ l. places_in u (kinds_under n l)) ((bytes_decides q o).0 b) ∙ w u) (p u);
+      kept = λ q u. kept_under (kinds_under n q) (kinds_under m q) (bytes_eq q o) u t place (was u) now (f q) (λ b. ap (λ l. places_in u (kinds_under n l)) ((bytes_decides q o).0 b) ∙ w u) (p u);
       alone = λ q. some_under (kinds_under n q) (kinds_under m q) (bytes_eq q o) now (f q);
     }
 

@@ -4,12 +4,11 @@ use Rattle.std.specs.Prelude.{◌&&◌, ◌||◌, if◌then◌else◌}
 use Rattle.std.specs.List.{AllByRecursion, filter, list_any}
 use Rattle.dns_base.specs.Msg.{ResourceRecord}
 use Rattle.dns_base.specs.Records.{data_type, record_of}
-use Rattle.dns_message.specs.TypedData.{IsTyped}
 use Rattle.dns_message.specs.declared.question.Question.{Question}
 use Rattle.dns_message.specs.declared.record.Record.{Record}
 use Rattle.dns_route.specs.Typed.{AreTyped, IsTypedMessage}
 use Rattle.dns_zone.specs.Aliases.{aliased, followed, gone_on, is_within, unaliased}
-use Rattle.dns_zone.specs.Cuts.{cut_records, delegates, glue, is_address_at, is_address_of, is_cut_off, is_glue, is_shortest}
+use Rattle.dns_zone.specs.Cuts.{cut_records, delegates, is_address_at, is_cut_off, is_glue, is_shortest}
 use Rattle.dns_zone.specs.Owned.{HasTypedData, ZoneState, asked_records, is_asked, is_of, is_owned, target}
 use Rattle.dns_zone.specs.ZoneReply.{ZoneReply, authoritative, denied, exists, follows, negative_soa, referral, zone_reply}
 use Rattle.dns_zone.specs.ZoneTurns.{zone_message}

@@ -1,6 +1,5 @@
 -- What an alias leads to, as places in a zone's list.
 use Rattle.std.specs.Prelude.{ℕ, ◌≡◌, ◌<◌, List, [], length, Option, Some, None}
-use Rattle.std.specs.List.{slice_get}
 use Rattle.dns_message.specs.declared.record.Record.{Record}
 use Rattle.dns_zone.specs.declared.aliases.Lead.{Lead}
 use Rattle.dns_zone.specs.declared.aliases.Lead.TheVariants.{Alias, Found, Nowhere}

@@ -9,6 +9,7 @@ pub mod Aliases
 pub mod ZoneReply
 pub mod ZoneTurns
 pub mod ZoneErrors
+pub mod ErrorTexts
 pub mod Paths
 pub mod Places
 pub mod Kept

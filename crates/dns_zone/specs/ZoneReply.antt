@@ -18,9 +18,12 @@ pub record ZoneReply : Type 0 where
   pub authority : List Record
   pub additional : List Record
 
--- a referral to the name servers of a cut
+-- the name servers of a cut, and with their addresses a referral to them
+abbrev pub delegation : List Record → ZoneReply
+delegation servers = record { aa = false; rcode = 0; answers = []; authority = servers; additional = [] }
+
 abbrev pub referral : ZoneState → List Record → ZoneReply
-referral z servers = record { aa = false; rcode = 0; answers = []; authority = servers; additional = glue z servers }
+referral z servers = record (delegation servers) { additional = glue z servers }
 
 abbrev pub authoritative : List Record → ZoneReply
 authoritative rs = record { aa = true; rcode = 0; answers = rs; authority = []; additional = [] }

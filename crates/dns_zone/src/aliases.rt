@@ -1,6 +1,6 @@
 //! Aliases, and what they lead to.
 
-ghost use Rattle.std.specs.Prelude.{◌≡◌, ℕ, List, IfOk, IsTrue, Some, false};
+ghost use Rattle.std.specs.Prelude.{◌≡◌, ◌++◌, ◌∷◌, [], ℕ, List, IfOk, IsTrue, Some, false};
 ghost use Rattle.std.specs.List.{slice_get};
 ghost use Rattle.std.specs.Option.{option_copied};
 ghost use Rattle.dns_route.specs.Routes.{ends_name};
@@ -40,6 +40,15 @@ fn record_target(record: &Record) -> Option<&Name>
         RecordData::Named { name, .. } => Some(name),
         _ => None,
     }
+}
+
+/// Places, and others behind them.
+fn extended(places: Vec<usize>, others: &[usize]) -> Result<Vec<usize>, OutOfMemory>
+    ensures { IfOk result (λ v. v.items ≡ places.items ++ others.now) }
+{
+    let mut places = places;
+    places.extend_from_slice(others)?;
+    Ok(places)
 }
 
 impl Zone {
@@ -100,6 +109,20 @@ impl Zone {
         }
     }
 
+    /// Gives the alias at a place as well, and what it leads to.
+    fn given(
+        &self,
+        alloc: Global,
+        rtype: u16,
+        place: usize,
+        trail: &mut Vec<usize>,
+    ) -> Result<Lead<'_>, OutOfMemory>
+        ensures { IfOk result (λ l. (trail.new.items ≡ trail.old.items ++ place ∷ []) × Leads self.now rtype (target_of (slice_get self.now.records place)) l) }
+    {
+        trail.push(place)?;
+        self.lead(alloc, rtype, place)
+    }
+
     /// The places of the aliases that are followed from those at places on, and of the records that the last one leads to.
     /// Of the aliases of a name the first is followed.
     pub(crate) fn trail<'a>(
@@ -110,19 +133,15 @@ impl Zone {
     ) -> Result<Vec<usize>, OutOfMemory>
         ensures { (name : List (List ℕ)) → AreAliases self.now name first.now → IfOk result (λ v. at_places self.now.records v.items ≡ followed self.now rtype 8 name) }
     {
-        let mut trail = Vec::with_capacity(alloc, MOST_ALIASES)?;
+        let mut trail = Vec::new(alloc);
         let mut next = first;
         'aliases: for _given in 0..MOST_ALIASES {
             let Some(place) = next.first() else {
                 break;
             };
-            trail.push(*place)?;
-            match self.lead(alloc, rtype, *place)? {
+            match self.given(alloc, rtype, *place, &mut trail)? {
                 Lead::Alias(more) => next = more,
-                Lead::Found(found) => {
-                    trail.extend_from_slice(found)?;
-                    return Ok(trail);
-                }
+                Lead::Found(found) => return extended(trail, found),
                 Lead::Nowhere => return Ok(trail),
             }
         }

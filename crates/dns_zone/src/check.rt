@@ -1,16 +1,17 @@
 //! Which lists of records are zones.
 
-ghost use Rattle.std.specs.Prelude.{◌≡◌, List, length, IfOk};
+ghost use Rattle.std.specs.Prelude.{◌≡◌, List, length, None, Err, IfOk, MatchResult};
 ghost use Rattle.std.specs.List.{filter, position};
 ghost use Rattle.dns_route.specs.Routes.{ends_name};
 ghost use Rattle.dns_message.specs.declared.record.Record.{Record};
 ghost use Rattle.dns_zone.specs.Faults.{has_fault, list_error, refused, soa_error};
 ghost use Rattle.dns_zone.specs.Kept.{KnowsPlaces};
-ghost use Rattle.dns_zone.specs.Owned.{is_of};
-ghost use Rattle.dns_zone.specs.ZoneErrors.{is_crowded};
+ghost use Rattle.dns_zone.specs.Owned.{ZoneState, is_of};
+ghost use Rattle.dns_zone.specs.ZoneErrors.{Makes, is_crowded, zone_error};
 
 use crate::error::ZoneError;
 use crate::kinds::ANY;
+use crate::listing::names_of;
 use crate::name_places::NamePlaces;
 use crate::path::path_of_name;
 use dns_base::{Class, Record, Rtype};
@@ -79,7 +80,7 @@ fn count_soa(records: &[Record]) -> usize
 }
 
 /// Refuses a list that is no zone, aliases aside.
-pub(crate) fn check_list(apex: &Name, records: &[Record]) -> Result<(), ZoneError>
+fn check_list(apex: &Name, records: &[Record]) -> Result<(), ZoneError>
     ensures { result ≡ refused (list_error apex.now records.now) }
 {
     if let Some(index) = first_with(Fault::OutsideApex, apex, records) {
@@ -123,7 +124,7 @@ fn is_crowded(alloc: Global, names: &NamePlaces, record: &Record) -> Result<bool
 }
 
 /// The place of the first CNAME whose owner has another record.
-pub(crate) fn first_crowded(
+fn first_crowded(
     alloc: Global,
     names: &NamePlaces,
     records: &[Record],
@@ -137,4 +138,20 @@ pub(crate) fn first_crowded(
         }
     }
     Ok(None)
+}
+
+/// The places of the records of a list that is a zone, or the first cause why it is none.
+pub(crate) fn checked(
+    alloc: Global,
+    apex: &Name,
+    records: &[Record],
+) -> Result<NamePlaces, ZoneError>
+    ensures { MatchResult result (λ n. (zone_error apex.now records.now ≡ None) × KnowsPlaces n records.now) (λ e. (z : ZoneState) → Makes (zone_error apex.now records.now) z (Err e)) }
+{
+    check_list(apex, records)?;
+    let names = names_of(alloc, records)?;
+    match first_crowded(alloc, &names, records)? {
+        Some(index) => Err(ZoneError::Cname { index }),
+        None => Ok(names),
+    }
 }

@@ -67,6 +67,15 @@ pub(crate) fn put_kind(
     put(kinds, alloc, rtype, place)
 }
 
+/// One place of a type, which is also one of any type.
+pub(crate) fn first_kinds(alloc: Global, rtype: u16, place: usize) -> Result<Kinds, OutOfMemory>
+    ensures { IfOk result (λ m. (t : ℕ) → kind_places t m ≡ (if nat_eq t 255 || nat_eq rtype t then place ∷ [] else [])) }
+{
+    let mut kinds = BTreeMap::new(alloc);
+    put_kind(&mut kinds, alloc, rtype, place)?;
+    Ok(kinds)
+}
+
 /// The places that are kept under a number, where there are any.
 pub(crate) fn find_kind(kinds: &Kinds, rtype: u16) -> Option<&[usize]>
     ensures { MatchOption result (kind_places rtype kinds.now ≡ []) (λ s. (s.now ≡ kind_places rtype kinds.now) × (0 < length s.now)) }

@@ -10,6 +10,7 @@ mod kinds;
 mod laws;
 mod listing;
 mod name_places;
+mod parts;
 mod path;
 mod reply;
 mod sections;

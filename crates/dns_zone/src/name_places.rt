@@ -3,7 +3,7 @@
 ghost use Rattle.std.specs.Prelude.{◌≡◌, ◌<◌, ◌++◌, ◌∷◌, [], ℕ, List, length, nat_eq, if◌then◌else◌, ◌&&◌, ◌||◌, is_some, IsSome, IfOk, OnOk, MatchOption, None};
 ghost use Rattle.std.specs.Str.{bytes_eq};
 
-use crate::kinds::{Kinds, find_kind, put_kind};
+use crate::kinds::{Kinds, find_kind, first_kinds, put_kind};
 use dns_base::Record;
 use dns_name::OutOfMemory;
 use std::alloc::Global;
@@ -47,23 +47,6 @@ impl NamePlaces {
         }
     }
 
-    /// Keeps the first place under a path.
-    fn put_first(
-        &mut self,
-        alloc: Global,
-        path: Vec<u8>,
-        rtype: u16,
-        place: usize,
-    ) -> Result<(), OutOfMemory>
-        requires { kinds_under self.old path.items ≡ None }
-        ensures { OnOk result (Puts self.old path.items rtype place self.new) }
-    {
-        let mut kinds = BTreeMap::new(alloc);
-        put_kind(&mut kinds, alloc, rtype, place)?;
-        self.kinds.insert(path, kinds)?;
-        Ok(())
-    }
-
     /// Keeps a place of a type under a path.
     pub(crate) fn put(
         &mut self,
@@ -74,11 +57,13 @@ impl NamePlaces {
     ) -> Result<(), OutOfMemory>
         ensures { OnOk result (Puts self.old path.items rtype place self.new) }
     {
-        if self.kinds.contains_key(path.as_slice()) {
-            self.put_behind(alloc, path.as_slice(), rtype, place)
-        } else {
-            self.put_first(alloc, path, rtype, place)
+        let octets = path.as_slice();
+        if self.kinds.contains_key(octets) {
+            return self.put_behind(alloc, octets, rtype, place);
         }
+        let kinds = first_kinds(alloc, rtype, place)?;
+        self.kinds.insert(path, kinds)?;
+        Ok(())
     }
 
     /// The places that are kept under a path and a type, where there are any.

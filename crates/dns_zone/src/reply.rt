@@ -11,7 +11,7 @@ ghost use Rattle.dns_zone.specs.Cuts.{is_cut_off};
 ghost use Rattle.dns_zone.specs.Kept.{IsSought};
 ghost use Rattle.dns_zone.specs.Paths.{name_path};
 ghost use Rattle.dns_zone.specs.Places.{at_places};
-ghost use Rattle.dns_zone.specs.ZoneReply.{authoritative, denied, follows, referral, zone_reply};
+ghost use Rattle.dns_zone.specs.ZoneReply.{authoritative, delegation, denied, follows, referral, zone_reply};
 ghost use Rattle.dns_zone.specs.ZoneTurns.{GivesReply, asks_zone, zone_answer, zone_message};
 
 use crate::kinds::ANY;
@@ -46,6 +46,20 @@ fn negative_code(exists: bool) -> Rcode
 impl Zone {
     ghost use Rattle.dns_zone.specs.Found.{AreAliases};
 
+    /// A referral to the name servers at places, without their addresses.
+    fn delegated(
+        &self,
+        alloc: Global,
+        query: &Message,
+        servers: &[usize],
+    ) -> Result<AdditionalBuilder, PushError>
+        ensures { Builds (unlimited (zone_message query.now (delegation (at_places self.now.records servers.now)))) result }
+    {
+        let mut referred = begun(alloc, query, Rcode::NOERROR, false)?.authority();
+        add_places(&mut referred, alloc, self.records.as_slice(), servers)?;
+        Ok(referred.additional())
+    }
+
     /// A referral to the name servers at places.
     fn referred(
         &self,
@@ -56,9 +70,7 @@ impl Zone {
         ensures { Builds (unlimited (zone_message query.now (referral self.now (at_places self.now.records servers.now)))) result }
     {
         let glue = self.glue(alloc, servers)?;
-        let mut referred = begun(alloc, query, Rcode::NOERROR, false)?.authority();
-        add_places(&mut referred, alloc, self.records.as_slice(), servers)?;
-        let mut reply = referred.additional();
+        let mut reply = self.delegated(alloc, query, servers)?;
         add_places(&mut reply, alloc, self.records.as_slice(), glue.as_slice())?;
         Ok(reply)
     }
@@ -126,23 +138,6 @@ impl Zone {
         }
     }
 
-    /// The reply to a question for a type of the name of a path.
-    fn reply(
-        &self,
-        alloc: Global,
-        query: &Message,
-        rtype: u16,
-        path: &Vec<u8>,
-    ) -> Result<AdditionalBuilder, PushError>
-        requires { IsSought self.now.apex path.now.items }
-        ensures { (q : Question) → path.now.items ≡ name_path q.qname → q.qtype ≡ rtype → IsTrue (ends_name q.qname self.now.apex) → Builds (unlimited (zone_message query.now (zone_reply self.now q))) result }
-    {
-        match self.cut(path.as_slice()) {
-            Some(servers) => self.referred(alloc, query, servers),
-            None => self.reply_within(alloc, query, rtype, path),
-        }
-    }
-
     /// Whether the zone is asked.
     fn asks_zone(&self, question: &QuestionRef<'_>) -> bool
         ensures { result ≡ asks_zone self.now question.now }
@@ -162,7 +157,10 @@ impl Zone {
         ensures { Builds (unlimited (zone_message query.now (zone_reply self.now question.now))) result }
     {
         let path = path_of(alloc, question.qname().labels(), LONGEST)?;
-        self.reply(alloc, query, question.qtype().to_int(), &path)
+        match self.cut(path.as_slice()) {
+            Some(servers) => self.referred(alloc, query, servers),
+            None => self.reply_within(alloc, query, question.qtype().to_int(), &path),
+        }
     }
 
     /// The answer to a question.

@@ -4,9 +4,9 @@ ghost use Rattle.dns_zone.specs.Owned.{AreLawful};
 ghost use Rattle.dns_zone.specs.ZoneErrors.{Makes, zone_error};
 ghost use Rattle.dns_zone.specs.ZoneTurns.{zone_turn};
 
-use crate::check::{check_list, first_crowded};
+use crate::check::checked;
 use crate::error::ZoneError;
-use crate::listing::{names_of, negative_of};
+use crate::listing::negative_of;
 use crate::name_places::NamePlaces;
 use dns_base::Record;
 use dns_name::Name;
@@ -44,18 +44,18 @@ impl Zone {
         requires { AreLawful records.items }
         ensures { Makes (zone_error apex records.items) (record { apex = apex; records = records.items }) result }
     {
-        check_list(&apex, records.as_slice())?;
-        let names = names_of(alloc, records.as_slice())?;
-        if let Some(index) = first_crowded(alloc, &names, records.as_slice())? {
-            return Err(ZoneError::Cname { index });
+        match checked(alloc, &apex, records.as_slice()) {
+            Ok(names) => match negative_of(alloc, records.as_slice()) {
+                Ok(negative) => Ok(Zone {
+                    apex,
+                    records,
+                    names,
+                    negative,
+                }),
+                Err(_) => Err(ZoneError::OutOfMemory),
+            },
+            Err(error) => Err(error),
         }
-        let negative = negative_of(alloc, records.as_slice())?;
-        Ok(Zone {
-            apex,
-            records,
-            names,
-            negative,
-        })
     }
 }
 

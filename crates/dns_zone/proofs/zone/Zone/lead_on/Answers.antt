@@ -1,4 +1,4 @@
-use Rattle.std.proofs.Common.{◌≡◌, true, false, ap, length, sym, ◌∙◌, arith}
+use Rattle.std.proofs.Common.{◌≡◌, true, ap, length, sym, ◌∙◌, arith}
 use Rattle.std.specs.List.{list_any}
 use Rattle.dns_zone.specs.Owned.{is_asked}
 use Rattle.dns_zone.specs.Places.{places}
