@@ -12,18 +12,18 @@ abbrev pub Upstream : Type 0
 Upstream = RequestState → ℕ → SentAnswer
 
 -- what a single service answers
-abbrev pub Served : Type 0
-Served = Req (Unit {0}) → ℕ → TurnAnswer
+abbrev pub SingleAnswers : Type 0
+SingleAnswers = Req (Unit {0}) → ℕ → TurnAnswer
 
 -- names, and what is answered under them
-abbrev pub answered_under : {S : Type 0} → (S → Served) → List (Route S) → List (Route Served)
+abbrev pub answered_under : {S : Type 0} → (S → SingleAnswers) → List (Route S) → List (Route SingleAnswers)
 answered_under {S} answer rs = map (λ (r : Route S). (r.0, answer r.1)) rs
 
 -- the answer by the upstream that is chosen
-abbrev pub forwarded : List (Route Upstream) → Served
+abbrev pub forwarded : List (Route Upstream) → SingleAnswers
 forwarded us = routed relayed us
 
 -- names and services that stand for upstreams under these names: they answer as those are relayed, and a router of them so too
-pub record Forwards {S : Type 0} (answer : S → Served) (us : List (Route Upstream)) (rs : List (Route S)) : Type 0 where
+pub record Forwards {S : Type 0} (answer : S → SingleAnswers) (us : List (Route Upstream)) (rs : List (Route S)) : Type 0 where
   pub relays : answered_under answer rs ≡ answered_under relayed us
   pub answers : routed answer rs ≡ forwarded us

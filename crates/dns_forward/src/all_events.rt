@@ -1,8 +1,9 @@
 //! All events of a question, and what they lead to.
 
-ghost use Rattle.std.specs.Prelude.{◌≡◌, ◌≤◌, List, [], ◌∷◌, ◌++◌, IfOk, OnOk};
+ghost use Rattle.std.specs.Prelude.{◌≡◌, List, [], ◌∷◌, ◌++◌, IfOk, OnOk};
 ghost use Rattle.dns_forward.specs.declared.asking_event.AskingEvent.{AskingEvent as TheEvent};
-ghost use Rattle.dns_forward.specs.Asked.{Asks, asked, asked_by, led_on, led_to};
+ghost use Rattle.dns_forward.specs.declared.asking_event.AskingOutcome.{AskingOutcome as TheOutcome};
+ghost use Rattle.dns_forward.specs.Asked.{Asks, asked_by, led_on, led_to};
 ghost use Rattle.dns_forward.specs.Askings.{HasHeard};
 
 use crate::asking::Asking;
@@ -13,32 +14,25 @@ use dns_route::SendError;
 use dns_service::Polled;
 use std::alloc::Global;
 
-/// What comes of each event, where a message is asked as by `Asking::new`.
+/// What comes of each event that an asking hears next.
 pub fn ask_all(
     alloc: Global,
-    message: Message,
-    id: u16,
-    tries: u8,
-    timeout: u64,
-    at: u64,
+    asking: Asking,
     events: &[AskingEvent],
 ) -> Result<Vec<AskingOutcome>, OutOfMemory>
-    requires some { 1 ≤ tries }
-    requires few { tries ≤ 8 }
-    requires timeout { 1 ≤ timeout }
-    ensures { IfOk result (λ os. os.items ≡ asked message id tries timeout at events.now) }
+    ensures { IfOk result (λ os. (q : Asks) (es : List TheEvent) → HasHeard q es asking → asked_by q (es ++ events.now) ≡ asked_by q es ++ os.items) }
 {
-    let mut asking = Asking::new(alloc, message, id, tries, timeout, at)?;
+    let mut asking = asking;
     all_heard(alloc, &mut asking, events)
 }
 
-/// What comes of each event of an asking that heard none yet.
+/// The same of an asking that is lent.
 fn all_heard(
     alloc: Global,
     asking: &mut Asking,
     events: &[AskingEvent],
 ) -> Result<Vec<AskingOutcome>, OutOfMemory>
-    ensures { IfOk result (λ os. (q : Asks) → HasHeard q [] asking.old → os.items ≡ asked_by q events.now) }
+    ensures { IfOk result (λ os. (q : Asks) (es : List TheEvent) → HasHeard q es asking.old → asked_by q (es ++ events.now) ≡ asked_by q es ++ os.items) }
 {
     let mut outcomes = Vec::with_capacity(alloc, events.len())?;
     hear_all(alloc, asking, events, &mut outcomes)?;
@@ -53,7 +47,7 @@ fn hear_all(
     outcomes: &mut Vec<AskingOutcome>,
 ) -> Result<(), OutOfMemory>
     requires { outcomes.old.items ≡ [] }
-    ensures { OnOk result ((q : Asks) → HasHeard q [] asking.old → outcomes.new.items ≡ asked_by q events.now) }
+    ensures { OnOk result ((q : Asks) (es : List TheEvent) → HasHeard q es asking.old → asked_by q (es ++ events.now) ≡ asked_by q es ++ outcomes.new.items) }
 {
     'events: for event in events {
         hear_next(alloc, asking, event, outcomes)?;
@@ -61,15 +55,15 @@ fn hear_all(
     Ok(())
 }
 
-/// An event is heard, and its outcome is appended to those of the events before it.
+/// An event is heard, and its outcome is appended to those before it.
 fn hear_next(
     alloc: Global,
     asking: &mut Asking,
     event: &AskingEvent,
     outcomes: &mut Vec<AskingOutcome>,
 ) -> Result<(), OutOfMemory>
-    ensures { OnOk result ((q : Asks) (es : List TheEvent) → HasHeard q es asking.old → outcomes.old.items ≡ asked_by q es
-        → HasHeard q (es ++ event.now ∷ []) asking.new × (outcomes.new.items ≡ asked_by q (es ++ event.now ∷ []))) }
+    ensures { OnOk result ((q : Asks) (es : List TheEvent) (before : List TheOutcome) → HasHeard q es asking.old → asked_by q es ≡ before ++ outcomes.old.items
+        → HasHeard q (es ++ event.now ∷ []) asking.new × (asked_by q (es ++ event.now ∷ []) ≡ before ++ outcomes.new.items)) }
 {
     let outcome = asking.hear(alloc, event)?;
     outcomes.push(outcome)?;

@@ -1,6 +1,7 @@
 //! A service that forwards requests to the upstreams of their names.
 
 ghost use Rattle.std.specs.Prelude.{◌≡◌, ◌++◌, ◌∷◌, [], List, OnOk, OnErr};
+ghost use Rattle.dns_route.specs.Relays.{relayed};
 ghost use Rattle.dns_route.specs.Routes.{Route, routed};
 ghost use Rattle.dns_forward.specs.Forwarded.{Forwards, Upstream};
 
@@ -18,7 +19,8 @@ type Relay = ClientTransportToSingleService<BoxClientTransport>;
 /// labels, and of those of one name the one that was added last.
 pub type Forwarder = Forwarding<ClientTransportToSingleService<BoxClientTransport>>;
 
-/// A forwarder to services of one type. Contracts see their names and the services in the order in which they were added.
+/// A forwarder to services of one type, each of which asks an upstream. Contracts see their names and the services in the order
+/// in which they were added.
 #[derive(Drop)]
 pub struct Forwarding<S> {
     router: QnameRouter<S>,
@@ -33,16 +35,29 @@ impl<S> Model for Forwarding<S> {
     ghost view = { λ f. f.router };
 }
 
-impl Forwarding<ClientTransportToSingleService<BoxClientTransport>> {
+impl<S: SingleService> Forwarding<S> {
     /// A forwarder that has no upstream.
     pub fn new(alloc: Global) -> Self
-        ensures { Forwards ⟦<Relay as SingleService>⟧.answer [] result }
+        ensures empty { result ≡ [] }
+        ensures forwards { Forwards S.answer [] result }
     {
         Forwarding {
             router: QnameRouter::new(alloc),
         }
     }
 
+    /// Adds a service under a name, behind those that were added before. A refused call leaves the forwarder.
+    pub fn add_service(&mut self, alloc: Global, name: Name, service: S) -> Result<(), OutOfMemory>
+        ensures ok { OnOk result (self.new ≡ self.old ++ (name, service) ∷ []) }
+        ensures forwards { (us : List (Route Upstream)) (u : Upstream) → S.answer service ≡ relayed u → Forwards S.answer us self.old
+            → OnOk result (Forwards S.answer (us ++ (name, u) ∷ []) self.new) }
+        ensures err { OnErr result (self.new ≡ self.old) }
+    {
+        self.router.add(alloc, name, service)
+    }
+}
+
+impl Forwarding<ClientTransportToSingleService<BoxClientTransport>> {
     /// Adds an upstream under a name, behind those that were added before. A refused call leaves the forwarder.
     pub fn add(
         &mut self,
@@ -55,7 +70,7 @@ impl Forwarding<ClientTransportToSingleService<BoxClientTransport>> {
         ensures err { OnErr result (self.new ≡ self.old) }
     {
         let relay = ClientTransportToSingleService::new(BoxClientTransport { conn: upstream });
-        self.router.add(alloc, name, relay)
+        self.add_service(alloc, name, relay)
     }
 }
 

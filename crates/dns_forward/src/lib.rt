@@ -15,4 +15,4 @@ pub use asking_event::{AskingEvent, AskingOutcome, Ticked};
 pub use box_transport::BoxClientTransport;
 pub use dns_route::{SendError, SendRequest};
 pub use forwarder::{Forwarder, Forwarding};
-pub use laws::forwarded_replies_respond;
+pub use laws::{forwarded_replies_respond, relaying_services_forward};
