@@ -1,15 +1,15 @@
 mod Addresses
 mod Configs
 pub mod Cutting
-mod Decimals
-mod EventsBack
-mod Folded
-mod Hexes
-mod Joined
+pub mod Decimals
+pub mod EventsBack
+pub mod Folded
+pub mod Hexes
+pub mod Joined
 pub mod Written
 pub mod NameText
-mod Names
+pub mod Names
 pub mod Numbered
-mod Ranges
-mod SettingsBack
-mod TraceBack
+pub mod Ranges
+pub mod SettingsBack
+pub mod TraceBack

@@ -19,7 +19,7 @@ use Rattle.dns_trace.specs.Spelling.{yes_no}
 use Rattle.dns_trace.specs.StreamLine.{stream_line}
 use Rattle.dns_trace.specs.Trace.{budget_words, config_lines, deny_words, dgram_words, secret_lines, settings_lines, stream_words}
 use Rattle.dns_trace.specs.Traced.{TraceSaid, next_setting, trace_line}
-use Rattle.dns_trace.specs.declared.trace_settings.TraceSettings.{TraceSettings}
+use Rattle.dns_service.specs.declared.settings.Settings.{Settings}
 
 -- settings are said, and no event
 abbrev pub only_said : Said → TraceSaid
@@ -66,10 +66,10 @@ unfolding next_setting first_budget_line budget_line
 budget_step p s h k = rw (h, budget_back s.connection_config (codes "budget" ∷ budget_words s.connection_config) 1 k.connection_config refl refl) refl
 
 -- what lines said, with configurations
-abbrev with_configs : Said → TraceSettings → Said
+abbrev with_configs : Said → Settings → Said
 with_configs p s = record p { dgram = Some s.dgram; stream = Some (without_budget s.stream); budget = Some (budget_of s.stream.connection_config) }
 
-configs_said : (p : Said) (s : TraceSettings) → p.dgram ≡ None → p.stream ≡ None → p.budget ≡ None → IsSettings s
+configs_said : (p : Said) (s : Settings) → p.dgram ≡ None → p.stream ≡ None → p.budget ≡ None → IsSettings s
     → said_by trace_line (only_said p) (config_lines s) ≡ Ok (only_said (with_configs p s))
 configs_said p s d t b h =
     let p1 = record p { dgram = Some s.dgram } in
@@ -77,7 +77,7 @@ configs_said p s d t b h =
     rw (dgram_step p s.dgram d h.dgram, stream_step p1 s.stream t h.stream, budget_step p2 s.stream b h.stream) refl
 
 -- all that the lines of settings say
-abbrev pub whole_said : TraceSettings → Said
+abbrev pub whole_said : Settings → Said
 whole_said s = record {
   strict = Some s.strict;
   edns = Some s.edns;
@@ -88,7 +88,7 @@ whole_said s = record {
   budget = Some (budget_of s.stream.connection_config);
 }
 
-pub settings_back : (s : TraceSettings) → IsSettings s → said_by trace_line (only_said nothing_said) (settings_lines s) ≡ Ok (only_said (whole_said s))
+pub settings_back : (s : Settings) → IsSettings s → said_by trace_line (only_said nothing_said) (settings_lines s) ≡ Ok (only_said (whole_said s))
 settings_back s h =
     let p1 = record nothing_said { strict = Some s.strict } in
     let p2 = record p1 { edns = Some s.edns } in
@@ -99,7 +99,7 @@ settings_back s h =
     ∙ said_append trace_line (map deny_words s.denied) (config_lines s) (only_said p3) (only_said p4) (denied_said s.denied p3 (recursion_from_All IsAddress s.denied h.denied))
     ∙ configs_said p4 s refl refl refl h)
 
-pub settings_whole : (s : TraceSettings) → IsSettings s → settings_said (whole_said s) ≡ s
+pub settings_whole : (s : Settings) → IsSettings s → settings_said (whole_said s) ≡ s
 settings_whole s h = ap (λ (t : Stream). record s { stream = t }) (budgeted_back s.stream h.stream)
 
 -- ---- the words of the lines
@@ -112,7 +112,7 @@ deny_say : (hosts : List IpAddr) → AllByRecursion IsAddress hosts → AllSay (
 deny_say [] h = tt
 deny_say (a ∷ hosts) h = ((named (codes "deny") refl (omega arith), (address_is_word a h.0, tt)), refl, deny_say hosts h.1)
 
-configs_say : (s : TraceSettings) → IsSettings s → AllSay (config_lines s)
+configs_say : (s : Settings) → IsSettings s → AllSay (config_lines s)
 configs_say s h = (
   (named (codes "dgram") refl (omega arith), dgram_are_words s.dgram h.dgram),
   refl,
@@ -123,7 +123,7 @@ configs_say s h = (
   ),
 )
 
-pub settings_say : (s : TraceSettings) → IsSettings s → AllSay (settings_lines s)
+pub settings_say : (s : Settings) → IsSettings s → AllSay (settings_lines s)
 settings_say s h = (
   (named (codes "strict") refl (omega arith), (yes_no_word s.strict, tt)),
   refl,

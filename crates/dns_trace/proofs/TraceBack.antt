@@ -21,7 +21,7 @@ use Rattle.dns_trace.specs.TextLines.{after_lines}
 use Rattle.dns_trace.specs.Trace.{event_text, event_words, kind_words, settings_lines, settings_text, trace}
 use Rattle.dns_trace.specs.Traced.{TraceSaid, next_event, nothing_traced, trace_line, traced, whole_trace}
 use Rattle.dns_trace.specs.Words.{word_at}
-use Rattle.dns_trace.specs.declared.trace_settings.TraceSettings.{TraceSettings}
+use Rattle.dns_service.specs.declared.settings.Settings.{Settings}
 
 -- the line of an event is that of no setting
 no_setting : (kind : EventKind) (e : Event) → setting_named (word_at (kind_words kind e) 0) ≡ None
@@ -70,21 +70,21 @@ events_back (e ∷ es) p given h =
     rw (event_step p given e h.0)
     (events_back es p (given ++ e ∷ []) h.1 ∙ ap (λ (d : List Event). Ok (said p d)) (append_assoc given (e ∷ []) es))
 
-events_say : (es : List Event) → AllByRecursion IsEvent es → AllSay (map event_words es)
+pub events_say : (es : List Event) → AllByRecursion IsEvent es → AllSay (map event_words es)
 events_say [] h = tt
 events_say (e ∷ es) h = (event_are_words e h.0, kind_says e.kind e, events_say es h.1)
 
 -- all lines of a trace
-abbrev all_lines : TraceSettings → List Event → List (List (List ℕ))
+abbrev all_lines : Settings → List Event → List (List (List ℕ))
 all_lines s es = settings_lines s ++ map event_words es
 
-trace_lines : (s : TraceSettings) (es : List Event) → trace s es ≡ flat_map line_of_words (all_lines s es)
+trace_lines : (s : Settings) (es : List Event) → trace s es ≡ flat_map line_of_words (all_lines s es)
 unfolding trace settings_text event_text
 trace_lines s es =
     sym (flat_map-append line_of_words (settings_lines s) (map event_words es)
     ∙ ap (λ (t : List ℕ). flat_map line_of_words (settings_lines s) ++ t) (flat_map-map line_of_words event_words es))
 
-pub reads_back : (s : TraceSettings) (es : List Event) → IsSettings s → All IsEvent es → traced (trace s es) ≡ Ok (s, es)
+pub reads_back : (s : Settings) (es : List Event) → IsSettings s → All IsEvent es → traced (trace s es) ≡ Ok (s, es)
 unfolding traced
 reads_back s es h k =
     let each = recursion_from_All IsEvent es k in
@@ -95,4 +95,4 @@ reads_back s es h k =
     ∙ events_back es (whole_said s) [] each in
     ap (λ (ls : List (List ℕ)). whole_trace (after_lines trace_line 1 nothing_traced ls)) text
     ∙ ap whole_trace (lines_read trace_line (all_lines s es) 1 nothing_traced (said (whole_said s) es) say all)
-    ∙ ap (λ (t : TraceSettings). Ok (t, es)) (settings_whole s h)
+    ∙ ap (λ (t : Settings). Ok (t, es)) (settings_whole s h)

@@ -10,7 +10,7 @@ use Rattle.dns_service.specs.Config.{IsDgram, IsStream}
 use Rattle.dns_service.specs.declared.event.Event.{Event}
 use Rattle.dns_service.specs.declared.event.EventKind.{EventKind}
 use Rattle.dns_service.specs.declared.event.EventKind.TheVariants.{Datagram, Turn, Offer, Piece, End, Fault, Close, Write, Tick, Release, Reconfigure, Shutdown}
-use Rattle.dns_trace.specs.declared.trace_settings.TraceSettings.{TraceSettings}
+use Rattle.dns_service.specs.declared.settings.Settings.{Settings}
 
 -- so many octets
 abbrev pub IsOctets : ℕ → List ℕ → Type 0
@@ -24,7 +24,7 @@ pub record IsSocketAddr (a : SocketAddr) : Type 0 where
   pub ip : IsAddress a.ip
   pub port : a.port < 2 ^ 16
 
-pub record IsSettings (s : TraceSettings) : Type 0 where
+pub record IsSettings (s : Settings) : Type 0 where
   pub cookies : IfSome s.cookies (IsOctets 16)
   pub denied : All IsAddress s.denied
   pub dgram : IsDgram s.dgram

@@ -4,7 +4,7 @@ use Rattle.dns_name.specs.declared.address.IpAddr.{IpAddr}
 use Rattle.dns_service.specs.Config.{Dgram, Stream, default_dgram, default_stream}
 use Rattle.dns_trace.specs.BudgetLine.{budgeted}
 use Rattle.dns_trace.specs.declared.budget_line.Budget.{Budget}
-use Rattle.dns_trace.specs.declared.trace_settings.TraceSettings.{TraceSettings}
+use Rattle.dns_service.specs.declared.settings.Settings.{Settings}
 
 pub record Said : Type 0 where
   pub strict : Option Bool
@@ -19,7 +19,7 @@ abbrev pub nothing_said : Said
 nothing_said = record { strict = None; edns = None; secret = None; denied = []; dgram = None; stream = None; budget = None }
 
 -- the settings: strict, with EDNS and the default configurations where nothing else is said, and with the budget that is said
-abbrev pub settings_said : Said → TraceSettings
+abbrev pub settings_said : Said → Settings
 settings_said s = record {
   strict = unwrap_or s.strict true;
   edns = unwrap_or s.edns true;

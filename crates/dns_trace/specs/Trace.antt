@@ -8,7 +8,7 @@ use Rattle.dns_service.specs.declared.event.Event.{Event}
 use Rattle.dns_service.specs.declared.event.EventKind.{EventKind}
 use Rattle.dns_service.specs.declared.event.EventKind.TheVariants.{Datagram, Turn, Offer, Piece, End, Fault, Close, Write, Tick, Release, Reconfigure, Shutdown}
 use Rattle.dns_trace.specs.Spelling.{address_word, line_of_words, number_or_none, octets_word, yes_no}
-use Rattle.dns_trace.specs.declared.trace_settings.TraceSettings.{TraceSettings}
+use Rattle.dns_service.specs.declared.settings.Settings.{Settings}
 
 -- SIZE WRITE
 abbrev pub dgram_words : Dgram → List (List ℕ)
@@ -36,7 +36,7 @@ abbrev pub deny_words : IpAddr → List (List ℕ)
 deny_words address = codes "deny" ∷ address_word address ∷ []
 
 -- the lines of the configurations, and of the budget of each connection
-abbrev pub config_lines : TraceSettings → List (List (List ℕ))
+abbrev pub config_lines : Settings → List (List (List ℕ))
 config_lines s =
     (codes "dgram" ∷ dgram_words s.dgram)
     ∷ (codes "stream" ∷ stream_words s.stream)
@@ -44,7 +44,7 @@ config_lines s =
     ∷ []
 
 -- whether faulty queries are refused, EDNS, the secret where there is one, who is denied, and the configurations
-abbrev pub settings_lines : TraceSettings → List (List (List ℕ))
+abbrev pub settings_lines : Settings → List (List (List ℕ))
 settings_lines s =
     (codes "strict" ∷ yes_no s.strict ∷ [])
     ∷ (codes "edns" ∷ yes_no s.edns ∷ [])
@@ -61,6 +61,15 @@ client_words name e more = name ∷ decimal e.at ∷ decimal e.secs ∷ decimal 
 -- a line's name, AT SECS, and more words: all clients hear the event, so that none is named
 abbrev pub wide_words : List ℕ → Event → List (List ℕ) → List (List ℕ)
 wide_words name e more = name ∷ decimal e.at ∷ decimal e.secs ∷ more
+
+-- the name of a line that says no more than it and AT SECS CLIENT
+abbrev pub bare_name : EventKind → Option (List ℕ)
+bare_name End = Some (codes "end")
+bare_name Fault = Some (codes "fault")
+bare_name Close = Some (codes "close")
+bare_name Tick = Some (codes "tick")
+bare_name Release = Some (codes "release")
+bare_name _ = None
 
 abbrev pub kind_words : EventKind → Event → List (List ℕ)
 kind_words (Datagram addr octets) e = client_words (codes "datagram") e (addr_words addr ++ octets_word octets ∷ [])
@@ -84,9 +93,9 @@ unfoldable pub event_text : Event → List ℕ
 event_text e = line_of_words (event_words e)
 
 -- the lines of settings
-unfoldable pub settings_text : TraceSettings → List ℕ
+unfoldable pub settings_text : Settings → List ℕ
 settings_text s = flat_map line_of_words (settings_lines s)
 
 -- the settings, and then one line for each event
-unfoldable pub trace : TraceSettings → List Event → List ℕ
+unfoldable pub trace : Settings → List Event → List ℕ
 trace s es = settings_text s ++ flat_map event_text es

@@ -11,7 +11,7 @@ use Rattle.dns_trace.specs.Words.{word_at}
 use Rattle.dns_trace.specs.declared.reason.Reason.{Reason}
 use Rattle.dns_trace.specs.declared.setting.Setting.{Setting}
 use Rattle.dns_trace.specs.declared.text_reader.TraceError.{TraceError}
-use Rattle.dns_trace.specs.declared.trace_settings.TraceSettings.{TraceSettings}
+use Rattle.dns_service.specs.declared.settings.Settings.{Settings}
 
 -- what lines said: of settings, and the events in their order
 pub record TraceSaid : Type 0 where
@@ -36,14 +36,14 @@ abbrev pub trace_line : TraceSaid → List (List ℕ) → Result TraceSaid Reaso
 trace_line t ws = next_said (setting_named (word_at ws 0)) t ws
 
 -- the settings and the events, or the first bad line and the reason
-abbrev pub whole_trace : Result TraceSaid (ℕ × Reason) → Result (TraceSettings × List Event) (ℕ × Reason)
+abbrev pub whole_trace : Result TraceSaid (ℕ × Reason) → Result (Settings × List Event) (ℕ × Reason)
 whole_trace (Ok t) = Ok (settings_said t.settings, t.events)
 whole_trace (Err e) = Err e
 
-unfoldable pub traced : List ℕ → Result (TraceSettings × List Event) (ℕ × Reason)
+unfoldable pub traced : List ℕ → Result (Settings × List Event) (ℕ × Reason)
 traced text = whole_trace (after_lines trace_line 1 nothing_traced (lines text))
 
 -- a reader gave the settings and the events, or the first bad line and the reason, unless memory was wanting
-abbrev pub ReadsTrace : {V : Type 0} → (V → List Event) → Result (TraceSettings × V) TraceError → Result (TraceSettings × List Event) (ℕ × Reason) → Type 0
+abbrev pub ReadsTrace : {V : Type 0} → (V → List Event) → Result (Settings × V) TraceError → Result (Settings × List Event) (ℕ × Reason) → Type 0
 ReadsTrace events (Ok r) read = read ≡ Ok (r.0, events r.1)
 ReadsTrace events (Err e) read = RefusesLine e read

@@ -6,9 +6,9 @@ ghost use Rattle.dns_service.specs.declared.event.Event.{Event};
 ghost use Rattle.dns_trace.specs.InRange.{IsEvent, IsSettings};
 ghost use Rattle.dns_trace.specs.Trace.{trace};
 ghost use Rattle.dns_trace.specs.Traced.{traced};
-ghost use Rattle.dns_trace.specs.declared.trace_settings.TraceSettings.{TraceSettings};
+ghost use Rattle.dns_service.specs.declared.settings.Settings.{Settings};
 
 /// What is written of settings and events in range reads as these.
 pub fn a_trace_reads_back()
-    ensures { (s : TraceSettings) (es : List Event) → IsSettings s → All IsEvent es → traced (trace s es) ≡ Ok (s, es) }
+    ensures { (s : Settings) (es : List Event) → IsSettings s → All IsEvent es → traced (trace s es) ≡ Ok (s, es) }
 {}

@@ -33,6 +33,8 @@ pub use setting::{Setting, setting_named};
 pub use setting_lines::{read_setting, unless};
 pub use stream_line::read_stream;
 pub use text_reader::{TakeLine, TraceError, read_lines};
+pub use text_writer::TextWriter;
+pub use trace_lines::{write_event, write_settings};
 pub use trace_reader::read_trace;
 pub use trace_settings::TraceSettings;
 pub use trace_writer::TraceWriter;

@@ -6,7 +6,7 @@ ghost use Rattle.dns_trace.specs.Said.{nothing_said, settings_said};
 use crate::budget_line::{Budget, with_budget};
 use crate::trace_settings::TraceSettings;
 use dns_name::{Addrs, IpAddr, OutOfMemory};
-use dns_service::{DgramConfig, StreamConfig};
+use dns_service::{DgramConfig, Settings, StreamConfig};
 use std::alloc::Global;
 use std::marker::Model;
 
@@ -151,7 +151,7 @@ impl SaidSettings {
             stream,
             budget,
         } = self;
-        TraceSettings {
+        Settings {
             strict: strict.unwrap_or(true),
             edns: edns.unwrap_or(true),
             cookies: secret,

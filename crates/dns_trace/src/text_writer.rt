@@ -14,7 +14,7 @@ const DIGITS: &[u8; 16] = b"0123456789abcdef";
 
 /// A text. After want of memory it has a part of what was to be written.
 #[derive(Debug, Drop)]
-pub(crate) struct TextWriter {
+pub struct TextWriter {
     text: Vec<u8>,
 }
 
@@ -28,7 +28,7 @@ impl Model for TextWriter {
 
 impl TextWriter {
     /// No text.
-    pub(crate) fn new(alloc: Global) -> TextWriter
+    pub fn new(alloc: Global) -> TextWriter
         ensures { result ≡ [] }
     {
         TextWriter {
@@ -43,22 +43,23 @@ impl TextWriter {
         self.text.clear();
     }
 
+    /// The text so far.
     pub(crate) fn as_slice(&self) -> &[u8]
         ensures { result.now ≡ self.now }
     {
         self.text.as_slice()
     }
 
-    /// Gives the text, which is not copied.
-    pub(crate) fn into_vec(self) -> Vec<u8>
+    /// The text, which is not copied.
+    pub fn into_vec(self) -> Vec<u8>
         ensures { result.items ≡ self }
     {
         let TextWriter { text } = self;
         text
     }
 
-    /// A whole line.
-    pub(crate) fn append(&mut self, more: &[u8]) -> Result<(), OutOfMemory>
+    /// Octets as they are, as those of a whole line. After want of memory the text is as before.
+    pub fn append(&mut self, more: &[u8]) -> Result<(), OutOfMemory>
         ensures ok { OnOk result (self.new ≡ self.old ++ more.now) }
         ensures err { OnErr result (self.new ≡ self.old) }
     {
@@ -66,30 +67,33 @@ impl TextWriter {
         Ok(())
     }
 
-    /// One character.
-    fn character(&mut self, character: u8) -> Result<(), OutOfMemory>
-        ensures { OnOk result (self.new ≡ self.old ++ character ∷ []) }
+    /// One octet, which is a character's. After want of memory the text is as before.
+    pub fn character(&mut self, character: u8) -> Result<(), OutOfMemory>
+        ensures ok { OnOk result (self.new ≡ self.old ++ character ∷ []) }
+        ensures err { OnErr result (self.new ≡ self.old) }
     {
         self.text.push(character)?;
         Ok(())
     }
 
-    /// The end of a line.
-    pub(crate) fn end_line(&mut self) -> Result<(), OutOfMemory>
-        ensures { OnOk result (self.new ≡ self.old ++ 10 ∷ []) }
+    /// The LF that ends a line. After want of memory the text is as before.
+    pub fn end_line(&mut self) -> Result<(), OutOfMemory>
+        ensures ok { OnOk result (self.new ≡ self.old ++ 10 ∷ []) }
+        ensures err { OnErr result (self.new ≡ self.old) }
     {
         self.character(b'\n')
     }
 
-    /// The first word of a line.
-    pub(crate) fn name(&mut self, name: &str) -> Result<(), OutOfMemory>
-        ensures { OnOk result (self.new ≡ self.old ++ name.now) }
+    /// The first word of a line, or the first part of a word. After want of memory the text is as before.
+    pub fn name(&mut self, name: &str) -> Result<(), OutOfMemory>
+        ensures ok { OnOk result (self.new ≡ self.old ++ name.now) }
+        ensures err { OnErr result (self.new ≡ self.old) }
     {
         self.append(name.as_bytes())
     }
 
     /// A word behind a space.
-    fn word(&mut self, word: &str) -> Result<(), OutOfMemory>
+    pub fn word(&mut self, word: &str) -> Result<(), OutOfMemory>
         ensures { OnOk result (self.new ≡ self.old ++ 32 ∷ word.now) }
     {
         self.character(b' ')?;
@@ -97,7 +101,7 @@ impl TextWriter {
     }
 
     /// A number behind a character, in decimal.
-    fn number_behind(&mut self, character: u8, number: u64) -> Result<(), OutOfMemory>
+    pub fn number_behind(&mut self, character: u8, number: u64) -> Result<(), OutOfMemory>
         ensures { OnOk result (self.new ≡ self.old ++ character ∷ decimal number) }
     {
         let mut buffer = Buffer::new();
@@ -106,7 +110,7 @@ impl TextWriter {
     }
 
     /// A number behind a space, in decimal.
-    pub(crate) fn number(&mut self, number: u64) -> Result<(), OutOfMemory>
+    pub fn number(&mut self, number: u64) -> Result<(), OutOfMemory>
         ensures { OnOk result (self.new ≡ self.old ++ 32 ∷ decimal number) }
     {
         self.number_behind(b' ', number)
@@ -150,7 +154,7 @@ impl TextWriter {
     }
 
     /// Hexadecimal digits, or `-` for no octet, behind a space.
-    pub(crate) fn octets(&mut self, octets: &[u8]) -> Result<(), OutOfMemory>
+    pub fn octets(&mut self, octets: &[u8]) -> Result<(), OutOfMemory>
         ensures { OnOk result (self.new ≡ self.old ++ 32 ∷ octets_word octets.now) }
     {
         if octets.is_empty() {

@@ -1,9 +1,10 @@
 //! The lines of settings and of events, as they are written.
 
-ghost use Rattle.std.specs.Prelude.{◌≡◌, ◌++◌, ◌∷◌, [], OnOk, codes, decimal, flat_map, map};
+ghost use Rattle.std.specs.Prelude.{◌≡◌, ◌++◌, ◌∷◌, [], None, OnOk, codes, decimal, flat_map, map};
+ghost use Rattle.std.specs.Option.{option_map};
 ghost use Rattle.hex.specs.Hex.{encode_lower};
 ghost use Rattle.dns_trace.specs.Spelling.{line_of_words, octets_word, spaced, yes_no};
-ghost use Rattle.dns_trace.specs.Trace.{addr_words, budget_words, client_words, config_lines, deny_words, dgram_words, event_text, secret_lines, settings_text, stream_words, wide_words};
+ghost use Rattle.dns_trace.specs.Trace.{addr_words, bare_name, budget_words, client_words, config_lines, deny_words, dgram_words, event_text, secret_lines, settings_text, stream_words, wide_words};
 
 use crate::text_writer::TextWriter;
 use crate::trace_settings::TraceSettings;
@@ -159,9 +160,24 @@ fn shutdown_line(text: &mut TextWriter, event: &Event) -> Result<(), OutOfMemory
     text.end_line()
 }
 
-/// The line of an event.
+/// The name of a line that says no more than it and `AT SECS CLIENT`.
+fn bare_name(kind: &EventKind) -> Option<&'static str>
+    ensures { option_map (λ name. name.now) result ≡ bare_name kind.now }
+{
+    match kind {
+        EventKind::End => Some("end"),
+        EventKind::Fault => Some("fault"),
+        EventKind::Close => Some("close"),
+        EventKind::Tick => Some("tick"),
+        EventKind::Release => Some("release"),
+        _ => None,
+    }
+}
+
+/// The line of an event that says more.
 #[tactic(auto, unfolding(crate::specs::Trace::event_text))]
-pub(crate) fn write_event(text: &mut TextWriter, event: &Event) -> Result<(), OutOfMemory>
+fn full_line(text: &mut TextWriter, event: &Event) -> Result<(), OutOfMemory>
+    requires { bare_name event.now.kind ≡ None }
     ensures { OnOk result (text.new ≡ text.old ++ event_text event.now) }
 {
     match &event.kind {
@@ -169,14 +185,21 @@ pub(crate) fn write_event(text: &mut TextWriter, event: &Event) -> Result<(), Ou
         EventKind::Turn { request } => number_line(text, "turn", event, *request),
         EventKind::Offer { addr } => offer_line(text, event, addr),
         EventKind::Piece(octets) => piece_line(text, event, octets),
-        EventKind::End => bare_line(text, "end", event),
-        EventKind::Fault => bare_line(text, "fault", event),
-        EventKind::Close => bare_line(text, "close", event),
         EventKind::Write { took } => number_line(text, "write", event, *took),
-        EventKind::Tick => bare_line(text, "tick", event),
-        EventKind::Release => bare_line(text, "release", event),
         EventKind::Reconfigure { dgram, stream } => reconfigure_line(text, event, dgram, stream),
         EventKind::Shutdown => shutdown_line(text, event),
+        _ => unreachable!(),
+    }
+}
+
+/// The line of an event. After want of memory the text has a part of it.
+#[tactic(auto, using(crate::proofs::Written::bare_text))]
+pub fn write_event(text: &mut TextWriter, event: &Event) -> Result<(), OutOfMemory>
+    ensures { OnOk result (text.new ≡ text.old ++ event_text event.now) }
+{
+    match bare_name(&event.kind) {
+        Some(name) => bare_line(text, name, event),
+        None => full_line(text, event),
     }
 }
 
@@ -256,12 +279,9 @@ fn config_lines(text: &mut TextWriter, settings: &TraceSettings) -> Result<(), O
     budget_line(text, &settings.stream.connection_config())
 }
 
-/// The lines of settings.
+/// The lines of settings. After want of memory the text has a part of them.
 #[tactic(auto, unfolding(crate::specs::Trace::settings_text))]
-pub(crate) fn write_settings(
-    text: &mut TextWriter,
-    settings: &TraceSettings,
-) -> Result<(), OutOfMemory>
+pub fn write_settings(text: &mut TextWriter, settings: &TraceSettings) -> Result<(), OutOfMemory>
     ensures { OnOk result (text.new ≡ text.old ++ settings_text settings.now) }
 {
     yes_no_line(text, "strict", settings.strict)?;

@@ -3,7 +3,7 @@
 ghost use Rattle.std.specs.Prelude.{◌≡◌, ◌++◌, ◌∷◌, [], IfOk, List, OnErr, OnOk};
 ghost use Rattle.dns_service.specs.declared.event.Event.{Event as TheEvent};
 ghost use Rattle.dns_trace.specs.Trace.{event_text, trace};
-ghost use Rattle.dns_trace.specs.declared.trace_settings.TraceSettings.{TraceSettings as TheSettings};
+ghost use Rattle.dns_service.specs.declared.settings.Settings.{Settings as TheSettings};
 
 use crate::text_writer::TextWriter;
 use crate::trace_lines::{write_event, write_settings};

@@ -7,4 +7,4 @@ pub returns : goal.returns
 returns c =
     let e = line_ended c.args.text.now (codes "reconfigure") (decimal c.args.event.now.at ∷ decimal c.args.event.now.secs ∷ [])
     (dgram_words c.args.dgram.now ++ (stream_words c.args.stream.now ++ budget_words c.args.stream.now.connection_config)) in
-    rw (c.in_ok-config_words.ensures, c.in_ok-begin_wide.ensures, e) at c.end_line.ensures
+    rw (c.in_ok-config_words.ensures, c.in_ok-begin_wide.ensures, e) at c.end_line.ensures.ok
