@@ -8,7 +8,7 @@ use Rattle.dns_service.specs.declared.event.Event.{Event}
 use Rattle.dns_service.specs.declared.event.EventKind.{EventKind}
 use Rattle.dns_service.specs.declared.event.EventKind.TheVariants.{Datagram, Turn, Offer, Piece, End, Fault, Close, Write, Tick, Release, Reconfigure, Shutdown}
 use Rattle.dns_client.specs.Serving.{Serving}
-use Rattle.dns_middleware.specs.declared.settings.Settings.{Settings}
+use Rattle.dns_service.specs.declared.settings.Settings.{Settings}
 use Rattle.dns_datagrams.specs.DatagramEvents.{letter_in, letters_in, cut_letters, number_in, numbers_in, numbers_below}
 use Rattle.dns_datagrams.specs.DatagramsServed.{Input, IsFull, MayCome}
 use Rattle.dns_datagrams.specs.DatagramLoop.{RoundedUpTo, TakenBy, TakenSo}

@@ -9,7 +9,7 @@ use Rattle.dns_service.specs.declared.event.Output.{Output}
 use Rattle.dns_client.specs.Serving.{Serving}
 use Rattle.dns_client.specs.Slate.{Slate, Conf, Told, Phase, Unused, Exchange, Open, Flushing, Closed, fresh, conf_rule}
 use Rattle.dns_client.specs.Rule.{rule}
-use Rattle.dns_middleware.specs.declared.settings.Settings.{Settings}
+use Rattle.dns_service.specs.declared.settings.Settings.{Settings}
 use Rattle.dns_notes.specs.Settings.{opening}
 use Rattle.dns_notes.specs.Own.{is_wide, own, concerns}
 use Rattle.dns_notes.specs.Sent.{conf, conf_after, slate_after, slate}

@@ -3,7 +3,7 @@ use Rattle.std.proofs.Common.{◌≡◌, ℕ, ◌+◌, List, [], ◌∷◌, ◌+
 use Rattle.dns_outside.specs.declared.sock.Letter.{Letter}
 use Rattle.dns_service.specs.declared.event.Event.{Event}
 use Rattle.dns_client.specs.Serving.{Serving}
-use Rattle.dns_middleware.specs.declared.settings.Settings.{Settings}
+use Rattle.dns_service.specs.declared.settings.Settings.{Settings}
 use Rattle.dns_datagrams.specs.DatagramEvents.{letter_in, letters_in, cut_letter, cut_letters, number_in, numbers_in, numbers_below, turn_count, turns_in}
 use Rattle.dns_datagrams.specs.DatagramsPolled.{MayFollow, waits_with, waits_after, waits, TurnsAfter, TurnsBetween}
 

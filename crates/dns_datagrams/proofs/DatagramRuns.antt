@@ -10,7 +10,7 @@ use Rattle.dns_service.specs.declared.event.Event.{Event}
 use Rattle.dns_service.specs.declared.polled.PolledRequest.{PolledRequest}
 use Rattle.dns_client.specs.Serving.{Serving}
 use Rattle.dns_client.specs.Slate.{Conf}
-use Rattle.dns_middleware.specs.declared.settings.Settings.{Settings}
+use Rattle.dns_service.specs.declared.settings.Settings.{Settings}
 use Rattle.dns_notes.specs.Clocks.{ClockReading}
 use Rattle.dns_datagrams.specs.DatagramEvents.{IsOwnKind, AllDatagramKinds, letters_in, cut_letters, numbers_in, numbers_below}
 use Rattle.dns_datagrams.specs.DatagramOrder.{fault_events, IsFaultOf}

@@ -11,7 +11,7 @@ use Rattle.dns_service.specs.declared.event.Output.TheVariants as output
 use Rattle.dns_client.specs.Serving.{Serving}
 use Rattle.dns_client.specs.Slate.{Slate, Told, Exchange}
 use Rattle.dns_client.specs.Rule.{rule}
-use Rattle.dns_middleware.specs.declared.settings.Settings.{Settings}
+use Rattle.dns_service.specs.declared.settings.Settings.{Settings}
 use Rattle.dns_notes.specs.Sent.{conf, slate}
 use Rattle.dns_notes.specs.Out.{is_unused, gained, out, out_after}
 use Rattle.dns_notes.specs.Clocks.{fault_count, faults_in}

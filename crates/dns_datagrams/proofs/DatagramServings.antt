@@ -17,7 +17,7 @@ use Rattle.dns_client.specs.Slate.{Slate, Conf, Told, Phase, Unused, Exchange, O
 use Rattle.dns_client.specs.Datagrams.{datagram}
 use Rattle.dns_client.specs.News.{news, wide}
 use Rattle.dns_client.specs.Rule.{rule, in_phase}
-use Rattle.dns_middleware.specs.declared.settings.Settings.{Settings}
+use Rattle.dns_service.specs.declared.settings.Settings.{Settings}
 use Rattle.dns_notes.specs.Settings.{opening}
 use Rattle.dns_notes.specs.Own.{is_wide}
 use Rattle.dns_notes.specs.Sent.{conf, conf_after, slate}

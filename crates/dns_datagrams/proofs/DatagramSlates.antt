@@ -14,7 +14,7 @@ use Rattle.dns_client.specs.Slate.{Slate, SlateRequest, Conf, Told, Phase, Unuse
 use Rattle.dns_client.specs.Datagrams.{datagram}
 use Rattle.dns_client.specs.Turns.{exchange_turn, polled, sent_at_once, sent_for, with_request}
 use Rattle.dns_client.specs.Rule.{rule, in_phase, exchange_rule}
-use Rattle.dns_middleware.specs.declared.settings.Settings.{Settings}
+use Rattle.dns_service.specs.declared.settings.Settings.{Settings}
 use Rattle.dns_notes.specs.Settings.{opening}
 use Rattle.dns_notes.specs.Own.{is_wide, own, concerns}
 use Rattle.dns_notes.specs.Sent.{conf, conf_after, slate_after, slate}

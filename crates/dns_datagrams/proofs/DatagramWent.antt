@@ -1,14 +1,25 @@
 -- How what parts of the loop of datagrams did to their office follows each other.
-use Rattle.std.proofs.Common.{◌≡◌, ℕ, refl, ap, ◌∙◌}
-use Rattle.std.specs.Prelude.{Result}
+use Rattle.std.proofs.Common.{◌≡◌, ◌≢◌, ℕ, refl, ap, ◌∙◌}
+use Rattle.std.specs.Prelude.{Some, Result}
 use Rattle.dns_name.specs.declared.error.OutOfMemory.{OutOfMemory as No_memory}
 use Rattle.dns_outside.specs.Causes.{Tells}
-use Rattle.dns_datagrams.specs.DatagramsServed.{World}
-use Rattle.dns_datagrams.specs.DatagramOffice.{MayReceive, SameOffice, Went, OnlyPolls, ToldSo}
+use Rattle.dns_datagrams.specs.DatagramsServed.{World, ReceivesBy}
+use Rattle.dns_datagrams.specs.DatagramLoop.{TakenBy}
+use Rattle.dns_datagrams.specs.DatagramOffice.{MayReceive, SameOffice, Went, OnlyPolls, Laps, WentTo, ToldSo}
 use Rattle.dns_datagrams.specs.declared.office.Office.{Office}
 use Rattle.dns_datagrams.specs.declared.running.Running.{Running}
+use Rattle.dns_datagrams.specs.declared.serving.DgramEnd.{DgramEnd}
+use Rattle.dns_datagrams.specs.declared.serving.DgramEnd.TheVariants.{Shutdown, Counted, Fault, OutOfMemory}
+use Rattle.dns_datagrams.proofs.DatagramCounts.{taken_less}
 use Rattle.dns_datagrams.proofs.DatagramPasses.{passes_same, passes_then}
 use Rattle.dns_datagrams.proofs.DatagramTellings.{if_ok_by, on_err_by, tells_two}
+
+-- no receive failed where it ended by anything but a fault
+received_all : (end : DgramEnd) {r r' : ℕ} → end ≢ Fault → ReceivesBy end r r' → r' ≡ r
+received_all Shutdown n h = h
+received_all Counted n h = h
+received_all Fault n h = absurd (n refl)
+received_all OutOfMemory n h = h
 
 module _ {T W D C J R F : Type 0} where
   pub same_office : {o : Office T W D C J R F} → SameOffice o o
@@ -31,6 +42,9 @@ module _ {T W D C J R F : Type 0} where
     pub went_then : {o o1 o2 : Office T W D C J R F} → Went failed_sends o o1 → Went failed_sends o1 o2 → Went failed_sends o o2
     went_then a b = record { same = same_then a.same b.same; passes = passes_then _ _ _ _ _ _ a.passes b.passes }
 
+    pub went_by : {failed_receives : D → ℕ} {end : DgramEnd} {count : ℕ} {o o1 : Office T W D C J R F} → WentTo failed_receives failed_sends end count o o1 → Went failed_sends o o1
+    went_by a = record { same = a.same; passes = a.passes.passes }
+
     -- the seat is still of the office's book
     pub same_seat : {o o1 : Office T W D C J R F} → Went failed_sends o o1 → o.state.now.seat.book ≡ o.book.now → o1.state.now.seat.book ≡ o1.book.now
     same_seat w h = rw w.same.book (w.passes.book ∙ h)
@@ -51,6 +65,40 @@ module _ {T W D C J R F : Type 0} where
         → OnlyPolls failed_receives failed_sends o1 o2 → OnlyPolls failed_receives failed_sends o o2
     polls_waited same state sends receives p =
         record { went = record { same = same_then same p.went.same; passes = rw (state, sends) at p.went.passes }; receives = p.receives ∙ receives; next = p.next ∙ ap (λ (s : Running W R F). s.next) state }
+
+    -- the rounds end with one of them
+    pub rounds_to : {end : DgramEnd} {count : ℕ} {o o1 o2 : Office T W D C J R F} → Went failed_sends o o1 → failed_receives o1.sock.now ≡ failed_receives o.sock.now → Laps failed_receives failed_sends (Some end) o1 o2
+        → TakenBy end count o2.state.now.next → WentTo failed_receives failed_sends end count o o2
+    rounds_to w r l t = let both = went_then w l.went in record {
+      same = both.same;
+      passes = record { passes = both.passes; taken = t; receives = rw r at l.later; cause = rw r at l.cause; closed = λ e. l.closed (ap (λ (x : DgramEnd). Some x) e) };
+    }
+
+    -- a part that only polls comes behind them; where memory runs out in it, that is the end
+    pub polled_to : {end : DgramEnd} {count : ℕ} {o o1 o2 : Office T W D C J R F} → WentTo failed_receives failed_sends end count o o1 → OnlyPolls failed_receives failed_sends o1 o2 → WentTo failed_receives failed_sends end count o o2
+    polled_to a p = record {
+      same = same_then a.same p.went.same;
+      passes = record {
+        passes = passes_then _ _ _ _ _ _ a.passes.passes p.went.passes;
+        taken = rw p.next a.passes.taken;
+        receives = rw p.receives a.passes.receives;
+        cause = rw p.receives a.passes.cause;
+        closed = λ e. p.went.passes.over (a.passes.closed e);
+      };
+    }
+
+    pub polls_break_to : (end : DgramEnd) {count : ℕ} {o o1 o2 : Office T W D C J R F} → end ≢ Fault → WentTo failed_receives failed_sends end count o o1 → OnlyPolls failed_receives failed_sends o1 o2 → WentTo failed_receives failed_sends OutOfMemory count o o2
+    polls_break_to end n a p =
+        let x = polled_to a p in record {
+          same = x.same;
+          passes = record {
+            passes = x.passes.passes;
+            taken = taken_less end x.passes.taken;
+            receives = x.passes.receives;
+            cause = received_all end n x.passes.cause;
+            closed = λ e. absurd (cc e);
+          };
+        }
 
   module _ {X Y : Type 0} {told_by : Office T W D C J R F → Type 0} {seen : Office T W D C J R F → World} {did did1 : X → World → Running W R F → World → Running W R F → Type 0} {broke broke1 : World → Running W R F → World → Type 0} where
     -- a part that ends as another one did, which came after something

@@ -11,7 +11,7 @@ use Rattle.dns_service.specs.declared.event.Event.{Event}
 use Rattle.dns_service.specs.declared.polled.PolledRequest.{PolledRequest}
 use Rattle.dns_client.specs.Serving.{Serving}
 use Rattle.dns_client.specs.Slate.{Unused, conf_of}
-use Rattle.dns_middleware.specs.declared.settings.Settings.{Settings}
+use Rattle.dns_service.specs.declared.settings.Settings.{Settings}
 use Rattle.dns_notes.specs.Sent.{conf, slate}
 use Rattle.dns_notes.specs.Woven.{seen_with}
 use Rattle.dns_notes.specs.Clocks.{ClockReading}
@@ -92,6 +92,15 @@ TakenSo (Some end) count next = TakenBy end count next
 abbrev pub RoundedSo : Option DgramEnd → ℕ → ℕ → Type 0
 RoundedSo None r r' = r' ≡ r
 RoundedSo (Some end) r r' = ReceivesBy end r r'
+
+-- Whatever they tell, up to the loop's end: so many datagrams came, the count of failed receives rose by a fault alone, and a shutdown
+-- was heard of where it ended by one.
+pub record PassesTo {W R F : Type 0} (end : DgramEnd) (count : ℕ) (s s' : Running W R F) (f f' r r' : ℕ) : Type 0 where
+  pub passes : Passes s s' f f'
+  pub taken : TakenBy end count s'.next
+  pub receives : r ≤ r'
+  pub cause : ReceivesBy end r r'
+  pub closed : end ≡ Shutdown → s'.heard.closed ≡ true
 
 -- what is so of the world before an event was noted, which is the last thing that was done
 pub record SinceNoted (e : Event) (is : World → Type 0) (w : World) : Type 0 where

@@ -6,7 +6,7 @@ use Rattle.dns_outside.specs.Mail.{Mail}
 use Rattle.dns_service.specs.declared.event.Event.{Event}
 use Rattle.dns_notes.specs.Clocks.{ClockReading}
 use Rattle.dns_datagrams.specs.DatagramsServed.{World, world}
-use Rattle.dns_datagrams.specs.DatagramLoop.{Passes, RoundedSo, RoundedUpTo}
+use Rattle.dns_datagrams.specs.DatagramLoop.{Passes, PassesTo, RoundedSo, RoundedUpTo}
 use Rattle.dns_datagrams.specs.declared.office.Office.{Office}
 use Rattle.dns_datagrams.specs.declared.serving.DgramEnd.{DgramEnd}
 use Rattle.dns_datagrams.specs.declared.serving.DgramEnd.TheVariants.{Shutdown}
@@ -51,6 +51,11 @@ module _ {T W D C J R F : Type 0} where
     pub later : failed_receives o.sock.now ≤ failed_receives o'.sock.now
     pub cause : RoundedSo r (failed_receives o.sock.now) (failed_receives o'.sock.now)
     pub closed : r ≡ Some Shutdown → o'.state.now.heard.closed ≡ true
+
+  -- and what the rounds did up to the loop's end, and what comes behind them
+  pub record WentTo (failed_receives failed_sends : D → ℕ) (end : DgramEnd) (count : ℕ) (o o' : Office T W D C J R F) : Type 0 where
+    pub same : SameOffice o o'
+    pub passes : PassesTo end count o.state.now o'.state.now (failed_sends o.sock.now) (failed_sends o'.sock.now) (failed_receives o.sock.now) (failed_receives o'.sock.now)
 
   -- where they tell: this was done, by the result, or memory ran out
   pub record ToldSo {X : Type 0} (told_by : Office T W D C J R F → Type 0) (seen : Office T W D C J R F → World) (did : X → World → Running W R F → World → Running W R F → Type 0) (broke : World → Running W R F → World → Type 0)

@@ -7,7 +7,7 @@ use Rattle.dns_service.specs.declared.event.EventKind.{EventKind}
 use Rattle.dns_service.specs.declared.event.EventKind.TheVariants.{Datagram, Turn}
 use Rattle.dns_client.specs.Serving.{Serving}
 use Rattle.dns_client.specs.Slate.{Slate}
-use Rattle.dns_middleware.specs.declared.settings.Settings.{Settings}
+use Rattle.dns_service.specs.declared.settings.Settings.{Settings}
 use Rattle.dns_notes.specs.Sent.{slate}
 
 -- its request is done, or it never had one

@@ -10,7 +10,7 @@ use Rattle.dns_service.specs.declared.event.EventKind.TheVariants.{Fault}
 use Rattle.dns_service.specs.declared.event.Output.{Output}
 use Rattle.dns_service.specs.declared.event.Output.TheVariants.{Datagram}
 use Rattle.dns_client.specs.Serving.{Serving}
-use Rattle.dns_middleware.specs.declared.settings.Settings.{Settings}
+use Rattle.dns_service.specs.declared.settings.Settings.{Settings}
 use Rattle.dns_notes.specs.Sent.{conf, slate}
 use Rattle.dns_notes.specs.Out.{gained}
 

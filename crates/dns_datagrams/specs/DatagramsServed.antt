@@ -9,7 +9,7 @@ use Rattle.dns_outside.specs.Mail.{Mail}
 use Rattle.dns_outside.specs.declared.sock.Letter.{Letter}
 use Rattle.dns_service.specs.declared.event.Event.{Event}
 use Rattle.dns_client.specs.Serving.{Serving}
-use Rattle.dns_middleware.specs.declared.settings.Settings.{Settings}
+use Rattle.dns_service.specs.declared.settings.Settings.{Settings}
 use Rattle.dns_notes.specs.Out.{out}
 use Rattle.dns_notes.specs.Clocks.{ClockReading, Dated, faults_in}
 use Rattle.dns_notes.specs.Woven.{look_entries}

@@ -6,9 +6,9 @@ ghost use Rattle.dns_client.specs.Serving.{serving};
 ghost use Rattle.dns_service.specs.PolledRequest.{request_answer};
 ghost use Rattle.dns_service.specs.declared.event.EventKind.TheVariants.{Datagram};
 ghost use Rattle.dns_datagrams.specs.DatagramSteps.{stamped_event};
-ghost use Rattle.dns_datagrams.specs.DatagramsServed.{IsFull, MayCome, ReceivesBy};
-ghost use Rattle.dns_datagrams.specs.DatagramLoop.{Begins, BeginFails, Receives, ReceivedSo, ReceivedUpTo, Rounded, Stopped, TakenBy, TakenSo, Breaks, SinceNoted};
-ghost use Rattle.dns_datagrams.specs.DatagramOffice.{Laps, MayReceive, ToldSo, Went, office_seen, office_told};
+ghost use Rattle.dns_datagrams.specs.DatagramsServed.{IsFull, MayCome};
+ghost use Rattle.dns_datagrams.specs.DatagramLoop.{Begins, BeginFails, Receives, ReceivedSo, ReceivedUpTo, Rounded, Stopped, TakenSo, Breaks, SinceNoted};
+ghost use Rattle.dns_datagrams.specs.DatagramOffice.{Laps, MayReceive, ToldSo, Went, WentTo, office_seen, office_told};
 
 use crate::exchanges::begin;
 use crate::notes::{Stamp, note_datagram};
@@ -178,11 +178,7 @@ impl<R: Wait, W: Served, D: AsyncDgramSock, C: Clock, J: Recorder> Office<'_, R,
         requires can_call { W.can_call self.old.service.now }
         requires buffer { length buf.old ≡ 1024 }
         requires within { MayCome count self.old.state.now.next }
-        ensures went { Went D.failed_sends self.old self.new }
-        ensures taken { TakenBy result count self.new.state.now.next }
-        ensures receives { D.failed_receives self.old.sock.now ≤ D.failed_receives self.new.sock.now }
-        ensures cause { ReceivesBy result (D.failed_receives self.old.sock.now) (D.failed_receives self.new.sock.now) }
-        ensures closed { result ≡ DgramEnd.Shutdown → self.new.state.now.heard.closed ≡ true }
+        ensures went { WentTo D.failed_receives D.failed_sends result count self.old self.new }
         ensures told { Tells (office_told D.tells C.tells J.tells self.new) (office_told D.tells C.tells J.tells self.old)
             (Stopped (request_answer W.Future.answer W.Stream.answer) (serving (W.answer self.old.service.now) (W.hint self.old.service.now)) result count (office_seen D.mail D.failed_sends C.readings J.noted self.old) self.old.state.now (office_seen D.mail D.failed_sends C.readings J.noted self.new) self.new.state.now) }
     {

@@ -1,11 +1,11 @@
 //! Datagrams are served.
 
-ghost use Rattle.std.specs.Prelude.{◌≡◌, ◌≤◌, true};
+ghost use Rattle.std.specs.Prelude.{◌≡◌, ◌≤◌};
 ghost use Rattle.dns_client.specs.Serving.{serving};
 ghost use Rattle.dns_outside.specs.Causes.{Rose, Tells};
 ghost use Rattle.dns_service.specs.PolledRequest.{request_answer};
-ghost use Rattle.dns_datagrams.specs.DatagramLoop.{Ended, Passes, TakenBy};
-ghost use Rattle.dns_datagrams.specs.DatagramOffice.{Went, office_seen, office_told};
+ghost use Rattle.dns_datagrams.specs.DatagramLoop.{Ended, PassesTo};
+ghost use Rattle.dns_datagrams.specs.DatagramOffice.{WentTo, office_seen, office_told};
 ghost use Rattle.dns_datagrams.specs.DatagramsServed.{LooksBy, MayCome, ReceivesBy, RoseIf, ServedTo, world};
 
 use crate::looks::hear_news;
@@ -41,11 +41,7 @@ impl<R: Wait, W: Served, D: AsyncDgramSock, C: Clock, J: Recorder> Office<'_, R,
         requires book { self.old.state.now.seat.book ≡ self.old.book.now }
         requires can_call { W.can_call self.old.service.now }
         requires within { MayCome count self.old.state.now.next }
-        ensures went { Went D.failed_sends self.old self.new }
-        ensures taken { TakenBy result count self.new.state.now.next }
-        ensures receives { D.failed_receives self.old.sock.now ≤ D.failed_receives self.new.sock.now }
-        ensures cause { ReceivesBy result (D.failed_receives self.old.sock.now) (D.failed_receives self.new.sock.now) }
-        ensures closed { result ≡ DgramEnd.Shutdown → self.new.state.now.heard.closed ≡ true }
+        ensures went { WentTo D.failed_receives D.failed_sends result count self.old self.new }
         ensures told { Tells (office_told D.tells C.tells J.tells self.new) (office_told D.tells C.tells J.tells self.old)
             (Ended (request_answer W.Future.answer W.Stream.answer) (serving (W.answer self.old.service.now) (W.hint self.old.service.now)) result count (office_seen D.mail D.failed_sends C.readings J.noted self.old) self.old.state.now (office_seen D.mail D.failed_sends C.readings J.noted self.new) self.new.state.now) }
     {
@@ -77,11 +73,7 @@ fn serve_begun<'x, R: Wait, D: AsyncDgramSock, C: Clock, J: Recorder, W: Served>
     requires book { state.old.seat.book ≡ book.now }
     requires can_call { W.can_call service.now }
     requires within { MayCome count state.old.next }
-    ensures taken { TakenBy result count state.new.next }
-    ensures passes { Passes state.old state.new (D.failed_sends sock.old) (D.failed_sends sock.new) }
-    ensures receives { D.failed_receives sock.old ≤ D.failed_receives sock.new }
-    ensures cause { ReceivesBy result (D.failed_receives sock.old) (D.failed_receives sock.new) }
-    ensures closed { result ≡ DgramEnd.Shutdown → state.new.heard.closed ≡ true }
+    ensures passes { PassesTo result count state.old state.new (D.failed_sends sock.old) (D.failed_sends sock.new) (D.failed_receives sock.old) (D.failed_receives sock.new) }
     ensures told { Tells (D.tells sock.new × C.tells clock.new × J.tells journal.new) (D.tells sock.old × C.tells clock.old × J.tells journal.old)
         (Ended (request_answer W.Future.answer W.Stream.answer) (serving (W.answer service.now) (W.hint service.now)) result count
         (world (J.noted journal.old) (D.mail sock.old) (D.failed_sends sock.old) (C.readings clock.old) state.old.seat.known) state.old

@@ -14,8 +14,8 @@ returns-in_default-clause-told g c = tells_cj c.in_default.ensures.no_memory (fi
 
 pub returns-clause-seat : goal.returns-clause-seat
 returns-clause-seat g c = rw c.left-seat.ensures.seat (passes_first c.serve_begun-end.result c.look-first.result c.args.seat.known c.begun-state.result c.serve_begun-end.new.state _ _
-    (rw c.begun-state.ensures.seat c.look-first.ensures.called) (c.begun-state.ensures.heard ∙ c.in-Ok.ensures.heard) c.serve_begun-end.ensures.passes c.serve_begun-end.ensures.closed)
+    (rw c.begun-state.ensures.seat c.look-first.ensures.called) (c.begun-state.ensures.heard ∙ c.in-Ok.ensures.heard) c.serve_begun-end.ensures.passes.passes c.serve_begun-end.ensures.passes.closed)
 
 pub returns-clause-told : goal.returns-clause-told
 returns-clause-told g c = rw c.left-seat.ensures.seat (tells_cj_dcj c.in-Ok.ensures.told c.serve_begun-end.ensures.told
-    (served_by (request_answer g.W.Future.ReplyFuture.answer g.W.Stream.ReplyStream.answer) (serving (g.W.Served.answer c.args.service.now) (g.W.Served.hint c.args.service.now)) _ _ _ c.serve_begun-end.result c.args.count c.begun-state.result c.serve_begun-end.new.state c.begun-state.ensures.empty c.begun-state.ensures.next (c.begun-state.ensures.heard ∙ c.in-Ok.ensures.heard) (rw c.begun-state.ensures.seat c.look-first.ensures.called) c.serve_begun-end.ensures.taken))
+    (served_by (request_answer g.W.Future.ReplyFuture.answer g.W.Stream.ReplyStream.answer) (serving (g.W.Served.answer c.args.service.now) (g.W.Served.hint c.args.service.now)) _ _ _ c.serve_begun-end.result c.args.count c.begun-state.result c.serve_begun-end.new.state c.begun-state.ensures.empty c.begun-state.ensures.next (c.begun-state.ensures.heard ∙ c.in-Ok.ensures.heard) (rw c.begun-state.ensures.seat c.look-first.ensures.called) c.serve_begun-end.ensures.passes.taken))

@@ -1,28 +1,22 @@
 use Rattle.dns_client.specs.Serving.{serving}
 use Rattle.dns_service.specs.PolledRequest.{request_answer}
-use Rattle.dns_datagrams.proofs.DatagramCounts.{may_come_is, taken_less}
+use Rattle.dns_datagrams.proofs.DatagramCounts.{taken_less}
 use Rattle.dns_datagrams.proofs.DatagramTellings.{tells_two}
 use Rattle.dns_datagrams.proofs.DatagramStarts.{end_by, end_by_fails}
-use Rattle.dns_datagrams.proofs.DatagramWent.{same_seat, went_then}
+use Rattle.dns_datagrams.proofs.DatagramWent.{same_seat, went_by, polled_to, polls_break_to}
 use Rattle.dns_datagrams.proofs.office.Office.serve_all.Goals as goal
 
 pub finish-requires : goal.finish-requires
-finish-requires g c = record { book = same_seat c.take_all-end.ensures.went c.requires.book }
+finish-requires g c = record { book = same_seat (went_by c.take_all-end.ensures.went) c.requires.book }
 
 pub returns-in-Ok-clause-went : goal.returns-in-Ok-clause-went
-returns-in-Ok-clause-went g c = went_then c.take_all-end.ensures.went c.in-Ok.ensures.polls.went
+returns-in-Ok-clause-went g c = polled_to c.take_all-end.ensures.went c.in-Ok.ensures.polls
 
 pub returns-in-Err-clause-went : goal.returns-in-Err-clause-went
-returns-in-Err-clause-went g c = went_then c.take_all-end.ensures.went c.in-Err.ensures.polls.went
+returns-in-Err-clause-went g c = polls_break_to c.take_all-end.result c.in_default.not-Fault c.take_all-end.ensures.went c.in-Err.ensures.polls
 
 pub returns-in-Ok-clause-told : goal.returns-in-Ok-clause-told
 returns-in-Ok-clause-told g c = tells_two c.take_all-end.ensures.told (rw c.take_all-end.ensures.went.same.service at c.in-Ok.ensures.told.told) (end_by (request_answer g.W.Future.ReplyFuture.answer g.W.Stream.ReplyStream.answer) (serving (g.W.Served.answer c.args.self.now.service.now) (g.W.Served.hint c.args.self.now.service.now)) _ _ _ _ _ _ c.args.count c.take_all-end.result c.in_default.not-OutOfMemory c.in-Ok.ensures.polls.next)
 
 pub returns-in-Err-clause-told : goal.returns-in-Err-clause-told
-returns-in-Err-clause-told g c = tells_two c.take_all-end.ensures.told (rw c.take_all-end.ensures.went.same.service at c.in-Err.ensures.told.no_memory) (end_by_fails (request_answer g.W.Future.ReplyFuture.answer g.W.Stream.ReplyStream.answer) (serving (g.W.Served.answer c.args.self.now.service.now) (g.W.Served.hint c.args.self.now.service.now)) _ _ _ _ _ c.args.count c.take_all-end.result c.in_default.not-OutOfMemory (taken_less c.take_all-end.result c.take_all-end.ensures.taken))
-
-pub returns-in-Ok-clause-taken : goal.returns-in-Ok-clause-taken
-returns-in-Ok-clause-taken g c = rw c.in-Ok.ensures.polls.next c.take_all-end.ensures.taken
-
-pub returns-in-Err-clause-taken : goal.returns-in-Err-clause-taken
-returns-in-Err-clause-taken g c = may_come_is c.in-Err.ensures.polls.next (taken_less c.take_all-end.result c.take_all-end.ensures.taken)
+returns-in-Err-clause-told g c = tells_two c.take_all-end.ensures.told (rw c.take_all-end.ensures.went.same.service at c.in-Err.ensures.told.no_memory) (end_by_fails (request_answer g.W.Future.ReplyFuture.answer g.W.Stream.ReplyStream.answer) (serving (g.W.Served.answer c.args.self.now.service.now) (g.W.Served.hint c.args.self.now.service.now)) _ _ _ _ _ c.args.count c.take_all-end.result c.in_default.not-OutOfMemory (taken_less c.take_all-end.result c.take_all-end.ensures.went.passes.taken))

@@ -3,7 +3,7 @@ use Rattle.dns_service.specs.PolledRequest.{request_answer}
 use Rattle.std.proofs.Common.{refl, ◌∙◌}
 use Rattle.dns_datagrams.proofs.DatagramTellings.{tells_none, tells_two}
 use Rattle.dns_datagrams.proofs.DatagramEndings.{goes_same, goes_then, stopped_at}
-use Rattle.dns_datagrams.proofs.DatagramWent.{same_seat, went_same, went_then}
+use Rattle.dns_datagrams.proofs.DatagramWent.{same_seat, went_same, went_then, rounds_to}
 use Rattle.dns_datagrams.proofs.office.Office.take_all.Goals as goal
 
 pub loop-init : goal.loop-init
@@ -21,10 +21,7 @@ loop-preserved g c = record {
 }
 
 pub returns-in-Some-round-clause-went : goal.returns-in-Some-round-clause-went
-returns-in-Some-round-clause-went g c = went_then c.loop.invariant.went c.round.ensures.laps.went
-
-pub returns-in-Some-round-clause-cause : goal.returns-in-Some-round-clause-cause
-returns-in-Some-round-clause-cause g c = rw c.loop.invariant.receives at c.in-Some-round.ensures.laps.cause
+returns-in-Some-round-clause-went g c = rounds_to c.loop.invariant.went c.loop.invariant.receives c.in-Some-round.ensures.laps c.in-Some-round.ensures.taken
 
 pub returns-in-Some-round-clause-told : goal.returns-in-Some-round-clause-told
 returns-in-Some-round-clause-told g c = tells_two c.loop.invariant.told (rw c.loop.invariant.went.same.service at c.round.ensures.told) (stopped_at (request_answer g.W.Future.ReplyFuture.answer g.W.Stream.ReplyStream.answer) (serving (g.W.Served.answer c.args.self.now.service.now) (g.W.Served.hint c.args.self.now.service.now)) c.round.result c.in-Some-round.end _ _ c.args.count c.in-Some-round.is)
