@@ -1,6 +1,13 @@
+pub use Rattle.dns_cache.specs.AskedCache
+pub use Rattle.dns_cache.specs.Calls
+pub use Rattle.dns_cache.specs.LruCache
 pub use Rattle.dns_trace.specs.EventLines
 pub use Rattle.dns_trace.specs.Reading
 pub mod AnswerWords
+pub mod Asks
+pub mod CachedRules
+pub mod Draft
+pub mod Lending
 pub mod Line
 pub mod Plan
 pub mod PlanOutputs
@@ -8,7 +15,12 @@ pub mod Played
 pub mod Rules
 pub mod Script
 pub mod ScriptReads
+pub mod ScriptText
+pub mod Scripts
 pub mod ServeScript
+pub mod ServiceLines
+pub mod Spelled
 pub mod Streams
 pub mod Targets
+pub mod Upstreams
 pub mod TraceScript

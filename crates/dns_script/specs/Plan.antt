@@ -1,41 +1,34 @@
--- What a script says: the settings of the server, where it sets one, the rules of its service and of its target, and its events,
--- or its steps, each in the order of their lines.
-use Rattle.std.specs.Prelude.{ℕ, Bool, List, [], Option, None}
-use Rattle.dns_name.specs.declared.address.IpAddr.{IpAddr}
-use Rattle.dns_service.specs.Config.{Dgram, Stream}
-use Rattle.dns_middleware.specs.declared.settings.Settings.{Settings}
-use Rattle.dns_trace.specs.Said.{Said, settings_said}
-use Rattle.dns_trace.specs.declared.budget_line.Budget.{Budget}
-use Rattle.dns_trace.specs.declared.trace_settings.TraceSettings.{TraceSettings}
+-- What a script says: the settings of the server, where it sets one, its service, the rules of its target, and its events, or its
+-- steps, each in the order of their lines.
+use Rattle.std.specs.Prelude.{◌==◌, List, [], length, Result}
+use Rattle.dns_service.specs.declared.settings.Settings.{Settings}
+use Rattle.dns_trace.specs.Reading.{unless}
+use Rattle.dns_trace.specs.Said.{Said, nothing_said, settings_said}
+use Rattle.dns_trace.specs.declared.reason.Reason.{Reason}
+use Rattle.dns_trace.specs.declared.reason.Reason.TheVariants.{Order}
 use Rattle.dns_script.specs.declared.rule.Rule.{Rule}
 use Rattle.dns_script.specs.declared.notify_rule.NotifyRule.{NotifyRule}
+use Rattle.dns_script.specs.declared.service_lines.ServiceLines.{ServiceLines}
+use Rattle.dns_script.specs.declared.service_lines.ServiceLines.TheVariants.{Rules}
 
 pub record Plan (E : Type 0) : Type 0 where
-  pub strict : Option Bool
-  pub edns : Option Bool
-  pub secret : Option (List ℕ)
-  pub denied : List IpAddr
-  pub dgram : Option Dgram
-  pub stream : Option Stream
-  pub budget : Option Budget
-  pub rules : List Rule
+  pub said : Said
+  pub service : ServiceLines
   pub zones : List NotifyRule
   pub events : List E
 
 abbrev pub empty_plan : {E : Type 0} → Plan E
-empty_plan = record { strict = None; edns = None; secret = None; denied = []; dgram = None; stream = None; budget = None; rules = []; zones = []; events = [] }
+empty_plan = record { said = nothing_said; service = Rules []; zones = []; events = [] }
 
--- what its lines of settings said
-abbrev pub said_of : {E : Type 0} → Plan E → Said
-said_of p = record { strict = p.strict; edns = p.edns; secret = p.secret; denied = p.denied; dgram = p.dgram; stream = p.stream; budget = p.budget }
+-- before the first event
+abbrev pub before_events : {E : Type 0} → Plan E → Result (Unit {0}) Reason
+before_events p = unless Order (length p.events == 0)
 
--- the same with what other lines of settings said
-abbrev pub with_said : {E : Type 0} → Plan E → Said → Plan E
-with_said p s = record p { strict = s.strict; edns = s.edns; secret = s.secret; denied = s.denied; dgram = s.dgram; stream = s.stream; budget = s.budget }
+-- the rules, where they are the service, and else none
+abbrev pub rules_of : ServiceLines → List Rule
+rules_of (Rules rules) = rules
+rules_of _ = []
 
--- the settings of a server whose events are recorded
-abbrev pub server_settings : TraceSettings → Settings
-server_settings s = record { strict = s.strict; edns = s.edns; cookies = s.cookies; denied = s.denied; dgram = s.dgram; stream = s.stream }
-
+-- the settings of the server
 abbrev pub settings_of : {E : Type 0} → Plan E → Settings
-settings_of p = server_settings (settings_said (said_of p))
+settings_of p = settings_said p.said

@@ -1,21 +1,44 @@
 -- What the clients of a script are sent.
-use Rattle.std.specs.Prelude.{List}
+use Rattle.std.specs.Prelude.{ℕ, List}
+use Rattle.dns_service.specs.Answer.{Answer}
+use Rattle.dns_service.specs.Req.{Req}
 use Rattle.dns_service.specs.declared.event.Event.{Event}
 use Rattle.dns_service.specs.declared.event.Output.{Output}
 use Rattle.dns_service.specs.declared.event.Step.{Step}
-use Rattle.dns_client.specs.Serving.{serving}
+use Rattle.dns_client.specs.Serving.{Serving, serving}
 use Rattle.dns_core.specs.Out.{out}
 use Rattle.dns_core.specs.Outs.{outs}
-use Rattle.dns_middleware.specs.Verdicts.{verdict_on}
+use Rattle.dns_forward.specs.Forwarded.{forwarded}
+use Rattle.dns_middleware.specs.Verdicts.{Verdicts, verdict_on}
 use Rattle.dns_middleware.specs.Wrapped.{hint_left, replies}
+use Rattle.dns_service.specs.declared.settings.Settings.{Settings}
+use Rattle.dns_route.specs.Turns.{turned_over}
+use Rattle.dns_zone.specs.ZoneTurns.{zone_turn}
 use Rattle.dns_script.specs.Plan.{Plan, settings_of}
 use Rattle.dns_script.specs.Played.{played}
 use Rattle.dns_script.specs.Targets.{script_verdicts}
+use Rattle.dns_script.specs.Upstreams.{upstreams_under}
+use Rattle.dns_script.specs.declared.service_lines.ServiceLines.{ServiceLines}
+use Rattle.dns_script.specs.declared.service_lines.ServiceLines.TheVariants.{Rules, Upstreams, Zone}
 
--- what the clients are sent: the outputs of the events, served by the rules under the settings
-unfoldable pub plan_outputs : Plan Event → List Output
-plan_outputs p = out (serving (replies (settings_of p) (played p.rules) (verdict_on (script_verdicts p.zones))) (hint_left (settings_of p))) (settings_of p) p.events
+-- what the service of a script answers: its rules, its upstreams in a forwarder, or its zone
+abbrev pub service_answers : ServiceLines → Req (Unit {0}) → ℕ → Answer
+service_answers (Rules rules) = played rules
+service_answers (Upstreams upstreams) = turned_over (forwarded (upstreams_under upstreams))
+service_answers (Zone zone) = turned_over (zone_turn zone)
+
+-- how a service serves in the layers of the settings, by what it answers and a target's verdicts
+abbrev pub wrapped_serving : Settings → (Req (Unit {0}) → ℕ → Answer) → Verdicts → Serving
+wrapped_serving s answers verdicts = serving (replies s answers (verdict_on verdicts)) (hint_left s)
+
+-- what the clients of a script are sent for its events, or its steps, where this is what clients are sent for such
+unfoldable pub plan_sent : {E : Type 0} → (Serving → Settings → List E → List Output) → Plan E → List Output
+plan_sent sent p = sent (wrapped_serving (settings_of p) (service_answers p.service) (script_verdicts p.zones)) (settings_of p) p.events
+
+-- what the clients are sent: the outputs of the events, served by the service under the settings
+abbrev pub plan_outputs : Plan Event → List Output
+plan_outputs = plan_sent out
 
 -- the same of steps, where a client hears of the server's changes only when it looks
-unfoldable pub plan_step_outputs : Plan Step → List Output
-plan_step_outputs p = outs (serving (replies (settings_of p) (played p.rules) (verdict_on (script_verdicts p.zones))) (hint_left (settings_of p))) (settings_of p) p.events
+abbrev pub plan_step_outputs : Plan Step → List Output
+plan_step_outputs = plan_sent outs

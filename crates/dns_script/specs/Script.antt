@@ -1,34 +1,33 @@
--- The grammar of a script, line by line: the settings and the rules of the service and of the target stand before the first event,
+-- The grammar of a script, line by line: the settings and the lines of the service and of the target stand before the first event,
 -- which is a step where looks are read too.
 -- A line is refused for the first of these reasons that fits: it has an octet that is no character; its first word is that of no
--- line; it stands behind an event, and may not; it stands twice, and may not; it has too few words or too many; a word spells no
--- value. Each definition goes through them in this order.
-use Rattle.std.specs.Prelude.{ℕ, ◌-◌, ◌==◌, nat_le, Option, Some, None, List, [], ◌∷◌, ◌++◌, length, take, drop, Result, Ok, Err, codes, if◌then◌else◌}
+-- line; it stands behind an event, and may not, or is a record before its zone; it is a service line of another kind than the first;
+-- it stands twice, and may not; it has too few words or too many; a word spells no value. Each definition goes through them in this
+-- order. Where no line is refused, the records of a zone may still be refused, at the line of the zone.
+use Rattle.std.specs.Prelude.{ℕ, ◌+◌, ◌-◌, ◌==◌, nat_le, Bool, true, Option, Some, None, List, [], ◌∷◌, ◌++◌, length, take, drop, Result, Ok, Err, codes, if◌then◌else◌}
 use Rattle.std.specs.List.{list_all}
 use Rattle.std.specs.Str.{bytes_eq}
 use Rattle.std.specs.Str.Lines.{lines}
 use Rattle.dns_trace.specs.NameWords.{name_word}
 use Rattle.dns_trace.specs.Reading.{◌>>=◌, unless}
 use Rattle.dns_trace.specs.SettingLines.{setting_line, setting_named}
-use Rattle.dns_trace.specs.TextLines.{after_lines}
-use Rattle.dns_trace.specs.Words.{word_at}
+use Rattle.dns_trace.specs.TextLines.{after_lines, numbered}
+use Rattle.dns_trace.specs.Words.{word_at, words_of}
 use Rattle.dns_trace.specs.declared.reason.Reason.{Reason}
-use Rattle.dns_trace.specs.declared.reason.Reason.TheVariants.{Order, Count, Value}
+use Rattle.dns_trace.specs.declared.reason.Reason.TheVariants.{Mix, Count, Value}
 use Rattle.dns_trace.specs.declared.setting.Setting.{Setting}
 use Rattle.dns_middleware.specs.declared.notifiable.NotifyError.{NotifyError}
 use Rattle.dns_middleware.specs.declared.notifiable.NotifyError.TheVariants.{NotAuthForZone, Other}
 use Rattle.dns_script.specs.declared.notify_rule.NotifyRule.{NotifyRule}
 use Rattle.dns_script.specs.declared.rule.Rule.{Rule}
 use Rattle.dns_script.specs.AnswerWords.{answers_after}
-use Rattle.dns_script.specs.Plan.{Plan, empty_plan, said_of, with_said}
-
--- before the first event
-abbrev pub before_events : {E : Type 0} → Plan E → Result (Unit {0}) Reason
-before_events p = unless Order (length p.events == 0)
+use Rattle.dns_script.specs.Draft.{Draft, empty_draft, finished, may_be_rule}
+use Rattle.dns_script.specs.Plan.{Plan, before_events}
+use Rattle.dns_script.specs.ServiceLines.{record_line, upstream_line, zone_line}
 
 -- what is said with the line of this setting more
 unfoldable pub next_setting_line : {E : Type 0} → Setting → Plan E → List (List ℕ) → Result (Plan E) Reason
-next_setting_line setting p ws = setting_line setting (length p.events == 0) (said_of p) ws >>= λ s. Ok (with_said p s)
+next_setting_line setting p ws = setting_line setting (length p.events == 0) p.said ws >>= λ s. Ok (record p { said = s })
 
 -- `*` for all names, or a name
 abbrev pub for_name : Result (List (List ℕ)) Reason → Result (Option (List (List ℕ))) Reason
@@ -46,11 +45,15 @@ rule_of ws = do
   answers ← answers_after [] (drop 2 ws)
   Ok (record { name = name; answers = answers })
 
-unfoldable pub rule_line : {E : Type 0} → Plan E → List (List ℕ) → Result (Plan E) Reason
-rule_line p ws = do
-  _ ← before_events p
+-- it stands before the first event, where no service line of another kind does
+abbrev pub before_rule : {E : Type 0} → Draft E → Result (Unit {0}) Reason
+before_rule d = before_events d.plan >>= λ _. unless Mix (may_be_rule d)
+
+unfoldable pub rule_line : {E : Type 0} → Draft E → List (List ℕ) → Result (Draft E) Reason
+rule_line d ws = do
+  _ ← before_rule d
   rule ← rule_of ws
-  Ok (record p { rules = p.rules ++ rule ∷ [] })
+  Ok (record d { rules = d.rules ++ rule ∷ [] })
 
 -- ok, notauth or other
 unfoldable pub verdict_word : List ℕ → Result (Result (Unit {0}) NotifyError) Reason
@@ -79,8 +82,22 @@ notify_line p ws = do
   zone ← notify_of ws
   Ok (record p { zones = p.zones ++ zone ∷ [] })
 
--- the lines behind the settings and the rules are those of events, or of steps, by their reading
-module _ {E : Type 0} (reading : List (List ℕ) → Result E Reason) where
+-- a line that speaks of the plan alone
+abbrev pub of_plan : {E : Type 0} → Draft E → Result (Plan E) Reason → Result (Draft E) Reason
+of_plan d read = read >>= λ p. Ok (record d { plan = p })
+
+-- a script that lacks no line
+abbrev pub every_word : List ℕ → Bool
+every_word w = true
+
+-- the number of the first line that is a zone's, where the first of these is line n
+abbrev pub zone_number : ℕ → List (List ℕ) → ℕ
+zone_number n [] = n
+zone_number n (l ∷ ls) = if bytes_eq (word_at (words_of l) 0) (codes "zone") then n else zone_number (n + 1) ls
+
+-- The lines behind the settings and those of the service and of the target are events, or steps, by their reading; and a script may
+-- lack some of those lines, by their first word.
+module _ {E : Type 0} (has : List ℕ → Bool) (reading : List (List ℕ) → Result E Reason) where
   -- the line of an event, or of a step, by the reading of those
   unfoldable pub next_event_line : Plan E → List (List ℕ) → Result (Plan E) Reason
   next_event_line p ws = reading ws >>= λ e. Ok (record p { events = p.events ++ e ∷ [] })
@@ -90,13 +107,28 @@ module _ {E : Type 0} (reading : List (List ℕ) → Result E Reason) where
   next_line (Some setting) p ws = next_setting_line setting p ws
   next_line None p ws = next_event_line p ws
 
-  -- a line that says something, by its first word
-  unfoldable pub said_line : Plan E → List (List ℕ) → Result (Plan E) Reason
-  said_line p ws =
-      if bytes_eq (word_at ws 0) (codes "rule") then rule_line p ws
-      else if bytes_eq (word_at ws 0) (codes "notify") then notify_line p ws
-      else next_line (setting_named (word_at ws 0)) p ws
+  -- the line of the target, by its first word; else one of those
+  unfoldable pub plan_line : Plan E → List (List ℕ) → Result (Plan E) Reason
+  plan_line p ws = if bytes_eq (word_at ws 0) (codes "notify") then notify_line p ws else next_line (setting_named (word_at ws 0)) p ws
 
-  -- what its lines say, or the first bad line and its reason
+  -- a line of a zone, by its first word; else one of those
+  abbrev pub zone_or_plan_line : Draft E → List (List ℕ) → Result (Draft E) Reason
+  zone_or_plan_line d ws =
+      if bytes_eq (word_at ws 0) (codes "zone") then zone_line d ws
+      else if bytes_eq (word_at ws 0) (codes "record") then record_line d ws
+      else of_plan d (plan_line d.plan ws)
+
+  -- a line of the service, by its first word; else one of those
+  unfoldable pub service_line : Draft E → List (List ℕ) → Result (Draft E) Reason
+  service_line d ws =
+      if bytes_eq (word_at ws 0) (codes "rule") then rule_line d ws
+      else if bytes_eq (word_at ws 0) (codes "upstream") then upstream_line d ws
+      else zone_or_plan_line d ws
+
+  -- a line that says something; one that such a script lacks is read as an event, or as a step
+  unfoldable pub said_line : Draft E → List (List ℕ) → Result (Draft E) Reason
+  said_line d ws = if has (word_at ws 0) then service_line d ws else of_plan d (next_event_line d.plan ws)
+
+  -- what its lines say, or the first bad line and its reason; a zone that its records don't make is refused at its line
   unfoldable pub script : List ℕ → Result (Plan E) (ℕ × Reason)
-  script t = after_lines said_line 1 empty_plan (lines t)
+  script t = after_lines said_line 1 empty_draft (lines t) >>= λ d. numbered (zone_number 1 (lines t)) (finished d)

@@ -3,16 +3,16 @@ use Rattle.std.specs.Prelude.{◌≡◌, ℕ, ◌||◌, Bool, false, List, Resul
 use Rattle.std.specs.List.{All}
 use Rattle.std.specs.Str.{bytes_eq}
 use Rattle.dns_service.specs.declared.event.Event.{Event}
+use Rattle.dns_service.specs.declared.settings.Settings.{Settings}
 use Rattle.dns_trace.specs.EventLines.{event_line}
 use Rattle.dns_trace.specs.Lines.{is_text}
-use Rattle.dns_trace.specs.Said.{settings_said}
 use Rattle.dns_trace.specs.TextLines.{after_lines}
 use Rattle.dns_trace.specs.Words.{word_at, words_of}
 use Rattle.dns_trace.specs.declared.reason.Reason.{Reason}
 use Rattle.dns_trace.specs.declared.reason.Reason.TheVariants.{Text, Word}
-use Rattle.dns_trace.specs.declared.trace_settings.TraceSettings.{TraceSettings}
-use Rattle.dns_script.specs.Plan.{Plan, empty_plan, said_of}
-use Rattle.dns_script.specs.Script.{said_line}
+use Rattle.dns_script.specs.Draft.{Draft, empty_draft}
+use Rattle.dns_script.specs.Plan.{Plan, settings_of}
+use Rattle.dns_script.specs.Script.{every_word, said_line}
 
 -- lines of a service, of a target or of a zone begin with this word
 abbrev pub is_service_word : List ℕ → Bool
@@ -26,8 +26,8 @@ abbrev pub AreNoServices : List (List ℕ) → Type 0
 AreNoServices ls = All (λ l. is_service_line l ≡ false) ls
 
 -- the settings and the events that a script says, or its refusal
-abbrev pub script_trace : Result (Plan Event) (ℕ × Reason) → Result (TraceSettings × List Event) (ℕ × Reason)
-script_trace (Ok p) = Ok (settings_said (said_of p), p.events)
+abbrev pub script_trace : Result (Plan Event) (ℕ × Reason) → Result (Settings × List Event) (ℕ × Reason)
+script_trace (Ok p) = Ok (settings_of p, p.events)
 script_trace (Err e) = Err e
 
 -- a line of no such name, unless it is no text
@@ -35,10 +35,10 @@ abbrev pub service_reason : List ℕ → Reason
 service_reason l = if is_text l then Word else Text
 
 -- the refusal of lines, or else of the line behind them, which is the first of a service
-abbrev pub refused_behind : ℕ → List ℕ → Result (Plan Event) (ℕ × Reason) → Result (TraceSettings × List Event) (ℕ × Reason)
-refused_behind n l (Ok p) = Err (n, service_reason l)
+abbrev pub refused_behind : ℕ → List ℕ → Result (Draft Event) (ℕ × Reason) → Result (Settings × List Event) (ℕ × Reason)
+refused_behind n l (Ok d) = Err (n, service_reason l)
 refused_behind n l (Err e) = Err e
 
 -- what a script's lines say
-abbrev pub script_lines : List (List ℕ) → Result (Plan Event) (ℕ × Reason)
-script_lines ls = after_lines (said_line event_line) 1 empty_plan ls
+abbrev pub script_lines : List (List ℕ) → Result (Draft Event) (ℕ × Reason)
+script_lines ls = after_lines (said_line every_word event_line) 1 empty_draft ls

@@ -13,7 +13,7 @@ use dns_trace::{LineError, Reason, Words, decimal, num};
 use std::alloc::Global;
 
 /// What follows a prefix of a word.
-fn behind<'a>(word: &'a [u8], prefix: &[u8]) -> Option<&'a [u8]>
+pub(crate) fn behind<'a>(word: &'a [u8], prefix: &[u8]) -> Option<&'a [u8]>
     ensures { MatchOption result (bytes_eq (take (length prefix.now) word.now) prefix.now ≡ false) (λ rest. (bytes_eq (take (length prefix.now) word.now) prefix.now ≡ true) × (rest.now ≡ drop (length prefix.now) word.now)) }
 {
     if word.len() < prefix.len() || &word[..prefix.len()] != prefix {
@@ -23,7 +23,7 @@ fn behind<'a>(word: &'a [u8], prefix: &[u8]) -> Option<&'a [u8]>
 }
 
 /// A response code of four bits.
-fn rcode(word: &[u8]) -> Result<Rcode, Reason>
+pub(crate) fn rcode(word: &[u8]) -> Result<Rcode, Reason>
     ensures { result ≡ number 20 16 word.now }
 {
     let number = decimal(word, 20, 16)?;

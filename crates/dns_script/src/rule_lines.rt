@@ -1,14 +1,15 @@
 //! The lines of the service's rules.
 
+ghost use Rattle.std.specs.Prelude.{◌≡◌};
 ghost use Rattle.dns_trace.specs.Reading.{GivesLine, TakesLine};
-ghost use Rattle.dns_script.specs.Script.{rule_line, rule_name, rule_of};
+ghost use Rattle.dns_script.specs.Script.{before_rule, rule_line, rule_name, rule_of};
 
 use crate::answer_words::answers;
+use crate::draft::Draft;
 use crate::rule::Rule;
-use crate::script::Script;
 use crate::setting_lines::{before_events, of_more_words};
 use dns_name::Name;
-use dns_trace::{LineError, Words, name};
+use dns_trace::{LineError, Reason, Words, name, unless};
 use std::alloc::Global;
 
 /// `*` for all names, or a name.
@@ -35,15 +36,23 @@ fn rule_of(alloc: Global, words: &Words) -> Result<Rule, LineError>
 
 /// A line `rule NAME|* ANSWER ..`.
 #[tactic(auto, unfolding(crate::specs::Script::rule_line))]
-pub fn read_rule<E: Drop>(
+pub(crate) fn read_rule<E: Drop>(
     alloc: Global,
-    script: &mut Script<E>,
+    draft: &mut Draft<E>,
     words: &Words,
 ) -> Result<(), LineError>
-    ensures { TakesLine result script.new (rule_line script.old words.now) }
+    ensures { TakesLine result draft.new (rule_line draft.old words.now) }
 {
-    before_events(script)?;
+    may_be_rule(draft)?;
     let rule = rule_of(alloc, words)?;
-    script.push_rule(rule)?;
+    draft.push_rule(rule)?;
     Ok(())
+}
+
+/// A rule stands before the first event, where no service line of another kind does.
+fn may_be_rule<E: Drop>(draft: &Draft<E>) -> Result<(), Reason>
+    ensures { result ≡ before_rule draft.now }
+{
+    before_events(&draft.script)?;
+    unless(Reason::Mix, draft.may_be_rule())
 }

@@ -41,6 +41,13 @@ impl<R: Drop> RuleList<R> {
         self.rules.as_slice()
     }
 
+    /// The rules, which are not copied.
+    pub fn into_vec(self) -> Vec<R>
+        ensures { result.items ≡ self }
+    {
+        self.rules
+    }
+
     /// One rule more.
     pub fn push(&mut self, rule: R) -> Result<(), OutOfMemory>
         ensures ok { OnOk result (self.new ≡ self.old ++ rule ∷ []) }

@@ -1,18 +1,18 @@
 //! What a script says.
 
-ghost use Rattle.std.specs.Prelude.{◌≡◌, ◌++◌, ◌∷◌, [], Some, OnOk};
+ghost use Rattle.std.specs.Borrow.{sem};
+ghost use Rattle.std.specs.Prelude.{◌≡◌, ◌++◌, ◌∷◌, [], OnErr, OnOk};
 ghost use Rattle.dns_trace.specs.Reading.{TakesLine};
-ghost use Rattle.dns_script.specs.Plan.{empty_plan, server_settings, settings_of};
+ghost use Rattle.dns_script.specs.Plan.{empty_plan, settings_of};
 ghost use Rattle.dns_script.specs.Script.{next_setting_line};
 
 use crate::notify_rule::{NotifyRule, NotifyRules};
-use crate::rule::{Rule, Rules};
-use dns_core::Settings;
-use dns_name::{IpAddr, OutOfMemory};
-use dns_service::{DgramConfig, StreamConfig};
-use dns_trace::{
-    Budget, LineError, Reason, SaidSettings, Setting, TraceSettings, Words, read_setting,
-};
+use crate::rule::Rules;
+use crate::service_lines::ServiceLines;
+use crate::setting_lines::put;
+use dns_name::OutOfMemory;
+use dns_service::Settings;
+use dns_trace::{LineError, Reason, SaidSettings, Setting, Words, read_setting};
 use std::alloc::Global;
 use std::marker::Model;
 
@@ -24,33 +24,11 @@ pub enum ScriptError {
     Refused { line: u64, reason: Reason },
 }
 
-/// The settings of a server whose events are recorded.
-fn server_settings(settings: TraceSettings) -> Settings
-    ensures { result ≡ server_settings settings }
-{
-    let TraceSettings {
-        strict,
-        edns,
-        cookies,
-        denied,
-        dgram,
-        stream,
-    } = settings;
-    Settings {
-        strict,
-        edns,
-        cookies,
-        denied,
-        dgram,
-        stream,
-    }
-}
-
-/// The settings, the rules of the service and of the target, and the events, or the steps.
+/// The settings, the service, the rules of the target, and the events, or the steps.
 #[derive(Debug, Drop)]
 pub struct Script<E> {
     said: SaidSettings,
-    rules: Rules,
+    service: ServiceLines,
     zones: NotifyRules,
     events: Vec<E>,
 }
@@ -60,69 +38,37 @@ impl<E> Model for Script<E> {
 
     ghost Value = { Plan E };
 
-    ghost view = { λ s. record { strict = s.said.strict; edns = s.said.edns; secret = s.said.secret; denied = s.said.denied; dgram = s.said.dgram; stream = s.said.stream; budget = s.said.budget; rules = s.rules; zones = s.zones; events = s.events.items } };
+    ghost view = { λ s. record { said = s.said; service = s.service; zones = s.zones; events = s.events.items } };
 }
 
 impl<E: Drop> Script<E> {
+    ghost use Rattle.dns_script.specs.Lending.{LendsSettings};
+
     /// A script that says nothing.
     pub fn new(alloc: Global) -> Script<E>
         ensures { result ≡ empty_plan }
     {
         Script {
             said: SaidSettings::new(alloc),
-            rules: Rules::new(alloc),
+            service: ServiceLines::Rules(Rules::new(alloc)),
             zones: NotifyRules::new(alloc),
             events: Vec::new(alloc),
         }
     }
 
-    /// Says whether faulty queries are refused.
-    pub fn set_strict(&mut self, strict: bool)
-        ensures { self.new ≡ record self.old { strict = Some strict } }
+    /// What its lines of settings say.
+    pub fn settings(&self) -> &SaidSettings
+        ensures { result.now ≡ self.now.said }
     {
-        self.said.set_strict(strict);
+        &self.said
     }
 
-    /// Says whether EDNS is on.
-    pub fn set_edns(&mut self, edns: bool)
-        ensures { self.new ≡ record self.old { edns = Some edns } }
+    /// The same, for saying more.
+    pub fn settings_mut(&mut self) -> &mut SaidSettings
+        ensures* writes_back { sem 𝓛 (LendsSettings E.row self.entry result) }
+        ensures value { result.now ≡ self.old.said }
     {
-        self.said.set_edns(edns);
-    }
-
-    /// Says that cookies are on, under this secret.
-    pub fn set_secret(&mut self, secret: [u8; 16])
-        ensures { self.new ≡ record self.old { secret = Some secret } }
-    {
-        self.said.set_secret(secret);
-    }
-
-    /// One address more that is denied.
-    pub fn deny(&mut self, address: IpAddr) -> Result<(), OutOfMemory>
-        ensures { OnOk result (self.new ≡ record self.old { denied = self.old.denied ++ address ∷ [] }) }
-    {
-        self.said.deny(address)
-    }
-
-    /// The configuration of the datagram server.
-    pub fn set_dgram(&mut self, dgram: DgramConfig)
-        ensures { self.new ≡ record self.old { dgram = Some dgram } }
-    {
-        self.said.set_dgram(dgram);
-    }
-
-    /// The configuration of the stream server.
-    pub fn set_stream(&mut self, stream: StreamConfig)
-        ensures { self.new ≡ record self.old { stream = Some stream } }
-    {
-        self.said.set_stream(stream);
-    }
-
-    /// The budget of each connection.
-    pub fn set_budget(&mut self, budget: Budget)
-        ensures { self.new ≡ record self.old { budget = Some budget } }
-    {
-        self.said.set_budget(budget);
+        &mut self.said
     }
 
     /// What is said with the line of this setting more. The first word is not looked at.
@@ -139,68 +85,28 @@ impl<E: Drop> Script<E> {
         read_setting(alloc, &mut self.said, setting, before_events, words)
     }
 
-    /// One rule of the service more.
-    pub fn push_rule(&mut self, rule: Rule) -> Result<(), OutOfMemory>
-        ensures { OnOk result (self.new ≡ record self.old { rules = self.old.rules ++ rule ∷ [] }) }
+    /// The service, which has no rule where nothing else is said.
+    pub fn set_service(&mut self, service: ServiceLines)
+        ensures { self.new ≡ record self.old { service = service } }
     {
-        self.rules.push(rule)
+        put(&mut self.service, service);
     }
 
     /// One rule of the target more.
     pub fn push_zone(&mut self, zone: NotifyRule) -> Result<(), OutOfMemory>
-        ensures { OnOk result (self.new ≡ record self.old { zones = self.old.zones ++ zone ∷ [] }) }
+        ensures ok { OnOk result (self.new ≡ record self.old { zones = self.old.zones ++ zone ∷ [] }) }
+        ensures err { OnErr result (self.new ≡ self.old) }
     {
         self.zones.push(zone)
     }
 
     /// One event more.
     pub fn push_event(&mut self, event: E) -> Result<(), OutOfMemory>
-        ensures { OnOk result (self.new ≡ record self.old { events = self.old.events ++ event ∷ [] }) }
+        ensures ok { OnOk result (self.new ≡ record self.old { events = self.old.events ++ event ∷ [] }) }
+        ensures err { OnErr result (self.new ≡ self.old) }
     {
         self.events.push(event)?;
         Ok(())
-    }
-
-    /// Whether faulty queries are refused, where it is said.
-    pub fn strict(&self) -> Option<bool>
-        ensures { result ≡ self.now.strict }
-    {
-        self.said.strict()
-    }
-
-    /// Whether EDNS is on, where it is said.
-    pub fn edns(&self) -> Option<bool>
-        ensures { result ≡ self.now.edns }
-    {
-        self.said.edns()
-    }
-
-    /// The secret of cookies, where they are on.
-    pub fn secret(&self) -> Option<[u8; 16]>
-        ensures { result ≡ self.now.secret }
-    {
-        self.said.secret()
-    }
-
-    /// The configuration of the datagram server, where it is set.
-    pub fn dgram(&self) -> Option<DgramConfig>
-        ensures { result ≡ self.now.dgram }
-    {
-        self.said.dgram()
-    }
-
-    /// The configuration of the stream server, where it is set.
-    pub fn stream(&self) -> Option<StreamConfig>
-        ensures { result ≡ self.now.stream }
-    {
-        self.said.stream()
-    }
-
-    /// The budget of each connection, where it is said.
-    pub fn budget(&self) -> Option<Budget>
-        ensures { result ≡ self.now.budget }
-    {
-        self.said.budget()
     }
 
     /// The events.
@@ -210,19 +116,19 @@ impl<E: Drop> Script<E> {
         self.events.as_slice()
     }
 
-    /// The settings, the rules of the service and of the target, and the events.
-    pub fn into_parts(self) -> (Settings, Rules, NotifyRules, Vec<E>)
+    /// The settings, the service, the rules of the target, and the events.
+    pub fn into_parts(self) -> (Settings, ServiceLines, NotifyRules, Vec<E>)
         ensures settings { result.0 ≡ settings_of self }
-        ensures rules { result.1 ≡ self.rules }
+        ensures service { result.1 ≡ self.service }
         ensures zones { result.2 ≡ self.zones }
         ensures events { result.3.items ≡ self.events }
     {
         let Script {
             said,
-            rules,
+            service,
             zones,
             events,
         } = self;
-        (server_settings(said.into_settings()), rules, zones, events)
+        (said.into_settings(), service, zones, events)
     }
 }

@@ -81,7 +81,7 @@ fn ready(
 
 /// An answer to a message is begun; none where there is no room for the questions.
 #[inline(always)]
-fn begin(
+pub(crate) fn begin(
     alloc: Global,
     message: &Message,
     rcode: Rcode,

@@ -55,7 +55,7 @@ impl Service<()> for ScriptService {
 }
 
 /// The answers of the first rule that fits a message, and a refusal where there is none.
-fn answers_for(
+pub(crate) fn answers_for(
     alloc: Global,
     rules: &[Rule],
     message: &Message,

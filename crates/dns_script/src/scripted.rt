@@ -1,61 +1,137 @@
 //! What is sent to the clients of a script, of events or of steps.
 
 ghost use Rattle.std.specs.Prelude.{◌≡◌, IfOk, List};
+ghost use Rattle.dns_client.specs.Serving.{Serving};
+ghost use Rattle.dns_core.specs.Out.{out};
+ghost use Rattle.dns_core.specs.Outs.{outs};
+ghost use Rattle.dns_service.specs.declared.settings.Settings.{Settings as TheSettings};
 ghost use Rattle.dns_service.specs.declared.event.Output.{Output as TheOutput};
-ghost use Rattle.dns_script.specs.Plan.{Plan};
-ghost use Rattle.dns_script.specs.PlanOutputs.{plan_outputs, plan_step_outputs};
+ghost use Rattle.dns_forward.specs.Forwarded.{forwarded};
+ghost use Rattle.dns_route.specs.Turns.{turned_over};
+ghost use Rattle.dns_script.specs.PlanOutputs.{plan_sent, service_answers, wrapped_serving};
+ghost use Rattle.dns_script.specs.Upstreams.{upstreams_under};
 
 use crate::script::Script;
 use crate::script_line::ScriptLine;
 use crate::script_service::ScriptService;
 use crate::script_target::ScriptTarget;
-use dns_core::{serve_events, serve_steps};
+use crate::script_upstream::forwarder;
+use crate::service_lines::ServiceLines;
+use crate::upstream::Upstreams;
+use dns_core::{Notifiable, serve_events, serve_steps};
 use dns_name::OutOfMemory;
-use dns_service::{Event, Output, Step};
+use dns_route::{SingleService, SingleServiceToService};
+use dns_service::{Event, Output, Service, Settings, Step};
 use std::alloc::Global;
+use std::sync::Arc;
+
+/// A script without its service: its settings, its target, and its events or steps.
+#[derive(Drop)]
+pub struct Unserved<E> {
+    pub settings: Settings,
+    pub target: ScriptTarget,
+    pub events: Vec<E>,
+}
 
 /// Events, or steps, as a script has them.
 pub trait Scripted: ScriptLine {
-    /// What the clients of a script are sent.
-    ghost sent: { Plan Self → List TheOutput };
+    /// What clients are sent for such.
+    ghost sent: { Serving → TheSettings → List Self → List TheOutput };
 
-    /// Serves the clients of a script by its rules.
-    fn serve(alloc: Global, script: Script<Self>) -> Result<Vec<Output>, OutOfMemory>
-        ensures { IfOk result (λ v. v.items ≡ sent script) };
+    /// Serves the clients of a script by a service.
+    fn serve_with<S: Service<()>>(
+        alloc: Global,
+        script: Unserved<Self>,
+        service: S,
+    ) -> Result<Vec<Output>, OutOfMemory>
+        requires { S.can_call service }
+        ensures { IfOk result (λ v. v.items ≡ sent (wrapped_serving script.settings (S.answer service) (⟦<ScriptTarget as Notifiable>⟧.verdict script.target)) script.settings script.events.items) };
 }
 
 impl Scripted for Event {
-    ghost sent = { plan_outputs };
+    ghost sent = { out };
 
-    #[tactic(auto, unfolding(crate::specs::PlanOutputs::plan_outputs))]
-    fn serve(alloc: Global, script: Script<Self>) -> Result<Vec<Output>, OutOfMemory>
-        ensures { IfOk result (λ v. v.items ≡ plan_outputs script) }
+    fn serve_with<S: Service<()>>(
+        alloc: Global,
+        script: Unserved<Event>,
+        service: S,
+    ) -> Result<Vec<Output>, OutOfMemory>
+        requires { S.can_call service }
+        ensures { IfOk result (λ v. v.items ≡ out (wrapped_serving script.settings (S.answer service) (⟦<ScriptTarget as Notifiable>⟧.verdict script.target)) script.settings script.events.items) }
     {
-        let (settings, rules, zones, events) = script.into_parts();
-        serve_events(
-            alloc,
-            &settings,
-            ScriptService::new(rules),
-            ScriptTarget::new(zones),
-            &events,
-        )
+        let target = script.target;
+        serve_events(alloc, &script.settings, service, target, &script.events)
     }
 }
 
 impl Scripted for Step {
-    ghost sent = { plan_step_outputs };
+    ghost sent = { outs };
 
-    #[tactic(auto, unfolding(crate::specs::PlanOutputs::plan_step_outputs))]
-    fn serve(alloc: Global, script: Script<Self>) -> Result<Vec<Output>, OutOfMemory>
-        ensures { IfOk result (λ v. v.items ≡ plan_step_outputs script) }
+    fn serve_with<S: Service<()>>(
+        alloc: Global,
+        script: Unserved<Step>,
+        service: S,
+    ) -> Result<Vec<Output>, OutOfMemory>
+        requires { S.can_call service }
+        ensures { IfOk result (λ v. v.items ≡ outs (wrapped_serving script.settings (S.answer service) (⟦<ScriptTarget as Notifiable>⟧.verdict script.target)) script.settings script.events.items) }
     {
-        let (settings, rules, zones, steps) = script.into_parts();
-        serve_steps(
-            alloc,
-            &settings,
-            ScriptService::new(rules),
-            ScriptTarget::new(zones),
-            &steps,
-        )
+        let target = script.target;
+        serve_steps(alloc, &script.settings, service, target, &script.events)
     }
+}
+
+/// Serves clients by a single service.
+fn serve_single<E: Scripted, S: SingleService>(
+    alloc: Global,
+    script: Unserved<E>,
+    single: S,
+) -> Result<Vec<Output>, OutOfMemory>
+    ensures { IfOk result (λ v. v.items ≡ E.sent (wrapped_serving script.settings (turned_over (S.answer single)) (⟦<ScriptTarget as Notifiable>⟧.verdict script.target)) script.settings script.events.items) }
+{
+    let single = Arc::new(alloc, single)?;
+    E::serve_with(alloc, script, SingleServiceToService::new(single))
+}
+
+/// Serves clients by upstreams in a forwarder.
+fn serve_upstreams<E: Scripted>(
+    alloc: Global,
+    script: Unserved<E>,
+    upstreams: Upstreams,
+) -> Result<Vec<Output>, OutOfMemory>
+    ensures { IfOk result (λ v. v.items ≡ E.sent (wrapped_serving script.settings (turned_over (forwarded (upstreams_under upstreams))) (⟦<ScriptTarget as Notifiable>⟧.verdict script.target)) script.settings script.events.items) }
+{
+    let forwarder = forwarder(alloc, upstreams)?;
+    serve_single(alloc, script, forwarder)
+}
+
+/// Serves clients by what service lines say.
+fn serve_lines<E: Scripted>(
+    alloc: Global,
+    script: Unserved<E>,
+    service: ServiceLines,
+) -> Result<Vec<Output>, OutOfMemory>
+    ensures { IfOk result (λ v. v.items ≡ E.sent (wrapped_serving script.settings (service_answers service) (⟦<ScriptTarget as Notifiable>⟧.verdict script.target)) script.settings script.events.items) }
+{
+    match service {
+        ServiceLines::Rules(rules) => E::serve_with(alloc, script, ScriptService::new(rules)),
+        ServiceLines::Upstreams(upstreams) => serve_upstreams(alloc, script, upstreams),
+        ServiceLines::Zone(zone) => serve_single(alloc, script, zone),
+    }
+}
+
+/// Serves the clients of a script by its service.
+#[tactic(auto, unfolding(crate::specs::PlanOutputs::plan_sent))]
+pub fn serve_script<E: Scripted>(
+    alloc: Global,
+    script: Script<E>,
+) -> Result<Vec<Output>, OutOfMemory>
+    ensures { IfOk result (λ v. v.items ≡ plan_sent E.sent script) }
+{
+    let (settings, service, zones, events) = script.into_parts();
+    let script = Unserved {
+        settings,
+        target: ScriptTarget::new(zones),
+        events,
+    };
+    serve_lines(alloc, script, service)
 }

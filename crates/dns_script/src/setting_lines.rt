@@ -1,13 +1,31 @@
-//! What lines of settings and of rules have in common.
+//! What readers have in common, and lines of the service and of the target.
 
 ghost use Rattle.std.specs.Prelude.{◌≡◌, length, nat_le};
 ghost use Rattle.dns_trace.specs.Reading.{unless};
-ghost use Rattle.dns_script.specs.Script.{before_events};
+ghost use Rattle.dns_script.specs.Plan.{before_events};
+ghost use Rattle.dns_script.specs.ScriptReads.{kept};
 
 use crate::script::Script;
 use dns_trace::{Reason, Words, unless};
 
-/// A line of a setting or a rule stands before the first event.
+/// A value that is kept, unless what was looked at refuses it.
+pub(crate) fn kept<T: Drop, E>(value: T, looked: Result<(), E>) -> Result<T, E>
+    ensures { result ≡ kept value looked }
+{
+    match looked {
+        Ok(()) => Ok(value),
+        Err(error) => Err(error),
+    }
+}
+
+/// A value in the place of another.
+pub(crate) fn put<T: Drop>(place: &mut T, value: T)
+    ensures { place.new ≡ value }
+{
+    *place = value;
+}
+
+/// Such a line stands before the first event.
 pub(crate) fn before_events<E: Drop>(script: &Script<E>) -> Result<(), Reason>
     ensures { result ≡ before_events script.now }
 {

@@ -1,0 +1,96 @@
+//! A script as text.
+
+ghost use Rattle.std.specs.Prelude.{◌≡◌, ◌++◌, IfOk, OnOk, flat_map};
+ghost use Rattle.dns_trace.specs.Trace.{event_text, settings_text};
+ghost use Rattle.dns_script.specs.ScriptText.{script_text, service_text, target_text};
+
+use crate::notify_rule::NotifyRules;
+use crate::script::Script;
+use crate::service_lines::ServiceLines;
+use crate::service_text::{write_service, write_target};
+use dns_name::OutOfMemory;
+use dns_service::{Event, Settings};
+use dns_trace::{TextWriter, write_event, write_settings};
+use std::alloc::Global;
+
+/// The lines of settings, which begin a text.
+fn settings_head(alloc: Global, settings: Settings) -> Result<TextWriter, OutOfMemory>
+    ensures { IfOk result (λ text. text ≡ settings_text settings) }
+{
+    let mut text = TextWriter::new(alloc);
+    match write_settings(&mut text, &settings) {
+        Ok(()) => Ok(text),
+        Err(error) => Err(error),
+    }
+}
+
+/// The lines of events.
+fn write_events(text: &mut TextWriter, events: &[Event]) -> Result<(), OutOfMemory>
+    ensures { OnOk result (text.new ≡ text.old ++ flat_map event_text events.now) }
+{
+    for event in events {
+        write_event(text, event)?;
+    }
+    Ok(())
+}
+
+/// The lines of a service, of a target and of events.
+fn write_lines(
+    alloc: Global,
+    text: &mut TextWriter,
+    service: &ServiceLines,
+    zones: &NotifyRules,
+    events: &[Event],
+) -> Result<(), OutOfMemory>
+    ensures { OnOk result (text.new ≡ text.old ++ (service_text service.now ++ (target_text zones.now ++ flat_map event_text events.now))) }
+{
+    write_service(alloc, text, service)?;
+    write_target(text, zones.as_slice())?;
+    write_events(text, events)
+}
+
+/// A text with the lines of a service, of a target and of events behind it.
+fn with_lines(
+    alloc: Global,
+    text: TextWriter,
+    service: &ServiceLines,
+    zones: &NotifyRules,
+    events: &[Event],
+) -> Result<Vec<u8>, OutOfMemory>
+    ensures { IfOk result (λ whole. whole.items ≡ text ++ (service_text service.now ++ (target_text zones.now ++ flat_map event_text events.now))) }
+{
+    let mut text = text;
+    match write_lines(alloc, &mut text, service, zones, events) {
+        Ok(()) => Ok(text.into_vec()),
+        Err(error) => Err(error),
+    }
+}
+
+/// The lines of settings, of a service, of a target and of events.
+fn whole_text(
+    alloc: Global,
+    settings: Settings,
+    service: &ServiceLines,
+    zones: &NotifyRules,
+    events: &[Event],
+) -> Result<Vec<u8>, OutOfMemory>
+    ensures { IfOk result (λ whole. whole.items ≡ settings_text settings ++ (service_text service.now ++ (target_text zones.now ++ flat_map event_text events.now))) }
+{
+    match settings_head(alloc, settings) {
+        Ok(text) => with_lines(alloc, text, service, zones, events),
+        Err(error) => Err(error),
+    }
+}
+
+/// The text of a script: a line for each setting, also where that is the default one, then the lines of the service, of the
+/// target and of the events, each in their order. Words are parted by one space, numbers are in decimal without leading zeros,
+/// and digits of octets in lower case.
+#[tactic(auto, unfolding(crate::specs::ScriptText::script_text))]
+pub fn script_text(alloc: Global, script: Script<Event>) -> Result<Vec<u8>, OutOfMemory>
+    ensures { IfOk result (λ v. v.items ≡ script_text script) }
+{
+    let (settings, service, zones, events) = script.into_parts();
+    let text = whole_text(alloc, settings, &service, &zones, events.as_slice());
+    drop(service);
+    text
+}

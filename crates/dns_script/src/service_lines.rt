@@ -1,0 +1,39 @@
+//! The service of a script.
+
+ghost use Rattle.std.specs.Prelude.{◌≡◌};
+ghost use Rattle.dns_script.specs.Plan.{rules_of};
+
+use crate::rule::Rules;
+use crate::upstream::Upstreams;
+use dns_zone::Zone;
+use std::alloc::Global;
+
+/// What the service lines of a script say, which are of one kind.
+#[derive(Debug, Drop)]
+pub enum ServiceLines {
+    /// Rules, of which the first that fits answers.
+    Rules(Rules),
+    /// Upstreams, which requests are forwarded to.
+    Upstreams(Upstreams),
+    /// A zone with its records, which is answered from.
+    Zone(Zone),
+}
+
+impl ServiceLines {
+    /// The rules, where these are the service, and else none.
+    pub fn into_rules(self, alloc: Global) -> Rules
+        ensures { result ≡ rules_of self }
+    {
+        match self {
+            ServiceLines::Rules(rules) => rules,
+            other => instead(other, Rules::new(alloc)),
+        }
+    }
+}
+
+/// A value in place of another.
+fn instead<T: Drop, U>(_given: T, other: U) -> U
+    ensures { result ≡ other }
+{
+    other
+}

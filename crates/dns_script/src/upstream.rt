@@ -1,0 +1,28 @@
+//! The upstream lines of a script.
+
+use crate::rule_list::RuleList;
+use dns_name::{Name, Rcode};
+
+/// What happens at a poll of an upstream.
+#[derive(Clone, Copy, Debug, PartialEq, Eq)]
+pub enum UpstreamWord {
+    /// Nothing arrives.
+    Pend,
+    /// A reply to the question arrives, with this response code.
+    Rcode(Rcode),
+    /// The same arrives with the identifier that follows, so that it is none to the question.
+    Stray(Rcode),
+    /// A tick comes that is due.
+    Late,
+}
+
+/// An upstream line: behind its words an upstream is late.
+#[derive(Debug, Drop)]
+pub struct Upstream {
+    /// The name of the questions that it is for, and of those below.
+    pub name: Name,
+    pub words: RuleList<UpstreamWord>,
+}
+
+/// The upstream lines of a script, in order.
+pub type Upstreams = RuleList<Upstream>;

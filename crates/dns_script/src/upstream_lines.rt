@@ -1,0 +1,86 @@
+//! The lines of upstreams.
+
+ghost use Rattle.std.specs.Prelude.{◌≡◌, [], drop};
+ghost use Rattle.dns_trace.specs.Reading.{GivesLine, TakesLine};
+ghost use Rattle.dns_script.specs.ServiceLines.{before_upstream, reply_of_word, upstream_line, upstream_of, upstream_word, upstream_words_after};
+
+use crate::answer_words::{behind, rcode};
+use crate::draft::Draft;
+use crate::rule_list::RuleList;
+use crate::setting_lines::{before_events, of_more_words};
+use crate::upstream::{Upstream, UpstreamWord};
+use dns_trace::{LineError, Reason, Words, name, unless};
+use std::alloc::Global;
+
+/// `pend`, `late`, `rcode:N` or `stray:N`.
+#[tactic(auto, unfolding(crate::specs::ServiceLines::upstream_word))]
+fn upstream_word(word: &[u8]) -> Result<UpstreamWord, Reason>
+    ensures { result ≡ upstream_word word.now }
+{
+    if word == b"pend".as_slice() {
+        return Ok(UpstreamWord::Pend);
+    }
+    if word == b"late".as_slice() {
+        return Ok(UpstreamWord::Late);
+    }
+    reply_word(word)
+}
+
+/// `rcode:N` or `stray:N`.
+fn reply_word(word: &[u8]) -> Result<UpstreamWord, Reason>
+    ensures { result ≡ reply_of_word word.now }
+{
+    if let Some(rest) = behind(word, b"rcode:".as_slice()) {
+        return Ok(UpstreamWord::Rcode(rcode(rest)?));
+    }
+    if let Some(rest) = behind(word, b"stray:".as_slice()) {
+        return Ok(UpstreamWord::Stray(rcode(rest)?));
+    }
+    Err(Reason::Value)
+}
+
+/// What the words behind the name spell.
+fn upstream_words(alloc: Global, words: &Words) -> Result<RuleList<UpstreamWord>, LineError>
+    ensures { GivesLine (λ l. l) result (upstream_words_after [] (drop 2 words.now)) }
+{
+    let mut list = RuleList::new(alloc);
+    for i in 2..words.len() {
+        let word = upstream_word(words.word(i))?;
+        list.push(word)?;
+    }
+    Ok(list)
+}
+
+/// The upstream of a line `upstream NAME WORD ..`.
+#[tactic(auto, unfolding(crate::specs::ServiceLines::upstream_of))]
+fn upstream_of(alloc: Global, words: &Words) -> Result<Upstream, LineError>
+    ensures { GivesLine (λ u. u) result (upstream_of words.now) }
+{
+    of_more_words(words)?;
+    let name = name(alloc, words.word(1))?;
+    let words = upstream_words(alloc, words)?;
+    Ok(Upstream { name, words })
+}
+
+/// A line `upstream NAME WORD ..`.
+#[tactic(auto, unfolding(crate::specs::ServiceLines::upstream_line))]
+pub(crate) fn read_upstream<E: Drop>(
+    alloc: Global,
+    draft: &mut Draft<E>,
+    words: &Words,
+) -> Result<(), LineError>
+    ensures { TakesLine result draft.new (upstream_line draft.old words.now) }
+{
+    may_be_upstream(draft)?;
+    let upstream = upstream_of(alloc, words)?;
+    draft.push_upstream(upstream)?;
+    Ok(())
+}
+
+/// An upstream stands before the first event, where no service line of another kind does.
+fn may_be_upstream<E: Drop>(draft: &Draft<E>) -> Result<(), Reason>
+    ensures { result ≡ before_upstream draft.now }
+{
+    before_events(&draft.script)?;
+    unless(Reason::Mix, draft.may_be_upstream())
+}

@@ -1,0 +1,224 @@
+//! The lines of a zone and of its records.
+
+ghost use Rattle.std.specs.Prelude.{◌≡◌, ◌≤◌, ◌++◌, IfOk, Ok, OnOk, length};
+ghost use Rattle.std.specs.Str.{bytes_eq};
+ghost use Rattle.dns_name.specs.Place.{two};
+ghost use Rattle.dns_message.specs.Fixed.{fixed_octets};
+ghost use Rattle.dns_message.specs.Records.{IsLawful, data_octets};
+ghost use Rattle.dns_message.specs.Standing.{standing_at};
+ghost use Rattle.dns_message.specs.Wire.{record_octets};
+ghost use Rattle.dns_trace.specs.Reading.{GivesLine, TakesLine, unless};
+ghost use Rattle.dns_trace.specs.Values.{number};
+ghost use Rattle.dns_script.specs.ServiceLines.{GivesRead, apex_of, before_record, before_zone, data_word, read_alone, record_line, record_of, record_words, resource_of, typed_record, uncompressed, zone_line};
+
+use crate::draft::Draft;
+use crate::setting_lines::{before_events, kept};
+use dns_base::{ParseError, Record, record_in};
+use dns_name::{Name, Octets, OutOfMemory};
+use dns_trace::{LineError, Reason, Words, decimal, name, octets, port, unless};
+use std::alloc::Global;
+
+/// The name of a line `zone NAME`.
+#[tactic(auto, unfolding(crate::specs::ServiceLines::apex_of))]
+fn apex_of(alloc: Global, words: &Words) -> Result<Name, LineError>
+    ensures { GivesLine (λ n. n) result (apex_of words.now) }
+{
+    unless(Reason::Count, words.len() == 2)?;
+    name(alloc, words.word(1))
+}
+
+/// Octets behind others.
+fn push(target: &mut Vec<u8>, octets: &[u8]) -> Result<(), OutOfMemory>
+    ensures { OnOk result (target.new.items ≡ target.old.items ++ octets.now) }
+{
+    target.extend_from_slice(octets)?;
+    Ok(())
+}
+
+/// A number of 16 bits behind them, in network order.
+fn push_number(target: &mut Vec<u8>, number: u16) -> Result<(), OutOfMemory>
+    ensures { OnOk result (target.new.items ≡ target.old.items ++ two number) }
+{
+    push(target, &[(number / 256) as u8, (number % 256) as u8])
+}
+
+/// What stands between the name and the data: the type, the class IN, how long the record may be kept, and how many octets
+/// its data takes.
+fn push_fixed(target: &mut Vec<u8>, rtype: u16, ttl: u32, size: u16) -> Result<(), OutOfMemory>
+    ensures { OnOk result (target.new.items ≡ target.old.items ++ fixed_octets (record { rtype = rtype; class = 1; ttl = ttl; size = size })) }
+{
+    push_number(target, rtype)?;
+    push_number(target, 1)?;
+    push_number(target, (ttl / 65536) as u16)?;
+    push_number(target, (ttl % 65536) as u16)?;
+    push_number(target, size)
+}
+
+/// The octets of a record of class IN.
+fn composed(
+    alloc: Global,
+    owner: &Name,
+    ttl: u32,
+    rtype: u16,
+    data: &[u8],
+) -> Result<Vec<u8>, OutOfMemory>
+    requires { length data.now ≤ 65535 }
+    ensures { IfOk result (λ v. v.items ≡ record_octets (resource_of owner.now ttl rtype data.now)) }
+{
+    let mut octets = Vec::new(alloc);
+    push(&mut octets, owner.as_slice())?;
+    push_fixed(&mut octets, rtype, ttl, data.len() as u16)?;
+    push(&mut octets, data)?;
+    Ok(octets)
+}
+
+/// The record that octets are, names followed.
+fn record_alone(alloc: Global, octets: &[u8]) -> Result<Record, LineError>
+    ensures value { GivesRead result (read_alone (standing_at octets.now 0)) }
+    ensures lawful { IfOk result (λ r. IsLawful r.rdata) }
+{
+    let read = match record_in(octets, 0) {
+        Ok((record, _)) => record.to_record(alloc),
+        Err(error) => Err(error),
+    };
+    match read {
+        Ok(record) => Ok(record),
+        Err(ParseError::OutOfMemory) => Err(LineError::OutOfMemory),
+        Err(_) => Err(LineError::Refused(Reason::Value)),
+    }
+}
+
+/// The data of a record is written as these octets, so that no name of it is compressed.
+fn written_as(alloc: Global, resource: &Record, data: &[u8]) -> Result<(), LineError>
+    requires { IsLawful resource.now.rdata }
+    ensures { GivesLine (λ u. u) result (unless Reason.Value (bytes_eq (data_octets resource.now.rdata) data.now)) }
+{
+    let mut octets = Vec::new(alloc);
+    resource.rdata.compose(alloc, &mut octets)?;
+    unless(Reason::Value, octets.as_slice() == data)?;
+    Ok(())
+}
+
+/// The record of octets, where its data has the shape of its type and no compressed name.
+fn typed_record(alloc: Global, octets: &[u8], data: &[u8]) -> Result<Record, LineError>
+    ensures value { GivesLine (λ r. r) result (uncompressed data.now (read_alone (standing_at octets.now 0))) }
+    ensures lawful { IfOk result (λ r. IsLawful r.rdata) }
+{
+    match record_alone(alloc, octets) {
+        Ok(record) => uncompressed(alloc, record, data),
+        Err(error) => Err(error),
+    }
+}
+
+/// A record, where its data is written as these octets.
+fn uncompressed(alloc: Global, resource: Record, data: &[u8]) -> Result<Record, LineError>
+    requires { IsLawful resource.rdata }
+    ensures value { GivesLine (λ r. r) result (uncompressed data.now (Ok resource)) }
+    ensures lawful { IfOk result (λ r. IsLawful r.rdata) }
+{
+    let written = written_as(alloc, &resource, data);
+    kept(resource, written)
+}
+
+/// A time to live in seconds.
+fn ttl(word: &[u8]) -> Result<u32, Reason>
+    ensures { result ≡ number 20 4294967296 word.now }
+{
+    let number = decimal(word, 20, 4294967296)?;
+    Ok(number as u32)
+}
+
+/// Data of at most 65,535 octets.
+fn data(alloc: Global, word: &[u8]) -> Result<Octets, LineError>
+    ensures value { GivesLine (λ o. o) result (data_word word.now) }
+    ensures short { IfOk result (λ o. length o ≤ 65535) }
+{
+    let data = octets(alloc, word)?;
+    unless(Reason::Value, data.as_slice().len() <= 65535)?;
+    Ok(data)
+}
+
+/// The record of a line `record NAME TTL TYPE HEX`.
+#[tactic(auto, unfolding(crate::specs::ServiceLines::record_words))]
+fn record_words(alloc: Global, words: &Words) -> Result<Record, LineError>
+    ensures value { GivesLine (λ r. r) result (record_words words.now) }
+    ensures lawful { IfOk result (λ r. IsLawful r.rdata) }
+{
+    unless(Reason::Count, words.len() == 5)?;
+    let owner = name(alloc, words.word(1))?;
+    record_of(alloc, &owner, words)
+}
+
+/// The record with this owner of such a line.
+fn record_of(alloc: Global, owner: &Name, words: &Words) -> Result<Record, LineError>
+    ensures value { GivesLine (λ r. r) result (record_of owner.now words.now) }
+    ensures lawful { IfOk result (λ r. IsLawful r.rdata) }
+{
+    let ttl = ttl(words.word(2))?;
+    let rtype = port(words.word(3))?;
+    let data = data(alloc, words.word(4))?;
+    record_with(alloc, owner, ttl, rtype, data.as_slice())
+}
+
+/// The record of class IN with these values.
+fn record_with(
+    alloc: Global,
+    owner: &Name,
+    ttl: u32,
+    rtype: u16,
+    data: &[u8],
+) -> Result<Record, LineError>
+    requires { length data.now ≤ 65535 }
+    ensures value { GivesLine (λ r. r) result (typed_record owner.now ttl rtype data.now) }
+    ensures lawful { IfOk result (λ r. IsLawful r.rdata) }
+{
+    let octets = composed(alloc, owner, ttl, rtype, data)?;
+    typed_record(alloc, octets.as_slice(), data)
+}
+
+/// A line `record NAME TTL TYPE HEX`.
+#[tactic(auto, unfolding(crate::specs::ServiceLines::record_line))]
+pub(crate) fn read_record<E: Drop>(
+    alloc: Global,
+    draft: &mut Draft<E>,
+    words: &Words,
+) -> Result<(), LineError>
+    ensures { TakesLine result draft.new (record_line draft.old words.now) }
+{
+    may_be_record(draft)?;
+    let record = record_words(alloc, words)?;
+    draft.push_record(record)?;
+    Ok(())
+}
+
+/// A record stands before the first event, and behind the line of its zone.
+fn may_be_record<E: Drop>(draft: &Draft<E>) -> Result<(), Reason>
+    ensures { result ≡ before_record draft.now }
+{
+    before_events(&draft.script)?;
+    unless(Reason::Order, draft.has_zone())
+}
+
+/// A line `zone NAME`.
+#[tactic(auto, unfolding(crate::specs::ServiceLines::zone_line))]
+pub(crate) fn read_zone<E: Drop>(
+    alloc: Global,
+    draft: &mut Draft<E>,
+    words: &Words,
+) -> Result<(), LineError>
+    ensures { TakesLine result draft.new (zone_line draft.old words.now) }
+{
+    may_be_zone(draft)?;
+    let apex = apex_of(alloc, words)?;
+    draft.begin_zone(alloc, apex);
+    Ok(())
+}
+
+/// A zone stands before the first event, where no other service line does.
+fn may_be_zone<E: Drop>(draft: &Draft<E>) -> Result<(), Reason>
+    ensures { result ≡ before_zone draft.now }
+{
+    before_events(&draft.script)?;
+    unless(Reason::Mix, draft.may_be_zone())?;
+    unless(Reason::Repeat, !draft.has_zone())
+}
