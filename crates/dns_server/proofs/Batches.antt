@@ -47,7 +47,7 @@ one_more i os d a b c old new t0 t1 t2 lt is before now = record {
 }
 
 -- the write of what is kept back is cut, in the middle and at the end
-cut : (text more old whole_text a b c : List ℕ) (t0 t1 t2 : Type 0) → text ++ more ≡ whole_text → Tells t1 t0 (Pending old text a b) → Tells t2 t1 (Cut old b c) → Tells t2 t0 (Cut whole_text a c)
+pub cut : (text more old whole_text a b c : List ℕ) (t0 t1 t2 : Type 0) → text ++ more ≡ whole_text → Tells t1 t0 (Pending old text a b) → Tells t2 t1 (Cut old b c) → Tells t2 t0 (Cut whole_text a c)
 cut text more old whole_text a b c t0 t1 t2 e before now = record {
   told = λ x. let w = now.told x in let r = before.told w.0 in (
     r.0,
@@ -61,7 +61,7 @@ cut text more old whole_text a b c t0 t1 t2 e before now = record {
   );
 }
 
-pushed_line : (old l text a b : List ℕ) (t0 t1 : Type 0) → Tells t1 t0 (Pending old text a b) → Tells t1 t0 (Pending (old ++ l) (text ++ l) a b)
+pub pushed_line : (old l text a b : List ℕ) (t0 t1 : Type 0) → Tells t1 t0 (Pending old text a b) → Tells t1 t0 (Pending (old ++ l) (text ++ l) a b)
 pushed_line old l text a b t0 t1 before = record {
   told = λ x. let r = before.told x in (
     r.0,

@@ -4,12 +4,10 @@ use Rattle.dns_outside.specs.Causes.{Tells, Rose}
 use Rattle.dns_outside.specs.Moves.{Cut}
 use Rattle.std.specs.Prelude.{Result, Ok, Err, IsErr, ◌++◌, ◌∷◌, ◌≢◌}
 use Rattle.std.proofs.lemmas.Bool.{false≢true}
-use Rattle.dns_service.specs.declared.event.Output.{Output}
 use Rattle.dns_trace.specs.declared.reason.Reason.{Reason}
-use Rattle.dns_script.specs.Line.{lines_of}
 use Rattle.dns_script.specs.Plan.{Plan}
 use Rattle.dns_server.specs.Status.{SourceFaults, SinkFaults, status_after, status_of}
-use Rattle.dns_server.specs.Runs.{run_text, refusal_text, Says, ReadsSource, WritesText, Decides, EndsFlood, FloodDecides}
+use Rattle.dns_server.specs.Runs.{text_or_refusal, refusal_text, Says, ReadsSource, WritesText, Decides, EndsFlood, FloodDecides}
 use Rattle.dns_server.specs.Writes.{Wrote}
 use Rattle.dns_server.specs.declared.status.Status.{Status}
 use Rattle.dns_server.specs.declared.status.Status.TheVariants.{Done, Usage, Refused, ReadFault, WriteFault, OutOfMemory, TooLong, HostFault}
@@ -63,10 +61,10 @@ wrote_after (Err NoMemory) text c d h = h
 wrote_after (Err Fault) text c d h = h
 
 -- what is written for a script that was read
-pub answers_written : {E : Type 0} (sent : Plan E → List Output) (read : List ℕ → Result (Plan E) (ℕ × Reason)) (written : Result (Unit {0}) WriteError) (s : Plan E) (a c d : List ℕ) (r0 r1 w0 w1 : Type 0) → Tells r1 r0 (read a ≡ Ok s)
-    → Tells w1 w0 (Wrote written (lines_of (sent s)) c d) → Tells (r1 × w1) (r0 × w0) (WritesText (status_after Done written) (run_text sent (read a)) c d)
-answers_written sent read written s a c d r0 r1 w0 w1 said wrote = record {
-  told = λ x. let r = said.told x.0 in let w = wrote.told x.1 in ((r.0, w.0), rw r.1 (wrote_after written (lines_of (sent s)) c d w.1));
+pub answers_written : {E : Type 0} (text : Plan E → List ℕ) (read : List ℕ → Result (Plan E) (ℕ × Reason)) (written : Result (Unit {0}) WriteError) (s : Plan E) (a c d : List ℕ) (r0 r1 w0 w1 : Type 0) → Tells r1 r0 (read a ≡ Ok s)
+    → Tells w1 w0 (Wrote written (text s) c d) → Tells (r1 × w1) (r0 × w0) (WritesText (status_after Done written) (text_or_refusal text (read a)) c d)
+answers_written text read written s a c d r0 r1 w0 w1 said wrote = record {
+  told = λ x. let r = said.told x.0 in let w = wrote.told x.1 in ((r.0, w.0), rw r.1 (wrote_after written (text s) c d w.1));
 }
 
 -- a front of nothing is one of each text
@@ -74,30 +72,30 @@ nothing_of : (written rest text c d : List ℕ) → written ++ rest ≡ [] → d
 nothing_of [] rest text c d e f = record { written = []; rest = text; whole = refl; appended = f }
 nothing_of (x ∷ xs) rest text c d e f = let h : length (x ∷ (xs ++ rest)) ≡ 0 = ap length e in absurd (omega arith)
 
-refused_alone : {E : Type 0} (sent : Plan E → List Output) (read : Result (Plan E) (ℕ × Reason)) (c d : List ℕ) → IsErr read → d ≡ c ++ refusal_text read → d ≡ c ++ run_text sent read
-refused_alone sent (Err e) c d h w = w
-refused_alone sent (Ok p) c d h w = absurd (false≢true h)
+refused_alone : {E : Type 0} (text : Plan E → List ℕ) (read : Result (Plan E) (ℕ × Reason)) (c d : List ℕ) → IsErr read → d ≡ c ++ refusal_text read → d ≡ c ++ text_or_refusal text read
+refused_alone text (Err e) c d h w = w
+refused_alone text (Ok p) c d h w = absurd (false≢true h)
 
-cut_of : {E : Type 0} (sent : Plan E → List Output) (read : Result (Plan E) (ℕ × Reason)) (c d : List ℕ) → Cut (refusal_text read) c d → Cut (run_text sent read) c d
-cut_of sent (Err e) c d w = w
-cut_of sent (Ok p) c d w = nothing_of w.written w.rest (lines_of (sent p)) c d w.whole w.appended
+cut_of : {E : Type 0} (text : Plan E → List ℕ) (read : Result (Plan E) (ℕ × Reason)) (c d : List ℕ) → Cut (refusal_text read) c d → Cut (text_or_refusal text read) c d
+cut_of text (Err e) c d w = w
+cut_of text (Ok p) c d w = nothing_of w.written w.rest (text p) c d w.whole w.appended
 
-written_alone : {E : Type 0} (sent : Plan E → List Output) (read : List ℕ → Result (Plan E) (ℕ × Reason)) (s : Status) (a b c d : List ℕ) → s ≢ Done → ReadsSource read s a b
-    → WritesText s (refusal_text (read a)) c d → WritesText s (run_text sent (read a)) c d
-written_alone sent read Done a b c d n h w = absurd (n refl)
-written_alone sent read Refused a b c d n h w = refused_alone sent (read a) c d h.1 w
-written_alone sent read WriteFault a b c d n h w = cut_of sent (read a) c d w
-written_alone sent read OutOfMemory a b c d n h w = cut_of sent (read a) c d w
-written_alone sent read ReadFault a b c d n h w = w
-written_alone sent read TooLong a b c d n h w = w
-written_alone sent read Usage a b c d n h w = w
-written_alone sent read HostFault a b c d n h w = w
+written_alone : {E : Type 0} (text : Plan E → List ℕ) (read : List ℕ → Result (Plan E) (ℕ × Reason)) (s : Status) (a b c d : List ℕ) → s ≢ Done → ReadsSource read s a b
+    → WritesText s (refusal_text (read a)) c d → WritesText s (text_or_refusal text (read a)) c d
+written_alone text read Done a b c d n h w = absurd (n refl)
+written_alone text read Refused a b c d n h w = refused_alone text (read a) c d h.1 w
+written_alone text read WriteFault a b c d n h w = cut_of text (read a) c d w
+written_alone text read OutOfMemory a b c d n h w = cut_of text (read a) c d w
+written_alone text read ReadFault a b c d n h w = w
+written_alone text read TooLong a b c d n h w = w
+written_alone text read Usage a b c d n h w = w
+written_alone text read HostFault a b c d n h w = w
 
 -- what is written for a text that is none: the line of its refusal
-pub refusal_written : {E : Type 0} (sent : Plan E → List Output) (read : List ℕ → Result (Plan E) (ℕ × Reason)) (s : Status) (a b c d : List ℕ) (r0 r1 w0 w1 : Type 0) → s ≢ Done → Tells r1 r0 (ReadsSource read s a b)
-    → Tells (r1 × w1) (r0 × w0) (WritesText s (refusal_text (read a)) c d) → Tells (r1 × w1) (r0 × w0) (WritesText s (run_text sent (read a)) c d)
-refusal_written sent read s a b c d r0 r1 w0 w1 n was wrote = record {
-  told = λ x. let r = was.told x.0 in let w = wrote.told x in (w.0, written_alone sent read s a b c d n r.1 w.1);
+pub refusal_written : {E : Type 0} (text : Plan E → List ℕ) (read : List ℕ → Result (Plan E) (ℕ × Reason)) (s : Status) (a b c d : List ℕ) (r0 r1 w0 w1 : Type 0) → s ≢ Done → Tells r1 r0 (ReadsSource read s a b)
+    → Tells (r1 × w1) (r0 × w0) (WritesText s (refusal_text (read a)) c d) → Tells (r1 × w1) (r0 × w0) (WritesText s (text_or_refusal text (read a)) c d)
+refusal_written text read s a b c d r0 r1 w0 w1 n was wrote = record {
+  told = λ x. let r = was.told x.0 in let w = wrote.told x in (w.0, written_alone text read s a b c d n r.1 w.1);
 }
 
 decided : {E : Type 0} (read : List ℕ → Result (Plan E) (ℕ × Reason)) (s : Status) (a b : List ℕ) (r0 r1 w0 w1 : ℕ) → ReadsSource read s a b → SourceFaults s r0 r1 → SinkFaults s w0 w1

@@ -11,7 +11,7 @@ use Rattle.dns_core.specs.Out.{out}
 use Rattle.dns_core.specs.Server.{Serves}
 use Rattle.dns_core.specs.Trails.{is_datagram_sent, is_frame}
 use Rattle.dns_core.specs.declared.server.Server.{Server}
-use Rattle.dns_middleware.specs.declared.settings.Settings.{Settings}
+use Rattle.dns_service.specs.declared.settings.Settings.{Settings}
 use Rattle.dns_server.specs.declared.counts.Counts.{Counts}
 
 abbrev pub closes : Output → Bool

@@ -9,7 +9,9 @@ use Rattle.dns_service.specs.declared.event.EventKind.TheVariants.{Datagram, Tur
 use Rattle.dns_script.specs.declared.rule.Rule.{Rule}
 use Rattle.dns_script.specs.declared.rule.ScriptAnswer.TheVariants.{Pend, Reply}
 use Rattle.dns_script.specs.declared.rule.ScriptReply.TheVariants.{Rcode}
+use Rattle.dns_script.specs.declared.service_lines.ServiceLines.TheVariants.{Rules}
 use Rattle.dns_script.specs.Plan.{Plan, empty_plan}
+use Rattle.dns_trace.specs.Said.{nothing_said}
 
 -- the number that follows a number of the generator
 abbrev pub next_number : ℕ → ℕ
@@ -68,4 +70,4 @@ flood_rule = record { name = None; answers = Pend ∷ Reply (Rcode 0) ∷ Reply 
 
 -- a flood is a script of these two lines and of the events
 abbrev pub flood_plan : ℕ → ℕ → Plan Event
-flood_plan seed count = record empty_plan { stream = Some flood_stream; rules = flood_rule ∷ []; events = flood_events seed count }
+flood_plan seed count = record empty_plan { said = record nothing_said { stream = Some flood_stream }; service = Rules (flood_rule ∷ []); events = flood_events seed count }

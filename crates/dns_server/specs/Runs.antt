@@ -6,23 +6,32 @@ use Rattle.dns_outside.specs.Causes.{Tells}
 use Rattle.dns_outside.specs.Moves.{ReadExactly, ReadAtMost, Cut}
 use Rattle.dns_outside.specs.declared.source.TheConstants.{LIMIT}
 use Rattle.dns_service.specs.declared.event.Output.{Output}
-use Rattle.dns_trace.specs.EventLines.{event_line, step_line}
 use Rattle.dns_trace.specs.declared.reason.Reason.{Reason}
 use Rattle.dns_server.specs.Counts.{output_counts, summary_line}
 use Rattle.dns_server.specs.Flood.{flood_plan}
 use Rattle.dns_script.specs.Plan.{Plan}
 use Rattle.dns_script.specs.PlanOutputs.{plan_outputs, plan_step_outputs}
-use Rattle.dns_script.specs.Script.{script}
+use Rattle.dns_script.specs.CachedRules.{cache_text}
+use Rattle.dns_script.specs.ScriptText.{script_text}
+use Rattle.dns_script.specs.Scripts.{ask_script, event_script, step_script}
 use Rattle.dns_script.specs.Line.{lines_of, refused_line}
 use Rattle.dns_server.specs.declared.command.Command.{Command}
-use Rattle.dns_server.specs.declared.command.Command.TheVariants.{Replay, Steps, Flood}
+use Rattle.dns_server.specs.declared.command.Command.TheVariants.{Replay, Steps, Trace, Flood, Cache}
 use Rattle.dns_server.specs.declared.status.Status.{Status}
 use Rattle.dns_server.specs.declared.status.Status.TheVariants.{Done, Refused, ReadFault, WriteFault, OutOfMemory, TooLong}
 
--- what is written for a script whose clients are sent this, or for the first bad line of a text that is none
+-- what is written for a script, which this is, or for the first bad line of a text that is none
+abbrev pub text_or_refusal : {E : Type 0} → (Plan E → List ℕ) → Result (Plan E) (ℕ × Reason) → List ℕ
+text_or_refusal text (Ok p) = text p
+text_or_refusal text (Err e) = refused_line e.0 e.1
+
+-- what is written for a script whose clients are sent this
+abbrev pub clients_text : {E : Type 0} → (Plan E → List Output) → Plan E → List ℕ
+clients_text sent p = lines_of (sent p)
+
+-- the same, or what is written for the first bad line of a text that is none
 abbrev pub run_text : {E : Type 0} → (Plan E → List Output) → Result (Plan E) (ℕ × Reason) → List ℕ
-run_text sent (Ok p) = lines_of (sent p)
-run_text sent (Err e) = refused_line e.0 e.1
+run_text sent = text_or_refusal (clients_text sent)
 
 -- what is written for what a text says before it is served: nothing, or the line of its refusal
 abbrev pub refusal_text : {E : Type 0} → Result (Plan E) (ℕ × Reason) → List ℕ
@@ -72,14 +81,18 @@ EndsFlood _ = ⊥
 
 -- for a flood the source isn't touched
 abbrev pub RunReads : {R : Type 0} → (R → Type 0) → (R → List ℕ) → Command → Status → R → R → Type 0
-RunReads tells left Replay s a b = Tells (tells b) (tells a) (ReadsSource (script event_line) s (left a) (left b))
-RunReads tells left Steps s a b = Tells (tells b) (tells a) (ReadsSource (script step_line) s (left a) (left b))
+RunReads tells left Replay s a b = Tells (tells b) (tells a) (ReadsSource event_script s (left a) (left b))
+RunReads tells left Steps s a b = Tells (tells b) (tells a) (ReadsSource step_script s (left a) (left b))
+RunReads tells left Trace s a b = Tells (tells b) (tells a) (ReadsSource event_script s (left a) (left b))
+RunReads tells left (Cache capacity) s a b = Tells (tells b) (tells a) (ReadsSource ask_script s (left a) (left b))
 RunReads tells left (Flood seed count) s a b = (b ≡ a) × EndsFlood s
 
 -- of a script the source has to tell its text
 abbrev pub RunWrites : {R : Type 0} → (R → Type 0) → (R → List ℕ) → Command → Status → R → R → Type 0 → Type 0 → List ℕ → List ℕ → Type 0
-RunWrites tells left Replay s a b told tell c d = Tells (tells b × told) (tells a × tell) (WritesText s (run_text plan_outputs (script event_line (left a))) c d)
-RunWrites tells left Steps s a b told tell c d = Tells (tells b × told) (tells a × tell) (WritesText s (run_text plan_step_outputs (script step_line (left a))) c d)
+RunWrites tells left Replay s a b told tell c d = Tells (tells b × told) (tells a × tell) (WritesText s (run_text plan_outputs (event_script (left a))) c d)
+RunWrites tells left Steps s a b told tell c d = Tells (tells b × told) (tells a × tell) (WritesText s (run_text plan_step_outputs (step_script (left a))) c d)
+RunWrites tells left Trace s a b told tell c d = Tells (tells b × told) (tells a × tell) (WritesText s (text_or_refusal script_text (event_script (left a))) c d)
+RunWrites tells left (Cache capacity) s a b told tell c d = Tells (tells b × told) (tells a × tell) (WritesText s (text_or_refusal (cache_text capacity) (ask_script (left a))) c d)
 RunWrites tells left (Flood seed count) s a b told tell c d = Tells told tell (WritesText s (flood_text seed count) c d)
 
 -- a script gives Done, and another text Refused, save for want of memory
@@ -97,6 +110,8 @@ FloodDecides _ = ⊥
 
 -- a run without a fault: octets that are not too many decide, and a flood needs none
 abbrev pub Completes : {R : Type 0} → (R → Type 0) → (R → List ℕ) → Command → Status → R → R → Type 0
-Completes tells left Replay s a b = Tells (tells b) (tells a) (length (left a) ≤ LIMIT → Decides s (script event_line (left a)))
-Completes tells left Steps s a b = Tells (tells b) (tells a) (length (left a) ≤ LIMIT → Decides s (script step_line (left a)))
+Completes tells left Replay s a b = Tells (tells b) (tells a) (length (left a) ≤ LIMIT → Decides s (event_script (left a)))
+Completes tells left Steps s a b = Tells (tells b) (tells a) (length (left a) ≤ LIMIT → Decides s (step_script (left a)))
+Completes tells left Trace s a b = Tells (tells b) (tells a) (length (left a) ≤ LIMIT → Decides s (event_script (left a)))
+Completes tells left (Cache capacity) s a b = Tells (tells b) (tells a) (length (left a) ≤ LIMIT → Decides s (ask_script (left a)))
 Completes tells left (Flood seed count) s a b = FloodDecides s

@@ -1,11 +1,11 @@
 -- How words and a script plan a server.
 use Rattle.std.specs.Prelude.{◌≡◌, ℕ, Option, Some, None, IsSome, Result, Ok, Err}
 use Rattle.dns_middleware.specs.Verdicts.{Verdicts}
-use Rattle.dns_middleware.specs.declared.settings.Settings.{Settings}
+use Rattle.dns_service.specs.declared.settings.Settings.{Settings}
 use Rattle.dns_trace.specs.declared.reason.Reason.{Reason}
 use Rattle.dns_service.specs.Answer.{Answer}
 use Rattle.dns_service.specs.Req.{Req}
-use Rattle.dns_script.specs.Plan.{Plan, settings_of}
+use Rattle.dns_script.specs.Plan.{Plan, rules_of, settings_of}
 use Rattle.dns_script.specs.Played.{played}
 use Rattle.dns_script.specs.Targets.{script_verdicts}
 use Rattle.dns_script.specs.declared.script_line.NoEvent.{NoEvent}
@@ -27,5 +27,5 @@ pub record PlaysScript (read : Result (Plan NoEvent) (ℕ × Reason)) (settings 
   pub said : Plan NoEvent
   pub is_read : read ≡ Ok said
   pub settings_said : settings ≡ settings_of said
-  pub answers_said : answers ≡ played said.rules
+  pub answers_said : answers ≡ played (rules_of said.service)
   pub verdicts_said : verdicts ≡ script_verdicts said.zones

@@ -5,7 +5,7 @@ ghost use Rattle.dns_client.specs.Serving.{serving};
 ghost use Rattle.dns_core.specs.Out.{out};
 ghost use Rattle.dns_core.specs.Server.{Serves};
 ghost use Rattle.dns_outside.specs.Causes.{Tells};
-ghost use Rattle.dns_middleware.specs.declared.settings.Settings.{Settings};
+ghost use Rattle.dns_service.specs.declared.settings.Settings.{Settings};
 ghost use Rattle.dns_middleware.specs.Verdicts.{verdict_on};
 ghost use Rattle.dns_middleware.specs.Wrapped.{hint_left, replies};
 ghost use Rattle.dns_service.specs.PolledRequest.{request_answer};
@@ -172,7 +172,7 @@ fn count_served<S: Service<()>, N: Notifiable>(
 }
 
 /// How much the clients of a flood are sent.
-#[tactic(auto, unfolding(dns_script::specs::PlanOutputs::plan_outputs))]
+#[tactic(auto, unfolding(dns_script::specs::PlanOutputs::plan_sent))]
 pub fn count_flood(alloc: Global, seed: u64, count: u32) -> Result<Counts, OutOfMemory>
     ensures { IfOk result (λ c. c ≡ output_counts (plan_outputs (flood_plan seed count))) }
 {

@@ -4,40 +4,31 @@ ghost use Rattle.std.specs.Prelude.{◌≡◌, ◌≢◌, ◌↔◌, map, string
 ghost use Rattle.dns_outside.specs.Causes.{Tells, Rose};
 ghost use Rattle.dns_server.specs.Command.{command_of};
 ghost use Rattle.dns_server.specs.Status.{SourceFaults, SinkFaults};
-ghost use Rattle.dns_script.specs.Line.{lines_of};
 ghost use Rattle.dns_script.specs.Script.{script};
-ghost use Rattle.dns_server.specs.Writes.{Wrote, WroteFaults};
-ghost use Rattle.dns_server.specs.Runs.{run_text, flood_text, ReadsSource, WritesText, EndsFlood, RunReads, RunWrites, Completes};
+ghost use Rattle.dns_server.specs.Runs.{text_or_refusal, flood_text, ReadsSource, WritesText, EndsFlood, RunReads, RunWrites, Completes};
 
+use crate::answering::{AnswerScript, Clients, Questions, Recorded};
 use crate::command::{Command, read_command};
 use crate::flood::write_flood;
 use crate::status::Status;
 use crate::whole_script::read_whole;
-use crate::writing::{WriteError, write_outputs};
 use dns_outside::{Sink, Source};
-use dns_script::{Script, Scripted};
+use dns_script::{Ask, ScriptLine};
 use dns_service::{Event, Step};
 use std::alloc::Global;
 
-/// Writes what the clients of a script are sent.
-fn answer_script<E: Scripted, W: Sink>(
-    alloc: Global,
-    script: Script<E>,
-    sink: &mut W,
-) -> Result<(), WriteError>
-    ensures told { Tells (W.tells sink.new) (W.tells sink.old) (Wrote result (lines_of (E.sent script)) (W.taken sink.old) (W.taken sink.new)) }
-    ensures cause { WroteFaults result (W.faults sink.old) (W.faults sink.new) }
-{
-    let all = E::serve(alloc, script)?;
-    write_outputs(alloc, sink, &all)
-}
-
-/// Answers the script that a source holds, of events or of steps.
+/// Reads the script that a source holds, and writes what is to be written for it.
 #[tactic(auto, using(crate::proofs::Running::refusal_written, crate::proofs::Running::answers_read, crate::proofs::Running::answers_written))]
-fn replay<E: Scripted, R: Source, W: Sink>(alloc: Global, source: &mut R, sink: &mut W) -> Status
-    ensures read { Tells (R.tells source.new) (R.tells source.old) (ReadsSource (script E.reading) result (R.left source.old) (R.left source.new)) }
+fn run_script<E: ScriptLine, A: AnswerScript<E>, R: Source, W: Sink>(
+    alloc: Global,
+    answering: &A,
+    source: &mut R,
+    sink: &mut W,
+) -> Status
+    requires { A.can_write answering.now }
+    ensures read { Tells (R.tells source.new) (R.tells source.old) (ReadsSource (script E.has E.reading) result (R.left source.old) (R.left source.new)) }
     ensures written { Tells (R.tells source.new × W.tells sink.new) (R.tells source.old × W.tells sink.old)
-        (WritesText result (run_text E.sent (script E.reading (R.left source.old))) (W.taken sink.old) (W.taken sink.new)) }
+        (WritesText result (text_or_refusal (A.text answering.now) (script E.has E.reading (R.left source.old))) (W.taken sink.old) (W.taken sink.new)) }
     ensures source_faults { SourceFaults result (R.faults source.old) (R.faults source.new) }
     ensures sink_faults { SinkFaults result (W.faults sink.old) (W.faults sink.new) }
     ensures too_long { result ≡ Status.TooLong → sink.new ≡ sink.old }
@@ -45,7 +36,7 @@ fn replay<E: Scripted, R: Source, W: Sink>(alloc: Global, source: &mut R, sink: 
     ensures other { (result ≢ Status.Usage) × (result ≢ Status.HostFault) }
 {
     match read_whole::<E, R, W>(alloc, source, sink) {
-        Ok(script) => Status::Done.after(answer_script(alloc, script, sink)),
+        Ok(script) => Status::Done.after(answering.write(alloc, script, sink)),
         Err(status) => status,
     }
 }
@@ -60,7 +51,7 @@ fn answer_flood<W: Sink>(alloc: Global, sink: &mut W, seed: u64, count: u32) -> 
     Status::Done.after(write_flood(alloc, sink, seed, count))
 }
 
-/// Does what the words ask for. Nothing but the lines of outputs, the line of a refusal and that of a flood is written.
+/// Does what the words ask for. Nothing but the lines of outputs, of a script and of a cache's answers, the line of a refusal and that of a flood is written.
 #[tactic(auto, using(crate::proofs::Running::replay_completes, crate::proofs::Running::flood_completes))]
 pub fn run<R: Source, W: Sink>(
     alloc: Global,
@@ -89,8 +80,12 @@ pub fn run<R: Source, W: Sink>(
 {
     match read_command(words) {
         None => Status::Usage,
-        Some(Command::Replay) => replay::<Event, R, W>(alloc, source, sink),
-        Some(Command::Steps) => replay::<Step, R, W>(alloc, source, sink),
+        Some(Command::Replay) => run_script::<Event, Clients, R, W>(alloc, &Clients, source, sink),
+        Some(Command::Steps) => run_script::<Step, Clients, R, W>(alloc, &Clients, source, sink),
+        Some(Command::Trace) => run_script::<Event, Recorded, R, W>(alloc, &Recorded, source, sink),
+        Some(Command::Cache { capacity }) => {
+            run_script::<Ask, Questions, R, W>(alloc, &Questions { capacity }, source, sink)
+        }
         Some(Command::Flood { seed, count }) => answer_flood(alloc, sink, seed, count),
     }
 }

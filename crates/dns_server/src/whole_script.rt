@@ -21,8 +21,8 @@ fn script_of<E: ScriptLine, W: Sink>(
     sink: &mut W,
 ) -> Result<Script<E>, Status>
     requires { length text.now ≤ LIMIT }
-    ensures said { Says result (script E.reading text.now) }
-    ensures told { Tells (W.tells sink.new) (W.tells sink.old) (WritesText (status_of result) (refusal_text (script E.reading text.now)) (W.taken sink.old) (W.taken sink.new)) }
+    ensures said { Says result (script E.has E.reading text.now) }
+    ensures told { Tells (W.tells sink.new) (W.tells sink.old) (WritesText (status_of result) (refusal_text (script E.has E.reading text.now)) (W.taken sink.old) (W.taken sink.new)) }
     ensures faults { SinkFaults (status_of result) (W.faults sink.old) (W.faults sink.new) }
     ensures unwritten { IsOk result → sink.new ≡ sink.old }
 {
@@ -42,10 +42,10 @@ pub fn read_whole<E: ScriptLine, R: Source, W: Sink>(
     source: &mut R,
     sink: &mut W,
 ) -> Result<Script<E>, Status>
-    ensures read { Tells (R.tells source.new) (R.tells source.old) (ReadsSource (script E.reading) (status_of result) (R.left source.old) (R.left source.new)) }
-    ensures said { IfOk result (λ s. Tells (R.tells source.new) (R.tells source.old) (script E.reading (R.left source.old) ≡ Ok s)) }
+    ensures read { Tells (R.tells source.new) (R.tells source.old) (ReadsSource (script E.has E.reading) (status_of result) (R.left source.old) (R.left source.new)) }
+    ensures said { IfOk result (λ s. Tells (R.tells source.new) (R.tells source.old) (script E.has E.reading (R.left source.old) ≡ Ok s)) }
     ensures written { Tells (R.tells source.new × W.tells sink.new) (R.tells source.old × W.tells sink.old)
-        (WritesText (status_of result) (refusal_text (script E.reading (R.left source.old))) (W.taken sink.old) (W.taken sink.new)) }
+        (WritesText (status_of result) (refusal_text (script E.has E.reading (R.left source.old))) (W.taken sink.old) (W.taken sink.new)) }
     ensures source_faults { SourceFaults (status_of result) (R.faults source.old) (R.faults source.new) }
     ensures sink_faults { SinkFaults (status_of result) (W.faults sink.old) (W.faults sink.new) }
     ensures unwritten { IsOk result → sink.new ≡ sink.old }

@@ -21,6 +21,9 @@ pub enum WriteError {
     Fault,
 }
 
+/// That a text was written whole, or why not.
+pub(crate) type Written = Result<(), WriteError>;
+
 impl From<OutOfMemory> for WriteError {
     ghost use Rattle.dns_server.specs.declared.writing.WriteError.TheVariants.{OutOfMemory as NoMemory};
 
@@ -46,7 +49,7 @@ const BATCH: usize = 65_536;
 
 /// Writes the lines that are kept back, once they are many.
 #[tactic(auto, using(crate::proofs::Batches::kept, crate::proofs::Batches::poured))]
-fn pour<W: Sink>(sink: &mut W, text: &mut Vec<u8>) -> Result<(), WriteFault>
+pub(crate) fn pour<W: Sink>(sink: &mut W, text: &mut Vec<u8>) -> Result<(), WriteFault>
     ensures told { Tells (W.tells sink.new) (W.tells sink.old) (Pours result text.old.items text.new.items (W.taken sink.old) (W.taken sink.new)) }
     ensures later { W.faults sink.old ≤ W.faults sink.new }
     ensures cause { WroteAllCause result (W.faults sink.old) (W.faults sink.new) }

@@ -1,4 +1,4 @@
-//! The program: a script on standard input, its outputs on standard output, or a server that runs by it.
+//! The program: a script on standard input, its outputs or its text on standard output, or a server that runs by it.
 #![tactic(auto)]
 
 mod serving;
@@ -15,36 +15,36 @@ use std::thread::Threads;
 use std::{env, io, rt};
 
 const HELP: &str = "\
-Usage: nutscythe replay|steps < SCRIPT, serve ADDR PORT COUNT < SCRIPT,
-flood SEED COUNT, --help, --version. replay serves a script's events by its
-rules, a line for each output; in steps a client hears of changes only at its
-lines look AT SECS CLIENT; serve has no events, and answers at a port until
+Usage: nutscythe replay|steps|trace|cache CAP < SCRIPT, flood SEED COUNT,
+serve ADDR PORT COUNT < SCRIPT, --help, --version. replay serves a script's
+events, a line for each output; in steps a client hears of changes only at its
+lines look AT SECS CLIENT; trace writes the script; cache keeps CAP replies of
+rules for its lines ask AT SECS ADDR PORT HEX; serve answers at a port until
 COUNT datagrams and COUNT connections came, 0: ever; flood makes COUNT events.
 strict yes|no, edns yes|no   settings, once; secret HEX   of cookies; deny ADDR
 dgram none|SIZE WRITE, stream IDLE WRITE QUEUE LIMIT yes|no   the two servers
 budget none|COUNT WINDOW   how many replies a connection queues in WINDOW ms
 rule NAME|* ANSWER ..   a request's polls: pend, rcode:0 to 15, blank:0 to 15,
     fill:LEN, opt:LEN, live:TTL, an error (formerr, servfail, notimp, refused),
-    or begin, end, idle:MS, alone or with + before one of the five replies
-notify NAME pend .. ok|notauth|other   what is answered to a NOTIFY
-datagram AT SECS CLIENT ADDR PORT HEX  a query came from an address
-offer AT SECS CLIENT ADDR PORT         a connection is offered
-piece AT SECS CLIENT HEX               octets of its stream came
-turn AT SECS CLIENT REQUEST            a request, from number 0, is polled once
-write AT SECS CLIENT TOOK              its front frame is written, in TOOK ms
-tick, end, fault, close, release, each AT SECS CLIENT   of a connection
+    or begin, end, idle:MS, alone or with + before one of the five replies; or
+upstream NAME WORD ..   its polls: pend, rcode:0 to 15, stray:0 to 15, late; or
+zone NAME, then record NAME TTL TYPE HEX; notify NAME pend .. ok|notauth|other
+datagram AT SECS CLIENT ADDR PORT HEX   a query; offer AT SECS CLIENT ADDR PORT
+    a connection; piece AT SECS CLIENT HEX   octets of its stream came
+turn AT SECS CLIENT REQUEST   a request, from number 0, is polled once; write
+    AT SECS CLIENT TOOK   its front frame is written, in TOOK ms; tick, end,
+    fault, close, release, each AT SECS CLIENT   of a connection
 reconfigure AT SECS .., shutdown AT SECS   all hear; as dgram, stream, budget
 What is above datagram stands before all events. ADDR is a dotted quad or 32 hex
-digits, HEX pairs of digits or -. docs/scripts.md has all. Written are datagram
-CLIENT HEX, frame CLIENT HEX, closed CLIENT WHY, turned CLIENT yes|no or refused
-LINE REASON. Exit status: 0 done, 2 faulty command line, 3 refused, 4 a read or
-5 a write failed, 6 out of memory, 7 script too long, 8 socket or thread failed.
+digits, HEX pairs of digits or -. docs/scripts.md has all. Exit status: 0 done,
+2 faulty command line, 3 refused, 4 a read or 5 a write failed, 6 out of memory,
+7 script too long, 8 socket or thread failed.
 ";
 
 const VERSION: &str = "nutscythe 0.1.0\n";
 
 const USAGE: &str =
-    "usage: nutscythe replay|steps < SCRIPT, nutscythe serve ADDR PORT COUNT < SCRIPT, nutscythe flood SEED COUNT, nutscythe --help or --version";
+    "usage: nutscythe replay|steps|trace|cache CAP < SCRIPT, nutscythe serve ADDR PORT COUNT < SCRIPT, nutscythe flood SEED COUNT, nutscythe --help or --version";
 
 /// The words of the command line behind the program's name. A word that isn't UTF-8 is a faulty command line.
 fn read_words(rt: &HostRuntime) -> Result<Vec<String>, Status> {

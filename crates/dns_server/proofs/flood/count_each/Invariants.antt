@@ -3,7 +3,7 @@ use Rattle.std.proofs.Common.{◌≡◌, ◌*◌, ◌^◌, []}
 use Rattle.dns_service.specs.PolledRequest.{request_answer}
 use Rattle.dns_core.specs.Out.{out}
 use Rattle.dns_core.specs.Server.{Serves}
-use Rattle.dns_middleware.specs.declared.settings.Settings.{Settings}
+use Rattle.dns_service.specs.declared.settings.Settings.{Settings}
 use Rattle.dns_server.specs.Counts.{IsAtMost, output_counts}
 use Rattle.dns_server.specs.Flood.{flood_events, number_at}
 use Rattle.dns_server.proofs.flood.count_each.Given as goal

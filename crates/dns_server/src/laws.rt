@@ -1,0 +1,28 @@
+//! A law of what a trace says again.
+
+ghost use Rattle.std.specs.Prelude.{◌≡◌, ◌∷◌, [], ℕ, List, false};
+ghost use Rattle.dns_admission.specs.declared.look.Look.{Look};
+ghost use Rattle.dns_book.specs.declared.history.Known.{Known};
+ghost use Rattle.dns_client.specs.Serving.{Serving};
+ghost use Rattle.dns_drivers.specs.Endings.{EndsSo};
+ghost use Rattle.dns_drivers.specs.declared.connection.ConnectionEnd.TheVariants.{Closed};
+ghost use Rattle.dns_name.specs.declared.address.SocketAddr.{SocketAddr};
+ghost use Rattle.dns_outside.specs.Traffic.{Traffic};
+ghost use Rattle.dns_server.specs.Recorded.{ReadsBack, configured};
+ghost use Rattle.dns_server.specs.Replays.{Replays};
+ghost use Rattle.dns_service.specs.Config.{IsStream};
+ghost use Rattle.dns_service.specs.declared.event.Event.{Event};
+ghost use Rattle.dns_service.specs.declared.event.Why.{Why};
+ghost use Rattle.dns_service.specs.declared.settings.Settings.{Settings};
+
+/// The trace of a connection replays. Where the recorder was made from settings with the configurations of the first look, and the
+/// connection was closed, the text reads to events for which its client, served under these settings, is sent the frames that the
+/// link was written, up to a part of one frame more after a write that failed or took too long.
+pub fn a_connection_replays()
+    ensures { (answers : Serving) (settings : Settings) (why : Why) (client : ℕ) (addr : SocketAddr) (look : Look) (text : List ℕ) (noted : List Event) (k k' : Known) (t t' : Traffic)
+        → IsStream settings.stream → look.dgram ≡ settings.dgram → look.stream ≡ settings.stream → look.closed ≡ false
+        → ReadsBack text noted → EndsSo answers (Closed why) client addr look (configured settings ∷ []) noted k k' t t'
+        → Replays answers settings client why text t t' }
+{
+    dns_core::clients_are_sent_their_own();
+}

@@ -1,0 +1,89 @@
+//! A trace of the events that a driver notes.
+
+ghost use Rattle.std.specs.Prelude.{◌≡◌, ◌↔◌, ◌∷◌, ◌&&◌, [], true, IfOk};
+ghost use Rattle.dns_server.specs.Recorded.{IsTrace, ReadsBack, configured, is_said, recorded};
+
+use crate::in_range;
+use dns_name::OutOfMemory;
+use dns_servers::Recorder;
+use dns_service::{Event, EventKind};
+use dns_trace::{TraceSettings, TraceWriter, a_trace_reads_back};
+use std::alloc::Global;
+
+/// Writes settings and the events that a driver notes, one line each. It tells, unless an event that all clients hear named
+/// one, which its line doesn't say. Before the events noted contracts see the configurations of the settings.
+#[derive(Debug, Drop)]
+pub struct TraceRecorder {
+    writer: TraceWriter,
+    /// Whether the lines say all of their events.
+    said: bool,
+    ghost is_trace: { ∥ (said ≡ true → IsTrace writer) ∥₁ },
+}
+
+/// Whether the line of an event says all of it.
+fn is_said(event: &Event) -> bool
+    ensures { result ≡ is_said event.now }
+{
+    let wide = matches!(
+        event.kind,
+        EventKind::Reconfigure { .. } | EventKind::Shutdown
+    );
+    !wide || event.client == 0
+}
+
+/// Whether the lines say all of their events, with that of one event more.
+fn still_said(said: bool, event: &Event) -> bool
+    ensures { result ≡ (said && is_said event.now) }
+{
+    said && is_said(event)
+}
+
+impl TraceRecorder {
+    /// The lines of settings.
+    pub fn new(alloc: Global, settings: &TraceSettings) -> Result<TraceRecorder, OutOfMemory>
+        ensures tells { IfOk result (λ r. ⟦<TraceRecorder as Recorder>⟧.tells r) }
+        ensures noted { IfOk result (λ r. ⟦<TraceRecorder as Recorder>⟧.noted r ≡ configured settings.now ∷ []) }
+    {
+        in_range::settings(settings);
+        a_trace_reads_back();
+        match TraceWriter::new(alloc, settings) {
+            Ok(writer) => Ok(TraceRecorder { writer, said: true }),
+            Err(error) => Err(error),
+        }
+    }
+
+    /// Whether it tells.
+    pub fn tells(&self) -> bool
+        ensures { (result ≡ true) ↔ ⟦<TraceRecorder as Recorder>⟧.tells self.now }
+    {
+        self.said
+    }
+
+    /// The text.
+    pub fn finish(self) -> Vec<u8>
+        ensures { ⟦<TraceRecorder as Recorder>⟧.tells self → ReadsBack result.items (⟦<TraceRecorder as Recorder>⟧.noted self) }
+    {
+        a_trace_reads_back();
+        let TraceRecorder { writer, said: _ } = self;
+        writer.finish()
+    }
+}
+
+impl Recorder for TraceRecorder {
+    ghost tells = { λ r. r.said ≡ true };
+
+    ghost noted = { λ r. recorded r.writer };
+
+    fn note(&mut self, _alloc: Global, event: &Event) -> Result<(), OutOfMemory> {
+        in_range::event(event);
+        a_trace_reads_back();
+        let said = still_said(self.said, event);
+        match self.writer.note(event) {
+            Ok(()) => {
+                self.said = said;
+                Ok(())
+            }
+            Err(error) => Err(error),
+        }
+    }
+}
