@@ -4,9 +4,9 @@ ghost use Rattle.std.specs.Prelude.{◌≤◌};
 
 use crate::router_rows::{Planned, asked_at, next_transport};
 use dns_base::Message;
-use dns_forward::{Asking, AskingEvent, Forwarder, SendError, ask_all, led_to};
+use dns_forward::{Asking, AskingEvent, Forwarder, Forwarding, SendError, ask_all, led_to};
 use dns_name::{Name, Octets};
-use dns_route::SendRequest;
+use dns_route::{ClientTransportToSingleService, SendRequest};
 use dns_service::Polled;
 use rows_table::{Calls, Row, RowError, Steps};
 
@@ -19,6 +19,7 @@ impl Calls for ForwardRows {
             "asking" => asking(row),
             "ask_all" => asked_all(row),
             "forwarder" => forwarder(row),
+            "forwarding" => forwarding(row),
             _ => return Err(RowError::NoSuchCall),
         }
         Ok(())
@@ -61,32 +62,26 @@ fn next_terms(row: &mut Row<'_>) -> Terms
     }
 }
 
-/// The message of the next word.
-fn next_message(row: &mut Row<'_>) -> Result<Message, RowError> {
-    Message::from_octets(row.vector()).or(Err(RowError::OutOfForm))
-}
-
-/// What an asking says at steps.
-fn asking(row: &mut Row<'_>) {
-    match next_message(row) {
-        Ok(message) => asked(row, message),
-        Err(fault) => row.fail(fault),
-    }
-}
-
-/// The same of a message.
-fn asked(row: &mut Row<'_>, message: Message) {
+/// An asking of the message of the next word by the words behind it.
+fn next_asking(row: &mut Row<'_>) -> Result<Asking, RowError> {
+    let message = Message::from_octets(row.vector()).or(Err(RowError::OutOfForm))?;
     let terms = next_terms(row);
-    match Asking::new(
+    Asking::new(
         row.alloc(),
         message,
         terms.id,
         terms.tries,
         terms.timeout,
         terms.at,
-    ) {
+    )
+    .or(Err(RowError::OutOfMemory))
+}
+
+/// What an asking says at steps.
+fn asking(row: &mut Row<'_>) {
+    match next_asking(row) {
         Ok(asking) => row.take_steps(";", &mut Stepped { asking }),
-        Err(_) => row.fail(RowError::OutOfMemory),
+        Err(fault) => row.fail(fault),
     }
 }
 
@@ -126,25 +121,16 @@ fn arrived(row: &mut Row<'_>, asking: &mut Asking) {
 
 /// What events lead to.
 fn asked_all(row: &mut Row<'_>) {
-    match next_message(row) {
-        Ok(message) => all_of(row, message),
+    match next_asking(row) {
+        Ok(asking) => all_of(row, asking),
         Err(fault) => row.fail(fault),
     }
 }
 
-/// The same where a message is asked.
-fn all_of(row: &mut Row<'_>, message: Message) {
-    let terms = next_terms(row);
+/// The same of an asking.
+fn all_of(row: &mut Row<'_>, asking: Asking) {
     let events = next_events(row);
-    match ask_all(
-        row.alloc(),
-        message,
-        terms.id,
-        terms.tries,
-        terms.timeout,
-        terms.at,
-        events.as_slice(),
-    ) {
+    match ask_all(row.alloc(), asking, events.as_slice()) {
         Ok(outcomes) => led_said(row, led_to(outcomes)),
         Err(_) => row.fail(RowError::OutOfMemory),
     }
@@ -215,7 +201,46 @@ fn over_box(row: &mut Row<'_>, name: &str, k: u64, conn: Box<dyn SendRequest + S
 
 /// The same under a name.
 fn forwarded(row: &mut Row<'_>, name: Name, k: u64, conn: Box<dyn SendRequest + Send + Sync>) {
-    let mut forwarder = Forwarder::new(row.alloc());
-    row.keep(forwarder.add(row.alloc(), name, conn));
+    let alloc = row.alloc();
+    let mut forwarder = Forwarder::new(alloc);
+    row.keep(forwarder.add(alloc, name, conn));
     asked_at(row, &forwarder, k)
+}
+
+/// A single service over a transport.
+type Relay = ClientTransportToSingleService<Planned>;
+
+/// What a forwarder over transports of one type says at a turn: the next word has their count, and before each is the name that
+/// it is added under.
+fn forwarding(row: &mut Row<'_>) {
+    let mut forwarding = Forwarding::new(row.alloc());
+    let count: u8 = row.number();
+    for _ in 0..count {
+        add_next(row, &mut forwarding);
+    }
+    let k = row.number();
+    asked_at(row, &forwarding, k)
+}
+
+/// Adds the next transport under the name of the word before it.
+fn add_next(row: &mut Row<'_>, forwarding: &mut Forwarding<Relay>) {
+    let name = row.word();
+    match next_transport(row) {
+        Ok(conn) => add(
+            row,
+            forwarding,
+            name,
+            ClientTransportToSingleService::new(conn),
+        ),
+        Err(fault) => row.fail(fault),
+    }
+}
+
+/// Adds a service under a name.
+fn add(row: &mut Row<'_>, forwarding: &mut Forwarding<Relay>, name: &str, service: Relay) {
+    let octets = row.octets_of(name);
+    match Name::from_octets(row.copied(octets)) {
+        Ok(name) => row.keep(forwarding.add_service(row.alloc(), name, service)),
+        Err(_) => row.fail(RowError::OutOfForm),
+    }
 }

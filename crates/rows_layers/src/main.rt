@@ -1,6 +1,7 @@
 //! Rows over services, streams, layers and composed messages: the table on standard input is judged row by row.
 #![tactic(auto)]
 
+mod cache_rows;
 mod cookie_rows;
 mod error_rows;
 mod forward_rows;
@@ -18,7 +19,9 @@ mod stream_rows;
 mod target;
 mod words;
 mod wrap_rows;
+mod zone_rows;
 
+use cache_rows::CacheRows;
 use cookie_rows::CookieRows;
 use error_rows::ErrorRows;
 use forward_rows::ForwardRows;
@@ -33,14 +36,18 @@ use service_rows::ServiceRows;
 use std::io;
 use std::process::ExitCode;
 use stream_rows::StreamRows;
+use zone_rows::ZoneRows;
 
 fn main(rt: HostRuntime) -> io::Result<ExitCode> {
     run(
         &rt,
         &(
-            ((ServiceRows, ErrorRows), (ReplyRows, RouteRows)),
             (
-                ((RouterRows, ForwardRows), StreamRows),
+                (ServiceRows, ErrorRows),
+                (ReplyRows, (RouteRows, CacheRows)),
+            ),
+            (
+                ((RouterRows, ForwardRows), (ZoneRows, StreamRows)),
                 (
                     (MandatoryRows, (LayerRows, CookieRows)),
                     (OftenRows, RequestRows),

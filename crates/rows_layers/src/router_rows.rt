@@ -37,8 +37,8 @@ impl Calls for RouterRows {
 
 /// Gives the same error to any request.
 #[derive(Drop)]
-struct Refusing {
-    error: ServiceError,
+pub(crate) struct Refusing {
+    pub(crate) error: ServiceError,
 }
 
 impl SingleService for Refusing {
@@ -76,7 +76,7 @@ impl SendRequest for Planned {
 }
 
 /// The same message.
-fn copy(alloc: Global, message: &Message) -> Result<Message, OutOfMemory>
+pub(crate) fn copy(alloc: Global, message: &Message) -> Result<Message, OutOfMemory>
     ensures { IfOk result (λ m. m ≡ message.now) }
 {
     let octets = Vec::from_slice(alloc, message.as_slice())?;
@@ -131,7 +131,12 @@ pub(crate) fn asked_at<S: SingleService>(row: &mut Row<'_>, service: &S, k: u64)
 
 /// What a single service says at a turn.
 fn turn_said<S: SingleService>(row: &mut Row<'_>, service: &S, request: &Request<()>, k: u64) {
-    match service.turn(row.alloc(), request, k) {
+    answer_said(row, service.turn(row.alloc(), request, k))
+}
+
+/// What was answered at a turn.
+pub(crate) fn answer_said(row: &mut Row<'_>, answer: Result<Turned, OutOfMemory>) {
+    match answer {
         Ok(Polled::Ready(turned)) => turned_said(row, turned),
         Ok(Polled::Pending) => row.say("pending"),
         Err(_) => row.fail(RowError::OutOfMemory),

@@ -75,7 +75,7 @@ pub(crate) trait Says<T> {
 }
 
 /// Says it of a value that nothing else has.
-fn say<T: Drop, S: Says<T>>(row: &mut Row<'_>, what: &S, value: T) {
+pub(crate) fn say<T: Drop, S: Says<T>>(row: &mut Row<'_>, what: &S, value: T) {
     what.says(row, &value)
 }
 

@@ -1,0 +1,144 @@
+//! Rows of caches.
+
+ghost use Rattle.std.specs.Prelude.{◌≡◌, IfOk, Ok, nat_lt, if◌then◌else◌};
+ghost use Rattle.dns_service.specs.declared.service.Polled.TheVariants.{Pending, Ready};
+
+use crate::request_rows::request_from;
+use crate::router_rows::{Refusing, answer_said, copy};
+use crate::words::message;
+use dns_base::Message;
+use dns_cache::Cache;
+use dns_name::IpAddr;
+use dns_opt::MessageOpt;
+use dns_route::{ReplyMessage, SingleService, Turned};
+use dns_service::{OutOfMemory, Polled, Request, ServiceError};
+use rows_table::{Calls, Row, RowError, Steps};
+use std::alloc::Global;
+
+/// Caches.
+pub(crate) struct CacheRows;
+
+impl Calls for CacheRows {
+    fn answer(&self, call: &str, row: &mut Row<'_>) -> Result<(), RowError> {
+        match call {
+            "cache" => cache(row),
+            _ => return Err(RowError::NoSuchCall),
+        }
+        Ok(())
+    }
+}
+
+/// Is pending some times, and then gives the same reply.
+#[derive(Drop)]
+struct Replying {
+    waits: u64,
+    reply: ReplyMessage,
+}
+
+impl SingleService for Replying {
+    ghost answer = { λ s _ k. if nat_lt k s.waits then Pending else Ready (Ok s.reply) };
+
+    fn turn(&self, alloc: Global, _request: &Request<()>, k: u64) -> Result<Turned, OutOfMemory> {
+        if k < self.waits {
+            return Ok(Polled::Pending);
+        }
+        Ok(Polled::Ready(Ok(same_reply(alloc, &self.reply)?)))
+    }
+}
+
+/// The same reply.
+fn same_reply(alloc: Global, reply: &ReplyMessage) -> Result<ReplyMessage, OutOfMemory>
+    ensures { IfOk result (λ r. r ≡ reply.now) }
+{
+    let opt = match reply.opt() {
+        Some(record) => Some(record.for_slice().to_owned(alloc)?),
+        None => None,
+    };
+    Ok(ReplyMessage::of(copy(alloc, reply.message())?, opt))
+}
+
+/// The reply of the next words: how often its service is pending, and a message.
+fn next_reply(row: &mut Row<'_>) -> Result<Replying, RowError> {
+    let waits = row.number();
+    let reply = reply_of(row.alloc(), message(row)?)?;
+    Ok(Replying { waits, reply })
+}
+
+/// The reply of a message, whose OPT record is kept whole.
+fn reply_of(alloc: Global, message: Message) -> Result<ReplyMessage, OutOfMemory> {
+    let opt = match message.opt() {
+        Some(found) => Some(found.to_owned(alloc)?),
+        None => None,
+    };
+    Ok(ReplyMessage::of(message, opt))
+}
+
+/// What a cache says at steps; the next word is its capacity.
+fn cache(row: &mut Row<'_>) {
+    let capacity: usize = row.number();
+    if capacity == 0 || capacity > 65536 {
+        return row.fail(RowError::OutOfForm);
+    }
+    match Cache::new(row.alloc(), capacity) {
+        Ok(cache) => row.take_steps(";", &mut Stepped { cache }),
+        Err(_) => row.fail(RowError::OutOfMemory),
+    }
+}
+
+/// A cache that steps are taken with.
+#[derive(Drop)]
+struct Stepped {
+    cache: Cache,
+}
+
+impl Steps for Stepped {
+    fn take_step(&mut self, step: &str, row: &mut Row<'_>) {
+        match next_request(row) {
+            Ok(request) => taken_with(row, &mut self.cache, step, &request),
+            Err(fault) => row.fail(fault),
+        }
+    }
+}
+
+/// The step that is taken with a request.
+fn taken_with(row: &mut Row<'_>, cache: &mut Cache, step: &str, request: &Request<()>) {
+    match step {
+        "ask" => asked(row, cache, request),
+        "kept" => kept_said(row, cache, request),
+        _ => row.fail(RowError::NoSuchStep),
+    }
+}
+
+/// The request of the next words, behind its second.
+fn next_request(row: &mut Row<'_>) -> Result<Request<()>, RowError> {
+    let second = row.number();
+    request_from(row, IpAddr::V4([192, 0, 2, 1]), second)
+}
+
+/// What a request is answered out of the cache, where an entry is used; the service refuses.
+fn kept_said(row: &mut Row<'_>, cache: &mut Cache, request: &Request<()>) {
+    let service = Refusing {
+        error: ServiceError::Refused,
+    };
+    asked_over(row, cache, &service, request, 0)
+}
+
+/// What a request is answered at a turn, whose service gives a reply.
+fn asked(row: &mut Row<'_>, cache: &mut Cache, request: &Request<()>) {
+    let k = row.number();
+    match next_reply(row) {
+        Ok(service) => asked_over(row, cache, &service, request, k),
+        Err(fault) => row.fail(fault),
+    }
+}
+
+/// What a request is answered at a turn.
+fn asked_over<S: SingleService>(
+    row: &mut Row<'_>,
+    cache: &mut Cache,
+    service: &S,
+    request: &Request<()>,
+    k: u64,
+) {
+    answer_said(row, cache.ask(row.alloc(), service, request, k))
+}
