@@ -49,6 +49,16 @@ const ONE: LinkCase<'static> = LinkCase {
     calls: b"rwrc",
 };
 
+/// Without memory for the note of the request's turn, its reply is never written.
+const UNNOTED: LinkCase<'static> = LinkCase {
+    notes: 2,
+    end: ConnectionEnd::OutOfMemory,
+    events: b"OP",
+    written: b"",
+    calls: b"rc",
+    ..ONE
+};
+
 /// Connections to a service that refuses each request, by names.
 const CASES: &[(&'static str, Refused<LinkCase<'static>>)] = &[
     ("a_query_is_answered", Refused(ONE)),
@@ -139,18 +149,7 @@ const CASES: &[(&'static str, Refused<LinkCase<'static>>)] = &[
             ..ONE
         }),
     ),
-    // Without memory for the note of the request's turn, its reply is never written.
-    (
-        "what_is_not_noted_is_not_written",
-        Refused(LinkCase {
-            notes: 2,
-            end: ConnectionEnd::OutOfMemory,
-            events: b"OP",
-            written: b"",
-            calls: b"rc",
-            ..ONE
-        }),
-    ),
+    ("what_is_not_noted_is_not_written", Refused(UNNOTED)),
     // While the first of three frames is written, the server is reconfigured and shuts down, which is noted in this order; of the
     // two frames that wait then the first is written, and the second in part: its second write fails.
     (
@@ -182,39 +181,21 @@ const COUNTED: &[(&'static str, Counted<LinkCase<'static>>)] = &[
         Counted(
             LinkCase {
                 notes: 1,
-                end: ConnectionEnd::OutOfMemory,
                 events: b"O",
-                written: b"",
-                calls: b"rc",
-                ..ONE
+                ..UNNOTED
             },
             (0, 0),
         ),
     ),
-    (
-        "no_poll",
-        Counted(
-            LinkCase {
-                notes: 2,
-                end: ConnectionEnd::OutOfMemory,
-                events: b"OP",
-                written: b"",
-                calls: b"rc",
-                ..ONE
-            },
-            (1, 0),
-        ),
-    ),
+    ("no_poll", Counted(UNNOTED, (1, 0))),
     (
         "one_poll",
         Counted(
             LinkCase {
                 notes: 3,
-                end: ConnectionEnd::OutOfMemory,
                 events: b"OPT",
-                written: b"",
                 calls: b"rrc",
-                ..ONE
+                ..UNNOTED
             },
             (1, 1),
         ),

@@ -39,27 +39,36 @@ const ONE: SockCase<'static> = SockCase {
     calls: b"rw",
 };
 
+/// A query from each of two clients: the first exchange is polled between the two receives, and again after the second.
+const TWO: SockCase<'static> = SockCase {
+    ports: &[53, 54],
+    count: 2,
+    answered: &[53, 54],
+    events: &[
+        (b'D', 0, 0),
+        (b'T', 0, 0),
+        (b'D', 1, 0),
+        (b'T', 0, 0),
+        (b'T', 1, 0),
+        (b'T', 1, 0),
+    ],
+    calls: b"rwrw",
+    ..ONE
+};
+
+/// Without memory for a note of the query.
+const UNNOTED: SockCase<'static> = SockCase {
+    notes: 0,
+    end: DgramEnd::OutOfMemory,
+    answered: &[],
+    events: &[],
+    calls: b"r",
+    ..ONE
+};
+
 /// Datagrams to a service that refuses each request, by names.
 const CASES: &[(&'static str, Refused<SockCase<'static>>)] = &[
-    // Two clients: the first exchange is polled between the two receives, and again after the second.
-    (
-        "two_clients_are_answered",
-        Refused(SockCase {
-            ports: &[53, 54],
-            count: 2,
-            answered: &[53, 54],
-            events: &[
-                (b'D', 0, 0),
-                (b'T', 0, 0),
-                (b'D', 1, 0),
-                (b'T', 0, 0),
-                (b'T', 1, 0),
-                (b'T', 1, 0),
-            ],
-            calls: b"rwrw",
-            ..ONE
-        }),
-    ),
+    ("two_clients_are_answered", Refused(TWO)),
     // The first receive fails: nothing is noted, and nothing sent.
     (
         "the_first_receive_fails",
@@ -76,9 +85,7 @@ const CASES: &[(&'static str, Refused<SockCase<'static>>)] = &[
     (
         "the_first_send_fails",
         Refused(SockCase {
-            ports: &[53, 54],
             failed_sends: &[0],
-            count: 2,
             answered: &[54],
             events: &[
                 (b'D', 0, 0),
@@ -89,8 +96,7 @@ const CASES: &[(&'static str, Refused<SockCase<'static>>)] = &[
                 (b'T', 1, 0),
                 (b'T', 1, 0),
             ],
-            calls: b"rwrw",
-            ..ONE
+            ..TWO
         }),
     ),
     // After so many datagrams no more is received.
@@ -175,30 +181,14 @@ fn each_case_is_served(rt: HostRuntime) -> Result<(), &'static str> {
 
 /// With memory for so many notes: how often the service is called, and how often its future is polled.
 const COUNTED: &[(&'static str, Counted<SockCase<'static>>)] = &[
-    (
-        "no_call",
-        Counted(
-            SockCase {
-                notes: 0,
-                end: DgramEnd::OutOfMemory,
-                answered: &[],
-                events: &[],
-                calls: b"r",
-                ..ONE
-            },
-            (0, 0),
-        ),
-    ),
+    ("no_call", Counted(UNNOTED, (0, 0))),
     (
         "no_poll",
         Counted(
             SockCase {
                 notes: 1,
-                end: DgramEnd::OutOfMemory,
-                answered: &[],
                 events: &[(b'D', 0, 0)],
-                calls: b"r",
-                ..ONE
+                ..UNNOTED
             },
             (1, 0),
         ),
@@ -208,11 +198,8 @@ const COUNTED: &[(&'static str, Counted<SockCase<'static>>)] = &[
         Counted(
             SockCase {
                 notes: 2,
-                end: DgramEnd::OutOfMemory,
-                answered: &[],
                 events: &[(b'D', 0, 0), (b'T', 0, 0)],
-                calls: b"r",
-                ..ONE
+                ..UNNOTED
             },
             (1, 1),
         ),

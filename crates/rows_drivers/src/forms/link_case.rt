@@ -2,16 +2,14 @@
 
 ghost use Rattle.std.specs.Prelude.{◌≡◌, false};
 
-use crate::forms::cases::Case;
-use crate::forms::forgetful::Forgetful;
+use crate::forms::cases::{Case, Desk, Outside};
 use crate::forms::halting::Halting;
 use crate::forms::notes::{are, calls};
-use crate::forms::watched::Watched;
-use dns_book::{Admission, Book, BookSeat, BookState, Look};
+use dns_book::{Admission, Book, BookSeat, Look};
 use dns_drivers::{ConnectionEnd, serve_connection};
 use dns_name::{IpAddr, OutOfMemory, SocketAddr};
 use dns_outside::{MemoryClock, MemoryLink};
-use dns_service::{DgramConfig, Served, StreamConfig};
+use dns_service::Served;
 use std::alloc::Global;
 use std::sync::Wait;
 
@@ -48,105 +46,42 @@ pub(crate) struct LinkCase<'a> {
     pub(crate) calls: &'a [u8],
 }
 
-/// What a connection is served over: its link, which keeps its calls, a clock and a recorder.
-#[derive(Drop)]
-struct Outside {
-    link: Watched<MemoryLink>,
-    clock: MemoryClock,
-    journal: Forgetful,
-}
-
 impl LinkCase<'_> {
-    fn link(&self, alloc: Global) -> Result<Watched<MemoryLink>, OutOfMemory> {
+    fn link(&self, alloc: Global) -> Result<MemoryLink, OutOfMemory> {
         let octets = Vec::from_slice(alloc, self.octets)?;
         let reads = calls(alloc, self.failed_reads, self.reads_again)?;
         match calls(alloc, self.failed_writes, self.writes_again) {
-            Ok(writes) => {
-                let link = MemoryLink::new(octets, Vec::new(alloc), self.most, reads, writes);
-                Ok(Watched::new(alloc, link))
-            }
+            Ok(writes) => Ok(MemoryLink::new(octets, Vec::new(alloc), self.most, reads, writes)),
             Err(error) => Err(error),
         }
     }
 
-    fn outside(&self, alloc: Global) -> Result<Outside, OutOfMemory> {
-        let times = Vec::from_slice(alloc, self.times)?;
-        match self.link(alloc) {
-            Ok(link) => Ok(Outside {
-                link,
-                clock: MemoryClock::new(times),
-                journal: Forgetful::new(alloc, self.notes),
-            }),
-            Err(error) => Err(error),
-        }
-    }
-
-    /// Whether these events were noted, these calls made of the link, and these octets written on it.
-    fn is_shown(&self, outside: &Outside) -> bool {
-        are(outside.journal.events(), self.events)
-            && outside.link.calls() == self.calls
-            && outside.link.inner().written() == self.written
-    }
-
-    /// Whether the connection ended so, with its slot given back, and what it was served over shows what is wanted.
-    fn is_ended(&self, end: (ConnectionEnd, u64), outside: Outside) -> bool {
-        end == (self.end, 0) && self.is_shown(&outside)
-    }
-
-    /// Whether a connection is served so.
-    fn is_served_over<R: Wait, W: Served>(
+    /// Serves a connection that is admitted, where no shutdown is shown. How it ends, and how many slots are taken then.
+    fn serve_admitted<R: Wait, W: Served>(
         &self,
-        rt: &R,
-        alloc: Global,
-        service: &W,
-        mut outside: Outside,
-    ) -> bool
-        requires { W.can_call service.now }
-    {
-        let end = self.serve(rt, alloc, service, &mut outside);
-        self.is_ended(end, outside)
-    }
-
-    /// Serves a connection in a book of its own. How it ends, and how many slots are taken then.
-    fn serve<R: Wait, W: Served>(
-        &self,
-        rt: &R,
-        alloc: Global,
-        service: &W,
-        outside: &mut Outside,
+        desk: Desk<'_, R, W>,
+        look: &Look,
+        outside: &mut Outside<MemoryLink, MemoryClock>,
     ) -> (ConnectionEnd, u64)
-        requires { W.can_call service.now }
+        requires book { desk.seat.book ≡ desk.book.now }
+        requires can_call { W.can_call desk.service.now }
     {
-        let state = BookState::new(DgramConfig::new(), StreamConfig::new());
-        match Book::new(alloc, state) {
-            Ok((book, seat)) => self.serve_in(rt, alloc, &book, seat, service, outside),
-            Err(_) => (ConnectionEnd::OutOfMemory, 1),
+        if look.closed {
+            return (ConnectionEnd::OutOfMemory, 1);
         }
+        let Desk {
+            rt,
+            alloc,
+            book,
+            seat,
+            service,
+        } = desk;
+        let (mut seat, end) = self.serve(rt, alloc, book, seat, look, service, outside);
+        (end, book.look(rt, &mut seat).taken)
     }
 
-    /// The same in this book.
-    fn serve_in<R: Wait, W: Served>(
-        &self,
-        rt: &R,
-        alloc: Global,
-        book: &Book,
-        mut seat: BookSeat,
-        service: &W,
-        outside: &mut Outside,
-    ) -> (ConnectionEnd, u64)
-        requires book { seat.book ≡ book.now }
-        requires can_call { W.can_call service.now }
-    {
-        match book.admit(rt, &mut seat) {
-            Admission::Admitted(look) if !look.closed => self.serve_admitted(
-                rt, alloc, book, seat, &look, service, outside,
-            ),
-            _ => (ConnectionEnd::OutOfMemory, 1),
-        }
-    }
-
-    /// The same of a connection that is admitted.
-    fn serve_admitted<'a, R: Wait, W: Served>(
+    /// Serves it over its link.
+    fn serve<'a, R: Wait, W: Served>(
         &self,
         rt: &R,
         alloc: Global,
@@ -154,20 +89,21 @@ impl LinkCase<'_> {
         seat: BookSeat,
         look: &Look,
         service: &W,
-        outside: &'a mut Outside,
-    ) -> (ConnectionEnd, u64)
+        outside: &'a mut Outside<MemoryLink, MemoryClock>,
+    ) -> (BookSeat, ConnectionEnd)
         requires book { seat.book ≡ book.now }
         requires running { look.now.closed ≡ false }
         requires can_call { W.can_call service.now }
+        ensures { result.0.book ≡ seat.book }
     {
         let (seat, other) = self.seats(rt, book, seat);
         let mut link = Halting {
-            link: &mut outside.link,
+            link: &mut outside.watched,
             book,
             seat: other,
             halts: self.shut_at_waits,
         };
-        let served = serve_connection(
+        serve_connection(
             rt,
             alloc,
             book,
@@ -179,8 +115,7 @@ impl LinkCase<'_> {
             &mut link,
             &mut outside.clock,
             &mut outside.journal,
-        );
-        with_slots(rt, book, served)
+        )
     }
 
     /// Two seats in place of one, behind the shutdown where one is wanted before.
@@ -195,23 +130,41 @@ impl LinkCase<'_> {
     }
 }
 
-/// How a connection ended, and how many slots are taken then.
-fn with_slots<R: Wait>(
-    rt: &R,
-    book: &Book,
-    served: (BookSeat, ConnectionEnd),
-) -> (ConnectionEnd, u64)
-    requires { served.0.book ≡ book.now }
-{
-    let (mut seat, end) = served;
-    (end, book.look(rt, &mut seat).taken)
-}
-
 impl Case for LinkCase<'_> {
-    fn is_served<R: Wait, W: Served>(&self, rt: &R, alloc: Global, service: &W) -> bool {
-        match self.outside(alloc) {
-            Ok(outside) => self.is_served_over(rt, alloc, service, outside),
-            Err(_) => false,
+    type Outside = Outside<MemoryLink, MemoryClock>;
+
+    /// How the connection ends, and how many slots are taken then.
+    type End = (ConnectionEnd, u64);
+
+    fn outside(&self, alloc: Global) -> Result<Outside<MemoryLink, MemoryClock>, OutOfMemory> {
+        let times = Vec::from_slice(alloc, self.times)?;
+        let clock = MemoryClock::new(times);
+        match self.link(alloc) {
+            Ok(link) => Ok(Outside::new(alloc, link, clock, self.notes)),
+            Err(error) => Err(error),
         }
+    }
+
+    fn serve_at<R: Wait, W: Served>(
+        &self,
+        mut desk: Desk<'_, R, W>,
+        outside: &mut Outside<MemoryLink, MemoryClock>,
+    ) -> (ConnectionEnd, u64) {
+        match desk.book.admit(desk.rt, &mut desk.seat) {
+            Admission::Admitted(look) => self.serve_admitted(desk, &look, outside),
+            _ => (ConnectionEnd::OutOfMemory, 1),
+        }
+    }
+
+    /// The slot is given back, these events were noted, these calls made of the link, and these octets written on it.
+    fn is_ended(
+        &self,
+        end: (ConnectionEnd, u64),
+        outside: &Outside<MemoryLink, MemoryClock>,
+    ) -> bool {
+        end == (self.end, 0)
+            && are(outside.journal.events(), self.events)
+            && outside.watched.calls() == self.calls
+            && outside.watched.inner().written() == self.written
     }
 }

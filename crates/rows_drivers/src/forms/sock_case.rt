@@ -1,17 +1,12 @@
 //! What is served over a socket in memory, and what is wanted of it.
 
-ghost use Rattle.std.specs.Prelude.{◌≡◌};
-
-use crate::forms::cases::Case;
-use crate::forms::forgetful::Forgetful;
+use crate::forms::cases::{Case, Desk, Outside};
 use crate::forms::notes::{agree, calls};
 use crate::forms::standing::Standing;
-use crate::forms::watched::Watched;
-use dns_book::{Book, BookSeat, BookState};
 use dns_datagrams::{DgramEnd, serve_datagrams};
 use dns_name::{IpAddr, Octets, OutOfMemory, SocketAddr};
 use dns_outside::{Letter, MemoryClock, MemorySock};
-use dns_service::{DgramConfig, Served, StreamConfig};
+use dns_service::Served;
 use std::alloc::Global;
 use std::sync::Wait;
 
@@ -84,118 +79,58 @@ pub(crate) struct SockCase<'a> {
     pub(crate) calls: &'a [u8],
 }
 
-/// What datagrams are served over: a socket, which keeps its calls, a clock and a recorder.
-#[derive(Drop)]
-struct Outside {
-    sock: Watched<MemorySock>,
-    clock: Standing,
-    journal: Forgetful,
-}
-
 impl SockCase<'_> {
-    fn sock(&self, alloc: Global) -> Result<Watched<MemorySock>, OutOfMemory> {
+    fn sock(&self, alloc: Global) -> Result<MemorySock, OutOfMemory> {
         let letters = queries(alloc, self.ports)?;
         let receives = calls(alloc, self.failed_receives, self.receives_again)?;
         match calls(alloc, self.failed_sends, self.sends_again) {
-            Ok(sends) => {
-                let sock = MemorySock::new(alloc, letters, receives, sends);
-                Ok(Watched::new(alloc, sock))
-            }
+            Ok(sends) => Ok(MemorySock::new(alloc, letters, receives, sends)),
             Err(error) => Err(error),
         }
     }
+}
 
-    fn outside(&self, alloc: Global) -> Result<Outside, OutOfMemory> {
+impl Case for SockCase<'_> {
+    type Outside = Outside<MemorySock, Standing>;
+
+    type End = DgramEnd;
+
+    fn outside(&self, alloc: Global) -> Result<Outside<MemorySock, Standing>, OutOfMemory> {
         let times = Vec::from_slice(alloc, self.times)?;
+        let clock = Standing::new(MemoryClock::new(times), self.stands);
         match self.sock(alloc) {
-            Ok(sock) => Ok(Outside {
-                sock,
-                clock: Standing::new(MemoryClock::new(times), self.stands),
-                journal: Forgetful::new(alloc, self.notes),
-            }),
+            Ok(sock) => Ok(Outside::new(alloc, sock, clock, self.notes)),
             Err(error) => Err(error),
         }
     }
 
-    /// Whether these events were noted, these calls made of the socket, and these replies sent.
-    fn is_shown(&self, outside: &Outside) -> bool {
-        agree(outside.journal.events(), self.events)
-            && outside.sock.calls() == self.calls
-            && is_answered(outside.sock.inner().sent(), self.reply, self.answered)
-    }
-
-    /// Whether the loop ended so, and what it was served over shows what is wanted.
-    fn is_ended(&self, end: DgramEnd, outside: Outside) -> bool {
-        end == self.end && self.is_shown(&outside)
-    }
-
-    /// Whether datagrams are served so.
-    fn is_served_over<R: Wait, W: Served>(
+    fn serve_at<R: Wait, W: Served>(
         &self,
-        rt: &R,
-        alloc: Global,
-        service: &W,
-        mut outside: Outside,
-    ) -> bool
-        requires { W.can_call service.now }
-    {
-        let end = self.serve(rt, alloc, service, &mut outside);
-        self.is_ended(end, outside)
-    }
-
-    /// Serves datagrams in a book of its own.
-    fn serve<R: Wait, W: Served>(
-        &self,
-        rt: &R,
-        alloc: Global,
-        service: &W,
-        outside: &mut Outside,
-    ) -> DgramEnd
-        requires { W.can_call service.now }
-    {
-        let state = BookState::new(DgramConfig::new(), StreamConfig::new());
-        match Book::new(alloc, state) {
-            Ok((book, seat)) => self.serve_in(rt, alloc, &book, seat, service, outside),
-            Err(_) => DgramEnd::OutOfMemory,
-        }
-    }
-
-    /// The same in this book.
-    fn serve_in<R: Wait, W: Served>(
-        &self,
-        rt: &R,
-        alloc: Global,
-        book: &Book,
-        mut seat: BookSeat,
-        service: &W,
-        outside: &mut Outside,
-    ) -> DgramEnd
-        requires book { seat.book ≡ book.now }
-        requires can_call { W.can_call service.now }
-    {
+        mut desk: Desk<'_, R, W>,
+        outside: &mut Outside<MemorySock, Standing>,
+    ) -> DgramEnd {
         if self.is_shut {
-            book.shutdown(rt, &mut seat);
+            desk.book.shutdown(desk.rt, &mut desk.seat);
         }
         let (_seat, end) = serve_datagrams(
-            rt,
-            alloc,
-            book,
-            seat,
-            service,
-            &mut outside.sock,
+            desk.rt,
+            desk.alloc,
+            desk.book,
+            desk.seat,
+            desk.service,
+            &mut outside.watched,
             &mut outside.clock,
             &mut outside.journal,
             self.count,
         );
         end
     }
-}
 
-impl Case for SockCase<'_> {
-    fn is_served<R: Wait, W: Served>(&self, rt: &R, alloc: Global, service: &W) -> bool {
-        match self.outside(alloc) {
-            Ok(outside) => self.is_served_over(rt, alloc, service, outside),
-            Err(_) => false,
-        }
+    /// These events were noted, these calls made of the socket, and these replies sent.
+    fn is_ended(&self, end: DgramEnd, outside: &Outside<MemorySock, Standing>) -> bool {
+        end == self.end
+            && agree(outside.journal.events(), self.events)
+            && outside.watched.calls() == self.calls
+            && is_answered(outside.watched.inner().sent(), self.reply, self.answered)
     }
 }
