@@ -20,8 +20,13 @@ impl Calls for BookRows {
 fn replies(row: &mut Row<'_>) -> Result<(), RowError> {
     let stream = with_limit(row.number());
     let mut state = BookState::resume(DgramConfig::new(), stream, row.number());
+    replies_of(row, &mut state)
+}
+
+/// The replies of a book to the calls of the next word.
+fn replies_of(row: &mut Row<'_>, state: &mut BookState) -> Result<(), RowError> {
     for name in row.word().split(',') {
-        asked(row, &mut state, name)?;
+        asked(row, state, name)?;
     }
     Ok(())
 }

@@ -5,6 +5,7 @@ ghost use Rattle.dns_service.specs.declared.service.Polled.TheVariants.{Pending}
 
 use crate::event_rows::event_said;
 use crate::run_rows::said_of_run;
+use crate::texts::parted;
 use dns_core::{Settings, serve_events};
 use dns_name::{IpAddr, Octets, SocketAddr};
 use dns_outside::MemorySource;
@@ -32,13 +33,10 @@ impl Calls for FloodRows {
 /// How the run of the words ends over an empty script where a write fails, or none, whether anything was read, and what it
 /// writes.
 fn of_command(row: &mut Row<'_>) -> Result<(), RowError> {
-    let alloc = row.alloc();
     let failing = row.optional();
-    let mut words = Vec::new(alloc);
-    for word in row.all_words().split(' ') {
-        words.push(String::from_str(alloc, word)?)?;
-    }
-    let mut source = MemorySource::new(Vec::from_slice(alloc, b"#")?, Vec::new(alloc), 40);
+    let all = row.all_words();
+    let words = parted(row, all, ' ');
+    let mut source = MemorySource::new(row.copied(b"#"), Vec::new(row.alloc()), 40);
     said_of_run(row, &words, failing, &mut source)
 }
 
@@ -107,50 +105,62 @@ fn event(client: u64, kind: EventKind) -> Event {
     }
 }
 
-/// A connection is offered, and a query comes.
-fn begun(
-    alloc: Global,
-    events: &mut Vec<Event>,
-    client: u64,
-    frame: &[u8],
-) -> Result<(), RowError> {
+/// A connection is offered, and octets come.
+fn begin(row: &mut Row<'_>, events: &mut Vec<Event>, client: u64, octets: &[u8]) {
     let ip = IpAddr::V4([192, 0, 2, 1]);
     let addr = SocketAddr { ip, port: 53 };
-    events.push(event(client, EventKind::Offer { addr }))?;
-    let octets = Octets::from_slice(alloc, frame)?;
-    events.push(event(client, EventKind::Piece(octets)))?;
-    Ok(())
+    row.keep(events.push(event(client, EventKind::Offer { addr })));
+    let octets = Octets::from_vec(row.copied(octets));
+    row.keep(events.push(event(client, EventKind::Piece(octets))))
+}
+
+/// The first request of a connection is polled.
+fn turn(row: &mut Row<'_>, events: &mut Vec<Event>, client: u64) {
+    row.keep(events.push(event(client, EventKind::Turn { request: 0 })))
 }
 
 /// Two connections with these octets each, whose first requests are polled so many times in turn: how many outputs there are,
 /// how often the service was called, and how often its futures were polled.
 fn poll_count(row: &mut Row<'_>) -> Result<(), RowError> {
-    let alloc = row.alloc();
     let times: u32 = row.number();
     let frame = row.octets();
-    let mut events = Vec::new(alloc);
-    begun(alloc, &mut events, 1, frame)?;
-    begun(alloc, &mut events, 2, frame)?;
+    let mut events = Vec::new(row.alloc());
+    begin(row, &mut events, 1, frame);
+    begin(row, &mut events, 2, frame);
     for _ in 0..times {
-        events.push(event(1, EventKind::Turn { request: 0 }))?;
-        events.push(event(2, EventKind::Turn { request: 0 }))?;
+        turn_both(row, &mut events);
     }
     counted(row, &events)
 }
 
+/// The first request of each connection is polled.
+fn turn_both(row: &mut Row<'_>, events: &mut Vec<Event>) {
+    turn(row, events, 1);
+    turn(row, events, 2)
+}
+
 /// How many outputs there are, how often a service was called, and how often its futures were polled.
 fn counted(row: &mut Row<'_>, events: &[Event]) -> Result<(), RowError> {
-    let alloc = row.alloc();
     let calls = Cell::new(0);
     let polls = Cell::new(0);
     let service = Counting {
         calls: &calls,
         polls: &polls,
     };
-    let target = ScriptTarget::new(NotifyRules::new(alloc));
-    let outputs = serve_events(alloc, &Settings::new(alloc), service, target, events)?;
-    row.show(&outputs.len());
+    let count = output_count(row.alloc(), service, events)?;
+    row.show(&count);
     row.show(&calls.get());
     row.show(&polls.get());
     Ok(())
+}
+
+/// How many outputs there are of a service's answers.
+fn output_count(
+    alloc: Global,
+    service: Counting<'_>,
+    events: &[Event],
+) -> Result<usize, OutOfMemory> {
+    let target = ScriptTarget::new(NotifyRules::new(alloc));
+    let outputs = serve_events(alloc, &Settings::new(alloc), service, target, events)?;
+    Ok(outputs.len())
 }

@@ -29,28 +29,36 @@ impl Calls for LineRows {
 fn output(row: &mut Row<'_>) -> Result<Output, RowError> {
     let kind = row.word();
     let client = row.number();
-    Ok(match kind {
-        "datagram" => Output::Datagram {
-            client,
-            octets: octets(row)?,
-        },
-        "frame" => Output::Frame {
-            client,
-            octets: octets(row)?,
-        },
-        "closed" => Output::Closed {
-            client,
-            why: why(row.word())?,
-        },
-        _ => Output::TurnedAway {
-            client,
-            accepted: row.word() == "true",
-        },
-    })
+    match kind {
+        "datagram" => Ok(datagram(row, client)),
+        "frame" => Ok(frame(row, client)),
+        "closed" => closed(row, client),
+        _ => Ok(turned_away(row, client)),
+    }
 }
 
-fn octets(row: &mut Row<'_>) -> Result<Octets, RowError> {
-    Ok(Octets::from_slice(row.alloc(), row.octets())?)
+fn datagram(row: &mut Row<'_>, client: u64) -> Output {
+    let octets = octets(row);
+    Output::Datagram { client, octets }
+}
+
+fn frame(row: &mut Row<'_>, client: u64) -> Output {
+    let octets = octets(row);
+    Output::Frame { client, octets }
+}
+
+fn turned_away(row: &mut Row<'_>, client: u64) -> Output {
+    let accepted = row.word() == "true";
+    Output::TurnedAway { client, accepted }
+}
+
+fn closed(row: &mut Row<'_>, client: u64) -> Result<Output, RowError> {
+    let why = why(row.word())?;
+    Ok(Output::Closed { client, why })
+}
+
+fn octets(row: &mut Row<'_>) -> Octets {
+    Octets::from_vec(row.vector())
 }
 
 fn why(name: &str) -> Result<Why, RowError> {
@@ -81,8 +89,10 @@ fn reason(name: &str) -> Result<Reason, RowError> {
 }
 
 fn output_line(row: &mut Row<'_>) -> Result<(), RowError> {
-    let output = output(row)?;
-    say_line(row, &output);
+    match output(row) {
+        Ok(output) => say_line(row, &output),
+        Err(error) => return Err(error),
+    }
     Ok(())
 }
 
@@ -119,17 +129,23 @@ fn sink_said(row: &mut Row<'_>, ended: Result<(), WriteError>, sink: &MemorySink
 }
 
 fn written_output(row: &mut Row<'_>) -> Result<(), RowError> {
-    let outputs = [output(row)?];
-    let mut sink = empty_sink(row.alloc());
-    let ended = write_outputs(row.alloc(), &mut sink, &outputs);
-    sink_said(row, ended, &sink);
+    match output(row) {
+        Ok(output) => outputs_written(row, &[output]),
+        Err(error) => return Err(error),
+    }
     Ok(())
 }
 
-fn written_refusal(row: &mut Row<'_>) -> Result<(), RowError> {
+fn outputs_written(row: &mut Row<'_>, outputs: &[Output]) {
     let mut sink = empty_sink(row.alloc());
+    let ended = write_outputs(row.alloc(), &mut sink, outputs);
+    sink_said(row, ended, &sink)
+}
+
+fn written_refusal(row: &mut Row<'_>) -> Result<(), RowError> {
     let number = row.number();
     let reason = reason(row.word())?;
+    let mut sink = empty_sink(row.alloc());
     let ended = write_refusal(row.alloc(), &mut sink, number, reason);
     sink_said(row, ended, &sink);
     Ok(())
@@ -137,16 +153,20 @@ fn written_refusal(row: &mut Row<'_>) -> Result<(), RowError> {
 
 /// The exit status.
 fn number(row: &mut Row<'_>) -> Result<(), RowError> {
-    let status = match row.word() {
-        "Done" => Status::Done,
-        "Usage" => Status::Usage,
-        "Refused" => Status::Refused,
-        "ReadFault" => Status::ReadFault,
-        "WriteFault" => Status::WriteFault,
-        "OutOfMemory" => Status::OutOfMemory,
-        "TooLong" => Status::TooLong,
-        _ => return Err(RowError::OutOfForm),
-    };
+    let status = status(row.word())?;
     row.show(&status.number());
     Ok(())
+}
+
+fn status(name: &str) -> Result<Status, RowError> {
+    match name {
+        "Done" => Ok(Status::Done),
+        "Usage" => Ok(Status::Usage),
+        "Refused" => Ok(Status::Refused),
+        "ReadFault" => Ok(Status::ReadFault),
+        "WriteFault" => Ok(Status::WriteFault),
+        "OutOfMemory" => Ok(Status::OutOfMemory),
+        "TooLong" => Ok(Status::TooLong),
+        _ => Err(RowError::OutOfForm),
+    }
 }

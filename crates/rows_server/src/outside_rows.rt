@@ -17,8 +17,9 @@ impl Calls for OutsideRows {
             "writing" => writing(row),
             "memory_source" => memory_source(row),
             "memory_sink" => memory_sink(row),
-            _ => of_steady(call, row),
+            _ => return of_steady(call, row),
         }
+        Ok(())
     }
 }
 
@@ -27,42 +28,46 @@ fn of_steady(call: &str, row: &mut Row<'_>) -> Result<(), RowError> {
     match call {
         "steady_source" => steady_source(row),
         "steady_sink" => steady_sink(row),
-        _ => Err(RowError::NoSuchCall),
+        _ => return Err(RowError::NoSuchCall),
     }
+    Ok(())
 }
 
 /// What three reads of two octets give of a slice.
-fn reading(row: &mut Row<'_>) -> Result<(), RowError> {
+fn reading(row: &mut Row<'_>) {
     let octets = row.octets();
     let mut source = Reading::new(octets);
     for _ in 0..3 {
         one_read(row, &mut source);
     }
-    Ok(())
 }
 
 /// What one read of two octets gives.
 fn one_read<S: Source>(row: &mut Row<'_>, source: &mut S) {
     let mut buf = [0u8; 2];
     match source.read(&mut buf) {
-        SourceRead::Got(count) => match buf.as_slice().split_at_checked(count) {
-            Some((got, _)) => row.hexadecimal(got),
-            None => row.fail(RowError::OutOfForm),
-        },
+        SourceRead::Got(count) => begin_said(row, &buf, count),
         SourceRead::End => row.say("End"),
         SourceRead::Failed => row.say("Failed"),
     }
 }
 
+/// So many octets of a buffer.
+fn begin_said(row: &mut Row<'_>, buf: &[u8], count: usize) {
+    match buf.get(..count) {
+        Some(got) => row.hexadecimal(got),
+        None => row.fail(RowError::OutOfForm),
+    }
+}
+
 /// A piece is written by one call and another one whole: what the first call takes, and what stands in the vector.
-fn writing(row: &mut Row<'_>) -> Result<(), RowError> {
+fn writing(row: &mut Row<'_>) {
     let first = row.octets();
     let second = row.octets();
     let mut sink = Writing::new(Vec::new(row.alloc()));
     row.debug(&sink.write(first));
     row.debug(&write_all(&mut sink, second));
-    row.hexadecimal(&sink.into_inner());
-    Ok(())
+    row.hexadecimal(&sink.into_inner())
 }
 
 /// Says all that is left of a source, or why it isn't read.
@@ -78,14 +83,21 @@ pub(crate) fn failing(alloc: Global, number: Option<u64>) -> Result<Vec<u64>, Ro
     Ok(number.into_iter().collect(alloc)?)
 }
 
+/// The numbers of the calls that fail: the one of the next word.
+fn next_failing(row: &mut Row<'_>) -> Vec<u64> {
+    let mut numbers = Vec::new(row.alloc());
+    let number = row.number();
+    row.keep(numbers.push(number));
+    numbers
+}
+
 /// A source of which one call fails and which gives so many octets a call is read whole twice: what the first gives, what
 /// is left then, and what the second gives.
-fn memory_source(row: &mut Row<'_>) -> Result<(), RowError> {
-    let failing = failing(row.alloc(), Some(row.number()))?;
+fn memory_source(row: &mut Row<'_>) {
+    let failing = next_failing(row);
     let most = row.number();
     let source = MemorySource::new(row.vector(), failing, most);
-    read_twice(row, source);
-    Ok(())
+    read_twice(row, source)
 }
 
 /// The same of a source.
@@ -104,22 +116,20 @@ fn say_written(row: &mut Row<'_>, sink: &mut MemorySink) {
 }
 
 /// Two pieces are written whole to a sink of which one call fails and which takes so many octets a call.
-fn memory_sink(row: &mut Row<'_>) -> Result<(), RowError> {
-    let failing = failing(row.alloc(), Some(row.number()))?;
+fn memory_sink(row: &mut Row<'_>) {
+    let failing = next_failing(row);
     let mut sink = MemorySink::new(Vec::new(row.alloc()), failing, row.number());
     say_written(row, &mut sink);
-    say_written(row, &mut sink);
-    Ok(())
+    say_written(row, &mut sink)
 }
 
-fn steady_source(row: &mut Row<'_>) -> Result<(), RowError> {
+fn steady_source(row: &mut Row<'_>) {
     let mut source = SteadySource::new(row.vector());
     say_whole(row, &mut source);
     row.hexadecimal(source.left());
-    Ok(())
 }
 
-fn steady_sink(row: &mut Row<'_>) -> Result<(), RowError> {
+fn steady_sink(row: &mut Row<'_>) {
     let octets = row.octets();
     let mut sink = SteadySink::new(Vec::new(row.alloc()));
     row.debug(&write_all(&mut sink, octets));
@@ -127,5 +137,4 @@ fn steady_sink(row: &mut Row<'_>) -> Result<(), RowError> {
         Some(octets) => row.hexadecimal(octets),
         None => row.say("lost"),
     }
-    Ok(())
 }

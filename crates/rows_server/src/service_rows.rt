@@ -5,7 +5,7 @@ use dns_core::{Notifiable, PolledRequest, VerdictFuture};
 use dns_name::{Class, IpAddr, Name, Rcode, SocketAddr};
 use dns_server::{
     NotifyRules, Rule, Rules, ScriptAnswer, ScriptAnswers, ScriptFuture, ScriptReply,
-    ScriptService, ScriptTarget,
+    ScriptService, ScriptStream, ScriptTarget,
 };
 use dns_service::{
     CallResult, OutOfMemory, Polled, ReplyFuture, ReplyStream, Request, Service, ServiceResult,
@@ -37,20 +37,24 @@ pub(crate) fn rules(alloc: Global, rcode: u8) -> Result<Rules, RowError> {
         ScriptAnswer::Pend,
         ScriptAnswer::Reply(ScriptReply::Rcode(rcode)),
     ];
-    let answers = ScriptAnswers::from_slice(alloc, answers.as_slice())?;
-    one_rule(
-        alloc,
-        Rule {
-            name: None,
-            answers,
-        },
-    )
+    match ScriptAnswers::from_slice(alloc, answers.as_slice()) {
+        Ok(answers) => one_rule(
+            alloc,
+            Rule {
+                name: None,
+                answers,
+            },
+        ),
+        Err(OutOfMemory) => Err(RowError::OutOfMemory),
+    }
 }
 
 fn one_rule(alloc: Global, rule: Rule) -> Result<Rules, RowError> {
-    let mut rules = Rules::from_vec(Vec::new(alloc));
-    rules.push(rule)?;
-    Ok(rules)
+    let mut rules = Rules::new(alloc);
+    match rules.push(rule) {
+        Ok(()) => Ok(rules),
+        Err(OutOfMemory) => Err(RowError::OutOfMemory),
+    }
 }
 
 /// A service of one rule, with the response code of the next word.
@@ -58,13 +62,23 @@ fn service(row: &mut Row<'_>) -> Result<ScriptService, RowError> {
     Ok(ScriptService::new(rules(row.alloc(), row.number())?))
 }
 
-/// A request in a datagram, with this message.
+/// A request in a datagram, with these octets.
 fn request(alloc: Global, octets: Vec<u8>) -> Result<Request<()>, RowError> {
-    let message = Message::from_octets(octets).or(Err(RowError::OutOfForm))?;
+    match Message::from_octets(octets) {
+        Ok(message) => asked(alloc, message),
+        Err(_) => Err(RowError::OutOfForm),
+    }
+}
+
+/// A request in a datagram, with this message.
+fn asked(alloc: Global, message: Message) -> Result<Request<()>, RowError> {
     let transport = TransportSpecificContext::Udp(UdpTransportContext::new(None));
     let ip = IpAddr::V4([192, 0, 2, 1]);
     let sender = SocketAddr { ip, port: 5353 };
-    Ok(Request::new(alloc, sender, 5, 100, message, transport, ())?)
+    match Request::new(alloc, sender, 5, 100, message, transport, ()) {
+        Ok(request) => Ok(request),
+        Err(_) => Err(RowError::OutOfMemory),
+    }
 }
 
 /// What the stream of the service of one rule gives to a request at three polls.
@@ -80,10 +94,19 @@ pub(crate) fn three_answers(
     service: &ScriptService,
     octets: Vec<u8>,
 ) -> Result<(), RowError> {
-    let mut future = called(row.alloc(), service, octets)?;
-    match future.poll(row.alloc())? {
-        Polled::Ready(mut stream) => three_polls(row, &mut stream),
-        Polled::Pending => row.fail(RowError::Missing),
+    match called(row.alloc(), service, octets) {
+        Ok(future) => stream_said(row, future),
+        Err(error) => Err(error),
+    }
+}
+
+/// What the stream of a future gives at three polls.
+fn stream_said(row: &mut Row<'_>, future: ScriptFuture) -> Result<(), RowError> {
+    let mut future = future;
+    match future.poll(row.alloc()) {
+        Ok(Polled::Ready(stream)) => three_polls(row, stream),
+        Ok(Polled::Pending) => row.fail(RowError::Missing),
+        Err(OutOfMemory) => return Err(RowError::OutOfMemory),
     }
     Ok(())
 }
@@ -94,22 +117,46 @@ fn called(
     service: &ScriptService,
     octets: Vec<u8>,
 ) -> Result<ScriptFuture, RowError> {
-    let mut request = request(alloc, octets)?;
-    Ok(service.call(alloc, &mut request)?)
+    match request(alloc, octets) {
+        Ok(request) => called_with(alloc, service, request),
+        Err(error) => Err(error),
+    }
+}
+
+fn called_with(
+    alloc: Global,
+    service: &ScriptService,
+    request: Request<()>,
+) -> Result<ScriptFuture, RowError> {
+    let mut request = request;
+    match service.call(alloc, &mut request) {
+        Ok(future) => Ok(future),
+        Err(OutOfMemory) => Err(RowError::OutOfMemory),
+    }
 }
 
 /// What the same request gives at three polls, as a client's core keeps it.
 fn polled(row: &mut Row<'_>) -> Result<(), RowError> {
     let service = service(row)?;
     let octets = row.vector();
-    let mut polled = PolledRequest::Future(called(row.alloc(), &service, octets)?);
+    match called(row.alloc(), &service, octets) {
+        Ok(future) => {
+            kept_polls(row, PolledRequest::Future(future));
+            Ok(())
+        }
+        Err(error) => Err(error),
+    }
+}
+
+fn kept_polls(row: &mut Row<'_>, polled: PolledRequest<ScriptFuture, ScriptStream>) {
+    let mut polled = polled;
     for _ in 0..3 {
         poll_said(row, polled.poll_next(row.alloc()));
     }
-    Ok(())
 }
 
-fn three_polls<S: ReplyStream>(row: &mut Row<'_>, stream: &mut S) {
+fn three_polls(row: &mut Row<'_>, stream: ScriptStream) {
+    let mut stream = stream;
     for _ in 0..3 {
         poll_said(row, stream.poll_next(row.alloc()));
     }
@@ -163,11 +210,23 @@ fn of_arc(row: &mut Row<'_>) -> Result<(), RowError> {
 /// The verdict on a change of the root zone.
 fn verdict<N: Notifiable>(row: &mut Row<'_>, target: &N) -> Result<(), RowError> {
     let root = Name::root(row.alloc())?;
+    verdict_on(row, target, &root)
+}
+
+fn verdict_on<N: Notifiable>(row: &mut Row<'_>, target: &N, apex: &Name) -> Result<(), RowError> {
     let source = IpAddr::V4([192, 0, 2, 1]);
-    let mut verdict = target.notify_zone_changed(row.alloc(), Class::IN, &root, None, source)?;
-    match verdict.poll(row.alloc())? {
-        Polled::Ready(verdict) => row.debug(&verdict),
-        Polled::Pending => row.say("pending"),
+    match target.notify_zone_changed(row.alloc(), Class::IN, apex, None, source) {
+        Ok(future) => verdict_said(row, future),
+        Err(OutOfMemory) => Err(RowError::OutOfMemory),
+    }
+}
+
+fn verdict_said<F: VerdictFuture>(row: &mut Row<'_>, future: F) -> Result<(), RowError> {
+    let mut future = future;
+    match future.poll(row.alloc()) {
+        Ok(Polled::Ready(verdict)) => row.debug(&verdict),
+        Ok(Polled::Pending) => row.say("pending"),
+        Err(OutOfMemory) => return Err(RowError::OutOfMemory),
     }
     Ok(())
 }

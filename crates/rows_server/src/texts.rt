@@ -1,6 +1,6 @@
 //! Lines within a row: `;` stands for LF, `^` for CR and `_` for a space.
 
-use rows_table::Row;
+use rows_table::{Row, RowError};
 
 /// The octets that all words which are left stand for.
 pub(crate) fn next_text(row: &mut Row<'_>) -> Vec<u8> {
@@ -46,4 +46,21 @@ pub(crate) fn say_in_brackets(row: &mut Row<'_>, octets: &[u8]) {
     row.close("(");
     close_text(row, octets);
     row.close(")");
+}
+
+/// The words of a command line, which this character parts.
+pub(crate) fn parted(row: &mut Row<'_>, all: &str, parted: char) -> Vec<String> {
+    let mut words = Vec::new(row.alloc());
+    for word in all.split(parted) {
+        keep_word(row, &mut words, word);
+    }
+    words
+}
+
+/// Puts a word behind the others.
+pub(crate) fn keep_word(row: &mut Row<'_>, words: &mut Vec<String>, word: &str) {
+    match String::from_str(row.alloc(), word) {
+        Ok(word) => row.keep(words.push(word)),
+        Err(_) => row.fail(RowError::OutOfMemory),
+    }
 }

@@ -21,14 +21,24 @@ impl Calls for TraceRows {
 /// The text that is written of what a text says, or its first bad line and the reason.
 fn trace(row: &mut Row<'_>) -> Result<(), RowError> {
     let text = next_text(row);
-    match read_trace(row.alloc(), &text) {
-        Ok((settings, events)) => {
-            let written = written(row.alloc(), &settings, &events)?;
-            say_text(row, &written);
-            Ok(())
-        }
+    trace_of(row, &text)
+}
+
+fn trace_of(row: &mut Row<'_>, text: &[u8]) -> Result<(), RowError> {
+    match read_trace(row.alloc(), text) {
+        Ok((settings, events)) => said_again(row, &settings, &events),
         Err(error) => refused(row, error),
     }
+}
+
+fn said_again(
+    row: &mut Row<'_>,
+    settings: &TraceSettings,
+    events: &[Event],
+) -> Result<(), RowError> {
+    let text = written(row.alloc(), settings, events)?;
+    say_text(row, &text);
+    Ok(())
 }
 
 /// The text of settings and events.
@@ -42,9 +52,13 @@ fn written(alloc: Global, settings: &TraceSettings, events: &[Event]) -> Result<
 
 /// The first bad line and the reason.
 fn refused(row: &mut Row<'_>, error: TraceError) -> Result<(), RowError> {
-    if error == TraceError::OutOfMemory {
-        return Err(RowError::OutOfMemory);
+    match error {
+        TraceError::Line { line, reason } => {
+            row.say("refused");
+            row.show(&line);
+            row.debug(&reason);
+            Ok(())
+        }
+        TraceError::OutOfMemory => Err(RowError::OutOfMemory),
     }
-    row.debug(&error);
-    Ok(())
 }

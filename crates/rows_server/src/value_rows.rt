@@ -26,9 +26,9 @@ impl Calls for ValueRows {
 fn of_line(row: &mut Row<'_>, call: &str, text: &[u8]) -> Result<(), RowError> {
     match call {
         "split_line" => line_and_rest(row, text),
-        "says_nothing" => skipped(row, text)?,
-        "words" => words_of(row, text)?,
-        _ => parts_of(row, text)?,
+        "says_nothing" => return skipped(row, text),
+        "words" => return words_of(row, text),
+        _ => return parts_of(row, text),
     }
     Ok(())
 }

@@ -4,13 +4,14 @@ ghost use Rattle.std.specs.Prelude.{◌≡◌};
 ghost use Rattle.std.specs.Arc.{arc_value};
 
 use crate::holding::Holding;
-use crate::links::{Marking, Seen, SeenLink, links_of, marks, shows};
-use crate::places::book_of;
+use crate::links::{Marking, Seen, SeenLink, show};
+use crate::places::{accept_of, book_of};
 use crate::servers::{ANSWER, FRAME, layered};
+use crate::trials::ended;
 use crate::watched::WatchedAccept;
 use dns_book::{Book, BookSeat};
 use dns_name::{OptRcode, OutOfMemory};
-use dns_outside::{ListedCalls, MemoryAccept, MemoryClock, MemorySpawner, Spawner};
+use dns_outside::{MemoryAccept, MemoryClock, MemorySpawner, Spawner};
 use dns_servers::{AcceptEnd, ConnectionWork, Silent, serve_accepts};
 use dns_service::{Plainly, Served};
 use std::alloc::Global;
@@ -26,170 +27,326 @@ const QUERY: &[u8] =
 const REPLY: &[u8] =
     b"\x00\x1c\x00\x01\x81\x00\x00\x01\x00\x00\x00\x00\x00\x01\x00\x00\x01\x00\x01\x00\x00\x29\x00\x00\x00\x00\x00\x00\x00\x00";
 
+/// What is written on a link that gets no reply.
+const NOTHING: &[u8] = b"";
+
 /// What links come from, which keeps its calls.
 type WatchedLinks<R> = WatchedAccept<MemoryAccept<SeenLink<R>>>;
 
-/// Accepts links, then lets polls that are held go on, and joins all work. How that ended, and how many slots are taken then.
-fn accept_in<
+/// What a loop of accepts is given, and what is wanted of it.
+#[derive(Clone, Copy)]
+struct AcceptCase<'a> {
+    /// A link comes for each of these queries.
+    queries: &'a [&'a [u8]],
+    /// The accepts that fail, and those that answer Again.
+    failing: &'a [u64],
+    again: &'a [u64],
+    count: u64,
+    /// Whether the book is shut down before.
+    is_shut: bool,
+    end: AcceptEnd,
+    /// The calls of the accept object, by their letters.
+    calls: &'a [u8],
+    /// The octets written on each link, and how often the hook is handed it; and how often each is closed.
+    shown: &'a [(&'a [u8], u64)],
+    closed: u64,
+}
+
+impl AcceptCase<'_> {
+    /// What links come from, with a link for each query.
+    fn links<R: Wait + Copy + Drop>(
+        &self,
+        rt: R,
+        alloc: Global,
+        seen: &mut Vec<Arc<Seen>>,
+    ) -> Result<WatchedLinks<R>, OutOfMemory> {
+        let calls = Vec::new(alloc);
+        match accept_of(rt, alloc, self.queries, self.failing, self.again, seen) {
+            Ok(inner) => Ok(WatchedAccept { inner, calls }),
+            Err(error) => Err(error),
+        }
+    }
+
+    /// Whether the loop ended so, with no slot taken and these calls of the accept object.
+    fn is_ended<A>(&self, end: (AcceptEnd, u64), accept: &WatchedAccept<A>) -> bool {
+        end == (self.end, 0) && accept.calls.as_slice() == self.calls
+    }
+}
+
+/// A case, and the service whose polls the flag lets go on.
+#[derive(Drop)]
+struct Accepting<'a, R, W> {
+    rt: &'a R,
+    alloc: Global,
+    case: &'a AcceptCase<'a>,
+    service: &'a Arc<W>,
+    flag: &'a AtomicBool,
+}
+
+impl<'a, R, W> Accepting<'a, R, W> {
+    fn new(
+        rt: &'a R,
+        alloc: Global,
+        case: &'a AcceptCase<'a>,
+        service: &'a Arc<W>,
+        flag: &'a AtomicBool,
+    ) -> Accepting<'a, R, W>
+        ensures { result.service.now ≡ service.now }
+    {
+        Accepting {
+            rt,
+            alloc,
+            case,
+            service,
+            flag,
+        }
+    }
+}
+
+impl<
     R: Threads + Wait + Copy + Send + Sync + Drop + 'static,
     W: Served + Send + Sync + 'static,
->(
-    rt: &R,
-    alloc: Global,
-    book: &Arc<Book>,
-    seat: BookSeat,
-    service: &Arc<W>,
-    flag: &AtomicBool,
-    accept: &mut WatchedLinks<R>,
-    count: u64,
-) -> (AcceptEnd, u64)
+> Accepting<'_, R, W>
 where
     W::Future: Send,
     W::Stream: Send,
-    requires book { seat.book ≡ arc_value book.now }
-    requires can_call { W.can_call (arc_value service.now) }
 {
-    let clock = MemoryClock::new(Vec::new(alloc));
-    let mut spawner: MemorySpawner<ConnectionWork<SeenLink<R>, MemoryClock, Silent, W>> =
-        MemorySpawner::new(alloc, Vec::new(alloc));
-    let (mut seat, end) = serve_accepts(
-        rt,
-        alloc,
-        book,
-        seat,
-        service,
-        accept,
-        &clock,
-        &mut spawner,
-        &Marking,
-        count,
-    );
-    flag.store(true, Ordering::SeqCst);
-    spawner.join_all(rt);
-    (end, book.look(rt, &mut seat).taken)
+    /// How the loop ends, and the seat that it gives back. Polls that are held go on then, and all work is joined.
+    fn accept<P: Spawner<ConnectionWork<SeenLink<R>, MemoryClock, Silent, W>>>(
+        &self,
+        book: &Arc<Book>,
+        seat: BookSeat,
+        accept: &mut WatchedLinks<R>,
+        clock: &MemoryClock,
+        spawner: &mut P,
+    ) -> (BookSeat, AcceptEnd)
+        requires book { seat.book ≡ arc_value book.now }
+        requires can_call { W.can_call (arc_value self.now.service.now) }
+        ensures { result.0.book ≡ seat.book }
+    {
+        let (rt, alloc, service, count) = (self.rt, self.alloc, self.service, self.case.count);
+        let served = serve_accepts(
+            rt, alloc, book, seat, service, accept, clock, spawner, &Marking, count,
+        );
+        self.flag.store(true, Ordering::SeqCst);
+        spawner.join_all(rt);
+        served
+    }
+
+    /// The same by a spawner in memory.
+    fn accept_by(
+        &self,
+        book: &Arc<Book>,
+        seat: BookSeat,
+        accept: &mut WatchedLinks<R>,
+        clock: &MemoryClock,
+    ) -> (BookSeat, AcceptEnd)
+        requires book { seat.book ≡ arc_value book.now }
+        requires can_call { W.can_call (arc_value self.now.service.now) }
+        ensures { result.0.book ≡ seat.book }
+    {
+        let mut spawner = MemorySpawner::new(self.alloc, Vec::new(self.alloc));
+        self.accept(book, seat, accept, clock, &mut spawner)
+    }
+
+    /// The same by a clock in memory.
+    fn accept_in(
+        &self,
+        book: &Arc<Book>,
+        seat: BookSeat,
+        accept: &mut WatchedLinks<R>,
+    ) -> (BookSeat, AcceptEnd)
+        requires book { seat.book ≡ arc_value book.now }
+        requires can_call { W.can_call (arc_value self.now.service.now) }
+        ensures { result.0.book ≡ seat.book }
+    {
+        let clock = MemoryClock::new(Vec::new(self.alloc));
+        self.accept_by(book, seat, accept, &clock)
+    }
+
+    /// How the loop ends in a book, which may be shut down before, and how many slots are taken then.
+    fn end_in(
+        &self,
+        book: &Arc<Book>,
+        mut seat: BookSeat,
+        accept: &mut WatchedLinks<R>,
+    ) -> (AcceptEnd, u64)
+        requires book { seat.book ≡ arc_value book.now }
+        requires can_call { W.can_call (arc_value self.now.service.now) }
+    {
+        if self.case.is_shut {
+            book.shutdown(self.rt, &mut seat);
+        }
+        let (mut seat, end) = self.accept_in(book, seat, accept);
+        (end, book.look(self.rt, &mut seat).taken)
+    }
+
+    /// The same in a book with two slots.
+    fn end(&self, accept: &mut WatchedLinks<R>) -> (AcceptEnd, u64)
+        requires { W.can_call (arc_value self.now.service.now) }
+    {
+        match book_of(self.alloc, 2) {
+            Ok((book, seat)) => self.end_in(&book, seat, accept),
+            Err(_) => (AcceptEnd::OutOfMemory, 1),
+        }
+    }
+
+    /// Whether the loop over this accept object ends as is wanted.
+    fn ends(&self, mut accept: WatchedLinks<R>) -> bool
+        requires { W.can_call (arc_value self.now.service.now) }
+    {
+        let end = self.end(&mut accept);
+        self.case.is_ended(end, &accept)
+    }
+
+    /// The same over an accept object of its own.
+    fn ends_over(&self, seen: &mut Vec<Arc<Seen>>) -> bool
+        requires { W.can_call (arc_value self.now.service.now) }
+    {
+        match self.case.links(*self.rt, self.alloc, seen) {
+            Ok(accept) => self.ends(accept),
+            Err(_) => false,
+        }
+    }
+
+    /// Whether the loop ends as is wanted, and the links show what is wanted.
+    fn holds(&self) -> bool
+        requires { W.can_call (arc_value self.now.service.now) }
+    {
+        let mut seen = Vec::new(self.alloc);
+        self.ends_over(&mut seen) && show(self.rt, &seen, self.case.shown, self.case.closed)
+    }
 }
 
-/// Accepts so many links in a book with two slots, which may be shut down before.
-fn accept_beside<
+/// Whether a case is served as is wanted by this service.
+fn is_served<
     R: Threads + Wait + Copy + Send + Sync + Drop + 'static,
     W: Served + Send + Sync + 'static,
->(
-    rt: &R,
-    alloc: Global,
-    service: W,
-    flag: &AtomicBool,
-    accept: &mut WatchedLinks<R>,
-    shut: bool,
-    count: u64,
-) -> Result<(AcceptEnd, u64), OutOfMemory>
+>(rt: &R, alloc: Global, case: &AcceptCase<'_>, service: W, flag: &AtomicBool) -> bool
 where
     W::Future: Send,
     W::Stream: Send,
     requires { W.can_call service }
 {
-    let service = Arc::new(alloc, service)?;
-    let (book, mut seat) = book_of(alloc, 2)?;
-    if shut {
-        book.shutdown(rt, &mut seat);
-    }
-    Ok(accept_in(rt, alloc, &book, seat, &service, flag, accept, count))
-}
-
-/// Links that give these queries. Of the accepts these fail and those answer Again.
-fn watched<R: Wait + Copy + Drop>(
-    rt: R,
-    alloc: Global,
-    queries: &[&[u8]],
-    failing: &[u64],
-    again: &[u64],
-    seen: &mut Vec<Arc<Seen>>,
-) -> Result<WatchedLinks<R>, OutOfMemory> {
-    let calls = ListedCalls::new(
-        Vec::from_slice(alloc, failing)?,
-        Vec::from_slice(alloc, again)?,
-    );
-    match links_of(rt, alloc, queries, seen) {
-        Ok(links) => Ok(WatchedAccept {
-            inner: MemoryAccept::new(alloc, links, calls),
-            calls: Vec::new(alloc),
-        }),
-        Err(error) => Err(error),
+    match Arc::new(alloc, service) {
+        Ok(service) => Accepting::new(rt, alloc, case, &service, flag).holds(),
+        Err(_) => false,
     }
 }
 
-/// Accepts so many of these links in a book that may be shut down before. How that ended, how many slots are taken then, and
-/// whether these are the calls of the accept object.
-fn accept_links<R: Threads + Wait + Copy + Send + Sync + Drop + 'static>(
+/// Whether a case is served as is wanted by a service that holds polls until the loop has ended.
+fn holds<R: Threads + Wait + Copy + Send + Sync + Drop + 'static>(
     rt: &R,
     alloc: Global,
-    mut accept: WatchedLinks<R>,
-    shut: bool,
-    count: u64,
-    calls: &[u8],
-) -> Result<(AcceptEnd, u64, bool), OutOfMemory> {
-    let service = Holding::new(alloc, false, OptRcode::NOERROR)?;
-    let flag = Arc::try_clone(&service.flag)?;
-    let service = Plainly { service };
-    let (end, taken) = accept_beside(rt, alloc, service, &flag, &mut accept, shut, count)?;
-    Ok((end, taken, accept.calls.as_slice() == calls))
+    case: &AcceptCase<'_>,
+) -> bool {
+    match Holding::new(alloc, false, OptRcode::NOERROR) {
+        Ok(service) => is_held(rt, alloc, case, service),
+        Err(_) => false,
+    }
+}
+
+/// Whether a case is served as is wanted by this service, whose flag it is given.
+fn is_held<R: Threads + Wait + Copy + Send + Sync + Drop + 'static>(
+    rt: &R,
+    alloc: Global,
+    case: &AcceptCase<'_>,
+    service: Holding,
+) -> bool {
+    match Arc::try_clone(&service.flag) {
+        Ok(flag) => is_served(rt, alloc, case, Plainly { service }, &flag),
+        Err(_) => false,
+    }
 }
 
 /// Of three connections two are admitted, since there are two slots: the hook is handed each of these once, and each is
 /// answered. The third is closed at once. Afterwards no slot is taken.
-#[test]
-fn the_hook_is_called_once_a_link(rt: HostRuntime) -> Result<(), OutOfMemory> {
-    let mut seen = Vec::new(rt.alloc());
-    let accept = watched(rt, rt.alloc(), &[QUERY, QUERY, QUERY], &[], &[], &mut seen)?;
-    let end = accept_links(&rt, rt.alloc(), accept, false, 3, b"aaa")?;
-    let written = shows(&rt, &seen, 0, REPLY) && shows(&rt, &seen, 1, REPLY);
-    assert!(&rt;
-        written
-            && shows(&rt, &seen, 2, b"")
-            && marks(&seen, 3, 2)
-            && end == (AcceptEnd::Counted, 0, true)
-    );
+const THREE: AcceptCase<'static> = AcceptCase {
+    queries: &[QUERY, QUERY, QUERY],
+    failing: &[],
+    again: &[],
+    count: 3,
+    is_shut: false,
+    end: AcceptEnd::Counted,
+    calls: b"aaa",
+    shown: &[(REPLY, 1), (REPLY, 1), (NOTHING, 0)],
+    closed: 1,
+};
+
+/// Loops of accepts, by names.
+const CASES: &[(&'static str, AcceptCase<'static>)] = &[
+    ("the_hook_is_called_once_a_link", THREE),
+    // Each accept that brought no connection, also one that failed, is followed by a wait, and no other is.
+    (
+        "a_wait_follows_each_again",
+        AcceptCase {
+            queries: &[QUERY, QUERY],
+            failing: &[1],
+            again: &[0, 3, 4],
+            count: 2,
+            calls: b"AzFzaAzAza",
+            shown: &[(REPLY, 1), (REPLY, 1)],
+            ..THREE
+        },
+    ),
+    // A look that shows a shutdown ends the loop before it accepts.
+    (
+        "a_shutdown_ends_the_loop",
+        AcceptCase {
+            queries: &[QUERY],
+            count: 0,
+            is_shut: true,
+            end: AcceptEnd::Shutdown,
+            calls: b"",
+            shown: &[(NOTHING, 0)],
+            closed: 0,
+            ..THREE
+        },
+    ),
+];
+
+/// What a test ends with, where all are served as is wanted, and else the name of the first that isn't.
+fn all_hold<R: Threads + Wait + Copy + Send + Sync + Drop + 'static>(
+    rt: &R,
+    alloc: Global,
+    cases: &[(&'static str, AcceptCase<'_>)],
+) -> Result<(), &'static str> {
+    for (name, case) in cases {
+        if !holds(rt, alloc, case) {
+            return Err(name);
+        }
+    }
     Ok(())
 }
 
-/// Whether one connection to a service in all layers is accepted, and given this frame.
+/// Each loop ends as is wanted of it.
+#[test]
+fn each_case_is_served(rt: HostRuntime) -> Result<(), &'static str> {
+    all_hold(&rt, rt.alloc(), CASES)
+}
+
+/// One connection, whose query has an OPT record.
+const LAYERED: &AcceptCase<'static> = &AcceptCase {
+    queries: &[FRAME],
+    count: 1,
+    calls: b"a",
+    shown: &[(ANSWER, 1)],
+    ..THREE
+};
+
+/// Whether it is served so by a service in all layers.
 fn is_layered<R: Threads + Wait + Copy + Send + Sync + Drop + 'static>(
     rt: &R,
     alloc: Global,
-    mut accept: WatchedLinks<R>,
-    seen: &[Arc<Seen>],
-) -> Result<bool, OutOfMemory> {
-    let service = layered(alloc, OptRcode::NOERROR)?;
-    let flag = AtomicBool::new(false);
-    let end = accept_beside(rt, alloc, service, &flag, &mut accept, false, 1)?;
-    Ok(end == (AcceptEnd::Counted, 0) && shows(rt, seen, 0, ANSWER))
+) -> bool {
+    match layered(alloc, OptRcode::NOERROR) {
+        Ok(service) => is_served(rt, alloc, LAYERED, service, &AtomicBool::new(false)),
+        Err(_) => false,
+    }
 }
 
-/// A query with an OPT record over a connection to a service in all layers gets its frame.
+/// A connection to a service in all layers gets its frame.
 #[test]
-fn a_connection_is_answered(rt: HostRuntime) -> Result<(), OutOfMemory> {
-    let mut seen = Vec::new(rt.alloc());
-    let accept = watched(rt, rt.alloc(), &[FRAME], &[], &[], &mut seen)?;
-    assert!(&rt; is_layered(&rt, rt.alloc(), accept, &seen)?);
-    Ok(())
-}
-
-/// Each accept that brought no connection, also one that failed, is followed by a wait, and no other is.
-#[test]
-fn a_wait_follows_each_again(rt: HostRuntime) -> Result<(), OutOfMemory> {
-    let mut seen = Vec::new(rt.alloc());
-    let accept = watched(rt, rt.alloc(), &[QUERY, QUERY], &[1], &[0, 3, 4], &mut seen)?;
-    let end = accept_links(&rt, rt.alloc(), accept, false, 2, b"AzFzaAzAza")?;
-    assert!(&rt; end == (AcceptEnd::Counted, 0, true));
-    Ok(())
-}
-
-/// A look that shows a shutdown ends the loop before it accepts.
-#[test]
-fn a_shutdown_ends_the_loop(rt: HostRuntime) -> Result<(), OutOfMemory> {
-    let mut seen = Vec::new(rt.alloc());
-    let accept = watched(rt, rt.alloc(), &[QUERY], &[], &[], &mut seen)?;
-    let end = accept_links(&rt, rt.alloc(), accept, true, 0, b"")?;
-    let open = seen.len() == 1 && seen[0].closed.load(Ordering::SeqCst) == 0;
-    assert!(&rt; open && marks(&seen, 1, 0) && end == (AcceptEnd::Shutdown, 0, true));
-    Ok(())
+fn a_connection_is_answered(rt: HostRuntime) -> Result<(), &'static str> {
+    ended(is_layered(&rt, rt.alloc()))
 }

@@ -40,6 +40,15 @@ enum Part {
     Neither,
 }
 
+/// What the poll of a request with this id does.
+fn part_of(id: u16) -> Part {
+    match id {
+        1 => Part::Waits,
+        2 => Part::Sets,
+        _ => Part::Neither,
+    }
+}
+
 #[derive(Drop)]
 pub struct Held {
     flag: Arc<AtomicBool>,
@@ -91,16 +100,14 @@ impl Service<()> for Holding {
     ghost can_call = { λ _. Unit {0} };
 
     fn call(&self, alloc: Global, request: &mut Request<()>) -> Result<Held, OutOfMemory> {
-        let reply = mk_error_response(alloc, request.message(), self.rcode)?;
-        let part = match request.message().header().id() {
-            1 => Part::Waits,
-            2 => Part::Sets,
-            _ => Part::Neither,
-        };
-        Ok(Held {
-            flag: Arc::try_clone(&self.flag)?,
-            part,
-            stream: Some(Once::new(Ok(CallResult::new(reply)))),
-        })
+        let flag = Arc::try_clone(&self.flag)?;
+        let part = part_of(request.message().header().id());
+        match mk_error_response(alloc, request.message(), self.rcode) {
+            Ok(reply) => {
+                let stream = Some(Once::new(Ok(CallResult::new(reply))));
+                Ok(Held { flag, part, stream })
+            }
+            Err(error) => Err(error),
+        }
     }
 }

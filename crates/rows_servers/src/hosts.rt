@@ -1,119 +1,431 @@
-//! Whole hosts.
+//! Whole hosts, whose service stands in all layers.
 
 ghost use Rattle.std.specs.Prelude.{◌≡◌};
+ghost use Rattle.std.specs.Arc.{arc_value};
 
 use crate::holding::Holding;
-use crate::links::{Seen, shows};
-use crate::places::{Given, NOTHING, host_of, serve};
+use crate::links::{Seen, SeenLink, show};
+use crate::places::{accept_of, book_of, letter, listed};
+use crate::servers::Layered;
+use dns_book::{Book, BookSeat};
+use dns_middleware::Settings;
 use dns_name::{OptRcode, OutOfMemory};
-use dns_server::Status;
+use dns_outside::{
+    AsyncAccept, Letter, MemoryAccept, MemoryClock, MemorySock, MemorySpawner, Spawner,
+};
+use dns_server::{NotifyRules, ScriptTarget, Status, serve_host};
+use dns_servers::{ConnectionWork, Host, Silent};
 use std::alloc::Global;
 use std::sync::{Arc, Wait};
 use std::thread::Threads;
 
-/// Queries for the root's address, with id 1 and 2, behind their length.
+/// Queries for the root's address, with id 1 and 2, behind their length, and their replies.
 const FIRST: &[u8] =
     b"\x00\x11\x00\x01\x01\x00\x00\x01\x00\x00\x00\x00\x00\x00\x00\x00\x01\x00\x01";
+
+const FIRST_REPLY: &[u8] =
+    b"\x00\x11\x00\x01\x81\x00\x00\x01\x00\x00\x00\x00\x00\x00\x00\x00\x01\x00\x01";
 
 const SECOND: &[u8] =
     b"\x00\x11\x00\x02\x01\x00\x00\x01\x00\x00\x00\x00\x00\x00\x00\x00\x01\x00\x01";
 
+const SECOND_REPLY: &[u8] =
+    b"\x00\x11\x00\x02\x81\x00\x00\x01\x00\x00\x00\x00\x00\x00\x00\x00\x01\x00\x01";
+
+/// A datagram that gets no reply, and what is written on a link that gets none.
 const OCTET: &[u8] = b"\x00";
 
-/// Serves a host that is given this, until so many of each were taken. How that ended, and how many slots are taken then.
-fn serve_given<R: Threads + Wait + Copy + Send + Sync + Drop + 'static>(
-    rt: R,
-    alloc: Global,
-    flag: bool,
-    given: &Given<'_>,
+const NOTHING: &[u8] = b"";
+
+/// The second query in a datagram.
+const LETTER: &[u8] = b"\x00\x02\x01\x00\x00\x01\x00\x00\x00\x00\x00\x00\x00\x00\x01\x00\x01";
+
+/// A query for the root's address in a datagram, and its replies that all is well and that the name isn't there.
+const QUERY: &[u8] = b"\x12\x34\x01\x00\x00\x01\x00\x00\x00\x00\x00\x00\x00\x00\x01\x00\x01";
+
+const REPLY: &[u8] = b"\x12\x34\x81\x00\x00\x01\x00\x00\x00\x00\x00\x00\x00\x00\x01\x00\x01";
+
+const NO_NAME: &[u8] = b"\x12\x34\x81\x03\x00\x01\x00\x00\x00\x00\x00\x00\x00\x00\x01\x00\x01";
+
+/// A query with an OPT record behind its length, and such replies, which say after how many units of 100 ms an idle connection is
+/// closed (RFC 7828).
+const FRAME: &[u8] =
+    b"\x00\x1c\x12\x34\x01\x00\x00\x01\x00\x00\x00\x00\x00\x01\x00\x00\x01\x00\x01\x00\x00\x29\x00\x00\x00\x00\x00\x00\x00\x00";
+
+const REPLY_FRAME: &[u8] =
+    b"\x00\x22\x12\x34\x81\x00\x00\x01\x00\x00\x00\x00\x00\x01\x00\x00\x01\x00\x01\x00\x00\x29\x00\x00\x00\x00\x00\x00\x00\x06\x00\x0b\x00\x02\x01\x2c";
+
+const NO_NAME_FRAME: &[u8] =
+    b"\x00\x22\x12\x34\x81\x03\x00\x01\x00\x00\x00\x00\x00\x01\x00\x00\x01\x00\x01\x00\x00\x29\x00\x00\x00\x00\x00\x00\x00\x06\x00\x0b\x00\x02\x01\x2c";
+
+/// These datagrams.
+fn letters(alloc: Global, datagrams: &[&[u8]]) -> Result<Vec<Letter>, OutOfMemory> {
+    let mut letters = Vec::new(alloc);
+    for octets in datagrams {
+        letters.push(letter(alloc, octets)?)?;
+    }
+    Ok(letters)
+}
+
+/// Whether this datagram was sent alone, or none where none is wanted.
+fn was_sent(sent: &[Letter], wanted: Option<&[u8]>) -> bool {
+    match wanted {
+        Some(octets) => sent.len() == 1 && sent[0].octets.as_slice() == octets,
+        None => sent.is_empty(),
+    }
+}
+
+/// What a host is given, and what is wanted of it.
+#[derive(Clone, Copy)]
+struct HostCase<'a> {
+    /// A link comes for each of these queries.
+    queries: &'a [&'a [u8]],
+    datagrams: &'a [&'a [u8]],
+    /// The calls that fail.
+    failed_accepts: &'a [u64],
+    failed_receives: &'a [u64],
+    failed_sends: &'a [u64],
+    failed_starts: &'a [u64],
+    /// Whether the service answers that the name isn't there, and whether a poll of the first query is held.
+    is_missing: bool,
+    is_held: bool,
     count: u64,
+    status: Status,
+    /// The octets written on each link, which is handed to no hook and closed once.
+    shown: &'a [(&'a [u8], u64)],
+    /// The datagram that is sent.
+    sent: Option<&'a [u8]>,
+}
+
+/// What a host is given beside its links.
+#[derive(Drop)]
+struct Given {
+    sock: MemorySock,
+    failed_starts: Vec<u64>,
+    service: Holding,
+}
+
+impl HostCase<'_> {
+    fn sock(&self, alloc: Global) -> Result<MemorySock, OutOfMemory> {
+        let receives = listed(alloc, self.failed_receives, &[])?;
+        let sends = listed(alloc, self.failed_sends, &[])?;
+        match letters(alloc, self.datagrams) {
+            Ok(letters) => Ok(MemorySock::new(alloc, letters, receives, sends)),
+            Err(error) => Err(error),
+        }
+    }
+
+    /// The service that answers as is said.
+    fn service(&self, alloc: Global) -> Result<Holding, OutOfMemory> {
+        let rcode = if self.is_missing {
+            OptRcode::NXDOMAIN
+        } else {
+            OptRcode::NOERROR
+        };
+        Holding::new(alloc, !self.is_held, rcode)
+    }
+
+    fn given(&self, alloc: Global) -> Result<Given, OutOfMemory> {
+        let failed_starts = Vec::from_slice(alloc, self.failed_starts)?;
+        let service = self.service(alloc)?;
+        match self.sock(alloc) {
+            Ok(sock) => Ok(Given {
+                sock,
+                failed_starts,
+                service,
+            }),
+            Err(error) => Err(error),
+        }
+    }
+
+    /// What links come from, with a link for each query.
+    fn links<R: Wait + Copy + Drop>(
+        &self,
+        rt: R,
+        alloc: Global,
+        seen: &mut Vec<Arc<Seen>>,
+    ) -> Result<MemoryAccept<SeenLink<R>>, OutOfMemory> {
+        accept_of(rt, alloc, self.queries, self.failed_accepts, &[], seen)
+    }
+
+    /// Whether the host ended so, with no slot taken and this datagram sent.
+    fn is_ended(&self, end: (Status, u64), sent: &[Letter]) -> bool {
+        end == (self.status, 0) && was_sent(sent, self.sent)
+    }
+}
+
+/// A host, which is given what the case says.
+#[derive(Drop)]
+struct Hosting<'a, R, A, P> {
+    rt: &'a R,
+    alloc: Global,
+    case: &'a HostCase<'a>,
+    host: Host<A, MemorySock, MemoryClock, P, Silent>,
+}
+
+impl<'a, R, A, P> Hosting<'a, R, A, P> {
+    /// A host that is given these.
+    fn new(
+        rt: &'a R,
+        alloc: Global,
+        case: &'a HostCase<'a>,
+        accept: A,
+        sock: MemorySock,
+        spawner: P,
+    ) -> Hosting<'a, R, A, P> {
+        let clock = MemoryClock::new(Vec::new(alloc));
+        Hosting {
+            rt,
+            alloc,
+            case,
+            host: Host {
+                accept,
+                sock,
+                clock,
+                spawner,
+                journal: Silent,
+            },
+        }
+    }
+}
+
+impl<
+    R: Threads + Wait + Copy + Send + Sync + 'static,
+    A: AsyncAccept + Drop,
+    P: Spawner<ConnectionWork<A::Link, MemoryClock, Silent, Layered>> + Drop,
+> Hosting<'_, R, A, P>
+where
+    A::Link: Send + Drop + 'static,
+{
+    /// How the host ends by a service in the layers of the first settings, and the seat that it gives back.
+    fn serve(&mut self, service: Holding, book: &Arc<Book>, seat: BookSeat) -> (BookSeat, Status)
+        requires { seat.book ≡ arc_value book.now }
+        ensures { result.0.book ≡ seat.book }
+    {
+        let settings = Settings::new(self.alloc);
+        let target = ScriptTarget::new(NotifyRules::new(self.alloc));
+        serve_host(
+            self.rt,
+            self.alloc,
+            &settings,
+            service,
+            target,
+            book,
+            seat,
+            &mut self.host,
+            self.case.count,
+        )
+    }
+
+    /// How the host ends, and how many slots of a book are taken then.
+    fn end_in(&mut self, service: Holding, book: &Arc<Book>, seat: BookSeat) -> (Status, u64)
+        requires { seat.book ≡ arc_value book.now }
+    {
+        let (mut seat, status) = self.serve(service, book, seat);
+        (status, book.look(self.rt, &mut seat).taken)
+    }
+
+    /// The same in a book with ten slots.
+    fn end(&mut self, service: Holding) -> (Status, u64) {
+        match book_of(self.alloc, 10) {
+            Ok((book, seat)) => self.end_in(service, &book, seat),
+            Err(_) => (Status::OutOfMemory, 1),
+        }
+    }
+
+    /// Whether a host that is given these ends as is wanted.
+    fn ends_by(
+        rt: &R,
+        alloc: Global,
+        case: &HostCase<'_>,
+        accept: A,
+        sock: MemorySock,
+        spawner: P,
+        service: Holding,
+    ) -> bool {
+        Hosting::new(rt, alloc, case, accept, sock, spawner).ends(service)
+    }
+
+    /// Whether it ends as is wanted.
+    fn ends(mut self, service: Holding) -> bool {
+        self.is_served_by(service)
+    }
+
+    fn is_served_by(&mut self, service: Holding) -> bool {
+        let end = self.end(service);
+        self.case.is_ended(end, self.host.sock.sent())
+    }
+}
+
+/// Whether a host with this accept object ends as is wanted.
+fn ends_over<R: Threads + Wait + Copy + Send + Sync + 'static, A: AsyncAccept + Drop>(
+    rt: &R,
+    alloc: Global,
+    case: &HostCase<'_>,
+    accept: A,
+    given: Given,
+) -> bool
+where
+    A::Link: Send + Drop + 'static,
+{
+    let Given {
+        sock,
+        failed_starts,
+        service,
+    } = given;
+    let spawner = MemorySpawner::new(alloc, failed_starts);
+    Hosting::ends_by(rt, alloc, case, accept, sock, spawner, service)
+}
+
+/// Whether a host ends as is wanted.
+fn ends<R: Threads + Wait + Copy + Send + Sync + Drop + 'static>(
+    rt: &R,
+    alloc: Global,
+    case: &HostCase<'_>,
+    given: Given,
     seen: &mut Vec<Arc<Seen>>,
-) -> Result<(Status, u64), OutOfMemory> {
-    let service = Holding::new(alloc, flag, OptRcode::NOERROR)?;
-    let mut host = host_of(rt, alloc, given, seen)?;
-    serve(&rt, alloc, service, &mut host, count)
+) -> bool {
+    match case.links(*rt, alloc, seen) {
+        Ok(accept) => ends_over(rt, alloc, case, accept, given),
+        Err(_) => false,
+    }
 }
 
-/// Whether the query's reply of this id and RCODE 0 was written on the link at a place, and the link was closed once.
-fn answered<R: Wait>(rt: &R, seen: &[Arc<Seen>], place: usize, id: u8) -> bool {
-    let mut reply =
-        *b"\x00\x11\x00\x00\x81\x00\x00\x01\x00\x00\x00\x00\x00\x00\x00\x00\x01\x00\x01";
-    reply[3] = id;
-    shows(rt, seen, place, &reply)
+/// Whether it does, and the links show what is wanted.
+fn is_shown<R: Threads + Wait + Copy + Send + Sync + Drop + 'static>(
+    rt: &R,
+    alloc: Global,
+    case: &HostCase<'_>,
+    given: Given,
+) -> bool {
+    let mut seen = Vec::new(alloc);
+    ends(rt, alloc, case, given, &mut seen) && show(rt, &seen, case.shown, 1)
 }
 
-/// The first poll of one client is held until the other client's request is polled.
-#[test]
-fn held_poll(rt: HostRuntime) -> Result<(), OutOfMemory> {
-    let mut seen = Vec::new(rt.alloc());
-    let given = Given {
-        queries: &[FIRST, SECOND],
-        datagrams: &[OCTET, OCTET],
-        ..NOTHING
-    };
-    let end = serve_given(rt, rt.alloc(), false, &given, 2, &mut seen)?;
-    let both = answered(&rt, &seen, 0, 1) && answered(&rt, &seen, 1, 2);
-    assert!(&rt; both && end == (Status::Done, 0));
+/// Whether it does of what the case says.
+fn is_served<R: Threads + Wait + Copy + Send + Sync + Drop + 'static>(
+    rt: &R,
+    alloc: Global,
+    case: &HostCase<'_>,
+) -> bool {
+    match case.given(alloc) {
+        Ok(given) => is_shown(rt, alloc, case, given),
+        Err(_) => false,
+    }
+}
+
+/// One connection and one datagram that gets no reply.
+const ONE: HostCase<'static> = HostCase {
+    queries: &[SECOND],
+    datagrams: &[OCTET],
+    failed_accepts: &[],
+    failed_receives: &[],
+    failed_sends: &[],
+    failed_starts: &[],
+    is_missing: false,
+    is_held: false,
+    count: 1,
+    status: Status::HostFault,
+    shown: &[(SECOND_REPLY, 0)],
+    sent: None,
+};
+
+/// One connection and one datagram, both answered.
+const BOTH: HostCase<'static> = HostCase {
+    queries: &[FRAME],
+    datagrams: &[QUERY],
+    status: Status::Done,
+    shown: &[(REPLY_FRAME, 0)],
+    sent: Some(REPLY),
+    ..ONE
+};
+
+/// Hosts, by names.
+const CASES: &[(&'static str, HostCase<'static>)] = &[
+    // The first poll of one client is held until the other client's request is polled.
+    (
+        "held_poll",
+        HostCase {
+            queries: &[FIRST, SECOND],
+            datagrams: &[OCTET, OCTET],
+            is_held: true,
+            count: 2,
+            status: Status::Done,
+            shown: &[(FIRST_REPLY, 0), (SECOND_REPLY, 0)],
+            ..ONE
+        },
+    ),
+    // The second of three starts is refused: its slot is given back and its link closed, the others are served, and the host ends
+    // by a fault.
+    (
+        "a_refused_start_is_given_up",
+        HostCase {
+            queries: &[SECOND, SECOND, SECOND],
+            datagrams: &[OCTET, OCTET, OCTET],
+            failed_starts: &[1],
+            count: 3,
+            shown: &[(SECOND_REPLY, 0), (NOTHING, 0), (SECOND_REPLY, 0)],
+            ..ONE
+        },
+    ),
+    // After an accept that failed the loop goes on, and the host ends by a fault.
+    (
+        "a_failed_accept_is_passed_over",
+        HostCase {
+            failed_accepts: &[0, 1],
+            ..ONE
+        },
+    ),
+    // After a receive that failed the book is shut down, so that accepting ends too.
+    (
+        "a_failed_receive_ends_all",
+        HostCase {
+            queries: &[],
+            failed_receives: &[1],
+            count: 0,
+            shown: &[],
+            ..ONE
+        },
+    ),
+    // After a send that failed the loop goes on and all else is served, and the host ends by a fault.
+    (
+        "a_failed_send_is_told",
+        HostCase {
+            datagrams: &[LETTER],
+            failed_sends: &[0],
+            ..ONE
+        },
+    ),
+    // All is well.
+    ("no_error", BOTH),
+    // The name isn't there.
+    (
+        "no_such_name",
+        HostCase {
+            is_missing: true,
+            shown: &[(NO_NAME_FRAME, 0)],
+            sent: Some(NO_NAME),
+            ..BOTH
+        },
+    ),
+];
+
+/// What a test ends with, where all are served as is wanted, and else the name of the first that isn't.
+fn all_hold<R: Threads + Wait + Copy + Send + Sync + Drop + 'static>(
+    rt: &R,
+    alloc: Global,
+    cases: &[(&'static str, HostCase<'_>)],
+) -> Result<(), &'static str> {
+    for (name, case) in cases {
+        if !is_served(rt, alloc, case) {
+            return Err(name);
+        }
+    }
     Ok(())
 }
 
-/// The second of three starts is refused: its slot is given back and its link closed, the others are served, and the host
-/// ends by a fault.
+/// Each host ends as is wanted of it.
 #[test]
-fn a_refused_start_is_given_up(rt: HostRuntime) -> Result<(), OutOfMemory> {
-    let mut seen = Vec::new(rt.alloc());
-    let given = Given {
-        queries: &[SECOND, SECOND, SECOND],
-        datagrams: &[OCTET, OCTET, OCTET],
-        failed_starts: &[1],
-        ..NOTHING
-    };
-    let end = serve_given(rt, rt.alloc(), true, &given, 3, &mut seen)?;
-    let served = answered(&rt, &seen, 0, 2) && answered(&rt, &seen, 2, 2);
-    assert!(&rt; served && shows(&rt, &seen, 1, b"") && end == (Status::HostFault, 0));
-    Ok(())
-}
-
-/// After an accept that failed the loop goes on, and the host ends by a fault.
-#[test]
-fn a_failed_accept_is_passed_over(rt: HostRuntime) -> Result<(), OutOfMemory> {
-    let mut seen = Vec::new(rt.alloc());
-    let given = Given {
-        queries: &[SECOND],
-        datagrams: &[OCTET],
-        failed_accepts: &[0, 1],
-        ..NOTHING
-    };
-    let end = serve_given(rt, rt.alloc(), true, &given, 1, &mut seen)?;
-    assert!(&rt; end == (Status::HostFault, 0) && answered(&rt, &seen, 0, 2));
-    Ok(())
-}
-
-/// After a receive that failed the book is shut down, so that accepting ends too.
-#[test]
-fn a_failed_receive_ends_all(rt: HostRuntime) -> Result<(), OutOfMemory> {
-    let mut seen = Vec::new(rt.alloc());
-    let given = Given {
-        datagrams: &[OCTET],
-        failed_receives: &[1],
-        ..NOTHING
-    };
-    let end = serve_given(rt, rt.alloc(), true, &given, 0, &mut seen)?;
-    assert!(&rt; end == (Status::HostFault, 0));
-    Ok(())
-}
-
-/// After a send that failed the loop goes on and all else is served, and the host ends by a fault.
-#[test]
-fn a_failed_send_is_told(rt: HostRuntime) -> Result<(), OutOfMemory> {
-    let mut seen = Vec::new(rt.alloc());
-    let given = Given {
-        queries: &[SECOND],
-        datagrams: &[&SECOND[2..]],
-        failed_sends: &[0],
-        ..NOTHING
-    };
-    let end = serve_given(rt, rt.alloc(), true, &given, 1, &mut seen)?;
-    assert!(&rt; end == (Status::HostFault, 0) && answered(&rt, &seen, 0, 2));
-    Ok(())
+fn each_case_is_served(rt: HostRuntime) -> Result<(), &'static str> {
+    all_hold(&rt, rt.alloc(), CASES)
 }

@@ -9,8 +9,6 @@ mod holding;
 #[cfg(test)]
 mod hosts;
 #[cfg(test)]
-mod layered;
-#[cfg(test)]
 mod links;
 #[cfg(test)]
 mod loopback;
@@ -19,6 +17,10 @@ mod parts;
 #[cfg(test)]
 mod places;
 #[cfg(test)]
+mod recorded;
+#[cfg(test)]
 mod servers;
+#[cfg(test)]
+mod trials;
 #[cfg(test)]
 mod watched;

@@ -44,6 +44,40 @@ fn unseen(alloc: Global, seen: &mut Vec<Arc<Seen>>) -> Result<Arc<Seen>, OutOfMe
     Ok(sight)
 }
 
+/// A link that gives this query.
+fn link_of<R: Copy>(
+    rt: R,
+    alloc: Global,
+    query: &[u8],
+    seen: &mut Vec<Arc<Seen>>,
+) -> Result<SeenLink<R>, OutOfMemory> {
+    let query = Vec::from_slice(alloc, query)?;
+    match unseen(alloc, seen) {
+        Ok(seen) => Ok(SeenLink {
+            rt,
+            query,
+            place: 0,
+            seen,
+        }),
+        Err(error) => Err(error),
+    }
+}
+
+/// Puts a link that gives this query behind the others.
+fn add_link<R: Wait + Copy + Drop>(
+    rt: R,
+    alloc: Global,
+    query: &[u8],
+    seen: &mut Vec<Arc<Seen>>,
+    links: &mut VecDeque<(SeenLink<R>, SocketAddr)>,
+) -> Result<(), OutOfMemory> {
+    let link = link_of(rt, alloc, query, seen)?;
+    match links.push_back((link, PEER)) {
+        Ok(()) => Ok(()),
+        Err(_) => Err(OutOfMemory),
+    }
+}
+
 /// Links that each give one of these queries. What is seen of them is put behind what stands in `seen`.
 pub fn links_of<R: Wait + Copy + Drop>(
     rt: R,
@@ -53,13 +87,7 @@ pub fn links_of<R: Wait + Copy + Drop>(
 ) -> Result<VecDeque<(SeenLink<R>, SocketAddr)>, OutOfMemory> {
     let mut links = VecDeque::new(alloc);
     for query in queries {
-        let link = SeenLink {
-            rt,
-            query: Vec::from_slice(alloc, query)?,
-            place: 0,
-            seen: unseen(alloc, seen)?,
-        };
-        links.push_back((link, PEER))?;
+        add_link(rt, alloc, query, seen, &mut links)?;
     }
     Ok(links)
 }
@@ -74,23 +102,16 @@ impl<R> PreConnect<SeenLink<R>> for Marking {
     }
 }
 
-/// Whether so many links were seen, of which the hook was handed the first `count` once each and no other.
-pub fn marks(seen: &[Arc<Seen>], links: usize, count: usize) -> bool {
-    if seen.len() != links {
-        return false;
-    }
-    for (place, sight) in seen.iter().enumerate() {
-        let wanted = u64::from(place < count);
-        if sight.hooked.load(Ordering::SeqCst) != wanted {
-            return false;
-        }
-    }
-    true
-}
-
 /// Whether the octets begin with a whole frame.
 fn has_frame(octets: &[u8]) -> bool {
     octets.len() >= 2 && octets.len() - 2 >= usize::from(u16::from_be_bytes([octets[0], octets[1]]))
+}
+
+impl<R: Wait> SeenLink<R> {
+    /// Whether a whole frame was written.
+    fn is_answered(&self) -> bool {
+        has_frame(self.seen.written.lock(&self.rt).as_slice())
+    }
 }
 
 impl<R: Wait + Copy + Drop> Link for SeenLink<R> {
@@ -108,7 +129,7 @@ impl<R: Wait + Copy + Drop> Link for SeenLink<R> {
             self.place += count;
             return LinkRead::Got(count);
         }
-        if has_frame(self.seen.written.lock(&self.rt).as_slice()) {
+        if self.is_answered() {
             LinkRead::End
         } else {
             LinkRead::Again
@@ -131,11 +152,25 @@ impl<R: Wait + Copy + Drop> Link for SeenLink<R> {
     }
 }
 
-/// Whether the link at a place was closed once, after these octets were written on it.
-pub fn shows<R: Wait>(rt: &R, seen: &[Arc<Seen>], place: usize, octets: &[u8]) -> bool {
-    let Some(sight) = seen.get(place) else {
+impl Seen {
+    /// Whether these octets were written on the link, which was handed to a hook so many times, and closed so many times.
+    fn shows<R: Wait>(&self, rt: &R, wanted: &(&[u8], u64), closed: u64) -> bool {
+        self.hooked.load(Ordering::SeqCst) == wanted.1
+            && self.closed.load(Ordering::SeqCst) == closed
+            && self.written.lock(rt).as_slice() == wanted.0
+    }
+}
+
+/// Whether these octets were written on the links, which were handed to a hook so many times, and each of which was closed so many
+/// times.
+pub fn show<R: Wait>(rt: &R, seen: &[Arc<Seen>], wanted: &[(&[u8], u64)], closed: u64) -> bool {
+    if seen.len() != wanted.len() {
         return false;
-    };
-    let written = sight.written.lock(rt);
-    written.as_slice() == octets && sight.closed.load(Ordering::SeqCst) == 1
+    }
+    for (sight, wanted) in seen.iter().zip(wanted.iter()) {
+        if !sight.shows(rt, wanted, closed) {
+            return false;
+        }
+    }
+    true
 }

@@ -1,5 +1,6 @@
 //! The parts of servers: buffers, commands, metrics and links that count.
 
+use crate::trials::ended;
 use dns_name::OutOfMemory;
 use dns_outside::{Link, LinkRead, LinkWrite, SteadyLink};
 use dns_servers::{BufSource, Metered, ServerCommand, ServerMetrics, VecBufSource};
@@ -7,23 +8,33 @@ use std::alloc::Global;
 use std::sync::Arc;
 
 /// Whether a usual buffer has 1,024 octets 0.
-fn gives_usual(alloc: Global, source: &Arc<VecBufSource>) -> Result<bool, OutOfMemory> {
-    let usual = source.create_buf(alloc)?;
-    Ok(usual.len() == 1024 && usual[0] == 0 && usual[1023] == 0)
+fn gives_usual(alloc: Global, source: &Arc<VecBufSource>) -> bool {
+    match source.create_buf(alloc) {
+        Ok(usual) => usual.len() == 1024 && usual[0] == 0 && usual[1023] == 0,
+        Err(_) => false,
+    }
 }
 
 /// Whether a buffer of three octets has three octets 0.
-fn gives_three(alloc: Global, source: &Arc<VecBufSource>) -> Result<bool, OutOfMemory> {
-    let three = source.create_sized(alloc, 3)?;
-    Ok(three.as_slice() == [0, 0, 0].as_slice())
+fn gives_three(alloc: Global, source: &Arc<VecBufSource>) -> bool {
+    match source.create_sized(alloc, 3) {
+        Ok(three) => three.as_slice() == [0, 0, 0].as_slice(),
+        Err(_) => false,
+    }
+}
+
+/// Whether a source that is shared gives both.
+fn gives_both(alloc: Global) -> bool {
+    match Arc::new(alloc, VecBufSource) {
+        Ok(source) => gives_usual(alloc, &source) && gives_three(alloc, &source),
+        Err(_) => false,
+    }
 }
 
 /// Buffers have 1,024 octets 0, or as many as are asked for, from a source that is shared too.
 #[test]
-fn buffers_are_zeros(rt: HostRuntime) -> Result<(), OutOfMemory> {
-    let source = Arc::new(rt.alloc(), VecBufSource)?;
-    assert!(&rt; gives_usual(rt.alloc(), &source)? && gives_three(rt.alloc(), &source)?);
-    Ok(())
+fn buffers_are_zeros(rt: HostRuntime) -> Result<(), &'static str> {
+    ended(gives_both(rt.alloc()))
 }
 
 /// A command is copied with what it carries.
@@ -91,9 +102,15 @@ fn pass_all(link: &mut Metered<SteadyLink>, octets: &[u8]) {
 }
 
 /// A link over the frames, which counts for these metrics.
-fn link_of(alloc: Global, metrics: Arc<ServerMetrics>) -> Result<Metered<SteadyLink>, OutOfMemory> {
-    let octets = Vec::from_slice(alloc, FRAMES)?;
-    Ok(Metered::new(SteadyLink::new(octets, Vec::new(alloc)), Some(metrics)))
+fn link_of(
+    alloc: Global,
+    metrics: &Arc<ServerMetrics>,
+) -> Result<Metered<SteadyLink>, OutOfMemory> {
+    let metrics = Arc::try_clone(metrics)?;
+    match Vec::from_slice(alloc, FRAMES) {
+        Ok(octets) => Ok(Metered::new(SteadyLink::new(octets, Vec::new(alloc)), Some(metrics))),
+        Err(_) => Err(OutOfMemory),
+    }
 }
 
 /// Whether the link counts one connection, from the first `connect` to the first `close`, and the frames that are passed.
@@ -110,11 +127,24 @@ fn counts_frames(link: &mut Metered<SteadyLink>, metrics: &ServerMetrics) -> boo
         && link.inner().written() == &FRAMES[..12]
 }
 
+/// Whether a link does by these metrics.
+fn counts_by(alloc: Global, metrics: &Arc<ServerMetrics>) -> bool {
+    match link_of(alloc, metrics) {
+        Ok(mut link) => counts_frames(&mut link, metrics),
+        Err(_) => false,
+    }
+}
+
+/// Whether a link does by metrics of its own.
+fn counts(alloc: Global) -> bool {
+    match Arc::new(alloc, ServerMetrics::connection_oriented()) {
+        Ok(metrics) => counts_by(alloc, &metrics),
+        Err(_) => false,
+    }
+}
+
 /// A link counts frames whose length or message comes in pieces, empty ones too, and the connection until it is closed.
 #[test]
-fn a_link_counts_frames(rt: HostRuntime) -> Result<(), OutOfMemory> {
-    let metrics = Arc::new(rt.alloc(), ServerMetrics::connection_oriented())?;
-    let mut link = link_of(rt.alloc(), Arc::try_clone(&metrics)?)?;
-    assert!(&rt; counts_frames(&mut link, &metrics));
-    Ok(())
+fn a_link_counts_frames(rt: HostRuntime) -> Result<(), &'static str> {
+    ended(counts(rt.alloc()))
 }
