@@ -1,10 +1,11 @@
 -- The one spelling of an output and of a refusal.
-use Rattle.std.specs.Prelude.{ℕ, Bool, true, false, List, ◌++◌, codes, decimal, flat_map}
+use Rattle.std.specs.Prelude.{ℕ, List, ◌++◌, codes, decimal, flat_map}
 use Rattle.hex.specs.Hex.{encode_lower}
 use Rattle.dns_service.specs.declared.event.Output.{Output}
 use Rattle.dns_service.specs.declared.event.Output.TheVariants.{Datagram, Frame, Closed, TurnedAway}
 use Rattle.dns_service.specs.declared.event.Why.{Why}
 use Rattle.dns_service.specs.declared.event.Why.TheVariants.{Ended, Fault, Short, Idle, WriteTimeout, Commanded, Shutdown}
+use Rattle.dns_trace.specs.Spelling.{yes_no}
 use Rattle.dns_trace.specs.declared.reason.Reason.{Reason}
 use Rattle.dns_trace.specs.declared.reason.Reason.TheVariants.{Text, Word, Order, Mix, Repeat, Count, Value, Zone}
 
@@ -16,10 +17,6 @@ why_word Idle = codes "idle"
 why_word WriteTimeout = codes "writetimeout"
 why_word Commanded = codes "commanded"
 why_word Shutdown = codes "shutdown"
-
-abbrev pub yes_no : Bool → List ℕ
-yes_no true = codes "yes"
-yes_no false = codes "no"
 
 -- datagram CLIENT HEX, frame CLIENT HEX (with the length in front), closed CLIENT WHY, turned CLIENT yes|no
 unfoldable pub line_of : Output → List ℕ

@@ -8,23 +8,23 @@ use Rattle.dns_service.specs.declared.event.Step.{Step}
 use Rattle.dns_client.specs.Serving.{Serving, serving}
 use Rattle.dns_core.specs.Out.{out}
 use Rattle.dns_core.specs.Outs.{outs}
-use Rattle.dns_forward.specs.Forwarded.{forwarded}
 use Rattle.dns_middleware.specs.Verdicts.{Verdicts, verdict_on}
 use Rattle.dns_middleware.specs.Wrapped.{hint_left, replies}
 use Rattle.dns_service.specs.declared.settings.Settings.{Settings}
+use Rattle.dns_route.specs.Routes.{routed}
 use Rattle.dns_route.specs.Turns.{turned_over}
 use Rattle.dns_zone.specs.ZoneTurns.{zone_turn}
 use Rattle.dns_script.specs.Plan.{Plan, settings_of}
 use Rattle.dns_script.specs.Played.{played}
 use Rattle.dns_script.specs.Targets.{script_verdicts}
-use Rattle.dns_script.specs.Upstreams.{upstreams_under}
+use Rattle.dns_script.specs.Upstreams.{upstream_turn, upstreams_under}
 use Rattle.dns_script.specs.declared.service_lines.ServiceLines.{ServiceLines}
 use Rattle.dns_script.specs.declared.service_lines.ServiceLines.TheVariants.{Rules, Upstreams, Zone}
 
 -- what the service of a script answers: its rules, its upstreams in a forwarder, or its zone
 abbrev pub service_answers : ServiceLines → Req (Unit {0}) → ℕ → Answer
 service_answers (Rules rules) = played rules
-service_answers (Upstreams upstreams) = turned_over (forwarded (upstreams_under upstreams))
+service_answers (Upstreams upstreams) = turned_over (routed upstream_turn (upstreams_under upstreams))
 service_answers (Zone zone) = turned_over (zone_turn zone)
 
 -- how a service serves in the layers of the settings, by what it answers and a target's verdicts

@@ -1,20 +1,22 @@
 -- What a script's upstreams answer: each question is sent twice at most, under an identifier of its own, and at each poll what its word
 -- says happens.
-use Rattle.std.specs.Prelude.{ℕ, zero, suc, ◌+◌, ◌%◌, List, [], ◌∷◌, ◌++◌, bit_xor, length, map, nat_le, unwrap_or, if◌then◌else◌, Err}
+use Rattle.std.specs.Prelude.{ℕ, Bool, false, zero, suc, ◌+◌, ◌%◌, List, [], ◌∷◌, ◌++◌, bit_xor, length, map, nat_le, nat_lt, unwrap_or, if◌then◌else◌, Result, Ok, Err}
 use Rattle.std.specs.List.{slice_get}
 use Rattle.dns_base.specs.Header.{header_of}
 use Rattle.dns_base.specs.Msg.{Msg}
 use Rattle.dns_base.specs.Replies.{answer_to, have_room}
 use Rattle.dns_base.specs.Wire.{wire}
 use Rattle.dns_forward.specs.Asked.{asked, led_to}
-use Rattle.dns_forward.specs.Forwarded.{Upstream as Asked}
+use Rattle.dns_forward.specs.Forwarded.{SingleAnswers, Upstream as Asked}
 use Rattle.dns_forward.specs.declared.asking_event.AskingEvent.{AskingEvent}
 use Rattle.dns_forward.specs.declared.asking_event.AskingEvent.TheVariants.{Arrived, Tick}
-use Rattle.dns_route.specs.Relays.{SentAnswer}
-use Rattle.dns_route.specs.RequestMessage.{request_sent}
+use Rattle.dns_name.specs.declared.error.ParseError.{ParseError}
+use Rattle.dns_route.specs.Relays.{SentAnswer, relayed}
+use Rattle.dns_route.specs.RequestMessage.{RequestState, request_of, request_sent}
 use Rattle.dns_route.specs.Routes.{Route}
 use Rattle.dns_route.specs.declared.send_request.SendError.TheVariants.{Unreachable}
 use Rattle.dns_service.specs.declared.service.Polled.TheVariants.{Ready}
+use Rattle.dns_service.specs.declared.service.ServiceError.TheVariants.{InternalError}
 use Rattle.dns_script.specs.Played.{new_builder}
 use Rattle.dns_script.specs.declared.upstream.Upstream.{Upstream}
 use Rattle.dns_script.specs.declared.upstream.UpstreamWord.{UpstreamWord}
@@ -60,6 +62,16 @@ answered_at words o k = led_to (asked o (sent_id o) 2 1 0 (events_to (sent_id o)
 abbrev pub upstream_answers : List UpstreamWord → Asked
 upstream_answers words m k = let o = wire (request_sent m) in if nat_le (length o) 65535 then answered_at words o k else Ready (Err Unreachable)
 
--- the names of upstreams, and what these answer
-abbrev pub upstreams_under : List Upstream → List (Route Asked)
-upstreams_under us = map (λ (u : Upstream). (u.name, upstream_answers u.words)) us
+-- whether a request can be read, and the message that is sent for it would have more than 65,535 octets
+abbrev pub is_too_long : Result RequestState ParseError → Bool
+is_too_long (Ok m) = nat_lt 65535 (length (wire (request_sent m)))
+is_too_long (Err e) = false
+
+-- what a single service over an upstream of these words answers: InternalError to a request that is too long, and to each other what the
+-- upstream's answer becomes
+abbrev pub upstream_turn : List UpstreamWord → SingleAnswers
+upstream_turn words r k = if is_too_long (request_of r.octets) then Ready (Err InternalError) else relayed (upstream_answers words) r k
+
+-- the names of upstreams, and their words
+abbrev pub upstreams_under : List Upstream → List (Route (List UpstreamWord))
+upstreams_under us = map (λ (u : Upstream). (u.name, u.words)) us

@@ -2,7 +2,8 @@
 
 ghost use Rattle.std.specs.Prelude.{◌≡◌, ◌++◌, IfOk, codes, decimal, string_bytes};
 ghost use Rattle.hex.specs.Hex.{encode_lower};
-ghost use Rattle.dns_script.specs.Line.{line_of, refused_line, reason_word, why_word, yes_no};
+ghost use Rattle.dns_script.specs.Line.{line_of, refused_line, reason_word, why_word};
+ghost use Rattle.dns_trace.specs.Spelling.{yes_no};
 
 use dns_name::{Octets, OutOfMemory};
 use dns_service::{Output, Why};

@@ -1,13 +1,13 @@
 //! The upstreams of a script, and the forwarder that has them.
 
-ghost use Rattle.std.specs.Prelude.{◌≡◌, ◌++◌, ◌∷◌, [], IfOk, List, MatchOption, OnOk, true, false};
+ghost use Rattle.std.specs.Prelude.{◌≡◌, ◌++◌, ◌∷◌, [], IfOk, MatchOption, Ok, OnOk, true, false};
 ghost use Rattle.dns_base.specs.Replies.{have_room};
 ghost use Rattle.dns_base.specs.Wire.{wire};
 ghost use Rattle.dns_forward.specs.Asked.{asked};
-ghost use Rattle.dns_forward.specs.Forwarded.{Forwards, Upstream as Asked};
-ghost use Rattle.dns_route.specs.Routes.{Route};
+ghost use Rattle.dns_route.specs.Relays.{relayed};
+ghost use Rattle.dns_route.specs.RequestMessage.{request_of};
 ghost use Rattle.dns_script.specs.Played.{new_builder};
-ghost use Rattle.dns_script.specs.Upstreams.{answered_at, events_to, replied_to, reply_under, upstream_answers, upstreams_under, word_events, word_of_poll};
+ghost use Rattle.dns_script.specs.Upstreams.{answered_at, events_to, is_too_long, replied_to, reply_under, upstream_answers, upstream_turn, upstreams_under, word_events, word_of_poll};
 
 use crate::rule_list::RuleList;
 use crate::script_answers::begin;
@@ -15,11 +15,13 @@ use crate::upstream::{Upstream, UpstreamWord, Upstreams};
 use dns_base::{AnswerBuilder, Message, PushError};
 use dns_forward::{Asking, AskingEvent, AskingOutcome, Forwarding, ask_all, led_to};
 use dns_name::{Octets, OutOfMemory, Rcode};
+use dns_route::request::Error;
 use dns_route::{
-    ClientTransportToSingleService, RequestMessage, SendError, SendRequest, SingleService,
+    ClientTransportToSingleService, RequestMessage, SendError, SendRequest, SingleService, Turned,
 };
-use dns_service::Polled;
+use dns_service::{Polled, Request, ServiceError};
 use std::alloc::Global;
+use std::marker::Model;
 
 /// What is answered to a request at a poll.
 type SentAnswer = Result<Polled<Result<Message, SendError>>, OutOfMemory>;
@@ -148,31 +150,89 @@ fn asked(
 
 /// An upstream that plays words.
 #[derive(Drop)]
-pub(crate) struct ScriptUpstream {
-    words: RuleList<UpstreamWord>,
+struct ScriptUpstream<'a> {
+    words: &'a [UpstreamWord],
 }
 
-impl SendRequest for ScriptUpstream {
-    ghost answer = { λ u. upstream_answers u.words };
+impl SendRequest for ScriptUpstream<'_> {
+    ghost answer = { λ u. upstream_answers u.words.now };
 
     fn poll_response(&self, alloc: Global, request: &RequestMessage, k: u64) -> SentAnswer {
         match request.to_message(alloc) {
-            Ok(message) => answered_at(alloc, message, self.words.as_slice(), k),
+            Ok(message) => answered_at(alloc, message, self.words, k),
             Err(PushError::ShortBuf) => Ok(Polled::Ready(Err(SendError::Unreachable))),
             Err(PushError::OutOfMemory) => Err(OutOfMemory),
         }
     }
 }
 
-/// A single service over an upstream of a script.
-pub(crate) type ScriptRelay = ClientTransportToSingleService<ScriptUpstream>;
+/// A single service over an upstream of a script. Contracts see its words.
+#[derive(Drop)]
+pub(crate) struct ScriptRelay {
+    words: RuleList<UpstreamWord>,
+}
+
+impl Model for ScriptRelay {
+    ghost use Rattle.std.specs.Prelude.{List};
+    ghost use Rattle.dns_script.specs.declared.upstream.UpstreamWord.{UpstreamWord};
+
+    ghost Value = { List UpstreamWord };
+
+    ghost view = { λ r. r.words };
+}
+
+impl SingleService for ScriptRelay {
+    ghost answer = { upstream_turn };
+
+    fn turn(&self, alloc: Global, request: &Request<()>, k: u64) -> Result<Turned, OutOfMemory> {
+        if is_too_long(alloc, request)? {
+            return Ok(Polled::Ready(Err(ServiceError::InternalError)));
+        }
+        relayed(alloc, self.words.as_slice(), request, k)
+    }
+}
+
+/// What the answer of an upstream of these words becomes.
+fn relayed(
+    alloc: Global,
+    words: &[UpstreamWord],
+    request: &Request<()>,
+    k: u64,
+) -> Result<Turned, OutOfMemory>
+    ensures { IfOk result (λ p. p ≡ relayed (upstream_answers words.now) request.now k) }
+{
+    let relay = ClientTransportToSingleService::new(ScriptUpstream { words });
+    relay.turn(alloc, request, k)
+}
+
+/// Whether a request can be read and no message can hold it.
+fn is_too_long(alloc: Global, request: &Request<()>) -> Result<bool, OutOfMemory>
+    ensures { IfOk result (λ b. b ≡ is_too_long (request_of request.now.octets)) }
+{
+    match RequestMessage::try_from(alloc, request) {
+        Ok(sent) => passes(alloc, &sent),
+        Err(Error::Unreadable(_)) => Ok(false),
+        Err(Error::OutOfMemory) => Err(OutOfMemory),
+    }
+}
+
+/// Whether no message can hold a request that was read.
+fn passes(alloc: Global, sent: &RequestMessage) -> Result<bool, OutOfMemory>
+    ensures { IfOk result (λ b. b ≡ is_too_long (Ok sent.now)) }
+{
+    match sent.to_message(alloc) {
+        Ok(_) => Ok(false),
+        Err(PushError::ShortBuf) => Ok(true),
+        Err(PushError::OutOfMemory) => Err(OutOfMemory),
+    }
+}
 
 /// A forwarder that has these upstreams.
 pub(crate) fn forwarder(
     alloc: Global,
     upstreams: Upstreams,
 ) -> Result<Forwarding<ScriptRelay>, OutOfMemory>
-    ensures { IfOk result (λ f. Forwards ⟦<ScriptRelay as SingleService>⟧.answer (upstreams_under upstreams) f) }
+    ensures { IfOk result (λ f. f ≡ upstreams_under upstreams) }
 {
     let mut forwarder = Forwarding::new(alloc);
     'upstreams: for upstream in upstreams.into_vec() {
@@ -187,10 +247,8 @@ fn add(
     forwarder: &mut Forwarding<ScriptRelay>,
     upstream: Upstream,
 ) -> Result<(), OutOfMemory>
-    ensures { (us : List (Route Asked)) → Forwards ⟦<ScriptRelay as SingleService>⟧.answer us forwarder.old
-        → OnOk result (Forwards ⟦<ScriptRelay as SingleService>⟧.answer (us ++ (upstream.name, upstream_answers upstream.words) ∷ []) forwarder.new) }
+    ensures { OnOk result (forwarder.new ≡ forwarder.old ++ (upstream.name, upstream.words) ∷ []) }
 {
     let Upstream { name, words } = upstream;
-    let relay = ClientTransportToSingleService::new(ScriptUpstream { words });
-    forwarder.add_service(alloc, name, relay)
+    forwarder.add_service(alloc, name, ScriptRelay { words })
 }

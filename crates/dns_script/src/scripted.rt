@@ -6,10 +6,10 @@ ghost use Rattle.dns_core.specs.Out.{out};
 ghost use Rattle.dns_core.specs.Outs.{outs};
 ghost use Rattle.dns_service.specs.declared.settings.Settings.{Settings as TheSettings};
 ghost use Rattle.dns_service.specs.declared.event.Output.{Output as TheOutput};
-ghost use Rattle.dns_forward.specs.Forwarded.{forwarded};
+ghost use Rattle.dns_route.specs.Routes.{routed};
 ghost use Rattle.dns_route.specs.Turns.{turned_over};
 ghost use Rattle.dns_script.specs.PlanOutputs.{plan_sent, service_answers, wrapped_serving};
-ghost use Rattle.dns_script.specs.Upstreams.{upstreams_under};
+ghost use Rattle.dns_script.specs.Upstreams.{upstream_turn, upstreams_under};
 
 use crate::script::Script;
 use crate::script_line::ScriptLine;
@@ -98,7 +98,7 @@ fn serve_upstreams<E: Scripted>(
     script: Unserved<E>,
     upstreams: Upstreams,
 ) -> Result<Vec<Output>, OutOfMemory>
-    ensures { IfOk result (λ v. v.items ≡ E.sent (wrapped_serving script.settings (turned_over (forwarded (upstreams_under upstreams))) (⟦<ScriptTarget as Notifiable>⟧.verdict script.target)) script.settings script.events.items) }
+    ensures { IfOk result (λ v. v.items ≡ E.sent (wrapped_serving script.settings (turned_over (routed upstream_turn (upstreams_under upstreams))) (⟦<ScriptTarget as Notifiable>⟧.verdict script.target)) script.settings script.events.items) }
 {
     let forwarder = forwarder(alloc, upstreams)?;
     serve_single(alloc, script, forwarder)

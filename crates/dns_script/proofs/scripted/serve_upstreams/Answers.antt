@@ -1,4 +1,4 @@
 use Rattle.dns_script.proofs.scripted.serve_upstreams.Goals as goal
 
 pub returns : goal.returns
-returns g c = rw (← c.in_ok-forwarder.ensures.answers) c.serve_single.ensures
+returns g c = rw (← c.in_ok-forwarder.ensures) c.serve_single.ensures
