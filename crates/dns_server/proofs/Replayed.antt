@@ -1,16 +1,19 @@
 -- The events of a connection that was served, when they are served again.
 use Rattle.std.proofs.Common.{◌≡◌, ◌≤◌, ℕ, List, [], ◌∷◌, ◌++◌, Bool, true, false, refl, ap, sym, ◌∙◌, length, arith}
-use Rattle.std.specs.Prelude.{◌==◌, ◌||◌, not, nat_eq, filter, if◌then◌else◌}
-use Rattle.std.specs.List.{list_any}
+use Rattle.std.proofs.Math.Logic.{∥∥₁_elim}
+use Rattle.std.specs.Coded.{Coded-set}
+use Rattle.std.specs.Prelude.{◌==◌, ◌||◌, not, nat_eq, filter, if◌then◌else◌, Ok}
+use Rattle.std.specs.List.{All, list_any}
 use Rattle.std.proofs.lemmas.Bool.{eq-eqb, lt-ltb}
 use Rattle.dns_name.specs.declared.address.SocketAddr.{SocketAddr}
 use Rattle.dns_admission.specs.declared.look.Look.{Look}
 use Rattle.dns_book.specs.declared.history.Known.{Known}
 use Rattle.dns_outside.specs.Traffic.{Traffic}
-use Rattle.dns_service.specs.Config.{Dgram, IsStream, Stream}
+use Rattle.dns_service.specs.Config.{IsStream}
+use Rattle.dns_service.specs.contracts.settings.Settings as settings_row
 use Rattle.dns_service.specs.declared.event.Event.{Event}
 use Rattle.dns_service.specs.declared.event.EventKind.{EventKind}
-use Rattle.dns_service.specs.declared.event.EventKind.TheVariants.{Reconfigure}
+use Rattle.dns_service.specs.declared.event.EventKind.TheVariants.{Piece}
 use Rattle.dns_service.specs.declared.event.Why.{Why}
 use Rattle.dns_service.specs.declared.settings.Settings.{Settings}
 use Rattle.dns_client.specs.Serving.{Serving}
@@ -26,6 +29,10 @@ use Rattle.dns_core.specs.Out.{has_room, is_new, joined, joins, members, members
 use Rattle.dns_core.specs.Sent.{conf, sent, slate}
 use Rattle.dns_core.specs.Settings.{opening}
 use Rattle.dns_core.proofs.Counted.{put_keeps, put_there}
+use Rattle.dns_trace.specs.InRange.{IsEvent, IsSettings}
+use Rattle.dns_trace.specs.Trace.{settings_text, trace}
+use Rattle.dns_trace.specs.Traced.{traced}
+use Rattle.dns_server.proofs.Noted.{same_lines}
 use Rattle.dns_server.specs.Recorded.{ReadsBack, configured}
 use Rattle.dns_server.specs.Replays.{Replays}
 
@@ -101,14 +108,10 @@ some_last first [] (b ∷ bs) event is = let n : 0 ≡ length (b ∷ (bs ++ even
 conf_is : (settings : Settings) (look : Look) → look.dgram ≡ settings.dgram → look.stream ≡ settings.stream → look.closed ≡ false → conf_of look ≡ opening settings
 conf_is settings look d s c = rw (d, s, c) refl
 
--- the configurations that an event says, or else others
-abbrev kind_dgram : EventKind → Dgram → Dgram
-kind_dgram (Reconfigure dgram stream) d = dgram
-kind_dgram _ d = d
-
-abbrev kind_stream : EventKind → Stream → Stream
-kind_stream (Reconfigure dgram stream) s = stream
-kind_stream _ s = s
+-- the octets of a piece
+abbrev kind_octets : EventKind → List ℕ
+kind_octets (Piece octets) = octets
+kind_octets _ = []
 
 abbrev behind : List Event → List Event
 behind [] = []
@@ -120,9 +123,10 @@ ahead (e ∷ es) d = e
 
 pub replays : (answers : Serving) (settings : Settings) (why : Why) (client : ℕ) (addr : SocketAddr) (look : Look) (text : List ℕ) (noted : List Event) (k k' : Known) (t t' : Traffic)
     → ((es : List Event) → is_member answers settings client es ≡ true → filter (is_for client) (out answers settings es) ≡ sent answers settings (own client es))
-    → IsStream settings.stream → look.dgram ≡ settings.dgram → look.stream ≡ settings.stream → look.closed ≡ false
+    → ((s : Settings) (es : List Event) → IsSettings s → All IsEvent es → traced (trace s es) ≡ Ok (s, es))
+    → IsSettings settings → look.dgram ≡ settings.dgram → look.stream ≡ settings.stream → look.closed ≡ false
     → ReadsBack text noted → WasServed answers why client addr look (configured settings ∷ []) noted k k' t t' → Replays answers settings client why text t t'
-replays answers settings why client addr look text noted k k' t t' law range d s c back served =
+replays answers settings why client addr look text noted k k' t t' law back_law range d s c back served =
     let opened = served.opened in
     let story = opened.story in
     let events = story.events in
@@ -130,20 +134,19 @@ replays answers settings why client addr look text noted k k' t t' law range d s
     let conf = conf_is settings look d s c in
     let all : configured back.settings ∷ back.events ≡ configured settings ∷ start ∷ events = sym back.noted_are ∙ story.noted in
     let same : back.events ≡ start ∷ events = ap behind all in
-    let head : configured back.settings ≡ configured settings = ap (λ (es : List Event). ahead es start) all in
+    let lines : settings_text back.settings ≡ settings_text settings = ap (λ (es : List Event). kind_octets (ahead es start).kind) all in
+    let these : back.settings ≡ settings = ∥∥₁_elim back.sound (Coded-set settings_row.the_row.coded _ _) (λ sound. same_lines back_law back.settings settings sound range lines) in
     let mine : filter (is_for client) (out answers settings (start ∷ events)) ≡ sent_after answers (began client addr opened.at look) events =
-    law (start ∷ events) (member answers settings client addr opened.at opened.secs range events)
+    law (start ∷ events) (member answers settings client addr opened.at opened.secs range.stream events)
     ∙ sent_is answers settings client addr opened.at opened.secs look events conf story.mine in
     let front : slate answers settings client (all_but_last (start ∷ events)) ≡ slate_after answers (began client addr opened.at look) (all_but_last events) =
     rw (some_last start events story.last.before story.last.event story.last.is)
     (slate_is answers settings client addr opened.at opened.secs look (all_but_last events) conf (all_of_front client events story.mine)) in
     record {
-      said = back.settings;
       events = back.events;
       extra = story.extra;
-      read = back.read;
-      dgram = ap (λ (e : Event). kind_dgram e.kind settings.dgram) head;
-      stream = ap (λ (e : Event). kind_stream e.kind settings.stream) head;
+      is = back.is ∙ ap (λ (x : Settings). trace x back.events) these;
+      read = back.read ∙ ap (λ (x : Settings). Ok (x, back.events)) these;
       went = rw (same, mine) story.went;
       cut = rw (same, front) story.cut;
     }

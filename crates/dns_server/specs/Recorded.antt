@@ -3,18 +3,18 @@ use Rattle.std.specs.Prelude.{◌≡◌, ℕ, ◌==◌, Bool, not, ◌||◌, Lis
 use Rattle.std.specs.List.{All}
 use Rattle.dns_sent.specs.Own.{is_wide}
 use Rattle.dns_service.specs.declared.event.Event.{Event}
-use Rattle.dns_service.specs.declared.event.EventKind.TheVariants.{Reconfigure}
+use Rattle.dns_service.specs.declared.event.EventKind.TheVariants.{Piece}
 use Rattle.dns_service.specs.declared.settings.Settings.{Settings}
 use Rattle.dns_trace.specs.InRange.{IsEvent, IsSettings}
-use Rattle.dns_trace.specs.Trace.{trace}
+use Rattle.dns_trace.specs.Trace.{settings_text, trace}
 use Rattle.dns_trace.specs.Traced.{traced}
 use Rattle.dns_trace.specs.declared.reason.Reason.{Reason}
 
--- the configurations that hold before the first event, as all clients hear of them
+-- the settings that hold before the first event: an event that no client has, whose octets are their lines
 abbrev pub configured : Settings → Event
-configured s = record { at = 0; secs = 0; client = 0; kind = Reconfigure s.dgram s.stream }
+configured s = record { at = 0; secs = 0; client = 0; kind = Piece (settings_text s) }
 
--- the configurations, and then the events
+-- the settings, and then the events
 abbrev pub recorded_of : Result (Settings × List Event) (ℕ × Reason) → List Event
 recorded_of (Ok t) = configured t.0 ∷ t.1
 recorded_of (Err e) = []
@@ -34,9 +34,11 @@ pub record IsTrace (text : List ℕ) : Type 0 where
 abbrev pub is_said : Event → Bool
 is_said e = not (is_wide e.kind) || (e.client == 0)
 
--- a trace reads back to settings with their configurations, and to the events that were noted
+-- A text is the trace of settings in range and of the events that were noted behind these settings, and reads back to them.
 pub record ReadsBack (text : List ℕ) (noted : List Event) : Type 0 where
   pub settings : Settings
   pub events : List Event
+  pub is : text ≡ trace settings events
+  pub sound : ∥ IsSettings settings ∥₁
   pub read : traced text ≡ Ok (settings, events)
   pub noted_are : noted ≡ configured settings ∷ events

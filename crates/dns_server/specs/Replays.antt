@@ -10,21 +10,20 @@ use Rattle.dns_outside.specs.Traffic.{Traffic}
 use Rattle.dns_service.specs.declared.event.Event.{Event}
 use Rattle.dns_service.specs.declared.event.Why.{Why}
 use Rattle.dns_service.specs.declared.settings.Settings.{Settings}
+use Rattle.dns_trace.specs.Trace.{trace}
 use Rattle.dns_trace.specs.Traced.{traced}
 
 -- the octets of the frames that a client is sent, where these events are served
 abbrev pub frames_for : Serving → Settings → ℕ → List Event → List ℕ
 frames_for answers settings client es = frame_octets (filter (is_for client) (out answers settings es))
 
--- A text is the trace of settings with these configurations and of events. What the link was written are the frames that the client
+-- A text is the trace of these settings and of events, and reads back to them. What the link was written are the frames that the client
 -- is sent for the events, and where a write failed or took too long perhaps a part of one frame more, which stood first in its queue
 -- before the last of them.
 pub record Replays (answers : Serving) (settings : Settings) (client : ℕ) (why : Why) (text : List ℕ) (t t' : Traffic) : Type 0 where
-  pub said : Settings
   pub events : List Event
   pub extra : List ℕ
-  pub read : traced text ≡ Ok (said, events)
-  pub dgram : said.dgram ≡ settings.dgram
-  pub stream : said.stream ≡ settings.stream
+  pub is : text ≡ trace settings events
+  pub read : traced text ≡ Ok (settings, events)
   pub went : t'.went ≡ t.went ++ (frames_for answers settings client events ++ extra)
   pub cut : Extra (Some why) (slate answers settings client (all_but_last events)).queue extra

@@ -10,19 +10,20 @@ ghost use Rattle.dns_name.specs.declared.address.SocketAddr.{SocketAddr};
 ghost use Rattle.dns_outside.specs.Traffic.{Traffic};
 ghost use Rattle.dns_server.specs.Recorded.{ReadsBack, configured};
 ghost use Rattle.dns_server.specs.Replays.{Replays};
-ghost use Rattle.dns_service.specs.Config.{IsStream};
 ghost use Rattle.dns_service.specs.declared.event.Event.{Event};
 ghost use Rattle.dns_service.specs.declared.event.Why.{Why};
 ghost use Rattle.dns_service.specs.declared.settings.Settings.{Settings};
+ghost use Rattle.dns_trace.specs.InRange.{IsSettings};
 
 /// The trace of a connection replays. Where the recorder was made from settings with the configurations of the first look, and the
-/// connection was closed, the text reads to events for which its client, served under these settings, is sent the frames that the
-/// link was written, up to a part of one frame more after a write that failed or took too long.
+/// connection was closed, the text reads to these settings and to events for which its client, served under these settings, is sent
+/// the frames that the link was written, up to a part of one frame more after a write that failed or took too long.
 pub fn a_connection_replays()
     ensures { (answers : Serving) (settings : Settings) (why : Why) (client : ℕ) (addr : SocketAddr) (look : Look) (text : List ℕ) (noted : List Event) (k k' : Known) (t t' : Traffic)
-        → IsStream settings.stream → look.dgram ≡ settings.dgram → look.stream ≡ settings.stream → look.closed ≡ false
+        → IsSettings settings → look.dgram ≡ settings.dgram → look.stream ≡ settings.stream → look.closed ≡ false
         → ReadsBack text noted → EndsSo answers (Closed why) client addr look (configured settings ∷ []) noted k k' t t'
         → Replays answers settings client why text t t' }
 {
+    dns_trace::a_trace_reads_back();
     dns_core::clients_are_sent_their_own();
 }

@@ -1,6 +1,10 @@
 //! A trace of the events that a driver notes.
 
-ghost use Rattle.std.specs.Prelude.{◌≡◌, ◌↔◌, ◌∷◌, ◌&&◌, [], true, IfOk};
+ghost use Rattle.std.specs.Prelude.{◌≡◌, ◌↔◌, ◌∷◌, ◌++◌, ◌&&◌, [], true, IfOk, OnErr, OnOk};
+ghost use Rattle.dns_notes.specs.Notes.{NoteMoves};
+ghost use Rattle.dns_outside.specs.Causes.{Tells};
+ghost use Rattle.dns_trace.specs.InRange.{IsSettings};
+ghost use Rattle.dns_trace.specs.Trace.{event_text, trace};
 ghost use Rattle.dns_server.specs.Recorded.{IsTrace, ReadsBack, configured, is_said, recorded};
 
 use crate::in_range;
@@ -11,7 +15,7 @@ use dns_trace::{TraceSettings, TraceWriter, a_trace_reads_back};
 use std::alloc::Global;
 
 /// Writes settings and the events that a driver notes, one line each. It tells, unless an event that all clients hear named
-/// one, which its line doesn't say. Before the events noted contracts see the configurations of the settings.
+/// one, which its line doesn't say. Before the events noted contracts see the settings, as one event that carries their lines.
 #[derive(Debug, Drop)]
 pub struct TraceRecorder {
     writer: TraceWriter,
@@ -41,6 +45,8 @@ fn still_said(said: bool, event: &Event) -> bool
 impl TraceRecorder {
     /// The lines of settings.
     pub fn new(alloc: Global, settings: &TraceSettings) -> Result<TraceRecorder, OutOfMemory>
+        ensures sound { IsSettings settings.now }
+        ensures text { IfOk result (λ r. r.writer ≡ trace settings.now []) }
         ensures tells { IfOk result (λ r. ⟦<TraceRecorder as Recorder>⟧.tells r) }
         ensures noted { IfOk result (λ r. ⟦<TraceRecorder as Recorder>⟧.noted r ≡ configured settings.now ∷ []) }
     {
@@ -61,7 +67,8 @@ impl TraceRecorder {
 
     /// The text.
     pub fn finish(self) -> Vec<u8>
-        ensures { ⟦<TraceRecorder as Recorder>⟧.tells self → ReadsBack result.items (⟦<TraceRecorder as Recorder>⟧.noted self) }
+        ensures text { result.items ≡ self.writer }
+        ensures back { ⟦<TraceRecorder as Recorder>⟧.tells self → ReadsBack result.items (⟦<TraceRecorder as Recorder>⟧.noted self) }
     {
         a_trace_reads_back();
         let TraceRecorder { writer, said: _ } = self;
@@ -74,11 +81,17 @@ impl Recorder for TraceRecorder {
 
     ghost noted = { λ r. recorded r.writer };
 
-    fn note(&mut self, _alloc: Global, event: &Event) -> Result<(), OutOfMemory> {
+    /// Notes an event, as its line behind the text.
+    fn note(&mut self, alloc: Global, event: &Event) -> Result<(), OutOfMemory>
+        ensures moves { Tells (self.new.said ≡ true) (self.old.said ≡ true) (NoteMoves result event.now (recorded self.old.writer) (recorded self.new.writer)) }
+        ensures line { OnOk result (self.new.writer ≡ self.old.writer ++ event_text event.now) }
+        ensures said { OnOk result (self.new.said ≡ (self.old.said && is_said event.now)) }
+        ensures same { OnErr result ((self.new.writer ≡ self.old.writer) × (self.new.said ≡ self.old.said)) }
+    {
         in_range::event(event);
         a_trace_reads_back();
         let said = still_said(self.said, event);
-        match self.writer.note(event) {
+        match self.writer.note(alloc, event) {
             Ok(()) => {
                 self.said = said;
                 Ok(())

@@ -11,8 +11,8 @@ invariant_of-self c =
 pub invariant_of-self-in-Err-1 : goal.invariant_of-self-in-Err-1
 invariant_of-self-in-Err-1 c = record { is_trace = rw c.in-Err.ensures.same c.args.self.now.is_trace }
 
-pub returns-in-Ok : goal.returns-in-Ok
-returns-in-Ok c =
+pub returns-in-Ok-clause-moves : goal.returns-in-Ok-clause-moves
+returns-in-Ok-clause-moves c =
     let e = c.args.event.now in
     let before = c.args.self.now in
     record {
