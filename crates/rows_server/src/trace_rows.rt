@@ -45,7 +45,7 @@ fn said_again(
 fn written(alloc: Global, settings: &TraceSettings, events: &[Event]) -> Result<Vec<u8>, RowError> {
     let mut writer = TraceWriter::new(alloc, settings)?;
     for event in events {
-        writer.note(event)?;
+        writer.note(alloc, event)?;
     }
     Ok(writer.finish())
 }
