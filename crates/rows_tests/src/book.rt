@@ -2,8 +2,9 @@
 
 ghost use Rattle.std.specs.Prelude.{ℕ, ◌≡◌, ◌+◌, length};
 
+use crate::ended;
 use dns_book::{Admission, Book, BookSeat, BookState, Call, Look, Reply, call_both};
-use dns_service::{DgramConfig, Error, OutOfMemory, StreamConfig};
+use dns_service::{DgramConfig, Error, StreamConfig};
 use std::alloc::Global;
 use std::sync::Wait;
 use std::thread::Threads;
@@ -17,36 +18,42 @@ fn with_limit(limit: usize) -> (DgramConfig, StreamConfig) {
     (DgramConfig::new(), stream)
 }
 
+/// What a book with this limit of connections shows.
+fn look(version: u64, closed: bool, taken: u64, limit: usize) -> Look {
+    let (dgram, stream) = with_limit(limit);
+    Look {
+        version,
+        closed,
+        taken,
+        dgram,
+        stream,
+    }
+}
+
 /// Whether a book at the last version refuses another configuration, and says its version once it is closed.
-fn refuses_a_version<R: Wait>(
-    rt: &R,
-    book: &Book,
-    seat: &mut BookSeat,
-    closed: &Look,
-    other: StreamConfig,
-) -> bool
+fn refuses_a_version<R: Wait>(rt: &R, book: &Book, seat: &mut BookSeat, closed: &Look) -> bool
     requires { seat.old.book ≡ book.now }
 {
+    let (_, other) = with_limit(7);
     book.reconfigure(rt, seat, closed.dgram, other) == Err(Error::CommandCouldNotBeSent)
         && book.shutdown(rt, seat) == *closed
         && book.reconfigure(rt, seat, closed.dgram, other) == Ok(LAST)
         && book.look(rt, seat) == *closed
 }
 
+/// Whether a book at the last version does, and shows this once it is closed.
+fn stays<R: Wait>(rt: &R, alloc: Global, closed: &Look) -> bool {
+    let state = BookState::resume(closed.dgram, closed.stream, closed.version);
+    match Book::new(alloc, state) {
+        Ok((book, mut seat)) => refuses_a_version(rt, &book, &mut seat, closed),
+        Err(_) => false,
+    }
+}
+
 /// At the last version no configuration is replaced, and all stays. A closed book says its version.
 #[test]
-fn the_last_version(rt: HostRuntime) -> Result<(), OutOfMemory> {
-    let (dgram, stream) = with_limit(2);
-    let closed = Look {
-        version: LAST,
-        closed: true,
-        taken: 0,
-        dgram,
-        stream,
-    };
-    let (book, mut seat) = Book::new(rt.alloc(), BookState::resume(dgram, stream, LAST))?;
-    assert!(&rt; refuses_a_version(&rt, &book, &mut seat, &closed, with_limit(7).1));
-    Ok(())
+fn the_last_version(rt: HostRuntime) -> Result<(), &'static str> {
+    ended(stays(&rt, rt.alloc(), &look(LAST, true, 0, 2)))
 }
 
 /// A configuration where each connection has this budget.
@@ -60,22 +67,39 @@ fn with_budget(count: Option<u32>, window: u64) -> StreamConfig {
 }
 
 /// Whether a book shows the configuration that it is given.
-fn shows<R: Wait>(rt: &R, alloc: Global, next: &StreamConfig) -> Result<bool, OutOfMemory> {
+fn shows<R: Wait>(rt: &R, book: &Book, seat: &mut BookSeat, next: &StreamConfig) -> bool
+    requires { seat.old.book ≡ book.now }
+{
+    book.reconfigure(rt, seat, DgramConfig::new(), *next) == Ok(1)
+        && book.look(rt, seat).stream == *next
+}
+
+/// Whether a new book does.
+fn is_shown<R: Wait>(rt: &R, alloc: Global, next: &StreamConfig) -> bool {
     let (dgram, stream) = with_limit(2);
-    let (book, mut seat) = Book::new(alloc, BookState::new(dgram, stream))?;
-    Ok(
-        book.reconfigure(rt, &mut seat, dgram, *next) == Ok(1)
-            && book.look(rt, &mut seat).stream == *next,
-    )
+    match Book::new(alloc, BookState::new(dgram, stream)) {
+        Ok((book, mut seat)) => shows(rt, &book, &mut seat, next),
+        Err(_) => false,
+    }
+}
+
+/// Both ends of a budget and of its window, and no budget.
+const BUDGETS: &[(Option<u32>, u64)] = &[(Some(1), 3_600_000), (Some(1_000_000), 1), (None, 7)];
+
+/// Whether each of these budgets is shown.
+fn are_shown<R: Wait>(rt: &R, alloc: Global, budgets: &[(Option<u32>, u64)]) -> bool {
+    for (count, window) in budgets {
+        if !is_shown(rt, alloc, &with_budget(*count, *window)) {
+            return false;
+        }
+    }
+    true
 }
 
 /// At both ends of a budget and of its window, and without a budget.
 #[test]
-fn budgets_are_shown(rt: HostRuntime) -> Result<(), OutOfMemory> {
-    for (count, window) in [(Some(1), 3_600_000), (Some(1_000_000), 1), (None, 7)] {
-        assert!(&rt; shows(&rt, rt.alloc(), &with_budget(count, window))?);
-    }
-    Ok(())
+fn budgets_are_shown(rt: HostRuntime) -> Result<(), &'static str> {
+    ended(are_shown(&rt, rt.alloc(), BUDGETS))
 }
 
 /// Whether a book with one slot admits one connection, tells the other that it is full, and admits none once it is closed.
@@ -95,20 +119,18 @@ fn admits_one<R: Wait>(rt: &R, book: &Book, seat: &mut BookSeat, taken: &Look) -
     held && book.admit(rt, seat) == Admission::Closed
 }
 
+/// Whether a new book does, and shows this once its slot is taken.
+fn has_one_slot<R: Wait>(rt: &R, alloc: Global, taken: &Look) -> bool {
+    match Book::new(alloc, BookState::new(taken.dgram, taken.stream)) {
+        Ok((book, mut seat)) => admits_one(rt, &book, &mut seat, taken),
+        Err(_) => false,
+    }
+}
+
 /// With a limit of one the second admit finds no slot.
 #[test]
-fn one_slot(rt: HostRuntime) -> Result<(), OutOfMemory> {
-    let (dgram, stream) = with_limit(1);
-    let taken = Look {
-        version: 0,
-        closed: false,
-        taken: 1,
-        dgram,
-        stream,
-    };
-    let (book, mut seat) = Book::new(rt.alloc(), BookState::new(dgram, stream))?;
-    assert!(&rt; admits_one(&rt, &book, &mut seat, &taken));
-    Ok(())
+fn one_slot(rt: HostRuntime) -> Result<(), &'static str> {
+    ended(has_one_slot(&rt, rt.alloc(), &look(0, false, 1, 1)))
 }
 
 /// Whether the machine gives these replies in some order of the calls in which each of the two lists keeps its own, and
@@ -142,23 +164,39 @@ fn with_replies(calls: &(Call, Call), replies: &(Reply, Reply)) -> [(Call, Reply
 }
 
 /// Whether two threads at a book in this state get replies that one thread could get.
+fn agree_at<R: Threads + Wait + Sync>(
+    rt: &R,
+    book: &Book,
+    mut seat: BookSeat,
+    state: BookState,
+    first: (Call, Call),
+    second: (Call, Call),
+) -> bool
+    requires { seat.book ≡ book.now }
+{
+    book.look(rt, &mut seat);
+    let (mut seat, replies, others) = call_both(rt, book, seat, first, second);
+    let last = book.look(rt, &mut seat);
+    fit_in_some_order(
+        state,
+        &with_replies(&first, &replies),
+        &with_replies(&second, &others),
+        &last,
+    )
+}
+
+/// Whether they do at a new book.
 fn threads_agree<R: Threads + Wait + Sync>(
     rt: &R,
     alloc: Global,
     state: BookState,
     first: (Call, Call),
     second: (Call, Call),
-) -> Result<bool, OutOfMemory> {
-    let (book, mut seat) = Book::new(alloc, state)?;
-    book.look(rt, &mut seat);
-    let (mut seat, replies, others) = call_both(rt, &book, seat, first, second);
-    let last = book.look(rt, &mut seat);
-    Ok(fit_in_some_order(
-        state,
-        &with_replies(&first, &replies),
-        &with_replies(&second, &others),
-        &last,
-    ))
+) -> bool {
+    match Book::new(alloc, state) {
+        Ok((book, seat)) => agree_at(rt, &book, seat, state, first, second),
+        Err(_) => false,
+    }
 }
 
 /// Whether two threads that ask for a slot agree, and two of which one changes the book.
@@ -166,29 +204,40 @@ fn both_agree<R: Threads + Wait + Sync>(
     rt: &R,
     alloc: Global,
     state: BookState,
-    replace: Call,
-) -> Result<bool, OutOfMemory> {
+    replace: &Call,
+) -> bool {
     let two = (Call::Admit, Call::Admit);
-    Ok(
-        threads_agree(
-            rt,
-            alloc,
-            state,
-            (Call::Admit, Call::Release),
-            (Call::Admit, Call::Look),
-        )? && threads_agree(rt, alloc, state, two, (replace, Call::Shutdown))?,
-    )
+    let leave = (Call::Admit, Call::Release);
+    threads_agree(rt, alloc, state, leave, (Call::Admit, Call::Look))
+        && threads_agree(rt, alloc, state, two, (*replace, Call::Shutdown))
 }
 
-#[test]
-fn two_threads(rt: HostRuntime) -> Result<(), OutOfMemory> {
+/// Whether they do each time.
+fn always_agree<R: Threads + Wait + Sync>(
+    rt: &R,
+    alloc: Global,
+    state: BookState,
+    replace: &Call,
+) -> bool {
+    for _ in 0..50 {
+        if !both_agree(rt, alloc, state, replace) {
+            return false;
+        }
+    }
+    true
+}
+
+/// Whether threads agree at a book with one slot, of which one gives it two.
+fn two_agree<R: Threads + Wait + Sync>(rt: &R, alloc: Global) -> bool {
     let (dgram, stream) = with_limit(1);
     let replace = Call::Reconfigure {
         dgram,
         stream: with_limit(2).1,
     };
-    for _ in 0..50 {
-        assert!(&rt; both_agree(&rt, rt.alloc(), BookState::new(dgram, stream), replace)?);
-    }
-    Ok(())
+    always_agree(rt, alloc, BookState::new(dgram, stream), &replace)
+}
+
+#[test]
+fn two_threads(rt: HostRuntime) -> Result<(), &'static str> {
+    ended(two_agree(&rt, rt.alloc()))
 }

@@ -1,5 +1,6 @@
 //! Forms in memory, at the calls that fail.
 
+use crate::ended;
 use dns_name::{IpAddr, Octets, OutOfMemory, SocketAddr};
 use dns_outside::{
     AcceptAnswer, AsyncAccept, AsyncDgramSock, Clock, DgramRecv, DgramSend, Letter, Link, LinkRead,
@@ -47,31 +48,46 @@ fn writes<L: Link>(link: &mut L, wanted: &[(&[u8], LinkWrite)]) -> bool {
 fn failing_link(alloc: Global) -> Result<MemoryLink, OutOfMemory> {
     let reads = calls(alloc, &[1], &[0])?;
     let writes = calls(alloc, &[1], &[])?;
-    let input = Vec::from_slice(alloc, b"xyz")?;
-    Ok(MemoryLink::new(input, Vec::new(alloc), 2, reads, writes))
+    match Vec::from_slice(alloc, b"xyz") {
+        Ok(input) => Ok(MemoryLink::new(input, Vec::new(alloc), 2, reads, writes)),
+        Err(error) => Err(error.into()),
+    }
+}
+
+/// The first read answers Again, the second fails, and then the octets come, two a call, up to the end.
+const READS: &[LinkRead] = &[
+    LinkRead::Again,
+    LinkRead::Failed,
+    LinkRead::Got(2),
+    LinkRead::Got(1),
+    LinkRead::End,
+];
+
+/// Writes take two octets a call, and the second fails.
+const WRITES: &[(&[u8], LinkWrite)] = &[
+    (b"abc", LinkWrite::Took(2)),
+    (b"c", LinkWrite::Failed),
+    (b"c", LinkWrite::Took(1)),
+];
+
+/// Whether a link reads and writes so.
+fn passes_over_faults(link: &mut MemoryLink) -> bool {
+    reads(link, READS) && writes(link, WRITES) && link.written() == b"abc".as_slice()
+}
+
+/// Whether the link of which calls fail does.
+fn a_link_holds(alloc: Global) -> bool {
+    match failing_link(alloc) {
+        Ok(mut link) => passes_over_faults(&mut link),
+        Err(_) => false,
+    }
 }
 
 /// The first read answers Again, the second fails, and then the octets come, two a call, up to the end. Writes take two octets a
 /// call, and the second fails.
 #[test]
-fn a_link_fails_at_its_second_calls(rt: HostRuntime) -> Result<(), OutOfMemory> {
-    let gives = [
-        LinkRead::Again,
-        LinkRead::Failed,
-        LinkRead::Got(2),
-        LinkRead::Got(1),
-        LinkRead::End,
-    ];
-    let takes: [(&[u8], LinkWrite); 3] = [
-        (b"abc", LinkWrite::Took(2)),
-        (b"c", LinkWrite::Failed),
-        (b"c", LinkWrite::Took(1)),
-    ];
-    let mut link = failing_link(rt.alloc())?;
-    assert!(&rt;
-        reads(&mut link, &gives) && writes(&mut link, &takes) && link.written() == b"abc".as_slice()
-    );
-    Ok(())
+fn a_link_fails_at_its_second_calls(rt: HostRuntime) -> Result<(), &'static str> {
+    ended(a_link_holds(rt.alloc()))
 }
 
 /// Whether the receives of a socket come to these.
@@ -106,51 +122,85 @@ fn letters(alloc: Global) -> Result<Vec<Letter>, OutOfMemory> {
 fn failing_sock(alloc: Global) -> Result<MemorySock, OutOfMemory> {
     let receives = calls(alloc, &[0], &[])?;
     let sends = calls(alloc, &[0], &[])?;
-    let letters = letters(alloc)?;
-    Ok(MemorySock::new(alloc, letters, receives, sends))
+    match letters(alloc) {
+        Ok(letters) => Ok(MemorySock::new(alloc, letters, receives, sends)),
+        Err(error) => Err(error),
+    }
+}
+
+/// The first receive fails, the next gives the datagram, of which two octets have room, and then none is left.
+const RECEIVES: &[DgramRecv] = &[DgramRecv::Failed, DgramRecv::Got(2, PEER), DgramRecv::Again];
+
+/// The first of two sends fails.
+const SENDS: &[(&[u8], DgramSend)] = &[(b"one", DgramSend::Failed), (b"two", DgramSend::Took(3))];
+
+/// Whether a socket receives so.
+fn receives_once(sock: &mut MemorySock) -> bool {
+    let mut buf = [0u8; 2];
+    receives(sock, &mut buf, RECEIVES) && buf == *b"xy"
+}
+
+/// Whether it sends so.
+fn sends_once(sock: &mut MemorySock) -> bool {
+    sends(sock, SENDS) && sock.sent().len() == 1
+}
+
+/// Whether the socket of which calls fail does both.
+fn a_socket_holds(alloc: Global) -> bool {
+    match failing_sock(alloc) {
+        Ok(mut sock) => receives_once(&mut sock) && sends_once(&mut sock),
+        Err(_) => false,
+    }
 }
 
 /// The first receive fails, the next gives the datagram, and then none is left; the first of two sends fails.
 #[test]
-fn a_socket_fails_at_its_first_calls(rt: HostRuntime) -> Result<(), OutOfMemory> {
-    let gives = [DgramRecv::Failed, DgramRecv::Got(2, PEER), DgramRecv::Again];
-    let takes: [(&[u8], DgramSend); 2] = [
-        (b"one", DgramSend::Failed),
-        (b"two", DgramSend::Took(3)),
-    ];
-    let mut buf = [0u8; 2];
-    let mut sock = failing_sock(rt.alloc())?;
-    assert!(&rt; receives(&mut sock, &mut buf, &gives) && buf == *b"xy");
-    assert!(&rt; sends(&mut sock, &takes) && sock.sent().len() == 1);
-    Ok(())
+fn a_socket_fails_at_its_first_calls(rt: HostRuntime) -> Result<(), &'static str> {
+    ended(a_socket_holds(rt.alloc()))
 }
 
-/// Whether a clock gives these readings, and another like it the first of them.
-fn goes_on<C: Clock + Drop>(
-    alloc: Global,
-    clock: &mut C,
-    wanted: &[(u64, u64)],
-) -> Result<bool, OutOfMemory> {
+/// Whether a clock gives these readings.
+fn gives<C: Clock>(clock: &mut C, wanted: &[(u64, u64)]) -> bool {
     for reading in wanted {
         if clock.now() != *reading {
-            return Ok(false);
+            return false;
         }
     }
-    Ok(Some(&clock.another(alloc)?.now()) == wanted.first())
+    true
+}
+
+/// Whether another clock like it gives this one.
+fn begins_anew<C: Clock + Drop>(alloc: Global, clock: &C, first: (u64, u64)) -> bool {
+    match clock.another(alloc) {
+        Ok(mut other) => other.now() == first,
+        Err(_) => false,
+    }
+}
+
+const FIRST: (u64, u64) = (1, 0);
+
+const SECOND: (u64, u64) = (30_002, 30);
+
+/// Whether a clock of two readings goes on with the second, and another with the first.
+fn goes_on(alloc: Global) -> bool {
+    match Vec::from_slice(alloc, &[FIRST, SECOND]) {
+        Ok(readings) => repeats_the_last(alloc, &mut MemoryClock::new(readings)),
+        Err(_) => false,
+    }
+}
+
+fn repeats_the_last(alloc: Global, clock: &mut MemoryClock) -> bool {
+    gives(clock, &[FIRST, SECOND, SECOND]) && begins_anew(alloc, clock, FIRST)
 }
 
 /// The listed readings, then the last one again; another clock begins anew.
 #[test]
-fn a_clock_goes_on(rt: HostRuntime) -> Result<(), OutOfMemory> {
-    let readings = Vec::from_slice(rt.alloc(), &[(1, 0), (30_002, 30)])?;
-    let mut clock = MemoryClock::new(readings);
-    let wanted = [(1, 0), (30_002, 30), (30_002, 30)];
-    assert!(&rt; goes_on(rt.alloc(), &mut clock, &wanted)?);
-    Ok(())
+fn a_clock_goes_on(rt: HostRuntime) -> Result<(), &'static str> {
+    ended(goes_on(rt.alloc()))
 }
 
 /// What an accept brings: a connection, with the answer to its first read, or none, or a fault.
-#[derive(Clone, Copy, Debug, PartialEq, Eq)]
+#[derive(Clone, Copy, PartialEq, Eq)]
 enum Came {
     Caller(LinkRead),
     Nobody,
@@ -189,12 +239,19 @@ where
     }
 }
 
-/// Two connections over links of which no call fails, of which one gives one octet and the other two.
+/// A link of which no call fails, which gives these octets.
+fn steady_link(alloc: Global, input: &[u8]) -> Result<SteadyLink, OutOfMemory> {
+    match Vec::from_slice(alloc, input) {
+        Ok(input) => Ok(SteadyLink::new(input, Vec::new(alloc))),
+        Err(error) => Err(error.into()),
+    }
+}
+
+/// Two connections over such links, of which one gives one octet and the other two.
 fn connections(alloc: Global) -> Result<VecDeque<(SteadyLink, SocketAddr)>, OutOfMemory> {
     let mut both = VecDeque::new(alloc);
     for input in [b"1".as_slice(), b"22".as_slice()] {
-        let input = Vec::from_slice(alloc, input)?;
-        both.push_back((SteadyLink::new(input, Vec::new(alloc)), PEER))?;
+        both.push_back((steady_link(alloc, input)?, PEER))?;
     }
     Ok(both)
 }
@@ -203,22 +260,54 @@ const ONE: Came = Came::Caller(LinkRead::Got(1));
 
 const TWO: Came = Came::Caller(LinkRead::Got(2));
 
+/// An accept object in memory, whose second accept fails.
+fn failing_accept(alloc: Global) -> Result<MemoryAccept<SteadyLink>, OutOfMemory> {
+    let fail = calls(alloc, &[1], &[])?;
+    match connections(alloc) {
+        Ok(both) => Ok(MemoryAccept::new(alloc, both, fail)),
+        Err(error) => Err(error),
+    }
+}
+
+/// Whether its connections come, and a fault between.
+fn no_connection_is_lost(alloc: Global) -> bool {
+    match failing_accept(alloc) {
+        Ok(mut accept) => come(&mut accept, &[ONE, Came::Fault, TWO, Came::Nobody]),
+        Err(_) => false,
+    }
+}
+
 /// The second accept fails, and no connection is lost by that.
 #[test]
-fn connections_come_in_order(rt: HostRuntime) -> Result<(), OutOfMemory> {
-    let fail = calls(rt.alloc(), &[1], &[])?;
-    let mut accept = MemoryAccept::new(rt.alloc(), connections(rt.alloc())?, fail);
-    assert!(&rt; come(&mut accept, &[ONE, Came::Fault, TWO, Came::Nobody]));
-    Ok(())
+fn connections_come_in_order(rt: HostRuntime) -> Result<(), &'static str> {
+    ended(no_connection_is_lost(rt.alloc()))
+}
+
+/// Whether the connections come from an accept object of which no call fails.
+fn come_steadily(alloc: Global) -> bool {
+    match connections(alloc) {
+        Ok(both) => come(
+            &mut SteadyAccept::new(alloc, both),
+            &[ONE, TWO, Came::Nobody],
+        ),
+        Err(_) => false,
+    }
+}
+
+/// Whether a socket of which no call fails takes a datagram, and has none to give.
+fn sends_steadily(sock: &mut SteadySock) -> bool {
+    sends(sock, &[(b"abc", DgramSend::Took(3))])
+        && receives(sock, &mut [], &[DgramRecv::Again])
+        && sock.sent().len() == 1
+}
+
+/// Whether both forms hold.
+fn steady_ones_hold(alloc: Global) -> bool {
+    come_steadily(alloc) && sends_steadily(&mut SteadySock::new(alloc, Vec::new(alloc)))
 }
 
 /// Forms of which no call fails give what they hold, and then answer Again.
 #[test]
-fn steady_forms(rt: HostRuntime) -> Result<(), OutOfMemory> {
-    let mut accept = SteadyAccept::new(rt.alloc(), connections(rt.alloc())?);
-    assert!(&rt; come(&mut accept, &[ONE, TWO, Came::Nobody]));
-    let mut sock = SteadySock::new(rt.alloc(), Vec::new(rt.alloc()));
-    assert!(&rt; sends(&mut sock, &[(b"abc", DgramSend::Took(3))]));
-    assert!(&rt; receives(&mut sock, &mut [], &[DgramRecv::Again]) && sock.sent().len() == 1);
-    Ok(())
+fn steady_forms(rt: HostRuntime) -> Result<(), &'static str> {
+    ended(steady_ones_hold(rt.alloc()))
 }

@@ -2,6 +2,7 @@
 
 ghost use Rattle.std.specs.Prelude.{◌≡◌};
 
+use crate::ended;
 use dns_name::{IpAddr, OutOfMemory, SocketAddr};
 use dns_outside::{MemorySpawner, Spawner, Start, ThreadSpawner, Work};
 use std::alloc::Global;
@@ -45,7 +46,28 @@ impl Work for Sum {
     }
 }
 
-/// Starts so many works that add to this sum, one after the other, and waits for all. How many starts were refused.
+/// How many works are started, how many of the starts are refused, and what the sum is then.
+#[derive(Clone, Copy)]
+struct Works {
+    count: u64,
+    refused: u64,
+    sum: u64,
+}
+
+/// Starts one work that adds to this sum.
+fn start_one<R: Threads + Wait + Copy + Send + 'static, P: Spawner<Sum>>(
+    rt: &R,
+    alloc: Global,
+    spawner: &mut P,
+    sum: &Arc<AtomicU64>,
+) -> Result<Start, OutOfMemory> {
+    match Arc::try_clone(sum) {
+        Ok(sum) => spawner.start(rt, alloc, Sum { addr: PEER, sum }),
+        Err(error) => Err(error.into()),
+    }
+}
+
+/// Starts so many, one after the other, and waits for all. How many starts were refused.
 fn start_all<R: Threads + Wait + Copy + Send + 'static, P: Spawner<Sum>>(
     rt: &R,
     alloc: Global,
@@ -55,8 +77,7 @@ fn start_all<R: Threads + Wait + Copy + Send + 'static, P: Spawner<Sum>>(
 ) -> Result<u64, OutOfMemory> {
     let mut refused = 0u64;
     for _ in 0..count {
-        let sum = Arc::try_clone(sum)?;
-        if spawner.start(rt, alloc, Sum { addr: PEER, sum })? == Start::Failed {
+        if start_one(rt, alloc, spawner, sum)? == Start::Failed {
             refused = refused.saturating_add(1);
         }
     }
@@ -64,22 +85,73 @@ fn start_all<R: Threads + Wait + Copy + Send + 'static, P: Spawner<Sum>>(
     Ok(refused)
 }
 
+/// Whether a spawner does these works, which add to this sum.
+fn sums_up<R: Threads + Wait + Copy + Send + 'static, P: Spawner<Sum>>(
+    rt: &R,
+    alloc: Global,
+    spawner: &mut P,
+    sum: &Arc<AtomicU64>,
+    works: &Works,
+) -> bool {
+    start_all(rt, alloc, spawner, sum, works.count) == Ok(works.refused)
+        && sum.load(Ordering::SeqCst) == works.sum
+}
+
+/// Whether it does, from a sum of 0.
+fn does<R: Threads + Wait + Copy + Send + 'static, P: Spawner<Sum>>(
+    rt: &R,
+    alloc: Global,
+    spawner: &mut P,
+    works: &Works,
+) -> bool {
+    match Arc::new(alloc, AtomicU64::new(0)) {
+        Ok(sum) => sums_up(rt, alloc, spawner, &sum, works),
+        Err(_) => false,
+    }
+}
+
+/// Whether a spawner in memory does, of whose starts these are refused.
+fn are_done_in_memory<R: Threads + Wait + Copy + Send + 'static>(
+    rt: &R,
+    alloc: Global,
+    failed_starts: &[u64],
+    works: &Works,
+) -> bool {
+    match Vec::from_slice(alloc, failed_starts) {
+        Ok(failing) => does(rt, alloc, &mut MemorySpawner::new(alloc, failing), works),
+        Err(_) => false,
+    }
+}
+
+const THREE: &Works = &Works {
+    count: 3,
+    refused: 1,
+    sum: 1_002,
+};
+
+const MANY: &Works = &Works {
+    count: 40,
+    refused: 0,
+    sum: 40,
+};
+
 /// The second of three starts is refused: its work is given up, and the others are done before they are joined.
 #[test]
-fn a_refused_start_is_given_up(rt: HostRuntime) -> Result<(), OutOfMemory> {
-    let sum = Arc::new(rt.alloc(), AtomicU64::new(0))?;
-    let mut spawner = MemorySpawner::new(rt.alloc(), Vec::from_slice(rt.alloc(), &[1])?);
-    let refused = start_all(&rt, rt.alloc(), &mut spawner, &sum, 3)?;
-    assert!(&rt; refused == 1 && sum.load(Ordering::SeqCst) == 1_002);
-    Ok(())
+fn a_refused_start_is_given_up(rt: HostRuntime) -> Result<(), &'static str> {
+    ended(are_done_in_memory(&rt, rt.alloc(), &[1], THREE))
+}
+
+/// Whether threads do these works.
+fn are_done_in_threads<R: Threads + Wait + Copy + Send + 'static>(
+    rt: &R,
+    alloc: Global,
+    works: &Works,
+) -> bool {
+    does(rt, alloc, &mut ThreadSpawner::new(alloc), works)
 }
 
 /// Many works, one after the other, are all done.
 #[test]
-fn all_work_is_done(rt: HostRuntime) -> Result<(), OutOfMemory> {
-    let sum = Arc::new(rt.alloc(), AtomicU64::new(0))?;
-    let mut spawner = ThreadSpawner::new(rt.alloc());
-    start_all(&rt, rt.alloc(), &mut spawner, &sum, 40)?;
-    assert!(&rt; sum.load(Ordering::SeqCst) == 40);
-    Ok(())
+fn all_work_is_done(rt: HostRuntime) -> Result<(), &'static str> {
+    ended(are_done_in_threads(&rt, rt.alloc(), MANY))
 }
