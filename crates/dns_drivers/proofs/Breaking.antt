@@ -24,7 +24,7 @@ use Rattle.dns_drivers.specs.Story.{Broken}
 use Rattle.dns_drivers.proofs.Appends.{all_of_append, pieces_append, all_but_snoc, sent_append, rounds_append, closed_more}
 use Rattle.dns_drivers.proofs.ByKind.{Does}
 use Rattle.dns_drivers.proofs.Running.{waits, chosen_does, went_more}
-use Rattle.dns_drivers.proofs.Wide.{quiet, frames_append, rounds_wide, wide_frames}
+use Rattle.dns_drivers.proofs.Wide.{quiet, nobodys_of, frames_append, rounds_wide, wide_frames}
 
 no_cut : (q : List (List ℕ)) (extra : List ℕ) → extra ≡ [] → IsFrontCut q extra
 no_cut q extra e = record { written = 0; is = e }
@@ -65,7 +65,7 @@ module _ {W R F : Type 0} (answer : PolledRequest F R → ℕ → Answer) (answe
         unread = [];
         extra = [];
         noted = rw (h.noted, y.noted) (append_assoc n y.events h.events);
-        mine = all_of_append client y.events h.events y.mine (still.of client);
+        mine = all_of_append client y.events h.events y.mine (nobodys_of client h.events h.wide h.nobodys);
         rounds = rounds_append answers 0 s y.events h.events y.rounds (rounds_wide answers (turned_all 0 y.events) s1 h.events h.wide);
         came = rw (y.came, pieces_append y.events h.events, still.pieces_are) (simp append-nil);
         went = rw (y.went, y.cut, fs) refl;
@@ -105,7 +105,7 @@ module _ {W R F : Type 0} (answer : PolledRequest F R → ℕ → Answer) (answe
         unread = [];
         extra = g.extra;
         noted = rw (noted, y.noted) (append_assoc n y.events (event ∷ []));
-        mine = all_of_append client y.events (event ∷ []) y.mine ((λ own. c.of), tt);
+        mine = all_of_append client y.events (event ∷ []) y.mine (rw c.is_own c.of, tt);
         rounds = rounds_append answers 0 s y.events (event ∷ []) y.rounds (rw (← r.below_is) (c.may answers s1 r.stands), tt);
         came = rw (m.came, y.came, pieces_append y.events (event ∷ [])) (simp (append_assoc, append-nil));
         went = went_more t.went t1.went t2.went (frame_octets (sent_after answers s y.events)) y.extra m.part (frame_octets (rule answers event s1).1) g.extra (frame_octets (sent_after answers s events)) m.went y.went y.cut g.is fs;

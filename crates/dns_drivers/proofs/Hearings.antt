@@ -15,7 +15,7 @@ use Rattle.dns_client.specs.News.{wide, new_configurations, new_end}
 use Rattle.dns_client.specs.declared.client.ClientCore.{ClientCore}
 use Rattle.dns_notes.specs.Own.{is_wide}
 use Rattle.dns_notes.specs.Notes.{NotedKinds, NotedWide, AllWide}
-use Rattle.dns_notes.specs.Woven.{kinds, news_kinds, seen_with}
+use Rattle.dns_notes.specs.Woven.{kinds, AreNobodys, news_kinds, seen_with}
 use Rattle.dns_notes.proofs.Notings.{kinds_append}
 use Rattle.dns_drivers.specs.Blames.{HeardFor}
 use Rattle.dns_drivers.specs.Steps.{LookedOnce, SeesLook, HeardNews}
@@ -24,7 +24,7 @@ pub looked_once : (look : Look) (k k' : Known) → Called k ToLook (Shown look) 
 looked_once look k k' c = record { look = look; called = c }
 
 pub wide_none : (n : List Event) → NotedWide n n
-wide_none n = record { events = []; wide = tt; noted = sym (append-nil n) }
+wide_none n = record { events = []; wide = tt; nobodys = tt; noted = sym (append-nil n) }
 
 unless_wide : (b : Bool) (e : Event) → is_wide e.kind ≡ true → AllWide (kinds (if b then [] else e ∷ []))
 unless_wide true e w = tt
@@ -45,13 +45,18 @@ both_wide [] ls a b = b
 both_wide (k ∷ ks) ls a b = (a.0, both_wide ks ls a.1 b)
 
 pub wide_version : (version : ℕ) (look : Look) (n n1 n2 : List Event) → NotedKinds (kinds (new_configurations version look)) n n1 → n2 ≡ n1 → NotedWide n n2
-wide_version version look n n1 n2 a e = record { events = a.events; wide = rw a.kinds_are (version_wide version look); noted = e ∙ a.noted }
+wide_version version look n n1 n2 a e = record { events = a.events; wide = rw a.kinds_are (version_wide version look); nobodys = a.nobodys; noted = e ∙ a.noted }
+
+both_nobodys : (es fs : List Event) → AreNobodys es → AreNobodys fs → AreNobodys (es ++ fs)
+both_nobodys [] fs a b = b
+both_nobodys (e ∷ es) fs a b = (a.0, both_nobodys es fs a.1 b)
 
 -- the configurations, and then the shutdown
 pub noted_news : (last look : Look) (n n1 n2 : List Event) → NotedKinds (kinds (new_configurations last.version look)) n n1 → NotedKinds (kinds (new_end last.closed look)) n1 n2 → NotedKinds (news_kinds last look) n n2
 noted_news last look n n1 n2 a b = record {
   events = a.events ++ b.events;
   kinds_are = rw (kinds_append a.events b.events, a.kinds_are, b.kinds_are) (sym (kinds_append (new_configurations last.version look) (new_end last.closed look)));
+  nobodys = both_nobodys a.events b.events a.nobodys b.nobodys;
   noted = rw (b.noted, a.noted) (append_assoc n a.events b.events);
 }
 
@@ -59,7 +64,7 @@ pub news_wide : (last look : Look) → AllWide (news_kinds last look)
 news_wide last look = rw (kinds_append (new_configurations last.version look) (new_end last.closed look)) (both_wide (kinds (new_configurations last.version look)) (kinds (new_end last.closed look)) (version_wide last.version look) (end_wide last.closed look))
 
 pub wide_news : (last look : Look) (n n' : List Event) → NotedKinds (news_kinds last look) n n' → NotedWide n n'
-wide_news last look n n' a = record { events = a.events; wide = rw a.kinds_are (news_wide last look); noted = a.noted }
+wide_news last look n n' a = record { events = a.events; wide = rw a.kinds_are (news_wide last look); nobodys = a.nobodys; noted = a.noted }
 
 module _ {W R F : Type 0} (answer : PolledRequest F R → ℕ → Answer) where
   pub heard_news : (why : Option Why) (core core' : ClientCore W R F) (last last' look : Look) (n n' : List Event) (k k' : Known) →

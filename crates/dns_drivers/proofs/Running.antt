@@ -32,7 +32,7 @@ use Rattle.dns_drivers.specs.Story.{Extra, LastOf, all_but_last}
 use Rattle.dns_drivers.proofs.Appends.{own_append, all_of_append, seen_snoc, pieces_append, full_append, ticks_append, ends_append, faults_append, turned_append, all_but_snoc, woven_look, woven_own, after_append, sent_append, rounds_append, last_own, last_later, closed_more, gained_look, gained_none}
 use Rattle.dns_drivers.proofs.ByKind.{Does, event_does, fault_most}
 use Rattle.dns_drivers.proofs.Hearings.{news_wide}
-use Rattle.dns_drivers.proofs.Wide.{quiet, frames_append, rounds_wide, do_same, NewsDo, news_do, news_last}
+use Rattle.dns_drivers.proofs.Wide.{quiet, nobodys_of, frames_append, rounds_wide, do_same, NewsDo, news_do, news_last}
 
 -- what the core does for a slate that it stands for, is what the noted events do
 pub record HeardAt {W R F : Type 0} (answer : PolledRequest F R → ℕ → Answer) (answers : Serving) (s : Slate) (why : Option Why) (over : Bool) (look : Look) (events : List Event) (core : ClientCore W R F) : Type 0 where
@@ -101,7 +101,7 @@ module _ {W R F : Type 0} (answer : PolledRequest F R → ℕ → Answer) (answe
           looks = y.looks ++ h.look ∷ [];
           extra = [];
           noted = rw (h.news.noted, y.noted) (append_assoc n y.events h.news.events);
-          mine = all_of_append client y.events h.news.events y.mine (still.of client);
+          mine = all_of_append client y.events h.news.events y.mine (nobodys_of client h.news.events wide h.news.nobodys);
           calls = gained_look k k1 k2 y.looks h.look y.calls r.name h.called;
           woven = record {
             same = rw (own_is, kinds_append y.events h.news.events, woven_look first h.look y.looks (own_kinds y.events) count, ← r.last_look, h.news.kinds_are, y.woven.same) refl;
@@ -178,7 +178,7 @@ module _ {W R F : Type 0} (answer : PolledRequest F R → ℕ → Answer) (answe
           looks = y.looks;
           extra = g.extra;
           noted = rw (noted, y.noted) (append_assoc n y.events (event ∷ []));
-          mine = all_of_append client y.events (event ∷ []) y.mine ((λ own. c.of), tt);
+          mine = all_of_append client y.events (event ∷ []) y.mine (rw c.is_own c.of, tt);
           calls = y.calls;
           woven = record {
             same = rw (own_is, kinds_append y.events (event ∷ []), woven_own first event.kind y.looks (own_kinds y.events) count, y.woven.same) refl;

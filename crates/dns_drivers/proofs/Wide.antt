@@ -18,7 +18,7 @@ use Rattle.dns_client.specs.Slate.{Slate, Told, Phase, Unused, Exchange, Open, F
 use Rattle.dns_notes.specs.Own.{is_wide}
 use Rattle.dns_notes.specs.Clocks.{fault_count, faults_in}
 use Rattle.dns_notes.specs.Notes.{AllWide}
-use Rattle.dns_notes.specs.Woven.{kinds, own_kinds, AllOf, news_kinds}
+use Rattle.dns_notes.specs.Woven.{kinds, own_kinds, AllOf, AreNobodys, news_kinds}
 use Rattle.dns_drivers.specs.Closing.{closed_by}
 use Rattle.dns_drivers.specs.Links.{pieces_in, piece_octets, AllFull, HasOctets, ticks_in, tick_count, ends_in, end_count, frame_octets}
 use Rattle.dns_drivers.specs.Rounds.{May, turned, turned_all, Rounds}
@@ -70,11 +70,10 @@ pub record AllQuiet (es : List Event) : Type 0 where
   pub ticks_are : ticks_in es ≡ 0
   pub ends_are : ends_in es ≡ 0
   pub faults_are : faults_in es ≡ 0
-  pub of : (client : ℕ) → AllOf client es
   pub turns : (below : ℕ) → turned_all below es ≡ below
 
 pub quiet : (es : List Event) → AllWide (kinds es) → AllQuiet es
-quiet [] w = record { own_are = refl; pieces_are = refl; full = tt; ticks_are = refl; ends_are = refl; faults_are = refl; of = λ client. tt; turns = λ below. refl }
+quiet [] w = record { own_are = refl; pieces_are = refl; full = tt; ticks_are = refl; ends_are = refl; faults_are = refl; turns = λ below. refl }
 quiet (e ∷ es) w = let a = quiet es w.1 in let b = quiet_one e.kind w.0 in record {
   own_are = rw (w.0, a.own_are) refl;
   pieces_are = rw (b.piece, a.pieces_are) refl;
@@ -82,9 +81,13 @@ quiet (e ∷ es) w = let a = quiet es w.1 in let b = quiet_one e.kind w.0 in rec
   ticks_are = rw (b.ticks, a.ticks_are) refl;
   ends_are = rw (b.ends, a.ends_are) refl;
   faults_are = rw (b.fault, a.faults_are) refl;
-  of = λ client. ((λ own. absurd cc), a.of client);
   turns = λ below. rw (b.turn below) (a.turns below);
 }
+
+-- where they name nobody, they are among the events of any client
+pub nobodys_of : (client : ℕ) (es : List Event) → AllWide (kinds es) → AreNobodys es → AllOf client es
+nobodys_of client [] w n = tt
+nobodys_of client (e ∷ es) w n = (rw w.0 n.0, nobodys_of client es w.1 n.1)
 
 pub frames_append : (xs ys : List Output) → frame_octets (xs ++ ys) ≡ frame_octets xs ++ frame_octets ys
 frames_append [] ys = refl

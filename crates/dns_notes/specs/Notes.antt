@@ -6,7 +6,7 @@ use Rattle.dns_service.specs.declared.event.Event.{Event}
 use Rattle.dns_service.specs.declared.event.EventKind.{EventKind}
 use Rattle.dns_sent.specs.Own.{is_wide}
 use Rattle.dns_notes.specs.Clocks.{ClockReading, Timed}
-use Rattle.dns_notes.specs.Woven.{kinds}
+use Rattle.dns_notes.specs.Woven.{kinds, AreNobodys}
 
 -- the event at the end, or nothing where there is no memory
 abbrev pub NoteMoves : Result (Unit {0}) OutOfMemory → Event → List Event → List Event → Type 0
@@ -18,10 +18,11 @@ pub record NotedMoment (client : ℕ) (kind : EventKind) (at : ℕ) (n n' : List
   pub secs : ℕ
   pub noted : n' ≡ n ++ record { at = at; secs = secs; client = client; kind = kind } ∷ []
 
--- events of these kinds were noted
+-- events of these kinds were noted, which name no client
 pub record NotedKinds (ks : List EventKind) (n n' : List Event) : Type 0 where
   pub events : List Event
   pub kinds_are : kinds events ≡ ks
+  pub nobodys : AreNobodys events
   pub noted : n' ≡ n ++ events
 
 -- events that all hear were noted
@@ -32,6 +33,7 @@ AllWide (k ∷ ks) = (is_wide k ≡ true) × AllWide ks
 pub record NotedWide (n n' : List Event) : Type 0 where
   pub events : List Event
   pub wide : AllWide (kinds events)
+  pub nobodys : AreNobodys events
   pub noted : n' ≡ n ++ events
 
 -- What a call did that notes events of these kinds, each with a reading of the clock, or nothing where there is no memory: by what clock

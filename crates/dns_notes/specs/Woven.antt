@@ -1,5 +1,5 @@
 -- The order of the events that a driver notes, against the looks of its seat: before each own event stands the news of its look.
-use Rattle.std.specs.Prelude.{◌≡◌, ◌≤◌, ℕ, ◌+◌, List, [], ◌∷◌, ◌++◌, length, false, ◌||◌, if◌then◌else◌}
+use Rattle.std.specs.Prelude.{◌≡◌, ◌≤◌, ℕ, ◌+◌, List, [], ◌∷◌, ◌++◌, length, ◌||◌, if◌then◌else◌}
 use Rattle.dns_admission.specs.declared.look.Look.{Look}
 use Rattle.dns_admission.specs.declared.call.Call.TheVariants.{Look as ToLook}
 use Rattle.dns_admission.specs.declared.call.Reply.TheVariants.{Look as Shown}
@@ -19,10 +19,14 @@ abbrev pub own_kinds : List Event → List EventKind
 own_kinds [] = []
 own_kinds (e ∷ es) = (if is_wide e.kind then [] else e.kind ∷ []) ++ own_kinds es
 
--- the own events name the client
+-- the own events name the client, and those that all hear name none: they stand under number 0
 abbrev pub AllOf : ℕ → List Event → Type 0
 AllOf client [] = Unit {0}
-AllOf client (e ∷ es) = (is_wide e.kind ≡ false → e.client ≡ client) × AllOf client es
+AllOf client (e ∷ es) = (e.client ≡ (if is_wide e.kind then 0 else client)) × AllOf client es
+
+abbrev pub AreNobodys : List Event → Type 0
+AreNobodys [] = Unit {0}
+AreNobodys (e ∷ es) = (e.client ≡ 0) × AreNobodys es
 
 -- what was seen before, and a look: a shutdown that was seen stays
 abbrev pub seen_with : Look → Look → Look
