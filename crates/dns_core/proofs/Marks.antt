@@ -1,12 +1,14 @@
--- Lists of marks: the polls of one request among them, and the messages that they mark.
+-- Lists of marks: the polls of one request among them, and the messages and frames that they mark.
 use Rattle.std.proofs.Common.{◌≡◌, ◌≢◌, ℕ, zero, suc, ◌+◌, ◌<◌, ◌≤◌, ◌⊎◌, inl, inr, true, false, Bool, List, [], ◌∷◌, ◌++◌, length, take, replicate, Option, Some, None, refl, ap, ◌∙◌, arith}
 use Rattle.std.specs.Prelude.{slice_get, slice_set, if◌then◌else◌, ◌==◌}
 use Rattle.std.specs.List.{All}
 use Rattle.std.proofs.Math.Seq.{take-append-add}
 use Rattle.std.proofs.lemmas.Bool.{eq-eqb, ne_eqb}
 use Rattle.std.proofs.lemmas.List.Elements.{All-nil, All-cons, All-head, All-tail}
+use Rattle.dns_service.specs.declared.event.Output.{Output}
+use Rattle.dns_service.specs.declared.event.Output.TheVariants.{Frame}
 use Rattle.dns_client.specs.Serving.{Serving}
-use Rattle.dns_core.specs.Trails.{Mark, AreMarked, IsMarked, IsRising, polls_of}
+use Rattle.dns_core.specs.Trails.{Mark, AreMarked, IsMarked, IsRising, Refuses, polls_of}
 
 -- ---- places
 
@@ -107,22 +109,39 @@ polls_other k m h = ap (λ (b : Bool). if b then m.poll ∷ [] else []) (ne_eqb 
 
 -- ---- the messages that marks mark
 
-module _ (answers : Serving) where
-  pub marked_length : (ms : List (Option Mark)) (os : List (List ℕ)) → AreMarked answers ms os → length ms ≡ length os
-  marked_length [] [] h = refl
-  marked_length [] (o ∷ os) h = absurd h
-  marked_length (m ∷ ms) [] h = absurd h
-  marked_length (m ∷ ms) (o ∷ os) h = ap suc (marked_length ms os h.1)
+-- a frame refuses a response, whoever is sent it
+abbrev pub FrameRefuses : List ℕ → Type 0
+FrameRefuses o = Refuses (Frame 0 o)
 
-  pub marked_append : (ms ns : List (Option Mark)) (os ps : List (List ℕ)) → AreMarked answers ms os → AreMarked answers ns ps → AreMarked answers (ms ++ ns) (os ++ ps)
+module _ (answers : Serving) where
+  -- the frames of a queue are marked, whoever is sent them
+  abbrev pub AreQueued : List (Option Mark) → List (List ℕ) → Type 0
+  AreQueued [] [] = Unit {0}
+  AreQueued [] (o ∷ os) = ⊥
+  AreQueued (m ∷ ms) [] = ⊥
+  AreQueued (m ∷ ms) (o ∷ os) = ((client : ℕ) → IsMarked answers m (Frame client o)) × AreQueued ms os
+
+  pub queued_length : (ms : List (Option Mark)) (os : List (List ℕ)) → AreQueued ms os → length ms ≡ length os
+  queued_length [] [] h = refl
+  queued_length [] (o ∷ os) h = absurd h
+  queued_length (m ∷ ms) [] h = absurd h
+  queued_length (m ∷ ms) (o ∷ os) h = ap suc (queued_length ms os h.1)
+
+  pub queued_append : (ms ns : List (Option Mark)) (os ps : List (List ℕ)) → AreQueued ms os → AreQueued ns ps → AreQueued (ms ++ ns) (os ++ ps)
+  queued_append [] ns [] ps h k = k
+  queued_append [] ns (o ∷ os) ps h k = absurd h
+  queued_append (m ∷ ms) ns [] ps h k = absurd h
+  queued_append (m ∷ ms) ns (o ∷ os) ps h k = (h.0, queued_append ms ns os ps h.1 k)
+
+  pub queued_none : (os : List (List ℕ)) → All FrameRefuses os → AreQueued (replicate (length os) None) os
+  queued_none [] h = tt
+  queued_none (o ∷ os) h = ((λ client. All-head FrameRefuses o os h), queued_none os (All-tail FrameRefuses o os h))
+
+  pub marked_append : (ms ns : List (Option Mark)) (os ps : List Output) → AreMarked answers ms os → AreMarked answers ns ps → AreMarked answers (ms ++ ns) (os ++ ps)
   marked_append [] ns [] ps h k = k
   marked_append [] ns (o ∷ os) ps h k = absurd h
   marked_append (m ∷ ms) ns [] ps h k = absurd h
   marked_append (m ∷ ms) ns (o ∷ os) ps h k = (h.0, marked_append ms ns os ps h.1 k)
 
-  pub marked_none : (os : List (List ℕ)) → AreMarked answers (replicate (length os) None) os
-  marked_none [] = tt
-  marked_none (o ∷ os) = (tt, marked_none os)
-
-  pub marked_one : (m : Option Mark) (o : List ℕ) → IsMarked answers m o → AreMarked answers (m ∷ []) (o ∷ [])
-  marked_one m o h = (h, tt)
+  pub marked_one : (m : Option Mark) (out : Output) → IsMarked answers m out → AreMarked answers (m ∷ []) (out ∷ [])
+  marked_one m out h = (h, tt)

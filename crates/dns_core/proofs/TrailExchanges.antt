@@ -20,8 +20,8 @@ use Rattle.dns_client.specs.Requests.{asked, header_size, request_of_datagram}
 use Rattle.dns_client.specs.Serving.{Serving}
 use Rattle.dns_client.specs.Slate.{Slate, SlateRequest, Told, Phase, Unused, Exchange}
 use Rattle.dns_client.specs.Turns.{exchange_turn, polled, sent_at_once, sent_for, with_request}
-use Rattle.dns_core.specs.Trails.{Mark, Trail, AreMarked, IsMarked, IsRising, in_order, mark, on_wire, poll_of, polls_of, reply_at}
-use Rattle.dns_core.proofs.Marks.{At, at_left, at_right, marked_append, marked_length, marked_one, polls_append}
+use Rattle.dns_core.specs.Trails.{Mark, Trail, IsMarked, IsRising, Refuses, in_order, mark, on_wire, poll_of, polls_of, reply_at}
+use Rattle.dns_core.proofs.Marks.{At, AreQueued, at_left, at_right, marked_append, marked_one, polls_append, queued_length}
 use Rattle.dns_core.proofs.Trailing.{Asks, AsksAll, AsksAt, GoesOn, Has, Keeps, Kept, joined_on, stays, still, still_polls, trail, waits_with}
 use Rattle.dns_core.proofs.TrailPieces.{asks_push}
 use Rattle.dns_core.proofs.Repolled.{mark_free, others_none, polls_replied, polls_silent, repolled, rises_with, turned}
@@ -54,18 +54,18 @@ none_waits n ws x h = ap (λ (l : ℕ). take l (ws ++ replicate n x)) h
 
 module _ (answers : Serving) where
   -- one message is sent at once
-  goes_at_once : (s u : Slate) (t : Trail) (os : List (List ℕ)) (c : ℕ) (o : List ℕ) (x : Option Mark) (ds : List Mark) → Kept answers s t os → u.queue ≡ s.queue → t.waiting ≡ [] → IsMarked answers x o
+  goes_at_once : (s u : Slate) (t : Trail) (os : List Output) (c : ℕ) (o : List ℕ) (x : Option Mark) (ds : List Mark) → Kept answers s t os → u.queue ≡ s.queue → t.waiting ≡ [] → IsMarked answers x (Datagram c o)
       → ((k : ℕ) → IsRising (polls_of k (in_order t) ++ polls_of k (x ∷ []))) → Has answers u.phase u.requests (sent_now x ds t) → Keeps answers (u, Datagram c o ∷ []) x ds t os
   goes_at_once s u t os c o x ds h q w marked rises has =
       let v : Trail = sent_now x ds t in
-      let l : length u.queue ≡ 0 = ap length q ∙ sym (marked_length answers t.waiting s.queue h.waiting) ∙ ap length w in
-      let k : Kept answers u v (os ++ o ∷ []) = record {
-        went = marked_append answers t.went (x ∷ []) os (o ∷ []) h.went (marked_one answers x o marked);
-        waiting = subst (λ (ws : List (Option Mark)). AreMarked answers ws u.queue) w (subst (AreMarked answers t.waiting) (sym q) h.waiting);
+      let l : length u.queue ≡ 0 = ap length q ∙ sym (queued_length answers t.waiting s.queue h.waiting) ∙ ap length w in
+      let k : Kept answers u v (os ++ Datagram c o ∷ []) = record {
+        went = marked_append answers t.went (x ∷ []) os (Datagram c o ∷ []) h.went (marked_one answers x (Datagram c o) marked);
+        waiting = subst (λ (ws : List (Option Mark)). AreQueued answers ws u.queue) w (subst (AreQueued answers t.waiting) (sym q) h.waiting);
         order = λ j. subst IsRising (sym (now_polls j x ds t w)) (rises j);
         has = has;
       } in
-      subst (λ (ws : List (Option Mark)). Kept answers u (trail (t.went ++ x ∷ []) ws (t.dropped ++ ds)) (os ++ o ∷ [])) (sym (none_waits (length u.queue) t.waiting x l)) k
+      subst (λ (ws : List (Option Mark)). Kept answers u (trail (t.went ++ x ∷ []) ws (t.dropped ++ ds)) (os ++ Datagram c o ∷ [])) (sym (none_waits (length u.queue) t.waiting x l)) k
 
   -- ---- a request of an exchange is polled
 
@@ -79,12 +79,12 @@ module _ (answers : Serving) where
   now_others k j r ds t w ne = now_polls j (Some (mark k r)) ds t w ∙ ap (λ (ns : List ℕ). polls_of j (in_order t) ++ ns) (others_none k j r ne) ∙ append-nil (polls_of j (in_order t))
 
   -- a request that isn't done, at its turn
-  record AtTurn (k : ℕ) (r : SlateRequest) (s : Slate) (t : Trail) (os : List (List ℕ)) : Type 0 where
+  record AtTurn (k : ℕ) (r : SlateRequest) (s : Slate) (t : Trail) (os : List Output) : Type 0 where
     phase : s.phase ≡ Exchange
     here : slice_get s.requests k ≡ Some r
     kept : Kept answers s t os
 
-  module _ (k : ℕ) (r : SlateRequest) (s : Slate) (t : Trail) (os : List (List ℕ)) (ds : List Mark) (h : AtTurn k r s t os) where
+  module _ (k : ℕ) (r : SlateRequest) (s : Slate) (t : Trail) (os : List Output) (ds : List Mark) (h : AtTurn k r s t os) where
     abbrev answer : Answer
     answer = answers.answer r.request r.polls
 
@@ -126,7 +126,7 @@ module _ (answers : Serving) where
     exchange_turns = undone_case r.done
 
   -- whichever request is named
-  pub exchange_keeps : (k : ℕ) (x : Option SlateRequest) (s : Slate) (t : Trail) (os : List (List ℕ)) (ds : List Mark) → s.phase ≡ Exchange → slice_get s.requests k ≡ x → Kept answers s t os → Keeps answers (exchange_turn answers k x s) (option_map (λ r. mark k r) x) ds t os
+  pub exchange_keeps : (k : ℕ) (x : Option SlateRequest) (s : Slate) (t : Trail) (os : List Output) (ds : List Mark) → s.phase ≡ Exchange → slice_get s.requests k ≡ x → Kept answers s t os → Keeps answers (exchange_turn answers k x s) (option_map (λ r. mark k r) x) ds t os
   exchange_keeps k None s t os ds p at h = still answers s t os None ds h
   exchange_keeps k (Some r) s t os ds p at h = exchange_turns k r s t os ds (record { phase = p; here = at; kept = h })
 
@@ -137,21 +137,22 @@ module _ (answers : Serving) where
   begun_asks u q false true is h = h
   begun_asks u q false false is h = asks_push answers false [] q u is h
 
-  begun_case : (s u : Slate) (t : Trail) (os : List (List ℕ)) (c : ℕ) (o : List ℕ) (ds : List Mark) (short qr : Bool) → Kept answers s t os → u.queue ≡ s.queue → u.phase ≡ Exchange → t.waiting ≡ [] → ((k : ℕ) → polls_of k (in_order t) ≡ [])
-      → ((v : Trail) → ((k : ℕ) → polls_of k (in_order v) ≡ []) → AsksAll answers false u.requests v)
+  begun_case : (s u : Slate) (t : Trail) (os : List Output) (c : ℕ) (o : List ℕ) (ds : List Mark) (short qr : Bool) → Kept answers s t os → u.queue ≡ s.queue → u.phase ≡ Exchange → t.waiting ≡ [] → ((k : ℕ) → polls_of k (in_order t) ≡ [])
+      → ((v : Trail) → ((k : ℕ) → polls_of k (in_order v) ≡ []) → AsksAll answers false u.requests v) → (qr ≡ true → Refuses (Datagram c o))
       → let outs : List Output = (if short then [] else (if qr then Datagram c o ∷ [] else [])) in Keeps answers (u, outs) None ds t os
-  begun_case s u t os c o ds true qr h q p w none asks =
+  begun_case s u t os c o ds true qr h q p w none asks refuses =
       stays answers s u t os None ds h q (subst (λ (x : Phase). Has answers x u.requests (waits_with [] ds t)) (sym p) (append-nil t.waiting ∙ w, asks (waits_with [] ds t) (λ k. still_polls k ds t ∙ none k)))
-  begun_case s u t os c o ds false false h q p w none asks =
+  begun_case s u t os c o ds false false h q p w none asks refuses =
       stays answers s u t os None ds h q (subst (λ (x : Phase). Has answers x u.requests (waits_with [] ds t)) (sym p) (append-nil t.waiting ∙ w, asks (waits_with [] ds t) (λ k. still_polls k ds t ∙ none k)))
-  begun_case s u t os c o ds false true h q p w none asks =
+  begun_case s u t os c o ds false true h q p w none asks refuses =
       let polls = λ (k : ℕ). now_polls k None ds t w ∙ append-nil (polls_of k (in_order t)) in
-      goes_at_once s u t os c o None ds h q w tt (λ k. subst IsRising (sym (append-nil (polls_of k (in_order t)))) (h.order k))
+      goes_at_once s u t os c o None ds h q w (refuses refl) (λ k. subst IsRising (sym (append-nil (polls_of k (in_order t)))) (h.order k))
       (subst (λ (x : Phase). Has answers x u.requests (sent_now None ds t)) (sym p) (refl, asks (sent_now None ds t) (λ k. polls k ∙ none k)))
 
-  pub datagram_keeps : (client : ℕ) (addr : SocketAddr) (at secs : ℕ) (o : List ℕ) (s : Slate) (t : Trail) (os : List (List ℕ)) (ds : List Mark) → s.phase ≡ Unused → Kept answers s t os → Keeps answers (datagram client addr at secs o s) None ds t os
+  pub datagram_keeps : (client : ℕ) (addr : SocketAddr) (at secs : ℕ) (o : List ℕ) (s : Slate) (t : Trail) (os : List Output) (ds : List Mark) → s.phase ≡ Unused → Kept answers s t os → Keeps answers (datagram client addr at secs o s) None ds t os
   datagram_keeps client addr at secs o s t os ds p h =
       let d = cut_datagram o in
       let new : Has answers Unused s.requests t = subst (λ (x : Phase). Has answers x s.requests t) p h.has in
       begun_case s (exchange client addr at secs d s) t os client (wire (cut (limit s.conf.dgram.max_response_size) (error_reply d 1))) ds (nat_lt (length d) header_size) (header_of d).qr h refl refl new.1 new.2
       (λ v none. begun_asks v (request_of_datagram s.conf.dgram addr at secs d) (nat_lt (length d) header_size) (header_of d).qr refl none)
+      (λ qr. (d, s.conf.dgram.max_response_size, qr, refl))

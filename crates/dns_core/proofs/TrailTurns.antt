@@ -7,6 +7,7 @@ use Rattle.dns_base.specs.Wire.{wire}
 use Rattle.dns_service.specs.Answer.{Answer}
 use Rattle.dns_service.specs.Config.{Connection}
 use Rattle.dns_service.specs.Transport.{is_stream, limit, limit_over}
+use Rattle.dns_service.specs.declared.event.Output.{Output}
 use Rattle.dns_service.specs.declared.message.TransportSpecificContext.{TransportSpecificContext}
 use Rattle.dns_service.specs.declared.message.TransportSpecificContext.TheVariants.{Udp, NonUdp}
 use Rattle.dns_client.specs.Connections.{append_frame, is_in_transaction, room}
@@ -31,18 +32,18 @@ drops_case : (done held some space through : Bool) → done ≡ false → held �
 drops_case done held some space through a b c d e = rw (a, b, c, d, e) refl
 
 module _ (answers : Serving) where
-  open_asks : (s : Slate) (t : Trail) (os : List (List ℕ)) → s.phase ≡ Open → Kept answers s t os → AsksAll answers true s.requests t
+  open_asks : (s : Slate) (t : Trail) (os : List Output) → s.phase ≡ Open → Kept answers s t os → AsksAll answers true s.requests t
   open_asks s t os e h = subst (λ (p : Phase). Has answers p s.requests t) e h.has
 
   -- a request that isn't done, at its turn
-  pub record AtTurn (at k : ℕ) (r : SlateRequest) (s : Slate) (t : Trail) (os : List (List ℕ)) (ds : List Mark) : Type 0 where
+  pub record AtTurn (at k : ℕ) (r : SlateRequest) (s : Slate) (t : Trail) (os : List Output) (ds : List Mark) : Type 0 where
     pub phase : s.phase ≡ Open
     pub here : slice_get s.requests k ≡ Some r
     pub kept : Kept answers s t os
     pub undone : r.done ≡ false
     pub dropped : drops answers at r s ≡ true → ds ≡ mark k r ∷ []
 
-  module _ (at k : ℕ) (r : SlateRequest) (s : Slate) (t : Trail) (os : List (List ℕ)) (ds : List Mark) (h : AtTurn at k r s t os ds) where
+  module _ (at k : ℕ) (r : SlateRequest) (s : Slate) (t : Trail) (os : List Output) (ds : List Mark) (h : AtTurn at k r s t os ds) where
     asks_all : AsksAll answers true s.requests t
     asks_all = open_asks s t os h.phase h.kept
 
@@ -67,7 +68,7 @@ module _ (answers : Serving) where
     queues c r' o reply asks =
         let u = append_frame at o (with_request k r' (record s { connection = c })) in
         let v = waits_with (Some (mark k r) ∷ []) ds t in
-        joins answers s u t os (o ∷ []) (Some (mark k r)) ds h.kept refl (reply, tt) (rises_with answers true k r t asks_here h.kept.order)
+        joins answers s u t os (o ∷ []) (Some (mark k r)) ds h.kept refl ((λ client. reply), tt) (rises_with answers true k r t asks_here h.kept.order)
         (has_turned u.requests v (turned answers true k s.requests r r' t v h.here asks_all asks still_others (joined_on (Some (mark k r) ∷ []) ds t)))
 
     -- ---- a request that holds nothing is polled
@@ -120,13 +121,13 @@ module _ (answers : Serving) where
     pub turns_on : Keeps answers (turn_request answers at k r.held r s, []) (Some (mark k r)) ds t os
     turns_on = request_turn r.held refl
 
-  done_case : (at k : ℕ) (r : SlateRequest) (s : Slate) (t : Trail) (os : List (List ℕ)) (ds : List Mark) (b : Bool) → Kept answers s t os → (b ≡ false → Keeps answers (turn_request answers at k r.held r s, []) (Some (mark k r)) ds t os)
+  done_case : (at k : ℕ) (r : SlateRequest) (s : Slate) (t : Trail) (os : List Output) (ds : List Mark) (b : Bool) → Kept answers s t os → (b ≡ false → Keeps answers (turn_request answers at k r.held r s, []) (Some (mark k r)) ds t os)
       → let u : Slate = (if b then s else turn_request answers at k r.held r s) in Keeps answers (u, []) (Some (mark k r)) ds t os
   done_case at k r s t os ds true h more = still answers s t os (Some (mark k r)) ds h
   done_case at k r s t os ds false h more = more refl
 
   -- whichever request is named
-  pub turn_keeps : (at k : ℕ) (x : Option SlateRequest) (s : Slate) (t : Trail) (os : List (List ℕ)) (ds : List Mark) → s.phase ≡ Open → slice_get s.requests k ≡ x → Kept answers s t os → ds ≡ dropped_of answers at k x s
+  pub turn_keeps : (at k : ℕ) (x : Option SlateRequest) (s : Slate) (t : Trail) (os : List Output) (ds : List Mark) → s.phase ≡ Open → slice_get s.requests k ≡ x → Kept answers s t os → ds ≡ dropped_of answers at k x s
       → Keeps answers (turn answers at k x s, []) (option_map (λ r. mark k r) x) ds t os
   turn_keeps at k None s t os ds p here h d = still answers s t os None ds h
   turn_keeps at k (Some r) s t os ds p here h d =

@@ -4,6 +4,7 @@ use Rattle.std.proofs.Common.{◌≡◌, ℕ, true, false, List, [], ◌∷◌, 
 use Rattle.std.specs.Prelude.{not, if◌then◌else◌, ◌&&◌}
 use Rattle.std.specs.List.{list_any}
 use Rattle.std.proofs.Math.Seq.{take_at}
+use Rattle.dns_service.specs.declared.event.Output.{Output}
 use Rattle.dns_service.specs.declared.event.Output.TheVariants.{Frame}
 use Rattle.dns_service.specs.declared.event.Why.{Why}
 use Rattle.dns_service.specs.declared.event.Why.TheVariants.{Idle, WriteTimeout}
@@ -12,68 +13,68 @@ use Rattle.dns_client.specs.Serving.{Serving}
 use Rattle.dns_client.specs.Slate.{Slate, Told}
 use Rattle.dns_client.specs.Timers.{is_expired}
 use Rattle.dns_core.specs.Trails.{Mark, Trail, AreMarked, IsRising, polls_of}
-use Rattle.dns_core.proofs.Marks.{marked_append, marked_length, marked_one}
+use Rattle.dns_core.proofs.Marks.{AreQueued, marked_append, marked_one, queued_length}
 use Rattle.dns_core.proofs.Trailing.{Has, Keeps, Kept, closes, ends, front_on, has_on, stays, still, trail, trail_by}
 
 module _ (answers : Serving) where
   -- the first of what waits, for the frame that is written, and the others
-  record Front (m : List ℕ) (ms : List (List ℕ)) (s : Slate) (t : Trail) (os : List (List ℕ)) : Type 0 where
+  record Front (m : List ℕ) (ms : List (List ℕ)) (s : Slate) (t : Trail) (os : List Output) : Type 0 where
     first : Option Mark
     others : List (Option Mark)
     waiting : t.waiting ≡ first ∷ others
-    went : AreMarked answers (t.went ++ first ∷ []) (os ++ m ∷ [])
-    waits : AreMarked answers others ms
+    went : AreMarked answers (t.went ++ first ∷ []) (os ++ Frame s.client m ∷ [])
+    waits : AreQueued answers others ms
     order : (k : ℕ) → IsRising (polls_of k ((t.went ++ first ∷ []) ++ others))
     has : Has answers s.phase s.requests (trail t.went (first ∷ others) t.dropped)
 
-  front_case : (m : List ℕ) (ms : List (List ℕ)) (s : Slate) (t : Trail) (os : List (List ℕ)) (ws : List (Option Mark)) → t.waiting ≡ ws → AreMarked answers ws (m ∷ ms) → Kept answers s t os → Front m ms s t os
+  front_case : (m : List ℕ) (ms : List (List ℕ)) (s : Slate) (t : Trail) (os : List Output) (ws : List (Option Mark)) → t.waiting ≡ ws → AreQueued answers ws (m ∷ ms) → Kept answers s t os → Front m ms s t os
   front_case m ms s t os [] is w h = absurd w
   front_case m ms s t os (x ∷ xs) is w h = record {
     first = x;
     others = xs;
     waiting = is;
-    went = marked_append answers t.went (x ∷ []) os (m ∷ []) h.went (marked_one answers x m w.0);
+    went = marked_append answers t.went (x ∷ []) os (Frame s.client m ∷ []) h.went (marked_one answers x (Frame s.client m) (w.0 s.client));
     waits = w.1;
     order = λ k. subst (λ (ys : List (Option Mark)). IsRising (polls_of k ys)) (ap (λ (ys : List (Option Mark)). t.went ++ ys) is ∙ sym (append_assoc t.went (x ∷ []) xs)) (h.order k);
     has = subst (λ (ys : List (Option Mark)). Has answers s.phase s.requests (trail t.went ys t.dropped)) is h.has;
   }
 
-  front_of : (m : List ℕ) (ms : List (List ℕ)) (s : Slate) (t : Trail) (os : List (List ℕ)) → s.queue ≡ m ∷ ms → Kept answers s t os → Front m ms s t os
-  front_of m ms s t os q h = front_case m ms s t os t.waiting refl (subst (AreMarked answers t.waiting) q h.waiting) h
+  front_of : (m : List ℕ) (ms : List (List ℕ)) (s : Slate) (t : Trail) (os : List Output) → s.queue ≡ m ∷ ms → Kept answers s t os → Front m ms s t os
+  front_of m ms s t os q h = front_case m ms s t os t.waiting refl (subst (AreQueued answers t.waiting) q h.waiting) h
 
   -- it goes, and the others wait
-  gone : (m : List ℕ) (ms : List (List ℕ)) (s u : Slate) (t : Trail) (os : List (List ℕ)) (c : ℕ) (x : Option Mark) (ds : List Mark) → u.queue ≡ ms → (f : Front m ms s t os)
-      → Has answers u.phase u.requests (trail (t.went ++ f.first ∷ []) f.others (t.dropped ++ ds)) → Keeps answers (u, Frame c m ∷ []) x ds t os
-  gone m ms s u t os c x ds q f has =
-      let l : length f.others ≡ length u.queue = marked_length answers f.others ms f.waits ∙ ap length (sym q) in
-      let told : Told = (u, Frame c m ∷ []) in
-      let kept : Kept answers u (trail (t.went ++ f.first ∷ []) f.others (t.dropped ++ ds)) (os ++ m ∷ []) = record {
+  gone : (m : List ℕ) (ms : List (List ℕ)) (s u : Slate) (t : Trail) (os : List Output) (x : Option Mark) (ds : List Mark) → u.queue ≡ ms → (f : Front m ms s t os)
+      → Has answers u.phase u.requests (trail (t.went ++ f.first ∷ []) f.others (t.dropped ++ ds)) → Keeps answers (u, Frame s.client m ∷ []) x ds t os
+  gone m ms s u t os x ds q f has =
+      let l : length f.others ≡ length u.queue = queued_length answers f.others ms f.waits ∙ ap length (sym q) in
+      let told : Told = (u, Frame s.client m ∷ []) in
+      let kept : Kept answers u (trail (t.went ++ f.first ∷ []) f.others (t.dropped ++ ds)) (os ++ Frame s.client m ∷ []) = record {
         went = f.went;
-        waiting = subst (AreMarked answers f.others) (sym q) f.waits;
+        waiting = subst (AreQueued answers f.others) (sym q) f.waits;
         order = f.order;
         has = has;
       } in
-      subst (λ (ws : List (Option Mark)). Kept answers u (trail_by told x ds (trail t.went ws t.dropped)) (os ++ m ∷ [])) (sym f.waiting)
-      (subst (λ (ws : List (Option Mark)). Kept answers u (trail (t.went ++ f.first ∷ []) ws (t.dropped ++ ds)) (os ++ m ∷ [])) (sym (take_at f.others (replicate (length u.queue) x) (length u.queue) l)) kept)
+      subst (λ (ws : List (Option Mark)). Kept answers u (trail_by told x ds (trail t.went ws t.dropped)) (os ++ Frame s.client m ∷ [])) (sym f.waiting)
+      (subst (λ (ws : List (Option Mark)). Kept answers u (trail (t.went ++ f.first ∷ []) ws (t.dropped ++ ds)) (os ++ Frame s.client m ∷ [])) (sym (take_at f.others (replicate (length u.queue) x) (length u.queue) l)) kept)
 
-  has_gone : (m : List ℕ) (ms : List (List ℕ)) (s : Slate) (t : Trail) (os : List (List ℕ)) (ds : List Mark) (f : Front m ms s t os) → Has answers s.phase s.requests (trail (t.went ++ f.first ∷ []) f.others (t.dropped ++ ds))
+  has_gone : (m : List ℕ) (ms : List (List ℕ)) (s : Slate) (t : Trail) (os : List Output) (ds : List Mark) (f : Front m ms s t os) → Has answers s.phase s.requests (trail (t.went ++ f.first ∷ []) f.others (t.dropped ++ ds))
   has_gone m ms s t os ds f =
       let before = trail t.went (f.first ∷ f.others) t.dropped in
       let behind = trail (t.went ++ f.first ∷ []) f.others (t.dropped ++ ds) in
       has_on answers s.phase s.requests before behind (λ (e : f.first ∷ f.others ≡ []). cc) (λ k. ap (polls_of k) (append_assoc t.went (f.first ∷ []) f.others)) (front_on t.went f.others f.first t.dropped ds) f.has
 
   -- the last goes, and the connection is closed
-  last_gone : (why : Why) (m : List ℕ) (ms : List (List ℕ)) (s : Slate) (t : Trail) (os : List (List ℕ)) (x : Option Mark) (ds : List Mark) → Front m ms s t os → Keeps answers ((close why s).0, Frame s.client m ∷ (close why s).1) x ds t os
+  last_gone : (why : Why) (m : List ℕ) (ms : List (List ℕ)) (s : Slate) (t : Trail) (os : List Output) (x : Option Mark) (ds : List Mark) → Front m ms s t os → Keeps answers ((close why s).0, Frame s.client m ∷ (close why s).1) x ds t os
   last_gone why m ms s t os x ds f =
       let told : Told = ((close why s).0, Frame s.client m ∷ (close why s).1) in
-      subst (λ (ws : List (Option Mark)). Kept answers (close why s).0 (trail_by told x ds (trail t.went ws t.dropped)) (os ++ m ∷ [])) (sym f.waiting)
-      (ends answers why s (t.went ++ f.first ∷ []) f.others (t.dropped ++ ds) (os ++ m ∷ []) f.went f.order)
+      subst (λ (ws : List (Option Mark)). Kept answers (close why s).0 (trail_by told x ds (trail t.went ws t.dropped)) (os ++ Frame s.client m ∷ [])) (sym f.waiting)
+      (ends answers why s (t.went ++ f.first ∷ []) f.others (t.dropped ++ ds) (os ++ Frame s.client m ∷ []) f.went f.order)
 
-  written_keeps : (at : ℕ) (m : List ℕ) (ms : List (List ℕ)) (s : Slate) (t : Trail) (os : List (List ℕ)) (x : Option Mark) (ds : List Mark) → Front m ms s t os → Keeps answers (written at m ms s) x ds t os
-  written_keeps at m [] s t os x ds f = gone m [] s (record s { queue = []; reset_at = at }) t os s.client x ds refl f (has_gone m [] s t os ds f)
-  written_keeps at m (n ∷ ms) s t os x ds f = gone m (n ∷ ms) s (record s { queue = n ∷ ms }) t os s.client x ds refl f (has_gone m (n ∷ ms) s t os ds f)
+  written_keeps : (at : ℕ) (m : List ℕ) (ms : List (List ℕ)) (s : Slate) (t : Trail) (os : List Output) (x : Option Mark) (ds : List Mark) → Front m ms s t os → Keeps answers (written at m ms s) x ds t os
+  written_keeps at m [] s t os x ds f = gone m [] s (record s { queue = []; reset_at = at }) t os x ds refl f (has_gone m [] s t os ds f)
+  written_keeps at m (n ∷ ms) s t os x ds f = gone m (n ∷ ms) s (record s { queue = n ∷ ms }) t os x ds refl f (has_gone m (n ∷ ms) s t os ds f)
 
-  pub write_keeps : (at took : ℕ) (q : List (List ℕ)) (s : Slate) (t : Trail) (os : List (List ℕ)) (x : Option Mark) (ds : List Mark) → s.queue ≡ q → Kept answers s t os → Keeps answers (write at took q s) x ds t os
+  pub write_keeps : (at took : ℕ) (q : List (List ℕ)) (s : Slate) (t : Trail) (os : List Output) (x : Option Mark) (ds : List Mark) → s.queue ≡ q → Kept answers s t os → Keeps answers (write at took q s) x ds t os
   write_keeps at took [] s t os x ds q h = still answers s t os x ds h
   write_keeps at took (m ∷ ms) s t os x ds q h =
       (elim (took_too_long took s) as (λ b. let told : Told = (if b then close WriteTimeout s else written at m ms s) in Keeps answers told x ds t os) [
@@ -81,11 +82,11 @@ module _ (answers : Serving) where
         | false ↦ written_keeps at m ms s t os x ds (front_of m ms s t os q h)
       ])
 
-  flushed_keeps : (why : Why) (m : List ℕ) (ms : List (List ℕ)) (s : Slate) (t : Trail) (os : List (List ℕ)) (x : Option Mark) (ds : List Mark) → Front m ms s t os → Keeps answers (flushed why m ms s) x ds t os
+  flushed_keeps : (why : Why) (m : List ℕ) (ms : List (List ℕ)) (s : Slate) (t : Trail) (os : List Output) (x : Option Mark) (ds : List Mark) → Front m ms s t os → Keeps answers (flushed why m ms s) x ds t os
   flushed_keeps why m [] s t os x ds f = last_gone why m [] s t os x ds f
-  flushed_keeps why m (n ∷ ms) s t os x ds f = gone m (n ∷ ms) s (record s { queue = n ∷ ms }) t os s.client x ds refl f (has_gone m (n ∷ ms) s t os ds f)
+  flushed_keeps why m (n ∷ ms) s t os x ds f = gone m (n ∷ ms) s (record s { queue = n ∷ ms }) t os x ds refl f (has_gone m (n ∷ ms) s t os ds f)
 
-  pub flush_keeps : (why : Why) (took : ℕ) (q : List (List ℕ)) (s : Slate) (t : Trail) (os : List (List ℕ)) (x : Option Mark) (ds : List Mark) → s.queue ≡ q → Kept answers s t os → Keeps answers (flush why took q s) x ds t os
+  pub flush_keeps : (why : Why) (took : ℕ) (q : List (List ℕ)) (s : Slate) (t : Trail) (os : List Output) (x : Option Mark) (ds : List Mark) → s.queue ≡ q → Kept answers s t os → Keeps answers (flush why took q s) x ds t os
   flush_keeps why took [] s t os x ds q h = still answers s t os x ds h
   flush_keeps why took (m ∷ ms) s t os x ds q h =
       (elim (took_too_long took s) as (λ b. let told : Told = (if b then close WriteTimeout s else flushed why m ms s) in Keeps answers told x ds t os) [
@@ -94,11 +95,11 @@ module _ (answers : Serving) where
       ])
 
   -- a connection that is to be closed keeps what waits, and forgets its requests
-  pub wind_keeps : (why : Why) (q : List (List ℕ)) (s : Slate) (t : Trail) (os : List (List ℕ)) (x : Option Mark) (ds : List Mark) → Kept answers s t os → Keeps answers (wind_up why q s) x ds t os
+  pub wind_keeps : (why : Why) (q : List (List ℕ)) (s : Slate) (t : Trail) (os : List Output) (x : Option Mark) (ds : List Mark) → Kept answers s t os → Keeps answers (wind_up why q s) x ds t os
   wind_keeps why [] s t os x ds h = closes answers why s s t os x ds h
   wind_keeps why (m ∷ ms) s t os x ds h = stays answers s (wind_up why (m ∷ ms) s).0 t os x ds h refl refl
 
-  pub tick_keeps : (at : ℕ) (s : Slate) (t : Trail) (os : List (List ℕ)) (x : Option Mark) (ds : List Mark) → Kept answers s t os → Keeps answers (tick at s) x ds t os
+  pub tick_keeps : (at : ℕ) (s : Slate) (t : Trail) (os : List Output) (x : Option Mark) (ds : List Mark) → Kept answers s t os → Keeps answers (tick at s) x ds t os
   tick_keeps at s t os x ds h =
       (elim (is_expired s.reset_at s.connection.idle_timeout at && not (list_any in_transaction s.requests)) as (λ b. let told : Told = (if b then close Idle s else (s, [])) in Keeps answers told x ds t os) [
         | true ↦ closes answers Idle s s t os x ds h

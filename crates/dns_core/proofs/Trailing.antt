@@ -5,12 +5,13 @@ use Rattle.std.specs.Prelude.{filter, slice_get}
 use Rattle.std.specs.List.{All}
 use Rattle.std.proofs.lemmas.List.{append-nil}
 use Rattle.dns_service.specs.Transport.{is_stream}
+use Rattle.dns_service.specs.declared.event.Output.{Output}
 use Rattle.dns_service.specs.declared.event.Why.{Why}
 use Rattle.dns_client.specs.Connections.{close}
 use Rattle.dns_client.specs.Serving.{Serving}
 use Rattle.dns_client.specs.Slate.{Slate, SlateRequest, Told, Phase, Unused, Exchange, Open, Flushing, Closed}
-use Rattle.dns_core.specs.Trails.{Mark, Trail, AreMarked, IsRising, IsSomewhere, in_order, is_datagram_sent, is_frame, mark, octets_sent, poll_of, polls_of, reply_at}
-use Rattle.dns_core.proofs.Marks.{At, at_left, at_right, at_split, take_joined, rising_front, polls_append, marked_length, marked_append}
+use Rattle.dns_core.specs.Trails.{Mark, Trail, AreMarked, IsRising, IsSomewhere, in_order, is_datagram_sent, is_frame, mark, messages_sent, poll_of, polls_of, reply_at}
+use Rattle.dns_core.proofs.Marks.{At, at_left, at_right, at_split, take_joined, rising_front, polls_append, AreQueued, queued_length, queued_append, marked_append}
 
 abbrev pub trail : List (Option Mark) → List (Option Mark) → List Mark → Trail
 trail went waiting dropped = record { went = went; waiting = waiting; dropped = dropped }
@@ -90,15 +91,15 @@ module _ (answers : Serving) where
   Has (Flushing why) rs t = rs ≡ []
   Has Closed rs t = rs ≡ []
 
-  pub record Kept (s : Slate) (t : Trail) (os : List (List ℕ)) : Type 0 where
+  pub record Kept (s : Slate) (t : Trail) (os : List Output) : Type 0 where
     pub went : AreMarked answers t.went os
-    pub waiting : AreMarked answers t.waiting s.queue
+    pub waiting : AreQueued answers t.waiting s.queue
     pub order : (k : ℕ) → IsRising (polls_of k (in_order t))
     pub has : Has s.phase s.requests t
 
   -- what is kept once an event told this
-  abbrev pub Keeps : Told → Option Mark → List Mark → Trail → List (List ℕ) → Type 0
-  Keeps told x ds t os = Kept told.0 (trail_by told x ds t) (os ++ octets_sent told.1)
+  abbrev pub Keeps : Told → Option Mark → List Mark → Trail → List Output → Type 0
+  Keeps told x ds t os = Kept told.0 (trail_by told x ds t) (os ++ messages_sent told.1)
 
   asks_case : (stream : Bool) (k : ℕ) (x : Option SlateRequest) (t u : Trail) → polls_of k (in_order u) ≡ polls_of k (in_order t) → GoesOn t u → AsksAt stream k x t → AsksAt stream k x u
   asks_case stream k None t u e g h = e ∙ h
@@ -128,42 +129,42 @@ module _ (answers : Serving) where
       ap (λ (ws : List (Option Mark)). trail t.went ws (t.dropped ++ ds)) (sym (take_joined t.waiting n (length u.queue) x h))
       ∙ ap (λ (ws : List (Option Mark)). trail ws (take (length u.queue) (t.waiting ++ replicate (length u.queue) x)) (t.dropped ++ ds)) (sym (append-nil t.went))
 
-  joined_kept : (s u : Slate) (t : Trail) (os news : List (List ℕ)) (ms : List (Option Mark)) (ds : List Mark) → Kept s t os → u.queue ≡ s.queue ++ news → AreMarked answers ms news
+  joined_kept : (s u : Slate) (t : Trail) (os : List Output) (news : List (List ℕ)) (ms : List (Option Mark)) (ds : List Mark) → Kept s t os → u.queue ≡ s.queue ++ news → AreQueued answers ms news
       → ((k : ℕ) → IsRising (polls_of k (in_order t) ++ polls_of k ms)) → Has u.phase u.requests (waits_with ms ds t) → Kept u (waits_with ms ds t) os
   joined_kept s u t os news ms ds h q marked rises has = record {
     went = h.went;
-    waiting = subst (AreMarked answers (t.waiting ++ ms)) (sym q) (marked_append answers t.waiting ms s.queue news h.waiting marked);
+    waiting = subst (AreQueued answers (t.waiting ++ ms)) (sym q) (queued_append answers t.waiting ms s.queue news h.waiting marked);
     order = λ k. subst IsRising (sym (polls_joined k ms ds t)) (rises k);
     has = has;
   }
 
   -- frames with this mark are queued, and nothing is sent
-  pub joins : (s u : Slate) (t : Trail) (os news : List (List ℕ)) (x : Option Mark) (ds : List Mark) → Kept s t os → u.queue ≡ s.queue ++ news → AreMarked answers (replicate (length news) x) news
+  pub joins : (s u : Slate) (t : Trail) (os : List Output) (news : List (List ℕ)) (x : Option Mark) (ds : List Mark) → Kept s t os → u.queue ≡ s.queue ++ news → AreQueued answers (replicate (length news) x) news
       → ((k : ℕ) → IsRising (polls_of k (in_order t) ++ polls_of k (replicate (length news) x))) → Has u.phase u.requests (waits_with (replicate (length news) x) ds t) → Keeps (u, []) x ds t os
   joins s u t os news x ds h q marked rises has =
-      let l : length u.queue ≡ length t.waiting + length news = ap length q ∙ length-append s.queue news ∙ ap (λ (n : ℕ). n + length news) (sym (marked_length answers t.waiting s.queue h.waiting)) in
+      let l : length u.queue ≡ length t.waiting + length news = ap length q ∙ length-append s.queue news ∙ ap (λ (n : ℕ). n + length news) (sym (queued_length answers t.waiting s.queue h.waiting)) in
       let k = joined_kept s u t os news (replicate (length news) x) ds h q marked rises has in
       subst (λ (v : Trail). Kept u v (os ++ [])) (joined_trail u x ds t (length news) l)
-      (subst (λ (ps : List (List ℕ)). Kept u (waits_with (replicate (length news) x) ds t) ps) (sym (append-nil os)) k)
+      (subst (λ (ps : List Output). Kept u (waits_with (replicate (length news) x) ds t) ps) (sym (append-nil os)) k)
 
   rising_nil : (k : ℕ) (t : Trail) → IsRising (polls_of k (in_order t)) → IsRising (polls_of k (in_order t) ++ [])
   rising_nil k t h = subst IsRising (sym (append-nil (polls_of k (in_order t)))) h
 
   -- no frame is queued, and nothing is sent
-  pub stays : (s u : Slate) (t : Trail) (os : List (List ℕ)) (x : Option Mark) (ds : List Mark) → Kept s t os → u.queue ≡ s.queue → Has u.phase u.requests (waits_with [] ds t) → Keeps (u, []) x ds t os
+  pub stays : (s u : Slate) (t : Trail) (os : List Output) (x : Option Mark) (ds : List Mark) → Kept s t os → u.queue ≡ s.queue → Has u.phase u.requests (waits_with [] ds t) → Keeps (u, []) x ds t os
   stays s u t os x ds h q has = joins s u t os [] x ds h (q ∙ sym (append-nil s.queue)) tt (λ k. rising_nil k t (h.order k)) has
 
   pub has_still : (p : Phase) (rs : List SlateRequest) (ds : List Mark) (t : Trail) → Has p rs t → Has p rs (waits_with [] ds t)
   has_still p rs ds t h = has_on p rs t (waits_with [] ds t) (λ e. append-nil t.waiting ∙ e) (λ k. still_polls k ds t) (joined_on [] ds t) h
 
   -- nothing changes
-  pub still : (s : Slate) (t : Trail) (os : List (List ℕ)) (x : Option Mark) (ds : List Mark) → Kept s t os → Keeps (s, []) x ds t os
+  pub still : (s : Slate) (t : Trail) (os : List Output) (x : Option Mark) (ds : List Mark) → Kept s t os → Keeps (s, []) x ds t os
   still s t os x ds h = stays s s t os x ds h refl (has_still s.phase s.requests ds t h.has)
 
   -- ---- what goes
 
   -- all that waits is forgotten
-  pub ends : (why : Why) (s : Slate) (went rest : List (Option Mark)) (dropped : List Mark) (os : List (List ℕ)) → AreMarked answers went os → ((k : ℕ) → IsRising (polls_of k (went ++ rest))) → Kept (close why s).0 (trail went [] dropped) os
+  pub ends : (why : Why) (s : Slate) (went rest : List (Option Mark)) (dropped : List Mark) (os : List Output) → AreMarked answers went os → ((k : ℕ) → IsRising (polls_of k (went ++ rest))) → Kept (close why s).0 (trail went [] dropped) os
   ends why s went rest dropped os marked rises = record {
     went = marked;
     waiting = tt;
@@ -171,7 +172,7 @@ module _ (answers : Serving) where
     has = refl;
   }
 
-  pub closes : (why : Why) (s u : Slate) (t : Trail) (os : List (List ℕ)) (x : Option Mark) (ds : List Mark) → Kept s t os → Keeps (close why u) x ds t os
+  pub closes : (why : Why) (s u : Slate) (t : Trail) (os : List Output) (x : Option Mark) (ds : List Mark) → Kept s t os → Keeps (close why u) x ds t os
   closes why s u t os x ds h =
       ends why u (t.went ++ []) t.waiting (t.dropped ++ ds) (os ++ []) (marked_append answers t.went [] os [] h.went tt)
       (λ k. subst (λ (ms : List (Option Mark)). IsRising (polls_of k (ms ++ t.waiting))) (sym (append-nil t.went)) (h.order k))

@@ -1,9 +1,13 @@
 -- Which replies a client was sent, which wait in its queue, and which were dropped: of each, to which poll of which request it is.
 -- Lists go from the oldest to the newest.
 use Rattle.std.specs.Prelude.{◌≡◌, ◌≢◌, ℕ, ◌-◌, ◌<◌, ◌==◌, ◌⊎◌, List, [], ◌∷◌, ◌++◌, length, filter, take, drop, replicate, slice_get, if◌then◌else◌, Bool, true, false, not, ◌&&◌, is_some, Option, Some, None, option_map, All}
+use Rattle.dns_base.specs.Header.{header_of}
 use Rattle.dns_base.specs.Msg.{Msg}
 use Rattle.dns_base.specs.Wire.{wire}
+use Rattle.dns_service.specs.Cut.{cut}
+use Rattle.dns_service.specs.ErrorReply.{error_reply}
 use Rattle.dns_service.specs.Req.{Req}
+use Rattle.dns_service.specs.Transport.{limit}
 use Rattle.dns_service.specs.declared.event.Event.{Event}
 use Rattle.dns_service.specs.declared.event.EventKind.{EventKind}
 use Rattle.dns_service.specs.declared.event.EventKind.TheVariants.{Turn}
@@ -57,16 +61,23 @@ abbrev pub is_datagram_sent : Output → Bool
 is_datagram_sent (Datagram client octets) = true
 is_datagram_sent _ = false
 
--- what the messages that are sent are
-abbrev pub octets_sent : List Output → List (List ℕ)
-octets_sent [] = []
-octets_sent (Frame client o ∷ outs) = o ∷ octets_sent outs
-octets_sent (Datagram client o ∷ outs) = o ∷ octets_sent outs
-octets_sent (out ∷ outs) = octets_sent outs
+-- the messages among what is sent
+abbrev pub messages_sent : List Output → List Output
+messages_sent [] = []
+messages_sent (Frame client o ∷ outs) = Frame client o ∷ messages_sent outs
+messages_sent (Datagram client o ∷ outs) = Datagram client o ∷ messages_sent outs
+messages_sent (out ∷ outs) = messages_sent outs
 
 abbrev pub is_open : Phase → Bool
 is_open Open = true
 is_open _ = false
+
+-- a message refuses a response: it is FORMERR (RFC 1035, section 4.1.1) to octets with QR set, cut to a limit in a datagram, and
+-- behind its length in a frame
+abbrev pub Refuses : Output → Type 0
+Refuses (Datagram client o) = (response : List ℕ) × (hint : Option ℕ) × ((header_of response).qr ≡ true) × (o ≡ wire (cut (limit hint) (error_reply response 1)))
+Refuses (Frame client o) = (response : List ℕ) × ((header_of response).qr ≡ true) × (o ≡ framed (wire (error_reply response 1)))
+Refuses _ = ⊥
 
 -- a message as it is sent: on a connection behind its length
 abbrev pub on_wire : TransportSpecificContext → Msg → List ℕ
@@ -108,16 +119,23 @@ module _ (answers : Serving) where
   abbrev pub reply_at : Mark → Option (List ℕ)
   reply_at m = option_map (on_wire m.asked.transport) (sent_for answers m.asked (answers.answer m.asked m.poll))
 
-  abbrev pub IsMarked : Option Mark → List ℕ → Type 0
-  IsMarked None o = Unit {0}
-  IsMarked (Some m) o = reply_at m ≡ Some o
+  -- a message is that reply
+  abbrev pub Replies : Mark → Output → Type 0
+  Replies m (Datagram client o) = reply_at m ≡ Some o
+  Replies m (Frame client o) = reply_at m ≡ Some o
+  Replies m _ = ⊥
 
-  -- the messages are the replies that the marks say, one for one
-  abbrev pub AreMarked : List (Option Mark) → List (List ℕ) → Type 0
+  -- a mark says which reply a message is; one without a mark refuses a response
+  abbrev pub IsMarked : Option Mark → Output → Type 0
+  IsMarked None out = Refuses out
+  IsMarked (Some m) out = Replies m out
+
+  -- the messages are what the marks say, one for one
+  abbrev pub AreMarked : List (Option Mark) → List Output → Type 0
   AreMarked [] [] = Unit {0}
-  AreMarked [] (o ∷ os) = ⊥
+  AreMarked [] (out ∷ outs) = ⊥
   AreMarked (m ∷ ms) [] = ⊥
-  AreMarked (m ∷ ms) (o ∷ os) = IsMarked m o × AreMarked ms os
+  AreMarked (m ∷ ms) (out ∷ outs) = IsMarked m out × AreMarked ms outs
 
 -- the polls of one request among marks
 abbrev pub polls_of : ℕ → List (Option Mark) → List ℕ

@@ -1,7 +1,7 @@
 //! The cores by client number.
 
 ghost use Rattle.dns_client.specs.Serving.{Serving, serving};
-ghost use Rattle.std.specs.Prelude.{◌≡◌, ◌≢◌, ℕ, List, [], ◌∷◌, ◌++◌, IfOk, OnOk, None, Some, true, nat_eq, if◌then◌else◌};
+ghost use Rattle.std.specs.Prelude.{◌≡◌, ◌≢◌, ℕ, List, [], ◌∷◌, ◌++◌, IfOk, OnOk, OnErr, None, Some, true, nat_eq, if◌then◌else◌};
 ghost use Rattle.std.specs.Ordering.{nat_cmp};
 ghost use Rattle.std.specs.BTreeMap.{get, keys, IsOrdered};
 ghost use Rattle.std.specs.BTreeSet.{contains};
@@ -256,8 +256,10 @@ pub fn turn_away(
     Ok(outs)
 }
 
+/// Outputs go behind others, which stay as they are where memory is wanting.
 pub fn append(outs: &mut Vec<Output>, more: Vec<Output>) -> Result<(), OutOfMemory>
-    ensures { OnOk result (outs.new.items ≡ outs.old.items ++ more.items) }
+    ensures ok { OnOk result (outs.new.items ≡ outs.old.items ++ more.items) }
+    ensures kept { OnErr result (outs.new.items ≡ outs.old.items) }
 {
     let mut more = more;
     outs.append(&mut more)?;

@@ -26,7 +26,7 @@ ghost use Rattle.dns_client.specs.Slate.{SlateRequest, fresh};
 ghost use Rattle.dns_core.specs.ReplyTo.{IsReply};
 ghost use Rattle.dns_core.specs.Settings.{opening};
 ghost use Rattle.dns_core.specs.SlateBy.{slate_by};
-ghost use Rattle.dns_core.specs.Trails.{AreMarked, IsRising, IsSomewhere, in_order, no_trail, octets_sent, poll_of, polls_of, reply_at, trail_after};
+ghost use Rattle.dns_core.specs.Trails.{AreMarked, IsRising, IsSomewhere, in_order, messages_sent, no_trail, poll_of, polls_of, reply_at, trail_after};
 ghost use Rattle.dns_middleware.specs.Verdicts.{Verdicts, verdict_on};
 ghost use Rattle.dns_middleware.specs.Wrapped.{hint_left, replies};
 ghost use Rattle.dns_service.specs.declared.settings.Settings.{Settings};
@@ -79,12 +79,13 @@ pub fn replies_answer_what_was_asked()
 }
 
 /// A client is sent its replies in order: each message that it is sent is the reply to one poll of one of its requests, or
-/// refuses a response, and those of one request are sent in the order of its polls, each at most once. Of what its requests were
-/// polled for, a reply was sent unless it waits in the queue, is held, or was dropped outside of a transaction, since the queue
-/// stood full or the response budget was spent in that window of time; a connection that closes forgets its requests.
+/// refuses a response with FORMERR, and those of one request are sent in the order of its polls, each at most once. Of what its
+/// requests were polled for, a reply was sent unless it waits in the queue, is held, or was dropped outside of a transaction,
+/// since the queue stood full or the response budget was spent in that window of time; a connection that closes forgets its
+/// requests.
 pub fn replies_keep_their_order()
     ensures sent { (answers : Serving) (settings : Settings) (c : ℕ) (es : List Event)
-        → AreMarked answers (trail_after answers (fresh (opening settings)) no_trail (own c es)).went (octets_sent (sent answers settings (own c es))) }
+        → AreMarked answers (trail_after answers (fresh (opening settings)) no_trail (own c es)).went (messages_sent (sent answers settings (own c es))) }
     ensures order { (answers : Serving) (settings : Settings) (c k : ℕ) (es : List Event)
         → IsRising (polls_of k (in_order (trail_after answers (fresh (opening settings)) no_trail (own c es)))) }
     ensures missing { (answers : Serving) (settings : Settings) (c k n : ℕ) (es : List Event) (r : SlateRequest)

@@ -1,7 +1,7 @@
 //! The server over a list of events.
 
 ghost use Rattle.dns_client.specs.Serving.{Serving, serving};
-ghost use Rattle.std.specs.Prelude.{◌≡◌, ℕ, List, [], true, false, IfOk, OnOk, if◌then◌else◌};
+ghost use Rattle.std.specs.Prelude.{◌≡◌, ℕ, List, [], true, false, IfOk, OnOk, OnErr, if◌then◌else◌};
 ghost use Rattle.std.specs.BTreeSet.{contains};
 ghost use Rattle.std.specs.Ordering.{nat_cmp};
 ghost use Rattle.dns_admission.specs.Machine.{state_after};
@@ -219,7 +219,7 @@ impl<W: Served> Server<W> {
     }
 
     /// Serves one event more: what is sent for it is appended to the outputs. The service is the same at each event. Of a
-    /// server that found no memory nothing is said any more.
+    /// server that found no memory nothing is said any more; the outputs stay as they were then.
     pub fn step(
         &mut self,
         alloc: Global,
@@ -228,7 +228,8 @@ impl<W: Served> Server<W> {
         outs: &mut Vec<Output>,
     ) -> Result<(), OutOfMemory>
         requires { W.can_call service.now }
-        ensures { OnOk result (AddsOutputs (request_answer W.Future.answer W.Stream.answer) (serving (W.answer service.now) (W.hint service.now)) self.old self.new event.now outs.old.items outs.new.items) }
+        ensures ok { OnOk result (AddsOutputs (request_answer W.Future.answer W.Stream.answer) (serving (W.answer service.now) (W.hint service.now)) self.old self.new event.now outs.old.items outs.new.items) }
+        ensures kept { OnErr result (outs.new.items ≡ outs.old.items) }
     {
         let more = self.one(alloc, service, event)?;
         append(outs, more)?;

@@ -1,7 +1,7 @@
 //! The server over a list of steps: a client hears of the server's changes only when it looks.
 
 ghost use Rattle.dns_client.specs.Serving.{Serving, serving};
-ghost use Rattle.std.specs.Prelude.{◌≡◌, [], true, IfOk, OnOk};
+ghost use Rattle.std.specs.Prelude.{◌≡◌, [], true, IfOk, OnOk, OnErr};
 ghost use Rattle.dns_service.specs.PolledRequest.{request_answer};
 ghost use Rattle.dns_core.specs.Own.{is_wide};
 ghost use Rattle.dns_core.specs.Outs.{outs};
@@ -91,7 +91,7 @@ impl<W: Served> SplitServer<W> {
     }
 
     /// Serves one step more: what is sent for it is appended to the outputs. The service is the same at each step. Of a server
-    /// that found no memory nothing is said any more.
+    /// that found no memory nothing is said any more; the outputs stay as they were then.
     pub fn step(
         &mut self,
         alloc: Global,
@@ -100,7 +100,8 @@ impl<W: Served> SplitServer<W> {
         outs: &mut Vec<Output>,
     ) -> Result<(), OutOfMemory>
         requires { W.can_call service.now }
-        ensures { OnOk result (AddsStep (request_answer W.Future.answer W.Stream.answer) (serving (W.answer service.now) (W.hint service.now)) self.old.inner self.new.inner step.now outs.old.items outs.new.items) }
+        ensures ok { OnOk result (AddsStep (request_answer W.Future.answer W.Stream.answer) (serving (W.answer service.now) (W.hint service.now)) self.old.inner self.new.inner step.now outs.old.items outs.new.items) }
+        ensures kept { OnErr result (outs.new.items ≡ outs.old.items) }
     {
         let more = self.take(alloc, service, step)?;
         append(outs, more)?;

@@ -20,7 +20,7 @@ loop-event-preserved g c = λ settings start.
     let t : take (i + 1) es ≡ take i es ++ e ∷ [] = take_more es i e lt ∙ ap (λ (x : Event). take i es ++ x ∷ []) (sym c.event-item.is) in
     let fits : length (take i es) < last_version = simp length-take (omega arith) in
     let so = c.loop-event.invariant settings start in
-    let f = c.in_ok-step.ensures settings (take i es) fits so.1 in
+    let f = c.in_ok-step.ensures.ok settings (take i es) fits so.1 in
     (rw t (f.0.appended ∙ ap (λ (os : List Output). os ++ f.0.more) so.0 ∙ sym f.0.sent), rw t f.1)
 
 pub returns : goal.returns

@@ -18,7 +18,7 @@ loop-step-preserved g c = λ settings start.
     let lt : i < length ss = c.loop-step-test.true in
     let t : take (i + 1) ss ≡ take i ss ++ x ∷ [] = take_more ss i x lt ∙ ap (λ (y : Step). take i ss ++ y ∷ []) (sym c.step-item.is) in
     let so = c.loop-step.invariant settings start in
-    let f = c.in_ok-step.ensures settings (take i ss) so.1 in
+    let f = c.in_ok-step.ensures.ok settings (take i ss) so.1 in
     (rw t (f.0.appended ∙ ap (λ (os : List Output). os ++ f.0.more) so.0 ∙ sym f.0.sent), rw t f.1)
 
 pub returns : goal.returns

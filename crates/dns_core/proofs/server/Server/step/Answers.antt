@@ -5,13 +5,13 @@ use Rattle.dns_core.specs.Out.{gained}
 use Rattle.dns_core.proofs.OutLemmas.{out_more}
 use Rattle.dns_core.proofs.server.Server.step.Goals as goal
 
-pub returns : goal.returns
-returns g c = λ settings q lt h.
+pub returns-clause-ok : goal.returns-clause-ok
+returns-clause-ok g c = λ settings q lt h.
     let answers = serving (g.W.Served.answer c.args.service.now) (g.W.Served.hint c.args.service.now) in
     let f = c.in_ok-more.ensures settings q lt h in (
       record {
         more = gained answers settings q c.args.event.now;
-        appended = c.in_ok-append.ensures ∙ ap (λ (os : List Output). c.args.outs.now.items ++ os) f.0;
+        appended = c.in_ok-append.ensures.ok ∙ ap (λ (os : List Output). c.args.outs.now.items ++ os) f.0;
         sent = out_more answers settings q c.args.event.now;
       },
       f.1,

@@ -5,13 +5,13 @@ use Rattle.dns_core.specs.Outs.{step_gained}
 use Rattle.dns_core.proofs.Placing.{outs_more}
 use Rattle.dns_core.proofs.split.SplitServer.step.Goals as goal
 
-pub returns : goal.returns
-returns g c = λ settings q h.
+pub returns-clause-ok : goal.returns-clause-ok
+returns-clause-ok g c = λ settings q h.
     let answers = serving (g.W.Served.answer c.args.service.now) (g.W.Served.hint c.args.service.now) in
     let f = c.in_ok-more.ensures settings q h in (
       record {
         more = step_gained answers settings q c.args.step.now;
-        appended = c.in_ok-append.ensures ∙ ap (λ (os : List Output). c.args.outs.now.items ++ os) f.0;
+        appended = c.in_ok-append.ensures.ok ∙ ap (λ (os : List Output). c.args.outs.now.items ++ os) f.0;
         sent = outs_more answers settings q c.args.step.now;
       },
       f.1,
