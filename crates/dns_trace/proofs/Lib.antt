@@ -12,4 +12,5 @@ pub mod Names
 pub mod Numbered
 pub mod Ranges
 pub mod SettingsBack
+pub mod Starts
 pub mod TraceBack

@@ -1,6 +1,6 @@
 //! What lines of settings said.
 
-ghost use Rattle.std.specs.Prelude.{◌≡◌, ◌++◌, ◌∷◌, [], Some, OnOk};
+ghost use Rattle.std.specs.Prelude.{◌≡◌, ◌++◌, ◌∷◌, [], Some, OnErr, OnOk};
 ghost use Rattle.dns_trace.specs.Said.{nothing_said, settings_said};
 
 use crate::budget_line::{Budget, with_budget};
@@ -67,9 +67,10 @@ impl SaidSettings {
         self.secret = Some(secret);
     }
 
-    /// One address more that is denied.
+    /// One address more that is denied. After want of memory what was said is as before.
     pub fn deny(&mut self, address: IpAddr) -> Result<(), OutOfMemory>
-        ensures { OnOk result (self.new ≡ record self.old { denied = self.old.denied ++ address ∷ [] }) }
+        ensures ok { OnOk result (self.new ≡ record self.old { denied = self.old.denied ++ address ∷ [] }) }
+        ensures err { OnErr result (self.new ≡ self.old) }
     {
         self.denied.push(address)?;
         Ok(())

@@ -1,6 +1,6 @@
 //! The lines of settings.
 
-ghost use Rattle.std.specs.Prelude.{◌≡◌, ◌==◌, length};
+ghost use Rattle.std.specs.Prelude.{◌≡◌, ◌==◌, OnErr, length};
 ghost use Rattle.dns_trace.specs.Reading.{GivesLine, TakesLine, unless};
 ghost use Rattle.dns_trace.specs.SettingLines.{denied_of, deny_line, edns_line, first_budget_line, first_dgram_line, first_said, first_stream_line, secret_line, setting_line, strict_line};
 
@@ -40,7 +40,8 @@ fn has_one_word(words: &Words) -> Result<(), Reason>
 /// A line `strict yes|no`.
 #[tactic(auto, unfolding(crate::specs::SettingLines::strict_line))]
 fn read_strict(said: &mut SaidSettings, before_events: bool, words: &Words) -> Result<(), LineError>
-    ensures { TakesLine result said.new (strict_line before_events said.old words.now) }
+    ensures line { TakesLine result said.new (strict_line before_events said.old words.now) }
+    ensures kept { OnErr result (said.new ≡ said.old) }
 {
     first_said(before_events, &said.strict())?;
     has_one_word(words)?;
@@ -52,7 +53,8 @@ fn read_strict(said: &mut SaidSettings, before_events: bool, words: &Words) -> R
 /// A line `edns yes|no`.
 #[tactic(auto, unfolding(crate::specs::SettingLines::edns_line))]
 fn read_edns(said: &mut SaidSettings, before_events: bool, words: &Words) -> Result<(), LineError>
-    ensures { TakesLine result said.new (edns_line before_events said.old words.now) }
+    ensures line { TakesLine result said.new (edns_line before_events said.old words.now) }
+    ensures kept { OnErr result (said.new ≡ said.old) }
 {
     first_said(before_events, &said.edns())?;
     has_one_word(words)?;
@@ -64,7 +66,8 @@ fn read_edns(said: &mut SaidSettings, before_events: bool, words: &Words) -> Res
 /// A line `secret HEX`.
 #[tactic(auto, unfolding(crate::specs::SettingLines::secret_line))]
 fn read_secret(said: &mut SaidSettings, before_events: bool, words: &Words) -> Result<(), LineError>
-    ensures { TakesLine result said.new (secret_line before_events said.old words.now) }
+    ensures line { TakesLine result said.new (secret_line before_events said.old words.now) }
+    ensures kept { OnErr result (said.new ≡ said.old) }
 {
     first_said(before_events, &said.secret())?;
     has_one_word(words)?;
@@ -90,7 +93,8 @@ fn read_deny(
     before_events: bool,
     words: &Words,
 ) -> Result<(), LineError>
-    ensures { TakesLine result said.new (deny_line before_events said.old words.now) }
+    ensures line { TakesLine result said.new (deny_line before_events said.old words.now) }
+    ensures kept { OnErr result (said.new ≡ said.old) }
 {
     unless(Reason::Order, before_events)?;
     let address = denied(alloc, words)?;
@@ -105,7 +109,8 @@ fn read_dgram_line(
     before_events: bool,
     words: &Words,
 ) -> Result<(), LineError>
-    ensures { TakesLine result said.new (first_dgram_line before_events said.old words.now) }
+    ensures line { TakesLine result said.new (first_dgram_line before_events said.old words.now) }
+    ensures kept { OnErr result (said.new ≡ said.old) }
 {
     first_said(before_events, &said.dgram())?;
     let dgram = read_dgram(words)?;
@@ -120,7 +125,8 @@ fn read_stream_line(
     before_events: bool,
     words: &Words,
 ) -> Result<(), LineError>
-    ensures { TakesLine result said.new (first_stream_line before_events said.old words.now) }
+    ensures line { TakesLine result said.new (first_stream_line before_events said.old words.now) }
+    ensures kept { OnErr result (said.new ≡ said.old) }
 {
     first_said(before_events, &said.stream())?;
     let stream = read_stream(words)?;
@@ -135,7 +141,8 @@ fn read_budget_line(
     before_events: bool,
     words: &Words,
 ) -> Result<(), LineError>
-    ensures { TakesLine result said.new (first_budget_line before_events said.old words.now) }
+    ensures line { TakesLine result said.new (first_budget_line before_events said.old words.now) }
+    ensures kept { OnErr result (said.new ≡ said.old) }
 {
     first_said(before_events, &said.budget())?;
     let budget = read_budget(words)?;
@@ -143,7 +150,8 @@ fn read_budget_line(
     Ok(())
 }
 
-/// What is said with the line of this setting more. The first word is not looked at.
+/// What is said with the line of this setting more. The first word is not looked at. After a refusal, and after want of memory, what
+/// was said is as before.
 pub fn read_setting(
     alloc: Global,
     said: &mut SaidSettings,
@@ -151,7 +159,8 @@ pub fn read_setting(
     before_events: bool,
     words: &Words,
 ) -> Result<(), LineError>
-    ensures { TakesLine result said.new (setting_line setting before_events said.old words.now) }
+    ensures line { TakesLine result said.new (setting_line setting before_events said.old words.now) }
+    ensures kept { OnErr result (said.new ≡ said.old) }
 {
     match setting {
         Setting::Strict => read_strict(said, before_events, words),

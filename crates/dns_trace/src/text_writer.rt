@@ -1,6 +1,7 @@
 //! A text that is written word by word.
 
 ghost use Rattle.std.specs.Prelude.{◌≡◌, ◌++◌, ◌∷◌, [], OnErr, OnOk, decimal, map};
+ghost use Rattle.std.specs.Io.{StartsWith};
 ghost use Rattle.std.specs.List.{join_with_byte};
 ghost use Rattle.hex.specs.Hex.{encode_lower};
 ghost use Rattle.dns_trace.specs.Spelling.{address_word, number_or_none, octets_word, yes_no};
@@ -12,7 +13,7 @@ use std::marker::Model;
 
 const DIGITS: &[u8; 16] = b"0123456789abcdef";
 
-/// A text. After want of memory it has a part of what was to be written.
+/// A text. What a call leaves after want of memory begins with the text before.
 #[derive(Debug, Drop)]
 pub struct TextWriter {
     text: Vec<u8>,
@@ -93,16 +94,20 @@ impl TextWriter {
     }
 
     /// A word behind a space.
+    #[tactic(auto, using(crate::proofs::Starts::starts))]
     pub fn word(&mut self, word: &str) -> Result<(), OutOfMemory>
-        ensures { OnOk result (self.new ≡ self.old ++ 32 ∷ word.now) }
+        ensures ok { OnOk result (self.new ≡ self.old ++ 32 ∷ word.now) }
+        ensures err { OnErr result (StartsWith self.new self.old) }
     {
         self.character(b' ')?;
         self.append(word.as_bytes())
     }
 
     /// A number behind a character, in decimal.
+    #[tactic(auto, using(crate::proofs::Starts::starts))]
     pub fn number_behind(&mut self, character: u8, number: u64) -> Result<(), OutOfMemory>
-        ensures { OnOk result (self.new ≡ self.old ++ character ∷ decimal number) }
+        ensures ok { OnOk result (self.new ≡ self.old ++ character ∷ decimal number) }
+        ensures err { OnErr result (StartsWith self.new self.old) }
     {
         let mut buffer = Buffer::new();
         self.character(character)?;
@@ -111,14 +116,16 @@ impl TextWriter {
 
     /// A number behind a space, in decimal.
     pub fn number(&mut self, number: u64) -> Result<(), OutOfMemory>
-        ensures { OnOk result (self.new ≡ self.old ++ 32 ∷ decimal number) }
+        ensures ok { OnOk result (self.new ≡ self.old ++ 32 ∷ decimal number) }
+        ensures err { OnErr result (StartsWith self.new self.old) }
     {
         self.number_behind(b' ', number)
     }
 
     /// A number, or `none`, behind a space.
     pub(crate) fn number_or_none(&mut self, number: Option<u64>) -> Result<(), OutOfMemory>
-        ensures { OnOk result (self.new ≡ self.old ++ 32 ∷ number_or_none number) }
+        ensures ok { OnOk result (self.new ≡ self.old ++ 32 ∷ number_or_none number) }
+        ensures err { OnErr result (StartsWith self.new self.old) }
     {
         match number {
             Some(number) => self.number(number),
@@ -128,15 +135,17 @@ impl TextWriter {
 
     /// `yes` or `no` behind a space.
     pub(crate) fn yes_no(&mut self, yes: bool) -> Result<(), OutOfMemory>
-        ensures { OnOk result (self.new ≡ self.old ++ 32 ∷ yes_no yes) }
+        ensures ok { OnOk result (self.new ≡ self.old ++ 32 ∷ yes_no yes) }
+        ensures err { OnErr result (StartsWith self.new self.old) }
     {
         self.word(if yes { "yes" } else { "no" })
     }
 
     /// Two hexadecimal digits for each octet, in lower case.
-    #[tactic(auto, unfolding(hex::specs::Hex::encode_with))]
+    #[tactic(auto, using(crate::proofs::Starts::starts_kept, crate::proofs::Starts::starts_on), unfolding(hex::specs::Hex::encode_with))]
     fn digits(&mut self, octets: &[u8]) -> Result<(), OutOfMemory>
-        ensures { OnOk result (self.new ≡ self.old ++ encode_lower octets.now) }
+        ensures ok { OnOk result (self.new ≡ self.old ++ encode_lower octets.now) }
+        ensures err { OnErr result (StartsWith self.new self.old) }
     {
         for octet in octets {
             self.character(DIGITS[(*octet / 16) as usize])?;
@@ -146,8 +155,10 @@ impl TextWriter {
     }
 
     /// Hexadecimal digits behind a space.
+    #[tactic(auto, using(crate::proofs::Starts::starts))]
     pub(crate) fn hex(&mut self, octets: &[u8]) -> Result<(), OutOfMemory>
-        ensures { OnOk result (self.new ≡ self.old ++ 32 ∷ encode_lower octets.now) }
+        ensures ok { OnOk result (self.new ≡ self.old ++ 32 ∷ encode_lower octets.now) }
+        ensures err { OnErr result (StartsWith self.new self.old) }
     {
         self.character(b' ')?;
         self.digits(octets)
@@ -155,7 +166,8 @@ impl TextWriter {
 
     /// Hexadecimal digits, or `-` for no octet, behind a space.
     pub fn octets(&mut self, octets: &[u8]) -> Result<(), OutOfMemory>
-        ensures { OnOk result (self.new ≡ self.old ++ 32 ∷ octets_word octets.now) }
+        ensures ok { OnOk result (self.new ≡ self.old ++ 32 ∷ octets_word octets.now) }
+        ensures err { OnErr result (StartsWith self.new self.old) }
     {
         if octets.is_empty() {
             return self.word("-");
@@ -164,8 +176,10 @@ impl TextWriter {
     }
 
     /// A dotted quad behind a space.
+    #[tactic(auto, using(crate::proofs::Starts::starts))]
     fn quad(&mut self, parts: &[u8; 4]) -> Result<(), OutOfMemory>
-        ensures { OnOk result (self.new ≡ self.old ++ 32 ∷ join_with_byte 46 (map decimal parts.now)) }
+        ensures ok { OnOk result (self.new ≡ self.old ++ 32 ∷ join_with_byte 46 (map decimal parts.now)) }
+        ensures err { OnErr result (StartsWith self.new self.old) }
     {
         self.number_behind(b' ', u64::from(parts[0]))?;
         self.number_behind(b'.', u64::from(parts[1]))?;
@@ -175,7 +189,8 @@ impl TextWriter {
 
     /// An address behind a space: a dotted quad, or 32 hexadecimal digits.
     pub(crate) fn address(&mut self, address: &IpAddr) -> Result<(), OutOfMemory>
-        ensures { OnOk result (self.new ≡ self.old ++ 32 ∷ address_word address.now) }
+        ensures ok { OnOk result (self.new ≡ self.old ++ 32 ∷ address_word address.now) }
+        ensures err { OnErr result (StartsWith self.new self.old) }
     {
         match address {
             IpAddr::V4(parts) => self.quad(parts),

@@ -192,7 +192,7 @@ fn full_line(text: &mut TextWriter, event: &Event) -> Result<(), OutOfMemory>
     }
 }
 
-/// The line of an event. After want of memory the text has a part of it.
+/// The line of an event.
 #[tactic(auto, using(crate::proofs::Written::bare_text))]
 pub fn write_event(text: &mut TextWriter, event: &Event) -> Result<(), OutOfMemory>
     ensures { OnOk result (text.new ≡ text.old ++ event_text event.now) }
@@ -279,7 +279,7 @@ fn config_lines(text: &mut TextWriter, settings: &TraceSettings) -> Result<(), O
     budget_line(text, &settings.stream.connection_config())
 }
 
-/// The lines of settings. After want of memory the text has a part of them.
+/// The lines of settings.
 #[tactic(auto, unfolding(crate::specs::Trace::settings_text))]
 pub fn write_settings(text: &mut TextWriter, settings: &TraceSettings) -> Result<(), OutOfMemory>
     ensures { OnOk result (text.new ≡ text.old ++ settings_text settings.now) }
