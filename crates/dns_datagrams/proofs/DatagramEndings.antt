@@ -59,6 +59,7 @@ module _ {W R F : Type 0} (answer : PolledRequest F R → ℕ → Answer) (answe
     noted = r.noted;
     seat = r.seat;
     plain = r.plain;
+    nobodys = r.nobodys;
     serves = r.serves;
     order = order r.looks r.events r.order;
     input = input_same answers (settings_of first) r.events (first ∷ r.looks) (spare + count_if ready) (spare' + count_if ready') s.next start.mail now.mail m received more r.input;

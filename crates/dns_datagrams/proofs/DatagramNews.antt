@@ -9,7 +9,7 @@ use Rattle.dns_service.specs.declared.event.EventKind.TheVariants.{Datagram, Tur
 use Rattle.dns_client.specs.News.{new_configurations, new_end}
 use Rattle.dns_notes.specs.Own.{is_wide}
 use Rattle.dns_notes.specs.Clocks.{ClockReading, Timed, write_count, writes_in, fault_count, faults_in}
-use Rattle.dns_notes.specs.Woven.{kinds}
+use Rattle.dns_notes.specs.Woven.{kinds, AreNobodys}
 use Rattle.dns_notes.specs.Notes.{AllWide, NotedKinds}
 use Rattle.dns_notes.proofs.Notings.{kinds_append}
 use Rattle.dns_datagrams.specs.DatagramsServed.{Clocked}
@@ -49,6 +49,10 @@ wide_front : (es fs : List Event) → AllWide (kinds (es ++ fs)) → AllWide (ki
 wide_front [] fs w = (tt, w)
 wide_front (e ∷ es) fs w = let x = wide_front es fs w.1 in ((w.0, x.0), x.1)
 
+nobodys_both : (es fs : List Event) → AreNobodys es → AreNobodys fs → AreNobodys (es ++ fs)
+nobodys_both [] fs a b = b
+nobodys_both (e ∷ es) fs a b = (a.0, nobodys_both es fs a.1 b)
+
 -- the configurations, and then the shutdown
 news_by : (heard look : Look) (n n1 n2 : List Event) (c c1 c2 : List ClockReading) → NotedKinds (kinds (new_configurations heard.version look)) n n1 → NotedKinds (kinds (new_end heard.closed look)) n1 n2
     → Timed n n1 0 0 c c1 → Timed n1 n2 0 0 c1 c2 → NewsNoted heard look n n2 c c2
@@ -58,6 +62,7 @@ news_by heard look n n1 n2 c c1 c2 a b s t =
     let wide = wide_front a.events b.events (news_wide heard look (a.events ++ b.events) news) in record {
       events = a.events ++ b.events;
       news = news;
+      nobodys = nobodys_both a.events b.events a.nobodys b.nobodys;
       noted = rw (b.noted, a.noted) (append_assoc n a.events b.events);
       clock = clocked_then a.events b.events c c1 c2 0 0 0 (timed_wide n n1 a.events c c1 a.noted wide.0 s) (timed_wide n1 n2 b.events c1 c2 b.noted wide.1 t);
     }

@@ -9,12 +9,11 @@ use Rattle.dns_admission.specs.declared.call.Reply.TheVariants.{Look as Shown}
 use Rattle.dns_book.specs.Seats.{Called}
 use Rattle.dns_book.specs.declared.book.BookSeat.{BookSeat}
 use Rattle.dns_book.specs.declared.history.Known.{Known}
-use Rattle.dns_outside.specs.Causes.{Rose}
-use Rattle.dns_datagrams.specs.DatagramsServed.{LooksBy, ReceivesBy, RoseIf}
+use Rattle.dns_datagrams.specs.DatagramsServed.{LooksBy, RoseIf}
 use Rattle.dns_datagrams.specs.DatagramSteps.{SendsRose, hears}
 use Rattle.dns_datagrams.specs.DatagramLoop.{Passes}
 use Rattle.dns_datagrams.specs.declared.serving.DgramEnd.{DgramEnd}
-use Rattle.dns_datagrams.specs.declared.serving.DgramEnd.TheVariants.{Shutdown, Fault}
+use Rattle.dns_datagrams.specs.declared.serving.DgramEnd.TheVariants.{Shutdown}
 use Rattle.dns_datagrams.specs.declared.running.Running.{Running}
 use Rattle.dns_datagrams.proofs.DatagramOrderings.{hears_closed}
 use Rattle.dns_datagrams.proofs.DatagramSeats.{looks_none, looks_one, looks_then}
@@ -121,7 +120,3 @@ module _ {W R F : Type 0} where
 -- the news of the first look weren't noted
 pub looks_first : (end : DgramEnd) (k k' : Known) (first : Look) → Called k ToLook (Shown first) k' → (end ≡ Shutdown → first.closed ≡ true) → LooksBy end k k'
 looks_first end k k' first c h = record { looks = first ∷ []; made = looks_one k k' first c; shown = λ e. or_left first.closed false (h e) }
-
--- a fault comes only where the count of failed receives rose
-pub fault_rose : (end : DgramEnd) (r r' : ℕ) → ReceivesBy end r r' → end ≡ Fault → Rose r r'
-fault_rose end r r' x h = rw h at x

@@ -12,7 +12,7 @@ use Rattle.dns_client.specs.Serving.{Serving}
 use Rattle.dns_client.specs.Slate.{Conf}
 use Rattle.dns_service.specs.declared.settings.Settings.{Settings}
 use Rattle.dns_notes.specs.Clocks.{ClockReading}
-use Rattle.dns_datagrams.specs.DatagramEvents.{IsOwnKind, AllDatagramKinds, letters_in, cut_letters, numbers_in, numbers_below}
+use Rattle.dns_datagrams.specs.DatagramEvents.{IsOwnKind, AllDatagramKinds, WideAreNobodys, letters_in, cut_letters, numbers_in, numbers_below}
 use Rattle.dns_datagrams.specs.DatagramOrder.{fault_events, IsFaultOf}
 use Rattle.dns_datagrams.specs.DatagramsPolled.{waits}
 use Rattle.dns_datagrams.specs.DatagramsSent.{settings_of, posted, letters_delivered}
@@ -22,6 +22,7 @@ use Rattle.dns_datagrams.specs.DatagramLoop.{Among, Serves, Ran}
 use Rattle.dns_datagrams.specs.declared.running.Running.{Running}
 use Rattle.dns_datagrams.proofs.DatagramClocks.{clocked_then, clocked_one, clocked_any}
 use Rattle.dns_datagrams.proofs.DatagramMembers.{kinds_more}
+use Rattle.dns_datagrams.proofs.DatagramNobodys.{nobodys_append, all_nobodys, own_nobodys}
 use Rattle.dns_datagrams.proofs.DatagramOrderings.{ordered_look, ordered_own}
 use Rattle.dns_datagrams.proofs.DatagramParts.{own_kind, input_quiet, input_look, input_same, delivered_wide, delivered_same, delivered_act}
 use Rattle.dns_datagrams.proofs.DatagramQuiet.{all_wide_quiet, faults_quiet, append_two, kinds_append, waits_quiet, slate_lost, conf_lost}
@@ -47,6 +48,7 @@ module _ {W R F : Type 0} (answer : PolledRequest F R → ℕ → Answer) (answe
         noted = noted_more start.noted n n' r.events x.events r.noted x.noted;
         seat = looks_then start.known k k' (first ∷ r.looks) (look ∷ []) r.seat l;
         plain = kinds_append r.events x.events r.plain quiet;
+        nobodys = nobodys_append r.events x.events r.nobodys (all_nobodys x.events x.nobodys);
         order = ordered_look first r.looks r.events s.heard false look x.events x.news r.order;
         input = input_look answers settings (r.events ++ x.events) (first ∷ r.looks) look (spare + 0) (spare + 1) s.next start.mail m (omega arith)
             (input_quiet answers settings r.events x.events (first ∷ r.looks) (spare + 0) s.next start.mail m r.plain quiet r.input);
@@ -89,6 +91,7 @@ module _ {W R F : Type 0} (answer : PolledRequest F R → ℕ → Answer) (answe
         noted = noted_more start.noted n n' r.events (e ∷ fs) r.noted (rw (x.noted, t.noted) (append_assoc n (e ∷ []) fs));
         seat = r.seat;
         plain = rw two (kinds_append q1 fs plain quiet);
+        nobodys = nobodys_append r.events (e ∷ fs) r.nobodys (own_nobodys e x.fault own lost);
         order = ordered_own first r.looks r.events s.heard e x.fault own lost r.order;
         input = rw two (input_same answers settings (q1 ++ fs) (first ∷ r.looks) (spare + 0) (spare + 0) next start.mail m1 m' x.posts.received (let e = x.posts.empty in omega arith)
             (input_quiet answers settings q1 fs (first ∷ r.looks) (spare + 0) next start.mail m1 plain quiet i));
@@ -104,11 +107,11 @@ module _ {W R F : Type 0} (answer : PolledRequest F R → ℕ → Answer) (answe
   -- memory ran out, after these events and looks more
   pub cut_off : (first : Look) (start : World) (n n' : List Event) (m m' : Mail) (f f' : ℕ) (c c' : List ClockReading) (k k' : Known) (s : Running W R F) (ready : Bool) (owed : List ℕ) (spare : ℕ)
       (es : List Event) (ls : List Look) (came unrecorded : List Letter) (number count : ℕ)
-      → MayCome count (length came) → n' ≡ n ++ es → AllDatagramKinds es → LooksOnly k ls k' → m'.sent ≡ m.sent → m'.received ≡ start.mail.received ++ came
+      → MayCome count (length came) → n' ≡ n ++ es → AllDatagramKinds es → WideAreNobodys es → LooksOnly k ls k' → m'.sent ≡ m.sent → m'.received ≡ start.mail.received ++ came
       → (r : Ran answer answers first start (world n m f c k) s ready owed spare)
       → cut_letters came ≡ letters_in (r.events ++ es) ++ unrecorded → numbers_in (r.events ++ es) ≡ numbers_below number
       → CutOff answers count start (world n' m' f' c' k')
-  cut_off first start n n' m m' f f' c c' k k' s ready owed spare es ls came unrecorded number count within h plain l sent received r recorded numbered = record {
+  cut_off first start n n' m m' f f' c c' k k' s ready owed spare es ls came unrecorded number count within h plain nobodys l sent received r recorded numbered = record {
     first = first;
     looks = r.looks ++ ls;
     events = r.events ++ es;
@@ -122,6 +125,7 @@ module _ {W R F : Type 0} (answer : PolledRequest F R → ℕ → Answer) (answe
     within = within;
     recorded = recorded;
     numbered = numbered;
+    nobodys = nobodys_append r.events es r.nobodys nobodys;
     sent = sent ∙ r.output.sent;
     part = letters_part_list answers (settings_of first) (letters_delivered answers (settings_of first) r.events) r.events es r.plain plain (letters_part answers (settings_of first) r.events);
   }

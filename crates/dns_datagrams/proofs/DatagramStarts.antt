@@ -26,6 +26,7 @@ use Rattle.dns_datagrams.specs.declared.running.Running.{Running}
 use Rattle.dns_datagrams.proofs.DatagramClocks.{clocked_any}
 use Rattle.dns_datagrams.proofs.DatagramCounts.{came_number, may_come_is, may_come_none, not_full, taken_less}
 use Rattle.dns_datagrams.proofs.DatagramEndings.{ran_rest, end_shutdown, end_count, end_fails, idles_finish}
+use Rattle.dns_datagrams.proofs.DatagramNobodys.{all_nobodys}
 use Rattle.dns_datagrams.proofs.DatagramOrderings.{ordered_first}
 use Rattle.dns_datagrams.proofs.DatagramParts.{input_quiet, delivered_wide}
 use Rattle.dns_datagrams.proofs.DatagramQuiet.{all_wide_quiet, waits_quiet, kinds_append, letters_quiet, numbers_quiet}
@@ -72,6 +73,7 @@ module _ {W R F : Type 0} (answer : PolledRequest F R → ℕ → Answer) (answe
         noted = x.noted;
         seat = looks_one k k1 first l;
         plain = kinds_append [] x.events tt quiet;
+        nobodys = all_nobodys x.events x.nobodys;
         order = rw heard (ordered_first first x.events x.news);
         input = input_quiet answers settings [] x.events (first ∷ []) (0 + 1) s.next m m tt quiet
             (record { came = []; received = sym (append-nil m.received); recorded = refl; numbered = rw zero refl; polled = between_none answers settings; looked = omega arith });
@@ -94,6 +96,7 @@ module _ {W R F : Type 0} (answer : PolledRequest F R → ℕ → Answer) (answe
     noted = r.noted;
     seat = r.seat;
     order = r.order.order;
+    nobodys = r.nobodys;
     input = r.input;
     within = may_come_is (came_number answers (settings_of first) r.events (first ∷ r.looks) 2 s.next w.mail w1.mail r.input) (taken_less end taken);
     clock = r.clock;
@@ -151,6 +154,7 @@ first_fails {n} {n1} {m} {f} {c} {c1} {k} {k1} {first} answers count l x =
       within = may_come_none refl;
       recorded = sym (append-nil _ ∙ letters_quiet [] x.events tt quiet);
       numbered = numbers_quiet [] x.events tt quiet;
+      nobodys = all_nobodys x.events x.nobodys;
       sent = sym (append-nil m.sent);
       part = part_none _;
     }

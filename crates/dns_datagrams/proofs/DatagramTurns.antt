@@ -1,6 +1,6 @@
 -- What the functions of the loop of datagrams do, wherever it began: looks, Turns and Datagrams.
 use Rattle.std.proofs.Common.{◌≡◌, ◌≢◌, ℕ, ◌+◌, List, [], ◌∷◌, ◌++◌, length, take, Bool, true, false, refl, ap, sym, ◌∙◌, append_assoc, append-nil, arith, length-append}
-use Rattle.std.specs.Prelude.{Option, nat_eq, not, ◌&&◌, ◌||◌}
+use Rattle.std.specs.Prelude.{Option, None, nat_eq, not, ◌&&◌, ◌||◌}
 use Rattle.std.specs.List.{list_any}
 use Rattle.std.proofs.lemmas.Bool.Decides.{nat_tests}
 use Rattle.dns_name.specs.declared.address.SocketAddr.{SocketAddr}
@@ -20,7 +20,7 @@ use Rattle.dns_client.specs.Slate.{Slate}
 use Rattle.dns_notes.specs.Sent.{slate}
 use Rattle.dns_notes.specs.Clocks.{ClockReading}
 use Rattle.dns_notes.specs.Notes.{NotedWide}
-use Rattle.dns_datagrams.specs.DatagramEvents.{IsOwnKind, IsDatagramKind, AllDatagramKinds, letters_in, cut_letters, numbers_in}
+use Rattle.dns_datagrams.specs.DatagramEvents.{IsOwnKind, IsDatagramKind, AllDatagramKinds, WideAreNobodys, letters_in, cut_letters, numbers_in}
 use Rattle.dns_datagrams.specs.DatagramsPolled.{is_finished, waits}
 use Rattle.dns_datagrams.specs.DatagramsSent.{settings_of, count_if}
 use Rattle.dns_datagrams.specs.DatagramsServed.{World, world, LooksOnly, CutOff, MayCome}
@@ -29,6 +29,7 @@ use Rattle.dns_datagrams.specs.DatagramLoop.{Among, Ran, Looks, Turns, Fails, Be
 use Rattle.dns_datagrams.specs.declared.running.KeptExchange.{KeptExchange}
 use Rattle.dns_datagrams.specs.declared.running.Running.{Running}
 use Rattle.dns_datagrams.proofs.DatagramCounts.{came_number, may_come_is}
+use Rattle.dns_datagrams.proofs.DatagramNobodys.{all_nobodys, own_nobodys}
 use Rattle.dns_datagrams.proofs.DatagramOrderings.{hears_closed}
 use Rattle.dns_datagrams.proofs.DatagramParts.{input_turn, input_datagram}
 use Rattle.dns_datagrams.proofs.DatagramQuiet.{AllQuiet, all_wide_quiet, quiet_kind, letters_quiet, numbers_quiet}
@@ -106,12 +107,12 @@ numbers_turn q e h = rw (numbers_in_more q e, h) (append-nil (numbers_in q))
 module _ {W R F : Type 0} (answer : PolledRequest F R → ℕ → Answer) (answers : Serving) where
   -- memory ran out after events that are no Datagrams
   cut_same : (first : Look) (start : World) (n n' : List Event) (m m' : Mail) (f f' : ℕ) (c c' : List ClockReading) (k k' : Known) (s : Running W R F) (ready : Bool) (owed : List ℕ) (spare : ℕ)
-      (es : List Event) (ls : List Look) (count : ℕ) → MayCome count s.next → n' ≡ n ++ es → AllDatagramKinds es → LooksOnly k ls k' → m'.sent ≡ m.sent → m'.received ≡ m.received
+      (es : List Event) (ls : List Look) (count : ℕ) → MayCome count s.next → n' ≡ n ++ es → AllDatagramKinds es → WideAreNobodys es → LooksOnly k ls k' → m'.sent ≡ m.sent → m'.received ≡ m.received
       → (r : Ran answer answers first start (world n m f c k) s ready owed spare)
       → letters_in (r.events ++ es) ≡ letters_in r.events → numbers_in (r.events ++ es) ≡ numbers_in r.events → CutOff answers count start (world n' m' f' c' k')
-  cut_same first start n n' m m' f f' c c' k k' s ready owed spare es ls count may h plain l sent received r ln nn =
+  cut_same first start n n' m m' f f' c c' k k' s ready owed spare es ls count may h plain nobodys l sent received r ln nn =
       cut_off answer answers first start n n' m m' f f' c c' k k' s ready owed spare es ls r.input.came [] s.next count
-      (may_come_is (came_number answers (settings_of first) r.events (first ∷ r.looks) (spare + count_if ready) s.next start.mail m r.input) may) h plain l sent (received ∙ r.input.received) r
+      (may_come_is (came_number answers (settings_of first) r.events (first ∷ r.looks) (spare + count_if ready) s.next start.mail m r.input) may) h plain nobodys l sent (received ∙ r.input.received) r
       (sym (append-nil (letters_in (r.events ++ es)) ∙ ln ∙ r.input.recorded)) (nn ∙ r.input.numbered)
 
   -- ---- looks
@@ -131,7 +132,7 @@ module _ {W R F : Type 0} (answer : PolledRequest F R → ℕ → Answer) (answe
     breaks = λ owed. record {
       breaks = λ first start spare count may r.
           let quiet = all_wide_quiet x.events x.wide in
-          cut_same first start n n' m m f f c c' k k' s false owed spare x.events (look ∷ []) count may x.noted (all_quiet_plain x.events quiet) (looks_one k k' look l) refl refl r
+          cut_same first start n n' m m f f c c' k k' s false owed spare x.events (look ∷ []) count may x.noted (all_quiet_plain x.events quiet) (all_nobodys x.events x.nobodys) (looks_one k k' look l) refl refl r
           (letters_quiet r.events x.events r.plain quiet) (numbers_quiet r.events x.events r.plain quiet);
     };
   }
@@ -160,7 +161,7 @@ module _ {W R F : Type 0} (answer : PolledRequest F R → ℕ → Answer) (answe
   fails_same {n} {n'} {m} {m'} {f} {f'} {c} {c'} {k} s {ready} u = record {
     breaks = λ owed. record {
       breaks = λ first start spare count may r.
-          cut_same first start n n' m m' f f' c c' k k s ready owed spare [] [] count may (u.noted ∙ sym (append-nil n)) tt (looks_none k) u.sent u.received r (ap letters_in (append-nil r.events)) (ap numbers_in (append-nil r.events));
+          cut_same first start n n' m m' f f' c c' k k s ready owed spare [] [] count may (u.noted ∙ sym (append-nil n)) tt tt (looks_none k) u.sent u.received r (ap letters_in (append-nil r.events)) (ap numbers_in (append-nil r.events));
     };
   }
 
@@ -170,7 +171,7 @@ module _ {W R F : Type 0} (answer : PolledRequest F R → ℕ → Answer) (answe
   fails_turn {n} {n1} {n'} {m} {m'} {f} {f'} {c} {c1} {c'} {k} s {ready} {e} kind t u = record {
     breaks = λ owed. record {
       breaks = λ first start spare count may r.
-          cut_same first start n n' m m' f f' c c' k k s ready owed spare (e ∷ []) [] count may (u.noted ∙ t.noted) (turn_plain e kind, tt) (looks_none k) u.sent u.received r (letters_turn r.events e kind) (numbers_turn r.events e kind);
+          cut_same first start n n' m m' f f' c c' k k s ready owed spare (e ∷ []) [] count may (u.noted ∙ t.noted) (turn_plain e kind, tt) (own_nobodys e None (turn_own e kind) tt) (looks_none k) u.sent u.received r (letters_turn r.events e kind) (numbers_turn r.events e kind);
     };
   }
 
@@ -220,7 +221,7 @@ module _ {W R F : Type 0} (answer : PolledRequest F R → ℕ → Answer) (answe
       breaks = λ first start spare count may r.
           let v : Letter = record { octets = whole; addr = from } in
           cut_off answer answers first start n n' m m1 f f' c c' k k s true [] spare [] [] (r.input.came ++ v ∷ []) (record { octets = take 1024 whole; addr = from } ∷ []) s.next count
-          (one_more first start (world n m f c k) s true [] spare count v may r) (h ∙ sym (append-nil n)) tt (looks_none k) (rw got refl)
+          (one_more first start (world n m f c k) s true [] spare count v may r) (h ∙ sym (append-nil n)) tt tt (looks_none k) (rw got refl)
           (rw got (rw r.input.received (append_assoc start.mail.received r.input.came (v ∷ [])))) r
           (rw (cut_letters_more r.input.came v, append-nil r.events, r.input.recorded) refl) (ap numbers_in (append-nil r.events) ∙ r.input.numbered);
     };
@@ -234,7 +235,7 @@ module _ {W R F : Type 0} (answer : PolledRequest F R → ℕ → Answer) (answe
       breaks = λ first start spare count may r.
           let v : Letter = record { octets = whole; addr = from } in
           cut_off answer answers first start n n' m m' f f' c c' k k s true [] spare (e ∷ []) [] (r.input.came ++ v ∷ []) [] (s.next + 1) count
-          (one_more first start (world n m f c k) s true [] spare count v may r) (u.noted ∙ t.noted) (datagram_plain e from octets kind, tt) (looks_none k)
+          (one_more first start (world n m f c k) s true [] spare count v may r) (u.noted ∙ t.noted) (datagram_plain e from octets kind, tt) (own_nobodys e None (datagram_own e from octets kind) tt) (looks_none k)
           (u.sent ∙ rw got refl) (u.received ∙ rw got (rw r.input.received (append_assoc start.mail.received r.input.came (v ∷ [])))) r
           (rw (cut_letters_more r.input.came v, letters_in_more r.events e, kind, r.input.recorded, front) (sym (append-nil (cut_letters r.input.came ++ (record { octets = take 1024 whole; addr = from }) ∷ []))))
           (rw (numbers_in_more r.events e, kind, of, numbers_below_more s.next, r.input.numbered) refl);

@@ -11,6 +11,7 @@ pub mod DatagramSeats
 pub mod DatagramPasses
 pub mod DatagramQuiet
 pub mod DatagramParts
+pub mod DatagramNobodys
 pub mod DatagramPlaces
 pub mod DatagramShown
 pub mod DatagramKeeping

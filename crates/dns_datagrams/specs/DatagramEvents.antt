@@ -1,10 +1,11 @@
 -- The events that a driver of datagrams records, and what stands in them.
-use Rattle.std.specs.Prelude.{◌≡◌, ℕ, ◌+◌, zero, suc, List, [], ◌∷◌, ◌++◌}
+use Rattle.std.specs.Prelude.{◌≡◌, ℕ, ◌+◌, zero, suc, List, [], ◌∷◌, ◌++◌, true}
 use Rattle.dns_outside.specs.declared.sock.Letter.{Letter}
 use Rattle.dns_service.specs.declared.event.Event.{Event}
 use Rattle.dns_service.specs.declared.event.EventKind.{EventKind}
 use Rattle.dns_service.specs.declared.event.EventKind.TheVariants.{Datagram, Turn, Fault, Reconfigure, Shutdown}
 use Rattle.dns_client.specs.Datagrams.{cut_datagram}
+use Rattle.dns_notes.specs.Own.{is_wide}
 
 -- own events are Datagrams, and Turns of request 0
 abbrev pub IsOwnKind : EventKind → Type 0
@@ -24,6 +25,11 @@ IsDatagramKind _ = ⊥
 abbrev pub AllDatagramKinds : List Event → Type 0
 AllDatagramKinds [] = Unit {0}
 AllDatagramKinds (e ∷ es) = IsDatagramKind e.kind × AllDatagramKinds es
+
+-- those that all clients hear name none: they stand under number 0
+abbrev pub WideAreNobodys : List Event → Type 0
+WideAreNobodys [] = Unit {0}
+WideAreNobodys (e ∷ es) = (is_wide e.kind ≡ true → e.client ≡ 0) × WideAreNobodys es
 
 -- the datagrams among some events, each with its sender's address
 abbrev pub letter_in : EventKind → List Letter

@@ -15,7 +15,7 @@ use Rattle.dns_service.specs.declared.settings.Settings.{Settings}
 use Rattle.dns_notes.specs.Sent.{conf, slate}
 use Rattle.dns_notes.specs.Woven.{seen_with}
 use Rattle.dns_notes.specs.Clocks.{ClockReading}
-use Rattle.dns_datagrams.specs.DatagramEvents.{AllDatagramKinds}
+use Rattle.dns_datagrams.specs.DatagramEvents.{AllDatagramKinds, WideAreNobodys}
 use Rattle.dns_datagrams.specs.DatagramOrder.{Record, looked, acted, IsInOrder}
 use Rattle.dns_datagrams.specs.DatagramsPolled.{waits}
 use Rattle.dns_datagrams.specs.DatagramsSent.{settings_of, count_if}
@@ -121,6 +121,7 @@ module _ {W R F : Type 0} (answer : PolledRequest F R → ℕ → Answer) (answe
     pub noted : now.noted ≡ start.noted ++ events
     pub seat : LooksOnly start.known (first ∷ looks) now.known
     pub plain : AllDatagramKinds events
+    pub nobodys : WideAreNobodys events
     pub order : Ordered first looks events s.heard ready
     pub input : Input answers (settings_of first) events (first ∷ looks) (spare + count_if ready) s.next start.mail now.mail
     pub waiting : (c : ℕ) → waits answers (settings_of first) c events ≡ true → Among c owed

@@ -19,7 +19,7 @@ use Rattle.dns_client.specs.Stands.{IsExchange}
 use Rattle.dns_client.specs.Rule.{rule}
 use Rattle.dns_client.specs.declared.kept.KeptRequest.{KeptRequest}
 use Rattle.dns_notes.specs.Clocks.{ClockReading, Waited, LateAt}
-use Rattle.dns_notes.specs.Woven.{news_kinds, kinds}
+use Rattle.dns_notes.specs.Woven.{news_kinds, kinds, AreNobodys}
 use Rattle.dns_datagrams.specs.DatagramOrder.{fault_events, IsFaultOf}
 use Rattle.dns_datagrams.specs.DatagramsPolled.{is_finished}
 use Rattle.dns_datagrams.specs.DatagramsSent.{unless, count_if, fails_before}
@@ -55,6 +55,7 @@ hears heard look =
 pub record NewsNoted (heard look : Look) (n n' : List Event) (c c' : List ClockReading) : Type 0 where
   pub events : List Event
   pub news : kinds events ≡ news_kinds heard look
+  pub nobodys : AreNobodys events
   pub noted : n' ≡ n ++ events
   pub clock : Clocked events c c' 0 0
 

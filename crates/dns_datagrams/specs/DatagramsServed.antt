@@ -13,7 +13,7 @@ use Rattle.dns_service.specs.declared.settings.Settings.{Settings}
 use Rattle.dns_notes.specs.Out.{out}
 use Rattle.dns_notes.specs.Clocks.{ClockReading, Dated, faults_in}
 use Rattle.dns_notes.specs.Woven.{look_entries}
-use Rattle.dns_datagrams.specs.DatagramEvents.{letters_in, cut_letters, numbers_in, numbers_below, turns_in}
+use Rattle.dns_datagrams.specs.DatagramEvents.{WideAreNobodys, letters_in, cut_letters, numbers_in, numbers_below, turns_in}
 use Rattle.dns_datagrams.specs.DatagramOrder.{IsInOrder}
 use Rattle.dns_datagrams.specs.DatagramsPolled.{TurnsBetween, AllFinished}
 use Rattle.dns_datagrams.specs.DatagramsSent.{settings_of, all_addressed, letters_delivered, early_faults, IsPart}
@@ -111,8 +111,8 @@ EndsBy answers Counted count number first looks events = IsFull count number × 
 EndsBy answers Fault count number first looks events = Unit {0}
 EndsBy answers OutOfMemory count number first looks events = ⊥
 
--- What was noted from a world to another, by a first look and the looks after it. No more datagrams were received than may come, and
--- where so many came it ended by that.
+-- What was noted from a world to another, by a first look and the looks after it. What all clients hear stands under number 0. No more
+-- datagrams were received than may come, and where so many came it ended by that.
 pub record Served (answers : Serving) (end : DgramEnd) (count : ℕ) (start now : World) : Type 0 where
   pub first : Look
   pub looks : List Look
@@ -121,6 +121,7 @@ pub record Served (answers : Serving) (end : DgramEnd) (count : ℕ) (start now 
   pub noted : now.noted ≡ start.noted ++ events
   pub seat : LooksOnly start.known (first ∷ looks) now.known
   pub order : IsInOrder first looks events
+  pub nobodys : WideAreNobodys events
   pub input : Input answers (settings_of first) events (first ∷ looks) 2 number start.mail now.mail
   pub within : MayCome count (length input.came)
   pub clock : Clocked events start.readings now.readings start.mail.full_sends now.mail.full_sends
@@ -143,6 +144,7 @@ pub record CutOff (answers : Serving) (count : ℕ) (start now : World) : Type 0
   pub within : MayCome count (length came)
   pub recorded : cut_letters came ≡ letters_in events ++ unrecorded
   pub numbered : numbers_in events ≡ numbers_below number
+  pub nobodys : WideAreNobodys events
   pub sent : now.mail.sent ≡ start.mail.sent ++ letters
   pub part : IsPart letters (all_addressed answers (settings_of first) events (out answers (settings_of first) events))
 

@@ -2,7 +2,7 @@
 
 ghost use Rattle.std.specs.Prelude.{◌≡◌, ◌≤◌};
 ghost use Rattle.dns_client.specs.Serving.{serving};
-ghost use Rattle.dns_outside.specs.Causes.{Rose, Tells};
+ghost use Rattle.dns_outside.specs.Causes.{Tells};
 ghost use Rattle.dns_service.specs.PolledRequest.{request_answer};
 ghost use Rattle.dns_datagrams.specs.DatagramLoop.{Ended, PassesTo};
 ghost use Rattle.dns_datagrams.specs.DatagramOffice.{WentTo, office_seen, office_told};
@@ -136,7 +136,6 @@ pub fn serve_datagrams_with_sends<R: Wait, D: AsyncDgramSock, C: Clock, J: Recor
     (seat, end, send_failed)
 }
 
-#[tactic(auto, using(crate::proofs::DatagramPasses::fault_rose))]
 /// Serves datagrams until a look shows a shutdown, a receive fails, or so many came, where the count isn't 0. Each receive and
 /// each poll has a look before it, whose news are noted at once. Between two receives each unfinished exchange is polled once, by
 /// rising number. After a shutdown or the last datagram each is polled to its end.
@@ -161,7 +160,7 @@ pub fn serve_datagrams<R: Wait, D: AsyncDgramSock, C: Clock, J: Recorder, W: Ser
     // Always.
     ensures seat { LooksBy result.1 seat.known result.0.known }
     ensures same { result.0.book ≡ seat.book }
-    ensures cause { result.1 ≡ DgramEnd.Fault → Rose (D.failed_receives sock.old) (D.failed_receives sock.new) }
+    ensures cause { ReceivesBy result.1 (D.failed_receives sock.old) (D.failed_receives sock.new) }
     ensures receives { D.failed_receives sock.old ≤ D.failed_receives sock.new }
     ensures sends { D.failed_sends sock.old ≤ D.failed_sends sock.new }
 {
