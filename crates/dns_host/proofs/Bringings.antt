@@ -34,29 +34,29 @@ brought_caller arrival from na ba np bp k k' a b g g' f f' t same q = record {
 }
 
 -- none came
-pub brought_nobody : (na ba np : Type 0) (k : Known) (a b : Door) (g : List SocketAddr) (f f' : ℕ) →
-    Tells na ba (b ≡ record a { empty_accepts = a.empty_accepts + 1 }) → f' ≡ f → Brought (Ok NobodyCame) (na × np) (ba × np) k k a b g g f f'
-brought_nobody na ba np k a b g f f' t same = record {
+pub brought_nobody : (na ba np bp : Type 0) (k : Known) (a b : Door) (g g' : List SocketAddr) (f f' : ℕ) →
+    Tells na ba (b ≡ record a { empty_accepts = a.empty_accepts + 1 }) → f' ≡ f → Tells np bp (g' ≡ g) → Brought (Ok NobodyCame) (na × np) (ba × bp) k k a b g g' f f'
+brought_nobody na ba np bp k a b g g' f f' t same kept = record {
   came = Nobody;
   calls = gained_none k;
   name = sym (append-nil k.name);
   arrival_is = refl;
   faults = rose_none f f' same;
-  told = tells_both na np ba np _ (Unit {0}) (BroughtIn (Ok NobodyCame) Nobody a b g g)
-      (λ d w. record { callers = ap (λ (x : Door). x.callers) d ∙ sym (append-nil a.callers); nobody = ap (λ (x : Door). x.empty_accepts) d; works = sym (append-nil g) })
-      t (record { told = λ n. (n, tt) });
+  told = tells_both na np ba bp _ _ (BroughtIn (Ok NobodyCame) Nobody a b g g')
+      (λ d w. record { callers = ap (λ (x : Door). x.callers) d ∙ sym (append-nil a.callers); nobody = ap (λ (x : Door). x.empty_accepts) d; works = w ∙ sym (append-nil g) })
+      t kept;
 }
 
 -- the accept failed
-pub brought_fault : (na ba np : Type 0) (k : Known) (a b : Door) (g : List SocketAddr) (f f' : ℕ) →
-    Tells na ba (b ≡ a) → Rose f f' → Brought (Ok FaultCame) (na × np) (ba × np) k k a b g g f f'
-brought_fault na ba np k a b g f f' t rose = record {
+pub brought_fault : (na ba np bp : Type 0) (k : Known) (a b : Door) (g g' : List SocketAddr) (f f' : ℕ) →
+    Tells na ba (b ≡ a) → Rose f f' → Tells np bp (g' ≡ g) → Brought (Ok FaultCame) (na × np) (ba × bp) k k a b g g' f f'
+brought_fault na ba np bp k a b g g' f f' t rose kept = record {
   came = Fault;
   calls = gained_none k;
   name = sym (append-nil k.name);
   arrival_is = refl;
   faults = rose;
-  told = tells_both na np ba np _ (Unit {0}) (BroughtIn (Ok FaultCame) Fault a b g g)
-      (λ d w. record { callers = ap (λ (x : Door). x.callers) d ∙ sym (append-nil a.callers); nobody = ap (λ (x : Door). x.empty_accepts) d ∙ sym (add-zero a.empty_accepts); works = sym (append-nil g) })
-      t (record { told = λ n. (n, tt) });
+  told = tells_both na np ba bp _ _ (BroughtIn (Ok FaultCame) Fault a b g g')
+      (λ d w. record { callers = ap (λ (x : Door). x.callers) d ∙ sym (append-nil a.callers); nobody = ap (λ (x : Door). x.empty_accepts) d ∙ sym (add-zero a.empty_accepts); works = w ∙ sym (append-nil g) })
+      t kept;
 }

@@ -262,7 +262,8 @@ where
     }
 
     #[tactic(auto, using(crate::proofs::Bringings::brought_caller, crate::proofs::Bringings::brought_nobody, crate::proofs::Bringings::brought_fault))]
-    /// Makes one accept. A connection that comes is taken; where none came, it waits.
+    /// Makes one accept. A connection that comes is taken; where none came, it waits, and then lets go of a connection that
+    /// ended, so that its thread and its socket are free also where nothing can be accepted any more.
     fn accept_once<A: AsyncAccept, P: Spawner<ConnectionWork<A::Link, C, Silent, W>>>(
         &self,
         seat: BookSeat,
@@ -287,8 +288,14 @@ where
             AcceptAnswer::Accepted(link, from) => {
                 self.take_connection(seat, Guest { client, from, link }, spawner)
             }
-            AcceptAnswer::Again => (seat, Ok(Arrival::Nobody)),
-            AcceptAnswer::Failed => (seat, Ok(Arrival::Fault)),
+            AcceptAnswer::Again => {
+                spawner.join_ended(self.house.rt);
+                (seat, Ok(Arrival::Nobody))
+            }
+            AcceptAnswer::Failed => {
+                spawner.join_ended(self.house.rt);
+                (seat, Ok(Arrival::Fault))
+            }
         }
     }
 
