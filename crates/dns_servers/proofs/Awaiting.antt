@@ -1,5 +1,6 @@
 -- Looks and readings while a control waits.
 use Rattle.std.proofs.Common.{◌≡◌, ◌≤◌, ◌↔◌, ℕ, ◌-◌, Bool, true, false, IsTrue, Some, None, List, [], ◌∷◌, ◌++◌, refl, sym, ap, ◌∙◌, append_assoc, append-nil}
+use Rattle.std.proofs.lemmas.List.Elements.{All-nil, All-push}
 use Rattle.dns_admission.specs.declared.look.Look.{Look}
 use Rattle.dns_admission.specs.declared.call.Call.TheVariants.{Look as ToLook}
 use Rattle.dns_admission.specs.declared.call.Reply.TheVariants.{Look as Shown}
@@ -12,8 +13,8 @@ use Rattle.dns_book.specs.declared.history.Share.{Share}
 use Rattle.dns_outside.specs.Causes.{Tells}
 use Rattle.dns_host.specs.Clocks.{ClockReading}
 use Rattle.dns_host.specs.Woven.{look_entries}
-use Rattle.dns_host.specs.DatagramsServed.{LooksOnly, OnlyLooks}
-use Rattle.dns_servers.specs.Controls.{IsDown, Awaited, Since, Apart, ReadAgain, TimePassed}
+use Rattle.dns_host.specs.DatagramsServed.{LooksOnly}
+use Rattle.dns_servers.specs.Controls.{IsDown, LookedInVain, Awaited, Since, Apart, ReadAgain, TimePassed}
 
 entries_more : (name : Name) (ls : List Look) (l : Look) → look_entries name (ls ++ l ∷ []) ≡ look_entries name ls ++ entry name ToLook (Shown l) ∷ []
 entries_more name [] l = refl
@@ -23,8 +24,8 @@ calls_more : (es : List Entry) (e : Entry) (m : List Share) → with_calls (es +
 calls_more [] e m = refl
 calls_more (x ∷ es) e m = calls_more es e (with_entry x.by x m)
 
-pub looks_none : (k : Known) → OnlyLooks k k
-looks_none k = record { looks = []; made = record { calls = record { same_book = refl; seen = ([], sym (append-nil k.seen)); mine = refl }; name = refl } }
+pub looks_none : (k : Known) → LookedInVain k k
+looks_none k = record { looks = []; made = record { calls = record { same_book = refl; seen = ([], sym (append-nil k.seen)); mine = refl }; name = refl }; none = All-nil (λ (look : Look). ¬ IsDown look) }
 
 looks_more : (k k1 k2 : Known) (ls : List Look) (l : Look) → LooksOnly k ls k1 → Called k1 ToLook (Shown l) k2 → LooksOnly k (ls ++ l ∷ []) k2
 looks_more k k1 k2 ls l a c = record {
@@ -41,14 +42,16 @@ looks_more k k1 k2 ls l a c = record {
   name = c.same_name ∙ a.name;
 }
 
-pub only_more : (k k1 k2 : Known) (l : Look) → OnlyLooks k k1 → Called k1 ToLook (Shown l) k2 → OnlyLooks k k2
-only_more k k1 k2 l a c = record { looks = a.looks ++ l ∷ []; made = looks_more k k1 k2 a.looks l a.made c }
+-- one look more in vain
+pub vain_more : (k k1 k2 : Known) (l : Look) → LookedInVain k k1 → Called k1 ToLook (Shown l) k2 → ¬ IsDown l → LookedInVain k k2
+vain_more k k1 k2 l a c h = record { looks = a.looks ++ l ∷ []; made = looks_more k k1 k2 a.looks l a.made c; none = All-push (λ (look : Look). ¬ IsDown look) a.looks l a.none h }
 
-pub awaited : (down : Bool) (k k1 k2 : Known) → OnlyLooks k k1 → Called k1 ToLook (Shown (state_met k2)) k2 → (IsTrue down ↔ IsDown (state_met k2)) → Awaited down k k2
+pub awaited : (down : Bool) (k k1 k2 : Known) → LookedInVain k k1 → Called k1 ToLook (Shown (state_met k2)) k2 → (IsTrue down ↔ IsDown (state_met k2)) → Awaited down k k2
 awaited down k k1 k2 a c x = record {
   looks = a.looks;
   last = state_met k2;
   made = looks_more k k1 k2 a.looks (state_met k2) a.made c;
+  none = a.none;
   exactly = x;
 }
 

@@ -1,5 +1,6 @@
 -- What a control does at its book.
 use Rattle.std.specs.Prelude.{◌≡◌, ◌≤◌, ◌↔◌, ℕ, ◌-◌, Bool, true, false, List, [], ◌∷◌, ◌++◌, Result, Ok, Err, Option, Some, None, IsTrue}
+use Rattle.std.specs.List.{All}
 use Rattle.dns_service.specs.Config.{Dgram, Stream}
 use Rattle.dns_service.specs.declared.error.Error.{Error}
 use Rattle.dns_admission.specs.Admissions.{Reconfigures}
@@ -27,11 +28,18 @@ pub record Reconfigured (dgram : Dgram) (stream : Stream) (answer : Result (Unit
   pub cause : Reconfigures (state_met k') reply
   pub answer_is : answer ≡ without_version reply
 
--- looks were made, and the last of them shows whether the server is down
+-- looks were made, none of which shows that it is down
+pub record LookedInVain (k k' : Known) : Type 0 where
+  pub looks : List Look
+  pub made : LooksOnly k looks k'
+  pub none : All (λ look. ¬ IsDown look) looks
+
+-- looks were made, and the last of them shows whether the server is down; none before it shows that it is
 pub record Awaited (down : Bool) (k k' : Known) : Type 0 where
   pub looks : List Look
   pub last : Look
   pub made : LooksOnly k (looks ++ last ∷ []) k'
+  pub none : All (λ look. ¬ IsDown look) looks
   pub exactly : IsTrue down ↔ IsDown last
 
 -- the readings from c to c', of which the first was this one

@@ -1,6 +1,6 @@
 //! What a server is told by, from another thread.
 
-ghost use Rattle.std.specs.Prelude.{◌≡◌, ◌↔◌, Ok, IfSome, IsTrue, true};
+ghost use Rattle.std.specs.Prelude.{◌≡◌, ◌↔◌, Ok, IsTrue, MatchOption, true};
 ghost use Rattle.std.specs.Arc.{arc_value};
 ghost use Rattle.dns_outside.specs.Causes.{Tells};
 ghost use Rattle.dns_book.specs.Seats.{Called, state_met};
@@ -82,8 +82,9 @@ impl Control {
     }
 
     #[tactic(auto, using(crate::proofs::Awaiting::looks_none, crate::proofs::Awaiting::passed_told))]
-    /// Looks until the server was shut down and no slot is taken, or until so many milliseconds have passed by the clock,
-    /// which it reads at first and after each look that does not show this. Between two looks it waits, 100 ms at most.
+    /// Looks until a look shows that the server was shut down and no slot is taken, or until so many milliseconds have passed
+    /// by the clock, which it reads at first and after each look that does not show this. Between two looks it waits, 100 ms at
+    /// most.
     pub fn await_shutdown<R: Wait, C: Clock>(&mut self, rt: &R, clock: &mut C, millis: u64) -> bool
         ensures book { self.new.book ≡ self.old.book }
         ensures looks { Awaited result self.old.known self.new.known }
@@ -109,7 +110,7 @@ impl Control {
     ) -> Option<bool>
         ensures book { self.new.book ≡ self.old.book }
         ensures called { Called self.old.known Call.Look (Reply.Look (state_met self.new.known)) self.new.known }
-        ensures exactly { IfSome result (λ down. IsTrue down ↔ IsDown (state_met self.new.known)) }
+        ensures exactly { MatchOption result (¬ IsDown (state_met self.new.known)) (λ down. IsTrue down ↔ IsDown (state_met self.new.known)) }
         ensures clock { Tells (C.tells clock.new) (C.tells clock.old) (ReadAgain result start millis (C.readings clock.old) (C.readings clock.new)) }
     {
         if self.is_shutdown(rt) {

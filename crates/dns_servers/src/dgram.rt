@@ -5,9 +5,9 @@ ghost use Rattle.std.specs.Arc.{arc_value};
 ghost use Rattle.dns_service.specs.Config.{default_dgram, default_stream};
 ghost use Rattle.dns_admission.specs.Machine.{new_state};
 ghost use Rattle.dns_book.specs.Seats.{Called, IsSound, new_known, first_half, second_half};
-ghost use Rattle.dns_outside.specs.Causes.{Rose, Tells};
+ghost use Rattle.dns_outside.specs.Causes.{Tells};
 ghost use Rattle.dns_client.specs.Serving.{serving};
-ghost use Rattle.dns_host.specs.DatagramsServed.{LooksBy, world};
+ghost use Rattle.dns_host.specs.DatagramsServed.{LooksBy, ReceivesBy, world};
 ghost use Rattle.dns_servers.specs.Parts.{IsSeatAt, known_of};
 ghost use Rattle.dns_servers.specs.Runs.{InSlot, DatagramsRan};
 
@@ -150,7 +150,7 @@ impl<D: AsyncDgramSock + Drop, B: BufSource + Drop, W: Served, C: Clock + Drop> 
         // Always.
         ensures seat { InSlot (LooksBy result) (result ≡ DgramEnd.Shutdown) self.old.known self.new.known }
         ensures same { (self.new.book ≡ self.old.book) × (self.new.service ≡ self.old.service) }
-        ensures cause { result ≡ DgramEnd.Fault → Rose (D.failed_receives self.old.sock) (D.failed_receives self.new.sock) }
+        ensures cause { ReceivesBy result (D.failed_receives self.old.sock) (D.failed_receives self.new.sock) }
         ensures receives { D.failed_receives self.old.sock ≤ D.failed_receives self.new.sock }
         ensures sends { D.failed_sends self.old.sock ≤ D.failed_sends self.new.sock }
     {
@@ -187,7 +187,7 @@ fn serve_from<R: Wait, D: AsyncDgramSock, C: Clock, J: Recorder, W: Served>(
         (world (J.noted journal.new) (D.mail sock.new) (D.failed_sends sock.new) (C.readings clock.new) (known_of place.new))) }
     ensures seat { InSlot (LooksBy result) (result ≡ DgramEnd.Shutdown) (known_of place.old) (known_of place.new) }
     ensures place { IsSeatAt book.now place.new }
-    ensures cause { result ≡ DgramEnd.Fault → Rose (D.failed_receives sock.old) (D.failed_receives sock.new) }
+    ensures cause { ReceivesBy result (D.failed_receives sock.old) (D.failed_receives sock.new) }
     ensures receives { D.failed_receives sock.old ≤ D.failed_receives sock.new }
     ensures sends { D.failed_sends sock.old ≤ D.failed_sends sock.new }
 {
@@ -228,7 +228,7 @@ fn serve_in_slot<R: Wait, D: AsyncDgramSock, C: Clock, J: Recorder, W: Served>(
         (world (J.noted journal.new) (D.mail sock.new) (D.failed_sends sock.new) (C.readings clock.new) result.0.known)) }
     ensures seat { InSlot (LooksBy result.1) (result.1 ≡ DgramEnd.Shutdown) seat.known result.0.known }
     ensures same { result.0.book ≡ seat.book }
-    ensures cause { result.1 ≡ DgramEnd.Fault → Rose (D.failed_receives sock.old) (D.failed_receives sock.new) }
+    ensures cause { ReceivesBy result.1 (D.failed_receives sock.old) (D.failed_receives sock.new) }
     ensures receives { D.failed_receives sock.old ≤ D.failed_receives sock.new }
     ensures sends { D.failed_sends sock.old ≤ D.failed_sends sock.new }
 {

@@ -1,12 +1,11 @@
 use Rattle.std.proofs.Common.{◌≡◌}
 use Rattle.dns_outside.specs.Causes.{Tells}
-use Rattle.dns_host.specs.DatagramsServed.{OnlyLooks}
-use Rattle.dns_servers.specs.Controls.{Since}
+use Rattle.dns_servers.specs.Controls.{LookedInVain, Since}
 use Rattle.dns_servers.proofs.control.Control.await_shutdown.Given as goal
 
 abbrev pub invariant-loop : goal.invariant-loop
 invariant-loop g l = record {
   book : l.self.book ≡ l.fn.self.book;
-  looks : OnlyLooks l.fn.self.known l.self.known;
+  looks : LookedInVain l.fn.self.known l.self.known;
   clock : Tells (g.C.Clock.tells l.clock) (g.C.Clock.tells l.fn.clock) (Since l.first.0 (g.C.Clock.readings l.fn.clock) (g.C.Clock.readings l.clock));
 }
