@@ -327,7 +327,7 @@ read_again p k =
     let h = settings_in_range p.said k.plan.said in
     let say = all_say s p h k in
     let text : lines (script_text p) ≡ map (join_with_byte 32) (all_lines s p) = ap lines (text_is p) ∙ lines_written (all_lines s p) (words_of_all (all_lines s p) say) in
-    let number : ℕ = zone_number 1 (lines (script_text p)) in
+    let number : ℕ = zone_number 0 (lines (script_text p)) in
     let read : after_lines line 1 empty_draft (lines (script_text p)) ≡ Ok (drafted s p) =
     ap (after_lines line 1 empty_draft) text ∙ lines_read line (all_lines s p) 1 empty_draft (drafted s p) say (all_said s p h k) in
     rw read (ap (λ (r : Result (Plan Event) Reason). numbered number r) (finished_again s p p.service refl k.service))

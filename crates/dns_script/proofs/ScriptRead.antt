@@ -177,4 +177,4 @@ pub script_read : (t : List ℕ) → Reads IsReadScript (event_script t)
 unfolding script
 script_read t =
     let all = after_lines (said_line every_word event_line) 1 empty_draft (lines t) in
-    bound IsReadScript all _ (λ d is. numbered_kept IsReadScript (zone_number 1 (lines t)) (finished d) (finished_kept d (at_ok IsReadDraft all d (lines_kept (lines t) 1 empty_draft none_read) is)))
+    bound IsReadScript all _ (λ d is. numbered_kept IsReadScript (zone_number 0 (lines t)) (finished d) (finished_kept d (at_ok IsReadDraft all d (lines_kept (lines t) 1 empty_draft none_read) is)))

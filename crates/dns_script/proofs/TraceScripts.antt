@@ -122,8 +122,8 @@ pub plain_trace : (t : List ℕ) → AreNoServices (lines t) → traced t ≡ sc
 unfolding traced script
 plain_trace t h =
     ap whole_trace (lines_same (lines t) 1 empty_plan)
-    ∙ (whole_same (zone_number 1 (lines t)) (after_lines plain_line 1 empty_plan (lines t))
-    ∙ sym (ap (λ (r : Result (Draft Event) (ℕ × Reason)). script_trace (r >>= λ d. numbered (zone_number 1 (lines t)) (finished d))) (lines_drafted (lines t) 1 empty_draft h)))
+    ∙ (whole_same (zone_number 0 (lines t)) (after_lines plain_line 1 empty_plan (lines t))
+    ∙ sym (ap (λ (r : Result (Draft Event) (ℕ × Reason)). script_trace (r >>= λ d. numbered (zone_number 0 (lines t)) (finished d))) (lines_drafted (lines t) 1 empty_draft h)))
 
 -- ---- the first line of a service
 

@@ -90,10 +90,10 @@ of_plan d read = read >>= λ p. Ok (record d { plan = p })
 abbrev pub every_word : List ℕ → Bool
 every_word w = true
 
--- the number of the first line that is a zone's, where the first of these is line n
+-- the number of the first line that is a zone's, or else of the last line, where n lines stand before these
 abbrev pub zone_number : ℕ → List (List ℕ) → ℕ
 zone_number n [] = n
-zone_number n (l ∷ ls) = if bytes_eq (word_at (words_of l) 0) (codes "zone") then n else zone_number (n + 1) ls
+zone_number n (l ∷ ls) = if bytes_eq (word_at (words_of l) 0) (codes "zone") then n + 1 else zone_number (n + 1) ls
 
 -- The lines behind the settings and those of the service and of the target are events, or steps, by their reading; and a script may
 -- lack some of those lines, by their first word.
@@ -131,4 +131,4 @@ module _ {E : Type 0} (has : List ℕ → Bool) (reading : List (List ℕ) → R
 
   -- what its lines say, or the first bad line and its reason; a zone that its records don't make is refused at its line
   unfoldable pub script : List ℕ → Result (Plan E) (ℕ × Reason)
-  script t = after_lines said_line 1 empty_draft (lines t) >>= λ d. numbered (zone_number 1 (lines t)) (finished d)
+  script t = after_lines said_line 1 empty_draft (lines t) >>= λ d. numbered (zone_number 0 (lines t)) (finished d)

@@ -55,6 +55,7 @@ impl CachedRules {
     pub fn ask(&mut self, alloc: Global, ask: Ask) -> Result<String, OutOfMemory>
         ensures line { IfOk result (λ t. string_bytes t ≡ (asked_of self.old ask).line) }
         ensures cached { OnOk result (self.new ≡ record self.old { cached = (asked_of self.old ask).behind }) }
+        ensures rules { self.new.rules ≡ self.old.rules }
     {
         let request = ask.into_request(alloc)?;
         ask_request(alloc, &self.turns, &mut self.cache, &request)

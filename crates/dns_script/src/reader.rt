@@ -1,6 +1,6 @@
 //! The reader of a script.
 
-ghost use Rattle.std.specs.Prelude.{◌≡◌, ◌<◌, ◌^◌, IfOk, codes, length};
+ghost use Rattle.std.specs.Prelude.{◌≡◌, IfOk, codes};
 ghost use Rattle.std.specs.Str.{bytes_eq};
 ghost use Rattle.std.specs.Str.Lines.{lines};
 ghost use Rattle.dns_trace.specs.Reading.{TakesLine};
@@ -116,20 +116,19 @@ fn is_of_zone(alloc: Global, line: &[u8]) -> Result<bool, OutOfMemory>
     Ok(begins(&words, "zone"))
 }
 
-/// The number of the first line that is a zone's, or the one behind the last line.
+/// The number of the first line that is a zone's, or else of the last line.
 fn zone_number(alloc: Global, text: &[u8]) -> Result<u64, OutOfMemory>
-    requires { length text.now < 2 ^ 40 }
-    ensures { IfOk result (λ n. n ≡ zone_number 1 (lines text.now)) }
+    ensures { IfOk result (λ n. n ≡ zone_number 0 (lines text.now)) }
 {
     let mut rest = text;
-    let mut line = 1u64;
+    let mut line = 0u64;
     while !rest.is_empty() {
+        line += 1;
         let (first, more) = split_line(rest);
         if is_of_zone(alloc, first)? {
             return Ok(line);
         }
         rest = more;
-        line += 1;
     }
     Ok(line)
 }
@@ -160,8 +159,7 @@ fn finish<E: ScriptLine>(
     draft: Draft<E>,
     text: &[u8],
 ) -> Result<Script<E>, ScriptError>
-    requires { length text.now < 2 ^ 40 }
-    ensures { ReadsScript result (numbered (zone_number 1 (lines text.now)) (finished draft)) }
+    ensures { ReadsScript result (numbered (zone_number 0 (lines text.now)) (finished draft)) }
 {
     match draft.finish(alloc) {
         Ok(script) => Ok(script),
@@ -176,7 +174,6 @@ fn finish<E: ScriptLine>(
 /// What a text says, or its first bad line and the reason.
 #[tactic(auto, unfolding(crate::specs::Script::script))]
 pub fn read_script<E: ScriptLine>(alloc: Global, text: &[u8]) -> Result<Script<E>, ScriptError>
-    requires { length text.now < 2 ^ 40 }
     ensures { ReadsScript result (script E.has E.reading text.now) }
 {
     match read_draft(alloc, text) {

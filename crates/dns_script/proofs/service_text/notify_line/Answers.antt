@@ -10,5 +10,5 @@ returns c =
     on_ok_weaker c.end_line.result
     (λ e. longer_line_made c.args.text.now (codes "notify") (spelled_name c.args.rule.now.apex) (spelled_verdict c.args.rule.now.verdict) (replicate c.args.rule.now.pends (codes "pend")) c.name.new.self c.push_name.new.text
     c.push_pends.new.text c.word.new.self c.end_line.new.self
-    c.in_ok-name.ensures.ok c.in_ok-push_name.ensures c.in_ok-push_pends.ensures (rw c.verdict_text.ensures at c.in_ok-word.ensures) e)
+    c.in_ok-name.ensures.ok c.in_ok-push_name.ensures c.in_ok-push_pends.ensures (rw c.verdict_text.ensures at c.in_ok-word.ensures.ok) e)
     c.end_line.ensures.ok
