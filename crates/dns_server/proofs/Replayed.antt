@@ -37,11 +37,11 @@ use Rattle.dns_server.specs.Recorded.{ReadsBack, configured}
 use Rattle.dns_server.specs.Replays.{Replays}
 
 -- a connection hears all events of its trace
-wide_or : (w : Bool) (d c : ℕ) → (w ≡ false → d ≡ c) → (w || (d == c)) ≡ true
+wide_or : (w : Bool) (d c : ℕ) → d ≡ (if w then 0 else c) → (w || (d == c)) ≡ true
 wide_or true d c h = refl
-wide_or false d c h = eq-eqb d c (h refl)
+wide_or false d c h = eq-eqb d c h
 
-hears : (c : ℕ) (e : Event) → (is_wide e.kind ≡ false → e.client ≡ c) → concerns c e ≡ true
+hears : (c : ℕ) (e : Event) → e.client ≡ (if is_wide e.kind then 0 else c) → concerns c e ≡ true
 hears c e h = wide_or (is_wide e.kind) e.client c h
 
 own_all : (c : ℕ) (es : List Event) → AllOf c es → own c es ≡ es
@@ -73,7 +73,7 @@ module _ (answers : Serving) (settings : Settings) (client : ℕ) (addr : Socket
 
   begins : is_new answers settings [] first ≡ true
   unfolding is_new slate
-  begins = rw (hears client first (λ u. refl)) refl
+  begins = rw (hears client first refl) refl
 
   room : IsStream settings.stream → has_room answers settings [] [] ≡ true
   unfolding has_room taken conf
@@ -90,13 +90,13 @@ module _ (answers : Serving) (settings : Settings) (client : ℕ) (addr : Socket
   sent_is : (look : Look) (es : List Event) → conf_of look ≡ opening settings → AllOf client es → sent answers settings (own client (first ∷ es)) ≡ sent_after answers (began client addr at look) es
   unfolding sent
   sent_is look es c mine =
-      ap (sent_after answers (fresh (opening settings))) (own_all client (first ∷ es) ((λ u. refl), mine))
+      ap (sent_after answers (fresh (opening settings))) (own_all client (first ∷ es) (refl, mine))
       ∙ ap (λ (s : Conf). sent_after answers (opened client addr at (fresh s)) es) (sym c)
 
   slate_is : (look : Look) (es : List Event) → conf_of look ≡ opening settings → AllOf client es → slate answers settings client (first ∷ es) ≡ slate_after answers (began client addr at look) es
   unfolding slate
   slate_is look es c mine =
-      ap (slate_after answers (fresh (opening settings))) (own_all client (first ∷ es) ((λ u. refl), mine))
+      ap (slate_after answers (fresh (opening settings))) (own_all client (first ∷ es) (refl, mine))
       ∙ ap (λ (s : Conf). slate_after answers (opened client addr at (fresh s)) es) (sym c)
 
 -- some events, of which there is a last one
