@@ -1,6 +1,6 @@
 //! How many octets a reply may take.
 
-ghost use Rattle.std.specs.Prelude.{◌≡◌, ◌≤◌, OnOk};
+ghost use Rattle.std.specs.Prelude.{◌≡◌, ◌≤◌, OnErr, OnOk};
 ghost use Rattle.dns_service.specs.Cut.{sized};
 ghost use Rattle.dns_service.specs.Transport.{limit, limit_over};
 
@@ -35,13 +35,15 @@ pub fn limit_over(transport: &TransportSpecificContext, hint: Option<u16>) -> Op
     }
 }
 
-/// Cuts a reply where there is a limit.
+/// Cuts a reply where there is a limit, and changes nothing else of it. Where there is no memory the reply is as it was.
 pub fn fit(
     alloc: Global,
     limit: Option<u16>,
     reply: &mut AdditionalBuilder,
 ) -> Result<(), OutOfMemory>
-    ensures { OnOk result (reply.new.message ≡ sized limit reply.old.message) }
+    ensures ok { OnOk result (reply.new.message ≡ sized limit reply.old.message) }
+    ensures rest { OnOk result (reply.new.limit ≡ reply.old.limit) }
+    ensures err { OnErr result (reply.new ≡ reply.old) }
 {
     match limit {
         Some(limit) => cut(alloc, reply, limit as usize),
