@@ -1,6 +1,6 @@
 //! What answers go through on their way to a connection: what they tell is heard, and what they reply is queued.
 
-ghost use Rattle.std.specs.Prelude.{◌≡◌, ℕ, suc, IfOk, OnOk};
+ghost use Rattle.std.specs.Prelude.{◌≡◌, ℕ, suc, IfOk, OnErr, OnOk};
 ghost use Rattle.dns_service.specs.Given.{message_in};
 ghost use Rattle.dns_service.specs.Invokers.{Invoking, dispatched_by, after_answer, after_feedback, after_item, reply_in};
 
@@ -82,7 +82,8 @@ pub trait ServiceInvoker {
     }
 
     /// Hears the feedback of an item, and gives the reply that it has. An error item aborts the request, and its reply is an
-    /// error reply to the message. There is none exactly where the item is a feedback alone.
+    /// error reply to the message. There is none exactly where the item is a feedback alone. Where there is no memory the
+    /// request is as far as it was, and the item is lost.
     fn process_response_stream_item(
         &mut self,
         alloc: Global,
@@ -91,6 +92,7 @@ pub trait ServiceInvoker {
     ) -> Result<Option<AdditionalBuilder>, OutOfMemory>
         ensures does { OnOk result (self.new ≡ after_item invoking item self.old) }
         ensures reply { IfOk result (λ reply. message_in reply ≡ reply_in message.now item) }
+        ensures refused { OnErr result (self.new ≡ self.old) }
     {
         match item {
             Ok(given) => {
@@ -104,15 +106,16 @@ pub trait ServiceInvoker {
                 }
             }
             Err(error) => {
-                self.set_status(InvokerStatus::Aborting);
                 let rcode = OptRcode::from(error.rcode());
                 let reply = mk_error_response(alloc, message, rcode)?;
+                self.set_status(InvokerStatus::Aborting);
                 Ok(Some(reply))
             }
         }
     }
 
-    /// Polls the replies to a message once. An item is processed, and its reply is queued.
+    /// Polls the replies to a message once. An item is processed, and its reply is queued. Where there is no memory nothing was
+    /// heard or queued, and the stream isn't to be polled again.
     fn dispatch<T: ReplyStream>(
         &mut self,
         alloc: Global,
@@ -122,6 +125,7 @@ pub trait ServiceInvoker {
         ensures does { OnOk result (self.new ≡ after_answer invoking message.now (T.answer stream.old 0) self.old) }
         ensures answer { IfOk result (λ dispatched. dispatched ≡ dispatched_by (T.answer stream.old 0)) }
         ensures later { OnOk result ((k : ℕ) → T.answer stream.new k ≡ T.answer stream.old (suc k)) }
+        ensures refused { OnErr result (self.new ≡ self.old) }
     {
         let Ok(polled) = stream.poll_next(alloc) else {
             return Err(OutOfMemory);
