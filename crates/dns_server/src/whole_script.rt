@@ -1,8 +1,7 @@
 //! The script that a source holds.
 
-ghost use Rattle.std.specs.Prelude.{◌≡◌, ◌≢◌, ◌≤◌, length, IfErr, IfOk, IsOk};
+ghost use Rattle.std.specs.Prelude.{◌≡◌, ◌≢◌, IfErr, IfOk, IsOk};
 ghost use Rattle.dns_outside.specs.Causes.{Tells};
-ghost use Rattle.dns_outside.specs.declared.source.TheConstants.{LIMIT};
 ghost use Rattle.dns_script.specs.Script.{script};
 ghost use Rattle.dns_server.specs.Status.{status_of, SourceFaults, SinkFaults};
 ghost use Rattle.dns_server.specs.Runs.{refusal_text, Says, ReadsSource, WritesText};
@@ -20,7 +19,6 @@ fn script_of<E: ScriptLine, W: Sink>(
     text: &[u8],
     sink: &mut W,
 ) -> Result<Script<E>, Status>
-    requires { length text.now ≤ LIMIT }
     ensures said { Says result (script E.has E.reading text.now) }
     ensures told { Tells (W.tells sink.new) (W.tells sink.old) (WritesText (status_of result) (refusal_text (script E.has E.reading text.now)) (W.taken sink.old) (W.taken sink.new)) }
     ensures faults { SinkFaults (status_of result) (W.faults sink.old) (W.faults sink.new) }
