@@ -126,11 +126,8 @@ impl RequestMessage {
         ensures { Sends (request_sent self.now) result }
     {
         let built = self.message.build(alloc, self.sent_opt())?;
-        let octets = Vec::from_slice(alloc, built.as_slice())?;
-        match Message::from_octets(octets) {
-            Ok(message) => Ok(message),
-            Err(_) => unreachable!(),
-        }
+        let _octets = built.as_slice();
+        Ok(built.into_message())
     }
 
     /// The OPT record that is sent.
