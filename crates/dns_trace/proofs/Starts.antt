@@ -2,7 +2,6 @@
 use Rattle.std.proofs.Common.{◌≡◌, ◌∙◌, ℕ, List, ◌++◌}
 use Rattle.std.proofs.Transfers.{starts_with_of_append, starts_with_of_eq, starts_with_trans}
 use Rattle.std.specs.Io.{StartsWith}
-use Rattle.std.specs.Prelude.{Result, Ok, Err, OnErr}
 
 -- nothing was written
 pub starts_same : (old new : List ℕ) → new ≡ old → StartsWith new old
@@ -26,12 +25,3 @@ starts_on old more mid new h e = starts_with_trans new mid old (starts_with_of_a
 -- nothing more was written
 pub starts_kept : (old mid new : List ℕ) → StartsWith mid old → new ≡ mid → StartsWith new old
 starts_kept old mid new h e = starts_with_trans new mid old (starts_with_of_eq new mid e) h
-
--- the same of what a last call answers
-pub last_more : {T E : Type 0} (r : Result T E) (old more mid new : List ℕ) → mid ≡ old ++ more → OnErr r (new ≡ mid) → OnErr r (StartsWith new old)
-last_more (Ok v) old more mid new e s = tt
-last_more (Err d) old more mid new e s = starts_more old more mid new e s
-
-pub last_behind : {T E : Type 0} (r : Result T E) (old more mid new : List ℕ) → mid ≡ old ++ more → OnErr r (StartsWith new mid) → OnErr r (StartsWith new old)
-last_behind (Ok v) old more mid new e h = tt
-last_behind (Err d) old more mid new e h = starts_behind old more mid new e h
