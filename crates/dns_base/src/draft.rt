@@ -226,16 +226,16 @@ impl Draft {
         &mut self,
         alloc: Global,
         section: Section,
-        record: &R,
+        added: &R,
     ) -> Result<(), PushError>
         requires last { IsLast section self.old.message }
-        requires lawful { R.is_lawful record.now }
-        ensures { Pushes self.old self.new (with_record section self.old (R.resource record.now)) result }
+        requires lawful { R.is_lawful added.now }
+        ensures { Pushes self.old self.new (with_record section self.old (R.resource added.now)) result }
     {
-        if self.octets.len() - 2 + record.record_len() > self.limit {
+        if self.octets.len() - 2 + added.record_len() > self.limit {
             return Err(PushError::ShortBuf);
         }
-        record.compose_record(alloc, &mut self.octets)?;
+        added.compose_record(alloc, &mut self.octets)?;
         count_more(&mut self.octets, count_place(section));
         let end = self.octets.len() - 2;
         self.starts = self.starts.behind(section, end);
@@ -307,16 +307,16 @@ impl Draft {
         &mut self,
         alloc: Global,
         rtype: Rtype,
-        record: &R,
+        added: &R,
     ) -> Result<(), PushError>
-        requires { R.is_lawful record.now }
-        ensures { Pushes self.old self.new (with_record Section.Additional (less_type rtype self.old) (R.resource record.now)) result }
+        requires { R.is_lawful added.now }
+        ensures { Pushes self.old self.new (with_record Section.Additional (less_type rtype self.old) (R.resource added.now)) result }
     {
         let others = self.others(rtype);
-        if others.start + others.size + record.record_len() > self.limit {
+        if others.start + others.size + added.record_len() > self.limit {
             return Err(PushError::ShortBuf);
         }
-        record.compose_record(alloc, &mut self.octets)?;
+        added.compose_record(alloc, &mut self.octets)?;
         squeeze(&mut self.octets, others, rtype, others.kept + 1);
         Ok(())
     }

@@ -178,13 +178,13 @@ pub(crate) fn opt_refusal(stream: bool, opt: &AskedOpt) -> Option<OptRcode>
 }
 
 /// BADVERS for another version than 0, and FORMERR for a keepalive with a timeout over a stream.
-fn record_refusal(stream: bool, record: &AskedRecord) -> Option<OptRcode>
-    ensures { result ≡ record_refusal stream record.now }
+fn record_refusal(stream: bool, opt: &AskedRecord) -> Option<OptRcode>
+    ensures { result ≡ record_refusal stream opt.now }
 {
-    if record.version > 0 {
+    if opt.version > 0 {
         return Some(OptRcode::BADVERS);
     }
-    if stream && record.sends_timeout {
+    if stream && opt.sends_timeout {
         return Some(OptRcode::FORMERR);
     }
     None

@@ -101,10 +101,10 @@ fn first_serial(alloc: Global, records: RecordIter<'_>) -> Result<Option<Serial>
 }
 
 /// The serial in a record, where that is a zone's start and can be read.
-fn serial_in(alloc: Global, record: &RecordRef<'_>) -> Result<Option<Serial>, OutOfMemory>
-    ensures { IfOk result (λ s. s ≡ serial_read record.now.content) }
+fn serial_in(alloc: Global, resource: &RecordRef<'_>) -> Result<Option<Serial>, OutOfMemory>
+    ensures { IfOk result (λ s. s ≡ serial_read resource.now.content) }
 {
-    match record.to_record(alloc) {
+    match resource.to_record(alloc) {
         Ok(record) => Ok(serial_of(record)),
         Err(ParseError::OutOfMemory) => Err(OutOfMemory),
         Err(_) => Ok(None),
@@ -112,17 +112,17 @@ fn serial_in(alloc: Global, record: &RecordRef<'_>) -> Result<Option<Serial>, Ou
 }
 
 /// The serial of a record, where that is a zone's start.
-fn serial_of(record: Record) -> Option<Serial>
-    ensures { result ≡ soa_serial record.rdata }
+fn serial_of(resource: Record) -> Option<Serial>
+    ensures { result ≡ soa_serial resource.rdata }
 {
-    soa_serial(&record.rdata)
+    soa_serial(&resource.rdata)
 }
 
 /// The serial of a zone's start.
-fn soa_serial(data: &RecordData) -> Option<Serial>
-    ensures { result ≡ soa_serial data.now }
+fn soa_serial(rdata: &RecordData) -> Option<Serial>
+    ensures { result ≡ soa_serial rdata.now }
 {
-    match data {
+    match rdata {
         RecordData::Soa { serial, .. } => Some(*serial),
         _ => None,
     }

@@ -18,11 +18,11 @@ pub trait MessageOpt {
 }
 
 /// The OPT record that a record of this type is; none where its data is no option list.
-fn readable<'m>(record: &RecordRef<'m>) -> Option<OptRecordRef<'m>>
-    ensures { result ≡ readable_opt record.now.resource }
+fn readable<'m>(found: &RecordRef<'m>) -> Option<OptRecordRef<'m>>
+    ensures { result ≡ readable_opt found.now.resource }
 {
-    match OptRef::from_slice(record.rdata()) {
-        Ok(options) => Some(OptRecordRef::of(head_by(record.class(), record.ttl()), options)),
+    match OptRef::from_slice(found.rdata()) {
+        Ok(options) => Some(OptRecordRef::of(head_by(found.class(), found.ttl()), options)),
         Err(_) => None,
     }
 }

@@ -204,30 +204,30 @@ fn zone_line(text: &mut TextWriter, apex: &Name) -> Result<(), OutOfMemory>
 }
 
 /// The data of a record, or `-` for none, behind a space.
-fn push_data(alloc: Global, text: &mut TextWriter, data: &RecordData) -> Result<(), OutOfMemory>
-    ensures { OnOk result (text.new ≡ text.old ++ 32 ∷ octets_word (data_octets data.now)) }
+fn push_data(alloc: Global, text: &mut TextWriter, rdata: &RecordData) -> Result<(), OutOfMemory>
+    ensures { OnOk result (text.new ≡ text.old ++ 32 ∷ octets_word (data_octets rdata.now)) }
 {
     let mut octets = Vec::new(alloc);
-    data.compose(alloc, &mut octets)?;
+    rdata.compose(alloc, &mut octets)?;
     text.octets(octets.as_slice())
 }
 
 /// The time to live in s and the type of a record, each behind a space.
-fn push_numbers(text: &mut TextWriter, record: &Record) -> Result<(), OutOfMemory>
-    ensures { OnOk result (text.new ≡ text.old ++ spaced (decimal record.now.ttl ∷ decimal (data_type record.now.rdata) ∷ [])) }
+fn push_numbers(text: &mut TextWriter, resource: &Record) -> Result<(), OutOfMemory>
+    ensures { OnOk result (text.new ≡ text.old ++ spaced (decimal resource.now.ttl ∷ decimal (data_type resource.now.rdata) ∷ [])) }
 {
-    text.number(u64::from(record.ttl.as_secs()))?;
-    text.number(u64::from(record.rdata.rtype().to_int()))
+    text.number(u64::from(resource.ttl.as_secs()))?;
+    text.number(u64::from(resource.rdata.rtype().to_int()))
 }
 
 /// The line of a record.
-fn record_line(alloc: Global, text: &mut TextWriter, record: &Record) -> Result<(), OutOfMemory>
-    ensures { OnOk result (text.new ≡ text.old ++ line_of_words (words_of_record record.now)) }
+fn record_line(alloc: Global, text: &mut TextWriter, resource: &Record) -> Result<(), OutOfMemory>
+    ensures { OnOk result (text.new ≡ text.old ++ line_of_words (words_of_record resource.now)) }
 {
     text.name("record")?;
-    push_name(text, &record.owner)?;
-    push_numbers(text, record)?;
-    push_data(alloc, text, &record.rdata)?;
+    push_name(text, &resource.owner)?;
+    push_numbers(text, resource)?;
+    push_data(alloc, text, &resource.rdata)?;
     text.end_line()
 }
 

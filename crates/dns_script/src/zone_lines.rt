@@ -60,15 +60,15 @@ fn composed(
     owner: &Name,
     ttl: u32,
     rtype: u16,
-    data: &[u8],
+    rdata: &[u8],
 ) -> Result<Vec<u8>, OutOfMemory>
-    requires { length data.now ≤ 65535 }
-    ensures { IfOk result (λ v. v.items ≡ record_octets (resource_of owner.now ttl rtype data.now)) }
+    requires { length rdata.now ≤ 65535 }
+    ensures { IfOk result (λ v. v.items ≡ record_octets (resource_of owner.now ttl rtype rdata.now)) }
 {
     let mut octets = Vec::new(alloc);
     push(&mut octets, owner.as_slice())?;
-    push_fixed(&mut octets, rtype, ttl, data.len() as u16)?;
-    push(&mut octets, data)?;
+    push_fixed(&mut octets, rtype, ttl, rdata.len() as u16)?;
+    push(&mut octets, rdata)?;
     Ok(octets)
 }
 
@@ -89,34 +89,34 @@ fn record_alone(alloc: Global, octets: &[u8]) -> Result<Record, LineError>
 }
 
 /// The data of a record is written as these octets, so that no name of it is compressed.
-fn written_as(alloc: Global, resource: &Record, data: &[u8]) -> Result<(), LineError>
+fn written_as(alloc: Global, resource: &Record, rdata: &[u8]) -> Result<(), LineError>
     requires { IsLawful resource.now.rdata }
-    ensures { GivesLine (λ u. u) result (unless Reason.Value (bytes_eq (data_octets resource.now.rdata) data.now)) }
+    ensures { GivesLine (λ u. u) result (unless Reason.Value (bytes_eq (data_octets resource.now.rdata) rdata.now)) }
 {
     let mut octets = Vec::new(alloc);
     resource.rdata.compose(alloc, &mut octets)?;
-    unless(Reason::Value, octets.as_slice() == data)?;
+    unless(Reason::Value, octets.as_slice() == rdata)?;
     Ok(())
 }
 
 /// The record of octets, where its data has the shape of its type and no compressed name.
-fn typed_record(alloc: Global, octets: &[u8], data: &[u8]) -> Result<Record, LineError>
-    ensures value { GivesLine (λ r. r) result (uncompressed data.now (read_alone (standing_at octets.now 0))) }
+fn typed_record(alloc: Global, octets: &[u8], rdata: &[u8]) -> Result<Record, LineError>
+    ensures value { GivesLine (λ r. r) result (uncompressed rdata.now (read_alone (standing_at octets.now 0))) }
     ensures lawful { IfOk result (λ r. IsLawful r.rdata) }
 {
     match record_alone(alloc, octets) {
-        Ok(record) => uncompressed(alloc, record, data),
+        Ok(record) => uncompressed(alloc, record, rdata),
         Err(error) => Err(error),
     }
 }
 
 /// A record, where its data is written as these octets.
-fn uncompressed(alloc: Global, resource: Record, data: &[u8]) -> Result<Record, LineError>
+fn uncompressed(alloc: Global, resource: Record, rdata: &[u8]) -> Result<Record, LineError>
     requires { IsLawful resource.rdata }
-    ensures value { GivesLine (λ r. r) result (uncompressed data.now (Ok resource)) }
+    ensures value { GivesLine (λ r. r) result (uncompressed rdata.now (Ok resource)) }
     ensures lawful { IfOk result (λ r. IsLawful r.rdata) }
 {
-    let written = written_as(alloc, &resource, data);
+    let written = written_as(alloc, &resource, rdata);
     kept(resource, written)
 }
 
@@ -166,14 +166,14 @@ fn record_with(
     owner: &Name,
     ttl: u32,
     rtype: u16,
-    data: &[u8],
+    rdata: &[u8],
 ) -> Result<Record, LineError>
-    requires { length data.now ≤ 65535 }
-    ensures value { GivesLine (λ r. r) result (typed_record owner.now ttl rtype data.now) }
+    requires { length rdata.now ≤ 65535 }
+    ensures value { GivesLine (λ r. r) result (typed_record owner.now ttl rtype rdata.now) }
     ensures lawful { IfOk result (λ r. IsLawful r.rdata) }
 {
-    let octets = composed(alloc, owner, ttl, rtype, data)?;
-    typed_record(alloc, octets.as_slice(), data)
+    let octets = composed(alloc, owner, ttl, rtype, rdata)?;
+    typed_record(alloc, octets.as_slice(), rdata)
 }
 
 /// A line `record NAME TTL TYPE HEX`.

@@ -262,12 +262,12 @@ fn question_added(
 fn added(
     alloc: Global,
     message: &mut AdditionalBuilder,
-    record: &Record,
+    resource: &Record,
 ) -> Result<bool, OutOfMemory>
-    requires { IsLawful record.now.rdata }
-    ensures { IfOk result (Added message.old message.new (with_additional message.old (record_of record.now))) }
+    requires { IsLawful resource.now.rdata }
+    ensures { IfOk result (Added message.old message.new (with_additional message.old (record_of resource.now))) }
 {
-    match message.push(alloc, record) {
+    match message.push(alloc, resource) {
         Ok(()) => Ok(true),
         Err(PushError::ShortBuf) => Ok(false),
         Err(PushError::OutOfMemory) => Err(OutOfMemory),

@@ -38,43 +38,43 @@ fn opt_record_among(alloc: Global, records: RecordIter<'_>) -> Result<Option<Rec
 }
 
 /// A record of type OPT, where its data is an option list.
-fn listed(alloc: Global, record: &RecordRef<'_>) -> Result<Option<Record>, OutOfMemory>
-    requires { record.now.resource.rtype ≡ 41 }
-    ensures value { IfOk result (λ o. option_map record_of o ≡ listed record.now.resource) }
+fn listed(alloc: Global, found: &RecordRef<'_>) -> Result<Option<Record>, OutOfMemory>
+    requires { found.now.resource.rtype ≡ 41 }
+    ensures value { IfOk result (λ o. option_map record_of o ≡ listed found.now.resource) }
     ensures lawful { IfOk result (λ o. IfSome o (λ r. IsLawful r.rdata)) }
 {
-    let octets = Vec::from_slice(alloc, record.rdata())?;
+    let octets = Vec::from_slice(alloc, found.rdata())?;
     match RecordData::opt(octets) {
-        Some(rdata) => Ok(Some(owned(alloc, record, rdata)?)),
+        Some(rdata) => Ok(Some(owned(alloc, found, rdata)?)),
         None => Ok(None),
     }
 }
 
 /// The record with this data, owned.
-fn owned(alloc: Global, record: &RecordRef<'_>, rdata: RecordData) -> Result<Record, OutOfMemory>
-    ensures { IfOk result (λ r. r ≡ record { owner = record.now.resource.owner; class = record.now.resource.class; ttl = record.now.resource.ttl; rdata = rdata }) }
+fn owned(alloc: Global, found: &RecordRef<'_>, rdata: RecordData) -> Result<Record, OutOfMemory>
+    ensures { IfOk result (λ r. r ≡ record { owner = found.now.resource.owner; class = found.now.resource.class; ttl = found.now.resource.ttl; rdata = rdata }) }
 {
-    match owner_of(alloc, record) {
-        Ok(owner) => Ok(with_data(record, owner, rdata)),
+    match owner_of(alloc, found) {
+        Ok(owner) => Ok(with_data(found, owner, rdata)),
         Err(error) => Err(error),
     }
 }
 
 /// The record's owner.
-fn owner_of(alloc: Global, record: &RecordRef<'_>) -> Result<Name, OutOfMemory>
-    ensures { IfOk result (λ n. n ≡ record.now.resource.owner) }
+fn owner_of(alloc: Global, found: &RecordRef<'_>) -> Result<Name, OutOfMemory>
+    ensures { IfOk result (λ n. n ≡ found.now.resource.owner) }
 {
-    record.owner().to_name(alloc)
+    found.owner().to_name(alloc)
 }
 
 /// A record of this owner and data, and otherwise as another.
-fn with_data(record: &RecordRef<'_>, owner: Name, rdata: RecordData) -> Record
-    ensures { result ≡ record { owner = owner; class = record.now.resource.class; ttl = record.now.resource.ttl; rdata = rdata } }
+fn with_data(found: &RecordRef<'_>, owner: Name, rdata: RecordData) -> Record
+    ensures { result ≡ record { owner = owner; class = found.now.resource.class; ttl = found.now.resource.ttl; rdata = rdata } }
 {
     Record {
         owner,
-        class: record.class(),
-        ttl: record.ttl(),
+        class: found.class(),
+        ttl: found.ttl(),
         rdata,
     }
 }

@@ -33,10 +33,10 @@ pub(crate) enum Lead<'a> {
 }
 
 /// The name that the data of a record is, where it is one.
-fn record_target(record: &Record) -> Option<&Name>
-    ensures { option_copied result ≡ target record.now.rdata }
+fn record_target(resource: &Record) -> Option<&Name>
+    ensures { option_copied result ≡ target resource.now.rdata }
 {
-    match &record.rdata {
+    match &resource.rdata {
         RecordData::Named { name, .. } => Some(name),
         _ => None,
     }

@@ -34,14 +34,14 @@ pub(crate) enum Fault {
 
 impl Fault {
     /// Whether a record has it, where the apex is this name.
-    fn is_in(self, apex: &Name, record: &Record) -> bool
-        ensures { result ≡ has_fault self apex.now record.now }
+    fn is_in(self, apex: &Name, resource: &Record) -> bool
+        ensures { result ≡ has_fault self apex.now resource.now }
     {
         match self {
-            Fault::OutsideApex => !ends(&record.owner, apex),
-            Fault::OtherClass => record.class != Class::IN,
-            Fault::IsOpt => record.rdata.rtype() == Rtype::OPT,
-            Fault::Misplaced => record.rdata.rtype() == Rtype::SOA && record.owner != *apex,
+            Fault::OutsideApex => !ends(&resource.owner, apex),
+            Fault::OtherClass => resource.class != Class::IN,
+            Fault::IsOpt => resource.rdata.rtype() == Rtype::OPT,
+            Fault::Misplaced => resource.rdata.rtype() == Rtype::SOA && resource.owner != *apex,
         }
     }
 }
@@ -110,13 +110,13 @@ fn check_soa(apex: &Name, records: &[Record]) -> Result<(), ZoneError>
 }
 
 /// Whether a record is a CNAME whose owner has another record.
-fn is_crowded(alloc: Global, names: &NamePlaces, record: &Record) -> Result<bool, OutOfMemory>
-    ensures { (rs : List Record) → KnowsPlaces names.now rs → IfOk result (λ b. b ≡ is_crowded rs record.now) }
+fn is_crowded(alloc: Global, names: &NamePlaces, resource: &Record) -> Result<bool, OutOfMemory>
+    ensures { (rs : List Record) → KnowsPlaces names.now rs → IfOk result (λ b. b ≡ is_crowded rs resource.now) }
 {
-    if record.rdata.rtype() != Rtype::CNAME {
+    if resource.rdata.rtype() != Rtype::CNAME {
         return Ok(false);
     }
-    let path = path_of_name(alloc, &record.owner)?;
+    let path = path_of_name(alloc, &resource.owner)?;
     match names.find(path.as_slice(), ANY) {
         Some(places) => Ok(places.len() > 1),
         None => Ok(false),

@@ -35,11 +35,11 @@ fn negative_ttl(ttl: Ttl, rdata: &RecordData) -> Ttl
 }
 
 /// The record as it is in a negative answer.
-fn negative_copy(alloc: Global, record: &Record) -> Result<Record, OutOfMemory>
-    ensures { IfOk result (λ r. r ≡ negative_soa record.now) }
+fn negative_copy(alloc: Global, resource: &Record) -> Result<Record, OutOfMemory>
+    ensures { IfOk result (λ r. r ≡ negative_soa resource.now) }
 {
-    let mut copy = record.try_clone(alloc)?;
-    copy.ttl = negative_ttl(record.ttl, &record.rdata);
+    let mut copy = resource.try_clone(alloc)?;
+    copy.ttl = negative_ttl(resource.ttl, &resource.rdata);
     Ok(copy)
 }
 

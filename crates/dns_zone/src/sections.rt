@@ -24,9 +24,9 @@ pub(crate) trait TakesRecords: Drop {
     ghost built: { Self → Built };
 
     /// Adds a record.
-    fn add(&mut self, alloc: Global, record: &Record) -> Result<(), PushError>
-        requires { IsLawful record.now.rdata }
-        ensures { Pushes (built self.old) (built self.new) (with_record section (built self.old) (record_of record.now)) result };
+    fn add(&mut self, alloc: Global, resource: &Record) -> Result<(), PushError>
+        requires { IsLawful resource.now.rdata }
+        ensures { Pushes (built self.old) (built self.new) (with_record section (built self.old) (record_of resource.now)) result };
 }
 
 impl TakesRecords for AnswerBuilder {
@@ -34,8 +34,8 @@ impl TakesRecords for AnswerBuilder {
 
     ghost built = { λ b. b };
 
-    fn add(&mut self, alloc: Global, record: &Record) -> Result<(), PushError> {
-        self.push(alloc, record)
+    fn add(&mut self, alloc: Global, resource: &Record) -> Result<(), PushError> {
+        self.push(alloc, resource)
     }
 }
 
@@ -44,8 +44,8 @@ impl TakesRecords for AuthorityBuilder {
 
     ghost built = { λ b. b };
 
-    fn add(&mut self, alloc: Global, record: &Record) -> Result<(), PushError> {
-        self.push(alloc, record)
+    fn add(&mut self, alloc: Global, resource: &Record) -> Result<(), PushError> {
+        self.push(alloc, resource)
     }
 }
 
@@ -54,8 +54,8 @@ impl TakesRecords for AdditionalBuilder {
 
     ghost built = { λ b. b };
 
-    fn add(&mut self, alloc: Global, record: &Record) -> Result<(), PushError> {
-        self.push(alloc, record)
+    fn add(&mut self, alloc: Global, resource: &Record) -> Result<(), PushError> {
+        self.push(alloc, resource)
     }
 }
 

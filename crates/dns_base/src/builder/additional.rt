@@ -48,12 +48,12 @@ impl AdditionalBuilder {
         &mut self,
         alloc: Global,
         rtype: Rtype,
-        record: &Record,
+        added: &Record,
     ) -> Result<(), PushError>
-        requires { IsLawful record.now.rdata }
-        ensures { Pushes self.old self.new (with_additional (less_type rtype self.old) (record_of record.now)) result }
+        requires { IsLawful added.now.rdata }
+        ensures { Pushes self.old self.new (with_additional (less_type rtype self.old) (record_of added.now)) result }
     {
-        self.draft.replace_type(alloc, rtype, record)
+        self.draft.replace_type(alloc, rtype, added)
     }
 
     /// Adds an OPT record of these options. It is written as it is pushed, and takes no memory but the message's.

@@ -12,11 +12,11 @@ use std::alloc::Global;
 
 impl<S: RecordStage> Builder<S> {
     /// Adds a record.
-    pub fn push(&mut self, alloc: Global, record: &Record) -> Result<(), PushError>
-        requires { IsLawful record.now.rdata }
-        ensures { Pushes self.old self.new (with_record S.section self.old (record_of record.now)) result }
+    pub fn push(&mut self, alloc: Global, added: &Record) -> Result<(), PushError>
+        requires { IsLawful added.now.rdata }
+        ensures { Pushes self.old self.new (with_record S.section self.old (record_of added.now)) result }
     {
-        self.draft.push_record(alloc, S::section(), record)
+        self.draft.push_record(alloc, S::section(), added)
     }
 
     /// Drops the section's records.

@@ -7,10 +7,10 @@ use Rattle.dns_zone.proofs.check.is_crowded.Goals as goal
 
 pub returns-in-Some : goal.returns-in-Some
 returns-in-Some c = λ rs k.
-    let t : is_of 5 c.args.record.now ≡ true = grind (arith, nat_tests) in
-    ap (λ l. nat_lt 1 (length l)) c.in-Some.ensures.0 ∙ sym (crowded_by c.args.names.now rs c.args.record.now c.as_slice.result.now k (c.as_slice.ensures.value ∙ c.in_ok-path.ensures) t)
+    let t : is_of 5 c.args.resource.now ≡ true = grind (arith, nat_tests) in
+    ap (λ l. nat_lt 1 (length l)) c.in-Some.ensures.0 ∙ sym (crowded_by c.args.names.now rs c.args.resource.now c.as_slice.result.now k (c.as_slice.ensures.value ∙ c.in_ok-path.ensures) t)
 
 pub returns : goal.returns
 returns c = λ rs k.
-    let t : is_of 5 c.args.record.now ≡ true = grind (arith, nat_tests) in
-    sym (crowded_by c.args.names.now rs c.args.record.now c.as_slice.result.now k (c.as_slice.ensures.value ∙ c.in_ok-path.ensures) t ∙ ap (λ l. nat_lt 1 (length l)) c.in-None.ensures)
+    let t : is_of 5 c.args.resource.now ≡ true = grind (arith, nat_tests) in
+    sym (crowded_by c.args.names.now rs c.args.resource.now c.as_slice.result.now k (c.as_slice.ensures.value ∙ c.in_ok-path.ensures) t ∙ ap (λ l. nat_lt 1 (length l)) c.in-None.ensures)

@@ -9,14 +9,14 @@ use Rattle.dns_base.proofs.draft.Draft.push_record.Goals as goal
 
 pub returns-then-len-record_len : goal.returns-then-len-record_len
 returns-then-len-record_len g c =
-    let h = record_grows c.self.inside.octets.items c.self.inside.limit c.args.self.now c.args.section (g.R.ComposeRecord.resource c.args.record.now) c.self.invariant.0 c.self.view_is c.requires.last in
+    let h = record_grows c.self.inside.octets.items c.self.inside.limit c.args.self.now c.args.section (g.R.ComposeRecord.resource c.args.added.now) c.self.invariant.0 c.self.view_is c.requires.last in
     (refl, omega (arith, h.0, h.1, c.len.ensures, c.record_len.ensures.value))
 
 pub returns-in_err-compose_record : goal.returns-in_err-compose_record
 returns-in_err-compose_record g c =
-    let h = record_grows c.self.inside.octets.items c.self.inside.limit c.args.self.now c.args.section (g.R.ComposeRecord.resource c.args.record.now) c.self.invariant.0 c.self.view_is c.requires.last in
+    let h = record_grows c.self.inside.octets.items c.self.inside.limit c.args.self.now c.args.section (g.R.ComposeRecord.resource c.args.added.now) c.self.invariant.0 c.self.view_is c.requires.last in
     let p = err_from_is_err_and c.from_residual.result c.from_residual.ensures.1 in
-    no_memory _ _ (with_record c.args.section c.args.self.now (g.R.ComposeRecord.resource c.args.record.now)) c.from_residual.result p.0 p.1 p.2
+    no_memory _ _ (with_record c.args.section c.args.self.now (g.R.ComposeRecord.resource c.args.added.now)) c.from_residual.result p.0 p.1 p.2
     (ap (λ o. viewed o c.self.inside.limit) c.in_err-compose_record.ensures.err ∙ c.self.view_is) (omega (arith, h.0, h.1, c.len.ensures, c.record_len.ensures.value))
 
 pub count_more-requires-clause-within : goal.count_more-requires-clause-within
@@ -38,7 +38,7 @@ invariant_of-self-2 g c =
     let i = c.self.inside in
     let b = c.args.self.now in
     let s = c.args.section in
-    let r = g.R.ComposeRecord.resource c.args.record.now in
+    let r = g.R.ComposeRecord.resource c.args.added.now in
     let o = c.count_more.new.octets.items in
     let m = room_on i.octets.items _ _ i.limit b c.self.invariant.0 c.self.view_is c.in_ok-compose_record.ensures.ok in
     let k = record_done i.octets.items c.compose_record.new.target.items o i.limit b s r c.self.invariant.0 c.self.view_is c.record_len.ensures.named c.requires.last
@@ -51,8 +51,8 @@ invariant_of-self-2 g c =
 pub returns : goal.returns
 returns g c =
     let i = c.self.inside in
-    let h = record_grows i.octets.items i.limit c.args.self.now c.args.section (g.R.ComposeRecord.resource c.args.record.now) c.self.invariant.0 c.self.view_is c.requires.last in (
-      (record_done i.octets.items c.compose_record.new.target.items c.count_more.new.octets.items i.limit c.args.self.now c.args.section (g.R.ComposeRecord.resource c.args.record.now) c.self.invariant.0 c.self.view_is c.record_len.ensures.named c.requires.last
+    let h = record_grows i.octets.items i.limit c.args.self.now c.args.section (g.R.ComposeRecord.resource c.args.added.now) c.self.invariant.0 c.self.view_is c.requires.last in (
+      (record_done i.octets.items c.compose_record.new.target.items c.count_more.new.octets.items i.limit c.args.self.now c.args.section (g.R.ComposeRecord.resource c.args.added.now) c.self.invariant.0 c.self.view_is c.record_len.ensures.named c.requires.last
           c.in_ok-compose_record.ensures.ok (subst (λ (x : ℕ). drop 2 c.count_more.new.octets.items ≡ counted x (field x (drop 2 c.compose_record.new.target.items) + 1) (drop 2 c.compose_record.new.target.items)) c.count_place.ensures.value c.count_more.ensures.message) c.count_more.ensures.len (omega (arith, c.len.ensures, c.record_len.ensures.value))).1,
       omega (arith, h.0, h.1, c.len.ensures, c.record_len.ensures.value),
     )
