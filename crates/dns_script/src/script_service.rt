@@ -1,6 +1,7 @@
 //! The service that plays the rules of a script.
 
-ghost use Rattle.std.specs.Prelude.{◌≡◌, IfOk, Some, length, ◌-◌};
+ghost use Rattle.std.specs.Prelude.{◌≡◌, IfOk, Some, length, option_map, ◌-◌};
+ghost use Rattle.dns_name.specs.Canonical.{same_name};
 ghost use Rattle.dns_service.specs.Transport.{hint_of};
 ghost use Rattle.dns_script.specs.Rules.{answers_for, fits_asked, name_asked};
 ghost use Rattle.dns_script.specs.Played.{played};
@@ -8,8 +9,8 @@ ghost use Rattle.dns_script.specs.Streams.{left_of, answers_left};
 
 use crate::rule::{Rule, Rules, ScriptAnswer, ScriptAnswers};
 use crate::script_answers::make_answer;
-use dns_base::Message;
-use dns_name::OutOfMemory;
+use dns_base::{Message, QuestionRef};
+use dns_name::{Name, OutOfMemory};
 use dns_service::{
     Polled, ReplyFuture, ReplyStream, Request, Service, ServiceError, ServiceResult,
 };
@@ -62,25 +63,33 @@ pub(crate) fn answers_for(
 ) -> Result<ScriptAnswers, OutOfMemory>
     ensures { IfOk result (λ a. a ≡ answers_for rules.now (name_asked message.now)) }
 {
+    let question = message.first_question();
     for rule in rules {
-        if fits(rule, message) {
+        if fits(rule, &question) {
             return rule.answers.try_clone();
         }
     }
     ScriptAnswers::from_slice(alloc, &[ScriptAnswer::Error(ServiceError::Refused)])
 }
 
-/// Whether a rule fits a message.
-fn fits(rule: &Rule, message: &Message) -> bool
-    ensures { result ≡ fits_asked rule.now.name (name_asked message.now) }
+/// Whether a rule fits a message with this first question, or without a readable one.
+fn fits(rule: &Rule, question: &Option<QuestionRef<'_>>) -> bool
+    ensures { result ≡ fits_asked rule.now.name (option_map (λ q. q.qname) question.now) }
 {
     match &rule.name {
         None => true,
-        Some(name) => match message.first_question() {
-            Some(question) => question.qname().name_eq(&name.for_ref()),
+        Some(name) => match question {
+            Some(question) => asks_for(question, name),
             None => false,
         },
     }
+}
+
+/// Whether a question's name is this one, up to ASCII case.
+fn asks_for(question: &QuestionRef<'_>, name: &Name) -> bool
+    ensures { result ≡ same_name question.now.qname name.now }
+{
+    question.qname().name_eq(&name.for_ref())
 }
 
 /// A future that is ready at once.
