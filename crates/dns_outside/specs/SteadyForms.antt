@@ -1,11 +1,16 @@
 -- Links, sockets and accept objects in memory of which no call fails, as contracts see them.
-use Rattle.std.specs.Prelude.{ℕ, List, Bool, IsTrue}
+use Rattle.std.specs.Prelude.{◌≡◌, ℕ, ◌+◌, List, [], Bool, IsTrue, length}
 use Rattle.dns_name.specs.declared.address.SocketAddr.{SocketAddr}
+use Rattle.dns_outside.specs.Memory.{next}
 use Rattle.dns_outside.specs.Traffic.{Traffic}
 use Rattle.dns_outside.specs.Mail.{Mail}
 use Rattle.dns_outside.specs.Doors.{Door}
 use Rattle.dns_outside.specs.MemoryForms.{Counts}
+use Rattle.dns_outside.specs.declared.link.LinkRead.{LinkRead}
+use Rattle.dns_outside.specs.declared.link.LinkRead.TheVariants.{Got, Again, End, Failed}
 use Rattle.dns_outside.specs.declared.sock.Letter.{Letter}
+use Rattle.dns_outside.specs.declared.sock.DgramRecv.{DgramRecv}
+use Rattle.dns_outside.specs.declared.sock.DgramRecv.TheVariants.{Got as RecvGot, Again as RecvAgain, Failed as RecvFailed}
 
 -- a link of which no call fails
 pub record SteadyCable : Type 0 where
@@ -23,6 +28,13 @@ steady_traffic c = record { came = c.came; went = c.went; ends = c.ends; empty_r
 abbrev pub SteadyCableTells : SteadyCable → Type 0
 SteadyCableTells c = IsTrue c.whole × Counts c.ends
 
+-- one read, with the link a before it and b after it
+abbrev pub SteadyCableReads : LinkRead → SteadyCable → SteadyCable → Type 0
+SteadyCableReads (Got n) a b = b.ends ≡ a.ends
+SteadyCableReads End a b = (a.left ≡ []) × (b.ends ≡ next a.ends)
+SteadyCableReads Again a b = ⊥
+SteadyCableReads Failed a b = ⊥
+
 -- a socket of which no call fails
 pub record SteadyTray : Type 0 where
   pub left : List Letter  -- the datagrams that are still to be received
@@ -38,6 +50,12 @@ steady_mail t = record { received = t.received; sent = t.sent; empty_receives = 
 -- that it tells
 abbrev pub SteadyTrayTells : SteadyTray → Type 0
 SteadyTrayTells t = IsTrue t.whole × Counts t.empty_receives
+
+-- one receive, with the socket a before it and b after it
+abbrev pub SteadyTrayReceives : DgramRecv → SteadyTray → SteadyTray → Type 0
+SteadyTrayReceives (RecvGot n from) a b = (length a.left ≡ length b.left + 1) × (b.empty_receives ≡ a.empty_receives)
+SteadyTrayReceives RecvAgain a b = (a.left ≡ []) × (b.left ≡ a.left) × (b.empty_receives ≡ next a.empty_receives)
+SteadyTrayReceives RecvFailed a b = ⊥
 
 -- an accept object of which no call fails, of links of type L
 pub record SteadyLobby (L : Type 0) : Type 0 where

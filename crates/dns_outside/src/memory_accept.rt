@@ -83,5 +83,9 @@ impl<L: Link + Drop> AsyncAccept for MemoryAccept<L> {
         }
     }
 
-    fn wait<R: Wait>(&mut self, _rt: &R, _millis: u64) {}
+    fn wait<R: Wait>(&mut self, _rt: &R, _millis: u64)
+        ensures moves { Tells (Counts self.new.calls.agains) (Counts self.old.calls.agains) (door_of self.new ≡ door_of self.old) }
+        ensures same { self.new.calls.faults ≡ self.old.calls.faults }
+        ensures kept { self.new ≡ self.old }
+    {}
 }

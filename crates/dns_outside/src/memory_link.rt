@@ -117,7 +117,15 @@ impl Link for MemoryLink {
         }
     }
 
-    fn wait<R: Wait>(&mut self, _rt: &R, _millis: u64) {}
+    fn wait<R: Wait>(&mut self, _rt: &R, _millis: u64)
+        ensures moves { Tells (CableTells self.new) (CableTells self.old) (traffic_of self.new ≡ traffic_of self.old) }
+        ensures same { self.new.reads.faults + self.new.writes.faults ≡ self.old.reads.faults + self.old.writes.faults }
+        ensures kept { self.new ≡ self.old }
+    {}
 
-    fn close(&mut self) {}
+    fn close(&mut self)
+        ensures moves { Tells (CableTells self.new) (CableTells self.old) (traffic_of self.new ≡ traffic_of self.old) }
+        ensures same { self.new.reads.faults + self.new.writes.faults ≡ self.old.reads.faults + self.old.writes.faults }
+        ensures kept { self.new ≡ self.old }
+    {}
 }

@@ -93,7 +93,12 @@ impl AsyncDgramSock for MemorySock {
         }
     }
 
-    fn readable<R: Wait>(&mut self, _rt: &R, _millis: u64) {}
+    fn readable<R: Wait>(&mut self, _rt: &R, _millis: u64)
+        ensures moves { Tells (TrayTells self.new) (TrayTells self.old) (mail_of self.new ≡ mail_of self.old) }
+        ensures receives { self.new.receives.faults ≡ self.old.receives.faults }
+        ensures sends { self.new.sends.faults ≡ self.old.sends.faults }
+        ensures kept { self.new ≡ self.old }
+    {}
 
     fn try_recv_buf_from(&mut self, buf: &mut [u8]) -> DgramRecv
         ensures moves { Tells (TrayTells self.new) (TrayTells self.old) (RecvMoves result buf.new (mail_of self.old) (mail_of self.new)) }

@@ -1,6 +1,8 @@
 //! An accept object in memory of which no call fails.
 
-ghost use Rattle.std.specs.Prelude.{◌≡◌, ◌≤◌, [], true};
+ghost use Rattle.std.specs.Prelude.{◌≡◌, ◌≤◌, ℕ, [], true};
+ghost use Rattle.dns_outside.specs.Causes.{Tells};
+ghost use Rattle.dns_outside.specs.SteadyForms.{SteadyLobbyTells, steady_door};
 
 use crate::accept::{AcceptAnswer, AsyncAccept};
 use crate::link::Link;
@@ -44,8 +46,6 @@ impl<L: Drop> SteadyAccept<L> {
 }
 
 impl<L: Link + Drop> AsyncAccept for SteadyAccept<L> {
-    ghost use Rattle.dns_outside.specs.SteadyForms.{SteadyLobbyTells, steady_door};
-
     type Link = L;
 
     ghost tells = { λ s. SteadyLobbyTells s };
@@ -65,5 +65,9 @@ impl<L: Link + Drop> AsyncAccept for SteadyAccept<L> {
         AcceptAnswer::Accepted(link, from)
     }
 
-    fn wait<R: Wait>(&mut self, _rt: &R, _millis: u64) {}
+    fn wait<R: Wait>(&mut self, _rt: &R, _millis: u64)
+        ensures moves { Tells (SteadyLobbyTells self.new) (SteadyLobbyTells self.old) (steady_door self.new ≡ steady_door self.old) }
+        ensures same { ◌≡◌ {A = ℕ} 0 0 }
+        ensures kept { self.new ≡ self.old }
+    {}
 }

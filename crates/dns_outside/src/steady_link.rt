@@ -1,6 +1,9 @@
 //! A link in memory of which no call fails.
 
-ghost use Rattle.std.specs.Prelude.{◌≡◌, ◌≤◌, [], true};
+ghost use Rattle.std.specs.Prelude.{◌≡◌, ◌≤◌, ◌++◌, ℕ, [], true};
+ghost use Rattle.dns_outside.specs.Causes.{Tells};
+ghost use Rattle.dns_outside.specs.Traffic.{LinkReadMoves, LinkReadBound, LinkReadCause};
+ghost use Rattle.dns_outside.specs.SteadyForms.{SteadyCableTells, SteadyCableReads, steady_traffic};
 
 use crate::link::{Link, LinkRead, LinkWrite};
 use crate::tape::Tape;
@@ -47,15 +50,21 @@ impl SteadyLink {
 }
 
 impl Link for SteadyLink {
-    ghost use Rattle.dns_outside.specs.SteadyForms.{SteadyCableTells, steady_traffic};
-
     ghost tells = { λ s. SteadyCableTells s };
 
     ghost traffic = { λ s. steady_traffic s };
 
     ghost faults = { λ _. 0 };
 
-    fn read(&mut self, buf: &mut [u8]) -> LinkRead {
+    fn read(&mut self, buf: &mut [u8]) -> LinkRead
+        ensures moves { Tells (SteadyCableTells self.new) (SteadyCableTells self.old) (LinkReadMoves result buf.new (steady_traffic self.old) (steady_traffic self.new)) }
+        ensures bound { LinkReadBound result buf.new }
+        ensures later { 0 ≤ 0 }
+        ensures cause { LinkReadCause result 0 0 }
+        ensures gives { SteadyCableReads result self.old self.new }
+        ensures input { self.new.came ++ self.new.left ≡ self.old.came ++ self.old.left }
+        ensures kept { (self.new.went ≡ self.old.went) × (self.new.whole ≡ self.old.whole) }
+    {
         match self.input.read(buf, usize::MAX) {
             Some(count) => LinkRead::Got(count),
             None => {
@@ -72,7 +81,15 @@ impl Link for SteadyLink {
         LinkWrite::Took(piece.len())
     }
 
-    fn wait<R: Wait>(&mut self, _rt: &R, _millis: u64) {}
+    fn wait<R: Wait>(&mut self, _rt: &R, _millis: u64)
+        ensures moves { Tells (SteadyCableTells self.new) (SteadyCableTells self.old) (steady_traffic self.new ≡ steady_traffic self.old) }
+        ensures same { ◌≡◌ {A = ℕ} 0 0 }
+        ensures kept { self.new ≡ self.old }
+    {}
 
-    fn close(&mut self) {}
+    fn close(&mut self)
+        ensures moves { Tells (SteadyCableTells self.new) (SteadyCableTells self.old) (steady_traffic self.new ≡ steady_traffic self.old) }
+        ensures same { ◌≡◌ {A = ℕ} 0 0 }
+        ensures kept { self.new ≡ self.old }
+    {}
 }

@@ -1,6 +1,9 @@
 //! A socket for datagrams in memory of which no call fails.
 
-ghost use Rattle.std.specs.Prelude.{◌≡◌, ◌≤◌, [], true};
+ghost use Rattle.std.specs.Prelude.{◌≡◌, ◌≤◌, ℕ, [], true};
+ghost use Rattle.dns_outside.specs.Causes.{Tells};
+ghost use Rattle.dns_outside.specs.Mail.{RecvMoves, RecvBound, RecvCause};
+ghost use Rattle.dns_outside.specs.SteadyForms.{SteadyTrayTells, SteadyTrayReceives, steady_mail};
 
 use crate::pile::{Pile, keep_sent};
 use crate::sock::{AsyncDgramSock, DgramRecv, DgramSend, Letter};
@@ -52,8 +55,6 @@ impl SteadySock {
 }
 
 impl AsyncDgramSock for SteadySock {
-    ghost use Rattle.dns_outside.specs.SteadyForms.{SteadyTrayTells, steady_mail};
-
     ghost tells = { λ s. SteadyTrayTells s };
 
     ghost mail = { λ s. steady_mail s };
@@ -69,9 +70,22 @@ impl AsyncDgramSock for SteadySock {
         DgramSend::Took(octets.len())
     }
 
-    fn readable<R: Wait>(&mut self, _rt: &R, _millis: u64) {}
+    fn readable<R: Wait>(&mut self, _rt: &R, _millis: u64)
+        ensures moves { Tells (SteadyTrayTells self.new) (SteadyTrayTells self.old) (steady_mail self.new ≡ steady_mail self.old) }
+        ensures receives { ◌≡◌ {A = ℕ} 0 0 }
+        ensures sends { ◌≡◌ {A = ℕ} 0 0 }
+        ensures kept { self.new ≡ self.old }
+    {}
 
-    fn try_recv_buf_from(&mut self, buf: &mut [u8]) -> DgramRecv {
+    fn try_recv_buf_from(&mut self, buf: &mut [u8]) -> DgramRecv
+        ensures moves { Tells (SteadyTrayTells self.new) (SteadyTrayTells self.old) (RecvMoves result buf.new (steady_mail self.old) (steady_mail self.new)) }
+        ensures bound { RecvBound result buf.new }
+        ensures sends { ◌≡◌ {A = ℕ} 0 0 }
+        ensures later { 0 ≤ 0 }
+        ensures cause { RecvCause result 0 0 }
+        ensures gives { SteadyTrayReceives result self.old self.new }
+        ensures kept { (self.new.sent ≡ self.old.sent) × (self.new.whole ≡ self.old.whole) }
+    {
         match self.incoming.receive(buf) {
             Some((count, from)) => DgramRecv::Got(count, from),
             None => {
