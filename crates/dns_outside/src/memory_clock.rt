@@ -52,7 +52,11 @@ impl Clock for MemoryClock {
         self.listed[self.listed.len() - 1]
     }
 
-    fn another(&self, _alloc: Global) -> Result<MemoryClock, OutOfMemory> {
-        Ok(MemoryClock::new(self.listed.clone()?))
+    fn another(&self, alloc: Global) -> Result<MemoryClock, OutOfMemory>
+        ensures fresh { IfOk result (λ other. readings_of other ≡ []) }
+        ensures same { IfOk result (λ other. other ≡ record { listed = self.now.listed; given = 0 }) }
+    {
+        let copy = Vec::from_slice(alloc, self.listed.as_slice())?;
+        Ok(MemoryClock::new(copy))
     }
 }
