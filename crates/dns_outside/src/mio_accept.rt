@@ -52,7 +52,7 @@ impl<N: Net + Drop> MioAccept<N> {
         }
     }
 
-    /// The listener's own address.
+    /// The listener's own address, as `mio` has it. No clause of `mio` says which one that is, so none stands here.
     pub fn local_addr(&self) -> io::Result<SocketAddr> {
         Ok(from_std(self.listener.local_addr()?))
     }

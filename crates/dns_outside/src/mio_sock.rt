@@ -54,7 +54,7 @@ impl MioSock {
         }
     }
 
-    /// The socket's own address.
+    /// The socket's own address, as `mio` has it. No clause of `mio` says which one that is, so none stands here.
     pub fn local_addr(&self) -> io::Result<SocketAddr> {
         Ok(from_std(self.socket.local_addr()?))
     }
