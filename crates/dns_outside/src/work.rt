@@ -64,12 +64,14 @@ pub struct Started<D: Drop> {
 }
 
 impl<D: Drop> Started<D> {
-    /// Whether the work is done. The thread then ends at once.
+    /// Whether the thread said that its work is done, after which it ends at once. Of what another thread says a proof knows
+    /// nothing, so no clause stands here.
     pub fn has_ended(&self) -> bool {
         self.flags.ended.load(Ordering::SeqCst)
     }
 
-    /// Waits for the thread's end. What the work gave is `None` where it was given up.
+    /// Waits for the thread's end. What the work gave is `None` where it was given up. No clause says which of both it is, and
+    /// none ties what is given to the work.
     pub fn join<R: Threads>(self, rt: &R) -> Option<D> {
         let Started { handle, flags: _ } = self;
         handle.join(rt)
@@ -77,7 +79,8 @@ impl<D: Drop> Started<D> {
 }
 
 /// Starts the work in a thread. Where no thread can be made the answer is `None`, and the work was given up, as it was
-/// where there is no memory.
+/// where there is no memory. No clause says that a work that was started is done: the thread reads a flag for whether it is
+/// to give it up, and of what is read there a proof knows nothing.
 pub fn start_work<R: Threads + Wait + Copy + Send + 'static, W: Work>(
     rt: &R,
     alloc: Global,
