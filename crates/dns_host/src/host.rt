@@ -115,7 +115,7 @@ where
     }
 
     #[tactic(auto, using(crate::proofs::Hostings::host_served))]
-    /// Serves both from the halves of a seat. Then all work is joined, and the book is shut down.
+    /// Serves both from the halves of a seat. Then `join_all` waits for the work, and the book is shut down.
     fn serve<R: Threads + Wait + Copy + Send + Sync + 'static, W: Served + Send + Sync + 'static>(
         &mut self,
         reception: &Reception<'_, R, C, W, NoHook>,
@@ -212,7 +212,8 @@ fn shared<C: Clock, W: Served>(
 
 #[tactic(auto, using(crate::proofs::Hostings::none_served))]
 /// Serves connections and datagrams beside each other, until `count` of each were taken, `count` not 0, or a look shows a
-/// shutdown. Then all work is joined, and the book is shut down.
+/// shutdown. Then `join_all` of the spawner waits for the work, of which no clause says that it has ended, and the book is
+/// shut down.
 pub fn host_service<
     R: Threads + Wait + Copy + Send + Sync + 'static,
     A: AsyncAccept,

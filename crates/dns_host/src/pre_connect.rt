@@ -1,6 +1,7 @@
 //! What is done with a link before its connection is served.
 
-/// What is called once on each link that was admitted, before its connection is served.
+/// What is called on each link that was admitted, before its connection is served: once, from reading the code. No clause says
+/// so.
 pub trait PreConnect<L> {
     fn call(&self, link: &mut L);
 }

@@ -14,7 +14,7 @@ use std::thread::Threads;
 /// The answer of one start.
 #[derive(Clone, Copy, Debug, PartialEq, Eq)]
 pub enum Start {
-    /// The work is done in a thread.
+    /// The work was handed to a thread.
     Started,
     /// The work was given up.
     Failed,
@@ -70,7 +70,8 @@ pub trait Spawner<W: Work> {
     }
 
     /// Starts the work in a thread of its own. Where it answers `Failed` or finds no memory the work was given up. It
-    /// first joins two threads at most whose work is done, so that no more are kept than twice those that work.
+    /// first asks `ended` twice for a thread whose work is done, and joins what that gives. No clause says how many threads
+    /// are kept, or that the work is done or given up.
     final fn start<R: Threads + Wait + Copy + Send + 'static>(
         &mut self,
         rt: &R,
@@ -97,7 +98,8 @@ pub trait Spawner<W: Work> {
         }
     }
 
-    /// Waits for the end of all threads that were started.
+    /// Waits for the end of each thread that `next` gives, until it gives none: by the spawners of this crate, of all that
+    /// were started and are kept. No clause says so.
     final fn join_all<R: Threads + Wait>(&mut self, rt: &R)
         ensures given { Tells (tells self.new) (tells self.old) (given self.new ≡ given self.old) }
         ensures same { faults self.new ≡ faults self.old }

@@ -84,7 +84,9 @@ fn whole_text(
 
 /// The text of a script: a line for each setting, also where that is the default one, then the lines of the service, of the
 /// target and of the events, each in their order. Words are parted by one space, numbers are in decimal without leading zeros,
-/// and digits of octets in lower case.
+/// and digits of octets in lower case. Of a script that was read it is a script again (`a_script_reads_back`). Of one that calls
+/// made it need not be: a feedback without an idle timeout, a size above that of a script or a name with other characters is
+/// written as it stands, and may be refused by `read_script`.
 #[tactic(auto, unfolding(crate::specs::ScriptText::script_text))]
 pub fn script_text(alloc: Global, script: Script<Event>) -> Result<Vec<u8>, OutOfMemory>
     ensures { IfOk result (λ v. v.items ≡ script_text script) }

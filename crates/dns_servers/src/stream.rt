@@ -225,7 +225,8 @@ where
     W::Stream: Send,
 {
     #[tactic(auto, using(crate::proofs::Joinings::not_counted, crate::proofs::Joinings::ran_joined))]
-    /// Accepts connections until a look shows a shutdown, and then waits for the end of those that are served.
+    /// Accepts connections until a look shows a shutdown, and then waits by `join_all` for those that are served, of which no
+    /// clause says that they have ended.
     pub fn run<R: Threads + Wait + Copy + Send + 'static>(
         &mut self,
         rt: &R,
