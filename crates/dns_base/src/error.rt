@@ -1,20 +1,32 @@
 //! The refusals of builders.
 
-ghost use Rattle.std.specs.Prelude.{◌≡◌};
+ghost use Rattle.std.specs.Prelude.{◌≡◌, Some};
+ghost use Rattle.dns_base.specs.PushErrors.{push_error_text};
 
 use dns_name::{BuildDataError, OutOfMemory};
 use std::alloc::AllocError;
-use thiserror::Error;
+use std::fmt;
 
 /// A refused push, which left the message as it was.
-#[derive(Clone, Copy, Debug, PartialEq, Eq, Error)]
+#[derive(Clone, Copy, Debug, PartialEq, Eq)]
 pub enum PushError {
     /// The message would pass its limit.
-    #[error("message size exceeded")]
     ShortBuf,
-    #[error("out of memory")]
     OutOfMemory,
 }
+
+impl fmt::Display for PushError {
+    ghost output = { λ e. Some (push_error_text e) };
+
+    fn fmt<W: fmt::Write>(&self, f: &mut fmt::Formatter<W>) -> fmt::Result {
+        match self {
+            PushError::ShortBuf => f.write_str("message size exceeded"),
+            PushError::OutOfMemory => f.write_str("out of memory"),
+        }
+    }
+}
+
+impl std::error::Error for PushError {}
 
 impl From<OutOfMemory> for PushError {
     ghost use Rattle.dns_base.specs.declared.error.PushError.TheVariants.{OutOfMemory as NoMemory};

@@ -1,6 +1,7 @@
 -- What is kept of a request that is asked again elsewhere (RFC 1035, section 4.1; RFC 6891, section 6.1.1; RFC 7871), and the
 -- message that is sent.
-use Rattle.std.specs.Prelude.{ℕ, ⊤, ◌≡◌, ◌<◌, ◌≤◌, Bool, true, false, List, [], ◌∷◌, length, Option, Some, None, Result, Ok, Err}
+use Rattle.std.specs.Prelude.{ℕ, ⊤, ◌≡◌, ◌<◌, ◌≤◌, Bool, true, false, List, [], ◌∷◌, ◌++◌, codes, length, Option, Some, None, Result, Ok, Err}
+use Rattle.dns_name.specs.ErrorTexts.{parse_text}
 use Rattle.dns_name.specs.declared.error.ParseError.{ParseError}
 use Rattle.dns_name.specs.declared.error.ParseError.TheVariants.{ShortInput, Form, OutOfMemory as NoParseMemory}
 use Rattle.dns_name.specs.declared.opt_error.BuildDataError.{BuildDataError}
@@ -53,6 +54,11 @@ abbrev pub unreadable : ParseError → Error
 unreadable ShortInput = Unreadable ShortInput
 unreadable (Form f) = Unreadable (Form f)
 unreadable NoParseMemory = NoMemory
+
+-- the text of the refusal of a request
+abbrev pub request_error_text : Error → List ℕ
+request_error_text (Unreadable e) = codes "unreadable request: " ++ parse_text e
+request_error_text NoMemory = codes "out of memory"
 
 -- an option is added as by a push, and a refused call leaves the request
 abbrev pub AddsTo : ℕ → List ℕ → RequestState → RequestState → Result ⊤ BuildDataError → Type 0

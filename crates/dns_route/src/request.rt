@@ -1,10 +1,10 @@
 //! Requests that are asked again elsewhere.
 
-ghost use Rattle.std.specs.Prelude.{◌≡◌, ◌≤◌, [], IfOk, false, length};
+ghost use Rattle.std.specs.Prelude.{◌≡◌, ◌≤◌, [], IfOk, Some, false, length};
 ghost use Rattle.std.specs.Option.{option_copied};
 ghost use Rattle.dns_route.specs.declared.kept.Keeps.TheVariants.{Subnets};
 ghost use Rattle.dns_route.specs.Kept.{kept_opt};
-ghost use Rattle.dns_route.specs.RequestMessage.{AddsTo, ReadsRequest, Sends, request_of, request_opt, request_sent, sent_opt};
+ghost use Rattle.dns_route.specs.RequestMessage.{AddsTo, ReadsRequest, Sends, request_error_text, request_of, request_opt, request_sent, sent_opt};
 
 use crate::kept::{Keeps, kept_opt, plain};
 use dns_base::{Message, ParseError, PushError};
@@ -12,20 +12,32 @@ use dns_name::{BuildDataError, ComposeOptData, OutOfMemory};
 use dns_opt::{MessageOpt, OptRecord, OptRecordRef};
 use dns_service::{CopiedMessage, Request};
 use std::alloc::Global;
+use std::fmt;
 use std::marker::Model;
 
 /// The greatest payload over UDP that a sent request asks for, in octets (RFC 6891, section 6.2.5).
 const SIZE: u16 = 1232;
 
 /// Why a request can't be asked again.
-#[derive(Clone, Copy, Debug, PartialEq, Eq, thiserror::Error)]
+#[derive(Clone, Copy, Debug, PartialEq, Eq)]
 pub enum Error {
     /// A section, its data or an option of the first OPT record is unreadable.
-    #[error("unreadable request: {0}")]
     Unreadable(ParseError),
-    #[error("out of memory")]
     OutOfMemory,
 }
+
+impl fmt::Display for Error {
+    ghost output = { λ e. Some (request_error_text e) };
+
+    fn fmt<W: fmt::Write>(&self, f: &mut fmt::Formatter<W>) -> fmt::Result {
+        match self {
+            Error::Unreadable(error) => write!(f, "unreadable request: {error}"),
+            Error::OutOfMemory => f.write_str("out of memory"),
+        }
+    }
+}
+
+impl std::error::Error for Error {}
 
 impl From<ParseError> for Error {
     ghost use Rattle.dns_route.specs.RequestMessage.{unreadable};
