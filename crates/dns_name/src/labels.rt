@@ -1,6 +1,7 @@
 //! The labels of a name.
 
-ghost use Rattle.std.specs.Prelude.{◌≡◌, ◌≤◌, ◌<◌, ◌+◌, ◌++◌, ◌∷◌, ◌↔◌, length, drop, IsTrue, OnOk};
+ghost use Rattle.std.specs.Prelude.{◌≡◌, ◌≤◌, ◌<◌, ◌+◌, ◌++◌, ◌∷◌, ◌↔◌, length, drop, map, IsTrue, OnOk};
+ghost use Rattle.std.specs.Char.{to_ascii_lowercase};
 ghost use Rattle.std.specs.Iterator.{YieldsFirstBy, item_count};
 ghost use Rattle.dns_name.specs.Canonical.{label_cmp, name_cmp, same_name};
 ghost use Rattle.dns_name.specs.Labels.{IsName, EndsWith, folded};
@@ -49,6 +50,13 @@ impl<'a> Labels<'a> {
             hops: 0,
         }
     }
+
+    /// The labels behind so many.
+    pub fn behind(self, skipped: usize) -> Labels<'a>
+        ensures { result ≡ drop skipped self.entry }
+    {
+        behind(self, skipped)
+    }
 }
 
 impl<'a> Iterator for Labels<'a> {
@@ -86,6 +94,16 @@ pub(crate) fn push_spelt(label: &[u8], octets: &mut Vec<u8>) -> Result<(), OutOf
 {
     octets.push(label.len() as u8)?;
     octets.extend_from_slice(label)?;
+    Ok(())
+}
+
+/// Appends octets in lower case. Where there is no memory, some of them may have been appended.
+pub fn push_lower(label: &[u8], octets: &mut Vec<u8>) -> Result<(), OutOfMemory>
+    ensures { OnOk result (octets.new.items ≡ octets.old.items ++ map to_ascii_lowercase label.now) }
+{
+    'octets: for octet in label {
+        octets.push(octet.to_ascii_lowercase())?;
+    }
     Ok(())
 }
 

@@ -29,7 +29,7 @@ pub use iana::{
     Class, Classes, Code, ExtendedErrorCode, ExtendedErrorCodes, HeaderCode, Opcode, Opcodes,
     OptionCode, OptionCodes, Rcode, Rcodes, Rtype, Rtypes, SecurityAlgorithm,
 };
-pub use labels::Labels;
+pub use labels::{Labels, push_lower};
 pub use laws::{names_are_ordered, names_are_the_grammar, names_read_back};
 pub use name::{HoldsName, Name, NameRef};
 pub use octets::Octets;

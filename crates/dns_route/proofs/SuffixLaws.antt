@@ -1,5 +1,5 @@
 -- The rest of a name, label by label, and its octets in lower case.
-use Rattle.std.proofs.Common.{◌≡◌, ℕ, ◌+◌, ◌-◌, ◌<◌, List, [], ◌∷◌, ◌++◌, length, map, take, drop, Option, Some, None, MatchOption, Bor, ap, sym, ◌∙◌, arith, length-drop}
+use Rattle.std.proofs.Common.{◌≡◌, ℕ, ◌+◌, ◌-◌, ◌<◌, List, ◌∷◌, ◌++◌, length, map, take, drop, ap, sym, ◌∙◌, arith, length-drop}
 use Rattle.std.proofs.lemmas.List.{drop-drop, length-map}
 use Rattle.std.proofs.Math.Seq.{drop-append_seam, take-length}
 use Rattle.std.specs.Char.{to_ascii_lowercase}
@@ -7,11 +7,6 @@ use Rattle.dns_name.specs.Labels.{folded}
 use Rattle.dns_route.specs.Places.{name_key}
 use Rattle.dns_route.proofs.KeyLaws.{spelt_some}
 use Rattle.dns_route.proofs.RouteLaws.{IsTail}
-
--- the labels behind so many, and behind one more
-pub one_behind : (r : Option (Bor (List ℕ))) (s t l : List (List ℕ)) (i : ℕ) → MatchOption r ((s ≡ []) × (t ≡ [])) (λ x. s ≡ x.now ∷ t) → s ≡ drop i l → t ≡ drop (i + 1) l
-one_behind None s t l i h e = h.1 ∙ (ap (drop 1) (sym h.0 ∙ e) ∙ drop-drop 1 i l)
-one_behind (Some x) s t l i h e = ap (drop 1) (sym h ∙ e) ∙ drop-drop 1 i l
 
 pub next_tail : (q s t : List (List ℕ)) (l : List ℕ) → s ≡ l ∷ t → IsTail q s → IsTail q t
 next_tail q s t l e h =

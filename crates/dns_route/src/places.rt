@@ -7,23 +7,13 @@ ghost use Rattle.std.specs.Str.{bytes_eq};
 ghost use Rattle.dns_name.specs.Labels.{AreLabels};
 ghost use Rattle.dns_route.specs.Places.{Knows, name_key, place_under};
 
-use dns_name::{Labels, Name, OutOfMemory};
+use dns_name::{Labels, Name, OutOfMemory, push_lower};
 use smallvec::SmallVec;
 use std::alloc::Global;
 use std::collections::HashMap;
 
 /// The octets of a name in lower case. Up to 32 of them lie in the map itself, where a look-up compares them.
 pub(crate) type Key = SmallVec<u8, 32>;
-
-/// Appends octets in lower case.
-fn push_lower(label: &[u8], octets: &mut Vec<u8>) -> Result<(), OutOfMemory>
-    ensures { OnOk result (octets.new.items ≡ octets.old.items ++ map to_ascii_lowercase label.now) }
-{
-    'octets: for octet in label {
-        octets.push(octet.to_ascii_lowercase())?;
-    }
-    Ok(())
-}
 
 /// Appends a label in lower case behind its length.
 fn push_folded(label: &[u8], octets: &mut Vec<u8>) -> Result<(), OutOfMemory>

@@ -33,16 +33,6 @@ impl<S> Model for Routes<S> {
     ghost invariant = { λ r. AreRoutes r.names.items r.services.items r.places r.most };
 }
 
-/// The labels behind so many.
-fn behind(mut labels: Labels<'_>, skipped: usize) -> Labels<'_>
-    ensures { result ≡ drop skipped labels.entry }
-{
-    'skip: for _i in 0..skipped {
-        labels.next();
-    }
-    labels
-}
-
 impl<S: Drop> Routes<S> {
     /// No names.
     pub(crate) fn new(alloc: Global) -> Self
@@ -112,8 +102,8 @@ impl<S: Drop> Routes<S> {
         requires { skipped ≤ length name.now - most_labels self.now }
         ensures { IfOk result (λ s. option_copied s ≡ chosen name.now self.now) }
     {
-        let octets = folded_octets(alloc, behind(name.labels(), skipped), 255)?;
-        let left = behind(name.labels(), skipped);
+        let octets = folded_octets(alloc, name.labels().behind(skipped), 255)?;
+        let left = name.labels().behind(skipped);
         self.deepest_in(alloc, name, skipped, left, &octets)
     }
 

@@ -6,18 +6,8 @@ ghost use Rattle.dns_name.specs.Labels.{AreLabels, folded};
 ghost use Rattle.dns_zone.specs.Paths.{marked, name_path};
 
 use dns_base::{Labels, Name};
-use dns_name::OutOfMemory;
+use dns_name::{OutOfMemory, push_lower};
 use std::alloc::Global;
-
-/// Appends octets in lower case.
-fn push_lower(label: &[u8], octets: &mut Vec<u8>) -> Result<(), OutOfMemory>
-    ensures { OnOk result (octets.new.items ≡ octets.old.items ++ map to_ascii_lowercase label.now) }
-{
-    'octets: for octet in label {
-        octets.push(octet.to_ascii_lowercase())?;
-    }
-    Ok(())
-}
 
 /// Appends a label in lower case before its length.
 fn push_marked(label: &[u8], octets: &mut Vec<u8>) -> Result<(), OutOfMemory>
