@@ -1,5 +1,7 @@
 //! Whether the next datagram comes soon.
 
+ghost use Rattle.std.specs.Prelude.{◌≡◌};
+
 /// How many waits in a row may be begun in vain by asking.
 const WORTHWHILE: u32 = 8;
 
@@ -17,7 +19,9 @@ pub(crate) struct Eagerness {
 
 impl Eagerness {
     /// Nothing was asked yet.
-    pub(crate) fn new() -> Eagerness {
+    pub(crate) fn new() -> Eagerness
+        ensures { result ≡ record { vain = WORTHWHILE } }
+    {
         Eagerness { vain: WORTHWHILE }
     }
 

@@ -1,6 +1,6 @@
 //! The machine's clock.
 
-ghost use Rattle.std.specs.Prelude.{[]};
+ghost use Rattle.std.specs.Prelude.{◌≡◌, [], true};
 
 use crate::clock::Clock;
 use dns_name::OutOfMemory;
@@ -17,7 +17,9 @@ pub struct HostClock<T> {
 
 impl<T: rt::Clock> HostClock<T> {
     /// A clock that has given no reading.
-    pub fn new(rt: T) -> HostClock<T> {
+    pub fn new(rt: T) -> HostClock<T>
+        ensures { result ≡ record { rt = rt; last = (0, 0); is_old = true } }
+    {
         HostClock {
             rt,
             last: (0, 0),

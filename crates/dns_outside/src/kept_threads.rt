@@ -1,6 +1,6 @@
 //! The threads that a spawner started.
 
-ghost use Rattle.std.specs.Prelude.{◌≤◌};
+ghost use Rattle.std.specs.Prelude.{◌≡◌, ◌≤◌, []};
 
 use crate::work::Started;
 use dns_name::OutOfMemory;
@@ -14,7 +14,9 @@ pub(crate) struct KeptThreads<D: Drop> {
 }
 
 impl<D: Drop> KeptThreads<D> {
-    pub(crate) fn new(alloc: Global) -> KeptThreads<D> {
+    pub(crate) fn new(alloc: Global) -> KeptThreads<D>
+        ensures { result.threads.items ≡ [] }
+    {
         KeptThreads {
             threads: Vec::new(alloc),
             place: 0,
@@ -22,7 +24,9 @@ impl<D: Drop> KeptThreads<D> {
     }
 
     /// Takes memory for one thread more.
-    pub(crate) fn reserve(&mut self) -> Result<(), OutOfMemory> {
+    pub(crate) fn reserve(&mut self) -> Result<(), OutOfMemory>
+        ensures { self.new.threads.items ≡ self.old.threads.items }
+    {
         Ok(self.threads.reserve(1)?)
     }
 
