@@ -1,11 +1,11 @@
 -- One event more of a flood, and one event's outputs more.
-use Rattle.std.proofs.Common.{◌≡◌, ℕ, zero, suc, ◌+◌, ◌≤◌, List, [], ◌∷◌, ◌++◌, length, Bool, cond, refl, ap, sym, ◌∙◌, add-one, arith, length-append}
+use Rattle.std.proofs.Common.{◌≡◌, ℕ, zero, suc, ◌+◌, ◌-◌, ◌^◌, ◌≤◌, min, List, [], ◌∷◌, ◌++◌, length, Bool, cond, refl, ap, sym, ◌∙◌, add-one, arith, length-append}
 use Rattle.std.proofs.lemmas.List.Sums.{sum_by-append}
 use Rattle.std.specs.Prelude.{count_by}
 use Rattle.dns_service.specs.declared.event.Event.{Event}
 use Rattle.dns_service.specs.declared.event.Output.{Output}
 use Rattle.dns_core.specs.Trails.{is_datagram_sent, is_frame}
-use Rattle.dns_server.specs.Counts.{IsAtMost, closes, output_counts, sum_of, turns_away}
+use Rattle.dns_server.specs.Counts.{IsAtMost, closes, output_counts, saturated_sum, sum_of, turns_away}
 use Rattle.dns_server.specs.Flood.{drawn, flood_event, flood_events, next_number, number_at}
 use Rattle.dns_server.specs.declared.counts.Counts.{Counts}
 
@@ -29,6 +29,25 @@ count_by_more p a b = sum_by-append (λ o. cond (p o) 1 0) a b
 pub counts_more : (a b : List Output) → output_counts (a ++ b) ≡ sum_of (output_counts a) (output_counts b)
 unfolding output_counts
 counts_more a b = rw (count_by_more is_datagram_sent a b, count_by_more is_frame a b, count_by_more closes a b, count_by_more turns_away a b) refl
+
+-- a sum is exact where it is far below the last number of 128 bits
+room_left : (x y : ℕ) → y ≡ min x (2 ^ 128 - 1) → y ≤ 2 ^ 127 + 2 ^ 64 → min x (2 ^ 128 - 1) ≡ x
+room_left x y e h = omega (arith, e, h)
+
+abbrev four_counts : ℕ → ℕ → ℕ → ℕ → Counts
+four_counts a b c d = record { datagrams = a; frames = b; closed = c; turned_away = d }
+
+same_counts : {a b c d a' b' c' d' : ℕ} → a ≡ a' → b ≡ b' → c ≡ c' → d ≡ d' → four_counts a b c d ≡ four_counts a' b' c' d'
+same_counts e f g h = rw (e, f, g, h) refl
+
+pub exact_sum : (a b new : Counts) → new ≡ saturated_sum a b → IsAtMost (2 ^ 127 + 2 ^ 64) new → new ≡ sum_of a b
+exact_sum a b new e few =
+    e
+    ∙ same_counts
+    (room_left (a.datagrams + b.datagrams) new.datagrams (ap (λ (c : Counts). c.datagrams) e) few.datagrams)
+    (room_left (a.frames + b.frames) new.frames (ap (λ (c : Counts). c.frames) e) few.frames)
+    (room_left (a.closed + b.closed) new.closed (ap (λ (c : Counts). c.closed) e) few.closed)
+    (room_left (a.turned_away + b.turned_away) new.turned_away (ap (λ (c : Counts). c.turned_away) e) few.turned_away)
 
 pub still_few : (most more : ℕ) (c : Counts) → most ≤ more → IsAtMost most c → IsAtMost more c
 still_few most more c le few = record {

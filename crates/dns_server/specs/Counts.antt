@@ -1,5 +1,5 @@
 -- How many outputs there are of each kind, and the line that says so.
-use Rattle.std.specs.Prelude.{◌≡◌, ℕ, ◌+◌, ◌<◌, ◌≤◌, Bool, true, false, List, [], ◌∷◌, ◌++◌, length, codes, count_by, decimal}
+use Rattle.std.specs.Prelude.{◌≡◌, ℕ, ◌+◌, ◌-◌, ◌^◌, ◌<◌, ◌≤◌, min, Bool, true, false, List, [], ◌∷◌, ◌++◌, length, codes, count_by, decimal}
 use Rattle.dns_service.specs.Answer.{Answer}
 use Rattle.dns_service.specs.declared.event.Event.{Event}
 use Rattle.dns_service.specs.declared.event.Output.{Output}
@@ -37,6 +37,15 @@ sum_of a b = record {
   frames = a.frames + b.frames;
   closed = a.closed + b.closed;
   turned_away = a.turned_away + b.turned_away;
+}
+
+-- the same, of numbers that go no further than 128 bits do
+abbrev pub saturated_sum : Counts → Counts → Counts
+saturated_sum a b = record {
+  datagrams = min (a.datagrams + b.datagrams) (2 ^ 128 - 1);
+  frames = min (a.frames + b.frames) (2 ^ 128 - 1);
+  closed = min (a.closed + b.closed) (2 ^ 128 - 1);
+  turned_away = min (a.turned_away + b.turned_away) (2 ^ 128 - 1);
 }
 
 -- none of them is greater

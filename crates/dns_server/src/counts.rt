@@ -2,7 +2,7 @@
 
 ghost use Rattle.std.specs.Prelude.{◌≡◌, ◌+◌, ◌^◌, ℕ, [], IfOk, count_by, string_bytes};
 ghost use Rattle.dns_core.specs.Trails.{is_datagram_sent, is_frame};
-ghost use Rattle.dns_server.specs.Counts.{IsAtMost, closes, output_counts, sum_of, summary_line, turns_away};
+ghost use Rattle.dns_server.specs.Counts.{IsAtMost, closes, output_counts, saturated_sum, summary_line, turns_away};
 
 use dns_name::OutOfMemory;
 use dns_service::Output;
@@ -81,17 +81,16 @@ impl Counts {
         }
     }
 
-    /// Outputs more.
+    /// Outputs more. Each number stays at 2^128 - 1 where it would pass that.
     pub fn add(&mut self, outputs: &[Output])
-        requires { IsAtMost (2 ^ 127) self.old }
-        ensures sum { self.new ≡ sum_of self.old (output_counts outputs.now) }
+        ensures sum { self.new ≡ saturated_sum self.old (output_counts outputs.now) }
         ensures few { (most : ℕ) → IsAtMost most self.old → IsAtMost (most + 2 ^ 64) self.new }
     {
         let more = count(outputs);
-        self.datagrams += more.datagrams;
-        self.frames += more.frames;
-        self.closed += more.closed;
-        self.turned_away += more.turned_away;
+        self.datagrams = self.datagrams.saturating_add(more.datagrams);
+        self.frames = self.frames.saturating_add(more.frames);
+        self.closed = self.closed.saturating_add(more.closed);
+        self.turned_away = self.turned_away.saturating_add(more.turned_away);
     }
 }
 

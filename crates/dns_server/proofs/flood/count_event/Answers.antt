@@ -1,10 +1,10 @@
 use Rattle.dns_client.specs.Serving.{serving}
-use Rattle.std.proofs.Common.{ap, sym, ◌∙◌, ◌++◌, List}
+use Rattle.std.proofs.Common.{ap, sym, ◌∙◌, ◌^◌, ◌++◌, List}
 use Rattle.dns_service.specs.declared.event.Output.{Output}
 use Rattle.dns_core.specs.Out.{out}
 use Rattle.dns_server.specs.Counts.{output_counts, sum_of}
 use Rattle.dns_server.specs.declared.counts.Counts.{Counts}
-use Rattle.dns_server.proofs.Flooded.{counts_more}
+use Rattle.dns_server.proofs.Flooded.{counts_more, exact_sum}
 use Rattle.dns_server.proofs.flood.count_event.Goals as goal
 
 pub returns-clause-counted : goal.returns-clause-counted
@@ -14,7 +14,7 @@ returns-clause-counted g c = λ s q lt h counted.
     let sent = c.deref.ensures.value ∙ f.0.appended ∙ ap (λ (os : List Output). os ++ f.0.more) c.new-outputs.ensures.items in
     let before = out answers s q in (
       f.1,
-      c.add.ensures.sum
+      exact_sum c.args.counts.now (output_counts c.deref.result.now) _ c.add.ensures.sum (c.add.ensures.few (2 ^ 127) c.requires.room)
           ∙ ap (λ (x : Counts). sum_of x (output_counts c.deref.result.now)) counted
           ∙ ap (λ (os : List Output). sum_of (output_counts before) (output_counts os)) sent
           ∙ sym (ap output_counts f.0.sent ∙ counts_more before f.0.more),
