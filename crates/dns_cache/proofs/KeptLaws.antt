@@ -18,7 +18,7 @@ use Rattle.dns_service.specs.Copied.{copied, copied_item, copied_records, gather
 use Rattle.dns_service.specs.LastOpt.{and_opt}
 use Rattle.dns_route.specs.ReplyMessage.{ReplyState, reply_message, reply_with_opt}
 use Rattle.dns_route.specs.Typed.{AreTyped}
-use Rattle.dns_cache.specs.Marks.{AreMarked, HasMarks, IsKept, IsListed, MarksOf, SectionsMarked, mark_of, marked_size, marked_ttls}
+use Rattle.dns_cache.specs.Marks.{AreMarked, CopiesAsItself, HasMarks, IsKept, MarksOf, SectionsMarked, mark_of, marked_size, marked_ttls}
 use Rattle.dns_cache.specs.Ttls.{counted_ttl, least_ttl, records_of, smallest}
 use Rattle.dns_cache.specs.Aged.{aged}
 use Rattle.dns_cache.specs.declared.marks.Mark.{Mark}
@@ -161,7 +161,7 @@ kept_made law back c marks h k bare short =
       within = omega arith;
       begins = records_begin c (marked_size marks) n ∙ ap (λ (m : Msg). flat_map record_octets (records_of m)) e;
       marked = k.marked ∙ ap (λ (m : Msg). map mark_of (records_of m)) e;
-      copies = subst (λ (m : Msg). (request : List ℕ) (age : ℕ) (opt : Option OptState) → IsListed opt → IsMessage (and_opt (aged m request age) opt) → copied (wire (and_opt (aged m request age) opt)) ≡ Ok (aged m request age)) e
+      copies = subst (λ (m : Msg). (request : List ℕ) (age : ℕ) (opt : Option OptState) → CopiesAsItself (aged m request age) opt) e
           (λ request age opt l i. plain_copied law (aged c request age) opt (plain_aged c request age plain) l i);
     }
 

@@ -76,6 +76,10 @@ abbrev pub IsListed : Option OptState → Type 0
 IsListed None = Unit {0}
 IsListed (Some s) = IsOptionList s.options × (length s.options ≤ 65535)
 
+-- a message that is written with an OPT record of these options, if there is one, is copied as itself, without it
+abbrev pub CopiesAsItself : Msg → Option OptState → Type 0
+CopiesAsItself m opt = IsListed opt → IsMessage (and_opt m opt) → copied (wire (and_opt m opt)) ≡ Ok m
+
 -- octets that are a message of typed records without OPT records, the place where its records begin, and their marks
 pub record IsKept (o : List ℕ) (start : ℕ) (marks : List Mark) : Type 0 where
   pub lawful : IsMessage (message_of o)
@@ -84,7 +88,7 @@ pub record IsKept (o : List ℕ) (start : ℕ) (marks : List Mark) : Type 0 wher
   pub within : start ≤ length o
   pub begins : drop start o ≡ flat_map record_octets (records_of (message_of o))
   pub marked : marks ≡ map mark_of (records_of (message_of o))
-  pub copies : (request : List ℕ) (age : ℕ) (opt : Option OptState) → IsListed opt → IsMessage (and_opt (aged (message_of o) request age) opt) → copied (wire (and_opt (aged (message_of o) request age) opt)) ≡ Ok (aged (message_of o) request age)
+  pub copies : (request : List ℕ) (age : ℕ) (opt : Option OptState) → CopiesAsItself (aged (message_of o) request age) opt
 
 -- ---- the octets of records whose TTLs are lowered
 
