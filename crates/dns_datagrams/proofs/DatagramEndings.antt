@@ -1,5 +1,5 @@
 -- How the parts of the loop of datagrams follow each other, and how it ends.
-use Rattle.std.proofs.Common.{◌≡◌, ℕ, ◌+◌, ◌-◌, ◌^◌, ◌≤◌, ◌<◌, min, List, [], ◌∷◌, length, take, Bool, true, false, refl, sym, ◌∙◌, arith}
+use Rattle.std.proofs.Common.{◌≡◌, ℕ, ◌+◌, ◌-◌, ◌^◌, ◌≤◌, ◌<◌, min, List, [], ◌∷◌, ◌++◌, length, take, Bool, true, false, refl, sym, ◌∙◌, arith}
 use Rattle.std.specs.Prelude.{Option, Some, None, nat_eq}
 use Rattle.std.specs.List.{list_any}
 use Rattle.std.specs.VecDeque.{deque_len}
@@ -80,8 +80,12 @@ module _ {W R F : Type 0} (answer : PolledRequest F R → ℕ → Answer) (answe
   pub goes_left : {w w1 : World} {s s1 : Running W R F} {a : Bool} {ns ms : List ℕ} → ms ≡ [] → Goes answer answers w s a ns w1 s1 false ms → Goes answer answers w s a ns w1 s1 false []
   goes_left e g = rw e at g
 
-  pub goes_turn : {w w1 : World} {s s1 : Running W R F} {ns rest rest' : List ℕ} {n : ℕ} → ns ≡ n ∷ rest → rest' ≡ rest → Turns answer answers n false w s w1 s1 → Goes answer answers w s false ns w1 s1 false rest'
-  goes_turn {rest = rest} e f t = rw (e, f) (t.goes rest)
+  -- the first one's, whoever is owed behind it
+  pub goes_first : {w w1 : World} {s s1 : Running W R F} {first : List ℕ} {n : ℕ} → first ≡ n ∷ [] → Turns answer answers n false w s w1 s1 → (rest : List ℕ) → Goes answer answers w s false (first ++ rest) w1 s1 false rest
+  goes_first e t rest = rw e (t.goes rest)
+
+  pub goes_next : {w w1 : World} {s s1 : Running W R F} {first rest ns : List ℕ} → ns ≡ first ++ rest → ((others : List ℕ) → Goes answer answers w s false (first ++ others) w1 s1 false others) → Goes answer answers w s false ns w1 s1 false rest
+  goes_next {rest = rest} e t = rw e (t rest)
 
   -- ---- waits and receives
 

@@ -1,5 +1,5 @@
 -- What is kept of an exchange that begins, or that is polled.
-use Rattle.std.proofs.Common.{◌≡◌, ℕ, List, [], ◌∷◌, ◌++◌, Bool, true, false, refl, ap, sym, ◌∙◌, subst, append-nil, Option, Some, None}
+use Rattle.std.proofs.Common.{◌≡◌, ℕ, List, [], ◌∷◌, ◌++◌, Bool, true, false, refl, ap, sym, ◌∙◌, subst, Option, Some, None}
 use Rattle.std.specs.Prelude.{if◌then◌else◌, not, is_some}
 use Rattle.dns_name.specs.declared.address.SocketAddr.{SocketAddr}
 use Rattle.dns_admission.specs.declared.look.Look.{Look}
@@ -50,24 +50,22 @@ module _ {W R F : Type 0} (answer : PolledRequest F R → ℕ → Answer) (answe
   left_case true x s d l = sym d
   left_case false x s d l = l refl
 
-  -- nothing stands beside it
-  keeps_one : (before behind : List (KeptExchange W R F)) (x : KeptExchange W R F) (s : Slate) → Keeps answer answers (before ++ x ∷ behind) s → (before ≡ []) × (behind ≡ []) × IsKeptOf answer answers x s
-  keeps_one [] [] x s h = (refl, refl, h)
-  keeps_one [] (y ∷ ys) x s h = absurd h
-  keeps_one (z ∷ []) ys x s h = absurd h
-  keeps_one (z ∷ w ∷ zs) ys x s h = absurd h
+  -- nothing stands behind it
+  keeps_first : (behind : List (KeptExchange W R F)) (x : KeptExchange W R F) (s : Slate) → Keeps answer answers (x ∷ behind) s → (behind ≡ []) × IsKeptOf answer answers x s
+  keeps_first [] x s h = (refl, h)
+  keeps_first (y ∷ ys) x s h = absurd h
 
-  keeps_beside : (before behind xs : List (KeptExchange W R F)) (s : Slate) → before ≡ [] → behind ≡ [] → Keeps answer answers xs s → Keeps answer answers (before ++ (xs ++ behind)) s
-  keeps_beside before behind xs s a b h = rw (a, b, append-nil xs) h
+  keeps_behind : (behind xs : List (KeptExchange W R F)) (s : Slate) → behind ≡ [] → Keeps answer answers xs s → Keeps answer answers (behind ++ xs) s
+  keeps_behind behind xs s b h = rw b h
 
   -- it is kept no more once it is finished
-  pub turned_beside : (before behind : List (KeptExchange W R F)) (old : KeptExchange W R F) (letter : Option Letter) (done : Bool) (new : KeptExchange W R F) → TurnedOne answer answers old letter done new
-      → Turned answer answers (before ++ old ∷ behind) letter (before ++ ((if done then [] else new ∷ []) ++ behind))
-  turned_beside before behind old letter done new t = record {
+  pub turned_behind : (behind : List (KeptExchange W R F)) (old : KeptExchange W R F) (letter : Option Letter) (done : Bool) (new : KeptExchange W R F) → TurnedOne answer answers old letter done new
+      → Turned answer answers (old ∷ behind) letter (behind ++ (if done then [] else new ∷ []))
+  turned_behind behind old letter done new t = record {
     leads = λ e s turn h.
-        let k = keeps_one before behind old s h in (
-          t.letter_is e s turn k.2,
-          keeps_beside before behind (if done then [] else new ∷ []) (rule answers e s).0 k.0 k.1 (left_case done new (rule answers e s).0 (t.done_is e s turn k.2) (t.left e s turn k.2)),
+        let k = keeps_first behind old s h in (
+          t.letter_is e s turn k.1,
+          keeps_behind behind (if done then [] else new ∷ []) (rule answers e s).0 k.0 (left_case done new (rule answers e s).0 (t.done_is e s turn k.1) (t.left e s turn k.1)),
         );
   }
 

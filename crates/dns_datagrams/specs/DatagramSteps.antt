@@ -1,5 +1,5 @@
 -- What the parts of the loop of datagrams do to what recorder, socket, clock and seat tell.
-use Rattle.std.specs.Prelude.{◌≡◌, ◌≤◌, ◌⊎◌, ℕ, ◌+◌, ◌-◌, ◌^◌, min, List, [], ◌∷◌, ◌++◌, length, drop, Bool, true, false, ◌==◌, ◌||◌, nat_eq, if◌then◌else◌, is_some, Option, Some, None}
+use Rattle.std.specs.Prelude.{◌≡◌, ◌≤◌, ◌⊎◌, ℕ, ◌+◌, ◌-◌, ◌^◌, min, List, [], ◌∷◌, ◌++◌, length, take, drop, Bool, true, false, ◌==◌, ◌||◌, nat_eq, if◌then◌else◌, is_some, Option, Some, None}
 use Rattle.dns_name.specs.declared.address.SocketAddr.{SocketAddr}
 use Rattle.dns_admission.specs.declared.look.Look.{Look}
 use Rattle.dns_outside.specs.Causes.{Rose}
@@ -133,9 +133,16 @@ abbrev pub numbers_of : {W R F : Type 0} → List (KeptExchange W R F) → List 
 numbers_of [] = []
 numbers_of (x ∷ xs) = x.number ∷ numbers_of xs
 
--- the number at a place
-abbrev pub IsNumberAt : {W R F : Type 0} → ℕ → ℕ → List (KeptExchange W R F) → Type 0
-IsNumberAt n i xs = drop i (numbers_of xs) ≡ n ∷ drop (i + 1) (numbers_of xs)
+-- the number of the first one; and that what is kept begins with these numbers
+abbrev pub IsFirstNumber : {W R F : Type 0} → ℕ → List (KeptExchange W R F) → Type 0
+IsFirstNumber n xs = take 1 (numbers_of xs) ≡ n ∷ []
+
+abbrev pub StandFirst : {W R F : Type 0} → List ℕ → List (KeptExchange W R F) → Type 0
+StandFirst ns xs = (others : List ℕ) × (numbers_of xs ≡ ns ++ others)
+
+-- the first goes behind the others, unless it is done
+abbrev pub gone_behind : {X : Type 0} → Bool → List X → List X
+gone_behind done xs = if done then drop 1 xs else drop 1 xs ++ take 1 xs
 
 abbrev pub kept_at : {W R F : Type 0} → ℕ → List (KeptExchange W R F) → List (KeptExchange W R F)
 kept_at c [] = []
@@ -178,14 +185,12 @@ module _ {W R F : Type 0} (answer : PolledRequest F R → ℕ → Answer) (answe
   pub record Begun (heard : Look) (e : Event) (addr : SocketAddr) (octets : List ℕ) (old : List (KeptExchange W R F)) (letter : Option Letter) (new : List (KeptExchange W R F)) : Type 0 where
     pub leads : (s : Slate) → IsUnused s → s.conf ≡ conf_of heard → Leads old letter new s (datagram e.client addr e.at e.secs octets s)
 
--- a Turn of the one at a place
-pub record TurnedItem {W R F : Type 0} (answer : PolledRequest F R → ℕ → Answer) (at : ℕ) (old : List (KeptExchange W R F)) (letter : Option Letter) (done : Bool) (new : List (KeptExchange W R F)) : Type 0 where
-  pub before : List (KeptExchange W R F)
+-- a Turn of the first one
+pub record TurnedFirst {W R F : Type 0} (answer : PolledRequest F R → ℕ → Answer) (old : List (KeptExchange W R F)) (letter : Option Letter) (done : Bool) (new : List (KeptExchange W R F)) : Type 0 where
   pub behind : List (KeptExchange W R F)
   pub was : KeptExchange W R F
   pub now : KeptExchange W R F
-  pub old_is : old ≡ before ++ was ∷ behind
-  pub new_is : new ≡ before ++ now ∷ behind
-  pub place : length before ≡ at
+  pub old_is : old ≡ was ∷ behind
+  pub new_is : new ≡ now ∷ behind
   pub number : now.number ≡ was.number
   pub turned : (answers : Serving) → TurnedOne answer answers was letter done now

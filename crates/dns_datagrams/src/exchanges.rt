@@ -1,12 +1,11 @@
 //! Exchanges begin, and are polled.
 
-ghost use Rattle.std.specs.Prelude.{◌≡◌, ◌≢◌, ℕ, ◌+◌, ◌<◌, ◌^◌, ◌++◌, drop, IfOk, OnOk, if◌then◌else◌};
-ghost use Rattle.std.specs.List.{remove};
+ghost use Rattle.std.specs.Prelude.{◌≡◌, ◌≢◌, ℕ, ◌<◌, ◌++◌, IfOk, OnOk};
 ghost use Rattle.std.specs.VecDeque.{deque_len};
 ghost use Rattle.dns_client.specs.Serving.{Serving, serving};
 ghost use Rattle.dns_service.specs.PolledRequest.{request_answer};
 ghost use Rattle.dns_service.specs.declared.event.EventKind.TheVariants.{Datagram};
-ghost use Rattle.dns_datagrams.specs.DatagramSteps.{Turned, TurnedOne, TurnedItem, Begun, IsNumberAt, stamped_event, numbers_of, kept_at, kept_under, letter_to};
+ghost use Rattle.dns_datagrams.specs.DatagramSteps.{Turned, TurnedOne, TurnedFirst, Begun, IsFirstNumber, gone_behind, stamped_event, numbers_of, kept_at, kept_under, letter_to};
 
 use crate::notes::Stamp;
 use crate::running::{KeptExchange, Running};
@@ -99,63 +98,50 @@ fn turn_kept<W: Served>(
     }
 }
 
-/// A Turn of the exchange at a place.
-fn turn_item<W: Served>(
+/// A Turn of the first exchange.
+fn turn_front<W: Served>(
     alloc: Global,
     exchanges: &mut VecDeque<KeptExchange<W>>,
-    at: usize,
 ) -> Result<(Option<Letter>, bool), OutOfMemory>
-    requires { at < deque_len exchanges.old }
-    ensures { IfOk result (λ p. TurnedItem (request_answer W.Future.answer W.Stream.answer) at exchanges.old.items p.0 p.1 exchanges.new.items) }
+    requires { 0 < deque_len exchanges.old }
+    ensures { IfOk result (λ p. TurnedFirst (request_answer W.Future.answer W.Stream.answer) exchanges.old.items p.0 p.1 exchanges.new.items) }
 {
-    let (letter, done) = turn_kept(alloc, &mut exchanges[at])?;
+    let (letter, done) = turn_kept(alloc, &mut exchanges[0])?;
     Ok((letter, done))
 }
 
-/// The exchange at a place is kept no more. Mostly it is the first.
-fn end<W: Served>(exchanges: &mut VecDeque<KeptExchange<W>>, at: usize)
-    requires { at < deque_len exchanges.old }
-    ensures { exchanges.new.items ≡ remove exchanges.old.items at }
-{
-    let _ended = if at == 0 {
-        exchanges.pop_front()
-    } else {
-        exchanges.remove(at)
-    };
-}
-
-/// An exchange whose request is done is kept no more.
-fn leave<W: Served>(exchanges: &mut VecDeque<KeptExchange<W>>, at: usize, done: bool)
-    requires { at < deque_len exchanges.old }
-    ensures { exchanges.new.items ≡ (if done then remove exchanges.old.items at else exchanges.old.items) }
+/// The first exchange goes behind all others, or is kept no more where its request is done.
+fn go_behind<W: Served>(exchanges: &mut VecDeque<KeptExchange<W>>, done: bool)
+    requires { 0 < deque_len exchanges.old }
+    ensures { exchanges.new.items ≡ gone_behind done exchanges.old.items }
 {
     if done {
-        end(exchanges, at);
+        let _ended = exchanges.pop_front();
+    } else {
+        exchanges.rotate_left(1);
     }
 }
 
-/// The number of the exchange at a place.
-pub(crate) fn number_at<W: Served>(exchanges: &VecDeque<KeptExchange<W>>, at: usize) -> u64
-    requires { at < deque_len exchanges.now }
-    ensures number { IsNumberAt result at exchanges.now.items }
-    ensures room { at < 2 ^ 63 }
+/// The number of the first exchange.
+pub(crate) fn number_first<W: Served>(exchanges: &VecDeque<KeptExchange<W>>) -> u64
+    requires { 0 < deque_len exchanges.now }
+    ensures { IsFirstNumber result exchanges.now.items }
 {
-    exchanges[at].number
+    exchanges[0].number
 }
 
-/// A Turn of the exchange at a place: what is sent for it, and whether its request is done, and it is kept no more.
-pub(crate) fn turn_at<W: Served>(
+/// A Turn of the first exchange: what is sent for it, and whether its request is done. It goes behind all others, or is kept no more.
+pub(crate) fn turn_first<W: Served>(
     alloc: Global,
     exchanges: &mut VecDeque<KeptExchange<W>>,
-    at: usize,
 ) -> Result<(Option<Letter>, bool), OutOfMemory>
-    requires { at < deque_len exchanges.old }
-    ensures here { IfOk result (λ p. (n : ℕ) (answers : Serving) → IsNumberAt n at exchanges.old.items
+    requires { 0 < deque_len exchanges.old }
+    ensures here { IfOk result (λ p. (n : ℕ) (answers : Serving) → IsFirstNumber n exchanges.old.items
         → Turned (request_answer W.Future.answer W.Stream.answer) answers (kept_at n exchanges.old.items) p.0 (kept_at n exchanges.new.items)) }
-    ensures others { OnOk result ((n c : ℕ) → IsNumberAt n at exchanges.old.items → c ≢ n → kept_at c exchanges.new.items ≡ kept_at c exchanges.old.items) }
-    ensures owed { IfOk result (λ p. drop (if p.1 then at else at + 1) (numbers_of exchanges.new.items) ≡ drop (at + 1) (numbers_of exchanges.old.items)) }
+    ensures others { OnOk result ((n c : ℕ) → IsFirstNumber n exchanges.old.items → c ≢ n → kept_at c exchanges.new.items ≡ kept_at c exchanges.old.items) }
+    ensures order { IfOk result (λ p. numbers_of exchanges.new.items ≡ gone_behind p.1 (numbers_of exchanges.old.items)) }
 {
-    let (letter, done) = turn_item(alloc, exchanges, at)?;
-    leave(exchanges, at, done);
+    let (letter, done) = turn_front(alloc, exchanges)?;
+    go_behind(exchanges, done);
     Ok((letter, done))
 }

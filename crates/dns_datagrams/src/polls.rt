@@ -1,15 +1,15 @@
 //! Polls of exchanges.
 
-ghost use Rattle.std.specs.Prelude.{◌≡◌, ◌<◌, ◌+◌, ◌^◌, [], ◌∷◌, drop, true, false, IfOk, if◌then◌else◌};
+ghost use Rattle.std.specs.Prelude.{◌≡◌, ◌<◌, ◌++◌, List, ℕ, [], take, true, false, IfOk};
 ghost use Rattle.std.specs.VecDeque.{deque_len};
 ghost use Rattle.dns_client.specs.Serving.{serving};
 ghost use Rattle.dns_service.specs.PolledRequest.{request_answer};
 ghost use Rattle.dns_service.specs.declared.event.EventKind.TheVariants.{Turn};
-ghost use Rattle.dns_datagrams.specs.DatagramSteps.{IsNumberAt, stamped_event, numbers_of};
+ghost use Rattle.dns_datagrams.specs.DatagramSteps.{IsFirstNumber, gone_behind, stamped_event, numbers_of};
 ghost use Rattle.dns_datagrams.specs.DatagramLoop.{Turns, Fails, Goes, Breaks, Finished, SinceNoted};
 ghost use Rattle.dns_datagrams.specs.DatagramOffice.{OnlyPolls, ToldSo, office_seen, office_told};
 
-use crate::exchanges::{number_at, turn_at};
+use crate::exchanges::{number_first, turn_first};
 use crate::notes::{Stamp, note_turn};
 use crate::office::Office;
 use dns_notes::{PAUSE, Recorder, pause};
@@ -19,17 +19,17 @@ use std::sync::Wait;
 
 impl<R: Wait, W: Served, D: AsyncDgramSock, C: Clock, J: Recorder> Office<'_, R, W, D, C, J> {
     #[tactic(auto, using(crate::proofs::DatagramPasses::passes_kept))]
-    /// A Turn of the exchange at a place, after it was noted, and what is sent for it. Whether its request is done is given.
-    fn turn_noted(&mut self, at: usize, stamp: Stamp) -> Result<bool, OutOfMemory>
-        requires there { at < deque_len self.old.state.now.exchanges }
-        requires number { IsNumberAt stamp.client at self.old.state.now.exchanges.items }
-        ensures owed { IfOk result (λ done. drop (if done then at else at + 1) (numbers_of self.new.state.now.exchanges.items) ≡ drop (at + 1) (numbers_of self.old.state.now.exchanges.items)) }
+    /// A Turn of the first exchange, after it was noted, and what is sent for it. Whether its request is done is given.
+    fn turn_noted(&mut self, stamp: Stamp) -> Result<bool, OutOfMemory>
+        requires there { 0 < deque_len self.old.state.now.exchanges }
+        requires number { IsFirstNumber stamp.client self.old.state.now.exchanges.items }
+        ensures order { IfOk result (λ done. numbers_of self.new.state.now.exchanges.items ≡ gone_behind done (numbers_of self.old.state.now.exchanges.items)) }
         ensures polls { OnlyPolls D.failed_receives D.failed_sends self.old self.new }
         ensures told { ToldSo (office_told D.tells C.tells J.tells) (office_seen D.mail D.failed_sends C.readings J.noted)
             (λ done w s w' s'. SinceNoted (stamped_event stamp (Turn 0)) (λ v. Turns (request_answer W.Future.answer W.Stream.answer) (serving (W.answer self.old.service.now) (W.hint self.old.service.now)) stamp.client true v s w' s') w)
             (λ w s w'. SinceNoted (stamped_event stamp (Turn 0)) (λ v. Fails (request_answer W.Future.answer W.Stream.answer) (serving (W.answer self.old.service.now) (W.hint self.old.service.now)) true v s w') w) result self.old self.new }
     {
-        match turn_at(self.alloc, &mut self.state.exchanges, at) {
+        match turn_first(self.alloc, &mut self.state.exchanges) {
             Ok((letter, done)) => match self.send_for(stamp, letter) {
                 Ok(()) => Ok(done),
                 Err(error) => Err(error),
@@ -39,64 +39,51 @@ impl<R: Wait, W: Served, D: AsyncDgramSock, C: Clock, J: Recorder> Office<'_, R,
     }
 
     #[tactic(auto, using(crate::proofs::DatagramPasses::passes_same))]
-    /// Polls the exchange at a place, which has this number, after its look. Whether its request is done is given.
-    fn turn(&mut self, at: usize, number: u64) -> Result<bool, OutOfMemory>
-        requires there { at < deque_len self.old.state.now.exchanges }
-        requires number { IsNumberAt number at self.old.state.now.exchanges.items }
-        ensures owed { IfOk result (λ done. drop (if done then at else at + 1) (numbers_of self.new.state.now.exchanges.items) ≡ drop (at + 1) (numbers_of self.old.state.now.exchanges.items)) }
+    /// Polls the first exchange, which has this number, after its look. Whether its request is done is given.
+    fn turn(&mut self, number: u64) -> Result<bool, OutOfMemory>
+        requires there { 0 < deque_len self.old.state.now.exchanges }
+        requires number { IsFirstNumber number self.old.state.now.exchanges.items }
+        ensures order { IfOk result (λ done. numbers_of self.new.state.now.exchanges.items ≡ gone_behind done (numbers_of self.old.state.now.exchanges.items)) }
         ensures polls { OnlyPolls D.failed_receives D.failed_sends self.old self.new }
         ensures told { ToldSo (office_told D.tells C.tells J.tells) (office_seen D.mail D.failed_sends C.readings J.noted)
             (λ done. Turns (request_answer W.Future.answer W.Stream.answer) (serving (W.answer self.old.service.now) (W.hint self.old.service.now)) number true)
             (Fails (request_answer W.Future.answer W.Stream.answer) (serving (W.answer self.old.service.now) (W.hint self.old.service.now)) true) result self.old self.new }
     {
         match note_turn(self.alloc, self.clock, self.journal, number) {
-            Ok(stamp) => self.turn_noted(at, stamp),
+            Ok(stamp) => self.turn_noted(stamp),
             Err(error) => Err(error),
         }
     }
 
     /// The same with its look.
-    fn poll_one(&mut self, at: usize, number: u64) -> Result<bool, OutOfMemory>
+    fn poll_one(&mut self, number: u64) -> Result<bool, OutOfMemory>
         requires book { self.old.state.now.seat.book ≡ self.old.book.now }
-        requires there { at < deque_len self.old.state.now.exchanges }
-        requires number { IsNumberAt number at self.old.state.now.exchanges.items }
-        ensures owed { IfOk result (λ done. drop (if done then at else at + 1) (numbers_of self.new.state.now.exchanges.items) ≡ drop (at + 1) (numbers_of self.old.state.now.exchanges.items)) }
+        requires there { 0 < deque_len self.old.state.now.exchanges }
+        requires number { IsFirstNumber number self.old.state.now.exchanges.items }
+        ensures order { IfOk result (λ done. numbers_of self.new.state.now.exchanges.items ≡ gone_behind done (numbers_of self.old.state.now.exchanges.items)) }
         ensures polls { OnlyPolls D.failed_receives D.failed_sends self.old self.new }
         ensures told { ToldSo (office_told D.tells C.tells J.tells) (office_seen D.mail D.failed_sends C.readings J.noted)
             (λ done. Turns (request_answer W.Future.answer W.Stream.answer) (serving (W.answer self.old.service.now) (W.hint self.old.service.now)) number false)
             (Fails (request_answer W.Future.answer W.Stream.answer) (serving (W.answer self.old.service.now) (W.hint self.old.service.now)) false) result self.old self.new }
     {
         match self.look_once() {
-            Ok(()) => self.turn(at, number),
+            Ok(()) => self.turn(number),
             Err(error) => Err(error),
         }
     }
-}
 
-/// The place behind one, unless what was there is kept no more.
-fn behind(at: usize, done: bool) -> usize
-    requires { at < 2 ^ 63 }
-    ensures { result ≡ (if done then at else at + 1) }
-{
-    if done { at } else { at + 1 }
-}
-
-impl<R: Wait, W: Served, D: AsyncDgramSock, C: Clock, J: Recorder> Office<'_, R, W, D, C, J> {
-    /// Polls the exchange at a place. The place of the next one is given.
-    fn poll_at(&mut self, at: usize) -> Result<usize, OutOfMemory>
+    /// Polls the first exchange, which then stands behind all others, or is kept no more where its request is done: that is given.
+    fn poll_first(&mut self) -> Result<bool, OutOfMemory>
         requires book { self.old.state.now.seat.book ≡ self.old.book.now }
-        requires there { at < deque_len self.old.state.now.exchanges }
-        ensures owed { IfOk result (λ next. drop next (numbers_of self.new.state.now.exchanges.items) ≡ drop (at + 1) (numbers_of self.old.state.now.exchanges.items)) }
+        requires there { 0 < deque_len self.old.state.now.exchanges }
+        ensures order { IfOk result (λ done. numbers_of self.new.state.now.exchanges.items ≡ gone_behind done (numbers_of self.old.state.now.exchanges.items)) }
         ensures polls { OnlyPolls D.failed_receives D.failed_sends self.old self.new }
         ensures told { ToldSo (office_told D.tells C.tells J.tells) (office_seen D.mail D.failed_sends C.readings J.noted)
-            (λ next w s w' s'. Goes (request_answer W.Future.answer W.Stream.answer) (serving (W.answer self.old.service.now) (W.hint self.old.service.now)) w s false (drop at (numbers_of s.exchanges.items)) w' s' false (drop next (numbers_of s'.exchanges.items)))
-            (λ w s w'. Breaks (request_answer W.Future.answer W.Stream.answer) (serving (W.answer self.old.service.now) (W.hint self.old.service.now)) s.next w s false (drop at (numbers_of s.exchanges.items)) w') result self.old self.new }
+            (λ done w s w' s'. (rest : List ℕ) → Goes (request_answer W.Future.answer W.Stream.answer) (serving (W.answer self.old.service.now) (W.hint self.old.service.now)) w s false (take 1 (numbers_of s.exchanges.items) ++ rest) w' s' false rest)
+            (Fails (request_answer W.Future.answer W.Stream.answer) (serving (W.answer self.old.service.now) (W.hint self.old.service.now)) false) result self.old self.new }
     {
-        let number = number_at(&self.state.exchanges, at);
-        match self.poll_one(at, number) {
-            Ok(done) => Ok(behind(at, done)),
-            Err(error) => Err(error),
-        }
+        let number = number_first(&self.state.exchanges);
+        self.poll_one(number)
     }
 
     /// Polls each exchange whose request isn't done once, by rising number.
@@ -107,10 +94,9 @@ impl<R: Wait, W: Served, D: AsyncDgramSock, C: Clock, J: Recorder> Office<'_, R,
             (λ u w s w' s'. Goes (request_answer W.Future.answer W.Stream.answer) (serving (W.answer self.old.service.now) (W.hint self.old.service.now)) w s false (numbers_of s.exchanges.items) w' s' false [])
             (λ w s w'. Breaks (request_answer W.Future.answer W.Stream.answer) (serving (W.answer self.old.service.now) (W.hint self.old.service.now)) s.next w s false (numbers_of s.exchanges.items) w') result self.old self.new }
     {
-        let mut at = 0;
         for _polled in 0..self.state.exchanges.len() {
-            match self.poll_at(at) {
-                Ok(next) => at = next,
+            match self.poll_first() {
+                Ok(_done) => {}
                 Err(error) => return Err(error),
             }
         }

@@ -19,8 +19,9 @@ pub(crate) struct KeptExchange<W: Served> {
     pub(crate) addr: SocketAddr,
 }
 
-/// The exchanges whose requests aren't done, by rising number, the number of the next one, and what was heard of the book: its version, the
-/// configurations in force, and whether it was shut down. The seat that looks are made from, and whether a send failed.
+/// The exchanges whose requests aren't done, by rising number, those behind all others that this round of polls has passed; the number
+/// of the next one, and what was heard of the book: its version, the configurations in force, and whether it was shut down. The seat
+/// that looks are made from, and whether a send failed.
 #[derive(Drop)]
 pub(crate) struct Running<W: Served> {
     pub(crate) exchanges: VecDeque<KeptExchange<W>>,
