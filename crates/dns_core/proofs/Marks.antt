@@ -8,7 +8,7 @@ use Rattle.std.proofs.lemmas.List.Elements.{All-nil, All-cons, All-head, All-tai
 use Rattle.dns_service.specs.declared.event.Output.{Output}
 use Rattle.dns_service.specs.declared.event.Output.TheVariants.{Frame}
 use Rattle.dns_client.specs.Serving.{Serving}
-use Rattle.dns_core.specs.Trails.{Mark, AreMarked, IsMarked, IsRising, Refuses, polls_of}
+use Rattle.dns_core.specs.Trails.{Mark, AreMarked, IsMarked, IsRising, Refuses, polls_of, queue_marks}
 
 -- ---- places
 
@@ -66,6 +66,13 @@ take_some (suc n) (suc m) x h = ap {B = List _} (λ r. x ∷ r) (take_some n m x
 pub take_joined : {X : Type 0} (xs : List X) (n m : ℕ) (x : X) → m ≡ length xs + n → take m (xs ++ replicate m x) ≡ xs ++ replicate n x
 take_joined xs n m x h =
     ap (λ (l : ℕ). take l (xs ++ replicate m x)) h ∙ take-append-add xs (replicate m x) n ∙ ap (λ (ys : List _). xs ++ ys) (take_some n m x (omega arith))
+
+-- the marks of a queue are those of what waited, with as many as it is long behind them, cut to its length
+pub queue_marked : (queue : List (List ℕ)) (n : ℕ) (waited : List (Option Mark)) (new : Option Mark) → length queue ≤ n → queue_marks queue waited new ≡ take (length queue) (waited ++ replicate n new)
+queue_marked [] n waited new h = refl
+queue_marked (f ∷ queue) zero waited new h = absurd (omega (arith, h))
+queue_marked (f ∷ queue) (suc n) [] new h = ap {B = List _} (λ r. new ∷ r) (queue_marked queue n [] new (omega (arith, h)))
+queue_marked (f ∷ queue) (suc n) (m ∷ waited) new h = ap {B = List _} (λ r. m ∷ r) (queue_marked queue (suc n) waited new (omega (arith, h)))
 
 -- ---- numbers that rise
 

@@ -1,6 +1,6 @@
 -- Each event keeps the trail of the slate that it finds, by its state.
-use Rattle.std.proofs.Common.{◌≡◌, ◌≢◌, ℕ, ◌<◌, true, false, Bool, List, [], ◌∷◌, ◌++◌, Option, Some, None, refl, ap, sym, ◌∙◌, subst, append_assoc}
-use Rattle.std.specs.Prelude.{slice_get, if◌then◌else◌}
+use Rattle.std.proofs.Common.{◌≡◌, ◌≢◌, ℕ, ◌<◌, true, false, Bool, List, [], ◌∷◌, ◌++◌, length, drop, take, replicate, Option, Some, None, refl, ap, sym, ◌∙◌, subst, append_assoc, arith}
+use Rattle.std.specs.Prelude.{filter, slice_get, if◌then◌else◌}
 use Rattle.std.proofs.lemmas.List.{append-nil}
 use Rattle.dns_name.specs.declared.address.SocketAddr.{SocketAddr}
 use Rattle.dns_service.specs.declared.event.Event.{Event}
@@ -18,9 +18,10 @@ use Rattle.dns_client.specs.Slate.{Slate, SlateRequest, Conf, Told, Phase, Unuse
 use Rattle.dns_core.specs.Own.{own}
 use Rattle.dns_core.specs.Sent.{sent, sent_after, slate, slate_after}
 use Rattle.dns_core.specs.Settings.{opening}
-use Rattle.dns_core.specs.Trails.{Mark, Trail, IsSomewhere, dropped_by, dropped_of, is_open, marks, messages_sent, no_trail, poll_of, reply_at, trail_after, trailed}
+use Rattle.dns_core.specs.Trails.{Mark, Trail, IsSomewhere, dropped_by, dropped_of, is_datagram_sent, is_frame, is_open, marks, messages_sent, no_trail, poll_of, reply_at, trail_after, trailed}
 use Rattle.dns_service.specs.declared.settings.Settings.{Settings}
-use Rattle.dns_core.proofs.Trailing.{AsksAll, AsksAt, Has, Keeps, Kept, closes, has_still, stays, still, still_polls, waits_with}
+use Rattle.dns_core.proofs.Trailing.{AsksAll, AsksAt, Has, Keeps, Kept, closes, has_still, stays, still, still_polls, trail, trail_by, waits_with}
+use Rattle.dns_core.proofs.Marks.{queue_marked}
 use Rattle.dns_core.proofs.TrailExchanges.{datagram_keeps, exchange_keeps}
 use Rattle.dns_core.proofs.TrailPieces.{piece_keeps}
 use Rattle.dns_core.proofs.TrailTurns.{turn_keeps}
@@ -95,12 +96,21 @@ module _ (answers : Serving) where
   conf_kept : (c : Conf) (s : Slate) (t : Trail) (os : List Output) → Kept answers s t os → Kept answers (with_conf c s) t os
   conf_kept c s t os h = record { went = h.went; waiting = h.waiting; order = h.order; has = h.has }
 
+  trailed_is : (e : Event) (s : Slate) (t : Trail) → trail_by (rule answers e s) (marks e.kind s) (dropped_by answers e.at e.kind s) t ≡ trailed answers e s t
+  trailed_is e s t =
+      let told : Told = rule answers e s in
+      let gone : ℕ = length (filter is_frame told.1) in
+      let x : Option Mark = marks e.kind s in
+      ap (λ (ws : List (Option Mark)). trail (t.went ++ (take gone t.waiting ++ replicate (length (filter is_datagram_sent told.1)) x)) ws (t.dropped ++ dropped_by answers e.at e.kind s))
+      (sym (queue_marked told.0.queue (length told.0.queue) (drop gone t.waiting) x (omega arith)))
+
   rule_keeps : (e : Event) (s : Slate) (t : Trail) (os : List Output) → Kept answers s t os → Kept answers (rule answers e s).0 (trailed answers e s t) (os ++ messages_sent (rule answers e s).1)
   rule_keeps e s t os h =
       let c = conf_rule e.kind s.conf in
       let ds = dropped_by answers e.at e.kind s in
-      subst (λ (x : Option Mark). Keeps answers (rule answers e s) x ds t os) (sym (marks_conf e.kind c s))
-      (phase_keeps e s.phase (with_conf c s) t os ds refl (drops_conf e.at e.kind c s) (conf_kept c s t os h))
+      subst (λ (u : Trail). Kept answers (rule answers e s).0 u (os ++ messages_sent (rule answers e s).1)) (trailed_is e s t)
+      (subst (λ (x : Option Mark). Keeps answers (rule answers e s) x ds t os) (sym (marks_conf e.kind c s))
+      (phase_keeps e s.phase (with_conf c s) t os ds refl (drops_conf e.at e.kind c s) (conf_kept c s t os h)))
 
   pub kept_after : (es : List Event) (s : Slate) (t : Trail) (os : List Output) → Kept answers s t os → Kept answers (slate_after answers s es) (trail_after answers s t es) (os ++ messages_sent (sent_after answers s es))
   kept_after [] s t os h = subst (Kept answers s t) (sym (append-nil os)) h

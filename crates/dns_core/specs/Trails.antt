@@ -84,6 +84,12 @@ abbrev pub on_wire : TransportSpecificContext → Msg → List ℕ
 on_wire (Udp hint) m = wire m
 on_wire (NonUdp timeout) m = framed (wire m)
 
+-- the marks of a queue: the first frames have those of what waited, and each that joined has a new one
+abbrev pub queue_marks : List (List ℕ) → List (Option Mark) → Option Mark → List (Option Mark)
+queue_marks [] waited new = []
+queue_marks (frame ∷ queue) [] new = new ∷ queue_marks queue [] new
+queue_marks (frame ∷ queue) (m ∷ waited) new = m ∷ queue_marks queue waited new
+
 module _ (answers : Serving) where
   -- a poll at a moment gives a reply that finds no room, outside of a transaction
   abbrev pub drops : ℕ → SlateRequest → Slate → Bool
@@ -99,7 +105,7 @@ module _ (answers : Serving) where
   dropped_by at (Turn k) s = if is_open s.phase then dropped_of at k (slice_get s.requests k) s else []
   dropped_by at _ s = []
 
-  -- an event at a slate: frames go from the front of the queue, and others join at its back; datagrams go at once
+  -- an event at a slate: frames go from the front of the queue, and others join at its back under its mark; datagrams go at once
   abbrev pub trailed : Event → Slate → Trail → Trail
   trailed e s t =
       let after = (rule answers e s).0 in
@@ -107,7 +113,7 @@ module _ (answers : Serving) where
       let gone = length (filter is_frame outs) in
       record {
         went = t.went ++ (take gone t.waiting ++ replicate (length (filter is_datagram_sent outs)) (marks e.kind s));
-        waiting = take (length after.queue) (drop gone t.waiting ++ replicate (length after.queue) (marks e.kind s));
+        waiting = queue_marks after.queue (drop gone t.waiting) (marks e.kind s);
         dropped = t.dropped ++ dropped_by e.at e.kind s;
       }
 
