@@ -3,7 +3,7 @@
 ghost use Rattle.std.specs.Prelude.{◌≡◌};
 ghost use Rattle.dns_base.specs.CopiedRecord.{copied_record};
 ghost use Rattle.dns_base.specs.Records.{IsLawful, record_of};
-ghost use Rattle.dns_base.specs.Standing.{Gives};
+ghost use Rattle.dns_base.specs.Standing.{GivesParsed};
 
 use dns_message::{Record, RecordRef};
 use dns_name::{ParseError, Rtype};
@@ -30,7 +30,7 @@ impl Model for CopiedRecord {
 impl CopiedRecord {
     /// A copy of a record as it stands in a message, its names uncompressed; refused where its data is unreadable.
     pub fn read(alloc: Global, source: &RecordRef<'_>) -> Result<CopiedRecord, ParseError>
-        ensures { Gives result (copied_record source.now) }
+        ensures { GivesParsed result (copied_record source.now) }
     {
         let inner = source.to_record(alloc)?;
         Ok(CopiedRecord { inner })

@@ -5,7 +5,7 @@ use Rattle.dns_admission.specs.declared.call.Reply.{Reply}
 use Rattle.dns_book.specs.declared.history.Entry.{Entry}
 use Rattle.dns_book.specs.declared.history.Share.{Share}
 use Rattle.dns_book.specs.declared.history.Known.{Known}
-use Rattle.dns_book.specs.History.{Name, entry, Begins, calls_by, entries_in, Has, IsMap, with_entry}
+use Rattle.dns_book.specs.History.{SeatName, entry, Begins, calls_by, entries_in, Has, IsMap, with_entry}
 use Rattle.dns_book.specs.Seats.{IsSound, Joined, first_half, second_half}
 use Rattle.dns_book.specs.Gains.{with_calls, Gained, first_name, second_name, BothMade}
 use Rattle.dns_book.proofs.Names.{entries_in-with_same, with-has, has-here, has_cases}
@@ -13,36 +13,36 @@ use Rattle.dns_book.proofs.Maps.{has-left, has-right, entries_in-left, entries_i
 use Rattle.dns_book.proofs.Halves.{new_below}
 
 -- the entries that were made under one name
-abbrev pub AllBy : Name → List Entry → Type 0
+abbrev pub AllBy : SeatName → List Entry → Type 0
 AllBy n [] = Unit {0}
 AllBy n (e ∷ es) = (e.by ≡ n) × AllBy n es
 
-entries_in-calls : (n : Name) (es : List Entry) (m : List Share) → AllBy n es → entries_in n (with_calls es m) ≡ entries_in n m ++ es
+entries_in-calls : (n : SeatName) (es : List Entry) (m : List Share) → AllBy n es → entries_in n (with_calls es m) ≡ entries_in n m ++ es
 entries_in-calls n [] m by = sym (append-nil (entries_in n m))
 entries_in-calls n (e ∷ es) m by =
     let one : entries_in n (with_entry e.by e m) ≡ entries_in n m ++ e ∷ [] =
-    subst (λ (k : Name). entries_in n (with_entry k e m) ≡ entries_in n m ++ e ∷ []) (sym by.0) (entries_in-with_same n e m) in
+    subst (λ (k : SeatName). entries_in n (with_entry k e m) ≡ entries_in n m ++ e ∷ []) (sym by.0) (entries_in-with_same n e m) in
     entries_in-calls n es (with_entry e.by e m) by.1
     ∙ (ap (λ (l : List Entry). l ++ es) one ∙ append_assoc (entries_in n m) (e ∷ []) es)
 
-has-calls_kept : (n : Name) (es : List Entry) (m : List Share) → Has n m → Has n (with_calls es m)
+has-calls_kept : (n : SeatName) (es : List Entry) (m : List Share) → Has n m → Has n (with_calls es m)
 has-calls_kept n [] m h = h
 has-calls_kept n (e ∷ es) m h = has-calls_kept n es (with_entry e.by e m) (with-has n e.by e m h)
 
-has-calls : (n : Name) (e : Entry) (es : List Entry) (m : List Share) → e.by ≡ n → Has n (with_calls (e ∷ es) m)
-has-calls n e es m by = has-calls_kept n es (with_entry e.by e m) (subst (λ (k : Name). Has n (with_entry k e m)) (sym by) (has-here n e m))
+has-calls : (n : SeatName) (e : Entry) (es : List Entry) (m : List Share) → e.by ≡ n → Has n (with_calls (e ∷ es) m)
+has-calls n e es m by = has-calls_kept n es (with_entry e.by e m) (subst (λ (k : SeatName). Has n (with_entry k e m)) (sym by) (has-here n e m))
 
 -- two parts of a map have no name together
-apart_in_map : (n : Name) (a b : List Share) → IsMap (a ++ b) → Has n a → Has n b → ⊥
+apart_in_map : (n : SeatName) (a b : List Share) → IsMap (a ++ b) → Has n a → Has n b → ⊥
 apart_in_map n [] b map x y = x
 apart_in_map n (s ∷ ss) b map x y =
-    ⊎_elim (λ (is : n ≡ s.name). map.0 (subst (λ (k : Name). Has k (ss ++ b)) is (has-right n ss b y))) (λ (h : Has n ss). apart_in_map n ss b map.1 h y) x
+    ⊎_elim (λ (is : n ≡ s.name). map.0 (subst (λ (k : SeatName). Has k (ss ++ b)) is (has-right n ss b y))) (λ (h : Has n ss). apart_in_map n ss b map.1 h y) x
 
 begins_trans : (xs ys zs : List Entry) → Begins xs ys → Begins ys zs → Begins xs zs
 begins_trans xs ys zs a b = (a.0 ++ b.0, b.1 ∙ (ap (λ (l : List Entry). l ++ b.0) a.1 ∙ append_assoc xs a.0 b.0))
 
 -- of entries es under one name that the map did not have
-none_before : (n : Name) (es : List Entry) (m : List Share) → ¬ Has n m → AllBy n es → entries_in n (with_calls es m) ≡ es
+none_before : (n : SeatName) (es : List Entry) (m : List Share) → ¬ Has n m → AllBy n es → entries_in n (with_calls es m) ≡ es
 none_before n es m fresh by =
     entries_in-calls n es m by
     ∙ ⊎_elim (λ (h : Has n m). absurd (fresh h)) (λ (h : (¬ Has n m) × (entries_in n m ≡ [])). ap (λ (l : List Entry). l ++ es) h.1) (has_cases n m)
@@ -53,13 +53,13 @@ pub both_made : (old first second new : Known) (e f : Entry) (es fs : List Entry
     → Gained (second_half old) (f ∷ fs) second → AllBy (second_name old) (f ∷ fs)
     → Joined first second new → BothMade old (e ∷ es) (f ∷ fs) new
 both_made old first second new e f es fs sound g name by h by' j =
-    let p : Name = first_name old in
-    let q : Name = second_name old in
+    let p : SeatName = first_name old in
+    let q : SeatName = second_name old in
     let fresh : ¬ Has p old.mine = λ has. sound.below p has (new_below old.name false) in
     let has_p : Has p first.mine = subst (λ (m : List Share). Has p m) (sym g.mine) (has-calls p e es old.mine by.0) in
     let has_q : Has q second.mine = subst (λ (m : List Share). Has q m) (sym h.mine) (has-calls q f fs [] by'.0) in
     let not_q : ¬ Has q first.mine = λ has. apart_in_map q first.mine second.mine (subst (λ (m : List Share). IsMap m) j.mine j.sound.map) has has_q in
-    let in_new : (n : Name) → Has n (first.mine ++ second.mine) → calls_by n new.seen ≡ entries_in n (first.mine ++ second.mine) = λ n has.
+    let in_new : (n : SeatName) → Has n (first.mine ++ second.mine) → calls_by n new.seen ≡ entries_in n (first.mine ++ second.mine) = λ n has.
     j.sound.exact n (subst (λ (m : List Share). Has n m) (sym j.mine) has) ∙ ap (λ (m : List Share). entries_in n m) j.mine in
     record {
       same_book = j.same_book ∙ g.same_book;

@@ -1,16 +1,16 @@
 -- The names of the halves of a seat.
 use Rattle.std.proofs.Common.{◌≡◌, Bool, true, false, [], ◌∷◌, ◌++◌, refl, ◌∙◌, append_assoc}
 use Rattle.dns_book.specs.declared.history.Known.{Known}
-use Rattle.dns_book.specs.History.{Name, Under}
+use Rattle.dns_book.specs.History.{SeatName, Under}
 use Rattle.dns_book.specs.Seats.{IsSound, first_half, second_half}
 
-pub below_longer : (p n : Name) (b : Bool) → Under (p ++ b ∷ []) n → Under p n
+pub below_longer : (p n : SeatName) (b : Bool) → Under (p ++ b ∷ []) n → Under p n
 below_longer p n b (c, rest, e) = (b, c ∷ rest, e ∙ append_assoc p (b ∷ []) (c ∷ rest))
 
-pub new_below : (p : Name) (b : Bool) → Under p (p ++ b ∷ [])
+pub new_below : (p : SeatName) (b : Bool) → Under p (p ++ b ∷ [])
 new_below p b = (b, [], refl)
 
-not_empty : (p : Name) (b : Bool) → p ++ b ∷ [] ≡ [] → ⊥
+not_empty : (p : SeatName) (b : Bool) → p ++ b ∷ [] ≡ [] → ⊥
 not_empty [] b e = cc
 not_empty (x ∷ xs) b e = cc
 

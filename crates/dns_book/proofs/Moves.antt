@@ -10,7 +10,7 @@ use Rattle.dns_admission.specs.declared.look.Look.{Look as State}
 use Rattle.dns_book.specs.declared.history.Entry.{Entry}
 use Rattle.dns_book.specs.declared.rule.View.{View}
 use Rattle.dns_book.specs.Words.{state_of}
-use Rattle.dns_book.specs.History.{Name, Under, states_after, calls_by, entries_in, Has}
+use Rattle.dns_book.specs.History.{SeatName, Under, states_after, calls_by, entries_in, Has}
 use Rattle.dns_book.specs.Rule.{gone, Owns, FitsHistory, Apart, OwnBelow, InOrder, KeptInOrder, first_view, second_view, both_of}
 use Rattle.dns_book.proofs.Names.{has_cases, begins_none}
 use Rattle.dns_book.proofs.Maps.{has-append, has-left, has-right, map-append, entries_in-left, entries_in-right, tails, heads}
@@ -61,7 +61,7 @@ all_two ns a b l r Other P cases pl pr po j u ju =
     (cases j u ju)
 
 -- a seat that was taken in owns nothing
-gone_owns : (n : Name) → Owns gone n → ⊥
+gone_owns : (n : SeatName) → Owns gone n → ⊥
 gone_owns n o = true≢false (sym o.0)
 
 gone_left : (u : View) → Apart gone u
@@ -101,11 +101,11 @@ fork_cases views id l r j u e =
     (snoc_at (set views id l) r u j e)
 
 -- who owned a name
-abbrev Owned : List View → Name → Type 0
+abbrev Owned : List View → SeatName → Type 0
 Owned views n = (j : ℕ) × (u : View) × (get_elem? views j ≡ some u) × Owns u n
 
 -- the owner is the seat at id, or stands elsewhere
-owner_cases : (views : List View) (id : ℕ) (v : View) (n : Name) → get_elem? views id ≡ some v → Owned views n
+owner_cases : (views : List View) (id : ℕ) (v : View) (n : SeatName) → get_elem? views id ≡ some v → Owned views n
     → Owns v n ⊎ ((j : ℕ) × (u : View) × Elsewhere views id j u × Owns u n)
 owner_cases views id v n at (j, u, e, o) =
     dite (ℕ_discrete j id)
@@ -148,29 +148,29 @@ hand_forks id v ready x views h at = go (only_kept x views id v ready at h)
     go (opening, log, st, o) = inr (opening, log, st, hand_order opening log views id v at o)
 
 -- names below a name
-not_below : (p : Name) (b c : Bool) → Under (p ++ b ∷ []) (p ++ c ∷ []) → ⊥
+not_below : (p : SeatName) (b c : Bool) → Under (p ++ b ∷ []) (p ++ c ∷ []) → ⊥
 not_below [] b c (d, rest, e) = let h : [] ≡ d ∷ rest = tails c b [] (d ∷ rest) e in cc
 not_below (x ∷ xs) b c (d, rest, e) = not_below xs b c (d, rest, tails x x (xs ++ c ∷ []) ((xs ++ b ∷ []) ++ d ∷ rest) e)
 
-not_same : (p : Name) → p ++ false ∷ [] ≡ p ++ true ∷ [] → ⊥
+not_same : (p : SeatName) → p ++ false ∷ [] ≡ p ++ true ∷ [] → ⊥
 not_same [] e = true≢false (sym (heads false true [] [] e))
 not_same (x ∷ xs) e = not_same xs (tails x x (xs ++ false ∷ []) (xs ++ true ∷ []) e)
 
-split_below : (q p : Name) (b : Bool) → Under q (p ++ b ∷ []) → (q ≡ p) ⊎ Under q p
+split_below : (q p : SeatName) (b : Bool) → Under q (p ++ b ∷ []) → (q ≡ p) ⊎ Under q p
 split_below [] [] b u = inl refl
 split_below [] (x ∷ xs) b u = inr (x, xs, refl)
 split_below (y ∷ []) [] b (c, rest, e) = let h : [] ≡ c ∷ rest = tails b y [] (c ∷ rest) e in absurd cc
 split_below (y ∷ z ∷ zs) [] b (c, rest, e) = let h : [] ≡ z ∷ (zs ++ c ∷ rest) = tails b y [] (z ∷ (zs ++ c ∷ rest)) e in absurd cc
 split_below (y ∷ ys) (x ∷ xs) b (c, rest, e) =
     let first : x ≡ y = heads x y (xs ++ b ∷ []) (ys ++ c ∷ rest) e in
-    ⊎_elim (λ (is : ys ≡ xs). inl (ap (λ (l : Name). y ∷ l) is ∙ ap (λ (k : Bool). k ∷ xs) (sym first)))
-    (λ (t : Under ys xs). inr (t.0, t.1, ap (λ (l : Name). x ∷ l) t.2 ∙ ap (λ (k : Bool). k ∷ (ys ++ t.0 ∷ t.1)) first))
+    ⊎_elim (λ (is : ys ≡ xs). inl (ap (λ (l : SeatName). y ∷ l) is ∙ ap (λ (k : Bool). k ∷ xs) (sym first)))
+    (λ (t : Under ys xs). inr (t.0, t.1, ap (λ (l : SeatName). x ∷ l) t.2 ∙ ap (λ (k : Bool). k ∷ (ys ++ t.0 ∷ t.1)) first))
     (split_below ys xs b (c, rest, tails x y (xs ++ b ∷ []) (ys ++ c ∷ rest) e))
 
-first_owns : (v : View) (n : Name) → v.live ≡ true → Owns (first_view v) n → (n ≡ v.known.name ++ false ∷ []) ⊎ Owns v n
+first_owns : (v : View) (n : SeatName) → v.live ≡ true → Owns (first_view v) n → (n ≡ v.known.name ++ false ∷ []) ⊎ Owns v n
 first_owns v n live o = ⊎_elim (λ (is : n ≡ v.known.name ++ false ∷ []). inl is) (λ (h : Has n v.known.mine). inr (live, inr h)) o.1
 
-second_owns : (v : View) (n : Name) → Owns (second_view v) n → n ≡ v.known.name ++ true ∷ []
+second_owns : (v : View) (n : SeatName) → Owns (second_view v) n → n ≡ v.known.name ++ true ∷ []
 second_owns v n o = ⊎_elim (λ (is : n ≡ v.known.name ++ true ∷ []). is) (λ f. absurd f) o.1
 
 -- no seat owns a name that is yet to be made
@@ -188,21 +188,21 @@ fresh_calls opening log views id v b live at o =
     ⊎_elim (λ (none : calls_by (v.known.name ++ b ∷ []) log ≡ []). none) (λ (who : Owned views (v.known.name ++ b ∷ [])). absurd (fresh_name opening log views id v b live at o who)) (o.known (v.known.name ++ b ∷ []))
 
 -- a seat elsewhere is apart from a half
-half_left : (v u w : View) (b : Bool) → v.live ≡ true → Apart v u → (Owns u (v.known.name ++ b ∷ []) → ⊥) → w.known.name ≡ v.known.name ++ b ∷ [] → ((n : Name) → Owns w n → (n ≡ v.known.name ++ b ∷ []) ⊎ Owns v n)
+half_left : (v u w : View) (b : Bool) → v.live ≡ true → Apart v u → (Owns u (v.known.name ++ b ∷ []) → ⊥) → w.known.name ≡ v.known.name ++ b ∷ [] → ((n : SeatName) → Owns w n → (n ≡ v.known.name ++ b ∷ []) ⊎ Owns v n)
     → Apart w u
 half_left v u w b live a fresh is owns = record {
-  names = λ n o p. ⊎_elim (λ (e : n ≡ v.known.name ++ b ∷ []). fresh (subst (λ (m : Name). Owns u m) e p)) (λ (q : Owns v n). a.names n q p) (owns n o);
-  below = λ n l p under. a.below n live p (below_longer v.known.name n b (subst (λ (m : Name). Under m n) is under));
+  names = λ n o p. ⊎_elim (λ (e : n ≡ v.known.name ++ b ∷ []). fresh (subst (λ (m : SeatName). Owns u m) e p)) (λ (q : Owns v n). a.names n q p) (owns n o);
+  below = λ n l p under. a.below n live p (below_longer v.known.name n b (subst (λ (m : SeatName). Under m n) is under));
 }
 
-half_right : (v u w : View) (b : Bool) → v.live ≡ true → Apart u v → (Owns u (v.known.name ++ b ∷ []) → ⊥) → ((n : Name) → Owns w n → (n ≡ v.known.name ++ b ∷ []) ⊎ Owns v n) → Apart u w
+half_right : (v u w : View) (b : Bool) → v.live ≡ true → Apart u v → (Owns u (v.known.name ++ b ∷ []) → ⊥) → ((n : SeatName) → Owns w n → (n ≡ v.known.name ++ b ∷ []) ⊎ Owns v n) → Apart u w
 half_right v u w b live a fresh owns = record {
-  names = λ n p o. ⊎_elim (λ (e : n ≡ v.known.name ++ b ∷ []). fresh (subst (λ (m : Name). Owns u m) e p)) (λ (q : Owns v n). a.names n p q) (owns n o);
+  names = λ n p o. ⊎_elim (λ (e : n ≡ v.known.name ++ b ∷ []). fresh (subst (λ (m : SeatName). Owns u m) e p)) (λ (q : Owns v n). a.names n p q) (owns n o);
   below = λ n l o under. ⊎_elim
       (λ (e : n ≡ v.known.name ++ b ∷ []). ⊎_elim
       (λ (same_name : u.known.name ≡ v.known.name). a.names u.known.name (l, inl refl) (live, inl same_name))
       (λ (t : Under u.known.name v.known.name). a.below v.known.name l (live, inl refl) t)
-      (split_below u.known.name v.known.name b (subst (λ (m : Name). Under u.known.name m) e under)))
+      (split_below u.known.name v.known.name b (subst (λ (m : SeatName). Under u.known.name m) e under)))
       (λ (q : Owns v n). a.below n l q under)
       (owns n o);
 }
@@ -211,28 +211,28 @@ first_second : (v : View) → v.live ≡ true → OwnBelow v → Apart (first_vi
 first_second v live own = record {
   names = λ n o p. let e = second_owns v n p in ⊎_elim
       (λ (is : n ≡ v.known.name ++ false ∷ []). not_same v.known.name (sym is ∙ e))
-      (λ (q : Owns v n). own n q (subst (λ (m : Name). Under v.known.name m) (sym e) (new_below v.known.name true)))
+      (λ (q : Owns v n). own n q (subst (λ (m : SeatName). Under v.known.name m) (sym e) (new_below v.known.name true)))
       (first_owns v n live o);
-  below = λ n l p under. not_below v.known.name false true (subst (λ (m : Name). Under (v.known.name ++ false ∷ []) m) (second_owns v n p) under);
+  below = λ n l p under. not_below v.known.name false true (subst (λ (m : SeatName). Under (v.known.name ++ false ∷ []) m) (second_owns v n p) under);
 }
 
 second_first : (v : View) → v.live ≡ true → OwnBelow v → Apart (second_view v) (first_view v)
 second_first v live own = record {
   names = λ n p o. (first_second v live own).names n o p;
   below = λ n l o under. ⊎_elim
-      (λ (is : n ≡ v.known.name ++ false ∷ []). not_below v.known.name true false (subst (λ (m : Name). Under (v.known.name ++ true ∷ []) m) is under))
+      (λ (is : n ≡ v.known.name ++ false ∷ []). not_below v.known.name true false (subst (λ (m : SeatName). Under (v.known.name ++ true ∷ []) m) is under))
       (λ (q : Owns v n). own n q (below_longer v.known.name n true under))
       (first_owns v n live o);
 }
 
 first_below : (v : View) → v.live ≡ true → OwnBelow v → OwnBelow (first_view v)
 first_below v live own n o under = ⊎_elim
-    (λ (is : n ≡ v.known.name ++ false ∷ []). not_below v.known.name false false (subst (λ (m : Name). Under (v.known.name ++ false ∷ []) m) is under))
+    (λ (is : n ≡ v.known.name ++ false ∷ []). not_below v.known.name false false (subst (λ (m : SeatName). Under (v.known.name ++ false ∷ []) m) is under))
     (λ (q : Owns v n). own n q (below_longer v.known.name n false under))
     (first_owns v n live o)
 
 second_below : (v : View) → OwnBelow (second_view v)
-second_below v n o under = not_below v.known.name true true (subst (λ (m : Name). Under (v.known.name ++ true ∷ []) m) (second_owns v n o) under)
+second_below v n o under = not_below v.known.name true true (subst (λ (m : SeatName). Under (v.known.name ++ true ∷ []) m) (second_owns v n o) under)
 
 fork_order : (opening : State) (log : List Entry) (views : List View) (id : ℕ) (v : View) → v.live ≡ true → get_elem? views id ≡ some v → InOrder opening log views
     → InOrder opening log (set views id (first_view v) ++ second_view v ∷ [])
@@ -255,7 +255,7 @@ fork_order opening log views id v live at o =
       seen = f.seen;
       told = f.told;
       mine = λ n p. ⊎_elim
-          (λ (is : n ≡ v.known.name ++ false ∷ []). subst (λ (m : Name). calls_by m log ≡ entries_in m v.known.mine) (sym is) (fresh_calls opening log views id v false live at o ∙ sym none_in))
+          (λ (is : n ≡ v.known.name ++ false ∷ []). subst (λ (m : SeatName). calls_by m log ≡ entries_in m v.known.mine) (sym is) (fresh_calls opening log views id v false live at o ∙ sym none_in))
           (λ (q : Owns v n). f.mine n q)
           (first_owns v n live p);
       map = f.map;
@@ -265,7 +265,7 @@ fork_order opening log views id v live at o =
       start = f.start;
       seen = f.seen;
       told = f.told;
-      mine = λ n p. subst (λ (m : Name). calls_by m log ≡ []) (sym (second_owns v n p)) (fresh_calls opening log views id v true live at o);
+      mine = λ n p. subst (λ (m : SeatName). calls_by m log ≡ []) (sym (second_owns v n p)) (fresh_calls opening log views id v true live at o);
       map = tt;
     } in
     record {
@@ -300,7 +300,7 @@ split_forks id v ready live x views h at = go (only_kept x views id v ready at h
     go (opening, log, st, o) = inr (opening, log, st, fork_order opening log views id v live at o)
 
 -- two seats in one
-both_owns : (v w : View) (n : Name) → v.live ≡ true → w.live ≡ true → Owns (both_of v w) n → Owns v n ⊎ Has n w.known.mine
+both_owns : (v w : View) (n : SeatName) → v.live ≡ true → w.live ≡ true → Owns (both_of v w) n → Owns v n ⊎ Has n w.known.mine
 both_owns v w n live live' o =
     ⊎_elim (λ (is : n ≡ v.known.name). inl (live, inl is)) (λ h. ⊎_elim (λ (a : Has n v.known.mine). inl (live, inr a)) (λ (b : Has n w.known.mine). inr b) (has-append n v.known.mine w.known.mine h)) o.1
 

@@ -6,45 +6,45 @@ use Rattle.dns_admission.specs.declared.call.Reply.{Reply}
 use Rattle.dns_book.specs.declared.history.Entry.{Entry}
 use Rattle.dns_book.specs.declared.history.Share.{Share}
 use Rattle.dns_admission.specs.Machine.{state_after, reply_of}
-use Rattle.dns_book.specs.History.{Name, same, entry, states_after, IsLegal, calls_by, entries_in, Has, with_entry, Begins, but_last}
+use Rattle.dns_book.specs.History.{SeatName, same, entry, states_after, IsLegal, calls_by, entries_in, Has, with_entry, Begins, but_last}
 
-pub same_refl : (n : Name) → same n n ≡ true
+pub same_refl : (n : SeatName) → same n n ≡ true
 same_refl [] = refl
 same_refl (true ∷ xs) = same_refl xs
 same_refl (false ∷ xs) = same_refl xs
 
-pub same_eq : (a b : Name) → same a b ≡ true → a ≡ b
+pub same_eq : (a b : SeatName) → same a b ≡ true → a ≡ b
 same_eq [] [] h = refl
 same_eq [] (y ∷ ys) h = cc
 same_eq (x ∷ xs) [] h = cc
-same_eq (true ∷ xs) (true ∷ ys) h = ap (λ (l : Name). true ∷ l) (same_eq xs ys h)
-same_eq (false ∷ xs) (false ∷ ys) h = ap (λ (l : Name). false ∷ l) (same_eq xs ys h)
+same_eq (true ∷ xs) (true ∷ ys) h = ap (λ (l : SeatName). true ∷ l) (same_eq xs ys h)
+same_eq (false ∷ xs) (false ∷ ys) h = ap (λ (l : SeatName). false ∷ l) (same_eq xs ys h)
 same_eq (true ∷ xs) (false ∷ ys) h = cc
 same_eq (false ∷ xs) (true ∷ ys) h = cc
 
-pub same_cases : (a b : Name) → ((a ≡ b) × (same a b ≡ true)) ⊎ ((a ≢ b) × (same a b ≡ false))
+pub same_cases : (a b : SeatName) → ((a ≡ b) × (same a b ≡ true)) ⊎ ((a ≢ b) × (same a b ≡ false))
 same_cases a b = go (same a b) refl
   where
     go : (v : Bool) → same a b ≡ v → ((a ≡ b) × (same a b ≡ true)) ⊎ ((a ≢ b) × (same a b ≡ false))
     go true e = inl (same_eq a b e, e)
-    go false e = inr ((λ h. true≢false (sym (same_refl a) ∙ (ap (λ (x : Name). same a x) h ∙ e))), e)
+    go false e = inr ((λ h. true≢false (sym (same_refl a) ∙ (ap (λ (x : SeatName). same a x) h ∙ e))), e)
 
 picked : (b : Bool) (e : Entry) (u v w : List Entry) → u ≡ v ++ w → (if b then e ∷ u else u) ≡ (if b then e ∷ v else v) ++ w
 picked true e u v w h = ap (λ (l : List Entry). e ∷ l) h
 picked false e u v w h = h
 
-pub calls_by-append : (n : Name) (xs ys : List Entry) → calls_by n (xs ++ ys) ≡ calls_by n xs ++ calls_by n ys
+pub calls_by-append : (n : SeatName) (xs ys : List Entry) → calls_by n (xs ++ ys) ≡ calls_by n xs ++ calls_by n ys
 calls_by-append n [] ys = refl
 calls_by-append n (x ∷ xs) ys = picked (same n x.by) x (calls_by n (xs ++ ys)) (calls_by n xs) (calls_by n ys) (calls_by-append n xs ys)
 
-pub calls_by-own : (n : Name) (c : Call) (r : Reply) (xs : List Entry) → calls_by n (xs ++ entry n c r ∷ []) ≡ calls_by n xs ++ entry n c r ∷ []
+pub calls_by-own : (n : SeatName) (c : Call) (r : Reply) (xs : List Entry) → calls_by n (xs ++ entry n c r ∷ []) ≡ calls_by n xs ++ entry n c r ∷ []
 calls_by-own n c r xs =
     calls_by-append n xs (entry n c r ∷ []) ∙ ap (λ (b : Bool). calls_by n xs ++ (if b then entry n c r ∷ [] else [])) (same_refl n)
 
-different : (k n : Name) → k ≢ n → same k n ≡ false
+different : (k n : SeatName) → k ≢ n → same k n ≡ false
 different k n ne = ⊎_elim (λ (t : (k ≡ n) × (same k n ≡ true)). absurd (ne t.0)) (λ (t : (k ≢ n) × (same k n ≡ false)). t.1) (same_cases k n)
 
-pub calls_by-other : (k n : Name) (c : Call) (r : Reply) (xs : List Entry) → k ≢ n → calls_by k (xs ++ entry n c r ∷ []) ≡ calls_by k xs
+pub calls_by-other : (k n : SeatName) (c : Call) (r : Reply) (xs : List Entry) → k ≢ n → calls_by k (xs ++ entry n c r ∷ []) ≡ calls_by k xs
 calls_by-other k n c r xs ne =
     calls_by-append k xs (entry n c r ∷ [])
     ∙ (ap (λ (b : Bool). calls_by k xs ++ (if b then entry n c r ∷ [] else [])) (different k n ne) ∙ append-nil (calls_by k xs))
@@ -66,35 +66,35 @@ begins_whole xs = ([], sym (append-nil xs))
 pub begins_none : (xs : List Entry) → Begins [] xs
 begins_none xs = (xs, refl)
 
-pub entries_in-with_same : (n : Name) (e : Entry) (m : List Share) → entries_in n (with_entry n e m) ≡ entries_in n m ++ e ∷ []
+pub entries_in-with_same : (n : SeatName) (e : Entry) (m : List Share) → entries_in n (with_entry n e m) ≡ entries_in n m ++ e ∷ []
 entries_in-with_same n e [] = ap (λ (b : Bool). if b then e ∷ [] else []) (same_refl n)
 entries_in-with_same n e (s ∷ ss) = ⊎_elim
     (λ (t : (n ≡ s.name) × (same n s.name ≡ true)). rw t.1 (ap (λ (b : Bool). if b then s.calls ++ e ∷ [] else entries_in n ss) t.1))
     (λ (t : (n ≢ s.name) × (same n s.name ≡ false)). rw t.1 (ap (λ (b : Bool). if b then s.calls else entries_in n (with_entry n e ss)) t.1 ∙ entries_in-with_same n e ss))
     (same_cases n s.name)
 
-pub entries_in-with_other : (k n : Name) (e : Entry) (m : List Share) → k ≢ n → entries_in k (with_entry n e m) ≡ entries_in k m
+pub entries_in-with_other : (k n : SeatName) (e : Entry) (m : List Share) → k ≢ n → entries_in k (with_entry n e m) ≡ entries_in k m
 entries_in-with_other k n e [] ne = ap (λ (b : Bool). if b then e ∷ [] else []) (different k n ne)
 entries_in-with_other k n e (s ∷ ss) ne = ⊎_elim
     (λ (t : (n ≡ s.name) × (same n s.name ≡ true)). let d : same k s.name ≡ false = different k s.name (λ h. ne (h ∙ sym t.0)) in rw (t.1, d) refl)
     (λ (t : (n ≢ s.name) × (same n s.name ≡ false)). rw t.1 (ap (λ (l : List Entry). if same k s.name then s.calls else l) (entries_in-with_other k n e ss ne)))
     (same_cases n s.name)
 
-pub has-with : (k n : Name) (e : Entry) (m : List Share) → Has k (with_entry n e m) → (k ≡ n) ⊎ Has k m
+pub has-with : (k n : SeatName) (e : Entry) (m : List Share) → Has k (with_entry n e m) → (k ≡ n) ⊎ Has k m
 has-with k n e [] h = ⊎_elim (λ (t : k ≡ n). inl t) (λ f. absurd f) h
 has-with k n e (s ∷ ss) h = ⊎_elim
     (λ (t : (n ≡ s.name) × (same n s.name ≡ true)). inr (rw t.1 at h))
     (λ (t : (n ≢ s.name) × (same n s.name ≡ false)). let g : (k ≡ s.name) ⊎ Has k (with_entry n e ss) = rw t.1 at h in ⊎_elim (λ (a : k ≡ s.name). inr (inl a)) (λ r. ⊎_elim (λ (a : k ≡ n). inl a) (λ b. inr (inr b)) (has-with k n e ss r)) g)
     (same_cases n s.name)
 
-pub with-has : (k n : Name) (e : Entry) (m : List Share) → Has k m → Has k (with_entry n e m)
+pub with-has : (k n : SeatName) (e : Entry) (m : List Share) → Has k m → Has k (with_entry n e m)
 with-has k n e [] h = absurd h
 with-has k n e (s ∷ ss) h = ⊎_elim
     (λ (t : (n ≡ s.name) × (same n s.name ≡ true)). rw t.1 h)
     (λ (t : (n ≢ s.name) × (same n s.name ≡ false)). rw t.1 (⊎_elim (λ (a : k ≡ s.name). inl a) (λ r. inr (with-has k n e ss r)) h))
     (same_cases n s.name)
 
-pub has-here : (n : Name) (e : Entry) (m : List Share) → Has n (with_entry n e m)
+pub has-here : (n : SeatName) (e : Entry) (m : List Share) → Has n (with_entry n e m)
 has-here n e [] = inl refl
 has-here n e (s ∷ ss) = ⊎_elim
     (λ (t : (n ≡ s.name) × (same n s.name ≡ true)). rw t.1 (inl t.0))
@@ -102,7 +102,7 @@ has-here n e (s ∷ ss) = ⊎_elim
     (same_cases n s.name)
 
 -- what a map has nothing under has no entries in it
-pub has_cases : (n : Name) (m : List Share) → Has n m ⊎ ((¬ Has n m) × (entries_in n m ≡ []))
+pub has_cases : (n : SeatName) (m : List Share) → Has n m ⊎ ((¬ Has n m) × (entries_in n m ≡ []))
 has_cases n [] = inr ((λ f. f), refl)
 has_cases n (s ∷ ss) = ⊎_elim
     (λ (t : (n ≡ s.name) × (same n s.name ≡ true)). inl (inl t.0))

@@ -9,7 +9,7 @@ use Rattle.dns_admission.specs.declared.call.Call.TheVariants.{Look}
 use Rattle.dns_book.specs.declared.history.Entry.{Entry}
 use Rattle.dns_book.specs.declared.rule.View.{View}
 use Rattle.dns_book.specs.Words.{state_of}
-use Rattle.dns_book.specs.History.{Name, Under, states_after, calls_by}
+use Rattle.dns_book.specs.History.{SeatName, Under, states_after, calls_by}
 use Rattle.dns_book.specs.Rule.{newcomer, opened_as, FitsHistory, OwnBelow, InOrder, KeptInOrder, CanCall, Looks, Opens, Settles}
 use Rattle.dns_book.proofs.Names.{begins_whole, begins_none}
 use Rattle.dns_book.proofs.Turns.{set_at, only_kept, Narrows, apart_set, own_set, known_set, sound_of, call_at}
@@ -90,7 +90,7 @@ first_order s = record {
     place zero v e = refl
     place (suc j) v e = absurd (some-ne-none v (sym e))
 
-    nothing : (n : Name) → n ≡ [] → Under [] n → ⊥
+    nothing : (n : SeatName) → n ≡ [] → Under [] n → ⊥
     nothing n is (b, rest, e) = let h : b ∷ rest ≡ [] = sym e ∙ is in cc
 
 set_first : (views : List View) (id : ℕ) (v w : View) → views ≡ newcomer ∷ [] → get_elem? views id ≡ some v → set views id w ≡ w ∷ []

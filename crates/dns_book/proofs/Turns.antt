@@ -14,7 +14,7 @@ use Rattle.dns_book.specs.declared.history.Entry.{Entry}
 use Rattle.dns_book.specs.declared.rule.View.{View}
 use Rattle.dns_admission.specs.Machine.{state_after, reply_of}
 use Rattle.dns_book.specs.Words.{state_of}
-use Rattle.dns_book.specs.History.{Name, Under, same, entry, states_after, IsLegal, calls_by, entries_in, Has, with_entry}
+use Rattle.dns_book.specs.History.{SeatName, Under, same, entry, states_after, IsLegal, calls_by, entries_in, Has, with_entry}
 use Rattle.dns_book.specs.Seats.{IsSound, Called}
 use Rattle.dns_book.specs.Rule.{newcomer, Owns, FitsHistory, Apart, OwnBelow, InOrder, KeptInOrder, CanCall, ReadsWords, Made, Tries}
 use Rattle.dns_book.proofs.Names.{same_refl, same_cases, calls_by-own, calls_by-other, states_after-append, legal-append, begins_more, begins_whole, begins_none, entries_in-with_same, entries_in-with_other, has-with, with-has, but_last-snoc}
@@ -44,12 +44,12 @@ only_kept words views id v ready at =
 pub record Narrows (v w : View) : Type 0 where
   pub live : w.live ≡ v.live
   pub name : w.known.name ≡ v.known.name
-  pub owns : (n : Name) → Owns w n → Owns v n
+  pub owns : (n : SeatName) → Owns w n → Owns v n
 
 apart_left : (v w u : View) → Narrows v w → Apart v u → Apart w u
 apart_left v w u k a = record {
   names = λ n o p. a.names n (k.owns n o) p;
-  below = λ n l p b. a.below n (sym k.live ∙ l) p (subst (λ (m : Name). Under m n) k.name b);
+  below = λ n l p b. a.below n (sym k.live ∙ l) p (subst (λ (m : SeatName). Under m n) k.name b);
 }
 
 apart_right : (v w u : View) → Narrows v w → Apart u v → Apart u w
@@ -59,7 +59,7 @@ apart_right v w u k a = record {
 }
 
 own_below : (v w : View) → Narrows v w → OwnBelow v → OwnBelow w
-own_below v w k a n o b = a n (k.owns n o) (subst (λ (m : Name). Under m n) k.name b)
+own_below v w k a n o b = a n (k.owns n o) (subst (λ (m : SeatName). Under m n) k.name b)
 
 pub apart_set : (views : List View) (id : ℕ) (v w : View) → get_elem? views id ≡ some v → Narrows v w
     → ((i j : ℕ) (v u : View) → i ≢ j → get_elem? views i ≡ some v → get_elem? views j ≡ some u → Apart v u)
@@ -86,7 +86,7 @@ own_set views id v w at k all j u e =
     (at_set views id j w u e)
 
 -- who owned a name owns it still
-pub known_set : (views : List View) (id : ℕ) (v w : View) (n : Name) → get_elem? views id ≡ some v → (Owns v n → Owns w n)
+pub known_set : (views : List View) (id : ℕ) (v w : View) (n : SeatName) → get_elem? views id ≡ some v → (Owns v n → Owns w n)
     → (j : ℕ) × (u : View) × (get_elem? views j ≡ some u) × Owns u n → (j : ℕ) × (u : View) × (get_elem? (set views id w) j ≡ some u) × Owns u n
 known_set views id v w n at keeps (j, u, e, o) =
     dite (ℕ_discrete j id)
@@ -99,25 +99,25 @@ known_set views id v w n at keeps (j, u, e, o) =
 abbrev pub after_call : View → List Entry → Entry → View
 after_call v log e = record v { told = []; known = record v.known { seen = log ++ e ∷ []; mine = with_entry v.known.name e v.known.mine } }
 
-after_owns : (v : View) (log : List Entry) (e : Entry) → v.live ≡ true → (n : Name) → Owns (after_call v log e) n → Owns v n
+after_owns : (v : View) (log : List Entry) (e : Entry) → v.live ≡ true → (n : SeatName) → Owns (after_call v log e) n → Owns v n
 after_owns v log e live n o =
     (o.0, ⊎_elim (λ (is : n ≡ v.known.name). inl is) (λ h. ⊎_elim (λ (is : n ≡ v.known.name). inl is) (λ (g : Has n v.known.mine). inr g) (has-with n v.known.name e v.known.mine h)) o.1)
 
-owns_after : (v : View) (log : List Entry) (e : Entry) (n : Name) → Owns v n → Owns (after_call v log e) n
+owns_after : (v : View) (log : List Entry) (e : Entry) (n : SeatName) → Owns v n → Owns (after_call v log e) n
 owns_after v log e n o = (o.0, ⊎_elim (λ (is : n ≡ v.known.name). inl is) (λ (h : Has n v.known.mine). inr (with-has n v.known.name e v.known.mine h)) o.1)
 
 narrows_call : (v : View) (log : List Entry) (e : Entry) → v.live ≡ true → Narrows v (after_call v log e)
 narrows_call v log e live = record { live = refl; name = refl; owns = after_owns v log e live }
 
 -- the caller's own entries
-mine_after : (v : View) (log : List Entry) (c : Call) (r : Reply) → v.live ≡ true → ((n : Name) → Owns v n → calls_by n log ≡ entries_in n v.known.mine)
-    → (n : Name) → Owns (after_call v log (entry v.known.name c r)) n → calls_by n (log ++ entry v.known.name c r ∷ []) ≡ entries_in n (with_entry v.known.name (entry v.known.name c r) v.known.mine)
+mine_after : (v : View) (log : List Entry) (c : Call) (r : Reply) → v.live ≡ true → ((n : SeatName) → Owns v n → calls_by n log ≡ entries_in n v.known.mine)
+    → (n : SeatName) → Owns (after_call v log (entry v.known.name c r)) n → calls_by n (log ++ entry v.known.name c r ∷ []) ≡ entries_in n (with_entry v.known.name (entry v.known.name c r) v.known.mine)
 mine_after v log c r live mine n o =
     ⊎_elim
     (λ (t : (n ≡ v.known.name) × (same n v.known.name ≡ true)).
     let e : Entry = entry v.known.name c r in
     let here : calls_by v.known.name log ≡ entries_in v.known.name v.known.mine = mine v.known.name (live, inl refl) in
-    subst (λ (m : Name). calls_by m (log ++ entry v.known.name c r ∷ []) ≡ entries_in m (with_entry v.known.name (entry v.known.name c r) v.known.mine)) (sym t.0)
+    subst (λ (m : SeatName). calls_by m (log ++ entry v.known.name c r ∷ []) ≡ entries_in m (with_entry v.known.name (entry v.known.name c r) v.known.mine)) (sym t.0)
     (calls_by-own v.known.name c r log ∙ (ap (λ (l : List Entry). l ++ entry v.known.name c r ∷ []) here ∙ sym (entries_in-with_same v.known.name (entry v.known.name c r) v.known.mine))))
     (λ (t : (n ≢ v.known.name) × (same n v.known.name ≡ false)).
     calls_by-other n v.known.name c r log t.0
@@ -130,7 +130,7 @@ fits_other opening log v u c r own apart f = record {
   start = f.start;
   seen = begins_more u.known.seen log (entry v.known.name c r ∷ []) f.seen;
   told = begins_more u.told log (entry v.known.name c r ∷ []) f.told;
-  mine = λ n o. calls_by-other n v.known.name c r log (λ (is : n ≡ v.known.name). apart.names v.known.name own (subst (λ (m : Name). Owns u m) is o)) ∙ f.mine n o;
+  mine = λ n o. calls_by-other n v.known.name c r log (λ (is : n ≡ v.known.name). apart.names v.known.name own (subst (λ (m : SeatName). Owns u m) is o)) ∙ f.mine n o;
   map = f.map;
 }
 
@@ -170,16 +170,16 @@ call_order opening log views id v c live at o =
     }
 
 -- who comes from no split has all entries
-empty_name : (n : Name) → n ≢ [] → Under [] n
+empty_name : (n : SeatName) → n ≢ [] → Under [] n
 empty_name [] ne = absurd (ne refl)
 empty_name (b ∷ bs) ne = (b, bs, refl)
 
-all_own : (log : List Entry) → ((n : Name) → n ≢ [] → calls_by n log ≡ []) → log ≡ calls_by [] log
+all_own : (log : List Entry) → ((n : SeatName) → n ≢ [] → calls_by n log ≡ []) → log ≡ calls_by [] log
 all_own [] none = refl
 all_own (e ∷ es) none =
     ⊎_elim
     (λ (t : ([] ≡ e.by) × (same [] e.by ≡ true)).
-    let rest : (n : Name) → n ≢ [] → calls_by n es ≡ [] = λ n ne.
+    let rest : (n : SeatName) → n ≢ [] → calls_by n es ≡ [] = λ n ne.
     let d : same n e.by ≡ false = ⊎_elim (λ (s : (n ≡ e.by) × (same n e.by ≡ true)). absurd (ne (s.0 ∙ sym t.0))) (λ (s : (n ≢ e.by) × (same n e.by ≡ false)). s.1) (same_cases n e.by) in
     sym (ap (λ (b : Bool). if b then e ∷ calls_by n es else calls_by n es) d) ∙ none n ne in
     ap (λ (l : List Entry). e ∷ l) (all_own es rest) ∙ sym (ap (λ (b : Bool). if b then e ∷ calls_by [] es else calls_by [] es) t.1))
@@ -191,8 +191,8 @@ all_own (e ∷ es) none =
 pub alone : (opening : State) (log : List Entry) (views : List View) (id : ℕ) (v : View) → v.live ≡ true → get_elem? views id ≡ some v → InOrder opening log views → v.known.name ≡ []
     → log ≡ entries_in [] v.known.mine
 alone opening log views id v live at o is =
-    let under : (n : Name) → n ≢ [] → Under v.known.name n = λ n ne. subst (λ (m : Name). Under m n) (sym is) (empty_name n ne) in
-    let none : (n : Name) → n ≢ [] → calls_by n log ≡ [] = λ n ne. ⊎_elim (λ (z : calls_by n log ≡ []). z)
+    let under : (n : SeatName) → n ≢ [] → Under v.known.name n = λ n ne. subst (λ (m : SeatName). Under m n) (sym is) (empty_name n ne) in
+    let none : (n : SeatName) → n ≢ [] → calls_by n log ≡ [] = λ n ne. ⊎_elim (λ (z : calls_by n log ≡ []). z)
     (λ (who : (j : ℕ) × (u : View) × (get_elem? views j ≡ some u) × Owns u n).
     dite (ℕ_discrete id who.0)
     (λ (here : id ≡ who.0).

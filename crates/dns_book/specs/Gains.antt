@@ -3,7 +3,7 @@ use Rattle.std.specs.Prelude.{◌≡◌, true, false, List, [], ◌∷◌, ◌++
 use Rattle.dns_book.specs.declared.history.Entry.{Entry}
 use Rattle.dns_book.specs.declared.history.Share.{Share}
 use Rattle.dns_book.specs.declared.history.Known.{Known}
-use Rattle.dns_book.specs.History.{Name, IsLegal, Begins, calls_by, with_entry}
+use Rattle.dns_book.specs.History.{SeatName, IsLegal, Begins, calls_by, with_entry}
 use Rattle.dns_book.specs.Seats.{IsSound}
 
 -- the map with these entries, each under the name of the seat that made it
@@ -18,10 +18,10 @@ pub record Gained (old : Known) (calls : List Entry) (new : Known) : Type 0 wher
   pub mine : new.mine ≡ with_calls calls old.mine
 
 -- the names of the two halves of a seat
-abbrev pub first_name : Known → Name
+abbrev pub first_name : Known → SeatName
 first_name k = k.name ++ false ∷ []
 
-abbrev pub second_name : Known → Name
+abbrev pub second_name : Known → SeatName
 second_name k = k.name ++ true ∷ []
 
 -- Both halves of a seat made calls and were joined. There is one legal history that goes on from what the seat had seen.

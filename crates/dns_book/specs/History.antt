@@ -8,14 +8,14 @@ use Rattle.dns_book.specs.declared.history.Share.{Share}
 use Rattle.dns_admission.specs.Machine.{state_after, reply_of}
 
 -- a seat's name: at each split that it comes from, whether it is the second
-abbrev pub Name : Type 0
-Name = List Bool
+abbrev pub SeatName : Type 0
+SeatName = List Bool
 
 -- n lies properly below p: a seat of that name comes from a split of one named p
-abbrev pub Under : Name → Name → Type 0
-Under p n = (b : Bool) × (rest : Name) × (n ≡ p ++ b ∷ rest)
+abbrev pub Under : SeatName → SeatName → Type 0
+Under p n = (b : Bool) × (rest : SeatName) × (n ≡ p ++ b ∷ rest)
 
-abbrev pub entry : Name → Call → Reply → Entry
+abbrev pub entry : SeatName → Call → Reply → Entry
 entry by call reply = record { by = by; call = call; reply = reply }
 
 -- the state after a history
@@ -43,27 +43,27 @@ same_bit true b = b
 same_bit false true = false
 same_bit false false = true
 
-abbrev pub same : Name → Name → Bool
+abbrev pub same : SeatName → SeatName → Bool
 same [] [] = true
 same [] (y ∷ ys) = false
 same (x ∷ xs) [] = false
 same (x ∷ xs) (y ∷ ys) = if same_bit x y then same xs ys else false
 
 -- the entries under one name
-abbrev pub calls_by : Name → List Entry → List Entry
+abbrev pub calls_by : SeatName → List Entry → List Entry
 calls_by n [] = []
 calls_by n (e ∷ es) = if same n e.by then e ∷ calls_by n es else calls_by n es
 
-abbrev pub share : Name → List Entry → Share
+abbrev pub share : SeatName → List Entry → Share
 share name calls = record { name = name; calls = calls }
 
 -- the entries that a map has under one name
-abbrev pub entries_in : Name → List Share → List Entry
+abbrev pub entries_in : SeatName → List Share → List Entry
 entries_in n [] = []
 entries_in n (s ∷ ss) = if same n s.name then s.calls else entries_in n ss
 
 -- the map has the name
-abbrev pub Has : Name → List Share → Type 0
+abbrev pub Has : SeatName → List Share → Type 0
 Has n [] = ⊥
 Has n (s ∷ ss) = (n ≡ s.name) ⊎ Has n ss
 
@@ -73,6 +73,6 @@ IsMap [] = Unit {0}
 IsMap (s ∷ ss) = (Has s.name ss → ⊥) × IsMap ss
 
 -- the map with one entry more under the name
-abbrev pub with_entry : Name → Entry → List Share → List Share
+abbrev pub with_entry : SeatName → Entry → List Share → List Share
 with_entry n e [] = share n (e ∷ []) ∷ []
 with_entry n e (s ∷ ss) = if same n s.name then share s.name (s.calls ++ e ∷ []) ∷ ss else s ∷ with_entry n e ss

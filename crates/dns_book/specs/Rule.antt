@@ -10,7 +10,7 @@ use Rattle.dns_book.specs.declared.history.Known.{Known}
 use Rattle.dns_book.specs.declared.rule.View.{View}
 use Rattle.dns_admission.specs.Machine.{reply_of}
 use Rattle.dns_book.specs.Words.{state_of}
-use Rattle.dns_book.specs.History.{Name, Under, states_after, IsLegal, calls_by, entries_in, Has, IsMap, Begins}
+use Rattle.dns_book.specs.History.{SeatName, Under, states_after, IsLegal, calls_by, entries_in, Has, IsMap, Begins}
 use Rattle.dns_book.specs.Seats.{new_known, IsSound, Called, state_met, first_half, second_half}
 
 -- what a pass knows that knows nothing
@@ -30,7 +30,7 @@ abbrev pub gone : View
 gone = record { opened = true; live = false; told = []; known = nothing }
 
 -- the name is the pass's own, or one of those whose calls it keeps
-abbrev pub Owns : View → Name → Type 0
+abbrev pub Owns : View → SeatName → Type 0
 Owns v n = (v.live ≡ true) × ((n ≡ v.known.name) ⊎ Has n v.known.mine)
 
 -- what the pass knows is a part of the history
@@ -39,24 +39,24 @@ pub record FitsHistory (opening : State) (log : List Entry) (v : View) : Type 0 
   pub start : v.live ≡ true → v.known.opening ≡ opening
   pub seen : Begins v.known.seen log
   pub told : Begins v.told log
-  pub mine : (n : Name) → Owns v n → calls_by n log ≡ entries_in n v.known.mine
+  pub mine : (n : SeatName) → Owns v n → calls_by n log ≡ entries_in n v.known.mine
   pub map : IsMap v.known.mine
 
 -- two passes own no name together, and neither owns one below the name of the other
 pub record Apart (v u : View) : Type 0 where
-  pub names : (n : Name) → Owns v n → Owns u n → ⊥
-  pub below : (n : Name) → v.live ≡ true → Owns u n → Under v.known.name n → ⊥
+  pub names : (n : SeatName) → Owns v n → Owns u n → ⊥
+  pub below : (n : SeatName) → v.live ≡ true → Owns u n → Under v.known.name n → ⊥
 
 -- a pass owns no name below its own
 abbrev pub OwnBelow : View → Type 0
-OwnBelow v = (n : Name) → Owns v n → Under v.known.name n → ⊥
+OwnBelow v = (n : SeatName) → Owns v n → Under v.known.name n → ⊥
 
 pub record InOrder (opening : State) (log : List Entry) (views : List View) : Type 0 where
   pub legal : IsLegal opening log
   pub fits : (j : ℕ) (v : View) → get_elem? views j ≡ some v → FitsHistory opening log v
   pub own : (j : ℕ) (v : View) → get_elem? views j ≡ some v → OwnBelow v
   pub apart : (i j : ℕ) (v u : View) → i ≢ j → get_elem? views i ≡ some v → get_elem? views j ≡ some u → Apart v u
-  pub known : (n : Name) → (calls_by n log ≡ []) ⊎ ((j : ℕ) × (u : View) × (get_elem? views j ≡ some u) × Owns u n)
+  pub known : (n : SeatName) → (calls_by n log ≡ []) ⊎ ((j : ℕ) × (u : View) × (get_elem? views j ≡ some u) × Owns u n)
 
 -- The words stand for the state after one legal history, of which each pass knows a part. Before that there is one pass, which knows nothing.
 abbrev pub KeptInOrder : List ℕ → List View → Type 0

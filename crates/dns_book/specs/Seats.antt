@@ -6,7 +6,7 @@ use Rattle.dns_admission.specs.declared.call.Call.{Call}
 use Rattle.dns_admission.specs.declared.call.Reply.{Reply}
 use Rattle.dns_book.specs.declared.history.Entry.{Entry}
 use Rattle.dns_book.specs.declared.history.Known.{Known}
-use Rattle.dns_book.specs.History.{Name, Under, entry, states_after, IsLegal, Begins, but_last, calls_by, entries_in, Has, IsMap, with_entry}
+use Rattle.dns_book.specs.History.{SeatName, Under, entry, states_after, IsLegal, Begins, but_last, calls_by, entries_in, Has, IsMap, with_entry}
 
 -- a seat in clauses: the book that it is a seat of, and what it knows
 pub record Seated : Type 0 where
@@ -22,9 +22,9 @@ new_known s = record { opening = s; name = []; seen = []; mine = [] }
 pub record IsSound (k : Known) : Type 0 where
   pub legal : IsLegal k.opening k.seen
   pub map : IsMap k.mine
-  pub exact : (n : Name) → Has n k.mine → calls_by n k.seen ≡ entries_in n k.mine
+  pub exact : (n : SeatName) → Has n k.mine → calls_by n k.seen ≡ entries_in n k.mine
   pub alone : k.name ≡ [] → k.seen ≡ entries_in [] k.mine
-  pub below : (n : Name) → Has n k.mine → Under k.name n → ⊥
+  pub below : (n : SeatName) → Has n k.mine → Under k.name n → ⊥
 
 -- The seat made this call and got this reply. Its history goes on, to this call at the end, and it keeps this call beside the earlier ones.
 pub record Called (old : Known) (call : Call) (reply : Reply) (new : Known) : Type 0 where

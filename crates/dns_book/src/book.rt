@@ -12,7 +12,7 @@ ghost use Rattle.crossbeam_utils.specs.Register.{Turns, Forks, Merges};
 ghost use Rattle.dns_book.specs.Rule.{KeptInOrder, CanCall, Made, Settled, newcomer, opened_as, view_of, IsReady};
 
 use crate::rule::{
-    Asked, Halves, HandOver, Looked, OneHistory, Opened, Read, Settle, TakeIn, Try, View,
+    ExpectsWords, Halves, HandOver, Looked, OneHistory, Opened, Read, Settle, TakeIn, Try, View,
 };
 use crate::words::{COUNT, Words, look_of, renew, words_after, words_of};
 use atomic_table::{Join, Split};
@@ -251,7 +251,7 @@ impl Book {
     }
 
     // Makes the call if the cell still has these words, and says whether it had.
-    fn attempt<K: Asked, R: Wait>(
+    fn attempt<K: ExpectsWords, R: Wait>(
         &self,
         rt: &R,
         pass: &mut SeatPass,

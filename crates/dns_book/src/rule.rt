@@ -31,13 +31,13 @@ impl Protocol<Words, View> for OneHistory {
 }
 
 /// A call, and the words that it expects. Each try picks its own.
-pub trait Asked {
+pub trait ExpectsWords {
     ghost ask: { TheCall };
 
     ghost current: { List ℕ };
 }
 
-impl Asked for Brand {
+impl ExpectsWords for Brand {
     ghost ask = { look_call };
 
     ghost current = { [] };
@@ -51,11 +51,11 @@ impl Outcome<Words, View> for Read {
 }
 
 /// A call, made at the words that it expects and at no others.
-pub struct Try<K: Asked> {
+pub struct Try<K: ExpectsWords> {
     of: PhantomData<K>,
 }
 
-impl<K: Asked> Outcome<Words, View> for Try<K> {
+impl<K: ExpectsWords> Outcome<Words, View> for Try<K> {
     ghost then = { Tries K.ask K.current };
 }
 

@@ -14,7 +14,7 @@ use Rattle.dns_service.specs.LastOpt.{and_opt}
 use Rattle.dns_service.specs.Req.{Req}
 use Rattle.dns_route.specs.ReplyMessage.{ReplyState, reply_message, reply_with_opt}
 use Rattle.dns_cache.specs.Aged.{aged, aged_record, asked_header}
-use Rattle.dns_cache.specs.AskedCache.{Cached, KeptReply, with_used, comes_back, fits, is_whole, may_keep, where_kept}
+use Rattle.dns_cache.specs.AskedCache.{Cached, KeptReply, with_used, comes_back, fits_frame, is_whole, may_keep, where_kept}
 use Rattle.dns_cache.specs.Steps.{used_where}
 use Rattle.dns_cache.specs.Keys.{AskedKey, same_key}
 use Rattle.dns_cache.specs.Marks.{IsKept, IsListed, MarksFit, aged_octets, mark_of, opt_size}
@@ -77,8 +77,8 @@ kept_by r e true false c p q s = refl
 kept_by r e false b c p q s = cc
 
 -- a message that may be kept and is readable is kept exactly where it fits
-pub where_fits : (r : Req (Unit {0})) (e : KeptReply) → e.secs ≡ r.received_secs → may_keep e.message ≡ true → is_ok (copied (wire (aged e.message r.octets 0))) ≡ true → (if fits (aged e.message r.octets 0) then Some e else None) ≡ where_kept r e.message
-where_fits r e s m c = kept_by r e (may_keep e.message) (fits (aged e.message r.octets 0)) (is_ok (copied (wire (aged e.message r.octets 0)))) m c s
+pub where_fits : (r : Req (Unit {0})) (e : KeptReply) → e.secs ≡ r.received_secs → may_keep e.message ≡ true → is_ok (copied (wire (aged e.message r.octets 0))) ≡ true → (if fits_frame (aged e.message r.octets 0) then Some e else None) ≡ where_kept r e.message
+where_fits r e s m c = kept_by r e (may_keep e.message) (fits_frame (aged e.message r.octets 0)) (is_ok (copied (wire (aged e.message r.octets 0)))) m c s
 
 not_by : (r : Req (Unit {0})) (m : Msg) (a b : Bool) → a ≡ false → ◌≡◌ {A = Option KeptReply} None (if a && b then Some (record { secs = r.received_secs; message = m }) else None)
 not_by r m true b h = cc

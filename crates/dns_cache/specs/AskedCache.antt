@@ -36,8 +36,8 @@ abbrev pub response_code : Msg → ℕ
 response_code m = 16 * extended_code (opt_among m.additional) + m.header.rcode
 
 -- a message of at most 65,535 octets (RFC 1035, section 4.2.2)
-abbrev pub fits : Msg → Bool
-fits m = nat_le (length (wire m)) 65535
+abbrev pub fits_frame : Msg → Bool
+fits_frame m = nat_le (length (wire m)) 65535
 
 -- NOERROR or NXDOMAIN (RFC 2308, section 2)
 abbrev pub has_code : Msg → Bool
@@ -53,7 +53,7 @@ may_keep m = is_whole m && nat_lt 0 (least_ttl m)
 
 -- a message that fits and is readable, all its sections and data
 abbrev pub comes_back : Msg → Bool
-comes_back m = fits m && is_ok (copied (wire m))
+comes_back m = fits_frame m && is_ok (copied (wire m))
 
 -- a message that can be kept for a request's octets: one that comes back at age 0
 abbrev pub can_keep : Msg → List ℕ → Bool
@@ -61,7 +61,7 @@ can_keep m request = may_keep m && comes_back (aged m request 0)
 
 -- the message that a reply is, where it can be built
 abbrev pub built_message : Result Msg ParseError → Option Msg
-built_message (Ok m) = if fits m then Some m else None
+built_message (Ok m) = if fits_frame m then Some m else None
 built_message (Err e) = None
 
 abbrev pub where_kept : Req (Unit {0}) → Msg → Option KeptReply
@@ -87,7 +87,7 @@ abbrev pub is_young : KeptReply → ℕ → Bool
 is_young e secs = nat_le e.secs secs && nat_lt (secs - e.secs) (least_ttl e.message)
 
 abbrev pub young_message : Req (Unit {0}) → KeptReply → Option Msg
-young_message r e = if is_young e r.received_secs && fits (aged_for e r) then Some (aged_for e r) else None
+young_message r e = if is_young e r.received_secs && fits_frame (aged_for e r) then Some (aged_for e r) else None
 
 -- ---- what a call does
 
@@ -124,6 +124,6 @@ asked_cache c r k answer = record {
 }
 
 -- a reply whose built message this is, or the service's answer
-abbrev pub Answers : Option Msg → TurnAnswer → TurnAnswer → Type 0
-Answers None answer result = result ≡ answer
-Answers (Some m) answer result = (reply : ReplyState) × (result ≡ Ready (Ok reply)) × (reply_message reply ≡ Ok m) × (length (wire m) ≤ 65535)
+abbrev pub AnswersCached : Option Msg → TurnAnswer → TurnAnswer → Type 0
+AnswersCached None answer result = result ≡ answer
+AnswersCached (Some m) answer result = (reply : ReplyState) × (result ≡ Ready (Ok reply)) × (reply_message reply ≡ Ok m) × (length (wire m) ≤ 65535)

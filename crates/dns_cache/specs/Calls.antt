@@ -13,7 +13,7 @@ use Rattle.dns_cache.specs.Keys.{key_of}
 use Rattle.dns_cache.specs.Ttls.{least_ttl}
 
 -- a call: its request and its number
-pub record Call : Type 0 where
+pub record CacheCall : Type 0 where
   pub request : Req (Unit {0})
   pub k : ℕ
 
@@ -22,18 +22,18 @@ abbrev pub TurnAnswers : Type 0
 TurnAnswers = Req (Unit {0}) → ℕ → TurnAnswer
 
 -- what a call does to a cache
-abbrev pub called : TurnAnswers → Cached → Call → AskedCache
+abbrev pub called : TurnAnswers → Cached → CacheCall → AskedCache
 called answer c call = asked_cache c call.request call.k (answer call.request call.k)
 
 -- an empty cache behind calls, the last call first
-abbrev pub cache_behind : TurnAnswers → ℕ → List Call → Cached
+abbrev pub cache_behind : TurnAnswers → ℕ → List CacheCall → Cached
 cache_behind answer capacity [] = lru_cache [] capacity
 cache_behind answer capacity (call ∷ before) = (called answer (cache_behind answer capacity before) call).behind
 
 -- A message is an earlier reply of the service to a request's question, younger than its least TTL, with every TTL lowered by
 -- its age.
-pub record IsEarlier (answer : TurnAnswers) (before : List Call) (r : Req (Unit {0})) (m : Msg) : Type 0 where
-  pub call : Call
+pub record IsEarlier (answer : TurnAnswers) (before : List CacheCall) (r : Req (Unit {0})) (m : Msg) : Type 0 where
+  pub call : CacheCall
   pub made : Contains before call
   pub reply : ReplyState
   pub answered : answer call.request call.k ≡ Ready (Ok reply)

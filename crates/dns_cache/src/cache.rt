@@ -3,7 +3,7 @@
 ghost use Rattle.std.specs.Prelude.{◌≡◌, ◌<◌, ◌≤◌, [], IfOk, Ok, OnOk, OnErr, Some, option_and_then};
 ghost use Rattle.std.specs.Map.{lookup};
 ghost use Rattle.lru.specs.LruCache.{lru_cache};
-ghost use Rattle.dns_cache.specs.AskedCache.{Answers, asked_cache, cached_message, kept_answer, with_kept, young_message};
+ghost use Rattle.dns_cache.specs.AskedCache.{AnswersCached, asked_cache, cached_message, kept_answer, with_kept, young_message};
 ghost use Rattle.dns_cache.specs.Steps.{GivesMessage, used_where};
 ghost use Rattle.dns_cache.specs.Keys.{AsksOnce, key_of, same_key};
 
@@ -56,7 +56,7 @@ impl Cache {
         request: &Request<()>,
         k: u64,
     ) -> Result<Turned, OutOfMemory>
-        ensures answer { IfOk result (λ p. Answers (asked_cache self.old request.now k (S.answer service.now request.now k)).cached (S.answer service.now request.now k) p) }
+        ensures answer { IfOk result (λ p. AnswersCached (asked_cache self.old request.now k (S.answer service.now request.now k)).cached (S.answer service.now request.now k) p) }
         ensures cache { OnOk result (self.new ≡ (asked_cache self.old request.now k (S.answer service.now request.now k)).behind) }
         ensures err { OnErr result (self.new ≡ self.old) }
     {
@@ -76,7 +76,7 @@ impl Cache {
         key: CacheKey,
     ) -> Result<Turned, OutOfMemory>
         requires { key_of request.now.octets ≡ Some key }
-        ensures answer { IfOk result (λ p. Answers (asked_cache self.old request.now k (S.answer service.now request.now k)).cached (S.answer service.now request.now k) p) }
+        ensures answer { IfOk result (λ p. AnswersCached (asked_cache self.old request.now k (S.answer service.now request.now k)).cached (S.answer service.now request.now k) p) }
         ensures cache { OnOk result (self.new ≡ (asked_cache self.old request.now k (S.answer service.now request.now k)).behind) }
         ensures err { OnErr result (self.new ≡ self.old) }
     {

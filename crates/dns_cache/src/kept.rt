@@ -11,7 +11,7 @@ ghost use Rattle.dns_service.specs.Copied.{copied};
 ghost use Rattle.dns_service.specs.LastOpt.{and_opt};
 ghost use Rattle.dns_route.specs.ReplyMessage.{reply_message};
 ghost use Rattle.dns_cache.specs.Aged.{aged};
-ghost use Rattle.dns_cache.specs.AskedCache.{comes_back, fits, has_code, is_whole, kept_reply, may_keep, where_kept};
+ghost use Rattle.dns_cache.specs.AskedCache.{comes_back, fits_frame, has_code, is_whole, kept_reply, may_keep, where_kept};
 ghost use Rattle.dns_cache.specs.Keys.{AsksOnce};
 ghost use Rattle.dns_cache.specs.Marks.{IsKept, IsListed, MarksOf, marked_size, opt_size};
 ghost use Rattle.dns_cache.specs.Ttls.{least_ttl};
@@ -217,7 +217,7 @@ impl Kept {
 
     /// Whether the message fits with a question in place of its own, at any age.
     pub(crate) fn fits(&self, question: &QuestionRef<'_>) -> bool
-        ensures fits { (request : List ℕ) (age : ℕ) → (questions_of request).0 ≡ question.now ∷ [] → result ≡ fits (aged self.now.message request age) }
+        ensures fits { (request : List ℕ) (age : ℕ) → (questions_of request).0 ≡ question.now ∷ [] → result ≡ fits_frame (aged self.now.message request age) }
         ensures readable { (request : List ℕ) (age : ℕ) → (questions_of request).0 ≡ question.now ∷ [] → IsHeader (header_of request) → is_ok (copied (wire (aged self.now.message request age))) ≡ true }
     {
         self.size_with(question) <= 65535

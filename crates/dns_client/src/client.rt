@@ -18,7 +18,7 @@ use crate::connection::OpenConnection;
 use crate::exchange::{BegunExchange, begin_cut, datagrams_to};
 use crate::flushing::FlushingConnection;
 use crate::kept::KeptRequest;
-use crate::requests::cut;
+use crate::requests::cut_datagram;
 use crate::states::{lose, shut_down, step_state};
 use dns_admission::Look;
 use dns_base::SocketAddr;
@@ -81,7 +81,7 @@ impl<W: Served> ClientCore<W> {
             × Stands (request_answer W.Future.answer W.Stream.answer) (serving (W.answer service.now) (W.hint service.now)) p.0 (datagram client addr at secs octets.now s).0) }
         ensures version { IfOk result (λ p. p.0.version ≡ look.now.version) }
     {
-        let octets = cut(alloc, octets)?;
+        let octets = cut_datagram(alloc, octets)?;
         match begin_cut(alloc, service, addr, at, secs, octets, &look.dgram) {
             Ok(begun) => ClientCore::exchange(alloc, client, look.version, begun),
             Err(error) => Err(error),

@@ -5,7 +5,7 @@ ghost use Rattle.dns_client.specs.Serving.{Serving, serving};
 ghost use Rattle.dns_client.specs.Slate.{Conf, Slate, IsUnused, with_conf};
 ghost use Rattle.dns_client.specs.Frames.{frames};
 ghost use Rattle.dns_client.specs.Connections.{opened, take_frames, piece, write, tick, wind_up, reconfigured};
-ghost use Rattle.dns_client.specs.Requests.{asked, request_of_frame};
+ghost use Rattle.dns_client.specs.Requests.{unpolled, request_of_frame};
 ghost use Rattle.dns_client.specs.Stands.{flushing_for};
 ghost use Rattle.dns_client.specs.Turns.{turn};
 ghost use Rattle.dns_client.specs.Waiting.{first_unfinished, next_unfinished};
@@ -101,7 +101,7 @@ impl<W: Served> OpenConnection<W> {
     /// Keeps a request under its number.
     fn keep(&mut self, kept: ConnectionRequest<W::Future, W::Stream>) -> Result<(), OutOfMemory>
         requires { self.old.unfinished.count < 18446744073709551615 }
-        ensures { OnOk result ((answers : Serving) (r : Req (Unit {0})) → IsGoing (request_answer W.Future.answer W.Stream.answer) answers kept (asked r)
+        ensures { OnOk result ((answers : Serving) (r : Req (Unit {0})) → IsGoing (request_answer W.Future.answer W.Stream.answer) answers kept (unpolled r)
             → Asks (request_answer W.Future.answer W.Stream.answer) answers self.old self.new r) }
     {
         self.unfinished.enter(kept)

@@ -6,8 +6,8 @@ use Rattle.std.specs.Option.{option_cmp}
 use Rattle.std.specs.Ordering.{nat_cmp, ordering_then}
 use Rattle.std.specs.Int.{w32, w64, from_be_bytes, to_be_bytes, to_le_bytes}
 use Rattle.dns_name.specs.declared.address.IpAddr.{IpAddr}
-use Rattle.dns_name.specs.declared.address.IpAddr.TheVariants.{V4, V6}
 use Rattle.dns_name.specs.declared.serial.Serial.{Serial}
+use Rattle.dns_name.specs.Addresses.{address_octets}
 use Rattle.hex.specs.Hex.{encode_upper}
 use Rattle.dns_cookie.specs.Sip.{sip}
 
@@ -44,11 +44,6 @@ abbrev pub standard_part : List ℕ → Option (List ℕ)
 standard_part s = if length s == 16 then Some s else None
 
 -- ---- the hash (RFC 9018, section 4.4)
-
--- an address as 4 or 16 octets
-abbrev pub address_octets : IpAddr → List ℕ
-address_octets (V4 a) = a
-address_octets (V6 a) = a
 
 -- the hash as a number: under the server's secret over the client cookie, the octets before the hash
 -- as they stand, and the client's address

@@ -3,7 +3,8 @@
 ghost use Rattle.std.specs.Prelude.{Some, ◌≡◌, ◌≤◌, ◌+◌, ◌++◌, ◌↔◌, IsTrue, length, take};
 ghost use Rattle.std.specs.Int.{w64, to_le_bytes};
 ghost use Rattle.dns_cookie.specs.ClientCookie.{client_octets};
-ghost use Rattle.dns_cookie.specs.Cookies.{octets_before_hash, version_of, reserved_of, timestamp_of, hash_of, address_octets, hash_number, server_cookie, HashAgrees};
+ghost use Rattle.dns_name.specs.Addresses.{address_octets};
+ghost use Rattle.dns_cookie.specs.Cookies.{octets_before_hash, version_of, reserved_of, timestamp_of, hash_of, hash_number, server_cookie, HashAgrees};
 ghost use Rattle.hex.specs.Hex.{encode_upper};
 
 use crate::client_cookie::ClientCookie;

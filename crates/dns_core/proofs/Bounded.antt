@@ -18,7 +18,7 @@ use Rattle.dns_service.specs.declared.event.Why.TheVariants.{Ended, Short, Idle,
 use Rattle.dns_client.specs.After.{slate_after}
 use Rattle.dns_client.specs.Frames.{frames, framed}
 use Rattle.dns_client.specs.Slate.{Slate, SlateRequest, Told, Phase, Unused, Exchange, Open, Flushing, Closed, fresh, conf_rule, with_conf}
-use Rattle.dns_client.specs.Requests.{asked, header_size, most_requests, request_of_frame}
+use Rattle.dns_client.specs.Requests.{unpolled, header_size, most_requests, request_of_frame}
 use Rattle.dns_client.specs.Datagrams.{datagram}
 use Rattle.dns_client.specs.Timers.{is_expired}
 use Rattle.dns_client.specs.Budget.{allows}
@@ -63,7 +63,7 @@ enqueue_case true at m s free = appends at m s free
 enqueue_case false at m s free = same s
 
 takes_request : (at secs : ℕ) (f : List ℕ) (s : Slate) → Bounds s (take_request at secs f s)
-takes_request at secs f s = (elim (nat_lt (length s.requests) most_requests) as (λ b. Bounds s (if b then record s { requests = s.requests ++ asked (request_of_frame s.connection.idle_timeout s.addr at secs f) ∷ [] } else s)) [ true ↦ record { bound = refl; within = λ h. h } | false ↦ same s ])
+takes_request at secs f s = (elim (nat_lt (length s.requests) most_requests) as (λ b. Bounds s (if b then record s { requests = s.requests ++ unpolled (request_of_frame s.connection.idle_timeout s.addr at secs f) ∷ [] } else s)) [ true ↦ record { bound = refl; within = λ h. h } | false ↦ same s ])
 
 takes_frame : (at secs : ℕ) (f : List ℕ) (s : Slate) → Bounds s (take_frame at secs f s)
 takes_frame at secs f s =

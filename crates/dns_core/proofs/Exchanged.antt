@@ -18,7 +18,7 @@ use Rattle.dns_service.specs.declared.event.Output.{Output}
 use Rattle.dns_service.specs.declared.event.Output.TheVariants.{Datagram}
 use Rattle.dns_service.specs.declared.message.TransportSpecificContext.TheVariants.{Udp}
 use Rattle.dns_client.specs.Datagrams.{at_once, cut_datagram, exchange, refused_datagram}
-use Rattle.dns_client.specs.Requests.{asked, header_size, request_of_datagram}
+use Rattle.dns_client.specs.Requests.{unpolled, header_size, request_of_datagram}
 use Rattle.dns_client.specs.Serving.{Serving}
 use Rattle.dns_client.specs.Slate.{Slate, SlateRequest, Conf, Told}
 use Rattle.dns_client.specs.Turns.{exchange_turn, polled, sent_at_once, sent_for, with_request}
@@ -33,10 +33,10 @@ use Rattle.dns_core.proofs.Replied.{at_least, refused_responds}
 abbrev pub Made : Dgram → SocketAddr → Event → List ℕ → SlateRequest → Type 0
 Made dgram addr e o x = (x.request ≡ request_of_datagram dgram addr e.at e.secs o) × ((header_of o).qr ≡ false)
 
-first_made : (dgram : Dgram) (addr : SocketAddr) (e : Event) (o : List ℕ) (short qr : Bool) → (header_of o).qr ≡ qr → All (Made dgram addr e o) (if short || qr then [] else asked (request_of_datagram dgram addr e.at e.secs o) ∷ [])
+first_made : (dgram : Dgram) (addr : SocketAddr) (e : Event) (o : List ℕ) (short qr : Bool) → (header_of o).qr ≡ qr → All (Made dgram addr e o) (if short || qr then [] else unpolled (request_of_datagram dgram addr e.at e.secs o) ∷ [])
 first_made dgram addr e o true qr is = All-nil (Made dgram addr e o)
 first_made dgram addr e o false true is = All-nil (Made dgram addr e o)
-first_made dgram addr e o false false is = All-cons (Made dgram addr e o) (asked (request_of_datagram dgram addr e.at e.secs o)) [] (refl, is) (All-nil (Made dgram addr e o))
+first_made dgram addr e o false false is = All-cons (Made dgram addr e o) (unpolled (request_of_datagram dgram addr e.at e.secs o)) [] (refl, is) (All-nil (Made dgram addr e o))
 
 module _ (answers : Serving) (settings : Settings) where
   -- the requests of an exchange are those of the datagram by which it began, under the configuration that was in force then

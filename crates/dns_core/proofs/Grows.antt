@@ -12,7 +12,7 @@ use Rattle.dns_service.specs.declared.event.Why.TheVariants.{Short}
 use Rattle.dns_client.specs.Budget.{allows, is_left, is_mark, most_spent}
 use Rattle.dns_client.specs.Frames.{frames, framed}
 use Rattle.dns_client.specs.Slate.{Slate, SlateRequest, Told}
-use Rattle.dns_client.specs.Requests.{asked, header_size, most_requests, request_of_frame}
+use Rattle.dns_client.specs.Requests.{unpolled, header_size, most_requests, request_of_frame}
 use Rattle.dns_client.specs.Connections.{close, append_frame, enqueue, room, spending, take_frame, take_frames, take_request, piece}
 use Rattle.dns_client.specs.Turns.{turn, turn_request, poll_request, answered, retimed, with_request, reply_to, hold, queue_reply}
 use Rattle.dns_core.specs.Budgets.{AllowsAtMost}
@@ -97,7 +97,7 @@ module _ (b at : ℕ) (fits : IsBudget (Some b)) where
 
   takes_request : (secs : ℕ) (f : List ℕ) (s : Slate) → Grows b at s (take_request at secs f s)
   takes_request secs f s =
-      let t = record s { requests = s.requests ++ asked (request_of_frame s.connection.idle_timeout s.addr at secs f) ∷ [] } in
+      let t = record s { requests = s.requests ++ unpolled (request_of_frame s.connection.idle_timeout s.addr at secs f) ∷ [] } in
       (elim (nat_lt (length s.requests) most_requests) as (λ x. Grows b at s (if x then t else s)) [ true ↦ alike b at s t refl refl refl refl refl refl refl | false ↦ same s ])
 
   takes_frame : (secs : ℕ) (f : List ℕ) (s : Slate) → Grows b at s (take_frame at secs f s)

@@ -11,7 +11,7 @@ use Rattle.dns_service.specs.Req.{Req}
 use Rattle.dns_service.specs.declared.event.Why.TheVariants.{Short}
 use Rattle.dns_client.specs.Connections.{append_frame, close, enqueue, room, is_in_transaction, take_frame, take_frames, take_request}
 use Rattle.dns_client.specs.Frames.{framed}
-use Rattle.dns_client.specs.Requests.{asked, header_size, most_requests, request_of_frame}
+use Rattle.dns_client.specs.Requests.{unpolled, header_size, most_requests, request_of_frame}
 use Rattle.dns_client.specs.Serving.{Serving}
 use Rattle.dns_client.specs.Slate.{Slate, SlateRequest, Told}
 use Rattle.dns_client.specs.Turns.{answered, hold, queue_frame, queue_held, queue_reply, reply_to, retimed, turn, turn_request, with_request}
@@ -71,7 +71,7 @@ module _ (Asked : List ℕ → Type 0) where
 
   request_listens : (at secs : ℕ) (f : List ℕ) (s : Slate) → Asked f → Listens s → Listens (take_request at secs f s)
   request_listens at secs f s c h =
-      let r = asked (request_of_frame s.connection.idle_timeout s.addr at secs f) in
+      let r = unpolled (request_of_frame s.connection.idle_timeout s.addr at secs f) in
       (elim (nat_lt (length s.requests) most_requests) as (λ b. Listens (if b then record s { requests = s.requests ++ r ∷ [] } else s)) [
         | true ↦ record { requests = All-push Asks s.requests r h.requests (record { asked = c; held = tt }); queue = h.queue }
         | false ↦ h

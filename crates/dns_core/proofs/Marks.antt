@@ -8,7 +8,7 @@ use Rattle.std.proofs.lemmas.List.Elements.{All-nil, All-cons, All-head, All-tai
 use Rattle.dns_service.specs.declared.event.Output.{Output}
 use Rattle.dns_service.specs.declared.event.Output.TheVariants.{Frame}
 use Rattle.dns_client.specs.Serving.{Serving}
-use Rattle.dns_core.specs.Trails.{Mark, AreMarked, IsMarked, IsRising, Refuses, polls_of, queue_marks}
+use Rattle.dns_core.specs.Trails.{Mark, AreAsMarked, IsAsMarked, IsRising, Refuses, polls_of, queue_marks}
 
 -- ---- places
 
@@ -126,7 +126,7 @@ module _ (answers : Serving) where
   AreQueued [] [] = Unit {0}
   AreQueued [] (o ∷ os) = ⊥
   AreQueued (m ∷ ms) [] = ⊥
-  AreQueued (m ∷ ms) (o ∷ os) = ((client : ℕ) → IsMarked answers m (Frame client o)) × AreQueued ms os
+  AreQueued (m ∷ ms) (o ∷ os) = ((client : ℕ) → IsAsMarked answers m (Frame client o)) × AreQueued ms os
 
   pub queued_length : (ms : List (Option Mark)) (os : List (List ℕ)) → AreQueued ms os → length ms ≡ length os
   queued_length [] [] h = refl
@@ -144,11 +144,11 @@ module _ (answers : Serving) where
   queued_none [] h = tt
   queued_none (o ∷ os) h = ((λ client. All-head FrameRefuses o os h), queued_none os (All-tail FrameRefuses o os h))
 
-  pub marked_append : (ms ns : List (Option Mark)) (os ps : List Output) → AreMarked answers ms os → AreMarked answers ns ps → AreMarked answers (ms ++ ns) (os ++ ps)
+  pub marked_append : (ms ns : List (Option Mark)) (os ps : List Output) → AreAsMarked answers ms os → AreAsMarked answers ns ps → AreAsMarked answers (ms ++ ns) (os ++ ps)
   marked_append [] ns [] ps h k = k
   marked_append [] ns (o ∷ os) ps h k = absurd h
   marked_append (m ∷ ms) ns [] ps h k = absurd h
   marked_append (m ∷ ms) ns (o ∷ os) ps h k = (h.0, marked_append ms ns os ps h.1 k)
 
-  pub marked_one : (m : Option Mark) (out : Output) → IsMarked answers m out → AreMarked answers (m ∷ []) (out ∷ [])
+  pub marked_one : (m : Option Mark) (out : Output) → IsAsMarked answers m out → AreAsMarked answers (m ∷ []) (out ∷ [])
   marked_one m out h = (h, tt)

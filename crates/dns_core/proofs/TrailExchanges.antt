@@ -16,11 +16,11 @@ use Rattle.dns_service.specs.declared.event.Output.TheVariants.{Datagram}
 use Rattle.dns_service.specs.declared.message.TransportSpecificContext.{TransportSpecificContext}
 use Rattle.dns_service.specs.declared.message.TransportSpecificContext.TheVariants.{Udp, NonUdp}
 use Rattle.dns_client.specs.Datagrams.{cut_datagram, datagram, exchange}
-use Rattle.dns_client.specs.Requests.{asked, header_size, request_of_datagram}
+use Rattle.dns_client.specs.Requests.{unpolled, header_size, request_of_datagram}
 use Rattle.dns_client.specs.Serving.{Serving}
 use Rattle.dns_client.specs.Slate.{Slate, SlateRequest, Told, Phase, Unused, Exchange}
 use Rattle.dns_client.specs.Turns.{exchange_turn, polled, sent_at_once, sent_for, with_request}
-use Rattle.dns_core.specs.Trails.{Mark, Trail, IsMarked, IsRising, Refuses, in_order, mark, on_wire, poll_of, polls_of, reply_at}
+use Rattle.dns_core.specs.Trails.{Mark, Trail, IsAsMarked, IsRising, Refuses, in_order, mark, on_wire, poll_of, polls_of, reply_at}
 use Rattle.dns_core.proofs.Marks.{At, AreQueued, at_left, at_right, marked_append, marked_one, polls_append, queued_length}
 use Rattle.dns_core.proofs.Trailing.{Asks, AsksAll, AsksAt, GoesOn, Has, Keeps, Kept, joined_on, stays, still, still_polls, trail, waits_with}
 use Rattle.dns_core.proofs.TrailPieces.{asks_push}
@@ -54,7 +54,7 @@ none_waits n ws x h = ap (λ (l : ℕ). take l (ws ++ replicate n x)) h
 
 module _ (answers : Serving) where
   -- one message is sent at once
-  goes_at_once : (s u : Slate) (t : Trail) (os : List Output) (c : ℕ) (o : List ℕ) (x : Option Mark) (ds : List Mark) → Kept answers s t os → u.queue ≡ s.queue → t.waiting ≡ [] → IsMarked answers x (Datagram c o)
+  goes_at_once : (s u : Slate) (t : Trail) (os : List Output) (c : ℕ) (o : List ℕ) (x : Option Mark) (ds : List Mark) → Kept answers s t os → u.queue ≡ s.queue → t.waiting ≡ [] → IsAsMarked answers x (Datagram c o)
       → ((k : ℕ) → IsRising (polls_of k (in_order t) ++ polls_of k (x ∷ []))) → Has answers u.phase u.requests (sent_now x ds t) → Keeps answers (u, Datagram c o ∷ []) x ds t os
   goes_at_once s u t os c o x ds h q w marked rises has =
       let v : Trail = sent_now x ds t in
@@ -132,7 +132,7 @@ module _ (answers : Serving) where
 
   -- ---- an exchange begins
 
-  begun_asks : (u : Trail) (q : Req (Unit {0})) (short qr : Bool) → is_stream q.transport ≡ false → ((k : ℕ) → polls_of k (in_order u) ≡ []) → AsksAll answers false (if short || qr then [] else asked q ∷ []) u
+  begun_asks : (u : Trail) (q : Req (Unit {0})) (short qr : Bool) → is_stream q.transport ≡ false → ((k : ℕ) → polls_of k (in_order u) ≡ []) → AsksAll answers false (if short || qr then [] else unpolled q ∷ []) u
   begun_asks u q true qr is h = h
   begun_asks u q false true is h = h
   begun_asks u q false false is h = asks_push answers false [] q u is h

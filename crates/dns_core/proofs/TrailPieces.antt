@@ -13,7 +13,7 @@ use Rattle.dns_service.specs.declared.event.Output.{Output}
 use Rattle.dns_service.specs.declared.event.Why.TheVariants.{Short}
 use Rattle.dns_client.specs.Connections.{append_frame, close, enqueue, piece, room, take_frame, take_frames, take_request}
 use Rattle.dns_client.specs.Frames.{frames, framed}
-use Rattle.dns_client.specs.Requests.{asked, header_size, most_requests, request_of_frame}
+use Rattle.dns_client.specs.Requests.{unpolled, header_size, most_requests, request_of_frame}
 use Rattle.dns_client.specs.Serving.{Serving}
 use Rattle.dns_client.specs.Slate.{Slate, SlateRequest, Told, Phase, Open}
 use Rattle.dns_core.specs.Trails.{Mark, Trail, IsRising, in_order, polls_of}
@@ -22,7 +22,7 @@ use Rattle.dns_core.proofs.Trailing.{Asks, AsksAll, AsksAt, Has, Keeps, Kept, as
 
 module _ (answers : Serving) where
   -- a request that was not polled yet
-  pub asks_new : (stream : Bool) (k : ℕ) (q : Req (Unit {0})) (t : Trail) → is_stream q.transport ≡ stream → polls_of k (in_order t) ≡ [] → Asks answers stream k (asked q) t
+  pub asks_new : (stream : Bool) (k : ℕ) (q : Req (Unit {0})) (t : Trail) → is_stream q.transport ≡ stream → polls_of k (in_order t) ≡ [] → Asks answers stream k (unpolled q) t
   asks_new stream k q t is none = record {
     transport = is;
     unheld = λ e. refl;
@@ -31,15 +31,15 @@ module _ (answers : Serving) where
     somewhere = λ n lt ne. absurd (omega arith);
   }
 
-  push_case : (stream : Bool) (rs : List SlateRequest) (q : Req (Unit {0})) (t : Trail) → is_stream q.transport ≡ stream → AsksAll answers stream rs t → (k : ℕ) → AsksAt answers stream k (slice_get (rs ++ asked q ∷ []) k) t
+  push_case : (stream : Bool) (rs : List SlateRequest) (q : Req (Unit {0})) (t : Trail) → is_stream q.transport ≡ stream → AsksAll answers stream rs t → (k : ℕ) → AsksAt answers stream k (slice_get (rs ++ unpolled q ∷ []) k) t
   push_case stream rs q t is h k =
       ⊎_elim
-      (λ (old : slice_get (rs ++ asked q ∷ []) k ≡ slice_get rs k). subst (λ (x : Option SlateRequest). AsksAt answers stream k x t) (sym old) (h k))
-      (λ (new : (slice_get (rs ++ asked q ∷ []) k ≡ Some (asked q)) × (slice_get rs k ≡ None)).
+      (λ (old : slice_get (rs ++ unpolled q ∷ []) k ≡ slice_get rs k). subst (λ (x : Option SlateRequest). AsksAt answers stream k x t) (sym old) (h k))
+      (λ (new : (slice_get (rs ++ unpolled q ∷ []) k ≡ Some (unpolled q)) × (slice_get rs k ≡ None)).
       subst (λ (x : Option SlateRequest). AsksAt answers stream k x t) (sym new.0) (asks_new stream k q t is (subst (λ (x : Option SlateRequest). AsksAt answers stream k x t) new.1 (h k))))
-      (push_cases rs (asked q) k)
+      (push_cases rs (unpolled q) k)
 
-  pub asks_push : (stream : Bool) (rs : List SlateRequest) (q : Req (Unit {0})) (t : Trail) → is_stream q.transport ≡ stream → AsksAll answers stream rs t → AsksAll answers stream (rs ++ asked q ∷ []) t
+  pub asks_push : (stream : Bool) (rs : List SlateRequest) (q : Req (Unit {0})) (t : Trail) → is_stream q.transport ≡ stream → AsksAll answers stream rs t → AsksAll answers stream (rs ++ unpolled q ∷ []) t
   asks_push stream rs q t is h = push_case stream rs q t is h
 
   -- a connection behind some frames: its queue has more, which refuse responses, and its requests are those that were made
@@ -53,7 +53,7 @@ module _ (answers : Serving) where
   request_takes : (q : List (List ℕ)) (t : Trail) (at secs : ℕ) (f : List ℕ) (s : Slate) → Takes q t s → Takes q t (take_request at secs f s)
   request_takes q t at secs f s h =
       let r = request_of_frame s.connection.idle_timeout s.addr at secs f in
-      (elim (nat_lt (length s.requests) most_requests) as (λ b. Takes q t (if b then record s { requests = s.requests ++ asked r ∷ [] } else s)) [
+      (elim (nat_lt (length s.requests) most_requests) as (λ b. Takes q t (if b then record s { requests = s.requests ++ unpolled r ∷ [] } else s)) [
         | true ↦ record { phase = h.phase; news = h.news; queue = h.queue; refuse = h.refuse; asks = asks_push true s.requests r t refl h.asks }
         | false ↦ h
       ])

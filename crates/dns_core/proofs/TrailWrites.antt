@@ -12,7 +12,7 @@ use Rattle.dns_client.specs.Connections.{close, flush, flushed, in_transaction, 
 use Rattle.dns_client.specs.Serving.{Serving}
 use Rattle.dns_client.specs.Slate.{Slate, Told}
 use Rattle.dns_client.specs.Timers.{is_expired}
-use Rattle.dns_core.specs.Trails.{Mark, Trail, AreMarked, IsRising, polls_of}
+use Rattle.dns_core.specs.Trails.{Mark, Trail, AreAsMarked, IsRising, polls_of}
 use Rattle.dns_core.proofs.Marks.{AreQueued, marked_append, marked_one, queued_length}
 use Rattle.dns_core.proofs.Trailing.{Has, Keeps, Kept, closes, ends, front_on, has_on, stays, still, trail, trail_by}
 
@@ -22,7 +22,7 @@ module _ (answers : Serving) where
     first : Option Mark
     others : List (Option Mark)
     waiting : t.waiting ≡ first ∷ others
-    went : AreMarked answers (t.went ++ first ∷ []) (os ++ Frame s.client m ∷ [])
+    went : AreAsMarked answers (t.went ++ first ∷ []) (os ++ Frame s.client m ∷ [])
     waits : AreQueued answers others ms
     order : (k : ℕ) → IsRising (polls_of k ((t.went ++ first ∷ []) ++ others))
     has : Has answers s.phase s.requests (trail t.went (first ∷ others) t.dropped)

@@ -10,7 +10,7 @@ use Rattle.dns_service.specs.declared.event.Why.{Why}
 use Rattle.dns_client.specs.Connections.{close}
 use Rattle.dns_client.specs.Serving.{Serving}
 use Rattle.dns_client.specs.Slate.{Slate, SlateRequest, Told, Phase, Unused, Exchange, Open, Flushing, Closed}
-use Rattle.dns_core.specs.Trails.{Mark, Trail, AreMarked, IsRising, IsSomewhere, in_order, is_datagram_sent, is_frame, mark, messages_sent, poll_of, polls_of, reply_at}
+use Rattle.dns_core.specs.Trails.{Mark, Trail, AreAsMarked, IsRising, IsSomewhere, in_order, is_datagram_sent, is_frame, mark, messages_sent, poll_of, polls_of, reply_at}
 use Rattle.dns_core.proofs.Marks.{At, at_left, at_right, at_split, take_joined, rising_front, polls_append, AreQueued, queued_length, queued_append, marked_append}
 
 abbrev pub trail : List (Option Mark) → List (Option Mark) → List Mark → Trail
@@ -92,7 +92,7 @@ module _ (answers : Serving) where
   Has Closed rs t = rs ≡ []
 
   pub record Kept (s : Slate) (t : Trail) (os : List Output) : Type 0 where
-    pub went : AreMarked answers t.went os
+    pub went : AreAsMarked answers t.went os
     pub waiting : AreQueued answers t.waiting s.queue
     pub order : (k : ℕ) → IsRising (polls_of k (in_order t))
     pub has : Has s.phase s.requests t
@@ -164,7 +164,7 @@ module _ (answers : Serving) where
   -- ---- what goes
 
   -- all that waits is forgotten
-  pub ends : (why : Why) (s : Slate) (went rest : List (Option Mark)) (dropped : List Mark) (os : List Output) → AreMarked answers went os → ((k : ℕ) → IsRising (polls_of k (went ++ rest))) → Kept (close why s).0 (trail went [] dropped) os
+  pub ends : (why : Why) (s : Slate) (went rest : List (Option Mark)) (dropped : List Mark) (os : List Output) → AreAsMarked answers went os → ((k : ℕ) → IsRising (polls_of k (went ++ rest))) → Kept (close why s).0 (trail went [] dropped) os
   ends why s went rest dropped os marked rises = record {
     went = marked;
     waiting = tt;

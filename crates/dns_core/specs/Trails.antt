@@ -132,16 +132,16 @@ module _ (answers : Serving) where
   Replies m _ = ⊥
 
   -- a mark says which reply a message is; one without a mark refuses a response
-  abbrev pub IsMarked : Option Mark → Output → Type 0
-  IsMarked None out = Refuses out
-  IsMarked (Some m) out = Replies m out
+  abbrev pub IsAsMarked : Option Mark → Output → Type 0
+  IsAsMarked None out = Refuses out
+  IsAsMarked (Some m) out = Replies m out
 
   -- the messages are what the marks say, one for one
-  abbrev pub AreMarked : List (Option Mark) → List Output → Type 0
-  AreMarked [] [] = Unit {0}
-  AreMarked [] (out ∷ outs) = ⊥
-  AreMarked (m ∷ ms) [] = ⊥
-  AreMarked (m ∷ ms) (out ∷ outs) = IsMarked m out × AreMarked ms outs
+  abbrev pub AreAsMarked : List (Option Mark) → List Output → Type 0
+  AreAsMarked [] [] = Unit {0}
+  AreAsMarked [] (out ∷ outs) = ⊥
+  AreAsMarked (m ∷ ms) [] = ⊥
+  AreAsMarked (m ∷ ms) (out ∷ outs) = IsAsMarked m out × AreAsMarked ms outs
 
 -- the polls of one request among marks
 abbrev pub polls_of : ℕ → List (Option Mark) → List ℕ

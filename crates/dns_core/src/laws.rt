@@ -26,7 +26,7 @@ ghost use Rattle.dns_client.specs.Slate.{SlateRequest, fresh};
 ghost use Rattle.dns_core.specs.ReplyTo.{IsReply};
 ghost use Rattle.dns_core.specs.Settings.{opening};
 ghost use Rattle.dns_core.specs.SlateBy.{slate_by};
-ghost use Rattle.dns_core.specs.Trails.{AreMarked, IsRising, IsSomewhere, in_order, messages_sent, no_trail, poll_of, polls_of, reply_at, trail_after};
+ghost use Rattle.dns_core.specs.Trails.{AreAsMarked, IsRising, IsSomewhere, in_order, messages_sent, no_trail, poll_of, polls_of, reply_at, trail_after};
 ghost use Rattle.dns_middleware.specs.Verdicts.{Verdicts, verdict_on};
 ghost use Rattle.dns_middleware.specs.Wrapped.{hint_left, replies};
 ghost use Rattle.dns_service.specs.declared.settings.Settings.{Settings};
@@ -85,7 +85,7 @@ pub fn replies_answer_what_was_asked()
 /// requests.
 pub fn replies_keep_their_order()
     ensures sent { (answers : Serving) (settings : Settings) (c : ℕ) (es : List Event)
-        → AreMarked answers (trail_after answers (fresh (opening settings)) no_trail (own c es)).went (messages_sent (sent answers settings (own c es))) }
+        → AreAsMarked answers (trail_after answers (fresh (opening settings)) no_trail (own c es)).went (messages_sent (sent answers settings (own c es))) }
     ensures order { (answers : Serving) (settings : Settings) (c k : ℕ) (es : List Event)
         → IsRising (polls_of k (in_order (trail_after answers (fresh (opening settings)) no_trail (own c es)))) }
     ensures missing { (answers : Serving) (settings : Settings) (c k n : ℕ) (es : List Event) (r : SlateRequest)
@@ -95,7 +95,7 @@ pub fn replies_keep_their_order()
 {}
 
 /// A piece cut in two, both parts at its moment and seconds and next to each other, changes nothing, wherever it is cut.
-pub fn pieces_may_be_cut()
+pub fn cut_pieces_change_nothing()
     ensures { (answers : Serving) (settings : Settings) (client at secs : ℕ) (a b : List ℕ) (p r : List Event)
         → sent answers settings (p ++ piece_of client at secs (a ++ b) ∷ r) ≡ sent answers settings (p ++ piece_of client at secs a ∷ piece_of client at secs b ∷ r) }
 {

@@ -13,11 +13,11 @@ pub use dns_middleware::{Notifiable, NotifyError, Settings, VerdictFuture, wrap}
 pub use dns_service::{Event, EventKind, Octets, Output, Step, Why};
 pub use laws::{
     budgets_are_kept, clients_are_sent_their_own, closed_connections_change_nothing,
-    empty_pieces_change_nothing, finished_requests_change_nothing, idle_events_leave_a_slate,
-    late_events_change_nothing, more_events_send_more, others_change_nothing, pieces_may_be_cut,
-    queues_keep_their_bound, reconfigures_count_as_their_last, replies_answer_what_was_asked,
-    replies_keep_their_order, second_releases_change_nothing, strangers_change_nothing,
-    used_numbers_change_nothing,
+    cut_pieces_change_nothing, empty_pieces_change_nothing, finished_requests_change_nothing,
+    idle_events_leave_a_slate, late_events_change_nothing, more_events_send_more,
+    others_change_nothing, queues_keep_their_bound, reconfigures_count_as_their_last,
+    replies_answer_what_was_asked, replies_keep_their_order, second_releases_change_nothing,
+    strangers_change_nothing, used_numbers_change_nothing,
 };
 pub use server::{Server, serve_events};
 pub use split::{SplitServer, serve_steps};

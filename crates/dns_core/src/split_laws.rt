@@ -28,7 +28,7 @@ ghost use Rattle.dns_core.specs.ReplyTo.{IsReply};
 ghost use Rattle.dns_core.specs.Sent.{sent};
 ghost use Rattle.dns_core.specs.Settings.{opening};
 ghost use Rattle.dns_core.specs.StepsByClient.{TurnedAwayIn, finds_no_slot, is_first, is_served, slots_held, was_refused};
-ghost use Rattle.dns_core.specs.Trails.{AreMarked, IsRising, IsSomewhere, in_order, messages_sent, no_trail, poll_of, polls_of, reply_at, trail_after};
+ghost use Rattle.dns_core.specs.Trails.{AreAsMarked, IsRising, IsSomewhere, in_order, messages_sent, no_trail, poll_of, polls_of, reply_at, trail_after};
 ghost use Rattle.dns_middleware.specs.Verdicts.{Verdicts, verdict_on};
 ghost use Rattle.dns_middleware.specs.Wrapped.{hint_left, replies};
 ghost use Rattle.dns_service.specs.declared.settings.Settings.{Settings};
@@ -103,7 +103,7 @@ pub fn replies_of_steps_answer_what_was_asked()
 /// its requests.
 pub fn replies_of_steps_keep_their_order()
     ensures sent { (answers : Serving) (settings : Settings) (c : ℕ) (steps : List Step)
-        → AreMarked answers (trail_after answers (fresh (opening settings)) no_trail (placed settings c steps)).went (messages_sent (sent answers settings (placed settings c steps))) }
+        → AreAsMarked answers (trail_after answers (fresh (opening settings)) no_trail (placed settings c steps)).went (messages_sent (sent answers settings (placed settings c steps))) }
     ensures order { (answers : Serving) (settings : Settings) (c k : ℕ) (steps : List Step)
         → IsRising (polls_of k (in_order (trail_after answers (fresh (opening settings)) no_trail (placed settings c steps)))) }
     ensures missing { (answers : Serving) (settings : Settings) (c k n : ℕ) (steps : List Step) (r : SlateRequest)

@@ -13,10 +13,10 @@ use Rattle.dns_service.specs.declared.event.Event.{Event}
 use Rattle.dns_service.specs.declared.polled.PolledRequest.{PolledRequest}
 use Rattle.dns_client.specs.Serving.{Serving}
 use Rattle.dns_notes.specs.Clocks.{ClockReading}
-use Rattle.dns_datagrams.specs.DatagramsSent.{settings_of, count_if}
+use Rattle.dns_datagrams.specs.DatagramsSent.{settings_shown, count_if}
 use Rattle.dns_datagrams.specs.DatagramsServed.{World, world, IsFull, MayCome}
 use Rattle.dns_datagrams.specs.DatagramSteps.{kept_at, numbers_of}
-use Rattle.dns_datagrams.specs.DatagramLoop.{Among, Ran, Ordered, Goes, Breaks, Looks, Turns, Fails, Begins, BeginFails, Rounded, Idles, CutsOff, Stopped, Finished}
+use Rattle.dns_datagrams.specs.DatagramLoop.{Among, Ran, Ordered, LoopGoes, Breaks, TakesLook, Turns, StepFails, BeginsExchange, BeginFails, Rounded, Idles, CutsOff, Stopped, Finished}
 use Rattle.dns_datagrams.specs.declared.serving.DgramEnd.{DgramEnd}
 use Rattle.dns_datagrams.specs.declared.serving.DgramEnd.TheVariants.{Shutdown, Counted, Fault, OutOfMemory}
 use Rattle.dns_datagrams.specs.declared.running.Running.{Running}
@@ -38,13 +38,13 @@ nobody : (c : ℕ) (ns : List ℕ) → Among c [] → Among c ns
 nobody c ns h = never (list_any (nat_eq c) []) (list_any (nat_eq c) ns) refl h
 
 module _ {W R F : Type 0} (answer : PolledRequest F R → ℕ → Answer) (answers : Serving) where
-  pub goes_then : {w w1 w2 : World} {s s1 s2 : Running W R F} {a b c : Bool} {xs ys zs : List ℕ} → Goes answer answers w s a xs w1 s1 b ys → Goes answer answers w1 s1 b ys w2 s2 c zs → Goes answer answers w s a xs w2 s2 c zs
+  pub goes_then : {w w1 w2 : World} {s s1 s2 : Running W R F} {a b c : Bool} {xs ys zs : List ℕ} → LoopGoes answer answers w s a xs w1 s1 b ys → LoopGoes answer answers w1 s1 b ys w2 s2 c zs → LoopGoes answer answers w s a xs w2 s2 c zs
   goes_then p q = record { over = λ h. q.over (p.over h); goes = λ first start spare r. q.goes first start spare (p.goes first start spare r) }
 
-  pub breaks_then : {n n' : ℕ} {w w1 w2 : World} {s s1 : Running W R F} {a b : Bool} {xs ys : List ℕ} → n ≤ n' → Goes answer answers w s a xs w1 s1 b ys → Breaks answer answers n w1 s1 b ys w2 → Breaks answer answers n' w s a xs w2
+  pub breaks_then : {n n' : ℕ} {w w1 w2 : World} {s s1 : Running W R F} {a b : Bool} {xs ys : List ℕ} → n ≤ n' → LoopGoes answer answers w s a xs w1 s1 b ys → Breaks answer answers n w1 s1 b ys w2 → Breaks answer answers n' w s a xs w2
   breaks_then l p q = record { breaks = λ first start spare count may r. q.breaks first start spare count (may_come_less l may) (p.goes first start spare r) }
 
-  pub goes_same : {w : World} {s : Running W R F} {a : Bool} {xs : List ℕ} → Goes answer answers w s a xs w s a xs
+  pub goes_same : {w : World} {s : Running W R F} {a : Bool} {xs : List ℕ} → LoopGoes answer answers w s a xs w s a xs
   goes_same = record { over = λ h. h; goes = λ first start spare r. r }
 
   -- No more was done, but that receives gave none: of the looks before them that stood ready one each is spare no more. What stands
@@ -62,47 +62,47 @@ module _ {W R F : Type 0} (answer : PolledRequest F R → ℕ → Answer) (answe
     nobodys = r.nobodys;
     serves = r.serves;
     order = order r.looks r.events r.order;
-    input = input_same answers (settings_of first) r.events (first ∷ r.looks) (spare + count_if ready) (spare' + count_if ready') s.next start.mail now.mail m received more r.input;
+    input = input_same answers (settings_shown first) r.events (first ∷ r.looks) (spare + count_if ready) (spare' + count_if ready') s.next start.mail now.mail m received more r.input;
     waiting = λ c h. among c (r.waiting c h);
     clock = rw full r.clock;
-    output = delivered_same answers (settings_of first) r.events start.mail now.mail m start.failed_sends now.failed_sends sent full r.output;
+    output = delivered_same answers (settings_shown first) r.events start.mail now.mail m start.failed_sends now.failed_sends sent full r.output;
   }
 
   -- where nobody waits, any may be owed
-  pub goes_owing : {w : World} {s : Running W R F} (ns : List ℕ) → Goes answer answers w s false [] w s false ns
+  pub goes_owing : {w : World} {s : Running W R F} (ns : List ℕ) → LoopGoes answer answers w s false [] w s false ns
   goes_owing {w} {s} ns = record { over = λ h. h; goes = λ first start spare r. ran_as {spare = spare} {spare' = spare} w.mail refl refl refl (omega arith) (λ looks events o. o) (λ c. nobody c ns) r }
 
   -- ---- the polls of some exchanges
 
-  pub polls_fail : {w w1 w2 : World} {s s1 : Running W R F} {a b : Bool} {xs ys : List ℕ} → s1.next ≡ s.next → Goes answer answers w s a xs w1 s1 b ys → Breaks answer answers s1.next w1 s1 b ys w2 → Breaks answer answers s.next w s a xs w2
+  pub polls_fail : {w w1 w2 : World} {s s1 : Running W R F} {a b : Bool} {xs ys : List ℕ} → s1.next ≡ s.next → LoopGoes answer answers w s a xs w1 s1 b ys → Breaks answer answers s1.next w1 s1 b ys w2 → Breaks answer answers s.next w s a xs w2
   polls_fail {s = s} {s1 = s1} e p q = let l : s1.next ≤ s.next = omega arith in breaks_then l p q
 
-  pub goes_left : {w w1 : World} {s s1 : Running W R F} {a : Bool} {ns ms : List ℕ} → ms ≡ [] → Goes answer answers w s a ns w1 s1 false ms → Goes answer answers w s a ns w1 s1 false []
+  pub goes_left : {w w1 : World} {s s1 : Running W R F} {a : Bool} {ns ms : List ℕ} → ms ≡ [] → LoopGoes answer answers w s a ns w1 s1 false ms → LoopGoes answer answers w s a ns w1 s1 false []
   goes_left e g = rw e at g
 
   -- the first one's, whoever is owed behind it
-  pub goes_first : {w w1 : World} {s s1 : Running W R F} {first : List ℕ} {n : ℕ} → first ≡ n ∷ [] → Turns answer answers n false w s w1 s1 → (rest : List ℕ) → Goes answer answers w s false (first ++ rest) w1 s1 false rest
+  pub goes_first : {w w1 : World} {s s1 : Running W R F} {first : List ℕ} {n : ℕ} → first ≡ n ∷ [] → Turns answer answers n false w s w1 s1 → (rest : List ℕ) → LoopGoes answer answers w s false (first ++ rest) w1 s1 false rest
   goes_first e t rest = rw e (t.goes rest)
 
-  pub goes_next : {w w1 : World} {s s1 : Running W R F} {first rest ns : List ℕ} → ns ≡ first ++ rest → ((others : List ℕ) → Goes answer answers w s false (first ++ others) w1 s1 false others) → Goes answer answers w s false ns w1 s1 false rest
+  pub goes_next : {w w1 : World} {s s1 : Running W R F} {first rest ns : List ℕ} → ns ≡ first ++ rest → ((others : List ℕ) → LoopGoes answer answers w s false (first ++ others) w1 s1 false others) → LoopGoes answer answers w s false ns w1 s1 false rest
   goes_next {rest = rest} e t = rw e (t rest)
 
   -- ---- waits and receives
 
   -- the socket waited, by which the clock's latest reading is old
   pub goes_waited : {n : List Event} {m m1 : Mail} {f f1 : ℕ} {c c1 : List ClockReading} {k : Known} {s s1 : Running W R F} {w : World} {a b : Bool} {xs ys : List ℕ} → f1 ≡ f → m1 ≡ m → c1 ≡ c
-      → Goes answer answers (world n m1 f1 c1 k) s a xs w s1 b ys → Goes answer answers (world n m f c k) s a xs w s1 b ys
+      → LoopGoes answer answers (world n m1 f1 c1 k) s a xs w s1 b ys → LoopGoes answer answers (world n m f c k) s a xs w s1 b ys
   goes_waited e g h p = rw (← e, ← g, ← h) p
 
   pub breaks_waited : {most : ℕ} {n : List Event} {m m1 : Mail} {f f1 : ℕ} {c c1 : List ClockReading} {k : Known} {s : Running W R F} {w : World} {a : Bool} {xs : List ℕ} → f1 ≡ f → m1 ≡ m → c1 ≡ c
       → Breaks answer answers most (world n m1 f1 c1 k) s a xs w → Breaks answer answers most (world n m f c k) s a xs w
   breaks_waited e g h p = rw (← e, ← g, ← h) p
 
-  pub received_failed : {n : List Event} {m m1 : Mail} {f f1 : ℕ} {c : List ClockReading} {k : Known} {s : Running W R F} → f1 ≡ f → m1 ≡ m → Goes answer answers (world n m f c k) s true [] (world n m1 f1 c k) s true []
+  pub received_failed : {n : List Event} {m m1 : Mail} {f f1 : ℕ} {c : List ClockReading} {k : Known} {s : Running W R F} → f1 ≡ f → m1 ≡ m → LoopGoes answer answers (world n m f c k) s true [] (world n m1 f1 c k) s true []
   received_failed e g = rw (e, g) goes_same
 
   pub received_again : {n : List Event} {m m1 m2 : Mail} {f f1 : ℕ} {c c1 : List ClockReading} {k : Known} {s : Running W R F} → f1 ≡ f → m1 ≡ record m { empty_receives = m.empty_receives + 1 } → m2 ≡ m1 → c1 ≡ c
-      → Goes answer answers (world n m f c k) s true [] (world n m2 f1 c1 k) s false (numbers_of s.exchanges.items)
+      → LoopGoes answer answers (world n m f c k) s true [] (world n m2 f1 c1 k) s false (numbers_of s.exchanges.items)
   received_again {n} {m} {m1} {m2} {f} {f1} {c} {c1} {k} {s} e g h o =
       let i = h ∙ g in
       let none : m2.empty_receives ≡ m.empty_receives + 1 = rw i refl in rw (e, o) (record {
@@ -113,7 +113,7 @@ module _ {W R F : Type 0} (answer : PolledRequest F R → ℕ → Answer) (answe
       })
 
   pub got_goes : {n0 : List Event} {m m1 : Mail} {f f1 : ℕ} {c : List ClockReading} {k : Known} {s s1 : Running W R F} {w : World} {n : ℕ} {buf : List ℕ} {from : SocketAddr} → f1 ≡ f → length buf ≡ 1024 → Received n from buf m m1
-      → Begins answer answers (take n buf) from (world n0 m1 f1 c k) s w s1 → Goes answer answers (world n0 m f c k) s true [] w s1 false (numbers_of s1.exchanges.items)
+      → BeginsExchange answer answers (take n buf) from (world n0 m1 f1 c k) s w s1 → LoopGoes answer answers (world n0 m f c k) s true [] w s1 false (numbers_of s1.exchanges.items)
   got_goes {m = m} {n = n} {buf = buf} e z x b = rw (← e) (b.goes x.octets m (front_of x.octets n (length buf) (take n buf) z x.count x.front) x.more)
 
   pub got_fails : {n0 : List Event} {m m1 : Mail} {f f1 : ℕ} {c : List ClockReading} {k : Known} {s : Running W R F} {w : World} {n : ℕ} {buf : List ℕ} {from : SocketAddr} → f1 ≡ f → length buf ≡ 1024 → Received n from buf m m1
@@ -122,28 +122,28 @@ module _ {W R F : Type 0} (answer : PolledRequest F R → ℕ → Answer) (answe
 
   -- ---- rounds
 
-  pub look_goes : {w w1 w2 : World} {s s1 s2 : Running W R F} {b : Bool} {ns : List ℕ} → Looks answer answers w s w1 s1 → Goes answer answers w1 s1 true [] w2 s2 b ns → Goes answer answers w s false [] w2 s2 b ns
+  pub look_goes : {w w1 w2 : World} {s s1 s2 : Running W R F} {b : Bool} {ns : List ℕ} → TakesLook answer answers w s w1 s1 → LoopGoes answer answers w1 s1 true [] w2 s2 b ns → LoopGoes answer answers w s false [] w2 s2 b ns
   look_goes a b = goes_then (a.goes []) b
 
   -- memory ran out behind the look
-  look_breaks : {w w1 w2 : World} {s s1 : Running W R F} → s1.next ≡ s.next → Looks answer answers w s w1 s1 → Breaks answer answers (s1.next + 1) w1 s1 true [] w2 → Breaks answer answers (s.next + 1) w s false [] w2
+  look_breaks : {w w1 w2 : World} {s s1 : Running W R F} → s1.next ≡ s.next → TakesLook answer answers w s w1 s1 → Breaks answer answers (s1.next + 1) w1 s1 true [] w2 → Breaks answer answers (s.next + 1) w s false [] w2
   look_breaks {s = s} {s1 = s1} e a b = let l : s1.next + 1 ≤ s.next + 1 = omega arith in breaks_then l (a.goes []) b
 
-  pub look_rounds : (end : Option DgramEnd) {w w1 : World} {s s1 : Running W R F} (w2 : World) (s2 : Running W R F) (count : ℕ) → s1.next ≡ s.next → MayCome count (s.next + 1) → Looks answer answers w s w1 s1 → Rounded answer answers true 0 end w1 s1 w2 s2 → Rounded answer answers false count end w s w2 s2
+  pub look_rounds : (end : Option DgramEnd) {w w1 : World} {s s1 : Running W R F} (w2 : World) (s2 : Running W R F) (count : ℕ) → s1.next ≡ s.next → MayCome count (s.next + 1) → TakesLook answer answers w s w1 s1 → Rounded answer answers true 0 end w1 s1 w2 s2 → Rounded answer answers false count end w s w2 s2
   look_rounds None w2 s2 count e may a b = look_goes a b
   look_rounds (Some Shutdown) w2 s2 count e may a b = (look_goes a b.0, b.1)
   look_rounds (Some Counted) w2 s2 count e may a b = absurd (cc b.0)
   look_rounds (Some Fault) w2 s2 count e may a b = look_goes a b
   look_rounds (Some OutOfMemory) w2 s2 count e may a b = (may, look_breaks e a b.1)
 
-  pub look_fails : {count : ℕ} {w w1 : World} {s : Running W R F} → MayCome count (s.next + 1) → Fails answer answers false w s w1 → MayCome count (s.next + 1) × Breaks answer answers (s.next + 1) w s false [] w1
+  pub look_fails : {count : ℕ} {w w1 : World} {s : Running W R F} → MayCome count (s.next + 1) → StepFails answer answers false w s w1 → MayCome count (s.next + 1) × Breaks answer answers (s.next + 1) w s false [] w1
   look_fails {s = s} may a = let l : s.next ≤ s.next + 1 = omega arith in (may, breaks_then l goes_same (a.breaks []))
 
   -- memory ran out at the receive, or at the polls after it
   pub lap_fails : {w w1 : World} {s : Running W R F} {a : Bool} {xs : List ℕ} → s.next < 2 ^ 64 - 1 → Breaks answer answers (s.next + 1) w s a xs w1 → MayCome 0 (s.next + 1) × Breaks answer answers (s.next + 1) w s a xs w1
   lap_fails l b = (may_come_any l, b)
 
-  pub lap_breaks : {w w1 w2 : World} {s s1 : Running W R F} {a b : Bool} {xs ys : List ℕ} → s.next < 2 ^ 64 - 1 → s1.next ≤ s.next + 1 → Goes answer answers w s a xs w1 s1 b ys → Breaks answer answers s1.next w1 s1 b ys w2
+  pub lap_breaks : {w w1 w2 : World} {s s1 : Running W R F} {a b : Bool} {xs ys : List ℕ} → s.next < 2 ^ 64 - 1 → s1.next ≤ s.next + 1 → LoopGoes answer answers w s a xs w1 s1 b ys → Breaks answer answers s1.next w1 s1 b ys w2
       → MayCome 0 (s.next + 1) × Breaks answer answers (s.next + 1) w s a xs w2
   lap_breaks l e p q = lap_fails l (breaks_then e p q)
 
@@ -160,27 +160,27 @@ module _ {W R F : Type 0} (answer : PolledRequest F R → ℕ → Answer) (answe
       let more : spare + 0 + now.mail.empty_receives ≤ 1 + spare + 0 + now.mail.empty_receives = omega arith in
       ran_as now.mail refl refl refl more (λ looks events o. o) (λ c h. h) r
 
-  pub idles_goes : {w w1 : World} {s s1 : Running W R F} → Goes answer answers w s false [] w1 s1 false [] → Idles answer answers w s w1 s1
+  pub idles_goes : {w w1 : World} {s s1 : Running W R F} → LoopGoes answer answers w s false [] w1 s1 false [] → Idles answer answers w s w1 s1
   idles_goes a = record { over = a.over; goes = λ first start spare r. ran_spare (a.goes first start spare r) }
 
-  pub idles_then : {w w1 w2 : World} {s s1 s2 : Running W R F} → Goes answer answers w s false [] w1 s1 false [] → Goes answer answers w1 s1 false [] w2 s2 true [] → Idles answer answers w s w2 s2
+  pub idles_then : {w w1 w2 : World} {s s1 s2 : Running W R F} → LoopGoes answer answers w s false [] w1 s1 false [] → LoopGoes answer answers w1 s1 false [] w2 s2 true [] → Idles answer answers w s w2 s2
   idles_then a b = record { over = λ h. b.over (a.over h); goes = λ first start spare r. ran_rest (b.goes first start spare (a.goes first start spare r)) }
 
-  stopped_by : (end : DgramEnd) {w w1 : World} {s s1 : Running W R F} (w2 : World) (s2 : Running W R F) (count : ℕ) → Goes answer answers w s false [] w1 s1 false [] → Rounded answer answers false count (Some end) w1 s1 w2 s2 → Stopped answer answers end count w s w2 s2
+  stopped_by : (end : DgramEnd) {w w1 : World} {s s1 : Running W R F} (w2 : World) (s2 : Running W R F) (count : ℕ) → LoopGoes answer answers w s false [] w1 s1 false [] → Rounded answer answers false count (Some end) w1 s1 w2 s2 → Stopped answer answers end count w s w2 s2
   stopped_by Shutdown w2 s2 count a b = (idles_then a b.0, b.1)
   stopped_by Counted w2 s2 count a b = (idles_goes (goes_then a b.1), b.2)
   stopped_by Fault w2 s2 count a b = idles_then a b
   stopped_by OutOfMemory {s1 = s1} w2 s2 count a b = let l : s1.next + 1 ≤ s1.next + 1 = omega arith in record { most = s1.next + 1; may_come = b.0; breaks = breaks_then l a b.1 }
 
   -- the rounds end with one of them
-  pub stopped_at : (r : Option DgramEnd) (end : DgramEnd) {w w1 : World} {s s1 : Running W R F} (w2 : World) (s2 : Running W R F) (count : ℕ) → r ≡ Some end → Goes answer answers w s false [] w1 s1 false [] → Rounded answer answers false count r w1 s1 w2 s2 → Stopped answer answers end count w s w2 s2
+  pub stopped_at : (r : Option DgramEnd) (end : DgramEnd) {w w1 : World} {s s1 : Running W R F} (w2 : World) (s2 : Running W R F) (count : ℕ) → r ≡ Some end → LoopGoes answer answers w s false [] w1 s1 false [] → Rounded answer answers false count r w1 s1 w2 s2 → Stopped answer answers end count w s w2 s2
   stopped_at r end w2 s2 count e a b = stopped_by end w2 s2 count a (rw e at b)
 
   -- each is polled once more; the socket may have waited before that
-  pub finish_more : {w w1 w2 : World} {s s1 s2 : Running W R F} → Goes answer answers w s false [] w1 s1 false [] → Goes answer answers w1 s1 false (numbers_of s1.exchanges.items) w2 s2 false [] → Goes answer answers w s false [] w2 s2 false []
+  pub finish_more : {w w1 w2 : World} {s s1 s2 : Running W R F} → LoopGoes answer answers w s false [] w1 s1 false [] → LoopGoes answer answers w1 s1 false (numbers_of s1.exchanges.items) w2 s2 false [] → LoopGoes answer answers w s false [] w2 s2 false []
   finish_more {s1 = s1} a b = goes_then a (goes_then (goes_owing (numbers_of s1.exchanges.items)) b)
 
-  pub finish_fails : {w w1 w2 : World} {s s1 : Running W R F} → s1.next ≡ s.next → Goes answer answers w s false [] w1 s1 false [] → Breaks answer answers s1.next w1 s1 false (numbers_of s1.exchanges.items) w2 → Breaks answer answers s.next w s false [] w2
+  pub finish_fails : {w w1 w2 : World} {s s1 : Running W R F} → s1.next ≡ s.next → LoopGoes answer answers w s false [] w1 s1 false [] → Breaks answer answers s1.next w1 s1 false (numbers_of s1.exchanges.items) w2 → Breaks answer answers s.next w s false [] w2
   finish_fails {s1 = s1} e a b = polls_fail e (goes_then a (goes_owing (numbers_of s1.exchanges.items))) b
 
   pub idles_finish : {w w1 w2 : World} {s s1 s2 : Running W R F} → Idles answer answers w s w1 s1 → Finished answer answers w1 s1 w2 s2 → Idles answer answers w s w2 s2
@@ -197,5 +197,5 @@ module _ {W R F : Type 0} (answer : PolledRequest F R → ℕ → Answer) (answe
       → Idles answer answers w s w2 s2 × IsFull count s2.next × ((c : ℕ) → kept_at c s2.exchanges.items ≡ [])
   end_count e a b = (idles_finish a.0 b, rw e a.1, b.none)
 
-  pub finished_by : {w w1 : World} {s s1 : Running W R F} → deque_len s1.exchanges ≡ 0 → Goes answer answers w s false [] w1 s1 false [] → Finished answer answers w s w1 s1
+  pub finished_by : {w w1 : World} {s s1 : Running W R F} → deque_len s1.exchanges ≡ 0 → LoopGoes answer answers w s false [] w1 s1 false [] → Finished answer answers w s w1 s1
   finished_by {s1 = s1} h a = record { goes = a; none = λ c. rw (nil_from_length s1.exchanges.items (sym s1.exchanges.ok.0 ∙ h)) refl }

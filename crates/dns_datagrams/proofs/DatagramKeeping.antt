@@ -16,7 +16,7 @@ use Rattle.dns_client.specs.Spent.{is_spent, is_spent_in}
 use Rattle.dns_client.specs.Stands.{BeginsAs, SpentWith, IsExchange, TurnsAs, unless_done}
 use Rattle.dns_client.specs.declared.kept.KeptRequest.{KeptRequest}
 use Rattle.dns_datagrams.specs.DatagramsPolled.{is_finished}
-use Rattle.dns_datagrams.specs.DatagramSteps.{last_octets, letter_to, kept_under, IsKeptOf, Keeps, Turned, TurnedOne, Begun}
+use Rattle.dns_datagrams.specs.DatagramSteps.{last_octets, letter_to, kept_under, IsKeptOf, KeepsExchange, TurnedExchange, TurnedOne, Begun}
 use Rattle.dns_datagrams.specs.declared.running.KeptExchange.{KeptExchange}
 use Rattle.dns_datagrams.proofs.DatagramSlates.{exchange_stays}
 
@@ -46,21 +46,21 @@ module _ {W R F : Type 0} (answer : PolledRequest F R → ℕ → Answer) (answe
         left = λ e s k i n. record { is_exchange = rw n at (goes e s k i).1; addr_is = i.addr_is ∙ sym (stays e s k i).1; phase_is = (stays e s k i).0; unfinished = sym (finished e s k i) ∙ n };
       }
 
-  left_case : (done : Bool) (x : KeptExchange W R F) (s : Slate) → done ≡ is_finished s → (done ≡ false → IsKeptOf answer answers x s) → Keeps answer answers (if done then [] else x ∷ []) s
+  left_case : (done : Bool) (x : KeptExchange W R F) (s : Slate) → done ≡ is_finished s → (done ≡ false → IsKeptOf answer answers x s) → KeepsExchange answer answers (if done then [] else x ∷ []) s
   left_case true x s d l = sym d
   left_case false x s d l = l refl
 
   -- nothing stands behind it
-  keeps_first : (behind : List (KeptExchange W R F)) (x : KeptExchange W R F) (s : Slate) → Keeps answer answers (x ∷ behind) s → (behind ≡ []) × IsKeptOf answer answers x s
+  keeps_first : (behind : List (KeptExchange W R F)) (x : KeptExchange W R F) (s : Slate) → KeepsExchange answer answers (x ∷ behind) s → (behind ≡ []) × IsKeptOf answer answers x s
   keeps_first [] x s h = (refl, h)
   keeps_first (y ∷ ys) x s h = absurd h
 
-  keeps_behind : (behind xs : List (KeptExchange W R F)) (s : Slate) → behind ≡ [] → Keeps answer answers xs s → Keeps answer answers (behind ++ xs) s
+  keeps_behind : (behind xs : List (KeptExchange W R F)) (s : Slate) → behind ≡ [] → KeepsExchange answer answers xs s → KeepsExchange answer answers (behind ++ xs) s
   keeps_behind behind xs s b h = rw b h
 
   -- it is kept no more once it is finished
   pub turned_behind : (behind : List (KeptExchange W R F)) (old : KeptExchange W R F) (letter : Option Letter) (done : Bool) (new : KeptExchange W R F) → TurnedOne answer answers old letter done new
-      → Turned answer answers (old ∷ behind) letter (behind ++ (if done then [] else new ∷ []))
+      → TurnedExchange answer answers (old ∷ behind) letter (behind ++ (if done then [] else new ∷ []))
   turned_behind behind old letter done new t = record {
     leads = λ e s turn h.
         let k = keeps_first behind old s h in (
@@ -71,13 +71,13 @@ module _ {W R F : Type 0} (answer : PolledRequest F R → ℕ → Answer) (answe
 
   -- ---- the datagram
 
-  unkept : (old : List (KeptExchange W R F)) (s : Slate) → IsUnused s → Keeps answer answers old s → old ≡ []
+  unkept : (old : List (KeptExchange W R F)) (s : Slate) → IsUnused s → KeepsExchange answer answers old s → old ≡ []
   unkept [] s u h = refl
   unkept (x ∷ []) s u h = absurd (unused_not s u h.phase_is)
   unkept (x ∷ y ∷ xs) s u h = absurd h
 
   begun_case : (q : Option (KeptRequest F R)) (number : ℕ) (addr : SocketAddr) (old new : List (KeptExchange W R F)) (s : Slate) → not (is_some q) ≡ is_finished s → new ≡ old ++ kept_under number addr q → old ≡ []
-      → IsExchange answer answers number q s → addr ≡ s.addr → s.phase ≡ Exchange → Keeps answer answers new s
+      → IsExchange answer answers number q s → addr ≡ s.addr → s.phase ≡ Exchange → KeepsExchange answer answers new s
   begun_case None number addr old new s d n o h a p = rw (n, o) (sym d)
   begun_case (Some q) number addr old new s d n o h a p = rw (n, o) (record { is_exchange = h; addr_is = a; phase_is = p; unfinished = sym d })
 

@@ -6,39 +6,39 @@ use Rattle.dns_admission.specs.declared.look.Look.{Look}
 use Rattle.dns_service.specs.declared.event.Event.{Event}
 use Rattle.dns_notes.specs.Woven.{kinds, news_kinds, seen_with}
 use Rattle.dns_datagrams.specs.DatagramEvents.{IsOwnKind}
-use Rattle.dns_datagrams.specs.DatagramOrder.{Record, looked, acted, fault_events, events_of, looks_of, all_events_of, all_looks_of, IsFaultOf, AreInOrder}
+use Rattle.dns_datagrams.specs.DatagramOrder.{RecordedPart, looked, acted, fault_events, events_of, looks_of, all_events_of, all_looks_of, IsFaultOf, AreInOrder}
 use Rattle.dns_datagrams.specs.DatagramSteps.{hears}
 use Rattle.dns_datagrams.specs.DatagramLoop.{is_ready, seen_in, Ordered}
 
-events_snoc : (rs : List Record) (r : Record) → all_events_of (rs ++ r ∷ []) ≡ all_events_of rs ++ events_of r
+events_snoc : (rs : List RecordedPart) (r : RecordedPart) → all_events_of (rs ++ r ∷ []) ≡ all_events_of rs ++ events_of r
 events_snoc [] r = append-nil (events_of r)
 events_snoc (x ∷ rs) r = rw (events_snoc rs r) (simp append_assoc)
 
-looks_snoc : (rs : List Record) (r : Record) → all_looks_of (rs ++ r ∷ []) ≡ all_looks_of rs ++ looks_of r
+looks_snoc : (rs : List RecordedPart) (r : RecordedPart) → all_looks_of (rs ++ r ∷ []) ≡ all_looks_of rs ++ looks_of r
 looks_snoc [] r = append-nil (looks_of r)
 looks_snoc (x ∷ rs) r = rw (looks_snoc rs r) (simp append_assoc)
 
-order_looked : (before : Look) (ready : Bool) (rs : List Record) (look : Look) (es : List Event) → AreInOrder before ready rs → kinds es ≡ news_kinds (seen_in before rs) look → AreInOrder before ready (rs ++ looked look es ∷ [])
+order_looked : (before : Look) (ready : Bool) (rs : List RecordedPart) (look : Look) (es : List Event) → AreInOrder before ready rs → kinds es ≡ news_kinds (seen_in before rs) look → AreInOrder before ready (rs ++ looked look es ∷ [])
 order_looked before ready [] look es o k = (k, tt)
 order_looked before ready (looked l ns ∷ rs) look es o k = (o.0, order_looked (seen_with before l) true rs look es o.1 k)
 order_looked before ready (acted e f ∷ rs) look es o k = (o.0, o.1, o.2, order_looked before false rs look es o.3 k)
 
-order_acted : (before : Look) (ready : Bool) (rs : List Record) (e : Event) (f : Option Event) → AreInOrder before ready rs → is_ready ready rs ≡ true → IsOwnKind e.kind → IsFaultOf e f → AreInOrder before ready (rs ++ acted e f ∷ [])
+order_acted : (before : Look) (ready : Bool) (rs : List RecordedPart) (e : Event) (f : Option Event) → AreInOrder before ready rs → is_ready ready rs ≡ true → IsOwnKind e.kind → IsFaultOf e f → AreInOrder before ready (rs ++ acted e f ∷ [])
 order_acted before ready [] e f o r k i = (r, k, i, tt)
 order_acted before ready (looked l ns ∷ rs) e f o r k i = (o.0, order_acted (seen_with before l) true rs e f o.1 r k i)
 order_acted before ready (acted x g ∷ rs) e f o r k i = (o.0, o.1, o.2, order_acted before false rs e f o.3 r k i)
 
-ready_looked : (ready : Bool) (rs : List Record) (look : Look) (es : List Event) → is_ready ready (rs ++ looked look es ∷ []) ≡ true
+ready_looked : (ready : Bool) (rs : List RecordedPart) (look : Look) (es : List Event) → is_ready ready (rs ++ looked look es ∷ []) ≡ true
 ready_looked ready [] look es = refl
 ready_looked ready (looked l ns ∷ rs) look es = ready_looked true rs look es
 ready_looked ready (acted e f ∷ rs) look es = ready_looked false rs look es
 
-seen_looked : (before : Look) (rs : List Record) (look : Look) (es : List Event) → seen_in before (rs ++ looked look es ∷ []) ≡ seen_with (seen_in before rs) look
+seen_looked : (before : Look) (rs : List RecordedPart) (look : Look) (es : List Event) → seen_in before (rs ++ looked look es ∷ []) ≡ seen_with (seen_in before rs) look
 seen_looked before [] look es = refl
 seen_looked before (looked l ns ∷ rs) look es = seen_looked (seen_with before l) rs look es
 seen_looked before (acted e f ∷ rs) look es = seen_looked before rs look es
 
-seen_acted : (before : Look) (rs : List Record) (e : Event) (f : Option Event) → seen_in before (rs ++ acted e f ∷ []) ≡ seen_in before rs
+seen_acted : (before : Look) (rs : List RecordedPart) (e : Event) (f : Option Event) → seen_in before (rs ++ acted e f ∷ []) ≡ seen_in before rs
 seen_acted before [] e f = refl
 seen_acted before (looked l ns ∷ rs) e f = seen_acted (seen_with before l) rs e f
 seen_acted before (acted x g ∷ rs) e f = seen_acted before rs e f

@@ -19,7 +19,7 @@ use Rattle.dns_notes.specs.Notes.{AllWide}
 use Rattle.dns_datagrams.specs.DatagramEvents.{IsOwnKind, IsDatagramKind, AllDatagramKinds, letters_in, numbers_in}
 use Rattle.dns_datagrams.specs.DatagramOrder.{fault_events, IsFaultOf}
 use Rattle.dns_datagrams.specs.DatagramsPolled.{waits}
-use Rattle.dns_datagrams.specs.DatagramsSent.{is_fault, unless, count_if, fails_before, posted, all_addressed, letters_delivered, early_faults}
+use Rattle.dns_datagrams.specs.DatagramsSent.{is_fault, nothing_if, count_if, fails_before, posted, all_addressed, letters_delivered, early_faults}
 use Rattle.dns_datagrams.specs.DatagramsServed.{Input, Delivered}
 use Rattle.dns_datagrams.specs.DatagramSteps.{Posts}
 use Rattle.dns_datagrams.proofs.DatagramMembers.{kinds_more, gained_wide}
@@ -171,7 +171,7 @@ module _ (answers : Serving) (settings : Settings) where
   delivered_same q m m1 m2 a b s f o = record { sent = s ∙ o.sent; late = o.late; failed = o.failed; faults = o.faults; again = rw f o.again; rose = o.rose; early = o.early }
 
   letters_act : (q : List Event) (e : Event) (f : Option Event) → AllDatagramKinds q → OwnKind e.kind → IsFaultOf e f
-      → letters_delivered answers settings (q ++ e ∷ fault_events f) ≡ letters_delivered answers settings q ++ unless (is_some f) (posted answers settings q e)
+      → letters_delivered answers settings (q ++ e ∷ fault_events f) ≡ letters_delivered answers settings q ++ nothing_if (is_some f) (posted answers settings q e)
   letters_act q e None d k h = letters_more answers settings q e d k.plain k.no_fault
   letters_act q e (Some v) d k h = ap (letters_delivered answers settings) (append_two q e (v ∷ [])) ∙ (letters_lost answers settings q e v d k.plain k.no_fault h.0 h.1 ∙ sym (append-nil (letters_delivered answers settings q)))
 
@@ -184,10 +184,10 @@ module _ (answers : Serving) (settings : Settings) where
   pub delivered_act : (q : List Event) (e : Event) (f : Option Event) (letters : List Letter) (write late failed : ℕ) (m m1 m2 : Mail) (a b d : ℕ)
       → AllDatagramKinds q → OwnKind e.kind → IsFaultOf e f → posted answers settings q e ≡ letters → (conf settings q).dgram.write_timeout ≡ write
       → length (fault_events f) ≡ late + failed → count_if (fails_before (e.at + write) (fault_events f)) ≤ failed
-      → Posts (unless (is_some f) letters) m1 m2 → m1.full_sends + late ≤ m2.full_sends → min (b + failed) (2 ^ 64 - 1) ≤ d
+      → Posts (nothing_if (is_some f) letters) m1 m2 → m1.full_sends + late ≤ m2.full_sends → min (b + failed) (2 ^ 64 - 1) ≤ d
       → Delivered answers settings q m m1 a b → Delivered answers settings (q ++ e ∷ fault_events f) m m2 a d
   delivered_act q e f letters write late failed m m1 m2 a b d plain k h p w one early posts again rose o = record {
-    sent = posts.sent ∙ rw (o.sent, letters_act q e f plain k h, p) (append_assoc m.sent (letters_delivered answers settings q) (unless (is_some f) letters));
+    sent = posts.sent ∙ rw (o.sent, letters_act q e f plain k h, p) (append_assoc m.sent (letters_delivered answers settings q) (nothing_if (is_some f) letters));
     late = o.late + late;
     failed = o.failed + failed;
     faults = faults_act q e f k.no_fault h ∙ (let x = o.faults in omega arith);

@@ -11,7 +11,7 @@ use Rattle.dns_book.specs.declared.book.BookSeat.{BookSeat}
 use Rattle.dns_book.specs.declared.history.Known.{Known}
 use Rattle.dns_datagrams.specs.DatagramsServed.{LooksBy, RoseIf}
 use Rattle.dns_datagrams.specs.DatagramSteps.{SendsRose, hears}
-use Rattle.dns_datagrams.specs.DatagramLoop.{Passes}
+use Rattle.dns_datagrams.specs.DatagramLoop.{PassesOn}
 use Rattle.dns_datagrams.specs.declared.serving.DgramEnd.{DgramEnd}
 use Rattle.dns_datagrams.specs.declared.serving.DgramEnd.TheVariants.{Shutdown}
 use Rattle.dns_datagrams.specs.declared.running.Running.{Running}
@@ -50,7 +50,7 @@ shown_then false false false w h g = g
 
 module _ {W R F : Type 0} where
   -- nothing was heard
-  pub passes_kept : (s s' : Running W R F) (f f' : ℕ) → s'.heard ≡ s.heard → s'.seat ≡ s.seat → f ≤ f' → SendsRose s.send_failed s'.send_failed f f' → Passes s s' f f'
+  pub passes_kept : (s s' : Running W R F) (f f' : ℕ) → s'.heard ≡ s.heard → s'.seat ≡ s.seat → f ≤ f' → SendsRose s.send_failed s'.send_failed f f' → PassesOn s s' f f'
   passes_kept s s' f f' h q l r = record {
     looks = [];
     made = rw q (looks_none s.seat.known);
@@ -61,11 +61,11 @@ module _ {W R F : Type 0} where
     rose = r;
   }
 
-  pub passes_same : (s : Running W R F) (f : ℕ) → Passes s s f f
+  pub passes_same : (s : Running W R F) (f : ℕ) → PassesOn s s f f
   passes_same s f = passes_kept s s f f refl refl (omega arith) (inl (refl, refl))
 
   -- a look
-  pub passes_look : (s s' : Running W R F) (f : ℕ) (look : Look) → Called s.seat.known ToLook (Shown look) s'.seat.known → s'.seat.book ≡ s.seat.book → s'.heard ≡ hears s.heard look → s'.send_failed ≡ s.send_failed → Passes s s' f f
+  pub passes_look : (s s' : Running W R F) (f : ℕ) (look : Look) → Called s.seat.known ToLook (Shown look) s'.seat.known → s'.seat.book ≡ s.seat.book → s'.heard ≡ hears s.heard look → s'.send_failed ≡ s.send_failed → PassesOn s s' f f
   passes_look s s' f look c q h r =
       let closed : s'.heard.closed ≡ (s.heard.closed || look.closed) = ap (λ (m : Look). m.closed) h ∙ hears_closed s.heard look in record {
         looks = look ∷ [];
@@ -78,7 +78,7 @@ module _ {W R F : Type 0} where
       }
 
   -- a look whose news weren't noted
-  pub passes_unheard : (s s' : Running W R F) (f : ℕ) (look : Look) → Called s.seat.known ToLook (Shown look) s'.seat.known → s'.seat.book ≡ s.seat.book → s'.heard ≡ s.heard → s'.send_failed ≡ s.send_failed → Passes s s' f f
+  pub passes_unheard : (s s' : Running W R F) (f : ℕ) (look : Look) → Called s.seat.known ToLook (Shown look) s'.seat.known → s'.seat.book ≡ s.seat.book → s'.heard ≡ s.heard → s'.send_failed ≡ s.send_failed → PassesOn s s' f f
   passes_unheard s s' f look c q h r =
       let closed : s'.heard.closed ≡ s.heard.closed = ap (λ (m : Look). m.closed) h in record {
         looks = look ∷ [];
@@ -91,11 +91,11 @@ module _ {W R F : Type 0} where
       }
 
   pub passes_news : {E : Type 0} (s s' : Running W R F) (f : ℕ) (look : Look) (r : Result (Unit {0}) E) → OnOk r (s'.heard ≡ hears s.heard look) → OnErr r (s'.heard ≡ s.heard) → Called s.seat.known ToLook (Shown look) s'.seat.known
-      → s'.seat.book ≡ s.seat.book → s'.send_failed ≡ s.send_failed → Passes s s' f f
+      → s'.seat.book ≡ s.seat.book → s'.send_failed ≡ s.send_failed → PassesOn s s' f f
   passes_news s s' f look (Ok u) h g c q r = passes_look s s' f look c q h r
   passes_news s s' f look (Err e) h g c q r = passes_unheard s s' f look c q g r
 
-  pub passes_then : (s s1 s2 : Running W R F) (f f1 f2 : ℕ) → Passes s s1 f f1 → Passes s1 s2 f1 f2 → Passes s s2 f f2
+  pub passes_then : (s s1 s2 : Running W R F) (f f1 f2 : ℕ) → PassesOn s s1 f f1 → PassesOn s1 s2 f1 f2 → PassesOn s s2 f f2
   passes_then s s1 s2 f f1 f2 a b = record {
     looks = a.looks ++ b.looks;
     made = looks_then s.seat.known s1.seat.known s2.seat.known a.looks b.looks a.made b.made;
@@ -109,7 +109,7 @@ module _ {W R F : Type 0} where
 
   -- from the first look on
   pub passes_first : (end : DgramEnd) (first : Look) (k : Known) (s s' : Running W R F) (f f' : ℕ) → Called k ToLook (Shown first) s.seat.known → s.heard ≡ hears (record first { closed = false }) first
-      → Passes s s' f f' → (end ≡ Shutdown → s'.heard.closed ≡ true) → LooksBy end k s'.seat.known
+      → PassesOn s s' f f' → (end ≡ Shutdown → s'.heard.closed ≡ true) → LooksBy end k s'.seat.known
   passes_first end first k s s' f f' c h p over =
       let closed : s.heard.closed ≡ first.closed = ap (λ (m : Look). m.closed) h ∙ hears_closed (record first { closed = false }) first in record {
         looks = first ∷ p.looks;

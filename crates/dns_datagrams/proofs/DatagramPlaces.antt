@@ -9,7 +9,7 @@ use Rattle.dns_service.specs.Answer.{Answer}
 use Rattle.dns_service.specs.declared.polled.PolledRequest.{PolledRequest}
 use Rattle.dns_client.specs.Serving.{Serving}
 use Rattle.dns_client.specs.declared.kept.KeptRequest.{KeptRequest}
-use Rattle.dns_datagrams.specs.DatagramSteps.{Turned, TurnedOne, TurnedFirst, IsFirstNumber, StandFirst, gone_behind, numbers_of, kept_at, kept_under}
+use Rattle.dns_datagrams.specs.DatagramSteps.{TurnedExchange, TurnedOne, TurnedFirst, IsFirstNumber, StandFirst, gone_behind, numbers_of, kept_at, kept_under}
 use Rattle.dns_datagrams.specs.declared.running.KeptExchange.{KeptExchange}
 use Rattle.dns_datagrams.proofs.DatagramKeeping.{turned_behind}
 
@@ -126,7 +126,7 @@ module _ {W R F : Type 0} (answer : PolledRequest F R → ℕ → Answer) where
     turned_kept : (c : ℕ) → kept_at c new ≡ kept_at c t.behind ++ kept_at c (rest t.now done)
     turned_kept c = rw left (kept_more c t.behind (rest t.now done))
 
-    pub turned_here : (c : ℕ) (answers : Serving) → IsFirstNumber c old → Turned answer answers (kept_at c old) letter (kept_at c new)
+    pub turned_here : (c : ℕ) (answers : Serving) → IsFirstNumber c old → TurnedExchange answer answers (kept_at c old) letter (kept_at c new)
     turned_here c answers is =
         let n = turned_number c is in
         let a : kept_at c old ≡ t.was ∷ kept_at c t.behind = rw t.old_is (kept_here c t.was t.behind n) in

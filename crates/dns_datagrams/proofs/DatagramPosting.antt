@@ -9,7 +9,7 @@ use Rattle.dns_service.specs.declared.event.EventKind.TheVariants.{Fault}
 use Rattle.dns_notes.specs.Clocks.{ClockReading}
 use Rattle.dns_datagrams.specs.DatagramsSent.{count_if, fails_before}
 use Rattle.dns_datagrams.specs.declared.notes.Stamp.{Stamp}
-use Rattle.dns_datagrams.specs.DatagramSteps.{Stamped, Posts, SentSo, LateSo, Sends, Unsent}
+use Rattle.dns_datagrams.specs.DatagramSteps.{Stamped, Posts, SentSo, LateSo, SendsOrFaults, Unsent}
 use Rattle.dns_datagrams.proofs.DatagramClocks.{clocked_then, clocked_one, clocked_waited, clocked_late}
 
 pub sent_none : (m : Mail) (c : List ClockReading) → SentSo [] m m c c
@@ -53,7 +53,7 @@ sent_failed m m1 m2 c c1 s e = rw e s
 
 -- ---- what an event led to
 
-pub sends_whole : (e : Stamp) (ls : List Letter) (write : ℕ) (n : List Event) (m m' : Mail) (f f' : ℕ) (c c' : List ClockReading) → SentSo ls m m' c c' → f' ≡ f → Sends e ls write n n m m' f f' c c'
+pub sends_whole : (e : Stamp) (ls : List Letter) (write : ℕ) (n : List Event) (m m' : Mail) (f f' : ℕ) (c c' : List ClockReading) → SentSo ls m m' c c' → f' ≡ f → SendsOrFaults e ls write n n m m' f f' c c'
 sends_whole e ls write n m m' f f' c c' s g = record {
   fault = None;
   late = 0;
@@ -76,7 +76,7 @@ at_most_one true = omega arith
 at_most_one false = omega arith
 
 pub sends_late : (e : Stamp) (v : Event) (ls : List Letter) (write : ℕ) (n n' : List Event) (m m' : Mail) (f f' : ℕ) (c c' : List ClockReading) → v.kind ≡ Fault → v.client ≡ e.client → LateSo v.at v.secs e.at write m m' c c' → n' ≡ n ++ v ∷ [] → f' ≡ f
-    → Sends e ls write n n' m m' f f' c c'
+    → SendsOrFaults e ls write n n' m m' f f' c c'
 sends_late e v ls write n n' m m' f f' c c' k i s h g = record {
   fault = Some v;
   late = 1;
@@ -92,7 +92,7 @@ sends_late e v ls write n n' m m' f f' c c' k i s h g = record {
 }
 
 pub sends_failed : (e : Stamp) (v : Event) (ls : List Letter) (write : ℕ) (n n' : List Event) (m m' : Mail) (f f' : ℕ) (c c1 c' : List ClockReading) → v.kind ≡ Fault → v.client ≡ e.client → SentSo [] m m' c c1 → Stamped v n n' c1 c' → Rose f f'
-    → Sends e ls write n n' m m' f f' c c'
+    → SendsOrFaults e ls write n n' m m' f f' c c'
 sends_failed e v ls write n n' m m' f f' c c1 c' k i s h g = record {
   fault = Some v;
   late = 0;

@@ -15,10 +15,10 @@ use Rattle.dns_notes.specs.Clocks.{ClockReading}
 use Rattle.dns_datagrams.specs.DatagramEvents.{IsOwnKind, AllDatagramKinds, WideAreNobodys, letters_in, cut_letters, numbers_in, numbers_below}
 use Rattle.dns_datagrams.specs.DatagramOrder.{fault_events, IsFaultOf}
 use Rattle.dns_datagrams.specs.DatagramsPolled.{waits}
-use Rattle.dns_datagrams.specs.DatagramsSent.{settings_of, posted, letters_delivered}
+use Rattle.dns_datagrams.specs.DatagramsSent.{settings_shown, posted, letters_delivered}
 use Rattle.dns_datagrams.specs.DatagramsServed.{World, world, LooksOnly, Input, CutOff, MayCome}
-use Rattle.dns_datagrams.specs.DatagramSteps.{stamp_of, hears, NewsNoted, Stamped, Sends}
-use Rattle.dns_datagrams.specs.DatagramLoop.{Among, Serves, Ran}
+use Rattle.dns_datagrams.specs.DatagramSteps.{stamp_of, hears, NewsNoted, Stamped, SendsOrFaults}
+use Rattle.dns_datagrams.specs.DatagramLoop.{Among, ServesExchanges, Ran}
 use Rattle.dns_datagrams.specs.declared.running.Running.{Running}
 use Rattle.dns_datagrams.proofs.DatagramClocks.{clocked_then, clocked_one, clocked_any}
 use Rattle.dns_datagrams.proofs.DatagramMembers.{kinds_more}
@@ -39,7 +39,7 @@ module _ {W R F : Type 0} (answer : PolledRequest F R → ℕ → Answer) (answe
       → NewsNoted s.heard look n n' c c' → LooksOnly k (look ∷ []) k'
       → Ran answer answers first start (world n m f c k) s false owed spare → Ran answer answers first start (world n' m f c' k') (record s { heard = hears s.heard look; seat = seat }) true owed spare
   ran_look first start n n' m f c c' k k' s seat owed spare look x l r =
-      let settings = settings_of first in
+      let settings = settings_shown first in
       let wide = news_wide s.heard look x.events x.news in
       let quiet = all_wide_quiet x.events wide in
       let serves = serves_news answer answers settings r.events s look x.events r.plain x.news r.serves in record {
@@ -59,7 +59,7 @@ module _ {W R F : Type 0} (answer : PolledRequest F R → ℕ → Answer) (answe
       }
 
   -- the exchanges after an own event and the Fault of its exchange, if there is one
-  serves_lost : (settings : Settings) (q : List Event) (e : Event) (f : Option Event) (s : Running W R F) → AllDatagramKinds q → IsFaultOf e f → Serves answer answers settings q s → Serves answer answers settings (q ++ fault_events f) s
+  serves_lost : (settings : Settings) (q : List Event) (e : Event) (f : Option Event) (s : Running W R F) → AllDatagramKinds q → IsFaultOf e f → ServesExchanges answer answers settings q s → ServesExchanges answer answers settings (q ++ fault_events f) s
   serves_lost settings q e f s d h x = record {
     each = λ c. rw (slate_lost answers settings c q e f d h) (x.each c);
     unused = λ c l. rw (slate_lost answers settings c q e f d h) (x.unused c l);
@@ -69,16 +69,16 @@ module _ {W R F : Type 0} (answer : PolledRequest F R → ℕ → Answer) (answe
   -- an own event, and what was sent for it
   pub ran_act : (first : Look) (start : World) (n n1 n' : List Event) (m m1 m' : Mail) (f f' : ℕ) (c c1 c' : List ClockReading) (k : Known) (s : Running W R F) (owed owed' : List ℕ) (spare : ℕ)
       (e : Event) (letters : List Letter) (exchanges : TypeOf s.exchanges) (next : ℕ) (send_failed : Bool)
-      → IsOwnKind e.kind → Stamped e n n1 c c1 → Sends (stamp_of e) letters s.heard.dgram.write_timeout n1 n' m1 m' f f' c1 c'
+      → IsOwnKind e.kind → Stamped e n n1 c c1 → SendsOrFaults (stamp_of e) letters s.heard.dgram.write_timeout n1 n' m1 m' f f' c1 c'
       → m1.sent ≡ m.sent → m1.full_sends ≡ m.full_sends
       → (r : Ran answer answers first start (world n m f c k) s true owed spare)
-      → posted answers (settings_of first) r.events e ≡ letters
-      → Input answers (settings_of first) (r.events ++ e ∷ []) (first ∷ r.looks) (spare + 0) next start.mail m1
-      → ((d : ℕ) → waits answers (settings_of first) d (r.events ++ e ∷ []) ≡ true → Among d owed')
-      → Serves answer answers (settings_of first) (r.events ++ e ∷ []) (record s { exchanges = exchanges; next = next })
+      → posted answers (settings_shown first) r.events e ≡ letters
+      → Input answers (settings_shown first) (r.events ++ e ∷ []) (first ∷ r.looks) (spare + 0) next start.mail m1
+      → ((d : ℕ) → waits answers (settings_shown first) d (r.events ++ e ∷ []) ≡ true → Among d owed')
+      → ServesExchanges answer answers (settings_shown first) (r.events ++ e ∷ []) (record s { exchanges = exchanges; next = next })
       → Ran answer answers first start (world n' m' f' c' k) (record s { exchanges = exchanges; next = next; send_failed = send_failed }) false owed' spare
   ran_act first start n n1 n' m m1 m' f f' c c1 c' k s owed owed' spare e letters exchanges next send_failed own t x sent full r p i wait serves =
-      let settings = settings_of first in
+      let settings = settings_shown first in
       let kind = own_kind e.kind own in
       let lost = x.is_fault_of e refl in
       let q1 = r.events ++ e ∷ [] in
@@ -118,7 +118,7 @@ module _ {W R F : Type 0} (answer : PolledRequest F R → ℕ → Answer) (answe
     came = came;
     unrecorded = unrecorded;
     number = number;
-    letters = letters_delivered answers (settings_of first) r.events;
+    letters = letters_delivered answers (settings_shown first) r.events;
     noted = noted_more start.noted n n' r.events es r.noted h;
     seat = looks_then start.known k k' (first ∷ r.looks) ls r.seat l;
     received = received;
@@ -127,5 +127,5 @@ module _ {W R F : Type 0} (answer : PolledRequest F R → ℕ → Answer) (answe
     numbered = numbered;
     nobodys = nobodys_append r.events es r.nobodys nobodys;
     sent = sent ∙ r.output.sent;
-    part = letters_part_list answers (settings_of first) (letters_delivered answers (settings_of first) r.events) r.events es r.plain plain (letters_part answers (settings_of first) r.events);
+    part = letters_part_list answers (settings_shown first) (letters_delivered answers (settings_shown first) r.events) r.events es r.plain plain (letters_part answers (settings_shown first) r.events);
   }

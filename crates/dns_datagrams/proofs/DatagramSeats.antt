@@ -4,7 +4,7 @@ use Rattle.dns_admission.specs.declared.look.Look.{Look}
 use Rattle.dns_admission.specs.declared.call.Call.TheVariants.{Look as ToLook}
 use Rattle.dns_admission.specs.declared.call.Reply.TheVariants.{Look as Shown}
 use Rattle.dns_book.specs.Gains.{with_calls}
-use Rattle.dns_book.specs.History.{Name, Begins, entry}
+use Rattle.dns_book.specs.History.{SeatName, Begins, entry}
 use Rattle.dns_book.specs.Seats.{Called}
 use Rattle.dns_book.specs.declared.history.Entry.{Entry}
 use Rattle.dns_book.specs.declared.history.Known.{Known}
@@ -12,7 +12,7 @@ use Rattle.dns_book.specs.declared.history.Share.{Share}
 use Rattle.dns_notes.specs.Woven.{look_entries}
 use Rattle.dns_datagrams.specs.DatagramsServed.{LooksOnly, OnlyLooks}
 
-entries_append : (name : Name) (ls ms : List Look) → look_entries name (ls ++ ms) ≡ look_entries name ls ++ look_entries name ms
+entries_append : (name : SeatName) (ls ms : List Look) → look_entries name (ls ++ ms) ≡ look_entries name ls ++ look_entries name ms
 entries_append name [] ms = refl
 entries_append name (l ∷ ls) ms = ap (λ es. entry name ToLook (Shown l) ∷ es) (entries_append name ls ms)
 

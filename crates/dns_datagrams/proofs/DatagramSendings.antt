@@ -16,7 +16,7 @@ use Rattle.dns_notes.specs.Sent.{conf, slate}
 use Rattle.dns_notes.specs.Out.{is_unused, gained, out, out_after}
 use Rattle.dns_notes.specs.Clocks.{fault_count, faults_in}
 use Rattle.dns_datagrams.specs.DatagramEvents.{IsDatagramKind, AllDatagramKinds}
-use Rattle.dns_datagrams.specs.DatagramsSent.{is_fault, fails_next, fails_before, unless, count_if, IsPart, addressed, all_addressed, posted, delivered, delivered_after, letters_delivered, early_faults, early_faults_after}
+use Rattle.dns_datagrams.specs.DatagramsSent.{is_fault, fails_next, fails_before, nothing_if, count_if, IsPart, addressed, all_addressed, posted, delivered, delivered_after, letters_delivered, early_faults, early_faults_after}
 use Rattle.dns_datagrams.proofs.DatagramSlates.{IsPost}
 use Rattle.dns_datagrams.proofs.DatagramMembers.{kinds_more, took, unused, used_exchange, stays, slate_own, gained_is, gained_posts}
 
@@ -30,7 +30,7 @@ pub part_same : {X : Type 0} (ys : List X) → IsPart ys ys
 part_same [] = refl
 part_same (y ∷ ys) = inr (ys, refl, part_same ys)
 
-part_unless : {X : Type 0} (b : Bool) (ys : List X) → IsPart (unless b ys) ys
+part_unless : {X : Type 0} (b : Bool) (ys : List X) → IsPart (nothing_if b ys) ys
 part_unless true ys = part_none ys
 part_unless false ys = part_same ys
 
@@ -97,7 +97,7 @@ module _ (answers : Serving) (settings : Settings) where
   part_after : (p q : List Event) → IsPart (delivered_after answers settings p q) (out_after answers settings p q)
   part_after p [] = refl
   part_after p (x ∷ q) =
-      part_append (unless (fails_next x.client q) (gained answers settings p x)) (gained answers settings p x) (delivered_after answers settings (p ++ x ∷ []) q) (out_after answers settings (p ++ x ∷ []) q)
+      part_append (nothing_if (fails_next x.client q) (gained answers settings p x)) (gained answers settings p x) (delivered_after answers settings (p ++ x ∷ []) q) (out_after answers settings (p ++ x ∷ []) q)
       (part_unless (fails_next x.client q) (gained answers settings p x)) (part_after (p ++ x ∷ []) q)
 
   -- they are a part of all

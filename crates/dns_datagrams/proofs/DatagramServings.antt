@@ -26,8 +26,8 @@ use Rattle.dns_notes.specs.Notes.{AllWide}
 use Rattle.dns_notes.specs.Woven.{kinds, news_kinds}
 use Rattle.dns_datagrams.specs.DatagramEvents.{IsDatagramKind, AllDatagramKinds}
 use Rattle.dns_datagrams.specs.DatagramsSent.{all_addressed, posted}
-use Rattle.dns_datagrams.specs.DatagramSteps.{hears, last_octets, letter_to, listed, Keeps, Leads, Turned, Begun, kept_at}
-use Rattle.dns_datagrams.specs.DatagramLoop.{Serves}
+use Rattle.dns_datagrams.specs.DatagramSteps.{hears, last_octets, letter_to, one_or_none, KeepsExchange, ExchangeLeads, TurnedExchange, Begun, kept_at}
+use Rattle.dns_datagrams.specs.DatagramLoop.{ServesExchanges}
 use Rattle.dns_datagrams.specs.declared.running.KeptExchange.{KeptExchange}
 use Rattle.dns_datagrams.specs.declared.running.Running.{Running}
 use Rattle.dns_datagrams.proofs.DatagramSlates.{IsPost, IsPlainIn, plain_slate}
@@ -36,7 +36,7 @@ use Rattle.dns_datagrams.proofs.DatagramMembers.{kinds_more, conf_more, took, sl
 -- ---- the letter that an event adds
 
 module _ (answers : Serving) (settings : Settings) where
-  post_letter : (q : List Event) (c : ℕ) (os : List Output) (addr : SocketAddr) → IsPost c os → (slate answers settings c q).addr ≡ addr → all_addressed answers settings q os ≡ listed (letter_to (last_octets os) addr)
+  post_letter : (q : List Event) (c : ℕ) (os : List Output) (addr : SocketAddr) → IsPost c os → (slate answers settings c q).addr ≡ addr → all_addressed answers settings q os ≡ one_or_none (letter_to (last_octets os) addr)
   post_letter q c [] addr p h = refl
   post_letter q c (output.Datagram d octets ∷ []) addr p h = rw (p, h) refl
   post_letter q c (output.Datagram d octets ∷ x ∷ os) addr p h = absurd p
@@ -46,11 +46,11 @@ module _ (answers : Serving) (settings : Settings) where
 
   -- it goes to the address that the slate has after it
   pub posted_is : (q : List Event) (e : Event) → AllDatagramKinds q → IsDatagramKind e.kind
-      → posted answers settings q e ≡ listed (letter_to (last_octets (rule answers e (slate answers settings e.client q)).1) (rule answers e (slate answers settings e.client q)).0.addr)
+      → posted answers settings q e ≡ one_or_none (letter_to (last_octets (rule answers e (slate answers settings e.client q)).1) (rule answers e (slate answers settings e.client q)).0.addr)
   posted_is q e d k =
       post_letter (q ++ e ∷ []) e.client (gained answers settings q e) (rule answers e (slate answers settings e.client q)).0.addr (gained_posts answers settings q e d k)
       (ap (λ (s : Slate). s.addr) (slate_own answers settings e.client q e refl))
-      ∙ ap (λ (os : List Output). listed (letter_to (last_octets os) (rule answers e (slate answers settings e.client q)).0.addr)) (gained_is answers settings q e d k)
+      ∙ ap (λ (os : List Output). one_or_none (letter_to (last_octets os) (rule answers e (slate answers settings e.client q)).0.addr)) (gained_is answers settings q e d k)
 
 -- ---- events that all clients hear, and the news of a look
 
@@ -139,7 +139,7 @@ TypeOf {X} x = X
 -- ---- what is kept, under other configurations
 
 module _ {W R F : Type 0} (answer : PolledRequest F R → ℕ → Answer) (answers : Serving) where
-  keeps_conf : (x : List (KeptExchange W R F)) (k : Conf) (s : Slate) → Keeps answer answers x s → Keeps answer answers x (with_conf k s)
+  keeps_conf : (x : List (KeptExchange W R F)) (k : Conf) (s : Slate) → KeepsExchange answer answers x s → KeepsExchange answer answers x (with_conf k s)
   keeps_conf [] k s h = h
   keeps_conf (x ∷ y ∷ xs) k s h = absurd h
   keeps_conf (x ∷ []) k s h = record {
@@ -154,7 +154,7 @@ module _ {W R F : Type 0} (answer : PolledRequest F R → ℕ → Answer) (answe
   module _ (settings : Settings) where
     -- the same of the slates alone
     pub record ServesAt (q : List Event) (exchanges : List (KeptExchange W R F)) (next : ℕ) (k : Conf) : Type 0 where
-      pub each : (c : ℕ) → Keeps answer answers (kept_at c exchanges) (slate answers settings c q)
+      pub each : (c : ℕ) → KeepsExchange answer answers (kept_at c exchanges) (slate answers settings c q)
       pub unused : (c : ℕ) → next ≤ c → (slate answers settings c q).phase ≡ Unused
       pub heard : conf settings q ≡ k
 
@@ -172,7 +172,7 @@ module _ {W R F : Type 0} (answer : PolledRequest F R → ℕ → Answer) (answe
         (wide_all es (q ++ e ∷ []) m n (conf_rule e.kind k) (kinds_more q e d (wide_plain e.kind w.0)) w.1 (wide_more q e m n k d (wide_plain e.kind w.0) w.0 s))
 
     -- they change the configurations that were heard, and nothing of what is kept
-    pub serves_news : (q : List Event) (s : Running W R F) (look : Look) (es : List Event) → AllDatagramKinds q → kinds es ≡ news_kinds s.heard look → Serves answer answers settings q s → Serves answer answers settings (q ++ es) (record s { heard = hears s.heard look })
+    pub serves_news : (q : List Event) (s : Running W R F) (look : Look) (es : List Event) → AllDatagramKinds q → kinds es ≡ news_kinds s.heard look → ServesExchanges answer answers settings q s → ServesExchanges answer answers settings (q ++ es) (record s { heard = hears s.heard look })
     serves_news q s look es d h serves =
         let ns = news s.heard.version s.heard.closed look in
         let a = wide_all es q s.exchanges.items s.next (conf_of s.heard) d (news_wide s.heard look es h) (record { each = serves.each; unused = serves.unused; heard = serves.heard }) in
@@ -186,11 +186,11 @@ module _ {W R F : Type 0} (answer : PolledRequest F R → ℕ → Answer) (answe
 
     -- a Turn
     pub serves_turn : (q : List Event) (s : Running W R F) (e : Event) (letter : Option Letter) (m : TypeOf s.exchanges) → AllDatagramKinds q → e.kind ≡ Turn 0
-        → Turned answer answers (kept_at e.client s.exchanges.items) letter (kept_at e.client m.items) → ((c : ℕ) → c ≢ e.client → kept_at c m.items ≡ kept_at c s.exchanges.items)
-        → Serves answer answers settings q s → Serves answer answers settings (q ++ e ∷ []) (record s { exchanges = m })
+        → TurnedExchange answer answers (kept_at e.client s.exchanges.items) letter (kept_at e.client m.items) → ((c : ℕ) → c ≢ e.client → kept_at c m.items ≡ kept_at c s.exchanges.items)
+        → ServesExchanges answer answers settings q s → ServesExchanges answer answers settings (q ++ e ∷ []) (record s { exchanges = m })
     serves_turn q s e letter m d h t others serves = record {
       each = λ c. (elim (eqb_tells e.client c) [
-        | inl x ↦ subst (λ (n : ℕ). Keeps answer answers (kept_at n m.items) (slate answers settings n (q ++ e ∷ []))) x.1
+        | inl x ↦ subst (λ (n : ℕ). KeepsExchange answer answers (kept_at n m.items) (slate answers settings n (q ++ e ∷ []))) x.1
             (rw (slate_own answers settings e.client q e refl) (t.leads e (slate answers settings e.client q) h (serves.each e.client)).1)
         | inr x ↦ rw (slate_other answers settings c q e (rw h refl) x.1, others c (λ (y : c ≡ e.client). x.1 (sym y))) (serves.each c)
       ]);
@@ -202,14 +202,14 @@ module _ {W R F : Type 0} (answer : PolledRequest F R → ℕ → Answer) (answe
     }
 
     pub posted_turn : (q : List Event) (s : Running W R F) (e : Event) (letter : Option Letter) (new : List (KeptExchange W R F)) → AllDatagramKinds q → e.kind ≡ Turn 0
-        → Turned answer answers (kept_at e.client s.exchanges.items) letter new → Serves answer answers settings q s → posted answers settings q e ≡ listed letter
+        → TurnedExchange answer answers (kept_at e.client s.exchanges.items) letter new → ServesExchanges answer answers settings q s → posted answers settings q e ≡ one_or_none letter
     posted_turn q s e letter new d h t serves =
-        posted_is answers settings q e d (rw h refl) ∙ ap (λ (l : Option Letter). listed l) (sym (t.leads e (slate answers settings e.client q) h (serves.each e.client)).0)
+        posted_is answers settings q e d (rw h refl) ∙ ap (λ (l : Option Letter). one_or_none l) (sym (t.leads e (slate answers settings e.client q) h (serves.each e.client)).0)
 
     -- a Datagram under the next number
     begun_at : (q : List Event) (s : Running W R F) (e : Event) (addr : SocketAddr) (octets : List ℕ) (letter : Option Letter) (new : List (KeptExchange W R F)) → AllDatagramKinds q → e.kind ≡ Datagram addr octets → e.client ≡ s.next
-        → s.heard.closed ≡ false → Begun answer answers s.heard e addr octets (kept_at e.client s.exchanges.items) letter new → Serves answer answers settings q s
-        → Leads answer answers (kept_at e.client s.exchanges.items) letter new (slate answers settings e.client q) (rule answers e (slate answers settings e.client q))
+        → s.heard.closed ≡ false → Begun answer answers s.heard e addr octets (kept_at e.client s.exchanges.items) letter new → ServesExchanges answer answers settings q s
+        → ExchangeLeads answer answers (kept_at e.client s.exchanges.items) letter new (slate answers settings e.client q) (rule answers e (slate answers settings e.client q))
     begun_at q s e addr octets letter new d h n running b serves =
         let z = slate answers settings e.client q in
         let u : z.phase ≡ Unused = serves.unused e.client (rw n (omega arith)) in
@@ -219,12 +219,12 @@ module _ {W R F : Type 0} (answer : PolledRequest F R → ℕ → Answer) (answe
 
     pub serves_datagram : (q : List Event) (s : Running W R F) (e : Event) (addr : SocketAddr) (octets : List ℕ) (letter : Option Letter) (m : TypeOf s.exchanges) → AllDatagramKinds q → e.kind ≡ Datagram addr octets → e.client ≡ s.next
         → s.heard.closed ≡ false → Begun answer answers s.heard e addr octets (kept_at e.client s.exchanges.items) letter (kept_at e.client m.items) → ((c : ℕ) → c ≢ e.client → kept_at c m.items ≡ kept_at c s.exchanges.items)
-        → Serves answer answers settings q s → Serves answer answers settings (q ++ e ∷ []) (record s { exchanges = m; next = s.next + 1 })
+        → ServesExchanges answer answers settings q s → ServesExchanges answer answers settings (q ++ e ∷ []) (record s { exchanges = m; next = s.next + 1 })
     serves_datagram q s e addr octets letter m d h n running b others serves =
         let l = begun_at q s e addr octets letter (kept_at e.client m.items) d h n running b serves in
         record {
           each = λ c. (elim (eqb_tells e.client c) [
-            | inl x ↦ subst (λ (i : ℕ). Keeps answer answers (kept_at i m.items) (slate answers settings i (q ++ e ∷ []))) x.1 (rw (slate_own answers settings e.client q e refl) (l (serves.each e.client)).1)
+            | inl x ↦ subst (λ (i : ℕ). KeepsExchange answer answers (kept_at i m.items) (slate answers settings i (q ++ e ∷ []))) x.1 (rw (slate_own answers settings e.client q e refl) (l (serves.each e.client)).1)
             | inr x ↦ rw (slate_other answers settings c q e (rw h refl) x.1, others c (λ (y : c ≡ e.client). x.1 (sym y))) (serves.each c)
           ]);
           unused = λ c k. (elim (eqb_tells e.client c) [
@@ -235,12 +235,12 @@ module _ {W R F : Type 0} (answer : PolledRequest F R → ℕ → Answer) (answe
         }
 
     pub posted_datagram : (q : List Event) (s : Running W R F) (e : Event) (addr : SocketAddr) (octets : List ℕ) (letter : Option Letter) (new : List (KeptExchange W R F)) → AllDatagramKinds q → e.kind ≡ Datagram addr octets → e.client ≡ s.next
-        → s.heard.closed ≡ false → Begun answer answers s.heard e addr octets (kept_at e.client s.exchanges.items) letter new → Serves answer answers settings q s → posted answers settings q e ≡ listed letter
+        → s.heard.closed ≡ false → Begun answer answers s.heard e addr octets (kept_at e.client s.exchanges.items) letter new → ServesExchanges answer answers settings q s → posted answers settings q e ≡ one_or_none letter
     posted_datagram q s e addr octets letter new d h n running b serves =
         let l = begun_at q s e addr octets letter new d h n running b serves in
-        posted_is answers settings q e d (rw h tt) ∙ ap (λ (x : Option Letter). listed x) (sym (l (serves.each e.client)).0)
+        posted_is answers settings q e d (rw h tt) ∙ ap (λ (x : Option Letter). one_or_none x) (sym (l (serves.each e.client)).0)
 
     -- nothing came yet
-    pub serves_none : (s : Running W R F) → ((c : ℕ) → kept_at c s.exchanges.items ≡ []) → opening settings ≡ conf_of s.heard → Serves answer answers settings [] s
+    pub serves_none : (s : Running W R F) → ((c : ℕ) → kept_at c s.exchanges.items ≡ []) → opening settings ≡ conf_of s.heard → ServesExchanges answer answers settings [] s
     unfolding slate conf
     serves_none s none h = record { each = λ c. rw (none c) refl; unused = λ c l. refl; heard = h }

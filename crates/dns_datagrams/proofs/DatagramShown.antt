@@ -5,7 +5,7 @@ use Rattle.std.specs.List.{list_any}
 use Rattle.dns_admission.specs.declared.look.Look.{Look}
 use Rattle.dns_service.specs.declared.event.Event.{Event}
 use Rattle.dns_notes.specs.Woven.{seen_with}
-use Rattle.dns_datagrams.specs.DatagramOrder.{Record, looked, acted, all_looks_of}
+use Rattle.dns_datagrams.specs.DatagramOrder.{RecordedPart, looked, acted, all_looks_of}
 use Rattle.dns_datagrams.specs.DatagramLoop.{seen_in, Ordered}
 
 or_assoc : (a b c : Bool) → ((a || b) || c) ≡ (a || (b || c))
@@ -16,7 +16,7 @@ or_false : (a : Bool) → (a || false) ≡ a
 or_false true = refl
 or_false false = refl
 
-seen_closed : (before : Look) (rs : List Record) → (seen_in before rs).closed ≡ (before.closed || list_any (λ l. l.closed) (all_looks_of rs))
+seen_closed : (before : Look) (rs : List RecordedPart) → (seen_in before rs).closed ≡ (before.closed || list_any (λ l. l.closed) (all_looks_of rs))
 seen_closed before [] = sym (or_false before.closed)
 seen_closed before (looked l es ∷ rs) = seen_closed (seen_with before l) rs ∙ or_assoc before.closed l.closed (list_any (λ m. m.closed) (all_looks_of rs))
 seen_closed before (acted e f ∷ rs) = seen_closed before rs

@@ -16,10 +16,10 @@ use Rattle.dns_service.specs.declared.settings.Settings.{Settings}
 use Rattle.dns_notes.specs.Clocks.{ClockReading}
 use Rattle.dns_notes.specs.Notes.{NotedWide}
 use Rattle.dns_datagrams.specs.DatagramsPolled.{waits, TurnsBetween, AllFinished}
-use Rattle.dns_datagrams.specs.DatagramsSent.{settings_of, letters_delivered, delivered, early_faults}
-use Rattle.dns_datagrams.specs.DatagramsServed.{World, world, Served, CutOff, ServedTo, EndsBy, IsFull, MayCome}
+use Rattle.dns_datagrams.specs.DatagramsSent.{settings_shown, letters_delivered, delivered, early_faults}
+use Rattle.dns_datagrams.specs.DatagramsServed.{World, world, ServedBy, CutOff, ServedTo, EndsBy, IsFull, MayCome}
 use Rattle.dns_datagrams.specs.DatagramSteps.{hears, NewsNoted, kept_at}
-use Rattle.dns_datagrams.specs.DatagramLoop.{Serves, Ran, Breaks, CutsOff, Stopped, Finished, Ended, TakenBy}
+use Rattle.dns_datagrams.specs.DatagramLoop.{ServesExchanges, Ran, Breaks, CutsOff, Stopped, Finished, Ended, TakenBy}
 use Rattle.dns_datagrams.specs.declared.serving.DgramEnd.{DgramEnd}
 use Rattle.dns_datagrams.specs.declared.serving.DgramEnd.TheVariants.{Shutdown, Counted, Fault, OutOfMemory}
 use Rattle.dns_datagrams.specs.declared.running.Running.{Running}
@@ -64,7 +64,7 @@ module _ {W R F : Type 0} (answer : PolledRequest F R → ℕ → Answer) (answe
       → ((d : ℕ) → kept_at d s.exchanges.items ≡ []) → s.next ≡ 0 → s.heard ≡ hears (before_first first) first → Called k ToLook (Shown first) k1 → NewsNoted (before_first first) first n n1 c c1
       → Ran answer answers first (world n m f c k) (world n1 m f c1 k1) s true [] 0
   ran_first first n n1 m f c c1 k k1 s none zero heard l x =
-      let settings = settings_of first in
+      let settings = settings_shown first in
       let wide = news_wide (before_first first) first x.events x.news in
       let serves = serves_news answer answers settings [] (record s { heard = before_first first }) first x.events tt x.news (serves_none answer answers settings (record s { heard = before_first first }) none refl) in
       let quiet = all_wide_quiet x.events wide in record {
@@ -84,10 +84,10 @@ module _ {W R F : Type 0} (answer : PolledRequest F R → ℕ → Answer) (answe
         serves = record { each = serves.each; unused = serves.unused; heard = rw heard serves.heard };
       }
 
-  all_finished : (settings : Settings) (es : List Event) (s : Running W R F) → Serves answer answers settings es s → ((d : ℕ) → kept_at d s.exchanges.items ≡ []) → AllFinished answers settings es
+  all_finished : (settings : Settings) (es : List Event) (s : Running W R F) → ServesExchanges answer answers settings es s → ((d : ℕ) → kept_at d s.exchanges.items ≡ []) → AllFinished answers settings es
   all_finished settings es s h none d = rw (none d) at (h.each d)
 
-  served_ran : (end : DgramEnd) (count : ℕ) (first : Look) (w w1 : World) (s : Running W R F) (r : Ran answer answers first w w1 s false [] 2) → TakenBy end count s.next → (IsFull count s.next → end ≡ Counted) → EndsBy answers end count s.next first r.looks r.events → Served answers end count w w1
+  served_ran : (end : DgramEnd) (count : ℕ) (first : Look) (w w1 : World) (s : Running W R F) (r : Ran answer answers first w w1 s false [] 2) → TakenBy end count s.next → (IsFull count s.next → end ≡ Counted) → EndsBy answers end count s.next first r.looks r.events → ServedBy answers end count w w1
   served_ran end count first w w1 s r taken full e = record {
     first = first;
     looks = r.looks;
@@ -98,7 +98,7 @@ module _ {W R F : Type 0} (answer : PolledRequest F R → ℕ → Answer) (answe
     order = r.order.order;
     nobodys = r.nobodys;
     input = r.input;
-    within = may_come_is (came_number answers (settings_of first) r.events (first ∷ r.looks) 2 s.next w.mail w1.mail r.input) (taken_less end taken);
+    within = may_come_is (came_number answers (settings_shown first) r.events (first ∷ r.looks) 2 s.next w.mail w1.mail r.input) (taken_less end taken);
     clock = r.clock;
     output = r.output;
     ends = e;
@@ -108,10 +108,10 @@ module _ {W R F : Type 0} (answer : PolledRequest F R → ℕ → Answer) (answe
   ended_ran : (end : DgramEnd) (count : ℕ) (first : Look) (w w1 w2 : World) (s s2 : Running W R F) → Ran answer answers first w w1 s true [] 0 → TakenBy end count s2.next → Ended answer answers end count w1 s w2 s2 → ServedTo answers end count w w2
   ended_ran Shutdown count first w w1 w2 s s2 r taken e =
       let z = e.0.goes first w 1 (ran_rest answer answers r) in
-      served_ran Shutdown count first w w2 s2 z taken (λ full. absurd (not_full taken full)) (shown_closed first z.looks z.events s2.heard false e.1 z.order, all_finished (settings_of first) z.events s2 z.serves e.2)
+      served_ran Shutdown count first w w2 s2 z taken (λ full. absurd (not_full taken full)) (shown_closed first z.looks z.events s2.heard false e.1 z.order, all_finished (settings_shown first) z.events s2 z.serves e.2)
   ended_ran Counted count first w w1 w2 s s2 r taken e =
       let z = e.0.goes first w 1 (ran_rest answer answers r) in
-      served_ran Counted count first w w2 s2 z taken (λ full. refl) (e.1, all_finished (settings_of first) z.events s2 z.serves e.2)
+      served_ran Counted count first w w2 s2 z taken (λ full. refl) (e.1, all_finished (settings_shown first) z.events s2 z.serves e.2)
   ended_ran Fault count first w w1 w2 s s2 r taken e = served_ran Fault count first w w2 s2 (e.goes first w 1 (ran_rest answer answers r)) taken (λ full. absurd (not_full taken full)) tt
   ended_ran OutOfMemory count first w w1 w2 s s2 r taken e = e.breaks.breaks first w 1 count e.may_come (ran_rest answer answers r)
 

@@ -22,10 +22,10 @@ use Rattle.dns_notes.specs.Clocks.{ClockReading}
 use Rattle.dns_notes.specs.Notes.{NotedWide}
 use Rattle.dns_datagrams.specs.DatagramEvents.{IsOwnKind, IsDatagramKind, AllDatagramKinds, WideAreNobodys, letters_in, cut_letters, numbers_in}
 use Rattle.dns_datagrams.specs.DatagramsPolled.{is_finished, waits}
-use Rattle.dns_datagrams.specs.DatagramsSent.{settings_of, count_if}
+use Rattle.dns_datagrams.specs.DatagramsSent.{settings_shown, count_if}
 use Rattle.dns_datagrams.specs.DatagramsServed.{World, world, LooksOnly, CutOff, MayCome}
-use Rattle.dns_datagrams.specs.DatagramSteps.{hears, NewsNoted, Stamped, stamp_of, Sends, Unsent, listed, Keeps, Turned, Begun, kept_at, numbers_of}
-use Rattle.dns_datagrams.specs.DatagramLoop.{Among, Ran, Looks, Turns, Fails, Begins, BeginFails}
+use Rattle.dns_datagrams.specs.DatagramSteps.{hears, NewsNoted, Stamped, stamp_of, SendsOrFaults, Unsent, one_or_none, KeepsExchange, TurnedExchange, Begun, kept_at, numbers_of}
+use Rattle.dns_datagrams.specs.DatagramLoop.{Among, Ran, TakesLook, Turns, StepFails, BeginsExchange, BeginFails}
 use Rattle.dns_datagrams.specs.declared.running.KeptExchange.{KeptExchange}
 use Rattle.dns_datagrams.specs.declared.running.Running.{Running}
 use Rattle.dns_datagrams.proofs.DatagramCounts.{came_number, may_come_is}
@@ -112,13 +112,13 @@ module _ {W R F : Type 0} (answer : PolledRequest F R → ℕ → Answer) (answe
       → letters_in (r.events ++ es) ≡ letters_in r.events → numbers_in (r.events ++ es) ≡ numbers_in r.events → CutOff answers count start (world n' m' f' c' k')
   cut_same first start n n' m m' f f' c c' k k' s ready owed spare es ls count may h plain nobodys l sent received r ln nn =
       cut_off answer answers first start n n' m m' f f' c c' k k' s ready owed spare es ls r.input.came [] s.next count
-      (may_come_is (came_number answers (settings_of first) r.events (first ∷ r.looks) (spare + count_if ready) s.next start.mail m r.input) may) h plain nobodys l sent (received ∙ r.input.received) r
+      (may_come_is (came_number answers (settings_shown first) r.events (first ∷ r.looks) (spare + count_if ready) s.next start.mail m r.input) may) h plain nobodys l sent (received ∙ r.input.received) r
       (sym (append-nil (letters_in (r.events ++ es)) ∙ ln ∙ r.input.recorded)) (nn ∙ r.input.numbered)
 
   -- ---- looks
 
   pub looks_by : {n n' : List Event} {m : Mail} {f : ℕ} {c c' : List ClockReading} {k k' : Known} (s : Running W R F) {look : Look} (seat : TypeOf s.seat) → Called k ToLook (Shown look) k' → NewsNoted s.heard look n n' c c'
-      → Looks answer answers (world n m f c k) s (world n' m f c' k') (record s { heard = hears s.heard look; seat = seat })
+      → TakesLook answer answers (world n m f c k) s (world n' m f c' k') (record s { heard = hears s.heard look; seat = seat })
   looks_by {n} {n'} {m} {f} {c} {c'} {k} {k'} s {look} seat l x = record {
     goes = λ owed. record {
       over = λ h. hears_closed s.heard look ∙ or_true s.heard.closed look.closed h;
@@ -127,7 +127,7 @@ module _ {W R F : Type 0} (answer : PolledRequest F R → ℕ → Answer) (answe
   }
 
   pub fails_look : {n n' : List Event} {m : Mail} {f : ℕ} {c c' : List ClockReading} {k k' : Known} (s : Running W R F) {look : Look} → Called k ToLook (Shown look) k' → NotedWide n n'
-      → Fails answer answers false (world n m f c k) s (world n' m f c' k')
+      → StepFails answer answers false (world n m f c k) s (world n' m f c' k')
   fails_look {n} {n'} {m} {f} {c} {c'} {k} {k'} s {look} l x = record {
     breaks = λ owed. record {
       breaks = λ first start spare count may r.
@@ -140,15 +140,15 @@ module _ {W R F : Type 0} (answer : PolledRequest F R → ℕ → Answer) (answe
   -- ---- Turns
 
   pub turns_by : {n n1 n' : List Event} {m m' : Mail} {f f' : ℕ} {c c1 c' : List ClockReading} {k : Known} (s : Running W R F) {number : ℕ} {e : Event} {letter : Option Letter} {x : TypeOf s.exchanges} {send_failed : Bool}
-      → e.client ≡ number → e.kind ≡ Turn 0 → Turned answer answers (kept_at e.client s.exchanges.items) letter (kept_at e.client x.items) → ((d : ℕ) → d ≢ e.client → kept_at d x.items ≡ kept_at d s.exchanges.items)
-      → Stamped e n n1 c c1 → Sends (stamp_of e) (listed letter) s.heard.dgram.write_timeout n1 n' m m' f f' c1 c'
+      → e.client ≡ number → e.kind ≡ Turn 0 → TurnedExchange answer answers (kept_at e.client s.exchanges.items) letter (kept_at e.client x.items) → ((d : ℕ) → d ≢ e.client → kept_at d x.items ≡ kept_at d s.exchanges.items)
+      → Stamped e n n1 c c1 → SendsOrFaults (stamp_of e) (one_or_none letter) s.heard.dgram.write_timeout n1 n' m m' f f' c1 c'
       → Turns answer answers number true (world n m f c k) s (world n' m' f' c' k) (record s { exchanges = x; send_failed = send_failed })
   turns_by {n} {n1} {n'} {m} {m'} {f} {f'} {c} {c1} {c'} {k} s {number} {e} {letter} {x} {send_failed} of kind turned others t sends = record {
     goes = λ rest. record {
       over = λ h. h;
       goes = λ first start spare r.
-          let settings = settings_of first in
-          ran_act answer answers first start n n1 n' m m m' f f' c c1 c' k s (number ∷ rest) rest spare e (listed letter) x s.next send_failed (turn_own e kind) t sends refl refl r
+          let settings = settings_shown first in
+          ran_act answer answers first start n n1 n' m m m' f f' c c1 c' k s (number ∷ rest) rest spare e (one_or_none letter) x s.next send_failed (turn_own e kind) t sends refl refl r
           (posted_turn answer answers settings r.events s e letter (kept_at e.client x.items) r.plain kind turned r.serves)
           (input_turn answers settings r.events e (first ∷ r.looks) (spare + 1) (spare + 0) s.next start.mail m kind (omega arith) r.input)
           (λ d h. let g : (waits answers settings d r.events && not (nat_eq number d)) ≡ true = sym (waits_more answers settings d r.events e ∙ rw (kind, of) (waits_turn_is (waits answers settings d r.events) (nat_eq number d))) ∙ h in
@@ -157,7 +157,7 @@ module _ {W R F : Type 0} (answer : PolledRequest F R → ℕ → Answer) (answe
     };
   }
 
-  pub fails_same : {n n' : List Event} {m m' : Mail} {f f' : ℕ} {c c' : List ClockReading} {k : Known} (s : Running W R F) {ready : Bool} → Unsent n n' m m' → Fails answer answers ready (world n m f c k) s (world n' m' f' c' k)
+  pub fails_same : {n n' : List Event} {m m' : Mail} {f f' : ℕ} {c c' : List ClockReading} {k : Known} (s : Running W R F) {ready : Bool} → Unsent n n' m m' → StepFails answer answers ready (world n m f c k) s (world n' m' f' c' k)
   fails_same {n} {n'} {m} {m'} {f} {f'} {c} {c'} {k} s {ready} u = record {
     breaks = λ owed. record {
       breaks = λ first start spare count may r.
@@ -167,7 +167,7 @@ module _ {W R F : Type 0} (answer : PolledRequest F R → ℕ → Answer) (answe
 
   -- a Turn was noted
   pub fails_turn : {n n1 n' : List Event} {m m' : Mail} {f f' : ℕ} {c c1 c' : List ClockReading} {k : Known} (s : Running W R F) {ready : Bool} {e : Event} → e.kind ≡ Turn 0 → Stamped e n n1 c c1 → Unsent n1 n' m m'
-      → Fails answer answers ready (world n m f c k) s (world n' m' f' c' k)
+      → StepFails answer answers ready (world n m f c k) s (world n' m' f' c' k)
   fails_turn {n} {n1} {n'} {m} {m'} {f} {f'} {c} {c1} {c'} {k} s {ready} {e} kind t u = record {
     breaks = λ owed. record {
       breaks = λ first start spare count may r.
@@ -175,29 +175,29 @@ module _ {W R F : Type 0} (answer : PolledRequest F R → ℕ → Answer) (answe
     };
   }
 
-  pub polls_one : {w w1 w2 : World} {s s1 s2 : Running W R F} {number : ℕ} → Looks answer answers w s w1 s1 → Turns answer answers number true w1 s1 w2 s2 → Turns answer answers number false w s w2 s2
+  pub polls_one : {w w1 w2 : World} {s s1 s2 : Running W R F} {number : ℕ} → TakesLook answer answers w s w1 s1 → Turns answer answers number true w1 s1 w2 s2 → Turns answer answers number false w s w2 s2
   polls_one {number = number} a b = record { goes = λ rest. record { over = λ x. (b.goes rest).over ((a.goes (number ∷ rest)).over x); goes = λ first start spare r. (b.goes rest).goes first start spare ((a.goes (number ∷ rest)).goes first start spare r) } }
 
-  pub fails_polled : {w w1 w2 : World} {s s1 : Running W R F} → s1.next ≡ s.next → Looks answer answers w s w1 s1 → Fails answer answers true w1 s1 w2 → Fails answer answers false w s w2
+  pub fails_polled : {w w1 w2 : World} {s s1 : Running W R F} → s1.next ≡ s.next → TakesLook answer answers w s w1 s1 → StepFails answer answers true w1 s1 w2 → StepFails answer answers false w s w2
   fails_polled e a b = record { breaks = λ owed. record { breaks = λ first start spare count may r. (b.breaks owed).breaks first start spare count (may_come_is e may) ((a.goes owed).goes first start spare r) } }
 
   -- ---- Datagrams
 
-  unfinished_kept : (xs : List (KeptExchange W R F)) (c : ℕ) (s : Slate) → Keeps answer answers (kept_at c xs) s → is_finished s ≡ false → Among c (numbers_of xs)
+  unfinished_kept : (xs : List (KeptExchange W R F)) (c : ℕ) (s : Slate) → KeepsExchange answer answers (kept_at c xs) s → is_finished s ≡ false → Among c (numbers_of xs)
   unfinished_kept xs c s k h = sure (list_any (nat_eq c) (numbers_of xs)) (λ (n : list_any (nat_eq c) (numbers_of xs) ≡ false). let f : is_finished s ≡ true = rw (kept_nowhere xs c n) at k in cc)
 
   pub begins_by : {n n1 n' : List Event} {m1 m' : Mail} {f f' : ℕ} {c c1 c' : List ClockReading} {k : Known} (s : Running W R F) {e : Event} {letter : Option Letter} {x : TypeOf s.exchanges} {send_failed : Bool} (octets : List ℕ) (from : SocketAddr)
       → s.heard.closed ≡ false → e.client ≡ s.next → e.kind ≡ Datagram from octets
       → Begun answer answers s.heard e from octets (kept_at e.client s.exchanges.items) letter (kept_at e.client x.items) → ((d : ℕ) → d ≢ e.client → kept_at d x.items ≡ kept_at d s.exchanges.items)
-      → Stamped e n n1 c c1 → Sends (stamp_of e) (listed letter) s.heard.dgram.write_timeout n1 n' m1 m' f f' c1 c'
-      → Begins answer answers octets from (world n m1 f c k) s (world n' m' f' c' k) (record s { exchanges = x; next = s.next + 1; send_failed = send_failed })
+      → Stamped e n n1 c c1 → SendsOrFaults (stamp_of e) (one_or_none letter) s.heard.dgram.write_timeout n1 n' m1 m' f f' c1 c'
+      → BeginsExchange answer answers octets from (world n m1 f c k) s (world n' m' f' c' k) (record s { exchanges = x; next = s.next + 1; send_failed = send_failed })
   begins_by {n} {n1} {n'} {m1} {m'} {f} {f'} {c} {c1} {c'} {k} s {e} {letter} {x} {send_failed} octets from running of kind begun others t sends = record {
     goes = λ whole m front got. record {
       over = λ h. h;
       goes = λ first start spare r.
-          let settings = settings_of first in
+          let settings = settings_shown first in
           let serves = serves_datagram answer answers settings r.events s e from octets letter x r.plain kind of running begun others r.serves in
-          ran_act answer answers first start n n1 n' m m1 m' f f' c c1 c' k s [] (numbers_of x.items) spare e (listed letter) x (s.next + 1) send_failed (datagram_own e from octets kind) t sends (rw got refl) (rw got refl) r
+          ran_act answer answers first start n n1 n' m m1 m' f f' c c1 c' k s [] (numbers_of x.items) spare e (one_or_none letter) x (s.next + 1) send_failed (datagram_own e from octets kind) t sends (rw got refl) (rw got refl) r
           (posted_datagram answer answers settings r.events s e from octets letter (kept_at e.client x.items) r.plain kind of running begun r.serves)
           (input_datagram answers settings r.events e (first ∷ r.looks) (spare + 1) (spare + 0) s.next start.mail m m1 from octets whole kind of front (rw got refl) (rw got refl) (omega arith)
           (λ d. nobody (waits answers settings d r.events) (r.waiting d)) r.input)
@@ -211,7 +211,7 @@ module _ {W R F : Type 0} (answer : PolledRequest F R → ℕ → Answer) (answe
   one_more : (first : Look) (start now : World) (s : Running W R F) (ready : Bool) (owed : List ℕ) (spare count : ℕ) (v : Letter) → MayCome count (s.next + 1)
       → (r : Ran answer answers first start now s ready owed spare) → MayCome count (length (r.input.came ++ v ∷ []))
   one_more first start now s ready owed spare count v may r =
-      may_come_is (length-append r.input.came (v ∷ []) ∙ ap (λ (n : ℕ). n + 1) (came_number answers (settings_of first) r.events (first ∷ r.looks) (spare + count_if ready) s.next start.mail now.mail r.input)) may
+      may_come_is (length-append r.input.came (v ∷ []) ∙ ap (λ (n : ℕ). n + 1) (came_number answers (settings_shown first) r.events (first ∷ r.looks) (spare + count_if ready) s.next start.mail now.mail r.input)) may
 
   -- it was received, and not noted
   pub begin_fails_unnoted : {n n' : List Event} {m1 : Mail} {f f' : ℕ} {c c' : List ClockReading} {k : Known} (s : Running W R F) {octets : List ℕ} {from : SocketAddr} → n' ≡ n

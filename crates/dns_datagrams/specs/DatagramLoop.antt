@@ -16,11 +16,11 @@ use Rattle.dns_notes.specs.Sent.{conf, slate}
 use Rattle.dns_notes.specs.Woven.{seen_with}
 use Rattle.dns_notes.specs.Clocks.{ClockReading}
 use Rattle.dns_datagrams.specs.DatagramEvents.{AllDatagramKinds, WideAreNobodys}
-use Rattle.dns_datagrams.specs.DatagramOrder.{Record, looked, acted, IsInOrder}
+use Rattle.dns_datagrams.specs.DatagramOrder.{RecordedPart, looked, acted, EventsFollowLooks}
 use Rattle.dns_datagrams.specs.DatagramsPolled.{waits}
-use Rattle.dns_datagrams.specs.DatagramsSent.{settings_of, count_if}
+use Rattle.dns_datagrams.specs.DatagramsSent.{settings_shown, count_if}
 use Rattle.dns_datagrams.specs.DatagramsServed.{World, ReceivesBy, LooksOnly, Clocked, Input, Delivered, CutOff, IsFull, MayCome}
-use Rattle.dns_datagrams.specs.DatagramSteps.{Keeps, SendsRose, Stamped, kept_at, numbers_of}
+use Rattle.dns_datagrams.specs.DatagramSteps.{KeepsExchange, SendsRose, Stamped, kept_at, numbers_of}
 use Rattle.dns_datagrams.specs.declared.running.Running.{Running}
 use Rattle.dns_datagrams.specs.declared.serving.DgramEnd.{DgramEnd}
 use Rattle.dns_datagrams.specs.declared.serving.DgramEnd.TheVariants.{Shutdown, Counted, Fault, OutOfMemory}
@@ -28,19 +28,19 @@ use Rattle.dns_datagrams.specs.declared.receipts.Receipt.{Receipt}
 use Rattle.dns_datagrams.specs.declared.receipts.Receipt.TheVariants.{Made, Failed as Failed_receive}
 
 -- whether a look stands behind the last own event, and what was seen
-abbrev pub is_ready : Bool → List Record → Bool
+abbrev pub is_ready : Bool → List RecordedPart → Bool
 is_ready ready [] = ready
 is_ready ready (looked look news ∷ rs) = is_ready true rs
 is_ready ready (acted event fault ∷ rs) = is_ready false rs
 
-abbrev pub seen_in : Look → List Record → Look
+abbrev pub seen_in : Look → List RecordedPart → Look
 seen_in before [] = before
 seen_in before (looked look news ∷ rs) = seen_in (seen_with before look) rs
 seen_in before (acted event fault ∷ rs) = seen_in before rs
 
 -- the events are in order, what was heard is what was seen, and where it is ready, an own event may come
 pub record Ordered (first : Look) (looks : List Look) (events : List Event) (heard : Look) (ready : Bool) : Type 0 where
-  pub order : IsInOrder first looks events
+  pub order : EventsFollowLooks first looks events
   pub readied : ready ≡ true → is_ready true order.records ≡ true
   pub version : (seen_in first order.records).version ≡ heard.version
   pub closed : (seen_in first order.records).closed ≡ heard.closed
@@ -50,7 +50,7 @@ Among c ns = list_any (nat_eq c) ns ≡ true
 
 -- Whatever socket, clock and recorder tell: the seat made looks and no other calls, of the same book. A shutdown that was heard of stays so, and a new one was
 -- shown by one of these looks. The count of failed sends rose where a failed one is known of since, and else it is the same.
-pub record Passes {W R F : Type 0} (s s' : Running W R F) (f f' : ℕ) : Type 0 where
+pub record PassesOn {W R F : Type 0} (s s' : Running W R F) (f f' : ℕ) : Type 0 where
   pub looks : List Look
   pub made : LooksOnly s.seat.known looks s'.seat.known
   pub book : s'.seat.book ≡ s.seat.book
@@ -96,7 +96,7 @@ RoundedSo (Some end) r r' = ReceivesBy end r r'
 -- Whatever they tell, up to the loop's end: so many datagrams came, the count of failed receives rose by a fault alone, and a shutdown
 -- was heard of where it ended by one.
 pub record PassesTo {W R F : Type 0} (end : DgramEnd) (count : ℕ) (s s' : Running W R F) (f f' r r' : ℕ) : Type 0 where
-  pub passes : Passes s s' f f'
+  pub passes : PassesOn s s' f f'
   pub taken : TakenBy end count s'.next
   pub receives : r ≤ r'
   pub cause : ReceivesBy end r r'
@@ -108,8 +108,8 @@ pub record SinceNoted (e : Event) (is : World → Type 0) (w : World) : Type 0 w
 
 module _ {W R F : Type 0} (answer : PolledRequest F R → ℕ → Answer) (answers : Serving) where
   -- what is kept is what the events left
-  pub record Serves (settings : Settings) (events : List Event) (s : Running W R F) : Type 0 where
-    pub each : (c : ℕ) → Keeps answer answers (kept_at c s.exchanges.items) (slate answers settings c events)
+  pub record ServesExchanges (settings : Settings) (events : List Event) (s : Running W R F) : Type 0 where
+    pub each : (c : ℕ) → KeepsExchange answer answers (kept_at c s.exchanges.items) (slate answers settings c events)
     pub unused : (c : ℕ) → s.next ≤ c → (slate answers settings c events).phase ≡ Unused
     pub heard : conf settings events ≡ conf_of s.heard
 
@@ -123,14 +123,14 @@ module _ {W R F : Type 0} (answer : PolledRequest F R → ℕ → Answer) (answe
     pub plain : AllDatagramKinds events
     pub nobodys : WideAreNobodys events
     pub order : Ordered first looks events s.heard ready
-    pub input : Input answers (settings_of first) events (first ∷ looks) (spare + count_if ready) s.next start.mail now.mail
-    pub waiting : (c : ℕ) → waits answers (settings_of first) c events ≡ true → Among c owed
+    pub input : Input answers (settings_shown first) events (first ∷ looks) (spare + count_if ready) s.next start.mail now.mail
+    pub waiting : (c : ℕ) → waits answers (settings_shown first) c events ≡ true → Among c owed
     pub clock : Clocked events start.readings now.readings start.mail.full_sends now.mail.full_sends
-    pub output : Delivered answers (settings_of first) events start.mail now.mail start.failed_sends now.failed_sends
-    pub serves : Serves (settings_of first) events s
+    pub output : Delivered answers (settings_shown first) events start.mail now.mail start.failed_sends now.failed_sends
+    pub serves : ServesExchanges (settings_shown first) events s
 
   -- a step, wherever it began
-  pub record Goes (w : World) (s : Running W R F) (ready : Bool) (owed : List ℕ) (w' : World) (s' : Running W R F) (ready' : Bool) (owed' : List ℕ) : Type 0 where
+  pub record LoopGoes (w : World) (s : Running W R F) (ready : Bool) (owed : List ℕ) (w' : World) (s' : Running W R F) (ready' : Bool) (owed' : List ℕ) : Type 0 where
     pub over : s.heard.closed ≡ true → s'.heard.closed ≡ true
     pub goes : (first : Look) (start : World) (spare : ℕ) → Ran first start w s ready owed spare → Ran first start w' s' ready' owed' spare
 
@@ -139,21 +139,21 @@ module _ {W R F : Type 0} (answer : PolledRequest F R → ℕ → Answer) (answe
     pub breaks : (first : Look) (start : World) (spare count : ℕ) → MayCome count most → Ran first start w s ready owed spare → CutOff answers count start w'
 
   -- a look, whoever waits
-  pub record Looks (w : World) (s : Running W R F) (w' : World) (s' : Running W R F) : Type 0 where
-    pub goes : (owed : List ℕ) → Goes w s false owed w' s' true owed
+  pub record TakesLook (w : World) (s : Running W R F) (w' : World) (s' : Running W R F) : Type 0 where
+    pub goes : (owed : List ℕ) → LoopGoes w s false owed w' s' true owed
 
   -- a Turn of a client, after its look or with it
   pub record Turns (client : ℕ) (ready : Bool) (w : World) (s : Running W R F) (w' : World) (s' : Running W R F) : Type 0 where
-    pub goes : (rest : List ℕ) → Goes w s ready (client ∷ rest) w' s' false rest
+    pub goes : (rest : List ℕ) → LoopGoes w s ready (client ∷ rest) w' s' false rest
 
   -- want of memory, whoever waits
-  pub record Fails (ready : Bool) (w : World) (s : Running W R F) (w' : World) : Type 0 where
+  pub record StepFails (ready : Bool) (w : World) (s : Running W R F) (w' : World) : Type 0 where
     pub breaks : (owed : List ℕ) → Breaks s.next w s ready owed w'
 
   -- the front of a datagram that was received before this world is noted, and begins an exchange
-  pub record Begins (octets : List ℕ) (from : SocketAddr) (w : World) (s : Running W R F) (w' : World) (s' : Running W R F) : Type 0 where
+  pub record BeginsExchange (octets : List ℕ) (from : SocketAddr) (w : World) (s : Running W R F) (w' : World) (s' : Running W R F) : Type 0 where
     pub goes : (whole : List ℕ) (m : Mail) → octets ≡ take 1024 whole → w.mail ≡ record m { received = m.received ++ (record { octets = whole; addr = from }) ∷ [] }
-        → Goes (record w { mail = m }) s true [] w' s' false (numbers_of s'.exchanges.items)
+        → LoopGoes (record w { mail = m }) s true [] w' s' false (numbers_of s'.exchanges.items)
 
   pub record BeginFails (octets : List ℕ) (from : SocketAddr) (w : World) (s : Running W R F) (w' : World) : Type 0 where
     pub breaks : (whole : List ℕ) (m : Mail) → octets ≡ take 1024 whole → w.mail ≡ record m { received = m.received ++ (record { octets = whole; addr = from }) ∷ [] }
@@ -161,14 +161,14 @@ module _ {W R F : Type 0} (answer : PolledRequest F R → ℕ → Answer) (answe
 
   -- a receive; a round, before its look or after it; the rounds; and the last polls
   abbrev pub Receives : Receipt → World → Running W R F → World → Running W R F → Type 0
-  Receives Made w s w' s' = Goes w s true [] w' s' false (numbers_of s'.exchanges.items)
-  Receives Failed_receive w s w' s' = Goes w s true [] w' s' true []
+  Receives Made w s w' s' = LoopGoes w s true [] w' s' false (numbers_of s'.exchanges.items)
+  Receives Failed_receive w s w' s' = LoopGoes w s true [] w' s' true []
 
   abbrev pub Rounded : Bool → ℕ → Option DgramEnd → World → Running W R F → World → Running W R F → Type 0
-  Rounded ready count None w s w' s' = Goes w s ready [] w' s' false []
-  Rounded ready count (Some Shutdown) w s w' s' = Goes w s ready [] w' s' true [] × (s'.heard.closed ≡ true)
-  Rounded ready count (Some Counted) w s w' s' = (ready ≡ false) × Goes w s false [] w' s' false [] × IsFull count s'.next
-  Rounded ready count (Some Fault) w s w' s' = Goes w s ready [] w' s' true []
+  Rounded ready count None w s w' s' = LoopGoes w s ready [] w' s' false []
+  Rounded ready count (Some Shutdown) w s w' s' = LoopGoes w s ready [] w' s' true [] × (s'.heard.closed ≡ true)
+  Rounded ready count (Some Counted) w s w' s' = (ready ≡ false) × LoopGoes w s false [] w' s' false [] × IsFull count s'.next
+  Rounded ready count (Some Fault) w s w' s' = LoopGoes w s ready [] w' s' true []
   Rounded ready count (Some OutOfMemory) w s w' s' = MayCome count (s.next + 1) × Breaks (s.next + 1) w s ready [] w'
 
   -- the rounds and what comes behind them, with one look at most that came to nothing
@@ -189,7 +189,7 @@ module _ {W R F : Type 0} (answer : PolledRequest F R → ℕ → Answer) (answe
   Stopped OutOfMemory count w s w' s' = CutsOff count w s w'
 
   pub record Finished (w : World) (s : Running W R F) (w' : World) (s' : Running W R F) : Type 0 where
-    pub goes : Goes w s false [] w' s' false []
+    pub goes : LoopGoes w s false [] w' s' false []
     pub none : (c : ℕ) → kept_at c s'.exchanges.items ≡ []
 
   abbrev pub Ended : DgramEnd → ℕ → World → Running W R F → World → Running W R F → Type 0

@@ -6,7 +6,7 @@ use Rattle.dns_outside.specs.Mail.{Mail}
 use Rattle.dns_service.specs.declared.event.Event.{Event}
 use Rattle.dns_notes.specs.Clocks.{ClockReading}
 use Rattle.dns_datagrams.specs.DatagramsServed.{World, world}
-use Rattle.dns_datagrams.specs.DatagramLoop.{Passes, PassesTo, RoundedSo, RoundedUpTo}
+use Rattle.dns_datagrams.specs.DatagramLoop.{PassesOn, PassesTo, RoundedSo, RoundedUpTo}
 use Rattle.dns_datagrams.specs.declared.office.Office.{Office}
 use Rattle.dns_datagrams.specs.declared.serving.DgramEnd.{DgramEnd}
 use Rattle.dns_datagrams.specs.declared.serving.DgramEnd.TheVariants.{Shutdown}
@@ -38,7 +38,7 @@ module _ {T W D C J R F : Type 0} where
   -- Whatever they tell: what a part did that may receive, a part that only polls, and a round
   pub record Went (failed_sends : D → ℕ) (o o' : Office T W D C J R F) : Type 0 where
     pub same : SameOffice o o'
-    pub passes : Passes o.state.now o'.state.now (failed_sends o.sock.now) (failed_sends o'.sock.now)
+    pub passes : PassesOn o.state.now o'.state.now (failed_sends o.sock.now) (failed_sends o'.sock.now)
 
   pub record OnlyPolls (failed_receives failed_sends : D → ℕ) (o o' : Office T W D C J R F) : Type 0 where
     pub went : Went failed_sends o o'

@@ -22,7 +22,7 @@ use Rattle.dns_notes.specs.Clocks.{ClockReading, Waited, LateAt}
 use Rattle.dns_notes.specs.Woven.{news_kinds, kinds, AreNobodys}
 use Rattle.dns_datagrams.specs.DatagramOrder.{fault_events, IsFaultOf}
 use Rattle.dns_datagrams.specs.DatagramsPolled.{is_finished}
-use Rattle.dns_datagrams.specs.DatagramsSent.{unless, count_if, fails_before}
+use Rattle.dns_datagrams.specs.DatagramsSent.{nothing_if, count_if, fails_before}
 use Rattle.dns_datagrams.specs.DatagramsServed.{Clocked}
 use Rattle.dns_datagrams.specs.declared.notes.Stamp.{Stamp}
 use Rattle.dns_datagrams.specs.declared.running.KeptExchange.{KeptExchange}
@@ -91,7 +91,7 @@ SendsRose before now fails fails' = ((now ≡ before) × (fails' ≡ fails)) ⊎
 
 -- What an event led to was sent, or a Fault of its exchange was noted: late with a send that answered Again, or by a send that
 -- failed.
-pub record Sends (stamp : Stamp) (letters : List Letter) (write : ℕ) (n n' : List Event) (m m' : Mail) (fails fails' : ℕ) (c c' : List ClockReading) : Type 0 where
+pub record SendsOrFaults (stamp : Stamp) (letters : List Letter) (write : ℕ) (n n' : List Event) (m m' : Mail) (fails fails' : ℕ) (c c' : List ClockReading) : Type 0 where
   pub fault : Option Event
   pub late : ℕ
   pub failed : ℕ
@@ -99,7 +99,7 @@ pub record Sends (stamp : Stamp) (letters : List Letter) (write : ℕ) (n n' : L
   pub is_fault_of : (e : Event) → e.client ≡ stamp.client → IsFaultOf e fault
   pub one : length (fault_events fault) ≡ late + failed
   pub early : count_if (fails_before (stamp.at + write) (fault_events fault)) ≤ failed
-  pub posts : Posts (unless (is_some fault) letters) m m'
+  pub posts : Posts (nothing_if (is_some fault) letters) m m'
   pub again : m.full_sends + late ≤ m'.full_sends
   pub rose : min (fails + failed) (2 ^ 64 - 1) ≤ fails'
   pub clock : Clocked (fault_events fault) c c' m.full_sends m'.full_sends
@@ -124,9 +124,9 @@ abbrev pub letter_to : Option (List ℕ) → SocketAddr → Option Letter
 letter_to None addr = None
 letter_to (Some octets) addr = Some (record { octets = octets; addr = addr })
 
-abbrev pub listed : {X : Type 0} → Option X → List X
-listed None = []
-listed (Some x) = x ∷ []
+abbrev pub one_or_none : {X : Type 0} → Option X → List X
+one_or_none None = []
+one_or_none (Some x) = x ∷ []
 
 -- the numbers of what is kept, and what is kept under a number
 abbrev pub numbers_of : {W R F : Type 0} → List (KeptExchange W R F) → List ℕ
@@ -162,18 +162,18 @@ module _ {W R F : Type 0} (answer : PolledRequest F R → ℕ → Answer) (answe
     pub unfinished : is_finished s ≡ false
 
   -- what is kept under a number is that one, as long as the exchange is unfinished, and nothing more
-  abbrev pub Keeps : List (KeptExchange W R F) → Slate → Type 0
-  Keeps [] s = is_finished s ≡ true
-  Keeps (x ∷ []) s = IsKeptOf x s
-  Keeps (x ∷ y ∷ xs) s = ⊥
+  abbrev pub KeepsExchange : List (KeptExchange W R F) → Slate → Type 0
+  KeepsExchange [] s = is_finished s ≡ true
+  KeepsExchange (x ∷ []) s = IsKeptOf x s
+  KeepsExchange (x ∷ y ∷ xs) s = ⊥
 
   -- at each slate of which this was kept, the letter is what is sent, and of the slate after it this is kept
-  abbrev pub Leads : List (KeptExchange W R F) → Option Letter → List (KeptExchange W R F) → Slate → Told → Type 0
-  Leads old letter new s t = Keeps old s → (letter ≡ letter_to (last_octets t.1) t.0.addr) × Keeps new t.0
+  abbrev pub ExchangeLeads : List (KeptExchange W R F) → Option Letter → List (KeptExchange W R F) → Slate → Told → Type 0
+  ExchangeLeads old letter new s t = KeepsExchange old s → (letter ≡ letter_to (last_octets t.1) t.0.addr) × KeepsExchange new t.0
 
   -- a Turn of an exchange
-  pub record Turned (old : List (KeptExchange W R F)) (letter : Option Letter) (new : List (KeptExchange W R F)) : Type 0 where
-    pub leads : (e : Event) (s : Slate) → e.kind ≡ Turn 0 → Leads old letter new s (rule answers e s)
+  pub record TurnedExchange (old : List (KeptExchange W R F)) (letter : Option Letter) (new : List (KeptExchange W R F)) : Type 0 where
+    pub leads : (e : Event) (s : Slate) → e.kind ≡ Turn 0 → ExchangeLeads old letter new s (rule answers e s)
 
   -- the same of one that is kept, and whether it is finished then
   pub record TurnedOne (old : KeptExchange W R F) (letter : Option Letter) (done : Bool) (new : KeptExchange W R F) : Type 0 where
@@ -183,7 +183,7 @@ module _ {W R F : Type 0} (answer : PolledRequest F R → ℕ → Answer) (answe
 
   -- its datagram, by what was heard of the book
   pub record Begun (heard : Look) (e : Event) (addr : SocketAddr) (octets : List ℕ) (old : List (KeptExchange W R F)) (letter : Option Letter) (new : List (KeptExchange W R F)) : Type 0 where
-    pub leads : (s : Slate) → IsUnused s → s.conf ≡ conf_of heard → Leads old letter new s (datagram e.client addr e.at e.secs octets s)
+    pub leads : (s : Slate) → IsUnused s → s.conf ≡ conf_of heard → ExchangeLeads old letter new s (datagram e.client addr e.at e.secs octets s)
 
 -- a Turn of the first one
 pub record TurnedFirst {W R F : Type 0} (answer : PolledRequest F R → ℕ → Answer) (old : List (KeptExchange W R F)) (letter : Option Letter) (done : Bool) (new : List (KeptExchange W R F)) : Type 0 where

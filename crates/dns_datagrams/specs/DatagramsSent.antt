@@ -28,9 +28,9 @@ abbrev pub fails_before : ℕ → List Event → Bool
 fails_before moment [] = false
 fails_before moment (e ∷ es) = is_fault e.kind && nat_lt e.at moment
 
-abbrev pub unless : {X : Type 0} → Bool → List X → List X
-unless true xs = []
-unless false xs = xs
+abbrev pub nothing_if : {X : Type 0} → Bool → List X → List X
+nothing_if true xs = []
+nothing_if false xs = xs
 
 abbrev pub count_if : Bool → ℕ
 count_if true = 1
@@ -42,8 +42,8 @@ IsPart xs [] = xs ≡ []
 IsPart {X} xs (y ∷ ys) = IsPart xs ys ⊎ ((rest : List X) × (xs ≡ y ∷ rest) × IsPart rest ys)
 
 -- settings with the configurations that a look shows. What else stands in settings changes nothing of what is sent for events
-abbrev pub settings_of : Look → Settings
-settings_of look = record { strict = true; edns = true; cookies = None; denied = []; dgram = look.dgram; stream = look.stream }
+abbrev pub settings_shown : Look → Settings
+settings_shown look = record { strict = true; edns = true; cookies = None; denied = []; dgram = look.dgram; stream = look.stream }
 
 module _ (answers : Serving) (settings : Settings) where
   -- a datagram that an exchange is sent goes to the exchange's address
@@ -60,7 +60,7 @@ module _ (answers : Serving) (settings : Settings) where
 
   abbrev pub delivered_after : List Event → List Event → List Output
   delivered_after q [] = []
-  delivered_after q (e ∷ es) = unless (fails_next e.client es) (gained answers settings q e) ++ delivered_after (q ++ e ∷ []) es
+  delivered_after q (e ∷ es) = nothing_if (fails_next e.client es) (gained answers settings q e) ++ delivered_after (q ++ e ∷ []) es
 
   -- what is sent for some events, but for those that a Fault of their exchange follows
   unfoldable pub delivered : List Event → List Output

@@ -14,9 +14,9 @@ use Rattle.dns_notes.specs.Out.{out}
 use Rattle.dns_notes.specs.Clocks.{ClockReading, Dated, faults_in}
 use Rattle.dns_notes.specs.Woven.{look_entries}
 use Rattle.dns_datagrams.specs.DatagramEvents.{WideAreNobodys, letters_in, cut_letters, numbers_in, numbers_below, turns_in}
-use Rattle.dns_datagrams.specs.DatagramOrder.{IsInOrder}
+use Rattle.dns_datagrams.specs.DatagramOrder.{EventsFollowLooks}
 use Rattle.dns_datagrams.specs.DatagramsPolled.{TurnsBetween, AllFinished}
-use Rattle.dns_datagrams.specs.DatagramsSent.{settings_of, all_addressed, letters_delivered, early_faults, IsPart}
+use Rattle.dns_datagrams.specs.DatagramsSent.{settings_shown, all_addressed, letters_delivered, early_faults, IsPart}
 use Rattle.dns_datagrams.specs.declared.serving.DgramEnd.{DgramEnd}
 use Rattle.dns_datagrams.specs.declared.serving.DgramEnd.TheVariants.{Shutdown, Counted, Fault, OutOfMemory}
 
@@ -94,38 +94,38 @@ module _ (answers : Serving) (settings : Settings) where
     pub early : early_faults answers settings events ≤ failed
 
 -- no more than so many, where the count isn't 0
-abbrev pub IsWithin : ℕ → ℕ → Type 0
-IsWithin count number = count ≢ 0 → number ≤ count
+abbrev pub IsWithinCount : ℕ → ℕ → Type 0
+IsWithinCount count number = count ≢ 0 → number ≤ count
 
 -- so many datagrams may be received: no more than are to be served, and no more than can be numbered
 abbrev pub MayCome : ℕ → ℕ → Type 0
-MayCome count number = IsWithin count number × (number ≤ 2 ^ 64 - 1)
+MayCome count number = IsWithinCount count number × (number ≤ 2 ^ 64 - 1)
 
 -- so many datagrams came, or as many as can be numbered
 abbrev pub IsFull : ℕ → ℕ → Type 0
 IsFull count number = ((count ≢ 0) × (number ≡ count)) ⊎ (number ≡ 2 ^ 64 - 1)
 
 abbrev pub EndsBy : Serving → DgramEnd → ℕ → ℕ → Look → List Look → List Event → Type 0
-EndsBy answers Shutdown count number first looks events = ShowsShutdown (first ∷ looks) × AllFinished answers (settings_of first) events
-EndsBy answers Counted count number first looks events = IsFull count number × AllFinished answers (settings_of first) events
+EndsBy answers Shutdown count number first looks events = ShowsShutdown (first ∷ looks) × AllFinished answers (settings_shown first) events
+EndsBy answers Counted count number first looks events = IsFull count number × AllFinished answers (settings_shown first) events
 EndsBy answers Fault count number first looks events = Unit {0}
 EndsBy answers OutOfMemory count number first looks events = ⊥
 
 -- What was noted from a world to another, by a first look and the looks after it. What all clients hear stands under number 0. No more
 -- datagrams were received than may come, and where so many came it ended by that.
-pub record Served (answers : Serving) (end : DgramEnd) (count : ℕ) (start now : World) : Type 0 where
+pub record ServedBy (answers : Serving) (end : DgramEnd) (count : ℕ) (start now : World) : Type 0 where
   pub first : Look
   pub looks : List Look
   pub events : List Event
   pub number : ℕ
   pub noted : now.noted ≡ start.noted ++ events
   pub seat : LooksOnly start.known (first ∷ looks) now.known
-  pub order : IsInOrder first looks events
+  pub order : EventsFollowLooks first looks events
   pub nobodys : WideAreNobodys events
-  pub input : Input answers (settings_of first) events (first ∷ looks) 2 number start.mail now.mail
+  pub input : Input answers (settings_shown first) events (first ∷ looks) 2 number start.mail now.mail
   pub within : MayCome count (length input.came)
   pub clock : Clocked events start.readings now.readings start.mail.full_sends now.mail.full_sends
-  pub output : Delivered answers (settings_of first) events start.mail now.mail start.failed_sends now.failed_sends
+  pub output : Delivered answers (settings_shown first) events start.mail now.mail start.failed_sends now.failed_sends
   pub ends : EndsBy answers end count number first looks events
   pub counted : IsFull count number → end ≡ Counted
 
@@ -146,8 +146,8 @@ pub record CutOff (answers : Serving) (count : ℕ) (start now : World) : Type 0
   pub numbered : numbers_in events ≡ numbers_below number
   pub nobodys : WideAreNobodys events
   pub sent : now.mail.sent ≡ start.mail.sent ++ letters
-  pub part : IsPart letters (all_addressed answers (settings_of first) events (out answers (settings_of first) events))
+  pub part : IsPart letters (all_addressed answers (settings_shown first) events (out answers (settings_shown first) events))
 
 abbrev pub ServedTo : Serving → DgramEnd → ℕ → World → World → Type 0
 ServedTo answers OutOfMemory count start now = CutOff answers count start now
-ServedTo answers end count start now = Served answers end count start now
+ServedTo answers end count start now = ServedBy answers end count start now

@@ -5,7 +5,7 @@ ghost use Rattle.std.specs.VecDeque.{deque_len};
 ghost use Rattle.dns_client.specs.Serving.{Serving, serving};
 ghost use Rattle.dns_service.specs.PolledRequest.{request_answer};
 ghost use Rattle.dns_service.specs.declared.event.EventKind.TheVariants.{Datagram};
-ghost use Rattle.dns_datagrams.specs.DatagramSteps.{Turned, TurnedOne, TurnedFirst, Begun, IsFirstNumber, gone_behind, stamped_event, numbers_of, kept_at, kept_under, letter_to};
+ghost use Rattle.dns_datagrams.specs.DatagramSteps.{TurnedExchange, TurnedOne, TurnedFirst, Begun, IsFirstNumber, gone_behind, stamped_event, numbers_of, kept_at, kept_under, letter_to};
 
 use crate::notes::Stamp;
 use crate::running::{KeptExchange, Running};
@@ -137,7 +137,7 @@ pub(crate) fn turn_first<W: Served>(
 ) -> Result<(Option<Letter>, bool), OutOfMemory>
     requires { 0 < deque_len exchanges.old }
     ensures here { IfOk result (λ p. (n : ℕ) (answers : Serving) → IsFirstNumber n exchanges.old.items
-        → Turned (request_answer W.Future.answer W.Stream.answer) answers (kept_at n exchanges.old.items) p.0 (kept_at n exchanges.new.items)) }
+        → TurnedExchange (request_answer W.Future.answer W.Stream.answer) answers (kept_at n exchanges.old.items) p.0 (kept_at n exchanges.new.items)) }
     ensures others { OnOk result ((n c : ℕ) → IsFirstNumber n exchanges.old.items → c ≢ n → kept_at c exchanges.new.items ≡ kept_at c exchanges.old.items) }
     ensures order { IfOk result (λ p. numbers_of exchanges.new.items ≡ gone_behind p.1 (numbers_of exchanges.old.items)) }
 {

@@ -6,7 +6,7 @@ ghost use Rattle.dns_client.specs.Serving.{serving};
 ghost use Rattle.dns_service.specs.PolledRequest.{request_answer};
 ghost use Rattle.dns_notes.specs.Notes.{NotedWide};
 ghost use Rattle.dns_datagrams.specs.DatagramSteps.{NewsNoted, hears};
-ghost use Rattle.dns_datagrams.specs.DatagramLoop.{Looks, Fails};
+ghost use Rattle.dns_datagrams.specs.DatagramLoop.{TakesLook, StepFails};
 ghost use Rattle.dns_datagrams.specs.DatagramOffice.{OnlyPolls, ToldSo, office_seen, office_told};
 
 use crate::office::Office;
@@ -59,8 +59,8 @@ impl<R: Wait, W: Served, D: AsyncDgramSock, C: Clock, J: Recorder> Office<'_, R,
         ensures polls { OnlyPolls D.failed_receives D.failed_sends self.old self.new }
         ensures exchanges { self.new.state.now.exchanges ≡ self.old.state.now.exchanges }
         ensures told { ToldSo (office_told D.tells C.tells J.tells) (office_seen D.mail D.failed_sends C.readings J.noted)
-            (λ u. Looks (request_answer W.Future.answer W.Stream.answer) (serving (W.answer self.old.service.now) (W.hint self.old.service.now)))
-            (Fails (request_answer W.Future.answer W.Stream.answer) (serving (W.answer self.old.service.now) (W.hint self.old.service.now)) false) result self.old self.new }
+            (λ u. TakesLook (request_answer W.Future.answer W.Stream.answer) (serving (W.answer self.old.service.now) (W.hint self.old.service.now)))
+            (StepFails (request_answer W.Future.answer W.Stream.answer) (serving (W.answer self.old.service.now) (W.hint self.old.service.now)) false) result self.old self.new }
     {
         let look = self.book.look(self.rt, &mut self.state.seat);
         let heard = &mut self.state.heard;

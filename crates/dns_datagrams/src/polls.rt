@@ -6,7 +6,7 @@ ghost use Rattle.dns_client.specs.Serving.{serving};
 ghost use Rattle.dns_service.specs.PolledRequest.{request_answer};
 ghost use Rattle.dns_service.specs.declared.event.EventKind.TheVariants.{Turn};
 ghost use Rattle.dns_datagrams.specs.DatagramSteps.{IsFirstNumber, gone_behind, stamped_event, numbers_of};
-ghost use Rattle.dns_datagrams.specs.DatagramLoop.{Turns, Fails, Goes, Breaks, Finished, SinceNoted};
+ghost use Rattle.dns_datagrams.specs.DatagramLoop.{Turns, StepFails, LoopGoes, Breaks, Finished, SinceNoted};
 ghost use Rattle.dns_datagrams.specs.DatagramOffice.{OnlyPolls, ToldSo, office_seen, office_told};
 
 use crate::exchanges::{number_first, turn_first};
@@ -27,7 +27,7 @@ impl<R: Wait, W: Served, D: AsyncDgramSock, C: Clock, J: Recorder> Office<'_, R,
         ensures polls { OnlyPolls D.failed_receives D.failed_sends self.old self.new }
         ensures told { ToldSo (office_told D.tells C.tells J.tells) (office_seen D.mail D.failed_sends C.readings J.noted)
             (λ done w s w' s'. SinceNoted (stamped_event stamp (Turn 0)) (λ v. Turns (request_answer W.Future.answer W.Stream.answer) (serving (W.answer self.old.service.now) (W.hint self.old.service.now)) stamp.client true v s w' s') w)
-            (λ w s w'. SinceNoted (stamped_event stamp (Turn 0)) (λ v. Fails (request_answer W.Future.answer W.Stream.answer) (serving (W.answer self.old.service.now) (W.hint self.old.service.now)) true v s w') w) result self.old self.new }
+            (λ w s w'. SinceNoted (stamped_event stamp (Turn 0)) (λ v. StepFails (request_answer W.Future.answer W.Stream.answer) (serving (W.answer self.old.service.now) (W.hint self.old.service.now)) true v s w') w) result self.old self.new }
     {
         match turn_first(self.alloc, &mut self.state.exchanges) {
             Ok((letter, done)) => match self.send_for(stamp, letter) {
@@ -47,7 +47,7 @@ impl<R: Wait, W: Served, D: AsyncDgramSock, C: Clock, J: Recorder> Office<'_, R,
         ensures polls { OnlyPolls D.failed_receives D.failed_sends self.old self.new }
         ensures told { ToldSo (office_told D.tells C.tells J.tells) (office_seen D.mail D.failed_sends C.readings J.noted)
             (λ done. Turns (request_answer W.Future.answer W.Stream.answer) (serving (W.answer self.old.service.now) (W.hint self.old.service.now)) number true)
-            (Fails (request_answer W.Future.answer W.Stream.answer) (serving (W.answer self.old.service.now) (W.hint self.old.service.now)) true) result self.old self.new }
+            (StepFails (request_answer W.Future.answer W.Stream.answer) (serving (W.answer self.old.service.now) (W.hint self.old.service.now)) true) result self.old self.new }
     {
         match note_turn(self.alloc, self.clock, self.journal, number) {
             Ok(stamp) => self.turn_noted(stamp),
@@ -64,7 +64,7 @@ impl<R: Wait, W: Served, D: AsyncDgramSock, C: Clock, J: Recorder> Office<'_, R,
         ensures polls { OnlyPolls D.failed_receives D.failed_sends self.old self.new }
         ensures told { ToldSo (office_told D.tells C.tells J.tells) (office_seen D.mail D.failed_sends C.readings J.noted)
             (λ done. Turns (request_answer W.Future.answer W.Stream.answer) (serving (W.answer self.old.service.now) (W.hint self.old.service.now)) number false)
-            (Fails (request_answer W.Future.answer W.Stream.answer) (serving (W.answer self.old.service.now) (W.hint self.old.service.now)) false) result self.old self.new }
+            (StepFails (request_answer W.Future.answer W.Stream.answer) (serving (W.answer self.old.service.now) (W.hint self.old.service.now)) false) result self.old self.new }
     {
         match self.look_once() {
             Ok(()) => self.turn(number),
@@ -79,8 +79,8 @@ impl<R: Wait, W: Served, D: AsyncDgramSock, C: Clock, J: Recorder> Office<'_, R,
         ensures order { IfOk result (λ done. numbers_of self.new.state.now.exchanges.items ≡ gone_behind done (numbers_of self.old.state.now.exchanges.items)) }
         ensures polls { OnlyPolls D.failed_receives D.failed_sends self.old self.new }
         ensures told { ToldSo (office_told D.tells C.tells J.tells) (office_seen D.mail D.failed_sends C.readings J.noted)
-            (λ done w s w' s'. (rest : List ℕ) → Goes (request_answer W.Future.answer W.Stream.answer) (serving (W.answer self.old.service.now) (W.hint self.old.service.now)) w s false (take 1 (numbers_of s.exchanges.items) ++ rest) w' s' false rest)
-            (Fails (request_answer W.Future.answer W.Stream.answer) (serving (W.answer self.old.service.now) (W.hint self.old.service.now)) false) result self.old self.new }
+            (λ done w s w' s'. (rest : List ℕ) → LoopGoes (request_answer W.Future.answer W.Stream.answer) (serving (W.answer self.old.service.now) (W.hint self.old.service.now)) w s false (take 1 (numbers_of s.exchanges.items) ++ rest) w' s' false rest)
+            (StepFails (request_answer W.Future.answer W.Stream.answer) (serving (W.answer self.old.service.now) (W.hint self.old.service.now)) false) result self.old self.new }
     {
         let number = number_first(&self.state.exchanges);
         self.poll_one(number)
@@ -91,7 +91,7 @@ impl<R: Wait, W: Served, D: AsyncDgramSock, C: Clock, J: Recorder> Office<'_, R,
         requires book { self.old.state.now.seat.book ≡ self.old.book.now }
         ensures polls { OnlyPolls D.failed_receives D.failed_sends self.old self.new }
         ensures told { ToldSo (office_told D.tells C.tells J.tells) (office_seen D.mail D.failed_sends C.readings J.noted)
-            (λ u w s w' s'. Goes (request_answer W.Future.answer W.Stream.answer) (serving (W.answer self.old.service.now) (W.hint self.old.service.now)) w s false (numbers_of s.exchanges.items) w' s' false [])
+            (λ u w s w' s'. LoopGoes (request_answer W.Future.answer W.Stream.answer) (serving (W.answer self.old.service.now) (W.hint self.old.service.now)) w s false (numbers_of s.exchanges.items) w' s' false [])
             (λ w s w'. Breaks (request_answer W.Future.answer W.Stream.answer) (serving (W.answer self.old.service.now) (W.hint self.old.service.now)) s.next w s false (numbers_of s.exchanges.items) w') result self.old self.new }
     {
         for _polled in 0..self.state.exchanges.len() {

@@ -7,7 +7,7 @@ ghost use Rattle.dns_service.specs.PolledRequest.{request_answer};
 ghost use Rattle.dns_service.specs.declared.event.EventKind.TheVariants.{Datagram};
 ghost use Rattle.dns_datagrams.specs.DatagramSteps.{stamped_event};
 ghost use Rattle.dns_datagrams.specs.DatagramsServed.{IsFull, MayCome};
-ghost use Rattle.dns_datagrams.specs.DatagramLoop.{Begins, BeginFails, Receives, ReceivedSo, ReceivedUpTo, Rounded, Stopped, TakenSo, Breaks, SinceNoted};
+ghost use Rattle.dns_datagrams.specs.DatagramLoop.{BeginsExchange, BeginFails, Receives, ReceivedSo, ReceivedUpTo, Rounded, Stopped, TakenSo, Breaks, SinceNoted};
 ghost use Rattle.dns_datagrams.specs.DatagramOffice.{Laps, MayReceive, ToldSo, Went, WentTo, office_seen, office_told};
 
 use crate::exchanges::begin;
@@ -44,7 +44,7 @@ impl<R: Wait, W: Served, D: AsyncDgramSock, C: Clock, J: Recorder> Office<'_, R,
         ensures next { self.new.state.now.next ≤ self.old.state.now.next + 1 }
         ensures receives { D.failed_receives self.new.sock.now ≡ D.failed_receives self.old.sock.now }
         ensures told { ToldSo (office_told D.tells C.tells J.tells) (office_seen D.mail D.failed_sends C.readings J.noted)
-            (λ u w s w' s'. SinceNoted (stamped_event stamp (Datagram from octets)) (λ v. Begins (request_answer W.Future.answer W.Stream.answer) (serving (W.answer self.old.service.now) (W.hint self.old.service.now)) octets from v s w' s') w)
+            (λ u w s w' s'. SinceNoted (stamped_event stamp (Datagram from octets)) (λ v. BeginsExchange (request_answer W.Future.answer W.Stream.answer) (serving (W.answer self.old.service.now) (W.hint self.old.service.now)) octets from v s w' s') w)
             (λ w s w'. SinceNoted (stamped_event stamp (Datagram from octets)) (λ v. BeginFails (request_answer W.Future.answer W.Stream.answer) (serving (W.answer self.old.service.now) (W.hint self.old.service.now)) octets from v s w') w) result self.old self.new }
     {
         match begin(self.alloc, self.service, self.state, stamp, from, octets) {
@@ -66,7 +66,7 @@ impl<R: Wait, W: Served, D: AsyncDgramSock, C: Clock, J: Recorder> Office<'_, R,
         ensures next { self.new.state.now.next ≤ self.old.state.now.next + 1 }
         ensures receives { D.failed_receives self.new.sock.now ≡ D.failed_receives self.old.sock.now }
         ensures told { ToldSo (office_told D.tells C.tells J.tells) (office_seen D.mail D.failed_sends C.readings J.noted)
-            (λ u. Begins (request_answer W.Future.answer W.Stream.answer) (serving (W.answer self.old.service.now) (W.hint self.old.service.now)) octets.now from)
+            (λ u. BeginsExchange (request_answer W.Future.answer W.Stream.answer) (serving (W.answer self.old.service.now) (W.hint self.old.service.now)) octets.now from)
             (BeginFails (request_answer W.Future.answer W.Stream.answer) (serving (W.answer self.old.service.now) (W.hint self.old.service.now)) octets.now from) result self.old self.new }
     {
         let number = self.state.next;

@@ -3,7 +3,7 @@
 ghost use Rattle.std.specs.Prelude.{◌≡◌, ◌≤◌, [], ◌∷◌, OnOk, OnErr};
 ghost use Rattle.dns_outside.specs.Causes.{Tells};
 ghost use Rattle.dns_datagrams.specs.DatagramOffice.{OnlyPolls, ToldSo, office_seen, office_told};
-ghost use Rattle.dns_datagrams.specs.DatagramSteps.{Sends, SendsTo, SendsCause, SendsRose, Unsent, listed};
+ghost use Rattle.dns_datagrams.specs.DatagramSteps.{SendsOrFaults, SendsTo, SendsCause, SendsRose, Unsent, one_or_none};
 
 use crate::notes::{Stamp, note_kind};
 use crate::office::Office;
@@ -72,7 +72,7 @@ pub(crate) fn deliver<R: Wait, D: AsyncDgramSock, C: Clock, J: Recorder>(
     ensures sends { D.failed_sends sock.old ≤ D.failed_sends sock.new }
     ensures rose { SendsRose send_failed.old send_failed.new (D.failed_sends sock.old) (D.failed_sends sock.new) }
     ensures told { OnOk result (Tells (D.tells sock.new × C.tells clock.new × J.tells journal.new) (D.tells sock.old × C.tells clock.old × J.tells journal.old)
-        (Sends stamp (listed letter) limit (J.noted journal.old) (J.noted journal.new) (D.mail sock.old) (D.mail sock.new)
+        (SendsOrFaults stamp (one_or_none letter) limit (J.noted journal.old) (J.noted journal.new) (D.mail sock.old) (D.mail sock.new)
         (D.failed_sends sock.old) (D.failed_sends sock.new) (C.readings clock.old) (C.readings clock.new))) }
     ensures no_memory { OnErr result (Tells (D.tells sock.new × C.tells clock.new × J.tells journal.new) (D.tells sock.old × C.tells clock.old × J.tells journal.old)
         (Unsent (J.noted journal.old) (J.noted journal.new) (D.mail sock.old) (D.mail sock.new))) }
@@ -105,7 +105,7 @@ impl<R: Wait, W: Served, D: AsyncDgramSock, C: Clock, J: Recorder> Office<'_, R,
         ensures polls { OnlyPolls D.failed_receives D.failed_sends self.old self.new }
         ensures rest { self.new.state.now ≡ record self.old.state.now { send_failed = self.new.state.now.send_failed } }
         ensures told { ToldSo (office_told D.tells C.tells J.tells) (office_seen D.mail D.failed_sends C.readings J.noted)
-            (λ u w s w' s'. Sends stamp (listed letter) s.heard.dgram.write_timeout w.noted w'.noted w.mail w'.mail w.failed_sends w'.failed_sends w.readings w'.readings)
+            (λ u w s w' s'. SendsOrFaults stamp (one_or_none letter) s.heard.dgram.write_timeout w.noted w'.noted w.mail w'.mail w.failed_sends w'.failed_sends w.readings w'.readings)
             (λ w s w'. Unsent w.noted w'.noted w.mail w'.mail) result self.old self.new }
     {
         let limit = self.state.heard.dgram.write_timeout();

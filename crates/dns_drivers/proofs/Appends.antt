@@ -6,7 +6,7 @@ use Rattle.dns_admission.specs.declared.call.Call.TheVariants.{Look as ToLook}
 use Rattle.dns_admission.specs.declared.call.Reply.{Reply}
 use Rattle.dns_admission.specs.declared.call.Reply.TheVariants.{Look as Shown}
 use Rattle.dns_book.specs.Gains.{Gained, with_calls}
-use Rattle.dns_book.specs.History.{Name, entry, with_entry}
+use Rattle.dns_book.specs.History.{SeatName, entry, with_entry}
 use Rattle.dns_book.specs.Seats.{Called}
 use Rattle.dns_book.specs.declared.history.Entry.{Entry}
 use Rattle.dns_book.specs.declared.history.Known.{Known}
@@ -35,7 +35,7 @@ pub all_of_append : (client : ℕ) (es fs : List Event) → AllOf client es → 
 all_of_append client [] fs a b = b
 all_of_append client (e ∷ es) fs a b = (a.0, all_of_append client es fs a.1 b)
 
-look_entries_append : (name : Name) (ls ms : List Look) → look_entries name (ls ++ ms) ≡ look_entries name ls ++ look_entries name ms
+look_entries_append : (name : SeatName) (ls ms : List Look) → look_entries name (ls ++ ms) ≡ look_entries name ls ++ look_entries name ms
 look_entries_append name [] ms = refl
 look_entries_append name (l ∷ ls) ms = ap (λ (t : List Entry). entry name ToLook (Shown l) ∷ t) (look_entries_append name ls ms)
 

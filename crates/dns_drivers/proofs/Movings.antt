@@ -4,7 +4,7 @@ use Rattle.std.proofs.lemmas.Grind.{common_steps}
 use Rattle.dns_outside.specs.Traffic.{Traffic}
 use Rattle.dns_service.specs.declared.event.EventKind.{EventKind}
 use Rattle.dns_service.specs.declared.event.EventKind.TheVariants.{Write, Fault, Piece, End, Tick}
-use Rattle.dns_drivers.specs.Links.{piece_octets, HasOctets, tick_count, end_count, WroteFront, WroteUntil, WrittenPart, MovedBy, Unread}
+use Rattle.dns_drivers.specs.Links.{piece_octets, PieceHasOctet, tick_count, end_count, WroteFront, WroteUntil, WrittenPart, MovedBy, Unread}
 use Rattle.dns_drivers.specs.declared.writing.WriteEnd.TheVariants.{Whole, Failed, Late}
 
 pub wrote_none : (piece : List ℕ) (w : Traffic) → WroteFront 0 piece w w
@@ -15,7 +15,7 @@ pub wrote_again : (d : ℕ) (frame : List ℕ) (w0 w1 w2 w3 : Traffic) → Wrote
 wrote_again d frame w0 w1 w2 w3 r e f = let h = f ∙ e in record { came = rw h r.came; went = rw h r.went; ticks = rw h r.ticks; ends = rw h r.ends }
 
 -- the event of a write, and of a read
-moved_by_write : (kind : EventKind) (frame : List ℕ) (limit k : ℕ) (w w' : Traffic) → piece_octets kind ≡ [] → HasOctets kind → tick_count kind ≡ 0 → end_count kind ≡ 0 →
+moved_by_write : (kind : EventKind) (frame : List ℕ) (limit k : ℕ) (w w' : Traffic) → piece_octets kind ≡ [] → PieceHasOctet kind → tick_count kind ≡ 0 → end_count kind ≡ 0 →
     WroteFront k frame w w' → WrittenPart kind (frame ∷ []) limit (take k frame) → MovedBy kind (frame ∷ []) limit w w'
 moved_by_write kind frame limit k w w' p f t e r q = record {
   part = take k frame;
@@ -27,7 +27,7 @@ moved_by_write kind frame limit k w w' p f t e r q = record {
   part_is = q;
 }
 
-moved_by_read : (kind : EventKind) (w w' : Traffic) → HasOctets kind → w'.came ≡ w.came ++ piece_octets kind → w'.empty_reads ≡ w.empty_reads + tick_count kind → w'.ends ≡ w.ends + end_count kind →
+moved_by_read : (kind : EventKind) (w w' : Traffic) → PieceHasOctet kind → w'.came ≡ w.came ++ piece_octets kind → w'.empty_reads ≡ w.empty_reads + tick_count kind → w'.ends ≡ w.ends + end_count kind →
     w'.went ≡ w.went → WrittenPart kind [] 0 [] → MovedBy kind [] 0 w w'
 moved_by_read kind w w' f c t e o q = record { part = []; came = c; full = f; ticks = t; ends = e; went = o ∙ sym (append-nil w.went); part_is = q }
 

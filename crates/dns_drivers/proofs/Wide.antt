@@ -20,7 +20,7 @@ use Rattle.dns_notes.specs.Clocks.{fault_count, faults_in}
 use Rattle.dns_notes.specs.Notes.{AllWide}
 use Rattle.dns_notes.specs.Woven.{kinds, own_kinds, AllOf, AreNobodys, news_kinds}
 use Rattle.dns_drivers.specs.Closing.{closed_by}
-use Rattle.dns_drivers.specs.Links.{pieces_in, piece_octets, AllFull, HasOctets, ticks_in, tick_count, ends_in, end_count, frame_octets}
+use Rattle.dns_drivers.specs.Links.{pieces_in, piece_octets, AllFull, PieceHasOctet, ticks_in, tick_count, ends_in, end_count, frame_octets}
 use Rattle.dns_drivers.specs.Rounds.{May, turned, turned_all, Rounds}
 use Rattle.dns_drivers.specs.Runs.{MayGoOn, IsServed, ServesOn}
 use Rattle.dns_drivers.specs.Story.{LastCloses}
@@ -28,7 +28,7 @@ use Rattle.dns_drivers.specs.Story.{LastCloses}
 -- one of them says nothing of the link or the rounds
 record IsQuiet (k : EventKind) : Type 0 where
   piece : piece_octets k ≡ []
-  full : HasOctets k
+  full : PieceHasOctet k
   ticks : tick_count k ≡ 0
   ends : end_count k ≡ 0
   fault : fault_count k ≡ 0

@@ -20,13 +20,13 @@ pieces_in [] = []
 pieces_in (e ∷ es) = piece_octets e.kind ++ pieces_in es
 
 -- each piece has an octet
-abbrev pub HasOctets : EventKind → Type 0
-HasOctets (Piece o) = 1 ≤ length o
-HasOctets _ = Unit {0}
+abbrev pub PieceHasOctet : EventKind → Type 0
+PieceHasOctet (Piece o) = 1 ≤ length o
+PieceHasOctet _ = Unit {0}
 
 abbrev pub AllFull : List Event → Type 0
 AllFull [] = Unit {0}
-AllFull (e ∷ es) = HasOctets e.kind × AllFull es
+AllFull (e ∷ es) = PieceHasOctet e.kind × AllFull es
 
 -- the Ticks among some events, and the Ends
 abbrev pub tick_count : EventKind → ℕ
@@ -108,7 +108,7 @@ WrittenPart _ queue limit part = part ≡ []
 pub record MovedBy (kind : EventKind) (queue : List (List ℕ)) (limit : ℕ) (a b : Traffic) : Type 0 where
   pub part : List ℕ
   pub came : b.came ≡ a.came ++ piece_octets kind
-  pub full : HasOctets kind
+  pub full : PieceHasOctet kind
   pub ticks : b.empty_reads ≡ a.empty_reads + tick_count kind
   pub ends : b.ends ≡ a.ends + end_count kind
   pub went : b.went ≡ a.went ++ part

@@ -9,7 +9,7 @@ use Rattle.dns_forward.specs.declared.asking_event.AskingEvent.{AskingEvent}
 use Rattle.dns_forward.specs.declared.asking_event.AskingEvent.TheVariants.{Arrived, Tick}
 use Rattle.dns_forward.specs.declared.asking_event.AskingOutcome.TheVariants.{OfArrival, OfTick}
 use Rattle.dns_forward.specs.declared.asking_event.Ticked.TheVariants.{Nothing, Send, GaveUp}
-use Rattle.dns_forward.specs.Asked.{Asks, arrival_outcome, due_ticks, ended_by, has_ended, is_due, last_from, matching_arrivals, outcome, tick_outcome}
+use Rattle.dns_forward.specs.Asked.{Inquiry, arrival_outcome, due_ticks, ended_by, has_ended, is_due, last_from, matching_arrivals, outcome, tick_outcome}
 use Rattle.dns_forward.specs.Askings.{HasLeft}
 use Rattle.dns_forward.specs.Matching.{matches, with_id}
 use Rattle.dns_forward.proofs.Events.{arrived-more, arrived-same, last-more, match-more, stray-more, ticked-more, ticked-same}
@@ -53,14 +53,14 @@ none_there (x ∷ xs) h = absurd (cc)
 -- ---- an asking that has ended, and one that hasn't
 
 -- what is left where these arrivals matched and these ticks were due
-abbrev Left : Asks → List (List ℕ) → List ℕ → ℕ → ℕ → Type 0
+abbrev Left : Inquiry → List (List ℕ) → List ℕ → ℕ → ℕ → Type 0
 Left q xs ats left last = HasLeft (ended_by q.tries xs ats) q ats left last
 
 -- the same behind events
-abbrev pub LeftBehind : Asks → List AskingEvent → ℕ → ℕ → Type 0
+abbrev pub LeftBehind : Inquiry → List AskingEvent → ℕ → ℕ → Type 0
 LeftBehind q es left last = HasLeft (has_ended q es) q (due_ticks q es) left last
 
-ended_so : (b : Bool) (q : Asks) (xs : List (List ℕ)) (ats : List ℕ) (left last : ℕ) → ended_by q.tries xs ats ≡ b → HasLeft b q ats left last → left ≡ 0 → b ≡ true
+ended_so : (b : Bool) (q : Inquiry) (xs : List (List ℕ)) (ats : List ℕ) (left last : ℕ) → ended_by q.tries xs ats ≡ b → HasLeft b q ats left last → left ≡ 0 → b ≡ true
 ended_so true q xs ats left last e h z = refl
 ended_so false q xs ats left last e h z =
     let few : length ats < q.tries = false_le q.tries (length ats) (or_second (is_some (first_of xs)) (nat_le q.tries (length ats)) e) in
@@ -68,31 +68,31 @@ ended_so false q xs ats left last e h z =
     absurd (omega arith)
 
 -- where none is left it has ended
-ended : (q : Asks) (xs : List (List ℕ)) (ats : List ℕ) (left last : ℕ) → Left q xs ats left last → left ≡ 0 → ended_by q.tries xs ats ≡ true
+ended : (q : Inquiry) (xs : List (List ℕ)) (ats : List ℕ) (left last : ℕ) → Left q xs ats left last → left ≡ 0 → ended_by q.tries xs ats ≡ true
 ended q xs ats left last h z = ended_so (ended_by q.tries xs ats) q xs ats left last refl h z
 
 -- where one is left it hasn't, and what is kept is that
-pub record Goes (q : Asks) (xs : List (List ℕ)) (ats : List ℕ) (left last : ℕ) : Type 0 where
+pub record Goes (q : Inquiry) (xs : List (List ℕ)) (ats : List ℕ) (left last : ℕ) : Type 0 where
   pub going : ended_by q.tries xs ats ≡ false
   pub all : left + length ats ≡ q.tries
   pub latest : last ≡ last_from q.at ats
 
-goes_so : (b : Bool) (q : Asks) (xs : List (List ℕ)) (ats : List ℕ) (left last : ℕ) → ended_by q.tries xs ats ≡ b → HasLeft b q ats left last → (left ≡ 0 → ⊥) → Goes q xs ats left last
+goes_so : (b : Bool) (q : Inquiry) (xs : List (List ℕ)) (ats : List ℕ) (left last : ℕ) → ended_by q.tries xs ats ≡ b → HasLeft b q ats left last → (left ≡ 0 → ⊥) → Goes q xs ats left last
 goes_so true q xs ats left last e h n = absurd (n h)
 goes_so false q xs ats left last e h n = record { going = e; all = h.0; latest = h.1 }
 
-goes : (q : Asks) (xs : List (List ℕ)) (ats : List ℕ) (left last : ℕ) → Left q xs ats left last → (left ≡ 0 → ⊥) → Goes q xs ats left last
+goes : (q : Inquiry) (xs : List (List ℕ)) (ats : List ℕ) (left last : ℕ) → Left q xs ats left last → (left ≡ 0 → ⊥) → Goes q xs ats left last
 goes q xs ats left last h n = goes_so (ended_by q.tries xs ats) q xs ats left last refl h n
 
 -- none is left where it has ended
-over : (q : Asks) (xs : List (List ℕ)) (ats : List ℕ) (left last : ℕ) → ended_by q.tries xs ats ≡ true → left ≡ 0 → Left q xs ats left last
+over : (q : Inquiry) (xs : List (List ℕ)) (ats : List ℕ) (left last : ℕ) → ended_by q.tries xs ats ≡ true → left ≡ 0 → Left q xs ats left last
 over q xs ats left last e z = subst (λ (b : Bool). HasLeft b q ats left last) (sym e) z
 
-on : (q : Asks) (xs : List (List ℕ)) (ats : List ℕ) (left last : ℕ) → ended_by q.tries xs ats ≡ false → left + length ats ≡ q.tries → last ≡ last_from q.at ats → Left q xs ats left last
+on : (q : Inquiry) (xs : List (List ℕ)) (ats : List ℕ) (left last : ℕ) → ended_by q.tries xs ats ≡ false → left + length ats ≡ q.tries → last ≡ last_from q.at ats → Left q xs ats left last
 on q xs ats left last e a l = subst (λ (b : Bool). HasLeft b q ats left last) (sym e) (a, l)
 
 -- the same behind other events
-same_left : (q : Asks) (xs ys : List (List ℕ)) (ats bts : List ℕ) (left last : ℕ) → ys ≡ xs → bts ≡ ats → Left q xs ats left last → Left q ys bts left last
+same_left : (q : Inquiry) (xs ys : List (List ℕ)) (ats bts : List ℕ) (left last : ℕ) → ys ≡ xs → bts ≡ ats → Left q xs ats left last → Left q ys bts left last
 same_left q xs ys ats bts left last e f h =
     subst (λ (zs : List (List ℕ)). Left q zs bts left last) (sym e) (subst (λ (cts : List ℕ). Left q xs cts left last) (sym f) h)
 
@@ -112,12 +112,12 @@ answered tries [] o ats = refl
 answered tries (x ∷ xs) o ats = refl
 
 -- none is left when it begins but its tries
-pub begun : (q : Asks) → 1 ≤ q.tries → LeftBehind q [] q.tries q.at
+pub begun : (q : Inquiry) → 1 ≤ q.tries → LeftBehind q [] q.tries q.at
 begun q h = on q [] [] q.tries q.at (le_false q.tries 0 (omega arith)) (omega arith) refl
 
 -- ---- arrivals
 
-pub arrived_late : (q : Asks) (es : List AskingEvent) (at : ℕ) (o : List ℕ) (left last : ℕ) → LeftBehind q es left last → left ≡ 0
+pub arrived_late : (q : Inquiry) (es : List AskingEvent) (at : ℕ) (o : List ℕ) (left last : ℕ) → LeftBehind q es left last → left ≡ 0
     → LeftBehind q (es ++ Arrived at o ∷ []) left last × (outcome q es (Arrived at o) ≡ OfArrival None)
 arrived_late q es at o left last h z =
     let e = ended q (matching_arrivals q es) (due_ticks q es) left last h z in
@@ -132,14 +132,14 @@ no_answer true m x h = refl
 no_answer false true x h = absurd (cc)
 no_answer false false x h = refl
 
-pub arrived_stray : (q : Asks) (es : List AskingEvent) (at : ℕ) (o : List ℕ) (left last : ℕ) → LeftBehind q es left last → matches q.message q.id o ≡ false
+pub arrived_stray : (q : Inquiry) (es : List AskingEvent) (at : ℕ) (o : List ℕ) (left last : ℕ) → LeftBehind q es left last → matches q.message q.id o ≡ false
     → LeftBehind q (es ++ Arrived at o ∷ []) left last × (outcome q es (Arrived at o) ≡ OfArrival None)
 arrived_stray q es at o left last h m = (
   same_left q _ _ _ _ left last (stray-more q es at o m) (arrived-same q es at o) h,
   ap OfArrival (no_answer (has_ended q es) (matches q.message q.id o) (with_id (header_of q.message).id o) m),
 )
 
-pub arrived_answer : (q : Asks) (es : List AskingEvent) (at : ℕ) (o : List ℕ) (left last : ℕ) → LeftBehind q es left last → (left ≡ 0 → ⊥) → matches q.message q.id o ≡ true
+pub arrived_answer : (q : Inquiry) (es : List AskingEvent) (at : ℕ) (o : List ℕ) (left last : ℕ) → LeftBehind q es left last → (left ≡ 0 → ⊥) → matches q.message q.id o ≡ true
     → LeftBehind q (es ++ Arrived at o ∷ []) 0 last × (outcome q es (Arrived at o) ≡ OfArrival (Some (with_id (header_of q.message).id o)))
 arrived_answer q es at o left last h n m =
     let g = goes q (matching_arrivals q es) (due_ticks q es) left last h n in
@@ -150,7 +150,7 @@ arrived_answer q es at o left last h n m =
 
 -- ---- ticks
 
-pub ticked_late : (q : Asks) (es : List AskingEvent) (at left last : ℕ) → LeftBehind q es left last → left ≡ 0
+pub ticked_late : (q : Inquiry) (es : List AskingEvent) (at left last : ℕ) → LeftBehind q es left last → left ≡ 0
     → LeftBehind q (es ++ Tick at ∷ []) left last × (outcome q es (Tick at) ≡ OfTick Nothing)
 ticked_late q es at left last h z =
     let e = ended q (matching_arrivals q es) (due_ticks q es) left last h z in
@@ -160,7 +160,7 @@ ticked_late q es at left last h z =
       ap (λ (b : Bool). OfTick (cond b Nothing (tick_outcome q (due_ticks q es) at))) e,
     )
 
-early_so : (q : Asks) (es : List AskingEvent) (at left last : ℕ) → LeftBehind q es left last → Goes q (matching_arrivals q es) (due_ticks q es) left last → is_due q.timeout last at ≡ false
+early_so : (q : Inquiry) (es : List AskingEvent) (at left last : ℕ) → LeftBehind q es left last → Goes q (matching_arrivals q es) (due_ticks q es) left last → is_due q.timeout last at ≡ false
     → LeftBehind q (es ++ Tick at ∷ []) left last × (outcome q es (Tick at) ≡ OfTick Nothing)
 early_so q es at left last h g d =
     let f : is_due q.timeout (last_from q.at (due_ticks q es)) at ≡ false = ap (λ (t : ℕ). is_due q.timeout t at) (sym g.latest) ∙ d in (
@@ -170,17 +170,17 @@ early_so q es at left last h g d =
           ∙ ap (λ (b : Bool). OfTick (cond b (cond (nat_lt (suc (length (due_ticks q es))) q.tries) Send GaveUp) Nothing)) f,
     )
 
-early_by : (left : ℕ) (q : Asks) (es : List AskingEvent) (at last : ℕ) → LeftBehind q es left last → is_due q.timeout last at ≡ false
+early_by : (left : ℕ) (q : Inquiry) (es : List AskingEvent) (at last : ℕ) → LeftBehind q es left last → is_due q.timeout last at ≡ false
     → LeftBehind q (es ++ Tick at ∷ []) left last × (outcome q es (Tick at) ≡ OfTick Nothing)
 early_by zero q es at last h d = ticked_late q es at 0 last h refl
 early_by (suc left) q es at last h d = early_so q es at (suc left) last h (goes q (matching_arrivals q es) (due_ticks q es) (suc left) last h (λ (z : suc left ≡ 0). absurd (omega arith))) d
 
-pub ticked_early : (q : Asks) (es : List AskingEvent) (at left last : ℕ) → LeftBehind q es left last → is_due q.timeout last at ≡ false
+pub ticked_early : (q : Inquiry) (es : List AskingEvent) (at left last : ℕ) → LeftBehind q es left last → is_due q.timeout last at ≡ false
     → LeftBehind q (es ++ Tick at ∷ []) left last × (outcome q es (Tick at) ≡ OfTick Nothing)
 ticked_early q es at left last h d = early_by left q es at last h d
 
 -- a due tick of an asking that goes on
-due_now : (q : Asks) (es : List AskingEvent) (at left last : ℕ) → Goes q (matching_arrivals q es) (due_ticks q es) left last → is_due q.timeout last at ≡ true
+due_now : (q : Inquiry) (es : List AskingEvent) (at left last : ℕ) → Goes q (matching_arrivals q es) (due_ticks q es) left last → is_due q.timeout last at ≡ true
     → (due_ticks q (es ++ Tick at ∷ []) ≡ due_ticks q es ++ at ∷ []) × (outcome q es (Tick at) ≡ OfTick (cond (nat_lt (suc (length (due_ticks q es))) q.tries) Send GaveUp))
 due_now q es at left last g d =
     let f : is_due q.timeout (last_from q.at (due_ticks q es)) at ≡ true = ap (λ (t : ℕ). is_due q.timeout t at) (sym g.latest) ∙ d in (
@@ -189,12 +189,12 @@ due_now q es at left last g d =
           ∙ ap (λ (b : Bool). OfTick (cond b (cond (nat_lt (suc (length (due_ticks q es))) q.tries) Send GaveUp) Nothing)) f,
     )
 
-nothing_matched : (q : Asks) (xs : List (List ℕ)) (ats bts : List ℕ) → ended_by q.tries xs ats ≡ false → length bts < q.tries → ended_by q.tries xs bts ≡ false
+nothing_matched : (q : Inquiry) (xs : List (List ℕ)) (ats bts : List ℕ) → ended_by q.tries xs ats ≡ false → length bts < q.tries → ended_by q.tries xs bts ≡ false
 nothing_matched q xs ats bts e h =
     let n : xs ≡ [] = none_there xs (or_first (is_some (first_of xs)) (nat_le q.tries (length ats)) e) in
     ap (λ (ys : List (List ℕ)). ended_by q.tries ys bts) n ∙ le_false q.tries (length bts) h
 
-pub ticked_again : (q : Asks) (es : List AskingEvent) (at left last rest : ℕ) → LeftBehind q es left last → is_due q.timeout last at ≡ true → left ≡ rest + 1 → (rest ≡ 0 → ⊥)
+pub ticked_again : (q : Inquiry) (es : List AskingEvent) (at left last rest : ℕ) → LeftBehind q es left last → is_due q.timeout last at ≡ true → left ≡ rest + 1 → (rest ≡ 0 → ⊥)
     → LeftBehind q (es ++ Tick at ∷ []) rest at × (outcome q es (Tick at) ≡ OfTick Send)
 ticked_again q es at left last rest h d s n =
     let xs = matching_arrivals q es in
@@ -209,7 +209,7 @@ ticked_again q es at left last rest h d s n =
       now.1 ∙ ap (λ (b : Bool). OfTick (cond b Send GaveUp)) (lt_true (suc (length ats)) q.tries (omega arith)),
     )
 
-pub ticked_last : (q : Asks) (es : List AskingEvent) (at left last rest : ℕ) → LeftBehind q es left last → is_due q.timeout last at ≡ true → left ≡ rest + 1 → rest ≡ 0
+pub ticked_last : (q : Inquiry) (es : List AskingEvent) (at left last rest : ℕ) → LeftBehind q es left last → is_due q.timeout last at ≡ true → left ≡ rest + 1 → rest ≡ 0
     → LeftBehind q (es ++ Tick at ∷ []) rest at × (outcome q es (Tick at) ≡ OfTick GaveUp)
 ticked_last q es at left last rest h d s n =
     let xs = matching_arrivals q es in

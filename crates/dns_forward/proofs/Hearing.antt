@@ -9,14 +9,14 @@ use Rattle.dns_forward.specs.declared.asking_event.AskingOutcome.{AskingOutcome}
 use Rattle.dns_forward.specs.declared.asking_event.AskingOutcome.TheVariants.{OfArrival, OfTick}
 use Rattle.dns_forward.specs.declared.asking_event.Ticked.TheVariants.{Nothing, Send, GaveUp}
 use Rattle.dns_forward.specs.declared.matching.Expected.{Expected}
-use Rattle.dns_forward.specs.Asked.{Asks, asked_by, is_due, outcome}
+use Rattle.dns_forward.specs.Asked.{Inquiry, asked_by, is_due, outcome}
 use Rattle.dns_forward.specs.Askings.{Expects, HasHeard, Hears}
 use Rattle.dns_forward.specs.Matching.{is_answer, matches, with_id}
 use Rattle.dns_forward.proofs.Events.{asked-more}
 use Rattle.dns_forward.proofs.Heard.{LeftBehind, arrived_answer, arrived_late, arrived_stray, ticked_again, ticked_early, ticked_last, ticked_late}
 
 -- what is left, and what came of the event
-heard : (q : Asks) (es : List AskingEvent) (e : AskingEvent) (o : AskingOutcome) (a : Asking) (left last : ℕ) → HasHeard q es a → LeftBehind q (es ++ e ∷ []) left last × (outcome q es e ≡ o)
+heard : (q : Inquiry) (es : List AskingEvent) (e : AskingEvent) (o : AskingOutcome) (a : Asking) (left last : ℕ) → HasHeard q es a → LeftBehind q (es ++ e ∷ []) left last × (outcome q es e ≡ o)
     → HasHeard q (es ++ e ∷ []) (record a { left = left; last = last }) × (asked_by q (es ++ e ∷ []) ≡ asked_by q es ++ o ∷ [])
 heard q es e o a left last h s = (
   record { octets = h.octets; asker = h.asker; expects = h.expects; timeout = h.timeout; left = s.0 },
@@ -25,7 +25,7 @@ heard q es e o a left last h s = (
 
 -- ---- arrivals
 
-matches_so : (q : Asks) (e : Expected) (o : List ℕ) → Expects q e → matches q.message q.id o ≡ is_answer e.id e.opcode e.question o
+matches_so : (q : Inquiry) (e : Expected) (o : List ℕ) → Expects q e → matches q.message q.id o ≡ is_answer e.id e.opcode e.question o
 matches_so q e o x =
     sym
     (ap (λ (i : ℕ). is_answer i e.opcode e.question o) x.id
@@ -48,7 +48,7 @@ hears_answer a at o m b n e t w = λ q es h.
 
 -- ---- ticks
 
-due_so : (q : Asks) (a : Asking) (at : ℕ) (b c : Bool) → a.timeout ≡ q.timeout → b ≡ is_due a.timeout a.last at → b ≡ c → is_due q.timeout a.last at ≡ c
+due_so : (q : Inquiry) (a : Asking) (at : ℕ) (b c : Bool) → a.timeout ≡ q.timeout → b ≡ is_due a.timeout a.last at → b ≡ c → is_due q.timeout a.last at ≡ c
 due_so q a at b c t e f = ap (λ (n : ℕ). is_due n a.last at) (sym t) ∙ (sym e ∙ f)
 
 one_less : (n : ℕ) → (n ≡ 0 → ⊥) → n ≡ n - 1 + 1

@@ -15,7 +15,7 @@ use Rattle.dns_forward.specs.declared.asking_event.Ticked.TheVariants.{Nothing, 
 use Rattle.dns_forward.specs.Matching.{matches, with_id}
 
 -- what is asked: a message, under an identifier; how often it is sent at most, and after what time again; and when it was sent first
-pub record Asks : Type 0 where
+pub record Inquiry : Type 0 where
   pub message : List ℕ
   pub id : ℕ
   pub tries : ℕ
@@ -27,12 +27,12 @@ abbrev pub arrival : AskingEvent → Option (List ℕ)
 arrival (Arrived at o) = Some o
 arrival (Tick at) = None
 
-abbrev pub tick : AskingEvent → Option ℕ
-tick (Arrived at o) = None
-tick (Tick at) = Some at
+abbrev pub moment_of_tick : AskingEvent → Option ℕ
+moment_of_tick (Arrived at o) = None
+moment_of_tick (Tick at) = Some at
 
 -- the arrivals that match
-abbrev pub matching_arrivals : Asks → List AskingEvent → List (List ℕ)
+abbrev pub matching_arrivals : Inquiry → List AskingEvent → List (List ℕ)
 matching_arrivals q es = filter (λ (o : List ℕ). matches q.message q.id o) (filter_map arrival es)
 
 -- a tick is due once the timeout passed since the last send, and where the moment at which it passes has no number
@@ -45,8 +45,8 @@ due timeout last [] = []
 due timeout last (at ∷ ats) = if is_due timeout last at then at ∷ due timeout at ats else due timeout last ats
 
 -- the ticks that are due
-abbrev pub due_ticks : Asks → List AskingEvent → List ℕ
-due_ticks q es = due q.timeout q.at (filter_map tick es)
+abbrev pub due_ticks : Inquiry → List AskingEvent → List ℕ
+due_ticks q es = due q.timeout q.at (filter_map moment_of_tick es)
 
 -- the last of moments, or else an earlier one
 abbrev pub last_from : ℕ → List ℕ → ℕ
@@ -57,29 +57,29 @@ last_from at (next ∷ ats) = last_from next ats
 abbrev pub ended_by : ℕ → List (List ℕ) → List ℕ → Bool
 ended_by tries arrivals ats = is_some (first_of arrivals) || nat_le tries (length ats)
 
-abbrev pub has_ended : Asks → List AskingEvent → Bool
+abbrev pub has_ended : Inquiry → List AskingEvent → Bool
 has_ended q es = ended_by q.tries (matching_arrivals q es) (due_ticks q es)
 
 -- what matches is the answer, which is given under the identifier of the message that was asked
-abbrev pub arrival_outcome : Asks → List ℕ → Option (List ℕ)
+abbrev pub arrival_outcome : Inquiry → List ℕ → Option (List ℕ)
 arrival_outcome q o = if matches q.message q.id o then Some (with_id (header_of q.message).id o) else None
 
 -- a due tick sends again while fewer sends than tries were made: the first, and one at each tick that was due
-abbrev pub tick_outcome : Asks → List ℕ → ℕ → Ticked
+abbrev pub tick_outcome : Inquiry → List ℕ → ℕ → Ticked
 tick_outcome q ats at = if is_due q.timeout (last_from q.at ats) at then (if nat_lt (suc (length ats)) q.tries then Send else GaveUp) else Nothing
 
 -- what comes of an event behind others
-abbrev pub outcome : Asks → List AskingEvent → AskingEvent → AskingOutcome
+abbrev pub outcome : Inquiry → List AskingEvent → AskingEvent → AskingOutcome
 outcome q es (Arrived at o) = OfArrival (if has_ended q es then None else arrival_outcome q o)
 outcome q es (Tick at) = OfTick (if has_ended q es then Nothing else tick_outcome q (due_ticks q es) at)
 
 -- what comes of each event, behind others
-abbrev pub outcomes : Asks → List AskingEvent → List AskingEvent → List AskingOutcome
+abbrev pub outcomes : Inquiry → List AskingEvent → List AskingEvent → List AskingOutcome
 outcomes q before [] = []
 outcomes q before (e ∷ es) = outcome q before e ∷ outcomes q (before ++ e ∷ []) es
 
 -- what comes of each event
-abbrev pub asked_by : Asks → List AskingEvent → List AskingOutcome
+abbrev pub asked_by : Inquiry → List AskingEvent → List AskingOutcome
 asked_by q es = outcomes q [] es
 
 abbrev pub asked : List ℕ → ℕ → ℕ → ℕ → ℕ → List AskingEvent → List AskingOutcome

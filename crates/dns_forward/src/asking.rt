@@ -3,7 +3,7 @@
 ghost use Rattle.std.specs.Prelude.{◌≡◌, ◌≤◌, ◌+◌, [], IfOk, OnErr, List};
 ghost use Rattle.dns_forward.specs.declared.asking_event.AskingEvent.{AskingEvent};
 ghost use Rattle.dns_forward.specs.declared.asking_event.AskingOutcome.{AskingOutcome};
-ghost use Rattle.dns_forward.specs.Asked.{Asks, is_due};
+ghost use Rattle.dns_forward.specs.Asked.{Inquiry, is_due};
 ghost use Rattle.dns_forward.specs.Matching.{with_id};
 
 use crate::asking_event::{AskingEvent, AskingOutcome, Ticked};
@@ -63,7 +63,7 @@ impl Asking {
 
     /// The message that is sent.
     pub fn octets(&self) -> &[u8]
-        ensures { (q : Asks) (es : List AskingEvent) → HasHeard q es self.now → result.now ≡ with_id q.id q.message }
+        ensures { (q : Inquiry) (es : List AskingEvent) → HasHeard q es self.now → result.now ≡ with_id q.id q.message }
     {
         self.octets.as_slice()
     }

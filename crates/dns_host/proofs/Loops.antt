@@ -9,7 +9,7 @@ use Rattle.dns_admission.specs.declared.look.Admission.TheVariants.{Admitted, Fu
 use Rattle.dns_admission.specs.declared.call.Call.TheVariants.{Look as ToLook}
 use Rattle.dns_admission.specs.declared.call.Reply.TheVariants.{Look as Shown}
 use Rattle.dns_book.specs.Seats.{Called}
-use Rattle.dns_book.specs.History.{Name}
+use Rattle.dns_book.specs.History.{SeatName}
 use Rattle.dns_book.specs.Gains.{Gained}
 use Rattle.dns_book.specs.declared.history.Entry.{Entry}
 use Rattle.dns_book.specs.declared.history.Known.{Known}
@@ -101,7 +101,7 @@ so_far_shut count taken look now before k k1 k2 a b g h f f' s l shut less = rec
   turned = record {
     calls = subst (λ (es : List Entry). Gained k es k2)
         (ap (λ (es : List Entry). es ++ look_entry k1.name look ∷ []) (append-nil (turn_entries k.name s.turns))
-        ∙ ap (λ (n : Name). turn_entries k.name s.turns ++ look_entry n look ∷ []) (sym l.same_name))
+        ∙ ap (λ (n : SeatName). turn_entries k.name s.turns ++ look_entry n look ∷ []) (sym l.same_name))
         (gained_both k _ k1 _ k2 s.turned.calls (gained_one k1 ToLook (Shown look) k2 l));
     running = s.turned.running;
     name = l.same_name ∙ s.turned.name;

@@ -8,7 +8,7 @@ use Rattle.dns_admission.specs.declared.look.Look.{Look}
 use Rattle.dns_admission.specs.declared.call.Call.TheVariants.{Look as ToLook}
 use Rattle.dns_admission.specs.declared.call.Reply.TheVariants.{Look as Shown}
 use Rattle.dns_book.specs.Seats.{Called}
-use Rattle.dns_book.specs.History.{Name}
+use Rattle.dns_book.specs.History.{SeatName}
 use Rattle.dns_book.specs.Gains.{Gained}
 use Rattle.dns_book.specs.declared.history.Entry.{Entry}
 use Rattle.dns_book.specs.declared.history.Known.{Known}
@@ -19,7 +19,7 @@ use Rattle.dns_host.specs.declared.taking.Arrival.{Arrival}
 use Rattle.dns_host.proofs.Gainings.{gained_one, gained_both}
 use Rattle.dns_host.proofs.Tellings.{tells_then}
 
-pub halved-twice : (n : Name) (xs ys : List SocketAddr) → halved (halved n xs) ys ≡ halved n (xs ++ ys)
+pub halved-twice : (n : SeatName) (xs ys : List SocketAddr) → halved (halved n xs) ys ≡ halved n (xs ++ ys)
 halved-twice n xs ys =
     append_assoc n (replicate (length xs) false) (replicate (length ys) false)
     ∙ ap (λ (l : List Bool). n ++ l) (replicate-append-replicate (length xs) (length ys) false ∙ ap (λ (c : ℕ). replicate c false) (sym (length-append xs ys)))
@@ -40,16 +40,16 @@ failures-snoc : (ts : List AcceptTurn) (t : AcceptTurn) → failures_in (ts ++ t
 failures-snoc [] t = omega arith
 failures-snoc (x ∷ xs) t = ap (λ (n : ℕ). one_if_failure x.came + n) (failures-snoc xs t) ∙ sym (add_assoc (one_if_failure x.came) (failures_in xs) (one_if_failure t.came))
 
-entries-snoc : (n : Name) (ts : List AcceptTurn) (t : AcceptTurn) →
+entries-snoc : (n : SeatName) (ts : List AcceptTurn) (t : AcceptTurn) →
     turn_entries n (ts ++ t ∷ []) ≡ turn_entries n ts ++ (look_entry (halved n (admitted_callers_in ts)) t.look ∷ admit_entries (halved n (admitted_callers_in ts)) t.came)
 entries-snoc n [] t =
     ap (λ (l : List Entry). look_entry n t.look ∷ l) (append-nil (admit_entries n t.came))
-    ∙ ap (λ (m : Name). look_entry m t.look ∷ admit_entries m t.came) (sym (append-nil n))
+    ∙ ap (λ (m : SeatName). look_entry m t.look ∷ admit_entries m t.came) (sym (append-nil n))
 entries-snoc n (x ∷ xs) t =
-    let m : Name = halved n (admitted_caller x.came) in
-    let last : Name → List Entry = λ k. look_entry k t.look ∷ admit_entries k t.came in
+    let m : SeatName = halved n (admitted_caller x.came) in
+    let last : SeatName → List Entry = λ k. look_entry k t.look ∷ admit_entries k t.came in
     ap (λ (l : List Entry). look_entry n x.look ∷ (admit_entries n x.came ++ l))
-    (entries-snoc m xs t ∙ ap (λ (k : Name). turn_entries m xs ++ last k) (halved-twice n (admitted_caller x.came) (admitted_callers_in xs)))
+    (entries-snoc m xs t ∙ ap (λ (k : SeatName). turn_entries m xs ++ last k) (halved-twice n (admitted_caller x.came) (admitted_callers_in xs)))
     ∙ ap (λ (l : List Entry). look_entry n x.look ∷ l) (sym (append_assoc (admit_entries n x.came) (turn_entries m xs) (last (halved n (admitted_callers_in (x ∷ xs))))))
 
 pub rose_by_more : (i j a b c : ℕ) → RoseBy i a b → RoseBy j b c → RoseBy (i + j) a c
@@ -61,9 +61,9 @@ turn_calls : (turns : List AcceptTurn) (look : Look) (came : Came) (k k1 k2 k3 :
     Gained k (turn_entries k.name (turns ++ (record { look = look; came = came }) ∷ []) ++ []) k3
 turn_calls turns look came k k1 k2 k3 g n l h =
     let t : AcceptTurn = record { look = look; came = came } in
-    let m : Name = halved k.name (admitted_callers_in turns) in
-    let one : Gained k1 (look_entry m look ∷ []) k2 = subst (λ (x : Name). Gained k1 (look_entry x look ∷ []) k2) n (gained_one k1 ToLook (Shown look) k2 l) in
-    let two : Gained k2 (admit_entries m came) k3 = subst (λ (x : Name). Gained k2 (admit_entries x came) k3) (l.same_name ∙ n) h in
+    let m : SeatName = halved k.name (admitted_callers_in turns) in
+    let one : Gained k1 (look_entry m look ∷ []) k2 = subst (λ (x : SeatName). Gained k1 (look_entry x look ∷ []) k2) n (gained_one k1 ToLook (Shown look) k2 l) in
+    let two : Gained k2 (admit_entries m came) k3 = subst (λ (x : SeatName). Gained k2 (admit_entries x came) k3) (l.same_name ∙ n) h in
     let all : Gained k ((turn_entries k.name turns ++ []) ++ ((look_entry m look ∷ []) ++ admit_entries m came)) k3 =
     gained_both k _ k1 _ k3 g (gained_both k1 (look_entry m look ∷ []) k2 (admit_entries m came) k3 one two) in
     subst (λ (es : List Entry). Gained k es k3)
@@ -75,7 +75,7 @@ turn_name : (turns : List AcceptTurn) (look : Look) (came : Came) (k k1 k2 k3 : 
     k1.name ≡ halved k.name (admitted_callers_in turns) → k2.name ≡ k1.name → k3.name ≡ halved k2.name (admitted_caller came) →
     k3.name ≡ halved k.name (admitted_callers_in (turns ++ (record { look = look; came = came }) ∷ []))
 turn_name turns look came k k1 k2 k3 n same h =
-    h ∙ (ap (λ (m : Name). halved m (admitted_caller came)) (same ∙ n)
+    h ∙ (ap (λ (m : SeatName). halved m (admitted_caller came)) (same ∙ n)
     ∙ (halved-twice k.name (admitted_callers_in turns) (admitted_caller came) ∙ ap (λ (l : List SocketAddr). halved k.name l) (sym (admitted-snoc turns (record { look = look; came = came })))))
 
 turn_in : (turns : List AcceptTurn) (look : Look) (came : Came) (a b c : Door) → LetIn turns a b → c.callers ≡ b.callers ++ caller came → c.empty_accepts ≡ b.empty_accepts + one_if_nobody came →

@@ -8,12 +8,12 @@ use Rattle.dns_admission.specs.declared.look.Admission.TheVariants.{Admitted, Fu
 use Rattle.dns_admission.specs.declared.call.Call.TheVariants.{Admit, Look as ToLook}
 use Rattle.dns_admission.specs.declared.call.Reply.TheVariants.{Admission as Answered, Look as Shown}
 use Rattle.dns_book.specs.Gains.{Gained}
-use Rattle.dns_book.specs.History.{Name, entry}
+use Rattle.dns_book.specs.History.{SeatName, entry}
 use Rattle.dns_book.specs.declared.history.Entry.{Entry}
 use Rattle.dns_book.specs.declared.history.Known.{Known}
 use Rattle.dns_outside.specs.Causes.{Tells}
 use Rattle.dns_outside.specs.Doors.{Door}
-use Rattle.dns_datagrams.specs.DatagramsServed.{IsWithin}
+use Rattle.dns_datagrams.specs.DatagramsServed.{IsWithinCount}
 use Rattle.dns_host.specs.declared.accepts.AcceptEnd.{AcceptEnd}
 use Rattle.dns_host.specs.declared.accepts.AcceptEnd.TheVariants.{Shutdown, Counted, OutOfMemory}
 
@@ -72,19 +72,19 @@ failures_in [] = 0
 failures_in (t ∷ ts) = one_if_failure t.came + failures_in ts
 
 -- a name with one 0 more for each of some admitted connections: their work got the second halves of the seat
-abbrev pub halved : Name → List SocketAddr → Name
+abbrev pub halved : SeatName → List SocketAddr → SeatName
 halved name admitted = name ++ replicate (length admitted) false
 
 -- the calls of a seat: in each turn a look, and an admit for a connection that came, under the name that the seat has then
-abbrev pub admit_entries : Name → Came → List Entry
+abbrev pub admit_entries : SeatName → Came → List Entry
 admit_entries name (Caller from answer) = entry name Admit (Answered answer) ∷ []
 admit_entries name Nobody = []
 admit_entries name Fault = []
 
-abbrev pub look_entry : Name → Look → Entry
+abbrev pub look_entry : SeatName → Look → Entry
 look_entry name look = entry name ToLook (Shown look)
 
-abbrev pub turn_entries : Name → List AcceptTurn → List Entry
+abbrev pub turn_entries : SeatName → List AcceptTurn → List Entry
 turn_entries name [] = []
 turn_entries name (t ∷ ts) = look_entry name t.look ∷ (admit_entries name t.came ++ turn_entries (halved name (admitted_caller t.came)) ts)
 
@@ -137,7 +137,7 @@ pub record TookAlmost (count : ℕ) (now before : Type 0) (k k' : Known) (a b : 
   pub turns : List AcceptTurn
   pub whole : List AcceptTurn
   pub last : EndsAdmitted turns whole
-  pub within : IsWithin count (length (callers_in turns))
+  pub within : IsWithinCount count (length (callers_in turns))
   pub turned : TookTurns turns [] now before (Gave (admitted_callers_in turns) given given' ⊎ Gave (admitted_callers_in whole) given given') k k' a b f f'
 
 -- how a loop of accepts went, by its end

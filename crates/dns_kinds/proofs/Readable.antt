@@ -7,7 +7,8 @@ use Rattle.std.specs.List.{list_all}
 use Rattle.dns_name.specs.Labels.{spell, AreLabels, IsName}
 use Rattle.dns_kinds.specs.Chains.{are_labels, is_name}
 use Rattle.dns_kinds.specs.Extended.{Extended, TextFits, text_octets, has_octets, is_extended}
-use Rattle.dns_kinds.specs.Subnet.{IsSubnet, is_clear, is_clear_addr, masked, addr_octets}
+use Rattle.dns_name.specs.Addresses.{address_octets}
+use Rattle.dns_kinds.specs.Subnet.{IsSubnet, is_clear, is_clear_addr, masked}
 use Rattle.dns_name.specs.declared.address.IpAddr.{IpAddr}
 use Rattle.dns_name.specs.declared.address.IpAddr.TheVariants.{V4, V6}
 
@@ -51,6 +52,6 @@ clear_is : (w s : ℕ) (a : List ℕ) → s ≤ 8 * w → length a ≡ w → lis
 clear_is w s a h l r e = rw (at_most_is s (8 * w) h, same_is (length a) w l, r, e, alike_is a) refl
 
 -- the address of a subnet, of which these are the octets
-pub subnet_is : (s : ℕ) (x : IpAddr) (o : List ℕ) → o ≡ addr_octets x → IsSubnet s x → list_all (λ y. nat_lt y 256) o ≡ true → is_clear_addr s x ≡ true
+pub subnet_is : (s : ℕ) (x : IpAddr) (o : List ℕ) → o ≡ address_octets x → IsSubnet s x → list_all (λ y. nat_lt y 256) o ≡ true → is_clear_addr s x ≡ true
 subnet_is s (V4 a) o e h f = clear_is 4 s a h.0 h.1 (rw e at f) h.2
 subnet_is s (V6 a) o e h f = clear_is 16 s a h.0 h.1 (rw e at f) h.2

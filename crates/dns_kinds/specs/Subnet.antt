@@ -10,6 +10,7 @@ use Rattle.dns_name.specs.declared.error.ParseError.TheVariants.{ShortInput, For
 use Rattle.dns_name.specs.declared.error.FormReason.TheVariants.{Family, AddressLength, AddressBits}
 use Rattle.dns_name.specs.declared.address.IpAddr.{IpAddr}
 use Rattle.dns_name.specs.declared.address.IpAddr.TheVariants.{V4, V6}
+use Rattle.dns_name.specs.Addresses.{address_octets}
 use Rattle.dns_name.specs.OptData.{Taken}
 use Rattle.dns_name.specs.Place.{be16}
 
@@ -68,10 +69,6 @@ abbrev pub family : IpAddr → ℕ
 family (V4 a) = 1
 family (V6 a) = 2
 
-abbrev pub addr_octets : IpAddr → List ℕ
-addr_octets (V4 a) = a
-addr_octets (V6 a) = a
-
 abbrev pub masked_addr : ℕ → IpAddr → IpAddr
 masked_addr s (V4 a) = V4 (masked s a)
 masked_addr s (V6 a) = V6 (masked s a)
@@ -81,7 +78,7 @@ abbrev pub within_address : ℕ → ℕ → IpAddr → Subnet
 within_address s c a = record { source = min s (width a); scope = min c (width a); addr = masked_addr (min s (width a)) a }
 
 abbrev pub subnet_octets : Subnet → List ℕ
-subnet_octets k = 0 ∷ family k.addr ∷ k.source ∷ k.scope ∷ take (octets_for k.source) (addr_octets k.addr)
+subnet_octets k = 0 ∷ family k.addr ∷ k.source ∷ k.scope ∷ take (octets_for k.source) (address_octets k.addr)
 
 -- the source prefix is within the address, which has no bit past it
 abbrev pub IsSubnet : ℕ → IpAddr → Type 0

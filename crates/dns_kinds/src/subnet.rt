@@ -4,7 +4,8 @@ ghost use Rattle.std.specs.Prelude.{◌≡◌, ◌≤◌, length, take, true};
 ghost use Rattle.dns_name.specs.OptData.{ParsesData, for_code};
 ghost use Rattle.dns_name.specs.Place.{rest};
 ghost use Rattle.dns_kinds.specs.Clears.{subnet_again};
-ghost use Rattle.dns_kinds.specs.Subnet.{IsWhole, is_clear_subnet, family, within_address, octets_for, addr_octets, subnet_data, subnet_octets};
+ghost use Rattle.dns_name.specs.Addresses.{address_octets};
+ghost use Rattle.dns_kinds.specs.Subnet.{IsWhole, is_clear_subnet, family, within_address, octets_for, subnet_data, subnet_octets};
 
 use crate::mask::{address4, address16, mask4, mask16, prefix};
 use dns_name::{
@@ -83,7 +84,7 @@ impl ClientSubnet {
 
     /// The octets of the address that the source prefix takes.
     fn sent(&self) -> &[u8]
-        ensures value { result.now ≡ take (octets_for self.now.source) (addr_octets self.now.addr) }
+        ensures value { result.now ≡ take (octets_for self.now.source) (address_octets self.now.addr) }
         ensures few { length result.now ≤ 16 }
         ensures clear { is_clear_subnet self.now ≡ true }
     {
@@ -112,7 +113,7 @@ fn family_of(addr: &IpAddr) -> u8
 
 /// The octets of an address.
 fn octets(addr: &IpAddr) -> &[u8]
-    ensures { result.now ≡ addr_octets addr.now }
+    ensures { result.now ≡ address_octets addr.now }
 {
     match addr {
         IpAddr::V4(octets) => octets,

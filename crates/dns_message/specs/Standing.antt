@@ -127,8 +127,8 @@ abbrev pub typed : Standing → Result Record ParseError
 typed s = typed_by s.resource s.content
 
 -- what is read is given, unless memory runs out
-abbrev pub Gives : {A : Type 0} → Result A ParseError → Result A ParseError → Type 0
-Gives (Ok x) read = read ≡ Ok x
-Gives (Err NoMemory) read = Unit {0}
-Gives (Err ShortInput) read = read ≡ Err ShortInput
-Gives (Err (Form f)) read = read ≡ Err (Form f)
+abbrev pub GivesParsed : {A : Type 0} → Result A ParseError → Result A ParseError → Type 0
+GivesParsed (Ok x) read = read ≡ Ok x
+GivesParsed (Err NoMemory) read = Unit {0}
+GivesParsed (Err ShortInput) read = read ≡ Err ShortInput
+GivesParsed (Err (Form f)) read = read ≡ Err (Form f)

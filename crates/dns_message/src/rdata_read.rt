@@ -3,7 +3,7 @@
 ghost use Rattle.std.specs.Prelude.{◌≡◌, ◌≤◌, ◌+◌, length, take, drop, IfOk, Ok};
 ghost use Rattle.dns_name.specs.Names.{name_within};
 ghost use Rattle.dns_message.specs.Records.{shape_of, IsLawful};
-ghost use Rattle.dns_message.specs.Standing.{Gives, address_at, data_at, data_by, filled, long_address_at, minfo_at, mx_at, names_at, numbered_at, one_name_at, opt_read, soa_at, srv_at};
+ghost use Rattle.dns_message.specs.Standing.{GivesParsed, address_at, data_at, data_by, filled, long_address_at, minfo_at, mx_at, names_at, numbered_at, one_name_at, opt_read, soa_at, srv_at};
 
 use crate::option_list::is_option_list;
 use crate::rdata::{RecordData, Shape, shape_of};
@@ -45,7 +45,7 @@ pub(crate) fn data_in(
     requires order { at ≤ limit }
     requires limited { limit ≤ length message.now }
     requires short { limit ≤ at + 65535 }
-    ensures value { Gives result (data_at rtype message.now limit at) }
+    ensures value { GivesParsed result (data_at rtype message.now limit at) }
     ensures lawful { IfOk result IsLawful }
 {
     filled(shaped(alloc, Window { message, limit }, rtype, at), limit)
@@ -67,7 +67,7 @@ fn filled(found: FoundData, limit: usize) -> Result<RecordData, ParseError>
 fn shaped(alloc: Global, window: Window<'_>, rtype: Rtype, at: usize) -> FoundData
     requires order { at ≤ window.limit }
     requires short { window.limit ≤ at + 65535 }
-    ensures value { Gives result (data_by (shape_of rtype) rtype window.entry.message.now window.entry.limit at) }
+    ensures value { GivesParsed result (data_by (shape_of rtype) rtype window.entry.message.now window.entry.limit at) }
     ensures lawful { IfOk result (λ r. IsLawful r.0) }
 {
     match shape_of(rtype) {
@@ -86,7 +86,7 @@ fn shaped(alloc: Global, window: Window<'_>, rtype: Rtype, at: usize) -> FoundDa
 /// A name, and the place behind it.
 fn name_in(alloc: Global, window: Window<'_>, at: usize) -> Result<(Name, usize), ParseError>
     requires { at ≤ window.limit }
-    ensures value { Gives result (name_within window.entry.message.now window.entry.limit at) }
+    ensures value { GivesParsed result (name_within window.entry.message.now window.entry.limit at) }
     ensures within { IfOk result (λ r. r.1 ≤ window.entry.limit) }
 {
     let (name, end) = ParsedName::at(window.message, window.limit, at)?;
@@ -102,7 +102,7 @@ fn names_in(
     at: usize,
 ) -> Result<((Name, Name), usize), ParseError>
     requires { at ≤ window.limit }
-    ensures value { Gives result (names_at window.entry.message.now window.entry.limit at) }
+    ensures value { GivesParsed result (names_at window.entry.message.now window.entry.limit at) }
     ensures within { IfOk result (λ r. r.1 ≤ window.entry.limit) }
 {
     let (first, at) = name_in(alloc, window, at)?;
@@ -118,7 +118,7 @@ fn numbered_in(
     at: usize,
 ) -> Result<((u16, Name), usize), ParseError>
     requires { at ≤ window.limit }
-    ensures { Gives result (numbered_at window.entry.message.now window.entry.limit at) }
+    ensures { GivesParsed result (numbered_at window.entry.message.now window.entry.limit at) }
 {
     let (number, at) = two_in(window.octets(), at)?;
     let (name, at) = name_in(alloc, window, at)?;
@@ -128,7 +128,7 @@ fn numbered_in(
 #[tactic(auto, unfolding(crate::specs::Standing::address_at))]
 fn address_in(window: Window<'_>, at: usize) -> FoundData
     requires { at ≤ window.limit }
-    ensures value { Gives result (address_at window.entry.message.now window.entry.limit at) }
+    ensures value { GivesParsed result (address_at window.entry.message.now window.entry.limit at) }
     ensures lawful { IfOk result (λ r. IsLawful r.0) }
 {
     let (part, end) = octets_in(window.octets(), 4, at)?;
@@ -140,7 +140,7 @@ fn address_in(window: Window<'_>, at: usize) -> FoundData
 #[tactic(auto, unfolding(crate::specs::Standing::long_address_at))]
 fn long_address_in(window: Window<'_>, at: usize) -> FoundData
     requires { at ≤ window.limit }
-    ensures value { Gives result (long_address_at window.entry.message.now window.entry.limit at) }
+    ensures value { GivesParsed result (long_address_at window.entry.message.now window.entry.limit at) }
     ensures lawful { IfOk result (λ r. IsLawful r.0) }
 {
     let (part, end) = octets_in(window.octets(), 16, at)?;
@@ -153,7 +153,7 @@ fn long_address_in(window: Window<'_>, at: usize) -> FoundData
 fn one_name_in(alloc: Global, window: Window<'_>, rtype: Rtype, at: usize) -> FoundData
     requires named { shape_of rtype ≡ Shape.OneName }
     requires order { at ≤ window.limit }
-    ensures value { Gives result (one_name_at rtype window.entry.message.now window.entry.limit at) }
+    ensures value { GivesParsed result (one_name_at rtype window.entry.message.now window.entry.limit at) }
     ensures lawful { IfOk result (λ r. IsLawful r.0) }
 {
     let (name, end) = name_in(alloc, window, at)?;
@@ -163,7 +163,7 @@ fn one_name_in(alloc: Global, window: Window<'_>, rtype: Rtype, at: usize) -> Fo
 #[tactic(auto, unfolding(crate::specs::Standing::soa_at))]
 fn soa_in(alloc: Global, window: Window<'_>, at: usize) -> FoundData
     requires { at ≤ window.limit }
-    ensures value { Gives result (soa_at window.entry.message.now window.entry.limit at) }
+    ensures value { GivesParsed result (soa_at window.entry.message.now window.entry.limit at) }
     ensures lawful { IfOk result (λ r. IsLawful r.0) }
 {
     let ((mname, rname), at) = names_in(alloc, window, at)?;
@@ -174,7 +174,7 @@ fn soa_in(alloc: Global, window: Window<'_>, at: usize) -> FoundData
 #[tactic(auto, unfolding(crate::specs::Standing::minfo_at))]
 fn minfo_in(alloc: Global, window: Window<'_>, at: usize) -> FoundData
     requires { at ≤ window.limit }
-    ensures value { Gives result (minfo_at window.entry.message.now window.entry.limit at) }
+    ensures value { GivesParsed result (minfo_at window.entry.message.now window.entry.limit at) }
     ensures lawful { IfOk result (λ r. IsLawful r.0) }
 {
     let ((first, second), at) = names_in(alloc, window, at)?;
@@ -184,7 +184,7 @@ fn minfo_in(alloc: Global, window: Window<'_>, at: usize) -> FoundData
 #[tactic(auto, unfolding(crate::specs::Standing::mx_at))]
 fn mx_in(alloc: Global, window: Window<'_>, at: usize) -> FoundData
     requires { at ≤ window.limit }
-    ensures value { Gives result (mx_at window.entry.message.now window.entry.limit at) }
+    ensures value { GivesParsed result (mx_at window.entry.message.now window.entry.limit at) }
     ensures lawful { IfOk result (λ r. IsLawful r.0) }
 {
     let ((preference, exchange), at) = numbered_in(alloc, window, at)?;
@@ -198,7 +198,7 @@ fn mx_in(alloc: Global, window: Window<'_>, at: usize) -> FoundData
 #[tactic(auto, unfolding(crate::specs::Standing::srv_at))]
 fn srv_in(alloc: Global, window: Window<'_>, at: usize) -> FoundData
     requires { at ≤ window.limit }
-    ensures value { Gives result (srv_at window.entry.message.now window.entry.limit at) }
+    ensures value { GivesParsed result (srv_at window.entry.message.now window.entry.limit at) }
     ensures lawful { IfOk result (λ r. IsLawful r.0) }
 {
     let octets = window.octets();
@@ -218,7 +218,7 @@ fn srv_in(alloc: Global, window: Window<'_>, at: usize) -> FoundData
 fn opt_in(alloc: Global, message: &[u8], at: usize) -> FoundData
     requires order { at ≤ length message.now }
     requires short { length message.now ≤ at + 65535 }
-    ensures value { Gives result (opt_read (drop at message.now) (length message.now)) }
+    ensures value { GivesParsed result (opt_read (drop at message.now) (length message.now)) }
     ensures lawful { IfOk result (λ r. IsLawful r.0) }
 {
     let octets = &message[at..];
@@ -234,7 +234,7 @@ fn other_in(alloc: Global, message: &[u8], rtype: Rtype, at: usize) -> FoundData
     requires order { at ≤ length message.now }
     requires short { length message.now ≤ at + 65535 }
     requires other { shape_of rtype ≡ Shape.Other }
-    ensures value { Gives result (Ok (RecordData.Unknown rtype (drop at message.now), length message.now)) }
+    ensures value { GivesParsed result (Ok (RecordData.Unknown rtype (drop at message.now), length message.now)) }
     ensures lawful { IfOk result (λ r. IsLawful r.0) }
 {
     let octets = Octets::from_slice(alloc, &message[at..])?;

@@ -7,7 +7,7 @@ ghost use Rattle.dns_message.specs.Equality.{same_record, same_record_equiv};
 ghost use Rattle.dns_message.specs.Fixed.{fixed_of};
 ghost use Rattle.dns_message.specs.Msg.{HasOwner};
 ghost use Rattle.dns_message.specs.Records.{IsLawful, record_of};
-ghost use Rattle.dns_message.specs.Standing.{Gives, standing_at, typed};
+ghost use Rattle.dns_message.specs.Standing.{GivesParsed, standing_at, typed};
 ghost use Rattle.dns_message.specs.Sections.{ends_at, to_come};
 ghost use Rattle.dns_message.specs.Wire.{record_octets};
 
@@ -191,7 +191,7 @@ impl<'a> RecordRef<'a> {
 
     /// The same record, owned: its data is read by the shape of its type, and refused where it has another.
     pub fn to_record(&self, alloc: Global) -> Result<Record, ParseError>
-        ensures value { Gives result (typed self.now) }
+        ensures value { GivesParsed result (typed self.now) }
         ensures lawful { IfOk result (λ r. IsLawful r.rdata) }
     {
         let owner = self.owner.to_name(alloc)?;

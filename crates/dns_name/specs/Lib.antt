@@ -1,5 +1,6 @@
 pub mod Place
 pub mod Serials
+pub mod Addresses
 pub mod Labels
 pub mod Canonical
 pub mod NameText

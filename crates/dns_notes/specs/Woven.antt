@@ -3,7 +3,7 @@ use Rattle.std.specs.Prelude.{◌≡◌, ◌≤◌, ℕ, ◌+◌, List, [], ◌�
 use Rattle.dns_admission.specs.declared.look.Look.{Look}
 use Rattle.dns_admission.specs.declared.call.Call.TheVariants.{Look as ToLook}
 use Rattle.dns_admission.specs.declared.call.Reply.TheVariants.{Look as Shown}
-use Rattle.dns_book.specs.History.{Name, entry}
+use Rattle.dns_book.specs.History.{SeatName, entry}
 use Rattle.dns_book.specs.declared.history.Entry.{Entry}
 use Rattle.dns_service.specs.declared.event.Event.{Event}
 use Rattle.dns_service.specs.declared.event.EventKind.{EventKind}
@@ -53,6 +53,6 @@ pub record IsWoven (first : Look) (looks : List Look) (es : List Event) : Type 0
   pub most : length looks ≤ length (own_kinds es) + 1
 
 -- a seat's looks as entries of its history, under its name
-abbrev pub look_entries : Name → List Look → List Entry
+abbrev pub look_entries : SeatName → List Look → List Entry
 look_entries name [] = []
 look_entries name (l ∷ ls) = entry name ToLook (Shown l) ∷ look_entries name ls

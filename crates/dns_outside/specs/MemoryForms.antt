@@ -21,8 +21,8 @@ use Rattle.dns_outside.specs.declared.sock.DgramSend.{DgramSend}
 use Rattle.dns_outside.specs.declared.sock.DgramSend.TheVariants.{Took as SendTook, Again as SendAgain, Failed as SendFailed}
 
 -- that a counter still counts
-abbrev pub Counts : ℕ → Type 0
-Counts n = n < 2 ^ 64 - 1
+abbrev pub StillCounts : ℕ → Type 0
+StillCounts n = n < 2 ^ 64 - 1
 
 -- a link in memory
 pub record Cable : Type 0 where
@@ -40,7 +40,7 @@ traffic_of c = record { came = c.came; went = c.went; ends = c.ends; empty_reads
 
 -- that it tells: no counter stands at its end
 abbrev pub CableTells : Cable → Type 0
-CableTells c = Counts c.ends × Counts c.reads.agains × Counts c.writes.agains
+CableTells c = StillCounts c.ends × StillCounts c.reads.agains × StillCounts c.writes.agains
 
 -- one read into so much room, with the link a before it and b after it
 abbrev pub CableReads : LinkRead → ℕ → Cable → Cable → Type 0
@@ -69,7 +69,7 @@ mail_of t = record { received = t.received; sent = t.sent; empty_receives = t.re
 
 -- that it tells: no counter stands at its end
 abbrev pub TrayTells : Tray → Type 0
-TrayTells t = Counts t.receives.agains × Counts t.sends.agains
+TrayTells t = StillCounts t.receives.agains × StillCounts t.sends.agains
 
 -- one receive, with the socket a before it and b after it; Again comes also where no datagram is left
 abbrev pub TrayReceives : DgramRecv → Tray → Tray → Type 0

@@ -5,7 +5,7 @@ use Rattle.dns_outside.specs.Memory.{next}
 use Rattle.dns_outside.specs.Traffic.{Traffic}
 use Rattle.dns_outside.specs.Mail.{Mail}
 use Rattle.dns_outside.specs.Doors.{Door}
-use Rattle.dns_outside.specs.MemoryForms.{Counts}
+use Rattle.dns_outside.specs.MemoryForms.{StillCounts}
 use Rattle.dns_outside.specs.declared.link.LinkRead.{LinkRead}
 use Rattle.dns_outside.specs.declared.link.LinkRead.TheVariants.{Got, Again, End, Failed}
 use Rattle.dns_outside.specs.declared.sock.Letter.{Letter}
@@ -26,7 +26,7 @@ steady_traffic c = record { came = c.came; went = c.went; ends = c.ends; empty_r
 
 -- that it tells
 abbrev pub SteadyCableTells : SteadyCable → Type 0
-SteadyCableTells c = IsTrue c.whole × Counts c.ends
+SteadyCableTells c = IsTrue c.whole × StillCounts c.ends
 
 -- one read, with the link a before it and b after it
 abbrev pub SteadyCableReads : LinkRead → SteadyCable → SteadyCable → Type 0
@@ -49,7 +49,7 @@ steady_mail t = record { received = t.received; sent = t.sent; empty_receives = 
 
 -- that it tells
 abbrev pub SteadyTrayTells : SteadyTray → Type 0
-SteadyTrayTells t = IsTrue t.whole × Counts t.empty_receives
+SteadyTrayTells t = IsTrue t.whole × StillCounts t.empty_receives
 
 -- one receive, with the socket a before it and b after it
 abbrev pub SteadyTrayReceives : DgramRecv → SteadyTray → SteadyTray → Type 0
@@ -70,4 +70,4 @@ steady_door l = record { callers = l.callers; empty_accepts = l.empty_accepts }
 
 -- that it tells
 abbrev pub SteadyLobbyTells : {L : Type 0} → SteadyLobby L → Type 0
-SteadyLobbyTells l = IsTrue l.whole × Counts l.empty_accepts
+SteadyLobbyTells l = IsTrue l.whole × StillCounts l.empty_accepts

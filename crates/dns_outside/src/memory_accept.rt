@@ -3,7 +3,7 @@
 ghost use Rattle.std.specs.Prelude.{◌≡◌, ◌≤◌, [], Contains};
 ghost use Rattle.dns_outside.specs.Causes.{Tells};
 ghost use Rattle.dns_outside.specs.Doors.{AcceptMoves, AcceptCause};
-ghost use Rattle.dns_outside.specs.MemoryForms.{door_of, Counts, LobbyAccepts};
+ghost use Rattle.dns_outside.specs.MemoryForms.{door_of, StillCounts, LobbyAccepts};
 
 use crate::accept::{AcceptAnswer, AsyncAccept};
 use crate::link::Link;
@@ -52,14 +52,14 @@ impl<L: Drop> MemoryAccept<L> {
 impl<L: Link + Drop> AsyncAccept for MemoryAccept<L> {
     type Link = L;
 
-    ghost tells = { λ s. Counts s.calls.agains };
+    ghost tells = { λ s. StillCounts s.calls.agains };
 
     ghost door = { λ s. door_of s };
 
     ghost faults = { λ s. s.calls.faults };
 
     fn poll_accept(&mut self) -> AcceptAnswer<L>
-        ensures moves { Tells (Counts self.new.calls.agains) (Counts self.old.calls.agains) (AcceptMoves result (door_of self.old) (door_of self.new)) }
+        ensures moves { Tells (StillCounts self.new.calls.agains) (StillCounts self.old.calls.agains) (AcceptMoves result (door_of self.old) (door_of self.new)) }
         ensures later { self.old.calls.faults ≤ self.new.calls.faults }
         ensures cause { AcceptCause result self.old.calls.faults self.new.calls.faults }
         ensures gives { LobbyAccepts result self.old self.new }
@@ -84,7 +84,7 @@ impl<L: Link + Drop> AsyncAccept for MemoryAccept<L> {
     }
 
     fn wait<R: Wait>(&mut self, _rt: &R, _millis: u64)
-        ensures moves { Tells (Counts self.new.calls.agains) (Counts self.old.calls.agains) (door_of self.new ≡ door_of self.old) }
+        ensures moves { Tells (StillCounts self.new.calls.agains) (StillCounts self.old.calls.agains) (door_of self.new ≡ door_of self.old) }
         ensures same { self.new.calls.faults ≡ self.old.calls.faults }
         ensures kept { self.new ≡ self.old }
     {}

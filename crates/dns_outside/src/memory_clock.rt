@@ -2,7 +2,7 @@
 
 ghost use Rattle.std.specs.Prelude.{◌≡◌, [], IfOk};
 ghost use Rattle.dns_outside.specs.Causes.{Tells};
-ghost use Rattle.dns_outside.specs.MemoryForms.{Counts, readings_of};
+ghost use Rattle.dns_outside.specs.MemoryForms.{StillCounts, readings_of};
 
 use crate::clock::Clock;
 use dns_name::OutOfMemory;
@@ -36,7 +36,7 @@ impl MemoryClock {
 
 #[tactic(auto, using(crate::proofs::Readings::reading_listed, crate::proofs::Readings::reading_again))]
 impl Clock for MemoryClock {
-    ghost tells = { λ s. Counts s.given };
+    ghost tells = { λ s. StillCounts s.given };
 
     ghost readings = { λ s. readings_of s };
 

@@ -5,7 +5,7 @@ use Rattle.std.proofs.lemmas.Option.{cond_some}
 use Rattle.std.proofs.lemmas.Bool.{leb-true}
 use Rattle.dns_name.specs.Place.{be16}
 use Rattle.dns_base.specs.Options.{split_at, first_option, with_first, options_up_to, options, option_octets, IsOptionList}
-use Rattle.dns_route.specs.declared.kept.Keeps.{Keeps}
+use Rattle.dns_route.specs.declared.kept.KeptKinds.{KeptKinds}
 use Rattle.dns_route.specs.Kept.{keeps, kept_options, kept_of_list}
 
 -- ---- the first option of a list
@@ -55,25 +55,25 @@ some_of None h = cc
 some_of (Some ps) h = (ps, refl)
 
 -- what is left of a list are options, and what was kept with what is to be kept of them is what is kept of the list
-pub record IsWalked (k : Keeps) (o left kept : List ℕ) : Type 0 where
+pub record IsWalked (k : KeptKinds) (o left kept : List ℕ) : Type 0 where
   pub fuel : ℕ
   pub pairs : List (ℕ × List ℕ)
   pub behind : options_up_to fuel left ≡ Some pairs
   pub same : kept ++ kept_options k pairs ≡ kept_of_list k o
   pub room : length kept + length left ≤ 65535
 
-pub begun : (k : Keeps) (o : List ℕ) → IsOptionList o → length o ≤ 65535 → IsWalked k o o []
+pub begun : (k : KeptKinds) (o : List ℕ) → IsOptionList o → length o ≤ 65535 → IsWalked k o o []
 unfolding options
 begun k o h l =
     let q = some_of (options_up_to (length o) o) h in
     record { fuel = length o; pairs = q.0; behind = q.1; same = ap (λ x. kept_options k (unwrap_or x [])) (sym q.1); room = omega (arith, l) }
 
-pub ended : (k : Keeps) (o left kept : List ℕ) → IsWalked k o left kept → first_option left ≡ None → kept ≡ kept_of_list k o
+pub ended : (k : KeptKinds) (o left kept : List ℕ) → IsWalked k o left kept → first_option left ≡ None → kept ≡ kept_of_list k o
 ended k o left kept w f =
     let n : kept_options k w.pairs ≡ [] = ap (kept_options k) (no_pairs w.fuel left w.pairs w.behind f) in
     sym (append-nil kept) ∙ (ap (λ l. kept ++ l) (sym n) ∙ w.same)
 
-module _ (k : Keeps) (o left kept : List ℕ) (c : ℕ) (d r : List ℕ) (w : IsWalked k o left kept) (f : first_option left ≡ Some (c, d, r)) where
+module _ (k : KeptKinds) (o left kept : List ℕ) (c : ℕ) (d r : List ℕ) (w : IsWalked k o left kept) (f : first_option left ≡ Some (c, d, r)) where
   -- an option has room behind those that are kept
   pub has_room : length kept + 4 + length d ≤ 65535
   has_room = omega (arith, first_size left c d r f, w.room)

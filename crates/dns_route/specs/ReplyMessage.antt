@@ -12,7 +12,7 @@ use Rattle.dns_opt.specs.Pushes.{Fits}
 use Rattle.dns_service.specs.declared.service.ServiceError.TheVariants.{FormatError, InternalError, NotImplemented, Refused}
 use Rattle.dns_service.specs.declared.reply_error.ReplyError.{ReplyError}
 use Rattle.dns_service.specs.declared.reply_error.ReplyError.TheVariants.{Service, OutOfMemory as NoMemory}
-use Rattle.dns_route.specs.declared.kept.Keeps.TheVariants.{SubnetsAndErrors}
+use Rattle.dns_route.specs.declared.kept.KeptKinds.TheVariants.{SubnetsAndErrors}
 use Rattle.dns_service.specs.LastOpt.{and_opt}
 use Rattle.dns_service.specs.Copied.{copied}
 use Rattle.dns_route.specs.Kept.{kept_opt}

@@ -11,7 +11,7 @@ use Rattle.dns_base.specs.Msg.{Msg}
 use Rattle.dns_base.specs.Wire.{wire}
 use Rattle.dns_opt.specs.OptRecords.{OptState, is_do, opt_of, opt_state}
 use Rattle.dns_opt.specs.Pushes.{Pushed}
-use Rattle.dns_route.specs.declared.kept.Keeps.TheVariants.{Subnets}
+use Rattle.dns_route.specs.declared.kept.KeptKinds.TheVariants.{Subnets}
 use Rattle.dns_route.specs.declared.request.Error.{Error}
 use Rattle.dns_route.specs.declared.request.Error.TheVariants.{Unreadable, OutOfMemory as NoMemory}
 use Rattle.dns_service.specs.LastOpt.{and_opt}

@@ -2,7 +2,7 @@
 
 ghost use Rattle.std.specs.Prelude.{◌≡◌, ◌+◌, ◌≤◌, ◌++◌, length, IfOk, OnOk};
 ghost use Rattle.dns_base.specs.Options.{option_octets};
-ghost use Rattle.dns_base.specs.Standing.{Gives};
+ghost use Rattle.dns_base.specs.Standing.{GivesParsed};
 ghost use Rattle.dns_opt.specs.OptRecords.{opt_state, zero_head};
 ghost use Rattle.dns_opt.specs.Pushes.{Pushed};
 ghost use Rattle.dns_route.specs.Kept.{checked, keeps, kept_of_list, kept_opt, plain_head};
@@ -15,21 +15,21 @@ use std::alloc::Global;
 
 /// Which options of an OPT record are kept.
 #[derive(Clone, Copy, Debug, PartialEq, Eq)]
-pub(crate) enum Keeps {
+pub(crate) enum KeptKinds {
     /// Client subnets (RFC 7871).
     Subnets,
     /// Client subnets and extended errors (RFC 8914).
     SubnetsAndErrors,
 }
 
-impl Keeps {
+impl KeptKinds {
     /// Whether the options of a code are kept.
     fn takes(self, code: OptionCode) -> bool
         ensures { result ≡ keeps self code }
     {
         match self {
-            Keeps::Subnets => code == OptionCode::CLIENT_SUBNET,
-            Keeps::SubnetsAndErrors => {
+            KeptKinds::Subnets => code == OptionCode::CLIENT_SUBNET,
+            KeptKinds::SubnetsAndErrors => {
                 code == OptionCode::CLIENT_SUBNET || code == OptionCode::EXTENDED_ERROR
             }
         }
@@ -49,7 +49,7 @@ fn check(options: &OptRef<'_>) -> Result<(), ParseError>
 
 /// An OPT record without numbers, of the options that are kept, in order and as they stand.
 #[tactic(auto, using(crate::proofs::KeptLaws::begun, crate::proofs::KeptLaws::left_one))]
-fn keep(alloc: Global, which: Keeps, options: &OptRef<'_>) -> Result<OptRecord, OutOfMemory>
+fn keep(alloc: Global, which: KeptKinds, options: &OptRef<'_>) -> Result<OptRecord, OutOfMemory>
     ensures { IfOk result (λ r. r ≡ opt_state zero_head (kept_of_list which options.now)) }
 {
     let mut kept = OptRecord::default(alloc);
@@ -98,10 +98,10 @@ pub(crate) fn plain(record: OptRecord, size: u16, dnssec_ok: bool) -> OptRecord
 pub(crate) fn kept_opt(
     alloc: Global,
     size: u16,
-    which: Keeps,
+    which: KeptKinds,
     source: &OptRecordRef<'_>,
 ) -> Result<OptRecord, ParseError>
-    ensures { Gives result (kept_opt size which source.now) }
+    ensures { GivesParsed result (kept_opt size which source.now) }
 {
     check(source.opt())?;
     let kept = keep(alloc, which, source.opt())?;

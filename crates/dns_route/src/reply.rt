@@ -6,13 +6,13 @@ ghost use Rattle.dns_name.specs.declared.error.ParseError.{ParseError};
 ghost use Rattle.dns_name.specs.declared.opt_error.BuildDataError.{BuildDataError};
 ghost use Rattle.dns_base.specs.Msg.{Msg};
 ghost use Rattle.dns_route.specs.OwnReplies.{kept_whole};
-ghost use Rattle.dns_base.specs.Standing.{Gives};
+ghost use Rattle.dns_base.specs.Standing.{GivesParsed};
 ghost use Rattle.dns_service.specs.LastOpt.{and_opt};
-ghost use Rattle.dns_route.specs.declared.kept.Keeps.TheVariants.{SubnetsAndErrors};
+ghost use Rattle.dns_route.specs.declared.kept.KeptKinds.TheVariants.{SubnetsAndErrors};
 ghost use Rattle.dns_route.specs.Kept.{kept_opt};
 ghost use Rattle.dns_route.specs.ReplyMessage.{Adds, BeginsReply, Composes, reply_message, reply_read, reply_with};
 
-use crate::kept::{Keeps, kept_opt};
+use crate::kept::{KeptKinds, kept_opt};
 use dns_base::{AdditionalBuilder, Message, MessageRef, ParseError};
 use dns_name::{BuildDataError, ComposeOptData, OutOfMemory};
 use dns_opt::{BuildOpt, MessageOpt, OptRecord, OptRecordRef};
@@ -166,12 +166,12 @@ fn kept_reply(
     message: &MessageRef<'_>,
     found: &OptRecordRef<'_>,
 ) -> Result<ReplyMessage, ParseError>
-    ensures { Gives result (reply_with message.now (kept_opt found.now.head.size SubnetsAndErrors found.now)) }
+    ensures { GivesParsed result (reply_with message.now (kept_opt found.now.head.size SubnetsAndErrors found.now)) }
 {
     let opt = kept_opt(
         alloc,
         found.udp_payload_size(),
-        Keeps::SubnetsAndErrors,
+        KeptKinds::SubnetsAndErrors,
         found,
     )?;
     let reply = reply_of(alloc, message, Some(opt))?;

@@ -2,11 +2,11 @@
 
 ghost use Rattle.std.specs.Prelude.{◌≡◌, ◌≤◌, [], IfOk, Some, false, length};
 ghost use Rattle.std.specs.Option.{option_copied};
-ghost use Rattle.dns_route.specs.declared.kept.Keeps.TheVariants.{Subnets};
+ghost use Rattle.dns_route.specs.declared.kept.KeptKinds.TheVariants.{Subnets};
 ghost use Rattle.dns_route.specs.Kept.{kept_opt};
 ghost use Rattle.dns_route.specs.RequestMessage.{AddsTo, ReadsRequest, Sends, request_error_text, request_of, request_opt, request_sent, sent_opt};
 
-use crate::kept::{Keeps, kept_opt, plain};
+use crate::kept::{KeptKinds, kept_opt, plain};
 use dns_base::{Message, ParseError, PushError};
 use dns_name::{BuildDataError, ComposeOptData, OutOfMemory};
 use dns_opt::{MessageOpt, OptRecord, OptRecordRef};
@@ -94,7 +94,7 @@ impl RequestMessage {
     ) -> Result<RequestMessage, Error>
         ensures { ReadsRequest (request_opt message (kept_opt 1232 Subnets found.now)) result }
     {
-        let opt = kept_opt(alloc, SIZE, Keeps::Subnets, found)?;
+        let opt = kept_opt(alloc, SIZE, KeptKinds::Subnets, found)?;
         Ok(RequestMessage { message, opt })
     }
 

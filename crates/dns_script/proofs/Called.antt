@@ -4,14 +4,14 @@ use Rattle.std.specs.Prelude.{Option, Some, None, codes, true}
 use Rattle.std.proofs.lemmas.Bool.{le-leb}
 use Rattle.dns_base.specs.Msg.{Msg}
 use Rattle.dns_base.specs.Wire.{wire}
-use Rattle.dns_cache.specs.AskedCache.{Answers, Cached}
+use Rattle.dns_cache.specs.AskedCache.{AnswersCached, Cached}
 use Rattle.dns_cache.specs.Calls.{TurnAnswers, called}
 use Rattle.dns_route.specs.Turns.{TurnAnswer}
 use Rattle.dns_service.specs.Req.{Req}
 use Rattle.dns_script.specs.CachedRules.{call_text, called_from, first_ready, or_later, turn_text}
 
 -- the line of what a call answered is that of the message out of the cache, or of what the service answered
-pub answered : (cached : Option Msg) (answer given : TurnAnswer) → Answers cached answer given → turn_text given ≡ call_text cached answer
+pub answered : (cached : Option Msg) (answer given : TurnAnswer) → AnswersCached cached answer given → turn_text given ≡ call_text cached answer
 answered None answer given h = ap turn_text h
 answered (Some m) answer given h =
     let fitting : nat_le (length (wire m)) 65535 ≡ true = le-leb (length (wire m)) 65535 h.3 in

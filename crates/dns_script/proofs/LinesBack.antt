@@ -25,7 +25,7 @@ use Rattle.dns_script.specs.ServiceLines.{upstream_of, upstream_words_after}
 use Rattle.dns_script.specs.Spelled.{name_or_star, spelled_answer, spelled_event, spelled_name, spelled_verdict}
 use Rattle.dns_script.specs.declared.notify_rule.NotifyRule.{NotifyRule}
 use Rattle.dns_script.specs.declared.rule.Rule.{Rule}
-use Rattle.dns_script.specs.declared.upstream.Upstream.{Upstream}
+use Rattle.dns_script.specs.declared.upstream.UpstreamLine.{UpstreamLine}
 
 -- ---- rules
 
@@ -95,7 +95,7 @@ rule_are_words r h = (named (codes "rule") refl (omega arith), (name_or_star_wor
 
 -- ---- upstreams
 
-pub record IsReadUpstream (u : Upstream) : Type 0 where
+pub record IsReadUpstream (u : UpstreamLine) : Type 0 where
   pub name : IsReadName u.name
   pub words : AllByRecursion IsUpstreamWord u.words
   pub some : 0 < length u.words
@@ -113,12 +113,12 @@ upstream_read ws =
       some = behind_two ws (length us) (holds Count (nat_le 3 (length ws)) u e) read.many;
     }))))
 
-pub upstream_back : (u : Upstream) → IsReadUpstream u → upstream_of (words_of_upstream u) ≡ Ok u
+pub upstream_back : (u : UpstreamLine) → IsReadUpstream u → upstream_of (words_of_upstream u) ≡ Ok u
 unfolding upstream_of
 upstream_back u h =
     rw (three_words spelled_event u.words (codes "upstream") (spelled_name u.name) h.some, h.name.reads, events_back u.words [] h.words) refl
 
-pub upstream_are_words : (u : Upstream) → IsReadUpstream u → AreWords (words_of_upstream u)
+pub upstream_are_words : (u : UpstreamLine) → IsReadUpstream u → AreWords (words_of_upstream u)
 upstream_are_words u h = (named (codes "upstream") refl (omega arith), (h.name.word, events_are_words u.words h.words))
 
 -- ---- the target

@@ -35,7 +35,7 @@ use Rattle.dns_script.proofs.NamesBack.{IsReadName, name_reads, read_is_name}
 use Rattle.dns_script.proofs.ReadRange.{Reads, at_ok, below, bound, given, holds, refused}
 use Rattle.dns_script.proofs.SettingsRead.{hex_read}
 use Rattle.dns_script.specs.ScriptText.{words_of_apex, words_of_record}
-use Rattle.dns_script.specs.ServiceLines.{apex_of, data_word, record_words, resource_of, typed_record, uncompressed}
+use Rattle.dns_script.specs.ServiceLines.{apex_of, data_word, record_words, resource_of, typed_record, written_uncompressed}
 
 -- ---- the type of data is that of its record
 
@@ -128,7 +128,7 @@ same_data true owner seconds rtype octets d e h = given _ _ (record { owner_is =
 same_data false owner seconds rtype octets d e h = refused
 
 by_content : (owner : List (List ℕ)) (seconds rtype : ℕ) (octets : List ℕ) (content : Result RecordData ParseError) → Reads (HasType rtype) content
-    → Reads (IsWith owner seconds rtype octets) (uncompressed octets (typed_by (resource_of owner seconds rtype octets) content))
+    → Reads (IsWith owner seconds rtype octets) (written_uncompressed octets (typed_by (resource_of owner seconds rtype octets) content))
 by_content owner seconds rtype octets (Ok d) h = same_data (bytes_eq (data_octets d) octets) owner seconds rtype octets d refl h.each
 by_content owner seconds rtype octets (Err e) h = refused
 

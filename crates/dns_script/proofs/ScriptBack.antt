@@ -46,7 +46,7 @@ use Rattle.dns_script.specs.declared.notify_rule.NotifyRule.{NotifyRule}
 use Rattle.dns_script.specs.declared.rule.Rule.{Rule}
 use Rattle.dns_script.specs.declared.service_lines.ServiceLines.{ServiceLines}
 use Rattle.dns_script.specs.declared.service_lines.ServiceLines.TheVariants.{Rules, Upstreams, Zone}
-use Rattle.dns_script.specs.declared.upstream.Upstream.{Upstream}
+use Rattle.dns_script.specs.declared.upstream.UpstreamLine.{UpstreamLine}
 
 -- what a line of a script says
 abbrev line : Draft Event → List (List ℕ) → Result (Draft Event) Reason
@@ -65,16 +65,16 @@ rules_said (r ∷ rs) d e u z h =
     rw (rule_step d r e u z h.0)
     (rules_said rs (record d { rules = d.rules ++ r ∷ [] }) e u z h.1 ∙ ap (λ (q : List Rule). Ok (record d { rules = q })) (append_assoc d.rules (r ∷ []) rs))
 
-upstream_step : (d : Draft Event) (u : Upstream) → d.plan.events ≡ [] → d.rules ≡ [] → d.zone ≡ None → IsReadUpstream u → line d (words_of_upstream u) ≡ Ok (record d { upstreams = d.upstreams ++ u ∷ [] })
+upstream_step : (d : Draft Event) (u : UpstreamLine) → d.plan.events ≡ [] → d.rules ≡ [] → d.zone ≡ None → IsReadUpstream u → line d (words_of_upstream u) ≡ Ok (record d { upstreams = d.upstreams ++ u ∷ [] })
 unfolding said_line service_line upstream_line
 upstream_step d u e r z h = rw (e, r, z, upstream_back u h) refl
 
-upstreams_said : (us : List Upstream) (d : Draft Event) → d.plan.events ≡ [] → d.rules ≡ [] → d.zone ≡ None → AllByRecursion IsReadUpstream us
+upstreams_said : (us : List UpstreamLine) (d : Draft Event) → d.plan.events ≡ [] → d.rules ≡ [] → d.zone ≡ None → AllByRecursion IsReadUpstream us
     → said_by line d (map words_of_upstream us) ≡ Ok (record d { upstreams = d.upstreams ++ us })
-upstreams_said [] d e r z h = ap (λ (q : List Upstream). Ok (record d { upstreams = q })) (sym (append-nil d.upstreams))
+upstreams_said [] d e r z h = ap (λ (q : List UpstreamLine). Ok (record d { upstreams = q })) (sym (append-nil d.upstreams))
 upstreams_said (u ∷ us) d e r z h =
     rw (upstream_step d u e r z h.0)
-    (upstreams_said us (record d { upstreams = d.upstreams ++ u ∷ [] }) e r z h.1 ∙ ap (λ (q : List Upstream). Ok (record d { upstreams = q })) (append_assoc d.upstreams (u ∷ []) us))
+    (upstreams_said us (record d { upstreams = d.upstreams ++ u ∷ [] }) e r z h.1 ∙ ap (λ (q : List UpstreamLine). Ok (record d { upstreams = q })) (append_assoc d.upstreams (u ∷ []) us))
 
 zone_step : (d : Draft Event) (apex : List (List ℕ)) → d.plan.events ≡ [] → d.rules ≡ [] → d.upstreams ≡ [] → d.zone ≡ None → IsReadName apex
     → line d (words_of_apex apex) ≡ Ok (record d { zone = Some (record { apex = apex; records = [] }) })
@@ -277,7 +277,7 @@ rules_say : (rs : List Rule) → AllByRecursion IsReadRule rs → AllSay (map wo
 rules_say [] h = tt
 rules_say (r ∷ rs) h = (rule_are_words r h.0, refl, rules_say rs h.1)
 
-upstreams_say : (us : List Upstream) → AllByRecursion IsReadUpstream us → AllSay (map words_of_upstream us)
+upstreams_say : (us : List UpstreamLine) → AllByRecursion IsReadUpstream us → AllSay (map words_of_upstream us)
 upstreams_say [] h = tt
 upstreams_say (u ∷ us) h = (upstream_are_words u h.0, refl, upstreams_say us h.1)
 

@@ -32,7 +32,7 @@ use Rattle.dns_script.specs.ServiceLines.{apex_of, before_record, before_upstrea
 use Rattle.dns_script.specs.declared.rule.Rule.{Rule}
 use Rattle.dns_script.specs.declared.service_lines.ServiceLines.{ServiceLines}
 use Rattle.dns_script.specs.declared.service_lines.ServiceLines.TheVariants.{Rules, Upstreams, Zone}
-use Rattle.dns_script.specs.declared.upstream.Upstream.{Upstream}
+use Rattle.dns_script.specs.declared.upstream.UpstreamLine.{UpstreamLine}
 
 pub record IsReadPlan (p : Plan Event) : Type 0 where
   pub said : IsSaid p.said
@@ -149,7 +149,7 @@ pub record IsReadScript (p : Plan Event) : Type 0 where
   pub plan : IsReadPlan p
   pub service : IsReadService p.service
 
-without_kept : (rules : List Rule) (upstreams : List Upstream) → AllByRecursion IsReadRule rules → AllByRecursion IsReadUpstream upstreams → IsReadService (without_zone rules upstreams)
+without_kept : (rules : List Rule) (upstreams : List UpstreamLine) → AllByRecursion IsReadRule rules → AllByRecursion IsReadUpstream upstreams → IsReadService (without_zone rules upstreams)
 without_kept rules [] h k = h
 without_kept rules (u ∷ us) h k = (k, omega arith)
 
@@ -157,7 +157,7 @@ made_kept : (z : ZoneSaid) (o : Option ZoneError) → zone_error z.apex z.record
 made_kept z None e h = given _ _ (h.apex, h.records, e)
 made_kept z (Some x) e h = refused
 
-service_kept : (rules : List Rule) (upstreams : List Upstream) (zone : Option ZoneSaid) → AllByRecursion IsReadRule rules → AllByRecursion IsReadUpstream upstreams → IfSome zone IsReadZone
+service_kept : (rules : List Rule) (upstreams : List UpstreamLine) (zone : Option ZoneSaid) → AllByRecursion IsReadRule rules → AllByRecursion IsReadUpstream upstreams → IfSome zone IsReadZone
     → Reads IsReadService (service_by rules upstreams zone)
 service_kept rules upstreams None h k z = given _ _ (without_kept rules upstreams h k)
 service_kept rules upstreams (Some zone) h k z = made_kept zone (zone_error zone.apex zone.records) refl z

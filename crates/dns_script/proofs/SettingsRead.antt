@@ -18,7 +18,7 @@ use Rattle.dns_trace.specs.EventLines.{bare_line, bare_or_wide, connection_line,
 use Rattle.dns_trace.specs.InRange.{IsAddress, IsEvent, IsKind, IsOctets, IsSettings, IsSocketAddr}
 use Rattle.dns_trace.specs.Reading.{unless}
 use Rattle.dns_trace.specs.Said.{Said, settings_said}
-use Rattle.dns_trace.specs.SettingLines.{denied_of, deny_line, edns_line, first_budget_line, first_dgram_line, first_said, first_stream_line, of_one_word, once, secret_line, setting_line, strict_line}
+use Rattle.dns_trace.specs.SettingLines.{denied_of, deny_line, edns_line, first_budget_line, first_dgram_line, first_said, first_stream_line, of_one_word, said_once, secret_line, setting_line, strict_line}
 use Rattle.dns_trace.specs.StreamLine.{configured, stream_line, stream_values, timeouts_of}
 use Rattle.dns_trace.specs.Values.{addr_of, from_hex, hex_octets_of, num_of, port_of, quad_of, secret_of, six, size_or_none, yes_no_of}
 use Rattle.dns_trace.specs.Words.{word_at}
@@ -141,7 +141,7 @@ pub record IsSaid (s : Said) : Type 0 where
   pub dgram : IfSome s.dgram IsDgram
   pub stream : IfSome s.stream IsStream
 
-once_read : {A : Type 0} (P : A → Type 0) (before : Bool) (said : Option A) (read : Result A Reason) (put : A → Said) → Reads P read → ((a : A) → P a → IsSaid (put a)) → Reads IsSaid (once before said read put)
+once_read : {A : Type 0} (P : A → Type 0) (before : Bool) (said : Option A) (read : Result A Reason) (put : A → Said) → Reads P read → ((a : A) → P a → IsSaid (put a)) → Reads IsSaid (said_once before said read put)
 once_read P before said read put h puts = bound IsSaid (first_said before said) _ (λ u e. bound IsSaid read _ (λ a e2. given IsSaid (put a) (puts a (at_ok P read a h e2))))
 
 one_word : {A : Type 0} (P : A → Type 0) (ws : List (List ℕ)) (read : List ℕ → Result A Reason) → ((w : List ℕ) → Reads P (read w)) → Reads P (of_one_word ws read)

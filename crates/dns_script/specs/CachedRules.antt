@@ -15,7 +15,7 @@ use Rattle.dns_service.specs.declared.service.ServiceFeedback.{ServiceFeedback}
 use Rattle.dns_route.specs.Relays.{read_reply}
 use Rattle.dns_route.specs.ReplyMessage.{ReplyState, reply_message, reply_read}
 use Rattle.dns_route.specs.Turns.{TurnAnswer}
-use Rattle.dns_cache.specs.AskedCache.{Cached, fits}
+use Rattle.dns_cache.specs.AskedCache.{Cached, fits_frame}
 use Rattle.dns_cache.specs.Calls.{TurnAnswers, called}
 use Rattle.dns_script.specs.Plan.{Plan, rules_of}
 use Rattle.dns_script.specs.Played.{played}
@@ -65,7 +65,7 @@ error_line e = codes "error " ++ (spelled_error e ++ codes "\n")
 
 -- the line of a reply is that of the message which is built of it, and of the error where none can be
 abbrev pub reply_line : Result Msg ParseError → List ℕ
-reply_line (Ok m) = if fits m then answer_line m else error_line InternalError
+reply_line (Ok m) = if fits_frame m then answer_line m else error_line InternalError
 reply_line (Err e) = error_line FormatError
 
 -- the line of a call that is ready
@@ -121,5 +121,5 @@ pub record CachedState : Type 0 where
   pub rules : List Rule
   pub cached : Cached
 
-abbrev pub asked_of : CachedState → Ask → CacheLine
-asked_of s ask = asked_once (rule_turns s.rules) s.cached ask
+abbrev pub asked_state : CachedState → Ask → CacheLine
+asked_state s ask = asked_once (rule_turns s.rules) s.cached ask

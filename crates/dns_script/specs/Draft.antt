@@ -14,7 +14,7 @@ use Rattle.dns_script.specs.Plan.{Plan, empty_plan}
 use Rattle.dns_script.specs.declared.rule.Rule.{Rule}
 use Rattle.dns_script.specs.declared.service_lines.ServiceLines.{ServiceLines}
 use Rattle.dns_script.specs.declared.service_lines.ServiceLines.TheVariants.{Rules, Upstreams, Zone}
-use Rattle.dns_script.specs.declared.upstream.Upstream.{Upstream}
+use Rattle.dns_script.specs.declared.upstream.UpstreamLine.{UpstreamLine}
 
 -- the name of a zone, and the records behind its line
 pub record ZoneSaid : Type 0 where
@@ -24,7 +24,7 @@ pub record ZoneSaid : Type 0 where
 pub record Draft (E : Type 0) : Type 0 where
   pub plan : Plan E
   pub rules : List Rule
-  pub upstreams : List Upstream
+  pub upstreams : List UpstreamLine
   pub zone : Option ZoneSaid
 
 abbrev pub empty_draft : {E : Type 0} → Draft E
@@ -45,8 +45,8 @@ abbrev pub record_more : Option ZoneSaid → Record → Option ZoneSaid
 record_more None r = None
 record_more (Some z) r = Some (record z { records = z.records ++ r ∷ [] })
 
-abbrev pub with_record : {E : Type 0} → Draft E → Record → Draft E
-with_record d r = record d { zone = record_more d.zone r }
+abbrev pub with_zone_record : {E : Type 0} → Draft E → Record → Draft E
+with_zone_record d r = record d { zone = record_more d.zone r }
 
 -- the zone, where its records make one
 abbrev pub made_zone : ZoneSaid → Option ZoneError → Result ServiceLines Reason
@@ -59,11 +59,11 @@ zone_refused NoMemory = OutOfMemory
 zone_refused _ = Refused NoZone
 
 -- without a zone: the upstreams, where there are some, and else the rules
-abbrev pub without_zone : List Rule → List Upstream → ServiceLines
+abbrev pub without_zone : List Rule → List UpstreamLine → ServiceLines
 without_zone rules [] = Rules rules
 without_zone rules (u ∷ us) = Upstreams (u ∷ us)
 
-abbrev pub service_by : List Rule → List Upstream → Option ZoneSaid → Result ServiceLines Reason
+abbrev pub service_by : List Rule → List UpstreamLine → Option ZoneSaid → Result ServiceLines Reason
 service_by rules upstreams None = Ok (without_zone rules upstreams)
 service_by rules upstreams (Some z) = made_zone z (zone_error z.apex z.records)
 

@@ -11,14 +11,14 @@ use Rattle.dns_script.specs.declared.notify_rule.NotifyRule.{NotifyRule}
 use Rattle.dns_script.specs.declared.rule.Rule.{Rule}
 use Rattle.dns_script.specs.declared.service_lines.ServiceLines.{ServiceLines}
 use Rattle.dns_script.specs.declared.service_lines.ServiceLines.TheVariants.{Rules, Upstreams, Zone}
-use Rattle.dns_script.specs.declared.upstream.Upstream.{Upstream}
+use Rattle.dns_script.specs.declared.upstream.UpstreamLine.{UpstreamLine}
 
 -- rule NAME|* ANSWER ..
 abbrev pub words_of_rule : Rule → List (List ℕ)
 words_of_rule r = codes "rule" ∷ name_or_star r.name ∷ map spelled_answer r.answers
 
 -- upstream NAME WORD ..
-abbrev pub words_of_upstream : Upstream → List (List ℕ)
+abbrev pub words_of_upstream : UpstreamLine → List (List ℕ)
 words_of_upstream u = codes "upstream" ∷ spelled_name u.name ∷ map spelled_event u.words
 
 -- zone NAME

@@ -16,9 +16,9 @@ use Rattle.dns_trace.specs.declared.reason.LineError.{LineError}
 use Rattle.dns_trace.specs.declared.reason.LineError.TheVariants.{OutOfMemory, Refused}
 use Rattle.dns_trace.specs.declared.reason.Reason.{Reason}
 use Rattle.dns_trace.specs.declared.reason.Reason.TheVariants.{Order, Mix, Repeat, Count, Value}
-use Rattle.dns_script.specs.Draft.{Draft, may_be_upstream, may_be_zone, with_record}
+use Rattle.dns_script.specs.Draft.{Draft, may_be_upstream, may_be_zone, with_zone_record}
 use Rattle.dns_script.specs.Plan.{before_events}
-use Rattle.dns_script.specs.declared.upstream.Upstream.{Upstream}
+use Rattle.dns_script.specs.declared.upstream.UpstreamLine.{UpstreamLine}
 use Rattle.dns_script.specs.declared.upstream.UpstreamWord.{UpstreamWord}
 use Rattle.dns_script.specs.declared.upstream.UpstreamWord.TheVariants.{Pend, Rcode, Stray, Late}
 
@@ -42,7 +42,7 @@ upstream_words_after given [] = Ok given
 upstream_words_after given (w ∷ ws) = upstream_word w >>= λ u. upstream_words_after (given ++ u ∷ []) ws
 
 -- upstream NAME WORD ..
-unfoldable pub upstream_of : List (List ℕ) → Result Upstream Reason
+unfoldable pub upstream_of : List (List ℕ) → Result UpstreamLine Reason
 upstream_of ws = do
   _ ← unless Count (nat_le 3 (length ws))
   name ← name_word (word_at ws 1)
@@ -92,21 +92,21 @@ GivesRead (Err OutOfMemory) read = Unit {0}
 GivesRead (Err (Refused r)) read = (r ≡ Value) × IsErr read
 
 -- its data is written as these octets, so that no name of it is compressed
-abbrev pub uncompressed : List ℕ → Result Record ParseError → Result Record Reason
-uncompressed octets (Ok r) = if bytes_eq (data_octets r.rdata) octets then Ok r else Err Value
-uncompressed octets (Err e) = Err Value
+abbrev pub written_uncompressed : List ℕ → Result Record ParseError → Result Record Reason
+written_uncompressed octets (Ok r) = if bytes_eq (data_octets r.rdata) octets then Ok r else Err Value
+written_uncompressed octets (Err e) = Err Value
 
 -- the record of class IN whose data, of the shape of its type, is these octets
 abbrev pub typed_record : List (List ℕ) → ℕ → ℕ → List ℕ → Result Record Reason
-typed_record owner seconds rtype octets = uncompressed octets (read_alone (standing_at (record_octets (resource_of owner seconds rtype octets)) 0))
+typed_record owner seconds rtype octets = written_uncompressed octets (read_alone (standing_at (record_octets (resource_of owner seconds rtype octets)) 0))
 
 -- HEX, of at most 65,535 octets
 abbrev pub data_word : List ℕ → Result (List ℕ) Reason
 data_word w = hex_octets_of w >>= λ octets. unless Value (nat_le (length octets) 65535) >>= λ _. Ok octets
 
 -- TTL TYPE HEX, of a record with this owner
-abbrev pub record_of : List (List ℕ) → List (List ℕ) → Result Record Reason
-record_of owner ws = do
+abbrev pub record_with_owner : List (List ℕ) → List (List ℕ) → Result Record Reason
+record_with_owner owner ws = do
   seconds ← number 20 4294967296 (word_at ws 2)
   rtype ← number 20 65536 (word_at ws 3)
   octets ← data_word (word_at ws 4)
@@ -117,7 +117,7 @@ unfoldable pub record_words : List (List ℕ) → Result Record Reason
 record_words ws = do
   _ ← unless Count (length ws == 5)
   owner ← name_word (word_at ws 1)
-  record_of owner ws
+  record_with_owner owner ws
 
 -- a record stands before the first event, and behind the line of its zone
 abbrev pub before_record : {E : Type 0} → Draft E → Result (Unit {0}) Reason
@@ -127,4 +127,4 @@ unfoldable pub record_line : {E : Type 0} → Draft E → List (List ℕ) → Re
 record_line d ws = do
   _ ← before_record d
   r ← record_words ws
-  Ok (with_record d r)
+  Ok (with_zone_record d r)

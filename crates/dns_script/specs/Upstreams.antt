@@ -6,8 +6,9 @@ use Rattle.dns_base.specs.Header.{header_of}
 use Rattle.dns_base.specs.Msg.{Msg}
 use Rattle.dns_base.specs.Replies.{answer_to, have_room}
 use Rattle.dns_base.specs.Wire.{wire}
+use Rattle.dns_client.specs.Timers.{last_moment}
 use Rattle.dns_forward.specs.Asked.{asked, led_to}
-use Rattle.dns_forward.specs.Forwarded.{SingleAnswers, Upstream as Asked}
+use Rattle.dns_forward.specs.Forwarded.{SingleAnswers, Upstream}
 use Rattle.dns_forward.specs.declared.asking_event.AskingEvent.{AskingEvent}
 use Rattle.dns_forward.specs.declared.asking_event.AskingEvent.TheVariants.{Arrived, Tick}
 use Rattle.dns_name.specs.declared.error.ParseError.{ParseError}
@@ -18,13 +19,9 @@ use Rattle.dns_route.specs.declared.send_request.SendError.TheVariants.{Unreacha
 use Rattle.dns_service.specs.declared.service.Polled.TheVariants.{Ready}
 use Rattle.dns_service.specs.declared.service.ServiceError.TheVariants.{InternalError}
 use Rattle.dns_script.specs.Played.{new_builder}
-use Rattle.dns_script.specs.declared.upstream.Upstream.{Upstream}
+use Rattle.dns_script.specs.declared.upstream.UpstreamLine.{UpstreamLine}
 use Rattle.dns_script.specs.declared.upstream.UpstreamWord.{UpstreamWord}
 use Rattle.dns_script.specs.declared.upstream.UpstreamWord.TheVariants.{Pend, Rcode, Stray, Late}
-
--- the last moment that there is, at which each tick is due
-abbrev pub last_moment : ℕ
-last_moment = 18446744073709551615
 
 -- the reply to a message with this response code, under an identifier
 abbrev pub reply_under : ℕ → List ℕ → ℕ → Msg
@@ -34,7 +31,7 @@ reply_under id o code = let m = (answer_to new_builder o code).message in record
 abbrev pub replied_to : ℕ → List ℕ → ℕ → List AskingEvent
 replied_to id o code = if have_room new_builder o code then Arrived last_moment (wire (reply_under id o code)) ∷ [] else []
 
--- what happens for a word, where a message of these octets was sent under an identifier
+-- what happens for a word, where a message of these octets was sent under an identifier; a tick at the last moment is due
 abbrev pub word_events : ℕ → List ℕ → UpstreamWord → List AskingEvent
 word_events id o Pend = []
 word_events id o (Rcode code) = replied_to id o code
@@ -59,7 +56,7 @@ abbrev pub answered_at : List UpstreamWord → List ℕ → ℕ → SentAnswer
 answered_at words o k = led_to (asked o (sent_id o) 2 1 0 (events_to (sent_id o) o words k))
 
 -- what an upstream of these words answers to a request; none can be reached with a message above 65,535 octets
-abbrev pub upstream_answers : List UpstreamWord → Asked
+abbrev pub upstream_answers : List UpstreamWord → Upstream
 upstream_answers words m k = let o = wire (request_sent m) in if nat_le (length o) 65535 then answered_at words o k else Ready (Err Unreachable)
 
 -- whether a request can be read, and the message that is sent for it would have more than 65,535 octets
@@ -73,5 +70,5 @@ abbrev pub upstream_turn : List UpstreamWord → SingleAnswers
 upstream_turn words r k = if is_too_long (request_of r.octets) then Ready (Err InternalError) else relayed (upstream_answers words) r k
 
 -- the names of upstreams, and their words
-abbrev pub upstreams_under : List Upstream → List (Route (List UpstreamWord))
-upstreams_under us = map (λ (u : Upstream). (u.name, u.words)) us
+abbrev pub upstreams_under : List UpstreamLine → List (Route (List UpstreamWord))
+upstreams_under us = map (λ (u : UpstreamLine). (u.name, u.words)) us

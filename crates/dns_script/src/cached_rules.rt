@@ -5,7 +5,7 @@ ghost use Rattle.hex.specs.Hex.{encode_lower};
 ghost use Rattle.dns_cache.specs.LruCache.{lru_cache};
 ghost use Rattle.dns_cache.specs.Calls.{called};
 ghost use Rattle.dns_route.specs.ReplyMessage.{reply_message};
-ghost use Rattle.dns_script.specs.CachedRules.{answer_line, asked_of, call_text, error_line, first_ready, reply_line, rule_turns, turn_text};
+ghost use Rattle.dns_script.specs.CachedRules.{answer_line, asked_state, call_text, error_line, first_ready, reply_line, rule_turns, turn_text};
 ghost use Rattle.dns_script.specs.Spelled.{spelled_error};
 
 use crate::ask::Ask;
@@ -53,8 +53,8 @@ impl CachedRules {
     /// `error servfail`, `error notimp`, `error refused`, or `pending` after 1,000 calls. After want of memory the rules are
     /// as before, and the cache is as those of the calls leave it that had memory, so the reply may be kept.
     pub fn ask(&mut self, alloc: Global, ask: Ask) -> Result<String, OutOfMemory>
-        ensures line { IfOk result (λ t. string_bytes t ≡ (asked_of self.old ask).line) }
-        ensures cached { OnOk result (self.new ≡ record self.old { cached = (asked_of self.old ask).behind }) }
+        ensures line { IfOk result (λ t. string_bytes t ≡ (asked_state self.old ask).line) }
+        ensures cached { OnOk result (self.new ≡ record self.old { cached = (asked_state self.old ask).behind }) }
         ensures rules { self.new.rules ≡ self.old.rules }
     {
         let request = ask.into_request(alloc)?;

@@ -4,13 +4,13 @@ ghost use Rattle.std.specs.Prelude.{◌≡◌, ◌++◌, ◌∷◌, [], OnOk, So
 ghost use Rattle.dns_base.specs.Records.{IsLawful};
 ghost use Rattle.dns_zone.specs.ZoneErrors.{zone_error};
 ghost use Rattle.dns_trace.specs.Reading.{GivesLine, TakesLine};
-ghost use Rattle.dns_script.specs.Draft.{empty_draft, finished, made_zone, may_be_rule, may_be_upstream, may_be_zone, record_more, service_by, with_record, with_service, without_zone, zone_refused};
+ghost use Rattle.dns_script.specs.Draft.{empty_draft, finished, made_zone, may_be_rule, may_be_upstream, may_be_zone, record_more, service_by, with_zone_record, with_service, without_zone, zone_refused};
 
 use crate::rule::{Rule, Rules};
 use crate::script::Script;
 use crate::service_lines::ServiceLines;
 use crate::setting_lines::kept;
-use crate::upstream::{Upstream, Upstreams};
+use crate::upstream::{UpstreamLine, Upstreams};
 use dns_base::Record;
 use dns_name::{Name, OutOfMemory};
 use dns_trace::{LineError, Reason};
@@ -114,7 +114,7 @@ impl<E: Drop> Draft<E> {
     }
 
     /// One upstream more.
-    pub fn push_upstream(&mut self, upstream: Upstream) -> Result<(), OutOfMemory>
+    pub fn push_upstream(&mut self, upstream: UpstreamLine) -> Result<(), OutOfMemory>
         ensures { OnOk result (self.new ≡ record self.old { upstreams = self.old.upstreams ++ upstream ∷ [] }) }
     {
         self.upstreams.push(upstream)
@@ -133,7 +133,7 @@ impl<E: Drop> Draft<E> {
     /// One record of the zone more, where there is one.
     pub fn push_record(&mut self, resource: Record) -> Result<(), OutOfMemory>
         requires { IsLawful resource.rdata }
-        ensures { OnOk result (self.new ≡ with_record self.old resource) }
+        ensures { OnOk result (self.new ≡ with_zone_record self.old resource) }
     {
         push_record(&mut self.zone, resource)
     }

@@ -45,6 +45,6 @@ pub use script_service::{ScriptFuture, ScriptService, ScriptStream};
 pub use script_target::{ScriptTarget, ScriptVerdict};
 pub use script_turns::ScriptTurns;
 pub use script_writer::script_text;
-pub use scripted::{Scripted, Unserved, serve_script};
+pub use scripted::{Scripted, UnservedScript, serve_script};
 pub use service_lines::ServiceLines;
-pub use upstream::{Upstream, UpstreamWord, Upstreams};
+pub use upstream::{UpstreamLine, UpstreamWord, Upstreams};

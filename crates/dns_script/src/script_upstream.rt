@@ -11,7 +11,7 @@ ghost use Rattle.dns_script.specs.Upstreams.{answered_at, events_to, is_too_long
 
 use crate::rule_list::RuleList;
 use crate::script_answers::begin;
-use crate::upstream::{Upstream, UpstreamWord, Upstreams};
+use crate::upstream::{UpstreamLine, UpstreamWord, Upstreams};
 use dns_base::{AnswerBuilder, Message, PushError};
 use dns_forward::{Asking, AskingEvent, AskingOutcome, Forwarding, ask_all, led_to};
 use dns_name::{Octets, OutOfMemory, Rcode};
@@ -245,10 +245,10 @@ pub(crate) fn forwarder(
 fn add(
     alloc: Global,
     forwarder: &mut Forwarding<ScriptRelay>,
-    upstream: Upstream,
+    upstream: UpstreamLine,
 ) -> Result<(), OutOfMemory>
     ensures { OnOk result (forwarder.new ≡ forwarder.old ++ (upstream.name, upstream.words) ∷ []) }
 {
-    let Upstream { name, words } = upstream;
+    let UpstreamLine { name, words } = upstream;
     forwarder.add_service(alloc, name, ScriptRelay { words })
 }

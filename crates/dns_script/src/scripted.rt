@@ -27,7 +27,7 @@ use std::sync::Arc;
 
 /// A script without its service: its settings, its target, and its events or steps.
 #[derive(Drop)]
-pub struct Unserved<E> {
+pub struct UnservedScript<E> {
     pub settings: Settings,
     pub target: ScriptTarget,
     pub events: Vec<E>,
@@ -41,7 +41,7 @@ pub trait Scripted: ScriptLine {
     /// Serves the clients of a script by a service.
     fn serve_with<S: Service<()>>(
         alloc: Global,
-        script: Unserved<Self>,
+        script: UnservedScript<Self>,
         service: S,
     ) -> Result<Vec<Output>, OutOfMemory>
         requires { S.can_call service }
@@ -53,7 +53,7 @@ impl Scripted for Event {
 
     fn serve_with<S: Service<()>>(
         alloc: Global,
-        script: Unserved<Event>,
+        script: UnservedScript<Event>,
         service: S,
     ) -> Result<Vec<Output>, OutOfMemory>
         requires { S.can_call service }
@@ -69,7 +69,7 @@ impl Scripted for Step {
 
     fn serve_with<S: Service<()>>(
         alloc: Global,
-        script: Unserved<Step>,
+        script: UnservedScript<Step>,
         service: S,
     ) -> Result<Vec<Output>, OutOfMemory>
         requires { S.can_call service }
@@ -83,7 +83,7 @@ impl Scripted for Step {
 /// Serves clients by a single service.
 fn serve_single<E: Scripted, S: SingleService>(
     alloc: Global,
-    script: Unserved<E>,
+    script: UnservedScript<E>,
     single: S,
 ) -> Result<Vec<Output>, OutOfMemory>
     ensures { IfOk result (λ v. v.items ≡ E.sent (wrapped_serving script.settings (turned_over (S.answer single)) (⟦<ScriptTarget as Notifiable>⟧.verdict script.target)) script.settings script.events.items) }
@@ -95,7 +95,7 @@ fn serve_single<E: Scripted, S: SingleService>(
 /// Serves clients by upstreams in a forwarder.
 fn serve_upstreams<E: Scripted>(
     alloc: Global,
-    script: Unserved<E>,
+    script: UnservedScript<E>,
     upstreams: Upstreams,
 ) -> Result<Vec<Output>, OutOfMemory>
     ensures { IfOk result (λ v. v.items ≡ E.sent (wrapped_serving script.settings (turned_over (routed upstream_turn (upstreams_under upstreams))) (⟦<ScriptTarget as Notifiable>⟧.verdict script.target)) script.settings script.events.items) }
@@ -107,7 +107,7 @@ fn serve_upstreams<E: Scripted>(
 /// Serves clients by what service lines say.
 fn serve_lines<E: Scripted>(
     alloc: Global,
-    script: Unserved<E>,
+    script: UnservedScript<E>,
     service: ServiceLines,
 ) -> Result<Vec<Output>, OutOfMemory>
     ensures { IfOk result (λ v. v.items ≡ E.sent (wrapped_serving script.settings (service_answers service) (⟦<ScriptTarget as Notifiable>⟧.verdict script.target)) script.settings script.events.items) }
@@ -128,7 +128,7 @@ pub fn serve_script<E: Scripted>(
     ensures { IfOk result (λ v. v.items ≡ plan_sent E.sent script) }
 {
     let (settings, service, zones, events) = script.into_parts();
-    let script = Unserved {
+    let script = UnservedScript {
         settings,
         target: ScriptTarget::new(zones),
         events,

@@ -10,7 +10,7 @@ use crate::cached_rules::error_text;
 use crate::notify_rule::NotifyRule;
 use crate::rule::{Rule, ScriptAnswer, ScriptReply};
 use crate::service_lines::ServiceLines;
-use crate::upstream::{Upstream, UpstreamWord};
+use crate::upstream::{UpstreamLine, UpstreamWord};
 use dns_base::{Record, RecordData};
 use dns_core::NotifyError;
 use dns_name::{Name, OutOfMemory};
@@ -175,7 +175,7 @@ fn push_events(text: &mut TextWriter, words: &[UpstreamWord]) -> Result<(), OutO
 }
 
 /// The line of an upstream.
-fn upstream_line(text: &mut TextWriter, upstream: &Upstream) -> Result<(), OutOfMemory>
+fn upstream_line(text: &mut TextWriter, upstream: &UpstreamLine) -> Result<(), OutOfMemory>
     ensures { OnOk result (text.new ≡ text.old ++ line_of_words (words_of_upstream upstream.now)) }
 {
     text.name("upstream")?;
@@ -185,7 +185,7 @@ fn upstream_line(text: &mut TextWriter, upstream: &Upstream) -> Result<(), OutOf
 }
 
 /// The lines of upstreams.
-fn upstream_lines(text: &mut TextWriter, upstreams: &[Upstream]) -> Result<(), OutOfMemory>
+fn upstream_lines(text: &mut TextWriter, upstreams: &[UpstreamLine]) -> Result<(), OutOfMemory>
     ensures { OnOk result (text.new ≡ text.old ++ flat_map line_of_words (map words_of_upstream upstreams.now)) }
 {
     for upstream in upstreams {

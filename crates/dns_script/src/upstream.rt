@@ -18,11 +18,11 @@ pub enum UpstreamWord {
 
 /// An upstream line: behind its words an upstream is late.
 #[derive(Debug, Drop)]
-pub struct Upstream {
+pub struct UpstreamLine {
     /// The name of the questions that it is for, and of those below.
     pub name: Name,
     pub words: RuleList<UpstreamWord>,
 }
 
 /// The upstream lines of a script, in order.
-pub type Upstreams = RuleList<Upstream>;
+pub type Upstreams = RuleList<UpstreamLine>;

@@ -8,7 +8,7 @@ use crate::answer_words::{behind, rcode};
 use crate::draft::Draft;
 use crate::rule_list::RuleList;
 use crate::setting_lines::{before_events, of_more_words};
-use crate::upstream::{Upstream, UpstreamWord};
+use crate::upstream::{UpstreamLine, UpstreamWord};
 use dns_trace::{LineError, Reason, Words, name, unless};
 use std::alloc::Global;
 
@@ -53,13 +53,13 @@ fn upstream_words(alloc: Global, words: &Words) -> Result<RuleList<UpstreamWord>
 
 /// The upstream of a line `upstream NAME WORD ..`.
 #[tactic(auto, unfolding(crate::specs::ServiceLines::upstream_of))]
-fn upstream_of(alloc: Global, words: &Words) -> Result<Upstream, LineError>
+fn upstream_of(alloc: Global, words: &Words) -> Result<UpstreamLine, LineError>
     ensures { GivesLine (λ u. u) result (upstream_of words.now) }
 {
     of_more_words(words)?;
     let name = name(alloc, words.word(1))?;
     let words = upstream_words(alloc, words)?;
-    Ok(Upstream { name, words })
+    Ok(UpstreamLine { name, words })
 }
 
 /// A line `upstream NAME WORD ..`.

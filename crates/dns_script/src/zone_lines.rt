@@ -9,7 +9,7 @@ ghost use Rattle.dns_message.specs.Standing.{standing_at};
 ghost use Rattle.dns_message.specs.Wire.{record_octets};
 ghost use Rattle.dns_trace.specs.Reading.{GivesLine, TakesLine, unless};
 ghost use Rattle.dns_trace.specs.Values.{number};
-ghost use Rattle.dns_script.specs.ServiceLines.{GivesRead, apex_of, before_record, before_zone, data_word, read_alone, record_line, record_of, record_words, resource_of, typed_record, uncompressed, zone_line};
+ghost use Rattle.dns_script.specs.ServiceLines.{GivesRead, apex_of, before_record, before_zone, data_word, read_alone, record_line, record_with_owner, record_words, resource_of, typed_record, written_uncompressed, zone_line};
 
 use crate::draft::Draft;
 use crate::setting_lines::{before_events, kept};
@@ -101,19 +101,19 @@ fn written_as(alloc: Global, resource: &Record, rdata: &[u8]) -> Result<(), Line
 
 /// The record of octets, where its data has the shape of its type and no compressed name.
 fn typed_record(alloc: Global, octets: &[u8], rdata: &[u8]) -> Result<Record, LineError>
-    ensures value { GivesLine (λ r. r) result (uncompressed rdata.now (read_alone (standing_at octets.now 0))) }
+    ensures value { GivesLine (λ r. r) result (written_uncompressed rdata.now (read_alone (standing_at octets.now 0))) }
     ensures lawful { IfOk result (λ r. IsLawful r.rdata) }
 {
     match record_alone(alloc, octets) {
-        Ok(record) => uncompressed(alloc, record, rdata),
+        Ok(record) => written_uncompressed(alloc, record, rdata),
         Err(error) => Err(error),
     }
 }
 
 /// A record, where its data is written as these octets.
-fn uncompressed(alloc: Global, resource: Record, rdata: &[u8]) -> Result<Record, LineError>
+fn written_uncompressed(alloc: Global, resource: Record, rdata: &[u8]) -> Result<Record, LineError>
     requires { IsLawful resource.rdata }
-    ensures value { GivesLine (λ r. r) result (uncompressed rdata.now (Ok resource)) }
+    ensures value { GivesLine (λ r. r) result (written_uncompressed rdata.now (Ok resource)) }
     ensures lawful { IfOk result (λ r. IsLawful r.rdata) }
 {
     let written = written_as(alloc, &resource, rdata);
@@ -146,12 +146,12 @@ fn record_words(alloc: Global, words: &Words) -> Result<Record, LineError>
 {
     unless(Reason::Count, words.len() == 5)?;
     let owner = name(alloc, words.word(1))?;
-    record_of(alloc, &owner, words)
+    record_with_owner(alloc, &owner, words)
 }
 
 /// The record with this owner of such a line.
-fn record_of(alloc: Global, owner: &Name, words: &Words) -> Result<Record, LineError>
-    ensures value { GivesLine (λ r. r) result (record_of owner.now words.now) }
+fn record_with_owner(alloc: Global, owner: &Name, words: &Words) -> Result<Record, LineError>
+    ensures value { GivesLine (λ r. r) result (record_with_owner owner.now words.now) }
     ensures lawful { IfOk result (λ r. IsLawful r.rdata) }
 {
     let ttl = ttl(words.word(2))?;

@@ -13,7 +13,7 @@ use Rattle.dns_trace.specs.InRange.{IsEvent, IsSettings}
 use Rattle.dns_trace.specs.Trace.{event_text, settings_text, trace}
 use Rattle.dns_trace.specs.Traced.{traced}
 use Rattle.dns_trace.specs.declared.reason.Reason.{Reason}
-use Rattle.dns_server.specs.Recorded.{IsTrace, ReadsBack, configured, recorded, recorded_of}
+use Rattle.dns_server.specs.Recorded.{IsTrace, TraceReadsBack, settings_event, recorded, recorded_of}
 
 left_of : (a b : Bool) → (a && b) ≡ true → a ≡ true
 left_of true b h = refl
@@ -70,14 +70,14 @@ module _ (law : (s : Settings) (es : List Event) → IsSettings s → All IsEven
     ∥∥₁_elim was (Coded-set (coded_list event.the_row.coded) _ _) (λ is. recorded_more old new e adds (fits (right_of said b all)) (is (left_of said b all))),
   )
 
-  pub none_noted : (s : Settings) → IsSettings s → recorded (trace s []) ≡ configured s ∷ []
+  pub none_noted : (s : Settings) → IsSettings s → recorded (trace s []) ≡ settings_event s ∷ []
   unfolding recorded
   none_noted s h = ap recorded_of (law s [] h (All-from_recursion IsEvent [] tt))
 
   one_trace : (text : List ℕ) (r : Settings × List Event) → traced text ≡ Ok r → (t : IsTrace text) → (t.settings, t.events) ≡ r
   one_trace text r read t = ap (read_or r) (sym (reads text t) ∙ read)
 
-  back : (text : List ℕ) (r : Result (Settings × List Event) (ℕ × Reason)) → traced text ≡ r → IsOk r → ∥ IsTrace text ∥₁ → ReadsBack text (recorded_of r)
+  back : (text : List ℕ) (r : Result (Settings × List Event) (ℕ × Reason)) → traced text ≡ r → IsOk r → ∥ IsTrace text ∥₁ → TraceReadsBack text (recorded_of r)
   back text (Ok r) read ok was = record {
     settings = r.0;
     events = r.1;
@@ -88,7 +88,7 @@ module _ (law : (s : Settings) (es : List Event) → IsSettings s → All IsEven
   }
   back text (Err e) read ok was = absurd (false≢true ok)
 
-  pub reads_whole : (said : Bool) (text : List ℕ) → ∥ (said ≡ true → IsTrace text) ∥₁ → said ≡ true → ReadsBack text (recorded text)
+  pub reads_whole : (said : Bool) (text : List ℕ) → ∥ (said ≡ true → IsTrace text) ∥₁ → said ≡ true → TraceReadsBack text (recorded text)
   unfolding recorded
   reads_whole said text was all =
       let whole : ∥ IsTrace text ∥₁ = ∥∥₁_map was (λ is. is all) in

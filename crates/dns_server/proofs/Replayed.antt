@@ -33,7 +33,7 @@ use Rattle.dns_trace.specs.InRange.{IsEvent, IsSettings}
 use Rattle.dns_trace.specs.Trace.{settings_text, trace}
 use Rattle.dns_trace.specs.Traced.{traced}
 use Rattle.dns_server.proofs.Noted.{same_lines}
-use Rattle.dns_server.specs.Recorded.{ReadsBack, configured}
+use Rattle.dns_server.specs.Recorded.{TraceReadsBack, settings_event}
 use Rattle.dns_server.specs.Replays.{Replays}
 
 -- a connection hears all events of its trace
@@ -125,14 +125,14 @@ pub replays : (answers : Serving) (settings : Settings) (why : Why) (client : �
     → ((es : List Event) → is_member answers settings client es ≡ true → filter (is_for client) (out answers settings es) ≡ sent answers settings (own client es))
     → ((s : Settings) (es : List Event) → IsSettings s → All IsEvent es → traced (trace s es) ≡ Ok (s, es))
     → IsSettings settings → look.dgram ≡ settings.dgram → look.stream ≡ settings.stream → look.closed ≡ false
-    → ReadsBack text noted → WasServed answers why client addr look (configured settings ∷ []) noted k k' t t' → Replays answers settings client why text t t'
+    → TraceReadsBack text noted → WasServed answers why client addr look (settings_event settings ∷ []) noted k k' t t' → Replays answers settings client why text t t'
 replays answers settings why client addr look text noted k k' t t' law back_law range d s c back served =
     let opened = served.opened in
     let story = opened.story in
     let events = story.events in
     let start = offer client addr opened.at opened.secs in
     let conf = conf_is settings look d s c in
-    let all : configured back.settings ∷ back.events ≡ configured settings ∷ start ∷ events = sym back.noted_are ∙ story.noted in
+    let all : settings_event back.settings ∷ back.events ≡ settings_event settings ∷ start ∷ events = sym back.noted_are ∙ story.noted in
     let same : back.events ≡ start ∷ events = ap behind all in
     let lines : settings_text back.settings ≡ settings_text settings = ap (λ (es : List Event). kind_octets (ahead es start).kind) all in
     let these : back.settings ≡ settings = ∥∥₁_elim back.sound (Coded-set settings_row.the_row.coded _ _) (λ sound. same_lines back_law back.settings settings sound range lines) in

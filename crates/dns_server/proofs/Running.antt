@@ -6,7 +6,7 @@ use Rattle.std.specs.Prelude.{Result, Ok, Err, IsErr, ◌++◌, ◌∷◌, ◌�
 use Rattle.std.proofs.lemmas.Bool.{false≢true}
 use Rattle.dns_trace.specs.declared.reason.Reason.{Reason}
 use Rattle.dns_script.specs.Plan.{Plan}
-use Rattle.dns_server.specs.Status.{SourceFaults, SinkFaults, status_after, status_of}
+use Rattle.dns_server.specs.Status.{SourceFaults, SinkFaults, status_once_written, status_of}
 use Rattle.dns_server.specs.Runs.{text_or_refusal, refusal_text, Says, ReadsSource, WritesText, Decides, EndsFlood, FloodDecides}
 use Rattle.dns_server.specs.Writes.{Wrote}
 use Rattle.dns_server.specs.declared.status.Status.{Status}
@@ -46,23 +46,23 @@ whole_written read s text a b c d r0 r1 w0 w1 was wrote = record {
   told = λ x. let r = was.told x.0 in let w = wrote.told x.1 in ((r.0, w.0), rw r.1.0 w.1);
 }
 
-read_after : {E : Type 0} (read : List ℕ → Result (Plan E) (ℕ × Reason)) (written : Result (Unit {0}) WriteError) (a b : List ℕ) → ReadsSource read Done a b → ReadsSource read (status_after Done written) a b
+read_after : {E : Type 0} (read : List ℕ → Result (Plan E) (ℕ × Reason)) (written : Result (Unit {0}) WriteError) (a b : List ℕ) → ReadsSource read Done a b → ReadsSource read (status_once_written Done written) a b
 read_after read (Ok u) a b h = h
 read_after read (Err NoMemory) a b h = record { got = a; front = rw h.0.0 (sym (append-nil a)); few = let le : length a ≤ 67108864 = h.0.1 in omega arith }
 read_after read (Err Fault) a b h = h.0
 
 -- a script that was read is still read whole once it is answered
-pub answers_read : {E : Type 0} (read : List ℕ → Result (Plan E) (ℕ × Reason)) (written : Result (Unit {0}) WriteError) (a b : List ℕ) (r0 r1 : Type 0) → Tells r1 r0 (ReadsSource read Done a b) → Tells r1 r0 (ReadsSource read (status_after Done written) a b)
+pub answers_read : {E : Type 0} (read : List ℕ → Result (Plan E) (ℕ × Reason)) (written : Result (Unit {0}) WriteError) (a b : List ℕ) (r0 r1 : Type 0) → Tells r1 r0 (ReadsSource read Done a b) → Tells r1 r0 (ReadsSource read (status_once_written Done written) a b)
 answers_read read written a b r0 r1 was = record { told = λ x. let t = was.told x in (t.0, read_after read written a b t.1) }
 
-wrote_after : (written : Result (Unit {0}) WriteError) (text c d : List ℕ) → Wrote written text c d → WritesText (status_after Done written) text c d
+wrote_after : (written : Result (Unit {0}) WriteError) (text c d : List ℕ) → Wrote written text c d → WritesText (status_once_written Done written) text c d
 wrote_after (Ok u) text c d h = h
 wrote_after (Err NoMemory) text c d h = h
 wrote_after (Err Fault) text c d h = h
 
 -- what is written for a script that was read
 pub answers_written : {E : Type 0} (text : Plan E → List ℕ) (read : List ℕ → Result (Plan E) (ℕ × Reason)) (written : Result (Unit {0}) WriteError) (s : Plan E) (a c d : List ℕ) (r0 r1 w0 w1 : Type 0) → Tells r1 r0 (read a ≡ Ok s)
-    → Tells w1 w0 (Wrote written (text s) c d) → Tells (r1 × w1) (r0 × w0) (WritesText (status_after Done written) (text_or_refusal text (read a)) c d)
+    → Tells w1 w0 (Wrote written (text s) c d) → Tells (r1 × w1) (r0 × w0) (WritesText (status_once_written Done written) (text_or_refusal text (read a)) c d)
 answers_written text read written s a c d r0 r1 w0 w1 said wrote = record {
   told = λ x. let r = said.told x.0 in let w = wrote.told x.1 in ((r.0, w.0), rw r.1 (wrote_after written (text s) c d w.1));
 }

@@ -1,15 +1,15 @@
 -- What a cache in front of rules is asked, question by question.
 use Rattle.std.specs.Prelude.{ℕ, List}
-use Rattle.dns_script.specs.CachedRules.{CachedState, asked_of, asks_text, rule_turns}
+use Rattle.dns_script.specs.CachedRules.{CachedState, asked_state, asks_text, rule_turns}
 use Rattle.dns_script.specs.declared.ask.Ask.{Ask}
 
 -- the line of a question
 unfoldable pub asked_line : CachedState → Ask → List ℕ
-asked_line s ask = (asked_of s ask).line
+asked_line s ask = (asked_state s ask).line
 
 -- the rules and the cache behind it
 unfoldable pub asked_behind : CachedState → Ask → CachedState
-asked_behind s ask = record s { cached = (asked_of s ask).behind }
+asked_behind s ask = record s { cached = (asked_state s ask).behind }
 
 -- the lines of questions
 unfoldable pub asked_text : CachedState → List Ask → List ℕ

@@ -11,12 +11,12 @@ use Rattle.dns_trace.specs.Traced.{traced}
 use Rattle.dns_trace.specs.declared.reason.Reason.{Reason}
 
 -- the settings that hold before the first event: an event that no client has, whose octets are their lines
-abbrev pub configured : Settings → Event
-configured s = record { at = 0; secs = 0; client = 0; kind = Piece (settings_text s) }
+abbrev pub settings_event : Settings → Event
+settings_event s = record { at = 0; secs = 0; client = 0; kind = Piece (settings_text s) }
 
 -- the settings, and then the events
 abbrev pub recorded_of : Result (Settings × List Event) (ℕ × Reason) → List Event
-recorded_of (Ok t) = configured t.0 ∷ t.1
+recorded_of (Ok t) = settings_event t.0 ∷ t.1
 recorded_of (Err e) = []
 
 unfoldable pub recorded : List ℕ → List Event
@@ -35,10 +35,10 @@ abbrev pub is_said : Event → Bool
 is_said e = not (is_wide e.kind) || (e.client == 0)
 
 -- A text is the trace of settings in range and of the events that were noted behind these settings, and reads back to them.
-pub record ReadsBack (text : List ℕ) (noted : List Event) : Type 0 where
+pub record TraceReadsBack (text : List ℕ) (noted : List Event) : Type 0 where
   pub settings : Settings
   pub events : List Event
   pub is : text ≡ trace settings events
   pub sound : ∥ IsSettings settings ∥₁
   pub read : traced text ≡ Ok (settings, events)
-  pub noted_are : noted ≡ configured settings ∷ events
+  pub noted_are : noted ≡ settings_event settings ∷ events

@@ -19,10 +19,10 @@ status_number TooLong = 7
 status_number HostFault = 8
 
 -- the status where all was written, or why it wasn't
-abbrev pub status_after : Status → Result (Unit {0}) WriteError → Status
-status_after s (Ok u) = s
-status_after s (Err NoMemory) = OutOfMemory
-status_after s (Err Fault) = WriteFault
+abbrev pub status_once_written : Status → Result (Unit {0}) WriteError → Status
+status_once_written s (Ok u) = s
+status_once_written s (Err NoMemory) = OutOfMemory
+status_once_written s (Err Fault) = WriteFault
 
 -- what was to be had and is there, or the status that says why it isn't
 abbrev pub status_of : {A : Type 0} → Result A Status → Status

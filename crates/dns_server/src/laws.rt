@@ -8,7 +8,7 @@ ghost use Rattle.dns_drivers.specs.Endings.{EndsSo};
 ghost use Rattle.dns_drivers.specs.declared.connection.ConnectionEnd.TheVariants.{Closed};
 ghost use Rattle.dns_name.specs.declared.address.SocketAddr.{SocketAddr};
 ghost use Rattle.dns_outside.specs.Traffic.{Traffic};
-ghost use Rattle.dns_server.specs.Recorded.{ReadsBack, configured};
+ghost use Rattle.dns_server.specs.Recorded.{TraceReadsBack, settings_event};
 ghost use Rattle.dns_server.specs.Replays.{Replays};
 ghost use Rattle.dns_service.specs.declared.event.Event.{Event};
 ghost use Rattle.dns_service.specs.declared.event.Why.{Why};
@@ -21,7 +21,7 @@ ghost use Rattle.dns_trace.specs.InRange.{IsSettings};
 pub fn a_connection_replays()
     ensures { (answers : Serving) (settings : Settings) (why : Why) (client : ℕ) (addr : SocketAddr) (look : Look) (text : List ℕ) (noted : List Event) (k k' : Known) (t t' : Traffic)
         → IsSettings settings → look.dgram ≡ settings.dgram → look.stream ≡ settings.stream → look.closed ≡ false
-        → ReadsBack text noted → EndsSo answers (Closed why) client addr look (configured settings ∷ []) noted k k' t t'
+        → TraceReadsBack text noted → EndsSo answers (Closed why) client addr look (settings_event settings ∷ []) noted k k' t t'
         → Replays answers settings client why text t t' }
 {
     dns_trace::a_trace_reads_back();

@@ -29,7 +29,7 @@ pub use dns_middleware::Wrapped;
 pub use dns_script::{
     Ask, CachedRules, NoEvent, NotifyRule, NotifyRules, Rule, RuleList, Rules, Script,
     ScriptAnswer, ScriptAnswers, ScriptError, ScriptFuture, ScriptLine, ScriptReply, ScriptService,
-    ScriptStream, ScriptTarget, ScriptTurns, ScriptVerdict, Scripted, ServiceLines, Upstream,
+    ScriptStream, ScriptTarget, ScriptTurns, ScriptVerdict, Scripted, ServiceLines, UpstreamLine,
     UpstreamWord, Upstreams, line, read_script, refusal, script_text, serve_script,
 };
 pub use dns_servers::{

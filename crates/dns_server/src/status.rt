@@ -1,7 +1,7 @@
 //! How the program ends.
 
 ghost use Rattle.std.specs.Prelude.{◌≡◌};
-ghost use Rattle.dns_server.specs.Status.{status_number, status_after};
+ghost use Rattle.dns_server.specs.Status.{status_number, status_once_written};
 
 use crate::writing::WriteError;
 use dns_servers::HostEnd;
@@ -59,7 +59,7 @@ impl Status {
 
     /// This status where all was written, and else why it wasn't.
     pub(crate) fn after(self, written: Result<(), WriteError>) -> Status
-        ensures { result ≡ status_after self written }
+        ensures { result ≡ status_once_written self written }
     {
         match written {
             Ok(()) => self,

@@ -5,7 +5,7 @@ ghost use Rattle.dns_notes.specs.Notes.{NoteMoves};
 ghost use Rattle.dns_outside.specs.Causes.{Tells};
 ghost use Rattle.dns_trace.specs.InRange.{IsSettings};
 ghost use Rattle.dns_trace.specs.Trace.{event_text, trace};
-ghost use Rattle.dns_server.specs.Recorded.{IsTrace, ReadsBack, configured, is_said, recorded};
+ghost use Rattle.dns_server.specs.Recorded.{IsTrace, TraceReadsBack, settings_event, is_said, recorded};
 
 use crate::in_range;
 use dns_name::OutOfMemory;
@@ -48,7 +48,7 @@ impl TraceRecorder {
         ensures sound { IsSettings settings.now }
         ensures text { IfOk result (λ r. r.writer ≡ trace settings.now []) }
         ensures tells { IfOk result (λ r. ⟦<TraceRecorder as Recorder>⟧.tells r) }
-        ensures noted { IfOk result (λ r. ⟦<TraceRecorder as Recorder>⟧.noted r ≡ configured settings.now ∷ []) }
+        ensures noted { IfOk result (λ r. ⟦<TraceRecorder as Recorder>⟧.noted r ≡ settings_event settings.now ∷ []) }
     {
         in_range::settings(settings);
         a_trace_reads_back();
@@ -68,7 +68,7 @@ impl TraceRecorder {
     /// The text.
     pub fn finish(self) -> Vec<u8>
         ensures text { result.items ≡ self.writer }
-        ensures back { ⟦<TraceRecorder as Recorder>⟧.tells self → ReadsBack result.items (⟦<TraceRecorder as Recorder>⟧.noted self) }
+        ensures back { ⟦<TraceRecorder as Recorder>⟧.tells self → TraceReadsBack result.items (⟦<TraceRecorder as Recorder>⟧.noted self) }
     {
         a_trace_reads_back();
         let TraceRecorder { writer, said: _ } = self;

@@ -5,7 +5,7 @@ use Rattle.dns_admission.specs.declared.look.Look.{Look}
 use Rattle.dns_admission.specs.declared.call.Call.TheVariants.{Look as ToLook}
 use Rattle.dns_admission.specs.declared.call.Reply.TheVariants.{Look as Shown}
 use Rattle.dns_book.specs.Gains.{with_calls}
-use Rattle.dns_book.specs.History.{Name, entry, with_entry}
+use Rattle.dns_book.specs.History.{SeatName, entry, with_entry}
 use Rattle.dns_book.specs.Seats.{Called, state_met}
 use Rattle.dns_book.specs.declared.history.Entry.{Entry}
 use Rattle.dns_book.specs.declared.history.Known.{Known}
@@ -14,9 +14,9 @@ use Rattle.dns_outside.specs.Causes.{Tells}
 use Rattle.dns_host.specs.Clocks.{ClockReading}
 use Rattle.dns_host.specs.Woven.{look_entries}
 use Rattle.dns_host.specs.DatagramsServed.{LooksOnly}
-use Rattle.dns_servers.specs.Controls.{IsDown, LookedInVain, Awaited, Since, Apart, ReadAgain, TimePassed}
+use Rattle.dns_servers.specs.Controls.{IsDown, LookedInVain, Awaited, Since, ReadingsSpan, ReadAgain, TimePassed}
 
-entries_more : (name : Name) (ls : List Look) (l : Look) → look_entries name (ls ++ l ∷ []) ≡ look_entries name ls ++ entry name ToLook (Shown l) ∷ []
+entries_more : (name : SeatName) (ls : List Look) (l : Look) → look_entries name (ls ++ l ∷ []) ≡ look_entries name ls ++ entry name ToLook (Shown l) ∷ []
 entries_more name [] l = refl
 entries_more name (m ∷ ls) l = ap (λ es. entry name ToLook (Shown m) ∷ es) (entries_more name ls l)
 
@@ -71,7 +71,7 @@ since_more start c c1 c2 r s e = record {
   clock = e ∙ (ap (λ (l : List ClockReading). l ++ r ∷ []) s.clock ∙ append_assoc c ((start, s.secs) ∷ s.between) (r ∷ []));
 }
 
-pub apart_now : (millis start : ℕ) (c c1 c2 : List ClockReading) (r : ClockReading) → Since start c c1 → c2 ≡ c1 ++ r ∷ [] → millis ≤ r.0 - start → Apart millis c c2
+pub apart_now : (millis start : ℕ) (c c1 c2 : List ClockReading) (r : ClockReading) → Since start c c1 → c2 ≡ c1 ++ r ∷ [] → millis ≤ r.0 - start → ReadingsSpan millis c c2
 apart_now millis start c c1 c2 r s e h = record {
   first = (start, s.secs);
   between = s.between;

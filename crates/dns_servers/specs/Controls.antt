@@ -49,7 +49,7 @@ pub record Since (start : ℕ) (c c' : List ClockReading) : Type 0 where
   pub clock : c' ≡ c ++ ((start, secs) ∷ between)
 
 -- the readings from c to c', of which the first and the last are at least so many milliseconds apart
-pub record Apart (millis : ℕ) (c c' : List ClockReading) : Type 0 where
+pub record ReadingsSpan (millis : ℕ) (c c' : List ClockReading) : Type 0 where
   pub first : ClockReading
   pub between : List ClockReading
   pub last : ClockReading
@@ -59,7 +59,7 @@ pub record Apart (millis : ℕ) (c c' : List ClockReading) : Type 0 where
 -- where the server isn't down, the time has passed
 abbrev pub TimePassed : Bool → ℕ → List ClockReading → List ClockReading → Type 0
 TimePassed true millis c c' = Unit {0}
-TimePassed false millis c c' = Apart millis c c'
+TimePassed false millis c c' = ReadingsSpan millis c c'
 
 -- one reading more; and where the answer is that the server isn't down, it is late enough after the first
 pub record OneReading (late : ℕ → Type 0) (c c' : List ClockReading) : Type 0 where

@@ -6,7 +6,7 @@ ghost use Rattle.dns_base.specs.Builds.{Builds, unlimited};
 ghost use Rattle.dns_base.specs.Header.{header_of};
 ghost use Rattle.dns_base.specs.Replaced.{other_than};
 ghost use Rattle.dns_base.specs.Sections.{all_of, questions_of, standing_additional, standing_answers, standing_authority};
-ghost use Rattle.dns_base.specs.Standing.{Gives};
+ghost use Rattle.dns_base.specs.Standing.{GivesParsed};
 ghost use Rattle.dns_service.specs.Copied.{GivesAll, copied, copied_item, copied_records, gathered, others_of, whole_list};
 ghost use Rattle.dns_service.specs.LastOpt.{and_opt};
 
@@ -47,7 +47,7 @@ impl CopiedMessage {
     /// Reads a message from its front; refused as the first question, record or data that is unreadable.
     #[tactic(auto, unfolding(crate::specs::Copied::copied))]
     pub fn read(alloc: Global, message: &MessageRef<'_>) -> Result<CopiedMessage, ParseError>
-        ensures { Gives result (copied message.now) }
+        ensures { GivesParsed result (copied message.now) }
     {
         let questions = questions_in(alloc, message)?;
         let answers = answers_in(alloc, message)?;
@@ -61,7 +61,7 @@ impl CopiedMessage {
         questions: Vec<Question>,
         answers: Vec<CopiedRecord>,
     ) -> Result<CopiedMessage, ParseError>
-        ensures { Gives result (gathered (header_of message.now) (Ok questions.items) (Ok answers.items) (copied_records (all_of (standing_authority message.now))) (others_of (copied_records (all_of (standing_additional message.now))))) }
+        ensures { GivesParsed result (gathered (header_of message.now) (Ok questions.items) (Ok answers.items) (copied_records (all_of (standing_authority message.now))) (others_of (copied_records (all_of (standing_additional message.now))))) }
     {
         let authority = authority_in(alloc, message)?;
         let additional = others_in(alloc, message)?;
@@ -126,7 +126,7 @@ fn owned_question(
     alloc: Global,
     item: Result<QuestionRef<'_>, ParseError>,
 ) -> Result<Question, ParseError>
-    ensures { Gives result item.entry }
+    ensures { GivesParsed result item.entry }
 {
     let question = item?.to_question(alloc)?;
     Ok(question)
@@ -150,7 +150,7 @@ fn copied_record(
     alloc: Global,
     item: Result<RecordRef<'_>, ParseError>,
 ) -> Result<CopiedRecord, ParseError>
-    ensures { Gives result (copied_item item.entry) }
+    ensures { GivesParsed result (copied_item item.entry) }
 {
     CopiedRecord::read(alloc, &item?)
 }

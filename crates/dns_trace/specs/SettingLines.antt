@@ -38,8 +38,8 @@ first_said before_events said = do
   unless Repeat (not (is_some said))
 
 -- a line that is said once, by what is read of it
-abbrev pub once : {A : Type 0} → Bool → Option A → Result A Reason → (A → Said) → Result Said Reason
-once before_events said read put = do
+abbrev pub said_once : {A : Type 0} → Bool → Option A → Result A Reason → (A → Said) → Result Said Reason
+said_once before_events said read put = do
   _ ← first_said before_events said
   value ← read
   Ok (put value)
@@ -50,27 +50,27 @@ of_one_word ws read = unless Count (length ws == 2) >>= λ _. read (word_at ws 1
 
 -- strict yes|no
 unfoldable pub strict_line : Bool → Said → List (List ℕ) → Result Said Reason
-strict_line before_events s ws = once before_events s.strict (of_one_word ws yes_no_of) (λ strict. record s { strict = Some strict })
+strict_line before_events s ws = said_once before_events s.strict (of_one_word ws yes_no_of) (λ strict. record s { strict = Some strict })
 
 -- edns yes|no
 unfoldable pub edns_line : Bool → Said → List (List ℕ) → Result Said Reason
-edns_line before_events s ws = once before_events s.edns (of_one_word ws yes_no_of) (λ edns. record s { edns = Some edns })
+edns_line before_events s ws = said_once before_events s.edns (of_one_word ws yes_no_of) (λ edns. record s { edns = Some edns })
 
 -- secret HEX, of 16 octets
 unfoldable pub secret_line : Bool → Said → List (List ℕ) → Result Said Reason
-secret_line before_events s ws = once before_events s.secret (of_one_word ws secret_of) (λ secret. record s { secret = Some secret })
+secret_line before_events s ws = said_once before_events s.secret (of_one_word ws secret_of) (λ secret. record s { secret = Some secret })
 
 -- a line `dgram`
 unfoldable pub first_dgram_line : Bool → Said → List (List ℕ) → Result Said Reason
-first_dgram_line before_events s ws = once before_events s.dgram (dgram_line ws) (λ dgram. record s { dgram = Some dgram })
+first_dgram_line before_events s ws = said_once before_events s.dgram (dgram_line ws) (λ dgram. record s { dgram = Some dgram })
 
 -- a line `stream`
 unfoldable pub first_stream_line : Bool → Said → List (List ℕ) → Result Said Reason
-first_stream_line before_events s ws = once before_events s.stream (stream_line ws) (λ stream. record s { stream = Some stream })
+first_stream_line before_events s ws = said_once before_events s.stream (stream_line ws) (λ stream. record s { stream = Some stream })
 
 -- a line `budget`
 unfoldable pub first_budget_line : Bool → Said → List (List ℕ) → Result Said Reason
-first_budget_line before_events s ws = once before_events s.budget (budget_line ws) (λ budget. record s { budget = Some budget })
+first_budget_line before_events s ws = said_once before_events s.budget (budget_line ws) (λ budget. record s { budget = Some budget })
 
 -- deny ADDR
 unfoldable pub denied_of : List (List ℕ) → Result IpAddr Reason

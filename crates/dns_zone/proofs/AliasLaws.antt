@@ -8,7 +8,7 @@ use Rattle.dns_route.specs.Routes.{ends_name}
 use Rattle.dns_zone.specs.declared.aliases.Lead.TheVariants.{Alias}
 use Rattle.dns_zone.specs.Aliases.{aliased, followed, gone_on, is_within, unaliased}
 use Rattle.dns_zone.specs.Cuts.{is_cut_off}
-use Rattle.dns_zone.specs.Found.{AreAliases, Leads, target_of}
+use Rattle.dns_zone.specs.Found.{AreAliases, TargetLeadsTo, target_of}
 use Rattle.dns_zone.specs.Owned.{ZoneState, asked_records, is_asked, target}
 use Rattle.dns_zone.specs.Places.{at_places, places}
 use Rattle.dns_zone.proofs.PlaceLaws.{at_places_of, first_place, no_records}
@@ -32,7 +32,7 @@ module _ (z : ZoneState) (t : ℕ) where
   leads_on name e c k = ap (λ b. if b then followed z t k name else []) (is_in name e c)
 
   -- an alias
-  pub leads_alias : (name : List (List ℕ)) (next : Bor (List ℕ)) → ends_name name z.apex ≡ true → is_cut_off z name ≡ false → next.now ≡ places (is_asked name 5) z.records → 0 < length next.now → Leads z t (Some name) (Alias next)
+  pub leads_alias : (name : List (List ℕ)) (next : Bor (List ℕ)) → ends_name name z.apex ≡ true → is_cut_off z name ≡ false → next.now ≡ places (is_asked name 5) z.records → 0 < length next.now → TargetLeadsTo z t (Some name) (Alias next)
   leads_alias name next e c p s = (name, record { places = p; some = s }, leads_on name e c)
 
   unaliased_name : (name : List (List ℕ)) → asked_records z name 5 ≡ [] → (k : ℕ) → followed z t k name ≡ asked_records z name t

@@ -52,7 +52,7 @@ fn extended(places: Vec<usize>, others: &[usize]) -> Result<Vec<usize>, OutOfMem
 }
 
 impl Zone {
-    ghost use Rattle.dns_zone.specs.Found.{AreAliases, Leads, target_of};
+    ghost use Rattle.dns_zone.specs.Found.{AreAliases, TargetLeadsTo, target_of};
 
     /// The name that the data of the record at a place is, where it is one.
     pub(crate) fn target(&self, place: usize) -> Option<&Name>
@@ -67,7 +67,7 @@ impl Zone {
     /// What the path of a name within the zone leads to.
     fn lead_within(&self, rtype: u16, path: &[u8]) -> Lead<'_>
         requires { IsSought self.now.apex path.now }
-        ensures { (name : List (List ℕ)) → path.now ≡ name_path name → IsTrue (ends_name name self.now.apex) → Leads self.now rtype (Some name) result }
+        ensures { (name : List (List ℕ)) → path.now ≡ name_path name → IsTrue (ends_name name self.now.apex) → TargetLeadsTo self.now rtype (Some name) result }
     {
         match self.cut(path) {
             Some(_) => Lead::Nowhere,
@@ -77,7 +77,7 @@ impl Zone {
 
     /// What the path of a name that isn't at or below a cut leads to.
     fn lead_on(&self, rtype: u16, path: &[u8]) -> Lead<'_>
-        ensures { (name : List (List ℕ)) → path.now ≡ name_path name → IsTrue (ends_name name self.now.apex) → is_cut_off self.now name ≡ false → Leads self.now rtype (Some name) result }
+        ensures { (name : List (List ℕ)) → path.now ≡ name_path name → IsTrue (ends_name name self.now.apex) → is_cut_off self.now name ≡ false → TargetLeadsTo self.now rtype (Some name) result }
     {
         if let Some(next) = self.owned(path, Rtype::CNAME.to_int()) {
             return Lead::Alias(next);
@@ -90,7 +90,7 @@ impl Zone {
 
     /// What a name leads to.
     fn lead_to(&self, alloc: Global, rtype: u16, name: &Name) -> Result<Lead<'_>, OutOfMemory>
-        ensures { IfOk result (Leads self.now rtype (Some name.now)) }
+        ensures { IfOk result (TargetLeadsTo self.now rtype (Some name.now)) }
     {
         if !ends(name, &self.apex) {
             return Ok(Lead::Nowhere);
@@ -101,7 +101,7 @@ impl Zone {
 
     /// What the alias at a place leads to.
     fn lead(&self, alloc: Global, rtype: u16, place: usize) -> Result<Lead<'_>, OutOfMemory>
-        ensures { IfOk result (Leads self.now rtype (target_of (slice_get self.now.records place))) }
+        ensures { IfOk result (TargetLeadsTo self.now rtype (target_of (slice_get self.now.records place))) }
     {
         match self.target(place) {
             Some(name) => self.lead_to(alloc, rtype, name),
@@ -117,7 +117,7 @@ impl Zone {
         place: usize,
         trail: &mut Vec<usize>,
     ) -> Result<Lead<'_>, OutOfMemory>
-        ensures { IfOk result (λ l. (trail.new.items ≡ trail.old.items ++ place ∷ []) × Leads self.now rtype (target_of (slice_get self.now.records place)) l) }
+        ensures { IfOk result (λ l. (trail.new.items ≡ trail.old.items ++ place ∷ []) × TargetLeadsTo self.now rtype (target_of (slice_get self.now.records place)) l) }
     {
         trail.push(place)?;
         self.lead(alloc, rtype, place)

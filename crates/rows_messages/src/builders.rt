@@ -2,7 +2,7 @@
 
 ghost use Rattle.std.specs.Prelude.{◌≡◌, [], ◌∷◌, IfOk, Ok};
 ghost use Rattle.dns_base.specs.Records.{IsLawful, record_of};
-ghost use Rattle.dns_base.specs.Standing.{Gives};
+ghost use Rattle.dns_base.specs.Standing.{GivesParsed};
 
 use crate::data::record_in_words;
 use crate::messages::{Takes, hand_on};
@@ -184,7 +184,7 @@ fn first_read(
 ) -> Result<Record, ParseError>
     requires pushed { builder.now.message.additional ≡ record_of item.now ∷ [] }
     requires lawful { IsLawful item.now.rdata }
-    ensures { Gives result (Ok item.now) }
+    ensures { GivesParsed result (Ok item.now) }
 {
     data_has_names(&item.rdata);
     typed_records_read_back();

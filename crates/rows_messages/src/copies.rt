@@ -96,16 +96,16 @@ fn question_copied(row: &mut Row<'_>, question: &Question) {
 /// What a call says of a message's first answer.
 fn of_answer(call: &str, row: &mut Row<'_>) {
     let read = next_answer(row);
-    hand_on(row, &mut Asked { call }, read)
+    hand_on(row, &mut RecordCall { call }, read)
 }
 
 /// A call of a record: its octets or those of its data, names uncompressed; or those of a copy, and whether it is equal.
 #[derive(Drop)]
-struct Asked<'a> {
+struct RecordCall<'a> {
     call: &'a str,
 }
 
-impl Takes<Record> for Asked<'_> {
+impl Takes<Record> for RecordCall<'_> {
     ghost fits = { λ r. IsLawful r.rdata };
 
     fn take(&mut self, row: &mut Row<'_>, item: &Record) {

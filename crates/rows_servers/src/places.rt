@@ -35,7 +35,11 @@ pub fn clock(alloc: Global) -> MemoryClock {
 pub fn let_go<T: Drop>(_served: T) {}
 
 /// Calls of which these fail and those answer Again.
-pub fn listed(alloc: Global, failing: &[u64], again: &[u64]) -> Result<ListedCalls, OutOfMemory> {
+pub fn calls_listed(
+    alloc: Global,
+    failing: &[u64],
+    again: &[u64],
+) -> Result<ListedCalls, OutOfMemory> {
     Ok(ListedCalls::new(
         Vec::from_slice(alloc, failing)?,
         Vec::from_slice(alloc, again)?,
@@ -60,7 +64,7 @@ pub fn accept_of<R: Wait + Copy + Drop>(
     again: &[u64],
     seen: &mut Vec<Arc<Seen>>,
 ) -> Result<MemoryAccept<SeenLink<R>>, OutOfMemory> {
-    let calls = listed(alloc, failing, again)?;
+    let calls = calls_listed(alloc, failing, again)?;
     match links_of(rt, alloc, queries, seen) {
         Ok(links) => Ok(MemoryAccept::new(alloc, links, calls)),
         Err(error) => Err(error),

@@ -3,13 +3,13 @@ use Rattle.std.proofs.lemmas.Iterator.Adapters.{YieldsList-from_vec}
 use Rattle.std.proofs.lemmas.Iterator.Consumers.{YieldsList-end}
 use Rattle.std.proofs.lemmas.List.{map-id, map_push}
 use Rattle.dns_route.specs.Routes.{Route}
-use Rattle.dns_script.specs.declared.upstream.Upstream.{Upstream}
+use Rattle.dns_script.specs.declared.upstream.UpstreamLine.{UpstreamLine}
 use Rattle.dns_script.specs.declared.upstream.UpstreamWord.{UpstreamWord}
 use Rattle.dns_script.proofs.script_upstream.forwarder.Goals as goal
 
 pub upstreams-preserved : goal.upstreams-preserved
 upstreams-preserved c =
-    let more = map_push (λ (u : Upstream). let r : Route (List UpstreamWord) = (u.name, u.words) in r) c.upstreams.yielded c.in-Some.upstream in
+    let more = map_push (λ (u : UpstreamLine). let r : Route (List UpstreamWord) = (u.name, u.words) in r) c.upstreams.yielded c.in-Some.upstream in
     (tt, tt, c.in_ok-add.ensures ∙ (ap (λ us. us ++ (c.in-Some.upstream.name, c.in-Some.upstream.words) ∷ []) c.upstreams.invariant.2 ∙ sym more))
 
 pub returns : goal.returns

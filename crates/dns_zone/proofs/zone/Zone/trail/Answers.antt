@@ -4,7 +4,7 @@ use Rattle.std.specs.declared.vec.Vec.{Vec}
 use Rattle.std.specs.declared.alloc.Global.{Global}
 use Rattle.dns_zone.specs.declared.aliases.Lead.{Lead}
 use Rattle.dns_zone.specs.Aliases.{followed}
-use Rattle.dns_zone.specs.Found.{Leads, target_of}
+use Rattle.dns_zone.specs.Found.{TargetLeadsTo, target_of}
 use Rattle.dns_zone.specs.Places.{at_places}
 use Rattle.dns_zone.proofs.AliasLaws.{OnTrail, first_of_places, no_first, some_first, trail_alias, trail_found, trail_last, trail_nowhere}
 use Rattle.dns_zone.proofs.KeepLaws.{if_ok}
@@ -15,7 +15,7 @@ pub returns-in-Found : goal.returns-in-Found
 returns-in-Found c = λ name a.
     let z = c.args.self.now in
     let f = first_of_places c.aliases.next.now c.in-Some.place.now c.in-Some.ensures.value in
-    let l = subst (λ (x : Lead). Leads z c.args.rtype (target_of (slice_get z.records c.in-Some.place.now)) x) c.in-Found.is c.in_ok-more.ensures.1 in
+    let l = subst (λ (x : Lead). TargetLeadsTo z c.args.rtype (target_of (slice_get z.records c.in-Some.place.now)) x) c.in-Found.is c.in_ok-more.ensures.1 in
     let g = trail_found z c.args.rtype name c.aliases._given c.aliases.trail.items c.aliases.next.now f.0 c.in-Some.place.now f.1 (c.aliases.invariant name a) c.aliases-test.true c.in-Found.found.now l in
     if_ok (λ (v : Vec ℕ Global). v.items ≡ c.given.new.trail.items ++ c.in-Found.found.now) (λ (v : Vec ℕ Global). at_places z.records v.items ≡ followed z c.args.rtype 8 name) c.extended.result c.extended.ensures
     (λ v h. ap (at_places z.records) (h ∙ ap (λ is. is ++ c.in-Found.found.now) c.in_ok-more.ensures.0) ∙ g)
@@ -24,7 +24,7 @@ pub returns-in-Nowhere : goal.returns-in-Nowhere
 returns-in-Nowhere c = λ name a.
     let z = c.args.self.now in
     let f = first_of_places c.aliases.next.now c.in-Some.place.now c.in-Some.ensures.value in
-    let l = subst (λ (x : Lead). Leads z c.args.rtype (target_of (slice_get z.records c.in-Some.place.now)) x) c.in-Nowhere.is c.in_ok-more.ensures.1 in
+    let l = subst (λ (x : Lead). TargetLeadsTo z c.args.rtype (target_of (slice_get z.records c.in-Some.place.now)) x) c.in-Nowhere.is c.in_ok-more.ensures.1 in
     ap (at_places z.records) c.in_ok-more.ensures.0
     ∙ trail_nowhere z c.args.rtype name c.aliases._given c.aliases.trail.items c.aliases.next.now f.0 c.in-Some.place.now f.1 (c.aliases.invariant name a) c.aliases-test.true l
 
@@ -32,7 +32,7 @@ pub aliases-preserved : goal.aliases-preserved
 aliases-preserved c = λ name a.
     let z = c.args.self.now in
     let f = first_of_places c.aliases.next.now c.in-Some.place.now c.in-Some.ensures.value in
-    let l = subst (λ (x : Lead). Leads z c.args.rtype (target_of (slice_get z.records c.in-Some.place.now)) x) c.in-Alias.is c.in_ok-more.ensures.1 in
+    let l = subst (λ (x : Lead). TargetLeadsTo z c.args.rtype (target_of (slice_get z.records c.in-Some.place.now)) x) c.in-Alias.is c.in_ok-more.ensures.1 in
     subst (λ is. OnTrail z c.args.rtype name (c.aliases._given + 1) is c.in-Alias.more.now) (sym c.in_ok-more.ensures.0)
     (trail_alias z c.args.rtype name c.aliases._given c.aliases.trail.items c.aliases.next.now f.0 c.in-Some.place.now f.1 (c.aliases.invariant name a) c.aliases-test.true l.0 c.in-Alias.more.now l.1 l.2)
 
