@@ -15,19 +15,18 @@ use Rattle.dns_client.specs.declared.client.ClientCore.{ClientCore}
 use Rattle.dns_drivers.specs.Blames.{EndBlames, EndAgain, Blames, WroteWhole, WroteFirst, ChosenFor}
 use Rattle.dns_drivers.specs.Links.{front, WroteUntil, IsWrittenEvent, IsReadEvent}
 use Rattle.dns_drivers.specs.Rounds.{next_turn}
-use Rattle.dns_drivers.specs.declared.writing.WriteEnd.{WriteEnd}
 use Rattle.dns_drivers.specs.declared.writing.WriteEnd.TheVariants.{Whole, Failed, Late}
 use Rattle.dns_drivers.proofs.Choices.{empty_of, front_of, writing_of, write_may, write_own, read_may, read_own}
 
 -- while a frame is written
-pub end_whole : (f f' : ℕ) → f ≤ f' → EndBlames Whole f f'
-end_whole f f' l = record { later = l; failed = λ e. absurd cc }
+pub end_whole : (f : ℕ) → EndBlames Whole f f
+end_whole f = record { later = omega arith; failed = λ e. absurd cc; same = λ no. refl }
 
-pub end_late : (at secs f f' : ℕ) → f ≤ f' → EndBlames (Late at secs) f f'
-end_late at secs f f' l = record { later = l; failed = λ e. absurd cc }
+pub end_late : (at secs f f' : ℕ) → f ≤ f' → f' ≤ f → EndBlames (Late at secs) f f'
+end_late at secs f f' l m = record { later = l; failed = λ e. absurd cc; same = λ no. omega (arith, l, m) }
 
 pub end_failed : (f f1 f2 : ℕ) → f ≤ f1 → f1 ≤ f2 → Rose f1 f2 → EndBlames Failed f f2
-end_failed f f1 f2 l m r = record { later = omega arith; failed = λ e. omega (arith, r) }
+end_failed f f1 f2 l m r = record { later = omega arith; failed = λ e. omega (arith, r); same = λ no. absurd (no refl) }
 
 pub again_whole : (a b : ℕ) → a ≤ b → EndAgain Whole a b
 again_whole a b l = record { later = l; late = λ at secs e. absurd cc }
@@ -39,11 +38,14 @@ pub again_late : (at secs a : ℕ) (w w1 w2 : Traffic) → a ≤ w.full_writes �
 again_late at secs a w w1 w2 l e f = record { later = rw (f, e) (omega arith); late = λ i j h. rw (f, e) (omega arith) }
 
 -- the event of a frame
-pub blames_write : (end : WriteEnd) (took f f' : ℕ) → EndBlames end f f' → Blames (Write took) f f'
-blames_write end took f f' b = record { later = b.later; fault = λ e. absurd cc }
+pub blames_whole : (took f f' : ℕ) → EndBlames Whole f f' → Blames (Write took) f f'
+blames_whole took f f' b = record { later = b.later; fault = λ e. absurd cc; same = λ no. b.same (λ (e : Whole ≡ Failed). absurd cc) }
+
+pub blames_late : (at secs took f f' : ℕ) → EndBlames (Late at secs) f f' → Blames (Write took) f f'
+blames_late at secs took f f' b = record { later = b.later; fault = λ e. absurd cc; same = λ no. b.same (λ (e : Late at secs ≡ Failed). absurd cc) }
 
 pub blames_failed : (kind : EventKind) (f f' : ℕ) → kind ≡ Fault → EndBlames Failed f f' → Blames kind f f'
-blames_failed kind f f' k b = record { later = b.later; fault = λ e. b.failed refl }
+blames_failed kind f f' k b = record { later = b.later; fault = λ e. b.failed refl; same = λ no. absurd (no k) }
 
 take_all : (k : ℕ) (m : List ℕ) → length m ≤ k → take k m ≡ m
 take_all k m l = grind (arith, common_steps)
@@ -58,17 +60,17 @@ pub whole_failed : (frame : List ℕ) (kind : EventKind) (w w' : Traffic) → ki
 whole_failed frame kind w w' k a = record { later = a.later; write = λ i e. let no : Fault ≡ Write i = sym k ∙ e in absurd cc }
 
 -- the event of a read
-pub blames_read : (o : List ℕ) (f f' : ℕ) → f ≤ f' → Blames (Piece o) f f'
-blames_read o f f' l = record { later = l; fault = λ e. absurd cc }
+pub blames_read : (o : List ℕ) (f f' : ℕ) → f' ≡ f → Blames (Piece o) f f'
+blames_read o f f' a = record { later = omega (arith, a); fault = λ e. absurd cc; same = λ no. a }
 
-pub blames_tick : (f f' : ℕ) → f ≤ f' → Blames Tick f f'
-blames_tick f f' l = record { later = l; fault = λ e. absurd cc }
+pub blames_tick : (f f' : ℕ) → f ≤ f' → f' ≤ f → Blames Tick f f'
+blames_tick f f' l m = record { later = l; fault = λ e. absurd cc; same = λ no. omega (arith, l, m) }
 
-pub blames_end : (f f' : ℕ) → f ≤ f' → Blames End f f'
-blames_end f f' l = record { later = l; fault = λ e. absurd cc }
+pub blames_end : (f f' : ℕ) → f' ≡ f → Blames End f f'
+blames_end f f' a = record { later = omega (arith, a); fault = λ e. absurd cc; same = λ no. a }
 
 pub blames_fault : (f f' : ℕ) → f ≤ f' → Rose f f' → Blames Fault f f'
-blames_fault f f' l r = record { later = l; fault = λ e. r }
+blames_fault f f' l r = record { later = l; fault = λ e. r; same = λ no. absurd (no refl) }
 
 pub whole_got : (o came : List ℕ) (w w' : Traffic) → w' ≡ record w { came = came } → WroteWhole (Piece o) [] w w'
 whole_got o came w w' e = record { later = rw e (omega arith); write = λ i h. absurd cc }
@@ -98,7 +100,7 @@ module _ {W R F : Type 0} (answer : PolledRequest F R → ℕ → Answer) where
   for_turn below k core event f q n e = record {
     is_own = rw e refl;
     may = λ answers s h. rw e (empty_of s.queue (q answers s h), sym (n answers s h));
-    blames = record { later = omega arith; fault = λ h. let no : Turn k ≡ Fault = sym e ∙ h in absurd cc };
+    blames = record { later = omega arith; fault = λ h. let no : Turn k ≡ Fault = sym e ∙ h in absurd cc; same = λ no. refl };
   }
 
   pub for_read : (below : ℕ) (core : ClientCore W R F) (event : Event) (f f' : ℕ) →

@@ -1,6 +1,7 @@
 -- What the loop of a connection knows of its core, its seat and its link's faults, whether link and recorder tell or not.
-use Rattle.std.proofs.Common.{◌≡◌, ℕ, ◌≤◌, ◌⊎◌, List, [], ◌∷◌, ◌++◌, arith, refl, sym, ◌∙◌, ap, subst, append_assoc, inl, inr, Bool, true, false, Option, Some}
+use Rattle.std.proofs.Common.{◌≡◌, ℕ, ◌⊎◌, List, [], ◌∷◌, ◌++◌, arith, refl, sym, ◌∙◌, ap, subst, append_assoc, inl, inr, length, take, Bool, true, false, Option, Some, None}
 use Rattle.std.specs.Prelude.{◌==◌, ◌&&◌, not, if◌then◌else◌}
+use Rattle.std.proofs.lemmas.List.{take_all}
 use Rattle.dns_admission.specs.declared.look.Look.{Look}
 use Rattle.dns_admission.specs.declared.call.Call.{Call}
 use Rattle.dns_admission.specs.declared.call.Call.TheVariants.{Look as ToLook, Release}
@@ -22,19 +23,23 @@ use Rattle.dns_service.specs.declared.event.Why.TheVariants.{Ended, Short, Idle,
 use Rattle.dns_service.specs.declared.polled.PolledRequest.{PolledRequest}
 use Rattle.dns_client.specs.After.{slate_after, sent_after}
 use Rattle.dns_client.specs.News.{wide, new_end, news, told_of}
-use Rattle.dns_client.specs.Rule.{rule}
+use Rattle.dns_client.specs.Rule.{rule, in_phase}
 use Rattle.dns_client.specs.Serving.{Serving}
-use Rattle.dns_client.specs.Slate.{Slate, Told, Open, Flushing}
+use Rattle.dns_client.specs.Slate.{Slate, Told, Phase, Unused, Exchange, Open, Flushing, Closed, conf_rule, with_conf}
 use Rattle.dns_client.specs.Stands.{Stands}
 use Rattle.dns_client.specs.declared.client.ClientCore.{ClientCore}
 use Rattle.dns_notes.specs.Own.{is_wide}
 use Rattle.dns_drivers.specs.Blames.{HeardFor, ActedFor}
 use Rattle.dns_drivers.specs.Closing.{closed_by}
+use Rattle.dns_drivers.specs.Links.{front, WrittenPart}
+use Rattle.dns_drivers.specs.Runs.{MayGoOn, IsServed, ServesOn}
 use Rattle.dns_drivers.specs.Shown.{SawShutdown, Causes}
 use Rattle.dns_drivers.proofs.Appends.{gained_more, gained_none}
+use Rattle.dns_drivers.proofs.ByKind.{event_does}
 use Rattle.dns_drivers.proofs.Reasons.{IsServedBy, IsServedIn, ClosesFor, reason}
 use Rattle.dns_drivers.proofs.Servings.{Serves, serves}
 use Rattle.dns_drivers.proofs.Showings.{by_may}
+use Rattle.dns_drivers.proofs.Wide.{news_do}
 
 saw_more : (old : Known) (k : Known) (c : Call) (r : Reply) (new : Known) → SawShutdown old k → k.name ≡ old.name → Called k c r new → SawShutdown old new
 saw_more old k c r new s n h = record {
@@ -127,32 +132,75 @@ module _ (answers : Serving) where
   does_told : (version : ℕ) (look : Look) (s : Slate) → IsServedIn s.phase → DoesNews look s (told_of answers version look s)
   does_told version look s v = does_news look (news version s.conf.over look) s (are_news version s.conf.over look) v
 
-rose_since : (f f1 f2 : ℕ) → f ≤ f1 → Rose f1 f2 → Rose f f2
+rose_since : (f f1 f2 : ℕ) → f1 ≡ f → Rose f1 f2 → Rose f f2
 rose_since f f1 f2 l r = omega (arith, l, r)
 
+-- a part that may be written for an event
+abbrev some_part : EventKind → List (List ℕ) → List ℕ
+some_part (Write took) queue = front queue
+some_part Fault queue = front queue
+some_part _ queue = []
+
+front_all : (q : List (List ℕ)) → front q ≡ take (length (front q)) (front q)
+front_all q = sym (take_all (length (front q)) (front q) (omega arith))
+
+may_write : (k : EventKind) (q : List (List ℕ)) (limit : ℕ) → WrittenPart k q limit (some_part k q)
+may_write (Datagram addr o) q limit = refl
+may_write (Turn k) q limit = refl
+may_write (Offer addr) q limit = refl
+may_write (Piece o) q limit = refl
+may_write End q limit = refl
+may_write Fault q limit = record { written = length (front q); is = front_all q }
+may_write Close q limit = refl
+may_write (Write took) q limit = record { written = length (front q); is = front_all q; whole = λ h. omega arith }
+may_write Tick q limit = refl
+may_write ReleaseEvent q limit = refl
+may_write (Reconfigure dgram stream) q limit = refl
+may_write Shutdown q limit = refl
+
+some_other : (why : Why) → ¬ (why ≡ ByFault) → ¬ (Some why ≡ Some ByFault)
+some_other why n = λ (e : Some why ≡ Some ByFault). let h : why ≡ ByFault = cc in n h
+
+module _ (answers : Serving) where
+  -- a Fault closes a connection that is served, for no other reason
+  phase_fault : (e : Event) (p : Phase) (q : List (List ℕ)) (s : Slate) → e.kind ≡ Fault → MayGoOn p q → closed_by (in_phase answers e p s).1 ≡ Some ByFault
+  phase_fault e Unused q s k live = absurd live
+  phase_fault e Exchange q s k live = absurd live
+  phase_fault e Open q s k live = rw k refl
+  phase_fault e (Flushing why) q s k live = rw k refl
+  phase_fault e Closed q s k live = absurd live
+
+  fault_closes : (e : Event) (s : Slate) → e.kind ≡ Fault → IsServed s → closed_by (rule answers e s).1 ≡ Some ByFault
+  fault_closes e s k live = phase_fault e s.phase s.queue (with_conf (conf_rule e.kind s.conf) s) k live
+
+  no_fault : (e : Event) (s : Slate) (why : Option Why) → IsServed s → closed_by (rule answers e s).1 ≡ why → ¬ (why ≡ Some ByFault) → ¬ (e.kind ≡ Fault)
+  no_fault e s why live c n = λ (k : e.kind ≡ Fault). n (sym c ∙ fault_closes e s k live)
+
 module _ {W R F : Type 0} (answer : PolledRequest F R → ℕ → Answer) (answers : Serving) where
-  -- The core stands for a slate of a connection that is served. The seat made calls under its name, and one of them was a look that
-  -- showed a shutdown where the connection only writes what waits. The link's count of faults did not fall.
+  -- The core stands for a slate of a connection that is served on. The seat made calls under its name, and one of them was a look that
+  -- showed a shutdown where the connection only writes what waits. The link's count of faults stayed.
   pub record Goes (core : ClientCore W R F) (k k' : Known) (faults faults' : ℕ) : Type 0 where
     pub slate : Slate
     pub stands : Stands answer answers core slate
     pub served : IsServedIn slate.phase
+    pub on : IsServed slate
     pub calls : List Entry
     pub gained : Gained k calls k'
     pub name : k'.name ≡ k.name
     pub seen : slate.phase ≡ Flushing ByShutdown → SawShutdown k k'
-    pub later : faults ≤ faults'
+    pub same : faults' ≡ faults
 
   pub goes_begun : (core : ClientCore W R F) (s : Slate) (k : Known) (f : ℕ) → Stands answer answers core s → s.phase ≡ Open → Goes core k k f f
   goes_begun core s k f h p = record {
     slate = s;
     stands = h;
     served = rw p tt;
+    on = rw p tt;
     calls = [];
     gained = gained_none k;
     name = refl;
     seen = λ (q : s.phase ≡ Flushing ByShutdown). let no : Open ≡ Flushing ByShutdown = sym p ∙ q in absurd cc;
-    later = omega arith;
+    same = refl;
   }
 
   saw_now : (core : ClientCore W R F) (k k1 k2 : Known) (f f1 : ℕ) (look : Look) → Goes core k k1 f f1 → Called k1 ToLook (LookReply look) k2 → look.closed ≡ true → SawShutdown k k2
@@ -161,19 +209,23 @@ module _ {W R F : Type 0} (answer : PolledRequest F R → ℕ → Answer) (answe
   saw_either : (core : ClientCore W R F) (k k1 k2 : Known) (f f1 : ℕ) (look : Look) (g : Goes core k k1 f f1) → Called k1 ToLook (LookReply look) k2 → (g.slate.phase ≡ Flushing ByShutdown) ⊎ (look.closed ≡ true) → SawShutdown k k2
   saw_either core k k1 k2 f f1 look g c h = elim h [ inl p ↦ saw_more k k1 ToLook (LookReply look) k2 (g.seen p) g.name c | inr s ↦ saw_now core k k1 k2 f f1 look g c s ]
 
-  -- after a look
-  pub goes_heard : (why : Option Why) (core core' : ClientCore W R F) (k k1 k2 : Known) (f f1 : ℕ) → Goes core k k1 f f1 → HeardFor answer why core core' k1 k2 → Goes core' k k2 f f1
-  goes_heard why core core' k k1 k2 f f1 g h =
+  -- after a look that doesn't close the connection
+  pub goes_heard : (core core' : ClientCore W R F) (k k1 k2 : Known) (f f1 : ℕ) → Goes core k k1 f f1 → HeardFor answer None core core' k1 k2 → Goes core' k k2 f f1
+  goes_heard core core' k k1 k2 f f1 g h =
       let d = does_told answers core.version h.look g.slate g.served in
+      let n = news_do answers core.version g.slate.conf.over h.look g.slate refl g.on in
+      let c : closed_by (told_of answers core.version h.look g.slate).1 ≡ None = ap closed_by (sym (h.sees.follows answers g.slate g.stands).0) ∙ h.sees.closed in
+      let P : Option Why → Type 0 = λ o. ServesOn o (told_of answers core.version h.look g.slate).0 in
       record {
         slate = (told_of answers core.version h.look g.slate).0;
         stands = (h.sees.follows answers g.slate g.stands).1;
         served = d.served;
+        on = subst P c n.on;
         calls = g.calls ++ entry k.name ToLook (LookReply h.look) ∷ [];
         gained = gained_more k k1 k2 g.calls ToLook (LookReply h.look) g.gained g.name h.called;
         name = h.called.same_name ∙ g.name;
         seen = λ p. saw_either core k k1 k2 f f1 h.look g h.called (d.flushing p);
-        later = g.later;
+        same = g.same;
       }
 
   -- and where that closes the connection, it is by a shutdown, which a look showed
@@ -184,34 +236,52 @@ module _ {W R F : Type 0} (answer : PolledRequest F R → ℕ → Answer) (answe
       (c.0, saw_either core k k1 k2 f f1 h.look g h.called c.1)
 
   pub heard_cause : (why : Why) (core core' : ClientCore W R F) (k k1 k2 : Known) (f f1 : ℕ) → Goes core k k1 f f1 → HeardFor answer (Some why) core core' k1 k2 → Causes why k k2 f f1
-  heard_cause why core core' k k1 k2 f f1 g h = let c = heard_why why core core' k k1 k2 f f1 g h in rw c.0 c.1
+  heard_cause why core core' k k1 k2 f f1 g h = let c = heard_why why core core' k k1 k2 f f1 g h in rw c.0 (c.1, g.same)
 
   -- after an own event
   own_served : (core core' : ClientCore W R F) (why : Option Why) (f1 f2 : ℕ) (a : ActedFor answer answers why core core' f1 f2) (s : Slate) → Stands answer answers core s → IsServedBy a.event.kind
   own_served core core' why f1 f2 a s h = by_may a.below a.event.kind s (a.chosen.may answers s h)
 
-  pub goes_acted : (why : Option Why) (core core' : ClientCore W R F) (k k1 : Known) (f f1 f2 : ℕ) → Goes core k k1 f f1 → ActedFor answer answers why core core' f1 f2 → Goes core' k k1 f f2
-  goes_acted why core core' k k1 f f1 f2 g a =
-      let v = serves answers a.event g.slate g.served (own_served core core' why f1 f2 a g.slate g.stands) in
+  -- what closes the connection by it
+  own_closes : (core core' : ClientCore W R F) (why : Option Why) (k k1 : Known) (f f1 f2 : ℕ) (g : Goes core k k1 f f1) (a : ActedFor answer answers why core core' f1 f2) → closed_by (rule answers a.event g.slate).1 ≡ why
+  own_closes core core' why k k1 f f1 f2 g a = ap closed_by (sym (a.taken.follows g.slate g.stands).0) ∙ a.taken.closed
+
+  -- the count stays but where a fault closes it
+  own_same : (core core' : ClientCore W R F) (why : Option Why) (k k1 : Known) (f f1 f2 : ℕ) → Goes core k k1 f f1 → ActedFor answer answers why core core' f1 f2 → ¬ (why ≡ Some ByFault) → f2 ≡ f
+  own_same core core' why k k1 f f1 f2 g a n = a.chosen.blames.same (no_fault answers a.event g.slate why g.on (own_closes core core' why k k1 f f1 f2 g a) n) ∙ g.same
+
+  pub goes_acted : (core core' : ClientCore W R F) (k k1 : Known) (f f1 f2 : ℕ) → Goes core k k1 f f1 → ActedFor answer answers None core core' f1 f2 → Goes core' k k1 f f2
+  goes_acted core core' k k1 f f1 f2 g a =
+      let v = serves answers a.event g.slate g.served (own_served core core' None f1 f2 a g.slate g.stands) in
+      let c : closed_by (rule answers a.event g.slate).1 ≡ None = own_closes core core' None k k1 f f1 f2 g a in
+      let d = event_does answers a.event a.below g.slate (some_part a.event.kind g.slate.queue) g.on a.chosen.is_own (a.chosen.may answers g.slate g.stands) (may_write a.event.kind g.slate.queue g.slate.connection.response_write_timeout) in
+      let P : Option Why → Type 0 = λ o. ServesOn o (rule answers a.event g.slate).0 in
       record {
         slate = (rule answers a.event g.slate).0;
         stands = (a.taken.follows g.slate g.stands).1;
         served = v.served;
+        on = subst P c d.on;
         calls = g.calls;
         gained = g.gained;
         name = g.name;
         seen = λ p. elim (v.flushing p) [ inl q ↦ g.seen q | inr s ↦ let no : is_wide Shutdown ≡ false = ap is_wide (sym s) ∙ a.chosen.is_own in absurd cc ];
-        later = let l = a.chosen.blames.later in let m = g.later in omega arith;
+        same = own_same core core' None k k1 f f1 f2 g a (λ (e : None ≡ Some ByFault). absurd cc);
       }
 
+  -- by another reason
+  closed_same : (why : Why) (core core' : ClientCore W R F) (k k1 : Known) (f f1 f2 : ℕ) → Goes core k k1 f f1 → ActedFor answer answers (Some why) core core' f1 f2 → ¬ (why ≡ ByFault) → f2 ≡ f
+  closed_same why core core' k k1 f f1 f2 g a n = own_same core core' (Some why) k k1 f f1 f2 g a (some_other why n)
+
   caused : (why : Why) (core core' : ClientCore W R F) (k k1 : Known) (f f1 f2 : ℕ) (g : Goes core k k1 f f1) (a : ActedFor answer answers (Some why) core core' f1 f2) → ClosesFor why a.event g.slate a.taken.outs → Causes why k k1 f f2
-  caused Ended core core' k k1 f f1 f2 g a c = tt
-  caused ByFault core core' k k1 f f1 f2 g a c = rose_since f f1 f2 g.later (a.chosen.blames.fault c)
-  caused Short core core' k k1 f f1 f2 g a c = tt
-  caused Idle core core' k k1 f f1 f2 g a c = tt
-  caused WriteTimeout core core' k k1 f f1 f2 g a c = tt
+  caused Ended core core' k k1 f f1 f2 g a c = closed_same Ended core core' k k1 f f1 f2 g a (λ (e : Ended ≡ ByFault). absurd cc)
+  caused ByFault core core' k k1 f f1 f2 g a c = rose_since f f1 f2 g.same (a.chosen.blames.fault c)
+  caused Short core core' k k1 f f1 f2 g a c = closed_same Short core core' k k1 f f1 f2 g a (λ (e : Short ≡ ByFault). absurd cc)
+  caused Idle core core' k k1 f f1 f2 g a c = closed_same Idle core core' k k1 f f1 f2 g a (λ (e : Idle ≡ ByFault). absurd cc)
+  caused WriteTimeout core core' k k1 f f1 f2 g a c = closed_same WriteTimeout core core' k k1 f f1 f2 g a (λ (e : WriteTimeout ≡ ByFault). absurd cc)
   caused Commanded core core' k k1 f f1 f2 g a c = c
-  caused ByShutdown core core' k k1 f f1 f2 g a c = elim c [ inl s ↦ let no : is_wide Shutdown ≡ false = ap is_wide (sym s) ∙ a.chosen.is_own in absurd cc | inr p ↦ g.seen p ]
+  caused ByShutdown core core' k k1 f f1 f2 g a c =
+      let saw : SawShutdown k k1 = elim c [ inl s ↦ let no : is_wide Shutdown ≡ false = ap is_wide (sym s) ∙ a.chosen.is_own in absurd cc | inr p ↦ g.seen p ] in
+      (saw, closed_same ByShutdown core core' k k1 f f1 f2 g a (λ (e : ByShutdown ≡ ByFault). absurd cc))
 
   pub acted_cause : (why : Why) (core core' : ClientCore W R F) (k k1 : Known) (f f1 f2 : ℕ) → Goes core k k1 f f1 → ActedFor answer answers (Some why) core core' f1 f2 → Causes why k k1 f f2
   acted_cause why core core' k k1 f f1 f2 g a =
@@ -222,10 +292,10 @@ module _ {W R F : Type 0} (answer : PolledRequest F R → ℕ → Answer) (answe
 
 -- once the slot is given back
 pub cause_released : (why : Why) (k k1 k2 : Known) (f f1 f2 left : ℕ) → Causes why k k1 f f1 → k1.name ≡ k.name → Called k1 Release (Left left) k2 → f2 ≡ f1 → Causes why k k2 f f2
-cause_released Ended k k1 k2 f f1 f2 left c n h l = tt
+cause_released Ended k k1 k2 f f1 f2 left c n h l = l ∙ c
 cause_released ByFault k k1 k2 f f1 f2 left c n h l = omega (arith, c, l)
-cause_released Short k k1 k2 f f1 f2 left c n h l = tt
-cause_released Idle k k1 k2 f f1 f2 left c n h l = tt
-cause_released WriteTimeout k k1 k2 f f1 f2 left c n h l = tt
+cause_released Short k k1 k2 f f1 f2 left c n h l = l ∙ c
+cause_released Idle k k1 k2 f f1 f2 left c n h l = l ∙ c
+cause_released WriteTimeout k k1 k2 f f1 f2 left c n h l = l ∙ c
 cause_released Commanded k k1 k2 f f1 f2 left c n h l = c
-cause_released ByShutdown k k1 k2 f f1 f2 left c n h l = saw_more k k1 Release (Left left) k2 c n h
+cause_released ByShutdown k k1 k2 f f1 f2 left c n h l = (saw_more k k1 Release (Left left) k2 c.0 n h, l ∙ c.1)

@@ -79,11 +79,11 @@ module _ {W R F : Type 0} (answer : PolledRequest F R → ℕ → Answer) (answe
   pub goes_turned : (core core' : ClientCore W R F) (k k1 k2 : Known) (f f1 f2 : ℕ) → Goes answer answers core k k1 f f1 → TurnedFor answer answers None core core' k1 k2 f1 f2 → Goes answer answers core' k k2 f f2
   goes_turned core core' k k1 k2 f f1 f2 g a = elim a.either [
     | inl x ↦ let e = x.why_is in absurd cc
-    | inr x ↦ goes_acted answer answers None x.between core' k k2 f f1 f2 (goes_heard answer answers None core x.between k k1 k2 f f1 g x.heard) x.acted
+    | inr x ↦ goes_acted answer answers x.between core' k k2 f f1 f2 (goes_heard answer answers core x.between k k1 k2 f f1 g x.heard) x.acted
   ]
 
   pub cause_turned : (why : Why) (core core' : ClientCore W R F) (k k1 k2 : Known) (f f1 f2 : ℕ) → Goes answer answers core k k1 f f1 → TurnedFor answer answers (Some why) core core' k1 k2 f1 f2 → Causes why k k2 f f2
   cause_turned why core core' k k1 k2 f f1 f2 g a = elim a.either [
     | inl x ↦ let e : why ≡ x.reason = (let h = x.why_is in cc) in rw (x.still, e) (heard_cause answer answers x.reason core core' k k1 k2 f f1 g x.heard)
-    | inr x ↦ acted_cause answer answers why x.between core' k k2 f f1 f2 (goes_heard answer answers None core x.between k k1 k2 f f1 g x.heard) x.acted
+    | inr x ↦ acted_cause answer answers why x.between core' k k2 f f1 f2 (goes_heard answer answers core x.between k k1 k2 f f1 g x.heard) x.acted
   ]

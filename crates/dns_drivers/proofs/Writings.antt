@@ -65,8 +65,8 @@ waited_end (Late at secs) f f1 f2 c c1 c2 a b = record {
   count = let p = a.count in let q = b.count in omega (arith, length-append a.readings b.before);
 }
 
-pub blames_on : (end : WriteEnd) (f f1 f2 : ℕ) → f ≤ f1 → EndBlames end f1 f2 → EndBlames end f f2
-blames_on end f f1 f2 l b = record { later = let p = b.later in omega arith; failed = λ e. let p = b.failed e in omega arith }
+pub blames_on : (end : WriteEnd) (f f1 f2 : ℕ) → f1 ≡ f → EndBlames end f1 f2 → EndBlames end f f2
+blames_on end f f1 f2 l b = record { later = let p = b.later in omega (arith, l, p); failed = λ e. let p = b.failed e in omega (arith, l, p); same = λ no. b.same no ∙ l }
 
 pub again_on : (end : WriteEnd) (a a1 a2 : ℕ) → a ≤ a1 → EndAgain end a1 a2 → EndAgain end a a2
 again_on end a a1 a2 l b = record { later = let p = b.later in omega arith; late = λ at secs e. let p = b.late at secs e in omega arith }

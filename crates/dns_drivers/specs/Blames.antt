@@ -26,20 +26,22 @@ use Rattle.dns_drivers.specs.Steps.{Chosen, SeesLook, TakesEvent}
 use Rattle.dns_drivers.specs.declared.writing.WriteEnd.{WriteEnd}
 use Rattle.dns_drivers.specs.declared.writing.WriteEnd.TheVariants.{Failed, Late}
 
--- while a frame was written the link's count of faults did not fall, and it rose where a write failed
+-- while a frame was written the link's count of faults rose where a write failed, and else stayed
 pub record EndBlames (end : WriteEnd) (faults faults' : ℕ) : Type 0 where
   pub later : faults ≤ faults'
   pub failed : end ≡ Failed → Rose faults faults'
+  pub same : ¬ (end ≡ Failed) → faults' ≡ faults
 
 -- where that took too long, a write answered Again
 pub record EndAgain (end : WriteEnd) (again again' : ℕ) : Type 0 where
   pub later : again ≤ again'
   pub late : (at secs : ℕ) → end ≡ Late at secs → again < again'
 
--- with an event the link's count of faults did not fall, and it rose with a Fault
+-- with an event the link's count of faults rose where it is a Fault, and else stayed
 pub record Blames (kind : EventKind) (faults faults' : ℕ) : Type 0 where
   pub later : faults ≤ faults'
   pub fault : kind ≡ Fault → Rose faults faults'
+  pub same : ¬ (kind ≡ Fault) → faults' ≡ faults
 
 -- behind a Write stands its whole frame, or a write answered Again
 pub record WroteWhole (kind : EventKind) (frame : List ℕ) (t t' : Traffic) : Type 0 where
@@ -66,6 +68,7 @@ module _ {W R F : Type 0} (answer : PolledRequest F R → ℕ → Answer) where
     pub blame : IfOk result (λ event. ChosenFor below core event (faults_of l) (faults_of l'))
     pub again : IfOk result (λ event. Tells (tells l') (tells l) (WroteFirst core event.kind (traffic l) (traffic l')))
     pub no_memory : OnErr result (Tells (tells l') (tells l) (Unread (traffic l) (traffic l')))
+    pub later : faults_of l ≤ faults_of l'
 
   -- one that was noted
   pub record NotedWrite (core : ClientCore W R F) (n n' : List Event) (t t' : Traffic) : Type 0 where

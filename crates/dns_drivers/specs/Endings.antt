@@ -1,5 +1,5 @@
 -- How a connection ends.
-use Rattle.std.specs.Prelude.{◌≡◌, ◌⊎◌, ℕ, List, [], ◌∷◌, ◌++◌, Some}
+use Rattle.std.specs.Prelude.{◌≡◌, ◌≤◌, ◌⊎◌, ℕ, List, [], ◌∷◌, ◌++◌, Some}
 use Rattle.dns_name.specs.declared.address.SocketAddr.{SocketAddr}
 use Rattle.dns_admission.specs.declared.look.Look.{Look}
 use Rattle.dns_admission.specs.declared.call.Call.TheVariants.{Release}
@@ -56,10 +56,10 @@ abbrev pub EndShown : Serving → ConnectionEnd → ℕ → SocketAddr → Look 
 EndShown answers (Closed why) client addr look n n' t t' = ShownFrom answers why client addr look n n' t t'
 EndShown answers OutOfMemory client addr look n n' t t' = Unit {0}
 
--- and whether link and recorder tell or not
+-- and whether link and recorder tell or not; where memory ran out, the count of faults did not fall
 abbrev pub EndCauses : ConnectionEnd → Known → Known → ℕ → ℕ → Type 0
 EndCauses (Closed why) k k' faults faults' = Causes why k k' faults faults'
-EndCauses OutOfMemory k k' faults faults' = Unit {0}
+EndCauses OutOfMemory k k' faults faults' = faults ≤ faults'
 
 -- what is promised where the connection was closed
 abbrev pub WhereClosed : ConnectionEnd → Type 0 → Type 0

@@ -70,9 +70,10 @@ pub record SawShutdown (k k' : Known) : Type 0 where
   pub calls : Gained k (before ++ entry k.name ToLook (LookReply look) ∷ after) k'
   pub closed : look.closed ≡ true
 
--- what the link's count of faults and the seat show, whether link and recorder tell or not; no connection is closed by a command
+-- What the link's count of faults and the seat show, whether link and recorder tell or not. The count rose where the connection was
+-- closed by a fault, and else stayed. No connection is closed by a command.
 abbrev pub Causes : Why → Known → Known → ℕ → ℕ → Type 0
 Causes ByFault k k' faults faults' = Rose faults faults'
-Causes ByShutdown k k' faults faults' = SawShutdown k k'
+Causes ByShutdown k k' faults faults' = SawShutdown k k' × (faults' ≡ faults)
 Causes Commanded k k' faults faults' = ⊥
-Causes _ k k' faults faults' = Unit {0}
+Causes _ k k' faults faults' = faults' ≡ faults

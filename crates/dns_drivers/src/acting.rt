@@ -1,6 +1,6 @@
 //! One own event.
 
-ghost use Rattle.std.specs.Prelude.{◌≡◌, IfOk, OnErr, None, slice_get};
+ghost use Rattle.std.specs.Prelude.{◌≡◌, ◌≤◌, IfOk, OnErr, None, slice_get};
 ghost use Rattle.dns_outside.specs.Causes.{Tells};
 ghost use Rattle.dns_client.specs.Serving.{Serving, serving};
 ghost use Rattle.dns_client.specs.Slate.{Slate};
@@ -169,6 +169,7 @@ pub(crate) fn act<R: Wait, L: Link, C: Clock, J: Recorder, W: Served>(
     ensures no_memory { OnErr result (Tells (L.tells link.new × J.tells journal.new) (L.tells link.old × J.tells journal.old)
         (ActedPart (request_answer W.Future.answer W.Stream.answer) client (below_of kept.old.turn) core.old
         (J.noted journal.old) (J.noted journal.new) (L.traffic link.old) (L.traffic link.new))) }
+    ensures later { L.faults link.old ≤ L.faults link.new }
     ensures last { kept.new.last ≡ kept.old.last }
 {
     match own_event(rt, alloc, client, core, kept.turn, link, clock, buf) {

@@ -1,6 +1,6 @@
 //! One connection is served.
 
-ghost use Rattle.std.specs.Prelude.{◌≡◌, false, IfOk, OnErr};
+ghost use Rattle.std.specs.Prelude.{◌≡◌, ◌≤◌, false, IfOk, OnErr};
 ghost use Rattle.dns_outside.specs.Causes.{Tells};
 ghost use Rattle.dns_client.specs.Serving.{serving};
 ghost use Rattle.dns_notes.specs.Clocks.{Timed, TimedWhole};
@@ -56,6 +56,7 @@ fn admit_and_serve<R: Wait, L: Link, C: Clock, J: Recorder, W: Served>(
         (Broken (serving (W.answer service.now) (W.hint service.now)) (began client addr at look.now) client
         (J.noted journal.old) (J.noted journal.new) (L.traffic link.old) (L.traffic link.new))) }
     ensures cause { IfOk result (λ why. Causes why seat.old.known seat.new.known (L.faults link.old) (L.faults link.new)) }
+    ensures later { L.faults link.old ≤ L.faults link.new }
     ensures seat { LooksAlone seat.old.known seat.new.known }
     ensures same { seat.new.book ≡ seat.old.book }
 {
@@ -100,6 +101,7 @@ fn serve_offer<R: Wait, L: Link, C: Clock, J: Recorder, W: Served>(
     ensures shown { IfOk result (λ why. Tells (L.tells link.new × J.tells journal.new) (L.tells link.old × J.tells journal.old)
         (ShownFrom (serving (W.answer service.now) (W.hint service.now)) why client addr look.now (J.noted journal.old) (J.noted journal.new) (L.traffic link.old) (L.traffic link.new))) }
     ensures cause { IfOk result (λ why. Causes why seat.old.known seat.new.known (L.faults link.old) (L.faults link.new)) }
+    ensures later { L.faults link.old ≤ L.faults link.new }
     ensures seat { LooksAlone seat.old.known seat.new.known }
     ensures same { seat.new.book ≡ seat.old.book }
 {

@@ -1,6 +1,6 @@
 //! One read.
 
-ghost use Rattle.std.specs.Prelude.{◌≡◌, [], IfOk, OnErr};
+ghost use Rattle.std.specs.Prelude.{◌≡◌, ◌≤◌, [], IfOk, OnErr};
 ghost use Rattle.dns_outside.specs.Causes.{Tells};
 ghost use Rattle.dns_notes.specs.Clocks.{TimedOne};
 ghost use Rattle.dns_drivers.specs.Blames.{Blames, WroteWhole};
@@ -31,6 +31,7 @@ fn read_kind<R: Wait, L: Link>(
     ensures again { IfOk result (λ kind. Tells (L.tells link.new) (L.tells link.old) (WroteWhole kind [] (L.traffic link.old) (L.traffic link.new))) }
     ensures room { IfOk result (λ kind. Tells (L.tells link.new) (L.tells link.old) ((L.traffic link.new).full_writes ≡ (L.traffic link.old).full_writes)) }
     ensures no_memory { OnErr result (Tells (L.tells link.new) (L.tells link.old) (Unread (L.traffic link.old) (L.traffic link.new))) }
+    ensures later { L.faults link.old ≤ L.faults link.new }
 {
     match link.read(buf) {
         LinkRead::Got(count) => {
@@ -62,6 +63,7 @@ pub(crate) fn read_event<R: Wait, L: Link, C: Clock>(
     ensures blame { IfOk result (λ event. Blames event.kind (L.faults link.old) (L.faults link.new)) }
     ensures again { IfOk result (λ event. Tells (L.tells link.new) (L.tells link.old) (WroteWhole event.kind [] (L.traffic link.old) (L.traffic link.new))) }
     ensures no_memory { OnErr result (Tells (L.tells link.new) (L.tells link.old) (Unread (L.traffic link.old) (L.traffic link.new))) }
+    ensures later { L.faults link.old ≤ L.faults link.new }
 {
     match read_kind(rt, alloc, link, buf, patience) {
         Ok(kind) => Ok(now_is(clock, client, kind)),

@@ -1,6 +1,6 @@
 //! Turns: one look, and one own event.
 
-ghost use Rattle.std.specs.Prelude.{◌≡◌, IfOk, OnErr};
+ghost use Rattle.std.specs.Prelude.{◌≡◌, ◌≤◌, IfOk, OnErr};
 ghost use Rattle.dns_outside.specs.Causes.{Tells};
 ghost use Rattle.dns_client.specs.Serving.{serving};
 ghost use Rattle.dns_client.specs.Slate.{Slate};
@@ -51,6 +51,7 @@ fn turn_once<R: Wait, L: Link, C: Clock, J: Recorder, W: Served>(
         (TurnedPart (request_answer W.Future.answer W.Stream.answer) (serving (W.answer service.now) (W.hint service.now)) client (below_of kept.old.turn) core.old kept.old.last
         (J.noted journal.old) (J.noted journal.new) seat.old.known seat.new.known (L.traffic link.old) (L.traffic link.new))) }
     ensures cause { IfOk result (λ why. TurnedFor (request_answer W.Future.answer W.Stream.answer) (serving (W.answer service.now) (W.hint service.now)) why core.old core.new seat.old.known seat.new.known (L.faults link.old) (L.faults link.new)) }
+    ensures later { L.faults link.old ≤ L.faults link.new }
     ensures looked { LookedOnce seat.old.known seat.new.known }
     ensures same { seat.new.book ≡ seat.old.book }
 {
@@ -91,6 +92,7 @@ pub(crate) fn serve_core<R: Wait, L: Link, C: Clock, J: Recorder, W: Served>(
         (J.noted journal.old) (J.noted journal.new) (L.traffic link.old) (L.traffic link.new))) }
     ensures cause { IfOk result (λ why. (s : Slate) → BeginsOpen (request_answer W.Future.answer W.Stream.answer) (serving (W.answer service.now) (W.hint service.now)) core.old look.now s
         → Causes why seat.old.known seat.new.known (L.faults link.old) (L.faults link.new)) }
+    ensures later { L.faults link.old ≤ L.faults link.new }
     ensures seat { LooksAlone seat.old.known seat.new.known }
     ensures same { seat.new.book ≡ seat.old.book }
 {

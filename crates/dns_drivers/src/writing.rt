@@ -53,7 +53,7 @@ fn write_some<R: Wait, L: Link, C: Clock>(
         (MatchResult result (λ n. Waited (L.traffic link.old).full_writes (L.traffic link.new).full_writes (C.readings clock.old) (C.readings clock.new))
         (λ end. WaitedTo end (L.traffic link.old).full_writes (L.traffic link.new).full_writes (C.readings clock.old) (C.readings clock.new))) }
     ensures bound { MatchResult result (λ n. done + n ≤ length frame.now) (λ end. EndsWriting end done (length frame.now) start limit) }
-    ensures blame { MatchResult result (λ n. L.faults link.old ≤ L.faults link.new) (λ end. EndBlames end (L.faults link.old) (L.faults link.new)) }
+    ensures blame { MatchResult result (λ n. L.faults link.new ≡ L.faults link.old) (λ end. EndBlames end (L.faults link.old) (L.faults link.new)) }
     ensures again { Tells (L.tells link.new) (L.tells link.old)
         (MatchResult result (λ n. (L.traffic link.old).full_writes ≤ (L.traffic link.new).full_writes) (λ end. EndAgain end (L.traffic link.old).full_writes (L.traffic link.new).full_writes)) }
 {
@@ -112,7 +112,7 @@ fn written(client: u64, start: u64, at: u64, secs: u64) -> Event
     }
 }
 
-#[tactic(auto, using(crate::proofs::Movings::moved_whole, crate::proofs::Movings::moved_late, crate::proofs::Movings::moved_failed, crate::proofs::Waits::timed_whole, crate::proofs::Waits::timed_late, crate::proofs::Waits::timed_failed, crate::proofs::Blamings::blames_write, crate::proofs::Blamings::blames_failed, crate::proofs::Blamings::whole_written, crate::proofs::Blamings::whole_late, crate::proofs::Blamings::whole_failed))]
+#[tactic(auto, using(crate::proofs::Movings::moved_whole, crate::proofs::Movings::moved_late, crate::proofs::Movings::moved_failed, crate::proofs::Waits::timed_whole, crate::proofs::Waits::timed_late, crate::proofs::Waits::timed_failed, crate::proofs::Blamings::blames_whole, crate::proofs::Blamings::blames_late, crate::proofs::Blamings::blames_failed, crate::proofs::Blamings::whole_written, crate::proofs::Blamings::whole_late, crate::proofs::Blamings::whole_failed))]
 /// Writes the first frame of a queue. The event is a Write, or a Fault where a call failed.
 pub(crate) fn write_event<R: Wait, L: Link, C: Clock>(
     rt: &R,

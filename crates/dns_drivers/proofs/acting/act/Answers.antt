@@ -23,3 +23,9 @@ returns-in-Ok-clause-again g c = acted_again (request_answer g.W.Future.ReplyFut
 
 pub returns-in-Ok-clause-no_memory : goal.returns-in-Ok-clause-no_memory
 returns-in-Ok-clause-no_memory g c = acted_part (request_answer g.W.Future.ReplyFuture.answer g.W.Stream.ReplyStream.answer) c.hand_over.result c.in-Ok.event (g.L.Link.tells c.args.link.now) (g.L.Link.tells c.own_event.new.link) (g.J.Recorder.tells c.args.journal.now) (g.J.Recorder.tells c.hand_over.new.journal) c.args.client (below_of c.args.kept.now.turn) c.args.core.now (g.J.Recorder.noted c.args.journal.now) (g.J.Recorder.noted c.hand_over.new.journal) (g.L.Link.traffic c.args.link.now) (g.L.Link.traffic c.own_event.new.link) c.in-Ok.ensures.chosen c.hand_over.ensures.noted
+
+pub returns-in-Ok-clause-later : goal.returns-in-Ok-clause-later
+returns-in-Ok-clause-later g c = c.in-Ok.ensures.later
+
+pub returns-in-Err-clause-later : goal.returns-in-Err-clause-later
+returns-in-Err-clause-later g c = c.in-Err.ensures.later

@@ -22,4 +22,5 @@ returns-in-Some g c =
             (m.0, first_write a c.args.core.now _ _ _ c.in-Some.frame.now (λ answers s h. c.in-Some.ensures.queue answers s h) m.1);
       };
       no_memory = tt;
+      later = c.write_event.ensures.blame.later;
     }

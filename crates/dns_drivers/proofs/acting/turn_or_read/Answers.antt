@@ -1,3 +1,4 @@
+use Rattle.std.proofs.Common.{arith}
 use Rattle.dns_service.specs.PolledRequest.{request_answer}
 use Rattle.dns_drivers.specs.Rounds.{below_of}
 use Rattle.dns_drivers.proofs.Actings.{read_chosen, read_blame, read_again}
@@ -26,6 +27,7 @@ returns-in-Some g c =
           (λ answers s h. c.requires.queue answers s h) (λ answers s h. c.in-Some.ensures answers s h) c.now_is.ensures.kind;
       again = record { told = λ t. (t, first_turn a c.args.core.now c.now_is.result.kind c.in-Some.request (g.L.Link.traffic c.args.link.now) c.now_is.ensures.kind) };
       no_memory = tt;
+      later = omega arith;
     }
 
 pub returns-in-None : goal.returns-in-None
@@ -40,4 +42,5 @@ returns-in-None g c =
           (λ answers s h. c.requires.queue answers s h) (λ answers s h. c.in-None.ensures answers s h) c.read_event.ensures.blame c.read_event.ensures.kind;
       again = read_again a c.read_event.result (g.L.Link.tells c.args.link.now) (g.L.Link.tells c.read_event.new.link) c.args.client c.args.core.now (g.L.Link.traffic c.args.link.now) (g.L.Link.traffic c.read_event.new.link) c.read_event.ensures.again c.read_event.ensures.kind;
       no_memory = c.read_event.ensures.no_memory;
+      later = c.read_event.ensures.later;
     }

@@ -54,3 +54,6 @@ returns-in-Ok-clause-cause g c =
     (λ (why : Why). Causes why c.args.seat.now.known c.serve_core-served.new.seat.known (g.L.Link.faults c.args.link.now) (g.L.Link.faults c.serve_core-served.new.link))
     (λ why p. p u (begins a b c.in-Ok.core c.args.client c.args.addr c.args.at c.args.look.now c.in-Ok.ensures.begun c.in-Ok.ensures.version))
     c.serve_core-served.ensures.cause
+
+pub returns-in-Ok-clause-later : goal.returns-in-Ok-clause-later
+returns-in-Ok-clause-later g c = c.serve_core-served.ensures.later

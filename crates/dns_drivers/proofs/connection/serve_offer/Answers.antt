@@ -54,3 +54,6 @@ returns-in-Ok-clause-clock g c =
     (λ (m : g.L.Link.tells c.args.link.now × g.C.Clock.tells c.note_moment.new.clock × g.J.Recorder.tells c.note_moment.new.journal). let o = c.in-Ok.ensures.clock.told (m.1, m.2) in
     ((m.0, o.0.0, o.0.1), λ why p. timed_then (g.J.Recorder.noted c.args.journal.now) (g.J.Recorder.noted c.note_moment.new.journal) (g.J.Recorder.noted c.admit_and_serve.new.journal) f f (g.L.Link.traffic c.admit_and_serve.new.link).full_writes q q1 (g.C.Clock.readings c.admit_and_serve.new.clock) (timed_shift (g.J.Recorder.noted c.args.journal.now) (g.J.Recorder.noted c.note_moment.new.journal) f q q1 o.1) p))
     c.admit_and_serve.ensures.clock
+
+pub returns-in-Ok-clause-later : goal.returns-in-Ok-clause-later
+returns-in-Ok-clause-later g c = c.admit_and_serve.ensures.later

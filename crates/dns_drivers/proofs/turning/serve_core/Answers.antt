@@ -1,4 +1,4 @@
-use Rattle.std.proofs.Common.{refl, ◌∙◌}
+use Rattle.std.proofs.Common.{refl, ◌∙◌, arith}
 use Rattle.dns_service.specs.PolledRequest.{request_answer}
 use Rattle.dns_client.specs.Serving.{serving}
 use Rattle.dns_notes.proofs.Timings.{timed_none, timed_then}
@@ -16,6 +16,7 @@ loop-init g c =
       run = record { told = λ t. (t, λ s h. going_begun a b s c.args.client c.args.look.now c.args.core.now (g.J.Recorder.noted c.args.journal.now) c.args.seat.now.known (g.L.Link.traffic c.args.link.now) h) };
       clock = record { told = λ t. (t, timed_none (g.J.Recorder.noted c.args.journal.now) (g.L.Link.traffic c.args.link.now).full_writes (g.C.Clock.readings c.args.clock.now)) };
       goes = λ s h. goes_begun a b c.args.core.now s c.args.seat.now.known (g.L.Link.faults c.args.link.now) h.stands h.opened;
+      later = omega arith;
       seat = looks_none c.args.seat.now.known;
       same = refl;
     }
@@ -38,6 +39,7 @@ loop-preserved g c =
             (r.0, timed_then (g.J.Recorder.noted c.args.journal.now) (g.J.Recorder.noted c.loop.journal) (g.J.Recorder.noted c.turn_once.new.journal) (g.L.Link.traffic c.args.link.now).full_writes (g.L.Link.traffic c.loop.link).full_writes (g.L.Link.traffic c.turn_once.new.link).full_writes (g.C.Clock.readings c.args.clock.now) (g.C.Clock.readings c.loop.clock) (g.C.Clock.readings c.turn_once.new.clock) r.1 m.1);
       };
       goes = λ s h. goes_turned a b c.loop.core c.turn_once.new.core c.args.seat.now.known c.loop.seat.known c.turn_once.new.seat.known (g.L.Link.faults c.args.link.now) (g.L.Link.faults c.loop.link) (g.L.Link.faults c.turn_once.new.link) (c.loop.invariant.goes s h) (rw c.in-Ok-None.field-0-is at c.in-Ok-None.ensures.cause);
+      later = let l = c.loop.invariant.later in let m = c.turn_once.ensures.later in omega arith;
       seat = looks_more c.args.seat.now.known c.loop.seat.known c.turn_once.new.seat.known c.loop.invariant.seat c.turn_once.ensures.looked;
       same = c.turn_once.ensures.same ∙ c.loop.invariant.same;
     }
@@ -68,6 +70,9 @@ returns-in-Ok-Some-clause-cause g c =
     let b = serving (g.W.Served.answer c.args.service.now) (g.W.Served.hint c.args.service.now) in
     λ s h. cause_turned a b c.in-Ok-Some.why c.loop.core c.turn_once.new.core c.args.seat.now.known c.loop.seat.known c.turn_once.new.seat.known (g.L.Link.faults c.args.link.now) (g.L.Link.faults c.loop.link) (g.L.Link.faults c.turn_once.new.link) (c.loop.invariant.goes s h) (rw c.in-Ok-Some.field-0-is at c.in-Ok-Some.ensures.cause)
 
+pub returns-in-Ok-Some-clause-later : goal.returns-in-Ok-Some-clause-later
+returns-in-Ok-Some-clause-later g c = let l = c.loop.invariant.later in let m = c.turn_once.ensures.later in omega arith
+
 pub returns-in-Ok-Some-clause-seat : goal.returns-in-Ok-Some-clause-seat
 returns-in-Ok-Some-clause-seat g c =
     looks_more c.args.seat.now.known c.loop.seat.known c.turn_once.new.seat.known c.loop.invariant.seat c.turn_once.ensures.looked
@@ -82,6 +87,9 @@ returns-in-Err-clause-no_memory g c =
           let r = c.loop.invariant.run.told m.0 in
           (r.0, λ s h. broken_turned a b s c.args.client (below_of c.loop.kept.turn) c.args.look.now c.loop.kept.last c.loop.core (g.J.Recorder.noted c.args.journal.now) (g.J.Recorder.noted c.loop.journal) (g.J.Recorder.noted c.turn_once.new.journal) c.args.seat.now.known c.loop.seat.known c.turn_once.new.seat.known (g.L.Link.traffic c.args.link.now) (g.L.Link.traffic c.loop.link) (g.L.Link.traffic c.turn_once.new.link) (r.1 s h) m.1);
     }
+
+pub returns-in-Err-clause-later : goal.returns-in-Err-clause-later
+returns-in-Err-clause-later g c = let l = c.loop.invariant.later in let m = c.turn_once.ensures.later in omega arith
 
 pub returns-in-Err-clause-seat : goal.returns-in-Err-clause-seat
 returns-in-Err-clause-seat g c =

@@ -1,4 +1,4 @@
-use Rattle.std.proofs.Common.{◌≡◌}
+use Rattle.std.proofs.Common.{◌≡◌, ◌≤◌}
 use Rattle.dns_outside.specs.Causes.{Tells}
 use Rattle.dns_service.specs.PolledRequest.{request_answer}
 use Rattle.dns_client.specs.Serving.{serving}
@@ -21,6 +21,7 @@ invariant-loop g l = record {
       (Timed (g.J.Recorder.noted l.fn.journal) (g.J.Recorder.noted l.journal) (g.L.Link.traffic l.fn.link).full_writes (g.L.Link.traffic l.link).full_writes (g.C.Clock.readings l.fn.clock) (g.C.Clock.readings l.clock));
   goes : (s : Slate) → BeginsOpen (request_answer g.W.Future.ReplyFuture.answer g.W.Stream.ReplyStream.answer) (serving (g.W.Served.answer l.service) (g.W.Served.hint l.service)) l.fn.core l.look s
       → Goes (request_answer g.W.Future.ReplyFuture.answer g.W.Stream.ReplyStream.answer) (serving (g.W.Served.answer l.service) (g.W.Served.hint l.service)) l.core l.fn.seat.known l.seat.known (g.L.Link.faults l.fn.link) (g.L.Link.faults l.link);
+  later : g.L.Link.faults l.fn.link ≤ g.L.Link.faults l.link;
   seat : LooksAlone l.fn.seat.known l.seat.known;
   same : l.seat.book ≡ l.fn.seat.book;
 }

@@ -77,3 +77,6 @@ returns-in-Err-clause-no_memory g c =
           let h = c.in-Err.ensures.no_memory.told t.1 in
           ((t.0, h.0), record { either = inl (h.1, refl) });
     }
+
+pub returns-in-Ok-None-clause-later : goal.returns-in-Ok-None-clause-later
+returns-in-Ok-None-clause-later g c = c.act.ensures.later

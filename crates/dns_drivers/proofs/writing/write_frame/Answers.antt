@@ -1,4 +1,4 @@
-use Rattle.std.proofs.Common.{arith}
+use Rattle.std.proofs.Common.{arith, ◌∙◌}
 use Rattle.dns_drivers.proofs.Writings.{wrote_on, wrote_end, waited_on, waited_end, blames_on, again_on}
 use Rattle.dns_drivers.proofs.writing.write_frame.Goals as goal
 
@@ -16,7 +16,7 @@ loop-preserved g c = record {
         let r = c.loop.invariant.clock.told m.0 in
         (r.0, waited_on (g.L.Link.traffic c.args.link.now).full_writes (g.L.Link.traffic c.loop.link).full_writes (g.L.Link.traffic c.write_some.new.link).full_writes (g.C.Clock.readings c.args.clock.now) (g.C.Clock.readings c.loop.clock) (g.C.Clock.readings c.write_some.new.clock) r.1 m.1);
   };
-  faults = let l = c.in-Ok.ensures.blame in let i = c.loop.invariant.faults in omega arith;
+  faults = c.in-Ok.ensures.blame ∙ c.loop.invariant.faults;
   again = record {
     told = λ t.
         let m = c.in-Ok.ensures.again.told t in

@@ -1,4 +1,4 @@
-use Rattle.std.proofs.Common.{◌≤◌, length}
+use Rattle.std.proofs.Common.{◌≡◌, ◌≤◌, length}
 use Rattle.dns_outside.specs.Causes.{Tells}
 use Rattle.dns_notes.specs.Clocks.{Waited}
 use Rattle.dns_drivers.specs.Links.{WroteFront}
@@ -9,6 +9,6 @@ invariant-loop g l = record {
   moves : Tells (g.L.Link.tells l.link) (g.L.Link.tells l.fn.link) (WroteFront l.done l.frame (g.L.Link.traffic l.fn.link) (g.L.Link.traffic l.link));
   clock : Tells (g.L.Link.tells l.link × g.C.Clock.tells l.clock) (g.L.Link.tells l.fn.link × g.C.Clock.tells l.fn.clock) (Waited (g.L.Link.traffic l.fn.link).full_writes (g.L.Link.traffic l.link).full_writes (g.C.Clock.readings l.fn.clock) (g.C.Clock.readings l.clock));
   bound : l.done ≤ length l.frame;
-  faults : g.L.Link.faults l.fn.link ≤ g.L.Link.faults l.link;
+  faults : g.L.Link.faults l.link ≡ g.L.Link.faults l.fn.link;
   again : Tells (g.L.Link.tells l.link) (g.L.Link.tells l.fn.link) ((g.L.Link.traffic l.fn.link).full_writes ≤ (g.L.Link.traffic l.link).full_writes);
 }
