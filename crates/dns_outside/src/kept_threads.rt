@@ -1,6 +1,6 @@
 //! The threads that a spawner started.
 
-ghost use Rattle.std.specs.Prelude.{◌≡◌, ◌≤◌, []};
+ghost use Rattle.std.specs.Prelude.{◌≡◌, ◌≤◌, ◌+◌, [], ◌∷◌, ◌++◌, IfSome, IfNone, MatchOption, vec_len};
 
 use crate::work::Started;
 use dns_name::OutOfMemory;
@@ -31,7 +31,10 @@ impl<D: Drop> KeptThreads<D> {
     }
 
     /// Keeps a thread, or hands it back where there is no memory.
-    pub(crate) fn keep(&mut self, thread: Started<D>) -> Option<Started<D>> {
+    pub(crate) fn keep(&mut self, thread: Started<D>) -> Option<Started<D>>
+        ensures kept { IfNone result (self.new.threads.items ≡ self.old.threads.items ++ thread ∷ []) }
+        ensures refused { IfSome result (λ back. (back ≡ thread) × (self.new.threads.items ≡ self.old.threads.items)) }
+    {
         match self.threads.push(thread) {
             Ok(()) => None,
             Err(refused) => Some(refused.value),
@@ -39,7 +42,10 @@ impl<D: Drop> KeptThreads<D> {
     }
 
     /// Looks at one thread more, and gives it where its work is done.
-    pub(crate) fn ended(&mut self) -> Option<Started<D>> {
+    pub(crate) fn ended(&mut self) -> Option<Started<D>>
+        ensures all { IfNone result (self.new.threads.items ≡ self.old.threads.items) }
+        ensures others { IfSome result (λ thread. vec_len self.new.threads + 1 ≡ vec_len self.old.threads) }
+    {
         if self.place >= self.threads.len() {
             self.place = 0;
         }
@@ -54,7 +60,9 @@ impl<D: Drop> KeptThreads<D> {
     }
 
     /// Gives a thread, until none is left.
-    pub(crate) fn next(&mut self) -> Option<Started<D>> {
+    pub(crate) fn next(&mut self) -> Option<Started<D>>
+        ensures { MatchOption result ((vec_len self.old.threads ≡ 0) × (vec_len self.new.threads ≡ 0)) (λ _. vec_len self.new.threads + 1 ≡ vec_len self.old.threads) }
+    {
         self.threads.pop()
     }
 }

@@ -1,6 +1,6 @@
 //! A spawner that keeps the addresses of its works, with starts that fail.
 
-ghost use Rattle.std.specs.Prelude.{◌≡◌, ◌≤◌, [], ◌∷◌, ◌++◌, OnOk, OnErr, IfOk, IsFalse, Contains, ◌↔◌};
+ghost use Rattle.std.specs.Prelude.{◌≡◌, ◌≤◌, ◌+◌, [], ◌∷◌, ◌++◌, OnOk, OnErr, IfOk, IfSome, IfNone, MatchOption, IsFalse, Contains, ◌↔◌, vec_len};
 ghost use Rattle.dns_outside.specs.Causes.{Rose, Tells};
 ghost use Rattle.dns_outside.specs.Starts.{PermitMoves, PermitCause};
 ghost use Rattle.dns_outside.specs.Memory.{next};
@@ -60,6 +60,7 @@ impl<W: Work> Spawner<W> for MemorySpawner<W> {
     fn keep(&mut self, thread: Started<W::Done>) -> Option<Started<W::Done>>
         ensures given { Tells (Unit {0}) (Unit {0}) (self.new.given.items ≡ self.old.given.items) }
         ensures same { self.new.calls.faults ≡ self.old.calls.faults }
+        ensures kept { IfNone result (self.new.threads.threads.items ≡ self.old.threads.threads.items ++ thread ∷ []) }
     {
         self.threads.keep(thread)
     }
@@ -67,6 +68,8 @@ impl<W: Work> Spawner<W> for MemorySpawner<W> {
     fn ended(&mut self) -> Option<Started<W::Done>>
         ensures given { Tells (Unit {0}) (Unit {0}) (self.new.given.items ≡ self.old.given.items) }
         ensures same { self.new.calls.faults ≡ self.old.calls.faults }
+        ensures all { IfNone result (self.new.threads.threads.items ≡ self.old.threads.threads.items) }
+        ensures others { IfSome result (λ thread. vec_len self.new.threads.threads + 1 ≡ vec_len self.old.threads.threads) }
     {
         self.threads.ended()
     }
@@ -74,6 +77,7 @@ impl<W: Work> Spawner<W> for MemorySpawner<W> {
     fn next(&mut self) -> Option<Started<W::Done>>
         ensures given { Tells (Unit {0}) (Unit {0}) (self.new.given.items ≡ self.old.given.items) }
         ensures same { self.new.calls.faults ≡ self.old.calls.faults }
+        ensures one { MatchOption result ((vec_len self.old.threads.threads ≡ 0) × (vec_len self.new.threads.threads ≡ 0)) (λ _. vec_len self.new.threads.threads + 1 ≡ vec_len self.old.threads.threads) }
     {
         self.threads.next()
     }
