@@ -1,8 +1,8 @@
 //! A link in memory of which no call fails.
 
-ghost use Rattle.std.specs.Prelude.{◌≡◌, ◌≤◌, ◌++◌, ℕ, [], true};
+ghost use Rattle.std.specs.Prelude.{◌≡◌, ◌≤◌, ◌++◌, ℕ, [], true, length};
 ghost use Rattle.dns_outside.specs.Causes.{Tells};
-ghost use Rattle.dns_outside.specs.Traffic.{LinkReadMoves, LinkReadBound, LinkReadCause};
+ghost use Rattle.dns_outside.specs.Traffic.{LinkReadMoves, LinkReadBound, LinkReadCause, LinkWriteMoves, LinkWriteBound, LinkWriteCause};
 ghost use Rattle.dns_outside.specs.SteadyForms.{SteadyCableTells, SteadyCableReads, steady_traffic};
 
 use crate::link::{Link, LinkRead, LinkWrite};
@@ -74,7 +74,14 @@ impl Link for SteadyLink {
         }
     }
 
-    fn write(&mut self, piece: &[u8]) -> LinkWrite {
+    fn write(&mut self, piece: &[u8]) -> LinkWrite
+        ensures moves { Tells (SteadyCableTells self.new) (SteadyCableTells self.old) (LinkWriteMoves result piece.now (steady_traffic self.old) (steady_traffic self.new)) }
+        ensures bound { LinkWriteBound result piece.now }
+        ensures later { 0 ≤ 0 }
+        ensures cause { LinkWriteCause result 0 0 }
+        ensures takes { result ≡ LinkWrite.Took (length piece.now) }
+        ensures kept { (self.new.left ≡ self.old.left) × (self.new.came ≡ self.old.came) × (self.new.ends ≡ self.old.ends) }
+    {
         if self.whole && self.output.extend_from_slice(piece).is_err() {
             self.whole = false;
         }

@@ -1,8 +1,8 @@
 //! A socket for datagrams in memory of which no call fails.
 
-ghost use Rattle.std.specs.Prelude.{◌≡◌, ◌≤◌, ℕ, [], true};
+ghost use Rattle.std.specs.Prelude.{◌≡◌, ◌≤◌, ℕ, [], true, length};
 ghost use Rattle.dns_outside.specs.Causes.{Tells};
-ghost use Rattle.dns_outside.specs.Mail.{RecvMoves, RecvBound, RecvCause};
+ghost use Rattle.dns_outside.specs.Mail.{RecvMoves, RecvBound, RecvCause, SendMoves, SendBound, SendCause};
 ghost use Rattle.dns_outside.specs.SteadyForms.{SteadyTrayTells, SteadyTrayReceives, steady_mail};
 
 use crate::pile::{Pile, keep_sent};
@@ -63,7 +63,15 @@ impl AsyncDgramSock for SteadySock {
 
     ghost failed_sends = { λ _. 0 };
 
-    fn poll_send_to(&mut self, octets: &[u8], to: SocketAddr) -> DgramSend {
+    fn poll_send_to(&mut self, octets: &[u8], to: SocketAddr) -> DgramSend
+        ensures moves { Tells (SteadyTrayTells self.new) (SteadyTrayTells self.old) (SendMoves result octets.now to (steady_mail self.old) (steady_mail self.new)) }
+        ensures bound { SendBound result octets.now }
+        ensures receives { ◌≡◌ {A = ℕ} 0 0 }
+        ensures later { 0 ≤ 0 }
+        ensures cause { SendCause result 0 0 }
+        ensures takes { result ≡ DgramSend.Took (length octets.now) }
+        ensures kept { (self.new.left ≡ self.old.left) × (self.new.received ≡ self.old.received) × (self.new.empty_receives ≡ self.old.empty_receives) }
+    {
         if keep_sent(self.alloc, &mut self.outgoing, octets, to).is_err() {
             self.whole = false;
         }
