@@ -74,8 +74,8 @@ TrayTells t = StillCounts t.receives.agains × StillCounts t.sends.agains
 -- one receive, with the socket a before it and b after it; Again comes also where no datagram is left
 abbrev pub TrayReceives : DgramRecv → Tray → Tray → Type 0
 TrayReceives (RecvGot n from) a b = TakesCourse CarriedOut a.receives b.receives × (length a.left ≡ length b.left + 1)
-TrayReceives RecvAgain a b = b.receives ≡ record a.receives { made = next a.receives.made; agains = next a.receives.agains }
-TrayReceives RecvFailed a b = TakesCourse FailedCourse a.receives b.receives
+TrayReceives RecvAgain a b = (b.receives ≡ record a.receives { made = next a.receives.made; agains = next a.receives.agains }) × (b.left ≡ a.left)
+TrayReceives RecvFailed a b = TakesCourse FailedCourse a.receives b.receives × (b.left ≡ a.left)
 
 -- one send; one for which there is no memory fails too
 abbrev pub TraySends : DgramSend → Tray → Tray → Type 0
@@ -96,7 +96,7 @@ door_of l = record { callers = l.callers; empty_accepts = l.calls.agains }
 -- one accept, with the object a before it and b after it; Again comes also where no connection is left, and one for whose address there is no memory fails too
 abbrev pub LobbyAccepts : {L : Type 0} → AcceptAnswer L → Lobby L → Lobby L → Type 0
 LobbyAccepts (Accepted link from) a b = TakesCourse CarriedOut a.calls b.calls × (a.left ≡ (link, from) ∷ b.left)
-LobbyAccepts AcceptAgain a b = b.calls ≡ record a.calls { made = next a.calls.made; agains = next a.calls.agains }
+LobbyAccepts AcceptAgain a b = (b.calls ≡ record a.calls { made = next a.calls.made; agains = next a.calls.agains }) × (a.left ≡ b.left)
 LobbyAccepts AcceptFailed a b = b.calls ≡ record a.calls { made = next a.calls.made; faults = next a.calls.faults }
 
 -- a clock in memory
