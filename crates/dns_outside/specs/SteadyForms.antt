@@ -1,11 +1,13 @@
 -- Links, sockets and accept objects in memory of which no call fails, as contracts see them.
-use Rattle.std.specs.Prelude.{◌≡◌, ℕ, ◌+◌, List, [], Bool, IsTrue, length}
+use Rattle.std.specs.Prelude.{◌≡◌, ℕ, ◌+◌, List, [], ◌∷◌, Bool, IsTrue, length}
 use Rattle.dns_name.specs.declared.address.SocketAddr.{SocketAddr}
 use Rattle.dns_outside.specs.Memory.{next}
 use Rattle.dns_outside.specs.Traffic.{Traffic}
 use Rattle.dns_outside.specs.Mail.{Mail}
 use Rattle.dns_outside.specs.Doors.{Door}
 use Rattle.dns_outside.specs.MemoryForms.{StillCounts}
+use Rattle.dns_outside.specs.declared.accept.AcceptAnswer.{AcceptAnswer}
+use Rattle.dns_outside.specs.declared.accept.AcceptAnswer.TheVariants.{Accepted, Again as AcceptAgain, Failed as AcceptFailed}
 use Rattle.dns_outside.specs.declared.link.LinkRead.{LinkRead}
 use Rattle.dns_outside.specs.declared.link.LinkRead.TheVariants.{Got, Again, End, Failed}
 use Rattle.dns_outside.specs.declared.sock.Letter.{Letter}
@@ -71,3 +73,9 @@ steady_door l = record { callers = l.callers; empty_accepts = l.empty_accepts }
 -- that it tells
 abbrev pub SteadyLobbyTells : {L : Type 0} → SteadyLobby L → Type 0
 SteadyLobbyTells l = IsTrue l.whole × StillCounts l.empty_accepts
+
+-- one accept, with the object a before it and b after it
+abbrev pub SteadyLobbyAccepts : {L : Type 0} → AcceptAnswer L → SteadyLobby L → SteadyLobby L → Type 0
+SteadyLobbyAccepts (Accepted link from) a b = (a.left ≡ (link, from) ∷ b.left) × (b.empty_accepts ≡ a.empty_accepts)
+SteadyLobbyAccepts AcceptAgain a b = (length a.left ≡ 0) × (b.whole ≡ a.whole) × (b.empty_accepts ≡ next a.empty_accepts)
+SteadyLobbyAccepts AcceptFailed a b = ⊥

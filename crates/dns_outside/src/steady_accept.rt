@@ -2,7 +2,8 @@
 
 ghost use Rattle.std.specs.Prelude.{◌≡◌, ◌≤◌, ℕ, [], true};
 ghost use Rattle.dns_outside.specs.Causes.{Tells};
-ghost use Rattle.dns_outside.specs.SteadyForms.{SteadyLobbyTells, steady_door};
+ghost use Rattle.dns_outside.specs.Doors.{AcceptMoves, AcceptCause};
+ghost use Rattle.dns_outside.specs.SteadyForms.{SteadyLobbyTells, SteadyLobbyAccepts, steady_door};
 
 use crate::accept::{AcceptAnswer, AsyncAccept};
 use crate::link::Link;
@@ -54,7 +55,12 @@ impl<L: Link + Drop> AsyncAccept for SteadyAccept<L> {
 
     ghost faults = { λ _. 0 };
 
-    fn poll_accept(&mut self) -> AcceptAnswer<L> {
+    fn poll_accept(&mut self) -> AcceptAnswer<L>
+        ensures moves { Tells (SteadyLobbyTells self.new) (SteadyLobbyTells self.old) (AcceptMoves result (steady_door self.old) (steady_door self.new)) }
+        ensures later { 0 ≤ 0 }
+        ensures cause { AcceptCause result 0 0 }
+        ensures gives { SteadyLobbyAccepts result self.old self.new }
+    {
         let Some((link, from)) = self.left.pop_front() else {
             self.empty_accepts = self.empty_accepts.saturating_add(1);
             return AcceptAnswer::Again;
