@@ -1,6 +1,6 @@
 //! Whether the next datagram comes soon.
 
-ghost use Rattle.std.specs.Prelude.{◌≡◌};
+ghost use Rattle.std.specs.Prelude.{◌≡◌, ◌+◌, if◌then◌else◌, min, max};
 
 /// How many waits in a row may be begun in vain by asking.
 const WORTHWHILE: u32 = 8;
@@ -39,7 +39,9 @@ impl Eagerness {
     }
 
     /// Whether asking ended this wait.
-    pub(crate) fn learn(&mut self, is_there: bool) {
+    pub(crate) fn learn(&mut self, is_there: bool)
+        ensures { self.new.vain ≡ (if is_there then 0 else min (self.old.vain + 1) (max self.old.vain WORTHWHILE)) }
+    {
         if is_there {
             self.vain = 0;
         } else if self.vain < WORTHWHILE {

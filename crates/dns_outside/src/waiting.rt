@@ -1,5 +1,7 @@
 //! Waiting for a socket of `mio`.
 
+ghost use Rattle.std.specs.Prelude.{◌≡◌, true, IfOk};
+
 use mio::event::Source;
 use mio::{Events, Interest, Poll, Token};
 use std::alloc::Global;
@@ -40,7 +42,9 @@ impl Waiting {
         alloc: Global,
         socket: &mut S,
         interests: Interest,
-    ) -> io::Result<Waiting> {
+    ) -> io::Result<Waiting>
+        ensures { IfOk result (λ waiting. (waiting.interests ≡ interests) × (waiting.registered ≡ true) × (waiting.found ≡ 0)) }
+    {
         let poll = Poll::new(net)?;
         match poll.registry().register(socket, Token(0), interests) {
             Ok(()) => Waiting::over(alloc, poll, interests),
@@ -48,7 +52,9 @@ impl Waiting {
         }
     }
 
-    fn over(alloc: Global, poll: Poll, interests: Interest) -> io::Result<Waiting> {
+    fn over(alloc: Global, poll: Poll, interests: Interest) -> io::Result<Waiting>
+        ensures { IfOk result (λ waiting. (waiting.interests ≡ interests) × (waiting.registered ≡ true) × (waiting.found ≡ 0)) }
+    {
         match Events::with_capacity(alloc, 1) {
             Ok(events) => Ok(Waiting {
                 poll,
@@ -63,14 +69,18 @@ impl Waiting {
 
     /// A read found something.
     #[inline(always)]
-    pub(crate) fn found<S: Source>(&mut self, socket: &mut S) {
+    pub(crate) fn found<S: Source>(&mut self, socket: &mut S)
+        ensures { self.new.interests ≡ self.old.interests }
+    {
         if self.registered {
             self.count(socket);
         }
     }
 
     #[inline(never)]
-    fn count<S: Source>(&mut self, socket: &mut S) {
+    fn count<S: Source>(&mut self, socket: &mut S)
+        ensures { self.new.interests ≡ self.old.interests }
+    {
         self.found = self.found.saturating_add(1);
         if self.found >= BUSY {
             self.registered = self.poll.registry().deregister(socket).is_err();
@@ -79,14 +89,21 @@ impl Waiting {
     }
 
     /// Waits so many milliseconds at most.
-    pub(crate) fn wait<R: Wait>(&mut self, _rt: &R, millis: u64) {
+    pub(crate) fn wait<R: Wait>(&mut self, _rt: &R, millis: u64)
+        ensures interests { self.new.interests ≡ self.old.interests }
+        ensures registered { self.new.registered ≡ self.old.registered }
+        ensures found { self.new.found ≡ self.old.found }
+    {
         let _ = self
             .poll
             .poll(&mut self.events, Some(Duration::from_millis(millis)));
     }
 
     /// Waits so many milliseconds at most for the socket. If the system refuses that, one millisecond at most.
-    pub(crate) fn wait_on<R: Wait, S: Source>(&mut self, rt: &R, socket: &mut S, millis: u64) {
+    pub(crate) fn wait_on<R: Wait, S: Source>(&mut self, rt: &R, socket: &mut S, millis: u64)
+        ensures interests { self.new.interests ≡ self.old.interests }
+        ensures found { self.new.found ≡ 0 }
+    {
         self.found = 0;
         if !self.registered {
             self.registered = self
@@ -105,12 +122,9 @@ impl Waiting {
     /// Waits so many milliseconds at most for what a socket that is waited for reading alone can read, or has room for.
     /// If the system refuses to wait for room, one millisecond at most. If it refuses to go back to reading alone, later
     /// waits return too often, and none too late.
-    pub(crate) fn wait_for_room<R: Wait, S: Source>(
-        &mut self,
-        rt: &R,
-        socket: &mut S,
-        millis: u64,
-    ) {
+    pub(crate) fn wait_for_room<R: Wait, S: Source>(&mut self, rt: &R, socket: &mut S, millis: u64)
+        ensures { self.new.interests ≡ self.old.interests }
+    {
         if !self.registered {
             self.wait_on(rt, socket, 0);
         }
@@ -124,7 +138,9 @@ impl Waiting {
     }
 
     // What is waited for from now on. What is there already ends the next wait.
-    fn ask<S: Source>(&mut self, socket: &mut S, interests: Interest) -> io::Result<()> {
+    fn ask<S: Source>(&mut self, socket: &mut S, interests: Interest) -> io::Result<()>
+        ensures { self.new.interests ≡ self.old.interests }
+    {
         self.poll.registry().reregister(socket, Token(0), interests)
     }
 }
