@@ -6,12 +6,12 @@ ghost use Rattle.dns_route.specs.Relays.{read_reply, readable_request, relay_ans
 ghost use Rattle.dns_route.specs.RequestMessage.{request_of};
 
 use crate::own_reply::explained;
-use crate::reply::{ComposeReply, ReplyMessage};
+use crate::reply::{ReplyMessage, owned_reply};
 use crate::request::{Error, RequestMessage};
 use crate::send_request::{SendError, SendRequest};
 use crate::single_service::{SingleService, Turned};
-use dns_base::Message;
-use dns_service::{OutOfMemory, Polled, ReplyError, Request, ServiceError};
+use dns_base::{Message, ParseError};
+use dns_service::{OutOfMemory, Polled, Request, ServiceError};
 use std::alloc::Global;
 
 /// What a transport answers.
@@ -104,7 +104,7 @@ fn relay(alloc: Global, query: &Message, answer: Answered) -> Result<Turned, Out
 {
     match answer {
         Polled::Pending => Ok(Polled::Pending),
-        Polled::Ready(Ok(message)) => Ok(Polled::Ready(begun(alloc, &message)?)),
+        Polled::Ready(Ok(message)) => Ok(Polled::Ready(begun(alloc, message)?)),
         Polled::Ready(Err(error)) => {
             let reply = explained(alloc, query, error.text())?;
             Ok(Polled::Ready(Ok(reply)))
@@ -113,15 +113,12 @@ fn relay(alloc: Global, query: &Message, answer: Answered) -> Result<Turned, Out
 }
 
 /// The reply that a message begins, or why it doesn't.
-fn begun(
-    alloc: Global,
-    message: &Message,
-) -> Result<Result<ReplyMessage, ServiceError>, OutOfMemory>
-    ensures { IfOk result (λ r. r ≡ read_reply (reply_read message.now)) }
+fn begun(alloc: Global, message: Message) -> Result<Result<ReplyMessage, ServiceError>, OutOfMemory>
+    ensures { IfOk result (λ r. r ≡ read_reply (reply_read message)) }
 {
-    match ReplyMessage::from_message(alloc, &message.for_ref()) {
+    match owned_reply(alloc, message) {
         Ok(reply) => Ok(Ok(reply)),
-        Err(ReplyError::Service(error)) => Ok(Err(error)),
-        Err(ReplyError::OutOfMemory) => Err(OutOfMemory),
+        Err(ParseError::OutOfMemory) => Err(OutOfMemory),
+        Err(_) => Ok(Err(ServiceError::FormatError)),
     }
 }

@@ -70,7 +70,7 @@ impl ComposeReply for ReplyMessage {
 
     ghost composed = { reply_message };
 
-    /// Keeps the octets, and of a readable OPT record the size, the DO bit, the client subnets and the extended errors.
+    /// KeptKinds the octets, and of a readable OPT record the size, the DO bit, the client subnets and the extended errors.
     fn from_message(alloc: Global, message: &MessageRef<'_>) -> Result<Self, ReplyError> {
         match message.opt() {
             Some(found) => Ok(kept_reply(alloc, message, &found)?),
@@ -176,6 +176,22 @@ fn kept_reply(
     )?;
     let reply = reply_of(alloc, message, Some(opt))?;
     Ok(reply)
+}
+
+/// The reply that an owned message begins. The message is not copied.
+pub(crate) fn owned_reply(alloc: Global, message: Message) -> Result<ReplyMessage, ParseError>
+    ensures { GivesParsed result (reply_read message) }
+{
+    let opt = match message.opt() {
+        Some(found) => Some(kept_opt(
+            alloc,
+            found.udp_payload_size(),
+            KeptKinds::SubnetsAndErrors,
+            &found,
+        )?),
+        None => None,
+    };
+    Ok(ReplyMessage { message, opt })
 }
 
 /// The same message, owned, as a reply with an OPT record or without.
