@@ -110,7 +110,7 @@ bare_gathered h (Ok qs) (Ok an) (Ok ns) (Ok ar) c g =
     let e : record { header = h; questions = qs; answers = an; authority = ns; additional = other_than 41 ar } ≡ c = cc in
     subst (λ (m : Msg). other_than 41 m.additional ≡ m.additional) e (others_twice ar)
 
-bare_copied : (o : List ℕ) (c : Msg) → copied o ≡ Ok c → other_than 41 c.additional ≡ c.additional
+pub bare_copied : (o : List ℕ) (c : Msg) → copied o ≡ Ok c → other_than 41 c.additional ≡ c.additional
 unfolding copied
 bare_copied o c h = bare_gathered (header_of o) (whole_list (all_of (questions_of o))) (copied_records (all_of (standing_answers o))) (copied_records (all_of (standing_authority o))) (copied_records (all_of (standing_additional o))) c h
 
@@ -128,7 +128,7 @@ copy_by r b (Err e) g h = cc
 pub is_copy : (r : ReplyState) (b : Msg) → reply_message r ≡ Ok b → IsCopy r b
 is_copy r b h = copy_by r b (copied r.octets) refl h
 
-less_by : (c : Msg) (opt : Option OptState) → other_than 41 c.additional ≡ c.additional → record (and_opt c opt) { additional = other_than 41 (and_opt c opt).additional } ≡ c
+pub less_by : (c : Msg) (opt : Option OptState) → other_than 41 c.additional ≡ c.additional → record (and_opt c opt) { additional = other_than 41 (and_opt c opt).additional } ≡ c
 less_by c None h = ap (λ (l : List ResourceRecord). record c { additional = l }) h
 less_by c (Some s) h = ap (λ (l : List ResourceRecord). record c { additional = l }) (others_joined c.additional (opt_record s ∷ []) ∙ (ap (λ (l : List ResourceRecord). l ++ []) h ∙ append-nil c.additional))
 

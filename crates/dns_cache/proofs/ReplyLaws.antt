@@ -6,6 +6,7 @@ use Rattle.dns_message.specs.declared.header.Header.{Header}
 use Rattle.dns_message.specs.declared.question.Question.{Question}
 use Rattle.dns_base.specs.Header.{IsHeader, header_octets, header_of}
 use Rattle.dns_base.specs.Msg.{HasName, IsMessage, Msg}
+use Rattle.dns_base.specs.Replaced.{other_than}
 use Rattle.dns_base.specs.Sections.{message_of, questions_of}
 use Rattle.dns_base.specs.Wire.{question_octets, record_octets, wire}
 use Rattle.dns_opt.specs.OptRecords.{OptState}
@@ -14,13 +15,14 @@ use Rattle.dns_service.specs.LastOpt.{and_opt}
 use Rattle.dns_service.specs.Req.{Req}
 use Rattle.dns_route.specs.ReplyMessage.{ReplyState, reply_message, reply_with_opt}
 use Rattle.dns_cache.specs.Aged.{aged, aged_record, asked_header}
-use Rattle.dns_cache.specs.AskedCache.{Cached, KeptReply, with_used, comes_back, fits_frame, is_whole, may_keep, where_kept}
+use Rattle.dns_cache.specs.AskedCache.{Cached, KeptReply, bare_octets, with_used, comes_back, fits_frame, is_whole, may_keep, where_kept}
 use Rattle.dns_cache.specs.Steps.{used_where}
 use Rattle.dns_cache.specs.Keys.{AskedKey, same_key}
 use Rattle.dns_cache.specs.Marks.{IsKept, IsListed, MarksFit, aged_octets, mark_of, opt_size}
 use Rattle.dns_cache.specs.Ttls.{least_ttl, records_of}
 use Rattle.dns_cache.specs.declared.marks.Mark.{Mark}
 use Rattle.dns_cache.proofs.AgedLaws.{aged_size, marks_fit, records_aged, wire_aged}
+use Rattle.dns_cache.proofs.KeptLaws.{bare_copied, less_by}
 use Rattle.dns_cache.proofs.TypedLaws.{aged_lawful, aged_opt, opt_lawful}
 
 header_same : (o : List ℕ) → header_of o ≡ (message_of o).header
@@ -56,6 +58,13 @@ module _ (o : List ℕ) (start : ℕ) (marks : List Mark) (k : IsKept o start ma
   pub reply_aged : (opt : Option OptState) (request : List ℕ) (age : ℕ) (octets : List ℕ) → octets ≡ wire (aged (message_of o) request age) → IsMessage (aged (message_of o) request age) → reply_message (record { octets = octets; opt = opt }) ≡ Ok (aged (and_opt (message_of o) opt) request age)
   reply_aged opt request age octets e h =
       ap (reply_with_opt opt) (ap copied e ∙ k.copies request age None tt h) ∙ ap (λ (m : Msg). Ok m) (sym (aged_opt (message_of o) opt request age))
+
+  -- those octets are the message at that age without its OPT record
+  pub bare_aged : (opt : Option OptState) (request : List ℕ) (age : ℕ) → IsMessage (aged (message_of o) request age) → wire (aged (message_of o) request age) ≡ bare_octets (aged (and_opt (message_of o) opt) request age)
+  bare_aged opt request age h =
+      let m = aged (message_of o) request age in
+      let b : other_than 41 m.additional ≡ m.additional = bare_copied (wire m) m (k.copies request age None tt h) in
+      sym (ap bare_octets (aged_opt (message_of o) opt request age) ∙ ap wire (less_by m opt b))
 
   pub size_kept : (opt : Option OptState) (q : Question) (request : List ℕ) (age : ℕ) → (questions_of request).0 ≡ q ∷ [] → 12 + length (question_octets q) + (length o - start) + opt_size opt ≡ length (wire (aged (and_opt (message_of o) opt) request age))
   size_kept opt q request age e =

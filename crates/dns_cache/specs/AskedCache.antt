@@ -3,6 +3,7 @@ use Rattle.std.specs.Prelude.{ℕ, ◌≡◌, ◌≤◌, ◌-◌, ◌+◌, ◌*�
 use Rattle.std.specs.Map.{lookup, remove_entry}
 use Rattle.dns_name.specs.declared.error.ParseError.{ParseError}
 use Rattle.dns_base.specs.Msg.{Msg}
+use Rattle.dns_base.specs.Replaced.{other_than}
 use Rattle.dns_base.specs.Wire.{wire}
 use Rattle.dns_opt.specs.OptRecords.{OptState}
 use Rattle.dns_opt.specs.Reopened.{opt_among}
@@ -123,7 +124,11 @@ asked_cache c r k answer = record {
   behind = behind_call c r answer (key_of r.octets) (cached_message c r k (key_of r.octets));
 }
 
--- a reply whose built message this is, or the service's answer
+-- the octets of a message without its OPT record, names uncompressed
+abbrev pub bare_octets : Msg → List ℕ
+bare_octets m = wire (record m { additional = other_than 41 m.additional })
+
+-- a reply whose built message this is, of its octets without the OPT record; or the service's answer
 abbrev pub AnswersCached : Option Msg → TurnAnswer → TurnAnswer → Type 0
 AnswersCached None answer result = result ≡ answer
-AnswersCached (Some m) answer result = (reply : ReplyState) × (result ≡ Ready (Ok reply)) × (reply_message reply ≡ Ok m) × (length (wire m) ≤ 65535)
+AnswersCached (Some m) answer result = (reply : ReplyState) × (result ≡ Ready (Ok reply)) × (reply_message reply ≡ Ok m) × (length (wire m) ≤ 65535) × (reply.octets ≡ bare_octets m)

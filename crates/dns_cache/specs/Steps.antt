@@ -3,19 +3,19 @@ use Rattle.std.specs.Prelude.{ℕ, ◌≡◌, ◌-◌, Option, Some, None, Ok, i
 use Rattle.std.specs.Map.{lookup}
 use Rattle.dns_base.specs.Msg.{Msg}
 use Rattle.dns_route.specs.ReplyMessage.{ReplyState, reply_message}
-use Rattle.dns_cache.specs.AskedCache.{Cached, KeptReply, is_young, with_used}
+use Rattle.dns_cache.specs.AskedCache.{Cached, KeptReply, bare_octets, is_young, with_used}
 use Rattle.dns_cache.specs.Keys.{AskedKey, same_key}
 
 -- the age in s at a request's seconds, where the reply is young
 abbrev pub age_of : KeptReply → ℕ → Option ℕ
 age_of e secs = if is_young e secs then Some (secs - e.secs) else None
 
--- a reply is given whose built message this is, and none where there is none
+-- a reply is given whose built message this is, of its octets without the OPT record, and none where there is none
 abbrev pub GivesMessage : Option Msg → Option ReplyState → Type 0
 GivesMessage None None = Unit {0}
 GivesMessage None (Some reply) = ⊥
 GivesMessage (Some m) None = ⊥
-GivesMessage (Some m) (Some reply) = reply_message reply ≡ Ok m
+GivesMessage (Some m) (Some reply) = (reply_message reply ≡ Ok m) × (reply.octets ≡ bare_octets m)
 
 -- the entry of a key comes first where a reply of it was given
 abbrev pub used_where : Option ReplyState → AskedKey → Cached → Cached

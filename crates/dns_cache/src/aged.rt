@@ -8,7 +8,7 @@ ghost use Rattle.dns_base.specs.Sections.{message_of, questions_of};
 ghost use Rattle.dns_base.specs.Wire.{question_octets, wire};
 ghost use Rattle.dns_route.specs.ReplyMessage.{reply_message};
 ghost use Rattle.dns_cache.specs.Aged.{aged, asked_header};
-ghost use Rattle.dns_cache.specs.AskedCache.{young_message};
+ghost use Rattle.dns_cache.specs.AskedCache.{bare_octets, young_message};
 ghost use Rattle.dns_cache.specs.Steps.{GivesMessage, age_of};
 ghost use Rattle.dns_cache.specs.Keys.{AsksOnce};
 ghost use Rattle.dns_cache.specs.Marks.{IsKept, MarksFit, aged_octets, aged_ttl};
@@ -61,7 +61,8 @@ impl Kept {
         age: u32,
     ) -> Result<ReplyMessage, OutOfMemory>
         requires { (questions_of request.now).0 ≡ question.now ∷ [] }
-        ensures { IfOk result (λ r. reply_message r ≡ Ok (aged self.now.message request.now age)) }
+        ensures message { IfOk result (λ r. reply_message r ≡ Ok (aged self.now.message request.now age)) }
+        ensures octets { IfOk result (λ r. r.octets ≡ bare_octets (aged self.now.message request.now age)) }
     {
         let octets = octets_of(
             alloc,
