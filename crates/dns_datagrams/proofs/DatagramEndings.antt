@@ -84,8 +84,8 @@ module _ {W R F : Type 0} (answer : PolledRequest F R → ℕ → Answer) (answe
   pub goes_first : {w w1 : World} {s s1 : Running W R F} {first : List ℕ} {n : ℕ} → first ≡ n ∷ [] → Turns answer answers n false w s w1 s1 → (rest : List ℕ) → LoopGoes answer answers w s false (first ++ rest) w1 s1 false rest
   goes_first e t rest = rw e (t.goes rest)
 
-  pub goes_next : {w w1 : World} {s s1 : Running W R F} {first rest ns : List ℕ} → ns ≡ first ++ rest → ((others : List ℕ) → LoopGoes answer answers w s false (first ++ others) w1 s1 false others) → LoopGoes answer answers w s false ns w1 s1 false rest
-  goes_next {rest = rest} e t = rw e (t rest)
+  pub goes_next : {w w1 : World} {s s1 : Running W R F} (first : List ℕ) {rest ns : List ℕ} → ns ≡ first ++ rest → ((others : List ℕ) → LoopGoes answer answers w s false (first ++ others) w1 s1 false others) → LoopGoes answer answers w s false ns w1 s1 false rest
+  goes_next first {rest = rest} e t = rw e (t rest)
 
   -- ---- waits and receives
 

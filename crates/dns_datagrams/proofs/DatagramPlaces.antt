@@ -24,6 +24,11 @@ take_first [] others k h = absurd (omega (arith, h))
 take_first (n ∷ ns) others zero h = refl
 take_first (n ∷ ns) others (suc k) h = take_first ns others k (omega (arith, h))
 
+-- the first one goes behind the others, or is kept no more
+others_behind : (done : Bool) (ns : List ℕ) → (others : List ℕ) × (gone_behind done ns ≡ drop 1 ns ++ others)
+others_behind true ns = ([], sym (append-nil (drop 1 ns)))
+others_behind false ns = (take 1 ns, refl)
+
 pub none_left : (ns : List ℕ) (k : ℕ) → length ns ≤ k → drop k ns ≡ []
 none_left ns k h = nil_from_length (drop k ns) (omega (arith, h, length-drop k ns))
 
@@ -67,11 +72,6 @@ module _ {W R F : Type 0} where
 
   pub next_is : (ns : List ℕ) (k : ℕ) (xs : List (KeptExchange W R F)) → k < length ns → StandFirst (drop k ns) xs → drop k ns ≡ take 1 (numbers_of xs) ++ drop (k + 1) ns
   next_is ns k xs h f = rw (f.1, add-one k) (take_first ns f.0 k h)
-
-  -- the first one goes behind the others, or is kept no more
-  others_behind : (done : Bool) (ns : List ℕ) → (others : List ℕ) × (gone_behind done ns ≡ drop 1 ns ++ others)
-  others_behind true ns = ([], sym (append-nil (drop 1 ns)))
-  others_behind false ns = (take 1 ns, refl)
 
   pub stand_behind : (ns : List ℕ) (k : ℕ) (xs ys : List (KeptExchange W R F)) (done : Bool) → k < length ns → StandFirst (drop k ns) xs → numbers_of ys ≡ gone_behind done (numbers_of xs) → StandFirst (drop (k + 1) ns) ys
   stand_behind ns k xs ys done h f g =

@@ -1,6 +1,6 @@
 use Rattle.dns_client.specs.Serving.{serving}
 use Rattle.dns_service.specs.PolledRequest.{request_answer}
-use Rattle.std.proofs.Common.{[], ◌<◌, ◌≤◌, length, append-nil, sym, arith}
+use Rattle.std.proofs.Common.{[], ◌<◌, ◌≤◌, length, take, append-nil, sym, arith}
 use Rattle.dns_datagrams.specs.DatagramSteps.{numbers_of}
 use Rattle.dns_datagrams.proofs.DatagramPlaces.{numbers_length, first_stands, next_is, stand_behind, none_left}
 use Rattle.dns_datagrams.proofs.DatagramTellings.{tells_none, tells_one, tells_two}
@@ -31,7 +31,7 @@ loop-polled-preserved g c =
       order = stand_behind ns c.loop-polled._polled xs _ _ h c.loop-polled.invariant.order c.in-Ok.ensures.order;
       told = tells_two c.loop-polled.invariant.told (rw c.loop-polled.invariant.polls.went.same.service at c.in-Ok.ensures.told.told)
           (λ before t. goes_then (request_answer g.W.Future.ReplyFuture.answer g.W.Stream.ReplyStream.answer) (serving (g.W.Served.answer c.args.self.now.service.now) (g.W.Served.hint c.args.self.now.service.now)) before
-          (goes_next (request_answer g.W.Future.ReplyFuture.answer g.W.Stream.ReplyStream.answer) (serving (g.W.Served.answer c.args.self.now.service.now) (g.W.Served.hint c.args.self.now.service.now)) (next_is ns c.loop-polled._polled xs h c.loop-polled.invariant.order) t));
+          (goes_next (request_answer g.W.Future.ReplyFuture.answer g.W.Stream.ReplyStream.answer) (serving (g.W.Served.answer c.args.self.now.service.now) (g.W.Served.hint c.args.self.now.service.now)) (take 1 (numbers_of xs)) (next_is ns c.loop-polled._polled xs h c.loop-polled.invariant.order) t));
     }
 
 pub returns-in-Err-clause-polls : goal.returns-in-Err-clause-polls
