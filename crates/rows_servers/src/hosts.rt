@@ -5,7 +5,7 @@ ghost use Rattle.std.specs.Arc.{arc_value};
 
 use crate::holding::Holding;
 use crate::links::{Seen, SeenLink, show};
-use crate::places::{accept_of, book_of, calls_listed, letter};
+use crate::places::{accept_of, book_of, calls, letter};
 use crate::servers::Layered;
 use dns_book::{Book, BookSeat};
 use dns_middleware::Settings;
@@ -107,8 +107,8 @@ struct Given {
 
 impl HostCase<'_> {
     fn sock(&self, alloc: Global) -> Result<MemorySock, OutOfMemory> {
-        let receives = calls_listed(alloc, self.failed_receives, &[])?;
-        let sends = calls_listed(alloc, self.failed_sends, &[])?;
+        let receives = calls(alloc, self.failed_receives, &[])?;
+        let sends = calls(alloc, self.failed_sends, &[])?;
         match letters(alloc, self.datagrams) {
             Ok(letters) => Ok(MemorySock::new(alloc, letters, receives, sends)),
             Err(error) => Err(error),

@@ -35,11 +35,7 @@ pub fn clock(alloc: Global) -> MemoryClock {
 pub fn let_go<T: Drop>(_served: T) {}
 
 /// Calls of which these fail and those answer Again.
-pub fn calls_listed(
-    alloc: Global,
-    failing: &[u64],
-    again: &[u64],
-) -> Result<ListedCalls, OutOfMemory> {
+pub fn calls(alloc: Global, failing: &[u64], again: &[u64]) -> Result<ListedCalls, OutOfMemory> {
     Ok(ListedCalls::new(
         Vec::from_slice(alloc, failing)?,
         Vec::from_slice(alloc, again)?,
@@ -64,9 +60,9 @@ pub fn accept_of<R: Wait + Copy + Drop>(
     again: &[u64],
     seen: &mut Vec<Arc<Seen>>,
 ) -> Result<MemoryAccept<SeenLink<R>>, OutOfMemory> {
-    let calls = calls_listed(alloc, failing, again)?;
+    let accepts = calls(alloc, failing, again)?;
     match links_of(rt, alloc, queries, seen) {
-        Ok(links) => Ok(MemoryAccept::new(alloc, links, calls)),
+        Ok(links) => Ok(MemoryAccept::new(alloc, links, accepts)),
         Err(error) => Err(error),
     }
 }
