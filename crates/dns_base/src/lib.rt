@@ -17,8 +17,8 @@ pub use copied_record::CopiedRecord;
 pub use dns_message::{
     ComposeQuestion, Header, HeaderCounts, Message, MessageRef, Question, QuestionIter,
     QuestionRef, Record, RecordData, RecordIter, RecordRef, Sections, data_has_names, first_option,
-    is_option_list, is_plain, messages_read_back, number_at, plain_queries_ask_once, record_in,
-    records_stand, typed_data_reads_back, typed_records_read_back,
+    is_option_list, is_plain, messages_read_back, number_at, plain_queries_ask_once, question_in,
+    record_in, records_stand, typed_data_reads_back, typed_records_read_back,
 };
 pub use dns_name::{
     Addrs, BuildDataError, Class, Classes, Code, ComposeOptData, ExtendedErrorCode,

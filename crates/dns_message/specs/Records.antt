@@ -42,6 +42,10 @@ abbrev pub is_other : Shape → Bool
 is_other Other = true
 is_other _ = false
 
+abbrev pub is_name_alone : Shape → Bool
+is_name_alone OneName = true
+is_name_alone _ = false
+
 -- data as octets, names uncompressed
 abbrev pub data_octets : RecordData → List ℕ
 data_octets (A a) = a
@@ -81,6 +85,10 @@ IsLawful (Unknown t o) = (shape_of t ≡ Other) × (length o ≤ 65535)
 -- data of a type without a shape, none for other types and where the octets are too many
 abbrev pub unknown_data : ℕ → List ℕ → Option RecordData
 unknown_data t o = if nat_lt 65535 (length o) then None else (if is_other (shape_of t) then Some (Unknown t o) else None)
+
+-- data that is one name, none for types whose data isn't
+abbrev pub named_data : ℕ → List (List ℕ) → Option RecordData
+named_data t n = if is_name_alone (shape_of t) then Some (Named t n) else None
 
 -- the data of an OPT record, none where the octets are no option list or too many
 abbrev pub opt_data : List ℕ → Option RecordData

@@ -25,6 +25,6 @@ pub use laws::{messages_read_back, plain_queries_ask_once, records_stand};
 pub use message::{Message, MessageRef, Sections};
 pub use option_list::{first_option, is_option_list};
 pub use plain::{is_plain, plain_questions};
-pub use question::{ComposeQuestion, Question, QuestionIter, QuestionRef};
+pub use question::{ComposeQuestion, Question, QuestionIter, QuestionRef, question_in};
 pub use rdata::RecordData;
 pub use record::{Record, RecordIter, RecordRef, record_in};

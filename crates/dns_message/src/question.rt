@@ -185,12 +185,9 @@ impl<'a> ComposeQuestion for QuestionRef<'a> {
     }
 }
 
-/// The question at a place, and the place behind it.
+/// The question at a place of a message, in octets from its start, and the place behind it (RFC 1035, section 4.1.2).
 #[tactic(auto, unfolding(crate::specs::Read::question_at))]
-pub(crate) fn question_in<'a>(
-    message: &'a [u8],
-    at: usize,
-) -> Result<(QuestionRef<'a>, usize), ParseError>
+pub fn question_in<'a>(message: &'a [u8], at: usize) -> Result<(QuestionRef<'a>, usize), ParseError>
     requires { at ≤ length message.now }
     ensures value { result ≡ question_at message.now at }
     ensures within { IfOk result (λ r. r.1 ≤ length message.now) }

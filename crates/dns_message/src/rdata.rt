@@ -5,7 +5,7 @@ ghost use Rattle.dns_name.specs.Labels.{spell};
 ghost use Rattle.dns_name.specs.Place.{two};
 ghost use Rattle.dns_message.specs.Equality.{data_parts};
 ghost use Rattle.dns_message.specs.Zone.{zone_octets};
-ghost use Rattle.dns_message.specs.Records.{data_octets, data_type, octets_alone, opt_data, shape_of, unknown_data, IsLawful};
+ghost use Rattle.dns_message.specs.Records.{data_octets, data_type, named_data, octets_alone, opt_data, shape_of, unknown_data, IsLawful};
 
 use crate::option_list::is_option_list;
 use crate::write::{push_octets, push_two, settle};
@@ -114,6 +114,17 @@ impl RecordData {
         }
         let octets = Octets::from_vec(octets);
         Some(RecordData::Unknown { rtype, octets })
+    }
+
+    /// Data that is one name; none for a type whose data isn't.
+    pub fn named(rtype: Rtype, name: Name) -> Option<RecordData>
+        ensures value { result ≡ named_data rtype name }
+        ensures lawful { IfSome result IsLawful }
+    {
+        if shape_of(rtype) != Shape::OneName {
+            return None;
+        }
+        Some(RecordData::Named { rtype, name })
     }
 
     /// The data of an OPT record; none where the octets are no option list, or above 65,535 octets.
