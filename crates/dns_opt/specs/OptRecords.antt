@@ -54,11 +54,16 @@ opt_record s = record { owner = []; rtype = 41; class = s.head.size; ttl = 16777
 abbrev pub head_by : ℕ → ℕ → OptHead
 head_by class ttl = record { size = class; ext = ttl / 16777216; version = ttl / 65536 % 256; flags = ttl % 65536 }
 
+-- the OPT record of a head and an option list, none where the octets were refused as one
+abbrev pub opt_with : OptHead → Result (List ℕ) ParseError → Option OptState
+opt_with h (Ok o) = Some (opt_state h o)
+opt_with h (Err e) = None
+
 abbrev pub from_data : OptHead → RecordData → Option OptState
-from_data h (OptList o) = Some (opt_state h o)
+from_data h (OptList o) = opt_with h (option_list o)
 from_data h _ = None
 
--- the OPT record that a record is, none where its type is another
+-- the OPT record that a record is, none where its type is another or its data is no option list
 abbrev pub from_record : Record → Option OptState
 from_record r = from_data (head_by r.class r.ttl) r.rdata
 

@@ -53,9 +53,8 @@ pub(crate) fn head_by(class: Class, ttl: Ttl) -> OptHeader
     }
 }
 
-/// The OPT record of a head and the data of a record; none where the data is of another type.
+/// The OPT record of a head and the data of a record; none where the data is of another type, or no option list.
 fn from_data(head: OptHeader, rdata: RecordData) -> Option<OptRecord>
-    requires { IsLawful rdata }
     ensures { result ≡ from_data head rdata }
 {
     match rdata {
@@ -115,9 +114,8 @@ impl OptRecord {
         }
     }
 
-    /// The OPT record that a record is; none where its type is another.
+    /// The OPT record that a record is; none where its type is another, or its data no option list.
     pub fn from_record(source: Record) -> Option<OptRecord>
-        requires { IsLawful source.rdata }
         ensures { result ≡ from_record source }
     {
         from_data(head_by(source.class, source.ttl), source.rdata)

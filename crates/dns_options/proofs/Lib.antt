@@ -1,3 +1,1 @@
-mod ItemLaws
-mod JoinedLaws
 mod Lists

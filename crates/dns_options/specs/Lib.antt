@@ -9,9 +9,9 @@ pub use Rattle.dns_message.specs.Options
 pub use Rattle.dns_name.specs.Labels
 pub use Rattle.dns_name.specs.OptData
 pub use Rattle.dns_name.specs.Place
-pub mod OptionHeads
-pub mod Items
-pub mod Joined
+pub use Rattle.dns_option_list.specs.Items
+pub use Rattle.dns_option_list.specs.Joined
+pub use Rattle.dns_option_list.specs.OptionHeads
+pub use Rattle.dns_option_list.specs.Writes
 pub mod Pushes
-pub mod Writes
 pub mod All

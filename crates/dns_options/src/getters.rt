@@ -8,7 +8,7 @@ ghost use Rattle.dns_kinds.specs.Extended.{extended_data};
 ghost use Rattle.dns_kinds.specs.Subnet.{subnet_data};
 ghost use Rattle.dns_kinds.specs.Timers.{expire_data, keepalive_data};
 ghost use Rattle.dns_cookie.specs.CookieData.{cookie_data};
-ghost use Rattle.dns_options.specs.Items.{first_ok, items_of};
+ghost use Rattle.dns_option_list.specs.Items.{first_ok, items_of};
 
 use crate::list::OptRef;
 use crate::opt::Opt;

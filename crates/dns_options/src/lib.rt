@@ -3,11 +3,8 @@
 
 mod all;
 mod getters;
-mod iter;
-mod laws;
 mod list;
 mod opt;
-mod option_header;
 
 pub use all::AllOptData;
 pub use dns_algs::{
@@ -23,8 +20,8 @@ pub use dns_lists::{
     UnknownOptDataRef,
 };
 pub use dns_name::{BuildDataError, ComposeOptData, LongOptData, OptData, ParseOptData, ReadBack};
-pub use iter::OptIter;
-pub use laws::{lists_are_joined_options, push_adds_one_pair};
+pub use dns_option_list::{
+    OptIter, OptionHeader, lists_are_joined_options, push_adds_one_pair, written_by,
+};
 pub use list::{HeldOpt, OptRef};
-pub use opt::{Opt, written_by};
-pub use option_header::OptionHeader;
+pub use opt::Opt;

@@ -6,12 +6,12 @@ ghost use Rattle.std.specs.Ordering.{nat_cmp};
 ghost use Rattle.dns_name.specs.OptData.{ParsesData};
 ghost use Rattle.dns_name.specs.Place.{rest};
 ghost use Rattle.dns_message.specs.Options.{IsOptionList, option_list};
-ghost use Rattle.dns_options.specs.Items.{first_ok, items_of, list_taken};
+ghost use Rattle.dns_option_list.specs.Items.{first_ok, items_of, list_taken};
 
-use crate::iter::OptIter;
 use crate::opt::Opt;
 use dns_message::is_option_list;
 use dns_name::{FormReason, Held, HoldsOctets, OutOfMemory, ParseError, ParseOptData, Parser};
+use dns_option_list::OptIter;
 use std::alloc::Global;
 use std::cmp::Ordering;
 use std::fmt;

@@ -1,6 +1,6 @@
 use Rattle.std.proofs.Common.{◌≡◌, sym, ◌∙◌, rules}
 use Rattle.dns_options.specs.declared.all.AllOptData.TheVariants.{Cookie}
-use Rattle.dns_options.proofs.ItemLaws.{refused_mapped}
+use Rattle.dns_option_list.proofs.ItemLaws.{refused_mapped}
 use Rattle.dns_options.proofs.all.AllOptDataParseOptData.parse_option.Goals as goal
 
 pub returns-in_err-parse-in-10 : goal.returns-in_err-parse-in-10

@@ -1,7 +1,7 @@
 use Rattle.std.proofs.Common.{◌≡◌, length}
 use Rattle.dns_message.specs.Options.{IsOptionList}
-use Rattle.dns_options.specs.Items.{items_of}
-use Rattle.dns_options.proofs.iter.next_of.Given as goal
+use Rattle.dns_option_list.specs.Items.{items_of}
+use Rattle.dns_option_list.proofs.iter.next_of.Given as goal
 
 abbrev pub invariant-walk : goal.invariant-walk
 invariant-walk g l = record {

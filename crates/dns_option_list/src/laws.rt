@@ -3,7 +3,7 @@
 ghost use Rattle.std.specs.Prelude.{◌≡◌, ◌<◌, ◌∷◌, ◌++◌, [], ◌↔◌, ℕ, List, Some};
 ghost use Rattle.std.specs.List.{All};
 ghost use Rattle.dns_message.specs.Options.{IsOptionList, option_octets, options};
-ghost use Rattle.dns_options.specs.Joined.{options_octets};
+ghost use Rattle.dns_option_list.specs.Joined.{options_octets};
 
 /// One option more is one pair of code and data more, as the last.
 pub fn push_adds_one_pair()

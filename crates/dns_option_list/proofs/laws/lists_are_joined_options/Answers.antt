@@ -1,5 +1,5 @@
-use Rattle.dns_options.proofs.JoinedLaws.{list_joined, options_joined}
-use Rattle.dns_options.proofs.laws.lists_are_joined_options.Goals as goal
+use Rattle.dns_option_list.proofs.JoinedLaws.{list_joined, options_joined}
+use Rattle.dns_option_list.proofs.laws.lists_are_joined_options.Goals as goal
 
 pub returns-clause-options : goal.returns-clause-options
 returns-clause-options c = options_joined

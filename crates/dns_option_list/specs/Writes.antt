@@ -1,5 +1,5 @@
 -- What a writer writes.
-use Rattle.std.specs.Prelude.{◌≡◌, ℕ, ⊤, List, [], Result, Ok}
+use Rattle.std.specs.Prelude.{◌≡◌, ◌≢◌, ℕ, ⊤, List, [], length, Result, Ok, Err}
 use Rattle.std.specs.Fn.{Once}
 use Rattle.std.specs.Borrow.{MutBor}
 use Rattle.std.specs.declared.vec.Vec.{Vec}
@@ -13,3 +13,8 @@ pub record Writes {F : Type 0} (g : Once F (MutBor (Vec ℕ Global) × Unit {0})
   pub left : MutBor (Vec ℕ Global)
   pub met : g.post f (shown, tt) (Ok tt, (left, tt))
   pub leaves : left.now.items ≡ d
+
+-- what was written, as many octets as were stated, or another number of them
+abbrev pub WroteStated : (List ℕ → Type 0) → ℕ → Result (Vec ℕ Global) (Vec ℕ Global) → Type 0
+WroteStated writes n (Ok v) = writes v.items × (length v.items ≡ n)
+WroteStated writes n (Err v) = writes v.items × (length v.items ≢ n)

@@ -3,7 +3,7 @@
 ghost use Rattle.std.specs.Prelude.{◌≡◌, ◌+◌, ◌*◌};
 ghost use Rattle.dns_name.specs.OptData.{ParsesData};
 ghost use Rattle.dns_name.specs.Place.{rest};
-ghost use Rattle.dns_options.specs.OptionHeads.{option_head};
+ghost use Rattle.dns_option_list.specs.OptionHeads.{option_head};
 
 use dns_name::{OptionCode, ParseError, Parser};
 use std::marker::Model;
@@ -16,7 +16,7 @@ pub struct OptionHeader {
 }
 
 impl Model for OptionHeader {
-    ghost use Rattle.dns_options.specs.OptionHeads.{OptionHead};
+    ghost use Rattle.dns_option_list.specs.OptionHeads.{OptionHead};
 
     ghost Value = { OptionHead };
 

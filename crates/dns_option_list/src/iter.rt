@@ -3,7 +3,7 @@
 ghost use Rattle.std.specs.Prelude.{◌≡◌, ⊤};
 ghost use Rattle.dns_name.specs.OptData.{kind};
 ghost use Rattle.dns_message.specs.Options.{IsOptionList};
-ghost use Rattle.dns_options.specs.Items.{NextItem, items_of};
+ghost use Rattle.dns_option_list.specs.Items.{NextItem, items_of};
 
 use dns_message::first_option;
 use dns_name::{FormReason, OptionCode, ParseError, ParseOptData, Parser};
@@ -81,7 +81,8 @@ impl<'a, D> Clone for OptIter<'a, D> {
 }
 
 impl<'a, D: ParseOptData<'a> + Drop> OptIter<'a, D> {
-    pub(crate) fn of(octets: &'a [u8]) -> OptIter<'a, D>
+    /// The options of octets that are a list.
+    pub fn of(octets: &'a [u8]) -> OptIter<'a, D>
         requires { IsOptionList octets.now }
         ensures { result ≡ octets.now }
     {
@@ -97,7 +98,7 @@ impl<'a, D: ParseOptData<'a> + Drop> Iterator for OptIter<'a, D> {
 
     ghost use Rattle.std.specs.Iterator.{at_most};
     ghost use Rattle.std.specs.Prelude.{length};
-    ghost use Rattle.dns_options.specs.Items.{NextItem, items_of};
+    ghost use Rattle.dns_option_list.specs.Items.{NextItem, items_of};
 
     ghost next_gives = { λ s r t. NextItem (items_of D.takes s) r (items_of D.takes t) };
 

@@ -7,7 +7,7 @@ use Rattle.dns_name.specs.Place.{Place}
 use Rattle.dns_name.specs.OptData.{Taken, ParsesData, ParsesOption, mapped_data, kind}
 use Rattle.dns_message.specs.Options.{first_option, options, IsOptionList}
 use Rattle.dns_message.proofs.OptionLaws.{options_some, options_empty, list_step, none_empty}
-use Rattle.dns_options.specs.Items.{with_item, items, items_of}
+use Rattle.dns_option_list.specs.Items.{with_item, items, items_of}
 
 items_map : {X : Type 0} (t : ℕ → List ℕ → Option (Taken X)) (c : ℕ) (d : List ℕ) (x : Option (List (ℕ × List ℕ))) → is_some x ≡ true → items t (unwrap_or (option_map (λ ps. (c, d) ∷ ps) x) []) ≡ with_item (kind t c d) (items t (unwrap_or x []))
 items_map t c d None h = cc

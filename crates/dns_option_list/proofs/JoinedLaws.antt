@@ -9,7 +9,7 @@ use Rattle.std.specs.Prelude.{is_some, option_map}
 use Rattle.dns_name.specs.Place.{be16}
 use Rattle.dns_message.specs.Options.{first_option, options, option_octets, split_at, IsOptionList}
 use Rattle.dns_message.proofs.OptionLaws.{append_first, first_of_one, first_shorter, map_some, options_append, options_empty, options_none, options_some, shown, some_of}
-use Rattle.dns_options.specs.Joined.{options_octets}
+use Rattle.dns_option_list.specs.Joined.{options_octets}
 
 abbrev Octets : List ℕ → Type 0
 Octets o = All (λ x. x < 256) o

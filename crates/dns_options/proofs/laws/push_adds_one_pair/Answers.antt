@@ -1,5 +1,0 @@
-use Rattle.dns_options.proofs.JoinedLaws.{one_more}
-use Rattle.dns_options.proofs.laws.push_adds_one_pair.Goals as goal
-
-pub returns : goal.returns
-returns c = one_more
