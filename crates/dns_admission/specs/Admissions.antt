@@ -1,10 +1,10 @@
 -- When each answer of a book comes, by the state that the call meets. The cases exclude each other.
 use Rattle.std.specs.Prelude.{◌≡◌, ℕ, ◌+◌, ◌<◌, ◌≤◌, ◌⊎◌, true, false, Result, Ok, Err}
-use Rattle.dns_service.specs.declared.error.Error.{Error}
-use Rattle.dns_service.specs.declared.error.Error.TheVariants.{CommandCouldNotBeSent}
-use Rattle.dns_admission.specs.declared.look.Look.{Look as State}
-use Rattle.dns_admission.specs.declared.look.Admission.{Admission}
-use Rattle.dns_admission.specs.declared.look.Admission.TheVariants.{Admitted, Full, Closed}
+use Rattle.dns_events.specs.declared.error.Error.{Error}
+use Rattle.dns_events.specs.declared.error.Error.TheVariants.{CommandCouldNotBeSent}
+use Rattle.dns_events.specs.declared.look.Look.{Look as State}
+use Rattle.dns_admission.specs.declared.admission.Admission.{Admission}
+use Rattle.dns_admission.specs.declared.admission.Admission.TheVariants.{Admitted, Full, Closed}
 use Rattle.dns_admission.specs.Machine.{limit_of, last_version, admitted}
 
 -- Admitted: open, with a free slot. Full: open, with none. Closed: closed

@@ -1,10 +1,10 @@
 -- The machine of a book: of a state and a call the reply, and the state afterwards.
 -- A state is what a look shows: version, whether closed, slots taken, and both configurations.
 use Rattle.std.specs.Prelude.{ℕ, ◌+◌, ◌-◌, ◌^◌, Bool, true, false, nat_lt, if◌then◌else◌, Ok, Err}
-use Rattle.dns_service.specs.Config.{Dgram, Stream}
-use Rattle.dns_service.specs.declared.error.Error.TheVariants.{CommandCouldNotBeSent}
-use Rattle.dns_admission.specs.declared.look.Look.{Look as State}
-use Rattle.dns_admission.specs.declared.look.Admission.TheVariants.{Admitted, Full, Closed}
+use Rattle.dns_events.specs.Config.{Dgram, Stream}
+use Rattle.dns_events.specs.declared.error.Error.TheVariants.{CommandCouldNotBeSent}
+use Rattle.dns_events.specs.declared.look.Look.{Look as State}
+use Rattle.dns_admission.specs.declared.admission.Admission.TheVariants.{Admitted, Full, Closed}
 use Rattle.dns_admission.specs.declared.call.Call.{Call}
 use Rattle.dns_admission.specs.declared.call.Call.TheVariants.{Admit, Release, Reconfigure, Shutdown, Look}
 use Rattle.dns_admission.specs.declared.call.Reply.{Reply}

@@ -1,7 +1,7 @@
 //! The five calls of a book as values, and their replies.
 
-use crate::look::{Admission, Look};
-use dns_service::{DgramConfig, Error, StreamConfig};
+use crate::admission::Admission;
+use dns_events::{DgramConfig, Error, Look, StreamConfig};
 
 /// A call of a book.
 #[derive(Clone, Copy, Debug, PartialEq, Eq)]

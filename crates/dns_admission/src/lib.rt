@@ -2,10 +2,11 @@
 //! that one thread keeps.
 #![tactic(auto)]
 
+mod admission;
 mod call;
-mod look;
 mod state;
 
+pub use admission::Admission;
 pub use call::{Call, Reply};
-pub use look::{Admission, Look};
+pub use dns_events::Look;
 pub use state::BookState;

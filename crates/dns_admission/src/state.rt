@@ -3,9 +3,9 @@ ghost use Rattle.std.specs.Prelude.{◌≡◌};
 ghost use Rattle.dns_admission.specs.Machine.{state_after, reply_of, new_state, resumed_state};
 ghost use Rattle.dns_admission.specs.Admissions.{Admits, Reconfigures};
 
+use crate::admission::Admission;
 use crate::call::{Call, Reply};
-use crate::look::{Admission, Look};
-use dns_service::{DgramConfig, Error, StreamConfig};
+use dns_events::{DgramConfig, Error, Look, StreamConfig};
 use std::marker::Model;
 
 /// A book for one thread. In clauses it is what a look at it shows.
@@ -15,7 +15,7 @@ pub struct BookState {
 }
 
 impl Model for BookState {
-    ghost use Rattle.dns_admission.specs.declared.look.Look.{Look as TheLook};
+    ghost use Rattle.dns_events.specs.declared.look.Look.{Look as TheLook};
 
     ghost Value = { TheLook };
 

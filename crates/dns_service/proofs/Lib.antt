@@ -1,6 +1,3 @@
-mod ErrorReplies
-mod AddedOptions
 pub mod CopyLaws
 pub mod LastOpts
-mod CutLaws
 mod AskedLaws

@@ -58,3 +58,10 @@ GivesAll (Ok v) read = read ≡ Ok v.items
 GivesAll (Err NoMemory) read = Unit {0}
 GivesAll (Err ShortInput) read = read ≡ Err ShortInput
 GivesAll (Err (Form f)) read = read ≡ Err (Form f)
+
+-- the same, with the place behind what is read
+abbrev pub GivesSection : {A : Type 0} → Result (Vec A Global × ℕ) ParseError → Result (List A) ParseError → Result ℕ ParseError → Type 0
+GivesSection (Ok s) read end = (read ≡ Ok s.0.items) × (end ≡ Ok s.1)
+GivesSection (Err NoMemory) read end = Unit {0}
+GivesSection (Err ShortInput) read end = read ≡ Err ShortInput
+GivesSection (Err (Form f)) read end = read ≡ Err (Form f)

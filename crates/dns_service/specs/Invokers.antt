@@ -3,7 +3,7 @@
 use Rattle.std.specs.Prelude.{ℕ, List, Option, Some, None, Ok, Err}
 use Rattle.dns_base.specs.Msg.{Msg}
 use Rattle.dns_service.specs.Answer.{Answer, Item}
-use Rattle.dns_service.specs.ErrorReply.{error_reply}
+use Rattle.dns_replies.specs.ErrorReply.{error_reply}
 use Rattle.dns_service.specs.Errors.{rcode_of}
 use Rattle.dns_service.specs.declared.invoker.Dispatched.{Dispatched}
 use Rattle.dns_service.specs.declared.invoker.Dispatched.TheVariants as dispatched

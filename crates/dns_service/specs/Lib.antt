@@ -9,6 +9,11 @@ pub use Rattle.dns_cookie.specs.CookieData
 pub use Rattle.dns_opt.specs.Drafts
 pub use Rattle.dns_opt.specs.Reopened
 pub use Rattle.dns_opt.specs.OptRecords
+pub use Rattle.dns_replies.specs.ErrorReply
+pub use Rattle.dns_replies.specs.WithOption
+pub use Rattle.dns_replies.specs.OptIn
+pub use Rattle.dns_replies.specs.Cut
+pub use Rattle.dns_events.specs.Config
 pub mod OptItems
 pub mod Asked
 pub mod Transport
@@ -17,13 +22,8 @@ pub mod Given
 pub mod Answer
 pub mod Errors
 pub mod ReplyErrors
-pub mod ErrorReply
-pub mod WithOption
-pub mod OptIn
-pub mod Cut
 pub mod Invokers
 pub mod Lending
-pub mod Config
 pub mod Once
 pub mod PolledRequest
 pub mod ServiceFn

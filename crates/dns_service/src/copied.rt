@@ -1,19 +1,20 @@
 //! Messages that are copied, their names uncompressed.
 
-ghost use Rattle.std.specs.Prelude.{◌≡◌};
+ghost use Rattle.std.specs.Prelude.{◌≡◌, ◌≤◌, length, IfOk};
 ghost use Rattle.std.specs.Option.{option_copied};
 ghost use Rattle.dns_base.specs.Builds.{Builds, unlimited};
 ghost use Rattle.dns_base.specs.Header.{header_of};
+ghost use Rattle.dns_base.specs.Read.{question_at};
 ghost use Rattle.dns_base.specs.Replaced.{other_than};
-ghost use Rattle.dns_base.specs.Sections.{all_of, questions_of, standing_additional, standing_answers, standing_authority};
-ghost use Rattle.dns_base.specs.Standing.{GivesParsed};
-ghost use Rattle.dns_service.specs.Copied.{GivesAll, copied, copied_item, copied_records, gathered, others_of, whole_list};
+ghost use Rattle.dns_base.specs.Sections.{additional_of, all_of, answers_of, authority_of, items_from, questions_of, standing_additional, standing_answers, standing_authority};
+ghost use Rattle.dns_base.specs.Standing.{GivesParsed, record_at, standing_at};
+ghost use Rattle.dns_service.specs.Copied.{GivesAll, GivesSection, copied, copied_records, gathered, others_of, whole_list};
 ghost use Rattle.dns_service.specs.LastOpt.{and_opt};
 
 use crate::last_opt::opt_built;
 use dns_base::{
-    AdditionalBuilder, CopiedRecord, Header, MessageRef, ParseError, PushError, Question,
-    QuestionRef, RecordIter, RecordRef, Rtype, assemble,
+    AdditionalBuilder, CopiedRecord, Header, MessageRef, ParseError, PushError, Question, Rtype,
+    assemble, number_at, question_in, record_in,
 };
 use dns_opt::OptRecord;
 use std::alloc::Global;
@@ -44,27 +45,31 @@ impl Model for CopiedMessage {
 }
 
 impl CopiedMessage {
-    /// Reads a message from its front; refused as the first question, record or data that is unreadable.
+    /// Reads a message from its front, each section from where the one before it ends; refused as the first question,
+    /// record or data that is unreadable.
     #[tactic(auto, unfolding(crate::specs::Copied::copied))]
     pub fn read(alloc: Global, message: &MessageRef<'_>) -> Result<CopiedMessage, ParseError>
         ensures { GivesParsed result (copied message.now) }
     {
-        let questions = questions_in(alloc, message)?;
-        let answers = answers_in(alloc, message)?;
-        Self::read_on(alloc, message, questions, answers)
+        let (questions, at) = questions_in(alloc, message)?;
+        let (answers, at) = answers_in(alloc, message, at)?;
+        Self::read_on(alloc, message, questions, answers, at)
     }
 
-    /// Reads the sections behind the answers.
+    /// Reads the sections behind the answers, which end at a place.
     fn read_on(
         alloc: Global,
         message: &MessageRef<'_>,
         questions: Vec<Question>,
         answers: Vec<CopiedRecord>,
+        at: usize,
     ) -> Result<CopiedMessage, ParseError>
+        requires within { at ≤ length message.now }
+        requires here { (answers_of message.now).1 ≡ Ok at }
         ensures { GivesParsed result (gathered (header_of message.now) (Ok questions.items) (Ok answers.items) (copied_records (all_of (standing_authority message.now))) (others_of (copied_records (all_of (standing_additional message.now))))) }
     {
-        let authority = authority_in(alloc, message)?;
-        let additional = others_in(alloc, message)?;
+        let (authority, at) = authority_in(alloc, message, at)?;
+        let additional = others_in(alloc, message, at)?;
         Ok(CopiedMessage {
             header: message.header(),
             questions,
@@ -108,82 +113,123 @@ impl CopiedMessage {
     }
 }
 
-/// The questions of a message.
-fn questions_in(alloc: Global, message: &MessageRef<'_>) -> Result<Vec<Question>, ParseError>
-    ensures { GivesAll result (whole_list (all_of (questions_of message.now))) }
+/// The questions of a message, and the place behind them.
+fn questions_in(
+    alloc: Global,
+    message: &MessageRef<'_>,
+) -> Result<(Vec<Question>, usize), ParseError>
+    ensures value { GivesSection result (whole_list (all_of (questions_of message.now))) (questions_of message.now).1 }
+    ensures within { IfOk result (λ r. r.1 ≤ length message.now) }
 {
-    let mut left = message.question();
+    let octets = message.as_slice();
+    questions_from(alloc, octets, 12, number_at(octets, 4))
+}
+
+/// So many questions from a place on, and the place behind them.
+#[tactic(auto, using(crate::proofs::CopyLaws::question_gives))]
+fn questions_from(
+    alloc: Global,
+    message: &[u8],
+    start: usize,
+    count: u16,
+) -> Result<(Vec<Question>, usize), ParseError>
+    requires { start ≤ length message.now }
+    ensures value { GivesSection result (whole_list (all_of (items_from (question_at message.now) count start))) (items_from (question_at message.now) count start).1 }
+    ensures within { IfOk result (λ r. r.1 ≤ length message.now) }
+{
     let mut questions = Vec::new(alloc);
-    'each: while let Some(item) = left.next() {
-        let question = owned_question(alloc, item)?;
+    let mut at = start;
+    let mut left = count;
+    'each: while left > 0 {
+        let (item, end) = question_in(message, at)?;
+        let question = item.to_question(alloc)?;
         questions.push(question)?;
+        at = end;
+        left -= 1;
     }
-    Ok(questions)
+    Ok((questions, at))
 }
 
-/// A question that a section gives, owned.
-fn owned_question(
+/// So many records from a place on, copied, and the place behind them.
+#[tactic(auto, using(crate::proofs::CopyLaws::record_gives, crate::proofs::CopyLaws::record_next, crate::proofs::CopyLaws::data_refused))]
+fn records_from(
     alloc: Global,
-    item: Result<QuestionRef<'_>, ParseError>,
-) -> Result<Question, ParseError>
-    ensures { GivesParsed result item.entry }
+    message: &[u8],
+    start: usize,
+    count: u16,
+) -> Result<(Vec<CopiedRecord>, usize), ParseError>
+    requires { start ≤ length message.now }
+    ensures value { GivesSection result (copied_records (all_of (items_from (standing_at message.now) count start))) (items_from (record_at message.now) count start).1 }
+    ensures within { IfOk result (λ r. r.1 ≤ length message.now) }
 {
-    let question = item?.to_question(alloc)?;
-    Ok(question)
-}
-
-/// The records that a section gives.
-fn records_in(alloc: Global, items: RecordIter<'_>) -> Result<Vec<CopiedRecord>, ParseError>
-    ensures { GivesAll result (copied_records items.entry) }
-{
-    let mut left = items;
     let mut records = Vec::new(alloc);
-    'each: while let Some(item) = left.next() {
-        let record = copied_record(alloc, item)?;
-        records.push(record)?;
+    let mut at = start;
+    let mut left = count;
+    'each: while left > 0 {
+        let (item, end) = record_in(message, at)?;
+        let copy = CopiedRecord::read(alloc, &item)?;
+        records.push(copy)?;
+        at = end;
+        left -= 1;
     }
-    Ok(records)
+    Ok((records, at))
 }
 
-/// A record that a section gives, copied.
-fn copied_record(
+/// The answer records of a message, which begin at a place, and the place behind them.
+fn answers_in(
     alloc: Global,
-    item: Result<RecordRef<'_>, ParseError>,
-) -> Result<CopiedRecord, ParseError>
-    ensures { GivesParsed result (copied_item item.entry) }
+    message: &MessageRef<'_>,
+    at: usize,
+) -> Result<(Vec<CopiedRecord>, usize), ParseError>
+    requires within { at ≤ length message.now }
+    requires here { (questions_of message.now).1 ≡ Ok at }
+    ensures value { GivesSection result (copied_records (all_of (standing_answers message.now))) (answers_of message.now).1 }
+    ensures within { IfOk result (λ r. r.1 ≤ length message.now) }
 {
-    CopiedRecord::read(alloc, &item?)
+    let octets = message.as_slice();
+    records_from(alloc, octets, at, number_at(octets, 6))
 }
 
-/// The answer records of a message.
-#[tactic(auto, using(crate::proofs::CopyLaws::reached_records))]
-fn answers_in(alloc: Global, message: &MessageRef<'_>) -> Result<Vec<CopiedRecord>, ParseError>
-    ensures { GivesAll result (copied_records (all_of (standing_answers message.now))) }
+/// The authority records of a message, which begin at a place, and the place behind them.
+fn authority_in(
+    alloc: Global,
+    message: &MessageRef<'_>,
+    at: usize,
+) -> Result<(Vec<CopiedRecord>, usize), ParseError>
+    requires within { at ≤ length message.now }
+    requires here { (answers_of message.now).1 ≡ Ok at }
+    ensures value { GivesSection result (copied_records (all_of (standing_authority message.now))) (authority_of message.now).1 }
+    ensures within { IfOk result (λ r. r.1 ≤ length message.now) }
 {
-    records_in(alloc, message.answer()?)
+    let octets = message.as_slice();
+    records_from(alloc, octets, at, number_at(octets, 8))
 }
 
-/// The authority records of a message.
-#[tactic(auto, using(crate::proofs::CopyLaws::reached_records))]
-fn authority_in(alloc: Global, message: &MessageRef<'_>) -> Result<Vec<CopiedRecord>, ParseError>
-    ensures { GivesAll result (copied_records (all_of (standing_authority message.now))) }
+/// The additional records of a message, which begin at a place, and the place behind them.
+fn additional_in(
+    alloc: Global,
+    message: &MessageRef<'_>,
+    at: usize,
+) -> Result<(Vec<CopiedRecord>, usize), ParseError>
+    requires within { at ≤ length message.now }
+    requires here { (authority_of message.now).1 ≡ Ok at }
+    ensures { GivesSection result (copied_records (all_of (standing_additional message.now))) (additional_of message.now).1 }
 {
-    records_in(alloc, message.authority()?)
+    let octets = message.as_slice();
+    records_from(alloc, octets, at, number_at(octets, 10))
 }
 
-/// The additional records of a message.
-#[tactic(auto, using(crate::proofs::CopyLaws::reached_records))]
-fn additional_in(alloc: Global, message: &MessageRef<'_>) -> Result<Vec<CopiedRecord>, ParseError>
-    ensures { GivesAll result (copied_records (all_of (standing_additional message.now))) }
-{
-    records_in(alloc, message.additional()?)
-}
-
-/// The additional records of a message, without those of type OPT.
-fn others_in(alloc: Global, message: &MessageRef<'_>) -> Result<Vec<CopiedRecord>, ParseError>
+/// The additional records of a message, which begin at a place, without those of type OPT.
+fn others_in(
+    alloc: Global,
+    message: &MessageRef<'_>,
+    at: usize,
+) -> Result<Vec<CopiedRecord>, ParseError>
+    requires within { at ≤ length message.now }
+    requires here { (authority_of message.now).1 ≡ Ok at }
     ensures { GivesAll result (others_of (copied_records (all_of (standing_additional message.now)))) }
 {
-    let mut records = additional_in(alloc, message)?;
+    let (mut records, _) = additional_in(alloc, message, at)?;
     drop_opts(&mut records);
     Ok(records)
 }

@@ -4,10 +4,10 @@ ghost use Rattle.std.specs.Prelude.{◌≡◌, ℕ, suc, IfOk, OnErr, OnOk};
 ghost use Rattle.dns_service.specs.Given.{message_in};
 ghost use Rattle.dns_service.specs.Invokers.{Invoking, dispatched_by, after_answer, after_feedback, after_item, reply_in};
 
-use crate::reply::mk_error_response;
 use crate::service::{Polled, ReplyStream, ServiceFeedback, ServiceResult};
 use dns_base::{AdditionalBuilder, Message};
 use dns_name::{OptRcode, OutOfMemory};
+use dns_replies::mk_error_response;
 use std::alloc::Global;
 
 /// How far a request is, for the connection that it came from.

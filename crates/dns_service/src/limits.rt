@@ -1,13 +1,13 @@
 //! How many octets a reply may take.
 
 ghost use Rattle.std.specs.Prelude.{◌≡◌, ◌≤◌, OnErr, OnOk};
-ghost use Rattle.dns_service.specs.Cut.{sized};
+ghost use Rattle.dns_replies.specs.Cut.{sized};
 ghost use Rattle.dns_service.specs.Transport.{limit, limit_over};
 
-use crate::cutting::cut;
 use crate::message::TransportSpecificContext;
 use dns_base::AdditionalBuilder;
 use dns_name::OutOfMemory;
+use dns_replies::cut;
 use std::alloc::Global;
 
 /// The least size in octets that a response over UDP may take (RFC 1035, section 4.2.1).

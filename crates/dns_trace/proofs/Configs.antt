@@ -1,7 +1,7 @@
 -- The words of configurations in range read back.
 use Rattle.std.proofs.Common.{◌≡◌, ℕ, ◌+◌, ◌<◌, ◌^◌, true, false, Bool, List, [], ◌∷◌, ◌++◌, Option, Some, None, refl, ap, arith}
 use Rattle.std.specs.Prelude.{IfSome, Ok, decimal}
-use Rattle.dns_service.specs.Config.{Connection, Dgram, IsBetween, IsBudget, IsConnection, IsDgram, IsResponseSize, IsStream, Stream, in_range, limited_budget, limited_size}
+use Rattle.dns_events.specs.Config.{Connection, Dgram, IsBetween, IsBudget, IsConnection, IsDgram, IsResponseSize, IsStream, Stream, in_range, limited_budget, limited_size}
 use Rattle.dns_trace.proofs.Decimals.{count_back, decimal_word, num_back, number_or_none_word, size_back}
 use Rattle.dns_trace.proofs.Joined.{AreWords, IsWord}
 use Rattle.dns_trace.specs.BudgetLine.{budget_values, budgeted}

@@ -3,10 +3,10 @@ use Rattle.std.proofs.Common.{◌≡◌, ℕ, ◌<◌, ◌^◌, List, [], ◌∷
 use Rattle.std.specs.Prelude.{Ok, codes, decimal}
 use Rattle.hex.specs.Hex.{IsBytes}
 use Rattle.dns_name.specs.declared.address.SocketAddr.{SocketAddr}
-use Rattle.dns_service.specs.Config.{Dgram, IsDgram, IsStream, Stream}
-use Rattle.dns_service.specs.declared.event.Event.{Event}
-use Rattle.dns_service.specs.declared.event.EventKind.{EventKind}
-use Rattle.dns_service.specs.declared.event.EventKind.TheVariants.{Datagram, Turn, Offer, Piece, End, Fault, Close, Write, Tick, Release, Reconfigure, Shutdown}
+use Rattle.dns_events.specs.Config.{Dgram, IsDgram, IsStream, Stream}
+use Rattle.dns_events.specs.declared.event.Event.{Event}
+use Rattle.dns_events.specs.declared.event.EventKind.{EventKind}
+use Rattle.dns_events.specs.declared.event.EventKind.TheVariants.{Datagram, Turn, Offer, Piece, End, Fault, Close, Write, Tick, Release, Reconfigure, Shutdown}
 use Rattle.dns_trace.proofs.Addresses.{addr_back, address_is_word}
 use Rattle.dns_trace.proofs.Configs.{budget_are_words, budget_back, budget_of, budgeted_back, dgram_are_words, dgram_back, stream_are_words, stream_back, words_append}
 use Rattle.dns_trace.proofs.Decimals.{decimal_word, num_back, port_back}

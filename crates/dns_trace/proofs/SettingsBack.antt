@@ -4,7 +4,7 @@ use Rattle.std.specs.Prelude.{IfSome, Ok, codes}
 use Rattle.std.specs.List.{AllByRecursion}
 use Rattle.std.proofs.lemmas.List.Elements.{recursion_from_All}
 use Rattle.dns_name.specs.declared.address.IpAddr.{IpAddr}
-use Rattle.dns_service.specs.Config.{Dgram, IsDgram, IsStream, Stream}
+use Rattle.dns_events.specs.Config.{Dgram, IsDgram, IsStream, Stream}
 use Rattle.dns_trace.proofs.Addresses.{addr_back, address_is_word}
 use Rattle.dns_trace.proofs.Configs.{budget_are_words, budget_back, budget_of, budgeted_back, dgram_are_words, dgram_back, stream_are_words, stream_back, without_budget, yes_no_back, yes_no_word}
 use Rattle.dns_trace.proofs.Folded.{AllSay, said_append, said_by, say_append}
@@ -19,7 +19,7 @@ use Rattle.dns_trace.specs.Spelling.{yes_no}
 use Rattle.dns_trace.specs.StreamLine.{stream_line}
 use Rattle.dns_trace.specs.Trace.{budget_words, config_lines, deny_words, dgram_words, secret_lines, settings_lines, stream_words}
 use Rattle.dns_trace.specs.Traced.{TraceSaid, next_setting, trace_line}
-use Rattle.dns_service.specs.declared.settings.Settings.{Settings}
+use Rattle.dns_events.specs.declared.settings.Settings.{Settings}
 
 -- settings are said, and no event
 abbrev pub only_said : Said → TraceSaid

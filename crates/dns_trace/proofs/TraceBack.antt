@@ -6,9 +6,9 @@ use Rattle.std.specs.Str.Lines.{lines}
 use Rattle.std.proofs.lemmas.Grind.{flat_map-append}
 use Rattle.std.proofs.lemmas.List.Elements.{recursion_from_All}
 use Rattle.std.proofs.lemmas.List.Folds.{flat_map-map}
-use Rattle.dns_service.specs.declared.event.Event.{Event}
-use Rattle.dns_service.specs.declared.event.EventKind.{EventKind}
-use Rattle.dns_service.specs.declared.event.EventKind.TheVariants.{Datagram, Turn, Offer, Piece, End, Fault, Close, Write, Tick, Release, Reconfigure, Shutdown}
+use Rattle.dns_events.specs.declared.event.Event.{Event}
+use Rattle.dns_events.specs.declared.event.EventKind.{EventKind}
+use Rattle.dns_events.specs.declared.event.EventKind.TheVariants.{Datagram}
 use Rattle.dns_trace.proofs.EventsBack.{event_are_words, line_back}
 use Rattle.dns_trace.proofs.Folded.{AllSay, Says, lines_read, said_append, said_by, say_append, words_of_all}
 use Rattle.dns_trace.proofs.Joined.{lines_written}
@@ -21,37 +21,17 @@ use Rattle.dns_trace.specs.TextLines.{after_lines}
 use Rattle.dns_trace.specs.Trace.{event_text, event_words, kind_words, settings_lines, settings_text, trace}
 use Rattle.dns_trace.specs.Traced.{TraceSaid, next_event, nothing_traced, trace_line, traced, whole_trace}
 use Rattle.dns_trace.specs.Words.{word_at}
-use Rattle.dns_service.specs.declared.settings.Settings.{Settings}
+use Rattle.dns_events.specs.declared.settings.Settings.{Settings}
 
 -- the line of an event is that of no setting
 no_setting : (kind : EventKind) (e : Event) → setting_named (word_at (kind_words kind e) 0) ≡ None
 no_setting (Datagram addr octets) e = refl
-no_setting (Turn request) e = refl
-no_setting (Offer addr) e = refl
-no_setting (Piece octets) e = refl
-no_setting End e = refl
-no_setting Fault e = refl
-no_setting Close e = refl
-no_setting (Write took) e = refl
-no_setting Tick e = refl
-no_setting Release e = refl
-no_setting (Reconfigure dgram stream) e = refl
-no_setting Shutdown e = refl
+no_setting _ e = refl
 
 -- nor a comment
 kind_says : (kind : EventKind) (e : Event) → Says (kind_words kind e)
 kind_says (Datagram addr octets) e = refl
-kind_says (Turn request) e = refl
-kind_says (Offer addr) e = refl
-kind_says (Piece octets) e = refl
-kind_says End e = refl
-kind_says Fault e = refl
-kind_says Close e = refl
-kind_says (Write took) e = refl
-kind_says Tick e = refl
-kind_says Release e = refl
-kind_says (Reconfigure dgram stream) e = refl
-kind_says Shutdown e = refl
+kind_says _ e = refl
 
 -- settings, and events
 abbrev said : Said → List Event → TraceSaid

@@ -2,12 +2,12 @@
 use Rattle.std.proofs.Common.{◌≡◌, ◌∙◌, ℕ, List, [], ◌∷◌, ◌++◌, Some, refl, ap, sym, append_assoc, rules}
 use Rattle.std.specs.List.{join_with_byte}
 use Rattle.std.proofs.lemmas.List.{flat_map_more}
-use Rattle.dns_service.specs.declared.event.Event.{Event}
-use Rattle.dns_service.specs.declared.event.EventKind.{EventKind}
-use Rattle.dns_service.specs.declared.event.EventKind.TheVariants.{Datagram, Turn, Offer, Piece, End, Fault, Close, Write, Tick, Release, Reconfigure, Shutdown}
+use Rattle.dns_events.specs.declared.event.Event.{Event}
+use Rattle.dns_events.specs.declared.event.EventKind.{EventKind}
+use Rattle.dns_events.specs.declared.event.EventKind.TheVariants.{End, Fault, Close, Tick, Release}
 use Rattle.dns_trace.specs.Spelling.{line_of_words, spaced}
 use Rattle.dns_trace.specs.Trace.{bare_name, client_words, event_text, kind_words, settings_text, trace}
-use Rattle.dns_service.specs.declared.settings.Settings.{Settings}
+use Rattle.dns_events.specs.declared.settings.Settings.{Settings}
 
 -- one event more
 pub noted : (s : Settings) (es : List Event) (e : Event) → trace s es ++ event_text e ≡ trace s (es ++ e ∷ [])
@@ -16,18 +16,12 @@ noted s es e = flat_map_more event_text (settings_text s) es e
 
 -- a line that says no more than its name and AT SECS CLIENT
 bare_words : (kind : EventKind) (e : Event) (name : List ℕ) → bare_name kind ≡ Some name → kind_words kind e ≡ client_words name e []
-bare_words (Datagram addr octets) e name h = absurd (cc h)
-bare_words (Turn request) e name h = absurd (cc h)
-bare_words (Offer addr) e name h = absurd (cc h)
-bare_words (Piece octets) e name h = absurd (cc h)
 bare_words End e name h = cc h
 bare_words Fault e name h = cc h
 bare_words Close e name h = cc h
-bare_words (Write took) e name h = absurd (cc h)
 bare_words Tick e name h = cc h
 bare_words Release e name h = cc h
-bare_words (Reconfigure dgram stream) e name h = absurd (cc h)
-bare_words Shutdown e name h = absurd (cc h)
+bare_words _ e name h = absurd (cc h)
 
 pub bare_text : (e : Event) (name : List ℕ) → bare_name e.kind ≡ Some name → line_of_words (client_words name e []) ≡ event_text e
 unfolding event_text

@@ -1,7 +1,7 @@
 -- The line that says how many responses each connection may queue in one window of time: both numbers are limited to their ranges.
 use Rattle.std.specs.Prelude.{ℕ, ◌+◌, ◌==◌, List, length, Option, Some, None, Result, Ok, codes, if◌then◌else◌}
 use Rattle.std.specs.Str.{bytes_eq}
-use Rattle.dns_service.specs.Config.{Stream, in_range, limited_budget}
+use Rattle.dns_events.specs.Config.{Stream, in_range, limited_budget}
 use Rattle.dns_trace.specs.Words.{word_at}
 use Rattle.dns_trace.specs.Reading.{◌>>=◌, unless}
 use Rattle.dns_trace.specs.Values.{num_of}

@@ -1,6 +1,6 @@
 -- The line that configures the datagram server: each number is limited to its range.
 use Rattle.std.specs.Prelude.{ℕ, ◌+◌, ◌==◌, List, length, Option, Result, Ok}
-use Rattle.dns_service.specs.Config.{Dgram, in_range, limited_size}
+use Rattle.dns_events.specs.Config.{Dgram, in_range, limited_size}
 use Rattle.dns_trace.specs.Words.{word_at}
 use Rattle.dns_trace.specs.Reading.{◌>>=◌, unless}
 use Rattle.dns_trace.specs.Values.{num_of, size_or_none}

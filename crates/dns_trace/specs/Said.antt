@@ -1,10 +1,10 @@
 -- What lines of settings say: each value where a line says one, and the addresses that are denied in the order of their lines.
 use Rattle.std.specs.Prelude.{ℕ, Bool, true, List, [], Option, None, unwrap_or}
 use Rattle.dns_name.specs.declared.address.IpAddr.{IpAddr}
-use Rattle.dns_service.specs.Config.{Dgram, Stream, default_dgram, default_stream}
+use Rattle.dns_events.specs.Config.{Dgram, Stream, default_dgram, default_stream}
 use Rattle.dns_trace.specs.BudgetLine.{budgeted}
 use Rattle.dns_trace.specs.declared.budget_line.Budget.{Budget}
-use Rattle.dns_service.specs.declared.settings.Settings.{Settings}
+use Rattle.dns_events.specs.declared.settings.Settings.{Settings}
 
 pub record Said : Type 0 where
   pub strict : Option Bool

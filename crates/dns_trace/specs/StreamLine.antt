@@ -1,6 +1,6 @@
 -- The line that configures the stream server: each number is limited to its range. Of a budget it says nothing.
 use Rattle.std.specs.Prelude.{ℕ, ◌+◌, Bool, ◌==◌, List, length, Result, Ok}
-use Rattle.dns_service.specs.Config.{Stream, in_range, default_connection}
+use Rattle.dns_events.specs.Config.{Stream, in_range, default_connection}
 use Rattle.dns_trace.specs.Words.{word_at}
 use Rattle.dns_trace.specs.Reading.{◌>>=◌, unless}
 use Rattle.dns_trace.specs.Values.{num_of, yes_no_of}

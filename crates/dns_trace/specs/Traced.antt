@@ -1,7 +1,7 @@
 -- What a text of settings and events says.
 use Rattle.std.specs.Prelude.{◌≡◌, ℕ, ◌==◌, List, [], ◌∷◌, ◌++◌, length, Option, Some, None, Result, Ok, Err}
 use Rattle.std.specs.Str.Lines.{lines}
-use Rattle.dns_service.specs.declared.event.Event.{Event}
+use Rattle.dns_events.specs.declared.event.Event.{Event}
 use Rattle.dns_trace.specs.EventLines.{event_line}
 use Rattle.dns_trace.specs.Reading.{◌>>=◌}
 use Rattle.dns_trace.specs.Said.{Said, nothing_said, settings_said}
@@ -11,7 +11,7 @@ use Rattle.dns_trace.specs.Words.{word_at}
 use Rattle.dns_trace.specs.declared.reason.Reason.{Reason}
 use Rattle.dns_trace.specs.declared.setting.Setting.{Setting}
 use Rattle.dns_trace.specs.declared.text_reader.TraceError.{TraceError}
-use Rattle.dns_service.specs.declared.settings.Settings.{Settings}
+use Rattle.dns_events.specs.declared.settings.Settings.{Settings}
 
 -- what lines said: of settings, and the events in their order
 pub record TraceSaid : Type 0 where

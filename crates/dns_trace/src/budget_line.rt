@@ -1,13 +1,13 @@
 //! The line that says how many responses each connection may queue in one window of time.
 
 ghost use Rattle.std.specs.Prelude.{◌≡◌, ◌<◌, Some};
-ghost use Rattle.dns_service.specs.Config.{limited_budget};
+ghost use Rattle.dns_events.specs.Config.{limited_budget};
 ghost use Rattle.dns_trace.specs.BudgetLine.{budget_line, budget_values, budgeted, num_or_none};
 
 use crate::reason::Reason;
 use crate::values::num;
 use crate::words::Words;
-use dns_service::StreamConfig;
+use dns_events::StreamConfig;
 
 /// How many responses each connection may queue in one window, where that is limited, and how long a window is, in
 /// milliseconds. The numbers are those that were said; a configuration limits them to their ranges.

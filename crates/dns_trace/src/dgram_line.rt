@@ -6,7 +6,7 @@ ghost use Rattle.dns_trace.specs.DgramLine.{dgram_line, dgram_values, sized_dgra
 use crate::reason::Reason;
 use crate::values::{num, size};
 use crate::words::Words;
-use dns_service::DgramConfig;
+use dns_events::DgramConfig;
 
 /// The configuration of these numbers, each limited to its range: a size in octets and a time in milliseconds.
 fn configure(size: Option<u16>, write: u64) -> DgramConfig

@@ -10,8 +10,8 @@ use crate::reason::{LineError, Reason};
 use crate::stream_line::stream_values;
 use crate::values::{addr, num, octets, port};
 use crate::words::Words;
+use dns_events::{Event, EventKind, Step};
 use dns_name::SocketAddr;
-use dns_service::{Event, EventKind, Step};
 use std::alloc::Global;
 
 /// The moment and the seconds of a line.

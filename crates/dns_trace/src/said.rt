@@ -5,8 +5,8 @@ ghost use Rattle.dns_trace.specs.Said.{nothing_said, settings_said};
 
 use crate::budget_line::{Budget, with_budget};
 use crate::trace_settings::TraceSettings;
+use dns_events::{DgramConfig, Settings, StreamConfig};
 use dns_name::{Addrs, IpAddr, OutOfMemory};
-use dns_service::{DgramConfig, Settings, StreamConfig};
 use std::alloc::Global;
 use std::marker::Model;
 

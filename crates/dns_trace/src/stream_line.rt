@@ -6,7 +6,7 @@ ghost use Rattle.dns_trace.specs.StreamLine.{configured, stream_line, stream_val
 use crate::reason::Reason;
 use crate::values::{num, yes_no};
 use crate::words::Words;
-use dns_service::{ConnectionConfig, StreamConfig};
+use dns_events::{ConnectionConfig, StreamConfig};
 
 /// The configuration of these numbers, each limited to its range. The first two are in milliseconds.
 fn configure(idle: u64, write: u64, queue: u64, limit: u64, accepts: bool) -> StreamConfig

@@ -8,8 +8,8 @@ ghost use Rattle.dns_trace.specs.Trace.{addr_words, bare_name, budget_words, cli
 
 use crate::text_writer::TextWriter;
 use crate::trace_settings::TraceSettings;
+use dns_events::{ConnectionConfig, DgramConfig, Event, EventKind, StreamConfig};
 use dns_name::{IpAddr, Octets, OutOfMemory, SocketAddr};
-use dns_service::{ConnectionConfig, DgramConfig, Event, EventKind, StreamConfig};
 
 /// `SIZE WRITE`.
 fn dgram_words(text: &mut TextWriter, dgram: &DgramConfig) -> Result<(), OutOfMemory>

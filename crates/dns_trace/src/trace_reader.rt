@@ -13,7 +13,7 @@ use crate::setting_lines::read_setting;
 use crate::text_reader::{TakeLine, TraceError, read_lines};
 use crate::trace_settings::TraceSettings;
 use crate::words::Words;
-use dns_service::Event;
+use dns_events::Event;
 use std::alloc::Global;
 use std::marker::Model;
 

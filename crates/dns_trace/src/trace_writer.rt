@@ -1,15 +1,15 @@
 //! The writer of settings and events.
 
 ghost use Rattle.std.specs.Prelude.{◌≡◌, ◌++◌, ◌∷◌, [], IfOk, List, OnErr, OnOk};
-ghost use Rattle.dns_service.specs.declared.event.Event.{Event as TheEvent};
+ghost use Rattle.dns_events.specs.declared.event.Event.{Event as TheEvent};
 ghost use Rattle.dns_trace.specs.Trace.{event_text, trace};
-ghost use Rattle.dns_service.specs.declared.settings.Settings.{Settings as TheSettings};
+ghost use Rattle.dns_events.specs.declared.settings.Settings.{Settings as TheSettings};
 
 use crate::text_writer::TextWriter;
 use crate::trace_lines::{write_event, write_settings};
 use crate::trace_settings::TraceSettings;
+use dns_events::Event;
 use dns_name::OutOfMemory;
-use dns_service::Event;
 use std::alloc::Global;
 use std::marker::Model;
 

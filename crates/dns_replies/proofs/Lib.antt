@@ -1,0 +1,3 @@
+mod ErrorReplies
+mod AddedOptions
+mod CutLaws

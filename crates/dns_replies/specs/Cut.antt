@@ -1,0 +1,62 @@
+-- Truncation (RFC 1035, section 4.1.1, for TC; RFC 2181, section 9; RFC 6891, section 7, for the OPT record that stays).
+use Rattle.std.specs.Prelude.{◌≡◌, ℕ, ◌≤◌, Bool, true, false, List, [], ◌∷◌, length, Option, Some, None, nat_le, if◌then◌else◌}
+use Rattle.dns_message.specs.declared.question.Question.{Question}
+use Rattle.dns_base.specs.Msg.{Msg, ResourceRecord}
+use Rattle.dns_base.specs.Wire.{wire}
+use Rattle.dns_base.specs.Built.{Built, PassesLimit}
+use Rattle.dns_replies.specs.OptIn.{minimal, opt_record_in}
+
+-- the message takes at most so many octets
+abbrev pub fits : ℕ → Msg → Bool
+fits n m = nat_le (length (wire m)) n
+
+-- a message that is truncated to these questions and these additional records
+abbrev pub truncated : Msg → List Question → List ResourceRecord → Msg
+truncated m qs rs = record { header = record m.header { tc = true }; questions = qs; answers = []; authority = []; additional = rs }
+
+-- the first of some messages that fits, else the last
+abbrev pub first_fitting : ℕ → List Msg → Msg → Msg
+first_fitting n [] last = last
+first_fitting n (m ∷ ms) last = if fits n m then m else first_fitting n ms last
+
+-- Without an OPT record: the questions, or the header alone. With one: the questions and the record as it stands,
+-- the questions and a minimal one, or a minimal one alone.
+abbrev pub shortened : ℕ → Msg → Option ResourceRecord → Msg
+shortened n m None = first_fitting n (truncated m m.questions [] ∷ []) (truncated m [] [])
+shortened n m (Some r) = first_fitting n (truncated m m.questions (r ∷ []) ∷ truncated m m.questions (minimal r ∷ []) ∷ []) (truncated m [] (minimal r ∷ []))
+
+-- the message where it fits, else truncated
+abbrev pub cut : ℕ → Msg → Msg
+cut n m = if fits n m then m else shortened n m (opt_record_in m)
+
+-- the same of what is built, whose limit stays
+abbrev pub cut_built : ℕ → Built → Built
+cut_built n b = record b { message = cut n b.message }
+
+-- a truncated message with these records more, where it fits; its own limit is the same
+abbrev pub built_fitting : ℕ → Msg → Option Built
+built_fitting n m = if fits n m then Some (record { message = m; limit = n }) else None
+
+-- the first of two where there is one
+abbrev pub or_else : {A : Type 0} → Option A → Option A → Option A
+or_else (Some x) other = Some x
+or_else None other = other
+
+-- a record was added, or it had no room
+abbrev pub Added : Built → Built → Built → Bool → Type 0
+Added old new more true = (new ≡ more) × (length (wire more.message) ≤ more.limit)
+Added old new more false = (new ≡ old) × PassesLimit more
+
+-- what is built, where it fits
+abbrev pub where_fitting : Built → Option Built
+where_fitting b = built_fitting b.limit b.message
+
+-- the first of two that fits was built, or neither fits
+abbrev pub AddedEither : Built → Option Built → Option Built → Bool → Type 0
+AddedEither new first second true = Some new ≡ or_else first second
+AddedEither new first second false = None ≡ or_else first second
+
+-- a message that is cut where there is a limit
+abbrev pub sized : Option ℕ → Msg → Msg
+sized None m = m
+sized (Some n) m = cut n m

@@ -1,0 +1,9 @@
+pub use Rattle.dns_base.specs.Built
+pub use Rattle.dns_base.specs.Replaced
+pub use Rattle.dns_message.specs.Msg
+pub use Rattle.dns_message.specs.Wire
+pub use Rattle.dns_opt.specs.Reopened
+pub mod ErrorReply
+pub mod WithOption
+pub mod OptIn
+pub mod Cut

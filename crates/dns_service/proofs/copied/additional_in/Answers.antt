@@ -1,0 +1,5 @@
+use Rattle.dns_service.proofs.CopyLaws.{additional_given}
+use Rattle.dns_service.proofs.copied.additional_in.Goals as goal
+
+pub returns : goal.returns
+returns c = additional_given c.args.message.now c.as_slice-octets.result.now c.number_at.result c.args.at c.records_from.result c.as_slice-octets.ensures.value c.number_at.ensures c.requires.here c.records_from.ensures.value
