@@ -6,7 +6,7 @@ use native.Mathlib.Decide.{ℕ_discrete}
 use lib.ListN.{get_elem?}
 use Rattle.crossbeam_utils.specs.Register.{Forks, Merges}
 use Rattle.atomic_table.proofs.Lists.{at_set, set_else, at_longer, at_last}
-use Rattle.dns_admission.specs.declared.look.Look.{Look as State}
+use Rattle.dns_events.specs.declared.look.Look.{Look as State}
 use Rattle.dns_book.specs.declared.history.Entry.{Entry}
 use Rattle.dns_book.specs.declared.rule.View.{View}
 use Rattle.dns_book.specs.Words.{state_of}

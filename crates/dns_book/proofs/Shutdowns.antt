@@ -1,8 +1,8 @@
 -- A book is closed where it began so or a shutdown stands in its history.
 use Rattle.std.proofs.Common.{◌≡◌, ◌≢◌, ◌⊎◌, ◌↔◌, Bool, true, false, if◌then◌else◌, List, [], ◌∷◌, refl, sym, ◌∙◌, subst, inl, inr, ⊎_elim, true≢false}
-use Rattle.dns_admission.specs.declared.look.Look.{Look as State}
-use Rattle.dns_admission.specs.declared.look.Admission.{Admission}
-use Rattle.dns_admission.specs.declared.look.Admission.TheVariants.{Admitted, Full, Closed}
+use Rattle.dns_events.specs.declared.look.Look.{Look as State}
+use Rattle.dns_admission.specs.declared.admission.Admission.{Admission}
+use Rattle.dns_admission.specs.declared.admission.Admission.TheVariants.{Admitted, Full, Closed}
 use Rattle.dns_admission.specs.declared.call.Call.{Call}
 use Rattle.dns_admission.specs.declared.call.Call.TheVariants.{Admit, Release, Reconfigure, Shutdown, Look}
 use Rattle.dns_book.specs.declared.history.Entry.{Entry}

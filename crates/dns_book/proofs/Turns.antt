@@ -7,7 +7,7 @@ use lib.ListN.{get_elem?}
 use lib.Pointwise.{pointwise, bytes_decides}
 use Rattle.crossbeam_utils.specs.Register.{Turns, TurnsAt}
 use Rattle.atomic_table.proofs.Lists.{at_set, set_again, set_else}
-use Rattle.dns_admission.specs.declared.look.Look.{Look as State}
+use Rattle.dns_events.specs.declared.look.Look.{Look as State}
 use Rattle.dns_admission.specs.declared.call.Call.{Call}
 use Rattle.dns_admission.specs.declared.call.Reply.{Reply}
 use Rattle.dns_book.specs.declared.history.Entry.{Entry}

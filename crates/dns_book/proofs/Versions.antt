@@ -1,6 +1,6 @@
 -- What a seat was shown is the state after a part of its history, in which a version has one pair of configurations.
 use Rattle.std.proofs.Common.{◌≡◌, ◌≤◌, ◌⊎◌, ◌+◌, Bool, true, false, if◌then◌else◌, List, [], ◌∷◌, ◌++◌, refl, sym, ◌∙◌, ap, subst, inl, inr, ⊎_elim, arith, append_assoc}
-use Rattle.dns_admission.specs.declared.look.Look.{Look as State}
+use Rattle.dns_events.specs.declared.look.Look.{Look as State}
 use Rattle.dns_admission.specs.declared.call.Call.{Call}
 use Rattle.dns_admission.specs.declared.call.Call.TheVariants.{Admit, Release, Reconfigure, Shutdown, Look}
 use Rattle.dns_admission.specs.declared.call.Reply.{Reply}

@@ -1,6 +1,6 @@
 -- Names of seats, histories, and finite maps from names to lists of entries.
 use Rattle.std.specs.Prelude.{◌≡◌, Bool, true, false, if◌then◌else◌, List, [], ◌∷◌, ◌++◌, ◌⊎◌}
-use Rattle.dns_admission.specs.declared.look.Look.{Look as State}
+use Rattle.dns_events.specs.declared.look.Look.{Look as State}
 use Rattle.dns_admission.specs.declared.call.Call.{Call}
 use Rattle.dns_admission.specs.declared.call.Reply.{Reply}
 use Rattle.dns_book.specs.declared.history.Entry.{Entry}

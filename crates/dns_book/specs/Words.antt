@@ -1,8 +1,8 @@
 -- The state that the words of the cell stand for: slots taken; version; flags and response size;
 -- datagram write timeout; idle timeout; stream write timeout; bound of a queue; limit of connections; budget, 0 for none; window.
 use Rattle.std.specs.Prelude.{◌≡◌, ℕ, ◌/◌, ◌%◌, ◌==◌, if◌then◌else◌, List, slice_index, Option, Some, None}
-use Rattle.dns_service.specs.Config.{in_range, limited_budget}
-use Rattle.dns_admission.specs.declared.look.Look.{Look as State}
+use Rattle.dns_events.specs.Config.{in_range, limited_budget}
+use Rattle.dns_events.specs.declared.look.Look.{Look as State}
 
 -- bit 2 says that there is a response size, and it begins at bit 3
 abbrev pub size_of : ℕ → Option ℕ

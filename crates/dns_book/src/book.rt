@@ -14,12 +14,13 @@ ghost use Rattle.dns_book.specs.Rule.{KeptInOrder, CanCall, Made, Settled, newco
 use crate::rule::{
     ExpectsWords, Halves, HandOver, Looked, OneHistory, Opened, Read, Settle, TakeIn, Try, View,
 };
-use crate::words::{COUNT, Words, look_of, renew, words_after, words_of};
+use crate::words::{COUNT, Words, renew, state_in, words_after, words_of};
 use atomic_table::{Join, Split};
 use crossbeam_utils::atomic::seq_cell::{Pass, RuledSeqCell};
 use crossbeam_utils::rule::Outcome;
 use dns_admission::{Admission, BookState, Call, Look, Reply};
-use dns_service::{DgramConfig, Error, OutOfMemory, StreamConfig};
+use dns_events::{DgramConfig, Error, StreamConfig};
+use dns_name::OutOfMemory;
 use std::alloc::Global;
 use std::marker::{Brand, Model};
 use std::sync::Wait;
@@ -293,8 +294,9 @@ impl Book {
         ensures made { MatchOption result (cell_view pass.new ≡ cell_view pass.old) (λ found. Made call.now found (cell_view pass.old) (cell_view pass.new)) }
     {
         let words = self.load::<Read, R>(rt, pass);
-        if self.attempt::<Brand, R>(rt, pass, call, words, words_after(&words, call)) {
-            Some(BookState::of(look_of(&words)))
+        let found = state_in(&words);
+        if self.attempt::<Brand, R>(rt, pass, call, words, words_after(&found, call)) {
+            Some(found)
         } else {
             None
         }

@@ -2,10 +2,10 @@
 ghost use Rattle.std.specs.Prelude.{◌≡◌};
 ghost use Rattle.dns_admission.specs.Machine.{state_after};
 ghost use Rattle.dns_book.specs.Words.{state_of, budget_of, HasConfigs};
-ghost use Rattle.dns_service.specs.Config.{limited_budget, IsBudget};
+ghost use Rattle.dns_events.specs.Config.{limited_budget, IsBudget};
 
 use dns_admission::{BookState, Call, Look};
-use dns_service::{ConnectionConfig, DgramConfig, StreamConfig};
+use dns_events::{ConnectionConfig, DgramConfig, StreamConfig};
 
 /// How many words there are.
 pub const COUNT: usize = 10;
@@ -119,11 +119,18 @@ pub fn renew(shown: &mut Look, words: &Words)
     }
 }
 
-/// The words for the state that a call leaves.
-pub fn words_after(words: &Words, call: &Call) -> Words
-    ensures { state_of result ≡ state_after (state_of words.now) call.now }
+/// The state that the words stand for.
+pub fn state_in(words: &Words) -> BookState
+    ensures { result ≡ state_of words.now }
 {
-    let mut state = BookState::of(look_of(words));
+    BookState::of(look_of(words))
+}
+
+/// The words for the state that a call leaves of this one.
+pub fn words_after(found: &BookState, call: &Call) -> Words
+    ensures { state_of result ≡ state_after found.now call.now }
+{
+    let mut state = *found;
     state.call(call);
     words_of(&state.shown())
 }
