@@ -9,15 +9,16 @@ use Rattle.dns_service.specs.Asked.{asked_of}
 use Rattle.dns_service.specs.Given.{message_in}
 use Rattle.dns_service.specs.Req.{Req}
 use Rattle.dns_service.specs.Transport.{hint_of, limit}
-use Rattle.dns_middleware.specs.declared.notice.Notice.{Notice}
-use Rattle.dns_middleware.specs.declared.refusal.Refusal.{Refusal}
-use Rattle.dns_service.specs.declared.settings.Settings.{Settings}
+use Rattle.dns_layers.specs.declared.notice.Notice.{Notice}
+use Rattle.dns_layers.specs.declared.refusal.Refusal.{Refusal}
+use Rattle.dns_events.specs.declared.settings.Settings.{Settings}
 use Rattle.dns_middleware.specs.declared.wrap_post.WrapPost.{WrapPost}
-use Rattle.dns_middleware.specs.Cookies.{cookie_own}
-use Rattle.dns_middleware.specs.Edns.{passed_by, transport_by}
-use Rattle.dns_middleware.specs.Notify.{PolledVerdict, notice_of, notify_by}
-use Rattle.dns_middleware.specs.Rewritten.{own_reply, rewritten}
-use Rattle.dns_middleware.specs.Wrapped.{Pass, ask_or, by_gate, inner_gate, inner_or, left_by, passed, refusal_by, refusal_of, refused_or, replies, size_by}
+use Rattle.dns_layers.specs.Cookies.{cookie_own}
+use Rattle.dns_layers.specs.Edns.{passed_by, transport_by}
+use Rattle.dns_layers.specs.Notify.{PolledVerdict, notice_of, notify_by}
+use Rattle.dns_layers.specs.Refusals.{refusal_by, size_by}
+use Rattle.dns_layers.specs.Rewritten.{own_reply, rewritten}
+use Rattle.dns_middleware.specs.Wrapped.{Pass, ask_or, by_gate, inner_gate, inner_or, left_by, passed, refusal_of, refused_or, replies}
 use Rattle.dns_middleware.specs.WrappedStreams.{wrap_by, wrap_rule}
 
 -- the rule for the replies to a request that leaves this hint

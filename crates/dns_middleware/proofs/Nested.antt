@@ -11,14 +11,15 @@ use Rattle.dns_service.specs.Asked.{asked_of, client_size}
 use Rattle.dns_service.specs.Req.{Req}
 use Rattle.dns_service.specs.ServiceFn.{hint_at_entry}
 use Rattle.dns_service.specs.Transport.{is_stream, limit}
-use Rattle.dns_middleware.specs.declared.notice.Notice.{Notice}
-use Rattle.dns_service.specs.declared.settings.Settings.{Settings}
-use Rattle.dns_middleware.specs.Cookies.{cookie_own, cookies, cookies_by, denied_over}
-use Rattle.dns_middleware.specs.Edns.{edns, edns_by_code, edns_hint, edns_passed, opt_refusal, passed_by, transport_by}
-use Rattle.dns_middleware.specs.Mandatory.{hint_by, mandatory, mandatory_by, mandatory_hint, mandatory_refusal}
-use Rattle.dns_middleware.specs.Notify.{PolledVerdict, notice_of, notify, notify_by}
-use Rattle.dns_middleware.specs.Rewritten.{own_reply, rewritten}
-use Rattle.dns_middleware.specs.Wrapped.{Pass, ask_or, by_gate, hint_left, inner_or, inner_refusal, left_by, outer_refusal, passed, refused_or, replies}
+use Rattle.dns_layers.specs.declared.notice.Notice.{Notice}
+use Rattle.dns_events.specs.declared.settings.Settings.{Settings}
+use Rattle.dns_layers.specs.Cookies.{cookie_own, cookies, cookies_by, denied_over}
+use Rattle.dns_layers.specs.Edns.{edns, edns_by_code, edns_hint, edns_passed, opt_refusal, passed_by, transport_by}
+use Rattle.dns_layers.specs.Mandatory.{hint_by, mandatory, mandatory_by, mandatory_hint, mandatory_refusal}
+use Rattle.dns_layers.specs.Notify.{PolledVerdict, notice_of, notify, notify_by}
+use Rattle.dns_layers.specs.Refusals.{inner_refusal, outer_refusal}
+use Rattle.dns_layers.specs.Rewritten.{own_reply, rewritten}
+use Rattle.dns_middleware.specs.Wrapped.{Pass, ask_or, by_gate, hint_left, inner_or, left_by, passed, refused_or, replies}
 
 -- EDNS changes nothing of who is denied
 denied-passed : (size : Option ℕ) (t : TransportSpecificContext) (denied : List IpAddr) (address : IpAddr) → denied_over (transport_by size t) denied address ≡ denied_over t denied address

@@ -7,15 +7,15 @@ use Rattle.dns_service.specs.declared.message.TransportSpecificContext.TheVarian
 use Rattle.dns_service.specs.declared.service.Polled.TheVariants.{Pending, Ready}
 use Rattle.dns_service.specs.Answer.{Answer, mapped}
 use Rattle.dns_service.specs.Req.{Req}
-use Rattle.dns_middleware.specs.declared.notice.Notice.{Notice}
-use Rattle.dns_service.specs.declared.settings.Settings.{Settings}
-use Rattle.dns_middleware.specs.Edns.{edns_post}
-use Rattle.dns_middleware.specs.Mandatory.{mand_post}
-use Rattle.dns_middleware.specs.Notify.{PolledVerdict, asking}
+use Rattle.dns_layers.specs.declared.notice.Notice.{Notice}
+use Rattle.dns_events.specs.declared.settings.Settings.{Settings}
+use Rattle.dns_layers.specs.Edns.{edns_post}
+use Rattle.dns_layers.specs.Mandatory.{mand_post}
+use Rattle.dns_layers.specs.Notify.{PolledVerdict, asking}
 use Rattle.dns_middleware.specs.ReplyLaws.{IsResponseTo, ReplyHas}
-use Rattle.dns_middleware.specs.Rewritten.{own_reply, rewritten}
+use Rattle.dns_layers.specs.Rewritten.{own_reply, rewritten}
 use Rattle.dns_middleware.specs.Wrapped.{Gate, Outer, Inner, Ask, Pass, by_gate, gate, hint_left, inner_post, replies, request_limit}
-use Rattle.dns_middleware.proofs.MandatoryLaws.{CutFits, post_fits}
+use Rattle.dns_layers.proofs.MandatoryLaws.{CutFits, post_fits}
 
 module _ (P : Msg → Type 0) where
   own-has : (m : Msg) (k : ℕ) → P m → ReplyHas P (own_reply m k)

@@ -2,12 +2,12 @@
 use Rattle.std.specs.Prelude.{ℕ, ◌≡◌}
 use Rattle.dns_service.specs.Answer.{Answer}
 use Rattle.dns_service.specs.Req.{Req}
-use Rattle.dns_middleware.specs.declared.notice.Notice.{Notice}
-use Rattle.dns_service.specs.declared.settings.Settings.{Settings}
-use Rattle.dns_middleware.specs.Cookies.{cookies}
-use Rattle.dns_middleware.specs.Edns.{edns, edns_hint}
-use Rattle.dns_middleware.specs.Mandatory.{mandatory, mandatory_hint}
-use Rattle.dns_middleware.specs.Notify.{PolledVerdict, notify}
+use Rattle.dns_layers.specs.declared.notice.Notice.{Notice}
+use Rattle.dns_events.specs.declared.settings.Settings.{Settings}
+use Rattle.dns_layers.specs.Cookies.{cookies}
+use Rattle.dns_layers.specs.Edns.{edns, edns_hint}
+use Rattle.dns_layers.specs.Mandatory.{mandatory, mandatory_hint}
+use Rattle.dns_layers.specs.Notify.{PolledVerdict, notify}
 use Rattle.dns_middleware.specs.Wrapped.{replies, hint_left}
 
 abbrev pub RepliesAreNested : Type 0

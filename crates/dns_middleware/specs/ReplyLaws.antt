@@ -7,9 +7,9 @@ use Rattle.dns_service.specs.declared.message.TransportSpecificContext.TheVarian
 use Rattle.dns_service.specs.declared.service.Polled.TheVariants.{Pending, Ready}
 use Rattle.dns_service.specs.Answer.{Answer}
 use Rattle.dns_service.specs.Req.{Req}
-use Rattle.dns_middleware.specs.declared.notice.Notice.{Notice}
-use Rattle.dns_service.specs.declared.settings.Settings.{Settings}
-use Rattle.dns_middleware.specs.Notify.{PolledVerdict}
+use Rattle.dns_layers.specs.declared.notice.Notice.{Notice}
+use Rattle.dns_events.specs.declared.settings.Settings.{Settings}
+use Rattle.dns_layers.specs.Notify.{PolledVerdict}
 use Rattle.dns_middleware.specs.Wrapped.{replies, request_limit}
 
 -- where an answer has a reply, that has the property

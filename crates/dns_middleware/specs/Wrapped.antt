@@ -2,22 +2,21 @@
 -- layer is named here.
 use Rattle.std.specs.Prelude.{ℕ, List, Option, Some, None, if◌then◌else◌}
 use Rattle.dns_base.specs.Msg.{Msg}
-use Rattle.dns_service.specs.declared.asked.Asked.{Asked}
-use Rattle.dns_service.specs.declared.message.TransportSpecificContext.{TransportSpecificContext}
 use Rattle.dns_service.specs.Answer.{Answer, mapped}
-use Rattle.dns_service.specs.Asked.{asked_of, client_size}
+use Rattle.dns_service.specs.Asked.{asked_of}
 use Rattle.dns_service.specs.ErrorReply.{error_reply}
 use Rattle.dns_service.specs.Req.{Req}
-use Rattle.dns_service.specs.Transport.{hint_of, is_stream, limit}
-use Rattle.dns_middleware.specs.declared.notice.Notice.{Notice}
-use Rattle.dns_middleware.specs.declared.refusal.Refusal.{Refusal}
-use Rattle.dns_middleware.specs.declared.refusal.Refusal.TheVariants.{FromOutside, FromInside}
-use Rattle.dns_service.specs.declared.settings.Settings.{Settings}
-use Rattle.dns_middleware.specs.Cookies.{cookie_own}
-use Rattle.dns_middleware.specs.Edns.{edns_post, opt_refusal, passed_by}
-use Rattle.dns_middleware.specs.Mandatory.{mand_post, mandatory_refusal}
-use Rattle.dns_middleware.specs.Notify.{PolledVerdict, asking, notice_of}
-use Rattle.dns_middleware.specs.Rewritten.{own_reply, rewritten}
+use Rattle.dns_service.specs.Transport.{hint_of, limit}
+use Rattle.dns_layers.specs.declared.notice.Notice.{Notice}
+use Rattle.dns_layers.specs.declared.refusal.Refusal.{Refusal}
+use Rattle.dns_layers.specs.declared.refusal.Refusal.TheVariants.{FromOutside, FromInside}
+use Rattle.dns_events.specs.declared.settings.Settings.{Settings}
+use Rattle.dns_layers.specs.Cookies.{cookie_own}
+use Rattle.dns_layers.specs.Edns.{edns_post, passed_by}
+use Rattle.dns_layers.specs.Mandatory.{mand_post}
+use Rattle.dns_layers.specs.Notify.{PolledVerdict, asking, notice_of}
+use Rattle.dns_layers.specs.Refusals.{refusal_by, size_by}
+use Rattle.dns_layers.specs.Rewritten.{own_reply, rewritten}
 
 -- a reply of the server's own, rewritten by the mandatory rule alone, or also by that of EDNS; a question to the target; or the
 -- request as it is passed to the given service
@@ -27,18 +26,7 @@ pub data Gate (Meta : Type 0) : Type 0 where
   Ask : Notice → Gate Meta
   Pass : Req Meta → Gate Meta
 
--- the code of what EDNS refuses, and of what is refused before that
-abbrev pub inner_refusal : Option ℕ → Option Refusal
-inner_refusal None = None
-inner_refusal (Some code) = Some (FromInside code)
-
-abbrev pub outer_refusal : Option ℕ → Option Refusal → Option Refusal
-outer_refusal (Some code) after = Some (FromOutside code)
-outer_refusal None after = after
-
-abbrev pub refusal_by : Settings → TransportSpecificContext → Asked → Option Refusal
-refusal_by s t a = outer_refusal (mandatory_refusal s.strict a) (if s.edns then inner_refusal (opt_refusal (is_stream t) a.opt) else None)
-
+-- why a request is refused, where it is
 abbrev pub refusal_of : {Meta : Type 0} → Settings → Req Meta → Option Refusal
 refusal_of s r = refusal_by s r.transport (asked_of r.octets)
 
@@ -55,10 +43,6 @@ inner_or None more = more
 abbrev pub ask_or : {Meta : Type 0} → Option Notice → Gate Meta → Gate Meta
 ask_or (Some notice) more = Ask notice
 ask_or None more = more
-
--- the client's size, where EDNS is on
-abbrev pub size_by : Settings → Asked → Option ℕ
-size_by s a = if s.edns then client_size a.opt else None
 
 -- the request as it is passed on
 abbrev pub passed : {Meta : Type 0} → Settings → Req Meta → Req Meta

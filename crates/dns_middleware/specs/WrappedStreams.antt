@@ -7,17 +7,17 @@ use Rattle.dns_service.specs.declared.once.Once.{Once}
 use Rattle.dns_service.specs.Answer.{Answer, mapped}
 use Rattle.dns_service.specs.ErrorReply.{error_reply}
 use Rattle.dns_service.specs.Once.{now_of}
-use Rattle.dns_middleware.specs.declared.refusal.Refusal.{Refusal}
-use Rattle.dns_middleware.specs.declared.refusal.Refusal.TheVariants.{FromOutside, FromInside}
+use Rattle.dns_layers.specs.declared.refusal.Refusal.{Refusal}
+use Rattle.dns_layers.specs.declared.refusal.Refusal.TheVariants.{FromOutside, FromInside}
 use Rattle.dns_middleware.specs.declared.wrap_post.WrapPost.{WrapPost}
 use Rattle.dns_middleware.specs.declared.wrapped_stream.WrappedStream.{WrappedStream}
 use Rattle.dns_middleware.specs.declared.wrapped_stream.WrappedStream.TheVariants.{Own, Asking, Passed}
 use Rattle.dns_middleware.specs.declared.wrapped_future.WrappedFuture.{WrappedFuture}
 use Rattle.dns_middleware.specs.declared.wrapped_future.WrappedFuture.TheVariants as Coming
-use Rattle.dns_middleware.specs.Edns.{edns_by, edns_rule}
-use Rattle.dns_middleware.specs.Mandatory.{mand_by, mand_rule}
-use Rattle.dns_middleware.specs.Notify.{PolledVerdict, ask_answer, ask_size}
-use Rattle.dns_middleware.specs.Rewritten.{rewritten}
+use Rattle.dns_layers.specs.Edns.{edns_by, edns_rule}
+use Rattle.dns_layers.specs.Mandatory.{mand_by, mand_rule}
+use Rattle.dns_layers.specs.Notify.{PolledVerdict, ask_answer, ask_size}
+use Rattle.dns_layers.specs.Rewritten.{rewritten}
 
 -- what the rule of a request makes of a reply
 abbrev pub wrap_by : WrapPost → Msg → Msg

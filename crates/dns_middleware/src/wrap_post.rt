@@ -4,12 +4,8 @@ ghost use Rattle.std.specs.Prelude.{◌≡◌, IfOk, OnOk};
 ghost use Rattle.dns_service.specs.Transport.{limit};
 ghost use Rattle.dns_middleware.specs.WrappedStreams.{refused_reply, wrap_by, wrap_rule};
 
-use crate::edns_post::EdnsPost;
-use crate::layered::refuse;
-use crate::mandatory_post::MandatoryPost;
-use crate::refusal::Refusal;
-use crate::rewrite::Rewrite;
 use dns_base::{AdditionalBuilder, Message};
+use dns_layers::{EdnsPost, MandatoryPost, Refusal, Rewrite, refuse};
 use dns_service::{Asked, OutOfMemory, TransportSpecificContext};
 use std::alloc::Global;
 

@@ -1,16 +1,16 @@
 //! The service in its layers, as one type.
 
 ghost use Rattle.std.specs.Prelude.{◌≡◌, ℕ, IfOk, OnErr, OnOk};
+ghost use Rattle.dns_layers.specs.Refusals.{refusal_by};
+ghost use Rattle.dns_layers.specs.Verdicts.{verdict_on};
 ghost use Rattle.dns_middleware.specs.Nested.{HintIsNested, RepliesAreNested};
 ghost use Rattle.dns_middleware.specs.ReplyLaws.{RepliesFit, RepliesRespond};
-ghost use Rattle.dns_middleware.specs.Verdicts.{verdict_on};
-ghost use Rattle.dns_middleware.specs.Wrapped.{hint_left, refusal_by, replies};
+ghost use Rattle.dns_middleware.specs.Wrapped.{hint_left, replies};
 
-use crate::notifiable::Notifiable;
-use crate::refusal::{Refusal, read_request, refusal_by};
 use crate::wrapped_calls::{not_refused, refused};
 use crate::wrapped_future::WrappedFuture;
 use crate::wrapped_stream::WrappedStream;
+use dns_layers::{Notifiable, Refusal, read_request, refusal_by};
 use dns_service::{Asked, OutOfMemory, Request, Service, Settings, cut_fits};
 use std::alloc::Global;
 
@@ -49,7 +49,7 @@ where
 
     ghost can_call = { λ w. S.can_call w.service };
 
-    #[tactic(auto, using(crate::proofs::EdnsLaws::kept_hint))]
+    #[tactic(auto, using(dns_layers::proofs::EdnsLaws::kept_hint))]
     fn call(
         &self,
         alloc: Global,

@@ -6,26 +6,23 @@ ghost use Rattle.dns_service.specs.Answer.{mapped};
 ghost use Rattle.dns_service.specs.Asked.{asked_of};
 ghost use Rattle.dns_service.specs.Given.{message_in};
 ghost use Rattle.dns_service.specs.Transport.{hint_of, hinted, limit};
-ghost use Rattle.dns_middleware.specs.Cookies.{cookie_own};
-ghost use Rattle.dns_middleware.specs.Edns.{passed_by, transport_by};
-ghost use Rattle.dns_middleware.specs.Notify.{asking, notice_of, notify_by};
-ghost use Rattle.dns_middleware.specs.Rewritten.{own_reply, rewritten};
-ghost use Rattle.dns_middleware.specs.Verdicts.{verdict_on};
-ghost use Rattle.dns_middleware.specs.Wrapped.{by_gate, inner_gate, passed, size_by};
+ghost use Rattle.dns_layers.specs.Cookies.{cookie_own};
+ghost use Rattle.dns_layers.specs.Edns.{passed_by, transport_by};
+ghost use Rattle.dns_layers.specs.Notify.{asking, notice_of, notify_by};
+ghost use Rattle.dns_layers.specs.Refusals.{size_by};
+ghost use Rattle.dns_layers.specs.Rewritten.{own_reply, rewritten};
+ghost use Rattle.dns_layers.specs.Verdicts.{verdict_on};
+ghost use Rattle.dns_middleware.specs.Wrapped.{by_gate, inner_gate, passed};
 ghost use Rattle.dns_middleware.specs.WrappedStreams.{refused_reply, wrap_by, wrap_rule};
 
-use crate::ask_stream::ask_owned;
-use crate::cookie_replies::cookie_own;
-use crate::layered::alone;
-use crate::notice::{Notice, notice_of};
-use crate::notifiable::Notifiable;
-use crate::passing::{call_passed, hint_passed, pass_on};
-use crate::refusal::{Refusal, size_by};
-use crate::rewrite::Rewrite;
 use crate::wrap_post::WrapPost;
 use crate::wrapped::{ComingReplies, Wrapped};
 use crate::wrapped_future::WrappedFuture;
 use dns_base::AdditionalBuilder;
+use dns_layers::{
+    Notice, Notifiable, Refusal, Rewrite, alone, ask_owned, call_passed, cookie_own, hint_passed,
+    notice_of, pass_on, size_by,
+};
 use dns_service::{Asked, OutOfMemory, ReplyFuture, Request, Service, Settings};
 use std::alloc::Global;
 
@@ -54,7 +51,7 @@ pub(crate) fn refused<S: Service<Meta>, N: Notifiable, Meta>(
 }
 
 /// The replies to a request that isn't refused. This was read of the request.
-#[tactic(auto, using(crate::proofs::EdnsLaws::passed_hinted, crate::proofs::EdnsLaws::kept_hint))]
+#[tactic(auto, using(dns_layers::proofs::EdnsLaws::passed_hinted, dns_layers::proofs::EdnsLaws::kept_hint))]
 pub(crate) fn not_refused<S: Service<Meta>, N: Notifiable, Meta>(
     alloc: Global,
     wrapped: &Wrapped<S, N>,
@@ -77,7 +74,7 @@ pub(crate) fn not_refused<S: Service<Meta>, N: Notifiable, Meta>(
 
 /// The reply of the cookie layer's own, where it has this one, and else the replies past that layer. This was read of
 /// the request.
-#[tactic(auto, using(crate::proofs::EdnsLaws::passed_hinted, crate::proofs::EdnsLaws::kept_hint))]
+#[tactic(auto, using(dns_layers::proofs::EdnsLaws::passed_hinted, dns_layers::proofs::EdnsLaws::kept_hint))]
 #[inline(always)]
 fn own_or_past<S: Service<Meta>, N: Notifiable, Meta>(
     alloc: Global,
@@ -159,7 +156,7 @@ fn own_rewritten<Meta>(
 }
 
 /// The replies of the target where there is a notice, and else of the given service, rewritten.
-#[tactic(auto, using(crate::proofs::EdnsLaws::passed_hinted, crate::proofs::EdnsLaws::kept_hint))]
+#[tactic(auto, using(dns_layers::proofs::EdnsLaws::passed_hinted, dns_layers::proofs::EdnsLaws::kept_hint))]
 fn told_or_passed<S: Service<Meta>, N: Notifiable, Meta>(
     alloc: Global,
     wrapped: &Wrapped<S, N>,

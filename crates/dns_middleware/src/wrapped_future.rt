@@ -3,13 +3,12 @@
 ghost use Rattle.std.specs.Prelude.{◌≡◌, ℕ, suc, IfOk, OnOk};
 ghost use Rattle.dns_service.specs.Answer.{IfPending, IfReady, mapped};
 ghost use Rattle.dns_service.specs.Once.{now_of};
-ghost use Rattle.dns_middleware.specs.Rewritten.{rewritten};
+ghost use Rattle.dns_layers.specs.Rewritten.{rewritten};
 ghost use Rattle.dns_middleware.specs.WrappedStreams.{future_answer, wrap_by};
 
-use crate::ask_stream::AskStream;
-use crate::notifiable::VerdictFuture;
 use crate::wrap_post::WrapPost;
 use crate::wrapped_stream::WrappedStream;
+use dns_layers::{AskStream, VerdictFuture};
 use dns_service::{Once, OutOfMemory, Polled, ReplyFuture, ReplyStream};
 use std::alloc::Global;
 

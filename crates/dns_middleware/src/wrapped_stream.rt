@@ -2,13 +2,11 @@
 
 ghost use Rattle.std.specs.Prelude.{◌≡◌, ℕ, suc, IfOk, OnErr, OnOk};
 ghost use Rattle.dns_service.specs.Answer.{mapped};
-ghost use Rattle.dns_middleware.specs.Rewritten.{rewritten};
+ghost use Rattle.dns_layers.specs.Rewritten.{rewritten};
 ghost use Rattle.dns_middleware.specs.WrappedStreams.{wrap_by, wrapped_answer, wrapped_size};
 
-use crate::ask_stream::AskStream;
-use crate::notifiable::VerdictFuture;
-use crate::rewrite::rewrite_answer;
 use crate::wrap_post::WrapPost;
+use dns_layers::{AskStream, VerdictFuture, rewrite_answer};
 use dns_service::{Once, OutOfMemory, Polled, ReplyStream, ServiceResult};
 use std::alloc::Global;
 

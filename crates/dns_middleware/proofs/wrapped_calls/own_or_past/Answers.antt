@@ -1,9 +1,9 @@
 -- The cookie layer answers where it has a reply, and else the target or the given service.
 use Rattle.std.proofs.Common.{◌∙◌, refl}
 use Rattle.dns_service.specs.Transport.{hint_of}
-use Rattle.dns_middleware.specs.Edns.{transport_by}
-use Rattle.dns_middleware.specs.Verdicts.{verdict_on}
-use Rattle.dns_middleware.specs.Wrapped.{size_by}
+use Rattle.dns_layers.specs.Edns.{transport_by}
+use Rattle.dns_layers.specs.Refusals.{size_by}
+use Rattle.dns_layers.specs.Verdicts.{verdict_on}
 use Rattle.dns_middleware.specs.WrappedStreams.{wrap_by}
 use Rattle.dns_middleware.proofs.Called.{if-ok, no-own, own-found, past-cookies, rule-passed, size-read}
 use Rattle.dns_middleware.proofs.wrapped_calls.own_or_past.Goals as goal

@@ -1,6 +1,6 @@
 -- A request that isn't refused is taken as the others are.
 use Rattle.std.proofs.Common.{◌∙◌, refl, None}
-use Rattle.dns_middleware.specs.Verdicts.{verdict_on}
+use Rattle.dns_layers.specs.Verdicts.{verdict_on}
 use Rattle.dns_middleware.proofs.Called.{if-ok, refusal-read, unrefused}
 use Rattle.dns_middleware.proofs.wrapped.WrappedService.call.Goals as goal
 

@@ -1,0 +1,4 @@
+pub mod MandatoryLaws
+pub mod EdnsLaws
+pub mod CookieLaws
+pub mod CookieReplies

@@ -1,0 +1,55 @@
+//! What is refused before a request is looked at for cookies and notices.
+
+ghost use Rattle.std.specs.Prelude.{◌≡◌};
+ghost use Rattle.dns_service.specs.Asked.{asked_of};
+ghost use Rattle.dns_layers.specs.Refusals.{refusal_by, size_by};
+
+use crate::edns::opt_refusal;
+use crate::mandatory::mandatory_refusal;
+use dns_name::OptRcode;
+use dns_service::{Asked, Request, Settings, TransportSpecificContext, read_asked};
+
+/// Why a request is refused: by what each server does, or by EDNS, whose rule its reply then goes through.
+#[derive(Clone, Copy, Debug, PartialEq, Eq)]
+pub enum Refusal {
+    FromOutside(OptRcode),
+    FromInside(OptRcode),
+}
+
+/// What is asked with a request.
+pub fn read_request<Meta>(request: &Request<Meta>) -> Asked
+    ensures { result ≡ asked_of request.now.octets }
+{
+    read_asked(request.message())
+}
+
+/// Why what is asked over a transport is refused, where it is.
+pub fn refusal_by(
+    settings: &Settings,
+    transport: &TransportSpecificContext,
+    asked: &Asked,
+) -> Option<Refusal>
+    ensures { result ≡ refusal_by settings.now transport.now asked.now }
+{
+    if let Some(rcode) = mandatory_refusal(settings.strict, asked) {
+        return Some(Refusal::FromOutside(rcode));
+    }
+    if !settings.edns {
+        return None;
+    }
+    match opt_refusal(transport.is_non_udp(), &asked.opt) {
+        Some(rcode) => Some(Refusal::FromInside(rcode)),
+        None => None,
+    }
+}
+
+/// The client's size, where EDNS is on.
+pub fn size_by(settings: &Settings, asked: &Asked) -> Option<u16>
+    ensures { result ≡ size_by settings.now asked.now }
+{
+    if settings.edns {
+        asked.opt.client_size()
+    } else {
+        None
+    }
+}

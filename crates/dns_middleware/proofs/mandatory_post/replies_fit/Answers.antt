@@ -1,6 +1,0 @@
--- A rewritten reply over UDP fits.
-use Rattle.dns_middleware.proofs.MandatoryLaws.{post_fits}
-use Rattle.dns_middleware.proofs.mandatory_post.replies_fit.Goals as goal
-
-pub returns : goal.returns
-returns c = post_fits c.cut_fits.ensures.fits
