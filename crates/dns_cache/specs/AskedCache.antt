@@ -1,5 +1,5 @@
 -- A bounded cache of replies in front of a service (RFC 1034, section 5.3.3; RFC 1035, section 7.4; RFC 2308, section 5).
-use Rattle.std.specs.Prelude.{ℕ, ◌≡◌, ◌≤◌, ◌-◌, ◌+◌, ◌*◌, ◌&&◌, ◌||◌, Bool, not, List, ◌∷◌, length, take, nat_eq, nat_lt, nat_le, if◌then◌else◌, Option, Some, None, option_and_then, Result, Ok, Err, is_ok}
+use Rattle.std.specs.Prelude.{ℕ, ◌≡◌, ◌≤◌, ◌-◌, ◌+◌, ◌*◌, ◌&&◌, ◌||◌, Bool, not, List, [], ◌∷◌, length, take, nat_eq, nat_lt, nat_le, if◌then◌else◌, Option, Some, None, option_and_then, Result, Ok, Err, is_ok}
 use Rattle.std.specs.Map.{lookup, remove_entry}
 use Rattle.dns_name.specs.declared.error.ParseError.{ParseError}
 use Rattle.dns_base.specs.Msg.{Msg}
@@ -7,6 +7,7 @@ use Rattle.dns_base.specs.Replaced.{other_than}
 use Rattle.dns_base.specs.Wire.{wire}
 use Rattle.dns_opt.specs.OptRecords.{OptState}
 use Rattle.dns_opt.specs.Reopened.{opt_among}
+use Rattle.dns_service.specs.Config.{in_range}
 use Rattle.dns_service.specs.Copied.{copied}
 use Rattle.dns_service.specs.Req.{Req}
 use Rattle.dns_service.specs.declared.service.Polled.TheVariants.{Pending, Ready}
@@ -25,6 +26,10 @@ pub record KeptReply : Type 0 where
 -- the entries, the most recently used first, and how many there may be
 abbrev pub Cached : Type 0
 Cached = LruCache AskedKey KeptReply
+
+-- an empty cache of so many replies at most, within 1 to 65,536
+abbrev pub empty_cache : ℕ → Cached
+empty_cache capacity = lru_cache [] (in_range 1 65536 capacity)
 
 -- ---- which message can be kept
 

@@ -1,9 +1,8 @@
 //! A bounded cache in front of a single service.
 
-ghost use Rattle.std.specs.Prelude.{◌≡◌, ◌<◌, ◌≤◌, [], IfOk, Ok, OnOk, OnErr, Some, option_and_then};
+ghost use Rattle.std.specs.Prelude.{◌≡◌, IfOk, Ok, OnOk, OnErr, Some, option_and_then};
 ghost use Rattle.std.specs.Map.{lookup};
-ghost use Rattle.lru.specs.LruCache.{lru_cache};
-ghost use Rattle.dns_cache.specs.AskedCache.{AnswersCached, asked_cache, cached_message, kept_answer, with_kept, young_message};
+ghost use Rattle.dns_cache.specs.AskedCache.{AnswersCached, asked_cache, cached_message, empty_cache, kept_answer, with_kept, young_message};
 ghost use Rattle.dns_cache.specs.Steps.{GivesMessage, used_where};
 ghost use Rattle.dns_cache.specs.Keys.{AsksOnce, key_of, same_key};
 
@@ -33,13 +32,11 @@ impl Model for Cache {
 }
 
 impl Cache {
-    /// A cache of so many replies at most. Memory is taken as replies come.
+    /// A cache of so many replies at most, from 1 to 65,536. Memory is taken as replies come.
     pub fn new(alloc: Global, capacity: usize) -> Result<Cache, OutOfMemory>
-        requires some { 0 < capacity }
-        requires few { capacity ≤ 65536 }
-        ensures { IfOk result (λ c. c ≡ lru_cache [] capacity) }
+        ensures { IfOk result (λ c. c ≡ empty_cache capacity) }
     {
-        let Some(capacity) = NonZeroUsize::new(capacity) else {
+        let Some(capacity) = NonZeroUsize::new(capacity.clamp(1, 65_536)) else {
             unreachable!();
         };
         let entries = LruCache::sparse(alloc, capacity)?;

@@ -1,6 +1,7 @@
 //! One question to one upstream.
 
-ghost use Rattle.std.specs.Prelude.{◌≡◌, ◌≤◌, ◌+◌, [], IfOk, OnErr, List};
+ghost use Rattle.std.specs.Prelude.{◌≡◌, ◌≤◌, ◌+◌, [], max, IfOk, OnErr, List};
+ghost use Rattle.dns_service.specs.Config.{in_range};
 ghost use Rattle.dns_forward.specs.declared.asking_event.AskingEvent.{AskingEvent};
 ghost use Rattle.dns_forward.specs.declared.asking_event.AskingOutcome.{AskingOutcome};
 ghost use Rattle.dns_forward.specs.Asked.{Inquiry, is_due};
@@ -34,8 +35,8 @@ pub struct Asking {
 impl Asking {
     ghost use Rattle.dns_forward.specs.Askings.{HasHeard, Hears};
 
-    /// A message that is sent under an identifier, at most `tries` times, and again where no answer came for `timeout`, since
-    /// queries may be lost (RFC 1035, section 4.2.1). It counts as sent at `at`.
+    /// A message that is sent under an identifier, at most `tries` times, from 1 to 8, and again where no answer came for
+    /// `timeout`, from 1, since queries may be lost (RFC 1035, section 4.2.1). It counts as sent at `at`.
     pub fn new(
         alloc: Global,
         message: Message,
@@ -44,9 +45,21 @@ impl Asking {
         timeout: u64,
         at: u64,
     ) -> Result<Asking, OutOfMemory>
-        requires some { 1 ≤ tries }
-        requires few { tries ≤ 8 }
-        requires timeout { 1 ≤ timeout }
+        ensures { IfOk result (HasHeard (record { message = message; id = id; tries = in_range 1 8 tries; timeout = max timeout 1; at = at }) []) }
+    {
+        Asking::of(alloc, message, id, tries.clamp(1, 8), timeout.max(1), at)
+    }
+
+    /// The same of tries and a timeout that are limited.
+    fn of(
+        alloc: Global,
+        message: Message,
+        id: u16,
+        tries: u8,
+        timeout: u64,
+        at: u64,
+    ) -> Result<Asking, OutOfMemory>
+        requires { 1 ≤ tries }
         ensures { IfOk result (HasHeard (record { message = message; id = id; tries = tries; timeout = timeout; at = at }) []) }
     {
         let expected = Expected::of(alloc, &message, id)?;

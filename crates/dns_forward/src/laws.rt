@@ -2,8 +2,8 @@
 
 ghost use Rattle.std.specs.Prelude.{◌≡◌, ℕ, List};
 ghost use Rattle.dns_service.specs.Req.{Req};
-ghost use Rattle.dns_middleware.specs.declared.notice.Notice.{Notice};
-ghost use Rattle.dns_service.specs.declared.settings.Settings.{Settings};
+ghost use Rattle.dns_layers.specs.declared.notice.Notice.{Notice};
+ghost use Rattle.dns_events.specs.declared.settings.Settings.{Settings};
 ghost use Rattle.dns_middleware.specs.Notify.{PolledVerdict};
 ghost use Rattle.dns_middleware.specs.ReplyLaws.{IsResponseTo, ReplyHas};
 ghost use Rattle.dns_middleware.specs.Wrapped.{replies};

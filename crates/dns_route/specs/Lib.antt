@@ -22,4 +22,3 @@ pub mod Turns
 pub mod Relays
 pub mod Typed
 pub mod Routes
-pub mod Places

@@ -1,25 +1,18 @@
-//! Laws of routers and of their replies.
+//! Laws of replies.
 
-ghost use Rattle.std.specs.Prelude.{◌≡◌, ◌<◌, ◌↔◌, ℕ, List, Some, Ok, IsTrue};
+ghost use Rattle.std.specs.Prelude.{◌≡◌, ◌<◌, ℕ, List, Some, Ok};
 ghost use Rattle.dns_base.specs.Msg.{IsMessage, Msg};
 ghost use Rattle.dns_base.specs.Replaced.{other_than};
 ghost use Rattle.dns_base.specs.Wire.{wire};
-ghost use Rattle.dns_name.specs.Labels.{EndsWith};
 ghost use Rattle.dns_opt.specs.Extended.{extended, extended_octets};
 ghost use Rattle.dns_service.specs.Copied.{copied};
 ghost use Rattle.dns_service.specs.ErrorReply.{error_reply};
 ghost use Rattle.dns_service.specs.WithOption.{optioned};
 ghost use Rattle.dns_route.specs.OwnReplies.{error_state, explained, kept_whole};
 ghost use Rattle.dns_route.specs.ReplyMessage.{reply_message};
-ghost use Rattle.dns_route.specs.Routes.{ends_name};
 ghost use Rattle.dns_route.specs.Typed.{AreTyped, IsTypedMessage};
 
 use dns_base::{messages_read_back, typed_records_read_back};
-
-/// A name ends another exactly where `Name::ends_with` says so.
-pub fn matches_are_suffixes()
-    ensures { (q name : List (List ℕ)) → IsTrue (ends_name q name) ↔ EndsWith q name }
-{}
 
 /// What is built of a router's own replies is the error reply to the query, and that with an extended error in its OPT
 /// record.

@@ -5,21 +5,17 @@ mod adapter;
 mod kept;
 mod laws;
 mod own_reply;
-mod places;
 mod qname_router;
 mod reply;
 pub mod request;
-mod routes;
 mod send_request;
 mod single_service;
 mod to_service;
 
 pub use adapter::{BoxClientTransportToSingleService, ClientTransportToSingleService};
+pub use dns_routes::matches_are_suffixes;
 pub use dns_service::CopiedMessage;
-pub use laws::{
-    matches_are_suffixes, own_replies_are_error_replies, typed_messages_are_copied,
-    typed_replies_are_built,
-};
+pub use laws::{own_replies_are_error_replies, typed_messages_are_copied, typed_replies_are_built};
 pub use qname_router::QnameRouter;
 pub use reply::{ComposeReply, ReplyMessage};
 pub use request::RequestMessage;

@@ -7,10 +7,10 @@ ghost use Rattle.dns_route.specs.OwnReplies.{error_state, explained, no_upstream
 ghost use Rattle.dns_route.specs.Routes.{chosen, routed, served_by};
 
 use crate::own_reply::{error_begun, no_service};
-use crate::routes::Routes;
 use crate::single_service::{SingleService, Turned};
 use dns_base::Message;
 use dns_name::{Name, OptRcode, ParsedName};
+use dns_routes::Routes;
 use dns_service::{OutOfMemory, Polled, Request};
 use std::alloc::Global;
 use std::marker::Model;

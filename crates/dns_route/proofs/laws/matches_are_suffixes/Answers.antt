@@ -1,5 +1,0 @@
-use Rattle.dns_route.proofs.RouteLaws.{ends_exactly}
-use Rattle.dns_route.proofs.laws.matches_are_suffixes.Goals as goal
-
-pub returns : goal.returns
-returns c = ends_exactly

@@ -1,0 +1,4 @@
+pub mod KeyLaws
+pub mod RouteLaws
+pub mod PairLaws
+pub mod SuffixLaws
