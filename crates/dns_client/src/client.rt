@@ -11,7 +11,7 @@ ghost use Rattle.dns_client.specs.After.{slate_after};
 ghost use Rattle.dns_client.specs.News.{told_of, new_configurations};
 ghost use Rattle.dns_client.specs.Spent.{is_spent};
 ghost use Rattle.dns_client.specs.Stands.{sole_number};
-ghost use Rattle.dns_client.specs.Waiting.{first_unfinished, next_unfinished};
+ghost use Rattle.dns_client.specs.Waiting.{first_unfinished, idle_left, next_unfinished};
 ghost use Rattle.dns_service.specs.PolledRequest.{request_answer};
 
 use crate::connection::OpenConnection;
@@ -268,6 +268,18 @@ impl<W: Served> ClientCore<W> {
             State::Open(connection) => connection.write_timeout(),
             State::Flushing(connection) => connection.write_timeout(),
             State::Exchange(_) | State::Closed { .. } | State::Lost => 0,
+        }
+    }
+
+    /// For how many ms from this moment on an open connection may still be idle; 0 of any other client.
+    pub fn idle_left(&self, at: u64) -> u64
+        ensures idle { (answers : Serving) (s : Slate)
+            → Stands (request_answer W.Future.answer W.Stream.answer) answers self.now s → result ≡ idle_left at s }
+        ensures lost { IsLost self.now → result ≡ 0 }
+    {
+        match &self.state {
+            State::Open(connection) => connection.idle_left(at),
+            State::Exchange(_) | State::Flushing(_) | State::Closed { .. } | State::Lost => 0,
         }
     }
 

@@ -1,28 +1,31 @@
 //! A connection that is open.
 
-ghost use Rattle.std.specs.Prelude.{◌≡◌, ◌<◌, ◌≤◌, ℕ, IfOk, OnOk, [], MatchOption, length, option_map, slice_get, false};
+ghost use Rattle.std.specs.Prelude.{◌≡◌, ◌<◌, ◌≤◌, ◌-◌, ℕ, IfOk, OnOk, OnErr, [], MatchOption, length, option_map, slice_get, false, true};
 ghost use Rattle.dns_client.specs.Serving.{Serving, serving};
 ghost use Rattle.dns_client.specs.Slate.{Conf, Slate, IsUnused, with_conf};
 ghost use Rattle.dns_client.specs.Frames.{frames};
+ghost use Rattle.dns_client.specs.Invoker.{finds_room};
 ghost use Rattle.dns_client.specs.Connections.{opened, take_frames, piece, write, tick, wind_up, reconfigured};
 ghost use Rattle.dns_client.specs.Requests.{unpolled, request_of_frame};
 ghost use Rattle.dns_client.specs.Stands.{flushing_for};
+ghost use Rattle.dns_client.specs.Timers.{deadline};
 ghost use Rattle.dns_client.specs.Turns.{turn};
 ghost use Rattle.dns_client.specs.Waiting.{first_unfinished, next_unfinished};
 ghost use Rattle.dns_client.specs.Rule.{changes_kept, rule, takes_memory};
+ghost use Rattle.dns_base.specs.Header.{header_of};
 ghost use Rattle.dns_service.specs.PolledRequest.{request_answer};
 ghost use Rattle.dns_service.specs.Req.{Req};
 
+mod lent;
+
 use crate::connection_request::{ConnectionRequest, ask, recount, turn_at};
 use crate::flushing::FlushingConnection;
-use crate::framer::Framer;
-use crate::invoker::ConnectionInvoker;
 use crate::kept::refused;
 use crate::outcome::Outcome;
-use crate::requests::{frame_of, frame_request};
-use crate::timer::IdleTimer;
+use crate::requests::frame_request;
 use crate::unfinished::Unfinished;
 use dns_base::{Message, SocketAddr};
+use dns_framing::{ConnectionInvoker, Framer, IdleTimer, frame_of};
 use dns_name::OptRcode;
 use dns_service::{
     ConnectionConfig, Event, EventKind, OutOfMemory, Request, Served, StreamConfig, Why,
@@ -84,6 +87,15 @@ impl<W: Served> OpenConnection<W> {
         self.write_timeout
     }
 
+    /// For how many ms from this moment on it may still be idle.
+    pub fn idle_left(&self, at: u64) -> u64
+        ensures { result ≡ deadline self.now.timer self.now.invoker.idle_timeout at - at }
+    {
+        let timeout = self.invoker.idle_timeout;
+        let deadline = self.timer.idle_timeout_deadline(timeout, at);
+        deadline.saturating_sub(at)
+    }
+
     /// Makes a request, unless 2^64 - 1 of them were made.
     fn ask(&mut self, alloc: Global, service: &W, request: Request<()>) -> Result<(), OutOfMemory>
         requires { W.can_call service.now }
@@ -107,14 +119,22 @@ impl<W: Served> OpenConnection<W> {
         self.unfinished.enter(kept)
     }
 
-    /// Answers a response, of which no request is made, where there is room.
+    /// Answers a response, of which no request is made, where there is room. Where there is none, it takes no memory.
     fn refuse(&mut self, alloc: Global, at: u64, message: &Message) -> Result<(), OutOfMemory>
-        ensures { OnOk result (self.new ≡ refusing at self.old message.now) }
+        ensures ok { OnOk result (self.new ≡ refusing at self.old message.now) }
+        ensures err { OnErr result (finds_room (record self.old.invoker { at = at }) ≡ true) }
     {
-        let reply = refused(alloc, message, None, OptRcode::FORMERR)?;
         self.invoker.set_moment(at);
-        let _dropped = self.invoker.offer(frame_of(reply));
-        Ok(())
+        if !self.invoker.finds_room() {
+            return Ok(());
+        }
+        match refused(alloc, message, None, OptRcode::FORMERR) {
+            Ok(reply) => {
+                let _dropped = self.invoker.offer(frame_of(reply));
+                Ok(())
+            }
+            Err(error) => Err(error),
+        }
     }
 
     /// A turn of a request at a moment: a reply that is held is queued where there is room, or else the request is polled once.
@@ -190,7 +210,7 @@ impl<W: Served> OpenConnection<W> {
         }
     }
 
-    /// Takes a message: a response is refused, and a query asked.
+    /// Takes a message: a response is refused, and a query asked. A response without room for its reply takes no memory.
     fn take_message(
         &mut self,
         alloc: Global,
@@ -200,7 +220,8 @@ impl<W: Served> OpenConnection<W> {
         message: Message,
     ) -> Result<(), OutOfMemory>
         requires { W.can_call service.now }
-        ensures { OnOk result (TakesMessage (request_answer W.Future.answer W.Stream.answer) (serving (W.answer service.now) (W.hint service.now)) at secs self.old self.new message) }
+        ensures ok { OnOk result (TakesMessage (request_answer W.Future.answer W.Stream.answer) (serving (W.answer service.now) (W.hint service.now)) at secs self.old self.new message) }
+        ensures err { OnErr result ((header_of message).qr ≡ true → finds_room (record self.old.invoker { at = at }) ≡ true) }
     {
         if message.header().qr {
             return self.refuse(alloc, at, &message);
@@ -240,6 +261,9 @@ impl<W: Served> OpenConnection<W> {
         ensures { IfOk result (λ outcome. Leads (request_answer W.Future.answer W.Stream.answer) (serving (W.answer service.now) (W.hint service.now)) self.old self.new outcome
             (λ s. piece at secs octets.now s)) }
     {
+        if self.framer.is_empty() {
+            return self.take_lent(alloc, service, at, secs, octets);
+        }
         self.framer.feed(alloc, octets)?;
         let outcome = self.take_all(alloc, service, at, secs)?;
         Ok(outcome)

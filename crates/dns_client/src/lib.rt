@@ -1,30 +1,24 @@
 //! Clients of a server: what is kept of one, and what its events do to that.
 #![tactic(auto)]
 
-mod budget;
 mod client;
 mod connection;
 mod connection_request;
 mod exchange;
 mod flushing;
-mod framer;
-mod invoker;
 mod kept;
 mod laws;
 mod outcome;
 mod polling;
 mod requests;
 mod states;
-mod timer;
 mod unfinished;
 
 pub use client::ClientCore;
 pub use connection_request::ConnectionRequest;
+pub use dns_framing::{ConnectionInvoker, Framer, IdleTimer};
 pub use dns_service::PolledRequest;
 pub use exchange::{BegunExchange, begin_exchange};
-pub use framer::Framer;
-pub use invoker::ConnectionInvoker;
 pub use kept::KeptRequest;
 pub use laws::{frames_go_on, pieces_may_be_cut, spent_clients_are_told_nothing};
-pub use timer::IdleTimer;
 pub use unfinished::Unfinished;

@@ -1,8 +1,8 @@
 -- The events that a client hears, in order: its own, and those that all clients hear, whose number says nothing.
 use Rattle.std.specs.Prelude.{ℕ, ◌==◌, ◌||◌, List, filter, Bool, true, false}
-use Rattle.dns_service.specs.declared.event.Event.{Event}
-use Rattle.dns_service.specs.declared.event.EventKind.{EventKind}
-use Rattle.dns_service.specs.declared.event.EventKind.TheVariants.{Reconfigure, Shutdown}
+use Rattle.dns_events.specs.declared.event.Event.{Event}
+use Rattle.dns_events.specs.declared.event.EventKind.{EventKind}
+use Rattle.dns_events.specs.declared.event.EventKind.TheVariants.{Reconfigure, Shutdown}
 
 -- all clients hear it
 abbrev pub is_wide : EventKind → Bool

@@ -1,13 +1,13 @@
 -- What one client is sent for the events that it hears, from the oldest to the newest, and the slate that it has after them.
 use Rattle.dns_client.specs.Serving.{Serving}
 use Rattle.std.specs.Prelude.{ℕ, List, [], ◌∷◌}
-use Rattle.dns_service.specs.declared.event.Event.{Event}
-use Rattle.dns_service.specs.declared.event.Output.{Output}
+use Rattle.dns_events.specs.declared.event.Event.{Event}
+use Rattle.dns_events.specs.declared.event.Output.{Output}
 use Rattle.dns_client.specs.Slate.{Slate, Conf, conf_rule, fresh}
 pub use Rattle.dns_client.specs.After.{slate_after, sent_after}
 use Rattle.dns_sent.specs.Settings.{opening}
 use Rattle.dns_sent.specs.Own.{own}
-use Rattle.dns_service.specs.declared.settings.Settings.{Settings}
+use Rattle.dns_events.specs.declared.settings.Settings.{Settings}
 
 -- the configurations that are in force after some events
 abbrev pub conf_after : Conf → List Event → Conf
