@@ -6,11 +6,11 @@ use Rattle.std.specs.List.{list_any, flat_map}
 use Rattle.std.specs.List.Sorted.{IsStrictlySortedBy}
 use Rattle.std.specs.Ordering.{nat_cmp}
 use Rattle.std.proofs.lemmas.List.{append-nil}
-use Rattle.dns_admission.specs.declared.look.Look.{Look as State}
+use Rattle.dns_events.specs.declared.look.Look.{Look as State}
 use Rattle.dns_admission.specs.Machine.{has_version, last_version}
-use Rattle.dns_service.specs.declared.event.Event.{Event}
-use Rattle.dns_service.specs.declared.event.Step.{Step}
-use Rattle.dns_service.specs.declared.event.Step.TheVariants.{Own}
+use Rattle.dns_events.specs.declared.event.Event.{Event}
+use Rattle.dns_events.specs.declared.event.Step.{Step}
+use Rattle.dns_events.specs.declared.event.Step.TheVariants.{Own}
 use Rattle.dns_client.specs.After.{slate_after, sent_after}
 use Rattle.dns_client.specs.Rule.{rule}
 use Rattle.dns_client.specs.Slate.{Slate, Told, Conf, conf_of, conf_rule}
@@ -22,7 +22,7 @@ use Rattle.dns_core.specs.ByClient.{is_member}
 use Rattle.dns_core.specs.Books.{book_rule, is_entry}
 use Rattle.dns_core.specs.Placed.{Knowledge, book_now, entries, knows, looks, placed}
 use Rattle.dns_core.specs.Outs.{Hall, placed_slate, hall, step_gained, outs, outs_after}
-use Rattle.dns_service.specs.declared.settings.Settings.{Settings}
+use Rattle.dns_events.specs.declared.settings.Settings.{Settings}
 use Rattle.dns_core.proofs.AtOnce.{closed_if, enters}
 use Rattle.dns_core.proofs.Counted.{put_keeps}
 use Rattle.dns_core.proofs.Gained.{concerns_all, conf_more, members_away, members_joined, members_kept, none_away}

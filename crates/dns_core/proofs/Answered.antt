@@ -12,13 +12,13 @@ use Rattle.dns_base.specs.Wire.{wire}
 use Rattle.dns_service.specs.Cut.{cut}
 use Rattle.dns_service.specs.Req.{Req}
 use Rattle.dns_service.specs.Transport.{limit}
-use Rattle.dns_service.specs.declared.event.Event.{Event}
-use Rattle.dns_service.specs.declared.event.EventKind.{EventKind}
-use Rattle.dns_service.specs.declared.event.EventKind.TheVariants.{Datagram as Is_datagram, Turn, Offer, Piece, End, Fault, Close, Write, Tick, Release, Reconfigure, Shutdown}
-use Rattle.dns_service.specs.declared.event.Output.{Output}
-use Rattle.dns_service.specs.declared.event.Output.TheVariants.{Frame, Closed as Closed_output, TurnedAway}
-use Rattle.dns_service.specs.declared.event.Why.{Why}
-use Rattle.dns_service.specs.declared.event.Why.TheVariants.{Ended, Short, Idle, WriteTimeout, Commanded, Fault as By_fault, Shutdown as By_shutdown}
+use Rattle.dns_events.specs.declared.event.Event.{Event}
+use Rattle.dns_events.specs.declared.event.EventKind.{EventKind}
+use Rattle.dns_events.specs.declared.event.EventKind.TheVariants.{Datagram as Is_datagram, Turn, Offer, Piece, End, Fault, Close, Write, Tick, Release, Reconfigure, Shutdown}
+use Rattle.dns_events.specs.declared.event.Output.{Output}
+use Rattle.dns_events.specs.declared.event.Output.TheVariants.{Frame, Closed as Closed_output, TurnedAway}
+use Rattle.dns_events.specs.declared.event.Why.{Why}
+use Rattle.dns_events.specs.declared.event.Why.TheVariants.{Ended, Short, Idle, WriteTimeout, Commanded, Fault as By_fault, Shutdown as By_shutdown}
 use Rattle.dns_service.specs.declared.message.TransportSpecificContext.TheVariants.{Udp}
 use Rattle.dns_client.specs.Connections.{close, flush, flushed, in_transaction, opened, piece, reconfigured, released, tick, took_too_long, wind_up, write, written}
 use Rattle.dns_client.specs.Datagrams.{cut_datagram, datagram, exchange}
@@ -32,7 +32,7 @@ use Rattle.dns_core.specs.Out.{gain, gained, heard, is_new, is_turned_away, is_u
 use Rattle.dns_core.specs.Own.{concerns, is_wide}
 use Rattle.dns_core.specs.ReplyTo.{Responds, AnswersFrame, IsReply}
 use Rattle.dns_core.specs.Sent.{conf, slate}
-use Rattle.dns_service.specs.declared.settings.Settings.{Settings}
+use Rattle.dns_events.specs.declared.settings.Settings.{Settings}
 use Rattle.dns_core.proofs.Exchanged.{Exchanges, exchange_polls, first_exchanges, first_sent, later_exchanges}
 use Rattle.dns_core.proofs.Gained.{concerns_own}
 use Rattle.dns_core.proofs.Listening.{Asks, Listens, RepliesTo, Takes, listens_weaker, queue_weaker, take_listens, turn_listens}

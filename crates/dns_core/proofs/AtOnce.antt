@@ -6,14 +6,14 @@ use Rattle.std.specs.List.{list_any}
 use Rattle.std.proofs.lemmas.Bool.{cases_eq, eq-eqb, ne_eqb}
 use Rattle.std.proofs.lemmas.List.{append-nil}
 use Rattle.std.proofs.Math.Bool.{or-false}
-use Rattle.dns_admission.specs.declared.look.Look.{Look as State}
+use Rattle.dns_events.specs.declared.look.Look.{Look as State}
 use Rattle.dns_admission.specs.Machine.{has_version, last_version, new_state}
-use Rattle.dns_service.specs.declared.event.Event.{Event}
-use Rattle.dns_service.specs.declared.event.EventKind.{EventKind}
-use Rattle.dns_service.specs.declared.event.EventKind.TheVariants.{Reconfigure, Shutdown}
-use Rattle.dns_service.specs.declared.event.Output.{Output}
-use Rattle.dns_service.specs.declared.event.Step.{Step}
-use Rattle.dns_service.specs.declared.event.Step.TheVariants.{Own}
+use Rattle.dns_events.specs.declared.event.Event.{Event}
+use Rattle.dns_events.specs.declared.event.EventKind.{EventKind}
+use Rattle.dns_events.specs.declared.event.EventKind.TheVariants.{Reconfigure, Shutdown}
+use Rattle.dns_events.specs.declared.event.Output.{Output}
+use Rattle.dns_events.specs.declared.event.Step.{Step}
+use Rattle.dns_events.specs.declared.event.Step.TheVariants.{Own}
 use Rattle.dns_client.specs.Rule.{rule}
 use Rattle.dns_client.specs.Slate.{Slate, Conf, Told, conf_of, conf_rule, fresh}
 use Rattle.dns_core.specs.Settings.{opening}
@@ -22,7 +22,7 @@ use Rattle.dns_core.specs.Sent.{sent}
 use Rattle.dns_core.specs.Books.{book_rule, is_entry, books}
 use Rattle.dns_core.specs.Placed.{Knowledge, book_now, entries, own_events, begins, looks, puts, learns, place, placed}
 use Rattle.dns_core.specs.AtOnce.{look_by, undelayed}
-use Rattle.dns_service.specs.declared.settings.Settings.{Settings}
+use Rattle.dns_events.specs.declared.settings.Settings.{Settings}
 use Rattle.dns_core.proofs.Plain.{narrow_conf, rule_conf}
 use Rattle.dns_core.proofs.Late.{NotOver, rule_over, never_open}
 use Rattle.dns_core.proofs.Looked.{told, over_idle}

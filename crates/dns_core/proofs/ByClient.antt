@@ -10,15 +10,15 @@ use Rattle.std.specs.List.{list_any, flat_map}
 use Rattle.std.specs.List.Sorted.{IsStrictlySortedBy}
 use Rattle.std.specs.Ordering.{nat_cmp}
 use Rattle.std.proofs.Math.Bool.{or-true}
-use Rattle.dns_service.specs.declared.event.Event.{Event}
-use Rattle.dns_service.specs.declared.event.Output.{Output}
-use Rattle.dns_service.specs.declared.event.Output.TheVariants.{TurnedAway}
+use Rattle.dns_events.specs.declared.event.Event.{Event}
+use Rattle.dns_events.specs.declared.event.Output.{Output}
+use Rattle.dns_events.specs.declared.event.Output.TheVariants.{TurnedAway}
 use Rattle.dns_client.specs.Slate.{Slate}
 use Rattle.dns_core.specs.Own.{is_wide, concerns, own}
 use Rattle.dns_core.specs.Sent.{conf, sent, slate}
 use Rattle.dns_core.specs.Out.{is_unused, is_new, is_turned_away, joins, members, gain, heard, turned_away, gained, out}
 use Rattle.dns_core.specs.ByClient.{is_for, is_member, was_turned_away}
-use Rattle.dns_service.specs.declared.settings.Settings.{Settings}
+use Rattle.dns_events.specs.declared.settings.Settings.{Settings}
 use Rattle.dns_core.proofs.Counted.{less_absent}
 use Rattle.dns_core.proofs.OutLemmas.{slate_some, sent_more, sent_still, out_more}
 use Rattle.dns_core.proofs.Plain.{unused_is}

@@ -5,17 +5,17 @@ use Rattle.std.specs.List.{flat_map}
 use Rattle.std.proofs.lemmas.Bool.{eq-eqb, and_parts}
 use Rattle.std.proofs.lemmas.List.{append-nil}
 use Rattle.std.proofs.lemmas.List.Elements.{filter-append}
-use Rattle.dns_admission.specs.declared.look.Look.{Look as State}
-use Rattle.dns_service.specs.declared.event.Event.{Event}
-use Rattle.dns_service.specs.declared.event.EventKind.{EventKind}
-use Rattle.dns_service.specs.declared.event.EventKind.TheVariants.{Datagram, Offer}
-use Rattle.dns_service.specs.declared.event.Step.{Step}
-use Rattle.dns_service.specs.declared.event.Step.TheVariants.{Own, Look}
+use Rattle.dns_events.specs.declared.look.Look.{Look as State}
+use Rattle.dns_events.specs.declared.event.Event.{Event}
+use Rattle.dns_events.specs.declared.event.EventKind.{EventKind}
+use Rattle.dns_events.specs.declared.event.EventKind.TheVariants.{Datagram, Offer}
+use Rattle.dns_events.specs.declared.event.Step.{Step}
+use Rattle.dns_events.specs.declared.event.Step.TheVariants.{Own, Look}
 use Rattle.dns_core.specs.Own.{is_wide}
 use Rattle.dns_core.specs.Books.{book_rule, books, is_entry}
 use Rattle.dns_core.specs.Changes.{changes, changes_from}
 use Rattle.dns_core.specs.Placed.{Knowledge, begins, book_now, entries, is_beginning, knows, learned, learns, looks, knowledge_at_first, own_events, place, placed, puts}
-use Rattle.dns_service.specs.declared.settings.Settings.{Settings}
+use Rattle.dns_events.specs.declared.settings.Settings.{Settings}
 use Rattle.dns_core.proofs.Looked.{Enter, entry_wide}
 use Rattle.dns_core.proofs.Placing.{knows_more}
 use Rattle.dns_core.proofs.Tied.{books_entries, enter_learns, now_learns}

@@ -1,14 +1,14 @@
 -- A piece that is cut in two changes nothing of what is sent.
 use Rattle.dns_client.specs.Serving.{Serving}
 use Rattle.std.proofs.Common.{◌≡◌, List, [], ◌∷◌, ◌++◌, ap, ◌∙◌, append_assoc}
-use Rattle.dns_service.specs.declared.event.Event.{Event}
-use Rattle.dns_service.specs.declared.event.Output.{Output}
+use Rattle.dns_events.specs.declared.event.Event.{Event}
+use Rattle.dns_events.specs.declared.event.Output.{Output}
 use Rattle.dns_client.specs.Slate.{Slate, fresh}
 use Rattle.dns_client.specs.Pieces.{IsCut}
 use Rattle.dns_client.specs.Rule.{rule}
 use Rattle.dns_core.specs.Settings.{opening}
 use Rattle.dns_core.specs.Sent.{sent_after, sent}
-use Rattle.dns_service.specs.declared.settings.Settings.{Settings}
+use Rattle.dns_events.specs.declared.settings.Settings.{Settings}
 
 module _ (answers : Serving) (whole former latter : Event) (cut : (s : Slate) → IsCut answers whole former latter s) where
   cut_after : (p r : List Event) (s : Slate) → sent_after answers s (p ++ whole ∷ r) ≡ sent_after answers s (p ++ former ∷ latter ∷ r)

@@ -12,10 +12,10 @@ use Rattle.dns_service.specs.Cut.{cut}
 use Rattle.dns_service.specs.ErrorReply.{error_reply}
 use Rattle.dns_service.specs.Req.{Req}
 use Rattle.dns_service.specs.Transport.{hint_of, limit}
-use Rattle.dns_service.specs.declared.event.Event.{Event}
-use Rattle.dns_service.specs.declared.event.EventKind.TheVariants.{Datagram as Is_datagram}
-use Rattle.dns_service.specs.declared.event.Output.{Output}
-use Rattle.dns_service.specs.declared.event.Output.TheVariants.{Datagram}
+use Rattle.dns_events.specs.declared.event.Event.{Event}
+use Rattle.dns_events.specs.declared.event.EventKind.TheVariants.{Datagram as Is_datagram}
+use Rattle.dns_events.specs.declared.event.Output.{Output}
+use Rattle.dns_events.specs.declared.event.Output.TheVariants.{Datagram}
 use Rattle.dns_service.specs.declared.message.TransportSpecificContext.TheVariants.{Udp}
 use Rattle.dns_client.specs.Datagrams.{at_once, cut_datagram, exchange, refused_datagram}
 use Rattle.dns_client.specs.Requests.{unpolled, header_size, request_of_datagram}
@@ -25,7 +25,7 @@ use Rattle.dns_client.specs.Turns.{exchange_turn, polled, sent_at_once, sent_for
 use Rattle.dns_core.specs.Out.{is_new}
 use Rattle.dns_core.specs.ReplyTo.{Responds, datagram_limit, AnswersDatagram, IsReply}
 use Rattle.dns_core.specs.Sent.{conf}
-use Rattle.dns_service.specs.declared.settings.Settings.{Settings}
+use Rattle.dns_events.specs.declared.settings.Settings.{Settings}
 use Rattle.dns_core.proofs.Listening.{all_at}
 use Rattle.dns_core.proofs.Replied.{at_least, refused_responds}
 

@@ -5,14 +5,14 @@ use Rattle.std.specs.Prelude.{nat_eq, not, ◌&&◌}
 use Rattle.std.specs.List.{list_any}
 use Rattle.std.proofs.lemmas.Bool.{eq-eqb, ne_eqb, and_parts, not-true}
 use Rattle.std.proofs.Math.Bool.{and-false, and-not_self, or-true}
-use Rattle.dns_service.specs.declared.event.Event.{Event}
+use Rattle.dns_events.specs.declared.event.Event.{Event}
 use Rattle.dns_client.specs.Slate.{Slate, Told, Conf, conf_rule}
 use Rattle.dns_client.specs.Rule.{rule}
 use Rattle.dns_core.specs.Own.{is_wide, concerns}
 use Rattle.dns_core.specs.Settings.{opening}
 use Rattle.dns_core.specs.Sent.{conf, conf_after, slate}
 use Rattle.dns_core.specs.Out.{is_unused, holds_slot, is_new, taken, joins, members, put, turned_away}
-use Rattle.dns_service.specs.declared.settings.Settings.{Settings}
+use Rattle.dns_events.specs.declared.settings.Settings.{Settings}
 use Rattle.dns_core.proofs.OutLemmas.{slate_some, slate_none, members_more}
 use Rattle.dns_core.proofs.Counted.{filter_same, absent_other, filter_put, filter_put_not}
 use Rattle.dns_core.proofs.Plain.{narrow_conf, rule_used}

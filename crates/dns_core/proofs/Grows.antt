@@ -1,23 +1,22 @@
 -- By how much a piece and a turn make a queue longer: within what its budget leaves in the window of that moment.
 use Rattle.dns_client.specs.Serving.{Serving}
-use Rattle.std.proofs.Common.{◌≡◌, ℕ, ◌+◌, ◌-◌, ◌/◌, ◌≤◌, List, [], ◌∷◌, ◌++◌, length, length-append, drop, Bool, true, false, refl, sym, ◌∙◌, arith, ltb-true}
+use Rattle.std.proofs.Common.{◌≡◌, ℕ, ◌+◌, ◌-◌, ◌/◌, ◌≤◌, List, [], ◌∷◌, ◌++◌, length, length-append, Bool, true, false, refl, ap, sym, ◌∙◌, arith, ltb-true}
 use Rattle.std.specs.Prelude.{Option, Some, None, IsSomeAnd, nat_lt, min, ◌==◌, if◌then◌else◌, not, ◌||◌}
 use Rattle.std.proofs.lemmas.Bool.{eq-eqb, and_parts}
-use Rattle.dns_base.specs.Header.{header_of}
-use Rattle.dns_base.specs.Msg.{Msg}
-use Rattle.dns_base.specs.Wire.{wire}
 use Rattle.dns_service.specs.Config.{Connection, IsBudget}
-use Rattle.dns_service.specs.ErrorReply.{error_reply}
-use Rattle.dns_service.specs.declared.event.Why.TheVariants.{Short}
+use Rattle.dns_events.specs.declared.event.Event.{Event}
+use Rattle.dns_events.specs.declared.event.EventKind.{EventKind}
+use Rattle.dns_events.specs.declared.event.EventKind.TheVariants.{Reconfigure}
+use Rattle.dns_events.specs.declared.event.Why.{Why}
 use Rattle.dns_client.specs.Budget.{allows, is_left, is_mark, most_spent}
-use Rattle.dns_client.specs.Frames.{frames, framed}
-use Rattle.dns_client.specs.Slate.{Slate, SlateRequest, Told}
-use Rattle.dns_client.specs.Requests.{unpolled, header_size, most_requests, request_of_frame}
-use Rattle.dns_client.specs.Connections.{close, append_frame, enqueue, room, spending, take_frame, take_frames, take_request, piece}
-use Rattle.dns_client.specs.Turns.{turn, turn_request, poll_request, answered, retimed, with_request, reply_to, hold, queue_reply}
+use Rattle.dns_client.specs.Slate.{Slate, Open}
+use Rattle.dns_client.specs.Requests.{unpolled, request_of_frame}
+use Rattle.dns_client.specs.Connections.{close, wind_up, released, written, flushed, append_frame, room, spending}
+use Rattle.dns_client.specs.Turns.{polled, retimed, with_request}
 use Rattle.dns_core.specs.Budgets.{AllowsAtMost}
 use Rattle.dns_core.specs.Trails.{is_open}
-use Rattle.dns_core.proofs.Rests.{Rests, closes, requests_on}
+use Rattle.dns_core.specs.Out.{is_unused}
+use Rattle.dns_client.proofs.Walks.{Walks}
 
 -- what is left in window n of the b replies that may be queued in it
 abbrev pub left_of : ℕ → ℕ → Option ℕ → ℕ → ℕ
@@ -25,6 +24,11 @@ left_of b n mark spent = if is_mark mark n then b - spent else b
 
 abbrev pub left_in : ℕ → ℕ → Slate → ℕ
 left_in b n s = left_of b n s.mark s.spent
+
+-- an event that replaces the configurations
+abbrev pub is_reconfigure : EventKind → Bool
+is_reconfigure (Reconfigure dgram stream) = true
+is_reconfigure _ = false
 
 -- by how many replies a queue is longer
 abbrev pub growth : Slate → Slate → ℕ
@@ -53,34 +57,45 @@ pub record Grows (b at : ℕ) (s t : Slate) : Type 0 where
   pub window : t.connection.budget_window ≡ s.connection.budget_window
   pub conf : t.conf ≡ s.conf
   pub opens : is_open t.phase ≡ true → is_open s.phase ≡ true
-  pub gains : (w : ℕ) → AllowsAtMost b w s.connection → growth s t + left_in b (at / w) t ≤ left_in b (at / w) s
+  pub gains : (w : ℕ) → (is_open s.phase ≡ true → AllowsAtMost b w s.connection) → growth s t + left_in b (at / w) t ≤ left_in b (at / w) s
 
-pub rested : (b n : ℕ) (s t : Slate) → Rests s t → growth s t + left_in b n t ≤ left_in b n s
-rested b n s t r = rw (r.mark, r.spent) (omega (arith, r.shorter))
+-- a queue that grows no longer
+pub rested : (b n : ℕ) (s t : Slate) → length t.queue ≤ length s.queue → t.mark ≡ s.mark → t.spent ≡ s.spent → growth s t + left_in b n t ≤ left_in b n s
+rested b n s t q m c = rw (m, c) (omega (arith, q))
 
-pub grown : (b at : ℕ) (s t : Slate) → Rests s t → Grows b at s t
-grown b at s t r = record { budget = r.budget; window = r.window; conf = r.conf; opens = r.opens; gains = λ w a. rested b (at / w) s t r }
-
-then_on : (b at : ℕ) (s t u : Slate) → Grows b at s t → Grows b at t u → Grows b at s u
-then_on b at s t u g h = record {
+then_on : (b at : ℕ) (s t u : Slate) → t.phase ≡ s.phase → Grows b at s t → Grows b at t u → Grows b at s u
+then_on b at s t u p g h = record {
   budget = h.budget ∙ g.budget;
   window = h.window ∙ g.window;
   conf = h.conf ∙ g.conf;
   opens = λ x. g.opens (h.opens x);
-  gains = λ w a. omega (arith, g.gains w a, h.gains w (carries b w s.connection t.connection g.budget g.window a));
+  gains = λ w a. let k = h.gains w (λ o. carries b w s.connection t.connection g.budget g.window (a (ap is_open (sym p) ∙ o))) in omega (arith, g.gains w a, k);
 }
 
--- nothing of it changes
-alike : (b at : ℕ) (s t : Slate) → t.connection.response_budget ≡ s.connection.response_budget → t.connection.budget_window ≡ s.connection.budget_window → t.conf ≡ s.conf → t.phase ≡ s.phase → t.queue ≡ s.queue → t.mark ≡ s.mark → t.spent ≡ s.spent → Grows b at s t
-alike b at s t p q c f l m n = grown b at s t (record { budget = p; window = q; conf = c; opens = λ h. rw (sym f) h; shorter = rw l (omega arith); mark = m; spent = n })
+-- nothing of it changes but the queue, which is no longer
+shorter : (b at : ℕ) (s t : Slate) → t.connection.response_budget ≡ s.connection.response_budget → t.connection.budget_window ≡ s.connection.budget_window → t.conf ≡ s.conf → t.phase ≡ s.phase → length t.queue ≤ length s.queue → t.mark ≡ s.mark → t.spent ≡ s.spent → Grows b at s t
+shorter b at s t p q c f l m n = record { budget = p; window = q; conf = c; opens = λ h. rw (sym f) h; gains = λ w a. rested b (at / w) s t l m n }
+
+-- one that isn't open any more
+shuts : (b at : ℕ) (s t : Slate) → t.connection ≡ s.connection → t.conf ≡ s.conf → is_open t.phase ≡ false → length t.queue ≤ length s.queue → t.mark ≡ s.mark → t.spent ≡ s.spent → Grows b at s t
+shuts b at s t p c f l m n = record { budget = ap (λ (x : Connection). x.response_budget) p; window = ap (λ (x : Connection). x.budget_window) p; conf = c; opens = λ h. cc; gains = λ w a. rested b (at / w) s t l m n }
+
+-- the front goes
+front_goes : (m : List ℕ) (ms q : List (List ℕ)) → q ≡ m ∷ ms → length ms ≤ length q
+front_goes m ms q is = rw is (omega arith)
+
+written_on : (b at : ℕ) (m : List ℕ) (ms : List (List ℕ)) (s : Slate) → s.queue ≡ m ∷ ms → Grows b at s (written at m ms s).0
+written_on b at m [] s is = shorter b at s (written at m [] s).0 refl refl refl refl (omega arith) refl refl
+written_on b at m (n ∷ ms) s is = shorter b at s (written at m (n ∷ ms) s).0 refl refl refl refl (front_goes m (n ∷ ms) s.queue is) refl refl
+
+flushed_on : (b at : ℕ) (why : Why) (m : List ℕ) (ms : List (List ℕ)) (s : Slate) → s.queue ≡ m ∷ ms → Grows b at s (flushed why m ms s).0
+flushed_on b at why m [] s is = shuts b at s (flushed why m [] s).0 refl refl refl (omega arith) refl refl
+flushed_on b at why m (n ∷ ms) s is = shorter b at s (flushed why m (n ∷ ms) s).0 refl refl refl refl (front_goes m (n ∷ ms) s.queue is) refl refl
 
 module _ (b at : ℕ) (fits : IsBudget (Some b)) where
-  same : (s : Slate) → Grows b at s s
-  same s = alike b at s s refl refl refl refl refl refl refl
-
   -- a reply more, where there is room
-  appends : (m : List ℕ) (s : Slate) → room at s ≡ true → Grows b at s (append_frame at m s)
-  appends m s free =
+  appends : (m : List ℕ) (s : Slate) → s.phase ≡ Open → room at s ≡ true → Grows b at s (append_frame at m s)
+  appends m s p free =
       let can = (and_parts (nat_lt (length s.queue) s.bound) (allows at (spending s)) free).1 in
       let one : length (s.queue ++ m ∷ []) - length s.queue ≡ 1 = omega (arith, length-append s.queue (m ∷ [])) in
       record {
@@ -88,61 +103,27 @@ module _ (b at : ℕ) (fits : IsBudget (Some b)) where
         window = refl;
         conf = refl;
         opens = λ h. h;
-        gains = λ w a. rw one (left_after b at s.connection.budget_window w s.spent s.mark s.connection.response_budget a.1 fits a.0 can);
+        gains = λ w most. let a = most (ap is_open p) in rw one (left_after b at s.connection.budget_window w s.spent s.mark s.connection.response_budget a.1 fits a.0 can);
       }
 
-  enqueue_case : (x : Bool) (m : List ℕ) (s : Slate) → room at s ≡ x → Grows b at s (if x then append_frame at m s else s)
-  enqueue_case true m s free = appends m s free
-  enqueue_case false m s free = same s
-
-  takes_request : (secs : ℕ) (f : List ℕ) (s : Slate) → Grows b at s (take_request at secs f s)
-  takes_request secs f s =
-      let t = record s { requests = s.requests ++ unpolled (request_of_frame s.connection.idle_timeout s.addr at secs f) ∷ [] } in
-      (elim (nat_lt (length s.requests) most_requests) as (λ x. Grows b at s (if x then t else s)) [ true ↦ alike b at s t refl refl refl refl refl refl refl | false ↦ same s ])
-
-  takes_frame : (secs : ℕ) (f : List ℕ) (s : Slate) → Grows b at s (take_frame at secs f s)
-  takes_frame secs f s =
-      let t = record s { taken = s.taken + 1; reset_at = at } in
-      let m = framed (wire (error_reply f 1)) in
-      then_on b at s t (take_frame at secs f s) (alike b at s t refl refl refl refl refl refl refl)
-      (elim (header_of f).qr as (λ x. Grows b at t (if x then enqueue at m t else take_request at secs f t)) [ true ↦ enqueue_case (room at t) m t refl | false ↦ takes_request secs f t ])
-
-  takes : (secs : ℕ) (fs : List (List ℕ)) (s : Slate) → Grows b at s (take_frames at secs fs s).0
-  takes secs [] s = same s
-  takes secs (f ∷ fs) s =
-      let more = then_on b at s (take_frame at secs f s) (take_frames at secs fs (take_frame at secs f s)).0 (takes_frame secs f s) (takes secs fs (take_frame at secs f s)) in
-      (elim (nat_lt (length f) header_size) as (λ x. let t : Told = (if x then close Short s else take_frames at secs fs (take_frame at secs f s)) in Grows b at s t.0) [ true ↦ grown b at s (close Short s).0 (closes Short s) | false ↦ more ])
-
-  pub pieces : (secs : ℕ) (o : List ℕ) (s : Slate) → Grows b at s (piece at secs o s).0
-  pieces secs o s =
-      let t = record s { received = s.received ++ o } in
-      then_on b at s t (piece at secs o s).0 (alike b at s t refl refl refl refl refl refl refl) (takes secs (drop s.taken (frames (s.received ++ o))) t)
-
-  requested : (k : ℕ) (r : SlateRequest) (s : Slate) → Grows b at s (with_request k r s)
-  requested k r s = grown b at s (with_request k r s) (requests_on k r s)
-
-  frame_case : (x : Bool) (k : ℕ) (m : List ℕ) (r : SlateRequest) (s : Slate) → room at s ≡ x → Grows b at s (if x then append_frame at m (with_request k r s) else with_request k (hold m r) s)
-  frame_case true k m r s free = then_on b at s (with_request k r s) (append_frame at m (with_request k r s)) (requested k r s) (appends m (with_request k r s) free)
-  frame_case false k m r s free = requested k (hold m r) s
-
-  reply_on : (k : ℕ) (x : Option Msg) (r : SlateRequest) (s : Slate) → Grows b at s (queue_reply at k x r s)
-  reply_on k None r s = requested k r s
-  reply_on k (Some m) r s = frame_case (room at s) k (framed (wire m)) r s refl
-
-  held_case : (x : Bool) (k : ℕ) (m : List ℕ) (r : SlateRequest) (s : Slate) → room at s ≡ x → Grows b at s (if x then append_frame at m (with_request k (record r { held = None }) s) else s)
-  held_case true k m r s free = let t = with_request k (record r { held = None }) s in then_on b at s t (append_frame at m t) (requested k (record r { held = None }) s) (appends m t free)
-  held_case false k m r s free = same s
-
-  module _ (answers : Serving) where
-    polls : (k : ℕ) (r : SlateRequest) (s : Slate) → Grows b at s (poll_request answers at k r s)
-    polls k r s =
-        let a = answers.answer r.request r.polls in
-        then_on b at s (retimed a s) (poll_request answers at k r s) (alike b at s (retimed a s) refl refl refl refl refl refl refl) (reply_on k (reply_to None r.request.octets a) (answered a r) (retimed a s))
-
-    turn_request_on : (k : ℕ) (x : Option (List ℕ)) (r : SlateRequest) (s : Slate) → Grows b at s (turn_request answers at k x r s)
-    turn_request_on k None r s = polls k r s
-    turn_request_on k (Some m) r s = held_case (room at s) k m r s refl
-
-    pub turns : (k : ℕ) (x : Option SlateRequest) (s : Slate) → Grows b at s (turn answers at k x s)
-    turns k None s = same s
-    turns k (Some r) s = (elim r.done as (λ x. Grows b at s (if x then s else turn_request answers at k r.held r s)) [ true ↦ same s | false ↦ turn_request_on k r.held r s ])
+-- at an event by which no client begins and that sets no configurations
+pub grows : (answers : Serving) (b : ℕ) (e : Event) → IsBudget (Some b) → is_reconfigure e.kind ≡ false → Walks answers e (λ s t. is_unused s.phase ≡ false → Grows b e.at s t.0)
+grows answers b e fits n = record {
+  stays = λ s u. shorter b e.at s s refl refl refl refl (omega arith) refl refl;
+  goes = λ s t told p g h u. then_on b e.at s t told.0 p (g u) (h (ap is_unused p ∙ u));
+  exchanges = λ addr o s is p over u. let x = ap is_unused p in cc;
+  opens = λ addr s is p over u. let x = ap is_unused p in cc;
+  polls = λ k r s is p at d u. shorter b e.at s (with_request k (polled (answers.answer r.request r.polls) r) s) refl refl refl refl (omega arith) refl refl;
+  receives = λ o s p u. shorter b e.at s (record s { received = s.received ++ o }) refl refl refl refl (omega arith) refl refl;
+  counts = λ s p u. shorter b e.at s (record s { taken = s.taken + 1; reset_at = e.at }) refl refl refl refl (omega arith) refl refl;
+  asks = λ f s p u. shorter b e.at s (record s { requests = s.requests ++ unpolled (request_of_frame s.connection.idle_timeout s.addr e.at e.secs f) ∷ [] }) refl refl refl refl (omega arith) refl refl;
+  retimes = λ a s p u. shorter b e.at s (retimed a s) refl refl refl refl (omega arith) refl refl;
+  sets = λ k r s p u. shorter b e.at s (with_request k r s) refl refl refl refl (omega arith) refl refl;
+  queues = λ m s p free u. appends b e.at fits m s p free;
+  writes = λ m ms s p is u. written_on b e.at m ms s is;
+  flushes = λ why m ms s p is u. flushed_on b e.at why m ms s is;
+  closes = λ why s c u. shuts b e.at s (close why s).0 refl refl refl (omega arith) refl refl;
+  winds = λ why m ms s p is u. shuts b e.at s (wind_up why (m ∷ ms) s).0 refl refl refl (omega arith) refl refl;
+  reconfigures = λ dgram stream s is p u. let x = ap is_reconfigure is in cc;
+  releases = λ s is p u. shorter b e.at s (released s) refl refl refl refl (omega arith) refl refl;
+}

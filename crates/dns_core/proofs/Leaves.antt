@@ -2,8 +2,8 @@
 use Rattle.dns_client.specs.Serving.{Serving}
 use Rattle.std.proofs.Common.{◌≡◌, List, [], true, false, refl, ap, ◌∙◌}
 use Rattle.dns_service.specs.Config.{Dgram, Stream}
-use Rattle.dns_service.specs.declared.event.Event.{Event}
-use Rattle.dns_service.specs.declared.event.EventKind.TheVariants.{Piece, Reconfigure, Shutdown}
+use Rattle.dns_events.specs.declared.event.Event.{Event}
+use Rattle.dns_events.specs.declared.event.EventKind.TheVariants.{Piece, Reconfigure, Shutdown}
 use Rattle.dns_client.specs.Rule.{rule, in_phase}
 use Rattle.dns_client.specs.Slate.{Slate, fresh}
 use Rattle.dns_core.specs.Out.{is_unused}
@@ -11,7 +11,7 @@ use Rattle.dns_core.specs.Own.{is_wide}
 use Rattle.dns_core.specs.Placed.{is_beginning}
 use Rattle.dns_core.specs.Settings.{opening}
 use Rattle.dns_core.specs.SlateBy.{slate_by}
-use Rattle.dns_service.specs.declared.settings.Settings.{Settings}
+use Rattle.dns_events.specs.declared.settings.Settings.{Settings}
 use Rattle.dns_core.proofs.Late.{NotOver, late_reconfigure, late_shutdown, never_open, over_after}
 use Rattle.dns_core.proofs.Plain.{narrow, unused_is}
 use Rattle.dns_core.proofs.Settled.{empty_idle, nothing_received, settled_after}

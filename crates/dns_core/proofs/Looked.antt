@@ -5,16 +5,16 @@ use Rattle.std.specs.Prelude.{if◌then◌else◌, not, ◌&&◌}
 use Rattle.std.proofs.lemmas.Bool.{eq-eqb, ne_eqb, and_parts, not-true}
 use Rattle.std.proofs.lemmas.List.{append-nil}
 use Rattle.std.proofs.Math.Bool.{and-not_self}
-use Rattle.dns_admission.specs.declared.look.Look.{Look as State}
+use Rattle.dns_events.specs.declared.look.Look.{Look as State}
 use Rattle.dns_admission.specs.Machine.{has_version, replaced}
 use Rattle.dns_service.specs.Config.{Dgram, Stream}
-use Rattle.dns_service.specs.declared.event.Event.{Event}
-use Rattle.dns_service.specs.declared.event.EventKind.{EventKind}
-use Rattle.dns_service.specs.declared.event.EventKind.TheVariants.{Reconfigure, Shutdown}
+use Rattle.dns_events.specs.declared.event.Event.{Event}
+use Rattle.dns_events.specs.declared.event.EventKind.{EventKind}
+use Rattle.dns_events.specs.declared.event.EventKind.TheVariants.{Reconfigure, Shutdown}
 use Rattle.dns_client.specs.After.{slate_after, sent_after}
 use Rattle.dns_client.specs.News.{wide, news, new_end, told_of}
 use Rattle.dns_client.specs.Rule.{rule, in_phase}
-use Rattle.dns_client.specs.Slate.{Slate, Conf, Told, Phase, Unused, Exchange, Open, Flushing, Closed, conf_of, conf_rule, with_conf}
+use Rattle.dns_client.specs.Slate.{Slate, Conf, Told, Phase, Unused, conf_of, conf_rule, with_conf}
 use Rattle.dns_core.specs.Own.{is_wide}
 use Rattle.dns_core.specs.Books.{book_rule, is_entry, books}
 use Rattle.dns_core.proofs.Late.{NotOver, late_reconfigure, late_shutdown, rule_over}
@@ -82,17 +82,11 @@ module _ (answers : Serving) where
   -- the moment and the number of an event that all hear say nothing
   reconfigure_alone : (e f : Event) (d : Dgram) (t : Stream) (p : Phase) (s : Slate) → e.kind ≡ Reconfigure d t → f.kind ≡ Reconfigure d t → in_phase answers e p s ≡ in_phase answers f p s
   reconfigure_alone e f d t Unused s is is' = rw (is, is') refl
-  reconfigure_alone e f d t Exchange s is is' = rw (is, is') refl
-  reconfigure_alone e f d t Open s is is' = rw (is, is') refl
-  reconfigure_alone e f d t (Flushing why) s is is' = rw (is, is') refl
-  reconfigure_alone e f d t Closed s is is' = rw (is, is') refl
+  reconfigure_alone e f d t _ s is is' = rw (is, is') refl
 
   shutdown_alone : (e f : Event) (p : Phase) (s : Slate) → e.kind ≡ Shutdown → f.kind ≡ Shutdown → in_phase answers e p s ≡ in_phase answers f p s
   shutdown_alone e f Unused s is is' = rw (is, is') refl
-  shutdown_alone e f Exchange s is is' = rw (is, is') refl
-  shutdown_alone e f Open s is is' = rw (is, is') refl
-  shutdown_alone e f (Flushing why) s is is' = rw (is, is') refl
-  shutdown_alone e f Closed s is is' = rw (is, is') refl
+  shutdown_alone e f _ s is is' = rw (is, is') refl
 
   kind_alone : (k : EventKind) (e f : Event) (p : Phase) (s : Slate) → e.kind ≡ k → f.kind ≡ k → is_wide k ≡ true → in_phase answers e p s ≡ in_phase answers f p s
   kind_alone (Reconfigure d t) e f p s is is' w = reconfigure_alone e f d t p s is is'
@@ -107,10 +101,7 @@ module _ (answers : Serving) where
 
   phase_says : (d : Dgram) (t : Stream) (p : Phase) (s : Slate) → (in_phase answers (wide (Reconfigure d t)) p s).1 ≡ []
   phase_says d t Unused s = refl
-  phase_says d t Exchange s = refl
-  phase_says d t Open s = refl
-  phase_says d t (Flushing why) s = refl
-  phase_says d t Closed s = refl
+  phase_says d t _ s = refl
 
   pub reconfigure_says : (d : Dgram) (t : Stream) (s : Slate) → (rule answers (wide (Reconfigure d t)) s).1 ≡ []
   reconfigure_says d t s = phase_says d t s.phase (with_conf (conf_rule (Reconfigure d t) s.conf) s)
@@ -118,10 +109,7 @@ module _ (answers : Serving) where
   -- of two configurations the later one counts
   later_phase : (p : Phase) (d d' : Dgram) (t t' : Stream) (s : Slate) → s.phase ≡ p → s.conf.over ≡ false → rule answers (wide (Reconfigure d' t')) (rule answers (wide (Reconfigure d t)) s).0 ≡ rule answers (wide (Reconfigure d' t')) s
   later_phase Unused d d' t t' s p o = rw (p, o) refl
-  later_phase Exchange d d' t t' s p o = rw (p, o) refl
-  later_phase Open d d' t t' s p o = rw (p, o) refl
-  later_phase (Flushing why) d d' t t' s p o = rw (p, o) refl
-  later_phase Closed d d' t t' s p o = rw (p, o) refl
+  later_phase _ d d' t t' s p o = rw (p, o) refl
 
   pub later_counts : (d d' : Dgram) (t t' : Stream) (s : Slate) → s.conf.over ≡ false → rule answers (wide (Reconfigure d' t')) (rule answers (wide (Reconfigure d t)) s).0 ≡ rule answers (wide (Reconfigure d' t')) s
   later_counts d d' t t' s o = later_phase s.phase d d' t t' s refl o

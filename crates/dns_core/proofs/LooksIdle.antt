@@ -5,9 +5,9 @@ use Rattle.std.specs.Prelude.{if◌then◌else◌, ◌==◌, not, ◌&&◌, ◌|
 use Rattle.std.proofs.lemmas.Bool.{eq-eqb, ne_eqb}
 use Rattle.std.proofs.lemmas.List.{append-nil}
 use Rattle.std.proofs.Math.Bool.{or-false}
-use Rattle.dns_service.specs.declared.event.Event.{Event}
-use Rattle.dns_service.specs.declared.event.Step.{Step}
-use Rattle.dns_service.specs.declared.event.Step.TheVariants.{Own, Look}
+use Rattle.dns_events.specs.declared.event.Event.{Event}
+use Rattle.dns_events.specs.declared.event.Step.{Step}
+use Rattle.dns_events.specs.declared.event.Step.TheVariants.{Own, Look}
 use Rattle.dns_client.specs.After.{slate_after, sent_after}
 use Rattle.dns_client.specs.Rule.{rule}
 use Rattle.dns_client.specs.Slate.{Slate, Conf, Told, fresh}
@@ -17,7 +17,7 @@ use Rattle.dns_core.specs.Sent.{sent}
 use Rattle.dns_core.specs.Out.{is_unused}
 use Rattle.dns_core.specs.Placed.{Knowledge, book_now, entries, own_events, is_beginning, looks, puts, learns, learned, place, placed, knows, knowledge_at_first}
 use Rattle.dns_core.specs.Outs.{placed_slate}
-use Rattle.dns_service.specs.declared.settings.Settings.{Settings}
+use Rattle.dns_events.specs.declared.settings.Settings.{Settings}
 use Rattle.dns_core.proofs.OutLemmas.{sent_after_append}
 use Rattle.dns_core.proofs.Plain.{narrow, unused_is}
 use Rattle.dns_core.proofs.Placing.{slate_append}

@@ -9,16 +9,16 @@ use Rattle.std.proofs.lemmas.Bool.{cases_eq, eq-eqb, ne_eqb}
 use Rattle.std.proofs.lemmas.List.{append-nil}
 use Rattle.std.proofs.lemmas.Map.Keys.{sorted_head, sorted_tail}
 use Rattle.std.proofs.Math.Bool.{or-true}
-use Rattle.dns_service.specs.declared.event.Event.{Event}
-use Rattle.dns_service.specs.declared.event.Output.{Output}
-use Rattle.dns_service.specs.declared.event.Step.{Step}
+use Rattle.dns_events.specs.declared.event.Event.{Event}
+use Rattle.dns_events.specs.declared.event.Output.{Output}
+use Rattle.dns_events.specs.declared.event.Step.{Step}
 use Rattle.dns_client.specs.After.{slate_after, sent_after}
 use Rattle.dns_client.specs.Slate.{Slate}
 use Rattle.dns_core.specs.AtOnce.{look_by}
 use Rattle.dns_core.specs.Out.{is_unused}
 use Rattle.dns_core.specs.Placed.{Knowledge, knows, puts}
 use Rattle.dns_core.specs.Outs.{Hall, placed_slate, placed_gain, hall, step_gained, outs_after}
-use Rattle.dns_service.specs.declared.settings.Settings.{Settings}
+use Rattle.dns_events.specs.declared.settings.Settings.{Settings}
 use Rattle.dns_core.proofs.Counted.{less_absent}
 use Rattle.dns_core.proofs.Placing.{knows_more, slate_more, gain_more}
 use Rattle.dns_core.proofs.Stepping.{look_quiet, quiet_slate}

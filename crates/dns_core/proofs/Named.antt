@@ -1,36 +1,31 @@
 -- Whom the outputs of a client's rule are for, and what a client that didn't begin is sent.
 use Rattle.dns_client.specs.Serving.{Serving}
-use Rattle.std.proofs.Common.{◌≡◌, ◌≢◌, ℕ, List, [], ◌∷◌, ◌++◌, length, drop, Bool, true, false, cond, refl, ap, sym, ◌∙◌, subst}
-use Rattle.std.specs.Prelude.{Option, Some, None, slice_get, nat_lt, filter, if◌then◌else◌, not, ◌&&◌}
-use Rattle.std.specs.List.{list_any}
+use Rattle.std.proofs.Common.{◌≡◌, ◌≢◌, ℕ, List, [], ◌∷◌, ◌++◌, length, Bool, true, false, cond, refl, ap, sym, ◌∙◌, subst}
+use Rattle.std.specs.Prelude.{Option, Some, None, nat_lt, filter, if◌then◌else◌}
 use Rattle.std.proofs.lemmas.Bool.{eq-eqb, eqb-true, ne_eqb}
 use Rattle.dns_name.specs.declared.address.SocketAddr.{SocketAddr}
 use Rattle.dns_base.specs.Header.{header_of}
 use Rattle.dns_base.specs.Msg.{Msg}
-use Rattle.dns_base.specs.Wire.{wire}
 use Rattle.dns_service.specs.Config.{Dgram}
-use Rattle.dns_service.specs.declared.event.Event.{Event}
-use Rattle.dns_service.specs.declared.event.EventKind.{EventKind}
-use Rattle.dns_service.specs.declared.event.EventKind.TheVariants.{Datagram, Turn, Offer, Piece, End, Fault, Close, Write, Tick, Release, Reconfigure, Shutdown}
-use Rattle.dns_service.specs.declared.event.Output.{Output}
-use Rattle.dns_service.specs.declared.event.Why.{Why}
-use Rattle.dns_service.specs.declared.event.Why.TheVariants.{Ended, Short, Idle, WriteTimeout, Commanded, Fault as By_fault, Shutdown as By_shutdown}
-use Rattle.dns_client.specs.Frames.{frames, framed}
-use Rattle.dns_client.specs.Slate.{Slate, SlateRequest, Told, Phase, Unused, Exchange, Open, Flushing, Closed, fresh, conf_rule, with_conf}
+use Rattle.dns_events.specs.declared.event.Event.{Event}
+use Rattle.dns_events.specs.declared.event.EventKind.{EventKind}
+use Rattle.dns_events.specs.declared.event.EventKind.TheVariants.{Datagram, Offer, Reconfigure, Shutdown}
+use Rattle.dns_events.specs.declared.event.Output.{Output}
+use Rattle.dns_events.specs.declared.event.Why.{Why}
+use Rattle.dns_client.specs.Slate.{Slate, Told, Phase, Unused, fresh, conf_rule, with_conf}
 use Rattle.dns_client.specs.Requests.{header_size}
 use Rattle.dns_client.specs.Datagrams.{cut_datagram, refused_datagram, datagram}
-use Rattle.dns_client.specs.Timers.{is_expired}
-use Rattle.dns_client.specs.Connections.{opened, close, wind_up, append_frame, room, in_transaction, take_frame, take_frames, piece, took_too_long, written, write, flushed, flush, tick, released}
-use Rattle.dns_client.specs.Turns.{exchange_turn, turn, turn_request, polled, answered, retimed, with_request, reply_to, sent_at_once, sent_for, hold, queue_frame, queue_reply, queue_held}
-use Rattle.dns_client.specs.Rule.{rule, in_phase, unused_rule, exchange_rule, open_rule, flushing_rule, closed_rule}
+use Rattle.dns_client.specs.Connections.{opened, written, flushed}
+use Rattle.dns_client.specs.Turns.{sent_at_once, sent_for}
+use Rattle.dns_client.specs.Rule.{rule, in_phase, unused_rule}
 use Rattle.dns_core.specs.Settings.{opening}
 use Rattle.dns_core.specs.Own.{is_wide, concerns, own}
 use Rattle.dns_core.specs.Sent.{slate_after, sent_after, sent, slate}
 use Rattle.dns_core.specs.Out.{is_unused}
 use Rattle.dns_core.specs.ByClient.{client_of, is_for}
-use Rattle.dns_service.specs.declared.settings.Settings.{Settings}
+use Rattle.dns_events.specs.declared.settings.Settings.{Settings}
 use Rattle.dns_core.proofs.Plain.{unused_is, rule_used, still_unused}
-use Rattle.dns_core.proofs.Taken.{takes}
+use Rattle.dns_client.proofs.Walks.{Walks, walks}
 
 -- each output is for the client
 abbrev pub AreFor : ℕ → List Output → Type 0
@@ -58,52 +53,16 @@ record Names (s : Slate) (t : Told) : Type 0 where
 silent : (s t : Slate) → t.client ≡ s.client → Names s (t, [])
 silent s t h = record { client = h; told = tt }
 
-close_names : (why : Why) (s : Slate) → Names s (close why s)
-close_names why s = record { client = refl; told = (refl, tt) }
-
-wound_names : (why : Why) (q : List (List ℕ)) (s : Slate) → Names s (wind_up why q s)
-wound_names why [] s = close_names why s
-wound_names why (m ∷ ms) s = record { client = refl; told = tt }
-
-take_names : (at secs : ℕ) (fs : List (List ℕ)) (s : Slate) → Names s (take_frames at secs fs s)
-take_names at secs [] s = silent s s refl
-take_names at secs (f ∷ fs) s =
-    let c = (takes at secs f s).client in
-    let n = take_names at secs fs (take_frame at secs f s) in
-    let more : Names s (take_frames at secs fs (take_frame at secs f s)) = record { client = n.client ∙ c; told = subst (λ (x : ℕ). AreFor x (take_frames at secs fs (take_frame at secs f s)).1) c n.told } in
-    (elim (nat_lt (length f) header_size) as (λ b. Names s (if b then close Short s else take_frames at secs fs (take_frame at secs f s))) [ true ↦ close_names Short s | false ↦ more ])
-
-piece_names : (at secs : ℕ) (o : List ℕ) (s : Slate) → Names s (piece at secs o s)
-piece_names at secs o s = let n = take_names at secs (drop s.taken (frames (s.received ++ o))) (record s { received = s.received ++ o }) in record { client = n.client; told = n.told }
+names_on : (s t : Slate) (told : Told) → Names s (t, []) → Names t told → Names s told
+names_on s t told g n = record { client = n.client ∙ g.client; told = subst (λ (x : ℕ). AreFor x told.1) g.client n.told }
 
 written_names : (at : ℕ) (m : List ℕ) (ms : List (List ℕ)) (s : Slate) → Names s (written at m ms s)
 written_names at m [] s = record { client = refl; told = (refl, tt) }
 written_names at m (n ∷ ms) s = record { client = refl; told = (refl, tt) }
 
-write_names : (at took : ℕ) (q : List (List ℕ)) (s : Slate) → Names s (write at took q s)
-write_names at took [] s = silent s s refl
-write_names at took (m ∷ ms) s = (elim (took_too_long took s) as (λ b. Names s (if b then close WriteTimeout s else written at m ms s)) [ true ↦ close_names WriteTimeout s | false ↦ written_names at m ms s ])
-
 flushed_names : (why : Why) (m : List ℕ) (ms : List (List ℕ)) (s : Slate) → Names s (flushed why m ms s)
 flushed_names why m [] s = record { client = refl; told = (refl, (refl, tt)) }
 flushed_names why m (n ∷ ms) s = record { client = refl; told = (refl, tt) }
-
-flush_names : (why : Why) (took : ℕ) (q : List (List ℕ)) (s : Slate) → Names s (flush why took q s)
-flush_names why took [] s = silent s s refl
-flush_names why took (m ∷ ms) s = (elim (took_too_long took s) as (λ b. Names s (if b then close WriteTimeout s else flushed why m ms s)) [ true ↦ close_names WriteTimeout s | false ↦ flushed_names why m ms s ])
-
-tick_names : (at : ℕ) (s : Slate) → Names s (tick at s)
-tick_names at s = (elim (is_expired s.reset_at s.connection.idle_timeout at && not (list_any in_transaction s.requests)) as (λ b. Names s (if b then close Idle s else (s, []))) [ true ↦ close_names Idle s | false ↦ silent s s refl ])
-
-queue_frame_client : (at k : ℕ) (m : List ℕ) (r : SlateRequest) (s : Slate) → (queue_frame at k m r s).client ≡ s.client
-queue_frame_client at k m r s = (elim (room at s) as (λ b. let t : Slate = (if b then append_frame at m (with_request k r s) else with_request k (hold m r) s) in t.client ≡ s.client) [ true ↦ refl | false ↦ refl ])
-
-queue_reply_client : (at k : ℕ) (x : Option Msg) (r : SlateRequest) (s : Slate) → (queue_reply at k x r s).client ≡ s.client
-queue_reply_client at k None r s = refl
-queue_reply_client at k (Some m) r s = queue_frame_client at k (framed (wire m)) r s
-
-queue_held_client : (at k : ℕ) (m : List ℕ) (r : SlateRequest) (s : Slate) → (queue_held at k m r s).client ≡ s.client
-queue_held_client at k m r s = (elim (room at s) as (λ b. let t : Slate = (if b then append_frame at m (with_request k (record r { held = None }) s) else s) in t.client ≡ s.client) [ true ↦ refl | false ↦ refl ])
 
 at_once_for : (client : ℕ) (x : Option Msg) → AreFor client (sent_at_once client x)
 at_once_for client None = tt
@@ -131,103 +90,40 @@ begins_not e s = record { of = λ h. h; told = tt }
 
 unused_begins : (e : Event) (k : EventKind) (s : Slate) → Begins e s (unused_rule e k s)
 unused_begins e (Datagram addr o) s = (elim s.conf.over as (λ b. Begins e s (if b then (s, []) else datagram e.client addr e.at e.secs o s)) [ true ↦ begins_not e s | false ↦ record { of = λ h u. refl; told = datagram_for e.client addr e.at e.secs o s } ])
-unused_begins e (Turn k) s = begins_not e s
 unused_begins e (Offer addr) s = (elim s.conf.over as (λ b. Begins e s (if b then (s, []) else (opened e.client addr e.at s, []))) [ true ↦ begins_not e s | false ↦ record { of = λ h u. refl; told = tt } ])
-unused_begins e (Piece o) s = begins_not e s
-unused_begins e End s = begins_not e s
-unused_begins e Fault s = begins_not e s
-unused_begins e Close s = begins_not e s
-unused_begins e (Write took) s = begins_not e s
-unused_begins e Tick s = begins_not e s
-unused_begins e Release s = begins_not e s
-unused_begins e (Reconfigure dgram stream) s = begins_not e s
-unused_begins e Shutdown s = begins_not e s
+unused_begins e _ s = begins_not e s
 
 module _ (answers : Serving) where
-  exchange_turn_names : (k : ℕ) (x : Option SlateRequest) (s : Slate) → Names s (exchange_turn answers k x s)
-  exchange_turn_names k None s = silent s s refl
-  exchange_turn_names k (Some r) s =
-      (elim r.done as (λ b. Names s (if b then (s, []) else (with_request k (polled (answers.answer r.request r.polls) r) s, sent_at_once s.client (sent_for answers r.request (answers.answer r.request r.polls))))) [ true ↦ silent s s refl | false ↦ record { client = refl; told = at_once_for s.client (sent_for answers r.request (answers.answer r.request r.polls)) } ])
+  names : (e : Event) → Walks answers e (λ s t. is_unused s.phase ≡ false → Names s t)
+  names e = record {
+    stays = λ s u. silent s s refl;
+    goes = λ s t told p g h u. names_on s t told (g u) (h (ap is_unused p ∙ u));
+    exchanges = λ addr o s is p over u. let x = ap is_unused p in cc;
+    opens = λ addr s is p over u. let x = ap is_unused p in cc;
+    polls = λ k r s is p at d u. record { client = refl; told = at_once_for s.client (sent_for answers r.request (answers.answer r.request r.polls)) };
+    receives = λ o s p u. record { client = refl; told = tt };
+    counts = λ s p u. record { client = refl; told = tt };
+    asks = λ f s p u. record { client = refl; told = tt };
+    retimes = λ a s p u. record { client = refl; told = tt };
+    sets = λ k r s p u. record { client = refl; told = tt };
+    queues = λ m s p free u. record { client = refl; told = tt };
+    writes = λ m ms s p is u. written_names e.at m ms s;
+    flushes = λ why m ms s p is u. flushed_names why m ms s;
+    closes = λ why s c u. record { client = refl; told = (refl, tt) };
+    winds = λ why m ms s p is u. record { client = refl; told = tt };
+    reconfigures = λ dgram stream s is p u. record { client = refl; told = tt };
+    releases = λ s is p u. record { client = refl; told = tt };
+  }
 
-  turn_request_client : (at k : ℕ) (x : Option (List ℕ)) (r : SlateRequest) (s : Slate) → (turn_request answers at k x r s).client ≡ s.client
-  turn_request_client at k None r s =
-      let a = answers.answer r.request r.polls in
-      queue_reply_client at k (reply_to None r.request.octets a) (answered a r) (retimed a s)
-  turn_request_client at k (Some m) r s = queue_held_client at k m r s
-
-  turn_client : (at k : ℕ) (x : Option SlateRequest) (s : Slate) → (turn answers at k x s).client ≡ s.client
-  turn_client at k None s = refl
-  turn_client at k (Some r) s = (elim r.done as (λ b. let t : Slate = (if b then s else turn_request answers at k r.held r s) in t.client ≡ s.client) [ true ↦ refl | false ↦ turn_request_client at k r.held r s ])
-
-  exchange_names : (k : EventKind) (s : Slate) → Names s (exchange_rule answers k s)
-  exchange_names (Datagram addr o) s = silent s s refl
-  exchange_names (Turn k) s = exchange_turn_names k (slice_get s.requests k) s
-  exchange_names (Offer addr) s = silent s s refl
-  exchange_names (Piece o) s = silent s s refl
-  exchange_names End s = silent s s refl
-  exchange_names Fault s = silent s s refl
-  exchange_names Close s = silent s s refl
-  exchange_names (Write took) s = silent s s refl
-  exchange_names Tick s = silent s s refl
-  exchange_names Release s = silent s s refl
-  exchange_names (Reconfigure dgram stream) s = silent s s refl
-  exchange_names Shutdown s = silent s s refl
-
-  open_names : (e : Event) (k : EventKind) (s : Slate) → Names s (open_rule answers e k s)
-  open_names e (Datagram addr o) s = silent s s refl
-  open_names e (Turn k) s = silent s (turn answers e.at k (slice_get s.requests k) s) (turn_client e.at k (slice_get s.requests k) s)
-  open_names e (Offer addr) s = silent s s refl
-  open_names e (Piece o) s = piece_names e.at e.secs o s
-  open_names e End s = close_names Ended s
-  open_names e Fault s = close_names By_fault s
-  open_names e Close s = wound_names Commanded s.queue s
-  open_names e (Write took) s = write_names e.at took s.queue s
-  open_names e Tick s = tick_names e.at s
-  open_names e Release s = silent s s refl
-  open_names e (Reconfigure dgram stream) s = silent s (open_rule answers e (Reconfigure dgram stream) s).0 refl
-  open_names e Shutdown s = wound_names By_shutdown s.queue s
-
-  flushing_names : (why : Why) (k : EventKind) (s : Slate) → Names s (flushing_rule why k s)
-  flushing_names why (Datagram addr o) s = silent s s refl
-  flushing_names why (Turn k) s = silent s s refl
-  flushing_names why (Offer addr) s = silent s s refl
-  flushing_names why (Piece o) s = silent s s refl
-  flushing_names why End s = silent s s refl
-  flushing_names why Fault s = close_names By_fault s
-  flushing_names why Close s = silent s s refl
-  flushing_names why (Write took) s = flush_names why took s.queue s
-  flushing_names why Tick s = silent s s refl
-  flushing_names why Release s = silent s s refl
-  flushing_names why (Reconfigure dgram stream) s = silent s s refl
-  flushing_names why Shutdown s = silent s s refl
-
-  closed_names : (k : EventKind) (s : Slate) → Names s (closed_rule k s)
-  closed_names (Datagram addr o) s = silent s s refl
-  closed_names (Turn k) s = silent s s refl
-  closed_names (Offer addr) s = silent s s refl
-  closed_names (Piece o) s = silent s s refl
-  closed_names End s = silent s s refl
-  closed_names Fault s = silent s s refl
-  closed_names Close s = silent s s refl
-  closed_names (Write took) s = silent s s refl
-  closed_names Tick s = silent s s refl
-  closed_names Release s = silent s (released s) refl
-  closed_names (Reconfigure dgram stream) s = silent s s refl
-  closed_names Shutdown s = silent s s refl
-
-  used_names : (e : Event) (p : Phase) (s : Slate) → is_unused p ≡ false → Names s (in_phase answers e p s)
-  used_names e Unused s u = cc
-  used_names e Exchange s u = exchange_names e.kind s
-  used_names e Open s u = open_names e e.kind s
-  used_names e (Flushing why) s u = flushing_names why e.kind s
-  used_names e Closed s u = closed_names e.kind s
+  used_names : (e : Event) (s : Slate) → is_unused s.phase ≡ false → Names s (rule answers e s)
+  used_names e s u = let n = walks answers e (λ s t. is_unused s.phase ≡ false → Names s t) (names e) s u in record { client = n.client; told = n.told }
 
   -- what a client that began is sent is for the number in its slate, which stays
   pub rule_for : (e : Event) (s : Slate) → is_unused s.phase ≡ false → AreFor s.client (rule answers e s).1
-  rule_for e s u = (used_names e s.phase (with_conf (conf_rule e.kind s.conf) s) u).told
+  rule_for e s u = (used_names e s u).told
 
   pub rule_client : (e : Event) (s : Slate) → is_unused s.phase ≡ false → (rule answers e s).0.client ≡ s.client
-  rule_client e s u = (used_names e s.phase (with_conf (conf_rule e.kind s.conf) s) u).client
+  rule_client e s u = (used_names e s u).client
 
   unused_for : (e : Event) (s : Slate) → s.phase ≡ Unused → Begins e (with_conf (conf_rule e.kind s.conf) s) (rule answers e s)
   unused_for e s p =
@@ -244,18 +140,9 @@ module _ (answers : Serving) where
 
   -- an event that all hear begins nobody
   wide_kind : (e : Event) (k : EventKind) (s : Slate) → is_wide k ≡ true → unused_rule e k s ≡ (s, [])
-  wide_kind e (Datagram addr o) s w = cc
-  wide_kind e (Turn k) s w = cc
-  wide_kind e (Offer addr) s w = cc
-  wide_kind e (Piece o) s w = cc
-  wide_kind e End s w = cc
-  wide_kind e Fault s w = cc
-  wide_kind e Close s w = cc
-  wide_kind e (Write took) s w = cc
-  wide_kind e Tick s w = cc
-  wide_kind e Release s w = cc
   wide_kind e (Reconfigure dgram stream) s w = refl
   wide_kind e Shutdown s w = refl
+  wide_kind e _ s w = cc
 
   pub wide_begins_nobody : (e : Event) (s : Slate) → is_wide e.kind ≡ true → is_unused s.phase ≡ true → is_unused (rule answers e s).0.phase ≡ true
   wide_begins_nobody e s w u =

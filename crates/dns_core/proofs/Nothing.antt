@@ -6,16 +6,16 @@ use Rattle.std.proofs.Math.Seq.{take-append_seam}
 use Rattle.std.proofs.lemmas.Bool.{cases_eq}
 use Rattle.std.specs.Prelude.{nat_eq, nat_lt, filter, if◌then◌else◌, not, ◌&&◌}
 use Rattle.std.specs.List.{list_any, flat_map}
-use Rattle.dns_service.specs.declared.event.Event.{Event}
-use Rattle.dns_service.specs.declared.event.Output.{Output}
-use Rattle.dns_service.specs.declared.event.Output.TheVariants.{TurnedAway}
+use Rattle.dns_events.specs.declared.event.Event.{Event}
+use Rattle.dns_events.specs.declared.event.Output.{Output}
+use Rattle.dns_events.specs.declared.event.Output.TheVariants.{TurnedAway}
 use Rattle.dns_client.specs.Slate.{Slate, Told, Conf, conf_rule, fresh}
 use Rattle.dns_client.specs.Rule.{rule}
 use Rattle.dns_core.specs.Own.{is_wide, concerns}
 use Rattle.dns_core.specs.Sent.{conf, slate}
 use Rattle.dns_core.specs.Out.{is_unused, holds_slot, is_new, taken, has_room, joins, put, members, gain, heard, is_turned_away, turned_away, gained, out_after, out}
 use Rattle.dns_core.specs.ByClient.{IsPrefix}
-use Rattle.dns_service.specs.declared.settings.Settings.{Settings}
+use Rattle.dns_events.specs.declared.settings.Settings.{Settings}
 use Rattle.dns_core.proofs.Counted.{filter_same, put_other}
 use Rattle.dns_core.proofs.Plain.{plain, narrow_conf}
 use Rattle.dns_core.proofs.OutLemmas.{slate_some, slate_none}

@@ -9,15 +9,15 @@ use Rattle.std.proofs.lemmas.Bool.{le-ltb, not-true}
 use Rattle.dns_core.specs.Serves.{EntersWith}
 use Rattle.dns_name.specs.declared.address.SocketAddr.{SocketAddr}
 use Rattle.dns_admission.specs.declared.call.Call.TheVariants.{Admit}
-use Rattle.dns_admission.specs.declared.look.Look.{Look}
-use Rattle.dns_admission.specs.declared.look.Admission.TheVariants.{Admitted, Full}
+use Rattle.dns_events.specs.declared.look.Look.{Look}
+use Rattle.dns_admission.specs.declared.admission.Admission.TheVariants.{Admitted, Full}
 use Rattle.dns_admission.specs.Admissions.{Admits}
 use Rattle.dns_admission.specs.Machine.{state_after, has_slot, limit_of, admitted}
 use Rattle.dns_service.specs.Answer.{Answer}
-use Rattle.dns_service.specs.declared.event.Event.{Event}
-use Rattle.dns_service.specs.declared.event.EventKind.TheVariants.{Datagram, Offer}
-use Rattle.dns_service.specs.declared.event.Output.{Output}
-use Rattle.dns_service.specs.declared.event.Output.TheVariants.{TurnedAway}
+use Rattle.dns_events.specs.declared.event.Event.{Event}
+use Rattle.dns_events.specs.declared.event.EventKind.TheVariants.{Datagram, Offer}
+use Rattle.dns_events.specs.declared.event.Output.{Output}
+use Rattle.dns_events.specs.declared.event.Output.TheVariants.{TurnedAway}
 use Rattle.dns_service.specs.declared.polled.PolledRequest.{PolledRequest}
 use Rattle.dns_client.specs.Slate.{Slate, Told, Conf, IsUnused, conf_of}
 use Rattle.dns_client.specs.Connections.{opened}
@@ -29,7 +29,7 @@ use Rattle.dns_core.specs.Own.{is_wide}
 use Rattle.dns_core.specs.Out.{is_unused, holds_slot, gained}
 use Rattle.dns_core.specs.Sent.{slate}
 use Rattle.dns_core.specs.Server.{Serves}
-use Rattle.dns_service.specs.declared.settings.Settings.{Settings}
+use Rattle.dns_events.specs.declared.settings.Settings.{Settings}
 use Rattle.dns_core.specs.declared.server.Server.{Server}
 use Rattle.dns_core.proofs.Late.{late_datagram, late_offer}
 use Rattle.dns_core.proofs.Plain.{plain, unused_is, begun, offered, used_datagram, used_offer}

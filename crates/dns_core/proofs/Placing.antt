@@ -3,8 +3,8 @@ use Rattle.dns_client.specs.Serving.{Serving}
 use Rattle.std.proofs.Common.{◌≡◌, ℕ, List, [], ◌∷◌, ◌++◌, length, drop, refl, ap, sym, ◌∙◌, append_assoc}
 use Rattle.std.proofs.lemmas.List.{append-nil, drop_at}
 use Rattle.dns_admission.specs.Machine.{new_state}
-use Rattle.dns_service.specs.declared.event.Event.{Event}
-use Rattle.dns_service.specs.declared.event.Step.{Step}
+use Rattle.dns_events.specs.declared.event.Event.{Event}
+use Rattle.dns_events.specs.declared.event.Step.{Step}
 use Rattle.dns_client.specs.After.{slate_after, sent_after}
 use Rattle.dns_client.specs.Rule.{rule}
 use Rattle.dns_client.specs.Slate.{Slate, fresh}
@@ -12,7 +12,7 @@ use Rattle.dns_core.specs.Settings.{opening}
 use Rattle.dns_core.specs.Sent.{sent}
 use Rattle.dns_core.specs.Placed.{Knowledge, puts, learns, place, learned, placed, knows, knowledge_at_first}
 use Rattle.dns_core.specs.Outs.{Hall, placed_slate, placed_gain, next_hall, hall_after, hall, step_gained, outs_after, outs}
-use Rattle.dns_service.specs.declared.settings.Settings.{Settings}
+use Rattle.dns_events.specs.declared.settings.Settings.{Settings}
 use Rattle.dns_core.proofs.OutLemmas.{sent_after_append}
 
 place_snoc : (c : ℕ) (k : Knowledge) (q : List Step) (s : Step) → place c k (q ++ s ∷ []) ≡ place c k q ++ puts c (learned c k q) s

@@ -9,10 +9,10 @@ use Rattle.std.specs.Prelude.{nat_eq, nat_lt, if◌then◌else◌, not, ◌||◌
 use Rattle.std.specs.List.{list_any, AllByRecursion}
 use Rattle.std.specs.List.Sorted.{IsStrictlySortedBy}
 use Rattle.std.specs.Ordering.{nat_cmp}
-use Rattle.dns_service.specs.declared.event.Event.{Event}
+use Rattle.dns_events.specs.declared.event.Event.{Event}
 use Rattle.dns_core.specs.Sent.{slate}
 use Rattle.dns_core.specs.Out.{is_unused, holds_slot, has_room, put, is_new, joins, members}
-use Rattle.dns_service.specs.declared.settings.Settings.{Settings}
+use Rattle.dns_events.specs.declared.settings.Settings.{Settings}
 use Rattle.dns_core.proofs.Gained.{members_joined, members_away, new_was, new_became, used_more}
 use Rattle.dns_core.proofs.Counted.{put_other}
 

@@ -7,14 +7,14 @@ use Rattle.std.proofs.lemmas.Bool.{cases_eq}
 use Rattle.std.proofs.Math.Bool.{and-false}
 use Rattle.dns_core.proofs.OutLemmas.{one_longer}
 use Rattle.dns_name.specs.declared.address.SocketAddr.{SocketAddr}
-use Rattle.dns_admission.specs.declared.look.Look.{Look as State}
+use Rattle.dns_events.specs.declared.look.Look.{Look as State}
 use Rattle.dns_admission.specs.Machine.{has_slot, reply_of}
-use Rattle.dns_service.specs.declared.event.Event.{Event}
-use Rattle.dns_service.specs.declared.event.EventKind.{EventKind}
-use Rattle.dns_service.specs.declared.event.EventKind.TheVariants.{Datagram, Offer}
-use Rattle.dns_service.specs.declared.event.Output.TheVariants.{TurnedAway}
-use Rattle.dns_service.specs.declared.event.Step.{Step}
-use Rattle.dns_service.specs.declared.event.Step.TheVariants.{Own}
+use Rattle.dns_events.specs.declared.event.Event.{Event}
+use Rattle.dns_events.specs.declared.event.EventKind.{EventKind}
+use Rattle.dns_events.specs.declared.event.EventKind.TheVariants.{Datagram, Offer}
+use Rattle.dns_events.specs.declared.event.Output.TheVariants.{TurnedAway}
+use Rattle.dns_events.specs.declared.event.Step.{Step}
+use Rattle.dns_events.specs.declared.event.Step.TheVariants.{Own}
 use Rattle.dns_client.specs.Rule.{rule}
 use Rattle.dns_client.specs.Slate.{Slate, Told, Conf, conf_of, fresh}
 use Rattle.dns_core.specs.Own.{is_wide}
@@ -24,7 +24,7 @@ use Rattle.dns_core.specs.Books.{book_rule}
 use Rattle.dns_core.specs.Placed.{Knowledge, begins, is_beginning, knows, looks}
 use Rattle.dns_core.specs.Outs.{Hall, placed_slate, placed_gain, hall, step_gained, call_at, enters_at, refused_offer}
 use Rattle.dns_core.specs.StepsByClient.{slots_held}
-use Rattle.dns_service.specs.declared.settings.Settings.{Settings}
+use Rattle.dns_events.specs.declared.settings.Settings.{Settings}
 use Rattle.dns_core.proofs.Counted.{filter_same, put_there}
 use Rattle.dns_core.proofs.Gained.{conf_kept, members_away, members_joined, members_kept, slate_other, slate_same, used_not_new, unused_kept, unused_not_new}
 use Rattle.dns_core.proofs.Heard.{gained_away, gained_joined, gained_own}
@@ -56,8 +56,8 @@ module _ (answers : Serving) (settings : Settings) where
       ap untaken (book_more answers settings q (Own e)) ∙ untaken_kind e.kind b (placed_slate answers settings e.client q) (joined answers settings e.client q) ∙ narrow_rule e.kind (untaken b) w
     where
       narrow_rule : (k : EventKind) (b : State) → is_wide k ≡ false → book_rule b k ≡ b
-      narrow_rule (Rattle.dns_service.specs.declared.event.EventKind.TheVariants.Reconfigure d t) b w = cc
-      narrow_rule Rattle.dns_service.specs.declared.event.EventKind.TheVariants.Shutdown b w = cc
+      narrow_rule (Rattle.dns_events.specs.declared.event.EventKind.TheVariants.Reconfigure d t) b w = cc
+      narrow_rule Rattle.dns_events.specs.declared.event.EventKind.TheVariants.Shutdown b w = cc
       narrow_rule _ b w = refl
 
   -- by which neither here nor there anybody begins

@@ -10,11 +10,11 @@ use Rattle.std.proofs.lemmas.Bool.{cases_eq}
 use Rattle.dns_core.proofs.OutLemmas.{one_longer}
 use Rattle.dns_core.proofs.Kept.{nothing_either_way, says, leaves}
 use Rattle.dns_admission.specs.declared.call.Call.TheVariants.{Release}
-use Rattle.dns_admission.specs.declared.look.Look.{Look}
+use Rattle.dns_events.specs.declared.look.Look.{Look}
 use Rattle.dns_admission.specs.Machine.{state_after}
 use Rattle.dns_service.specs.Answer.{Answer}
-use Rattle.dns_service.specs.declared.event.Event.{Event}
-use Rattle.dns_service.specs.declared.event.Output.{Output}
+use Rattle.dns_events.specs.declared.event.Event.{Event}
+use Rattle.dns_events.specs.declared.event.Output.{Output}
 use Rattle.dns_service.specs.declared.polled.PolledRequest.{PolledRequest}
 use Rattle.dns_client.specs.Slate.{Slate, Told, conf_of}
 use Rattle.dns_client.specs.Rule.{rule}
@@ -26,7 +26,7 @@ use Rattle.dns_core.specs.Out.{is_unused, holds_slot, is_new, taken, members, ga
 use Rattle.dns_core.specs.Serves.{IsOver, IsAt, Holds, Steps, StepsKey}
 use Rattle.dns_core.specs.Placed.{is_beginning}
 use Rattle.dns_core.specs.Server.{Serves}
-use Rattle.dns_service.specs.declared.settings.Settings.{Settings}
+use Rattle.dns_events.specs.declared.settings.Settings.{Settings}
 use Rattle.dns_core.specs.declared.server.Server.{Server}
 use Rattle.dns_core.proofs.Gained.{conf_kept, slate_same, slate_other, used_not_new, unused_not_new, idle_not_new, unused_kept, members_kept, taken_still}
 use Rattle.dns_core.proofs.Heard.{gained_own}

@@ -5,13 +5,13 @@ use Rattle.std.specs.Prelude.{slice_get}
 use Rattle.std.specs.List.{list_all}
 use Rattle.std.proofs.lemmas.Bool.{and_parts}
 use Rattle.dns_service.specs.Answer.{Answer}
-use Rattle.dns_service.specs.declared.event.Event.{Event}
-use Rattle.dns_service.specs.declared.event.EventKind.{EventKind}
-use Rattle.dns_service.specs.declared.event.EventKind.TheVariants.{Turn, Release, Reconfigure, Shutdown}
-use Rattle.dns_service.specs.declared.event.Why.{Why}
-use Rattle.dns_service.specs.declared.event.Why.TheVariants.{Shutdown as By_shutdown}
+use Rattle.dns_events.specs.declared.event.Event.{Event}
+use Rattle.dns_events.specs.declared.event.EventKind.{EventKind}
+use Rattle.dns_events.specs.declared.event.EventKind.TheVariants.{Turn, Release, Reconfigure, Shutdown}
+use Rattle.dns_events.specs.declared.event.Why.{Why}
+use Rattle.dns_events.specs.declared.event.Why.TheVariants.{Shutdown as By_shutdown}
 use Rattle.dns_service.specs.declared.polled.PolledRequest.{PolledRequest}
-use Rattle.dns_client.specs.Slate.{Slate, SlateRequest, Conf, Told, Phase, Unused, Exchange, Open, Flushing, Closed, conf_rule, with_conf}
+use Rattle.dns_client.specs.Slate.{Slate, SlateRequest, Conf, Told, Phase, Exchange, Open, Closed, conf_rule, with_conf}
 use Rattle.dns_client.specs.Connections.{wind_up, reconfigured}
 use Rattle.dns_client.specs.Rule.{rule, in_phase, exchange_rule, open_rule, closed_rule}
 use Rattle.dns_client.specs.Spent.{is_spent, is_spent_in}
@@ -50,11 +50,9 @@ module _ (answers : Serving) where
   exchange_spent _ s h = refl
 
   spent_phase : (e : Event) (p : Phase) (s : Slate) (k : Conf) → is_spent_in p s ≡ true → in_phase answers e p (with_conf k s) ≡ (with_conf k s, [])
-  spent_phase e Unused s k h = cc
   spent_phase e Exchange s k h = exchange_spent e.kind (with_conf k s) h
-  spent_phase e Open s k h = cc
-  spent_phase e (Flushing why) s k h = cc
   spent_phase e Closed s k h = closed_spent e.kind (with_conf k s) h
+  spent_phase e _ s k h = cc
 
   pub spent_idle : (e : Event) (s : Slate) → is_spent s ≡ true → rule answers e s ≡ (with_conf (conf_rule e.kind s.conf) s, [])
   spent_idle e s h = spent_phase e s.phase s (conf_rule e.kind s.conf) h

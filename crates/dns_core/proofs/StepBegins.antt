@@ -10,19 +10,19 @@ use Rattle.std.proofs.lemmas.Bool.{cases_eq, eq-eqb, ne_eqb, le-ltb, not-true, n
 use Rattle.std.proofs.lemmas.List.{append-nil}
 use Rattle.dns_core.proofs.Kept.{entered, entered_at, none_at, none_stands, nothing_either_way, nothing_held}
 use Rattle.dns_name.specs.declared.address.SocketAddr.{SocketAddr}
-use Rattle.dns_admission.specs.declared.look.Look.{Look as State}
-use Rattle.dns_admission.specs.declared.look.Admission.TheVariants.{Admitted, Full}
+use Rattle.dns_events.specs.declared.look.Look.{Look as State}
+use Rattle.dns_admission.specs.declared.admission.Admission.TheVariants.{Admitted, Full}
 use Rattle.dns_admission.specs.declared.call.Call.TheVariants as call
 use Rattle.dns_admission.specs.Admissions.{Admits}
 use Rattle.dns_admission.specs.Machine.{has_slot, limit_of, reply_of, state_after}
 use Rattle.dns_service.specs.Answer.{Answer}
-use Rattle.dns_service.specs.declared.event.Event.{Event}
-use Rattle.dns_service.specs.declared.event.EventKind.{EventKind}
-use Rattle.dns_service.specs.declared.event.EventKind.TheVariants.{Datagram, Offer}
-use Rattle.dns_service.specs.declared.event.Output.{Output}
-use Rattle.dns_service.specs.declared.event.Output.TheVariants.{TurnedAway}
-use Rattle.dns_service.specs.declared.event.Step.{Step}
-use Rattle.dns_service.specs.declared.event.Step.TheVariants.{Own}
+use Rattle.dns_events.specs.declared.event.Event.{Event}
+use Rattle.dns_events.specs.declared.event.EventKind.{EventKind}
+use Rattle.dns_events.specs.declared.event.EventKind.TheVariants.{Datagram, Offer}
+use Rattle.dns_events.specs.declared.event.Output.{Output}
+use Rattle.dns_events.specs.declared.event.Output.TheVariants.{TurnedAway}
+use Rattle.dns_events.specs.declared.event.Step.{Step}
+use Rattle.dns_events.specs.declared.event.Step.TheVariants.{Own}
 use Rattle.dns_service.specs.declared.polled.PolledRequest.{PolledRequest}
 use Rattle.dns_client.specs.After.{slate_after, sent_after}
 use Rattle.dns_client.specs.Connections.{opened}
@@ -37,7 +37,7 @@ use Rattle.dns_core.specs.Serves.{Holds, IsAt, EntersWith}
 use Rattle.dns_core.specs.Placed.{Knowledge, book_now, own_events, is_beginning, looks, learns, knows}
 use Rattle.dns_core.specs.Outs.{Hall, placed_slate, placed_gain, hall, step_gained, call_for, call_at, enters, enters_at, refused_offer}
 use Rattle.dns_core.specs.SplitServer.{ServesSteps}
-use Rattle.dns_service.specs.declared.settings.Settings.{Settings}
+use Rattle.dns_events.specs.declared.settings.Settings.{Settings}
 use Rattle.dns_core.specs.declared.server.Server.{Server}
 use Rattle.dns_core.proofs.Counted.{put_there, put_other}
 use Rattle.dns_core.proofs.Late.{late_datagram, late_offer}

@@ -10,22 +10,22 @@ use Rattle.std.proofs.lemmas.Bool.{cases_eq, eq-eqb, ne_eqb}
 use Rattle.std.proofs.lemmas.List.{append-nil}
 use Rattle.std.proofs.Math.Bool.{and-false}
 use Rattle.dns_core.proofs.Kept.{nothing_either_way, says, leaves, none_holds, none_stands, none_at}
-use Rattle.dns_admission.specs.declared.look.Look.{Look as State}
+use Rattle.dns_events.specs.declared.look.Look.{Look as State}
 use Rattle.dns_admission.specs.declared.call.Call.TheVariants as call
 use Rattle.dns_admission.specs.declared.call.Reply.TheVariants as reply
 use Rattle.dns_admission.specs.Machine.{has_version, reply_of, state_after}
 use Rattle.dns_service.specs.Answer.{Answer}
-use Rattle.dns_service.specs.declared.event.Event.{Event}
-use Rattle.dns_service.specs.declared.event.EventKind.{EventKind}
-use Rattle.dns_service.specs.declared.event.EventKind.TheVariants.{Datagram, Offer, Release, Reconfigure, Shutdown}
-use Rattle.dns_service.specs.declared.event.Output.{Output}
-use Rattle.dns_service.specs.declared.event.Step.{Step}
-use Rattle.dns_service.specs.declared.event.Step.TheVariants.{Own, Look}
+use Rattle.dns_events.specs.declared.event.Event.{Event}
+use Rattle.dns_events.specs.declared.event.EventKind.{EventKind}
+use Rattle.dns_events.specs.declared.event.EventKind.TheVariants.{Datagram, Offer, Release, Reconfigure, Shutdown}
+use Rattle.dns_events.specs.declared.event.Output.{Output}
+use Rattle.dns_events.specs.declared.event.Step.{Step}
+use Rattle.dns_events.specs.declared.event.Step.TheVariants.{Own, Look}
 use Rattle.dns_service.specs.declared.polled.PolledRequest.{PolledRequest}
 use Rattle.dns_client.specs.After.{slate_after, sent_after}
 use Rattle.dns_client.specs.News.{told_of}
 use Rattle.dns_client.specs.Rule.{rule, in_phase, closed_rule}
-use Rattle.dns_client.specs.Slate.{Slate, Told, Phase, Unused, Exchange, Open, Flushing, Closed, conf_rule, with_conf, phase_is_closed}
+use Rattle.dns_client.specs.Slate.{Slate, Told, Phase, Exchange, Open, Closed, conf_rule, with_conf, phase_is_closed}
 use Rattle.dns_client.specs.Spent.{is_spent, is_spent_in}
 use Rattle.dns_client.specs.Stands.{Stands, StandsIn, GoesAs}
 use Rattle.dns_client.specs.declared.client.ClientCore.{ClientCore}
@@ -39,7 +39,7 @@ use Rattle.dns_core.specs.Serves.{Holds, IsAt, LooksOne, Steps, StepsKey}
 use Rattle.dns_core.specs.Placed.{Knowledge, own_events, is_beginning, looks, puts, knows}
 use Rattle.dns_core.specs.Outs.{Hall, placed_slate, placed_gain, hall, step_gained, call_for, call_at, enters, enters_at, refused_offer, stepping}
 use Rattle.dns_core.specs.SplitServer.{ServesSteps}
-use Rattle.dns_service.specs.declared.settings.Settings.{Settings}
+use Rattle.dns_events.specs.declared.settings.Settings.{Settings}
 use Rattle.dns_core.specs.declared.server.Server.{Server}
 use Rattle.dns_core.proofs.Plain.{is_going, slot_kept}
 use Rattle.dns_core.proofs.Slots.{exchange_freed}
@@ -81,7 +81,7 @@ no_refusal (Datagram addr o) b sl m c n = cc
 no_refusal Release b sl m c n = (elim (m && (phase_is_closed sl.phase && not sl.freed)) as (λ z. refused_offer c (reply_of b (if z then call.Release else call.Look)) ≡ []) [ true ↦ refl | false ↦ refl ])
 no_refusal (Reconfigure d t) b sl m c n = two b.closed (has_version b)
   where
-    two : (z v : Bool) → refused_offer c (if z then reply.Version (Rattle.std.specs.Prelude.Ok b.version) else (if v then reply.Version (Rattle.std.specs.Prelude.Ok (Rattle.std.specs.Prelude.◌+◌ b.version 1)) else reply.Version (Rattle.std.specs.Prelude.Err Rattle.dns_service.specs.declared.error.Error.TheVariants.CommandCouldNotBeSent))) ≡ []
+    two : (z v : Bool) → refused_offer c (if z then reply.Version (Rattle.std.specs.Prelude.Ok b.version) else (if v then reply.Version (Rattle.std.specs.Prelude.Ok (Rattle.std.specs.Prelude.◌+◌ b.version 1)) else reply.Version (Rattle.std.specs.Prelude.Err Rattle.dns_events.specs.declared.error.Error.TheVariants.CommandCouldNotBeSent))) ≡ []
     two true v = refl
     two false true = refl
     two false false = refl
@@ -174,11 +174,9 @@ held_open t h = by (is_connection t.phase) t.freed h
     by false b h = cc
 
 spent_holds_none : (p : Phase) (s : Slate) → s.phase ≡ p → is_spent_in p s ≡ true → (phase_is_closed s.phase && not s.freed) ≡ false
-spent_holds_none Unused s p h = cc
 spent_holds_none Exchange s p h = rw p refl
-spent_holds_none Open s p h = cc
-spent_holds_none (Flushing why) s p h = cc
 spent_holds_none Closed s p h = rw (p, h) refl
+spent_holds_none _ s p h = cc
 
 -- an open slate isn't freed
 abbrev OpenHeld : Slate → Type 0

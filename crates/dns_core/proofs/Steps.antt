@@ -15,8 +15,8 @@ use Rattle.std.proofs.lemmas.Map.Keys.{below_from_sorted, any_passes_from_place}
 use Rattle.std.proofs.lemmas.Map.Made.{is_some-lookup}
 use Rattle.std.proofs.lemmas.Option.{slice_get-get_or}
 use Rattle.dns_service.specs.Answer.{Answer}
-use Rattle.dns_admission.specs.declared.look.Look.{Look}
-use Rattle.dns_service.specs.declared.event.Output.{Output}
+use Rattle.dns_events.specs.declared.look.Look.{Look}
+use Rattle.dns_events.specs.declared.event.Output.{Output}
 use Rattle.dns_service.specs.declared.polled.PolledRequest.{PolledRequest}
 use Rattle.dns_client.specs.Slate.{Slate}
 use Rattle.dns_client.specs.News.{told_of}

@@ -8,8 +8,8 @@ use Rattle.dns_base.specs.Wire.{wire}
 use Rattle.dns_service.specs.Cut.{cut}
 use Rattle.dns_service.specs.Req.{Req}
 use Rattle.dns_service.specs.Transport.{limit}
-use Rattle.dns_service.specs.declared.event.Event.{Event}
-use Rattle.dns_service.specs.declared.event.Step.{Step}
+use Rattle.dns_events.specs.declared.event.Event.{Event}
+use Rattle.dns_events.specs.declared.event.Step.{Step}
 use Rattle.dns_service.specs.declared.message.TransportSpecificContext.TheVariants.{Udp}
 use Rattle.dns_client.specs.After.{sent_after}
 use Rattle.dns_client.specs.Rule.{rule}
@@ -17,7 +17,7 @@ use Rattle.dns_client.specs.Turns.{reply_to, sent_for}
 use Rattle.dns_core.specs.Placed.{Knowledge, learns, knowledge_at_first, place, placed, puts}
 use Rattle.dns_core.specs.ReplyTo.{IsReply, Responds}
 use Rattle.dns_core.specs.Sent.{sent, slate}
-use Rattle.dns_service.specs.declared.settings.Settings.{Settings}
+use Rattle.dns_events.specs.declared.settings.Settings.{Settings}
 use Rattle.dns_core.proofs.Answered.{Has, has_more, has_none, leads}
 use Rattle.dns_core.proofs.Looked.{Enter}
 use Rattle.dns_core.proofs.OutLemmas.{slate_some}

@@ -5,15 +5,15 @@ use Rattle.std.specs.Prelude.{nat_eq, filter, if◌then◌else◌, not, ◌&&◌
 use Rattle.std.specs.List.{list_any}
 use Rattle.std.proofs.lemmas.Bool.{cases_eq, eqb-true}
 use Rattle.std.proofs.lemmas.List.{append-nil}
-use Rattle.dns_admission.specs.declared.look.Look.{Look as State}
+use Rattle.dns_events.specs.declared.look.Look.{Look as State}
 use Rattle.dns_admission.specs.declared.call.Reply.{Reply}
 use Rattle.dns_admission.specs.Machine.{reply_of}
-use Rattle.dns_service.specs.declared.event.Event.{Event}
-use Rattle.dns_service.specs.declared.event.EventKind.{EventKind}
-use Rattle.dns_service.specs.declared.event.EventKind.TheVariants.{Datagram, Offer}
-use Rattle.dns_service.specs.declared.event.Output.{Output}
-use Rattle.dns_service.specs.declared.event.Step.{Step}
-use Rattle.dns_service.specs.declared.event.Step.TheVariants.{Own, Look}
+use Rattle.dns_events.specs.declared.event.Event.{Event}
+use Rattle.dns_events.specs.declared.event.EventKind.{EventKind}
+use Rattle.dns_events.specs.declared.event.EventKind.TheVariants.{Datagram, Offer}
+use Rattle.dns_events.specs.declared.event.Output.{Output}
+use Rattle.dns_events.specs.declared.event.Step.{Step}
+use Rattle.dns_events.specs.declared.event.Step.TheVariants.{Own, Look}
 use Rattle.dns_client.specs.After.{slate_after, sent_after}
 use Rattle.dns_client.specs.Rule.{rule}
 use Rattle.dns_client.specs.Slate.{Slate, fresh}
@@ -24,7 +24,7 @@ use Rattle.dns_core.specs.Out.{is_unused, put}
 use Rattle.dns_core.specs.ByClient.{is_for}
 use Rattle.dns_core.specs.Placed.{Knowledge, own_events, is_beginning, looks, puts, learns, place, placed, knows, knowledge_at_first}
 use Rattle.dns_core.specs.Outs.{Hall, placed_slate, placed_gain, hall, step_gained, outs, outs_after, call_for, call_at, enters, enters_at, refused_offer, stepping}
-use Rattle.dns_service.specs.declared.settings.Settings.{Settings}
+use Rattle.dns_events.specs.declared.settings.Settings.{Settings}
 use Rattle.dns_core.proofs.Counted.{put_other}
 use Rattle.dns_core.proofs.Gained.{concerns_all}
 use Rattle.dns_core.proofs.Named.{AreFor, IsOf, for_both, filter_for, filter_others, first_for, of_step, quiet, rule_for, silent_after, still_used, wide_begins_nobody}
@@ -62,7 +62,7 @@ pub hears_puts : (c : ℕ) (k : Knowledge) (s : Step) → Enter k.seen k.unheard
 hears_puts c k s h = hears_both c (if looks c k.began s then k.unheard else []) (own_events c s) (elim (looks c k.began s) as (λ l. Hears c (if l then k.unheard else [])) [ true ↦ hears_entries c k.seen k.unheard h | false ↦ tt ]) (hears_own c s)
 
 refusal_for : (c : ℕ) (r : Reply) → AreFor c (refused_offer c r)
-refusal_for c (Rattle.dns_admission.specs.declared.call.Reply.TheVariants.Admission (Rattle.dns_admission.specs.declared.look.Admission.TheVariants.Full t l a)) = (refl, tt)
+refusal_for c (Rattle.dns_admission.specs.declared.call.Reply.TheVariants.Admission (Rattle.dns_admission.specs.declared.admission.Admission.TheVariants.Full t l a)) = (refl, tt)
 refusal_for c _ = tt
 
 -- who begins, and else what the book replies says nothing and lets nobody in

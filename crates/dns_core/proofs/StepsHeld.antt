@@ -9,24 +9,24 @@ use Rattle.std.proofs.lemmas.Bool.{cases_eq, eq-eqb}
 use Rattle.std.proofs.lemmas.List.{append-nil}
 use Rattle.std.proofs.Math.Bool.{and-false}
 use Rattle.dns_name.specs.declared.address.SocketAddr.{SocketAddr}
-use Rattle.dns_admission.specs.declared.look.Look.{Look as State}
+use Rattle.dns_events.specs.declared.look.Look.{Look as State}
 use Rattle.dns_admission.specs.declared.call.Call.TheVariants as call
 use Rattle.dns_admission.specs.Machine.{has_slot, has_version, replaced, reply_of, state_after}
-use Rattle.dns_service.specs.declared.event.Event.{Event}
-use Rattle.dns_service.specs.declared.event.EventKind.{EventKind}
-use Rattle.dns_service.specs.declared.event.EventKind.TheVariants.{Datagram, Offer, Release, Reconfigure, Shutdown}
-use Rattle.dns_service.specs.declared.event.Step.{Step}
-use Rattle.dns_service.specs.declared.event.Step.TheVariants.{Own, Look}
+use Rattle.dns_events.specs.declared.event.Event.{Event}
+use Rattle.dns_events.specs.declared.event.EventKind.{EventKind}
+use Rattle.dns_events.specs.declared.event.EventKind.TheVariants.{Datagram, Offer, Release, Reconfigure, Shutdown}
+use Rattle.dns_events.specs.declared.event.Step.{Step}
+use Rattle.dns_events.specs.declared.event.Step.TheVariants.{Own, Look}
 use Rattle.dns_client.specs.After.{slate_after}
 use Rattle.dns_client.specs.Rule.{rule}
-use Rattle.dns_client.specs.Slate.{Slate, Phase, Unused, Exchange, Open, Flushing, Closed, conf_of, fresh, phase_is_closed}
+use Rattle.dns_client.specs.Slate.{Slate, Phase, Unused, Closed, conf_of, fresh, phase_is_closed}
 use Rattle.dns_core.specs.Own.{is_wide}
 use Rattle.dns_core.specs.Out.{holds_slot, is_unused, put}
 use Rattle.dns_core.specs.Books.{book_rule}
 use Rattle.dns_core.specs.Placed.{begins, is_beginning, knows, looks, puts}
 use Rattle.dns_core.specs.Outs.{Hall, placed_slate, hall, call_for, call_at, enters, enters_at, stepping}
 use Rattle.dns_core.specs.StepsByClient.{slots_held}
-use Rattle.dns_service.specs.declared.settings.Settings.{Settings}
+use Rattle.dns_events.specs.declared.settings.Settings.{Settings}
 use Rattle.dns_core.proofs.Counted.{absent_other, filter_put, filter_put_not, filter_same, one_less}
 use Rattle.dns_core.proofs.Plain.{slot_kept, slot_stays}
 use Rattle.dns_core.proofs.Rising.{sorted_none, sorted_put}
@@ -62,10 +62,8 @@ module _ (answers : Serving) where
 
   slot_phase : (p : Phase) (e : Event) (s : Slate) → s.phase ≡ p → is_unused p ≡ false → Slot e s (rule answers e s).0
   slot_phase Unused e s is u = cc
-  slot_phase Exchange e s is u = going e s (ap phase_is_closed is) (slot_kept answers e s (ap Rattle.dns_core.proofs.Plain.is_going is))
-  slot_phase Open e s is u = going e s (ap phase_is_closed is) (slot_kept answers e s (ap Rattle.dns_core.proofs.Plain.is_going is))
-  slot_phase (Flushing why) e s is u = going e s (ap phase_is_closed is) (slot_kept answers e s (ap Rattle.dns_core.proofs.Plain.is_going is))
   slot_phase Closed e s is u = closed_slot e.kind s.freed e s refl refl is
+  slot_phase _ e s is u = going e s (ap phase_is_closed is) (slot_kept answers e s (ap Rattle.dns_core.proofs.Plain.is_going is))
 
   pub slot_after : (e : Event) (s : Slate) → is_unused s.phase ≡ false → Slot e s (rule answers e s).0
   slot_after e s u = slot_phase s.phase e s refl u

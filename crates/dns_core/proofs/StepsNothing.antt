@@ -7,14 +7,14 @@ use Rattle.std.proofs.lemmas.Bool.{cases_eq, eq-eqb, ne_eqb}
 use Rattle.std.proofs.lemmas.List.{append-nil}
 use Rattle.std.proofs.Math.Bool.{or-false, and-false}
 use Rattle.dns_core.proofs.Gained.{unused_as_before}
-use Rattle.dns_admission.specs.declared.look.Look.{Look as State}
+use Rattle.dns_events.specs.declared.look.Look.{Look as State}
 use Rattle.dns_admission.specs.declared.call.Call.TheVariants as call
 use Rattle.dns_admission.specs.Machine.{reply_of, state_after}
-use Rattle.dns_service.specs.declared.event.Event.{Event}
-use Rattle.dns_service.specs.declared.event.EventKind.{EventKind}
-use Rattle.dns_service.specs.declared.event.EventKind.TheVariants.{Datagram, Offer, Release, Reconfigure, Shutdown}
-use Rattle.dns_service.specs.declared.event.Step.{Step}
-use Rattle.dns_service.specs.declared.event.Step.TheVariants.{Own, Look}
+use Rattle.dns_events.specs.declared.event.Event.{Event}
+use Rattle.dns_events.specs.declared.event.EventKind.{EventKind}
+use Rattle.dns_events.specs.declared.event.EventKind.TheVariants.{Datagram, Offer, Release, Reconfigure, Shutdown}
+use Rattle.dns_events.specs.declared.event.Step.{Step}
+use Rattle.dns_events.specs.declared.event.Step.TheVariants.{Own, Look}
 use Rattle.dns_client.specs.After.{slate_after, sent_after}
 use Rattle.dns_client.specs.Rule.{rule}
 use Rattle.dns_client.specs.Slate.{Slate, Told, Phase, Closed, fresh, phase_is_closed}
@@ -25,7 +25,7 @@ use Rattle.dns_core.specs.Books.{is_entry}
 use Rattle.dns_core.specs.Placed.{Knowledge, book_now, begins, is_beginning, looks, puts, learns, knows, placed}
 use Rattle.dns_core.specs.Outs.{Hall, placed_slate, placed_gain, hall, step_gained, outs, call_for, call_at, enters, enters_at, refused_offer, stepping}
 use Rattle.dns_core.specs.StepsByClient.{is_first}
-use Rattle.dns_service.specs.declared.settings.Settings.{Settings}
+use Rattle.dns_events.specs.declared.settings.Settings.{Settings}
 use Rattle.dns_core.proofs.AtOnce.{own_no_entry}
 use Rattle.dns_core.proofs.Plain.{closed_idle}
 use Rattle.dns_core.proofs.Settled.{Settled, nothing_received, settled_after}

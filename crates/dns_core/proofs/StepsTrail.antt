@@ -1,14 +1,14 @@
 -- Which replies a client was sent that hears of the server's changes when it looks.
 use Rattle.dns_client.specs.Serving.{Serving}
 use Rattle.std.proofs.Common.{ℕ, List, []}
-use Rattle.dns_service.specs.declared.event.Step.{Step}
+use Rattle.dns_events.specs.declared.event.Step.{Step}
 use Rattle.dns_client.specs.Slate.{fresh}
 use Rattle.dns_core.specs.Outs.{placed_slate}
 use Rattle.dns_core.specs.Placed.{placed}
 use Rattle.dns_core.specs.Sent.{sent}
 use Rattle.dns_core.specs.Settings.{opening}
 use Rattle.dns_core.specs.Trails.{messages_sent, no_trail, trail_after}
-use Rattle.dns_service.specs.declared.settings.Settings.{Settings}
+use Rattle.dns_events.specs.declared.settings.Settings.{Settings}
 use Rattle.dns_core.proofs.Trailing.{Kept}
 use Rattle.dns_core.proofs.TrailRules.{first_kept, kept_after}
 

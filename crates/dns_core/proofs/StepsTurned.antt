@@ -7,13 +7,13 @@ use Rattle.std.proofs.lemmas.List.{append-nil}
 use Rattle.std.proofs.Math.Seq.{take-append_seam}
 use Rattle.dns_core.proofs.ByClient.{didnt_begin}
 use Rattle.dns_admission.specs.Machine.{has_slot, reply_of}
-use Rattle.dns_service.specs.declared.event.Event.{Event}
-use Rattle.dns_service.specs.declared.event.EventKind.{EventKind}
-use Rattle.dns_service.specs.declared.event.EventKind.TheVariants.{Datagram, Offer}
-use Rattle.dns_service.specs.declared.event.Output.{Output}
-use Rattle.dns_service.specs.declared.event.Output.TheVariants.{TurnedAway}
-use Rattle.dns_service.specs.declared.event.Step.{Step}
-use Rattle.dns_service.specs.declared.event.Step.TheVariants.{Own, Look}
+use Rattle.dns_events.specs.declared.event.Event.{Event}
+use Rattle.dns_events.specs.declared.event.EventKind.{EventKind}
+use Rattle.dns_events.specs.declared.event.EventKind.TheVariants.{Datagram, Offer}
+use Rattle.dns_events.specs.declared.event.Output.{Output}
+use Rattle.dns_events.specs.declared.event.Output.TheVariants.{TurnedAway}
+use Rattle.dns_events.specs.declared.event.Step.{Step}
+use Rattle.dns_events.specs.declared.event.Step.TheVariants.{Own, Look}
 use Rattle.dns_core.specs.ByClient.{IsPrefix, is_for}
 use Rattle.dns_client.specs.Slate.{Slate}
 use Rattle.dns_name.specs.declared.address.SocketAddr.{SocketAddr}
@@ -22,7 +22,7 @@ use Rattle.dns_core.specs.Outs.{placed_slate, hall, step_gained, outs, outs_afte
 use Rattle.dns_core.specs.Placed.{is_beginning, knows, learned, knowledge_at_first, place, placed}
 use Rattle.dns_core.specs.Sent.{sent}
 use Rattle.dns_core.specs.StepsByClient.{TurnedAwayIn, finds_no_slot, is_offer, was_refused}
-use Rattle.dns_service.specs.declared.settings.Settings.{Settings}
+use Rattle.dns_events.specs.declared.settings.Settings.{Settings}
 use Rattle.dns_core.proofs.Counted.{put_there, put_keeps}
 use Rattle.dns_core.proofs.LooksIdle.{place_append}
 use Rattle.dns_core.proofs.Named.{filter_for, filter_others}

@@ -5,14 +5,14 @@ use Rattle.std.specs.Prelude.{if◌then◌else◌, ◌==◌, not, ◌&&◌, ◌|
 use Rattle.std.specs.List.{list_any}
 use Rattle.std.proofs.Math.Bool.{or-false, or-true, and-false}
 use Rattle.std.proofs.lemmas.Bool.{not-true, and_parts}
-use Rattle.dns_admission.specs.declared.look.Look.{Look as State}
+use Rattle.dns_events.specs.declared.look.Look.{Look as State}
 use Rattle.dns_admission.specs.declared.call.Call.TheVariants as call
 use Rattle.dns_admission.specs.Machine.{admitted, has_slot, has_version, state_after, new_state, replaced}
-use Rattle.dns_service.specs.declared.event.Event.{Event}
-use Rattle.dns_service.specs.declared.event.EventKind.{EventKind}
-use Rattle.dns_service.specs.declared.event.EventKind.TheVariants.{Datagram, Offer, Release, Reconfigure, Shutdown}
-use Rattle.dns_service.specs.declared.event.Step.{Step}
-use Rattle.dns_service.specs.declared.event.Step.TheVariants.{Own, Look}
+use Rattle.dns_events.specs.declared.event.Event.{Event}
+use Rattle.dns_events.specs.declared.event.EventKind.{EventKind}
+use Rattle.dns_events.specs.declared.event.EventKind.TheVariants.{Datagram, Offer, Release, Reconfigure, Shutdown}
+use Rattle.dns_events.specs.declared.event.Step.{Step}
+use Rattle.dns_events.specs.declared.event.Step.TheVariants.{Own, Look}
 use Rattle.dns_client.specs.After.{slate_after, sent_after}
 use Rattle.dns_client.specs.Rule.{rule, in_phase, unused_rule}
 use Rattle.dns_client.specs.Slate.{Slate, Conf, Told, Phase, Unused, conf_of, conf_rule, fresh, phase_is_closed, with_conf}
@@ -24,7 +24,7 @@ use Rattle.dns_core.specs.Trails.{is_open}
 use Rattle.dns_core.specs.Books.{book_rule, is_entry, books}
 use Rattle.dns_core.specs.Placed.{Knowledge, book_now, entries, own_events, is_beginning, begins, looks, puts, learns, place, learned, placed, knows, knowledge_at_first}
 use Rattle.dns_core.specs.Outs.{Hall, placed_slate, call_for, next_hall, hall_after, hall}
-use Rattle.dns_service.specs.declared.settings.Settings.{Settings}
+use Rattle.dns_events.specs.declared.settings.Settings.{Settings}
 use Rattle.dns_core.proofs.Plain.{Plain, plain_rule, narrow_conf, rule_used, unused_is, begun, offered}
 use Rattle.dns_core.proofs.Late.{NotOver, over_after, never_open}
 use Rattle.dns_core.proofs.Wide.{wide_idle}

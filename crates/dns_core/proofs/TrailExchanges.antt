@@ -11,18 +11,18 @@ use Rattle.dns_service.specs.Cut.{cut}
 use Rattle.dns_service.specs.ErrorReply.{error_reply}
 use Rattle.dns_service.specs.Req.{Req}
 use Rattle.dns_service.specs.Transport.{is_stream, limit}
-use Rattle.dns_service.specs.declared.event.Output.{Output}
-use Rattle.dns_service.specs.declared.event.Output.TheVariants.{Datagram}
+use Rattle.dns_events.specs.declared.event.Output.{Output}
+use Rattle.dns_events.specs.declared.event.Output.TheVariants.{Datagram}
 use Rattle.dns_service.specs.declared.message.TransportSpecificContext.{TransportSpecificContext}
 use Rattle.dns_service.specs.declared.message.TransportSpecificContext.TheVariants.{Udp, NonUdp}
 use Rattle.dns_client.specs.Datagrams.{cut_datagram, datagram, exchange}
 use Rattle.dns_client.specs.Requests.{unpolled, header_size, request_of_datagram}
 use Rattle.dns_client.specs.Serving.{Serving}
-use Rattle.dns_client.specs.Slate.{Slate, SlateRequest, Told, Phase, Unused, Exchange}
-use Rattle.dns_client.specs.Turns.{exchange_turn, polled, sent_at_once, sent_for, with_request}
+use Rattle.dns_client.specs.Slate.{Slate, SlateRequest, Phase, Unused, Exchange}
+use Rattle.dns_client.specs.Turns.{polled, sent_at_once, sent_for, with_request}
 use Rattle.dns_core.specs.Trails.{Mark, Trail, IsAsMarked, IsRising, Refuses, in_order, mark, on_wire, poll_of, polls_of, reply_at}
 use Rattle.dns_core.proofs.Marks.{At, AreQueued, at_left, at_right, marked_append, marked_one, polls_append, queued_length}
-use Rattle.dns_core.proofs.Trailing.{Asks, AsksAll, AsksAt, GoesOn, Has, Keeps, Kept, joined_on, stays, still, still_polls, trail, waits_with}
+use Rattle.dns_core.proofs.Trailing.{Asks, AsksAll, AsksAt, GoesOn, Has, Keeps, Kept, joined_on, stays, still_polls, trail, waits_with}
 use Rattle.dns_core.proofs.TrailPieces.{asks_push}
 use Rattle.dns_core.proofs.Repolled.{mark_free, others_none, polls_replied, polls_silent, repolled, rises_with, turned}
 
@@ -118,17 +118,9 @@ module _ (answers : Serving) where
         (has_turned u.requests (sent_now x ds t) refl
         (turned answers false k s.requests r (polled answer r) t (sent_now x ds t) h.here exchanged.1 asks (λ j ne. now_others k j r ds t exchanged.0 ne) (now_on x ds t exchanged.0)))
 
-    undone_case : (b : Bool) → let told : Told = (if b then (s, []) else (with_request k (polled answer r) s, sent_at_once s.client (sent_for answers r.request answer))) in Keeps answers told (Some (mark k r)) ds t os
-    undone_case true = still answers s t os (Some (mark k r)) ds h.kept
-    undone_case false = sent_case (sent_for answers r.request answer) refl
-
-    exchange_turns : Keeps answers (exchange_turn answers k (Some r) s) (Some (mark k r)) ds t os
-    exchange_turns = undone_case r.done
-
-  -- whichever request is named
-  pub exchange_keeps : (k : ℕ) (x : Option SlateRequest) (s : Slate) (t : Trail) (os : List Output) (ds : List Mark) → s.phase ≡ Exchange → slice_get s.requests k ≡ x → Kept answers s t os → Keeps answers (exchange_turn answers k x s) (option_map (λ r. mark k r) x) ds t os
-  exchange_keeps k None s t os ds p at h = still answers s t os None ds h
-  exchange_keeps k (Some r) s t os ds p at h = exchange_turns k r s t os ds (record { phase = p; here = at; kept = h })
+  pub exchange_keeps : (k : ℕ) (r : SlateRequest) (s : Slate) (t : Trail) (os : List Output) (ds : List Mark) → s.phase ≡ Exchange → slice_get s.requests k ≡ Some r → Kept answers s t os
+      → Keeps answers (with_request k (polled (answers.answer r.request r.polls) r) s, sent_at_once s.client (sent_for answers r.request (answers.answer r.request r.polls))) (Some (mark k r)) ds t os
+  exchange_keeps k r s t os ds p at h = sent_case k r s t os ds (record { phase = p; here = at; kept = h }) (sent_for answers r.request (answers.answer r.request r.polls)) refl
 
   -- ---- an exchange begins
 

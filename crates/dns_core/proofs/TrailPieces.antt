@@ -9,8 +9,8 @@ use Rattle.dns_base.specs.Wire.{wire}
 use Rattle.dns_service.specs.ErrorReply.{error_reply}
 use Rattle.dns_service.specs.Req.{Req}
 use Rattle.dns_service.specs.Transport.{is_stream}
-use Rattle.dns_service.specs.declared.event.Output.{Output}
-use Rattle.dns_service.specs.declared.event.Why.TheVariants.{Short}
+use Rattle.dns_events.specs.declared.event.Output.{Output}
+use Rattle.dns_events.specs.declared.event.Why.TheVariants.{Short}
 use Rattle.dns_client.specs.Connections.{append_frame, close, enqueue, piece, room, take_frame, take_frames, take_request}
 use Rattle.dns_client.specs.Frames.{frames, framed}
 use Rattle.dns_client.specs.Requests.{unpolled, header_size, most_requests, request_of_frame}

@@ -1,31 +1,31 @@
 -- Each event keeps the trail of the slate that it finds, by its state.
 use Rattle.std.proofs.Common.{◌≡◌, ◌≢◌, ℕ, ◌<◌, true, false, Bool, List, [], ◌∷◌, ◌++◌, length, drop, take, replicate, Option, Some, None, refl, ap, sym, ◌∙◌, subst, append_assoc, arith}
-use Rattle.std.specs.Prelude.{filter, slice_get, if◌then◌else◌}
+use Rattle.std.specs.Prelude.{filter, option_map, slice_get, if◌then◌else◌}
 use Rattle.std.proofs.lemmas.List.{append-nil}
 use Rattle.dns_name.specs.declared.address.SocketAddr.{SocketAddr}
-use Rattle.dns_service.specs.declared.event.Event.{Event}
-use Rattle.dns_service.specs.declared.event.EventKind.{EventKind}
-use Rattle.dns_service.specs.declared.event.EventKind.TheVariants.{Datagram, Turn, Offer, Piece, End, Fault, Close, Write, Tick, Release, Reconfigure, Shutdown}
-use Rattle.dns_service.specs.declared.event.Output.{Output}
-use Rattle.dns_service.specs.declared.event.Output.TheVariants.{Datagram as Datagram_output, Frame, Closed as Closed_output, TurnedAway}
-use Rattle.dns_service.specs.declared.event.Why.{Why}
-use Rattle.dns_service.specs.declared.event.Why.TheVariants.{Ended, Fault as By_fault, Commanded, Shutdown as By_shutdown}
-use Rattle.dns_client.specs.Connections.{opened, reconfigured, released}
+use Rattle.dns_events.specs.declared.event.Event.{Event}
+use Rattle.dns_events.specs.declared.event.EventKind.{EventKind}
+use Rattle.dns_events.specs.declared.event.EventKind.TheVariants.{Turn}
+use Rattle.dns_events.specs.declared.event.Output.{Output}
+use Rattle.dns_events.specs.declared.event.Output.TheVariants.{Datagram as Datagram_output, Frame, Closed as Closed_output, TurnedAway}
+use Rattle.dns_client.specs.Connections.{opened, piece, reconfigured, released, wind_up}
 use Rattle.dns_client.specs.Datagrams.{datagram}
-use Rattle.dns_client.specs.Rule.{closed_rule, exchange_rule, flushing_rule, in_phase, open_rule, rule, unused_rule}
+use Rattle.dns_client.specs.Rule.{rule}
 use Rattle.dns_client.specs.Serving.{Serving}
 use Rattle.dns_client.specs.Slate.{Slate, SlateRequest, Conf, Told, Phase, Unused, Exchange, Open, Flushing, Closed, conf_rule, fresh, with_conf}
+use Rattle.dns_client.specs.Turns.{polled, sent_at_once, sent_for, turn_request, with_request}
 use Rattle.dns_core.specs.Own.{own}
 use Rattle.dns_core.specs.Sent.{sent, sent_after, slate, slate_after}
 use Rattle.dns_core.specs.Settings.{opening}
-use Rattle.dns_core.specs.Trails.{Mark, Trail, IsSomewhere, dropped_by, dropped_of, is_datagram_sent, is_frame, is_open, marks, messages_sent, no_trail, poll_of, reply_at, trail_after, trailed}
-use Rattle.dns_service.specs.declared.settings.Settings.{Settings}
+use Rattle.dns_core.specs.Trails.{Mark, Trail, IsSomewhere, dropped_by, dropped_of, is_datagram_sent, is_frame, is_open, mark, marks, messages_sent, no_trail, poll_of, reply_at, trail_after, trailed}
+use Rattle.dns_events.specs.declared.settings.Settings.{Settings}
+use Rattle.dns_client.proofs.Walks.{Rows, rows}
 use Rattle.dns_core.proofs.Trailing.{AsksAll, AsksAt, Has, Keeps, Kept, closes, has_still, stays, still, still_polls, trail, trail_by, waits_with}
 use Rattle.dns_core.proofs.Marks.{queue_marked}
 use Rattle.dns_core.proofs.TrailExchanges.{datagram_keeps, exchange_keeps}
 use Rattle.dns_core.proofs.TrailPieces.{piece_keeps}
-use Rattle.dns_core.proofs.TrailTurns.{turn_keeps}
-use Rattle.dns_core.proofs.TrailWrites.{flush_keeps, tick_keeps, wind_keeps, write_keeps}
+use Rattle.dns_core.proofs.TrailTurns.{turns_on}
+use Rattle.dns_core.proofs.TrailWrites.{front_of, written_keeps, flushed_keeps}
 
 messages_append : (xs ys : List Output) → messages_sent (xs ++ ys) ≡ messages_sent xs ++ messages_sent ys
 messages_append [] ys = refl
@@ -54,44 +54,43 @@ module _ (answers : Serving) where
       stays answers s (opened client addr at s) t os None ds h refl
       (subst (λ (rs : List SlateRequest). AsksAll answers true rs (waits_with [] ds t)) (sym new.0) (λ k. still_polls k ds t ∙ new.2 k))
 
-  unused_keeps : (e : Event) (k : EventKind) (s : Slate) (t : Trail) (os : List Output) (ds : List Mark) → s.phase ≡ Unused → Kept answers s t os → Keeps answers (unused_rule e k s) (marks k s) ds t os
-  unused_keeps e (Datagram addr o) s t os ds p h =
-      (elim s.conf.over as (λ b. let told : Told = (if b then (s, []) else datagram e.client addr e.at e.secs o s) in Keeps answers told None ds t os) [ true ↦ still answers s t os None ds h | false ↦ datagram_keeps answers e.client addr e.at e.secs o s t os ds p h ])
-  unused_keeps e (Offer addr) s t os ds p h =
-      (elim s.conf.over as (λ b. let told : Told = (if b then (s, []) else (opened e.client addr e.at s, [])) in Keeps answers told None ds t os) [ true ↦ still answers s t os None ds h | false ↦ opened_keeps e.client addr e.at s t os ds p h ])
-  unused_keeps e k s t os ds p h = still answers s t os (marks k s) ds h
+  -- ---- what each entry of the rule's table does to a trail, under its event's mark and with what that dropped
 
-  in_exchange_keeps : (k : EventKind) (s : Slate) (t : Trail) (os : List Output) (ds : List Mark) → s.phase ≡ Exchange → Kept answers s t os → Keeps answers (exchange_rule answers k s) (marks k s) ds t os
-  in_exchange_keeps (Turn k) s t os ds p h = exchange_keeps answers k (slice_get s.requests k) s t os ds p refl h
-  in_exchange_keeps k s t os ds p h = still answers s t os (marks k s) ds h
+  abbrev dropped_at : Event → Slate → List Mark
+  dropped_at e s = dropped_by answers e.at e.kind s
 
-  open_keeps : (e : Event) (k : EventKind) (s : Slate) (t : Trail) (os : List Output) (ds : List Mark) → s.phase ≡ Open → ds ≡ dropped_by answers e.at k s → Kept answers s t os → Keeps answers (open_rule answers e k s) (marks k s) ds t os
-  open_keeps e (Piece o) s t os ds p d h = piece_keeps answers e.at e.secs o s t os ds p h
-  open_keeps e (Turn k) s t os ds p d h = turn_keeps answers e.at k (slice_get s.requests k) s t os ds p refl h (d ∙ ap (λ (x : Phase). if is_open x then dropped_of answers e.at k (slice_get s.requests k) s else []) p)
-  open_keeps e (Write took) s t os ds p d h = write_keeps answers e.at took s.queue s t os None ds refl h
-  open_keeps e Tick s t os ds p d h = tick_keeps answers e.at s t os None ds h
-  open_keeps e End s t os ds p d h = closes answers Ended s s t os None ds h
-  open_keeps e Fault s t os ds p d h = closes answers By_fault s s t os None ds h
-  open_keeps e Close s t os ds p d h = wind_keeps answers Commanded s.queue s t os None ds h
-  open_keeps e (Reconfigure dgram stream) s t os ds p d h = stays answers s (reconfigured stream.connection_config s) t os None ds h refl (has_still answers s.phase s.requests ds t h.has)
-  open_keeps e Shutdown s t os ds p d h = wind_keeps answers By_shutdown s.queue s t os None ds h
-  open_keeps e k s t os ds p d h = still answers s t os (marks k s) ds h
+  abbrev Moves : Event → Slate → Told → Type 0
+  Moves e s told = (t : Trail) (os : List Output) → Kept answers s t os → Keeps answers told (marks e.kind s) (dropped_at e s) t os
 
-  flushing_keeps : (why : Why) (k : EventKind) (s : Slate) (t : Trail) (os : List Output) (ds : List Mark) → Kept answers s t os → Keeps answers (flushing_rule why k s) (marks k s) ds t os
-  flushing_keeps why (Write took) s t os ds h = flush_keeps answers why took s.queue s t os None ds refl h
-  flushing_keeps why Fault s t os ds h = closes answers By_fault s s t os None ds h
-  flushing_keeps why k s t os ds h = still answers s t os (marks k s) ds h
+  under : (e : Event) (s : Slate) (told : Told) (t : Trail) (os : List Output) (x : Option Mark) → marks e.kind s ≡ x → Keeps answers told x (dropped_at e s) t os → Keeps answers told (marks e.kind s) (dropped_at e s) t os
+  under e s told t os x is h = subst (λ (y : Option Mark). Keeps answers told y (dropped_at e s) t os) (sym is) h
 
-  closed_keeps : (k : EventKind) (s : Slate) (t : Trail) (os : List Output) (ds : List Mark) → Kept answers s t os → Keeps answers (closed_rule k s) (marks k s) ds t os
-  closed_keeps Release s t os ds h = stays answers s (released s) t os None ds h refl (has_still answers s.phase s.requests ds t h.has)
-  closed_keeps k s t os ds h = still answers s t os (marks k s) ds h
+  marked : (e : Event) (k : ℕ) (r : SlateRequest) (s : Slate) → e.kind ≡ Turn k → slice_get s.requests k ≡ Some r → marks e.kind s ≡ Some (mark k r)
+  marked e k r s is at = ap (λ (x : EventKind). marks x s) is ∙ ap (option_map (λ (q : SlateRequest). mark k q)) at
 
-  phase_keeps : (e : Event) (p : Phase) (s : Slate) (t : Trail) (os : List Output) (ds : List Mark) → s.phase ≡ p → ds ≡ dropped_by answers e.at e.kind s → Kept answers s t os → Keeps answers (in_phase answers e p s) (marks e.kind s) ds t os
-  phase_keeps e Unused s t os ds p d h = unused_keeps e e.kind s t os ds p h
-  phase_keeps e Exchange s t os ds p d h = in_exchange_keeps e.kind s t os ds p h
-  phase_keeps e Open s t os ds p d h = open_keeps e e.kind s t os ds p d h
-  phase_keeps e (Flushing why) s t os ds p d h = flushing_keeps why e.kind s t os ds h
-  phase_keeps e Closed s t os ds p d h = closed_keeps e.kind s t os ds h
+  dropped_is : (e : Event) (k : ℕ) (r : SlateRequest) (s : Slate) → e.kind ≡ Turn k → s.phase ≡ Open → slice_get s.requests k ≡ Some r → dropped_at e s ≡ dropped_of answers e.at k (Some r) s
+  dropped_is e k r s is p at =
+      ap (λ (x : EventKind). dropped_by answers e.at x s) is
+      ∙ (ap (λ (x : Phase). if is_open x then dropped_of answers e.at k (slice_get s.requests k) s else []) p
+      ∙ ap (λ (x : Option SlateRequest). dropped_of answers e.at k x s) at)
+
+  moves : (e : Event) → Rows answers e (λ s u. Moves e s u)
+  moves e = record {
+    stays = λ s t os h. still answers s t os (marks e.kind s) (dropped_at e s) h;
+    exchanges = λ addr o s is p over t os h. under e s (datagram e.client addr e.at e.secs o s) t os None (ap (λ (x : EventKind). marks x s) is) (datagram_keeps answers e.client addr e.at e.secs o s t os (dropped_at e s) p h);
+    opens = λ addr s is p over t os h. under e s (opened e.client addr e.at s, []) t os None (ap (λ (x : EventKind). marks x s) is) (opened_keeps e.client addr e.at s t os (dropped_at e s) p h);
+    polls = λ k r s is p at d t os h. under e s (with_request k (polled (answers.answer r.request r.polls) r) s, sent_at_once s.client (sent_for answers r.request (answers.answer r.request r.polls))) t os
+        (Some (mark k r)) (marked e k r s is at) (exchange_keeps answers k r s t os (dropped_at e s) p at h);
+    takes = λ o s is p t os h. under e s (piece e.at e.secs o s) t os None (ap (λ (x : EventKind). marks x s) is) (piece_keeps answers e.at e.secs o s t os (dropped_at e s) p h);
+    turns = λ k r s is p at d t os h. under e s (turn_request answers e.at k r.held r s, []) t os (Some (mark k r)) (marked e k r s is at)
+        (turns_on answers e.at k r s t os (dropped_at e s) (record { phase = p; here = at; kept = h; undone = d; dropped = λ yes. dropped_is e k r s is p at ∙ ap (λ (b : Bool). if b then mark k r ∷ [] else []) yes }));
+    writes = λ m ms s p is t os h. written_keeps answers e.at m ms s t os (marks e.kind s) (dropped_at e s) (front_of answers m ms s t os is h);
+    flushes = λ why m ms s p is t os h. flushed_keeps answers why m ms s t os (marks e.kind s) (dropped_at e s) (front_of answers m ms s t os is h);
+    closes = λ why s c r t os h. closes answers why s s t os (marks e.kind s) (dropped_at e s) h;
+    winds = λ why m ms s p is t os h. stays answers s (wind_up why (m ∷ ms) s).0 t os (marks e.kind s) (dropped_at e s) h refl refl;
+    reconfigures = λ dgram stream s is p t os h. stays answers s (reconfigured stream.connection_config s) t os (marks e.kind s) (dropped_at e s) h refl (has_still answers s.phase s.requests (dropped_at e s) t h.has);
+    releases = λ s is p t os h. stays answers s (released s) t os (marks e.kind s) (dropped_at e s) h refl (has_still answers s.phase s.requests (dropped_at e s) t h.has);
+  }
 
   conf_kept : (c : Conf) (s : Slate) (t : Trail) (os : List Output) → Kept answers s t os → Kept answers (with_conf c s) t os
   conf_kept c s t os h = record { went = h.went; waiting = h.waiting; order = h.order; has = h.has }
@@ -107,10 +106,10 @@ module _ (answers : Serving) where
   rule_keeps : (e : Event) (s : Slate) (t : Trail) (os : List Output) → Kept answers s t os → Kept answers (rule answers e s).0 (trailed answers e s t) (os ++ messages_sent (rule answers e s).1)
   rule_keeps e s t os h =
       let c = conf_rule e.kind s.conf in
-      let ds = dropped_by answers e.at e.kind s in
       subst (λ (u : Trail). Kept answers (rule answers e s).0 u (os ++ messages_sent (rule answers e s).1)) (trailed_is e s t)
-      (subst (λ (x : Option Mark). Keeps answers (rule answers e s) x ds t os) (sym (marks_conf e.kind c s))
-      (phase_keeps e s.phase (with_conf c s) t os ds refl (drops_conf e.at e.kind c s) (conf_kept c s t os h)))
+      (subst (λ (x : Option Mark). Keeps answers (rule answers e s) x (dropped_at e s) t os) (sym (marks_conf e.kind c s))
+      (subst (λ (ds : List Mark). Keeps answers (rule answers e s) (marks e.kind (with_conf c s)) ds t os) (sym (drops_conf e.at e.kind c s))
+      (rows answers e (λ s u. Moves e s u) (moves e) s t os (conf_kept c s t os h))))
 
   pub kept_after : (es : List Event) (s : Slate) (t : Trail) (os : List Output) → Kept answers s t os → Kept answers (slate_after answers s es) (trail_after answers s t es) (os ++ messages_sent (sent_after answers s es))
   kept_after [] s t os h = subst (Kept answers s t) (sym (append-nil os)) h

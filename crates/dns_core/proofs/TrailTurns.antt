@@ -7,15 +7,15 @@ use Rattle.dns_base.specs.Wire.{wire}
 use Rattle.dns_service.specs.Answer.{Answer}
 use Rattle.dns_service.specs.Config.{Connection}
 use Rattle.dns_service.specs.Transport.{is_stream, limit, limit_over}
-use Rattle.dns_service.specs.declared.event.Output.{Output}
+use Rattle.dns_events.specs.declared.event.Output.{Output}
 use Rattle.dns_service.specs.declared.message.TransportSpecificContext.{TransportSpecificContext}
 use Rattle.dns_service.specs.declared.message.TransportSpecificContext.TheVariants.{Udp, NonUdp}
 use Rattle.dns_client.specs.Connections.{append_frame, is_in_transaction, room}
 use Rattle.dns_client.specs.Frames.{framed}
 use Rattle.dns_client.specs.Serving.{Serving}
 use Rattle.dns_client.specs.Slate.{Slate, SlateRequest, Phase, Open}
-use Rattle.dns_client.specs.Turns.{answered, hold, queue_reply, reply_to, retimed, sent_for, turn, turn_request, with_request}
-use Rattle.dns_core.specs.Trails.{Mark, Trail, drops, dropped_of, in_order, mark, on_wire, poll_of, polls_of, reply_at}
+use Rattle.dns_client.specs.Turns.{answered, hold, queue_reply, reply_to, retimed, sent_for, turn_request, with_request}
+use Rattle.dns_core.specs.Trails.{Mark, Trail, drops, in_order, mark, on_wire, poll_of, polls_of, reply_at}
 use Rattle.dns_core.proofs.Trailing.{Asks, AsksAll, AsksAt, Has, Keeps, Kept, joined_on, joins, polls_joined, stays, still, still_polls, waits_with}
 use Rattle.dns_core.proofs.Repolled.{held_queued, mark_free, others_none, polls_dropped, polls_held, polls_queued, polls_silent, rises_with, turned}
 
@@ -120,15 +120,3 @@ module _ (answers : Serving) where
 
     pub turns_on : Keeps answers (turn_request answers at k r.held r s, []) (Some (mark k r)) ds t os
     turns_on = request_turn r.held refl
-
-  done_case : (at k : ℕ) (r : SlateRequest) (s : Slate) (t : Trail) (os : List Output) (ds : List Mark) (b : Bool) → Kept answers s t os → (b ≡ false → Keeps answers (turn_request answers at k r.held r s, []) (Some (mark k r)) ds t os)
-      → let u : Slate = (if b then s else turn_request answers at k r.held r s) in Keeps answers (u, []) (Some (mark k r)) ds t os
-  done_case at k r s t os ds true h more = still answers s t os (Some (mark k r)) ds h
-  done_case at k r s t os ds false h more = more refl
-
-  -- whichever request is named
-  pub turn_keeps : (at k : ℕ) (x : Option SlateRequest) (s : Slate) (t : Trail) (os : List Output) (ds : List Mark) → s.phase ≡ Open → slice_get s.requests k ≡ x → Kept answers s t os → ds ≡ dropped_of answers at k x s
-      → Keeps answers (turn answers at k x s, []) (option_map (λ r. mark k r) x) ds t os
-  turn_keeps at k None s t os ds p here h d = still answers s t os None ds h
-  turn_keeps at k (Some r) s t os ds p here h d =
-      done_case at k r s t os ds r.done h (λ undone. turns_on at k r s t os ds (record { phase = p; here = here; kept = h; undone = undone; dropped = λ yes. d ∙ ap (λ (b : Bool). if b then mark k r ∷ [] else []) yes }))

@@ -1,24 +1,20 @@
 -- The writes of a connection keep its trail: the first of what waits goes, and where the connection is closed, all that waits is
 -- forgotten.
-use Rattle.std.proofs.Common.{◌≡◌, ℕ, true, false, List, [], ◌∷◌, ◌++◌, length, replicate, Option, refl, ap, sym, ◌∙◌, subst, append_assoc}
-use Rattle.std.specs.Prelude.{not, if◌then◌else◌, ◌&&◌}
-use Rattle.std.specs.List.{list_any}
+use Rattle.std.proofs.Common.{◌≡◌, ℕ, List, [], ◌∷◌, ◌++◌, length, replicate, Option, refl, ap, sym, ◌∙◌, subst, append_assoc}
 use Rattle.std.proofs.Math.Seq.{take_at}
-use Rattle.dns_service.specs.declared.event.Output.{Output}
-use Rattle.dns_service.specs.declared.event.Output.TheVariants.{Frame}
-use Rattle.dns_service.specs.declared.event.Why.{Why}
-use Rattle.dns_service.specs.declared.event.Why.TheVariants.{Idle, WriteTimeout}
-use Rattle.dns_client.specs.Connections.{close, flush, flushed, in_transaction, tick, took_too_long, wind_up, write, written}
+use Rattle.dns_events.specs.declared.event.Output.{Output}
+use Rattle.dns_events.specs.declared.event.Output.TheVariants.{Frame}
+use Rattle.dns_events.specs.declared.event.Why.{Why}
+use Rattle.dns_client.specs.Connections.{close, flushed, written}
 use Rattle.dns_client.specs.Serving.{Serving}
 use Rattle.dns_client.specs.Slate.{Slate, Told}
-use Rattle.dns_client.specs.Timers.{is_expired}
 use Rattle.dns_core.specs.Trails.{Mark, Trail, AreAsMarked, IsRising, polls_of}
 use Rattle.dns_core.proofs.Marks.{AreQueued, marked_append, marked_one, queued_length}
-use Rattle.dns_core.proofs.Trailing.{Has, Keeps, Kept, closes, ends, front_on, has_on, stays, still, trail, trail_by}
+use Rattle.dns_core.proofs.Trailing.{Has, Keeps, Kept, ends, front_on, has_on, trail, trail_by}
 
 module _ (answers : Serving) where
   -- the first of what waits, for the frame that is written, and the others
-  record Front (m : List ℕ) (ms : List (List ℕ)) (s : Slate) (t : Trail) (os : List Output) : Type 0 where
+  pub record Front (m : List ℕ) (ms : List (List ℕ)) (s : Slate) (t : Trail) (os : List Output) : Type 0 where
     first : Option Mark
     others : List (Option Mark)
     waiting : t.waiting ≡ first ∷ others
@@ -39,7 +35,7 @@ module _ (answers : Serving) where
     has = subst (λ (ys : List (Option Mark)). Has answers s.phase s.requests (trail t.went ys t.dropped)) is h.has;
   }
 
-  front_of : (m : List ℕ) (ms : List (List ℕ)) (s : Slate) (t : Trail) (os : List Output) → s.queue ≡ m ∷ ms → Kept answers s t os → Front m ms s t os
+  pub front_of : (m : List ℕ) (ms : List (List ℕ)) (s : Slate) (t : Trail) (os : List Output) → s.queue ≡ m ∷ ms → Kept answers s t os → Front m ms s t os
   front_of m ms s t os q h = front_case m ms s t os t.waiting refl (subst (AreQueued answers t.waiting) q h.waiting) h
 
   -- it goes, and the others wait
@@ -70,38 +66,10 @@ module _ (answers : Serving) where
       subst (λ (ws : List (Option Mark)). Kept answers (close why s).0 (trail_by told x ds (trail t.went ws t.dropped)) (os ++ Frame s.client m ∷ [])) (sym f.waiting)
       (ends answers why s (t.went ++ f.first ∷ []) f.others (t.dropped ++ ds) (os ++ Frame s.client m ∷ []) f.went f.order)
 
-  written_keeps : (at : ℕ) (m : List ℕ) (ms : List (List ℕ)) (s : Slate) (t : Trail) (os : List Output) (x : Option Mark) (ds : List Mark) → Front m ms s t os → Keeps answers (written at m ms s) x ds t os
+  pub written_keeps : (at : ℕ) (m : List ℕ) (ms : List (List ℕ)) (s : Slate) (t : Trail) (os : List Output) (x : Option Mark) (ds : List Mark) → Front m ms s t os → Keeps answers (written at m ms s) x ds t os
   written_keeps at m [] s t os x ds f = gone m [] s (record s { queue = []; reset_at = at }) t os x ds refl f (has_gone m [] s t os ds f)
   written_keeps at m (n ∷ ms) s t os x ds f = gone m (n ∷ ms) s (record s { queue = n ∷ ms }) t os x ds refl f (has_gone m (n ∷ ms) s t os ds f)
 
-  pub write_keeps : (at took : ℕ) (q : List (List ℕ)) (s : Slate) (t : Trail) (os : List Output) (x : Option Mark) (ds : List Mark) → s.queue ≡ q → Kept answers s t os → Keeps answers (write at took q s) x ds t os
-  write_keeps at took [] s t os x ds q h = still answers s t os x ds h
-  write_keeps at took (m ∷ ms) s t os x ds q h =
-      (elim (took_too_long took s) as (λ b. let told : Told = (if b then close WriteTimeout s else written at m ms s) in Keeps answers told x ds t os) [
-        | true ↦ closes answers WriteTimeout s s t os x ds h
-        | false ↦ written_keeps at m ms s t os x ds (front_of m ms s t os q h)
-      ])
-
-  flushed_keeps : (why : Why) (m : List ℕ) (ms : List (List ℕ)) (s : Slate) (t : Trail) (os : List Output) (x : Option Mark) (ds : List Mark) → Front m ms s t os → Keeps answers (flushed why m ms s) x ds t os
+  pub flushed_keeps : (why : Why) (m : List ℕ) (ms : List (List ℕ)) (s : Slate) (t : Trail) (os : List Output) (x : Option Mark) (ds : List Mark) → Front m ms s t os → Keeps answers (flushed why m ms s) x ds t os
   flushed_keeps why m [] s t os x ds f = last_gone why m [] s t os x ds f
   flushed_keeps why m (n ∷ ms) s t os x ds f = gone m (n ∷ ms) s (record s { queue = n ∷ ms }) t os x ds refl f (has_gone m (n ∷ ms) s t os ds f)
-
-  pub flush_keeps : (why : Why) (took : ℕ) (q : List (List ℕ)) (s : Slate) (t : Trail) (os : List Output) (x : Option Mark) (ds : List Mark) → s.queue ≡ q → Kept answers s t os → Keeps answers (flush why took q s) x ds t os
-  flush_keeps why took [] s t os x ds q h = still answers s t os x ds h
-  flush_keeps why took (m ∷ ms) s t os x ds q h =
-      (elim (took_too_long took s) as (λ b. let told : Told = (if b then close WriteTimeout s else flushed why m ms s) in Keeps answers told x ds t os) [
-        | true ↦ closes answers WriteTimeout s s t os x ds h
-        | false ↦ flushed_keeps why m ms s t os x ds (front_of m ms s t os q h)
-      ])
-
-  -- a connection that is to be closed keeps what waits, and forgets its requests
-  pub wind_keeps : (why : Why) (q : List (List ℕ)) (s : Slate) (t : Trail) (os : List Output) (x : Option Mark) (ds : List Mark) → Kept answers s t os → Keeps answers (wind_up why q s) x ds t os
-  wind_keeps why [] s t os x ds h = closes answers why s s t os x ds h
-  wind_keeps why (m ∷ ms) s t os x ds h = stays answers s (wind_up why (m ∷ ms) s).0 t os x ds h refl refl
-
-  pub tick_keeps : (at : ℕ) (s : Slate) (t : Trail) (os : List Output) (x : Option Mark) (ds : List Mark) → Kept answers s t os → Keeps answers (tick at s) x ds t os
-  tick_keeps at s t os x ds h =
-      (elim (is_expired s.reset_at s.connection.idle_timeout at && not (list_any in_transaction s.requests)) as (λ b. let told : Told = (if b then close Idle s else (s, [])) in Keeps answers told x ds t os) [
-        | true ↦ closes answers Idle s s t os x ds h
-        | false ↦ still answers s t os x ds h
-      ])

@@ -1,55 +1,33 @@
 -- What an event that all clients hear does to one of them, by state.
 use Rattle.dns_client.specs.Serving.{Serving}
 use Rattle.std.proofs.Common.{◌≡◌, List, [], Bool, true, false, refl, ap, sym, ◌∙◌}
-use Rattle.dns_service.specs.declared.event.Event.{Event}
-use Rattle.dns_service.specs.declared.event.EventKind.{EventKind}
-use Rattle.dns_service.specs.declared.event.EventKind.TheVariants.{Reconfigure, Shutdown}
-use Rattle.dns_service.specs.declared.event.Why.{Why}
-use Rattle.dns_client.specs.Slate.{Slate, Told, Phase, Unused, Exchange, Open, Flushing, Closed, conf_rule, with_conf}
-use Rattle.dns_client.specs.Rule.{rule, in_phase, unused_rule, exchange_rule, flushing_rule, closed_rule}
+use Rattle.dns_events.specs.declared.event.Event.{Event}
+use Rattle.dns_events.specs.declared.event.EventKind.{EventKind}
+use Rattle.dns_events.specs.declared.event.EventKind.TheVariants.{Reconfigure, Shutdown}
+use Rattle.dns_client.specs.Slate.{Slate, Told, Phase, Open, conf_rule, with_conf}
+use Rattle.dns_client.specs.Rule.{rule, in_phase}
 use Rattle.dns_core.specs.Own.{is_wide}
 use Rattle.dns_core.specs.Out.{is_unused, holds_slot, is_new}
 use Rattle.dns_core.specs.Sent.{slate}
 use Rattle.dns_core.specs.Trails.{is_open}
-use Rattle.dns_service.specs.declared.settings.Settings.{Settings}
+use Rattle.dns_events.specs.declared.settings.Settings.{Settings}
 use Rattle.dns_core.proofs.Plain.{unused_is, is_going, rule_used, slot_kept}
 use Rattle.dns_core.proofs.Gained.{slate_same, used_not_new, unused_not_new}
-
-wide_unused : (e : Event) (k : EventKind) (s : Slate) → is_wide k ≡ true → unused_rule e k s ≡ (s, [])
-wide_unused e (Reconfigure dgram stream) s w = refl
-wide_unused e Shutdown s w = refl
-wide_unused e _ s w = cc
-
-wide_flushing : (why : Why) (k : EventKind) (s : Slate) → is_wide k ≡ true → flushing_rule why k s ≡ (s, [])
-wide_flushing why (Reconfigure dgram stream) s w = refl
-wide_flushing why Shutdown s w = refl
-wide_flushing why _ s w = cc
-
-wide_closed : (k : EventKind) (s : Slate) → is_wide k ≡ true → closed_rule k s ≡ (s, [])
-wide_closed (Reconfigure dgram stream) s w = refl
-wide_closed Shutdown s w = refl
-wide_closed _ s w = cc
+use Rattle.dns_core.proofs.Late.{reconfigure_phase, shutdown_phase}
 
 pub open_is : (p : Phase) → is_open p ≡ true → p ≡ Open
 open_is Open h = refl
 open_is _ h = cc
 
 module _ (answers : Serving) where
-  wide_exchange : (k : EventKind) (s : Slate) → is_wide k ≡ true → exchange_rule answers k s ≡ (s, [])
-  wide_exchange (Reconfigure dgram stream) s w = refl
-  wide_exchange Shutdown s w = refl
-  wide_exchange _ s w = cc
-
-  wide_phase : (e : Event) (p : Phase) (s : Slate) → is_wide e.kind ≡ true → is_open p ≡ false → in_phase answers e p s ≡ (s, [])
-  wide_phase e Unused s w o = wide_unused e e.kind s w
-  wide_phase e Exchange s w o = wide_exchange e.kind s w
-  wide_phase e Open s w o = cc
-  wide_phase e (Flushing why) s w o = wide_flushing why e.kind s w
-  wide_phase e Closed s w o = wide_closed e.kind s w
+  wide_phase : (k : EventKind) (e : Event) (p : Phase) (s : Slate) → e.kind ≡ k → is_wide k ≡ true → is_open p ≡ false → in_phase answers e p s ≡ (s, [])
+  wide_phase (Reconfigure dgram stream) e p s is w o = reconfigure_phase answers p e dgram stream s is o
+  wide_phase Shutdown e p s is w o = shutdown_phase answers p e s is o
+  wide_phase _ e p s is w o = cc
 
   -- of a connection that isn't open, and of no connection, it leaves all but the configurations
   pub wide_idle : (e : Event) (s : Slate) → is_wide e.kind ≡ true → is_open s.phase ≡ false → rule answers e s ≡ (with_conf (conf_rule e.kind s.conf) s, [])
-  wide_idle e s w o = wide_phase e s.phase (with_conf (conf_rule e.kind s.conf) s) w o
+  wide_idle e s w o = wide_phase e.kind e s.phase (with_conf (conf_rule e.kind s.conf) s) refl w o
 
   use_case : (e : Event) (s : Slate) (b : Bool) → is_wide e.kind ≡ true → is_unused s.phase ≡ b → is_unused (rule answers e s).0.phase ≡ is_unused s.phase
   use_case e s true w u = ap (λ (t : Told). is_unused t.0.phase) (wide_idle e s w (ap is_open (unused_is s.phase u)))

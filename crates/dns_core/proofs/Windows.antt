@@ -1,33 +1,34 @@
 -- What a client's events queue in one window of time: no more than its configurations allow. By state: an event that all hear sets the
 -- configurations first.
 use Rattle.dns_client.specs.Serving.{Serving}
-use Rattle.std.proofs.Common.{◌≡◌, ◌≢◌, ℕ, zero, suc, ◌+◌, ◌/◌, ◌<◌, ◌≤◌, List, [], ◌∷◌, Bool, true, false, refl, ap, sym, ◌∙◌, arith, All, ◌-◌}
-use Rattle.std.specs.Prelude.{Some, slice_get, slice_index_or, ◌==◌, if◌then◌else◌}
+use Rattle.std.proofs.Common.{◌≡◌, ◌≢◌, ℕ, zero, suc, ◌+◌, ◌/◌, ◌<◌, ◌≤◌, List, [], ◌∷◌, Bool, true, false, refl, ap, sym, ◌∙◌, subst, arith, All, ◌-◌}
+use Rattle.std.specs.Prelude.{Some, slice_index_or, ◌==◌, if◌then◌else◌}
 use Rattle.std.specs.List.Sorted.{IsNonDecreasingBy}
 use Rattle.std.proofs.Math.Nat.{div-mul-le_self, div-zero}
 use Rattle.std.proofs.lemmas.Bool.{eqb-true, eqb-false, ne_eqb}
 use Rattle.std.proofs.lemmas.List.Elements.{All-head, All-tail}
 use Rattle.std.proofs.lemmas.Nat.{le-div}
-use Rattle.dns_core.proofs.Late.{wound_shut}
+use Rattle.dns_core.proofs.Late.{shutdown_shut}
 use Rattle.dns_name.specs.declared.address.SocketAddr.{SocketAddr}
-use Rattle.dns_service.specs.Config.{IsBudget}
-use Rattle.dns_service.specs.declared.event.Event.{Event}
-use Rattle.dns_service.specs.declared.event.EventKind.{EventKind}
-use Rattle.dns_service.specs.declared.event.EventKind.TheVariants.{Datagram, Turn, Offer, Piece, End, Fault, Close, Write, Tick, Reconfigure, Shutdown}
-use Rattle.dns_service.specs.declared.event.Why.TheVariants.{Ended, Commanded, Fault as By_fault, Shutdown as By_shutdown}
+use Rattle.dns_service.specs.Config.{Connection, Dgram, Stream, IsBudget}
+use Rattle.dns_events.specs.declared.event.Event.{Event}
+use Rattle.dns_events.specs.declared.event.EventKind.{EventKind}
+use Rattle.dns_events.specs.declared.event.EventKind.TheVariants.{Datagram, Offer, Reconfigure, Shutdown}
 use Rattle.dns_client.specs.After.{slate_after}
 use Rattle.dns_client.specs.Budget.{is_mark}
-use Rattle.dns_client.specs.Slate.{Slate, Told, Conf, Phase, Unused, Exchange, Open, Flushing, Closed, fresh, conf_rule, with_conf}
+use Rattle.dns_client.specs.Slate.{Slate, Told, Conf, Phase, Open, fresh, conf_rule, with_conf}
 use Rattle.dns_client.specs.Datagrams.{datagram}
 use Rattle.dns_client.specs.Connections.{opened}
-use Rattle.dns_client.specs.Rule.{rule, in_phase, unused_rule, open_rule}
+use Rattle.dns_client.specs.Rule.{rule, in_phase, unused_rule}
 use Rattle.dns_core.specs.Budgets.{AllowsAtMost, StaysAtMost, queued_in}
 use Rattle.dns_core.specs.Settings.{opening}
 use Rattle.dns_core.specs.Trails.{is_open}
-use Rattle.dns_service.specs.declared.settings.Settings.{Settings}
-use Rattle.dns_core.proofs.Grows.{Grows, carries, growth, grown, left_in, pieces, rested, turns}
-use Rattle.dns_core.proofs.Plain.{rule_conf}
-use Rattle.dns_core.proofs.Rests.{Rests, closed_on, closes, exchange_on, flushing_on, same, tick_on, winds, write_on}
+use Rattle.dns_events.specs.declared.settings.Settings.{Settings}
+use Rattle.dns_core.proofs.Grows.{Grows, carries, growth, grows, is_reconfigure, left_in}
+use Rattle.dns_core.proofs.Plain.{narrow_conf, rule_conf, unused_is}
+use Rattle.dns_client.proofs.Walks.{walks}
+use Rattle.dns_core.specs.Own.{is_wide}
+use Rattle.dns_core.specs.Out.{is_unused}
 
 -- an open connection has the budget of the configuration in force
 record Agrees (s : Slate) : Type 0 where
@@ -54,20 +55,11 @@ record Idles (b at : ℕ) (s t : Slate) : Type 0 where
 idle : (b at : ℕ) (s : Slate) → is_open s.phase ≡ false → Idles b at s s
 idle b at s shut = record { follows = unopened s shut; gains = λ w. omega arith }
 
-shut_step : (b at : ℕ) (s t : Slate) (c : Conf) → is_open s.phase ≡ false → Rests (with_conf c s) t → Steps b at s t
-shut_step b at s t c shut r = record { follows = λ o. let open_before = r.opens o in cc; gains = λ w a. rested b (at / w) (with_conf c s) t r }
-
-agrees_on : (b at : ℕ) (s t : Slate) → Grows b at s t → Agrees s → Agrees t
-agrees_on b at s t g a = record {
-  over = ap (λ (c : Conf). c.over) g.conf ∙ a.over;
-  budget = g.budget ∙ a.budget ∙ sym (ap (λ (c : Conf). c.stream.connection_config.response_budget) g.conf);
-  window = g.window ∙ a.window ∙ sym (ap (λ (c : Conf). c.stream.connection_config.budget_window) g.conf);
-}
-
-open_step : (b at : ℕ) (s t : Slate) → Agrees s → Grows b at s t → Steps b at s t
-open_step b at s t a g = record {
-  follows = λ o. agrees_on b at s t g a;
-  gains = λ w most. g.gains w (carries b w s.conf.stream.connection_config s.connection a.budget a.window most);
+agrees_on : (b at : ℕ) (s t u : Slate) → t.conf ≡ s.conf → t.connection ≡ s.connection → Grows b at t u → Agrees s → Agrees u
+agrees_on b at s t u c k g a = record {
+  over = ap (λ (x : Conf). x.over) (g.conf ∙ c) ∙ a.over;
+  budget = g.budget ∙ (ap (λ (x : Connection). x.response_budget) k ∙ (a.budget ∙ sym (ap (λ (x : Conf). x.stream.connection_config.response_budget) (g.conf ∙ c))));
+  window = g.window ∙ (ap (λ (x : Connection). x.budget_window) k ∙ (a.window ∙ sym (ap (λ (x : Conf). x.stream.connection_config.budget_window) (g.conf ∙ c))));
 }
 
 left_most : (x : Bool) (b spent : ℕ) → (if x then b - spent else b) ≤ b
@@ -99,30 +91,36 @@ module _ (answers : Serving) (b : ℕ) (fits : IsBudget (Some b)) where
   unused_on e (Offer addr) s shut = offer_case s.conf.over e addr s refl shut
   unused_on e _ s shut = idle b e.at s shut
 
-  open_on : (e : Event) (k : EventKind) (s : Slate) → Agrees s → Steps b e.at s (open_rule answers e k (with_conf (conf_rule k s.conf) s)).0
-  open_on e (Piece o) s a = open_step b e.at s (open_rule answers e (Piece o) s).0 a (pieces b e.at fits e.secs o s)
-  open_on e (Turn k) s a = open_step b e.at s (open_rule answers e (Turn k) s).0 a (turns b e.at fits answers k (slice_get s.requests k) s)
-  open_on e (Write took) s a = open_step b e.at s (open_rule answers e (Write took) s).0 a (grown b e.at s (open_rule answers e (Write took) s).0 (write_on e.at took s.queue s refl))
-  open_on e Tick s a = open_step b e.at s (open_rule answers e Tick s).0 a (grown b e.at s (open_rule answers e Tick s).0 (tick_on e.at s))
-  open_on e End s a = open_step b e.at s (open_rule answers e End s).0 a (grown b e.at s (open_rule answers e End s).0 (closes Ended s))
-  open_on e Fault s a = open_step b e.at s (open_rule answers e Fault s).0 a (grown b e.at s (open_rule answers e Fault s).0 (closes By_fault s))
-  open_on e Close s a = open_step b e.at s (open_rule answers e Close s).0 a (grown b e.at s (open_rule answers e Close s).0 (winds Commanded s.queue s))
-  open_on e (Reconfigure dgram stream) s a = record { follows = λ o. (let over = a.over in rw over (record { over = refl; budget = refl; window = refl })); gains = λ w most. omega arith }
-  open_on e Shutdown s a =
-      let s0 = with_conf (conf_rule Shutdown s.conf) s in
-      let t = (open_rule answers e Shutdown s0).0 in
-      record { follows = unopened t (wound_shut By_shutdown s.queue s0); gains = λ w most. rested b (e.at / w) s0 t (winds By_shutdown s.queue s0) }
-  open_on e _ s a = open_step b e.at s s a (grown b e.at s s (same s))
+  -- of a client that began
+  grown : (e : Event) (s : Slate) → is_unused s.phase ≡ false → is_reconfigure e.kind ≡ false → Grows b e.at (with_conf (conf_rule e.kind s.conf) s) (rule answers e s).0
+  grown e s u n = walks answers e (λ s t. is_unused s.phase ≡ false → Grows b e.at s t.0) (grows answers b e fits n) s u
 
-  phase_on : (e : Event) (p : Phase) (s : Slate) → s.phase ≡ p → Follows s → Steps b e.at s (in_phase answers e p (with_conf (conf_rule e.kind s.conf) s)).0
-  phase_on e Unused s is f = let u = unused_on e e.kind (with_conf (conf_rule e.kind s.conf) s) (ap is_open is) in record { follows = u.follows; gains = λ w most. u.gains w }
-  phase_on e Exchange s is f = shut_step b e.at s (in_phase answers e Exchange (with_conf (conf_rule e.kind s.conf) s)).0 (conf_rule e.kind s.conf) (ap is_open is) (exchange_on answers e.kind (with_conf (conf_rule e.kind s.conf) s))
-  phase_on e Open s is f = open_on e e.kind s (f (ap is_open is))
-  phase_on e (Flushing why) s is f = shut_step b e.at s (in_phase answers e (Flushing why) (with_conf (conf_rule e.kind s.conf) s)).0 (conf_rule e.kind s.conf) (ap is_open is) (flushing_on why e.kind (with_conf (conf_rule e.kind s.conf) s))
-  phase_on e Closed s is f = shut_step b e.at s (in_phase answers e Closed (with_conf (conf_rule e.kind s.conf) s)).0 (conf_rule e.kind s.conf) (ap is_open is) (closed_on e.kind (with_conf (conf_rule e.kind s.conf) s))
+  may_queue : (e : Event) (s t : Slate) → Follows s → Grows b e.at (with_conf (conf_rule e.kind s.conf) s) t → (w : ℕ) → AllowsAtMost b w s.conf.stream.connection_config → growth s t + left_in b (e.at / w) t ≤ left_in b (e.at / w) s
+  may_queue e s t f g w most = g.gains w (λ o. let a = f o in carries b w s.conf.stream.connection_config s.connection a.budget a.window most)
+
+  reconfigured_on : (e : Event) (dgram : Dgram) (stream : Stream) (s : Slate) (p : Phase) → s.phase ≡ p → e.kind ≡ Reconfigure dgram stream → Follows s → is_unused p ≡ false → Steps b e.at s (in_phase answers e p (with_conf (conf_rule e.kind s.conf) s)).0
+  reconfigured_on e dgram stream s Open at is f u = let over = (f (ap is_open at)).over in rw (is, over) (record { follows = λ o. record { over = refl; budget = refl; window = refl }; gains = λ w most. omega arith })
+  reconfigured_on e dgram stream s p at is f u = rw is (record { follows = λ o. let no = ap is_open at in cc; gains = λ w most. omega arith })
+
+  used_on : (e : Event) (k : EventKind) (s : Slate) → e.kind ≡ k → Follows s → is_unused s.phase ≡ false → Steps b e.at s (rule answers e s).0
+  used_on e (Reconfigure dgram stream) s is f u = reconfigured_on e dgram stream s s.phase refl is f u
+  used_on e Shutdown s is f u =
+      let g = grown e s u (ap is_reconfigure is) in
+      record { follows = unopened (rule answers e s).0 (shutdown_shut answers s.phase e (with_conf (conf_rule e.kind s.conf) s) is refl); gains = may_queue e s (rule answers e s).0 f g }
+  used_on e _ s is f u =
+      let g = grown e s u (ap is_reconfigure is) in
+      record { follows = λ o. agrees_on b e.at s (with_conf (conf_rule e.kind s.conf) s) (rule answers e s).0 (narrow_conf e.kind s.conf (ap is_wide is)) refl g (f (g.opens o)); gains = may_queue e s (rule answers e s).0 f g }
+
+  step_case : (e : Event) (s : Slate) (u : Bool) → is_unused s.phase ≡ u → Follows s → Steps b e.at s (rule answers e s).0
+  step_case e s true u f =
+      let t = with_conf (conf_rule e.kind s.conf) s in
+      let p = unused_is s.phase u in
+      let i : Idles b e.at t (rule answers e s).0 = subst (λ (q : Phase). Idles b e.at t (in_phase answers e q t).0) (sym p) (unused_on e e.kind t (ap is_open p)) in
+      record { follows = i.follows; gains = λ w most. i.gains w }
+  step_case e s false u f = used_on e e.kind s refl f u
 
   steps : (e : Event) (s : Slate) → Follows s → Steps b e.at s (rule answers e s).0
-  steps e s f = phase_on e s.phase s refl f
+  steps e s f = step_case e s (is_unused s.phase) refl f
 
   follows_after : (es : List Event) (s : Slate) → Follows s → Follows (slate_after answers s es)
   follows_after [] s f = f

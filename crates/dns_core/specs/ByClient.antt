@@ -2,12 +2,12 @@
 use Rattle.dns_client.specs.Serving.{Serving}
 use Rattle.std.specs.Prelude.{◌≡◌, ℕ, List, length, take, nat_eq, Bool, not, ◌&&◌}
 use Rattle.std.specs.List.{list_any}
-use Rattle.dns_service.specs.declared.event.Event.{Event}
-use Rattle.dns_service.specs.declared.event.Output.{Output}
-use Rattle.dns_service.specs.declared.event.Output.TheVariants.{Datagram, Frame, Closed, TurnedAway}
+use Rattle.dns_events.specs.declared.event.Event.{Event}
+use Rattle.dns_events.specs.declared.event.Output.{Output}
+use Rattle.dns_events.specs.declared.event.Output.TheVariants.{Datagram, Frame, Closed, TurnedAway}
 use Rattle.dns_core.specs.Sent.{slate}
 use Rattle.dns_core.specs.Out.{is_unused, members}
-use Rattle.dns_service.specs.declared.settings.Settings.{Settings}
+use Rattle.dns_events.specs.declared.settings.Settings.{Settings}
 
 -- the client that an output is for
 abbrev pub client_of : Output → ℕ

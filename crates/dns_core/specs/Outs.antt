@@ -2,26 +2,26 @@
 -- newest; a step s comes after the steps q.
 use Rattle.std.specs.Prelude.{ℕ, List, [], ◌∷◌, ◌++◌, length, drop, nat_eq, if◌then◌else◌, Bool, true, false, not, ◌&&◌}
 use Rattle.std.specs.List.{list_any}
-use Rattle.dns_admission.specs.declared.look.Look.{Look as State}
-use Rattle.dns_admission.specs.declared.look.Admission.TheVariants.{Admitted, Full}
+use Rattle.dns_events.specs.declared.look.Look.{Look as State}
+use Rattle.dns_admission.specs.declared.admission.Admission.TheVariants.{Admitted, Full}
 use Rattle.dns_admission.specs.declared.call.Call.{Call}
 use Rattle.dns_admission.specs.declared.call.Call.TheVariants as call
 use Rattle.dns_admission.specs.declared.call.Reply.{Reply}
 use Rattle.dns_admission.specs.declared.call.Reply.TheVariants as reply
 use Rattle.dns_admission.specs.Machine.{state_after, reply_of, new_state}
-use Rattle.dns_service.specs.declared.event.EventKind.{EventKind}
-use Rattle.dns_service.specs.declared.event.EventKind.TheVariants.{Datagram, Offer, Release, Reconfigure, Shutdown}
-use Rattle.dns_service.specs.declared.event.Output.{Output}
-use Rattle.dns_service.specs.declared.event.Output.TheVariants.{TurnedAway}
-use Rattle.dns_service.specs.declared.event.Step.{Step}
-use Rattle.dns_service.specs.declared.event.Step.TheVariants.{Own, Look}
+use Rattle.dns_events.specs.declared.event.EventKind.{EventKind}
+use Rattle.dns_events.specs.declared.event.EventKind.TheVariants.{Datagram, Offer, Release, Reconfigure, Shutdown}
+use Rattle.dns_events.specs.declared.event.Output.{Output}
+use Rattle.dns_events.specs.declared.event.Output.TheVariants.{TurnedAway}
+use Rattle.dns_events.specs.declared.event.Step.{Step}
+use Rattle.dns_events.specs.declared.event.Step.TheVariants.{Own, Look}
 use Rattle.dns_client.specs.Serving.{Serving}
 use Rattle.dns_client.specs.Slate.{Slate, phase_is_closed, fresh}
 use Rattle.dns_core.specs.Settings.{opening}
 use Rattle.dns_core.specs.Sent.{slate_after, sent}
 use Rattle.dns_core.specs.Out.{is_unused, put}
 use Rattle.dns_core.specs.Placed.{placed}
-use Rattle.dns_service.specs.declared.settings.Settings.{Settings}
+use Rattle.dns_events.specs.declared.settings.Settings.{Settings}
 
 abbrev pub stepping : Step → ℕ
 stepping (Own e) = e.client

@@ -7,10 +7,10 @@ use Rattle.dns_base.specs.Msg.{Msg}
 use Rattle.dns_base.specs.Wire.{wire}
 use Rattle.dns_service.specs.Req.{Req}
 use Rattle.dns_service.specs.Transport.{hint_of, limit}
-use Rattle.dns_service.specs.declared.event.Event.{Event}
-use Rattle.dns_service.specs.declared.event.EventKind.TheVariants.{Datagram as Is_datagram}
-use Rattle.dns_service.specs.declared.event.Output.{Output}
-use Rattle.dns_service.specs.declared.event.Output.TheVariants.{Datagram, Frame, Closed, TurnedAway}
+use Rattle.dns_events.specs.declared.event.Event.{Event}
+use Rattle.dns_events.specs.declared.event.EventKind.TheVariants.{Datagram as Is_datagram}
+use Rattle.dns_events.specs.declared.event.Output.{Output}
+use Rattle.dns_events.specs.declared.event.Output.TheVariants.{Datagram, Frame, Closed, TurnedAway}
 use Rattle.dns_client.specs.Datagrams.{cut_datagram}
 use Rattle.dns_client.specs.Frames.{frames, framed}
 use Rattle.dns_client.specs.Requests.{request_of_datagram}
@@ -18,7 +18,7 @@ use Rattle.dns_client.specs.Serving.{Serving}
 use Rattle.dns_core.specs.ByClient.{IsPrefix}
 use Rattle.dns_core.specs.Out.{is_new}
 use Rattle.dns_core.specs.Sent.{conf, slate}
-use Rattle.dns_service.specs.declared.settings.Settings.{Settings}
+use Rattle.dns_events.specs.declared.settings.Settings.{Settings}
 
 -- a message answers one of these octets: it carries its identifier, and QR
 abbrev pub Responds : List ℕ → Msg → Type 0

@@ -5,8 +5,8 @@ use Rattle.std.specs.Ordering.{nat_cmp}
 use Rattle.std.specs.BTreeMap.{get}
 use Rattle.std.specs.BTreeSet.{contains}
 use Rattle.dns_service.specs.Answer.{Answer}
-use Rattle.dns_service.specs.declared.event.Output.{Output}
-use Rattle.dns_service.specs.declared.event.Step.{Step}
+use Rattle.dns_events.specs.declared.event.Output.{Output}
+use Rattle.dns_events.specs.declared.event.Step.{Step}
 use Rattle.dns_service.specs.declared.polled.PolledRequest.{PolledRequest}
 use Rattle.dns_client.specs.Serving.{Serving}
 use Rattle.dns_core.specs.Out.{is_unused}
@@ -14,7 +14,7 @@ use Rattle.dns_core.specs.Outs.{placed_slate, hall, step_gained, outs}
 use Rattle.dns_core.specs.Placed.{knows}
 use Rattle.dns_core.specs.Serves.{Holds, IsAt}
 use Rattle.dns_core.specs.declared.server.Server.{Server}
-use Rattle.dns_service.specs.declared.settings.Settings.{Settings}
+use Rattle.dns_events.specs.declared.settings.Settings.{Settings}
 
 -- what is appended to outputs is what is sent for q and s, behind what is sent for q
 pub record SendsForStep (answers : Serving) (settings : Settings) (q : List Step) (s : Step) (before all : List Output) : Type 0 where

@@ -6,12 +6,12 @@ ghost use Rattle.std.specs.List.{list_any};
 ghost use Rattle.std.specs.List.Sorted.{IsNonDecreasingBy};
 ghost use Rattle.dns_service.specs.Answer.{Answer};
 ghost use Rattle.dns_service.specs.Req.{Req};
-ghost use Rattle.dns_service.specs.declared.event.Event.{Event};
-ghost use Rattle.dns_service.specs.declared.event.EventKind.{EventKind};
+ghost use Rattle.dns_events.specs.declared.event.Event.{Event};
+ghost use Rattle.dns_events.specs.declared.event.EventKind.{EventKind};
 ghost use Rattle.dns_client.specs.Pieces.{piece_of};
 ghost use Rattle.dns_client.specs.Rule.{rule};
 ghost use Rattle.dns_client.specs.Slate.{Closed};
-ghost use Rattle.dns_service.specs.declared.event.Output.{Output};
+ghost use Rattle.dns_events.specs.declared.event.Output.{Output};
 ghost use Rattle.dns_name.specs.declared.address.SocketAddr.{SocketAddr};
 ghost use Rattle.dns_service.specs.Config.{Dgram, Stream, IsBudget};
 ghost use Rattle.dns_core.specs.Budgets.{AllowsAtMost, StaysAtMost, queued_in};
@@ -29,7 +29,7 @@ ghost use Rattle.dns_core.specs.SlateBy.{slate_by};
 ghost use Rattle.dns_core.specs.Trails.{AreAsMarked, IsRising, IsSomewhere, in_order, messages_sent, no_trail, poll_of, polls_of, reply_at, trail_after};
 ghost use Rattle.dns_middleware.specs.Verdicts.{Verdicts, verdict_on};
 ghost use Rattle.dns_middleware.specs.Wrapped.{hint_left, replies};
-ghost use Rattle.dns_service.specs.declared.settings.Settings.{Settings};
+ghost use Rattle.dns_events.specs.declared.settings.Settings.{Settings};
 
 /// The headline, read by client. Of all that is sent, what is for an exchange or a connection is what the rules for it
 /// alone send for the events that it hears; to a client that was turned away it is told so, once; and nothing is for any

@@ -7,15 +7,15 @@ ghost use Rattle.std.specs.Ordering.{nat_cmp};
 ghost use Rattle.dns_admission.specs.Machine.{state_after};
 ghost use Rattle.dns_admission.specs.Admissions.{Admits};
 ghost use Rattle.dns_admission.specs.declared.call.Call.TheVariants.{Admit, Release};
-ghost use Rattle.dns_admission.specs.declared.look.Look.{Look as TheLook};
+ghost use Rattle.dns_events.specs.declared.look.Look.{Look as TheLook};
 ghost use Rattle.dns_service.specs.PolledRequest.{request_answer};
-ghost use Rattle.dns_service.specs.declared.settings.Settings.{Settings as TheSettings};
+ghost use Rattle.dns_events.specs.declared.settings.Settings.{Settings as TheSettings};
 ghost use Rattle.dns_core.specs.Own.{is_wide};
 ghost use Rattle.dns_core.specs.Out.{out};
 ghost use Rattle.dns_core.specs.Server.{Serves};
 ghost use Rattle.dns_core.specs.Books.{book_rule};
 ghost use Rattle.dns_core.specs.Placed.{is_beginning};
-ghost use Rattle.dns_service.specs.declared.event.Step.{Step};
+ghost use Rattle.dns_events.specs.declared.event.Step.{Step};
 ghost use Rattle.dns_middleware.specs.Verdicts.{verdict_on};
 ghost use Rattle.dns_middleware.specs.Wrapped.{hint_left, replies};
 

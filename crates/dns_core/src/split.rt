@@ -6,7 +6,7 @@ ghost use Rattle.dns_service.specs.PolledRequest.{request_answer};
 ghost use Rattle.dns_core.specs.Own.{is_wide};
 ghost use Rattle.dns_core.specs.Outs.{outs};
 ghost use Rattle.dns_core.specs.SplitServer.{ServesSteps};
-ghost use Rattle.dns_service.specs.declared.settings.Settings.{Settings as TheSettings};
+ghost use Rattle.dns_events.specs.declared.settings.Settings.{Settings as TheSettings};
 ghost use Rattle.dns_middleware.specs.Verdicts.{verdict_on};
 ghost use Rattle.dns_middleware.specs.Wrapped.{hint_left, replies};
 

@@ -12,10 +12,10 @@ ghost use Rattle.dns_name.specs.declared.address.SocketAddr.{SocketAddr};
 ghost use Rattle.dns_service.specs.Answer.{Answer};
 ghost use Rattle.dns_service.specs.Config.{Dgram, Stream};
 ghost use Rattle.dns_service.specs.Req.{Req};
-ghost use Rattle.dns_service.specs.declared.event.Event.{Event};
-ghost use Rattle.dns_service.specs.declared.event.EventKind.{EventKind};
-ghost use Rattle.dns_service.specs.declared.event.Output.{Output};
-ghost use Rattle.dns_service.specs.declared.event.Step.{Step};
+ghost use Rattle.dns_events.specs.declared.event.Event.{Event};
+ghost use Rattle.dns_events.specs.declared.event.EventKind.{EventKind};
+ghost use Rattle.dns_events.specs.declared.event.Output.{Output};
+ghost use Rattle.dns_events.specs.declared.event.Step.{Step};
 ghost use Rattle.dns_core.specs.AtOnce.{undelayed};
 ghost use Rattle.dns_core.specs.ByClient.{IsPrefix, is_for, is_member};
 ghost use Rattle.dns_core.specs.Changes.{changes};
@@ -31,7 +31,7 @@ ghost use Rattle.dns_core.specs.StepsByClient.{TurnedAwayIn, finds_no_slot, is_f
 ghost use Rattle.dns_core.specs.Trails.{AreAsMarked, IsRising, IsSomewhere, in_order, messages_sent, no_trail, poll_of, polls_of, reply_at, trail_after};
 ghost use Rattle.dns_middleware.specs.Verdicts.{Verdicts, verdict_on};
 ghost use Rattle.dns_middleware.specs.Wrapped.{hint_left, replies};
-ghost use Rattle.dns_service.specs.declared.settings.Settings.{Settings};
+ghost use Rattle.dns_events.specs.declared.settings.Settings.{Settings};
 
 /// The headline, read by client. Of all that is sent for some steps, what is for an exchange or a connection is what the rules for
 /// it alone send for its own events and, before each look of it, the changes of the server that it has not heard of. A client whose

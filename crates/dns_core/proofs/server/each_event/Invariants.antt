@@ -3,7 +3,7 @@ use Rattle.std.proofs.Common.{◌≡◌, [], take}
 use Rattle.dns_service.specs.PolledRequest.{request_answer}
 use Rattle.dns_core.specs.Out.{out}
 use Rattle.dns_core.specs.Server.{Serves}
-use Rattle.dns_service.specs.declared.settings.Settings.{Settings}
+use Rattle.dns_events.specs.declared.settings.Settings.{Settings}
 use Rattle.dns_core.proofs.server.each_event.Given as goal
 
 -- what was sent so far is what is sent for the events so far

@@ -1,8 +1,8 @@
 use Rattle.dns_client.specs.Serving.{serving}
 use Rattle.std.proofs.Common.{◌≡◌, ◌+◌, ap, sym, ◌∙◌, ◌∷◌, ◌++◌, [], List, take, length, ◌<◌}
 use Rattle.std.proofs.lemmas.List.{take_more, take_all}
-use Rattle.dns_service.specs.declared.event.Step.{Step}
-use Rattle.dns_service.specs.declared.event.Output.{Output}
+use Rattle.dns_events.specs.declared.event.Step.{Step}
+use Rattle.dns_events.specs.declared.event.Output.{Output}
 use Rattle.dns_core.specs.Outs.{outs}
 use Rattle.dns_core.proofs.split.each_step.Goals as goal
 

@@ -1,6 +1,6 @@
 use Rattle.std.proofs.Common.{◌∙◌, ap, sym}
 use Rattle.std.proofs.lemmas.Result.{MatchResult-weaker}
-use Rattle.dns_admission.specs.declared.look.Look.{Look}
+use Rattle.dns_events.specs.declared.look.Look.{Look}
 use Rattle.dns_client.specs.Serving.{serving}
 use Rattle.dns_client.specs.Slate.{conf_of}
 use Rattle.dns_service.specs.PolledRequest.{request_answer}

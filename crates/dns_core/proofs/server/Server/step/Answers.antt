@@ -1,6 +1,6 @@
 use Rattle.dns_client.specs.Serving.{serving}
 use Rattle.std.proofs.Common.{◌∙◌, ap, ◌++◌, List}
-use Rattle.dns_service.specs.declared.event.Output.{Output}
+use Rattle.dns_events.specs.declared.event.Output.{Output}
 use Rattle.dns_core.specs.Out.{gained}
 use Rattle.dns_core.proofs.OutLemmas.{out_more}
 use Rattle.dns_core.proofs.server.Server.step.Goals as goal

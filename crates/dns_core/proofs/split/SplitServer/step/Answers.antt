@@ -1,6 +1,6 @@
 use Rattle.dns_client.specs.Serving.{serving}
 use Rattle.std.proofs.Common.{◌∙◌, ap, ◌++◌, List}
-use Rattle.dns_service.specs.declared.event.Output.{Output}
+use Rattle.dns_events.specs.declared.event.Output.{Output}
 use Rattle.dns_core.specs.Outs.{step_gained}
 use Rattle.dns_core.proofs.Placing.{outs_more}
 use Rattle.dns_core.proofs.split.SplitServer.step.Goals as goal
