@@ -1,10 +1,10 @@
 -- What the adapters over a reader and a writer of std answer, where std knows the octets that a reader has left and a writer holds.
 use Rattle.std.specs.Prelude.{ℕ, List, Option, take}
 use Rattle.std.specs.Io.KnownBytes.{Keeps, Consumes, Appends, IsAtEnd}
-use Rattle.dns_outside.specs.declared.source.SourceRead.{SourceRead}
-use Rattle.dns_outside.specs.declared.source.SourceRead.TheVariants.{Got, End, Failed}
-use Rattle.dns_outside.specs.declared.sink.SinkWrite.{SinkWrite}
-use Rattle.dns_outside.specs.declared.sink.SinkWrite.TheVariants.{Took, Failed as WriteFailed}
+use Rattle.dns_io.specs.declared.source.SourceRead.{SourceRead}
+use Rattle.dns_io.specs.declared.source.SourceRead.TheVariants.{Got, End, Failed}
+use Rattle.dns_io.specs.declared.sink.SinkWrite.{SinkWrite}
+use Rattle.dns_io.specs.declared.sink.SinkWrite.TheVariants.{Took, Failed as WriteFailed}
 
 -- a read into a buffer that then holds buf, with a known to be left before it and b after it
 abbrev pub ReadsOf : SourceRead → List ℕ → Option (List ℕ) → Option (List ℕ) → Type 0

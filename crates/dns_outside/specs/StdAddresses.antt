@@ -1,6 +1,6 @@
 -- Addresses as std has them.
-use Rattle.std.specs.Prelude.{◌≡◌}
-use Rattle.std.specs.Net.Addr.{ipv4_octets, ipv6_octets, ipv6_segments, segments_of}
+use Rattle.std.specs.Prelude.{◌≡◌, ◌∷◌}
+use Rattle.std.specs.Net.Addr.{ipv4_octets, ipv6_octets, ipv6_segments, segments_of, low_octets, IsIpv4Mapped}
 use Rattle.std.specs.Net.Socket.{socket_ip, socket_port}
 use Rattle.std.specs.declared.net.ip_addr.IpAddr.{IpAddr as StdIpAddr}
 use Rattle.std.specs.declared.net.ip_addr.IpAddr.TheVariants.{V4 as StdV4, V6 as StdV6}
@@ -15,15 +15,25 @@ IsMadeOf (StdV4 ip) (V4 octets) = ipv4_octets ip ≡ octets
 IsMadeOf (StdV6 ip) (V6 octets) = ipv6_segments ip ≡ segments_of octets
 IsMadeOf _ _ = ⊥
 
--- std's address has these octets
-abbrev pub HasOctets : StdIpAddr → IpAddr → Type 0
-HasOctets (StdV4 ip) (V4 octets) = ipv4_octets ip ≡ octets
-HasOctets (StdV6 ip) (V6 octets) = ipv6_octets ip ≡ octets
-HasOctets _ _ = ⊥
+-- std's address is of IPv6: this one, or the one that this IPv4 address stands within (RFC 4291, section 2.5.5.2)
+abbrev pub IsSeenAs : StdIpAddr → IpAddr → Type 0
+IsSeenAs (StdV6 ip) (V4 octets) = ipv6_segments ip ≡ 0 ∷ 0 ∷ 0 ∷ 0 ∷ 0 ∷ 65535 ∷ segments_of octets
+IsSeenAs (StdV6 ip) (V6 octets) = ipv6_segments ip ≡ segments_of octets
+IsSeenAs _ _ = ⊥
+
+-- std's address is this one, and one of IPv6 that an IPv4 address stands within is the IPv4 address
+abbrev pub IsCanonical : StdIpAddr → IpAddr → Type 0
+IsCanonical (StdV4 ip) (V4 octets) = ipv4_octets ip ≡ octets
+IsCanonical (StdV6 ip) (V4 octets) = IsIpv4Mapped (ipv6_segments ip) × (low_octets ip ≡ octets)
+IsCanonical (StdV6 ip) (V6 octets) = ¬ (IsIpv4Mapped (ipv6_segments ip)) × (ipv6_octets ip ≡ octets)
+IsCanonical _ _ = ⊥
 
 -- and the same port
 abbrev pub AddrIsMadeOf : StdSocketAddr → SocketAddr → Type 0
 AddrIsMadeOf a b = IsMadeOf (socket_ip a) b.ip × (socket_port a ≡ b.port)
 
-abbrev pub AddrHasOctets : StdSocketAddr → SocketAddr → Type 0
-AddrHasOctets a b = HasOctets (socket_ip a) b.ip × (socket_port a ≡ b.port)
+abbrev pub AddrIsSeenAs : StdSocketAddr → SocketAddr → Type 0
+AddrIsSeenAs a b = IsSeenAs (socket_ip a) b.ip × (socket_port a ≡ b.port)
+
+abbrev pub AddrIsCanonical : StdSocketAddr → SocketAddr → Type 0
+AddrIsCanonical a b = IsCanonical (socket_ip a) b.ip × (socket_port a ≡ b.port)

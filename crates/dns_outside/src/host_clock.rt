@@ -2,12 +2,15 @@
 
 ghost use Rattle.std.specs.Prelude.{◌≡◌, [], true};
 
-use crate::clock::Clock;
+use dns_io::Clock;
 use dns_name::OutOfMemory;
 use std::alloc::Global;
 use std::rt;
+use std::time::Duration;
 
-/// The machine's clock, which tells nothing. Where it can't be read it gives its last reading again, (0, 0) at first.
+/// The machine's clock, which tells nothing. The moment in milliseconds is that of the monotonic clock, which no change of the
+/// time of day moves. The seconds are the time of day, since 1970. A part that can't be read is given as it was read last, 0 at
+/// first.
 #[derive(Drop)]
 pub struct HostClock<T> {
     rt: T,
@@ -28,16 +31,23 @@ impl<T: rt::Clock> HostClock<T> {
     }
 }
 
+/// So many whole milliseconds, up to 2^64 - 1.
+fn millis_of(time: Duration) -> u64 {
+    let millis = u64::from(time.subsec_millis());
+    time.as_secs().saturating_mul(1000).saturating_add(millis)
+}
+
 impl<T: rt::Clock + Copy> Clock for HostClock<T> {
     ghost tells = { λ _. ⊥ };
 
     ghost readings = { λ _. [] };
 
     fn now(&mut self) -> (u64, u64) {
+        if let Ok(since) = rt::Clock::monotonic(&self.rt) {
+            self.last.0 = millis_of(since);
+        }
         if let Ok(since) = rt::Clock::since_1970(&self.rt) {
-            let secs = since.as_secs();
-            let millis = u64::from(since.subsec_millis());
-            self.last = (secs.saturating_mul(1000).saturating_add(millis), secs);
+            self.last.1 = since.as_secs();
         }
         self.is_old = false;
         self.last

@@ -1,51 +1,39 @@
 //! A TCP listener over `mio`.
 
 ghost use Rattle.std.specs.Prelude.{◌≡◌, ◌≤◌, [], IfOk};
-ghost use Rattle.dns_outside.specs.Doors.{AcceptCause};
+ghost use Rattle.dns_io.specs.Doors.{AcceptCause};
 
-use crate::accept::{AcceptAnswer, AsyncAccept};
+use crate::accepting::accept_without_waiting;
 use crate::mio_addr::{from_std, to_std};
 use crate::mio_link::MioLink;
-use crate::waiting::{Waiting, is_again};
+use crate::waiting::{is_again, wait_out, wait_to_read};
+use dns_io::{AcceptAnswer, AsyncAccept};
 use dns_name::SocketAddr;
-use mio::Interest;
 use mio::net::{TcpListener, TcpStream};
-use std::alloc::Global;
 use std::io;
 use std::net::Net;
 use std::sync::Wait;
 
 /// A TCP listener, which tells nothing and counts its failed calls. A connection of which no link can be made is closed,
-/// and the call fails.
+/// and the call fails. A wait is for a connection, but for the first one after a failed call: where no descriptor is left, the
+/// connection that can't be accepted is there all the time, and would end each wait at once.
 #[derive(Drop)]
-pub struct MioAccept<N: Net> {
-    net: N,
-    alloc: Global,
+pub struct MioAccept {
     listener: TcpListener,
-    waiting: Waiting,
+    // Whether a call failed since the last wait.
+    failed: bool,
     faults: u64,
 }
 
-impl<N: Net + Drop> MioAccept<N> {
+impl MioAccept {
     /// A listener at this address; at port 0 the system picks the port.
-    pub fn bind(net: N, alloc: Global, addr: SocketAddr) -> io::Result<MioAccept<N>>
-        ensures { IfOk result (λ accept. ⟦<MioAccept<N> as AsyncAccept>⟧.faults accept ≡ 0) }
+    pub fn bind<N: Net>(net: &N, addr: SocketAddr) -> io::Result<MioAccept>
+        ensures { IfOk result (λ accept. ⟦<MioAccept as AsyncAccept>⟧.faults accept ≡ 0) }
     {
-        match TcpListener::bind(&net, to_std(addr)) {
-            Ok(listener) => MioAccept::over(net, alloc, listener),
-            Err(error) => Err(error),
-        }
-    }
-
-    fn over(net: N, alloc: Global, mut listener: TcpListener) -> io::Result<MioAccept<N>>
-        ensures { IfOk result (λ accept. ⟦<MioAccept<N> as AsyncAccept>⟧.faults accept ≡ 0) }
-    {
-        match Waiting::on(&net, alloc, &mut listener, Interest::READABLE) {
-            Ok(waiting) => Ok(MioAccept {
-                net,
-                alloc,
+        match TcpListener::bind(net, to_std(addr)) {
+            Ok(listener) => Ok(MioAccept {
                 listener,
-                waiting,
+                failed: false,
                 faults: 0,
             }),
             Err(error) => Err(error),
@@ -56,25 +44,30 @@ impl<N: Net + Drop> MioAccept<N> {
     pub fn local_addr(&self) -> io::Result<SocketAddr> {
         Ok(from_std(self.listener.local_addr()?))
     }
-}
 
-impl<N: Net> MioAccept<N> {
+    /// Counts a failed call.
+    fn fail(&mut self) -> AcceptAnswer<MioLink>
+        ensures later { self.old.faults ≤ self.new.faults }
+        ensures cause { AcceptCause result self.old.faults self.new.faults }
+    {
+        self.failed = true;
+        self.faults = self.faults.saturating_add(1);
+        AcceptAnswer::Failed
+    }
+
     /// A connection over a stream, unless no link can be made of it.
     fn linked(&mut self, stream: TcpStream, from: SocketAddr) -> AcceptAnswer<MioLink>
         ensures later { self.old.faults ≤ self.new.faults }
         ensures cause { AcceptCause result self.old.faults self.new.faults }
     {
-        match MioLink::new(&self.net, self.alloc, stream) {
+        match MioLink::new(stream) {
             Ok(link) => AcceptAnswer::Accepted(link, from),
-            Err(_) => {
-                self.faults = self.faults.saturating_add(1);
-                AcceptAnswer::Failed
-            }
+            Err(_) => self.fail(),
         }
     }
 }
 
-impl<N: Net> AsyncAccept for MioAccept<N> {
+impl AsyncAccept for MioAccept {
     type Link = MioLink;
 
     ghost tells = { λ _. ⊥ };
@@ -84,17 +77,19 @@ impl<N: Net> AsyncAccept for MioAccept<N> {
     ghost faults = { λ s. s.faults };
 
     fn poll_accept(&mut self) -> AcceptAnswer<MioLink> {
-        match self.listener.accept() {
-            Ok((stream, from)) => self.linked(stream, from_std(from)),
+        match accept_without_waiting(&self.listener) {
+            Ok((stream, from)) => self.linked(stream, from),
             Err(error) if is_again(&error) => AcceptAnswer::Again,
-            Err(_) => {
-                self.faults = self.faults.saturating_add(1);
-                AcceptAnswer::Failed
-            }
+            Err(_) => self.fail(),
         }
     }
 
     fn wait<R: Wait>(&mut self, rt: &R, millis: u64) {
-        self.waiting.wait(rt, millis);
+        if self.failed {
+            wait_out(rt, millis);
+        } else {
+            wait_to_read(rt, &self.listener, millis);
+        }
+        self.failed = false;
     }
 }

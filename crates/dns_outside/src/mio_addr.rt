@@ -1,6 +1,6 @@
 //! Addresses as sockets have them.
 
-ghost use Rattle.dns_outside.specs.StdAddresses.{IsMadeOf, AddrIsMadeOf, AddrHasOctets};
+ghost use Rattle.dns_outside.specs.StdAddresses.{IsMadeOf, AddrIsMadeOf, AddrIsCanonical, IsCanonical, IsSeenAs, AddrIsSeenAs};
 
 use dns_name::{IpAddr, SocketAddr};
 use std::net;
@@ -22,16 +22,43 @@ pub(crate) fn to_std(addr: SocketAddr) -> net::SocketAddr
     net::SocketAddr::new(ip_to_std(addr.ip), addr.port)
 }
 
-/// An address of std.
-pub(crate) fn from_std(addr: net::SocketAddr) -> SocketAddr
-    ensures { AddrHasOctets addr result }
+/// An address without its port as a socket of IPv6 has it.
+fn ip_within_v6(ip: IpAddr) -> net::IpAddr
+    ensures { IsSeenAs result ip }
 {
-    let ip = match addr.ip() {
+    match ip {
+        IpAddr::V4(octets) => net::IpAddr::V6(net::Ipv4Addr::from_octets(octets).to_ipv6_mapped()),
+        IpAddr::V6(octets) => net::IpAddr::V6(net::Ipv6Addr::from_octets(octets)),
+    }
+}
+
+/// An address as a socket of IPv6 has it.
+pub(crate) fn within_v6(addr: SocketAddr) -> net::SocketAddr
+    ensures { AddrIsSeenAs result addr }
+{
+    net::SocketAddr::new(ip_within_v6(addr.ip), addr.port)
+}
+
+/// An address of std without its port.
+fn ip_from_std(ip: net::IpAddr) -> IpAddr
+    ensures { IsCanonical ip result }
+{
+    match ip {
         net::IpAddr::V4(ip) => IpAddr::V4(ip.octets()),
-        net::IpAddr::V6(ip) => IpAddr::V6(ip.octets()),
-    };
+        net::IpAddr::V6(ip) => match ip.to_ipv4_mapped() {
+            Some(within) => IpAddr::V4(within.octets()),
+            None => IpAddr::V6(ip.octets()),
+        },
+    }
+}
+
+/// An address of std. An IPv4 address within IPv6, as a socket of both gives it, is the IPv4 address (RFC 4291, section
+/// 2.5.5.2).
+pub(crate) fn from_std(addr: net::SocketAddr) -> SocketAddr
+    ensures { AddrIsCanonical addr result }
+{
     SocketAddr {
-        ip,
+        ip: ip_from_std(addr.ip()),
         port: addr.port(),
     }
 }

@@ -3,30 +3,27 @@
 ghost use Rattle.std.specs.Prelude.{◌≡◌, [], IfOk};
 
 use crate::eagerness::Eagerness;
-use crate::mio_addr::{from_std, to_std};
-use crate::sock::{AsyncDgramSock, DgramRecv, DgramSend};
-use crate::waiting::{Waiting, is_again, is_read_again};
-use dns_name::SocketAddr;
-use mio::Interest;
+use crate::mio_addr::{from_std, to_std, within_v6};
+use crate::waiting::{is_again, is_read_again, wait_for_room, wait_to_read};
+use dns_io::{AsyncDgramSock, DgramRecv, DgramSend};
+use dns_name::{IpAddr, SocketAddr};
 use mio::net::UdpSocket;
-use std::alloc::Global;
-use std::io;
 use std::net::Net;
 use std::sync::Wait;
+use std::{io, net};
 
 /// How often the socket is asked whether a datagram is there before the system waits for one: some 20 microseconds.
 const ASKS: usize = 64;
 
 /// A UDP socket, which tells nothing and counts its failed calls. A call that was interrupted, and a receive that took too long,
 /// answer Again; a send of less than the datagram is a failed call.
-/// A wait is for a datagram alone, but for the first one after a send that answered Again, which is for room too: each
-/// datagram that leaves makes room, and would wake who waits for it. Where the system refuses to wait for room, that
-/// wait is no longer than a millisecond, so that a send is tried again soon and nothing spins. While datagrams follow
-/// each other closely the socket is asked for the next one a few times before the system waits for it.
+/// A wait is for a datagram, but for the first one after a send that answered Again, which is for room alone. While datagrams
+/// follow each other closely the socket is asked for the next one a few times before the system waits for it.
 #[derive(Drop)]
 pub struct MioSock {
     socket: UdpSocket,
-    waiting: Waiting,
+    // Whether the socket is of IPv6, which has an IPv4 address within one of IPv6.
+    is_v6: bool,
     eagerness: Eagerness,
     // Whether a send answered Again since the last wait.
     full: bool,
@@ -35,16 +32,16 @@ pub struct MioSock {
 }
 
 impl MioSock {
-    /// A socket at this address; at port 0 the system picks the port.
-    pub fn bind<N: Net>(net: &N, alloc: Global, addr: SocketAddr) -> io::Result<MioSock>
+    /// A socket at this address; at port 0 the system picks the port. A socket at the unspecified address of IPv6 takes
+    /// datagrams over IPv4 too.
+    pub fn bind<N: Net>(net: &N, addr: SocketAddr) -> io::Result<MioSock>
         ensures receives { IfOk result (λ sock. ⟦<MioSock as AsyncDgramSock>⟧.failed_receives sock ≡ 0) }
         ensures sends { IfOk result (λ sock. ⟦<MioSock as AsyncDgramSock>⟧.failed_sends sock ≡ 0) }
     {
-        let mut socket = UdpSocket::bind(net, to_std(addr))?;
-        match Waiting::on(net, alloc, &mut socket, Interest::READABLE) {
-            Ok(waiting) => Ok(MioSock {
+        match UdpSocket::bind(net, to_std(addr)) {
+            Ok(socket) => Ok(MioSock {
                 socket,
-                waiting,
+                is_v6: matches!(addr.ip, IpAddr::V6(_)),
                 eagerness: Eagerness::new(),
                 full: false,
                 failed_receives: 0,
@@ -57,6 +54,15 @@ impl MioSock {
     /// The socket's own address, as `mio` has it. No clause of `mio` says which one that is, so none stands here.
     pub fn local_addr(&self) -> io::Result<SocketAddr> {
         Ok(from_std(self.socket.local_addr()?))
+    }
+
+    // An address as this socket sends to it.
+    fn destination(&self, to: SocketAddr) -> net::SocketAddr {
+        if self.is_v6 {
+            within_v6(to)
+        } else {
+            to_std(to)
+        }
     }
 
     // Whether there is something to receive, or becomes so while it is asked for.
@@ -83,7 +89,7 @@ impl MioSock {
                 return;
             }
         }
-        self.waiting.wait_on(rt, &mut self.socket, millis);
+        wait_to_read(rt, &self.socket, millis);
     }
 }
 
@@ -97,7 +103,7 @@ impl AsyncDgramSock for MioSock {
     ghost failed_sends = { λ s. s.failed_sends };
 
     fn poll_send_to(&mut self, data: &[u8], to: SocketAddr) -> DgramSend {
-        match self.socket.send_to(data, to_std(to)) {
+        match self.socket.send_to(data, self.destination(to)) {
             Ok(count) if count == data.len() => DgramSend::Took(count),
             Err(error) if is_again(&error) => {
                 self.full = true;
@@ -116,15 +122,12 @@ impl AsyncDgramSock for MioSock {
             return;
         }
         self.full = false;
-        self.waiting.wait_for_room(rt, &mut self.socket, millis);
+        wait_for_room(rt, &self.socket, millis);
     }
 
     fn try_recv_buf_from(&mut self, buf: &mut [u8]) -> DgramRecv {
         match self.socket.recv_from(buf) {
-            Ok((count, from)) => {
-                self.waiting.found(&mut self.socket);
-                DgramRecv::Got(count, from_std(from))
-            }
+            Ok((count, from)) => DgramRecv::Got(count, from_std(from)),
             Err(error) if is_read_again(&error) => DgramRecv::Again,
             Err(_) => {
                 self.failed_receives = self.failed_receives.saturating_add(1);

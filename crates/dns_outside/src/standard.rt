@@ -1,12 +1,11 @@
 //! Sources and sinks over any reader and writer of std, as standard input and output. They tell no content.
 
 ghost use Rattle.std.specs.Prelude.{◌≡◌, ◌≤◌, []};
-ghost use Rattle.dns_outside.specs.Causes.{Tells};
-ghost use Rattle.dns_outside.specs.Moves.{ReadMoves, ReadBound, ReadCause, WriteMoves, WriteBound, WriteCause};
+ghost use Rattle.dns_io.specs.Causes.{Tells};
+ghost use Rattle.dns_io.specs.Moves.{ReadMoves, ReadBound, ReadCause, WriteMoves, WriteBound, WriteCause};
 ghost use Rattle.dns_outside.specs.Standard.{ReadsOf, WritesTo};
 
-use crate::sink::{Sink, SinkWrite};
-use crate::source::{Source, SourceRead};
+use dns_io::{Sink, SinkWrite, Source, SourceRead};
 use std::io::{Read, Write};
 
 /// A source over a reader. Each error of the reader is a failed read, also `ErrorKind::Interrupted`.

@@ -1,0 +1,11 @@
+pub use Rattle.dns_io.specs.Causes
+pub use Rattle.dns_io.specs.Doors
+pub use Rattle.dns_io.specs.Mail
+pub use Rattle.dns_io.specs.Moves
+pub use Rattle.dns_io.specs.Starts
+pub use Rattle.dns_io.specs.Traffic
+pub mod ListedCalls
+pub mod Memory
+pub mod MemoryForms
+pub mod Passing
+pub mod SteadyForms

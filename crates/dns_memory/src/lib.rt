@@ -1,0 +1,37 @@
+//! Sources, sinks, links, sockets, accept objects and clocks in memory, and spawners, which keep the threads that they
+//! started.
+#![tactic(auto)]
+
+mod kept_threads;
+mod listed_calls;
+mod memory;
+mod memory_accept;
+mod memory_clock;
+mod memory_link;
+mod memory_sock;
+mod memory_spawner;
+mod pile;
+mod steady;
+mod steady_accept;
+mod steady_link;
+mod steady_sock;
+mod tape;
+mod thread_spawner;
+
+pub use dns_io::{
+    AcceptAnswer, AsyncAccept, AsyncDgramSock, Clock, DgramRecv, DgramSend, LIMIT, Letter, Link,
+    LinkRead, LinkWrite, ReadError, Sink, SinkWrite, Source, SourceRead, Spawner, Start, Started,
+    Work, WriteFault, read_all, start_work, write_all,
+};
+pub use listed_calls::{Course, ListedCalls};
+pub use memory::{MemorySink, MemorySource};
+pub use memory_accept::MemoryAccept;
+pub use memory_clock::MemoryClock;
+pub use memory_link::MemoryLink;
+pub use memory_sock::MemorySock;
+pub use memory_spawner::MemorySpawner;
+pub use steady::{SteadySink, SteadySource};
+pub use steady_accept::SteadyAccept;
+pub use steady_link::SteadyLink;
+pub use steady_sock::SteadySock;
+pub use thread_spawner::ThreadSpawner;

@@ -1,0 +1,105 @@
+//! A socket for datagrams in memory of which no call fails.
+
+ghost use Rattle.std.specs.Prelude.{◌≡◌, ◌≤◌, ℕ, [], true, length};
+ghost use Rattle.dns_io.specs.Causes.{Tells};
+ghost use Rattle.dns_io.specs.Mail.{RecvMoves, RecvBound, RecvCause, SendMoves, SendBound, SendCause};
+ghost use Rattle.dns_memory.specs.SteadyForms.{SteadyTrayTells, SteadyTrayReceives, steady_mail};
+
+use crate::pile::{Pile, keep_sent};
+use dns_io::{AsyncDgramSock, DgramRecv, DgramSend, Letter};
+use dns_name::SocketAddr;
+use std::alloc::Global;
+use std::marker::Model;
+use std::sync::Wait;
+
+/// A socket over vectors. No call fails, so its counts of faults are 0 for ever; a receive answers Again where no
+/// datagram is left. It tells what it received and sent as long as there is memory for it and it can count the receives
+/// that answered Again: afterwards it takes datagrams and tells nothing.
+#[derive(Drop)]
+pub struct SteadySock {
+    alloc: Global,
+    incoming: Pile,
+    outgoing: Vec<Letter>,
+    whole: bool,
+    empty_receives: u64,
+}
+
+impl Model for SteadySock {
+    ghost use Rattle.dns_memory.specs.SteadyForms.{SteadyTray};
+
+    ghost Value = { SteadyTray };
+
+    ghost view = { λ s. record { left = s.incoming.left; received = s.incoming.came; sent = s.outgoing.items; whole = s.whole; empty_receives = s.empty_receives } };
+}
+
+impl SteadySock {
+    /// Gives the datagrams of `incoming`, and keeps what is sent.
+    pub fn new(alloc: Global, incoming: Vec<Letter>) -> SteadySock
+        ensures { result ≡ record { left = incoming.items; received = []; sent = []; whole = true; empty_receives = 0 } }
+    {
+        SteadySock {
+            alloc,
+            incoming: Pile::new(incoming),
+            outgoing: Vec::new(alloc),
+            whole: true,
+            empty_receives: 0,
+        }
+    }
+
+    /// The datagrams sent, as far as they were kept.
+    pub fn sent(&self) -> &[Letter]
+        ensures { result.now ≡ self.now.sent }
+    {
+        self.outgoing.as_slice()
+    }
+}
+
+impl AsyncDgramSock for SteadySock {
+    ghost tells = { λ s. SteadyTrayTells s };
+
+    ghost mail = { λ s. steady_mail s };
+
+    ghost failed_receives = { λ _. 0 };
+
+    ghost failed_sends = { λ _. 0 };
+
+    fn poll_send_to(&mut self, octets: &[u8], to: SocketAddr) -> DgramSend
+        ensures moves { Tells (SteadyTrayTells self.new) (SteadyTrayTells self.old) (SendMoves result octets.now to (steady_mail self.old) (steady_mail self.new)) }
+        ensures bound { SendBound result octets.now }
+        ensures receives { ◌≡◌ {A = ℕ} 0 0 }
+        ensures later { 0 ≤ 0 }
+        ensures cause { SendCause result 0 0 }
+        ensures takes { result ≡ DgramSend.Took (length octets.now) }
+        ensures kept { (self.new.left ≡ self.old.left) × (self.new.received ≡ self.old.received) × (self.new.empty_receives ≡ self.old.empty_receives) }
+    {
+        if keep_sent(self.alloc, &mut self.outgoing, octets, to).is_err() {
+            self.whole = false;
+        }
+        DgramSend::Took(octets.len())
+    }
+
+    fn readable<R: Wait>(&mut self, _rt: &R, _millis: u64)
+        ensures moves { Tells (SteadyTrayTells self.new) (SteadyTrayTells self.old) (steady_mail self.new ≡ steady_mail self.old) }
+        ensures receives { ◌≡◌ {A = ℕ} 0 0 }
+        ensures sends { ◌≡◌ {A = ℕ} 0 0 }
+        ensures kept { self.new ≡ self.old }
+    {}
+
+    fn try_recv_buf_from(&mut self, buf: &mut [u8]) -> DgramRecv
+        ensures moves { Tells (SteadyTrayTells self.new) (SteadyTrayTells self.old) (RecvMoves result buf.new (steady_mail self.old) (steady_mail self.new)) }
+        ensures bound { RecvBound result buf.new }
+        ensures sends { ◌≡◌ {A = ℕ} 0 0 }
+        ensures later { 0 ≤ 0 }
+        ensures cause { RecvCause result 0 0 }
+        ensures gives { SteadyTrayReceives result self.old self.new }
+        ensures kept { (self.new.sent ≡ self.old.sent) × (self.new.whole ≡ self.old.whole) }
+    {
+        match self.incoming.receive(buf) {
+            Some((count, from)) => DgramRecv::Got(count, from),
+            None => {
+                self.empty_receives = self.empty_receives.saturating_add(1);
+                DgramRecv::Again
+            }
+        }
+    }
+}
