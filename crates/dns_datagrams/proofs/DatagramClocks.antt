@@ -1,8 +1,8 @@
 -- Readings of the clock in the loop of datagrams.
 use Rattle.std.proofs.Common.{◌≡◌, ℕ, List, [], ◌∷◌, ◌++◌, refl, sym, append_assoc, append-nil, arith, length-append}
-use Rattle.dns_service.specs.declared.event.Event.{Event}
-use Rattle.dns_service.specs.declared.event.EventKind.{EventKind}
-use Rattle.dns_service.specs.declared.event.EventKind.TheVariants.{Datagram, Turn, Offer, Piece, End, Fault, Close, Write, Tick, Release, Reconfigure, Shutdown}
+use Rattle.dns_events.specs.declared.event.Event.{Event}
+use Rattle.dns_events.specs.declared.event.EventKind.{EventKind}
+use Rattle.dns_events.specs.declared.event.EventKind.TheVariants.{Datagram, Turn, Fault, Reconfigure, Shutdown}
 use Rattle.dns_notes.specs.Clocks.{ClockReading, ComesAt, DatedBy, Dated, Waited, LateAt}
 use Rattle.dns_notes.proofs.Timings.{dated_append, dated_before}
 use Rattle.dns_datagrams.specs.DatagramEvents.{IsDatagramKind}
@@ -25,16 +25,10 @@ at_once r = record { skipped = []; later = []; is = refl; rest_is = refl }
 kind_dated : (k : EventKind) (r : ClockReading) → IsDatagramKind k → DatedBy k (r ∷ []) r (r ∷ [])
 kind_dated (Datagram addr o) r d = at_once r
 kind_dated (Turn k) r d = at_once r
-kind_dated (Offer addr) r d = absurd d
-kind_dated (Piece o) r d = absurd d
-kind_dated End r d = absurd d
 kind_dated Fault r d = at_once r
-kind_dated Close r d = absurd d
-kind_dated (Write took) r d = absurd d
-kind_dated Tick r d = absurd d
-kind_dated Release r d = absurd d
 kind_dated (Reconfigure dgram stream) r d = at_once r
 kind_dated Shutdown r d = at_once r
+kind_dated _ r d = absurd d
 
 one_dated : (e : Event) → IsDatagramKind e.kind → Dated ((e.at, e.secs) ∷ []) (e ∷ [])
 one_dated e d = ((e.at, e.secs) ∷ [], kind_dated e.kind (e.at, e.secs) d, tt)

@@ -1,14 +1,14 @@
 -- How many datagrams were received, and how many may be.
 use Rattle.std.proofs.Common.{◌≡◌, ◌≤◌, ◌<◌, ℕ, ◌+◌, ◌-◌, ◌^◌, zero, suc, List, [], ◌∷◌, length, refl, ap, sym, ◌∙◌, arith, length-append, inl, inr}
 use Rattle.std.specs.Prelude.{Option, Some, None}
-use Rattle.dns_outside.specs.Mail.{Mail}
-use Rattle.dns_outside.specs.declared.sock.Letter.{Letter}
-use Rattle.dns_admission.specs.declared.look.Look.{Look}
-use Rattle.dns_service.specs.declared.event.Event.{Event}
-use Rattle.dns_service.specs.declared.event.EventKind.{EventKind}
-use Rattle.dns_service.specs.declared.event.EventKind.TheVariants.{Datagram, Turn, Offer, Piece, End, Fault, Close, Write, Tick, Release, Reconfigure, Shutdown}
+use Rattle.dns_io.specs.Mail.{Mail}
+use Rattle.dns_io.specs.declared.sock.Letter.{Letter}
+use Rattle.dns_events.specs.declared.look.Look.{Look}
+use Rattle.dns_events.specs.declared.event.Event.{Event}
+use Rattle.dns_events.specs.declared.event.EventKind.{EventKind}
+use Rattle.dns_events.specs.declared.event.EventKind.TheVariants.{Datagram}
 use Rattle.dns_client.specs.Serving.{Serving}
-use Rattle.dns_service.specs.declared.settings.Settings.{Settings}
+use Rattle.dns_events.specs.declared.settings.Settings.{Settings}
 use Rattle.dns_datagrams.specs.DatagramEvents.{letter_in, letters_in, cut_letters, number_in, numbers_in, numbers_below}
 use Rattle.dns_datagrams.specs.DatagramsServed.{Input, IsFull, MayCome}
 use Rattle.dns_datagrams.specs.DatagramLoop.{RoundedUpTo, TakenBy, TakenSo}
@@ -19,17 +19,7 @@ use Rattle.dns_datagrams.specs.declared.serving.DgramEnd.TheVariants.{Shutdown a
 
 letter_numbers : (client : ℕ) (k : EventKind) → length (letter_in k) ≡ length (number_in client k)
 letter_numbers client (Datagram addr o) = refl
-letter_numbers client (Turn n) = refl
-letter_numbers client (Offer addr) = refl
-letter_numbers client (Piece o) = refl
-letter_numbers client End = refl
-letter_numbers client Fault = refl
-letter_numbers client Close = refl
-letter_numbers client (Write took) = refl
-letter_numbers client Tick = refl
-letter_numbers client Release = refl
-letter_numbers client (Reconfigure dgram stream) = refl
-letter_numbers client Shutdown = refl
+letter_numbers client _ = refl
 
 letters_numbers : (es : List Event) → length (letters_in es) ≡ length (numbers_in es)
 letters_numbers [] = refl

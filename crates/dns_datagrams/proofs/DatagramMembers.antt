@@ -4,12 +4,12 @@ use Rattle.std.specs.Prelude.{filter, nat_eq, nat_lt, not, ◌&&◌, ◌||◌, i
 use Rattle.std.specs.List.{flat_map}
 use Rattle.std.proofs.lemmas.Bool.{eq-eqb, ne_eqb}
 use Rattle.std.proofs.lemmas.Bool.Decides.{eqb_tells}
-use Rattle.dns_service.specs.declared.event.Event.{Event}
-use Rattle.dns_service.specs.declared.event.Output.{Output}
+use Rattle.dns_events.specs.declared.event.Event.{Event}
+use Rattle.dns_events.specs.declared.event.Output.{Output}
 use Rattle.dns_client.specs.Serving.{Serving}
-use Rattle.dns_client.specs.Slate.{Slate, Conf, Told, Phase, Unused, Exchange, Open, Flushing, Closed, fresh, conf_rule}
+use Rattle.dns_client.specs.Slate.{Slate, Conf, Told, Phase, Unused, Exchange, fresh, conf_rule}
 use Rattle.dns_client.specs.Rule.{rule}
-use Rattle.dns_service.specs.declared.settings.Settings.{Settings}
+use Rattle.dns_events.specs.declared.settings.Settings.{Settings}
 use Rattle.dns_notes.specs.Settings.{opening}
 use Rattle.dns_notes.specs.Own.{is_wide, own, concerns}
 use Rattle.dns_notes.specs.Sent.{conf, conf_after, slate_after, slate}
@@ -121,16 +121,12 @@ those_put_not c d (n ∷ ns) h =
 plain_exchange : (c : ℕ) (p : Phase) (s : Slate) → IsPlainIn c p s → is_unused p ≡ false → p ≡ Exchange
 plain_exchange c Unused s h u = cc
 plain_exchange c Exchange s h u = refl
-plain_exchange c Open s h u = absurd h
-plain_exchange c (Flushing why) s h u = absurd h
-plain_exchange c Closed s h u = absurd h
+plain_exchange c _ s h u = absurd h
 
 plain_slotless : (c : ℕ) (p : Phase) (s : Slate) → IsPlainIn c p s → is_connection p ≡ false
 plain_slotless c Unused s h = refl
 plain_slotless c Exchange s h = refl
-plain_slotless c Open s h = absurd h
-plain_slotless c (Flushing why) s h = absurd h
-plain_slotless c Closed s h = absurd h
+plain_slotless c _ s h = absurd h
 
 and_true : (b : Bool) → (b && true) ≡ b
 and_true true = refl

@@ -1,11 +1,11 @@
 -- The news of a look, as they are noted.
 use Rattle.std.proofs.Common.{◌≡◌, ◌+◌, List, [], ◌∷◌, ◌++◌, true, refl, sym, ◌∙◌, append_assoc, arith}
 use Rattle.std.proofs.lemmas.List.{append_cancel_left}
-use Rattle.dns_admission.specs.declared.look.Look.{Look}
-use Rattle.dns_outside.specs.Causes.{Tells}
-use Rattle.dns_service.specs.declared.event.Event.{Event}
-use Rattle.dns_service.specs.declared.event.EventKind.{EventKind}
-use Rattle.dns_service.specs.declared.event.EventKind.TheVariants.{Datagram, Turn, Offer, Piece, End, Fault, Close, Write, Tick, Release, Reconfigure, Shutdown}
+use Rattle.dns_events.specs.declared.look.Look.{Look}
+use Rattle.dns_io.specs.Causes.{Tells}
+use Rattle.dns_events.specs.declared.event.Event.{Event}
+use Rattle.dns_events.specs.declared.event.EventKind.{EventKind}
+use Rattle.dns_events.specs.declared.event.EventKind.TheVariants.{Reconfigure, Shutdown}
 use Rattle.dns_client.specs.News.{new_configurations, new_end}
 use Rattle.dns_notes.specs.Own.{is_wide}
 use Rattle.dns_notes.specs.Clocks.{ClockReading, Timed, write_count, writes_in, fault_count, faults_in}
@@ -18,18 +18,9 @@ use Rattle.dns_datagrams.proofs.DatagramClocks.{clocked_then}
 use Rattle.dns_datagrams.proofs.DatagramServings.{news_wide}
 
 no_count : (k : EventKind) → is_wide k ≡ true → write_count k + fault_count k ≡ 0
-no_count (Datagram addr o) w = cc
-no_count (Turn n) w = cc
-no_count (Offer addr) w = cc
-no_count (Piece o) w = cc
-no_count End w = cc
-no_count Fault w = cc
-no_count Close w = cc
-no_count (Write took) w = cc
-no_count Tick w = cc
-no_count Release w = cc
 no_count (Reconfigure dgram stream) w = refl
 no_count Shutdown w = refl
+no_count _ w = cc
 
 no_counts : (es : List Event) → AllWide (kinds es) → writes_in es + faults_in es ≡ 0
 no_counts [] w = refl

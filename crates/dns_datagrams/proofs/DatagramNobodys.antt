@@ -1,7 +1,7 @@
 -- Events that all clients hear stand under number 0.
 use Rattle.std.proofs.Common.{◌≡◌, List, [], ◌∷◌, ◌++◌, true, false, Option}
 use Rattle.std.specs.Prelude.{Some, None}
-use Rattle.dns_service.specs.declared.event.Event.{Event}
+use Rattle.dns_events.specs.declared.event.Event.{Event}
 use Rattle.dns_notes.specs.Own.{is_wide}
 use Rattle.dns_notes.specs.Woven.{AreNobodys}
 use Rattle.dns_datagrams.specs.DatagramEvents.{IsOwnKind, WideAreNobodys}

@@ -2,8 +2,8 @@
 use Rattle.std.proofs.Common.{◌≡◌, List, [], ◌∷◌, ◌++◌, Bool, true, false, refl, ap, sym, ◌∙◌, append_assoc, append-nil, Option}
 use Rattle.std.specs.Prelude.{◌==◌, ◌||◌, if◌then◌else◌}
 use Rattle.std.proofs.lemmas.Bool.{eq-eqb}
-use Rattle.dns_admission.specs.declared.look.Look.{Look}
-use Rattle.dns_service.specs.declared.event.Event.{Event}
+use Rattle.dns_events.specs.declared.look.Look.{Look}
+use Rattle.dns_events.specs.declared.event.Event.{Event}
 use Rattle.dns_notes.specs.Woven.{kinds, news_kinds, seen_with}
 use Rattle.dns_datagrams.specs.DatagramEvents.{IsOwnKind}
 use Rattle.dns_datagrams.specs.DatagramOrder.{RecordedPart, looked, acted, fault_events, events_of, looks_of, all_events_of, all_looks_of, IsFaultOf, AreInOrder}

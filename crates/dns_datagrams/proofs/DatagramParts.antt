@@ -2,15 +2,15 @@
 use Rattle.std.proofs.Common.{◌≡◌, ◌≤◌, ℕ, ◌+◌, ◌-◌, ◌^◌, min, List, [], ◌∷◌, ◌++◌, length, true, false, refl, ap, sym, ◌∙◌, append_assoc, append-nil, arith, add-zero, length-append}
 use Rattle.std.specs.Prelude.{Option, Some, None, is_some}
 use Rattle.dns_name.specs.declared.address.SocketAddr.{SocketAddr}
-use Rattle.dns_admission.specs.declared.look.Look.{Look}
-use Rattle.dns_outside.specs.Mail.{Mail}
-use Rattle.dns_outside.specs.declared.sock.Letter.{Letter}
-use Rattle.dns_service.specs.declared.event.Event.{Event}
-use Rattle.dns_service.specs.declared.event.EventKind.{EventKind}
-use Rattle.dns_service.specs.declared.event.EventKind.TheVariants.{Datagram, Turn, Offer, Piece, End, Fault, Close, Write, Tick, Release, Reconfigure, Shutdown}
+use Rattle.dns_events.specs.declared.look.Look.{Look}
+use Rattle.dns_io.specs.Mail.{Mail}
+use Rattle.dns_io.specs.declared.sock.Letter.{Letter}
+use Rattle.dns_events.specs.declared.event.Event.{Event}
+use Rattle.dns_events.specs.declared.event.EventKind.{EventKind}
+use Rattle.dns_events.specs.declared.event.EventKind.TheVariants.{Datagram, Turn, Fault}
 use Rattle.dns_client.specs.Serving.{Serving}
 use Rattle.dns_client.specs.Datagrams.{cut_datagram}
-use Rattle.dns_service.specs.declared.settings.Settings.{Settings}
+use Rattle.dns_events.specs.declared.settings.Settings.{Settings}
 use Rattle.dns_notes.specs.Own.{is_wide}
 use Rattle.dns_notes.specs.Sent.{conf}
 use Rattle.dns_notes.specs.Clocks.{faults_in}
@@ -36,30 +36,11 @@ pub record OwnKind (k : EventKind) : Type 0 where
 pub own_kind : (k : EventKind) → IsOwnKind k → OwnKind k
 own_kind (Datagram addr o) h = record { plain = tt; no_fault = refl; no_wide = refl }
 own_kind (Turn n) h = record { plain = h; no_fault = refl; no_wide = refl }
-own_kind (Offer addr) h = absurd h
-own_kind (Piece o) h = absurd h
-own_kind End h = absurd h
-own_kind Fault h = absurd h
-own_kind Close h = absurd h
-own_kind (Write took) h = absurd h
-own_kind Tick h = absurd h
-own_kind Release h = absurd h
-own_kind (Reconfigure dgram stream) h = absurd h
-own_kind Shutdown h = absurd h
+own_kind _ h = absurd h
 
 wide_no_fault : (k : EventKind) → is_wide k ≡ true → is_fault k ≡ false
-wide_no_fault (Datagram addr o) w = refl
-wide_no_fault (Turn n) w = refl
-wide_no_fault (Offer addr) w = refl
-wide_no_fault (Piece o) w = refl
-wide_no_fault End w = refl
 wide_no_fault Fault w = cc
-wide_no_fault Close w = refl
-wide_no_fault (Write took) w = refl
-wide_no_fault Tick w = refl
-wide_no_fault Release w = refl
-wide_no_fault (Reconfigure dgram stream) w = refl
-wide_no_fault Shutdown w = refl
+wide_no_fault _ w = refl
 
 wide_plain : (e : Event) → is_wide e.kind ≡ true → IsDatagramKind e.kind
 wide_plain e w = (quiet_kind e.kind (wide_quiet e.kind w)).plain

@@ -1,11 +1,11 @@
 -- A letter is sent, or a Fault is noted in its place.
 use Rattle.std.proofs.Common.{◌≡◌, ℕ, ◌+◌, ◌≤◌, List, [], ◌∷◌, ◌++◌, Bool, true, false, refl, sym, ◌∙◌, append_assoc, append-nil, length-append, arith, Some, None}
 use Rattle.std.proofs.lemmas.Bool.{le-ltb}
-use Rattle.dns_outside.specs.Causes.{Rose}
-use Rattle.dns_outside.specs.Mail.{Mail}
-use Rattle.dns_outside.specs.declared.sock.Letter.{Letter}
-use Rattle.dns_service.specs.declared.event.Event.{Event}
-use Rattle.dns_service.specs.declared.event.EventKind.TheVariants.{Fault}
+use Rattle.dns_io.specs.Causes.{Rose}
+use Rattle.dns_io.specs.Mail.{Mail}
+use Rattle.dns_io.specs.declared.sock.Letter.{Letter}
+use Rattle.dns_events.specs.declared.event.Event.{Event}
+use Rattle.dns_events.specs.declared.event.EventKind.TheVariants.{Fault}
 use Rattle.dns_notes.specs.Clocks.{ClockReading}
 use Rattle.dns_datagrams.specs.DatagramsSent.{count_if, fails_before}
 use Rattle.dns_datagrams.specs.declared.notes.Stamp.{Stamp}

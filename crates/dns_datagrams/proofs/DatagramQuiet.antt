@@ -2,12 +2,12 @@
 use Rattle.std.proofs.Common.{◌≡◌, ℕ, ◌+◌, List, [], ◌∷◌, ◌++◌, Bool, true, refl, ap, sym, ◌∙◌, append_assoc, append-nil, add-zero, inl, inr}
 use Rattle.std.specs.Prelude.{Option, Some, None, nat_eq}
 use Rattle.std.proofs.lemmas.Bool.Decides.{eqb_tells}
-use Rattle.dns_service.specs.declared.event.Event.{Event}
-use Rattle.dns_service.specs.declared.event.EventKind.{EventKind}
-use Rattle.dns_service.specs.declared.event.EventKind.TheVariants.{Datagram, Turn, Offer, Piece, End, Fault, Close, Write, Tick, Release, Reconfigure, Shutdown}
+use Rattle.dns_events.specs.declared.event.Event.{Event}
+use Rattle.dns_events.specs.declared.event.EventKind.{EventKind}
+use Rattle.dns_events.specs.declared.event.EventKind.TheVariants.{Fault, Reconfigure, Shutdown}
 use Rattle.dns_client.specs.Serving.{Serving}
 use Rattle.dns_client.specs.Slate.{Told}
-use Rattle.dns_service.specs.declared.settings.Settings.{Settings}
+use Rattle.dns_events.specs.declared.settings.Settings.{Settings}
 use Rattle.dns_notes.specs.Own.{is_wide}
 use Rattle.dns_notes.specs.Sent.{conf, slate}
 use Rattle.dns_notes.specs.Woven.{kinds}
@@ -30,18 +30,10 @@ AllQuiet [] = Unit {0}
 AllQuiet (e ∷ es) = IsQuiet e.kind × AllQuiet es
 
 pub wide_quiet : (k : EventKind) → is_wide k ≡ true → IsQuiet k
-wide_quiet (Datagram addr o) w = cc
-wide_quiet (Turn n) w = cc
-wide_quiet (Offer addr) w = cc
-wide_quiet (Piece o) w = cc
-wide_quiet End w = cc
 wide_quiet Fault w = tt
-wide_quiet Close w = cc
-wide_quiet (Write took) w = cc
-wide_quiet Tick w = cc
-wide_quiet Release w = cc
 wide_quiet (Reconfigure dgram stream) w = tt
 wide_quiet Shutdown w = tt
+wide_quiet _ w = cc
 
 pub all_wide_quiet : (es : List Event) → AllWide (kinds es) → AllQuiet es
 all_wide_quiet [] w = tt
@@ -61,18 +53,10 @@ pub record QuietKind (k : EventKind) : Type 0 where
   pub may : (waiting : Bool) → MayFollow k waiting
 
 pub quiet_kind : (k : EventKind) → IsQuiet k → QuietKind k
-quiet_kind (Datagram addr o) q = absurd q
-quiet_kind (Turn n) q = absurd q
-quiet_kind (Offer addr) q = absurd q
-quiet_kind (Piece o) q = absurd q
-quiet_kind End q = absurd q
 quiet_kind Fault q = record { plain = tt; letters = refl; numbers = λ c. refl; turns = refl; waits = λ a b w. refl; may = λ w. tt }
-quiet_kind Close q = absurd q
-quiet_kind (Write took) q = absurd q
-quiet_kind Tick q = absurd q
-quiet_kind Release q = absurd q
 quiet_kind (Reconfigure dgram stream) q = record { plain = tt; letters = refl; numbers = λ c. refl; turns = refl; waits = λ a b w. refl; may = λ w. tt }
 quiet_kind Shutdown q = record { plain = tt; letters = refl; numbers = λ c. refl; turns = refl; waits = λ a b w. refl; may = λ w. tt }
+quiet_kind _ q = absurd q
 
 pub append_two : (q : List Event) (e : Event) (es : List Event) → q ++ e ∷ es ≡ (q ++ e ∷ []) ++ es
 append_two q e es = sym (append_assoc q (e ∷ []) es)

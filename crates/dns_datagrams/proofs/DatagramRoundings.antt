@@ -1,9 +1,9 @@
 -- What was received and polled, with one event more of a driver of datagrams.
 use Rattle.std.proofs.Common.{◌≡◌, ℕ, ◌+◌, List, [], ◌∷◌, ◌++◌, Bool, false, refl, append_assoc, append-nil, arith, add-one}
-use Rattle.dns_outside.specs.declared.sock.Letter.{Letter}
-use Rattle.dns_service.specs.declared.event.Event.{Event}
+use Rattle.dns_io.specs.declared.sock.Letter.{Letter}
+use Rattle.dns_events.specs.declared.event.Event.{Event}
 use Rattle.dns_client.specs.Serving.{Serving}
-use Rattle.dns_service.specs.declared.settings.Settings.{Settings}
+use Rattle.dns_events.specs.declared.settings.Settings.{Settings}
 use Rattle.dns_datagrams.specs.DatagramEvents.{letter_in, letters_in, cut_letter, cut_letters, number_in, numbers_in, numbers_below, turn_count, turns_in}
 use Rattle.dns_datagrams.specs.DatagramsPolled.{MayFollow, waits_with, waits_after, waits, TurnsAfter, TurnsBetween}
 

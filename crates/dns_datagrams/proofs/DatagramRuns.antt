@@ -1,16 +1,16 @@
 -- What was done from the start of the loop of datagrams to now, a step further.
 use Rattle.std.proofs.Common.{◌≡◌, ℕ, ◌+◌, List, [], ◌∷◌, ◌++◌, length, Bool, true, false, refl, ap, sym, ◌∙◌, append_assoc, arith}
 use Rattle.std.specs.Prelude.{Option}
-use Rattle.dns_admission.specs.declared.look.Look.{Look}
+use Rattle.dns_events.specs.declared.look.Look.{Look}
 use Rattle.dns_book.specs.declared.history.Known.{Known}
-use Rattle.dns_outside.specs.Mail.{Mail}
-use Rattle.dns_outside.specs.declared.sock.Letter.{Letter}
+use Rattle.dns_io.specs.Mail.{Mail}
+use Rattle.dns_io.specs.declared.sock.Letter.{Letter}
 use Rattle.dns_service.specs.Answer.{Answer}
-use Rattle.dns_service.specs.declared.event.Event.{Event}
+use Rattle.dns_events.specs.declared.event.Event.{Event}
 use Rattle.dns_service.specs.declared.polled.PolledRequest.{PolledRequest}
 use Rattle.dns_client.specs.Serving.{Serving}
 use Rattle.dns_client.specs.Slate.{Conf}
-use Rattle.dns_service.specs.declared.settings.Settings.{Settings}
+use Rattle.dns_events.specs.declared.settings.Settings.{Settings}
 use Rattle.dns_notes.specs.Clocks.{ClockReading}
 use Rattle.dns_datagrams.specs.DatagramEvents.{IsOwnKind, AllDatagramKinds, WideAreNobodys, letters_in, cut_letters, numbers_in, numbers_below}
 use Rattle.dns_datagrams.specs.DatagramOrder.{fault_events, IsFaultOf}

@@ -2,16 +2,16 @@
 use Rattle.std.proofs.Common.{◌≡◌, ℕ, ◌+◌, List, [], ◌∷◌, ◌++◌, Bool, true, false, refl, ap, sym, ◌∙◌, subst, append_assoc, append-nil, arith, inl, inr}
 use Rattle.std.proofs.lemmas.Bool.{eq-eqb}
 use Rattle.std.proofs.lemmas.Grind.{flat_map-append}
-use Rattle.dns_outside.specs.declared.sock.Letter.{Letter}
-use Rattle.dns_service.specs.declared.event.Event.{Event}
-use Rattle.dns_service.specs.declared.event.EventKind.{EventKind}
-use Rattle.dns_service.specs.declared.event.EventKind.TheVariants.{Datagram, Turn, Offer, Piece, End, Fault, Close, Write, Tick, Release, Reconfigure, Shutdown}
-use Rattle.dns_service.specs.declared.event.Output.{Output}
-use Rattle.dns_service.specs.declared.event.Output.TheVariants as output
+use Rattle.dns_io.specs.declared.sock.Letter.{Letter}
+use Rattle.dns_events.specs.declared.event.Event.{Event}
+use Rattle.dns_events.specs.declared.event.EventKind.{EventKind}
+use Rattle.dns_events.specs.declared.event.EventKind.TheVariants.{Datagram, Fault}
+use Rattle.dns_events.specs.declared.event.Output.{Output}
+use Rattle.dns_events.specs.declared.event.Output.TheVariants as output
 use Rattle.dns_client.specs.Serving.{Serving}
 use Rattle.dns_client.specs.Slate.{Slate, Told, Exchange}
 use Rattle.dns_client.specs.Rule.{rule}
-use Rattle.dns_service.specs.declared.settings.Settings.{Settings}
+use Rattle.dns_events.specs.declared.settings.Settings.{Settings}
 use Rattle.dns_notes.specs.Sent.{conf, slate}
 use Rattle.dns_notes.specs.Out.{is_unused, gained, out, out_after}
 use Rattle.dns_notes.specs.Clocks.{fault_count, faults_in}
@@ -51,17 +51,7 @@ before_first t (x ∷ q) e r h = refl
 
 pub fault_counts : (kind : EventKind) → fault_count kind ≡ count_if (is_fault kind)
 fault_counts (Datagram addr o) = refl
-fault_counts (Turn k) = refl
-fault_counts (Offer addr) = refl
-fault_counts (Piece o) = refl
-fault_counts End = refl
-fault_counts Fault = refl
-fault_counts Close = refl
-fault_counts (Write took) = refl
-fault_counts Tick = refl
-fault_counts Release = refl
-fault_counts (Reconfigure dgram stream) = refl
-fault_counts Shutdown = refl
+fault_counts _ = refl
 
 faults_snoc : (q : List Event) (e : Event) → faults_in (q ++ e ∷ []) ≡ faults_in q + fault_count e.kind
 faults_snoc [] e = omega arith

@@ -3,21 +3,21 @@ use Rattle.std.proofs.Common.{◌≡◌, ◌≢◌, ℕ, ◌+◌, ◌≤◌, Lis
 use Rattle.std.specs.Prelude.{◌==◌, ◌||◌, ◌&&◌, not, if◌then◌else◌}
 use Rattle.std.proofs.lemmas.Bool.Decides.{eqb_tells}
 use Rattle.dns_name.specs.declared.address.SocketAddr.{SocketAddr}
-use Rattle.dns_admission.specs.declared.look.Look.{Look}
-use Rattle.dns_outside.specs.declared.sock.Letter.{Letter}
+use Rattle.dns_events.specs.declared.look.Look.{Look}
+use Rattle.dns_io.specs.declared.sock.Letter.{Letter}
 use Rattle.dns_service.specs.Answer.{Answer}
-use Rattle.dns_service.specs.declared.event.Event.{Event}
-use Rattle.dns_service.specs.declared.event.EventKind.{EventKind}
-use Rattle.dns_service.specs.declared.event.EventKind.TheVariants.{Datagram, Turn, Offer, Piece, End, Fault, Close, Write, Tick, Release, Reconfigure, Shutdown}
-use Rattle.dns_service.specs.declared.event.Output.{Output}
-use Rattle.dns_service.specs.declared.event.Output.TheVariants as output
+use Rattle.dns_events.specs.declared.event.Event.{Event}
+use Rattle.dns_events.specs.declared.event.EventKind.{EventKind}
+use Rattle.dns_events.specs.declared.event.EventKind.TheVariants.{Datagram, Turn, Fault, Reconfigure, Shutdown}
+use Rattle.dns_events.specs.declared.event.Output.{Output}
+use Rattle.dns_events.specs.declared.event.Output.TheVariants as output
 use Rattle.dns_service.specs.declared.polled.PolledRequest.{PolledRequest}
 use Rattle.dns_client.specs.Serving.{Serving}
-use Rattle.dns_client.specs.Slate.{Slate, Conf, Told, Phase, Unused, Exchange, Open, Flushing, Closed, IsUnused, conf_of, conf_rule, with_conf}
+use Rattle.dns_client.specs.Slate.{Slate, Conf, Told, Phase, Unused, Exchange, Closed, IsUnused, conf_of, conf_rule, with_conf}
 use Rattle.dns_client.specs.Datagrams.{datagram}
 use Rattle.dns_client.specs.News.{news, wide}
 use Rattle.dns_client.specs.Rule.{rule, in_phase}
-use Rattle.dns_service.specs.declared.settings.Settings.{Settings}
+use Rattle.dns_events.specs.declared.settings.Settings.{Settings}
 use Rattle.dns_notes.specs.Settings.{opening}
 use Rattle.dns_notes.specs.Own.{is_wide}
 use Rattle.dns_notes.specs.Sent.{conf, conf_after, slate}
@@ -56,17 +56,10 @@ module _ (answers : Serving) (settings : Settings) where
 
 pub wide_plain : (kind : EventKind) → is_wide kind ≡ true → IsDatagramKind kind
 wide_plain (Datagram addr o) h = tt
-wide_plain (Turn r) h = cc
-wide_plain (Offer addr) h = cc
-wide_plain (Piece o) h = cc
-wide_plain End h = cc
 wide_plain Fault h = tt
-wide_plain Close h = cc
-wide_plain (Write took) h = cc
-wide_plain Tick h = cc
-wide_plain Release h = cc
 wide_plain (Reconfigure dgram stream) h = tt
 wide_plain Shutdown h = tt
+wide_plain _ h = cc
 
 pub all_wide_plain : (es : List Event) → AllWide (kinds es) → AllDatagramKinds es
 all_wide_plain [] w = tt
@@ -116,9 +109,7 @@ module _ (answers : Serving) (settings : Settings) where
   unused_in : (c : ℕ) (p : Phase) (s : Slate) → p ≡ Unused → IsPlainIn c p s → IsUnused s
   unused_in c Unused s h i = i
   unused_in c Exchange s h i = cc
-  unused_in c Open s h i = absurd i
-  unused_in c (Flushing why) s h i = absurd i
-  unused_in c Closed s h i = absurd i
+  unused_in c _ s h i = absurd i
 
   unused_slate : (c : ℕ) (q : List Event) → AllDatagramKinds q → (slate answers settings c q).phase ≡ Unused → IsUnused (slate answers settings c q)
   unused_slate c q d h = unused_in c (slate answers settings c q).phase (slate answers settings c q) h (plain_slate answers settings c q d).plain

@@ -2,8 +2,8 @@
 use Rattle.std.proofs.Common.{◌≡◌, List, [], ◌∷◌, Bool, true, false, refl, sym, ◌∙◌}
 use Rattle.std.specs.Prelude.{◌||◌}
 use Rattle.std.specs.List.{list_any}
-use Rattle.dns_admission.specs.declared.look.Look.{Look}
-use Rattle.dns_service.specs.declared.event.Event.{Event}
+use Rattle.dns_events.specs.declared.look.Look.{Look}
+use Rattle.dns_events.specs.declared.event.Event.{Event}
 use Rattle.dns_notes.specs.Woven.{seen_with}
 use Rattle.dns_datagrams.specs.DatagramOrder.{RecordedPart, looked, acted, all_looks_of}
 use Rattle.dns_datagrams.specs.DatagramLoop.{seen_in, Ordered}

@@ -4,17 +4,17 @@ use Rattle.std.specs.Prelude.{Option, Some, None, slice_get, if◌then◌else◌
 use Rattle.std.proofs.lemmas.Bool.{eqb-true}
 use Rattle.dns_name.specs.declared.address.SocketAddr.{SocketAddr}
 use Rattle.dns_base.specs.Msg.{Msg}
-use Rattle.dns_service.specs.declared.event.Event.{Event}
-use Rattle.dns_service.specs.declared.event.EventKind.{EventKind}
-use Rattle.dns_service.specs.declared.event.EventKind.TheVariants.{Datagram, Turn, Offer, Piece, End, Fault, Close, Write, Tick, Release, Reconfigure, Shutdown}
-use Rattle.dns_service.specs.declared.event.Output.{Output}
-use Rattle.dns_service.specs.declared.event.Output.TheVariants as output
+use Rattle.dns_events.specs.declared.event.Event.{Event}
+use Rattle.dns_events.specs.declared.event.EventKind.{EventKind}
+use Rattle.dns_events.specs.declared.event.EventKind.TheVariants.{Datagram, Turn, Fault, Reconfigure, Shutdown}
+use Rattle.dns_events.specs.declared.event.Output.{Output}
+use Rattle.dns_events.specs.declared.event.Output.TheVariants as output
 use Rattle.dns_client.specs.Serving.{Serving}
-use Rattle.dns_client.specs.Slate.{Slate, SlateRequest, Conf, Told, Phase, Unused, Exchange, Open, Flushing, Closed, fresh, conf_rule, with_conf}
+use Rattle.dns_client.specs.Slate.{Slate, SlateRequest, Conf, Told, Phase, Unused, Exchange, fresh, conf_rule, with_conf}
 use Rattle.dns_client.specs.Datagrams.{datagram}
 use Rattle.dns_client.specs.Turns.{exchange_turn, polled, sent_at_once, sent_for, with_request}
 use Rattle.dns_client.specs.Rule.{rule, in_phase, exchange_rule}
-use Rattle.dns_service.specs.declared.settings.Settings.{Settings}
+use Rattle.dns_events.specs.declared.settings.Settings.{Settings}
 use Rattle.dns_notes.specs.Settings.{opening}
 use Rattle.dns_notes.specs.Own.{is_wide, own, concerns}
 use Rattle.dns_notes.specs.Sent.{conf, conf_after, slate_after, slate}
@@ -80,27 +80,18 @@ module _ (answers : Serving) where
   unused_takes : (c at secs client : ℕ) (kind : EventKind) (k : Conf) → IsDatagramKind kind → (is_wide kind ≡ false → client ≡ c) → Takes c kind (fresh k) (rule answers (event_of at secs client kind) (fresh k))
   unused_takes c at secs client (Datagram addr o) k d mine = rw (mine refl) (begins c at secs addr o k k.over)
   unused_takes c at secs client (Turn r) k d mine = still c (Turn r) (fresh k) refl refl
-  unused_takes c at secs client (Offer addr) k d mine = absurd d
-  unused_takes c at secs client (Piece o) k d mine = absurd d
-  unused_takes c at secs client End k d mine = absurd d
   unused_takes c at secs client Fault k d mine = still c Fault (fresh k) refl refl
-  unused_takes c at secs client Close k d mine = absurd d
-  unused_takes c at secs client (Write took) k d mine = absurd d
-  unused_takes c at secs client Tick k d mine = absurd d
-  unused_takes c at secs client Release k d mine = absurd d
   unused_takes c at secs client (Reconfigure dgram stream) k d mine =
       record { plain = refl; conf = refl; posts = tt; quiet = λ _. refl; stays = λ h. cc; wide = λ _. refl; idle = λ h. cc }
   unused_takes c at secs client Shutdown k d mine =
       record { plain = refl; conf = refl; posts = tt; quiet = λ _. refl; stays = λ h. cc; wide = λ _. refl; idle = λ h. cc }
+  unused_takes c at secs client _ k d mine = absurd d
 
   -- ---- an exchange
 
   exchange_plain : (c : ℕ) (p : Phase) (s : Slate) → p ≡ Exchange → s.client ≡ c → IsPlainIn c p s
-  exchange_plain c Unused s e h = cc
   exchange_plain c Exchange s e h = h
-  exchange_plain c Open s e h = cc
-  exchange_plain c (Flushing why) s e h = cc
-  exchange_plain c Closed s e h = cc
+  exchange_plain c _ s e h = cc
 
   goes_on : (c : ℕ) (kind : EventKind) (s : Slate) (t : Told) → s.phase ≡ Exchange → s.client ≡ c → t.0.phase ≡ s.phase → t.0.client ≡ s.client → t.0.addr ≡ s.addr → t.0.conf ≡ conf_rule kind s.conf
       → IsPost c t.1 → (is_wide kind ≡ true → t ≡ (with_conf (conf_rule kind s.conf) s, [])) → (is_fault kind ≡ true → t ≡ (s, [])) → Takes c kind s t
@@ -132,17 +123,11 @@ module _ (answers : Serving) where
   exchange_takes : (c : ℕ) (kind : EventKind) (s : Slate) → IsDatagramKind kind → s.phase ≡ Exchange → s.client ≡ c → Takes c kind s (exchange_rule answers kind (with_conf (conf_rule kind s.conf) s))
   exchange_takes c (Datagram addr o) s d e mine = goes_on c (Datagram addr o) s (s, []) e mine refl refl refl refl tt (λ _. refl) (λ _. refl)
   exchange_takes c (Turn k) s d e mine = turn_takes c k s (slice_get s.requests k) e mine
-  exchange_takes c (Offer addr) s d e mine = absurd d
-  exchange_takes c (Piece o) s d e mine = absurd d
-  exchange_takes c End s d e mine = absurd d
   exchange_takes c Fault s d e mine = goes_on c Fault s (s, []) e mine refl refl refl refl tt (λ _. refl) (λ _. refl)
-  exchange_takes c Close s d e mine = absurd d
-  exchange_takes c (Write took) s d e mine = absurd d
-  exchange_takes c Tick s d e mine = absurd d
-  exchange_takes c Release s d e mine = absurd d
   exchange_takes c (Reconfigure dgram stream) s d e mine =
       goes_on c (Reconfigure dgram stream) s (with_conf (conf_rule (Reconfigure dgram stream) s.conf) s, []) e mine refl refl refl refl tt (λ _. refl) (λ h. cc)
   exchange_takes c Shutdown s d e mine = goes_on c Shutdown s (with_conf (conf_rule Shutdown s.conf) s, []) e mine refl refl refl refl tt (λ _. refl) (λ h. cc)
+  exchange_takes c _ s d e mine = absurd d
 
   pub exchange_stays : (e : Event) (s : Slate) → IsDatagramKind e.kind → s.phase ≡ Exchange → ((rule answers e s).0.phase ≡ Exchange) × ((rule answers e s).0.addr ≡ s.addr)
   exchange_stays e s d h =
@@ -154,9 +139,7 @@ module _ (answers : Serving) where
   takes_in : (c : ℕ) (e : Event) (p : Phase) (s : Slate) → s.phase ≡ p → IsDatagramKind e.kind → (is_wide e.kind ≡ false → e.client ≡ c) → IsPlainIn c p s → Takes c e.kind s (rule answers e s)
   takes_in c e Unused s ph d mine h = subst (λ (x : Slate). Takes c e.kind x (rule answers e x)) (sym h) (unused_takes c e.at e.secs e.client e.kind s.conf d mine)
   takes_in c e Exchange s ph d mine h = subst (λ (p : Phase). Takes c e.kind s (in_phase answers e p (with_conf (conf_rule e.kind s.conf) s))) (sym ph) (exchange_takes c e.kind s d ph h)
-  takes_in c e Open s ph d mine h = absurd h
-  takes_in c e (Flushing why) s ph d mine h = absurd h
-  takes_in c e Closed s ph d mine h = absurd h
+  takes_in c e _ s ph d mine h = absurd h
 
   -- an event that a client hears
   pub takes : (c : ℕ) (e : Event) (s : Slate) → IsDatagramKind e.kind → (is_wide e.kind ≡ false → e.client ≡ c) → IsPlain c s → Takes c e.kind s (rule answers e s)
@@ -170,16 +153,10 @@ own_case c x q b h = rw h refl
 narrow : (kind : EventKind) (k : Conf) → IsDatagramKind kind → is_wide kind ≡ false → conf_rule kind k ≡ k
 narrow (Datagram addr o) k d w = refl
 narrow (Turn r) k d w = refl
-narrow (Offer addr) k d w = absurd d
-narrow (Piece o) k d w = absurd d
-narrow End k d w = absurd d
 narrow Fault k d w = refl
-narrow Close k d w = absurd d
-narrow (Write took) k d w = absurd d
-narrow Tick k d w = absurd d
-narrow Release k d w = absurd d
 narrow (Reconfigure dgram stream) k d w = cc
 narrow Shutdown k d w = cc
+narrow _ k d w = absurd d
 
 heard_wide : (w m : Bool) → (w || m) ≡ false → w ≡ false
 heard_wide true m h = h

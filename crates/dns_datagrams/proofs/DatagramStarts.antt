@@ -2,17 +2,17 @@
 use Rattle.std.proofs.Common.{◌≡◌, ◌≢◌, ℕ, ◌+◌, List, [], ◌∷◌, Bool, true, false, refl, sym, ◌∙◌, append-nil, arith}
 use Rattle.std.specs.Prelude.{nat_eq}
 use Rattle.std.specs.List.{list_any}
-use Rattle.dns_admission.specs.declared.look.Look.{Look}
+use Rattle.dns_events.specs.declared.look.Look.{Look}
 use Rattle.dns_admission.specs.declared.call.Call.TheVariants.{Look as ToLook}
 use Rattle.dns_admission.specs.declared.call.Reply.TheVariants.{Look as Shown}
 use Rattle.dns_book.specs.Seats.{Called}
 use Rattle.dns_book.specs.declared.history.Known.{Known}
-use Rattle.dns_outside.specs.Mail.{Mail}
+use Rattle.dns_io.specs.Mail.{Mail}
 use Rattle.dns_service.specs.Answer.{Answer}
-use Rattle.dns_service.specs.declared.event.Event.{Event}
+use Rattle.dns_events.specs.declared.event.Event.{Event}
 use Rattle.dns_service.specs.declared.polled.PolledRequest.{PolledRequest}
 use Rattle.dns_client.specs.Serving.{Serving}
-use Rattle.dns_service.specs.declared.settings.Settings.{Settings}
+use Rattle.dns_events.specs.declared.settings.Settings.{Settings}
 use Rattle.dns_notes.specs.Clocks.{ClockReading}
 use Rattle.dns_notes.specs.Notes.{NotedWide}
 use Rattle.dns_datagrams.specs.DatagramsPolled.{waits, TurnsBetween, AllFinished}

@@ -1,7 +1,7 @@
 -- How what socket, clock and recorder tell goes through calls, in this order: d, c, j.
 use Rattle.std.proofs.Common.{◌≡◌, refl}
 use Rattle.std.specs.Prelude.{Result, Ok, Err, OnErr, OnOk, IfOk}
-use Rattle.dns_outside.specs.Causes.{Tells}
+use Rattle.dns_io.specs.Causes.{Tells}
 
 pub on_err : {X T E : Type 0} (r : Result T E) → X → OnErr r X
 on_err (Ok v) x = tt

@@ -2,7 +2,7 @@
 use Rattle.std.proofs.Common.{◌≡◌, ◌≢◌, ℕ, refl, ap, ◌∙◌}
 use Rattle.std.specs.Prelude.{Some, Result}
 use Rattle.dns_name.specs.declared.error.OutOfMemory.{OutOfMemory as No_memory}
-use Rattle.dns_outside.specs.Causes.{Tells}
+use Rattle.dns_io.specs.Causes.{Tells}
 use Rattle.dns_datagrams.specs.DatagramsServed.{World, ReceivesBy}
 use Rattle.dns_datagrams.specs.DatagramLoop.{TakenBy}
 use Rattle.dns_datagrams.specs.DatagramOffice.{MayReceive, SameOffice, Went, OnlyPolls, Laps, WentTo, ToldSo}

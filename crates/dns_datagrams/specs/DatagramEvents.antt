@@ -1,9 +1,9 @@
 -- The events that a driver of datagrams records, and what stands in them.
 use Rattle.std.specs.Prelude.{◌≡◌, ℕ, ◌+◌, zero, suc, List, [], ◌∷◌, ◌++◌, true}
-use Rattle.dns_outside.specs.declared.sock.Letter.{Letter}
-use Rattle.dns_service.specs.declared.event.Event.{Event}
-use Rattle.dns_service.specs.declared.event.EventKind.{EventKind}
-use Rattle.dns_service.specs.declared.event.EventKind.TheVariants.{Datagram, Turn, Fault, Reconfigure, Shutdown}
+use Rattle.dns_io.specs.declared.sock.Letter.{Letter}
+use Rattle.dns_events.specs.declared.event.Event.{Event}
+use Rattle.dns_events.specs.declared.event.EventKind.{EventKind}
+use Rattle.dns_events.specs.declared.event.EventKind.TheVariants.{Datagram, Turn, Fault, Reconfigure, Shutdown}
 use Rattle.dns_client.specs.Datagrams.{cut_datagram}
 use Rattle.dns_notes.specs.Own.{is_wide}
 

@@ -1,9 +1,9 @@
 -- What a part of the loop of datagrams does to the office that it works in, whose objects are read so.
 use Rattle.std.specs.Prelude.{◌≡◌, ◌≤◌, ◌<◌, ◌-◌, ◌^◌, ℕ, List, true, Option, Some, Result, IfOk, OnErr}
 use Rattle.dns_name.specs.declared.error.OutOfMemory.{OutOfMemory as No_memory}
-use Rattle.dns_outside.specs.Causes.{Tells}
-use Rattle.dns_outside.specs.Mail.{Mail}
-use Rattle.dns_service.specs.declared.event.Event.{Event}
+use Rattle.dns_io.specs.Causes.{Tells}
+use Rattle.dns_io.specs.Mail.{Mail}
+use Rattle.dns_events.specs.declared.event.Event.{Event}
 use Rattle.dns_notes.specs.Clocks.{ClockReading}
 use Rattle.dns_datagrams.specs.DatagramsServed.{World, world}
 use Rattle.dns_datagrams.specs.DatagramLoop.{PassesOn, PassesTo, RoundedSo, RoundedUpTo}

@@ -2,9 +2,9 @@
 -- Before each own event stands a look, or several, since a receive may give no datagram; others may stand at the end. A Fault has no
 -- look, and stands right after its exchange's event.
 use Rattle.std.specs.Prelude.{◌≡◌, List, [], ◌∷◌, ◌++◌, Bool, true, false, Option, Some, None}
-use Rattle.dns_admission.specs.declared.look.Look.{Look}
-use Rattle.dns_service.specs.declared.event.Event.{Event}
-use Rattle.dns_service.specs.declared.event.EventKind.TheVariants.{Fault}
+use Rattle.dns_events.specs.declared.look.Look.{Look}
+use Rattle.dns_events.specs.declared.event.Event.{Event}
+use Rattle.dns_events.specs.declared.event.EventKind.TheVariants.{Fault}
 use Rattle.dns_client.specs.News.{new_end}
 use Rattle.dns_notes.specs.Woven.{kinds, news_kinds, seen_with}
 use Rattle.dns_datagrams.specs.DatagramEvents.{IsOwnKind}

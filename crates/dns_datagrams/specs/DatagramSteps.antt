@@ -1,16 +1,16 @@
 -- What the parts of the loop of datagrams do to what recorder, socket, clock and seat tell.
 use Rattle.std.specs.Prelude.{◌≡◌, ◌≤◌, ◌⊎◌, ℕ, ◌+◌, ◌-◌, ◌^◌, min, List, [], ◌∷◌, ◌++◌, length, take, drop, Bool, true, false, ◌==◌, ◌||◌, nat_eq, if◌then◌else◌, is_some, Option, Some, None}
 use Rattle.dns_name.specs.declared.address.SocketAddr.{SocketAddr}
-use Rattle.dns_admission.specs.declared.look.Look.{Look}
-use Rattle.dns_outside.specs.Causes.{Rose}
-use Rattle.dns_outside.specs.Mail.{Mail}
-use Rattle.dns_outside.specs.declared.sock.Letter.{Letter}
+use Rattle.dns_events.specs.declared.look.Look.{Look}
+use Rattle.dns_io.specs.Causes.{Rose}
+use Rattle.dns_io.specs.Mail.{Mail}
+use Rattle.dns_io.specs.declared.sock.Letter.{Letter}
 use Rattle.dns_service.specs.Answer.{Answer}
-use Rattle.dns_service.specs.declared.event.Event.{Event}
-use Rattle.dns_service.specs.declared.event.EventKind.{EventKind}
-use Rattle.dns_service.specs.declared.event.EventKind.TheVariants.{Turn, Datagram as ADatagram}
-use Rattle.dns_service.specs.declared.event.Output.{Output}
-use Rattle.dns_service.specs.declared.event.Output.TheVariants.{Datagram}
+use Rattle.dns_events.specs.declared.event.Event.{Event}
+use Rattle.dns_events.specs.declared.event.EventKind.{EventKind}
+use Rattle.dns_events.specs.declared.event.EventKind.TheVariants.{Turn, Datagram as ADatagram}
+use Rattle.dns_events.specs.declared.event.Output.{Output}
+use Rattle.dns_events.specs.declared.event.Output.TheVariants.{Datagram}
 use Rattle.dns_service.specs.declared.polled.PolledRequest.{PolledRequest}
 use Rattle.dns_client.specs.Serving.{Serving}
 use Rattle.dns_client.specs.Slate.{Slate, Told, Exchange, IsUnused, conf_of}

@@ -2,15 +2,15 @@
 -- event e comes after the events q.
 use Rattle.std.specs.Prelude.{◌≡◌, ℕ, ◌+◌, List, [], ◌∷◌, ◌++◌, Bool, true, false, ◌&&◌, ◌⊎◌, nat_eq, nat_lt, None}
 use Rattle.std.specs.List.{flat_map}
-use Rattle.dns_admission.specs.declared.look.Look.{Look}
-use Rattle.dns_outside.specs.declared.sock.Letter.{Letter}
-use Rattle.dns_service.specs.declared.event.Event.{Event}
-use Rattle.dns_service.specs.declared.event.EventKind.{EventKind}
-use Rattle.dns_service.specs.declared.event.EventKind.TheVariants.{Fault}
-use Rattle.dns_service.specs.declared.event.Output.{Output}
-use Rattle.dns_service.specs.declared.event.Output.TheVariants.{Datagram}
+use Rattle.dns_events.specs.declared.look.Look.{Look}
+use Rattle.dns_io.specs.declared.sock.Letter.{Letter}
+use Rattle.dns_events.specs.declared.event.Event.{Event}
+use Rattle.dns_events.specs.declared.event.EventKind.{EventKind}
+use Rattle.dns_events.specs.declared.event.EventKind.TheVariants.{Fault}
+use Rattle.dns_events.specs.declared.event.Output.{Output}
+use Rattle.dns_events.specs.declared.event.Output.TheVariants.{Datagram}
 use Rattle.dns_client.specs.Serving.{Serving}
-use Rattle.dns_service.specs.declared.settings.Settings.{Settings}
+use Rattle.dns_events.specs.declared.settings.Settings.{Settings}
 use Rattle.dns_notes.specs.Sent.{conf, slate}
 use Rattle.dns_notes.specs.Out.{gained}
 

@@ -1,17 +1,18 @@
 -- How the serving of datagrams ends, by what socket, clock, recorder and seat tell.
 use Rattle.std.specs.Prelude.{◌≡◌, ◌≢◌, ◌≤◌, ◌⊎◌, ℕ, ◌+◌, ◌-◌, ◌^◌, min, List, ◌∷◌, ◌++◌, length, Bool, true, false}
 use Rattle.std.specs.List.{list_any}
-use Rattle.dns_admission.specs.declared.look.Look.{Look}
+use Rattle.dns_events.specs.declared.look.Look.{Look}
 use Rattle.dns_book.specs.Gains.{Gained}
 use Rattle.dns_book.specs.declared.history.Known.{Known}
-use Rattle.dns_outside.specs.Causes.{Rose}
-use Rattle.dns_outside.specs.Mail.{Mail}
-use Rattle.dns_outside.specs.declared.sock.Letter.{Letter}
-use Rattle.dns_service.specs.declared.event.Event.{Event}
+use Rattle.dns_io.specs.Causes.{Rose}
+use Rattle.dns_io.specs.Mail.{Mail}
+use Rattle.dns_io.specs.declared.sock.Letter.{Letter}
+use Rattle.dns_events.specs.declared.event.Event.{Event}
 use Rattle.dns_client.specs.Serving.{Serving}
-use Rattle.dns_service.specs.declared.settings.Settings.{Settings}
+use Rattle.dns_events.specs.declared.settings.Settings.{Settings}
 use Rattle.dns_notes.specs.Out.{out}
 use Rattle.dns_notes.specs.Clocks.{ClockReading, Dated, faults_in}
+use Rattle.dns_notes.specs.Counts.{IsWithinCount}
 use Rattle.dns_notes.specs.Woven.{look_entries}
 use Rattle.dns_datagrams.specs.DatagramEvents.{WideAreNobodys, letters_in, cut_letters, numbers_in, numbers_below, turns_in}
 use Rattle.dns_datagrams.specs.DatagramOrder.{EventsFollowLooks}
@@ -92,10 +93,6 @@ module _ (answers : Serving) (settings : Settings) where
     pub again : m.full_sends + late ≤ m'.full_sends
     pub rose : min (fails + failed) (2 ^ 64 - 1) ≤ fails'
     pub early : early_faults answers settings events ≤ failed
-
--- no more than so many, where the count isn't 0
-abbrev pub IsWithinCount : ℕ → ℕ → Type 0
-IsWithinCount count number = count ≢ 0 → number ≤ count
 
 -- so many datagrams may be received: no more than are to be served, and no more than can be numbered
 abbrev pub MayCome : ℕ → ℕ → Type 0

@@ -4,14 +4,14 @@ ghost use Rattle.std.specs.Prelude.{◌≡◌, ◌≢◌, ℕ, ◌<◌, ◌++◌
 ghost use Rattle.std.specs.VecDeque.{deque_len};
 ghost use Rattle.dns_client.specs.Serving.{Serving, serving};
 ghost use Rattle.dns_service.specs.PolledRequest.{request_answer};
-ghost use Rattle.dns_service.specs.declared.event.EventKind.TheVariants.{Datagram};
+ghost use Rattle.dns_events.specs.declared.event.EventKind.TheVariants.{Datagram};
 ghost use Rattle.dns_datagrams.specs.DatagramSteps.{TurnedExchange, TurnedOne, TurnedFirst, Begun, IsFirstNumber, gone_behind, stamped_event, numbers_of, kept_at, kept_under, letter_to};
 
 use crate::notes::Stamp;
 use crate::running::{KeptExchange, Running};
 use dns_client::{KeptRequest, begin_exchange};
+use dns_io::Letter;
 use dns_name::SocketAddr;
-use dns_outside::Letter;
 use dns_service::{Octets, OutOfMemory, Served};
 use std::alloc::Global;
 use std::collections::VecDeque;

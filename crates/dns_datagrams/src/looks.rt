@@ -1,7 +1,7 @@
 //! A look, and its news.
 
 ghost use Rattle.std.specs.Prelude.{◌≡◌, false, OnOk, OnErr};
-ghost use Rattle.dns_outside.specs.Causes.{Tells};
+ghost use Rattle.dns_io.specs.Causes.{Tells};
 ghost use Rattle.dns_client.specs.Serving.{serving};
 ghost use Rattle.dns_service.specs.PolledRequest.{request_answer};
 ghost use Rattle.dns_notes.specs.Notes.{NotedWide};
@@ -11,8 +11,8 @@ ghost use Rattle.dns_datagrams.specs.DatagramOffice.{OnlyPolls, ToldSo, office_s
 
 use crate::office::Office;
 use dns_admission::Look;
+use dns_io::{AsyncDgramSock, Clock};
 use dns_notes::{Recorder, note_shutdown, note_version};
-use dns_outside::{AsyncDgramSock, Clock};
 use dns_service::{OutOfMemory, Served};
 use std::alloc::Global;
 use std::sync::Wait;

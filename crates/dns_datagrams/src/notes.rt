@@ -1,14 +1,14 @@
 //! Events are noted.
 
 ghost use Rattle.std.specs.Prelude.{◌≡◌, IfOk, IsSome, OnErr, Some};
-ghost use Rattle.dns_outside.specs.Causes.{Tells};
-ghost use Rattle.dns_service.specs.declared.event.EventKind.TheVariants.{Datagram, Turn};
+ghost use Rattle.dns_io.specs.Causes.{Tells};
+ghost use Rattle.dns_events.specs.declared.event.EventKind.TheVariants.{Datagram, Turn};
 ghost use Rattle.dns_notes.specs.Notes.{NoteMoves};
 ghost use Rattle.dns_datagrams.specs.DatagramSteps.{Stamped, stamp_of, stamped_event, noted_octets};
 
+use dns_io::Clock;
 use dns_name::SocketAddr;
 use dns_notes::{Recorder, now_is};
-use dns_outside::Clock;
 use dns_service::{Event, EventKind, Octets, OutOfMemory};
 use std::alloc::Global;
 

@@ -2,10 +2,12 @@
 
 use crate::running::Running;
 use dns_book::Book;
+use dns_notes::Waits;
 use dns_service::Served;
 use std::alloc::Global;
 
-/// What datagrams are served with, and where what is kept of them stands.
+/// What datagrams are served with, where what is kept of them stands, and how many waits ended in vain since a datagram came or
+/// one was sent.
 #[derive(Drop)]
 pub(crate) struct Office<'a, R, W: Served, D, C, J> {
     pub(crate) rt: &'a R,
@@ -16,4 +18,5 @@ pub(crate) struct Office<'a, R, W: Served, D, C, J> {
     pub(crate) clock: &'a mut C,
     pub(crate) journal: &'a mut J,
     pub(crate) state: &'a mut Running<W>,
+    pub(crate) waits: Waits,
 }

@@ -4,7 +4,7 @@ ghost use Rattle.std.specs.Prelude.{◌≡◌, ◌<◌, ◌++◌, List, ℕ, [],
 ghost use Rattle.std.specs.VecDeque.{deque_len};
 ghost use Rattle.dns_client.specs.Serving.{serving};
 ghost use Rattle.dns_service.specs.PolledRequest.{request_answer};
-ghost use Rattle.dns_service.specs.declared.event.EventKind.TheVariants.{Turn};
+ghost use Rattle.dns_events.specs.declared.event.EventKind.TheVariants.{Turn};
 ghost use Rattle.dns_datagrams.specs.DatagramSteps.{IsFirstNumber, gone_behind, stamped_event, numbers_of};
 ghost use Rattle.dns_datagrams.specs.DatagramLoop.{Turns, StepFails, LoopGoes, Breaks, Finished, SinceNoted};
 ghost use Rattle.dns_datagrams.specs.DatagramOffice.{OnlyPolls, ToldSo, office_seen, office_told};
@@ -12,8 +12,8 @@ ghost use Rattle.dns_datagrams.specs.DatagramOffice.{OnlyPolls, ToldSo, office_s
 use crate::exchanges::{number_first, turn_first};
 use crate::notes::{Stamp, note_turn};
 use crate::office::Office;
-use dns_notes::{PAUSE, Recorder, pause};
-use dns_outside::{AsyncDgramSock, Clock};
+use dns_io::{AsyncDgramSock, Clock};
+use dns_notes::{Recorder, pause};
 use dns_service::{OutOfMemory, Served};
 use std::sync::Wait;
 
@@ -115,8 +115,9 @@ impl<R: Wait, W: Served, D: AsyncDgramSock, C: Clock, J: Recorder> Office<'_, R,
             if self.state.exchanges.is_empty() {
                 return Ok(());
             }
-            pause(self.rt, PAUSE);
+            pause(self.rt, self.waits.pause());
             self.clock.outdate();
+            self.waits = self.waits.one_more();
             match self.poll_all() {
                 Ok(()) => {}
                 Err(error) => return Err(error),

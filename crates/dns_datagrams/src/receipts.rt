@@ -1,10 +1,10 @@
 //! Receives.
 
 ghost use Rattle.std.specs.Prelude.{◌≡◌, ◌≤◌, ◌<◌, ◌+◌, ◌-◌, ◌^◌, [], true, false, length};
-ghost use Rattle.dns_outside.specs.Causes.{Tells};
+ghost use Rattle.dns_io.specs.Causes.{Tells};
 ghost use Rattle.dns_client.specs.Serving.{serving};
 ghost use Rattle.dns_service.specs.PolledRequest.{request_answer};
-ghost use Rattle.dns_service.specs.declared.event.EventKind.TheVariants.{Datagram};
+ghost use Rattle.dns_events.specs.declared.event.EventKind.TheVariants.{Datagram};
 ghost use Rattle.dns_datagrams.specs.DatagramSteps.{stamped_event};
 ghost use Rattle.dns_datagrams.specs.DatagramsServed.{IsFull, MayCome};
 ghost use Rattle.dns_datagrams.specs.DatagramLoop.{BeginsExchange, BeginFails, Receives, ReceivedSo, ReceivedUpTo, Rounded, Stopped, TakenSo, Breaks, SinceNoted};
@@ -14,9 +14,9 @@ use crate::exchanges::begin;
 use crate::notes::{Stamp, note_datagram};
 use crate::office::Office;
 use crate::serving::DgramEnd;
+use dns_io::{AsyncDgramSock, Clock, DgramRecv};
 use dns_name::SocketAddr;
-use dns_notes::{PATIENCE, PAUSE, Recorder};
-use dns_outside::{AsyncDgramSock, Clock, DgramRecv};
+use dns_notes::{PATIENCE, Recorder, Waits};
 use dns_service::{Octets, OutOfMemory, Served};
 use std::sync::Wait;
 
@@ -81,7 +81,7 @@ impl<R: Wait, W: Served, D: AsyncDgramSock, C: Clock, J: Recorder> Office<'_, R,
         if self.state.exchanges.is_empty() {
             PATIENCE
         } else {
-            PAUSE
+            self.waits.pause()
         }
     }
 
@@ -106,12 +106,16 @@ impl<R: Wait, W: Served, D: AsyncDgramSock, C: Clock, J: Recorder> Office<'_, R,
                 let patience = self.patience();
                 self.sock.readable(self.rt, patience);
                 self.clock.outdate();
+                self.waits = self.waits.one_more();
                 Ok(Receipt::Made)
             }
-            DgramRecv::Got(count, from) => match self.take_datagram(&buf[..count], from) {
-                Ok(()) => Ok(Receipt::Made),
-                Err(error) => Err(error),
-            },
+            DgramRecv::Got(count, from) => {
+                self.waits = Waits::new();
+                match self.take_datagram(&buf[..count], from) {
+                    Ok(()) => Ok(Receipt::Made),
+                    Err(error) => Err(error),
+                }
+            }
         }
     }
 

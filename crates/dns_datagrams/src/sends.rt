@@ -1,14 +1,14 @@
 //! Letters are sent.
 
 ghost use Rattle.std.specs.Prelude.{◌≡◌, ◌≤◌, [], ◌∷◌, OnOk, OnErr};
-ghost use Rattle.dns_outside.specs.Causes.{Tells};
+ghost use Rattle.dns_io.specs.Causes.{Tells};
 ghost use Rattle.dns_datagrams.specs.DatagramOffice.{OnlyPolls, ToldSo, office_seen, office_told};
 ghost use Rattle.dns_datagrams.specs.DatagramSteps.{SendsOrFaults, SendsTo, SendsCause, SendsRose, Unsent, one_or_none};
 
 use crate::notes::{Stamp, note_kind};
 use crate::office::Office;
+use dns_io::{AsyncDgramSock, Clock, DgramSend, Letter};
 use dns_notes::{PATIENCE, Recorder};
-use dns_outside::{AsyncDgramSock, Clock, DgramSend, Letter};
 use dns_service::{EventKind, OutOfMemory, Served};
 use std::alloc::Global;
 use std::sync::Wait;
@@ -108,6 +108,7 @@ impl<R: Wait, W: Served, D: AsyncDgramSock, C: Clock, J: Recorder> Office<'_, R,
             (λ u w s w' s'. SendsOrFaults stamp (one_or_none letter) s.heard.dgram.write_timeout w.noted w'.noted w.mail w'.mail w.failed_sends w'.failed_sends w.readings w'.readings)
             (λ w s w'. Unsent w.noted w'.noted w.mail w'.mail) result self.old self.new }
     {
+        self.waits = self.waits.anew_where(letter.is_some());
         let limit = self.state.heard.dgram.write_timeout();
         let failed = &mut self.state.send_failed;
         deliver(

@@ -2,7 +2,7 @@
 
 ghost use Rattle.std.specs.Prelude.{◌≡◌, ◌≤◌};
 ghost use Rattle.dns_client.specs.Serving.{serving};
-ghost use Rattle.dns_outside.specs.Causes.{Tells};
+ghost use Rattle.dns_io.specs.Causes.{Tells};
 ghost use Rattle.dns_service.specs.PolledRequest.{request_answer};
 ghost use Rattle.dns_datagrams.specs.DatagramLoop.{Ended, PassesTo};
 ghost use Rattle.dns_datagrams.specs.DatagramOffice.{WentTo, office_seen, office_told};
@@ -13,8 +13,8 @@ use crate::office::Office;
 use crate::running::{Running, begun, left};
 use dns_admission::Look;
 use dns_book::{Book, BookSeat};
-use dns_notes::Recorder;
-use dns_outside::{AsyncDgramSock, Clock};
+use dns_io::{AsyncDgramSock, Clock};
+use dns_notes::{Recorder, Waits};
 use dns_service::Served;
 use std::alloc::Global;
 use std::sync::Wait;
@@ -88,6 +88,7 @@ fn serve_begun<'x, R: Wait, D: AsyncDgramSock, C: Clock, J: Recorder, W: Served>
         clock,
         journal,
         state,
+        waits: Waits::new(),
     };
     office.serve_all(count)
 }

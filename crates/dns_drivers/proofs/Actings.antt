@@ -1,11 +1,11 @@
 -- An own event is chosen, and then noted and taken, by calls of which the last decides.
 use Rattle.std.proofs.Common.{◌≡◌, ℕ, List, [], slice_get, Option, None, Result, Ok, Err, IfOk, OnErr, inr}
 use Rattle.dns_name.specs.declared.error.OutOfMemory.{OutOfMemory}
-use Rattle.dns_outside.specs.Causes.{Tells}
-use Rattle.dns_outside.specs.Traffic.{Traffic}
+use Rattle.dns_io.specs.Causes.{Tells}
+use Rattle.dns_io.specs.Traffic.{Traffic}
 use Rattle.dns_service.specs.Answer.{Answer}
-use Rattle.dns_service.specs.declared.event.Event.{Event}
-use Rattle.dns_service.specs.declared.event.Why.{Why}
+use Rattle.dns_events.specs.declared.event.Event.{Event}
+use Rattle.dns_events.specs.declared.event.Why.{Why}
 use Rattle.dns_service.specs.declared.polled.PolledRequest.{PolledRequest}
 use Rattle.dns_client.specs.Serving.{Serving}
 use Rattle.dns_client.specs.Slate.{Slate}

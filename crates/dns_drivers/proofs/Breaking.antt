@@ -1,12 +1,12 @@
 -- Memory ran out in a story.
 use Rattle.std.proofs.Common.{◌≡◌, ℕ, List, [], ◌∷◌, ◌++◌, refl, sym, ◌∙◌, append_assoc, append-nil, None, inl, inr}
-use Rattle.dns_admission.specs.declared.look.Look.{Look}
+use Rattle.dns_events.specs.declared.look.Look.{Look}
 use Rattle.dns_book.specs.declared.history.Known.{Known}
-use Rattle.dns_outside.specs.Traffic.{Traffic}
+use Rattle.dns_io.specs.Traffic.{Traffic}
 use Rattle.dns_service.specs.Answer.{Answer}
-use Rattle.dns_service.specs.declared.event.Event.{Event}
-use Rattle.dns_service.specs.declared.event.EventKind.{EventKind}
-use Rattle.dns_service.specs.declared.event.EventKind.TheVariants.{Datagram, Turn, Offer, Piece, End, Fault, Close, Write, Tick, Release, Reconfigure, Shutdown}
+use Rattle.dns_events.specs.declared.event.Event.{Event}
+use Rattle.dns_events.specs.declared.event.EventKind.{EventKind}
+use Rattle.dns_events.specs.declared.event.EventKind.TheVariants.{Fault, Write}
 use Rattle.dns_service.specs.declared.polled.PolledRequest.{PolledRequest}
 use Rattle.dns_client.specs.After.{slate_after, sent_after}
 use Rattle.dns_client.specs.Rule.{rule}
@@ -30,18 +30,9 @@ no_cut : (q : List (List ℕ)) (extra : List ℕ) → extra ≡ [] → IsFrontCu
 no_cut q extra e = record { written = 0; is = e }
 
 part_cut : (kind : EventKind) (q : List (List ℕ)) (limit : ℕ) (part : List ℕ) → WrittenPart kind q limit part → IsFrontCut q part
-part_cut (Datagram addr o) q limit part e = no_cut q part e
-part_cut (Turn k) q limit part e = no_cut q part e
-part_cut (Offer addr) q limit part e = no_cut q part e
-part_cut (Piece o) q limit part e = no_cut q part e
-part_cut End q limit part e = no_cut q part e
 part_cut Fault q limit part e = record { written = e.written; is = e.is }
-part_cut Close q limit part e = no_cut q part e
 part_cut (Write took) q limit part e = record { written = e.written; is = e.is }
-part_cut Tick q limit part e = no_cut q part e
-part_cut Release q limit part e = no_cut q part e
-part_cut (Reconfigure dgram stream) q limit part e = no_cut q part e
-part_cut Shutdown q limit part e = no_cut q part e
+part_cut _ q limit part e = no_cut q part e
 
 went_cut : (went went1 went2 f e part : List ℕ) → went2 ≡ went1 ++ part → went1 ≡ went ++ (f ++ e) → e ≡ [] → went2 ≡ went ++ (f ++ part)
 went_cut went went1 went2 f e part a b c = rw (a, b, c) (simp (append_assoc, append-nil))

@@ -1,10 +1,10 @@
 -- Which own event is chosen, and what it does.
 use Rattle.std.proofs.Common.{◌≡◌, ℕ, ◌≤◌, List, [], ◌∷◌, length, slice_get, arith, refl, sym, ap, append-nil, Some, None, inl, inr, false}
-use Rattle.dns_outside.specs.Traffic.{Traffic}
+use Rattle.dns_io.specs.Traffic.{Traffic}
 use Rattle.dns_service.specs.Answer.{Answer}
-use Rattle.dns_service.specs.declared.event.Event.{Event}
-use Rattle.dns_service.specs.declared.event.EventKind.{EventKind}
-use Rattle.dns_service.specs.declared.event.EventKind.TheVariants.{Datagram, Turn, Offer, Piece, End, Fault, Close, Write, Tick, Release, Reconfigure, Shutdown}
+use Rattle.dns_events.specs.declared.event.Event.{Event}
+use Rattle.dns_events.specs.declared.event.EventKind.{EventKind}
+use Rattle.dns_events.specs.declared.event.EventKind.TheVariants.{Turn, Piece, End, Fault, Write, Tick}
 use Rattle.dns_service.specs.declared.polled.PolledRequest.{PolledRequest}
 use Rattle.dns_client.specs.Serving.{Serving}
 use Rattle.dns_client.specs.Slate.{Slate}
@@ -28,88 +28,38 @@ writing_of [] m e = absurd cc
 writing_of (x ∷ q) m e = omega arith
 
 part_front : (kind : EventKind) (q q' : List (List ℕ)) (limit : ℕ) (part : List ℕ) → front q' ≡ front q → WrittenPart kind q limit part → WrittenPart kind q' limit part
-part_front (Datagram addr o) q q' limit part e h = h
-part_front (Turn k) q q' limit part e h = h
-part_front (Offer addr) q q' limit part e h = h
-part_front (Piece o) q q' limit part e h = h
-part_front End q q' limit part e h = h
 part_front Fault q q' limit part e h = record { written = h.written; is = rw e h.is }
-part_front Close q q' limit part e h = h
 part_front (Write took) q q' limit part e h = record { written = h.written; is = rw e h.is; whole = rw e h.whole }
-part_front Tick q q' limit part e h = h
-part_front Release q q' limit part e h = h
-part_front (Reconfigure dgram stream) q q' limit part e h = h
-part_front Shutdown q q' limit part e h = h
+part_front _ q q' limit part e h = h
 
 part_limit : (kind : EventKind) (q : List (List ℕ)) (l m : ℕ) (part : List ℕ) → IsReadEvent kind → WrittenPart kind q l part → WrittenPart kind q m part
-part_limit (Datagram addr o) q l m part r h = h
-part_limit (Turn k) q l m part r h = h
-part_limit (Offer addr) q l m part r h = h
-part_limit (Piece o) q l m part r h = h
-part_limit End q l m part r h = h
 part_limit Fault q l m part r h = record { written = h.written; is = h.is }
-part_limit Close q l m part r h = h
 part_limit (Write took) q l m part r h = absurd r
-part_limit Tick q l m part r h = h
-part_limit Release q l m part r h = h
-part_limit (Reconfigure dgram stream) q l m part r h = h
-part_limit Shutdown q l m part r h = h
+part_limit _ q l m part r h = h
 
 pub write_may : (kind : EventKind) (below : ℕ) (s : Slate) → IsWrittenEvent kind → IsWriting s → May below kind s
-write_may (Datagram addr p) below s o w = absurd o
-write_may (Turn k) below s o w = absurd o
-write_may (Offer addr) below s o w = absurd o
-write_may (Piece p) below s o w = absurd o
-write_may End below s o w = absurd o
 write_may Fault below s o w = inl w
-write_may Close below s o w = absurd o
 write_may (Write took) below s o w = w
-write_may Tick below s o w = absurd o
-write_may Release below s o w = absurd o
-write_may (Reconfigure dgram stream) below s o w = absurd o
-write_may Shutdown below s o w = absurd o
+write_may _ below s o w = absurd o
 
 pub write_own : (kind : EventKind) → IsWrittenEvent kind → is_wide kind ≡ false
-write_own (Datagram addr p) o = absurd o
-write_own (Turn k) o = absurd o
-write_own (Offer addr) o = absurd o
-write_own (Piece p) o = absurd o
-write_own End o = absurd o
 write_own Fault o = refl
-write_own Close o = absurd o
 write_own (Write took) o = refl
-write_own Tick o = absurd o
-write_own Release o = absurd o
-write_own (Reconfigure dgram stream) o = absurd o
-write_own Shutdown o = absurd o
+write_own _ o = absurd o
 
 pub read_may : (kind : EventKind) (below : ℕ) (s : Slate) → IsReadEvent kind → IsRoundOver below s → May below kind s
-read_may (Datagram addr p) below s o w = absurd o
-read_may (Turn k) below s o w = absurd o
-read_may (Offer addr) below s o w = absurd o
 read_may (Piece p) below s o w = w
 read_may End below s o w = w
 read_may Fault below s o w = inr w
-read_may Close below s o w = absurd o
-read_may (Write took) below s o w = absurd o
 read_may Tick below s o w = w
-read_may Release below s o w = absurd o
-read_may (Reconfigure dgram stream) below s o w = absurd o
-read_may Shutdown below s o w = absurd o
+read_may _ below s o w = absurd o
 
 pub read_own : (kind : EventKind) → IsReadEvent kind → is_wide kind ≡ false
-read_own (Datagram addr p) o = absurd o
-read_own (Turn k) o = absurd o
-read_own (Offer addr) o = absurd o
 read_own (Piece p) o = refl
 read_own End o = refl
 read_own Fault o = refl
-read_own Close o = absurd o
-read_own (Write took) o = absurd o
 read_own Tick o = refl
-read_own Release o = absurd o
-read_own (Reconfigure dgram stream) o = absurd o
-read_own Shutdown o = absurd o
+read_own _ o = absurd o
 
 module _ {W R F : Type 0} (answer : PolledRequest F R → ℕ → Answer) where
   pub chosen_write : (client below limit : ℕ) (core : ClientCore W R F) (event : Event) (t t' : Traffic) (frame : List ℕ) →

@@ -1,8 +1,8 @@
 -- The last output decides whether a connection is closed.
 use Rattle.std.proofs.Common.{◌≡◌, List, [], ◌∷◌, ◌++◌, length, refl, sym, ◌∙◌, ap, arith, Option, None}
 use Rattle.std.specs.List.{IsLastAndRest}
-use Rattle.dns_service.specs.declared.event.Output.{Output}
-use Rattle.dns_service.specs.declared.event.Why.{Why}
+use Rattle.dns_events.specs.declared.event.Output.{Output}
+use Rattle.dns_events.specs.declared.event.Why.{Why}
 use Rattle.dns_drivers.specs.Closing.{why_closed, closed_by}
 
 pub closed_snoc : (os : List Output) (o : Output) → closed_by (os ++ o ∷ []) ≡ why_closed o

@@ -2,15 +2,15 @@
 use Rattle.std.proofs.Common.{◌≡◌, ℕ, ◌≤◌, List, [], ◌∷◌, ◌++◌, refl, sym, ◌∙◌, arith, append_assoc, inl, inr, Some}
 use Rattle.std.proofs.lemmas.List.{append_cancel_left}
 use Rattle.dns_name.specs.declared.address.SocketAddr.{SocketAddr}
-use Rattle.dns_admission.specs.declared.look.Look.{Look}
+use Rattle.dns_events.specs.declared.look.Look.{Look}
 use Rattle.dns_admission.specs.declared.call.Call.TheVariants.{Release}
 use Rattle.dns_admission.specs.declared.call.Reply.TheVariants.{Left}
 use Rattle.dns_book.specs.Seats.{Called}
 use Rattle.dns_book.specs.declared.history.Known.{Known}
-use Rattle.dns_outside.specs.Traffic.{Traffic}
-use Rattle.dns_service.specs.declared.event.Event.{Event}
-use Rattle.dns_service.specs.declared.event.EventKind.TheVariants.{Offer}
-use Rattle.dns_service.specs.declared.event.Why.{Why}
+use Rattle.dns_io.specs.Traffic.{Traffic}
+use Rattle.dns_events.specs.declared.event.Event.{Event}
+use Rattle.dns_events.specs.declared.event.EventKind.TheVariants.{Offer}
+use Rattle.dns_events.specs.declared.event.Why.{Why}
 use Rattle.dns_service.specs.Answer.{Answer}
 use Rattle.dns_service.specs.declared.polled.PolledRequest.{PolledRequest}
 use Rattle.dns_client.specs.Connections.{opened}

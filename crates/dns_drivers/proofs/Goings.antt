@@ -2,7 +2,7 @@
 use Rattle.std.proofs.Common.{◌≡◌, ℕ, ◌⊎◌, List, [], ◌∷◌, ◌++◌, arith, refl, sym, ◌∙◌, ap, subst, append_assoc, inl, inr, length, take, Bool, true, false, Option, Some, None}
 use Rattle.std.specs.Prelude.{◌==◌, ◌&&◌, not, if◌then◌else◌}
 use Rattle.std.proofs.lemmas.List.{take_all}
-use Rattle.dns_admission.specs.declared.look.Look.{Look}
+use Rattle.dns_events.specs.declared.look.Look.{Look}
 use Rattle.dns_admission.specs.declared.call.Call.{Call}
 use Rattle.dns_admission.specs.declared.call.Call.TheVariants.{Look as ToLook, Release}
 use Rattle.dns_admission.specs.declared.call.Reply.{Reply}
@@ -12,20 +12,21 @@ use Rattle.dns_book.specs.History.{entry}
 use Rattle.dns_book.specs.Seats.{Called}
 use Rattle.dns_book.specs.declared.history.Entry.{Entry}
 use Rattle.dns_book.specs.declared.history.Known.{Known}
-use Rattle.dns_outside.specs.Causes.{Rose}
+use Rattle.dns_io.specs.Causes.{Rose}
 use Rattle.dns_service.specs.Answer.{Answer}
-use Rattle.dns_service.specs.declared.event.Event.{Event}
-use Rattle.dns_service.specs.declared.event.EventKind.{EventKind}
-use Rattle.dns_service.specs.declared.event.EventKind.TheVariants.{Datagram, Turn, Offer, Piece, End, Fault, Close, Write, Tick, Release as ReleaseEvent, Reconfigure, Shutdown}
-use Rattle.dns_service.specs.declared.event.Output.{Output}
-use Rattle.dns_service.specs.declared.event.Why.{Why}
-use Rattle.dns_service.specs.declared.event.Why.TheVariants.{Ended, Short, Idle, WriteTimeout, Fault as ByFault, Commanded, Shutdown as ByShutdown}
+use Rattle.dns_events.specs.declared.event.Event.{Event}
+use Rattle.dns_events.specs.declared.event.EventKind.{EventKind}
+use Rattle.dns_events.specs.declared.event.EventKind.TheVariants.{Datagram, Offer, Piece, End, Fault, Close, Write, Tick, Release as ReleaseEvent, Reconfigure, Shutdown}
+use Rattle.dns_events.specs.declared.event.Output.{Output}
+use Rattle.dns_events.specs.declared.event.Why.{Why}
+use Rattle.dns_events.specs.declared.event.Why.TheVariants.{Ended, Short, Idle, WriteTimeout, Fault as ByFault, Commanded, Shutdown as ByShutdown}
 use Rattle.dns_service.specs.declared.polled.PolledRequest.{PolledRequest}
 use Rattle.dns_client.specs.After.{slate_after, sent_after}
 use Rattle.dns_client.specs.News.{wide, new_end, news, told_of}
+use Rattle.dns_client.specs.Reasons.{ClosesFor}
 use Rattle.dns_client.specs.Rule.{rule, in_phase}
 use Rattle.dns_client.specs.Serving.{Serving}
-use Rattle.dns_client.specs.Slate.{Slate, Told, Phase, Unused, Exchange, Open, Flushing, Closed, conf_rule, with_conf}
+use Rattle.dns_client.specs.Slate.{Slate, Told, Phase, Open, Flushing, conf_rule, with_conf}
 use Rattle.dns_client.specs.Stands.{Stands}
 use Rattle.dns_client.specs.declared.client.ClientCore.{ClientCore}
 use Rattle.dns_notes.specs.Own.{is_wide}
@@ -36,7 +37,7 @@ use Rattle.dns_drivers.specs.Runs.{MayGoOn, IsServed, ServesOn}
 use Rattle.dns_drivers.specs.Shown.{SawShutdown, Causes}
 use Rattle.dns_drivers.proofs.Appends.{gained_more, gained_none}
 use Rattle.dns_drivers.proofs.ByKind.{event_does}
-use Rattle.dns_drivers.proofs.Reasons.{IsServedBy, IsServedIn, ClosesFor, reason}
+use Rattle.dns_drivers.proofs.Reasons.{IsServedBy, IsServedIn, never_commanded, reason}
 use Rattle.dns_drivers.proofs.Servings.{Serves, serves}
 use Rattle.dns_drivers.proofs.Showings.{by_may}
 use Rattle.dns_drivers.proofs.Wide.{news_do}
@@ -57,29 +58,22 @@ closed_append why (x ∷ []) [] e = inl e
 closed_append why (x ∷ []) (y ∷ ys) e = inr e
 closed_append why (x ∷ z ∷ xs) ys e = closed_append why (z ∷ xs) ys e
 
--- by an event that all clients hear, only a shutdown closes a connection
-wide_closes : (why : Why) (e : Event) (s : Slate) (outs : List Output) → is_wide e.kind ≡ true → ClosesFor why e s outs → (why ≡ ByShutdown) × ((e.kind ≡ Shutdown) ⊎ (s.phase ≡ Flushing ByShutdown))
-wide_closes Ended e s outs w c = let no : is_wide End ≡ true = ap is_wide (sym c) ∙ w in absurd cc
-wide_closes ByFault e s outs w c = let no : is_wide Fault ≡ true = ap is_wide (sym c) ∙ w in absurd cc
-wide_closes Short e s outs w c = let no : is_wide (Piece c.octets) ≡ true = ap is_wide (sym c.kind) ∙ w in absurd cc
-wide_closes Idle e s outs w c = let no : is_wide Tick ≡ true = ap is_wide (sym c.kind) ∙ w in absurd cc
-wide_closes WriteTimeout e s outs w c = let no : is_wide (Write c.took) ≡ true = ap is_wide (sym c.kind) ∙ w in absurd cc
-wide_closes Commanded e s outs w c = absurd c
-wide_closes ByShutdown e s outs w c = (refl, c)
-
 wide_served : (k : EventKind) → is_wide k ≡ true → IsServedBy k
 wide_served (Datagram addr o) w = absurd cc
-wide_served (Turn i) w = tt
 wide_served (Offer addr) w = absurd cc
-wide_served (Piece o) w = tt
-wide_served End w = tt
-wide_served Fault w = tt
 wide_served Close w = absurd cc
-wide_served (Write took) w = tt
-wide_served Tick w = tt
 wide_served ReleaseEvent w = absurd cc
-wide_served (Reconfigure dgram stream) w = tt
-wide_served Shutdown w = tt
+wide_served _ w = tt
+
+-- by an event that all clients hear, only a shutdown closes a connection
+wide_closes : (why : Why) (e : Event) (s : Slate) → is_wide e.kind ≡ true → IsServedIn s.phase → ClosesFor why e s → (why ≡ ByShutdown) × ((e.kind ≡ Shutdown) ⊎ (s.phase ≡ Flushing ByShutdown))
+wide_closes Ended e s w v c = let no : is_wide End ≡ true = ap is_wide (sym c) ∙ w in absurd cc
+wide_closes ByFault e s w v c = let no : is_wide Fault ≡ true = ap is_wide (sym c) ∙ w in absurd cc
+wide_closes Short e s w v c = let no : is_wide (Piece c.octets) ≡ true = ap is_wide (sym c.kind) ∙ w in absurd cc
+wide_closes Idle e s w v c = let no : is_wide Tick ≡ true = ap is_wide (sym c.kind) ∙ w in absurd cc
+wide_closes WriteTimeout e s w v c = let no : is_wide (Write c.took) ≡ true = ap is_wide (sym c.kind) ∙ w in absurd cc
+wide_closes Commanded e s w v c = absurd (never_commanded e s v (wide_served e.kind w) c)
+wide_closes ByShutdown e s w v c = (refl, c)
 
 -- news, in which a Shutdown stands only where the look shows one
 abbrev pub AreNews : Look → List Event → Type 0
@@ -124,7 +118,7 @@ module _ (answers : Serving) where
         served = i.served;
         flushing = λ h. elim (i.flushing h) [ inl p ↦ by_shutdown look e s (rule answers e s).0 n.1 a p | inr c ↦ inr c ];
         closes = λ why h. elim (closed_append why (rule answers e s).1 (sent_after answers (rule answers e s).0 es) h) [
-          | inl x ↦ let w = wide_closes why e s (rule answers e s).1 n.0 (reason answers e s v b why x) in (w.0, or_shutdown look e s n.1 w.1)
+          | inl x ↦ let w = wide_closes why e s n.0 v (reason answers e s v why x).closes in (w.0, or_shutdown look e s n.1 w.1)
           | inr y ↦ let w = i.closes why y in (w.0, elim w.1 [ inl p ↦ by_shutdown look e s (rule answers e s).0 n.1 a p | inr c ↦ inr c ])
         ];
       }
@@ -145,18 +139,9 @@ front_all : (q : List (List ℕ)) → front q ≡ take (length (front q)) (front
 front_all q = sym (take_all (length (front q)) (front q) (omega arith))
 
 may_write : (k : EventKind) (q : List (List ℕ)) (limit : ℕ) → WrittenPart k q limit (some_part k q)
-may_write (Datagram addr o) q limit = refl
-may_write (Turn k) q limit = refl
-may_write (Offer addr) q limit = refl
-may_write (Piece o) q limit = refl
-may_write End q limit = refl
 may_write Fault q limit = record { written = length (front q); is = front_all q }
-may_write Close q limit = refl
 may_write (Write took) q limit = record { written = length (front q); is = front_all q; whole = λ h. omega arith }
-may_write Tick q limit = refl
-may_write ReleaseEvent q limit = refl
-may_write (Reconfigure dgram stream) q limit = refl
-may_write Shutdown q limit = refl
+may_write _ q limit = refl
 
 some_other : (why : Why) → ¬ (why ≡ ByFault) → ¬ (Some why ≡ Some ByFault)
 some_other why n = λ (e : Some why ≡ Some ByFault). let h : why ≡ ByFault = cc in n h
@@ -164,11 +149,9 @@ some_other why n = λ (e : Some why ≡ Some ByFault). let h : why ≡ ByFault =
 module _ (answers : Serving) where
   -- a Fault closes a connection that is served, for no other reason
   phase_fault : (e : Event) (p : Phase) (q : List (List ℕ)) (s : Slate) → e.kind ≡ Fault → MayGoOn p q → closed_by (in_phase answers e p s).1 ≡ Some ByFault
-  phase_fault e Unused q s k live = absurd live
-  phase_fault e Exchange q s k live = absurd live
   phase_fault e Open q s k live = rw k refl
   phase_fault e (Flushing why) q s k live = rw k refl
-  phase_fault e Closed q s k live = absurd live
+  phase_fault e _ q s k live = absurd live
 
   fault_closes : (e : Event) (s : Slate) → e.kind ≡ Fault → IsServed s → closed_by (rule answers e s).1 ≡ Some ByFault
   fault_closes e s k live = phase_fault e s.phase s.queue (with_conf (conf_rule e.kind s.conf) s) k live
@@ -272,13 +255,13 @@ module _ {W R F : Type 0} (answer : PolledRequest F R → ℕ → Answer) (answe
   closed_same : (why : Why) (core core' : ClientCore W R F) (k k1 : Known) (f f1 f2 : ℕ) → Goes core k k1 f f1 → ActedFor answer answers (Some why) core core' f1 f2 → ¬ (why ≡ ByFault) → f2 ≡ f
   closed_same why core core' k k1 f f1 f2 g a n = own_same core core' (Some why) k k1 f f1 f2 g a (some_other why n)
 
-  caused : (why : Why) (core core' : ClientCore W R F) (k k1 : Known) (f f1 f2 : ℕ) (g : Goes core k k1 f f1) (a : ActedFor answer answers (Some why) core core' f1 f2) → ClosesFor why a.event g.slate a.taken.outs → Causes why k k1 f f2
+  caused : (why : Why) (core core' : ClientCore W R F) (k k1 : Known) (f f1 f2 : ℕ) (g : Goes core k k1 f f1) (a : ActedFor answer answers (Some why) core core' f1 f2) → ClosesFor why a.event g.slate → Causes why k k1 f f2
   caused Ended core core' k k1 f f1 f2 g a c = closed_same Ended core core' k k1 f f1 f2 g a (λ (e : Ended ≡ ByFault). absurd cc)
   caused ByFault core core' k k1 f f1 f2 g a c = rose_since f f1 f2 g.same (a.chosen.blames.fault c)
   caused Short core core' k k1 f f1 f2 g a c = closed_same Short core core' k k1 f f1 f2 g a (λ (e : Short ≡ ByFault). absurd cc)
   caused Idle core core' k k1 f f1 f2 g a c = closed_same Idle core core' k k1 f f1 f2 g a (λ (e : Idle ≡ ByFault). absurd cc)
   caused WriteTimeout core core' k k1 f f1 f2 g a c = closed_same WriteTimeout core core' k k1 f f1 f2 g a (λ (e : WriteTimeout ≡ ByFault). absurd cc)
-  caused Commanded core core' k k1 f f1 f2 g a c = c
+  caused Commanded core core' k k1 f f1 f2 g a c = absurd (never_commanded a.event g.slate g.served (own_served core core' (Some Commanded) f1 f2 a g.slate g.stands) c)
   caused ByShutdown core core' k k1 f f1 f2 g a c =
       let saw : SawShutdown k k1 = elim c [ inl s ↦ let no : is_wide Shutdown ≡ false = ap is_wide (sym s) ∙ a.chosen.is_own in absurd cc | inr p ↦ g.seen p ] in
       (saw, closed_same ByShutdown core core' k k1 f f1 f2 g a (λ (e : ByShutdown ≡ ByFault). absurd cc))
@@ -286,16 +269,11 @@ module _ {W R F : Type 0} (answer : PolledRequest F R → ℕ → Answer) (answe
   pub acted_cause : (why : Why) (core core' : ClientCore W R F) (k k1 : Known) (f f1 f2 : ℕ) → Goes core k k1 f f1 → ActedFor answer answers (Some why) core core' f1 f2 → Causes why k k1 f f2
   acted_cause why core core' k k1 f f1 f2 g a =
       let told = a.taken.follows g.slate g.stands in
-      let r = reason answers a.event g.slate g.served (own_served core core' (Some why) f1 f2 a g.slate g.stands) why (ap closed_by (sym told.0) ∙ a.taken.closed) in
-      let P : List Output → Type 0 = λ o. ClosesFor why a.event g.slate o in
-      caused why core core' k k1 f f1 f2 g a (subst P (sym told.0) r)
+      caused why core core' k k1 f f1 f2 g a (reason answers a.event g.slate g.served why (ap closed_by (sym told.0) ∙ a.taken.closed)).closes
 
 -- once the slot is given back
 pub cause_released : (why : Why) (k k1 k2 : Known) (f f1 f2 left : ℕ) → Causes why k k1 f f1 → k1.name ≡ k.name → Called k1 Release (Left left) k2 → f2 ≡ f1 → Causes why k k2 f f2
-cause_released Ended k k1 k2 f f1 f2 left c n h l = l ∙ c
 cause_released ByFault k k1 k2 f f1 f2 left c n h l = omega (arith, c, l)
-cause_released Short k k1 k2 f f1 f2 left c n h l = l ∙ c
-cause_released Idle k k1 k2 f f1 f2 left c n h l = l ∙ c
-cause_released WriteTimeout k k1 k2 f f1 f2 left c n h l = l ∙ c
 cause_released Commanded k k1 k2 f f1 f2 left c n h l = c
 cause_released ByShutdown k k1 k2 f f1 f2 left c n h l = (saw_more k k1 Release (Left left) k2 c.0 n h, l ∙ c.1)
+cause_released _ k k1 k2 f f1 f2 left c n h l = l ∙ c

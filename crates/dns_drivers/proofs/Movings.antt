@@ -1,9 +1,9 @@
 -- What reads and writes do to a link.
 use Rattle.std.proofs.Common.{◌≡◌, ℕ, ◌+◌, ◌-◌, ◌≤◌, ◌<◌, List, [], ◌∷◌, ◌++◌, take, length, arith, refl, sym, ◌∙◌, append-nil}
 use Rattle.std.proofs.lemmas.Grind.{common_steps}
-use Rattle.dns_outside.specs.Traffic.{Traffic}
-use Rattle.dns_service.specs.declared.event.EventKind.{EventKind}
-use Rattle.dns_service.specs.declared.event.EventKind.TheVariants.{Write, Fault, Piece, End, Tick}
+use Rattle.dns_io.specs.Traffic.{Traffic}
+use Rattle.dns_events.specs.declared.event.EventKind.{EventKind}
+use Rattle.dns_events.specs.declared.event.EventKind.TheVariants.{Write, Fault, Piece, End, Tick}
 use Rattle.dns_drivers.specs.Links.{piece_octets, PieceHasOctet, tick_count, end_count, WroteFront, WroteUntil, WrittenPart, MovedBy, Unread}
 use Rattle.dns_drivers.specs.declared.writing.WriteEnd.TheVariants.{Whole, Failed, Late}
 

@@ -1,6 +1,6 @@
 -- What holds where a call succeeds, and where it is refused.
 use Rattle.std.specs.Prelude.{Result, Ok, Err, IfOk, OnErr}
-use Rattle.dns_outside.specs.Causes.{Tells}
+use Rattle.dns_io.specs.Causes.{Tells}
 
 pub on_err : {T E : Type 0} (r : Result T E) (P : Type 0) → P → OnErr r P
 on_err (Ok x) P p = tt

@@ -1,13 +1,13 @@
 -- A story goes on by a look, and by an own event.
 use Rattle.std.proofs.Common.{◌≡◌, ℕ, ◌+◌, List, [], ◌∷◌, ◌++◌, length, refl, sym, ◌∙◌, ap, arith, append_assoc, append-nil, length-append, Bool, Option, Some, None}
-use Rattle.dns_admission.specs.declared.look.Look.{Look}
+use Rattle.dns_events.specs.declared.look.Look.{Look}
 use Rattle.dns_book.specs.declared.history.Known.{Known}
-use Rattle.dns_outside.specs.Traffic.{Traffic}
+use Rattle.dns_io.specs.Traffic.{Traffic}
 use Rattle.dns_service.specs.Answer.{Answer}
-use Rattle.dns_service.specs.declared.event.Event.{Event}
-use Rattle.dns_service.specs.declared.event.Output.{Output}
-use Rattle.dns_service.specs.declared.event.Why.{Why}
-use Rattle.dns_service.specs.declared.event.Why.TheVariants.{Ended, Fault as ByFault, Short, Idle, WriteTimeout, Commanded, Shutdown as ByShutdown}
+use Rattle.dns_events.specs.declared.event.Event.{Event}
+use Rattle.dns_events.specs.declared.event.Output.{Output}
+use Rattle.dns_events.specs.declared.event.Why.{Why}
+use Rattle.dns_events.specs.declared.event.Why.TheVariants.{Fault as ByFault, WriteTimeout, Shutdown as ByShutdown}
 use Rattle.dns_service.specs.declared.polled.PolledRequest.{PolledRequest}
 use Rattle.dns_client.specs.After.{slate_after, sent_after}
 use Rattle.dns_client.specs.News.{news, told_of}
@@ -65,14 +65,9 @@ heard_at answer answers s why last look events core core' outs stands live v o k
 
 -- only a shutdown closes there, so no part of a frame more was written
 quiet_extra : (why : Option Why) (q : List (List ℕ)) → ((y : Why) → why ≡ Some y → y ≡ ByShutdown) → Extra why q []
-quiet_extra None q h = refl
-quiet_extra (Some Ended) q h = refl
 quiet_extra (Some ByFault) q h = let e : ByFault ≡ ByShutdown = h ByFault refl in absurd cc
-quiet_extra (Some Short) q h = refl
-quiet_extra (Some Idle) q h = refl
 quiet_extra (Some WriteTimeout) q h = let e : WriteTimeout ≡ ByShutdown = h WriteTimeout refl in absurd cc
-quiet_extra (Some Commanded) q h = refl
-quiet_extra (Some ByShutdown) q h = refl
+quiet_extra _ q h = refl
 
 pub went_more : (went went1 went2 f e part g extra fs : List ℕ) → went2 ≡ went1 ++ part → went1 ≡ went ++ (f ++ e) → e ≡ [] → part ≡ g ++ extra → fs ≡ f ++ g → went2 ≡ went ++ (fs ++ extra)
 went_more went went1 went2 f e part g extra fs a b c d h = rw (a, b, c, d, h) (simp (append_assoc, append-nil))

@@ -2,10 +2,10 @@
 use Rattle.std.proofs.Common.{◌≡◌, ℕ, ◌⊎◌, List, [], ◌∷◌, ◌++◌, length, drop, refl, sym, ◌∙◌, ap, append-nil, inl, inr}
 use Rattle.std.specs.Prelude.{nat_lt, slice_get, not, ◌&&◌}
 use Rattle.std.specs.List.{list_any}
-use Rattle.dns_service.specs.declared.event.Event.{Event}
-use Rattle.dns_service.specs.declared.event.EventKind.{EventKind}
-use Rattle.dns_service.specs.declared.event.EventKind.TheVariants.{Datagram, Turn, Offer, Piece, End, Fault, Close, Write, Tick, Release, Reconfigure, Shutdown}
-use Rattle.dns_service.specs.declared.event.Why.TheVariants.{Ended, Short, Idle, WriteTimeout, Fault as ByFault, Shutdown as ByShutdown}
+use Rattle.dns_events.specs.declared.event.Event.{Event}
+use Rattle.dns_events.specs.declared.event.EventKind.{EventKind}
+use Rattle.dns_events.specs.declared.event.EventKind.TheVariants.{Turn, Piece, End, Fault, Write, Tick, Release, Reconfigure, Shutdown}
+use Rattle.dns_events.specs.declared.event.Why.TheVariants.{Ended, Short, Idle, WriteTimeout, Fault as ByFault, Shutdown as ByShutdown}
 use Rattle.dns_client.specs.Connections.{close, wind_up, take_frame, take_frames, written, write, flush, flushed, took_too_long, tick, reconfigured, released, in_transaction}
 use Rattle.dns_client.specs.Frames.{frames}
 use Rattle.dns_client.specs.Requests.{header_size}
@@ -14,8 +14,9 @@ use Rattle.dns_client.specs.Serving.{Serving}
 use Rattle.dns_client.specs.Slate.{Slate, Told, Phase, Unused, Exchange, Open, Flushing, Closed, conf_rule, with_conf}
 use Rattle.dns_client.specs.Timers.{is_expired}
 use Rattle.dns_client.specs.Turns.{turn}
+use Rattle.dns_client.proofs.Taken.{takes}
 use Rattle.dns_drivers.specs.Links.{piece_octets}
-use Rattle.dns_drivers.proofs.ByKind.{in_either, frame_stays, turn_stays}
+use Rattle.dns_drivers.proofs.ByKind.{in_either, turn_stays}
 use Rattle.dns_drivers.proofs.Reasons.{IsServedBy, IsServedIn}
 
 -- the states that may follow, and the octets received: those of before and those of the event's piece
@@ -40,7 +41,7 @@ frames_serve : (e : Event) (s : Slate) (at secs : ℕ) (fs : List (List ℕ)) (t
 frames_serve e s at secs [] t p q r = goes_open e s t p q r
 frames_serve e s at secs (m ∷ fs) t p q r = in_either (λ (u : Told). Serves e s u.0) (nat_lt (length m) header_size) (close Short t) (take_frames at secs fs (take_frame at secs m t))
     (λ h. closes e s (close Short t).0 refl)
-    (λ h. let l = frame_stays at secs m t in frames_serve e s at secs fs (take_frame at secs m t) p (l.phase ∙ q) (l.received ∙ r))
+    (λ h. let l = takes at secs m t in frames_serve e s at secs fs (take_frame at secs m t) p (l.phase ∙ q) (l.received ∙ r))
 
 tick_serves : (e : Event) (s : Slate) → e.kind ≡ Tick → s.phase ≡ Open → Serves e s (tick e.at s).0
 tick_serves e s k p = in_either (λ (u : Told). Serves e s u.0) (is_expired s.reset_at s.connection.idle_timeout e.at && not (list_any in_transaction s.requests)) (close Idle s) (s, [])
@@ -68,46 +69,24 @@ wound_serves e s (m ∷ ms) k = record { served = refl; received = λ h. absurd 
 
 module _ (answers : Serving) where
   open_serves : (e : Event) (k : EventKind) (s : Slate) → e.kind ≡ k → s.phase ≡ Open → IsServedBy k → Serves e s (open_rule answers e k s).0
-  open_serves e (Datagram addr o) s k p b = absurd b
-  open_serves e (Turn i) s k p b = let l = turn_stays answers e.at i (slice_get s.requests i) s in stays_open e s (turn answers e.at i (slice_get s.requests i) s) p l.phase (rw k refl) l.received
-  open_serves e (Offer addr) s k p b = absurd b
+  open_serves e (Turn i) s k p b = let l = turn_stays answers e i (slice_get s.requests i) s p in stays_open e s (turn answers e.at i (slice_get s.requests i) s) p l.phase (rw k refl) l.received
   open_serves e (Piece o) s k p b = frames_serve e s e.at e.secs (drop s.taken (frames (s.received ++ o))) (record s { received = s.received ++ o }) p p (rw k refl)
   open_serves e End s k p b = closes e s (close Ended s).0 refl
   open_serves e Fault s k p b = closes e s (close ByFault s).0 refl
-  open_serves e Close s k p b = absurd b
   open_serves e (Write took) s k p b = write_serves e s took s.queue k p
   open_serves e Tick s k p b = tick_serves e s k p
-  open_serves e Release s k p b = absurd b
   open_serves e (Reconfigure dgram stream) s k p b = stays_open e s (reconfigured stream.connection_config s) p refl (rw k refl) refl
   open_serves e Shutdown s k p b = wound_serves e s s.queue k
+  open_serves e _ s k p b = absurd b
 
   flushing_serves : (e : Event) (k : EventKind) (s : Slate) → s.phase ≡ Flushing ByShutdown → Serves e s (flushing_rule ByShutdown k s).0
-  flushing_serves e (Datagram addr o) s p = flushes_on e s s p refl
-  flushing_serves e (Turn i) s p = flushes_on e s s p refl
-  flushing_serves e (Offer addr) s p = flushes_on e s s p refl
-  flushing_serves e (Piece o) s p = flushes_on e s s p refl
-  flushing_serves e End s p = flushes_on e s s p refl
   flushing_serves e Fault s p = closes e s (close ByFault s).0 refl
-  flushing_serves e Close s p = flushes_on e s s p refl
   flushing_serves e (Write took) s p = flush_serves e s took s.queue p
-  flushing_serves e Tick s p = flushes_on e s s p refl
-  flushing_serves e Release s p = flushes_on e s s p refl
-  flushing_serves e (Reconfigure dgram stream) s p = flushes_on e s s p refl
-  flushing_serves e Shutdown s p = flushes_on e s s p refl
+  flushing_serves e _ s p = flushes_on e s s p refl
 
   closed_serves : (e : Event) (k : EventKind) (s : Slate) → s.phase ≡ Closed → Serves e s (closed_rule k s).0
-  closed_serves e (Datagram addr o) s p = closes e s s p
-  closed_serves e (Turn i) s p = closes e s s p
-  closed_serves e (Offer addr) s p = closes e s s p
-  closed_serves e (Piece o) s p = closes e s s p
-  closed_serves e End s p = closes e s s p
-  closed_serves e Fault s p = closes e s s p
-  closed_serves e Close s p = closes e s s p
-  closed_serves e (Write took) s p = closes e s s p
-  closed_serves e Tick s p = closes e s s p
   closed_serves e Release s p = closes e s (released s) p
-  closed_serves e (Reconfigure dgram stream) s p = closes e s s p
-  closed_serves e Shutdown s p = closes e s s p
+  closed_serves e _ s p = closes e s s p
 
   phase_serves : (e : Event) (p : Phase) (s : Slate) → p ≡ s.phase → IsServedIn p → IsServedBy e.kind → Serves e s (in_phase answers e p s).0
   phase_serves e Unused s p v b = absurd v

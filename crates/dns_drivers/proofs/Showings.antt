@@ -1,46 +1,40 @@
 -- What noted events show of why a connection was closed.
 use Rattle.std.proofs.Common.{◌≡◌, ℕ, ◌≤◌, ◌<◌, ◌⊎◌, List, [], ◌∷◌, ◌++◌, arith, refl, sym, ◌∙◌, ap, append_assoc, append-nil, subst, inl, inr, Some, None}
 use Rattle.std.proofs.lemmas.List.{append_cancel_left}
-use Rattle.dns_admission.specs.declared.look.Look.{Look}
+use Rattle.dns_events.specs.declared.look.Look.{Look}
 use Rattle.dns_book.specs.declared.history.Known.{Known}
-use Rattle.dns_outside.specs.Traffic.{Traffic}
-use Rattle.dns_service.specs.declared.event.Event.{Event}
-use Rattle.dns_service.specs.declared.event.EventKind.{EventKind}
-use Rattle.dns_service.specs.declared.event.EventKind.TheVariants.{Datagram, Turn, Offer, Piece, End, Fault, Close, Write, Tick, Release, Reconfigure, Shutdown}
-use Rattle.dns_service.specs.declared.event.Output.{Output}
-use Rattle.dns_service.specs.declared.event.Why.{Why}
-use Rattle.dns_service.specs.declared.event.Why.TheVariants.{Ended, Short, Idle, WriteTimeout, Fault as ByFault, Commanded, Shutdown as ByShutdown}
+use Rattle.dns_io.specs.Traffic.{Traffic}
+use Rattle.dns_events.specs.declared.event.Event.{Event}
+use Rattle.dns_events.specs.declared.event.EventKind.{EventKind}
+use Rattle.dns_events.specs.declared.event.EventKind.TheVariants.{Datagram, Offer, End, Close, Write, Release}
+use Rattle.dns_events.specs.declared.event.Output.{Output}
+use Rattle.dns_events.specs.declared.event.Why.{Why}
+use Rattle.dns_events.specs.declared.event.Why.TheVariants.{Ended, Short, Idle, WriteTimeout, Shutdown as ByShutdown}
 use Rattle.dns_service.specs.Answer.{Answer}
 use Rattle.dns_service.specs.declared.polled.PolledRequest.{PolledRequest}
 use Rattle.dns_client.specs.Stands.{Stands}
 use Rattle.dns_client.specs.declared.client.ClientCore.{ClientCore}
 use Rattle.dns_client.specs.After.{slate_after, sent_after}
+use Rattle.dns_client.specs.Reasons.{HasShortFrame, IsShortPiece, IsLongWrite}
 use Rattle.dns_client.specs.Rule.{rule}
 use Rattle.dns_client.specs.Serving.{Serving}
 use Rattle.dns_client.specs.Slate.{Slate, Open}
 use Rattle.dns_drivers.specs.Blames.{NotedWrite}
 use Rattle.dns_drivers.specs.Links.{piece_octets, pieces_in, end_count, ends_in, frame_octets, front}
 use Rattle.dns_drivers.specs.Rounds.{May, turned, Rounds}
-use Rattle.dns_drivers.specs.Shown.{HasShortFrame, Shows, Shown}
+use Rattle.dns_drivers.specs.Shown.{Shows, Shown}
 use Rattle.dns_drivers.specs.Story.{Story, LastCloses}
 use Rattle.dns_drivers.proofs.Appends.{pieces_append, ends_append, sent_append}
-use Rattle.dns_drivers.proofs.Reasons.{IsServedBy, IsServedIn, ClosesFor, IsShortPiece, IsLongWrite, reason}
+use Rattle.dns_drivers.proofs.Reasons.{IsServedBy, IsServedIn, Reason, reason}
 use Rattle.dns_drivers.proofs.Servings.{Serves, serves}
 use Rattle.dns_drivers.proofs.Wide.{frames_append}
 
 pub by_may : (below : ℕ) (k : EventKind) (s : Slate) → May below k s → IsServedBy k
 by_may below (Datagram addr o) s m = m
-by_may below (Turn i) s m = tt
 by_may below (Offer addr) s m = m
-by_may below (Piece o) s m = tt
-by_may below End s m = tt
-by_may below Fault s m = tt
 by_may below Close s m = m
-by_may below (Write took) s m = tt
-by_may below Tick s m = tt
 by_may below Release s m = m
-by_may below (Reconfigure dgram stream) s m = tt
-by_may below Shutdown s m = tt
+by_may below _ s m = tt
 
 -- the state after some events, and the octets received
 record SoFar (s : Slate) (es : List Event) (t : Slate) : Type 0 where
@@ -84,21 +78,21 @@ module _ (answers : Serving) where
       received_at : (es : List Event) (below : ℕ) (t : Slate) → IsServedIn t.phase → Rounds answers below t es → (e : Event) (s : Slate) → Serves e s t → (slate_after answers t es).phase ≡ Open → t.received ≡ s.received ++ piece_octets e.kind
       received_at es below t v r e s a h = (a.received (was_open es below t v r h)).1
 
-  rounds_before : (es : List Event) (e : Event) (below : ℕ) (s : Slate) → Rounds answers below s (es ++ e ∷ []) → Rounds answers below s es × IsServedBy e.kind
-  rounds_before [] e below s r = (tt, by_may below e.kind s r.0)
-  rounds_before (f ∷ es) e below s r = let i = rounds_before es e (turned below f.kind) (rule answers f s).0 r.1 in ((r.0, i.0), i.1)
+  rounds_before : (es : List Event) (e : Event) (below : ℕ) (s : Slate) → Rounds answers below s (es ++ e ∷ []) → Rounds answers below s es
+  rounds_before [] e below s r = tt
+  rounds_before (f ∷ es) e below s r = (r.0, rounds_before es e (turned below f.kind) (rule answers f s).0 r.1)
 
   -- why the last event closes the connection
-  pub reason_of : (s : Slate) (events : List Event) (why : Why) → IsServedIn s.phase → Rounds answers 0 s events → (l : LastCloses answers s events why) → ClosesFor why l.event (slate_after answers s l.before) (rule answers l.event (slate_after answers s l.before)).1
+  pub reason_of : (s : Slate) (events : List Event) (why : Why) → IsServedIn s.phase → Rounds answers 0 s events → (l : LastCloses answers s events why) → Reason why l.event (slate_after answers s l.before) (rule answers l.event (slate_after answers s l.before)).1
   reason_of s events why v r l =
       let h = rounds_before l.before l.event 0 s (rw l.is at r) in
-      reason answers l.event (slate_after answers s l.before) (so_far l.before 0 s v h.0).served h.1 why l.closes
+      reason answers l.event (slate_after answers s l.before) (so_far l.before 0 s v h).served why l.closes
 
   short_shown : (s : Slate) (events : List Event) → s.phase ≡ Open → s.received ≡ [] → Rounds answers 0 s events → (l : LastCloses answers s events Short) → IsShortPiece l.event (slate_after answers s l.before) → HasShortFrame (pieces_in events)
   short_shown s events p n r l c =
       let h = rounds_before l.before l.event 0 s (rw l.is at r) in
       let v : IsServedIn s.phase = rw p tt in
-      let got : (slate_after answers s l.before).received ≡ pieces_in l.before = (so_far l.before 0 s v h.0).received c.phase ∙ ap (λ (o : List ℕ). o ++ pieces_in l.before) n in
+      let got : (slate_after answers s l.before).received ≡ pieces_in l.before = (so_far l.before 0 s v h).received c.phase ∙ ap (λ (o : List ℕ). o ++ pieces_in l.before) n in
       let all : pieces_in events ≡ (slate_after answers s l.before).received ++ c.octets = rw l.is (pieces_snoc l.before l.event ∙ rw (c.kind, got) refl) in
       rw all c.short
 
@@ -110,19 +104,16 @@ module _ (answers : Serving) where
       (y : Story answers s client first (Some why) n n' k k' t t') → (why ≡ WriteTimeout → WroteLast s why y.events t t') → Shows why answers s y.events t t'
   shows Ended s client first n n' k k' t t' p o y w =
       let v : IsServedIn s.phase = rw p tt in
-      let end : y.last.event.kind ≡ End = reason_of s y.events Ended v y.rounds y.last in
+      let end : y.last.event.kind ≡ End = (reason_of s y.events Ended v y.rounds y.last).closes in
       let some : 1 ≤ ends_in y.events = rw y.last.is (some_end y.last.before y.last.event end) in
       let all = y.ends in
       omega arith
-  shows ByFault s client first n n' k k' t t' p o y w = tt
-  shows Short s client first n n' k k' t t' p o y w = let v : IsServedIn s.phase = rw p tt in short_shown s y.events p o y.rounds y.last (reason_of s y.events Short v y.rounds y.last)
-  shows Idle s client first n n' k k' t t' p o y w = let v : IsServedIn s.phase = rw p tt in record { before = y.last.before; event = y.last.event; is = y.last.is; such = reason_of s y.events Idle v y.rounds y.last }
+  shows Short s client first n n' k k' t t' p o y w = let v : IsServedIn s.phase = rw p tt in short_shown s y.events p o y.rounds y.last (reason_of s y.events Short v y.rounds y.last).closes
+  shows Idle s client first n n' k k' t t' p o y w = let v : IsServedIn s.phase = rw p tt in record { before = y.last.before; event = y.last.event; is = y.last.is; such = (reason_of s y.events Idle v y.rounds y.last).closes }
   shows WriteTimeout s client first n n' k k' t t' p o y w =
       let v : IsServedIn s.phase = rw p tt in
-      let c = reason_of s y.events WriteTimeout v y.rounds y.last in
-      record { before = y.last.before; event = y.last.event; is = y.last.is; such = record { took = c.took; kind = c.kind; late = c.late; shown = w refl y.last } }
-  shows Commanded s client first n n' k k' t t' p o y w = tt
-  shows ByShutdown s client first n n' k k' t t' p o y w = tt
+      record { before = y.last.before; event = y.last.event; is = y.last.is; such = record { long = (reason_of s y.events WriteTimeout v y.rounds y.last).closes; shown = w refl y.last } }
+  shows _ s client first n n' k k' t t' p o y w = tt
 
   sent_snoc : (s : Slate) (es : List Event) (e : Event) → sent_after answers s (es ++ e ∷ []) ≡ sent_after answers s es ++ (rule answers e (slate_after answers s es)).1
   sent_snoc s es e = sent_append answers s es (e ∷ []) ∙ ap (λ (o : List Output). sent_after answers s es ++ o) (append-nil (rule answers e (slate_after answers s es)).1)
@@ -146,11 +137,12 @@ module _ {W R F : Type 0} (answer : PolledRequest F R → ℕ → Answer) (answe
       let split : x.events ++ w.event ∷ [] ≡ l.before ++ l.event ∷ [] =
       append_cancel_left n (x.events ++ w.event ∷ []) (l.before ++ l.event ∷ []) (sym (append_assoc n x.events (w.event ∷ [])) ∙ (ap (λ (m : List Event). m ++ w.event ∷ []) (sym x.noted) ∙ (sym w.noted ∙ (y.noted ∙ ap (λ (m : List Event). n ++ m) l.is)))) in
       let same = snoc_same x.events l.before w.event l.event split in
-      let P : Why → Type 0 = λ u. ClosesFor u l.event (slate_after answers s l.before) (rule answers l.event (slate_after answers s l.before)).1 in
-      let c : IsLongWrite l.event (slate_after answers s l.before) (rule answers l.event (slate_after answers s l.before)).1 = subst P is (reason_of answers s y.events why v y.rounds l) in
+      let P : Why → Type 0 = λ u. Reason u l.event (slate_after answers s l.before) (rule answers l.event (slate_after answers s l.before)).1 in
+      let r : Reason WriteTimeout l.event (slate_after answers s l.before) (rule answers l.event (slate_after answers s l.before)).1 = subst P is (reason_of answers s y.events why v y.rounds l) in
+      let c : IsLongWrite l.event (slate_after answers s l.before) = r.closes in
       let kind : w.event.kind ≡ Write c.took = ap (λ (e : Event). e.kind) same.1 ∙ c.kind in
       let went : t1.went ≡ t.went ++ frame_octets (sent_after answers s y.events) =
-      x.went ∙ (ap (λ (o : List ℕ). t.went ++ (frame_octets (sent_after answers s x.events) ++ o)) x.cut ∙ (ap (λ (o : List ℕ). t.went ++ o) (append-nil (frame_octets (sent_after answers s x.events)) ∙ sym (silent_last answers s y.events x.events l.before l.event l.is same.0 c.silent)))) in
+      x.went ∙ (ap (λ (o : List ℕ). t.went ++ (frame_octets (sent_after answers s x.events) ++ o)) x.cut ∙ (ap (λ (o : List ℕ). t.went ++ o) (append-nil (frame_octets (sent_after answers s x.events)) ∙ sym (silent_last answers s y.events x.events l.before l.event l.is same.0 (r.silent refl))))) in
       let first_is : front (slate_after answers s x.events).queue ≡ front (slate_after answers s l.before).queue = ap (λ (m : List Event). front (slate_after answers s m).queue) same.0 in
       let wrote = w.wrote answers (slate_after answers s x.events) stands in
       elim (wrote.write c.took kind) [

@@ -1,9 +1,9 @@
 -- Readings of the clock against what a link is read and written for.
 use Rattle.std.proofs.Common.{◌≡◌, ℕ, ◌+◌, ◌-◌, List, [], ◌∷◌, ◌++◌, refl, sym, ◌∙◌, append_assoc, append-nil, arith, length-append}
-use Rattle.dns_outside.specs.Traffic.{Traffic}
-use Rattle.dns_service.specs.declared.event.Event.{Event}
-use Rattle.dns_service.specs.declared.event.EventKind.{EventKind}
-use Rattle.dns_service.specs.declared.event.EventKind.TheVariants.{Datagram, Turn, Offer, Piece, End, Fault, Close, Write, Tick, Release, Reconfigure, Shutdown}
+use Rattle.dns_io.specs.Traffic.{Traffic}
+use Rattle.dns_events.specs.declared.event.Event.{Event}
+use Rattle.dns_events.specs.declared.event.EventKind.{EventKind}
+use Rattle.dns_events.specs.declared.event.EventKind.TheVariants.{Turn, Piece, End, Fault, Write, Tick}
 use Rattle.dns_notes.specs.Clocks.{ClockReading, TookFrom, write_count, TimedOne, Waited, LateAt}
 use Rattle.dns_notes.proofs.Timings.{timed_one}
 use Rattle.dns_drivers.specs.Links.{IsReadEvent}
@@ -63,18 +63,11 @@ timed_late client at secs f f' c c1 c2 start e a = record {
 
 -- the event of a read
 read_counts : (kind : EventKind) → IsReadEvent kind → write_count kind ≡ 0
-read_counts (Datagram addr p) r = absurd r
-read_counts (Turn k) r = absurd r
-read_counts (Offer addr) r = absurd r
 read_counts (Piece p) r = refl
 read_counts End r = refl
 read_counts Fault r = refl
-read_counts Close r = absurd r
-read_counts (Write took) r = absurd r
 read_counts Tick r = refl
-read_counts Release r = absurd r
-read_counts (Reconfigure dgram stream) r = absurd r
-read_counts Shutdown r = absurd r
+read_counts _ r = absurd r
 
 pub timed_read : (event : Event) (kind : EventKind) (f f' : ℕ) (c c' : List ClockReading) → IsReadEvent kind → event.kind ≡ kind → f' ≡ f → c' ≡ c ++ (event.at, event.secs) ∷ [] → TimedOne event f f' c c'
 timed_read event kind f f' c c' r k e h = timed_one event f f' c c' h (rw k (read_counts kind r)) e

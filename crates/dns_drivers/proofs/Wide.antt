@@ -1,20 +1,20 @@
 -- What events that all clients hear do to a connection: the news of a look.
 use Rattle.std.proofs.Common.{◌≡◌, ℕ, ◌==◌, List, [], ◌∷◌, ◌++◌, refl, sym, ◌∙◌, ap, arith, append_assoc, append-nil, Bool, true, false, Some}
 use Rattle.std.specs.Prelude.{if◌then◌else◌, ◌||◌, ◌&&◌, not}
-use Rattle.dns_admission.specs.declared.look.Look.{Look}
+use Rattle.dns_events.specs.declared.look.Look.{Look}
 use Rattle.dns_service.specs.Config.{Dgram, Stream}
-use Rattle.dns_service.specs.declared.event.Event.{Event}
-use Rattle.dns_service.specs.declared.event.EventKind.{EventKind}
-use Rattle.dns_service.specs.declared.event.EventKind.TheVariants.{Datagram, Turn, Offer, Piece, End, Fault, Close, Write, Tick, Release, Reconfigure, Shutdown}
-use Rattle.dns_service.specs.declared.event.Output.{Output}
-use Rattle.dns_service.specs.declared.event.Why.{Why}
-use Rattle.dns_service.specs.declared.event.Why.TheVariants.{Shutdown as ByShutdown}
+use Rattle.dns_events.specs.declared.event.Event.{Event}
+use Rattle.dns_events.specs.declared.event.EventKind.{EventKind}
+use Rattle.dns_events.specs.declared.event.EventKind.TheVariants.{Datagram, Turn, Offer, Piece, Write, Tick, Reconfigure, Shutdown}
+use Rattle.dns_events.specs.declared.event.Output.{Output}
+use Rattle.dns_events.specs.declared.event.Why.{Why}
+use Rattle.dns_events.specs.declared.event.Why.TheVariants.{Shutdown as ByShutdown}
 use Rattle.dns_client.specs.After.{slate_after, sent_after}
 use Rattle.dns_client.specs.Connections.{wind_up}
 use Rattle.dns_client.specs.News.{wide, new_end, news}
 use Rattle.dns_client.specs.Rule.{rule, in_phase, unused_rule, open_rule}
 use Rattle.dns_client.specs.Serving.{Serving}
-use Rattle.dns_client.specs.Slate.{Slate, Told, Phase, Unused, Exchange, Open, Flushing, Closed, Conf, conf_rule, with_conf}
+use Rattle.dns_client.specs.Slate.{Slate, Told, Phase, Unused, Open, Flushing, Conf, conf_rule, with_conf}
 use Rattle.dns_notes.specs.Own.{is_wide}
 use Rattle.dns_notes.specs.Clocks.{fault_count, faults_in}
 use Rattle.dns_notes.specs.Notes.{AllWide}
@@ -35,32 +35,14 @@ record IsQuiet (k : EventKind) : Type 0 where
   turn : (below : ℕ) → turned below k ≡ below
 
 quiet_one : (k : EventKind) → is_wide k ≡ true → IsQuiet k
-quiet_one (Datagram addr o) w = absurd cc
-quiet_one (Turn k) w = absurd cc
-quiet_one (Offer addr) w = absurd cc
-quiet_one (Piece o) w = absurd cc
-quiet_one End w = absurd cc
-quiet_one Fault w = absurd cc
-quiet_one Close w = absurd cc
-quiet_one (Write took) w = absurd cc
-quiet_one Tick w = absurd cc
-quiet_one Release w = absurd cc
 quiet_one (Reconfigure dgram stream) w = record { piece = refl; full = tt; ticks = refl; ends = refl; fault = refl; turn = λ below. refl }
 quiet_one Shutdown w = record { piece = refl; full = tt; ticks = refl; ends = refl; fault = refl; turn = λ below. refl }
+quiet_one _ w = absurd cc
 
 may_one : (below : ℕ) (k : EventKind) (s : Slate) → is_wide k ≡ true → May below k s
-may_one below (Datagram addr o) s w = absurd cc
-may_one below (Turn k) s w = absurd cc
-may_one below (Offer addr) s w = absurd cc
-may_one below (Piece o) s w = absurd cc
-may_one below End s w = absurd cc
-may_one below Fault s w = absurd cc
-may_one below Close s w = absurd cc
-may_one below (Write took) s w = absurd cc
-may_one below Tick s w = absurd cc
-may_one below Release s w = absurd cc
 may_one below (Reconfigure dgram stream) s w = tt
 may_one below Shutdown s w = tt
+may_one below _ s w = absurd cc
 
 -- and several
 pub record AllQuiet (es : List Event) : Type 0 where
@@ -95,40 +77,22 @@ frames_append (x ∷ xs) ys = simp (append_assoc, frames_append xs ys)
 
 unused_wide : (e f : Event) (k : EventKind) (s : Slate) → is_wide k ≡ true → unused_rule e k s ≡ unused_rule f k s
 unused_wide e f (Datagram addr o) s w = absurd cc
-unused_wide e f (Turn k) s w = refl
 unused_wide e f (Offer addr) s w = absurd cc
-unused_wide e f (Piece o) s w = refl
-unused_wide e f End s w = refl
-unused_wide e f Fault s w = refl
-unused_wide e f Close s w = refl
-unused_wide e f (Write took) s w = refl
-unused_wide e f Tick s w = refl
-unused_wide e f Release s w = refl
-unused_wide e f (Reconfigure dgram stream) s w = refl
-unused_wide e f Shutdown s w = refl
+unused_wide e f _ s w = refl
 
 module _ (answers : Serving) where
   open_wide : (e f : Event) (k : EventKind) (s : Slate) → is_wide k ≡ true → open_rule answers e k s ≡ open_rule answers f k s
-  open_wide e f (Datagram addr o) s w = refl
   open_wide e f (Turn k) s w = absurd cc
-  open_wide e f (Offer addr) s w = refl
   open_wide e f (Piece o) s w = absurd cc
-  open_wide e f End s w = refl
-  open_wide e f Fault s w = refl
-  open_wide e f Close s w = refl
   open_wide e f (Write took) s w = absurd cc
   open_wide e f Tick s w = absurd cc
-  open_wide e f Release s w = refl
-  open_wide e f (Reconfigure dgram stream) s w = refl
-  open_wide e f Shutdown s w = refl
+  open_wide e f _ s w = refl
 
   -- their moment, seconds and number say nothing
   phase_wide : (e f : Event) (p : Phase) (s : Slate) → e.kind ≡ f.kind → is_wide e.kind ≡ true → in_phase answers e p s ≡ in_phase answers f p s
   phase_wide e f Unused s k w = rw (← k) (unused_wide e f e.kind s w)
-  phase_wide e f Exchange s k w = rw k refl
   phase_wide e f Open s k w = rw (← k) (open_wide e f e.kind s w)
-  phase_wide e f (Flushing why) s k w = rw k refl
-  phase_wide e f Closed s k w = rw k refl
+  phase_wide e f _ s k w = rw k refl
 
   same_rule : (e f : Event) (s : Slate) → e.kind ≡ f.kind → is_wide e.kind ≡ true → rule answers e s ≡ rule answers f s
   same_rule e f s k w = phase_wide e f s.phase (with_conf (conf_rule e.kind s.conf) s) k w ∙ ap (λ (j : EventKind). in_phase answers f s.phase (with_conf (conf_rule j s.conf) s)) k
@@ -165,11 +129,9 @@ module _ (answers : Serving) where
   wound_up (m ∷ ms) s e o = record { frameless = refl; over = o; on = (refl, rw (← e) (omega arith)); shut_only = λ why c. absurd cc }
 
   shut_does : (p : Phase) (s : Slate) → s.conf.over ≡ true → p ≡ s.phase → MayGoOn p s.queue → NewsDo false true (in_phase answers (wide Shutdown) p s)
-  shut_does Unused s o e live = absurd live
-  shut_does Exchange s o e live = absurd live
   shut_does Open s o e live = wound_up s.queue s refl o
   shut_does (Flushing why) s o e live = record { frameless = refl; over = o; on = rw (← e) live; shut_only = λ y c. absurd cc }
-  shut_does Closed s o e live = absurd live
+  shut_does _ s o e live = absurd live
 
   same_does : (s : Slate) (over now : Bool) → (over || now) ≡ over → s.conf.over ≡ over → IsServed s → NewsDo over now (s, [])
   same_does s over now b e live = record { frameless = refl; over = e ∙ sym b; on = live; shut_only = λ why c. absurd cc }
@@ -196,11 +158,9 @@ module _ (answers : Serving) where
   over_stays dgram stream c false e = rw e refl
 
   phase_reconfigures : (dgram : Dgram) (stream : Stream) (p : Phase) (s : Slate) (over : Bool) → s.conf.over ≡ over → p ≡ s.phase → MayGoOn p s.queue → Reconfigures over (in_phase answers (wide (Reconfigure dgram stream)) p s)
-  phase_reconfigures dgram stream Unused s over o e live = absurd live
-  phase_reconfigures dgram stream Exchange s over o e live = absurd live
   phase_reconfigures dgram stream Open s over o e live = record { nothing = refl; over_is = o; on = rw (← e) tt }
   phase_reconfigures dgram stream (Flushing why) s over o e live = record { nothing = refl; over_is = o; on = rw (← e) live }
-  phase_reconfigures dgram stream Closed s over o e live = absurd live
+  phase_reconfigures dgram stream _ s over o e live = absurd live
 
   reconfigures : (dgram : Dgram) (stream : Stream) (s : Slate) (over : Bool) → s.conf.over ≡ over → IsServed s → Reconfigures over (rule answers (wide (Reconfigure dgram stream)) s)
   reconfigures dgram stream s over e live = phase_reconfigures dgram stream s.phase (with_conf (conf_rule (Reconfigure dgram stream) s.conf) s) over (over_stays dgram stream s.conf over e) refl live
@@ -222,26 +182,11 @@ module _ (answers : Serving) where
   wind_frameless why (m ∷ ms) s = refl
 
   phase_frameless : (e : Event) (k : EventKind) (p : Phase) (s : Slate) → e.kind ≡ k → is_wide k ≡ true → IsFrameless (in_phase answers e p s)
-  phase_frameless e (Datagram addr o) p s h w = absurd cc
-  phase_frameless e (Turn k) p s h w = absurd cc
-  phase_frameless e (Offer addr) p s h w = absurd cc
-  phase_frameless e (Piece o) p s h w = absurd cc
-  phase_frameless e End p s h w = absurd cc
-  phase_frameless e Fault p s h w = absurd cc
-  phase_frameless e Close p s h w = absurd cc
-  phase_frameless e (Write took) p s h w = absurd cc
-  phase_frameless e Tick p s h w = absurd cc
-  phase_frameless e Release p s h w = absurd cc
   phase_frameless e (Reconfigure dgram stream) Unused s h w = rw h refl
-  phase_frameless e (Reconfigure dgram stream) Exchange s h w = rw h refl
-  phase_frameless e (Reconfigure dgram stream) Open s h w = rw h refl
-  phase_frameless e (Reconfigure dgram stream) (Flushing why) s h w = rw h refl
-  phase_frameless e (Reconfigure dgram stream) Closed s h w = rw h refl
-  phase_frameless e Shutdown Unused s h w = rw h refl
-  phase_frameless e Shutdown Exchange s h w = rw h refl
+  phase_frameless e (Reconfigure dgram stream) _ s h w = rw h refl
   phase_frameless e Shutdown Open s h w = rw h (wind_frameless ByShutdown s.queue s)
-  phase_frameless e Shutdown (Flushing why) s h w = rw h refl
-  phase_frameless e Shutdown Closed s h w = rw h refl
+  phase_frameless e Shutdown _ s h w = rw h refl
+  phase_frameless e _ p s h w = absurd cc
 
   frames_both : (xs ys : List Output) → frame_octets xs ≡ [] → frame_octets ys ≡ [] → frame_octets (xs ++ ys) ≡ []
   frames_both xs ys a b = rw (frames_append xs ys, a, b) refl
@@ -253,10 +198,7 @@ module _ (answers : Serving) where
   -- the last event of the news closes, where they close
   phase_silent : (e : Event) (dgram : Dgram) (stream : Stream) (p : Phase) (s : Slate) → e.kind ≡ Reconfigure dgram stream → (in_phase answers e p s).1 ≡ []
   phase_silent e dgram stream Unused s h = rw h refl
-  phase_silent e dgram stream Exchange s h = rw h refl
-  phase_silent e dgram stream Open s h = rw h refl
-  phase_silent e dgram stream (Flushing why) s h = rw h refl
-  phase_silent e dgram stream Closed s h = rw h refl
+  phase_silent e dgram stream _ s h = rw h refl
 
   first_kind : (b c : Bool) (dgram : Dgram) (stream : Stream) (k j : EventKind) → k ∷ j ∷ [] ≡ kinds ((if b then [] else wide (Reconfigure dgram stream) ∷ []) ++ (if c then wide Shutdown ∷ [] else [])) → k ≡ Reconfigure dgram stream
   first_kind true true dgram stream k j e = cc

@@ -2,7 +2,7 @@
 use Rattle.std.proofs.Common.{◌≡◌, ℕ, ◌+◌, ◌-◌, ◌≤◌, List, [], ◌∷◌, ◌++◌, take, drop, length, arith, refl, ◌∙◌, ap, append_assoc, length-append, add-zero}
 use Rattle.std.proofs.Math.Seq.{take-add}
 use Rattle.std.proofs.lemmas.Grind.{common_steps}
-use Rattle.dns_outside.specs.Traffic.{Traffic}
+use Rattle.dns_io.specs.Traffic.{Traffic}
 use Rattle.dns_notes.specs.Clocks.{ClockReading, Waited, LateAt}
 use Rattle.dns_drivers.specs.Blames.{EndBlames, EndAgain}
 use Rattle.dns_drivers.specs.Links.{WroteFront, WaitedTo}

@@ -1,8 +1,8 @@
 -- Whether outputs close a connection.
 use Rattle.std.specs.Prelude.{List, [], ◌∷◌, Option, Some, None}
-use Rattle.dns_service.specs.declared.event.Output.{Output}
-use Rattle.dns_service.specs.declared.event.Output.TheVariants.{Closed}
-use Rattle.dns_service.specs.declared.event.Why.{Why}
+use Rattle.dns_events.specs.declared.event.Output.{Output}
+use Rattle.dns_events.specs.declared.event.Output.TheVariants.{Closed}
+use Rattle.dns_events.specs.declared.event.Why.{Why}
 
 abbrev pub why_closed : Output → Option Why
 why_closed (Closed client why) = Some why

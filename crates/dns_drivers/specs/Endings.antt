@@ -1,15 +1,15 @@
 -- How a connection ends.
 use Rattle.std.specs.Prelude.{◌≡◌, ◌≤◌, ◌⊎◌, ℕ, List, [], ◌∷◌, ◌++◌, Some}
 use Rattle.dns_name.specs.declared.address.SocketAddr.{SocketAddr}
-use Rattle.dns_admission.specs.declared.look.Look.{Look}
+use Rattle.dns_events.specs.declared.look.Look.{Look}
 use Rattle.dns_admission.specs.declared.call.Call.TheVariants.{Release}
 use Rattle.dns_admission.specs.declared.call.Reply.TheVariants.{Left}
 use Rattle.dns_book.specs.Seats.{Called}
 use Rattle.dns_book.specs.declared.history.Known.{Known}
-use Rattle.dns_outside.specs.Traffic.{Traffic}
-use Rattle.dns_service.specs.declared.event.Event.{Event}
-use Rattle.dns_service.specs.declared.event.EventKind.TheVariants.{Offer}
-use Rattle.dns_service.specs.declared.event.Why.{Why}
+use Rattle.dns_io.specs.Traffic.{Traffic}
+use Rattle.dns_events.specs.declared.event.Event.{Event}
+use Rattle.dns_events.specs.declared.event.EventKind.TheVariants.{Offer}
+use Rattle.dns_events.specs.declared.event.Why.{Why}
 use Rattle.dns_client.specs.Serving.{Serving}
 use Rattle.dns_drivers.specs.Shown.{Shown, Causes}
 use Rattle.dns_drivers.specs.Story.{Story, Broken, began}

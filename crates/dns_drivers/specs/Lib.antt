@@ -1,4 +1,5 @@
 pub use Rattle.dns_notes.specs.Clocks
+pub use Rattle.dns_notes.specs.Counts
 pub use Rattle.dns_notes.specs.Notes
 pub use Rattle.dns_notes.specs.Woven
 pub mod Blames

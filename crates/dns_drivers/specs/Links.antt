@@ -1,11 +1,11 @@
 -- What noted events say of the link, and what one event does to it. Here a is what the link tells before, and b after it.
 use Rattle.std.specs.Prelude.{◌≡◌, ◌≤◌, ◌<◌, ◌-◌, ℕ, ◌+◌, List, [], ◌∷◌, ◌++◌, length, take}
-use Rattle.dns_outside.specs.Traffic.{Traffic}
-use Rattle.dns_service.specs.declared.event.Event.{Event}
-use Rattle.dns_service.specs.declared.event.EventKind.{EventKind}
-use Rattle.dns_service.specs.declared.event.EventKind.TheVariants.{Piece, Write, End, Fault, Tick}
-use Rattle.dns_service.specs.declared.event.Output.{Output}
-use Rattle.dns_service.specs.declared.event.Output.TheVariants.{Frame}
+use Rattle.dns_io.specs.Traffic.{Traffic}
+use Rattle.dns_events.specs.declared.event.Event.{Event}
+use Rattle.dns_events.specs.declared.event.EventKind.{EventKind}
+use Rattle.dns_events.specs.declared.event.EventKind.TheVariants.{Piece, Write, End, Fault, Tick}
+use Rattle.dns_events.specs.declared.event.Output.{Output}
+use Rattle.dns_events.specs.declared.event.Output.TheVariants.{Frame}
 use Rattle.dns_notes.specs.Clocks.{ClockReading, Waited, LateAt}
 use Rattle.dns_drivers.specs.declared.writing.WriteEnd.{WriteEnd}
 use Rattle.dns_drivers.specs.declared.writing.WriteEnd.TheVariants.{Whole, Failed, Late}

@@ -1,9 +1,9 @@
 -- The order of a connection's own events. In a round the queue is written until it is empty. Then each unfinished request has one
 -- Turn, by rising number, and after each of them the queue is written until it is empty. Then comes one Piece, End or Tick.
 use Rattle.std.specs.Prelude.{◌≡◌, ◌⊎◌, ◌≤◌, ℕ, ◌+◌, List, [], ◌∷◌, length, drop, Option, Some, None}
-use Rattle.dns_service.specs.declared.event.Event.{Event}
-use Rattle.dns_service.specs.declared.event.EventKind.{EventKind}
-use Rattle.dns_service.specs.declared.event.EventKind.TheVariants.{Piece, Turn, Write, End, Fault, Tick, Reconfigure, Shutdown}
+use Rattle.dns_events.specs.declared.event.Event.{Event}
+use Rattle.dns_events.specs.declared.event.EventKind.{EventKind}
+use Rattle.dns_events.specs.declared.event.EventKind.TheVariants.{Piece, Turn, Write, End, Fault, Tick, Reconfigure, Shutdown}
 use Rattle.dns_client.specs.Serving.{Serving}
 use Rattle.dns_client.specs.Slate.{Slate, SlateRequest}
 use Rattle.dns_client.specs.Rule.{rule}

@@ -1,12 +1,12 @@
 -- A story so far, as the loop of a connection knows it.
 use Rattle.std.specs.Prelude.{◌≡◌, ◌≤◌, ℕ, ◌+◌, List, length, Option, Some, None}
-use Rattle.dns_admission.specs.declared.look.Look.{Look}
+use Rattle.dns_events.specs.declared.look.Look.{Look}
 use Rattle.dns_book.specs.declared.history.Known.{Known}
-use Rattle.dns_outside.specs.Traffic.{Traffic}
+use Rattle.dns_io.specs.Traffic.{Traffic}
 use Rattle.dns_service.specs.Answer.{Answer}
-use Rattle.dns_service.specs.declared.event.Event.{Event}
-use Rattle.dns_service.specs.declared.event.Why.{Why}
-use Rattle.dns_service.specs.declared.event.Why.TheVariants.{Shutdown as ByShutdown}
+use Rattle.dns_events.specs.declared.event.Event.{Event}
+use Rattle.dns_events.specs.declared.event.Why.{Why}
+use Rattle.dns_events.specs.declared.event.Why.TheVariants.{Shutdown as ByShutdown}
 use Rattle.dns_service.specs.declared.polled.PolledRequest.{PolledRequest}
 use Rattle.dns_client.specs.Serving.{Serving}
 use Rattle.dns_client.specs.Slate.{Slate, Phase, Open, Flushing}

@@ -1,32 +1,22 @@
 -- What shows why a connection was closed.
-use Rattle.std.specs.Prelude.{◌≡◌, ◌≤◌, ◌<◌, ◌⊎◌, ℕ, List, [], ◌∷◌, ◌++◌, length, slice_get, true, Some}
-use Rattle.dns_admission.specs.declared.look.Look.{Look}
+use Rattle.std.specs.Prelude.{◌≡◌, ◌<◌, ◌⊎◌, ℕ, List, [], ◌∷◌, ◌++◌, true}
+use Rattle.dns_events.specs.declared.look.Look.{Look}
 use Rattle.dns_admission.specs.declared.call.Call.TheVariants.{Look as ToLook}
 use Rattle.dns_admission.specs.declared.call.Reply.TheVariants.{Look as LookReply}
 use Rattle.dns_book.specs.Gains.{Gained}
 use Rattle.dns_book.specs.History.{entry}
 use Rattle.dns_book.specs.declared.history.Entry.{Entry}
 use Rattle.dns_book.specs.declared.history.Known.{Known}
-use Rattle.dns_outside.specs.Causes.{Rose}
-use Rattle.dns_outside.specs.Traffic.{Traffic}
-use Rattle.dns_service.specs.declared.event.Event.{Event}
-use Rattle.dns_service.specs.declared.event.EventKind.TheVariants.{Tick, Write}
-use Rattle.dns_service.specs.declared.event.Why.{Why}
-use Rattle.dns_service.specs.declared.event.Why.TheVariants.{Ended, Short, Idle, WriteTimeout, Fault as ByFault, Commanded, Shutdown as ByShutdown}
+use Rattle.dns_io.specs.Causes.{Rose}
+use Rattle.dns_io.specs.Traffic.{Traffic}
+use Rattle.dns_events.specs.declared.event.Event.{Event}
+use Rattle.dns_events.specs.declared.event.Why.{Why}
+use Rattle.dns_events.specs.declared.event.Why.TheVariants.{Ended, Short, Idle, WriteTimeout, Fault as ByFault, Commanded, Shutdown as ByShutdown}
 use Rattle.dns_client.specs.Serving.{Serving}
 use Rattle.dns_client.specs.Slate.{Slate}
-use Rattle.dns_client.specs.Frames.{frames}
-use Rattle.dns_client.specs.Requests.{header_size}
-use Rattle.dns_client.specs.Timers.{deadline}
 use Rattle.dns_client.specs.After.{slate_after, sent_after}
+use Rattle.dns_client.specs.Reasons.{HasShortFrame, IsLateTick, IsLongWrite}
 use Rattle.dns_drivers.specs.Links.{pieces_in, frame_octets, front}
-
--- one of the frames of some octets is shorter than a header
-pub record HasShortFrame (octets : List ℕ) : Type 0 where
-  pub number : ℕ
-  pub frame : List ℕ
-  pub is : slice_get (frames octets) number ≡ Some frame
-  pub short : length frame < header_size
 
 -- the last of some events is such an event, at the slate after those before it
 pub record LastIs (answers : Serving) (s : Slate) (events : List Event) (Is : Event → Slate → Type 0) : Type 0 where
@@ -35,17 +25,10 @@ pub record LastIs (answers : Serving) (s : Slate) (events : List Event) (Is : Ev
   pub is : events ≡ before ++ event ∷ []
   pub such : Is event (slate_after answers s before)
 
--- a Tick past the deadline
-pub record IsLateTick (e : Event) (s : Slate) : Type 0 where
-  pub kind : e.kind ≡ Tick
-  pub late : deadline s.reset_at s.connection.idle_timeout e.at ≤ e.at
-
 -- A Write that took more than the timeout in force. Behind what was written before it stands its whole frame, or a write answered
 -- Again.
 pub record IsLateWrite (written : List ℕ) (t t' : Traffic) (e : Event) (s : Slate) : Type 0 where
-  pub took : ℕ
-  pub kind : e.kind ≡ Write took
-  pub late : s.connection.response_write_timeout < took
+  pub long : IsLongWrite e s
   pub shown : (t'.went ≡ written ++ front s.queue) ⊎ (t.full_writes < t'.full_writes)
 
 -- what the noted events and the link show; of the other reasons the link's count of faults or the seat shows

@@ -1,7 +1,7 @@
 //! One own event.
 
 ghost use Rattle.std.specs.Prelude.{◌≡◌, ◌≤◌, IfOk, OnErr, None, slice_get};
-ghost use Rattle.dns_outside.specs.Causes.{Tells};
+ghost use Rattle.dns_io.specs.Causes.{Tells};
 ghost use Rattle.dns_client.specs.Serving.{Serving, serving};
 ghost use Rattle.dns_client.specs.Slate.{Slate};
 ghost use Rattle.dns_client.specs.Stands.{Stands, waiting};
@@ -16,8 +16,8 @@ use crate::reading::{ROOM, read_event};
 use crate::turn_state::TurnState;
 use crate::writing::write_event;
 use dns_client::ClientCore;
-use dns_notes::{PATIENCE, PAUSE, Recorder, now_is};
-use dns_outside::{Clock, Link};
+use dns_io::{Clock, Link};
+use dns_notes::{Recorder, now_is};
 use dns_service::{Event, EventKind, OutOfMemory, Served, Why};
 use std::alloc::Global;
 use std::sync::Wait;
@@ -70,6 +70,8 @@ fn hand_over<J: Recorder, W: Served>(
     ensures last { kept.new.last ≡ kept.old.last }
 {
     kept.turn = after_event(kept.turn, &event.kind);
+    kept.at = event.at;
+    kept.waits = kept.waits.after(&event.kind);
     take(alloc, core, service, journal, &event)
 }
 
@@ -83,11 +85,12 @@ fn next_request<W: Served>(core: &ClientCore<W>, last: Option<u64>) -> Option<u6
     }
 }
 
-/// How long a read is waited for: not long where a request is to be polled again.
-fn patience<W: Served>(core: &ClientCore<W>) -> u64 {
+/// How long a read is waited for: not long where a request is to be polled again, and else not past the moment at which the
+/// connection is idle for too long, by the moment of the last event. A wait is one millisecond at least.
+fn patience<W: Served>(core: &ClientCore<W>, kept: &TurnState) -> u64 {
     match core.first_unfinished() {
-        Some(_) => PAUSE,
-        None => PATIENCE,
+        Some(_) => kept.waits.pause(),
+        None => kept.waits.patience().min(core.idle_left(kept.at)).max(1),
     }
 }
 
@@ -100,15 +103,15 @@ fn turn_or_read<R: Wait, L: Link, C: Clock, W: Served>(
     buf: &mut [u8; ROOM],
     client: u64,
     core: &ClientCore<W>,
-    last: Option<u64>,
+    kept: &TurnState,
 ) -> Result<Event, OutOfMemory>
     requires value { None ≡ slice_get (waiting core.now.state) 0 }
     requires queue { (answers : Serving) (s : Slate) → Stands (request_answer W.Future.answer W.Stream.answer) answers core.now s → None ≡ slice_get s.queue 0 }
-    ensures { OwnEvent (request_answer W.Future.answer W.Stream.answer) L.tells L.traffic L.faults C.tells C.readings client (below_of last) core.now result link.old link.new clock.old clock.new }
+    ensures { OwnEvent (request_answer W.Future.answer W.Stream.answer) L.tells L.traffic L.faults C.tells C.readings client (below_of kept.now.turn) core.now result link.old link.new clock.old clock.new }
 {
-    match next_request(core, last) {
+    match next_request(core, kept.turn) {
         Some(request) => Ok(now_is(clock, client, EventKind::Turn { request })),
-        None => read_event(rt, alloc, client, link, clock, buf, patience(core)),
+        None => read_event(rt, alloc, client, link, clock, buf, patience(core, kept)),
     }
 }
 
@@ -119,16 +122,16 @@ fn own_event<R: Wait, L: Link, C: Clock, W: Served>(
     alloc: Global,
     client: u64,
     core: &ClientCore<W>,
-    last: Option<u64>,
+    kept: &TurnState,
     link: &mut L,
     clock: &mut C,
     buf: &mut [u8; ROOM],
 ) -> Result<Event, OutOfMemory>
-    ensures { OwnEvent (request_answer W.Future.answer W.Stream.answer) L.tells L.traffic L.faults C.tells C.readings client (below_of last) core.now result link.old link.new clock.old clock.new }
+    ensures { OwnEvent (request_answer W.Future.answer W.Stream.answer) L.tells L.traffic L.faults C.tells C.readings client (below_of kept.now.turn) core.now result link.old link.new clock.old clock.new }
 {
     match core.front_frame() {
         Some(frame) => Ok(write_event(rt, client, link, clock, frame, core.write_timeout())),
-        None => turn_or_read(rt, alloc, link, clock, buf, client, core, last),
+        None => turn_or_read(rt, alloc, link, clock, buf, client, core, kept),
     }
 }
 
@@ -172,7 +175,7 @@ pub(crate) fn act<R: Wait, L: Link, C: Clock, J: Recorder, W: Served>(
     ensures later { L.faults link.old ≤ L.faults link.new }
     ensures last { kept.new.last ≡ kept.old.last }
 {
-    match own_event(rt, alloc, client, core, kept.turn, link, clock, buf) {
+    match own_event(rt, alloc, client, core, kept, link, clock, buf) {
         Ok(event) => hand_over(alloc, core, service, kept, journal, event),
         Err(_) => Err(OutOfMemory),
     }

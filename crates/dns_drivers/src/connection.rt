@@ -1,7 +1,7 @@
 //! One connection is served.
 
 ghost use Rattle.std.specs.Prelude.{◌≡◌, ◌≤◌, false, IfOk, OnErr};
-ghost use Rattle.dns_outside.specs.Causes.{Tells};
+ghost use Rattle.dns_io.specs.Causes.{Tells};
 ghost use Rattle.dns_client.specs.Serving.{serving};
 ghost use Rattle.dns_notes.specs.Clocks.{Timed, TimedWhole};
 ghost use Rattle.dns_drivers.specs.Story.{Broken, LooksAlone, LooksAndRelease, began};
@@ -13,9 +13,9 @@ use crate::turning::serve_core;
 use dns_admission::Look;
 use dns_book::{Book, BookSeat};
 use dns_client::ClientCore;
+use dns_io::{Clock, Link};
 use dns_name::SocketAddr;
 use dns_notes::{Recorder, note_moment};
-use dns_outside::{Clock, Link};
 use dns_service::{EventKind, OutOfMemory, Served, Why};
 use std::alloc::Global;
 use std::sync::Wait;

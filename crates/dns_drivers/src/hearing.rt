@@ -1,7 +1,7 @@
 //! A look, and its news.
 
 ghost use Rattle.std.specs.Prelude.{◌≡◌, OnOk, OnErr, IfOk};
-ghost use Rattle.dns_outside.specs.Causes.{Tells};
+ghost use Rattle.dns_io.specs.Causes.{Tells};
 ghost use Rattle.dns_service.specs.PolledRequest.{request_answer};
 ghost use Rattle.dns_notes.specs.Clocks.{Timed};
 ghost use Rattle.dns_notes.specs.Woven.{seen_with, news_kinds};
@@ -14,8 +14,8 @@ use crate::turn_state::TurnState;
 use dns_admission::Look;
 use dns_book::{Book, BookSeat};
 use dns_client::ClientCore;
+use dns_io::Clock;
 use dns_notes::{Recorder, note_shutdown, note_version};
-use dns_outside::Clock;
 use dns_service::{OutOfMemory, Served, Why};
 use std::alloc::Global;
 use std::sync::Wait;

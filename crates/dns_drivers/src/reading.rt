@@ -1,19 +1,19 @@
 //! One read.
 
 ghost use Rattle.std.specs.Prelude.{◌≡◌, ◌≤◌, [], IfOk, OnErr};
-ghost use Rattle.dns_outside.specs.Causes.{Tells};
+ghost use Rattle.dns_io.specs.Causes.{Tells};
 ghost use Rattle.dns_notes.specs.Clocks.{TimedOne};
 ghost use Rattle.dns_drivers.specs.Blames.{Blames, WroteWhole};
 ghost use Rattle.dns_drivers.specs.Links.{MovedBy, IsReadEvent, Unread};
 
+use dns_io::{Clock, Link, LinkRead};
 use dns_notes::now_is;
-use dns_outside::{Clock, Link, LinkRead};
 use dns_service::{Event, EventKind, Octets, OutOfMemory};
 use std::alloc::Global;
 use std::sync::Wait;
 
 /// How many octets one read takes at most.
-pub(crate) const ROOM: usize = 4096;
+pub(crate) const ROOM: usize = 1024;
 
 #[tactic(auto, using(crate::proofs::Movings::moved_piece, crate::proofs::Movings::moved_again, crate::proofs::Movings::moved_end, crate::proofs::Movings::moved_none, crate::proofs::Movings::unread, crate::proofs::Blamings::blames_read, crate::proofs::Blamings::blames_tick, crate::proofs::Blamings::blames_end, crate::proofs::Blamings::blames_fault, crate::proofs::Blamings::whole_got, crate::proofs::Blamings::whole_again, crate::proofs::Blamings::whole_end, crate::proofs::Blamings::whole_fault))]
 /// Makes one read, and says of which kind its event is: of a Piece, an End or a Fault, or of a Tick after a wait of so many

@@ -1,7 +1,7 @@
 //! Turns: one look, and one own event.
 
 ghost use Rattle.std.specs.Prelude.{◌≡◌, ◌≤◌, IfOk, OnErr};
-ghost use Rattle.dns_outside.specs.Causes.{Tells};
+ghost use Rattle.dns_io.specs.Causes.{Tells};
 ghost use Rattle.dns_client.specs.Serving.{serving};
 ghost use Rattle.dns_client.specs.Slate.{Slate};
 ghost use Rattle.dns_service.specs.PolledRequest.{request_answer};
@@ -19,8 +19,8 @@ use crate::turn_state::TurnState;
 use dns_admission::Look;
 use dns_book::{Book, BookSeat};
 use dns_client::ClientCore;
-use dns_notes::Recorder;
-use dns_outside::{Clock, Link};
+use dns_io::{Clock, Link};
+use dns_notes::{Recorder, Waits};
 use dns_service::{OutOfMemory, Served, Why};
 use std::alloc::Global;
 use std::sync::Wait;
@@ -99,6 +99,8 @@ pub(crate) fn serve_core<R: Wait, L: Link, C: Clock, J: Recorder, W: Served>(
     let mut kept = TurnState {
         last: *look,
         turn: None,
+        at: 0,
+        waits: Waits::new(),
     };
     let mut buf = [0u8; ROOM];
     for _ in rt.forever() {

@@ -1,13 +1,13 @@
 //! A frame is written.
 
 ghost use Rattle.std.specs.Prelude.{◌≡◌, ◌≤◌, ◌+◌, ◌-◌, [], ◌∷◌, ◌++◌, drop, length, MatchResult};
-ghost use Rattle.dns_outside.specs.Causes.{Tells};
+ghost use Rattle.dns_io.specs.Causes.{Tells};
 ghost use Rattle.dns_notes.specs.Clocks.{TimedOne, Waited};
 ghost use Rattle.dns_drivers.specs.Blames.{EndBlames, EndAgain, Blames, WroteWhole};
 ghost use Rattle.dns_drivers.specs.Links.{WaitedTo, MovedBy, IsWrittenEvent, WroteFront, WroteUntil, EndsWriting};
 
+use dns_io::{Clock, Link, LinkWrite};
 use dns_notes::{PATIENCE, now_is};
-use dns_outside::{Clock, Link, LinkWrite};
 use dns_service::{Event, EventKind};
 use std::sync::Wait;
 

@@ -1,7 +1,7 @@
 -- Events that are noted.
 use Rattle.std.proofs.Common.{◌≡◌, ℕ, List, [], ◌∷◌, ◌++◌, refl, sym, ◌∙◌, ap, append-nil}
-use Rattle.dns_service.specs.declared.event.Event.{Event}
-use Rattle.dns_service.specs.declared.event.EventKind.{EventKind}
+use Rattle.dns_events.specs.declared.event.Event.{Event}
+use Rattle.dns_events.specs.declared.event.EventKind.{EventKind}
 use Rattle.dns_notes.specs.Clocks.{ClockReading, Timed, write_count}
 use Rattle.dns_notes.specs.Notes.{NotedMoment, NotedKinds}
 use Rattle.dns_notes.specs.Woven.{kinds}

@@ -1,8 +1,8 @@
 -- Readings of the clock against events.
 use Rattle.std.proofs.Common.{◌≡◌, ℕ, ◌+◌, List, [], ◌∷◌, ◌++◌, refl, sym, append_assoc, append-nil, arith, length-append}
-use Rattle.dns_service.specs.declared.event.Event.{Event}
-use Rattle.dns_service.specs.declared.event.EventKind.{EventKind}
-use Rattle.dns_service.specs.declared.event.EventKind.TheVariants.{Datagram, Turn, Offer, Piece, End, Fault, Close, Write, Tick, Release, Reconfigure, Shutdown}
+use Rattle.dns_events.specs.declared.event.Event.{Event}
+use Rattle.dns_events.specs.declared.event.EventKind.{EventKind}
+use Rattle.dns_events.specs.declared.event.EventKind.TheVariants.{Write}
 use Rattle.dns_notes.specs.Clocks.{ClockReading, ComesAt, TookFrom, DatedBy, Dated, write_count, writes_in, faults_in, Timed, TimedOne}
 
 pub comes_after : (rs qs : List ClockReading) (r : ClockReading) (rest : List ClockReading) → ComesAt rs r rest → ComesAt (rs ++ qs) r (rest ++ qs)
@@ -40,32 +40,12 @@ took_before ps rs r took rest t = record {
 }
 
 by_after : (k : EventKind) (rs qs : List ClockReading) (r : ClockReading) (rest : List ClockReading) → DatedBy k rs r rest → DatedBy k (rs ++ qs) r (rest ++ qs)
-by_after (Datagram addr o) rs qs r rest t = comes_after rs qs r rest t
-by_after (Turn k) rs qs r rest t = comes_after rs qs r rest t
-by_after (Offer addr) rs qs r rest t = comes_after rs qs r rest t
-by_after (Piece o) rs qs r rest t = comes_after rs qs r rest t
-by_after End rs qs r rest t = comes_after rs qs r rest t
-by_after Fault rs qs r rest t = comes_after rs qs r rest t
-by_after Close rs qs r rest t = comes_after rs qs r rest t
 by_after (Write took) rs qs r rest t = took_after rs qs r took rest t
-by_after Tick rs qs r rest t = comes_after rs qs r rest t
-by_after Release rs qs r rest t = comes_after rs qs r rest t
-by_after (Reconfigure dgram stream) rs qs r rest t = comes_after rs qs r rest t
-by_after Shutdown rs qs r rest t = comes_after rs qs r rest t
+by_after _ rs qs r rest t = comes_after rs qs r rest t
 
 by_before : (k : EventKind) (ps rs : List ClockReading) (r : ClockReading) (rest : List ClockReading) → DatedBy k rs r rest → DatedBy k (ps ++ rs) r rest
-by_before (Datagram addr o) ps rs r rest t = comes_before ps rs r rest t
-by_before (Turn k) ps rs r rest t = comes_before ps rs r rest t
-by_before (Offer addr) ps rs r rest t = comes_before ps rs r rest t
-by_before (Piece o) ps rs r rest t = comes_before ps rs r rest t
-by_before End ps rs r rest t = comes_before ps rs r rest t
-by_before Fault ps rs r rest t = comes_before ps rs r rest t
-by_before Close ps rs r rest t = comes_before ps rs r rest t
 by_before (Write took) ps rs r rest t = took_before ps rs r took rest t
-by_before Tick ps rs r rest t = comes_before ps rs r rest t
-by_before Release ps rs r rest t = comes_before ps rs r rest t
-by_before (Reconfigure dgram stream) ps rs r rest t = comes_before ps rs r rest t
-by_before Shutdown ps rs r rest t = comes_before ps rs r rest t
+by_before _ ps rs r rest t = comes_before ps rs r rest t
 
 pub dated_before : (ps rs : List ClockReading) (es : List Event) → Dated rs es → Dated (ps ++ rs) es
 dated_before ps rs [] d = tt
@@ -105,18 +85,8 @@ pub timed_noted : (event : Event) (n n' : List Event) (f f' : ℕ) (c c' : List 
 timed_noted event n n' f f' c c' t e = record { events = event ∷ []; readings = t.readings; noted = e; clock = t.clock; dated = t.dated; count = let p = t.count in omega arith }
 
 by_one : (k : EventKind) (r : ClockReading) → write_count k ≡ 0 → DatedBy k (r ∷ []) r (r ∷ [])
-by_one (Datagram addr o) r w = record { skipped = []; later = []; is = refl; rest_is = refl }
-by_one (Turn k) r w = record { skipped = []; later = []; is = refl; rest_is = refl }
-by_one (Offer addr) r w = record { skipped = []; later = []; is = refl; rest_is = refl }
-by_one (Piece o) r w = record { skipped = []; later = []; is = refl; rest_is = refl }
-by_one End r w = record { skipped = []; later = []; is = refl; rest_is = refl }
-by_one Fault r w = record { skipped = []; later = []; is = refl; rest_is = refl }
-by_one Close r w = record { skipped = []; later = []; is = refl; rest_is = refl }
 by_one (Write took) r w = absurd (omega arith)
-by_one Tick r w = record { skipped = []; later = []; is = refl; rest_is = refl }
-by_one Release r w = record { skipped = []; later = []; is = refl; rest_is = refl }
-by_one (Reconfigure dgram stream) r w = record { skipped = []; later = []; is = refl; rest_is = refl }
-by_one Shutdown r w = record { skipped = []; later = []; is = refl; rest_is = refl }
+by_one _ r w = record { skipped = []; later = []; is = refl; rest_is = refl }
 
 -- one reading for one event that is no Write
 pub timed_one : (event : Event) (f f' : ℕ) (c c' : List ClockReading) → c' ≡ c ++ (event.at, event.secs) ∷ [] → write_count event.kind ≡ 0 → f' ≡ f → TimedOne event f f' c c'

@@ -1,9 +1,9 @@
 -- What notes add to the events noted before them.
 use Rattle.std.specs.Prelude.{◌≡◌, ℕ, List, [], ◌∷◌, ◌++◌, true, Result, Ok, Err, OnOk, OnErr}
 use Rattle.dns_name.specs.declared.error.OutOfMemory.{OutOfMemory}
-use Rattle.dns_outside.specs.Causes.{Tells}
-use Rattle.dns_service.specs.declared.event.Event.{Event}
-use Rattle.dns_service.specs.declared.event.EventKind.{EventKind}
+use Rattle.dns_io.specs.Causes.{Tells}
+use Rattle.dns_events.specs.declared.event.Event.{Event}
+use Rattle.dns_events.specs.declared.event.EventKind.{EventKind}
 use Rattle.dns_sent.specs.Own.{is_wide}
 use Rattle.dns_notes.specs.Clocks.{ClockReading, Timed}
 use Rattle.dns_notes.specs.Woven.{kinds, AreNobodys}

@@ -1,12 +1,12 @@
 -- The order of the events that a driver notes, against the looks of its seat: before each own event stands the news of its look.
 use Rattle.std.specs.Prelude.{◌≡◌, ◌≤◌, ℕ, ◌+◌, List, [], ◌∷◌, ◌++◌, length, ◌||◌, if◌then◌else◌}
-use Rattle.dns_admission.specs.declared.look.Look.{Look}
+use Rattle.dns_events.specs.declared.look.Look.{Look}
 use Rattle.dns_admission.specs.declared.call.Call.TheVariants.{Look as ToLook}
 use Rattle.dns_admission.specs.declared.call.Reply.TheVariants.{Look as Shown}
 use Rattle.dns_book.specs.History.{SeatName, entry}
 use Rattle.dns_book.specs.declared.history.Entry.{Entry}
-use Rattle.dns_service.specs.declared.event.Event.{Event}
-use Rattle.dns_service.specs.declared.event.EventKind.{EventKind}
+use Rattle.dns_events.specs.declared.event.Event.{Event}
+use Rattle.dns_events.specs.declared.event.EventKind.{EventKind}
 use Rattle.dns_client.specs.News.{news}
 use Rattle.dns_sent.specs.Own.{is_wide}
 

@@ -4,7 +4,9 @@
 mod moments;
 mod news;
 mod recorder;
+mod waits;
 
-pub use moments::{PATIENCE, PAUSE, note_moment, now_is, pause};
+pub use moments::{PATIENCE, note_moment, now_is, pause};
 pub use news::{note_shutdown, note_version};
 pub use recorder::{Kept, Recorder, Silent};
+pub use waits::Waits;

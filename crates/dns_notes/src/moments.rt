@@ -1,23 +1,20 @@
 //! Events of now, and how long a loop waits for one.
 
 ghost use Rattle.std.specs.Prelude.{◌≡◌, [], ◌∷◌, ◌++◌, IfOk, OnErr};
-ghost use Rattle.dns_outside.specs.Causes.{Tells};
+ghost use Rattle.dns_io.specs.Causes.{Tells};
 ghost use Rattle.dns_notes.specs.Clocks.{Timed, write_count};
 ghost use Rattle.dns_notes.specs.Notes.{NotedMoment};
 
 use crate::recorder::Recorder;
-use dns_outside::Clock;
+use dns_io::Clock;
 use dns_service::{Event, EventKind, OutOfMemory};
 use std::alloc::Global;
 use std::sync::Wait;
 use std::thread::Parker;
 use std::time::Duration;
 
-/// How many milliseconds one wait lasts at most.
+/// How many milliseconds one wait for a datagram, for a connection or for room lasts at most.
 pub const PATIENCE: u64 = 250;
-
-/// How many milliseconds one wait lasts at most where a request is to be polled again.
-pub const PAUSE: u64 = 1;
 
 /// Waits for so many milliseconds, or less.
 pub fn pause<R: Wait>(rt: &R, millis: u64) {

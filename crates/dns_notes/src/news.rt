@@ -7,7 +7,7 @@ ghost use Rattle.dns_notes.specs.Notes.{NotesKinds};
 use crate::moments::note_moment;
 use crate::recorder::Recorder;
 use dns_admission::Look;
-use dns_outside::Clock;
+use dns_io::Clock;
 use dns_service::{EventKind, OutOfMemory};
 use std::alloc::Global;
 

@@ -1,8 +1,8 @@
 //! What a driver notes its events in.
 
 ghost use Rattle.std.specs.Prelude.{◌≡◌, List, [], IfOk};
-ghost use Rattle.dns_service.specs.declared.event.Event.{Event};
-ghost use Rattle.dns_outside.specs.Causes.{Tells};
+ghost use Rattle.dns_events.specs.declared.event.Event.{Event};
+ghost use Rattle.dns_io.specs.Causes.{Tells};
 ghost use Rattle.dns_notes.specs.Notes.{NoteMoves};
 
 use dns_service::{Event, EventKind, Octets, OutOfMemory};

@@ -1,6 +1,6 @@
 use Rattle.dns_client.specs.Serving.{serving}
 use Rattle.dns_service.specs.PolledRequest.{request_answer}
-use Rattle.dns_service.specs.declared.event.EventKind.TheVariants.{Datagram}
+use Rattle.dns_events.specs.declared.event.EventKind.TheVariants.{Datagram}
 use Rattle.dns_datagrams.specs.DatagramSteps.{stamped_event, kept_at}
 use Rattle.dns_datagrams.proofs.DatagramKeeping.{begun_one}
 use Rattle.dns_datagrams.proofs.DatagramPlaces.{pushed_here, pushed_others}

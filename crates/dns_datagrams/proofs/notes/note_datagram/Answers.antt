@@ -1,5 +1,5 @@
 use Rattle.std.proofs.Common.{ap, sym, ◌∙◌}
-use Rattle.dns_service.specs.declared.event.EventKind.TheVariants.{Datagram}
+use Rattle.dns_events.specs.declared.event.EventKind.TheVariants.{Datagram}
 use Rattle.dns_datagrams.specs.declared.notes.Stamp.{Stamp}
 use Rattle.dns_datagrams.proofs.DatagramTellings.{tells_one}
 use Rattle.dns_datagrams.proofs.DatagramStamps.{has_octets, octets_are, stamped_as}

@@ -1,5 +1,5 @@
 use Rattle.std.proofs.Common.{[], ◌∷◌, refl}
-use Rattle.dns_service.specs.declared.event.EventKind.TheVariants.{Fault}
+use Rattle.dns_events.specs.declared.event.EventKind.TheVariants.{Fault}
 use Rattle.dns_datagrams.proofs.DatagramPosting.{sent_none, sends_whole, sends_late, sends_failed, unsent_posts}
 use Rattle.dns_datagrams.proofs.DatagramTellings.{on_ok_is, on_err_is, tells_none, tells_dc, tells_dc_j, tells_dc_c_j}
 use Rattle.dns_datagrams.proofs.sends.deliver.Goals as goal

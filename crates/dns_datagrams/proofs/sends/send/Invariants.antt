@@ -1,5 +1,5 @@
 use Rattle.std.proofs.Common.{◌≡◌, []}
-use Rattle.dns_outside.specs.Causes.{Tells}
+use Rattle.dns_io.specs.Causes.{Tells}
 use Rattle.dns_datagrams.specs.DatagramSteps.{SentSo}
 use Rattle.dns_datagrams.proofs.sends.send.Given as goal
 

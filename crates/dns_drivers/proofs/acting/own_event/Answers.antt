@@ -12,10 +12,10 @@ returns-in-Some g c =
       chosen = record {
         told = λ t.
             let m = c.write_event.ensures.moved.told t in
-            (m.0, chosen_write a c.args.client (below_of c.args.last) _ c.args.core.now _ _ _ c.in-Some.frame.now c.in-Some.ensures.value (λ answers s h. c.in-Some.ensures.queue answers s h) m.1 c.write_timeout.ensures.value c.write_event.ensures.kind c.write_event.ensures.client);
+            (m.0, chosen_write a c.args.client (below_of c.args.kept.now.turn) _ c.args.core.now _ _ _ c.in-Some.frame.now c.in-Some.ensures.value (λ answers s h. c.in-Some.ensures.queue answers s h) m.1 c.write_timeout.ensures.value c.write_event.ensures.kind c.write_event.ensures.client);
       };
       clock = c.write_event.ensures.clock;
-      blame = for_write a (below_of c.args.last) c.args.core.now _ _ _ c.in-Some.frame.now (λ answers s h. c.in-Some.ensures.queue answers s h) c.write_event.ensures.kind c.write_event.ensures.blame;
+      blame = for_write a (below_of c.args.kept.now.turn) c.args.core.now _ _ _ c.in-Some.frame.now (λ answers s h. c.in-Some.ensures.queue answers s h) c.write_event.ensures.kind c.write_event.ensures.blame;
       again = record {
         told = λ t.
             let m = c.write_event.ensures.again.told t in

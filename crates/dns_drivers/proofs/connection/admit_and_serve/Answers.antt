@@ -1,5 +1,5 @@
 use Rattle.dns_service.specs.PolledRequest.{request_answer}
-use Rattle.dns_service.specs.declared.event.Why.{Why}
+use Rattle.dns_events.specs.declared.event.Why.{Why}
 use Rattle.dns_client.specs.Serving.{serving}
 use Rattle.dns_client.specs.Slate.{Slate}
 use Rattle.dns_drivers.specs.Shown.{Causes}

@@ -1,4 +1,4 @@
-use Rattle.dns_service.specs.declared.event.Why.{Why}
+use Rattle.dns_events.specs.declared.event.Why.{Why}
 use Rattle.dns_client.specs.Serving.{serving}
 use Rattle.dns_notes.specs.Clocks.{Timed}
 use Rattle.dns_notes.proofs.Timings.{timed_then, timed_shift}

@@ -1,7 +1,7 @@
 use Rattle.std.proofs.Common.{Option}
-use Rattle.dns_outside.specs.Causes.{Tells}
+use Rattle.dns_io.specs.Causes.{Tells}
 use Rattle.dns_service.specs.PolledRequest.{request_answer}
-use Rattle.dns_service.specs.declared.event.Why.{Why}
+use Rattle.dns_events.specs.declared.event.Why.{Why}
 use Rattle.dns_notes.specs.Clocks.{Timed}
 use Rattle.dns_notes.specs.Notes.{NotedWide}
 use Rattle.dns_drivers.specs.Blames.{HeardFor}

@@ -1,5 +1,5 @@
 use Rattle.std.proofs.Common.{◌≡◌, ◌≤◌}
-use Rattle.dns_outside.specs.Causes.{Tells}
+use Rattle.dns_io.specs.Causes.{Tells}
 use Rattle.dns_service.specs.PolledRequest.{request_answer}
 use Rattle.dns_client.specs.Serving.{serving}
 use Rattle.dns_client.specs.Slate.{Slate}

@@ -1,6 +1,6 @@
 use Rattle.std.proofs.Common.{Option, refl, inl, inr}
 use Rattle.dns_service.specs.PolledRequest.{request_answer}
-use Rattle.dns_service.specs.declared.event.Why.{Why}
+use Rattle.dns_events.specs.declared.event.Why.{Why}
 use Rattle.dns_client.specs.Serving.{serving}
 use Rattle.dns_notes.specs.Clocks.{Timed}
 use Rattle.dns_notes.proofs.Timings.{timed_then, timed_shift}

@@ -1,5 +1,5 @@
 use Rattle.std.proofs.Common.{◌≡◌, ◌≤◌, length}
-use Rattle.dns_outside.specs.Causes.{Tells}
+use Rattle.dns_io.specs.Causes.{Tells}
 use Rattle.dns_notes.specs.Clocks.{Waited}
 use Rattle.dns_drivers.specs.Links.{WroteFront}
 use Rattle.dns_drivers.proofs.writing.write_frame.Given as goal

@@ -1,6 +1,6 @@
 use Rattle.dns_client.specs.Serving.{serving}
 use Rattle.dns_service.specs.PolledRequest.{request_answer}
-use Rattle.dns_service.specs.declared.event.EventKind.TheVariants.{Datagram}
+use Rattle.dns_events.specs.declared.event.EventKind.TheVariants.{Datagram}
 use Rattle.std.proofs.Common.{refl}
 use Rattle.dns_datagrams.specs.DatagramSteps.{stamped_event}
 use Rattle.dns_datagrams.proofs.DatagramTellings.{if_ok_by, on_err_by, tells_none, tells_one}

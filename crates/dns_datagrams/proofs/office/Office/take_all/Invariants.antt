@@ -1,7 +1,7 @@
 use Rattle.std.proofs.Common.{[], ◌≡◌, false}
 use Rattle.dns_client.specs.Serving.{serving}
 use Rattle.dns_service.specs.PolledRequest.{request_answer}
-use Rattle.dns_outside.specs.Causes.{Tells}
+use Rattle.dns_io.specs.Causes.{Tells}
 use Rattle.dns_datagrams.specs.DatagramLoop.{LoopGoes}
 use Rattle.dns_datagrams.specs.DatagramOffice.{Went, office_seen, office_told}
 use Rattle.dns_datagrams.specs.DatagramsServed.{MayCome}
