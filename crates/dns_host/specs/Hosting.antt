@@ -1,24 +1,24 @@
 -- How connections and datagrams are served beside each other.
 use Rattle.std.specs.Prelude.{◌≡◌, ◌≤◌, ◌⊎◌, ℕ, List, Bool, true, false, ◌||◌}
 use Rattle.dns_name.specs.declared.address.SocketAddr.{SocketAddr}
-use Rattle.dns_admission.specs.declared.look.Look.{Look}
+use Rattle.dns_events.specs.declared.look.Look.{Look}
 use Rattle.dns_admission.specs.declared.call.Call.TheVariants.{Shutdown as ToShutdown}
 use Rattle.dns_admission.specs.declared.call.Reply.TheVariants.{Look as Shown}
 use Rattle.dns_book.specs.Seats.{Called, Joined, first_half, second_half}
 use Rattle.dns_book.specs.declared.history.Known.{Known}
-use Rattle.dns_outside.specs.Causes.{Rose, Tells}
-use Rattle.dns_outside.specs.Doors.{Door}
-use Rattle.dns_outside.specs.Mail.{Mail}
-use Rattle.dns_service.specs.declared.event.Event.{Event}
+use Rattle.dns_io.specs.Causes.{Rose, Tells}
+use Rattle.dns_io.specs.Doors.{Door}
+use Rattle.dns_io.specs.Mail.{Mail}
+use Rattle.dns_events.specs.declared.event.Event.{Event}
 use Rattle.dns_client.specs.Serving.{Serving}
-use Rattle.dns_drivers.specs.Clocks.{ClockReading}
+use Rattle.dns_accepts.specs.Clocks.{ClockReading}
 use Rattle.dns_datagrams.specs.DatagramsServed.{World, world, LooksBy, ReceivesBy, RoseIf, ServedTo}
 use Rattle.dns_datagrams.specs.declared.serving.DgramEnd.{DgramEnd}
 use Rattle.dns_datagrams.specs.declared.serving.DgramEnd.TheVariants.{Shutdown as DgramShutdown, Counted as DgramCounted, Fault as DgramFault, OutOfMemory as DgramOutOfMemory}
-use Rattle.dns_host.specs.Accepting.{AcceptsTo}
-use Rattle.dns_host.specs.Arrivals.{RoseWhere, AcceptsRan}
-use Rattle.dns_host.specs.declared.accepts.AcceptEnd.{AcceptEnd}
-use Rattle.dns_host.specs.declared.accepts.AcceptEnd.TheVariants.{Shutdown as AcceptShutdown, Counted as AcceptCounted, OutOfMemory as AcceptOutOfMemory}
+use Rattle.dns_accepts.specs.Accepting.{AcceptsTo}
+use Rattle.dns_accepts.specs.Arrivals.{RoseWhere, AcceptsRan}
+use Rattle.dns_accepts.specs.declared.accepts.AcceptEnd.{AcceptEnd}
+use Rattle.dns_accepts.specs.declared.accepts.AcceptEnd.TheVariants.{Shutdown as AcceptShutdown, Counted as AcceptCounted, OutOfMemory as AcceptOutOfMemory}
 use Rattle.dns_host.specs.declared.host.Host.{Host}
 use Rattle.dns_host.specs.declared.host.HostEnd.{HostEnd}
 use Rattle.dns_host.specs.declared.host.HostEnd.TheVariants.{Done, OutOfMemory, HostFault}

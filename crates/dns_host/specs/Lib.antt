@@ -1,7 +1,8 @@
+pub use Rattle.dns_accepts.specs.Accepting
+pub use Rattle.dns_accepts.specs.Arrivals
+pub use Rattle.dns_accepts.specs.Clocks
+pub use Rattle.dns_accepts.specs.Woven
+pub use Rattle.dns_accepts.specs.declared.accepts.AcceptEnd
 pub use Rattle.dns_datagrams.specs.DatagramsServed
 pub use Rattle.dns_datagrams.specs.declared.serving.DgramEnd
-pub use Rattle.dns_drivers.specs.Clocks
-pub use Rattle.dns_drivers.specs.Woven
-pub mod Accepting
-pub mod Arrivals
 pub mod Hosting

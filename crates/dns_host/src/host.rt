@@ -5,16 +5,12 @@ ghost use Rattle.std.specs.Arc.{arc_value};
 ghost use Rattle.dns_client.specs.Serving.{serving};
 ghost use Rattle.dns_host.specs.Hosting.{host_end, host_seen, door_told, mail_told, AcceptsWent, DgramsWent, HalvesClosed, HostServed};
 
-use crate::accepts::AcceptEnd;
-use crate::house::House;
-use crate::pre_connect::NoHook;
-use crate::reception::Reception;
-use crate::work::ConnectionWork;
+use crate::house::{House, Reception};
+use dns_accepts::{AcceptEnd, ConnectionWork, Recorder, Silent};
 use dns_book::{Book, BookSeat};
 use dns_datagrams::DgramEnd;
-use dns_drivers::{Recorder, Silent};
+use dns_io::{AsyncAccept, AsyncDgramSock, Clock, Spawner};
 use dns_name::OutOfMemory;
-use dns_outside::{AsyncAccept, AsyncDgramSock, Clock, Spawner};
 use dns_service::Served;
 use std::alloc::Global;
 use std::sync::{Arc, Wait};
@@ -78,7 +74,7 @@ where
         W: Served + Send + Sync + 'static,
     >(
         &mut self,
-        reception: &Reception<'_, R, C, W, NoHook>,
+        reception: &Reception<'_, R, C, W>,
         halves: (BookSeat, BookSeat),
         count: u64,
     ) -> ((BookSeat, DgramEnd, bool), (BookSeat, AcceptEnd, bool))
@@ -118,7 +114,7 @@ where
     /// Serves both from the halves of a seat. Then `join_all` waits for the work, and the book is shut down.
     fn serve<R: Threads + Wait + Copy + Send + Sync + 'static, W: Served + Send + Sync + 'static>(
         &mut self,
-        reception: &Reception<'_, R, C, W, NoHook>,
+        reception: &Reception<'_, R, C, W>,
         seat: BookSeat,
         count: u64,
     ) -> (BookSeat, HostEnd)
@@ -173,7 +169,6 @@ where
                 service: &service,
             },
             clock: &clock,
-            hook: &NoHook,
         };
         self.serve(&reception, seat, count)
     }

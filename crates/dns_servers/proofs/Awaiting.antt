@@ -1,7 +1,7 @@
 -- Looks and readings while a control waits.
 use Rattle.std.proofs.Common.{◌≡◌, ◌≤◌, ◌↔◌, ℕ, ◌-◌, Bool, true, false, IsTrue, Some, None, List, [], ◌∷◌, ◌++◌, refl, sym, ap, ◌∙◌, append_assoc, append-nil}
 use Rattle.std.proofs.lemmas.List.Elements.{All-nil, All-push}
-use Rattle.dns_admission.specs.declared.look.Look.{Look}
+use Rattle.dns_events.specs.declared.look.Look.{Look}
 use Rattle.dns_admission.specs.declared.call.Call.TheVariants.{Look as ToLook}
 use Rattle.dns_admission.specs.declared.call.Reply.TheVariants.{Look as Shown}
 use Rattle.dns_book.specs.Gains.{with_calls}
@@ -10,7 +10,7 @@ use Rattle.dns_book.specs.Seats.{Called, state_met}
 use Rattle.dns_book.specs.declared.history.Entry.{Entry}
 use Rattle.dns_book.specs.declared.history.Known.{Known}
 use Rattle.dns_book.specs.declared.history.Share.{Share}
-use Rattle.dns_outside.specs.Causes.{Tells}
+use Rattle.dns_io.specs.Causes.{Tells}
 use Rattle.dns_host.specs.Clocks.{ClockReading}
 use Rattle.dns_host.specs.Woven.{look_entries}
 use Rattle.dns_host.specs.DatagramsServed.{LooksOnly}

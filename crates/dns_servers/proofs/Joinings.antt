@@ -3,11 +3,11 @@ use Rattle.std.proofs.Common.{◌≡◌, ◌≢◌, ◌⊎◌, ℕ, List, ◌∙
 use Rattle.dns_name.specs.declared.address.SocketAddr.{SocketAddr}
 use Rattle.dns_book.specs.declared.history.Entry.{Entry}
 use Rattle.dns_book.specs.declared.history.Known.{Known}
-use Rattle.dns_outside.specs.Causes.{Tells}
-use Rattle.dns_outside.specs.Doors.{Door}
+use Rattle.dns_io.specs.Causes.{Tells}
+use Rattle.dns_io.specs.Doors.{Door}
 use Rattle.dns_host.specs.Accepting.{AcceptTurn, TookTurns, TookUntilShut, TookAlmost, AcceptsTo, Gave, admitted_callers_in}
-use Rattle.dns_host.specs.declared.accepts.AcceptEnd.{AcceptEnd}
-use Rattle.dns_host.specs.declared.accepts.AcceptEnd.TheVariants.{Shutdown as Stopped, Counted, OutOfMemory as Lacking}
+use Rattle.dns_host.specs.AcceptEnd.{AcceptEnd}
+use Rattle.dns_host.specs.AcceptEnd.TheVariants.{Shutdown as Stopped, Counted, OutOfMemory as Lacking}
 use Rattle.dns_servers.specs.Runs.{EndsAs, ConnectionsRan}
 use Rattle.dns_servers.specs.declared.stream.StreamEnd.{StreamEnd}
 use Rattle.dns_servers.specs.declared.stream.StreamEnd.TheVariants.{Shutdown as ShutDown, OutOfMemory}

@@ -2,9 +2,9 @@
 use Rattle.std.specs.Prelude.{◌≡◌, ◌≤◌, ◌↔◌, ℕ, ◌-◌, Bool, true, false, List, [], ◌∷◌, ◌++◌, Result, Ok, Err, Option, Some, None, IsTrue}
 use Rattle.std.specs.List.{All}
 use Rattle.dns_service.specs.Config.{Dgram, Stream}
-use Rattle.dns_service.specs.declared.error.Error.{Error}
+use Rattle.dns_events.specs.declared.error.Error.{Error}
 use Rattle.dns_admission.specs.Admissions.{Reconfigures}
-use Rattle.dns_admission.specs.declared.look.Look.{Look}
+use Rattle.dns_events.specs.declared.look.Look.{Look}
 use Rattle.dns_admission.specs.declared.call.Call.TheVariants.{Reconfigure}
 use Rattle.dns_admission.specs.declared.call.Reply.TheVariants.{Version}
 use Rattle.dns_book.specs.Seats.{Called, state_met}

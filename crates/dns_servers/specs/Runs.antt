@@ -2,20 +2,20 @@
 use Rattle.std.specs.Prelude.{◌≡◌, ℕ, List}
 use Rattle.dns_name.specs.declared.address.SocketAddr.{SocketAddr}
 use Rattle.dns_admission.specs.Admissions.{Admits}
-use Rattle.dns_admission.specs.declared.look.Admission.{Admission}
-use Rattle.dns_admission.specs.declared.look.Admission.TheVariants.{Admitted, Full, Closed}
+use Rattle.dns_admission.specs.declared.admission.Admission.{Admission}
+use Rattle.dns_admission.specs.declared.admission.Admission.TheVariants.{Admitted, Full, Closed}
 use Rattle.dns_admission.specs.declared.call.Call.TheVariants.{Admit, Release}
 use Rattle.dns_admission.specs.declared.call.Reply.TheVariants.{Admission as Answered, Left}
 use Rattle.dns_book.specs.Seats.{Called, state_met}
 use Rattle.dns_book.specs.declared.history.Known.{Known}
-use Rattle.dns_outside.specs.Doors.{Door}
+use Rattle.dns_io.specs.Doors.{Door}
 use Rattle.dns_client.specs.Serving.{Serving}
 use Rattle.dns_host.specs.DatagramsServed.{World, ServedTo}
 use Rattle.dns_host.specs.DgramEnd.{DgramEnd}
 use Rattle.dns_host.specs.DgramEnd.TheVariants.{Shutdown}
 use Rattle.dns_host.specs.Accepting.{TookUntilShut, TookAlmost}
-use Rattle.dns_host.specs.declared.accepts.AcceptEnd.{AcceptEnd}
-use Rattle.dns_host.specs.declared.accepts.AcceptEnd.TheVariants.{Shutdown as Stopped, OutOfMemory as Lacking}
+use Rattle.dns_host.specs.AcceptEnd.{AcceptEnd}
+use Rattle.dns_host.specs.AcceptEnd.TheVariants.{Shutdown as Stopped, OutOfMemory as Lacking}
 use Rattle.dns_servers.specs.declared.stream.StreamEnd.{StreamEnd}
 use Rattle.dns_servers.specs.declared.stream.StreamEnd.TheVariants.{Shutdown as ShutDown, OutOfMemory}
 

@@ -2,13 +2,13 @@
 
 ghost use Rattle.std.specs.Prelude.{◌≡◌, ◌↔◌, Ok, IsTrue, MatchOption, true};
 ghost use Rattle.std.specs.Arc.{arc_value};
-ghost use Rattle.dns_outside.specs.Causes.{Tells};
+ghost use Rattle.dns_io.specs.Causes.{Tells};
 ghost use Rattle.dns_book.specs.Seats.{Called, state_met};
 ghost use Rattle.dns_servers.specs.Controls.{IsDown, Reconfigured, Awaited, ReadAgain, TimePassed};
 
 use dns_book::{Book, BookSeat, Call, Reply};
 use dns_host::pause;
-use dns_outside::Clock;
+use dns_io::Clock;
 use dns_service::{DgramConfig, Error, StreamConfig};
 use std::marker::Model;
 use std::sync::{Arc, Wait};

@@ -4,7 +4,7 @@ ghost use Rattle.std.specs.Prelude.{◌≡◌};
 
 use crate::frames::FrameCount;
 use crate::metrics::ServerMetrics;
-use dns_outside::{Link, LinkRead, LinkWrite};
+use dns_io::{Link, LinkRead, LinkWrite};
 use std::marker::Model;
 use std::sync::{Arc, Wait};
 

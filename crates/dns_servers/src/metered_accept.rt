@@ -4,7 +4,7 @@ ghost use Rattle.std.specs.Prelude.{◌≡◌};
 
 use crate::metered::Metered;
 use crate::metrics::ServerMetrics;
-use dns_outside::{AcceptAnswer, AsyncAccept};
+use dns_io::{AcceptAnswer, AsyncAccept};
 use std::marker::Model;
 use std::sync::{Arc, Wait};
 

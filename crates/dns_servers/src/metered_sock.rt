@@ -3,8 +3,8 @@
 ghost use Rattle.std.specs.Prelude.{◌≡◌};
 
 use crate::metrics::ServerMetrics;
+use dns_io::{AsyncDgramSock, DgramRecv, DgramSend};
 use dns_name::SocketAddr;
-use dns_outside::{AsyncDgramSock, DgramRecv, DgramSend};
 use std::marker::Model;
 use std::sync::{Arc, Wait};
 

@@ -8,7 +8,7 @@ ghost use Rattle.dns_servers.specs.Parts.{IsSeatAt, known_of};
 use crate::seating::{put_seat, take_seat};
 use dns_book::{Book, BookSeat};
 use dns_host::{AcceptEnd, ConnectionWork, PreConnect, Silent, serve_accepts};
-use dns_outside::{AsyncAccept, Clock, Spawner};
+use dns_io::{AsyncAccept, Clock, Spawner};
 use dns_service::Served;
 use std::alloc::Global;
 use std::sync::{Arc, Wait};

@@ -18,8 +18,9 @@ use crate::provision::Provision;
 use crate::seating::{Ground, split_off};
 use dns_book::{Book, BookSeat};
 use dns_host::{AcceptEnd, ConnectionWork, NoHook, PreConnect, Silent};
+use dns_io::{AsyncAccept, Clock, Spawner};
 use dns_name::OutOfMemory;
-use dns_outside::{AsyncAccept, Clock, MioAccept, Spawner};
+use dns_outside::MioAccept;
 use dns_service::{Served, StreamConfig};
 use std::alloc::Global;
 use std::marker::Model;
@@ -48,7 +49,7 @@ fn end_of(end: AcceptEnd) -> StreamEnd
 }
 
 /// A server of connections over a real socket.
-pub type TcpServer<N, W, C, P, H = NoHook> = StreamServer<MioAccept<N>, VecBufSource, W, C, P, H>;
+pub type TcpServer<W, C, P, H = NoHook> = StreamServer<MioAccept, VecBufSource, W, C, P, H>;
 
 /// A server of connections, with a book and metrics of its own. Its book has one seat more for each control. A source of
 /// buffers is a part of it, and no answer depends on it.

@@ -1,5 +1,5 @@
 use Rattle.std.proofs.Common.{◌≡◌}
-use Rattle.dns_outside.specs.Causes.{Tells}
+use Rattle.dns_io.specs.Causes.{Tells}
 use Rattle.dns_servers.specs.Controls.{LookedInVain, Since}
 use Rattle.dns_servers.proofs.control.Control.await_shutdown.Given as goal
 

@@ -4,7 +4,7 @@ use Rattle.std.proofs.lemmas.List.{replicate-append-replicate, length-append}
 use Rattle.std.proofs.lemmas.List.Elements.{All-nil, All-cons, All-append}
 use Rattle.dns_name.specs.declared.address.SocketAddr.{SocketAddr}
 use Rattle.dns_name.specs.declared.error.OutOfMemory.{OutOfMemory}
-use Rattle.dns_admission.specs.declared.look.Look.{Look}
+use Rattle.dns_events.specs.declared.look.Look.{Look}
 use Rattle.dns_admission.specs.declared.call.Call.TheVariants.{Look as ToLook}
 use Rattle.dns_admission.specs.declared.call.Reply.TheVariants.{Look as Shown}
 use Rattle.dns_book.specs.Seats.{Called}
@@ -12,12 +12,12 @@ use Rattle.dns_book.specs.History.{SeatName}
 use Rattle.dns_book.specs.Gains.{Gained}
 use Rattle.dns_book.specs.declared.history.Entry.{Entry}
 use Rattle.dns_book.specs.declared.history.Known.{Known}
-use Rattle.dns_outside.specs.Doors.{Door}
-use Rattle.dns_host.specs.Accepting.{Came, AcceptTurn, caller, callers_in, admitted_caller, admitted_callers_in, one_if_nobody, nobody_in, one_if_failure, failures_in, halved, admit_entries, look_entry, turn_entries, RoseBy, LetIn, TookTurns}
-use Rattle.dns_host.specs.Arrivals.{GaveSo, BroughtIn, Brought}
-use Rattle.dns_host.specs.declared.taking.Arrival.{Arrival}
-use Rattle.dns_host.proofs.Gainings.{gained_one, gained_both}
-use Rattle.dns_host.proofs.Tellings.{tells_then}
+use Rattle.dns_io.specs.Doors.{Door}
+use Rattle.dns_accepts.specs.Accepting.{Came, AcceptTurn, caller, callers_in, admitted_caller, admitted_callers_in, one_if_nobody, nobody_in, one_if_failure, failures_in, halved, admit_entries, look_entry, turn_entries, RoseBy, LetIn, TookTurns}
+use Rattle.dns_accepts.specs.Arrivals.{GaveSo, BroughtIn, Brought}
+use Rattle.dns_accepts.specs.declared.taking.Arrival.{Arrival}
+use Rattle.dns_accepts.proofs.Gainings.{gained_one, gained_both}
+use Rattle.dns_accepts.proofs.Tellings.{tells_then}
 
 pub halved-twice : (n : SeatName) (xs ys : List SocketAddr) → halved (halved n xs) ys ≡ halved n (xs ++ ys)
 halved-twice n xs ys =

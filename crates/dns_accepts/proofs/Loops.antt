@@ -4,8 +4,8 @@ use Rattle.std.proofs.lemmas.List.{length-append}
 use Rattle.std.proofs.lemmas.List.Elements.{All-nil}
 use Rattle.dns_name.specs.declared.address.SocketAddr.{SocketAddr}
 use Rattle.dns_name.specs.declared.error.OutOfMemory.{OutOfMemory}
-use Rattle.dns_admission.specs.declared.look.Look.{Look}
-use Rattle.dns_admission.specs.declared.look.Admission.TheVariants.{Admitted, Full, Closed}
+use Rattle.dns_events.specs.declared.look.Look.{Look}
+use Rattle.dns_admission.specs.declared.admission.Admission.TheVariants.{Admitted, Full, Closed}
 use Rattle.dns_admission.specs.declared.call.Call.TheVariants.{Look as ToLook}
 use Rattle.dns_admission.specs.declared.call.Reply.TheVariants.{Look as Shown}
 use Rattle.dns_book.specs.Seats.{Called}
@@ -13,17 +13,17 @@ use Rattle.dns_book.specs.History.{SeatName}
 use Rattle.dns_book.specs.Gains.{Gained}
 use Rattle.dns_book.specs.declared.history.Entry.{Entry}
 use Rattle.dns_book.specs.declared.history.Known.{Known}
-use Rattle.dns_outside.specs.Causes.{Rose}
-use Rattle.dns_outside.specs.Doors.{Door}
-use Rattle.dns_host.specs.Accepting.{Came, Caller, Nobody, Fault, AcceptTurn, caller, callers_in, admitted_caller, admitted_callers_in, look_entry, turn_entries, Gave, EndsAdmitted, TookCount, TookUntilShut, TookAlmost, AcceptsTo}
-use Rattle.dns_host.specs.declared.accepts.AcceptEnd.{AcceptEnd}
-use Rattle.dns_host.specs.declared.accepts.AcceptEnd.TheVariants.{Shutdown, Counted, OutOfMemory as NoMemory}
-use Rattle.dns_host.specs.Arrivals.{ArrivalOf, Brought, arrival_callers, is_faulty, StartFaults, AcceptFaults, RoseWhere, TookSoFar, EndedSo}
-use Rattle.dns_host.specs.declared.taking.Arrival.{Arrival}
-use Rattle.dns_host.specs.declared.taking.Arrival.TheVariants.{Served, Refused, TurnedAway, Nobody as NobodyCame, Fault as FaultCame}
-use Rattle.dns_host.proofs.Gainings.{gained_none, gained_one, gained_both}
-use Rattle.dns_host.proofs.Bringings.{rose_none}
-use Rattle.dns_host.proofs.Turnings.{admitted-snoc, callers-snoc, turn_more}
+use Rattle.dns_io.specs.Causes.{Rose}
+use Rattle.dns_io.specs.Doors.{Door}
+use Rattle.dns_accepts.specs.Accepting.{Came, Caller, Nobody, Fault, AcceptTurn, caller, callers_in, admitted_caller, admitted_callers_in, look_entry, turn_entries, Gave, EndsAdmitted, TookCount, TookUntilShut, TookAlmost, AcceptsTo}
+use Rattle.dns_accepts.specs.declared.accepts.AcceptEnd.{AcceptEnd}
+use Rattle.dns_accepts.specs.declared.accepts.AcceptEnd.TheVariants.{Shutdown, Counted, OutOfMemory as NoMemory}
+use Rattle.dns_accepts.specs.Arrivals.{ArrivalOf, Brought, arrival_callers, is_faulty, StartFaults, AcceptFaults, RoseWhere, TookSoFar, EndedSo}
+use Rattle.dns_accepts.specs.declared.taking.Arrival.{Arrival}
+use Rattle.dns_accepts.specs.declared.taking.Arrival.TheVariants.{Served, Refused, TurnedAway, Nobody as NobodyCame, Fault as FaultCame}
+use Rattle.dns_accepts.proofs.Gainings.{gained_none, gained_one, gained_both}
+use Rattle.dns_accepts.proofs.Bringings.{rose_none}
+use Rattle.dns_accepts.proofs.Turnings.{admitted-snoc, callers-snoc, turn_more}
 
 pub so_far_none : (count : ℕ) (now : Type 0) (k : Known) (a : Door) (g : List SocketAddr) (f : ℕ) → TookSoFar count 0 now now k k a a g g f f
 so_far_none count now k a g f = record {

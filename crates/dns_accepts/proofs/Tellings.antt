@@ -1,5 +1,5 @@
 -- What objects tell through several calls.
-use Rattle.dns_outside.specs.Causes.{Tells}
+use Rattle.dns_io.specs.Causes.{Tells}
 
 -- another fact of the same calls
 pub tells_map : (now before p q : Type 0) → (p → q) → Tells now before p → Tells now before q

@@ -1,10 +1,10 @@
 //! What a loop of accepts takes and counts.
 
 ghost use Rattle.std.specs.Prelude.{◌≡◌, ◌+◌, ◌-◌, ◌%◌, ◌^◌, ◌||◌, min, false};
-ghost use Rattle.dns_host.specs.Arrivals.{arrival_admitted, arrival_callers, arrival_of, is_faulty};
+ghost use Rattle.dns_accepts.specs.Arrivals.{arrival_admitted, arrival_callers, arrival_of, is_faulty};
 
+use dns_io::Start;
 use dns_name::OutOfMemory;
-use dns_outside::Start;
 
 /// What one turn of the loop of accepts brought.
 #[derive(Clone, Copy, Debug, PartialEq, Eq)]

@@ -1,24 +1,22 @@
 //! Connections are received, one by one.
 
-ghost use Rattle.std.specs.Prelude.{◌≡◌, ◌≤◌, false, IfOk, MatchOption};
+ghost use Rattle.std.specs.Prelude.{◌≡◌, ◌≤◌, false, IfOk};
 ghost use Rattle.std.specs.Arc.{arc_value};
-ghost use Rattle.dns_outside.specs.Causes.{Tells};
-ghost use Rattle.dns_outside.specs.Doors.{AcceptMoves, AcceptCause};
-ghost use Rattle.dns_outside.specs.Starts.{StartMoves, StartCause};
-ghost use Rattle.dns_host.specs.Hosting.{AcceptsShut, AcceptsWent};
+ghost use Rattle.dns_io.specs.Causes.{Tells};
+ghost use Rattle.dns_io.specs.Doors.{AcceptMoves, AcceptCause};
+ghost use Rattle.dns_io.specs.Starts.{StartMoves, StartCause};
 ghost use Rattle.dns_book.specs.Seats.{first_half};
-ghost use Rattle.dns_host.specs.Arrivals.{AskedOne, Brought, StartFaults, AcceptFaults, EndedSo, AcceptsRan, arrival_of};
+ghost use Rattle.dns_accepts.specs.Arrivals.{AskedOne, Brought, StartFaults, AcceptFaults, EndedSo, AcceptsRan, arrival_of};
 
 use crate::accepts::AcceptEnd;
-use crate::house::House;
 use crate::pre_connect::PreConnect;
 use crate::taking::{Arrival, Tally, arrival_of};
 use crate::work::ConnectionWork;
 use dns_admission::Look;
 use dns_book::{Admission, Book, BookSeat};
 use dns_drivers::{PATIENCE, Silent};
+use dns_io::{AcceptAnswer, AsyncAccept, Clock, Link, Spawner, Start};
 use dns_name::{OutOfMemory, SocketAddr};
-use dns_outside::{AcceptAnswer, AsyncAccept, Clock, Link, Spawner, Start};
 use dns_service::Served;
 use std::alloc::Global;
 use std::sync::{Arc, Wait};
@@ -30,7 +28,10 @@ const WAIT_AFTER_FAULT: u64 = 10;
 /// What connections are received with. No call changes it.
 #[derive(Drop)]
 pub(crate) struct Reception<'a, R, C, W, H> {
-    pub(crate) house: House<'a, R, W>,
+    pub(crate) rt: &'a R,
+    pub(crate) alloc: Global,
+    pub(crate) book: &'a Arc<Book>,
+    pub(crate) service: &'a Arc<W>,
     /// What the clock of each connection is made of.
     pub(crate) clock: &'a C,
     pub(crate) hook: &'a H,
@@ -102,20 +103,6 @@ fn give_up<R: Wait, L: Link + Drop>(rt: &R, book: &Book, mut seat: BookSeat, gue
     turn_away(guest);
 }
 
-/// Shuts the book down where accepts ended for want of memory.
-fn shut_after_accepts<R: Wait>(rt: &R, book: &Book, seat: &mut BookSeat, end: AcceptEnd)
-    requires { seat.old.book ≡ book.now }
-    ensures shut { AcceptsShut end seat.old.known seat.new.known }
-    ensures same { seat.new.book ≡ seat.old.book }
-{
-    match end {
-        AcceptEnd::OutOfMemory => {
-            book.shutdown(rt, seat);
-        }
-        AcceptEnd::Shutdown | AcceptEnd::Counted => {}
-    }
-}
-
 /// Makes one accept. Where it brought no connection, it waits.
 fn accept_or_wait<R: Wait, A: AsyncAccept>(rt: &R, accept: &mut A) -> AcceptAnswer<A::Link>
     ensures moves { Tells (A.tells accept.new) (A.tells accept.old) (AcceptMoves result (A.door accept.old) (A.door accept.new)) }
@@ -147,10 +134,10 @@ where
 {
     /// Takes the memory that the work of a connection needs.
     fn shares(&self) -> Result<Shares<C, W>, OutOfMemory>
-        ensures { IfOk result (λ s. (arc_value s.book ≡ arc_value self.now.house.book.now) × (arc_value s.service ≡ arc_value self.now.house.service.now)) }
+        ensures { IfOk result (λ s. (arc_value s.book ≡ arc_value self.now.book.now) × (arc_value s.service ≡ arc_value self.now.service.now)) }
     {
-        match clones(self.house.book, self.house.service) {
-            Ok((book, service)) => match self.clock.another(self.house.alloc) {
+        match clones(self.book, self.service) {
+            Ok((book, service)) => match self.clock.another(self.alloc) {
                 Ok(clock) => Ok(Shares {
                     book,
                     service,
@@ -170,15 +157,15 @@ where
         look: &Look,
         guest: Guest<L>,
     ) -> Result<ConnectionWork<L, C, Silent, W>, OutOfMemory>
-        requires book { seat.book ≡ arc_value self.now.house.book.now }
+        requires book { seat.book ≡ arc_value self.now.book.now }
         requires running { look.now.closed ≡ false }
-        requires can_call { W.can_call (arc_value self.now.house.service.now) }
+        requires can_call { W.can_call (arc_value self.now.service.now) }
         ensures { IfOk result (λ w. (w.addr ≡ guest.from) × (w.seat.book ≡ arc_value w.book) × (w.look.closed ≡ false) × W.can_call (arc_value w.service)) }
     {
         match self.shares() {
             Ok(shares) => Ok(shares.work(seat, look, guest)),
             Err(error) => {
-                give_up(self.house.rt, self.house.book, seat, guest);
+                give_up(self.rt, self.book, seat, guest);
                 Err(error)
             }
         }
@@ -192,15 +179,15 @@ where
         guest: Guest<L>,
         spawner: &mut P,
     ) -> Result<Start, OutOfMemory>
-        requires book { seat.book ≡ arc_value self.now.house.book.now }
+        requires book { seat.book ≡ arc_value self.now.book.now }
         requires running { look.now.closed ≡ false }
-        requires can_call { W.can_call (arc_value self.now.house.service.now) }
+        requires can_call { W.can_call (arc_value self.now.service.now) }
         ensures given { Tells (P.tells spawner.new) (P.tells spawner.old) (StartMoves result guest.from (P.given spawner.old) (P.given spawner.new)) }
         ensures later { P.faults spawner.old ≤ P.faults spawner.new }
         ensures cause { StartCause result (P.faults spawner.old) (P.faults spawner.new) }
     {
         match self.work_admitted(seat, look, guest) {
-            Ok(work) => spawner.start(self.house.rt, self.house.alloc, work),
+            Ok(work) => spawner.start(self.rt, self.alloc, work),
             Err(error) => Err(error),
         }
     }
@@ -216,9 +203,9 @@ where
     ) -> (BookSeat, Result<Arrival, OutOfMemory>)
     where
         H: PreConnect<L>,
-        requires book { seat.book ≡ arc_value self.now.house.book.now }
+        requires book { seat.book ≡ arc_value self.now.book.now }
         requires running { look.now.closed ≡ false }
-        requires can_call { W.can_call (arc_value self.now.house.service.now) }
+        requires can_call { W.can_call (arc_value self.now.service.now) }
         ensures half { result.0.known ≡ first_half seat.known }
         ensures same { result.0.book ≡ seat.book }
         ensures started { (started : _) × (result.1 ≡ arrival_of started) × Tells (P.tells spawner.new) (P.tells spawner.old) (StartMoves started guest.from (P.given spawner.old) (P.given spawner.new)) }
@@ -226,12 +213,12 @@ where
         ensures cause { StartFaults result.1 (P.faults spawner.old) (P.faults spawner.new) }
     {
         self.hook.call(&mut guest.link);
-        let (first, second) = self.house.book.split(self.house.rt, seat);
+        let (first, second) = self.book.split(self.rt, seat);
         let started = self.start_admitted(second, look, guest, spawner);
         (first, arrival_of(started))
     }
 
-    #[tactic(auto, using(crate::proofs::Askings::asked_started, crate::proofs::Askings::asked_full, crate::proofs::Askings::asked_closed))]
+    #[tactic(auto, using(crate::proofs::Askings::asked_full, crate::proofs::Askings::asked_closed))]
     /// Asks the book for a slot. A connection that is admitted is served by work of its own, with the second half of the seat;
     /// every other one is closed.
     fn take_connection<
@@ -245,14 +232,14 @@ where
     ) -> (BookSeat, Result<Arrival, OutOfMemory>)
     where
         H: PreConnect<L>,
-        requires book { seat.book ≡ arc_value self.now.house.book.now }
-        requires can_call { W.can_call (arc_value self.now.house.service.now) }
+        requires book { seat.book ≡ arc_value self.now.book.now }
+        requires can_call { W.can_call (arc_value self.now.service.now) }
         ensures asked { AskedOne result.1 guest.from (P.tells spawner.new) (P.tells spawner.old) seat.known result.0.known (P.given spawner.old) (P.given spawner.new) }
         ensures same { result.0.book ≡ seat.book }
         ensures later { P.faults spawner.old ≤ P.faults spawner.new }
         ensures cause { StartFaults result.1 (P.faults spawner.old) (P.faults spawner.new) }
     {
-        match self.house.book.admit(self.house.rt, &mut seat) {
+        match self.book.admit(self.rt, &mut seat) {
             Admission::Admitted(look) => self.serve_admitted(seat, &look, guest, spawner),
             Admission::Full { .. } | Admission::Closed => {
                 turn_away(guest);
@@ -261,9 +248,8 @@ where
         }
     }
 
-    #[tactic(auto, using(crate::proofs::Bringings::brought_caller, crate::proofs::Bringings::brought_nobody, crate::proofs::Bringings::brought_fault))]
-    /// Makes one accept. A connection that comes is taken; where none came, it waits, and then lets go of a connection that
-    /// ended, so that its thread and its socket are free also where nothing can be accepted any more.
+    /// Makes one accept. A connection that comes is taken; where none came, it waits, and then joins threads whose work has
+    /// ended, so that their stacks are free also where nothing can be accepted any more.
     fn accept_once<A: AsyncAccept, P: Spawner<ConnectionWork<A::Link, C, Silent, W>>>(
         &self,
         seat: BookSeat,
@@ -274,8 +260,8 @@ where
     where
         A::Link: Send + Drop + 'static,
         H: PreConnect<A::Link>,
-        requires book { seat.book ≡ arc_value self.now.house.book.now }
-        requires can_call { W.can_call (arc_value self.now.house.service.now) }
+        requires book { seat.book ≡ arc_value self.now.book.now }
+        requires can_call { W.can_call (arc_value self.now.service.now) }
         ensures brought { Brought result.1 (A.tells accept.new × P.tells spawner.new) (A.tells accept.old × P.tells spawner.old) seat.known result.0.known
             (A.door accept.old) (A.door accept.new) (P.given spawner.old) (P.given spawner.new) (A.faults accept.old) (A.faults accept.new) }
         ensures same { result.0.book ≡ seat.book }
@@ -284,16 +270,16 @@ where
         ensures starts { StartFaults result.1 (P.faults spawner.old) (P.faults spawner.new) }
         ensures starts_later { P.faults spawner.old ≤ P.faults spawner.new }
     {
-        match accept_or_wait(self.house.rt, accept) {
+        match accept_or_wait(self.rt, accept) {
             AcceptAnswer::Accepted(link, from) => {
                 self.take_connection(seat, Guest { client, from, link }, spawner)
             }
             AcceptAnswer::Again => {
-                spawner.join_ended(self.house.rt);
+                spawner.join_ended(self.rt);
                 (seat, Ok(Arrival::Nobody))
             }
             AcceptAnswer::Failed => {
-                spawner.join_ended(self.house.rt);
+                spawner.join_ended(self.rt);
                 (seat, Ok(Arrival::Fault))
             }
         }
@@ -301,14 +287,14 @@ where
 
     /// How the loop ends before an accept: so many connections came, or a look shows a shutdown.
     fn ended(&self, seat: &mut BookSeat, taken: u64, count: u64) -> Option<AcceptEnd>
-        requires { seat.old.book ≡ arc_value self.now.house.book.now }
+        requires { seat.old.book ≡ arc_value self.now.book.now }
         ensures same { seat.new.book ≡ seat.old.book }
         ensures ended { EndedSo result count taken seat.old.known seat.new.known }
     {
         if count != 0 && taken == count {
             return Some(AcceptEnd::Counted);
         }
-        if self.house.book.look(self.house.rt, seat).closed {
+        if self.book.look(self.rt, seat).closed {
             return Some(AcceptEnd::Shutdown);
         }
         None
@@ -327,13 +313,13 @@ where
     where
         A::Link: Send + Drop + 'static,
         H: PreConnect<A::Link>,
-        requires book { seat.book ≡ arc_value self.now.house.book.now }
-        requires can_call { W.can_call (arc_value self.now.house.service.now) }
+        requires book { seat.book ≡ arc_value self.now.book.now }
+        requires can_call { W.can_call (arc_value self.now.service.now) }
         ensures ran { AcceptsRan A.tells A.door A.faults P.tells P.given P.faults result.1 result.2 count seat.known result.0.known accept.old accept.new spawner.old spawner.new }
         ensures same { result.0.book ≡ seat.book }
     {
         let mut tally = Tally::new();
-        for _ in self.house.rt.forever() {
+        for _ in self.rt.forever() {
             if let Some(end) = self.ended(&mut seat, tally.taken, count) {
                 return (seat, end, tally.faulted);
             }
@@ -345,28 +331,5 @@ where
             tally.note(arrival);
         }
         unreachable!()
-    }
-
-    /// Accepts connections from the seat that stands in its place. Where that ends for want of memory, the book is shut down.
-    pub(crate) fn accepts_beside<A: AsyncAccept, P: Spawner<ConnectionWork<A::Link, C, Silent, W>>>(
-        &self,
-        accept: &mut A,
-        spawner: &mut P,
-        place: &mut Option<BookSeat>,
-        count: u64,
-    ) -> (BookSeat, AcceptEnd, bool)
-    where
-        A::Link: Send + Drop + 'static,
-        H: PreConnect<A::Link>,
-        requires place { MatchOption place.old ⊥ (λ seat. seat.book ≡ arc_value self.now.house.book.now) }
-        requires can_call { W.can_call (arc_value self.now.house.service.now) }
-        ensures went { MatchOption place.old ⊥ (λ seat. AcceptsWent A.tells A.door A.faults P.tells P.given P.faults
-            result.1 result.2 count seat.known result.0.known accept.old accept.new spawner.old spawner.new) }
-        ensures same { result.0.book ≡ arc_value self.now.house.book.now }
-    {
-        let seat = place.take().unwrap();
-        let (mut seat, end, faulted) = self.accept_all(seat, accept, spawner, count);
-        shut_after_accepts(self.house.rt, self.house.book, &mut seat, end);
-        (seat, end, faulted)
     }
 }

@@ -2,23 +2,23 @@
 use Rattle.std.specs.Prelude.{◌≡◌, ◌≢◌, ◌≤◌, ◌⊎◌, ℕ, ◌+◌, List, [], ◌++◌, length, Bool, true, false, Result, Ok, Err, Option, Some, None}
 use Rattle.dns_name.specs.declared.address.SocketAddr.{SocketAddr}
 use Rattle.dns_name.specs.declared.error.OutOfMemory.{OutOfMemory}
-use Rattle.dns_admission.specs.declared.look.Admission.{Admission}
-use Rattle.dns_admission.specs.declared.look.Admission.TheVariants.{Admitted, Full, Closed}
-use Rattle.dns_admission.specs.declared.look.Look.{Look}
+use Rattle.dns_admission.specs.declared.admission.Admission.{Admission}
+use Rattle.dns_admission.specs.declared.admission.Admission.TheVariants.{Admitted, Full, Closed}
+use Rattle.dns_events.specs.declared.look.Look.{Look}
 use Rattle.dns_admission.specs.declared.call.Call.TheVariants.{Look as ToLook}
 use Rattle.dns_admission.specs.declared.call.Reply.TheVariants.{Look as Shown}
 use Rattle.dns_book.specs.Gains.{Gained}
 use Rattle.dns_book.specs.Seats.{Called}
 use Rattle.dns_book.specs.declared.history.Known.{Known}
-use Rattle.dns_outside.specs.Causes.{Rose, Tells}
-use Rattle.dns_outside.specs.Doors.{Door}
-use Rattle.dns_outside.specs.declared.spawner.Start.{Start}
-use Rattle.dns_outside.specs.declared.spawner.Start.TheVariants.{Started, Failed}
-use Rattle.dns_host.specs.Accepting.{Came, Caller, Nobody, Fault, AcceptTurn, caller, callers_in, if_admitted, admitted_caller, admitted_callers_in, one_if_nobody, one_if_failure, halved, admit_entries, RoseBy, Gave, TookTurns, AcceptsTo}
-use Rattle.dns_host.specs.declared.accepts.AcceptEnd.{AcceptEnd}
-use Rattle.dns_host.specs.declared.accepts.AcceptEnd.TheVariants.{Shutdown, Counted, OutOfMemory as NoMemory}
-use Rattle.dns_host.specs.declared.taking.Arrival.{Arrival}
-use Rattle.dns_host.specs.declared.taking.Arrival.TheVariants.{Served, Refused, TurnedAway, Nobody as NobodyCame, Fault as FaultCame}
+use Rattle.dns_io.specs.Causes.{Rose, Tells}
+use Rattle.dns_io.specs.Doors.{Door}
+use Rattle.dns_io.specs.declared.spawner.Start.{Start}
+use Rattle.dns_io.specs.declared.spawner.Start.TheVariants.{Started, Failed}
+use Rattle.dns_accepts.specs.Accepting.{Came, Caller, Nobody, Fault, AcceptTurn, caller, callers_in, if_admitted, admitted_caller, admitted_callers_in, one_if_nobody, one_if_failure, halved, admit_entries, RoseBy, Gave, TookTurns, AcceptsTo}
+use Rattle.dns_accepts.specs.declared.accepts.AcceptEnd.{AcceptEnd}
+use Rattle.dns_accepts.specs.declared.accepts.AcceptEnd.TheVariants.{Shutdown, Counted, OutOfMemory as NoMemory}
+use Rattle.dns_accepts.specs.declared.taking.Arrival.{Arrival}
+use Rattle.dns_accepts.specs.declared.taking.Arrival.TheVariants.{Served, Refused, TurnedAway, Nobody as NobodyCame, Fault as FaultCame}
 
 -- the connections that came
 abbrev pub arrival_callers : Arrival → ℕ

@@ -2,7 +2,7 @@
 
 ghost use Rattle.std.specs.Prelude.{◌≡◌, false};
 ghost use Rattle.std.specs.Arc.{arc_value};
-ghost use Rattle.dns_outside.specs.Causes.{Tells};
+ghost use Rattle.dns_io.specs.Causes.{Tells};
 ghost use Rattle.dns_client.specs.Serving.{serving};
 ghost use Rattle.dns_drivers.specs.Clocks.{TimedWhole};
 ghost use Rattle.dns_drivers.specs.Story.{LooksAndRelease};
@@ -11,8 +11,8 @@ ghost use Rattle.dns_drivers.specs.Endings.{EndsSo, EndShown, EndCauses, WhereCl
 use dns_admission::Look;
 use dns_book::{Book, BookSeat};
 use dns_drivers::{ConnectionEnd, Recorder, serve_connection};
+use dns_io::{Clock, Link, Work};
 use dns_name::SocketAddr;
-use dns_outside::{Clock, Link, Work};
 use dns_service::Served;
 use std::alloc::Global;
 use std::sync::{Arc, Wait};

@@ -1,6 +1,6 @@
 use Rattle.std.proofs.Common.{◌≡◌, ◌≤◌}
-use Rattle.dns_host.specs.Arrivals.{TookSoFar, RoseWhere}
-use Rattle.dns_host.proofs.reception.Reception.accept_all.Given as goal
+use Rattle.dns_accepts.specs.Arrivals.{TookSoFar, RoseWhere}
+use Rattle.dns_accepts.proofs.reception.Reception.accept_all.Given as goal
 
 abbrev pub invariant-loop : goal.invariant-loop
 invariant-loop g l = record {

@@ -1,6 +1,6 @@
 use Rattle.std.proofs.Common.{◌∙◌, arith, le_trans}
-use Rattle.dns_host.proofs.Loops.{so_far_ended, so_far_lost, so_far_more, rose_where_lost, rose_where_more}
-use Rattle.dns_host.proofs.reception.Reception.accept_all.Goals as goal
+use Rattle.dns_accepts.proofs.Loops.{so_far_ended, so_far_lost, so_far_more, rose_where_lost, rose_where_more}
+use Rattle.dns_accepts.proofs.reception.Reception.accept_all.Goals as goal
 
 pub returns-in-Some-ended-clause-ran : goal.returns-in-Some-ended-clause-ran
 returns-in-Some-ended-clause-ran g c = record {

@@ -2,20 +2,20 @@
 use Rattle.std.specs.Prelude.{◌≡◌, ◌≢◌, ◌≤◌, ◌<◌, ◌⊎◌, ℕ, ◌+◌, ◌-◌, ◌^◌, min, List, [], ◌∷◌, ◌++◌, length, replicate, true, false}
 use Rattle.std.specs.List.{All}
 use Rattle.dns_name.specs.declared.address.SocketAddr.{SocketAddr}
-use Rattle.dns_admission.specs.declared.look.Look.{Look}
-use Rattle.dns_admission.specs.declared.look.Admission.{Admission}
-use Rattle.dns_admission.specs.declared.look.Admission.TheVariants.{Admitted, Full, Closed}
+use Rattle.dns_events.specs.declared.look.Look.{Look}
+use Rattle.dns_admission.specs.declared.admission.Admission.{Admission}
+use Rattle.dns_admission.specs.declared.admission.Admission.TheVariants.{Admitted, Full, Closed}
 use Rattle.dns_admission.specs.declared.call.Call.TheVariants.{Admit, Look as ToLook}
 use Rattle.dns_admission.specs.declared.call.Reply.TheVariants.{Admission as Answered, Look as Shown}
 use Rattle.dns_book.specs.Gains.{Gained}
 use Rattle.dns_book.specs.History.{SeatName, entry}
 use Rattle.dns_book.specs.declared.history.Entry.{Entry}
 use Rattle.dns_book.specs.declared.history.Known.{Known}
-use Rattle.dns_outside.specs.Causes.{Tells}
-use Rattle.dns_outside.specs.Doors.{Door}
-use Rattle.dns_datagrams.specs.DatagramsServed.{IsWithinCount}
-use Rattle.dns_host.specs.declared.accepts.AcceptEnd.{AcceptEnd}
-use Rattle.dns_host.specs.declared.accepts.AcceptEnd.TheVariants.{Shutdown, Counted, OutOfMemory}
+use Rattle.dns_io.specs.Causes.{Tells}
+use Rattle.dns_io.specs.Doors.{Door}
+use Rattle.dns_drivers.specs.Counts.{IsWithinCount}
+use Rattle.dns_accepts.specs.declared.accepts.AcceptEnd.{AcceptEnd}
+use Rattle.dns_accepts.specs.declared.accepts.AcceptEnd.TheVariants.{Shutdown, Counted, OutOfMemory}
 
 -- what an accept brought: a connection from this address, with the book's answer to it; no connection; or a fault
 pub data Came : Type 0 where

@@ -2,15 +2,15 @@
 
 ghost use Rattle.std.specs.Prelude.{◌≡◌, ◌≤◌};
 ghost use Rattle.std.specs.Arc.{arc_value};
-ghost use Rattle.dns_host.specs.Accepting.{AcceptsTo};
+ghost use Rattle.dns_accepts.specs.Accepting.{AcceptsTo};
+ghost use Rattle.dns_accepts.specs.Arrivals.{AcceptsRan};
 
-use crate::house::House;
 use crate::pre_connect::PreConnect;
 use crate::reception::Reception;
 use crate::work::ConnectionWork;
 use dns_book::{Book, BookSeat};
 use dns_drivers::Silent;
-use dns_outside::{AsyncAccept, Clock, Spawner};
+use dns_io::{AsyncAccept, Clock, Spawner};
 use dns_service::Served;
 use std::alloc::Global;
 use std::sync::{Arc, Wait};
@@ -25,6 +25,46 @@ pub enum AcceptEnd {
     Counted,
     /// A call found no memory.
     OutOfMemory,
+}
+
+/// Accepts connections as `serve_accepts` does, and says whether an accept failed or a start was refused.
+pub fn serve_accepts_with_faults<
+    R: Threads + Wait + Copy + Send + 'static,
+    A: AsyncAccept,
+    C: Clock + Send + Drop + 'static,
+    W: Served + Send + Sync + 'static,
+    P: Spawner<ConnectionWork<A::Link, C, Silent, W>>,
+    H: PreConnect<A::Link>,
+>(
+    rt: &R,
+    alloc: Global,
+    book: &Arc<Book>,
+    seat: BookSeat,
+    service: &Arc<W>,
+    accept: &mut A,
+    clock: &C,
+    spawner: &mut P,
+    hook: &H,
+    count: u64,
+) -> (BookSeat, AcceptEnd, bool)
+where
+    A::Link: Send + Drop + 'static,
+    W::Future: Send,
+    W::Stream: Send,
+    requires book { seat.book ≡ arc_value book.now }
+    requires can_call { W.can_call (arc_value service.now) }
+    ensures ran { AcceptsRan A.tells A.door A.faults P.tells P.given P.faults result.1 result.2 count seat.known result.0.known accept.old accept.new spawner.old spawner.new }
+    ensures same { result.0.book ≡ seat.book }
+{
+    let reception = Reception {
+        rt,
+        alloc,
+        book,
+        service,
+        clock,
+        hook,
+    };
+    reception.accept_all(seat, accept, spawner, count)
 }
 
 /// Accepts connections until `count` were accepted, `count` not 0, or a look shows a shutdown. Each turn is one look, one
@@ -62,13 +102,8 @@ where
     ensures accepts_later { A.faults accept.old ≤ A.faults accept.new }
     ensures starts_later { P.faults spawner.old ≤ P.faults spawner.new }
 {
-    let house = House {
-        rt,
-        alloc,
-        book,
-        service,
-    };
-    let reception = Reception { house, clock, hook };
-    let (seat, end, _) = reception.accept_all(seat, accept, spawner, count);
+    let (seat, end, _) = serve_accepts_with_faults(
+        rt, alloc, book, seat, service, accept, clock, spawner, hook, count,
+    );
     (seat, end)
 }

@@ -2,23 +2,23 @@
 use Rattle.std.proofs.Common.{◌≡◌, ℕ, List, [], ◌∷◌, ◌++◌, refl, sym, ◌∙◌, subst, append-nil, Result, Ok, Err, ◌⊎◌, inl, inr}
 use Rattle.dns_name.specs.declared.address.SocketAddr.{SocketAddr}
 use Rattle.dns_name.specs.declared.error.OutOfMemory.{OutOfMemory}
-use Rattle.dns_admission.specs.declared.look.Look.{Look}
-use Rattle.dns_admission.specs.declared.look.Admission.TheVariants.{Admitted, Full, Closed}
+use Rattle.dns_events.specs.declared.look.Look.{Look}
+use Rattle.dns_admission.specs.declared.admission.Admission.TheVariants.{Admitted, Full, Closed}
 use Rattle.dns_admission.specs.declared.call.Call.TheVariants.{Admit}
 use Rattle.dns_admission.specs.declared.call.Reply.TheVariants.{Admission as Answered}
 use Rattle.dns_book.specs.Seats.{Called, first_half}
 use Rattle.dns_book.specs.Gains.{Gained}
 use Rattle.dns_book.specs.declared.history.Known.{Known}
-use Rattle.dns_outside.specs.Causes.{Tells}
-use Rattle.dns_outside.specs.Starts.{StartMoves, StartCause}
-use Rattle.dns_outside.specs.declared.spawner.Start.{Start}
-use Rattle.dns_outside.specs.declared.spawner.Start.TheVariants.{Started, Failed}
-use Rattle.dns_host.specs.Accepting.{Caller, if_admitted, halved, admit_entries}
-use Rattle.dns_host.specs.Arrivals.{AskedOne, GaveSo, StartFaults, arrival_of}
-use Rattle.dns_host.specs.declared.taking.Arrival.{Arrival}
-use Rattle.dns_host.specs.declared.taking.Arrival.TheVariants.{Served, Refused, TurnedAway}
-use Rattle.dns_host.proofs.Gainings.{gained_one, gained_half}
-use Rattle.dns_host.proofs.Tellings.{tells_map}
+use Rattle.dns_io.specs.Causes.{Tells}
+use Rattle.dns_io.specs.Starts.{StartMoves, StartCause}
+use Rattle.dns_io.specs.declared.spawner.Start.{Start}
+use Rattle.dns_io.specs.declared.spawner.Start.TheVariants.{Started, Failed}
+use Rattle.dns_accepts.specs.Accepting.{Caller, if_admitted, halved, admit_entries}
+use Rattle.dns_accepts.specs.Arrivals.{AskedOne, GaveSo, StartFaults, arrival_of}
+use Rattle.dns_accepts.specs.declared.taking.Arrival.{Arrival}
+use Rattle.dns_accepts.specs.declared.taking.Arrival.TheVariants.{Served, Refused, TurnedAway}
+use Rattle.dns_accepts.proofs.Gainings.{gained_one, gained_half}
+use Rattle.dns_accepts.proofs.Tellings.{tells_map}
 
 -- the admitted seat keeps its first half
 half_calls : (from : SocketAddr) (look : Look) (k k1 k' : Known) → Called k Admit (Answered (Admitted look)) k1 → k' ≡ first_half k1 → Gained k (admit_entries k.name (Caller from (Admitted look))) k'

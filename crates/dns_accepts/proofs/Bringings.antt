@@ -2,16 +2,16 @@
 use Rattle.std.proofs.Common.{◌≡◌, ℕ, ◌+◌, List, [], ◌∷◌, ◌++◌, refl, sym, ap, ◌∙◌, append-nil, Ok, Err, Result, arith, add-zero}
 use Rattle.dns_name.specs.declared.address.SocketAddr.{SocketAddr}
 use Rattle.dns_name.specs.declared.error.OutOfMemory.{OutOfMemory}
-use Rattle.dns_admission.specs.declared.look.Admission.{Admission}
+use Rattle.dns_admission.specs.declared.admission.Admission.{Admission}
 use Rattle.dns_book.specs.declared.history.Known.{Known}
-use Rattle.dns_outside.specs.Causes.{Rose, Tells}
-use Rattle.dns_outside.specs.Doors.{Door}
-use Rattle.dns_host.specs.Accepting.{Caller, Nobody, Fault, RoseBy}
-use Rattle.dns_host.specs.Arrivals.{AskedOne, ArrivalOfAnswer, ArrivalOf, BroughtIn, Brought}
-use Rattle.dns_host.specs.declared.taking.Arrival.{Arrival}
-use Rattle.dns_host.specs.declared.taking.Arrival.TheVariants.{Nobody as NobodyCame, Fault as FaultCame}
-use Rattle.dns_host.proofs.Gainings.{gained_none}
-use Rattle.dns_host.proofs.Tellings.{tells_both}
+use Rattle.dns_io.specs.Causes.{Rose, Tells}
+use Rattle.dns_io.specs.Doors.{Door}
+use Rattle.dns_accepts.specs.Accepting.{Caller, Nobody, Fault, RoseBy}
+use Rattle.dns_accepts.specs.Arrivals.{AskedOne, ArrivalOfAnswer, ArrivalOf, BroughtIn, Brought}
+use Rattle.dns_accepts.specs.declared.taking.Arrival.{Arrival}
+use Rattle.dns_accepts.specs.declared.taking.Arrival.TheVariants.{Nobody as NobodyCame, Fault as FaultCame}
+use Rattle.dns_accepts.proofs.Gainings.{gained_none}
+use Rattle.dns_accepts.proofs.Tellings.{tells_both}
 
 pub rose_none : (f f' : ℕ) → f' ≡ f → RoseBy 0 f f'
 rose_none f f' same = grind (arith, same)
