@@ -6,8 +6,8 @@ use Rattle.std.specs.Str.{bytes_eq}
 use Rattle.std.proofs.lemmas.Bool.{false_from_ne_true, false≢true, le-leb}
 use Rattle.std.proofs.lemmas.Bool.Decides.{nat_tests}
 use Rattle.std.proofs.lemmas.Slice.Eq.{bytes_eq-Decides}
-use Rattle.dns_middleware.specs.declared.notifiable.NotifyError.{NotifyError}
-use Rattle.dns_middleware.specs.declared.notifiable.NotifyError.TheVariants.{NotAuthForZone, Other}
+use Rattle.dns_layers.specs.declared.notifiable.NotifyError.{NotifyError}
+use Rattle.dns_layers.specs.declared.notifiable.NotifyError.TheVariants.{NotAuthForZone, Other}
 use Rattle.dns_trace.proofs.Joined.{AreWords, IsWord}
 use Rattle.dns_trace.proofs.Names.{named}
 use Rattle.dns_trace.specs.NameWords.{ends_in_dot, name_word}

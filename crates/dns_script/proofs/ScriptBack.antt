@@ -7,10 +7,10 @@ use Rattle.std.proofs.lemmas.Grind.{flat_map-append}
 use Rattle.std.proofs.lemmas.List.Folds.{flat_map-map}
 use Rattle.dns_message.specs.declared.record.Record.{Record}
 use Rattle.dns_name.specs.declared.address.IpAddr.{IpAddr}
-use Rattle.dns_service.specs.declared.event.Event.{Event}
-use Rattle.dns_service.specs.declared.event.EventKind.{EventKind}
-use Rattle.dns_service.specs.declared.event.EventKind.TheVariants.{Datagram, Turn, Offer, Piece, End, Fault, Close, Write, Tick, Release, Reconfigure, Shutdown}
-use Rattle.dns_service.specs.declared.settings.Settings.{Settings}
+use Rattle.dns_events.specs.declared.event.Event.{Event}
+use Rattle.dns_events.specs.declared.event.EventKind.{EventKind}
+use Rattle.dns_events.specs.declared.event.EventKind.TheVariants.{Datagram}
+use Rattle.dns_events.specs.declared.settings.Settings.{Settings}
 use Rattle.dns_trace.proofs.EventsBack.{line_back}
 use Rattle.dns_trace.proofs.Folded.{AllSay, lines_read, said_append, said_by, say_append, words_of_all}
 use Rattle.dns_trace.proofs.Joined.{lines_written}
@@ -131,17 +131,7 @@ target_said (n ∷ ns) d e h =
 event_plain : (kind : EventKind) (e : Event) (d : Draft Event) → line d (kind_words kind e) ≡ of_plan d (next_event_line every_word event_line d.plan (kind_words kind e))
 unfolding said_line service_line plan_line
 event_plain (Datagram addr octets) e d = refl
-event_plain (Turn request) e d = refl
-event_plain (Offer addr) e d = refl
-event_plain (Piece octets) e d = refl
-event_plain End e d = refl
-event_plain Fault e d = refl
-event_plain Close e d = refl
-event_plain (Write took) e d = refl
-event_plain Tick e d = refl
-event_plain Release e d = refl
-event_plain (Reconfigure dgram stream) e d = refl
-event_plain Shutdown e d = refl
+event_plain _ e d = refl
 
 abbrev with_events : Draft Event → List Event → Draft Event
 with_events d events = record d { plan = record d.plan { events = events } }

@@ -5,7 +5,7 @@ use Rattle.std.specs.List.{AllByRecursion}
 use Rattle.std.specs.Str.{bytes_eq}
 use Rattle.std.specs.Str.Lines.{lines}
 use Rattle.dns_message.specs.declared.record.Record.{Record}
-use Rattle.dns_service.specs.declared.event.Event.{Event}
+use Rattle.dns_events.specs.declared.event.Event.{Event}
 use Rattle.dns_trace.specs.EventLines.{event_line}
 use Rattle.dns_trace.specs.InRange.{IsEvent}
 use Rattle.dns_trace.specs.Lines.{is_skipped, is_text}

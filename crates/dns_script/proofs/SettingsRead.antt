@@ -10,8 +10,8 @@ use Rattle.hex.proofs.HexLemmas.{decode_of-ok, decode_sized-ok, decode_sized-twi
 use Rattle.dns_name.specs.declared.address.IpAddr.TheVariants.{V4}
 use Rattle.dns_name.specs.declared.address.SocketAddr.{SocketAddr}
 use Rattle.dns_service.specs.Config.{Dgram, IsBetween, IsBudget, IsDgram, IsResponseSize, IsStream, Stream, default_dgram, default_stream, in_range, limited_budget, limited_size}
-use Rattle.dns_service.specs.declared.event.EventKind.{EventKind}
-use Rattle.dns_service.specs.declared.event.EventKind.TheVariants.{Datagram, Turn, Offer, Piece, End, Fault, Close, Write, Tick, Release, Reconfigure, Shutdown}
+use Rattle.dns_events.specs.declared.event.EventKind.{EventKind}
+use Rattle.dns_events.specs.declared.event.EventKind.TheVariants.{Datagram, Turn, Offer, Piece, End, Fault, Close, Write, Tick, Release, Reconfigure, Shutdown}
 use Rattle.dns_trace.specs.BudgetLine.{budgeted}
 use Rattle.dns_trace.specs.DgramLine.{dgram_line, dgram_values}
 use Rattle.dns_trace.specs.EventLines.{bare_line, bare_or_wide, connection_line, datagram_line, event_line, event_of, last_budget, moment_of, named_kind, offer_line, piece_line, reconfigure_line, shutdown_line, socket_addr_of, turn_line, wide_event_of, wide_line, write_line}

@@ -1,7 +1,6 @@
 -- What is written for questions that a cache in front of a script's rules is asked.
 use Rattle.std.specs.Prelude.{ℕ, zero, suc, ◌+◌, List, [], ◌∷◌, ◌++◌, Option, Some, None, Result, Ok, Err, codes, if◌then◌else◌}
 use Rattle.hex.specs.Hex.{encode_lower}
-use Rattle.dns_cache.specs.LruCache.{lru_cache}
 use Rattle.dns_name.specs.declared.error.ParseError.{ParseError}
 use Rattle.dns_base.specs.Msg.{Msg}
 use Rattle.dns_base.specs.Wire.{wire}
@@ -15,7 +14,7 @@ use Rattle.dns_service.specs.declared.service.ServiceFeedback.{ServiceFeedback}
 use Rattle.dns_route.specs.Relays.{read_reply}
 use Rattle.dns_route.specs.ReplyMessage.{ReplyState, reply_message, reply_read}
 use Rattle.dns_route.specs.Turns.{TurnAnswer}
-use Rattle.dns_cache.specs.AskedCache.{Cached, fits_frame}
+use Rattle.dns_cache.specs.AskedCache.{Cached, empty_cache, fits_frame}
 use Rattle.dns_cache.specs.Calls.{TurnAnswers, called}
 use Rattle.dns_script.specs.Plan.{Plan, rules_of}
 use Rattle.dns_script.specs.Played.{played}
@@ -114,7 +113,7 @@ asks_text answers c (ask ∷ asks) =
 
 -- what is written for a script: its asks, of an empty cache of this capacity in front of its rules
 unfoldable pub cache_text : ℕ → Plan Ask → List ℕ
-cache_text capacity p = asks_text (rule_turns (rules_of p.service)) (lru_cache [] capacity) p.events
+cache_text capacity p = asks_text (rule_turns (rules_of p.service)) (empty_cache capacity) p.events
 
 -- rules, and what is cached in front of them
 pub record CachedState : Type 0 where

@@ -1,6 +1,5 @@
 pub use Rattle.dns_cache.specs.AskedCache
 pub use Rattle.dns_cache.specs.Calls
-pub use Rattle.dns_cache.specs.LruCache
 pub use Rattle.dns_trace.specs.EventLines
 pub use Rattle.dns_trace.specs.Reading
 pub mod AnswerWords

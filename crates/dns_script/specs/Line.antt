@@ -1,10 +1,10 @@
 -- The one spelling of an output and of a refusal.
 use Rattle.std.specs.Prelude.{ℕ, List, ◌++◌, codes, decimal, flat_map}
 use Rattle.hex.specs.Hex.{encode_lower}
-use Rattle.dns_service.specs.declared.event.Output.{Output}
-use Rattle.dns_service.specs.declared.event.Output.TheVariants.{Datagram, Frame, Closed, TurnedAway}
-use Rattle.dns_service.specs.declared.event.Why.{Why}
-use Rattle.dns_service.specs.declared.event.Why.TheVariants.{Ended, Fault, Short, Idle, WriteTimeout, Commanded, Shutdown}
+use Rattle.dns_events.specs.declared.event.Output.{Output}
+use Rattle.dns_events.specs.declared.event.Output.TheVariants.{Datagram, Frame, Closed, TurnedAway}
+use Rattle.dns_events.specs.declared.event.Why.{Why}
+use Rattle.dns_events.specs.declared.event.Why.TheVariants.{Ended, Fault, Short, Idle, WriteTimeout, Commanded, Shutdown}
 use Rattle.dns_trace.specs.Spelling.{yes_no}
 use Rattle.dns_trace.specs.declared.reason.Reason.{Reason}
 use Rattle.dns_trace.specs.declared.reason.Reason.TheVariants.{Text, Word, Order, Mix, Repeat, Count, Value, Zone}

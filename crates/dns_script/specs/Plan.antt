@@ -1,7 +1,7 @@
 -- What a script says: the settings of the server, where it sets one, its service, the rules of its target, and its events, or its
 -- steps, each in the order of their lines.
 use Rattle.std.specs.Prelude.{◌==◌, List, [], length, Result}
-use Rattle.dns_service.specs.declared.settings.Settings.{Settings}
+use Rattle.dns_events.specs.declared.settings.Settings.{Settings}
 use Rattle.dns_trace.specs.Reading.{unless}
 use Rattle.dns_trace.specs.Said.{Said, nothing_said, settings_said}
 use Rattle.dns_trace.specs.declared.reason.Reason.{Reason}

@@ -2,15 +2,15 @@
 use Rattle.std.specs.Prelude.{ℕ, List}
 use Rattle.dns_service.specs.Answer.{Answer}
 use Rattle.dns_service.specs.Req.{Req}
-use Rattle.dns_service.specs.declared.event.Event.{Event}
-use Rattle.dns_service.specs.declared.event.Output.{Output}
-use Rattle.dns_service.specs.declared.event.Step.{Step}
+use Rattle.dns_events.specs.declared.event.Event.{Event}
+use Rattle.dns_events.specs.declared.event.Output.{Output}
+use Rattle.dns_events.specs.declared.event.Step.{Step}
 use Rattle.dns_client.specs.Serving.{Serving, serving}
 use Rattle.dns_core.specs.Out.{out}
 use Rattle.dns_core.specs.Outs.{outs}
 use Rattle.dns_middleware.specs.Verdicts.{Verdicts, verdict_on}
 use Rattle.dns_middleware.specs.Wrapped.{hint_left, replies}
-use Rattle.dns_service.specs.declared.settings.Settings.{Settings}
+use Rattle.dns_events.specs.declared.settings.Settings.{Settings}
 use Rattle.dns_route.specs.Routes.{routed}
 use Rattle.dns_route.specs.Turns.{turned_over}
 use Rattle.dns_zone.specs.ZoneTurns.{zone_turn}

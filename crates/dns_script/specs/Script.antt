@@ -16,8 +16,8 @@ use Rattle.dns_trace.specs.Words.{word_at, words_of}
 use Rattle.dns_trace.specs.declared.reason.Reason.{Reason}
 use Rattle.dns_trace.specs.declared.reason.Reason.TheVariants.{Mix, Count, Value}
 use Rattle.dns_trace.specs.declared.setting.Setting.{Setting}
-use Rattle.dns_middleware.specs.declared.notifiable.NotifyError.{NotifyError}
-use Rattle.dns_middleware.specs.declared.notifiable.NotifyError.TheVariants.{NotAuthForZone, Other}
+use Rattle.dns_layers.specs.declared.notifiable.NotifyError.{NotifyError}
+use Rattle.dns_layers.specs.declared.notifiable.NotifyError.TheVariants.{NotAuthForZone, Other}
 use Rattle.dns_script.specs.declared.notify_rule.NotifyRule.{NotifyRule}
 use Rattle.dns_script.specs.declared.rule.Rule.{Rule}
 use Rattle.dns_script.specs.AnswerWords.{answers_after}

@@ -2,7 +2,7 @@
 use Rattle.std.specs.Prelude.{ℕ, ◌≡◌, List, [], ◌∷◌, ◌++◌, codes, decimal, flat_map, map, replicate}
 use Rattle.dns_message.specs.Records.{data_octets, data_type}
 use Rattle.dns_message.specs.declared.record.Record.{Record}
-use Rattle.dns_service.specs.declared.event.Event.{Event}
+use Rattle.dns_events.specs.declared.event.Event.{Event}
 use Rattle.dns_trace.specs.Spelling.{line_of_words, octets_word}
 use Rattle.dns_trace.specs.Trace.{event_text, settings_text}
 use Rattle.dns_script.specs.Plan.{Plan, settings_of}

@@ -1,7 +1,7 @@
 -- The kinds of scripts, by what stands in them behind the settings and the lines of the service and of the target.
 use Rattle.std.specs.Prelude.{ℕ, List, Result}
-use Rattle.dns_service.specs.declared.event.Event.{Event}
-use Rattle.dns_service.specs.declared.event.Step.{Step}
+use Rattle.dns_events.specs.declared.event.Event.{Event}
+use Rattle.dns_events.specs.declared.event.Step.{Step}
 use Rattle.dns_trace.specs.EventLines.{event_line, step_line}
 use Rattle.dns_trace.specs.declared.reason.Reason.{Reason}
 use Rattle.dns_script.specs.Asks.{ask_line, is_of_asks}

@@ -4,8 +4,8 @@ use Rattle.dns_service.specs.declared.service.ServiceError.{ServiceError}
 use Rattle.dns_service.specs.declared.service.ServiceError.TheVariants.{FormatError, InternalError, NotImplemented, Refused}
 use Rattle.dns_service.specs.declared.service.ServiceFeedback.{ServiceFeedback}
 use Rattle.dns_service.specs.declared.service.ServiceFeedback.TheVariants.{Reconfigure, BeginTransaction, EndTransaction}
-use Rattle.dns_middleware.specs.declared.notifiable.NotifyError.{NotifyError}
-use Rattle.dns_middleware.specs.declared.notifiable.NotifyError.TheVariants.{NotAuthForZone, Other}
+use Rattle.dns_layers.specs.declared.notifiable.NotifyError.{NotifyError}
+use Rattle.dns_layers.specs.declared.notifiable.NotifyError.TheVariants.{NotAuthForZone, Other}
 use Rattle.dns_trace.specs.Spelling.{number_or_none}
 use Rattle.dns_script.specs.declared.rule.ScriptAnswer.{ScriptAnswer}
 use Rattle.dns_script.specs.declared.rule.ScriptAnswer.TheVariants.{Pend, Error, Feedback, Reply, Both}

@@ -4,8 +4,8 @@ use Rattle.dns_name.specs.declared.address.IpAddr.{IpAddr}
 use Rattle.dns_name.specs.declared.serial.Serial.{Serial}
 use Rattle.dns_name.specs.Canonical.{same_name}
 use Rattle.dns_service.specs.declared.service.Polled.TheVariants.{Pending, Ready}
-use Rattle.dns_middleware.specs.declared.notifiable.NotifyError.{NotifyError}
-use Rattle.dns_middleware.specs.declared.notifiable.NotifyError.TheVariants.{NotAuthForZone}
+use Rattle.dns_layers.specs.declared.notifiable.NotifyError.{NotifyError}
+use Rattle.dns_layers.specs.declared.notifiable.NotifyError.TheVariants.{NotAuthForZone}
 use Rattle.dns_middleware.specs.Notify.{PolledVerdict}
 use Rattle.dns_script.specs.declared.notify_rule.NotifyRule.{NotifyRule}
 

@@ -2,8 +2,8 @@
 use Rattle.std.specs.Prelude.{◌≡◌, ℕ, ◌||◌, Bool, false, List, Result, Ok, Err, codes, if◌then◌else◌}
 use Rattle.std.specs.List.{All}
 use Rattle.std.specs.Str.{bytes_eq}
-use Rattle.dns_service.specs.declared.event.Event.{Event}
-use Rattle.dns_service.specs.declared.settings.Settings.{Settings}
+use Rattle.dns_events.specs.declared.event.Event.{Event}
+use Rattle.dns_events.specs.declared.settings.Settings.{Settings}
 use Rattle.dns_trace.specs.EventLines.{event_line}
 use Rattle.dns_trace.specs.Lines.{is_text}
 use Rattle.dns_trace.specs.TextLines.{after_lines}

@@ -1,8 +1,8 @@
 //! A cache in front of a script's rules, and the line of each question that it is asked.
 
-ghost use Rattle.std.specs.Prelude.{◌≡◌, ◌<◌, ◌≤◌, ◌++◌, [], IfOk, OnOk, Some, codes, option_map, string_bytes};
+ghost use Rattle.std.specs.Prelude.{◌≡◌, ◌++◌, IfOk, OnOk, Some, codes, option_map, string_bytes};
 ghost use Rattle.hex.specs.Hex.{encode_lower};
-ghost use Rattle.dns_cache.specs.LruCache.{lru_cache};
+ghost use Rattle.dns_cache.specs.AskedCache.{empty_cache};
 ghost use Rattle.dns_cache.specs.Calls.{called};
 ghost use Rattle.dns_route.specs.ReplyMessage.{reply_message};
 ghost use Rattle.dns_script.specs.CachedRules.{answer_line, asked_state, call_text, error_line, first_ready, reply_line, rule_turns, turn_text};
@@ -38,11 +38,9 @@ impl Model for CachedRules {
 }
 
 impl CachedRules {
-    /// An empty cache of so many replies at most, in front of these rules.
+    /// An empty cache of so many replies at most, from 1 to 65,536, in front of these rules.
     pub fn new(alloc: Global, rules: Rules, capacity: u32) -> Result<CachedRules, OutOfMemory>
-        requires some { 0 < capacity }
-        requires few { capacity ≤ 65536 }
-        ensures { IfOk result (λ c. c ≡ record { rules = rules; cached = lru_cache [] capacity }) }
+        ensures { IfOk result (λ c. c ≡ record { rules = rules; cached = empty_cache capacity }) }
     {
         let cache = Cache::new(alloc, capacity as usize)?;
         let turns = ScriptTurns { rules };

@@ -3,7 +3,7 @@
 ghost use Rattle.std.specs.Prelude.{◌≡◌, ◌+◌, ◌++◌, ◌∷◌, ℕ, List, Ok, length, true};
 ghost use Rattle.std.specs.Str.Lines.{lines};
 ghost use Rattle.dns_trace.specs.Traced.{traced};
-ghost use Rattle.dns_service.specs.declared.event.Event.{Event};
+ghost use Rattle.dns_events.specs.declared.event.Event.{Event};
 ghost use Rattle.dns_script.specs.Plan.{Plan};
 ghost use Rattle.dns_script.specs.ScriptText.{SameScript, script_text};
 ghost use Rattle.dns_script.specs.Scripts.{event_script};

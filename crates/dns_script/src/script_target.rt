@@ -1,7 +1,7 @@
 //! The target of notifications that plays a script.
 
 ghost use Rattle.std.specs.Prelude.{◌≡◌, Result};
-ghost use Rattle.dns_middleware.specs.declared.notifiable.NotifyError.{NotifyError};
+ghost use Rattle.dns_layers.specs.declared.notifiable.NotifyError.{NotifyError};
 ghost use Rattle.dns_script.specs.Targets.{pending_first, script_verdicts, zone_verdict};
 
 use crate::notify_rule::{NotifyRule, NotifyRules};

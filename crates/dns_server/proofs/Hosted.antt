@@ -8,9 +8,9 @@ use Rattle.dns_client.specs.Serving.{Serving, serving}
 use Rattle.dns_host.specs.Hosting.{HostWorld, HostServed, ShutDown}
 use Rattle.dns_host.specs.declared.host.HostEnd.{HostEnd}
 use Rattle.dns_host.specs.declared.host.HostEnd.TheVariants.{Done, OutOfMemory, HostFault}
-use Rattle.dns_server.specs.Status.{status_of_host, OfHost}
-use Rattle.dns_server.specs.declared.status.Status.{Status}
-use Rattle.dns_server.specs.declared.status.Status.TheVariants.{OutOfMemory as NoMemory}
+use Rattle.dns_server.specs.HostStatus.{status_of_host, OfHost}
+use Rattle.dns_run.specs.declared.status.Status.{Status}
+use Rattle.dns_run.specs.declared.status.Status.TheVariants.{OutOfMemory as NoMemory}
 
 -- what is so of the end is so of its status
 of_host : (P : HostEnd → Type 0) (end : HostEnd) (s : Status) → s ≡ status_of_host end → P end → OfHost P s

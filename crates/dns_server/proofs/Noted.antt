@@ -6,9 +6,9 @@ use Rattle.std.proofs.lemmas.List.Elements.{All-append, All-from_recursion}
 use Rattle.std.specs.Coded.{Coded-set, coded_bool, coded_list, coded_ℕ}
 use Rattle.std.specs.List.{All}
 use Rattle.std.specs.Prelude.{◌==◌, ◌&&◌, ◌||◌, not, flat_map, Result, Ok, Err, IsOk}
-use Rattle.dns_service.specs.contracts.event.Event as event
-use Rattle.dns_service.specs.declared.event.Event.{Event}
-use Rattle.dns_service.specs.declared.settings.Settings.{Settings}
+use Rattle.dns_events.specs.contracts.event.Event as event
+use Rattle.dns_events.specs.declared.event.Event.{Event}
+use Rattle.dns_events.specs.declared.settings.Settings.{Settings}
 use Rattle.dns_trace.specs.InRange.{IsEvent, IsSettings}
 use Rattle.dns_trace.specs.Trace.{event_text, settings_text, trace}
 use Rattle.dns_trace.specs.Traced.{traced}

@@ -6,16 +6,16 @@ use Rattle.std.specs.Prelude.{◌==◌, ◌||◌, not, nat_eq, filter, if◌then
 use Rattle.std.specs.List.{All, list_any}
 use Rattle.std.proofs.lemmas.Bool.{eq-eqb, lt-ltb}
 use Rattle.dns_name.specs.declared.address.SocketAddr.{SocketAddr}
-use Rattle.dns_admission.specs.declared.look.Look.{Look}
+use Rattle.dns_events.specs.declared.look.Look.{Look}
 use Rattle.dns_book.specs.declared.history.Known.{Known}
-use Rattle.dns_outside.specs.Traffic.{Traffic}
+use Rattle.dns_io.specs.Traffic.{Traffic}
 use Rattle.dns_service.specs.Config.{IsStream}
-use Rattle.dns_service.specs.contracts.settings.Settings as settings_row
-use Rattle.dns_service.specs.declared.event.Event.{Event}
-use Rattle.dns_service.specs.declared.event.EventKind.{EventKind}
-use Rattle.dns_service.specs.declared.event.EventKind.TheVariants.{Piece}
-use Rattle.dns_service.specs.declared.event.Why.{Why}
-use Rattle.dns_service.specs.declared.settings.Settings.{Settings}
+use Rattle.dns_events.specs.contracts.settings.Settings as settings_row
+use Rattle.dns_events.specs.declared.event.Event.{Event}
+use Rattle.dns_events.specs.declared.event.EventKind.{EventKind}
+use Rattle.dns_events.specs.declared.event.EventKind.TheVariants.{Piece}
+use Rattle.dns_events.specs.declared.event.Why.{Why}
+use Rattle.dns_events.specs.declared.settings.Settings.{Settings}
 use Rattle.dns_client.specs.Serving.{Serving}
 use Rattle.dns_client.specs.Connections.{opened}
 use Rattle.dns_client.specs.Slate.{Conf, conf_of, fresh}

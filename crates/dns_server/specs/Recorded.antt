@@ -2,9 +2,9 @@
 use Rattle.std.specs.Prelude.{◌≡◌, ℕ, ◌==◌, Bool, not, ◌||◌, List, [], ◌∷◌, Result, Ok, Err}
 use Rattle.std.specs.List.{All}
 use Rattle.dns_sent.specs.Own.{is_wide}
-use Rattle.dns_service.specs.declared.event.Event.{Event}
-use Rattle.dns_service.specs.declared.event.EventKind.TheVariants.{Piece}
-use Rattle.dns_service.specs.declared.settings.Settings.{Settings}
+use Rattle.dns_events.specs.declared.event.Event.{Event}
+use Rattle.dns_events.specs.declared.event.EventKind.TheVariants.{Piece}
+use Rattle.dns_events.specs.declared.settings.Settings.{Settings}
 use Rattle.dns_trace.specs.InRange.{IsEvent, IsSettings}
 use Rattle.dns_trace.specs.Trace.{settings_text, trace}
 use Rattle.dns_trace.specs.Traced.{traced}

@@ -6,10 +6,10 @@ use Rattle.dns_core.specs.Out.{out}
 use Rattle.dns_core.specs.Sent.{slate}
 use Rattle.dns_drivers.specs.Links.{frame_octets}
 use Rattle.dns_drivers.specs.Story.{Extra, all_but_last}
-use Rattle.dns_outside.specs.Traffic.{Traffic}
-use Rattle.dns_service.specs.declared.event.Event.{Event}
-use Rattle.dns_service.specs.declared.event.Why.{Why}
-use Rattle.dns_service.specs.declared.settings.Settings.{Settings}
+use Rattle.dns_io.specs.Traffic.{Traffic}
+use Rattle.dns_events.specs.declared.event.Event.{Event}
+use Rattle.dns_events.specs.declared.event.Why.{Why}
+use Rattle.dns_events.specs.declared.settings.Settings.{Settings}
 use Rattle.dns_trace.specs.Trace.{trace}
 use Rattle.dns_trace.specs.Traced.{traced}
 

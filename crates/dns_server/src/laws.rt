@@ -1,18 +1,18 @@
 //! A law of what a trace says again.
 
 ghost use Rattle.std.specs.Prelude.{◌≡◌, ◌∷◌, [], ℕ, List, false};
-ghost use Rattle.dns_admission.specs.declared.look.Look.{Look};
+ghost use Rattle.dns_events.specs.declared.look.Look.{Look};
 ghost use Rattle.dns_book.specs.declared.history.Known.{Known};
 ghost use Rattle.dns_client.specs.Serving.{Serving};
 ghost use Rattle.dns_drivers.specs.Endings.{EndsSo};
 ghost use Rattle.dns_drivers.specs.declared.connection.ConnectionEnd.TheVariants.{Closed};
 ghost use Rattle.dns_name.specs.declared.address.SocketAddr.{SocketAddr};
-ghost use Rattle.dns_outside.specs.Traffic.{Traffic};
+ghost use Rattle.dns_io.specs.Traffic.{Traffic};
 ghost use Rattle.dns_server.specs.Recorded.{TraceReadsBack, settings_event};
 ghost use Rattle.dns_server.specs.Replays.{Replays};
-ghost use Rattle.dns_service.specs.declared.event.Event.{Event};
-ghost use Rattle.dns_service.specs.declared.event.Why.{Why};
-ghost use Rattle.dns_service.specs.declared.settings.Settings.{Settings};
+ghost use Rattle.dns_events.specs.declared.event.Event.{Event};
+ghost use Rattle.dns_events.specs.declared.event.Why.{Why};
+ghost use Rattle.dns_events.specs.declared.settings.Settings.{Settings};
 ghost use Rattle.dns_trace.specs.InRange.{IsSettings};
 
 /// The trace of a connection replays. Where the recorder was made from settings with the configurations of the first look, and the

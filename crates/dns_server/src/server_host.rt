@@ -6,15 +6,15 @@ ghost use Rattle.dns_middleware.specs.Verdicts.{verdict_on};
 ghost use Rattle.dns_middleware.specs.Wrapped.{hint_left, replies};
 ghost use Rattle.dns_client.specs.Serving.{Serving, serving};
 ghost use Rattle.dns_host.specs.Hosting.{HostServed, ShutDown, host_seen, door_told, mail_told};
-ghost use Rattle.dns_server.specs.Status.{OfHost, status_of_host};
+ghost use Rattle.dns_server.specs.HostStatus.{OfHost, status_of_host};
 
-use crate::layered::layered;
-use crate::status::Status;
+use crate::host_status::status_of_host;
 use dns_book::{Book, BookSeat};
 use dns_core::{Notifiable, Settings};
+use dns_io::{AsyncAccept, AsyncDgramSock, Clock, Spawner};
 use dns_middleware::Wrapped;
 use dns_name::OutOfMemory;
-use dns_outside::{AsyncAccept, AsyncDgramSock, Clock, Spawner};
+use dns_run::{Status, layered};
 use dns_servers::{ConnectionWork, Host, HostEnd, Recorder, Silent, host_service};
 use dns_service::{Plainly, Served, Service};
 use std::alloc::Global;
@@ -27,7 +27,7 @@ fn by_status(served: (BookSeat, HostEnd)) -> (BookSeat, Status)
     ensures status { result.1 ≡ status_of_host served.1 }
 {
     let (seat, end) = served;
-    (seat, Status::from(end))
+    (seat, status_of_host(end))
 }
 
 /// Shuts the book down for want of memory.

@@ -2,7 +2,7 @@
 
 ghost use Rattle.std.specs.Prelude.{◌≡◌, ◌↔◌, ◌∷◌, ◌++◌, ◌&&◌, [], true, IfOk, OnErr, OnOk};
 ghost use Rattle.dns_notes.specs.Notes.{NoteMoves};
-ghost use Rattle.dns_outside.specs.Causes.{Tells};
+ghost use Rattle.dns_io.specs.Causes.{Tells};
 ghost use Rattle.dns_trace.specs.InRange.{IsSettings};
 ghost use Rattle.dns_trace.specs.Trace.{event_text, trace};
 ghost use Rattle.dns_server.specs.Recorded.{IsTrace, TraceReadsBack, settings_event, is_said, recorded};

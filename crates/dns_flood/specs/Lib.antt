@@ -1,0 +1,11 @@
+pub use Rattle.dns_middleware.specs.Verdicts
+pub use Rattle.dns_middleware.specs.Wrapped
+pub use Rattle.dns_io.specs.Causes
+pub use Rattle.dns_io.specs.Moves
+pub use Rattle.dns_script.specs.Line
+pub use Rattle.dns_script.specs.Plan
+pub use Rattle.dns_script.specs.PlanOutputs
+pub mod Counts
+pub mod Flood
+pub mod FloodText
+pub mod Writes

@@ -1,0 +1,15 @@
+//! Lines that are written many at a time, a service in the layers of settings, and floods: a generator makes events, they are served by
+//! such a service, and the outputs are counted.
+#![tactic(auto)]
+
+mod counts;
+mod flood;
+mod generator;
+mod layers;
+mod writing;
+
+pub use counts::{Counts, summary};
+pub use flood::{count_flood, write_flood};
+pub use generator::{event_at, next_event, next_number};
+pub use layers::layered;
+pub use writing::{WriteError, pour, write_outputs, write_refusal};
