@@ -43,9 +43,6 @@ digits, HEX pairs of digits or -. docs/scripts.md has all. Exit status: 0 done,
 
 const VERSION: &str = "nutscythe 0.1.0\n";
 
-const USAGE: &str =
-    "usage: nutscythe replay|steps|trace|cache CAP < SCRIPT, nutscythe serve ADDR PORT COUNT < SCRIPT, nutscythe flood SEED COUNT, nutscythe --help or --version";
-
 /// The words of the command line behind the program's name. A word that isn't UTF-8 is a faulty command line.
 fn read_words(rt: &HostRuntime) -> Result<Vec<String>, Status> {
     match env::args(rt) {
@@ -63,35 +60,21 @@ fn words_of(alloc: Global, args: env::Args) -> Result<Vec<String>, Status> {
     }
 }
 
-/// The line that says what is wrong, of a status for which nothing that is written says so.
-fn line_of(status: Status) -> Option<&'static str> {
-    match status {
-        Status::Usage => Some(USAGE),
-        Status::ReadFault => Some("nutscythe: standard input can't be read"),
-        Status::WriteFault => Some("nutscythe: standard output can't be written"),
-        Status::OutOfMemory => Some("nutscythe: there is no memory"),
-        Status::TooLong => Some("nutscythe: the script has more than 67108864 octets"),
-        _ => None,
-    }
-}
-
-/// Ends with a status, and says on standard error what is wrong. That this can't be said changes no status.
-fn ended(rt: &impl Eprint, status: Status) -> ExitCode {
-    if let Some(line) = line_of(status) {
-        let _said = rt.eprintln(line);
-    }
+/// Ends with a status.
+fn ended(status: Status) -> ExitCode {
     ExitCode::from(status.number())
 }
 
 /// Prints a text, and says how that went.
-fn printed(rt: &(impl Print + Eprint), text: &str) -> ExitCode {
+fn printed(rt: &impl Print, text: &str) -> ExitCode {
     match rt.print(text) {
         Ok(()) => ExitCode::SUCCESS,
-        Err(_) => ended(rt, Status::WriteFault),
+        Err(_) => ended(Status::WriteFault),
     }
 }
 
-/// Says on standard error that something of the machine failed. That this can't be said changes no status.
+/// Says on standard error that something of the machine failed, and nothing of any other status. That this can't be said changes
+/// no status.
 fn warn_of(rt: &impl Eprint, status: Status) {
     if status == Status::HostFault {
         let logged = Logged::new(rt, LevelFilter::Warn, Console(rt));
@@ -112,7 +95,7 @@ fn of_server<R: Net + rt::Clock + Threads + Wait + Copy + Send + Sync + 'static>
         Err(status) => status,
     };
     warn_of(rt, status);
-    ended(rt, status)
+    ended(status)
 }
 
 /// Runs the words over standard input and output.
@@ -120,7 +103,7 @@ fn of_run(rt: &HostRuntime, words: &[String]) -> ExitCode {
     let mut source = Reading::new(rt.stdin());
     let mut sink = Writing::new(rt.stdout());
     let status = run(rt.alloc(), words, &mut source, &mut sink);
-    ended(rt, status)
+    ended(status)
 }
 
 /// A form of the command line.
@@ -159,6 +142,6 @@ fn answered<R: Net + rt::Clock + Threads + Wait + Copy + Send + Sync + 'static>(
 fn main(rt: HostRuntime) -> ExitCode {
     match read_words(&rt) {
         Ok(words) => answered(rt, &rt, &words),
-        Err(status) => ended(&rt, status),
+        Err(status) => ended(status),
     }
 }

@@ -3,66 +3,33 @@
 ghost use Rattle.std.specs.Arc.{arc_value};
 ghost use Rattle.std.specs.Prelude.{◌≡◌, IfOk};
 
+use dns_middleware::Notifiable;
 use dns_name::{OutOfMemory, SocketAddr};
-use dns_outside::{HostClock, MioAccept, MioLink, MioSock, ThreadSpawner};
-use dns_server::{
-    Book, BookSeat, BookState, ConnectionWork, Host, Plainly, ScriptService, ScriptTarget,
-    ServePlan, Silent, Status, Wrapped, serve_host,
+use dns_outside::{
+    AsyncAccept, AsyncDgramSock, Clock, HostClock, MioAccept, MioSock, Spawner, ThreadSpawner,
 };
+use dns_server::{
+    Book, BookSeat, BookState, ConnectionWork, Host, Plainly, ServePlan, Settings, Silent, Status,
+    Wrapped, serve_host,
+};
+use dns_service::Service;
 use std::alloc::Global;
 use std::net::Net;
 use std::sync::{Arc, Wait};
 use std::thread::Threads;
 use std::{io, rt};
 
-/// What answers: the rules of a script, in the layers of its settings.
-type Answering = Plainly<Wrapped<ScriptService, ScriptTarget>>;
+/// What serves the connections of a service and a target in layers, each in a thread of its own.
+type Connections<L, C, S, N> = ThreadSpawner<ConnectionWork<L, C, Silent, Plainly<Wrapped<S, N>>>>;
 
-/// What serves one connection, in a thread of its own.
-type Connection<R> = ConnectionWork<MioLink, HostClock<R>, Silent, Answering>;
-
-/// The machine's sockets, clock and threads.
-type Machine<R> = Host<MioAccept<R>, MioSock, HostClock<R>, ThreadSpawner<Connection<R>>, Silent>;
-
-/// The machine, with both sockets at one address.
-fn open_machine<R: Net + rt::Clock + Copy + Send + 'static>(
-    rt: R,
-    alloc: Global,
-    addr: SocketAddr,
-) -> io::Result<Machine<R>> {
-    match MioSock::bind(&rt, alloc, addr) {
-        Ok(sock) => open_accept(rt, alloc, addr, sock),
-        Err(error) => Err(error),
-    }
-}
-
-/// The machine, with the socket of connections beside that of datagrams.
-fn open_accept<R: Net + rt::Clock + Copy + Send + 'static>(
-    rt: R,
-    alloc: Global,
-    addr: SocketAddr,
-    sock: MioSock,
-) -> io::Result<Machine<R>> {
-    match MioAccept::bind(rt, alloc, addr) {
-        Ok(accept) => Ok(machine(rt, alloc, sock, accept)),
-        Err(error) => Err(error),
-    }
-}
-
-/// The machine, with these sockets.
-fn machine<R: Net + rt::Clock + Copy + Send + 'static>(
-    rt: R,
-    alloc: Global,
-    sock: MioSock,
-    accept: MioAccept<R>,
-) -> Machine<R> {
-    Host {
-        sock,
-        accept,
-        clock: HostClock::new(rt),
-        spawner: ThreadSpawner::new(alloc),
-        journal: Silent,
-    }
+/// What is served, in the layers of the settings: a service, and what is told of changed zones; and after how many connections and
+/// datagrams that ends.
+#[derive(Drop)]
+struct Planned<S, N> {
+    count: u64,
+    settings: Settings,
+    service: S,
+    target: N,
 }
 
 /// The status of a socket that couldn't be opened.
@@ -73,11 +40,11 @@ fn unopened(error: io::Error) -> Status {
     Status::HostFault
 }
 
-/// A book that is shared, of the planned configurations, and its seat.
-fn open_book(alloc: Global, plan: &ServePlan) -> Result<(Arc<Book>, BookSeat), OutOfMemory>
+/// A book that is shared, of the configurations of the settings, and its seat.
+fn open_book(alloc: Global, settings: &Settings) -> Result<(Arc<Book>, BookSeat), OutOfMemory>
     ensures { IfOk result (λ r. r.1.book ≡ arc_value r.0) }
 {
-    let state = BookState::new(plan.settings.dgram, plan.settings.stream);
+    let state = BookState::new(settings.dgram, settings.stream);
     let (book, seat) = Book::new(alloc, state)?;
     match Arc::new(alloc, book) {
         Ok(book) => Ok((book, seat)),
@@ -85,77 +52,143 @@ fn open_book(alloc: Global, plan: &ServePlan) -> Result<(Arc<Book>, BookSeat), O
     }
 }
 
-/// The status alone: the seat is given up.
-fn status_of(served: (BookSeat, Status)) -> Status {
-    served.1
-}
-
-/// The status of a plan that found no memory.
-fn given_up(_plan: ServePlan) -> Status {
-    Status::OutOfMemory
-}
-
-/// Closes the machine's sockets.
-fn close<R: Net + rt::Clock + Copy + Send + 'static>(machine: Machine<R>) {
-    drop(machine.accept);
-}
-
-/// Serves what is planned by a book, over sockets that are open.
-fn serve_book<R: Net + rt::Clock + Threads + Wait + Copy + Send + Sync + 'static>(
+/// Serves by a book, over a machine that is open, and closes it.
+fn serve_book<
+    R: Threads + Wait + Copy + Send + Sync + 'static,
+    A: AsyncAccept + Drop,
+    D: AsyncDgramSock + Send + Drop,
+    C: Clock + Send + Drop + 'static,
+    S: Service<()> + Send + Sync + 'static,
+    N: Notifiable + Send + Sync + 'static,
+    P: Spawner<ConnectionWork<A::Link, C, Silent, Plainly<Wrapped<S, N>>>> + Drop,
+>(
     rt: &R,
     alloc: Global,
-    plan: ServePlan,
+    planned: Planned<S, N>,
     book: &Arc<Book>,
     seat: BookSeat,
-    machine: &mut Machine<R>,
+    mut machine: Host<A, D, C, P, Silent>,
 ) -> Status
-    requires { seat.book ≡ arc_value book.now }
+where
+    A::Link: Send + Drop + 'static,
+    S::Future: Send,
+    S::Stream: Send,
+    N::Future: Send,
+    requires book { seat.book ≡ arc_value book.now }
+    requires can_call { S.can_call planned.service }
 {
-    let ServePlan {
+    let Planned {
         count,
         settings,
         service,
         target,
-        ..
-    } = plan;
-    status_of(serve_host(
-        rt, alloc, &settings, service, target, book, seat, machine, count,
-    ))
-}
-
-/// Serves what is planned, over sockets that are open.
-fn serve_over<R: Net + rt::Clock + Threads + Wait + Copy + Send + Sync + 'static>(
-    rt: &R,
-    alloc: Global,
-    plan: ServePlan,
-    machine: &mut Machine<R>,
-) -> Status {
-    match open_book(alloc, &plan) {
-        Ok((book, seat)) => serve_book(rt, alloc, plan, &book, seat, machine),
-        Err(OutOfMemory) => given_up(plan),
-    }
-}
-
-/// Serves what is planned by this machine, and closes its sockets.
-fn serve_at<R: Net + rt::Clock + Threads + Wait + Copy + Send + Sync + 'static>(
-    rt: R,
-    alloc: Global,
-    plan: ServePlan,
-    mut machine: Machine<R>,
-) -> Status {
-    let status = serve_over(&rt, alloc, plan, &mut machine);
-    close(machine);
+    } = planned;
+    let (_seat, status) = serve_host(
+        rt,
+        alloc,
+        &settings,
+        service,
+        target,
+        book,
+        seat,
+        &mut machine,
+        count,
+    );
     status
 }
 
-/// Opens the sockets and serves what is planned.
+/// The same by a book of the settings.
+fn serve_machine<
+    R: Threads + Wait + Copy + Send + Sync + 'static,
+    A: AsyncAccept + Drop,
+    D: AsyncDgramSock + Send + Drop,
+    C: Clock + Send + Drop + 'static,
+    S: Service<()> + Send + Sync + 'static,
+    N: Notifiable + Send + Sync + 'static,
+    P: Spawner<ConnectionWork<A::Link, C, Silent, Plainly<Wrapped<S, N>>>> + Drop,
+>(rt: &R, alloc: Global, planned: Planned<S, N>, machine: Host<A, D, C, P, Silent>) -> Status
+where
+    A::Link: Send + Drop + 'static,
+    S::Future: Send,
+    S::Stream: Send,
+    N::Future: Send,
+    requires { S.can_call planned.service }
+{
+    match open_book(alloc, &planned.settings) {
+        Ok((book, seat)) => serve_book(rt, alloc, planned, &book, seat, machine),
+        Err(OutOfMemory) => Status::OutOfMemory,
+    }
+}
+
+/// Serves over sockets that are open, with a thread for each connection.
+fn serve_over<
+    R: Threads + Wait + Copy + Send + Sync + 'static,
+    A: AsyncAccept + Drop,
+    D: AsyncDgramSock + Send + Drop,
+    C: Clock + Send + Drop + 'static,
+    S: Service<()> + Send + Sync + 'static,
+    N: Notifiable + Send + Sync + 'static,
+>(rt: R, alloc: Global, planned: Planned<S, N>, accept: A, sock: D, clock: C) -> Status
+where
+    A::Link: Send + Drop + 'static,
+    S::Future: Send,
+    S::Stream: Send,
+    N::Future: Send,
+    requires { S.can_call planned.service }
+{
+    let spawner: Connections<A::Link, C, S, N> = ThreadSpawner::new(alloc);
+    let machine = Host {
+        accept,
+        sock,
+        clock,
+        spawner,
+        journal: Silent,
+    };
+    serve_machine(&rt, alloc, planned, machine)
+}
+
+/// Opens the socket of datagrams beside that of connections, and serves over both.
+fn serve_beside<
+    R: Net + rt::Clock + Threads + Wait + Copy + Send + Sync + 'static,
+    A: AsyncAccept + Drop,
+    S: Service<()> + Send + Sync + 'static,
+    N: Notifiable + Send + Sync + 'static,
+>(rt: R, alloc: Global, addr: SocketAddr, planned: Planned<S, N>, accept: A) -> Status
+where
+    A::Link: Send + Drop + 'static,
+    S::Future: Send,
+    S::Stream: Send,
+    N::Future: Send,
+    requires { S.can_call planned.service }
+{
+    match MioSock::bind(&rt, addr) {
+        Ok(sock) => serve_over(rt, alloc, planned, accept, sock, HostClock::new(rt)),
+        Err(error) => unopened(error),
+    }
+}
+
+/// Opens the sockets and serves what is planned. The one of connections is opened first, since it is refused where another server
+/// has the address, and no datagram is to be taken from that one.
 pub(crate) fn serve<R: Net + rt::Clock + Threads + Wait + Copy + Send + Sync + 'static>(
     rt: R,
     alloc: Global,
     plan: ServePlan,
 ) -> Status {
-    match open_machine(rt, alloc, plan.addr) {
-        Ok(machine) => serve_at(rt, alloc, plan, machine),
+    let ServePlan {
+        addr,
+        count,
+        settings,
+        service,
+        target,
+    } = plan;
+    let planned = Planned {
+        count,
+        settings,
+        service,
+        target,
+    };
+    match MioAccept::bind(&rt, addr) {
+        Ok(accept) => serve_beside(rt, alloc, addr, planned, accept),
         Err(error) => unopened(error),
     }
 }
