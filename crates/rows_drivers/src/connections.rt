@@ -1,6 +1,6 @@
 //! Connections over links in memory.
 
-use crate::forms::cases::{Counted, Layered, Refused, all_hold};
+use crate::forms::cases::{Trial, all_hold};
 use crate::forms::link_case::LinkCase;
 use dns_drivers::ConnectionEnd;
 use dns_service::Why;
@@ -59,13 +59,13 @@ const UNNOTED: LinkCase<'static> = LinkCase {
     ..ONE
 };
 
-/// Connections to a service that refuses each request, by names.
-const CASES: &[(&'static str, Refused<LinkCase<'static>>)] = &[
-    ("a_query_is_answered", Refused(ONE)),
+/// Connections to a service that refuses each request or to another one, by names.
+const CASES: &[(&'static str, Trial<LinkCase<'static>>)] = &[
+    ("a_query_is_answered", Trial::Refused(ONE)),
     // A link that moves one octet a call, and gives the query twice: one Write for each frame.
     (
         "one_octet_a_call",
-        Refused(LinkCase {
+        Trial::Refused(LinkCase {
             octets: TWICE,
             most: 1,
             writes_again: &[1, 3],
@@ -78,7 +78,7 @@ const CASES: &[(&'static str, Refused<LinkCase<'static>>)] = &[
     // The first read fails: nothing is written.
     (
         "the_first_read_fails",
-        Refused(LinkCase {
+        Trial::Refused(LinkCase {
             failed_reads: &[0],
             end: ConnectionEnd::Closed(Why::Fault),
             events: b"OF",
@@ -90,7 +90,7 @@ const CASES: &[(&'static str, Refused<LinkCase<'static>>)] = &[
     // The second write of a frame fails: a front of it was written.
     (
         "a_write_fails",
-        Refused(LinkCase {
+        Trial::Refused(LinkCase {
             most: 10,
             failed_writes: &[1],
             end: ConnectionEnd::Closed(Why::Fault),
@@ -103,7 +103,7 @@ const CASES: &[(&'static str, Refused<LinkCase<'static>>)] = &[
     // A write finds no room for longer than it may take.
     (
         "a_write_takes_too_long",
-        Refused(LinkCase {
+        Trial::Refused(LinkCase {
             writes_again: &[0],
             times: LATE,
             end: ConnectionEnd::Closed(Why::WriteTimeout),
@@ -116,7 +116,7 @@ const CASES: &[(&'static str, Refused<LinkCase<'static>>)] = &[
     // A frame is written whole, but that takes longer than it may.
     (
         "a_whole_write_is_late",
-        Refused(LinkCase {
+        Trial::Refused(LinkCase {
             times: LATE,
             end: ConnectionEnd::Closed(Why::WriteTimeout),
             events: b"OPTL",
@@ -127,7 +127,7 @@ const CASES: &[(&'static str, Refused<LinkCase<'static>>)] = &[
     // A shutdown is heard at the first look: nothing is read.
     (
         "a_shutdown_is_heard",
-        Refused(LinkCase {
+        Trial::Refused(LinkCase {
             shut_before: true,
             end: ConnectionEnd::Closed(Why::Shutdown),
             events: b"OS",
@@ -140,7 +140,7 @@ const CASES: &[(&'static str, Refused<LinkCase<'static>>)] = &[
     // unfinished: the stream of the reply is not at its end yet.
     (
         "a_wait_follows_each_again",
-        Refused(LinkCase {
+        Trial::Refused(LinkCase {
             most: 20,
             reads_again: &[0, 2],
             writes_again: &[0, 2, 3],
@@ -149,12 +149,12 @@ const CASES: &[(&'static str, Refused<LinkCase<'static>>)] = &[
             ..ONE
         }),
     ),
-    ("what_is_not_noted_is_not_written", Refused(UNNOTED)),
+    ("what_is_not_noted_is_not_written", Trial::Refused(UNNOTED)),
     // While the first of three frames is written, the server is reconfigured and shuts down, which is noted in this order; of the
     // two frames that wait then the first is written, and the second in part: its second write fails.
     (
         "a_flush_fails",
-        Refused(LinkCase {
+        Trial::Refused(LinkCase {
             octets: RESPONSES,
             failed_writes: &[8],
             writes_again: &[0],
@@ -166,19 +166,11 @@ const CASES: &[(&'static str, Refused<LinkCase<'static>>)] = &[
             ..ONE
         }),
     ),
-];
-
-/// Each connection is served as is wanted of it.
-#[test]
-fn each_case_is_served(rt: HostRuntime) -> Result<(), &'static str> {
-    all_hold(&rt, rt.alloc(), CASES)
-}
-
-/// With memory for so many notes: how often the service is called, and how often its future is polled.
-const COUNTED: &[(&'static str, Counted<LinkCase<'static>>)] = &[
+    // With memory for so many notes, how often the service is called and its future polled: an event is noted before the core takes
+    // it, and what is not noted neither calls nor polls the service.
     (
         "no_call",
-        Counted(
+        Trial::Counted(
             LinkCase {
                 notes: 1,
                 events: b"O",
@@ -187,10 +179,10 @@ const COUNTED: &[(&'static str, Counted<LinkCase<'static>>)] = &[
             (0, 0),
         ),
     ),
-    ("no_poll", Counted(UNNOTED, (1, 0))),
+    ("no_poll", Trial::Counted(UNNOTED, (1, 0))),
     (
         "one_poll",
-        Counted(
+        Trial::Counted(
             LinkCase {
                 notes: 3,
                 events: b"OPT",
@@ -200,30 +192,23 @@ const COUNTED: &[(&'static str, Counted<LinkCase<'static>>)] = &[
             (1, 1),
         ),
     ),
+    // A query with an OPT record to a service in all layers, and its reply, which says after how many units of 100 ms an idle
+    // connection is closed (RFC 7828).
+    (
+        "a_wrapped_service_answers",
+        Trial::Layered(
+            LinkCase {
+                octets: b"\x00\x1c\x12\x34\x01\x00\x00\x01\x00\x00\x00\x00\x00\x01\x00\x00\x01\x00\x01\x00\x00\x29\x00\x00\x00\x00\x00\x00\x00\x00",
+                written: b"\x00\x22\x12\x34\x81\x00\x00\x01\x00\x00\x00\x00\x00\x01\x00\x00\x01\x00\x01\x00\x00\x29\x00\x00\x00\x00\x00\x00\x00\x06\x00\x0b\x00\x02\x01\x2c",
+                ..ONE
+            },
+            false,
+        ),
+    ),
 ];
 
-/// An event is noted before the core takes it: what is not noted neither calls nor polls the service.
+/// Each connection is served as is wanted of it.
 #[test]
-fn an_event_is_noted_first(rt: HostRuntime) -> Result<(), &'static str> {
-    all_hold(&rt, rt.alloc(), COUNTED)
-}
-
-/// A query with an OPT record to a service in all layers, and its reply, which says after how many units of 100 ms an idle
-/// connection is closed (RFC 7828).
-const LAYERED: &[(&'static str, Layered<LinkCase<'static>>)] = &[(
-    "a_wrapped_service_answers",
-    Layered {
-        case: LinkCase {
-            octets: b"\x00\x1c\x12\x34\x01\x00\x00\x01\x00\x00\x00\x00\x00\x01\x00\x00\x01\x00\x01\x00\x00\x29\x00\x00\x00\x00\x00\x00\x00\x00",
-            written: b"\x00\x22\x12\x34\x81\x00\x00\x01\x00\x00\x00\x00\x00\x01\x00\x00\x01\x00\x01\x00\x00\x29\x00\x00\x00\x00\x00\x00\x00\x06\x00\x0b\x00\x02\x01\x2c",
-            ..ONE
-        },
-        is_missing: false,
-    },
-)];
-
-/// A service in all layers answers.
-#[test]
-fn a_wrapped_service_answers(rt: HostRuntime) -> Result<(), &'static str> {
-    all_hold(&rt, rt.alloc(), LAYERED)
+fn each_case_is_served(rt: HostRuntime) -> Result<(), &'static str> {
+    all_hold(&rt, rt.alloc(), CASES)
 }

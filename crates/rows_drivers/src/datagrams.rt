@@ -1,6 +1,6 @@
 //! Datagrams over sockets in memory.
 
-use crate::forms::cases::{Counted, Layered, Refused, all_hold};
+use crate::forms::cases::{Trial, all_hold};
 use crate::forms::sock_case::SockCase;
 use dns_datagrams::DgramEnd;
 
@@ -66,13 +66,13 @@ const UNNOTED: SockCase<'static> = SockCase {
     ..ONE
 };
 
-/// Datagrams to a service that refuses each request, by names.
-const CASES: &[(&'static str, Refused<SockCase<'static>>)] = &[
-    ("two_clients_are_answered", Refused(TWO)),
+/// Datagrams to a service that refuses each request or to another one, by names.
+const CASES: &[(&'static str, Trial<SockCase<'static>>)] = &[
+    ("two_clients_are_answered", Trial::Refused(TWO)),
     // The first receive fails: nothing is noted, and nothing sent.
     (
         "the_first_receive_fails",
-        Refused(SockCase {
+        Trial::Refused(SockCase {
             failed_receives: &[0],
             end: DgramEnd::Fault,
             answered: &[],
@@ -84,7 +84,7 @@ const CASES: &[(&'static str, Refused<SockCase<'static>>)] = &[
     // The first of two sends fails: a Fault of its exchange is noted, and the second answer is sent.
     (
         "the_first_send_fails",
-        Refused(SockCase {
+        Trial::Refused(SockCase {
             failed_sends: &[0],
             answered: &[54],
             events: &[
@@ -102,7 +102,7 @@ const CASES: &[(&'static str, Refused<SockCase<'static>>)] = &[
     // After so many datagrams no more is received.
     (
         "one_of_two_is_served",
-        Refused(SockCase {
+        Trial::Refused(SockCase {
             ports: &[53, 54],
             ..ONE
         }),
@@ -110,7 +110,7 @@ const CASES: &[(&'static str, Refused<SockCase<'static>>)] = &[
     // A send finds no room until as much time has passed as it may take: a Fault at that reading is noted.
     (
         "a_send_is_late",
-        Refused(SockCase {
+        Trial::Refused(SockCase {
             sends_again: &[0, 1],
             times: &[(0, 0), (1, 0), (5_000, 5), (5_001, 5)],
             answered: &[],
@@ -127,7 +127,7 @@ const CASES: &[(&'static str, Refused<SockCase<'static>>)] = &[
     // A send finds room again in time.
     (
         "a_send_is_in_time",
-        Refused(SockCase {
+        Trial::Refused(SockCase {
             sends_again: &[0],
             times: &[(0, 0), (1, 0), (5_000, 5)],
             events: &[(b'D', 0, 0), (b'T', 0, 1), (b'T', 0, 5_000)],
@@ -135,10 +135,21 @@ const CASES: &[(&'static str, Refused<SockCase<'static>>)] = &[
             ..ONE
         }),
     ),
+    // A socket without room is asked once a wait.
+    (
+        "a_full_socket_is_asked_once_a_wait",
+        Trial::Refused(SockCase {
+            sends_again: &[0, 1, 2, 3],
+            times: &[(0, 0), (1, 0), (251, 0), (501, 0), (751, 0), (1_001, 1)],
+            events: &[(b'D', 0, 0), (b'T', 0, 1), (b'T', 0, 1_001)],
+            calls: b"rWzWzWzWzw",
+            ..ONE
+        }),
+    ),
     // A shutdown is heard at the first look: nothing is received.
     (
         "a_shutdown_is_heard",
-        Refused(SockCase {
+        Trial::Refused(SockCase {
             count: 0,
             is_shut: true,
             end: DgramEnd::Shutdown,
@@ -151,7 +162,7 @@ const CASES: &[(&'static str, Refused<SockCase<'static>>)] = &[
     // A Turn right behind its datagram has the datagram's moment, and one behind a wait has a moment of its own.
     (
         "a_turn_has_the_datagrams_moment",
-        Refused(SockCase {
+        Trial::Refused(SockCase {
             times: READINGS,
             stands: true,
             events: &[(b'D', 0, 1), (b'T', 0, 1), (b'T', 0, 2)],
@@ -161,7 +172,7 @@ const CASES: &[(&'static str, Refused<SockCase<'static>>)] = &[
     // Each receive and each send that answered Again is followed by a wait, until the reply is sent.
     (
         "a_wait_follows_each_again",
-        Refused(SockCase {
+        Trial::Refused(SockCase {
             receives_again: &[0],
             sends_again: &[0],
             times: READINGS,
@@ -171,20 +182,12 @@ const CASES: &[(&'static str, Refused<SockCase<'static>>)] = &[
             ..ONE
         }),
     ),
-];
-
-/// Each case is served as is wanted of it.
-#[test]
-fn each_case_is_served(rt: HostRuntime) -> Result<(), &'static str> {
-    all_hold(&rt, rt.alloc(), CASES)
-}
-
-/// With memory for so many notes: how often the service is called, and how often its future is polled.
-const COUNTED: &[(&'static str, Counted<SockCase<'static>>)] = &[
-    ("no_call", Counted(UNNOTED, (0, 0))),
+    // With memory for so many notes, how often the service is called and its future polled: an event is noted before the core takes
+    // it, and what is not noted neither calls nor polls the service.
+    ("no_call", Trial::Counted(UNNOTED, (0, 0))),
     (
         "no_poll",
-        Counted(
+        Trial::Counted(
             SockCase {
                 notes: 1,
                 events: &[(b'D', 0, 0)],
@@ -195,7 +198,7 @@ const COUNTED: &[(&'static str, Counted<SockCase<'static>>)] = &[
     ),
     (
         "one_poll",
-        Counted(
+        Trial::Counted(
             SockCase {
                 notes: 2,
                 events: &[(b'D', 0, 0), (b'T', 0, 0)],
@@ -204,28 +207,21 @@ const COUNTED: &[(&'static str, Counted<SockCase<'static>>)] = &[
             (1, 1),
         ),
     ),
+    // The reply of a service in all layers, which has no OPT record, as the query has none.
+    (
+        "a_query_is_answered",
+        Trial::Layered(
+            SockCase {
+                reply: b"\x12\x34\x81\x03\x00\x01\x00\x00\x00\x00\x00\x00\x00\x00\x01\x00\x01",
+                ..ONE
+            },
+            true,
+        ),
+    ),
 ];
 
-/// An event is noted before the core takes it: what is not noted neither calls nor polls the service.
+/// Each case is served as is wanted of it.
 #[test]
-fn an_event_is_noted_first(rt: HostRuntime) -> Result<(), &'static str> {
-    all_hold(&rt, rt.alloc(), COUNTED)
-}
-
-/// The reply of a service in all layers, which has no OPT record, as the query has none.
-const LAYERED: &[(&'static str, Layered<SockCase<'static>>)] = &[(
-    "a_query_is_answered",
-    Layered {
-        case: SockCase {
-            reply: b"\x12\x34\x81\x03\x00\x01\x00\x00\x00\x00\x00\x00\x00\x00\x01\x00\x01",
-            ..ONE
-        },
-        is_missing: true,
-    },
-)];
-
-/// A query to a service in all layers is answered at its first poll, and its exchange is polled to its end.
-#[test]
-fn a_query_is_answered(rt: HostRuntime) -> Result<(), &'static str> {
-    all_hold(&rt, rt.alloc(), LAYERED)
+fn each_case_is_served(rt: HostRuntime) -> Result<(), &'static str> {
+    all_hold(&rt, rt.alloc(), CASES)
 }

@@ -12,21 +12,8 @@ use dns_name::IpAddr;
 use dns_opt::MessageOpt;
 use dns_route::{ReplyMessage, SingleService, Turned};
 use dns_service::{OutOfMemory, Polled, Request, ServiceError};
-use rows_table::{Calls, Row, RowError, Steps};
+use rows_table::{Row, RowError, Steps};
 use std::alloc::Global;
-
-/// Caches.
-pub(crate) struct CacheRows;
-
-impl Calls for CacheRows {
-    fn answer(&self, call: &str, row: &mut Row<'_>) -> Result<(), RowError> {
-        match call {
-            "cache" => cache(row),
-            _ => return Err(RowError::NoSuchCall),
-        }
-        Ok(())
-    }
-}
 
 /// Is pending some times, and then gives the same reply.
 #[derive(Drop)]
@@ -74,11 +61,8 @@ fn reply_of(alloc: Global, message: Message) -> Result<ReplyMessage, OutOfMemory
 }
 
 /// What a cache says at steps; the next word is its capacity.
-fn cache(row: &mut Row<'_>) {
+pub(crate) fn cache(row: &mut Row<'_>) {
     let capacity: usize = row.number();
-    if capacity == 0 || capacity > 65536 {
-        return row.fail(RowError::OutOfForm);
-    }
     match Cache::new(row.alloc(), capacity) {
         Ok(cache) => row.take_steps(";", &mut Stepped { cache }),
         Err(_) => row.fail(RowError::OutOfMemory),
@@ -92,35 +76,24 @@ struct Stepped {
 }
 
 impl Steps for Stepped {
+    /// Takes a step with the request of the next words, behind its second: it is asked over a service that gives a reply, or, to
+    /// tell what is kept, over one that refuses.
     fn take_step(&mut self, step: &str, row: &mut Row<'_>) {
-        match next_request(row) {
-            Ok(request) => taken_with(row, &mut self.cache, step, &request),
+        let second = row.number();
+        match request_from(row, IpAddr::V4([192, 0, 2, 1]), second) {
+            Ok(request) => match step {
+                "ask" => asked(row, &mut self.cache, &request),
+                "kept" => {
+                    let service = Refusing {
+                        error: ServiceError::Refused,
+                    };
+                    asked_over(row, &mut self.cache, &service, &request, 0)
+                }
+                _ => row.fail(RowError::NoSuchStep),
+            },
             Err(fault) => row.fail(fault),
         }
     }
-}
-
-/// The step that is taken with a request.
-fn taken_with(row: &mut Row<'_>, cache: &mut Cache, step: &str, request: &Request<()>) {
-    match step {
-        "ask" => asked(row, cache, request),
-        "kept" => kept_said(row, cache, request),
-        _ => row.fail(RowError::NoSuchStep),
-    }
-}
-
-/// The request of the next words, behind its second.
-fn next_request(row: &mut Row<'_>) -> Result<Request<()>, RowError> {
-    let second = row.number();
-    request_from(row, IpAddr::V4([192, 0, 2, 1]), second)
-}
-
-/// What a request is answered out of the cache, where an entry is used; the service refuses.
-fn kept_said(row: &mut Row<'_>, cache: &mut Cache, request: &Request<()>) {
-    let service = Refusing {
-        error: ServiceError::Refused,
-    };
-    asked_over(row, cache, &service, request, 0)
 }
 
 /// What a request is answered at a turn, whose service gives a reply.

@@ -2,69 +2,42 @@
 
 use crate::layer_rows::{Layers, through_from};
 use crate::said::{PollAnswer, Says, Shown, called};
-use crate::words::kept;
 use dns_base::MessageRef;
 use dns_middleware::CookiesMiddlewareSvc;
-use dns_name::{IpAddr, ParseError};
+use dns_name::IpAddr;
 use dns_opt::{Cookie, MessageOpt, OptRef};
-use dns_service::{CallResult, Polled, Request, Service};
-use rows_table::{Calls, Row, RowError, address_of};
+use dns_service::{Polled, Request, Service};
+use rows_table::{Row, RowError, address_of};
 
-/// The cookie layer.
-pub(crate) struct CookieRows;
-
-impl Calls for CookieRows {
-    fn answer(&self, call: &str, row: &mut Row<'_>) -> Result<(), RowError> {
-        match call {
-            "cookies" => guarded(row, true, false),
-            "cookies_disabled" => guarded(row, false, false),
-            "made_cookies" => guarded(row, true, true),
-            _ => return Err(RowError::NoSuchCall),
-        }
-        Ok(())
-    }
+/// What the cookie layer gives to a request from an address at a second, by the next words: a secret, this address, the
+/// second, and the denied address or `-` for none.
+pub(crate) fn guarded(row: &mut Row<'_>, on: bool, made: bool) {
+    let secret = row.array::<16>();
+    let address = row.address();
+    let second = row.number::<u64>();
+    let denied = match row.word() {
+        "-" => None,
+        word => Some(row.read(address_of(word), IpAddr::V4([0; 4]))),
+    };
+    let guard = Guard {
+        secret,
+        address,
+        denied,
+        on,
+        made,
+    };
+    through_from(row, &guard, address, second)
 }
 
-/// What the cookie layer of the next words gives.
-fn guarded(row: &mut Row<'_>, on: bool, made: bool) {
-    let guard = next_guard(row, on, made);
-    through_from(row, &guard, guard.address, guard.second)
-}
-
-/// The cookie layer, on or not, under a secret and with one denied address or none; the address and the second of the
-/// request; and whether the reply's cookies are told.
+/// The cookie layer, on or not, under a secret and with one denied address or none; the address of the request; and whether
+/// the reply's cookies are told.
 #[derive(Drop)]
 struct Guard {
     secret: [u8; 16],
     address: IpAddr,
-    second: u64,
     denied: Option<IpAddr>,
     on: bool,
     made: bool,
-}
-
-/// The cookie layer of the next words.
-fn next_guard(row: &mut Row<'_>, on: bool, made: bool) -> Guard {
-    let secret = row.array::<16>();
-    let address = row.address();
-    let second = row.number::<u64>();
-    let denied = next_denied(row);
-    Guard {
-        secret,
-        address,
-        second,
-        denied,
-        on,
-        made,
-    }
-}
-
-/// The denied address of the next word, or none where it is `-`.
-fn next_denied(row: &mut Row<'_>) -> Option<IpAddr> {
-    match row.word() {
-        "-" => None,
-        word => kept(row, address_of(word)),
-    }
 }
 
 impl Guard {
@@ -107,27 +80,18 @@ pub(crate) struct CookiesIn<'a> {
 impl Says<PollAnswer> for CookiesIn<'_> {
     fn says(&self, row: &mut Row<'_>, value: &PollAnswer) {
         match value {
-            Ok(Polled::Ready(Some(Ok(given)))) => given_said(row, self, given),
+            Ok(Polled::Ready(Some(Ok(given)))) => match given.response() {
+                Some(reply) => match MessageRef::from_slice(reply.as_slice()) {
+                    Ok(message) => match message.opt() {
+                        Some(record) => count_said(row, record.opt(), self.address, self.secret),
+                        None => row.say("no record"),
+                    },
+                    Err(_) => row.fail(RowError::OutOfForm),
+                },
+                None => row.fail(RowError::Missing),
+            },
             _ => row.fail(RowError::Missing),
         }
-    }
-}
-
-/// The same of what is given.
-fn given_said(row: &mut Row<'_>, cookies: &CookiesIn<'_>, given: &CallResult) {
-    match given.response() {
-        Some(reply) => reply_said(row, reply.as_slice(), cookies.address, cookies.secret),
-        None => row.fail(RowError::Missing),
-    }
-}
-
-fn reply_said(row: &mut Row<'_>, reply: &[u8], address: IpAddr, secret: &[u8; 16]) {
-    match MessageRef::from_slice(reply) {
-        Ok(message) => match message.opt() {
-            Some(record) => count_said(row, record.opt(), address, secret),
-            None => row.say("no record"),
-        },
-        Err(_) => row.fail(RowError::OutOfForm),
     }
 }
 
@@ -137,17 +101,12 @@ fn count_said(row: &mut Row<'_>, options: &OptRef<'_>, address: IpAddr, secret: 
     let mut checked = 0u8;
     for cookie in options.iter::<Cookie>() {
         cookies = cookies.saturating_add(1);
-        if checks(&cookie, address, secret) {
-            checked = checked.saturating_add(1);
+        if let Ok(cookie) = cookie {
+            if cookie.check_server_hash(address, secret, |_| true) {
+                checked = checked.saturating_add(1);
+            }
         }
     }
     row.show(&cookies);
     row.show(&checked);
-}
-
-fn checks(cookie: &Result<Cookie, ParseError>, address: IpAddr, secret: &[u8; 16]) -> bool {
-    match cookie {
-        Ok(cookie) => cookie.check_server_hash(address, secret, |_| true),
-        Err(_) => false,
-    }
 }

@@ -1,30 +1,12 @@
-//! Rows of a question that is asked of one upstream, and of a forwarder.
-
-ghost use Rattle.std.specs.Prelude.{◌≤◌};
+//! Rows of a question that is asked of one upstream, and of forwarders.
 
 use crate::router_rows::{Planned, asked_at, next_transport};
 use dns_base::Message;
-use dns_forward::{Asking, AskingEvent, Forwarder, Forwarding, SendError, ask_all, led_to};
+use dns_forward::{Asking, AskingEvent, Forwarder, Forwarding, ask_all, led_to};
 use dns_name::{Name, Octets};
-use dns_route::{ClientTransportToSingleService, SendRequest};
+use dns_route::{ClientTransportToSingleService, SendRequest, SingleService};
 use dns_service::Polled;
-use rows_table::{Calls, Row, RowError, Steps};
-
-/// Askings and forwarders.
-pub(crate) struct ForwardRows;
-
-impl Calls for ForwardRows {
-    fn answer(&self, call: &str, row: &mut Row<'_>) -> Result<(), RowError> {
-        match call {
-            "asking" => asking(row),
-            "ask_all" => asked_all(row),
-            "forwarder" => forwarder(row),
-            "forwarding" => forwarding(row),
-            _ => return Err(RowError::NoSuchCall),
-        }
-        Ok(())
-    }
-}
+use rows_table::{Row, RowError, Steps};
 
 /// What a message is asked by.
 #[derive(Clone, Copy)]
@@ -36,24 +18,11 @@ struct Terms {
 }
 
 /// What a message is asked by, in the next words: an identifier, tries, a timeout and the moment of the first send.
-fn next_terms(row: &mut Row<'_>) -> Terms
-    ensures some { 1 ≤ result.tries }
-    ensures few { result.tries ≤ 8 }
-    ensures timeout { 1 ≤ result.timeout }
-{
+fn next_terms(row: &mut Row<'_>) -> Terms {
     let id: u16 = row.number();
     let tries: u8 = row.number();
     let timeout: u64 = row.number();
     let at: u64 = row.number();
-    if tries == 0 || tries > 8 || timeout == 0 {
-        row.fail(RowError::OutOfForm);
-        return Terms {
-            id,
-            tries: 1,
-            timeout: 1,
-            at,
-        };
-    }
     Terms {
         id,
         tries,
@@ -78,7 +47,7 @@ fn next_asking(row: &mut Row<'_>) -> Result<Asking, RowError> {
 }
 
 /// What an asking says at steps.
-fn asking(row: &mut Row<'_>) {
+pub(crate) fn asking(row: &mut Row<'_>) {
     match next_asking(row) {
         Ok(asking) => row.take_steps(";", &mut Stepped { asking }),
         Err(fault) => row.fail(fault),
@@ -92,35 +61,30 @@ struct Stepped {
 }
 
 impl Steps for Stepped {
+    /// Says the octets, what is to be done at a moment, or the answer, if it arrived.
     fn take_step(&mut self, step: &str, row: &mut Row<'_>) {
         match step {
             "octets" => row.hexadecimal(self.asking.octets()),
-            "tick" => ticked(row, &mut self.asking),
-            "arrived" => arrived(row, &mut self.asking),
+            "tick" => {
+                let at = row.number();
+                row.debug(&self.asking.tick(at))
+            }
+            "arrived" => {
+                let at = row.number();
+                let octets = row.octets();
+                match self.asking.arrived(row.alloc(), at, octets) {
+                    Ok(Some(answer)) => row.hexadecimal(answer.as_slice()),
+                    Ok(None) => row.say("none"),
+                    Err(_) => row.fail(RowError::OutOfMemory),
+                }
+            }
             _ => row.fail(RowError::OutOfForm),
         }
     }
 }
 
-/// What is to be done at a moment.
-fn ticked(row: &mut Row<'_>, asking: &mut Asking) {
-    let at = row.number();
-    row.debug(&asking.tick(at))
-}
-
-/// The answer, if it arrived.
-fn arrived(row: &mut Row<'_>, asking: &mut Asking) {
-    let at = row.number();
-    let octets = row.octets();
-    match asking.arrived(row.alloc(), at, octets) {
-        Ok(Some(answer)) => row.hexadecimal(answer.as_slice()),
-        Ok(None) => row.say("none"),
-        Err(_) => row.fail(RowError::OutOfMemory),
-    }
-}
-
 /// What events lead to.
-fn asked_all(row: &mut Row<'_>) {
+pub(crate) fn asked_all(row: &mut Row<'_>) {
     match next_asking(row) {
         Ok(asking) => all_of(row, asking),
         Err(fault) => row.fail(fault),
@@ -131,17 +95,12 @@ fn asked_all(row: &mut Row<'_>) {
 fn all_of(row: &mut Row<'_>, asking: Asking) {
     let events = next_events(row);
     match ask_all(row.alloc(), asking, events.as_slice()) {
-        Ok(outcomes) => led_said(row, led_to(outcomes)),
+        Ok(outcomes) => match led_to(outcomes) {
+            Polled::Ready(Ok(message)) => row.hexadecimal(message.as_slice()),
+            Polled::Ready(Err(error)) => row.debug(&error),
+            Polled::Pending => row.say("pending"),
+        },
         Err(_) => row.fail(RowError::OutOfMemory),
-    }
-}
-
-/// What was led to.
-fn led_said(row: &mut Row<'_>, answer: Polled<Result<Message, SendError>>) {
-    match answer {
-        Polled::Ready(Ok(message)) => row.hexadecimal(message.as_slice()),
-        Polled::Ready(Err(error)) => row.debug(&error),
-        Polled::Pending => row.say("pending"),
     }
 }
 
@@ -173,20 +132,15 @@ fn event_of(row: &mut Row<'_>, first: &str, second: &str) -> AskingEvent {
 }
 
 /// What a forwarder says at a turn, to which a transport was added under the name of the next word.
-fn forwarder(row: &mut Row<'_>) {
+pub(crate) fn forwarder(row: &mut Row<'_>) {
     let name = row.word();
     let k = row.number();
     match next_transport(row) {
-        Ok(conn) => over(row, name, k, conn),
+        Ok(conn) => match Box::new(row.alloc(), conn) {
+            Ok(conn) => over_box(row, name, k, conn),
+            Err(_) => row.fail(RowError::OutOfMemory),
+        },
         Err(fault) => row.fail(fault),
-    }
-}
-
-/// The same over a transport.
-fn over(row: &mut Row<'_>, name: &str, k: u64, conn: Planned) {
-    match Box::new(row.alloc(), conn) {
-        Ok(conn) => over_box(row, name, k, conn),
-        Err(_) => row.fail(RowError::OutOfMemory),
     }
 }
 
@@ -212,7 +166,7 @@ type Relay = ClientTransportToSingleService<Planned>;
 
 /// What a forwarder over transports of one type says at a turn: the next word has their count, and before each is the name that
 /// it is added under.
-fn forwarding(row: &mut Row<'_>) {
+pub(crate) fn forwarding(row: &mut Row<'_>) {
     let mut forwarding = Forwarding::new(row.alloc());
     let count: u8 = row.number();
     for _ in 0..count {
@@ -237,7 +191,12 @@ fn add_next(row: &mut Row<'_>, forwarding: &mut Forwarding<Relay>) {
 }
 
 /// Adds a service under a name.
-fn add(row: &mut Row<'_>, forwarding: &mut Forwarding<Relay>, name: &str, service: Relay) {
+fn add<S: SingleService>(
+    row: &mut Row<'_>,
+    forwarding: &mut Forwarding<S>,
+    name: &str,
+    service: S,
+) {
     let octets = row.octets_of(name);
     match Name::from_octets(row.copied(octets)) {
         Ok(name) => row.keep(forwarding.add_service(row.alloc(), name, service)),

@@ -1,5 +1,6 @@
 //! Rows of the layers: a request through them to a service that answers at once.
 
+use crate::cookie_rows::guarded;
 use crate::inner::{AsPlanned, planned};
 use crate::request_rows::{hint_said, request_from};
 use crate::said::{Shown, called};
@@ -12,7 +13,7 @@ use dns_name::IpAddr;
 use dns_service::{CallResult, Request, Service, ServiceResult, mk_error_response, service_fn};
 use rows_table::{Calls, Row, RowError};
 
-/// The mandatory layer, round the service or round the EDNS layer.
+/// The mandatory layer, round the service or round the EDNS layer, and the cookie layer.
 pub(crate) struct MandatoryRows;
 
 impl Calls for MandatoryRows {
@@ -22,13 +23,17 @@ impl Calls for MandatoryRows {
             "mandatory_relaxed" => through(row, &Mandatory { strict: false }),
             "both" => through(row, &Both { strict: true }),
             "both_relaxed" => through(row, &Both { strict: false }),
+            "cookies" => guarded(row, true, false),
+            "cookies_disabled" => guarded(row, false, false),
+            "made_cookies" => guarded(row, true, true),
             _ => return Err(RowError::NoSuchCall),
         }
         Ok(())
     }
 }
 
-/// The EDNS layer, the NOTIFY layer and all layers.
+/// The EDNS layer, the NOTIFY layer, of which the next words say how often it is polled and its target, and all layers, as the
+/// next words set them.
 pub(crate) struct LayerRows;
 
 impl Calls for LayerRows {
@@ -36,8 +41,15 @@ impl Calls for LayerRows {
         match call {
             "edns_hint" => through(row, &Edns { on: true }),
             "edns_disabled" => through(row, &Edns { on: false }),
-            "notify" => notified(row),
-            "wrap" => wrapped(row),
+            "notify" => {
+                let polls = row.number();
+                let target = Target::next(row);
+                through(row, &Notify { polls, target })
+            }
+            "wrap" => {
+                let all = All::next(row);
+                through(row, &all)
+            }
             _ => return Err(RowError::NoSuchCall),
         }
         Ok(())
@@ -49,19 +61,6 @@ pub(crate) trait Layers {
     /// What the service gives to the request in these layers.
     fn ask<S: Service<()>>(&self, row: &mut Row<'_>, service: S, request: &mut Request<()>)
         requires { S.can_call service };
-}
-
-/// The NOTIFY layer of the next words: how often it is polled, and its target.
-fn notified(row: &mut Row<'_>) {
-    let polls = row.number();
-    let target = Target::next(row);
-    through(row, &Notify { polls, target })
-}
-
-/// All layers, as the next words set them.
-fn wrapped(row: &mut Row<'_>) {
-    let all = All::next(row);
-    through(row, &all)
 }
 
 /// What layers give to the request of the next words, round a service that answers with the item behind it.
@@ -90,15 +89,10 @@ fn item(row: &mut Row<'_>, request: &Request<()>) -> Result<ServiceResult, RowEr
     let word = row.word();
     match service_error(word) {
         Some(error) => Ok(Err(error)),
-        None => reply_item(item_reply(row, request, word)),
-    }
-}
-
-/// The item that a reply is.
-fn reply_item(reply: Result<AdditionalBuilder, RowError>) -> Result<ServiceResult, RowError> {
-    match reply {
-        Ok(reply) => Ok(Ok(CallResult::new(reply))),
-        Err(fault) => Err(fault),
+        None => match item_reply(row, request, word) {
+            Ok(reply) => Ok(Ok(CallResult::new(reply))),
+            Err(fault) => Err(fault),
+        },
     }
 }
 

@@ -1,8 +1,11 @@
-//! Rows of a service that is asked often, which `bench/calls` times.
+//! Rows of a service that is asked often, which `bench/calls` times, of a router, and of other work that is done often.
 
 use crate::inner::{AsPlanned, planned};
+use crate::router_often::often_routed;
+use crate::stream_rows::{cut_next, watched};
 use crate::target::Target;
 use crate::words;
+use crate::works::worked;
 use dns_base::Message;
 use dns_middleware::{EdnsMiddlewareSvc, MandatoryMiddlewareSvc, Settings, wrap};
 use dns_name::{IpAddr, SocketAddr};
@@ -14,7 +17,8 @@ use rows_table::{Calls, Row, RowError};
 use std::alloc::Global;
 
 /// A query is made a request that came in a datagram, so many times, and a service is asked that answers at once with a copy
-/// of a reply: the sum of the octets of all replies.
+/// of a reply: the sum of the octets of all replies. Or a router is asked, of which one turn is made for each, or work is done
+/// that asks for no service. And a reply is cut, or a stream is watched.
 pub(crate) struct OftenRows;
 
 impl Calls for OftenRows {
@@ -23,6 +27,11 @@ impl Calls for OftenRows {
             "often" => sum_said(row, Layers::None),
             "often_both" => sum_said(row, Layers::Two),
             "often_wrap" => sum_said(row, Layers::All),
+            "often_routed" => often_routed(row),
+            "work" => worked(row),
+            "cut" => cut_next(row),
+            "polls" => watched(row, false),
+            "sizes" => watched(row, true),
             _ => return Err(RowError::NoSuchCall),
         }
         Ok(())
@@ -161,19 +170,13 @@ fn polled_sum(polled: Result<Polled<Option<ServiceResult>>, OutOfMemory>) -> u64
 
 /// The sum of the octets of the reply that a poll gives.
 fn reply_sum(polled: &Result<Polled<Option<ServiceResult>>, OutOfMemory>) -> u64 {
-    match polled {
-        Ok(Polled::Ready(Some(Ok(given)))) => match given.response() {
-            Some(reply) => octets_sum(reply.as_slice()),
-            None => 0,
-        },
-        _ => 0,
-    }
-}
-
-fn octets_sum(octets: &[u8]) -> u64 {
     let mut sum = 0u64;
-    for octet in octets {
-        sum = sum.wrapping_add(u64::from(*octet));
+    if let Ok(Polled::Ready(Some(Ok(given)))) = polled {
+        if let Some(reply) = given.response() {
+            for octet in reply.as_slice() {
+                sum = sum.wrapping_add(u64::from(*octet));
+            }
+        }
     }
     sum
 }

@@ -2,8 +2,10 @@
 
 ghost use Rattle.dns_base.specs.Records.{IsLawful};
 
+use crate::route_rows::{copied_message, reply_message};
 use crate::words::{message, opt_rcode};
-use dns_base::{AdditionalBuilder, Message, PushError, Record, RecordData};
+use crate::zone_rows::zone;
+use dns_base::{AdditionalBuilder, PushError, Record, RecordData};
 use dns_name::{BuildDataError, Class, Name, OptRcode, Ttl};
 use dns_opt::{AllOptData, BuildOpt, MessageOpt, NsidRef, OptBuilder, OptRecordRef};
 use dns_service::{
@@ -14,7 +16,7 @@ use rows_table::{Calls, Row, RowError};
 use std::alloc::Global;
 use std::fmt::Debug;
 
-/// Replies.
+/// Replies, messages for routers, and zones.
 pub(crate) struct ReplyRows;
 
 impl Calls for ReplyRows {
@@ -25,6 +27,10 @@ impl Calls for ReplyRows {
             "response_mut" => response_mut(row),
             "reply" => replied(row, true),
             "reply_opt" => replied(row, false),
+            "reply_message" => reply_message(row),
+            "copied_message" => copied_message(row),
+            "zone" => zone(row, false),
+            "zone_turn" => zone(row, true),
             _ => return Err(RowError::NoSuchCall),
         }
         Ok(())
@@ -41,15 +47,12 @@ fn empty(row: &mut Row<'_>) {
 /// The error reply to a message with a response code.
 fn error_reply(row: &mut Row<'_>) -> Result<AdditionalBuilder, RowError> {
     match message(row) {
-        Ok(query) => error_reply_to(row, &query),
+        Ok(query) => {
+            let rcode = opt_rcode(row.number());
+            mk_error_response(row.alloc(), &query, rcode).or(Err(RowError::OutOfMemory))
+        }
         Err(fault) => Err(fault),
     }
-}
-
-/// The same of a message.
-fn error_reply_to(row: &mut Row<'_>, query: &Message) -> Result<AdditionalBuilder, RowError> {
-    let rcode = opt_rcode(row.number());
-    mk_error_response(row.alloc(), query, rcode).or(Err(RowError::OutOfMemory))
 }
 
 /// Its push limit and its octets.
@@ -74,17 +77,12 @@ fn response_mut(row: &mut Row<'_>) {
 /// The same of a call's result.
 fn given_said(row: &mut Row<'_>, given: CallResult) {
     let mut given = given;
-    given_stepped(row, &mut given);
-    match given.response() {
-        Some(reply) => row.hexadecimal(reply.as_slice()),
-        None => row.fail(RowError::Missing),
-    }
-}
-
-/// Takes the steps of the next word with the reply that a call's result holds.
-fn given_stepped(row: &mut Row<'_>, given: &mut CallResult) {
     match given.response_mut() {
         Some(reply) => steps_taken(row, reply),
+        None => row.fail(RowError::Missing),
+    }
+    match given.response() {
+        Some(reply) => row.hexadecimal(reply.as_slice()),
         None => row.fail(RowError::Missing),
     }
 }
@@ -92,19 +90,16 @@ fn given_stepped(row: &mut Row<'_>, given: &mut CallResult) {
 /// The refusals of the steps that an empty message takes, and the message's octets or what its OPT record says.
 fn replied(row: &mut Row<'_>, whole: bool) {
     match mk_builder_for_target(row.alloc()) {
-        Ok(builder) => stepped(row, builder.additional(), whole),
+        Ok(builder) => {
+            let mut reply = builder.additional();
+            steps_taken(row, &mut reply);
+            if whole {
+                row.hexadecimal(reply.as_slice())
+            } else {
+                written_said(row, &reply)
+            }
+        }
         Err(_) => row.fail(RowError::OutOfMemory),
-    }
-}
-
-/// The same of a message.
-fn stepped(row: &mut Row<'_>, reply: AdditionalBuilder, whole: bool) {
-    let mut reply = reply;
-    steps_taken(row, &mut reply);
-    if whole {
-        row.hexadecimal(reply.as_slice())
-    } else {
-        written_said(row, &reply)
     }
 }
 
@@ -113,20 +108,16 @@ fn stepped(row: &mut Row<'_>, reply: AdditionalBuilder, whole: bool) {
 fn written_said(row: &mut Row<'_>, reply: &AdditionalBuilder) {
     match reply.as_message().opt() {
         Some(opt) => {
-            opt_said(row, reply, &opt);
+            let header = reply.header();
+            row.show(&reply.counts().arcount);
+            row.show(&header.rcode.to_int());
+            row.show(&opt.rcode(header).to_int());
+            row.show(&opt.udp_payload_size());
+            row.show(&opt.opt().len());
             row.show(&readable(&opt))
         }
         None => row.say("none"),
     }
-}
-
-fn opt_said(row: &mut Row<'_>, reply: &AdditionalBuilder, opt: &OptRecordRef<'_>) {
-    let header = reply.header();
-    row.show(&reply.counts().arcount);
-    row.show(&header.rcode.to_int());
-    row.show(&opt.rcode(header).to_int());
-    row.show(&opt.udp_payload_size());
-    row.show(&opt.opt().len())
 }
 
 /// How many options of any kind a record has that are read.
@@ -152,32 +143,25 @@ fn steps_taken(row: &mut Row<'_>, reply: &mut AdditionalBuilder) {
 fn step_said(row: &mut Row<'_>, reply: &mut AdditionalBuilder, step: &str) {
     let (name, argument) = step.split_once(':').unwrap_or((step, "0"));
     match name {
-        "nsid" => option_added(row, reply, argument),
-        "address" => address_pushed(row, reply),
-        "remove" => removed(row, reply),
-        _ => numbered_step_said(row, reply, name, argument),
-    }
-}
-
-/// Removes the OPT record.
-fn removed(row: &mut Row<'_>, reply: &mut AdditionalBuilder) {
-    row.keep(remove_edns_opt_record(row.alloc(), reply))
-}
-
-/// A step whose argument is a number.
-fn numbered_step_said(
-    row: &mut Row<'_>,
-    reply: &mut AdditionalBuilder,
-    name: &str,
-    argument: &str,
-) {
-    let number = row.number_of::<u16>(argument);
-    match name {
-        "opt" => sized_opt(row, reply, number),
-        "padding" => padded(row, reply, true, number),
-        "add_padding" => padded(row, reply, false, number),
-        "limit" => reply.set_push_limit(usize::from(number)),
-        _ => row.fail(RowError::NoSuchStep),
+        "nsid" => match NsidRef::from_slice(row.octets_of(argument)) {
+            Ok(identifier) => refusal_said(row, add_edns_option(row.alloc(), reply, &identifier)),
+            Err(error) => row.debug(&error),
+        },
+        "address" => match Name::root(row.alloc()) {
+            Ok(owner) => refusal_said(row, push(row.alloc(), reply, address(owner))),
+            Err(_) => row.fail(RowError::OutOfMemory),
+        },
+        "remove" => row.keep(remove_edns_opt_record(row.alloc(), reply)),
+        _ => {
+            let number = row.number_of::<u16>(argument);
+            match name {
+                "opt" => sized_opt(row, reply, number),
+                "padding" => padded(row, reply, true, number),
+                "add_padding" => padded(row, reply, false, number),
+                "limit" => reply.set_push_limit(usize::from(number)),
+                _ => row.fail(RowError::NoSuchStep),
+            }
+        }
     }
 }
 
@@ -212,21 +196,6 @@ fn sized(opt: &mut OptBuilder, size: u16) -> Result<(), BuildDataError> {
         opt.set_rcode(OptRcode::BADCOOKIE);
     }
     Ok(())
-}
-
-fn option_added(row: &mut Row<'_>, reply: &mut AdditionalBuilder, octets: &str) {
-    match NsidRef::from_slice(row.octets_of(octets)) {
-        Ok(identifier) => refusal_said(row, add_edns_option(row.alloc(), reply, &identifier)),
-        Err(error) => row.debug(&error),
-    }
-}
-
-/// Pushes the root's address.
-fn address_pushed(row: &mut Row<'_>, reply: &mut AdditionalBuilder) {
-    match Name::root(row.alloc()) {
-        Ok(owner) => refusal_said(row, push(row.alloc(), reply, address(owner))),
-        Err(_) => row.fail(RowError::OutOfMemory),
-    }
 }
 
 fn push(alloc: Global, reply: &mut AdditionalBuilder, item: Record) -> Result<(), PushError>

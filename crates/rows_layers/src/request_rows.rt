@@ -3,11 +3,9 @@
 use crate::route_rows::request_message;
 use crate::service_rows::{of_arc, served};
 use crate::words::message;
-use dns_base::Message;
 use dns_name::{IpAddr, SocketAddr};
 use dns_service::{NonUdpTransportContext, Request, TransportSpecificContext, UdpTransportContext};
 use rows_table::{Calls, Row, RowError};
-use std::alloc::Global;
 
 /// Calls whose first words are a request: a transport and a message. They are asked last, since the request is read before
 /// its call is looked for.
@@ -22,21 +20,31 @@ impl Calls for RequestRows {
     }
 }
 
-/// What a call says of a request.
+/// What a call says of a request (its address, port, moment, second, message and reserved octets; how many octets are
+/// reserved in the end; the hint that is set), or of what a service or a transport gives to it.
 fn asked(call: &str, row: &mut Row<'_>, request: &mut Request<()>) -> Result<(), RowError> {
     match call {
-        "request" => parts_said(row, request),
+        "request" => {
+            let sender = request.client_addr();
+            row.show(&sender.ip);
+            row.show(&sender.port);
+            row.show(&request.received_at());
+            row.show(&request.received_secs());
+            row.hexadecimal(request.message().as_slice());
+            row.show(&request.num_reserved_bytes())
+        }
         "try_clone" => copied(row, request),
-        "reserve_bytes" => reserve(row, request),
-        "set_max_response_size_hint" => other_hint(row, request),
-        _ => return passed_on(call, row, request),
-    }
-    Ok(())
-}
-
-/// What a call says of a request that goes on to a service or a transport.
-fn passed_on(call: &str, row: &mut Row<'_>, request: &mut Request<()>) -> Result<(), RowError> {
-    match call {
+        "reserve_bytes" => {
+            request.reserve_bytes(row.number());
+            request.reserve_bytes(row.number());
+            row.show(&request.num_reserved_bytes())
+        }
+        "set_max_response_size_hint" => {
+            if let TransportSpecificContext::Udp(udp) = request.transport_ctx_mut() {
+                udp.set_max_response_size_hint(row.optional());
+            }
+            hint_said(row, request.transport_ctx())
+        }
         "served" => served(row, request),
         "arc" => of_arc(row, request),
         "request_message" => request_message(row, request),
@@ -57,28 +65,7 @@ pub(crate) fn request_from(
     ip: IpAddr,
     second: u64,
 ) -> Result<Request<()>, RowError> {
-    let transport = transport(row);
-    let sender = SocketAddr { ip, port: 5353 };
-    match message(row) {
-        Ok(message) => made(row.alloc(), sender, second, message, transport),
-        Err(fault) => Err(fault),
-    }
-}
-
-/// A request of these parts, at moment 5.
-fn made(
-    alloc: Global,
-    sender: SocketAddr,
-    second: u64,
-    message: Message,
-    transport: TransportSpecificContext,
-) -> Result<Request<()>, RowError> {
-    Request::new(alloc, sender, 5, second, message, transport, ()).or(Err(RowError::OutOfMemory))
-}
-
-/// The transport of the next words.
-fn transport(row: &mut Row<'_>) -> TransportSpecificContext {
-    match row.word() {
+    let transport = match row.word() {
         "udp" => TransportSpecificContext::Udp(UdpTransportContext::new(row.optional())),
         word => {
             if word != "stream" {
@@ -86,33 +73,27 @@ fn transport(row: &mut Row<'_>) -> TransportSpecificContext {
             }
             TransportSpecificContext::NonUdp(NonUdpTransportContext::new(row.optional()))
         }
+    };
+    let sender = SocketAddr { ip, port: 5353 };
+    match message(row) {
+        Ok(message) => Request::new(row.alloc(), sender, 5, second, message, transport, ()).or(Err(
+            RowError::OutOfMemory,
+        )),
+        Err(fault) => Err(fault),
     }
-}
-
-/// The address, the port, the moment, the second, the octets of the message and how many octets are reserved.
-fn parts_said(row: &mut Row<'_>, request: &Request<()>) {
-    let sender = request.client_addr();
-    row.show(&sender.ip);
-    row.show(&sender.port);
-    row.show(&request.received_at());
-    row.show(&request.received_secs());
-    row.hexadecimal(request.message().as_slice());
-    row.show(&request.num_reserved_bytes())
 }
 
 /// Octets are reserved, and the copy gets other metadata: these, the copy's octets and how many it has reserved.
 fn copied(row: &mut Row<'_>, request: &mut Request<()>) {
     request.reserve_bytes(row.number());
     match request.try_clone(row.alloc(), row.number::<u8>()) {
-        Ok(copy) => copy_said(row, &copy),
+        Ok(copy) => {
+            row.show(copy.metadata());
+            row.hexadecimal(copy.message().as_slice());
+            row.show(&copy.num_reserved_bytes())
+        }
         Err(_) => row.fail(RowError::OutOfMemory),
     }
-}
-
-fn copy_said(row: &mut Row<'_>, copy: &Request<u8>) {
-    row.show(copy.metadata());
-    row.hexadecimal(copy.message().as_slice());
-    row.show(&copy.num_reserved_bytes())
 }
 
 /// The next words' request with other metadata: these.
@@ -121,21 +102,6 @@ pub(crate) fn other_metadata(row: &mut Row<'_>) -> Result<(), RowError> {
     let metadata = row.number::<u8>();
     row.show(request.with_new_metadata(metadata).metadata());
     Ok(())
-}
-
-/// How many octets are reserved in the end.
-fn reserve(row: &mut Row<'_>, request: &mut Request<()>) {
-    request.reserve_bytes(row.number());
-    request.reserve_bytes(row.number());
-    row.show(&request.num_reserved_bytes());
-}
-
-/// The hint of a transport that is set to another.
-fn other_hint(row: &mut Row<'_>, request: &mut Request<()>) {
-    if let TransportSpecificContext::Udp(udp) = request.transport_ctx_mut() {
-        udp.set_max_response_size_hint(row.optional());
-    }
-    hint_said(row, request.transport_ctx());
 }
 
 /// The hint of a transport, or `none`.

@@ -1,26 +1,12 @@
 //! Rows of messages that are composed of other ones.
 
 use crate::words::message_ref;
-use dns_base::{AdditionalBuilder, MessageRef};
+use dns_base::AdditionalBuilder;
 use dns_opt::NsidRef;
 use dns_route::{ComposeReply, CopiedMessage, ReplyMessage, RequestMessage};
 use dns_service::Request;
-use rows_table::{Calls, Row, RowError};
+use rows_table::{Row, RowError};
 use std::fmt::Debug;
-
-/// Messages for routers.
-pub(crate) struct RouteRows;
-
-impl Calls for RouteRows {
-    fn answer(&self, call: &str, row: &mut Row<'_>) -> Result<(), RowError> {
-        match call {
-            "reply_message" => reply_message(row),
-            "copied_message" => copied_message(row),
-            _ => return Err(RowError::NoSuchCall),
-        }
-        Ok(())
-    }
-}
 
 /// A request that is asked again after steps: whether DNSSEC records are wanted, and the octets that are sent.
 pub(crate) fn request_message(row: &mut Row<'_>, request: &Request<()>) {
@@ -31,17 +17,13 @@ pub(crate) fn request_message(row: &mut Row<'_>, request: &Request<()>) {
     }
 }
 
+/// The same after steps, which commas part.
 fn sent(row: &mut Row<'_>, asked: RequestMessage, steps: &str) {
     let mut asked = asked;
-    steps_taken(row, &mut asked, steps);
-    sent_said(row, &asked)
-}
-
-/// Takes steps, which commas part.
-fn steps_taken(row: &mut Row<'_>, asked: &mut RequestMessage, steps: &str) {
     for step in steps.split(',') {
-        step_taken(row, asked, step);
+        step_taken(row, &mut asked, step);
     }
+    sent_said(row, &asked)
 }
 
 fn sent_said(row: &mut Row<'_>, asked: &RequestMessage) {
@@ -59,40 +41,31 @@ fn step_taken(row: &mut Row<'_>, asked: &mut RequestMessage, step: &str) {
     match step.split_once(':') {
         None => {}
         Some(("dnssec_ok", value)) => asked.set_dnssec_ok(value == "true"),
-        Some((_, octets)) => asked_for(row, asked, octets),
-    }
-}
-
-/// Asks for a name server's identifier.
-fn asked_for(row: &mut Row<'_>, asked: &mut RequestMessage, octets: &str) {
-    match NsidRef::from_slice(row.octets_of(octets)) {
-        Ok(identifier) => row.keep(asked.add_opt(row.alloc(), &identifier)),
-        Err(_) => row.fail(RowError::OutOfForm),
+        Some((_, octets)) => match NsidRef::from_slice(row.octets_of(octets)) {
+            Ok(identifier) => row.keep(asked.add_opt(row.alloc(), &identifier)),
+            Err(_) => row.fail(RowError::OutOfForm),
+        },
     }
 }
 
 /// A reply that is composed of a message, with an NSID that is added or `-` for none.
-fn reply_message(row: &mut Row<'_>) {
-    match message_ref(row) {
-        Ok(source) => reply_of(row, &source),
-        Err(fault) => row.fail(fault),
-    }
-}
-
-/// The same of a message.
-fn reply_of(row: &mut Row<'_>, source: &MessageRef<'_>) {
+pub(crate) fn reply_message(row: &mut Row<'_>) {
+    let source = message_ref(row);
     let added = row.octets();
-    match ReplyMessage::from_message(row.alloc(), source) {
+    match ReplyMessage::from_message(row.alloc(), &source) {
         Ok(reply) => composed(row, reply, added),
         Err(error) => row.debug(&error),
     }
 }
 
-/// The same of a reply.
+/// The same of a reply, to which an NSID is added where there are octets of one.
 fn composed(row: &mut Row<'_>, reply: ReplyMessage, added: &[u8]) {
     let mut reply = reply;
     if !added.is_empty() {
-        identifier_added(row, &mut reply, added);
+        match NsidRef::from_slice(added) {
+            Ok(identifier) => row.keep(reply.add_opt(row.alloc(), &identifier)),
+            Err(_) => row.fail(RowError::OutOfForm),
+        }
     }
     composed_said(row, &reply)
 }
@@ -102,35 +75,18 @@ pub(crate) fn composed_said(row: &mut Row<'_>, reply: &ReplyMessage) {
     built_said(row, reply.additional_builder_stream_target(row.alloc()))
 }
 
-/// Adds an NSID.
-fn identifier_added(row: &mut Row<'_>, reply: &mut ReplyMessage, octets: &[u8]) {
-    match NsidRef::from_slice(octets) {
-        Ok(identifier) => row.keep(reply.add_opt(row.alloc(), &identifier)),
-        Err(_) => row.fail(RowError::OutOfForm),
-    }
-}
-
 /// The copy of a message with QR set, built.
-fn copied_message(row: &mut Row<'_>) {
-    match message_ref(row) {
-        Ok(source) => copied(row, &source),
-        Err(fault) => row.fail(fault),
-    }
-}
-
-/// The same of a message.
-fn copied(row: &mut Row<'_>, source: &MessageRef<'_>) {
-    match CopiedMessage::read(row.alloc(), source) {
-        Ok(copied) => response_built(row, copied),
+pub(crate) fn copied_message(row: &mut Row<'_>) {
+    let source = message_ref(row);
+    match CopiedMessage::read(row.alloc(), &source) {
+        Ok(mut copied) => {
+            let mut header = copied.header();
+            header.set_qr(true);
+            copied.set_header(header);
+            built_said(row, copied.build(row.alloc(), None))
+        }
         Err(_) => row.fail(RowError::OutOfForm),
     }
-}
-
-/// A message with QR set, built.
-fn response_built(row: &mut Row<'_>, copied: CopiedMessage) {
-    let mut copied = copied;
-    set_qr(&mut copied);
-    built_said(row, copied.build(row.alloc(), None))
 }
 
 /// The octets of what is built, or why it isn't.
@@ -139,11 +95,4 @@ fn built_said<E: Debug + Drop>(row: &mut Row<'_>, built: Result<AdditionalBuilde
         Ok(built) => row.hexadecimal(built.as_slice()),
         Err(error) => row.debug(&error),
     }
-}
-
-/// Sets QR.
-fn set_qr(copied: &mut CopiedMessage) {
-    let mut header = copied.header();
-    header.set_qr(true);
-    copied.set_header(header)
 }

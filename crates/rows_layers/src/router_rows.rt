@@ -3,6 +3,8 @@
 ghost use Rattle.std.specs.Prelude.{◌≡◌, Err, IfOk, nat_lt, if◌then◌else◌};
 ghost use Rattle.dns_service.specs.declared.service.Polled.TheVariants.{Pending, Ready};
 
+use crate::cache_rows::cache;
+use crate::forward_rows::{asked_all, asking, forwarder, forwarding};
 use crate::request_rows::request;
 use crate::route_rows::composed_said;
 use crate::said::{Shown, called};
@@ -10,25 +12,33 @@ use crate::words::service_error;
 use dns_base::Message;
 use dns_name::Name;
 use dns_route::{
-    BoxClientTransportToSingleService, ClientTransportToSingleService, QnameRouter, ReplyMessage,
-    RequestMessage, SendError, SendRequest, SingleService, SingleServiceToService, Turned,
+    BoxClientTransportToSingleService, ClientTransportToSingleService, QnameRouter, RequestMessage,
+    SendError, SendRequest, SingleService, SingleServiceToService, Turned,
 };
 use dns_service::{OutOfMemory, Polled, Request, ServiceError};
 use rows_table::{Calls, Row, RowError};
 use std::alloc::Global;
 use std::sync::Arc;
 
-/// Routers, and what these stand on.
+/// Routers, what these stand on, askings, forwarders and caches.
 pub(crate) struct RouterRows;
 
 impl Calls for RouterRows {
     fn answer(&self, call: &str, row: &mut Row<'_>) -> Result<(), RowError> {
         match call {
             "router" => router(row),
-            "send_error" => error_text(row),
+            "send_error" => match send_error(row.word()) {
+                Some(error) => row.show(&error),
+                None => row.fail(RowError::OutOfForm),
+            },
             "transport" => transport(row, false),
             "boxed_transport" => transport(row, true),
             "to_service" => to_service(row),
+            "asking" => asking(row),
+            "ask_all" => asked_all(row),
+            "forwarder" => forwarder(row),
+            "forwarding" => forwarding(row),
+            "cache" => cache(row),
             _ => return Err(RowError::NoSuchCall),
         }
         Ok(())
@@ -86,68 +96,41 @@ pub(crate) fn copy(alloc: Global, message: &Message) -> Result<Message, OutOfMem
 /// What a router says at turn 0: the next word has its names, each with the error that its service gives, `-` for none.
 fn router(row: &mut Row<'_>) {
     let mut router = QnameRouter::new(row.alloc());
-    add_all(row, &mut router);
-    asked_at(row, &router, 0)
-}
-
-/// Adds the names of the next word.
-fn add_all(row: &mut Row<'_>, router: &mut QnameRouter<Refusing>) {
     for route in row.word().split(',') {
         if let Some((name, error)) = route.split_once(':') {
-            add(row, router, name, error);
+            add(row, &mut router, name, error);
         }
     }
+    asked_at(row, &router, 0)
 }
 
 /// Adds a name whose service gives an error.
 fn add(row: &mut Row<'_>, router: &mut QnameRouter<Refusing>, name: &str, error: &str) {
-    match service_error(error) {
-        Some(error) => add_refusing(row, router, name, Refusing { error }),
-        None => row.fail(RowError::OutOfForm),
-    }
-}
-
-/// Adds a name with its service.
-fn add_refusing(
-    row: &mut Row<'_>,
-    router: &mut QnameRouter<Refusing>,
-    name: &str,
-    service: Refusing,
-) {
     let octets = row.octets_of(name);
-    match Name::from_octets(row.copied(octets)) {
-        Ok(name) => row.keep(router.add(row.alloc(), name, service)),
-        Err(_) => row.fail(RowError::OutOfForm),
+    match service_error(error) {
+        Some(error) => match Name::from_octets(row.copied(octets)) {
+            Ok(name) => row.keep(router.add(row.alloc(), name, Refusing { error })),
+            Err(_) => row.fail(RowError::OutOfForm),
+        },
+        None => row.fail(RowError::OutOfForm),
     }
 }
 
 /// What a single service says at a turn of the request of the next words.
 pub(crate) fn asked_at<S: SingleService>(row: &mut Row<'_>, service: &S, k: u64) {
     match request(row) {
-        Ok(request) => turn_said(row, service, &request, k),
+        Ok(request) => answer_said(row, service.turn(row.alloc(), &request, k)),
         Err(fault) => row.fail(fault),
     }
 }
 
-/// What a single service says at a turn.
-fn turn_said<S: SingleService>(row: &mut Row<'_>, service: &S, request: &Request<()>, k: u64) {
-    answer_said(row, service.turn(row.alloc(), request, k))
-}
-
-/// What was answered at a turn.
+/// What was answered at a turn: a reply or an error, or that it is pending.
 pub(crate) fn answer_said(row: &mut Row<'_>, answer: Result<Turned, OutOfMemory>) {
     match answer {
-        Ok(Polled::Ready(turned)) => turned_said(row, turned),
+        Ok(Polled::Ready(Ok(reply))) => composed_said(row, &reply),
+        Ok(Polled::Ready(Err(error))) => row.debug(&error),
         Ok(Polled::Pending) => row.say("pending"),
         Err(_) => row.fail(RowError::OutOfMemory),
-    }
-}
-
-/// A reply or an error.
-fn turned_said(row: &mut Row<'_>, turned: Result<ReplyMessage, ServiceError>) {
-    match turned {
-        Ok(reply) => composed_said(row, &reply),
-        Err(error) => row.debug(&error),
     }
 }
 
@@ -161,14 +144,6 @@ fn send_error(name: &str) -> Option<SendError> {
     }
 }
 
-/// Its text.
-fn error_text(row: &mut Row<'_>) {
-    match send_error(row.word()) {
-        Some(error) => row.show(&error),
-        None => row.fail(RowError::OutOfForm),
-    }
-}
-
 /// A transport: how often it is pending, and its error or the octets of its message.
 pub(crate) fn next_transport(row: &mut Row<'_>) -> Result<Planned, RowError> {
     let waits = row.number();
@@ -178,40 +153,30 @@ pub(crate) fn next_transport(row: &mut Row<'_>) -> Result<Planned, RowError> {
             waits,
             answer: Err(error),
         }),
-        None => Ok(Planned {
-            waits,
-            answer: Ok(message_of(row, answer)?),
-        }),
+        None => {
+            let octets = row.octets_of(answer);
+            match Message::from_octets(row.copied(octets)) {
+                Ok(message) => Ok(Planned {
+                    waits,
+                    answer: Ok(message),
+                }),
+                Err(_) => Err(RowError::OutOfForm),
+            }
+        }
     }
-}
-
-/// The message that the octets of a word are.
-fn message_of(row: &mut Row<'_>, word: &str) -> Result<Message, RowError> {
-    let octets = row.octets_of(word);
-    Message::from_octets(row.copied(octets)).or(Err(RowError::OutOfForm))
 }
 
 /// What a single service over a transport, or over it in a box, says at a turn.
 fn transport(row: &mut Row<'_>, in_box: bool) {
     let k = row.number();
     match next_transport(row) {
-        Ok(conn) if in_box => boxed(row, conn, k),
+        Ok(conn) if in_box => match Box::new(row.alloc(), conn) {
+            Ok(conn) => asked_at(row, &BoxClientTransportToSingleService::new(conn), k),
+            Err(_) => row.fail(RowError::OutOfMemory),
+        },
         Ok(conn) => asked_at(row, &ClientTransportToSingleService::new(conn), k),
         Err(fault) => row.fail(fault),
     }
-}
-
-/// The same over a transport in a box.
-fn boxed(row: &mut Row<'_>, conn: Planned, k: u64) {
-    match Box::new(row.alloc(), conn) {
-        Ok(conn) => over_box(row, conn, k),
-        Err(_) => row.fail(RowError::OutOfMemory),
-    }
-}
-
-/// The same over a box.
-fn over_box(row: &mut Row<'_>, conn: Box<dyn SendRequest + Send + Sync>, k: u64) {
-    asked_at(row, &BoxClientTransportToSingleService::new(conn), k)
 }
 
 /// What a service over such a single service says at four polls at most, up to the end.

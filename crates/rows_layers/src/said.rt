@@ -53,7 +53,11 @@ pub(crate) fn ready<F: ReplyFuture>(row: &mut Row<'_>, future: &mut F) -> Option
 fn stream_said<S: ReplyStream>(row: &mut Row<'_>, stream: &mut S, shown: Shown<'_>) {
     match shown {
         Shown::Polls(polls) => polled(row, stream, polls),
-        Shown::Only => only_said(row, stream),
+        Shown::Only => {
+            next_said(row, stream);
+            let answer = stream.poll_next(row.alloc());
+            say(row, &AllOfIt { end: "" }, answer)
+        }
         Shown::Cookies(address, secret) => {
             let cookies = stream.poll_next(row.alloc());
             say(row, &CookiesIn { address, secret }, cookies)
@@ -82,28 +86,19 @@ pub(crate) fn say<T: Drop, S: Says<T>>(row: &mut Row<'_>, what: &S, value: T) {
 /// What one poll of a stream answers.
 pub(crate) type PollAnswer = Result<Polled<Option<ServiceResult>>, OutOfMemory>;
 
-/// All that a poll gives: `pending`, the item or `end`.
-struct AllOfIt {}
+/// All that a poll gives: `pending`, the item, or what is said of the end.
+#[derive(Drop)]
+struct AllOfIt {
+    end: &'static str,
+}
 
 impl Says<PollAnswer> for AllOfIt {
     fn says(&self, row: &mut Row<'_>, value: &PollAnswer) {
         match value {
             Ok(Polled::Ready(Some(item))) => item_said(row, item),
-            Ok(Polled::Ready(None)) => row.say("end"),
+            Ok(Polled::Ready(None)) => row.say(self.end),
             Ok(Polled::Pending) => row.say("pending"),
             Err(_) => row.fail(RowError::OutOfMemory),
-        }
-    }
-}
-
-/// Where a stream doesn't end.
-struct NoEnd {}
-
-impl Says<PollAnswer> for NoEnd {
-    fn says(&self, row: &mut Row<'_>, value: &PollAnswer) {
-        match value {
-            Ok(Polled::Ready(None)) => {}
-            _ => row.say("no end"),
         }
     }
 }
@@ -111,14 +106,7 @@ impl Says<PollAnswer> for NoEnd {
 /// What the next poll gives.
 pub(crate) fn next_said<S: ReplyStream>(row: &mut Row<'_>, stream: &mut S) {
     let answer = stream.poll_next(row.alloc());
-    say(row, &AllOfIt {}, answer)
-}
-
-/// What the first poll gives, and where the second doesn't give the end.
-fn only_said<S: ReplyStream>(row: &mut Row<'_>, stream: &mut S) {
-    next_said(row, stream);
-    let answer = stream.poll_next(row.alloc());
-    say(row, &NoEnd {}, answer)
+    say(row, &AllOfIt { end: "end" }, answer)
 }
 
 /// The octets of the reply, the feedback or the error of an item.

@@ -1,32 +1,27 @@
-//! Rows of services that stand by themselves: one that gives no reply, one of a closure, and an item that comes once.
+//! Rows of services that stand by themselves (one that gives no reply, one of a closure, and an item that comes once) and of
+//! errors.
 
 ghost use Rattle.std.specs.Prelude.{None, Some};
 ghost use Rattle.dns_service.specs.declared.service.Polled.TheVariants.{Ready};
 ghost use Rattle.dns_service.specs.Transport.{hint_of};
 
-use crate::error_rows::next_error;
+use crate::error_rows::{error_said, next_error, refused_by};
 use crate::inner::{AsPlanned, planned};
 use crate::request_rows::{other_metadata, request};
 use crate::said::{next_said, ready, size_said};
 use dns_service::{
-    CallResult, Now, Once, OutOfMemory, Plainly, Polled, ReplyFuture, ReplyStream, Request, Served,
-    Service, ServiceError, ServiceFeedback, ServiceResult, service_fn,
+    CallResult, Error, Now, Once, OutOfMemory, Plainly, Polled, ReplyFuture, ReplyStream, Request,
+    Served, Service, ServiceFeedback, ServiceResult, service_fn,
 };
 use rows_table::{Calls, Row, RowError};
 use std::alloc::Global;
 use std::sync::Arc;
 
-/// Gives no reply to any request.
+/// Gives no reply to any request. It is its own future and stream.
 #[derive(Drop)]
 struct Silent {}
 
-#[derive(Drop)]
-struct AtOnce {}
-
-#[derive(Drop)]
-struct NoReplies {}
-
-impl ReplyStream for NoReplies {
+impl ReplyStream for Silent {
     ghost answer = { λ _ _. Ready None };
 
     ghost size = { λ _. (0, Some 0) };
@@ -40,31 +35,31 @@ impl ReplyStream for NoReplies {
     }
 }
 
-impl ReplyFuture for AtOnce {
-    type Stream = NoReplies;
+impl ReplyFuture for Silent {
+    type Stream = Silent;
 
     ghost answer = { λ _ _. Ready None };
 
-    fn poll(&mut self, _alloc: Global) -> Result<Polled<NoReplies>, OutOfMemory> {
-        Ok(Polled::Ready(NoReplies {}))
+    fn poll(&mut self, _alloc: Global) -> Result<Polled<Silent>, OutOfMemory> {
+        Ok(Polled::Ready(Silent {}))
     }
 }
 
 impl Service<()> for Silent {
-    type Stream = NoReplies;
+    type Stream = Silent;
 
-    type Future = AtOnce;
+    type Future = Silent;
 
     ghost answer = { λ _ _ _. Ready None };
 
     ghost hint = { λ _ r. hint_of r.transport };
 
-    fn call(&self, _alloc: Global, _request: &mut Request<()>) -> Result<AtOnce, OutOfMemory> {
-        Ok(AtOnce {})
+    fn call(&self, _alloc: Global, _request: &mut Request<()>) -> Result<Silent, OutOfMemory> {
+        Ok(Silent {})
     }
 }
 
-/// Services that stand by themselves, and requests with other metadata.
+/// Services that stand by themselves, requests with other metadata, and errors.
 pub(crate) struct ServiceRows;
 
 impl Calls for ServiceRows {
@@ -73,6 +68,16 @@ impl Calls for ServiceRows {
             "service_fn" => of_closure(row),
             "once" => once(row),
             "with_new_metadata" => return other_metadata(row),
+            "rcode" => error_said(row, true),
+            "service_error" => error_said(row, false),
+            "error" => match row.word() {
+                "CommandCouldNotBeSent" => row.show(&Error::CommandCouldNotBeSent),
+                _ => row.fail(RowError::OutOfForm),
+            },
+            "reply_error" => match refused_by(row.all_words()) {
+                Some(error) => row.debug(&error),
+                None => row.fail(RowError::OutOfForm),
+            },
             _ => return Err(RowError::NoSuchCall),
         }
         Ok(())
@@ -108,24 +113,18 @@ fn answered<S: Service<()>>(row: &mut Row<'_>, service: S, request: &mut Request
     }
 }
 
-/// What a service of a closure gives that answers with this error.
+/// What a service of a closure gives that answers with this error, and how many octets its request has reserved.
 fn of_closure(row: &mut Row<'_>) {
     let error = next_error(row);
     match request(row) {
-        Ok(mut request) => refused(row, &mut request, error),
+        Ok(mut request) => {
+            let service = service_fn::<AsPlanned, _, _>(planned, Err(error));
+            answered(row, service, &mut request);
+            row.close(", reserved");
+            row.show(&request.num_reserved_bytes())
+        }
         Err(fault) => row.fail(fault),
     }
-}
-
-/// The same of a request, and how many octets it has reserved.
-fn refused(row: &mut Row<'_>, request: &mut Request<()>, error: ServiceError) {
-    answered(
-        row,
-        service_fn::<AsPlanned, _, _>(planned, Err(error)),
-        request,
-    );
-    row.close(", reserved");
-    row.show(&request.num_reserved_bytes())
 }
 
 /// What a future gives that is ready with an item that comes once.
@@ -140,19 +139,9 @@ fn once(row: &mut Row<'_>) {
 /// What a future's stream gives at three polls, its sizes in front of each, and what the future is afterwards.
 fn future_said<F: ReplyFuture>(row: &mut Row<'_>, future: F) {
     let mut future = future;
-    first_said(row, &mut future);
-    afterwards_said(row, &mut future)
-}
-
-/// What a future's stream gives.
-fn first_said<F: ReplyFuture>(row: &mut Row<'_>, future: &mut F) {
-    if let Some(mut stream) = ready(row, future) {
+    if let Some(mut stream) = ready(row, &mut future) {
         stream_said(row, &mut stream);
     }
-}
-
-/// What a future is afterwards.
-fn afterwards_said<F: ReplyFuture>(row: &mut Row<'_>, future: &mut F) {
     let said = match future.poll(row.alloc()) {
         Ok(Polled::Ready(_)) => ", then ready",
         Ok(Polled::Pending) => ", then pending",

@@ -21,18 +21,13 @@ impl Target {
     pub(crate) fn next(row: &mut Row<'_>) -> Target {
         Target {
             waits: row.number(),
-            verdict: next_verdict(row),
+            verdict: match row.word() {
+                "ok" => Ok(()),
+                "notauth" => Err(NotifyError::NotAuthForZone),
+                "other" => Err(NotifyError::Other),
+                _ => Ok(row.fail(RowError::OutOfForm)),
+            },
         }
-    }
-}
-
-/// The verdict of the next word.
-fn next_verdict(row: &mut Row<'_>) -> Result<(), NotifyError> {
-    match row.word() {
-        "ok" => Ok(()),
-        "notauth" => Err(NotifyError::NotAuthForZone),
-        "other" => Err(NotifyError::Other),
-        _ => Ok(row.fail(RowError::OutOfForm)),
     }
 }
 

@@ -14,8 +14,14 @@ pub(crate) fn message(row: &mut Row<'_>) -> Result<Message, RowError> {
 }
 
 /// The octets of the next word as a message that is borrowed.
-pub(crate) fn message_ref<'a>(row: &mut Row<'a>) -> Result<MessageRef<'a>, RowError> {
-    MessageRef::from_slice(row.octets()).or(Err(RowError::OutOfForm))
+pub(crate) fn message_ref<'a>(row: &mut Row<'a>) -> MessageRef<'a> {
+    match MessageRef::from_slice(row.octets()) {
+        Ok(message) => message,
+        Err(_) => {
+            row.fail(RowError::OutOfForm);
+            MessageRef::of(b"\0\0\0\0\0\0\0\0\0\0\0\0")
+        }
+    }
 }
 
 /// Octets as a reply under construction: each section as it stands, with uncompressed names, and the OPT record last.
@@ -41,31 +47,11 @@ fn built(
     opt: Option<OptRecordRef<'_>>,
 ) -> Result<AdditionalBuilder, RowError> {
     match opt {
-        Some(opt) => with_opt(alloc, copied, &opt),
+        Some(found) => match found.to_owned(alloc) {
+            Ok(opt) => copied.build(alloc, Some(&opt)).or(Err(RowError::OutOfForm)),
+            Err(_) => Err(RowError::OutOfMemory),
+        },
         None => copied.build(alloc, None).or(Err(RowError::OutOfForm)),
-    }
-}
-
-/// The same with an OPT record.
-fn with_opt(
-    alloc: Global,
-    copied: &CopiedMessage,
-    opt: &OptRecordRef<'_>,
-) -> Result<AdditionalBuilder, RowError> {
-    match opt.to_owned(alloc) {
-        Ok(opt) => copied.build(alloc, Some(&opt)).or(Err(RowError::OutOfForm)),
-        Err(_) => Err(RowError::OutOfMemory),
-    }
-}
-
-/// A value that was read, or none with a fault.
-pub(crate) fn kept<T: Drop>(row: &mut Row<'_>, read: Result<T, RowError>) -> Option<T> {
-    match read {
-        Ok(value) => Some(value),
-        Err(fault) => {
-            row.fail(fault);
-            None
-        }
     }
 }
 

@@ -4,7 +4,6 @@ use crate::layer_rows::Layers;
 use crate::request_rows::hint_said;
 use crate::said::{Shown, called};
 use crate::target::Target;
-use crate::words::kept;
 use dns_middleware::{Settings, wrap};
 use dns_service::{OutOfMemory, Request, Service};
 use rows_table::{Row, RowError, array_of};
@@ -26,26 +25,23 @@ impl All {
         All {
             strict: either(row, "strict", "relaxed"),
             edns: either(row, "edns", "plain"),
-            cookies: next_secret(row),
+            cookies: match row.word() {
+                "-" => None,
+                word => Some(row.read(array_of(word), [0; 16])),
+            },
             polls: row.number(),
             target: Target::next(row),
         }
-    }
-
-    /// The same as settings.
-    fn settings(&self, row: &Row<'_>) -> Settings {
-        let mut settings = Settings::new(row.alloc());
-        settings.strict = self.strict;
-        settings.edns = self.edns;
-        settings.cookies = self.cookies;
-        settings
     }
 }
 
 impl Layers for All {
     /// So many polls, and the hint that the request has after the call.
     fn ask<S: Service<()>>(&self, row: &mut Row<'_>, service: S, request: &mut Request<()>) {
-        let settings = self.settings(row);
+        let mut settings = Settings::new(row.alloc());
+        settings.strict = self.strict;
+        settings.edns = self.edns;
+        settings.cookies = self.cookies;
         in_settings(row, self, &settings, service, request);
         row.close(", hint");
         hint_said(row, request.transport_ctx())
@@ -65,14 +61,6 @@ fn in_settings<S: Service<()>>(
     match wrap(row.alloc(), settings, service, all.target) {
         Ok(service) => called(row, service, request, Shown::Polls(all.polls)),
         Err(OutOfMemory) => row.fail(RowError::OutOfMemory),
-    }
-}
-
-/// The secret of the next word, or none where it is `-`.
-fn next_secret(row: &mut Row<'_>) -> Option<[u8; 16]> {
-    match row.word() {
-        "-" => None,
-        word => kept(row, array_of(word)),
     }
 }
 

@@ -9,39 +9,22 @@ use crate::said::{Says, say};
 use dns_base::{Record, record_in};
 use dns_name::Name;
 use dns_zone::{Zone, ZoneError};
-use rows_table::{Calls, Row, RowError};
-
-/// Zones.
-pub(crate) struct ZoneRows;
-
-impl Calls for ZoneRows {
-    fn answer(&self, call: &str, row: &mut Row<'_>) -> Result<(), RowError> {
-        match call {
-            "zone" => zone(row, false),
-            "zone_turn" => zone(row, true),
-            _ => return Err(RowError::NoSuchCall),
-        }
-        Ok(())
-    }
-}
+use rows_table::{Row, RowError};
 
 /// What is said of the zone of the next words, an apex and records, or of its turn of the request behind them.
-fn zone(row: &mut Row<'_>, is_asked: bool) {
+pub(crate) fn zone(row: &mut Row<'_>, is_asked: bool) {
     let octets = row.vector();
     match Name::from_octets(octets) {
-        Ok(apex) => zone_at(row, apex, is_asked),
+        Ok(apex) => {
+            let records = next_records(row);
+            let made = Zone::new(row.alloc(), apex, records);
+            say(row, &ZoneSaid { is_asked }, made)
+        }
         Err(_) => row.fail(RowError::OutOfForm),
     }
 }
 
-/// The same of an apex.
-fn zone_at(row: &mut Row<'_>, apex: Name, is_asked: bool) {
-    let records = next_records(row);
-    let made = Zone::new(row.alloc(), apex, records);
-    say(row, &ZoneSaid { is_asked }, made)
-}
-
-/// The zone, or the text of its refusal.
+/// How many records a zone has or what it answers, or the text of its refusal.
 #[derive(Drop)]
 struct ZoneSaid {
     is_asked: bool,
@@ -50,19 +33,13 @@ struct ZoneSaid {
 impl Says<Result<Zone, ZoneError>> for ZoneSaid {
     fn says(&self, row: &mut Row<'_>, value: &Result<Zone, ZoneError>) {
         match value {
-            Ok(zone) => made_said(row, zone, self.is_asked),
+            Ok(zone) if self.is_asked => asked_at(row, zone, 0),
+            Ok(zone) => {
+                row.hexadecimal(zone.apex().as_slice());
+                row.show(&zone.records().len())
+            }
             Err(error) => row.show(error),
         }
-    }
-}
-
-/// How many records a zone has, or what it answers.
-fn made_said(row: &mut Row<'_>, zone: &Zone, is_asked: bool) {
-    if is_asked {
-        asked_at(row, zone, 0)
-    } else {
-        row.hexadecimal(zone.apex().as_slice());
-        row.show(&zone.records().len())
     }
 }
 

@@ -9,9 +9,9 @@ use crate::messages::{Takes, hand_on};
 use crate::stages::Stage;
 use dns_base::{
     AdditionalBuilder, AnswerBuilder, Message, MessageBuilder, PushError, Record, RecordRef,
-    StreamTarget, data_has_names, typed_records_read_back,
+    data_has_names, typed_records_read_back,
 };
-use dns_name::{OutOfMemory, ParseError, Rcode};
+use dns_name::{ParseError, Rcode};
 use rows_table::{Calls, Row, RowError};
 use std::alloc::Global;
 
@@ -48,27 +48,17 @@ fn shown(row: &mut Row<'_>, stage: Stage) {
     row.hexadecimal(stage.as_slice())
 }
 
-/// What the steps say, and the finished message.
+/// What the steps say, and the finished message as a stream and as a datagram has it.
 fn finished(row: &mut Row<'_>, stage: Stage) {
     let mut stage = stage;
     row.take_steps(", ", &mut stage);
     match stage.finish() {
-        Some(frame) => frame_said(row, &frame),
+        Some(frame) => {
+            row.hexadecimal(frame.as_stream_slice());
+            row.hexadecimal(frame.as_dgram_slice())
+        }
         None => row.fail(RowError::NoSuchStep),
     }
-}
-
-/// A finished message as a stream and as a datagram has it.
-fn frame_said(row: &mut Row<'_>, frame: &StreamTarget) {
-    row.hexadecimal(frame.as_stream_slice());
-    row.hexadecimal(frame.as_dgram_slice())
-}
-
-/// An empty message of at most so many octets.
-fn within(alloc: Global, limit: usize) -> Result<MessageBuilder, OutOfMemory> {
-    let mut builder = MessageBuilder::new(alloc)?;
-    builder.set_push_limit(limit);
-    Ok(builder)
 }
 
 /// The response code of the next word.
@@ -109,7 +99,8 @@ fn answer(
     query: &Message,
     error: bool,
 ) -> Result<AnswerBuilder, PushError> {
-    let builder = within(alloc, limit)?;
+    let mut builder = MessageBuilder::new(alloc)?;
+    builder.set_push_limit(limit);
     if error {
         Ok(builder.start_error(alloc, query, rcode)?)
     } else {

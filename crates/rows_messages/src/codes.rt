@@ -5,11 +5,8 @@ use dns_name::{
 };
 use rows_table::{Calls, Row, RowError};
 
-/// The registries of dns_name of questions, records and options.
+/// The registries of dns_name.
 pub struct Codes;
-
-/// The registries of dns_name of errors and replies.
-pub struct ReplyCodes;
 
 impl Calls for Codes {
     fn answer(&self, call: &str, row: &mut Row<'_>) -> Result<(), RowError> {
@@ -19,15 +16,6 @@ impl Calls for Codes {
             "more_rtypes" => more_rtypes(row),
             "opcodes" => opcodes(row),
             "option_codes" => option_codes(row),
-            _ => return Err(RowError::NoSuchCall),
-        }
-        Ok(())
-    }
-}
-
-impl Calls for ReplyCodes {
-    fn answer(&self, call: &str, row: &mut Row<'_>) -> Result<(), RowError> {
-        match call {
             "extended_error_codes" => error_codes(row),
             "more_extended_error_codes" => more_error_codes(row),
             "rcodes" => rcodes(row),

@@ -16,7 +16,10 @@ pub struct Copies;
 impl Calls for Copies {
     fn answer(&self, call: &str, row: &mut Row<'_>) -> Result<(), RowError> {
         match call {
-            "is_plain" => plain(row),
+            "is_plain" => {
+                let octets = row.octets();
+                row.whether(is_plain(octets))
+            }
             "number_at" => number_in(row),
             "name_copy" => name_copy(row),
             "question_copy" => question_copy(row),
@@ -24,12 +27,6 @@ impl Calls for Copies {
         }
         Ok(())
     }
-}
-
-/// Whether a message is a plain query.
-fn plain(row: &mut Row<'_>) {
-    let octets = row.octets();
-    row.whether(is_plain(octets))
 }
 
 /// The number of two octets at a place of a message.
@@ -123,7 +120,7 @@ impl Takes<Record> for RecordCall<'_> {
 fn record_copied(row: &mut Row<'_>, item: &Record)
     requires { IsLawful item.now.rdata }
 {
-    let copy = item.try_clone(row.alloc()).map_err(RowError::from);
+    let copy = item.try_clone(row.alloc()).or(Err(RowError::OutOfMemory));
     hand_on(row, &mut Compared {}, copy)
 }
 
@@ -144,8 +141,8 @@ impl Takes<Record> for Compared {
 /// The octets of a record's data, and whether a copy of that data is equal to it.
 fn data_copied(row: &mut Row<'_>, item: &Record) {
     data_octets(row, item);
-    let copy = item.rdata.try_clone(row.alloc()).map_err(RowError::from);
-    compare(row, &item.rdata, copy)
+    let copy = item.rdata.try_clone(row.alloc());
+    compare(row, &item.rdata, copy.or(Err(RowError::OutOfMemory)))
 }
 
 /// Whether a value is equal to what was read.

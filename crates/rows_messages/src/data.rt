@@ -76,10 +76,8 @@ fn srv(row: &mut Row<'_>) -> Result<RecordData, RowError>
 fn dname(row: &mut Row<'_>) -> Result<RecordData, RowError>
     ensures { IfOk result IsLawful }
 {
-    Ok(RecordData::Named {
-        rtype: Rtype::DNAME,
-        name: name(row)?,
-    })
+    let name = name(row)?;
+    RecordData::named(Rtype::DNAME, name).ok_or(RowError::OutOfForm)
 }
 
 /// Data by its type, whose fields are the words behind it.

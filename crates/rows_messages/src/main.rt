@@ -17,10 +17,7 @@ fn main(rt: HostRuntime) -> io::Result<ExitCode> {
     rows_table::run(
         &rt,
         &(
-            (
-                (codes::Codes, codes::ReplyCodes),
-                (names::MadeNames, names::Names),
-            ),
+            (codes::Codes, names::Names),
             (
                 (places::PlacedNames, messages::Messages),
                 (builders::Builders, copies::Copies),

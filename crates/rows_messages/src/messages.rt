@@ -3,7 +3,7 @@
 ghost use Rattle.std.specs.Prelude.{IfOk};
 ghost use Rattle.dns_message.specs.Records.{IsLawful};
 
-use dns_message::{ComposeQuestion, MessageRef, QuestionIter, QuestionRef, Record, RecordIter};
+use dns_message::{ComposeQuestion, MessageRef, QuestionIter, Record, RecordIter};
 use dns_name::ParseError;
 use rows_table::{Calls, Row, RowError};
 use std::alloc::Global;
@@ -14,7 +14,10 @@ pub struct Messages;
 impl Calls for Messages {
     fn answer(&self, call: &str, row: &mut Row<'_>) -> Result<(), RowError> {
         match call {
-            "header_octets" => header_octets(row),
+            "header_octets" => {
+                let header = next_message(row).header();
+                row.hexadecimal(&header.octets())
+            }
             "first_question" => first_question(row),
             "compose_question" => compose_question(row),
             "sections" => return sections(row),
@@ -36,12 +39,6 @@ pub(crate) fn next_message<'a>(row: &mut Row<'a>) -> MessageRef<'a> {
     }
 }
 
-/// The first four octets of a message's header.
-fn header_octets(row: &mut Row<'_>) {
-    let header = next_message(row).header();
-    row.hexadecimal(&header.octets())
-}
-
 /// What a question appends to none.
 pub(crate) fn composed<Q: ComposeQuestion>(row: &mut Row<'_>, question: &Q) {
     let mut target = Vec::new(row.alloc());
@@ -52,19 +49,14 @@ pub(crate) fn composed<Q: ComposeQuestion>(row: &mut Row<'_>, question: &Q) {
 /// The first question, owned, and how many octets it says that it takes.
 fn first_question(row: &mut Row<'_>) {
     match next_message(row).first_question() {
-        Some(found) => question_owned(row, &found),
+        Some(found) => match found.to_question(row.alloc()) {
+            Ok(question) => {
+                composed(row, &question);
+                row.tell("compose_len", &question.compose_len())
+            }
+            Err(_) => row.fail(RowError::OutOfMemory),
+        },
         None => row.say("none"),
-    }
-}
-
-/// The same of a question.
-fn question_owned(row: &mut Row<'_>, found: &QuestionRef<'_>) {
-    match found.to_question(row.alloc()) {
-        Ok(question) => {
-            composed(row, &question);
-            row.tell("compose_len", &question.compose_len())
-        }
-        Err(_) => row.fail(RowError::OutOfMemory),
     }
 }
 
@@ -93,7 +85,10 @@ pub(crate) fn next_answer(row: &mut Row<'_>) -> Result<Record, RowError>
     ensures { IfOk result (λ r. IsLawful r.rdata) }
 {
     match next_message(row).answer() {
-        Ok(records) => first_owned(row.alloc(), records).map_err(RowError::from),
+        Ok(records) => match first_owned(row.alloc(), records) {
+            Ok(found) => Ok(found),
+            Err(error) => Err(error.into()),
+        },
         Err(error) => Err(error.into()),
     }
 }
@@ -160,16 +155,6 @@ fn asked(row: &mut Row<'_>, questions: QuestionIter<'_>) -> Result<(), RowError>
 fn sections(row: &mut Row<'_>) -> Result<(), RowError> {
     let (questions, answer, authority, additional) = next_message(row).sections()?;
     asked(row, questions)?;
-    records_said(row, answer, authority, additional)
-}
-
-/// The types of three sections.
-fn records_said(
-    row: &mut Row<'_>,
-    answer: RecordIter<'_>,
-    authority: RecordIter<'_>,
-    additional: RecordIter<'_>,
-) -> Result<(), RowError> {
     types(row, "answer", answer)?;
     types(row, "authority", authority)?;
     types(row, "additional", additional)

@@ -3,53 +3,38 @@
 use dns_name::{FromTextError, Name, NameRef, Octets};
 use rows_table::{Calls, Row, RowError};
 
-/// Calls that make names of octets and texts.
-pub struct MadeNames;
-
-/// Calls of names.
+/// Calls that make names of octets and texts, and calls of names.
 pub struct Names;
-
-impl Calls for MadeNames {
-    fn answer(&self, call: &str, row: &mut Row<'_>) -> Result<(), RowError> {
-        match call {
-            "name_from_slice" => from_slice(row),
-            "refusal_text" => refusal_text(row),
-            "octets_from_slice" => copied(row),
-            "name_from_text" => from_text(row),
-            "name_root" => root(row),
-            _ => return Err(RowError::NoSuchCall),
-        }
-        Ok(())
-    }
-}
 
 impl Calls for Names {
     fn answer(&self, call: &str, row: &mut Row<'_>) -> Result<(), RowError> {
         match call {
+            "name_from_slice" => match NameRef::from_slice(row.octets()) {
+                Ok(name) => row.hexadecimal(name.as_slice()),
+                Err(error) => row.refuse(error),
+            },
+            "refusal_text" => match NameRef::from_slice(row.octets()) {
+                Ok(_) => row.say("none"),
+                Err(error) => row.show(&error),
+            },
+            "octets_from_slice" => copied(row),
+            "name_from_text" => from_text(row),
+            "name_root" => root(row),
             "name_compose" => composed(row),
             "name_to_owned" => owned(row),
-            "name_text" => name_text(row),
-            "name_cmp" => name_cmp(row),
+            "name_text" => {
+                let name = row.name();
+                row.quote(&name)
+            }
+            "name_cmp" => {
+                let name = row.name();
+                let other = row.name();
+                row.debug(&name.name_cmp(&other))
+            }
             "names_rise" => names_rise(row),
             _ => return Err(RowError::NoSuchCall),
         }
         Ok(())
-    }
-}
-
-/// The octets of an uncompressed name.
-fn from_slice(row: &mut Row<'_>) {
-    match NameRef::from_slice(row.octets()) {
-        Ok(name) => row.hexadecimal(name.as_slice()),
-        Err(error) => row.refuse(error),
-    }
-}
-
-/// The text of the refusal of octets that are no name.
-fn refusal_text(row: &mut Row<'_>) {
-    match NameRef::from_slice(row.octets()) {
-        Ok(_) => row.say("none"),
-        Err(error) => row.show(&error),
     }
 }
 
@@ -73,17 +58,14 @@ fn from_text(row: &mut Row<'_>) {
 /// The root's octets, and those that it appends to none.
 fn root(row: &mut Row<'_>) {
     match Name::root(row.alloc()) {
-        Ok(name) => root_said(row, &name),
+        Ok(name) => {
+            row.hexadecimal(name.as_slice());
+            let mut target = Vec::new(row.alloc());
+            row.keep(name.compose(row.alloc(), &mut target));
+            row.tell_octets("composed", &target)
+        }
         Err(_) => row.fail(RowError::OutOfMemory),
     }
-}
-
-/// The same of the root.
-fn root_said(row: &mut Row<'_>, name: &Name) {
-    row.hexadecimal(name.as_slice());
-    let mut target = Vec::new(row.alloc());
-    row.keep(name.compose(row.alloc(), &mut target));
-    row.tell_octets("composed", &target)
 }
 
 /// What a borrowed name appends to none.
@@ -103,19 +85,6 @@ fn owned(row: &mut Row<'_>) {
         }
         Err(_) => row.fail(RowError::OutOfMemory),
     }
-}
-
-/// A name as text, in quotation marks.
-fn name_text(row: &mut Row<'_>) {
-    let name = row.name();
-    row.quote(&name)
-}
-
-/// The canonical order of two names.
-fn name_cmp(row: &mut Row<'_>) {
-    let name = row.name();
-    let other = row.name();
-    row.debug(&name.name_cmp(&other))
 }
 
 /// Whether a name compares with each of these as its place does with theirs.

@@ -11,8 +11,17 @@ impl Calls for PlacedNames {
         match call {
             "parsed_name" => parsed_name(row),
             "parsed_to_name" => parsed_to_name(row),
-            "parsed_text" => parsed_text(row),
-            "address_text" => address_text(row),
+            "parsed_text" => match next_parsed(row) {
+                Ok(name) => {
+                    row.quote(&name);
+                    row.debug(&name)
+                }
+                Err(fault) => row.fail(fault),
+            },
+            "address_text" => {
+                let address = row.address();
+                row.show(&address)
+            }
             "serial_cmp" => serial_cmp(row),
             _ => return Err(RowError::NoSuchCall),
         }
@@ -29,25 +38,23 @@ fn next_parser<'a>(row: &mut Row<'a>) -> Parser<'a> {
     parser
 }
 
-/// The name at a place of a message, beside another name; or its refusal, and the place where the parser then is.
+/// How many labels the name at a place of a message has, and how it stands to the next word's; or its refusal, and the place
+/// where the parser then is.
 fn parsed_name(row: &mut Row<'_>) {
     let mut parser = next_parser(row);
     match ParsedName::parse(&mut parser) {
-        Ok(name) => beside(row, &name),
+        Ok(name) => {
+            let other: NameRef<'_> = row.name();
+            row.tell("labels", &name.label_count());
+            row.tell_whether("name_eq", name.name_eq(&other));
+            row.tell_whether("ends_with", name.ends_with(&other))
+        }
         Err(error) => {
             row.name();
             row.debug(&error);
             row.tell("pos", &parser.pos())
         }
     }
-}
-
-/// How many labels a name has, and how it stands to the next word's.
-fn beside(row: &mut Row<'_>, name: &ParsedName<'_>) {
-    let other: NameRef<'_> = row.name();
-    row.tell("labels", &name.label_count());
-    row.tell_whether("name_eq", name.name_eq(&other));
-    row.tell_whether("ends_with", name.ends_with(&other))
 }
 
 /// The name at the place in a message that the next words are.
@@ -59,34 +66,12 @@ fn next_parsed<'a>(row: &mut Row<'a>) -> Result<ParsedName<'a>, RowError> {
 /// The octets of the name at a place of a message, uncompressed.
 fn parsed_to_name(row: &mut Row<'_>) {
     match next_parsed(row) {
-        Ok(name) => uncompressed(row, &name),
+        Ok(name) => match name.to_name(row.alloc()) {
+            Ok(name) => row.hexadecimal(name.as_slice()),
+            Err(_) => row.fail(RowError::OutOfMemory),
+        },
         Err(fault) => row.fail(fault),
     }
-}
-
-/// The octets of a name, uncompressed.
-fn uncompressed(row: &mut Row<'_>, name: &ParsedName<'_>) {
-    match name.to_name(row.alloc()) {
-        Ok(name) => row.hexadecimal(name.as_slice()),
-        Err(_) => row.fail(RowError::OutOfMemory),
-    }
-}
-
-/// The name at a place of a message as text, for users and for programmers.
-fn parsed_text(row: &mut Row<'_>) {
-    match next_parsed(row) {
-        Ok(name) => {
-            row.quote(&name);
-            row.debug(&name)
-        }
-        Err(fault) => row.fail(fault),
-    }
-}
-
-/// The text of an address.
-fn address_text(row: &mut Row<'_>) {
-    let address = row.address();
-    row.show(&address)
 }
 
 /// The order of two serial numbers.

@@ -110,18 +110,12 @@ impl Stage {
     fn try_clone(&self, alloc: Global) -> Result<Stage, OutOfMemory> {
         match self {
             Stage::Gone => Ok(Stage::Gone),
-            Stage::Message(builder) => builder.try_clone(alloc).map(Stage::Message),
-            Stage::Question(builder) => builder.try_clone(alloc).map(Stage::Question),
-            Stage::Answer(builder) => builder.try_clone(alloc).map(Stage::Answer),
-            Stage::Authority(builder) => builder.try_clone(alloc).map(Stage::Authority),
-            Stage::Additional(builder) => builder.try_clone(alloc).map(Stage::Additional),
+            Stage::Message(builder) => Ok(Stage::Message(builder.try_clone(alloc)?)),
+            Stage::Question(builder) => Ok(Stage::Question(builder.try_clone(alloc)?)),
+            Stage::Answer(builder) => Ok(Stage::Answer(builder.try_clone(alloc)?)),
+            Stage::Authority(builder) => Ok(Stage::Authority(builder.try_clone(alloc)?)),
+            Stage::Additional(builder) => Ok(Stage::Additional(builder.try_clone(alloc)?)),
         }
-    }
-
-    /// Moves the message on to the section behind its own, and tells whether that has this name.
-    fn move_to(&mut self, section: &str) -> bool {
-        *self = moved(replace(self, Stage::Gone));
-        self.section() == section
     }
 }
 
@@ -136,10 +130,11 @@ fn moved(stage: Stage) -> Stage {
     }
 }
 
-/// Moves the message on to a later section.
+/// Moves the message on, from section to section, to the later one of this name.
 fn move_on(stage: &mut Stage, section: &str, row: &mut Row<'_>) {
     for _ in 0..4 {
-        if stage.move_to(section) {
+        *stage = moved(replace(stage, Stage::Gone));
+        if stage.section() == section {
             return;
         }
     }
@@ -170,14 +165,6 @@ fn question_behind(
             qclass,
         }),
         Err(error) => Err(error.into()),
-    }
-}
-
-/// Adds the question of the next word, and says what that answers.
-fn push_question(builder: &mut QuestionBuilder, row: &mut Row<'_>) {
-    match question_of(row.alloc(), row.octets()) {
-        Ok(question) => row.outcome(builder.push(row.alloc(), &question)),
-        Err(error) => row.fail(error.into()),
     }
 }
 
@@ -274,37 +261,30 @@ impl Steps for Stage {
     }
 }
 
-/// Another step.
+/// Another step: of any message, of the additional records alone, or a move to a later section.
 fn take_another(stage: &mut Stage, step: &str, row: &mut Row<'_>) {
     match step {
         "rewind" => stage.rewind(row),
         "clone" => stage.clone_in_place(row),
-        _ => take_last(stage, step, row),
-    }
-}
-
-/// A step of the additional records alone, or a move to a later section.
-fn take_last(stage: &mut Stage, step: &str, row: &mut Row<'_>) {
-    match stage {
-        Stage::Additional(builder) => at_additional(builder, step, row),
-        _ => move_on(stage, step, row),
-    }
-}
-
-/// A step of the additional records alone.
-fn at_additional(builder: &mut AdditionalBuilder, step: &str, row: &mut Row<'_>) {
-    match step {
-        "remove" => builder.remove_type(Rtype::from_int(row.number())),
-        "push_opt" => with_opt(builder, row, false),
-        "replace_opt" => with_opt(builder, row, true),
-        _ => row.fail(RowError::NoSuchStep),
+        _ => match stage {
+            Stage::Additional(builder) => match step {
+                "remove" => builder.remove_type(Rtype::from_int(row.number())),
+                "push_opt" => with_opt(builder, row, false),
+                "replace_opt" => with_opt(builder, row, true),
+                _ => row.fail(RowError::NoSuchStep),
+            },
+            _ => move_on(stage, step, row),
+        },
     }
 }
 
 /// Adds the question or record of the next word, and says what that answers.
 fn push_next(stage: &mut Stage, row: &mut Row<'_>) {
     match stage {
-        Stage::Question(builder) => push_question(builder, row),
+        Stage::Question(builder) => match question_of(row.alloc(), row.octets()) {
+            Ok(question) => row.outcome(builder.push(row.alloc(), &question)),
+            Err(error) => row.fail(error.into()),
+        },
         _ => put_next(stage, row, false),
     }
 }

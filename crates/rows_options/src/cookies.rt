@@ -5,17 +5,14 @@ use dns_cookie::{
     ClientCookie, Cookie, ServerCookie, StandardServerCookie, check_response, siphash24,
     timestamp_ok,
 };
-use dns_name::{ComposeOptData, IpAddr, OptionCode, ParseError, ParseOptData, Parser, Serial};
+use dns_name::{ComposeOptData, IpAddr, OptionCode, ParseOptData, Parser, Serial};
 use rows_table::{Calls, Row, RowError};
 
-/// Calls of cookies as they are made and checked.
+/// Calls of cookies as they are made and checked, and of hashes and timestamps.
 pub struct Cookies;
 
-/// Calls of the parts of cookies.
+/// Calls of the parts of cookies and of their order.
 pub struct CookieParts;
-
-/// Calls of hashes, timestamps and the order of cookies.
-pub struct CookieOrders;
 
 impl Calls for Cookies {
     fn answer(&self, call: &str, row: &mut Row<'_>) -> Result<(), RowError> {
@@ -24,6 +21,16 @@ impl Calls for Cookies {
             "check_hash" => check_hash(row),
             "check_response" => check_created(row),
             "create_response" => create_response(row),
+            "siphash24" => {
+                let key = row.array::<16>();
+                let hash = siphash24(&key, row.octets());
+                row.hexadecimal(&hash.to_be_bytes())
+            }
+            "timestamp_ok" => {
+                let timestamp = Serial(row.number());
+                let now = Serial(row.number());
+                row.whether(timestamp_ok(timestamp, now))
+            }
             _ => return Err(RowError::NoSuchCall),
         }
         Ok(())
@@ -35,19 +42,16 @@ impl Calls for CookieParts {
         match call {
             "cookie" => cookie(row),
             "standard_server_cookie" => standard_server_cookie(row),
-            "server_cookie" => server_cookie(row),
-            "client_copied" => client_copied(row),
-            _ => return Err(RowError::NoSuchCall),
-        }
-        Ok(())
-    }
-}
-
-impl Calls for CookieOrders {
-    fn answer(&self, call: &str, row: &mut Row<'_>) -> Result<(), RowError> {
-        match call {
-            "siphash24" => hash(row),
-            "timestamp_ok" => timely(row),
+            "server_cookie" => {
+                let server = ServerCookie::next(row);
+                server_said(row, &server)
+            }
+            "client_copied" => {
+                let mut client = ClientCookie::from_octets(row.array());
+                let other = ClientCookie::from(row.array::<8>());
+                client.as_slice_mut().copy_from_slice(other.as_slice());
+                row.hexadecimal(&<[u8; 8]>::from(client))
+            }
             "client_cmp" => order_said::<ClientCookie>(row),
             "server_cmp" => order_said::<ServerCookie>(row),
             "cookie_cmp" => order_said::<Cookie>(row),
@@ -55,20 +59,6 @@ impl Calls for CookieOrders {
         }
         Ok(())
     }
-}
-
-/// The hash of octets under a key.
-fn hash(row: &mut Row<'_>) {
-    let key = row.array::<16>();
-    let hash = siphash24(&key, row.octets());
-    row.hexadecimal(&hash.to_be_bytes())
-}
-
-/// Whether a timestamp is timely.
-fn timely(row: &mut Row<'_>) {
-    let timestamp = Serial(row.number());
-    let now = Serial(row.number());
-    row.whether(timestamp_ok(timestamp, now))
 }
 
 impl Next for Cookie {
@@ -102,15 +92,13 @@ fn check_hash(row: &mut Row<'_>) {
     let cookie = Cookie::next(row);
     let client_ip = row.address();
     let secret = row.array::<16>();
-    match standard_part(&cookie) {
-        Some(standard) => row.whether(standard.check_hash(cookie.client(), client_ip, &secret)),
+    match cookie.server() {
+        Some(server) => match server.try_to_standard() {
+            Some(standard) => row.whether(standard.check_hash(cookie.client(), client_ip, &secret)),
+            None => row.fail(RowError::OutOfForm),
+        },
         None => row.fail(RowError::OutOfForm),
     }
-}
-
-/// The standard server cookie of a cookie.
-fn standard_part(cookie: &Cookie) -> Option<StandardServerCookie> {
-    cookie.server()?.try_to_standard()
 }
 
 /// A client's cookie alone, a timestamp, an address and a secret.
@@ -125,11 +113,7 @@ fn client_words(row: &mut Row<'_>) -> (Cookie, Serial, IpAddr, [u8; 16]) {
 /// The cookie that a response has: the octets of both parts, one behind the other.
 fn create_response(row: &mut Row<'_>) {
     let (cookie, timestamp, client_ip, secret) = client_words(row);
-    parts_said(row, &cookie.create_response(timestamp, client_ip, &secret))
-}
-
-/// The octets of both parts of a cookie.
-fn parts_said(row: &mut Row<'_>, response: &Cookie) {
+    let response = cookie.create_response(timestamp, client_ip, &secret);
     let mut octets = Vec::new(row.alloc());
     row.keep(response.client().compose(row.alloc(), &mut octets));
     if let Some(server) = response.server() {
@@ -144,17 +128,12 @@ fn check_created(row: &mut Row<'_>) {
     row.whether(check_response(&cookie, timestamp, client_ip, &secret, |_| true))
 }
 
-/// The option that octets are under a code, how many octets it says that it takes, and how many are left.
+/// The option that octets are under a code, and how many octets it says that it takes, or why there is none; and how many are
+/// left.
 fn cookie(row: &mut Row<'_>) {
     let code = OptionCode::from_int(row.number());
     let mut parser = Parser::from_ref(row.octets());
-    parsed_said(row, Cookie::parse_option(code, &mut parser));
-    row.tell("left", &parser.remaining())
-}
-
-/// An option, and how many octets it says that it takes; or why there is none.
-fn parsed_said(row: &mut Row<'_>, parsed: Result<Option<Cookie>, ParseError>) {
-    match parsed {
+    match Cookie::parse_option(code, &mut parser) {
         Ok(Some(cookie)) => {
             shown(row, &cookie);
             row.tell("compose_len", &cookie.compose_len())
@@ -162,15 +141,7 @@ fn parsed_said(row: &mut Row<'_>, parsed: Result<Option<Cookie>, ParseError>) {
         Ok(None) => row.say("none"),
         Err(error) => row.debug(&error),
     }
-}
-
-/// The parts of a standard server cookie.
-fn standard_said(row: &mut Row<'_>, standard: StandardServerCookie) {
-    row.quote(&standard);
-    row.tell("version", &standard.version());
-    row.tell_octets("reserved", &standard.reserved());
-    row.tell("timestamp", &standard.timestamp().into_int());
-    row.tell_octets("hash", &standard.hash())
+    row.tell("left", &parser.remaining())
 }
 
 /// A server cookie's octets, their number, its text, and the standard server cookie that it is.
@@ -183,11 +154,17 @@ fn server_said(row: &mut Row<'_>, server: &ServerCookie) {
     standard_part_said(row, server)
 }
 
-/// The standard server cookie that a server cookie is.
+/// The parts of the standard server cookie that a server cookie is.
 fn standard_part_said(row: &mut Row<'_>, server: &ServerCookie) {
     row.say("standard");
     match server.try_to_standard() {
-        Some(standard) => standard_said(row, standard),
+        Some(standard) => {
+            row.quote(&standard);
+            row.tell("version", &standard.version());
+            row.tell_octets("reserved", &standard.reserved());
+            row.tell("timestamp", &standard.timestamp().into_int());
+            row.tell_octets("hash", &standard.hash())
+        }
         None => row.say("none"),
     }
 }
@@ -212,20 +189,6 @@ impl Next for ServerCookie {
         }
         ServerCookie::from_octets(octets)
     }
-}
-
-/// The server cookie of octets.
-fn server_cookie(row: &mut Row<'_>) {
-    let server = ServerCookie::next(row);
-    server_said(row, &server)
-}
-
-/// The octets of a client cookie to which those of another were copied.
-fn client_copied(row: &mut Row<'_>) {
-    let mut client = ClientCookie::from_octets(row.array());
-    let other = ClientCookie::from(row.array::<8>());
-    client.as_slice_mut().copy_from_slice(other.as_slice());
-    row.hexadecimal(&<[u8; 8]>::from(client))
 }
 
 impl Next for ClientCookie {

@@ -12,17 +12,18 @@ use std::hash::{DefaultHasher, Hash, Hasher};
 /// Calls of extended errors and chains.
 pub struct Kinds;
 
-/// Calls of subnets.
-pub struct Subnets;
-
-/// Calls of times.
-pub struct Times;
+/// Calls of subnets and times.
+pub struct SubnetsAndTimes;
 
 impl Calls for Kinds {
     fn answer(&self, call: &str, row: &mut Row<'_>) -> Result<(), RowError> {
         match call {
             "extended_error" => extended_error(row),
             "extended_error_new" => extended_error_new(row),
+            "extended_error_private" => {
+                let error = ExtendedError::from(row.number::<u16>());
+                row.whether(error.is_private())
+            }
             "chain" => chain(row),
             "chain_new" => chain_new(row),
             "chain_cmp" => chain_cmp(row),
@@ -32,26 +33,37 @@ impl Calls for Kinds {
     }
 }
 
-impl Calls for Subnets {
+impl Calls for SubnetsAndTimes {
     fn answer(&self, call: &str, row: &mut Row<'_>) -> Result<(), RowError> {
         match call {
-            "extended_error_private" => extended_error_private(row),
-            "subnet" => subnet(row),
-            "subnet_parse" => subnet_parse(row),
+            "subnet" => {
+                let subnet = ClientSubnet::next(row);
+                subnet_said(row, &subnet)
+            }
+            "subnet_parse" => {
+                let mut parser = Parser::from_ref(row.octets());
+                match ClientSubnet::parse(&mut parser) {
+                    Ok(subnet) => subnet_said(row, &subnet),
+                    Err(error) => row.refuse(error),
+                }
+            }
             "subnet_cmp" => next_compared::<ClientSubnet>(row),
-            _ => return Err(RowError::NoSuchCall),
-        }
-        Ok(())
-    }
-}
-
-impl Calls for Times {
-    fn answer(&self, call: &str, row: &mut Row<'_>) -> Result<(), RowError> {
-        match call {
-            "expire" => expire(row),
+            "expire" => {
+                let expire = Expire::next(row);
+                shown(row, &expire)
+            }
             "expire_cmp" => next_compared::<Expire>(row),
-            "keepalive_millis" => keepalive_millis(row),
-            "keepalive_parse" => keepalive_parse(row),
+            "keepalive_millis" => match IdleTimeout::try_from_millis(row.number()) {
+                Ok(timeout) => shown(row, &TcpKeepalive::new(Some(timeout))),
+                Err(error) => row.debug(&error),
+            },
+            "keepalive_parse" => {
+                let mut parser = Parser::from_ref(row.octets());
+                match TcpKeepalive::parse(&mut parser) {
+                    Ok(keepalive) => shown(row, &keepalive),
+                    Err(error) => row.refuse(error),
+                }
+            }
             "keepalive_cmp" => next_compared::<TcpKeepalive>(row),
             _ => return Err(RowError::NoSuchCall),
         }
@@ -77,35 +89,6 @@ fn extended_error_new(row: &mut Row<'_>) {
     }
 }
 
-/// Whether a code is for private use.
-fn extended_error_private(row: &mut Row<'_>) {
-    let error = ExtendedError::from(row.number::<u16>());
-    row.whether(error.is_private())
-}
-
-/// A time of so many seconds, or none.
-fn expire(row: &mut Row<'_>) {
-    let expire = Expire::next(row);
-    shown(row, &expire)
-}
-
-/// A timeout of so many milliseconds.
-fn keepalive_millis(row: &mut Row<'_>) {
-    match IdleTimeout::try_from_millis(row.number()) {
-        Ok(timeout) => shown(row, &TcpKeepalive::new(Some(timeout))),
-        Err(error) => row.debug(&error),
-    }
-}
-
-/// A timeout that is read.
-fn keepalive_parse(row: &mut Row<'_>) {
-    let mut parser = Parser::from_ref(row.octets());
-    match TcpKeepalive::parse(&mut parser) {
-        Ok(keepalive) => shown(row, &keepalive),
-        Err(error) => row.refuse(error),
-    }
-}
-
 /// A chain from a name that is borrowed.
 fn chain(row: &mut Row<'_>) {
     let given = ChainRef::new(row.name());
@@ -115,14 +98,12 @@ fn chain(row: &mut Row<'_>) {
 /// A chain from a name that is owned.
 fn chain_new(row: &mut Row<'_>) {
     match row.name().to_owned(row.alloc()) {
-        Ok(start) => chain_of(row, Chain::new(start)),
+        Ok(start) => {
+            let owned = Chain::new(start);
+            both_said(row, &owned.for_slice(), &owned);
+        }
         Err(_) => row.fail(RowError::OutOfMemory),
     }
-}
-
-/// The same of a chain.
-fn chain_of(row: &mut Row<'_>, owned: Chain) {
-    both_said(row, &owned.for_slice(), &owned)
 }
 
 /// What a value is hashed to.
@@ -146,36 +127,29 @@ fn next_compared<K: Next + Ord + Hash + Drop>(row: &mut Row<'_>) {
     compared(row, &first, &second)
 }
 
-/// How two chains compare as they are owned, and whether one is hashed alike in both forms.
-fn owned_compared(row: &mut Row<'_>, first: &ChainRef<'_>, kept: &Chain, other: &Chain) {
-    compared(row, kept, other);
-    row.close(", both");
-    row.tell_whether("hash", hashed(first) == hashed(kept))
-}
-
-/// The same of a chain that is owned and one that is borrowed.
-fn other_owned(row: &mut Row<'_>, first: &ChainRef<'_>, kept: &Chain, second: &ChainRef<'_>) {
+/// How a chain that is owned compares with the owned form of one that is borrowed, and whether the former is hashed alike in
+/// both forms.
+fn owned_compared(row: &mut Row<'_>, first: &ChainRef<'_>, kept: &Chain, second: &ChainRef<'_>) {
     match second.to_owned(row.alloc()) {
-        Ok(other) => owned_compared(row, first, kept, &other),
+        Ok(other) => {
+            compared(row, kept, &other);
+            row.close(", both");
+            row.tell_whether("hash", hashed(first) == hashed(kept))
+        }
         Err(_) => row.fail(RowError::OutOfMemory),
     }
 }
 
-/// The same of two chains that are borrowed, behind how they compare as such.
-fn both_compared(row: &mut Row<'_>, first: &ChainRef<'_>, second: &ChainRef<'_>) {
-    compared(row, first, second);
-    row.close(", owned");
-    match first.to_owned(row.alloc()) {
-        Ok(kept) => other_owned(row, first, &kept, second),
-        Err(_) => row.fail(RowError::OutOfMemory),
-    }
-}
-
-/// The same of the chains from the names of two words.
+/// The same of the chains from the names of two words, behind how they compare as they are borrowed.
 fn chain_cmp(row: &mut Row<'_>) {
     let first = ChainRef::new(row.name());
     let second = ChainRef::new(row.name());
-    both_compared(row, &first, &second)
+    compared(row, &first, &second);
+    row.close(", owned");
+    match first.to_owned(row.alloc()) {
+        Ok(kept) => owned_compared(row, &first, &kept, &second),
+        Err(_) => row.fail(RowError::OutOfMemory),
+    }
 }
 
 /// A subnet's address and source prefix, and its option.
@@ -183,12 +157,6 @@ fn subnet_said(row: &mut Row<'_>, subnet: &ClientSubnet) {
     row.show(&subnet.addr());
     row.show(&subnet.source_prefix_len());
     shown(row, subnet)
-}
-
-/// A subnet of two prefixes and an address.
-fn subnet(row: &mut Row<'_>) {
-    let subnet = ClientSubnet::next(row);
-    subnet_said(row, &subnet)
 }
 
 impl Next for ClientSubnet {
@@ -207,18 +175,17 @@ impl Next for Expire {
     }
 }
 
-impl Next for TcpKeepalive {
-    /// The timeout of the next number of units, or none.
-    fn next(row: &mut Row<'_>) -> TcpKeepalive {
-        TcpKeepalive::new(row.optional::<u16>().map(IdleTimeout::from))
+/// The timeout of the next number of units, or none.
+pub fn next_timeout(row: &mut Row<'_>) -> Option<IdleTimeout> {
+    match row.optional::<u16>() {
+        Some(units) => Some(IdleTimeout::from(units)),
+        None => None,
     }
 }
 
-/// A subnet that is read.
-fn subnet_parse(row: &mut Row<'_>) {
-    let mut parser = Parser::from_ref(row.octets());
-    match ClientSubnet::parse(&mut parser) {
-        Ok(subnet) => subnet_said(row, &subnet),
-        Err(error) => row.refuse(error),
+impl Next for TcpKeepalive {
+    /// The keepalive of the next timeout, or of none.
+    fn next(row: &mut Row<'_>) -> TcpKeepalive {
+        TcpKeepalive::new(next_timeout(row))
     }
 }

@@ -6,29 +6,17 @@ use dns_lists::{KeyTagRef, Nsid, NsidKind, OctetsKind, PaddingKind, PlainRef, Un
 use dns_name::{OptionCode, ParseOptData, Parser, SecurityAlgorithm};
 use rows_table::{Calls, Row, RowError};
 
-/// The calls of dns_lists.
+/// The calls of dns_lists and dns_algs.
 pub struct Lists;
-
-/// The calls of dns_algs.
-pub struct Algorithms;
 
 impl Calls for Lists {
     fn answer(&self, call: &str, row: &mut Row<'_>) -> Result<(), RowError> {
         match call {
             "nsid" => plain::<NsidKind>(row),
             "padding" => plain::<PaddingKind>(row),
-            "nsid_empty" => nsid_empty(row),
+            "nsid_empty" => shown(row, &Nsid::empty(row.alloc())),
             "key_tag" => key_tag(row),
             "unknown" => unknown(row),
-            _ => return Err(RowError::NoSuchCall),
-        }
-        Ok(())
-    }
-}
-
-impl Calls for Algorithms {
-    fn answer(&self, call: &str, row: &mut Row<'_>) -> Result<(), RowError> {
-        match call {
             "dau" => understood::<DauVariant>(row),
             "dhu" => understood::<DhuVariant>(row),
             "n3u" => understood::<N3uVariant>(row),
@@ -39,46 +27,33 @@ impl Calls for Algorithms {
     }
 }
 
-/// An identifier of no octets.
-fn nsid_empty(row: &mut Row<'_>) {
-    shown(row, &Nsid::empty(row.alloc()))
-}
-
 /// An option of plain octets: given, and owned as it is read.
 fn plain<K: OctetsKind>(row: &mut Row<'_>) {
     let octets = row.octets();
     match PlainRef::<K>::from_slice(octets) {
-        Ok(given) => plain_read(row, &given, octets),
+        Ok(given) => {
+            let mut parser = Parser::from_ref(octets);
+            match PlainRef::<K>::parse(&mut parser) {
+                Ok(found) => both_shown(row, &given, found.to_owned(row.alloc())),
+                Err(error) => row.refuse(error),
+            }
+        }
         Err(_) => row.fail(RowError::OutOfForm),
-    }
-}
-
-/// The same of what is given.
-fn plain_read<K: OctetsKind>(row: &mut Row<'_>, given: &PlainRef<'_, K>, octets: &[u8]) {
-    let mut parser = Parser::from_ref(octets);
-    match PlainRef::<K>::parse(&mut parser) {
-        Ok(found) => both_shown(row, given, found.to_owned(row.alloc())),
-        Err(error) => row.refuse(error),
     }
 }
 
 /// Key tags, and how many octets may be written.
 fn key_tag(row: &mut Row<'_>) {
     match KeyTagRef::from_slice(row.octets()) {
-        Ok(given) => tags_owned(row, &given),
+        Ok(given) => match given.to_owned(row.alloc()) {
+            Ok(mut owned) => {
+                let len = owned.as_slice_mut().len();
+                both_said(row, &given, &owned);
+                row.tell("mut", &len)
+            }
+            Err(_) => row.fail(RowError::OutOfMemory),
+        },
         Err(error) => row.give_up(error.into()),
-    }
-}
-
-/// The same of what is given.
-fn tags_owned(row: &mut Row<'_>, given: &KeyTagRef<'_>) {
-    match given.to_owned(row.alloc()) {
-        Ok(mut owned) => {
-            let len = owned.as_slice_mut().len();
-            both_said(row, given, &owned);
-            row.tell("mut", &len)
-        }
-        Err(_) => row.fail(RowError::OutOfMemory),
     }
 }
 
@@ -87,21 +62,16 @@ fn unknown(row: &mut Row<'_>) {
     let code = OptionCode::from_int(row.number());
     let mut parser = Parser::from_ref(row.octets());
     match UnknownOptDataRef::parse_option(code, &mut parser) {
-        Ok(Some(found)) => unknown_owned(row, &found),
+        Ok(Some(found)) => match found.to_owned(row.alloc()) {
+            Ok(mut owned) => {
+                let len = owned.as_slice_mut().len();
+                both_said(row, &found, &owned);
+                row.tell("mut", &len)
+            }
+            Err(_) => row.fail(RowError::OutOfMemory),
+        },
         Ok(None) => row.say("none"),
         Err(error) => row.refuse(error),
-    }
-}
-
-/// The same of what is found.
-fn unknown_owned(row: &mut Row<'_>, found: &UnknownOptDataRef<'_>) {
-    match found.to_owned(row.alloc()) {
-        Ok(mut owned) => {
-            let len = owned.as_slice_mut().len();
-            both_said(row, found, &owned);
-            row.tell("mut", &len)
-        }
-        Err(_) => row.fail(RowError::OutOfMemory),
     }
 }
 
@@ -110,16 +80,11 @@ fn understood<K: Variant>(row: &mut Row<'_>) {
     let mut parser = Parser::from_ref(row.octets());
     match UnderstoodRef::<K>::parse(&mut parser) {
         Ok(found) => {
-            understood_said(row, &found);
+            both_shown(row, &found, found.to_owned(row.alloc()));
             row.tell("left", &parser.remaining())
         }
         Err(error) => row.refuse(error),
     }
-}
-
-/// A list of algorithms, borrowed and owned.
-fn understood_said<K: Variant>(row: &mut Row<'_>, found: &UnderstoodRef<'_, K>) {
-    both_shown(row, found, found.to_owned(row.alloc()))
 }
 
 /// The list of the algorithms of these numbers, and how many its iterator gives; or why there is none.
@@ -129,13 +94,10 @@ fn from_sec_algs(row: &mut Row<'_>) {
         .iter()
         .map(|number| SecurityAlgorithm::from_int(*number));
     match Dau::from_sec_algs(row.alloc(), algorithms) {
-        Ok(list) => list_said(row, &list),
+        Ok(list) => {
+            shown(row, &list);
+            row.tell("count", &list.iter().count())
+        }
         Err(error) => row.debug(&error),
     }
-}
-
-/// A list, and how many algorithms its iterator gives.
-fn list_said(row: &mut Row<'_>, list: &Dau) {
-    shown(row, list);
-    row.tell("count", &list.iter().count())
 }

@@ -11,10 +11,10 @@ mod records;
 mod said;
 mod steps;
 
-use cookies::{CookieOrders, CookieParts, Cookies};
-use kinds::{Kinds, Subnets, Times};
-use lists::{Algorithms, Lists};
-use options::{Options, SingleOptions};
+use cookies::{CookieParts, Cookies};
+use kinds::{Kinds, SubnetsAndTimes};
+use lists::Lists;
+use options::Options;
 use records::Records;
 use std::io;
 use std::process::ExitCode;
@@ -23,11 +23,8 @@ fn main(rt: HostRuntime) -> io::Result<ExitCode> {
     rows_table::run(
         &rt,
         &(
-            ((Lists, Algorithms), (Kinds, (Subnets, Times))),
-            (
-                (Cookies, (CookieParts, CookieOrders)),
-                (Options, (SingleOptions, Records)),
-            ),
+            (Lists, (Kinds, SubnetsAndTimes)),
+            ((Cookies, CookieParts), (Options, Records)),
         ),
     )
 }

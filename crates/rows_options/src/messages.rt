@@ -2,7 +2,7 @@
 
 use crate::said::built;
 use crate::steps::build;
-use dns_base::{AdditionalBuilder, Header, MessageBuilder};
+use dns_base::{AdditionalBuilder, MessageBuilder};
 use dns_opt::{BuildDataError, BuildOpt, MessageOpt, OptBuilder, OptRecord, OptRecordRef};
 use rows_table::{Row, RowError, Steps};
 use std::alloc::Global;
@@ -56,19 +56,17 @@ impl Steps for Built {
             "limit" => self.message.set_push_limit(row.number()),
             "copy" => self.copy(row),
             "append" => append(&mut self.message, row),
-            _ => opt_step(&mut self.message, step, row),
+            "opt" => {
+                let done = opened(&mut self.message, row);
+                built(row, done)
+            }
+            "reopen" => {
+                let done = reopened(&mut self.message, row);
+                built(row, done)
+            }
+            _ => row.fail(RowError::NoSuchStep),
         }
     }
-}
-
-/// A step that builds an OPT record.
-fn opt_step(message: &mut AdditionalBuilder, step: &str, row: &mut Row<'_>) {
-    let done = match step {
-        "opt" => opened(message, row),
-        "reopen" => reopened(message, row),
-        _ => return row.fail(RowError::NoSuchStep),
-    };
-    built(row, done)
 }
 
 /// Appends an OPT record of the next word's payload size, and says what that answers.
@@ -85,11 +83,6 @@ fn message_said(row: &mut Row<'_>, message: &AdditionalBuilder) {
     row.tell("len", &message.as_slice().len());
     row.tell("header", &header.rcode.to_int());
     row.tell("arcount", &message.counts().arcount);
-    opt_said(row, message, header)
-}
-
-/// A message's OPT record: the response code with that of the header, the size and the options.
-fn opt_said(row: &mut Row<'_>, message: &AdditionalBuilder, header: Header) {
     match message.opt_record() {
         Some(found) => {
             row.tell("rcode", &found.rcode(header).to_int());
@@ -103,14 +96,12 @@ fn opt_said(row: &mut Row<'_>, message: &AdditionalBuilder, header: Header) {
 /// What the steps, which a slash parts, answer with an empty message, and the message that it is then.
 pub fn opt_message(row: &mut Row<'_>) {
     match MessageBuilder::new(row.alloc()) {
-        Ok(builder) => stepped(row, builder.additional()),
+        Ok(builder) => {
+            let message = builder.additional();
+            let mut built = Built { message };
+            row.take_steps(" / ", &mut built);
+            message_said(row, &built.message)
+        }
         Err(_) => row.fail(RowError::OutOfMemory),
     }
-}
-
-/// The same of a message.
-fn stepped(row: &mut Row<'_>, message: AdditionalBuilder) {
-    let mut built = Built { message };
-    row.take_steps(" / ", &mut built);
-    message_said(row, &built.message)
 }

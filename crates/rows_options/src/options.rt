@@ -6,11 +6,8 @@ use dns_name::{ComposeOptData, ParseError, Parser};
 use dns_options::{AllOptData, Cookie, NsidRef, Opt, OptRef, OptionHeader, PaddingRef, written_by};
 use rows_table::{Calls, Row, RowError};
 
-/// Calls of lists of options.
+/// Calls of lists of options and of single ones.
 pub struct Options;
-
-/// Calls of single options.
-pub struct SingleOptions;
 
 impl Calls for Options {
     fn answer(&self, call: &str, row: &mut Row<'_>) -> Result<(), RowError> {
@@ -20,15 +17,6 @@ impl Calls for Options {
             "all_options" => return all_options(row),
             "list" => list(row, true),
             "list_len" => list(row, false),
-            _ => return Err(RowError::NoSuchCall),
-        }
-        Ok(())
-    }
-}
-
-impl Calls for SingleOptions {
-    fn answer(&self, call: &str, row: &mut Row<'_>) -> Result<(), RowError> {
-        match call {
             "option_header" => option_header(row),
             "written_by" => written(row),
             "first" => first(row),
@@ -102,22 +90,18 @@ fn option_said(row: &mut Row<'_>, item: Result<AllOptData<'_>, ParseError>) {
     }
 }
 
-/// The data of the first option of a kind in a list.
+/// The data of the first option of a kind in a list; of the first identifier in an owned copy, where the kind is none of
+/// these.
 fn first(row: &mut Row<'_>) {
     let kind = row.word();
     match next_list(row) {
-        Ok(list) => first_in(row, kind, &list),
+        Ok(list) => match kind {
+            "nsid" => first_said(row, list.first::<NsidRef>()),
+            "padding" => first_said(row, list.first::<PaddingRef>()),
+            "cookie" => first_said(row, list.first::<Cookie>()),
+            _ => owned_first_said(row, &list),
+        },
         Err(fault) => row.fail(fault),
-    }
-}
-
-/// The same in a list; of the first identifier in an owned copy, where the kind is none of these.
-fn first_in(row: &mut Row<'_>, kind: &str, list: &OptRef<'_>) {
-    match kind {
-        "nsid" => first_said(row, list.first::<NsidRef>()),
-        "padding" => first_said(row, list.first::<PaddingRef>()),
-        "cookie" => first_said(row, list.first::<Cookie>()),
-        _ => owned_first_said(row, list),
     }
 }
 
@@ -137,22 +121,17 @@ fn first_said<D: ComposeOptData + Drop>(row: &mut Row<'_>, found: Option<D>) {
     }
 }
 
-/// The head of an option, and how many octets are left behind it.
+/// The code and the length that the head of an option has, and how many octets are left behind it.
 fn option_header(row: &mut Row<'_>) {
     let mut parser = Parser::from_ref(row.octets());
     match OptionHeader::parse(&mut parser) {
         Ok(head) => {
-            head_said(row, &head);
+            row.tell("code", &head.code().to_int());
+            row.tell("len", &head.len());
             row.tell("left", &parser.remaining())
         }
         Err(error) => row.refuse(error),
     }
-}
-
-/// An option's code and its length.
-fn head_said(row: &mut Row<'_>, head: &OptionHeader) {
-    row.tell("code", &head.code().to_int());
-    row.tell("len", &head.len())
 }
 
 /// What a closure writes to an empty vector.

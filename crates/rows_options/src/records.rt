@@ -4,7 +4,7 @@ ghost use Rattle.std.specs.Prelude.{IfOk};
 ghost use Rattle.dns_base.specs.Records.{IsLawful};
 
 use crate::messages::opt_message;
-use crate::query::{query, read_query};
+use crate::query::{query, query_said};
 use crate::steps::{Target, rcode};
 use dns_base::Record;
 use dns_name::OutOfMemory;
@@ -22,26 +22,23 @@ impl Calls for Records {
             "opt_record" => opt_record(row),
             "opt_message" => opt_message(row),
             "query" => query(row),
-            "read_query" => read_query(row),
+            "read_query" => {
+                let octets = row.octets();
+                query_said(row, octets)
+            }
             _ => return Err(RowError::NoSuchCall),
         }
         Ok(())
     }
 }
 
-/// The head that the next words are, and that wants DNSSEC records.
-fn next_head(row: &mut Row<'_>) -> OptHeader {
+/// The octets of a head with a size, both parts of a response code and a version, that wants DNSSEC records.
+fn opt_header(row: &mut Row<'_>) {
     let mut head = OptHeader::default();
     head.set_udp_payload_size(row.number());
     head.set_rcode(rcode(row));
     head.set_version(row.number());
     head.set_dnssec_ok(true);
-    head
-}
-
-/// The octets of a head with a size, both parts of a response code and a version, that wants DNSSEC records.
-fn opt_header(row: &mut Row<'_>) {
-    let head = next_head(row);
     let mut octets = Vec::new(row.alloc());
     row.keep(head.compose(row.alloc(), &mut octets));
     row.hexadecimal(&octets)

@@ -2,7 +2,6 @@
 
 use dns_name::{BuildDataError, ComposeOptData, OutOfMemory};
 use rows_table::{Row, RowError};
-use std::alloc::Global;
 use std::fmt::Display;
 
 /// The data that an option appends to none.
@@ -43,39 +42,26 @@ pub fn both_said<B: ComposeOptData + Display, O: ComposeOptData + Display>(
     owned: &O,
 ) {
     shown(row, borrowed);
-    other_said(row, &shown_apart(row.alloc(), owned))
-}
-
-/// What is said in the other row, where that differs.
-fn other_said(row: &mut Row<'_>, other: &Row<'_>) {
+    let mut other = Row::of(row.alloc(), "", &[]);
+    shown(&mut other, owned);
     if row.said() != other.said() {
         row.close(", but owned");
         row.say(other.said())
     }
 }
 
-/// An option as it is shown in a row of its own.
-fn shown_apart<D: ComposeOptData + Display>(alloc: Global, option: &D) -> Row<'static> {
-    let mut said = Row::of(alloc, "", &[]);
-    shown(&mut said, option);
-    said
-}
-
-/// What building answers.
+/// What building answers; of a wrong length, how long the option was to be and how long it is.
 pub fn built(row: &mut Row<'_>, done: Result<(), BuildDataError>) {
     match done {
-        Err(BuildDataError::WrongLength { stated, written }) => wrong_length(row, stated, written),
+        Err(BuildDataError::WrongLength { stated, written }) => {
+            row.say("WrongLength(");
+            row.close_shown(&stated);
+            row.close(",");
+            row.close_shown(&written);
+            row.close(")")
+        }
         done => row.outcome(done),
     }
-}
-
-/// Says how long an option was to be, and how long it is.
-fn wrong_length(row: &mut Row<'_>, stated: u16, written: usize) {
-    row.say("WrongLength(");
-    row.close_shown(&stated);
-    row.close(",");
-    row.close_shown(&written);
-    row.close(")")
 }
 
 /// What the next words of a row may be.

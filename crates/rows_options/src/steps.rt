@@ -1,14 +1,13 @@
 //! The steps by which a row fills lists, records and records under construction with options.
 
+use crate::kinds::next_timeout;
 use crate::said::built;
 use dns_cookie::ClientCookie;
 use dns_name::{
     ComposeOptData, ExtendedErrorCode, Name, OptRcode, OptionCode, OutOfMemory, Rcode,
     SecurityAlgorithm,
 };
-use dns_opt::{
-    BuildDataError, Cookie, IdleTimeout, KeyTagRef, NsidRef, Opt, OptBuilder, OptRecord,
-};
+use dns_opt::{BuildDataError, Cookie, KeyTagRef, NsidRef, Opt, OptBuilder, OptRecord};
 use rows_table::{Row, RowError, Steps};
 use std::alloc::Global;
 
@@ -58,17 +57,6 @@ impl Target<'_> {
         }
     }
 
-    /// Pushes the identifier of the next word.
-    fn next_nsid(&mut self, row: &mut Row<'_>) -> Stepped {
-        let octets = row.octets();
-        self.nsid(row, octets)
-    }
-
-    /// Pushes the cookie of the next word.
-    fn next_cookie(&mut self, row: &mut Row<'_>) -> Stepped {
-        self.push(row.alloc(), &client_alone(row))
-    }
-
     /// Pushes an identifier.
     fn nsid(&mut self, row: &mut Row<'_>, octets: &[u8]) -> Stepped {
         match NsidRef::from_slice(octets) {
@@ -77,12 +65,15 @@ impl Target<'_> {
         }
     }
 
-    /// Pushes an option as it is, or one of no kind.
+    /// Pushes an option as it is, the identifier, the number of zeros or the cookie of the next word, or one of no kind.
     fn step(&mut self, step: &str, row: &mut Row<'_>) -> Stepped {
         match step {
-            "push_nsid" => self.next_nsid(row),
+            "push_nsid" => {
+                let octets = row.octets();
+                self.nsid(row, octets)
+            }
             "push_zeros" => self.zeros(row),
-            "push_cookie" => self.next_cookie(row),
+            "push_cookie" => self.push(row.alloc(), &client_alone(row)),
             "raw" => self.raw(row),
             _ => out_of_form(row),
         }
@@ -110,26 +101,14 @@ fn client_alone(row: &mut Row<'_>) -> Cookie {
 /// Pushes the algorithms of the next word's octets, which a client understands.
 fn understood(opt: &mut OptBuilder, step: &str, row: &mut Row<'_>) -> Stepped {
     let numbers = row.octets();
-    let listed = numbers
-        .iter()
-        .map(|number| SecurityAlgorithm::from_int(*number));
-    match listed.collect::<Vec<SecurityAlgorithm>>(row.alloc()) {
-        Ok(listed) => push_understood(opt, step, row.alloc(), &listed),
-        Err(error) => Err(error.into()),
+    let mut listed = Vec::new(row.alloc());
+    for number in numbers {
+        row.keep(listed.push(SecurityAlgorithm::from_int(*number)));
     }
-}
-
-/// Pushes algorithms that a client understands.
-fn push_understood(
-    opt: &mut OptBuilder,
-    step: &str,
-    alloc: Global,
-    listed: &[SecurityAlgorithm],
-) -> Stepped {
     match step {
-        "dau" => opt.dau(alloc, listed),
-        "dhu" => opt.dhu(alloc, listed),
-        _ => opt.n3u(alloc, listed),
+        "dau" => opt.dau(row.alloc(), &listed),
+        "dhu" => opt.dhu(row.alloc(), &listed),
+        _ => opt.n3u(row.alloc(), &listed),
     }
 }
 
@@ -149,60 +128,38 @@ fn key_tag(opt: &mut OptBuilder, row: &mut Row<'_>) -> Stepped {
     }
 }
 
-/// Pushes a subnet of two prefixes and an address.
-fn client_subnet(opt: &mut OptBuilder, row: &mut Row<'_>) -> Stepped {
-    let source = row.number();
-    let scope = row.number();
-    opt.client_subnet(row.alloc(), source, scope, row.address())
-}
-
-/// Pushes an extended error of a code and a text.
-fn extended_error(opt: &mut OptBuilder, row: &mut Row<'_>) -> Stepped {
-    let code = ExtendedErrorCode::from_int(row.number());
-    opt.extended_error(row.alloc(), code, Some(row.text()))
-}
-
-/// Pushes a timeout in units of 100 ms.
-fn tcp_keepalive(opt: &mut OptBuilder, row: &mut Row<'_>) -> Stepped {
-    let timeout = row.optional::<u16>().map(IdleTimeout::from);
-    opt.tcp_keepalive(row.alloc(), timeout)
-}
-
 /// Pushes an option of one kind by the call of its name, or as it is.
 fn push_kind(opt: &mut OptBuilder, step: &str, row: &mut Row<'_>) -> Stepped {
     match step {
         "nsid" => opt.nsid(row.alloc(), row.octets()),
         "client_nsid" => opt.client_nsid(row.alloc()),
         "padding" => opt.padding(row.alloc(), row.number()),
+        "chain" => chain(opt, row),
+        "key_tag" => key_tag(opt, row),
+        "dau" | "dhu" | "n3u" => understood(opt, step, row),
         _ => push_fields(opt, step, row),
     }
 }
 
-/// The same of kinds with several fields.
+/// The same of kinds of numbers, addresses and texts: a time, a timeout in units of 100 ms, a client's cookie, a code and a
+/// text, or two prefixes and an address; and of an option as it is.
 fn push_fields(opt: &mut OptBuilder, step: &str, row: &mut Row<'_>) -> Stepped {
     match step {
-        "chain" => chain(opt, row),
-        "key_tag" => key_tag(opt, row),
-        "extended_error" => extended_error(opt, row),
-        "client_subnet" => client_subnet(opt, row),
-        _ => push_field(opt, step, row),
-    }
-}
-
-/// The same of kinds with one field.
-fn push_field(opt: &mut OptBuilder, step: &str, row: &mut Row<'_>) -> Stepped {
-    match step {
         "expire" => opt.expire(row.alloc(), row.optional()),
-        "tcp_keepalive" => tcp_keepalive(opt, row),
+        "tcp_keepalive" => {
+            let timeout = next_timeout(row);
+            opt.tcp_keepalive(row.alloc(), timeout)
+        }
         "cookie" => opt.cookie(row.alloc(), client_alone(row)),
-        _ => push_listed(opt, step, row),
-    }
-}
-
-/// The same of lists of algorithms, and of an option as it is.
-fn push_listed(opt: &mut OptBuilder, step: &str, row: &mut Row<'_>) -> Stepped {
-    match step {
-        "dau" | "dhu" | "n3u" => understood(opt, step, row),
+        "extended_error" => {
+            let code = ExtendedErrorCode::from_int(row.number());
+            opt.extended_error(row.alloc(), code, Some(row.text()))
+        }
+        "client_subnet" => {
+            let source = row.number();
+            let scope = row.number();
+            opt.client_subnet(row.alloc(), source, scope, row.address())
+        }
         _ => Target::Built(opt).step(step, row),
     }
 }

@@ -2,43 +2,26 @@
 
 use dns_book::{Admission, BookState, Call, Look, Reply};
 use dns_service::{DgramConfig, StreamConfig};
-use rows_table::{Calls, Row, RowError, number_of};
-
-/// The book.
-pub(crate) struct BookRows;
-
-impl Calls for BookRows {
-    fn answer(&self, call: &str, row: &mut Row<'_>) -> Result<(), RowError> {
-        match call {
-            "book_state" => replies(row),
-            _ => Err(RowError::NoSuchCall),
-        }
-    }
-}
+use rows_table::{Row, RowError, number_of};
 
 /// The replies of an open book with this limit and version to calls, which commas part.
-fn replies(row: &mut Row<'_>) -> Result<(), RowError> {
+pub(crate) fn replies(row: &mut Row<'_>) {
     let stream = with_limit(row.number());
     let mut state = BookState::resume(DgramConfig::new(), stream, row.number());
-    replies_of(row, &mut state)
-}
-
-/// The replies of a book to the calls of the next word.
-fn replies_of(row: &mut Row<'_>, state: &mut BookState) -> Result<(), RowError> {
     for name in row.word().split(',') {
-        asked(row, state, name)?;
+        asked(row, &mut state, name);
     }
-    Ok(())
 }
 
 /// The reply of a book to a call by its name; a comma parts it from what stands there.
-fn asked(row: &mut Row<'_>, state: &mut BookState, name: &str) -> Result<(), RowError> {
+fn asked(row: &mut Row<'_>, state: &mut BookState, name: &str) {
     if !row.said().is_empty() {
         row.close(",");
     }
-    let call = call_named(name)?;
-    reply_said(row, &state.call(&call));
-    Ok(())
+    match call_named(name) {
+        Ok(call) => reply_said(row, &state.call(&call)),
+        Err(fault) => row.fail(fault),
+    }
 }
 
 /// The default configuration with this limit of connections.
@@ -99,18 +82,13 @@ fn admission_said(row: &mut Row<'_>, admission: &Admission) {
     }
 }
 
-/// Whether nothing but the limit of connections is configured.
-fn has_defaults(look: &Look) -> bool {
-    let limit = look.stream.max_concurrent_connections();
-    look.dgram == DgramConfig::new() && look.stream == with_limit(limit)
-}
-
 /// The version, whether the book is closed, and how many slots are taken of how many. Nothing else may be configured.
 fn look_said(row: &mut Row<'_>, look: &Look) {
-    if !has_defaults(look) {
+    let limit = look.stream.max_concurrent_connections();
+    let has_defaults = look.dgram == DgramConfig::new() && look.stream == with_limit(limit);
+    if !has_defaults {
         return row.say("another configuration");
     }
-    let limit = look.stream.max_concurrent_connections();
     row.show(&look.version);
     row.say(if look.closed { "closed" } else { "open" });
     row.show(&look.taken);

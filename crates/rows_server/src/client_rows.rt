@@ -2,19 +2,19 @@
 
 ghost use Rattle.std.specs.Prelude.{◌≡◌, false};
 
-use crate::event_rows::steps_of;
-use crate::line_rows::say_lines;
+use crate::book_rows::replies;
 use crate::service_rows::rules;
+use crate::step_lines::steps_of;
 use dns_core::{
     BookState, ClientCore, Event, EventKind, Framer, IdleTimer, Output, Settings, Step,
 };
 use dns_name::SocketAddr;
-use dns_server::ScriptService;
+use dns_run::ScriptService;
 use dns_service::{DgramConfig, OutOfMemory, Plainly, Served, StreamConfig};
 use rows_table::{Calls, Row, RowError};
 use std::alloc::Global;
 
-/// Frames, one client, and settings.
+/// Frames, one client, settings, and the book for one thread.
 pub(crate) struct ClientRows;
 
 impl Calls for ClientRows {
@@ -23,68 +23,68 @@ impl Calls for ClientRows {
             "framer" => frames(row),
             "idle_timer" => timer(row),
             "settings" => settings(row),
-            _ => of_client(call, row),
+            "book_state" => replies(row),
+            _ => return of_client(call, row),
         }
+        Ok(())
     }
 }
 
-/// One client's core.
+/// One client's core, or the moment, the seconds and the client of the line of a look.
 fn of_client(call: &str, row: &mut Row<'_>) -> Result<(), RowError> {
     match call {
-        "client_core" => client(row, Says::Sent),
-        "client_waits" => client(row, Says::Waits),
-        "client_survives" => client(row, Says::Survives),
+        "client_waits" => client(row, true),
+        "client_survives" => client(row, false),
+        "read_step" => {
+            let steps = steps_of(row.alloc(), row.all_words())?;
+            match steps.split_first() {
+                Some((Step::Look { at, secs, client }, _)) => {
+                    row.show(at);
+                    row.show(secs);
+                    row.show(client);
+                    Ok(())
+                }
+                _ => Err(RowError::OutOfForm),
+            }
+        }
         _ => Err(RowError::NoSuchCall),
     }
 }
 
 /// The first message of what is kept after each piece, and once more at the end.
-fn frames(row: &mut Row<'_>) -> Result<(), RowError> {
+fn frames(row: &mut Row<'_>) {
     let mut framer = Framer::new(row.alloc());
-    all_fed(row, &mut framer)
-}
-
-fn all_fed(row: &mut Row<'_>, framer: &mut Framer) -> Result<(), RowError> {
     for piece in row.all_words().split(' ') {
-        fed(row, framer, piece)?;
+        fed(row, &mut framer, piece);
     }
-    say_next(row, framer)
+    say_next(row, &mut framer)
 }
 
 /// The first message of what is kept after a piece.
-fn fed(row: &mut Row<'_>, framer: &mut Framer, piece: &str) -> Result<(), RowError> {
+fn fed(row: &mut Row<'_>, framer: &mut Framer, piece: &str) {
     let octets = row.octets_of(piece);
-    framer.feed(row.alloc(), octets)?;
+    row.keep(framer.feed(row.alloc(), octets));
     say_next(row, framer)
 }
 
-fn say_next(row: &mut Row<'_>, framer: &mut Framer) -> Result<(), RowError> {
-    match framer.next(row.alloc())? {
-        Some(message) => row.hexadecimal(&message),
-        None => row.say("none"),
+fn say_next(row: &mut Row<'_>, framer: &mut Framer) {
+    match framer.next(row.alloc()) {
+        Ok(Some(message)) => row.hexadecimal(&message),
+        Ok(None) => row.say("none"),
+        Err(_) => row.fail(RowError::OutOfMemory),
     }
-    Ok(())
 }
 
 /// The deadline of a timer that was reset at a moment, for a timeout and another moment, and whether it is expired then; and
 /// whether it is once it was reset at that moment.
-fn timer(row: &mut Row<'_>) -> Result<(), RowError> {
+fn timer(row: &mut Row<'_>) {
     let mut timer = IdleTimer::new(row.number());
     let timeout = row.number();
     let now = row.number();
     row.show(&timer.idle_timeout_deadline(timeout, now));
     row.show(&timer.idle_timeout_expired(timeout, now));
     timer.reset(now);
-    row.show(&timer.idle_timeout_expired(timeout, now));
-    Ok(())
-}
-
-/// What a row says of a core after a step: what it is sent, what waits for its driver, or nothing.
-#[derive(Clone, Copy, PartialEq, Eq)]
-enum Says {
-    Sent,
-    Waits,
-    Survives,
+    row.show(&timer.idle_timeout_expired(timeout, now))
 }
 
 /// An open book with the default configurations.
@@ -94,41 +94,31 @@ fn open_book() -> BookState
     BookState::new(DgramConfig::new(), StreamConfig::new())
 }
 
-/// The core of a client by the first of its steps, which is stepped through the others. Its service answers each request with
-/// NXDOMAIN at its second poll.
-fn client(row: &mut Row<'_>, says: Says) -> Result<(), RowError> {
+/// The core of a client by the first of its steps, which is stepped through the others: what waits for its driver after each, or
+/// nothing. Its service answers each request with NXDOMAIN at its second poll.
+fn client(row: &mut Row<'_>, waits: bool) -> Result<(), RowError> {
     let steps = steps_of(row.alloc(), row.all_words())?;
-    match rules(row.alloc(), 3) {
-        Ok(rules) => answered_by(row, ScriptService::new(rules), &steps, says),
-        Err(error) => Err(error),
+    match rules(row.alloc()) {
+        Ok(rules) => answered_by(row, ScriptService::new(rules), &steps, waits),
+        Err(error) => row.fail(error),
     }
+    Ok(())
 }
 
 /// The same by a service.
-fn answered_by(
-    row: &mut Row<'_>,
-    service: ScriptService,
-    steps: &[Step],
-    says: Says,
-) -> Result<(), RowError> {
+fn answered_by(row: &mut Row<'_>, service: ScriptService, steps: &[Step], waits: bool) {
     match steps.split_first() {
-        Some((Step::Own(first), rest)) => { begun(row, &Plainly { service }, first, rest, says) }
-        _ => Err(RowError::Missing),
+        Some((Step::Own(first), rest)) => { begun(row, &Plainly { service }, first, rest, waits) }
+        _ => row.fail(RowError::Missing),
     }
 }
 
-fn begun<S: Served>(
-    row: &mut Row<'_>,
-    service: &S,
-    first: &Event,
-    rest: &[Step],
-    says: Says,
-) -> Result<(), RowError>
+fn begun<S: Served>(row: &mut Row<'_>, service: &S, first: &Event, rest: &[Step], waits: bool)
     requires { S.can_call service.now }
 {
     match core_of(row.alloc(), service, first) {
-        Ok(core) => gone_through(row, core, service, rest, says),
-        Err(error) => Err(error),
+        Ok(core) => gone_through(row, core, service, rest, waits),
+        Err(error) => row.fail(error),
     }
 }
 
@@ -137,30 +127,21 @@ fn gone_through<S: Served>(
     mut core: ClientCore<S>,
     service: &S,
     steps: &[Step],
-    says: Says,
-) -> Result<(), RowError>
+    waits: bool,
+)
     requires { S.can_call service.now }
 {
-    stepped_to_the_end(row, &mut core, service, steps, says);
+    let lost = stepped_through(row, &mut core, service, steps, waits);
     let_go(core);
-    Ok(())
+    if !waits {
+        row.say("survives");
+    } else if lost {
+        row.fail(RowError::OutOfMemory);
+    }
 }
 
 /// Lets a value go, in a function that needn't know of what type it is.
 fn let_go<T: Drop>(_value: T) {}
-
-fn stepped_to_the_end<S: Served>(
-    row: &mut Row<'_>,
-    core: &mut ClientCore<S>,
-    service: &S,
-    steps: &[Step],
-    says: Says,
-)
-    requires { S.can_call service.now }
-{
-    let lost = stepped_through(row, core, service, steps, says);
-    end_said(row, says, lost)
-}
 
 /// A core is stepped through steps, beside a book on which the events that all clients hear act. Whether memory was wanting.
 fn stepped_through<S: Served>(
@@ -168,7 +149,7 @@ fn stepped_through<S: Served>(
     core: &mut ClientCore<S>,
     service: &S,
     steps: &[Step],
-    says: Says,
+    waits: bool,
 ) -> bool
     requires { S.can_call service.now }
 {
@@ -176,38 +157,27 @@ fn stepped_through<S: Served>(
     let mut lost = false;
     for step in steps {
         let outputs = stepped(row.alloc(), core, service, &mut book, step);
-        lost = step_said(row, core, outputs, says, lost);
+        lost = step_said(row, core, outputs, waits, lost);
     }
     lost
 }
 
-/// Says what a core is sent for a step, and whether memory was wanting till then.
+/// Says what waits for the driver of a core after a step, or nothing, and whether memory was wanting till then.
 fn step_said<S: Served>(
     row: &mut Row<'_>,
     core: &ClientCore<S>,
     outputs: Result<Vec<Output>, OutOfMemory>,
-    says: Says,
+    waits: bool,
     lost: bool,
 ) -> bool {
     match outputs {
         Ok(outputs) => {
-            outputs_said(row, core, &outputs, says);
+            if waits {
+                say_waiting(row, core);
+            }
             stays_lost(row, core, lost, !outputs.is_empty())
         }
         Err(OutOfMemory) => stays_lost(row, core, true, false),
-    }
-}
-
-fn outputs_said<S: Served>(
-    row: &mut Row<'_>,
-    core: &ClientCore<S>,
-    outputs: &[Output],
-    says: Says,
-) {
-    match says {
-        Says::Sent => say_lines(row, outputs),
-        Says::Waits => say_waiting(row, core),
-        Says::Survives => {}
     }
 }
 
@@ -227,14 +197,6 @@ fn stays_lost<S: Served>(
         }
     }
     lost
-}
-
-fn end_said(row: &mut Row<'_>, says: Says, lost: bool) {
-    if says == Says::Survives {
-        row.say("survives");
-    } else if lost {
-        row.fail(RowError::OutOfMemory);
-    }
 }
 
 /// What a core is sent for a step.
@@ -343,12 +305,11 @@ fn exchange<S: Served>(
 
 /// Whether the settings are strict and EDNS is on, whether cookies are on, how many addresses are denied, and the limit
 /// of connections.
-fn settings(row: &mut Row<'_>) -> Result<(), RowError> {
+fn settings(row: &mut Row<'_>) {
     let settings = Settings::new(row.alloc());
     row.show(&settings.strict);
     row.show(&settings.edns);
     row.show(&settings.cookies.is_some());
     row.show(&settings.denied.as_slice().len());
-    row.show(&settings.stream.max_concurrent_connections());
-    Ok(())
+    row.show(&settings.stream.max_concurrent_connections())
 }

@@ -1,59 +1,48 @@
-//! Rows of floods, and of how often a service is called and polled.
+//! Rows of floods, of how often a service is called and polled, and of a target.
 
 ghost use Rattle.dns_service.specs.Transport.{hint_of};
 ghost use Rattle.dns_service.specs.declared.service.Polled.TheVariants.{Pending};
 
-use crate::event_rows::event_said;
-use crate::run_rows::said_of_run;
-use crate::texts::parted;
-use dns_core::{Settings, serve_events};
-use dns_name::{IpAddr, Octets, SocketAddr};
-use dns_outside::MemorySource;
-use dns_server::{NotifyRules, ScriptTarget, event_at, next_number};
-use dns_service::{Event, EventKind, Once, OutOfMemory, Polled, ReplyFuture, Request, Service};
+use crate::texts::next_text;
+use crate::trace_rows::said_again;
+use dns_core::{Notifiable, Settings, VerdictFuture, serve_events};
+use dns_name::{Class, IpAddr, Name};
+use dns_run::{NotifyRules, ScriptTarget, event_at, next_number};
+use dns_service::{Event, Once, OutOfMemory, Polled, ReplyFuture, Request, Service};
+use dns_trace::read_trace;
 use rows_table::{Calls, Row, RowError};
 use std::alloc::Global;
 use std::cell::Cell;
+use std::sync::Arc;
 
-/// Floods, and a service that counts.
+/// Events of floods, the number that follows a number of their generator, a service that counts, and a target.
 pub(crate) struct FloodRows;
 
 impl Calls for FloodRows {
     fn answer(&self, call: &str, row: &mut Row<'_>) -> Result<(), RowError> {
         match call {
-            "command" => of_command(row),
-            "next_number" => following(row),
-            "event_at" => made(row),
+            "next_number" => {
+                let number = row.number();
+                row.show(&next_number(number))
+            }
+            "event_at" => return made(row),
             "poll_count" => poll_count(row),
-            _ => Err(RowError::NoSuchCall),
+            "arc_target" => of_arc(row),
+            _ => return Err(RowError::NoSuchCall),
         }
+        Ok(())
     }
 }
 
-/// How the run of the words ends over an empty script where a write fails, or none, whether anything was read, and what it
-/// writes.
-fn of_command(row: &mut Row<'_>) -> Result<(), RowError> {
-    let failing = row.optional();
-    let all = row.all_words();
-    let words = parted(row, all, ' ');
-    let mut source = MemorySource::new(row.copied(b"#"), Vec::new(row.alloc()), 40);
-    said_of_run(row, &words, failing, &mut source)
-}
-
-/// The number that follows a number of the generator.
-fn following(row: &mut Row<'_>) -> Result<(), RowError> {
-    let number = row.number();
-    row.show(&next_number(number));
-    Ok(())
-}
-
-/// The event of a place, by a number of the generator.
+/// The event of a place, by a number of the generator, in a trace of the default settings.
 fn made(row: &mut Row<'_>) -> Result<(), RowError> {
     let place = row.number();
     let number = row.number();
-    let event = event_at(row.alloc(), place, number)?;
-    event_said(row, &event);
-    Ok(())
+    let settings = Settings::new(row.alloc());
+    match event_at(row.alloc(), place, number) {
+        Ok(event) => said_again(row, &settings, &[event]),
+        Err(OutOfMemory) => Err(RowError::OutOfMemory),
+    }
 }
 
 /// Counts its calls, and the polls of its futures, of which none is ever ready.
@@ -95,72 +84,75 @@ impl<'a> ReplyFuture for Never<'a> {
     }
 }
 
-/// An event of a client at moment 0.
-fn event(client: u64, kind: EventKind) -> Event {
-    Event {
-        at: 0,
-        secs: 0,
-        client,
-        kind,
+/// The events of a trace: how many outputs there are, how often the service was called, and how often its futures were polled.
+fn poll_count(row: &mut Row<'_>) {
+    let text = next_text(row);
+    match read_trace(row.alloc(), &text) {
+        Ok((settings, events)) => counted(row, &settings, &events),
+        Err(_) => row.fail(RowError::OutOfForm),
     }
-}
-
-/// A connection is offered, and octets come.
-fn begin(row: &mut Row<'_>, events: &mut Vec<Event>, client: u64, octets: &[u8]) {
-    let ip = IpAddr::V4([192, 0, 2, 1]);
-    let addr = SocketAddr { ip, port: 53 };
-    row.keep(events.push(event(client, EventKind::Offer { addr })));
-    let octets = Octets::from_vec(row.copied(octets));
-    row.keep(events.push(event(client, EventKind::Piece(octets))))
-}
-
-/// The first request of a connection is polled.
-fn turn(row: &mut Row<'_>, events: &mut Vec<Event>, client: u64) {
-    row.keep(events.push(event(client, EventKind::Turn { request: 0 })))
-}
-
-/// Two connections with these octets each, whose first requests are polled so many times in turn: how many outputs there are,
-/// how often the service was called, and how often its futures were polled.
-fn poll_count(row: &mut Row<'_>) -> Result<(), RowError> {
-    let times: u32 = row.number();
-    let frame = row.octets();
-    let mut events = Vec::new(row.alloc());
-    begin(row, &mut events, 1, frame);
-    begin(row, &mut events, 2, frame);
-    for _ in 0..times {
-        turn_both(row, &mut events);
-    }
-    counted(row, &events)
-}
-
-/// The first request of each connection is polled.
-fn turn_both(row: &mut Row<'_>, events: &mut Vec<Event>) {
-    turn(row, events, 1);
-    turn(row, events, 2)
 }
 
 /// How many outputs there are, how often a service was called, and how often its futures were polled.
-fn counted(row: &mut Row<'_>, events: &[Event]) -> Result<(), RowError> {
+fn counted(row: &mut Row<'_>, settings: &Settings, events: &[Event]) {
     let calls = Cell::new(0);
     let polls = Cell::new(0);
     let service = Counting {
         calls: &calls,
         polls: &polls,
     };
-    let count = output_count(row.alloc(), service, events)?;
-    row.show(&count);
-    row.show(&calls.get());
-    row.show(&polls.get());
-    Ok(())
+    match output_count(row.alloc(), settings, service, events) {
+        Ok(count) => {
+            row.show(&count);
+            row.show(&calls.get());
+            row.show(&polls.get())
+        }
+        Err(OutOfMemory) => row.fail(RowError::OutOfMemory),
+    }
 }
 
 /// How many outputs there are of a service's answers.
 fn output_count(
     alloc: Global,
+    settings: &Settings,
     service: Counting<'_>,
     events: &[Event],
 ) -> Result<usize, OutOfMemory> {
     let target = ScriptTarget::new(NotifyRules::new(alloc));
-    let outputs = serve_events(alloc, &Settings::new(alloc), service, target, events)?;
+    let outputs = serve_events(alloc, settings, service, target, events)?;
     Ok(outputs.len())
+}
+
+/// The verdict of a target of no rules that is shared, on a change of the root zone.
+fn of_arc(row: &mut Row<'_>) {
+    let target = ScriptTarget::new(NotifyRules::new(row.alloc()));
+    match Arc::new(row.alloc(), target) {
+        Ok(target) => verdict(row, &target),
+        Err(_) => row.fail(RowError::OutOfMemory),
+    }
+}
+
+/// The verdict on a change of the root zone.
+fn verdict<N: Notifiable>(row: &mut Row<'_>, target: &N) {
+    match Name::root(row.alloc()) {
+        Ok(root) => verdict_on(row, target, &root),
+        Err(_) => row.fail(RowError::OutOfMemory),
+    }
+}
+
+fn verdict_on<N: Notifiable>(row: &mut Row<'_>, target: &N, apex: &Name) {
+    let source = IpAddr::V4([192, 0, 2, 1]);
+    match target.notify_zone_changed(row.alloc(), Class::IN, apex, None, source) {
+        Ok(future) => verdict_said(row, future),
+        Err(OutOfMemory) => row.fail(RowError::OutOfMemory),
+    }
+}
+
+fn verdict_said<F: VerdictFuture>(row: &mut Row<'_>, future: F) {
+    let mut future = future;
+    match future.poll(row.alloc()) {
+        Ok(Polled::Ready(verdict)) => row.debug(&verdict),
+        Ok(Polled::Pending) => row.say("pending"),
+        Err(OutOfMemory) => row.fail(RowError::OutOfMemory),
+    }
 }

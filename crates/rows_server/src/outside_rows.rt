@@ -5,7 +5,6 @@ use dns_outside::{
     read_all, write_all,
 };
 use rows_table::{Calls, Row, RowError};
-use std::alloc::Global;
 
 /// Sources and sinks.
 pub(crate) struct OutsideRows;
@@ -17,20 +16,12 @@ impl Calls for OutsideRows {
             "writing" => writing(row),
             "memory_source" => memory_source(row),
             "memory_sink" => memory_sink(row),
-            _ => return of_steady(call, row),
+            "steady_source" => steady_source(row),
+            "steady_sink" => steady_sink(row),
+            _ => return Err(RowError::NoSuchCall),
         }
         Ok(())
     }
-}
-
-/// The calls of sources and sinks that never fail.
-fn of_steady(call: &str, row: &mut Row<'_>) -> Result<(), RowError> {
-    match call {
-        "steady_source" => steady_source(row),
-        "steady_sink" => steady_sink(row),
-        _ => return Err(RowError::NoSuchCall),
-    }
-    Ok(())
 }
 
 /// What three reads of two octets give of a slice.
@@ -46,17 +37,12 @@ fn reading(row: &mut Row<'_>) {
 fn one_read<S: Source>(row: &mut Row<'_>, source: &mut S) {
     let mut buf = [0u8; 2];
     match source.read(&mut buf) {
-        SourceRead::Got(count) => begin_said(row, &buf, count),
+        SourceRead::Got(count) => match buf.get(..count) {
+            Some(got) => row.hexadecimal(got),
+            None => row.fail(RowError::OutOfForm),
+        },
         SourceRead::End => row.say("End"),
         SourceRead::Failed => row.say("Failed"),
-    }
-}
-
-/// So many octets of a buffer.
-fn begin_said(row: &mut Row<'_>, buf: &[u8], count: usize) {
-    match buf.get(..count) {
-        Some(got) => row.hexadecimal(got),
-        None => row.fail(RowError::OutOfForm),
     }
 }
 
@@ -79,30 +65,21 @@ fn say_whole<S: Source>(row: &mut Row<'_>, source: &mut S) {
 }
 
 /// The numbers of the calls that fail: the one, where there is one.
-pub(crate) fn failing(alloc: Global, number: Option<u64>) -> Result<Vec<u64>, RowError> {
-    Ok(number.into_iter().collect(alloc)?)
-}
-
-/// The numbers of the calls that fail: the one of the next word.
-fn next_failing(row: &mut Row<'_>) -> Vec<u64> {
+pub(crate) fn failing(row: &mut Row<'_>, number: Option<u64>) -> Vec<u64> {
     let mut numbers = Vec::new(row.alloc());
-    let number = row.number();
-    row.keep(numbers.push(number));
+    if let Some(number) = number {
+        row.keep(numbers.push(number));
+    }
     numbers
 }
 
 /// A source of which one call fails and which gives so many octets a call is read whole twice: what the first gives, what
 /// is left then, and what the second gives.
 fn memory_source(row: &mut Row<'_>) {
-    let failing = next_failing(row);
+    let number = row.number();
+    let failing = failing(row, Some(number));
     let most = row.number();
-    let source = MemorySource::new(row.vector(), failing, most);
-    read_twice(row, source)
-}
-
-/// The same of a source.
-fn read_twice(row: &mut Row<'_>, source: MemorySource) {
-    let mut source = source;
+    let mut source = MemorySource::new(row.vector(), failing, most);
     say_whole(row, &mut source);
     row.hexadecimal(source.left());
     say_whole(row, &mut source)
@@ -117,7 +94,8 @@ fn say_written(row: &mut Row<'_>, sink: &mut MemorySink) {
 
 /// Two pieces are written whole to a sink of which one call fails and which takes so many octets a call.
 fn memory_sink(row: &mut Row<'_>) {
-    let failing = next_failing(row);
+    let number = row.number();
+    let failing = failing(row, Some(number));
     let mut sink = MemorySink::new(Vec::new(row.alloc()), failing, row.number());
     say_written(row, &mut sink);
     say_written(row, &mut sink)

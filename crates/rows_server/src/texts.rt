@@ -35,23 +35,18 @@ pub(crate) fn say_text(row: &mut Row<'_>, octets: &[u8]) {
     row.say(text.as_str());
 }
 
-/// Says octets as lines, behind what stands there with no space between.
-pub(crate) fn close_text(row: &mut Row<'_>, octets: &[u8]) {
-    let text = text_of(row, octets);
-    row.close(text.as_str());
-}
-
-/// Says octets as lines, in brackets.
+/// Says octets as lines, in brackets behind what stands there.
 pub(crate) fn say_in_brackets(row: &mut Row<'_>, octets: &[u8]) {
+    let text = text_of(row, octets);
     row.close("(");
-    close_text(row, octets);
+    row.close(text.as_str());
     row.close(")");
 }
 
-/// The words of a command line, which this character parts.
-pub(crate) fn parted(row: &mut Row<'_>, all: &str, parted: char) -> Vec<String> {
+/// The words of a command line, which commas part.
+pub(crate) fn parted(row: &mut Row<'_>, all: &str) -> Vec<String> {
     let mut words = Vec::new(row.alloc());
-    for word in all.split(parted) {
+    for word in all.split(',') {
         keep_word(row, &mut words, word);
     }
     words

@@ -3,35 +3,20 @@
 use crate::texts::{next_text, say_text};
 use dns_service::Event;
 use dns_trace::{TraceError, TraceSettings, TraceWriter, read_trace};
-use rows_table::{Calls, Row, RowError};
+use rows_table::{Row, RowError};
 use std::alloc::Global;
 
-/// Traces that are read and written again.
-pub(crate) struct TraceRows;
-
-impl Calls for TraceRows {
-    fn answer(&self, call: &str, row: &mut Row<'_>) -> Result<(), RowError> {
-        match call {
-            "read_trace" => trace(row),
-            _ => Err(RowError::NoSuchCall),
-        }
-    }
-}
-
 /// The text that is written of what a text says, or its first bad line and the reason.
-fn trace(row: &mut Row<'_>) -> Result<(), RowError> {
+pub(crate) fn trace_of(row: &mut Row<'_>) -> Result<(), RowError> {
     let text = next_text(row);
-    trace_of(row, &text)
-}
-
-fn trace_of(row: &mut Row<'_>, text: &[u8]) -> Result<(), RowError> {
-    match read_trace(row.alloc(), text) {
+    match read_trace(row.alloc(), &text) {
         Ok((settings, events)) => said_again(row, &settings, &events),
         Err(error) => refused(row, error),
     }
 }
 
-fn said_again(
+/// The text of settings and events.
+pub(crate) fn said_again(
     row: &mut Row<'_>,
     settings: &TraceSettings,
     events: &[Event],

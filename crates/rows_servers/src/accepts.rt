@@ -3,17 +3,15 @@
 ghost use Rattle.std.specs.Prelude.{◌≡◌};
 ghost use Rattle.std.specs.Arc.{arc_value};
 
-use crate::holding::Holding;
-use crate::links::{Marking, Seen, SeenLink, show};
-use crate::places::{accept_of, book_of};
-use crate::servers::{ANSWER, FRAME, layered};
-use crate::trials::ended;
+use crate::servers::{ANSWER, FRAME, target};
 use crate::watched::WatchedAccept;
 use dns_book::{Book, BookSeat};
+use dns_middleware::{Notifiable, Settings, wrap};
 use dns_name::{OptRcode, OutOfMemory};
-use dns_outside::{MemoryAccept, MemoryClock, MemorySpawner, Spawner};
-use dns_servers::{AcceptEnd, ConnectionWork, Silent, serve_accepts};
-use dns_service::{Plainly, Served};
+use dns_outside::{AsyncAccept, Clock, MemoryAccept, MemorySpawner, Spawner};
+use dns_servers::{AcceptEnd, ConnectionWork, PreConnect, Silent, serve_accepts};
+use dns_service::{Plainly, Served, Service};
+use rows_links::{Holding, Marking, Seen, SeenLink, accept_of, book_of, clock, show};
 use std::alloc::Global;
 use std::sync::atomic::{AtomicBool, Ordering};
 use std::sync::{Arc, Wait};
@@ -112,99 +110,99 @@ where
     W::Stream: Send,
 {
     /// How the loop ends, and the seat that it gives back. Polls that are held go on then, and all work is joined.
-    fn accept<P: Spawner<ConnectionWork<SeenLink<R>, MemoryClock, Silent, W>>>(
+    fn accept<
+        A: AsyncAccept,
+        C: Clock + Send + Drop + 'static,
+        P: Spawner<ConnectionWork<A::Link, C, Silent, W>>,
+        H: PreConnect<A::Link>,
+    >(
         &self,
         book: &Arc<Book>,
         seat: BookSeat,
-        accept: &mut WatchedLinks<R>,
-        clock: &MemoryClock,
+        accept: &mut A,
+        clock: &C,
         spawner: &mut P,
+        hook: &H,
     ) -> (BookSeat, AcceptEnd)
+    where
+        A::Link: Send + Drop + 'static,
         requires book { seat.book ≡ arc_value book.now }
         requires can_call { W.can_call (arc_value self.now.service.now) }
         ensures { result.0.book ≡ seat.book }
     {
         let (rt, alloc, service, count) = (self.rt, self.alloc, self.service, self.case.count);
         let served = serve_accepts(
-            rt, alloc, book, seat, service, accept, clock, spawner, &Marking, count,
+            rt, alloc, book, seat, service, accept, clock, spawner, hook, count,
         );
         self.flag.store(true, Ordering::SeqCst);
         spawner.join_all(rt);
         served
     }
 
-    /// The same by a spawner in memory.
-    fn accept_by(
+    /// The same by a clock and a spawner in memory.
+    fn accept_in<A: AsyncAccept, H: PreConnect<A::Link>>(
         &self,
         book: &Arc<Book>,
         seat: BookSeat,
-        accept: &mut WatchedLinks<R>,
-        clock: &MemoryClock,
+        accept: &mut A,
+        hook: &H,
     ) -> (BookSeat, AcceptEnd)
+    where
+        A::Link: Send + Drop + 'static,
         requires book { seat.book ≡ arc_value book.now }
         requires can_call { W.can_call (arc_value self.now.service.now) }
         ensures { result.0.book ≡ seat.book }
     {
+        let clock = clock(self.alloc);
         let mut spawner = MemorySpawner::new(self.alloc, Vec::new(self.alloc));
-        self.accept(book, seat, accept, clock, &mut spawner)
-    }
-
-    /// The same by a clock in memory.
-    fn accept_in(
-        &self,
-        book: &Arc<Book>,
-        seat: BookSeat,
-        accept: &mut WatchedLinks<R>,
-    ) -> (BookSeat, AcceptEnd)
-        requires book { seat.book ≡ arc_value book.now }
-        requires can_call { W.can_call (arc_value self.now.service.now) }
-        ensures { result.0.book ≡ seat.book }
-    {
-        let clock = MemoryClock::new(Vec::new(self.alloc));
-        self.accept_by(book, seat, accept, &clock)
+        self.accept(book, seat, accept, &clock, &mut spawner, hook)
     }
 
     /// How the loop ends in a book, which may be shut down before, and how many slots are taken then.
-    fn end_in(
+    fn end_in<A: AsyncAccept, H: PreConnect<A::Link>>(
         &self,
         book: &Arc<Book>,
         mut seat: BookSeat,
-        accept: &mut WatchedLinks<R>,
+        accept: &mut A,
+        hook: &H,
     ) -> (AcceptEnd, u64)
+    where
+        A::Link: Send + Drop + 'static,
         requires book { seat.book ≡ arc_value book.now }
         requires can_call { W.can_call (arc_value self.now.service.now) }
     {
         if self.case.is_shut {
             book.shutdown(self.rt, &mut seat);
         }
-        let (mut seat, end) = self.accept_in(book, seat, accept);
+        let (mut seat, end) = self.accept_in(book, seat, accept, hook);
         (end, book.look(self.rt, &mut seat).taken)
     }
 
     /// The same in a book with two slots.
-    fn end(&self, accept: &mut WatchedLinks<R>) -> (AcceptEnd, u64)
+    fn end<A: AsyncAccept, H: PreConnect<A::Link>>(
+        &self,
+        accept: &mut A,
+        hook: &H,
+    ) -> (AcceptEnd, u64)
+    where
+        A::Link: Send + Drop + 'static,
         requires { W.can_call (arc_value self.now.service.now) }
     {
         match book_of(self.alloc, 2) {
-            Ok((book, seat)) => self.end_in(&book, seat, accept),
+            Ok((book, seat)) => self.end_in(&book, seat, accept, hook),
             Err(_) => (AcceptEnd::OutOfMemory, 1),
         }
     }
 
-    /// Whether the loop over this accept object ends as is wanted.
-    fn ends(&self, mut accept: WatchedLinks<R>) -> bool
-        requires { W.can_call (arc_value self.now.service.now) }
-    {
-        let end = self.end(&mut accept);
-        self.case.is_ended(end, &accept)
-    }
-
-    /// The same over an accept object of its own.
+    /// Whether the loop over an accept object of its own ends as is wanted.
     fn ends_over(&self, seen: &mut Vec<Arc<Seen>>) -> bool
         requires { W.can_call (arc_value self.now.service.now) }
     {
         match self.case.links(*self.rt, self.alloc, seen) {
-            Ok(accept) => self.ends(accept),
+            Ok(mut accept) => {
+                let end = self.end(&mut accept, &Marking);
+                self.case.is_ended(end, &accept)
+            }
             Err(_) => false,
         }
     }
@@ -319,12 +317,6 @@ fn all_hold<R: Threads + Wait + Copy + Send + Sync + Drop + 'static>(
     Ok(())
 }
 
-/// Each loop ends as is wanted of it.
-#[test]
-fn each_case_is_served(rt: HostRuntime) -> Result<(), &'static str> {
-    all_hold(&rt, rt.alloc(), CASES)
-}
-
 /// One connection, whose query has an OPT record.
 const LAYERED: &AcceptCase<'static> = &AcceptCase {
     queries: &[FRAME],
@@ -334,19 +326,42 @@ const LAYERED: &AcceptCase<'static> = &AcceptCase {
     ..THREE
 };
 
-/// Whether it is served so by a service in all layers.
-fn is_layered<R: Threads + Wait + Copy + Send + Sync + Drop + 'static>(
-    rt: &R,
-    alloc: Global,
-) -> bool {
-    match layered(alloc, OptRcode::NOERROR) {
-        Ok(service) => is_served(rt, alloc, LAYERED, service, &AtomicBool::new(false)),
+/// Whether a case is served as is wanted by a service in all layers.
+fn is_wrapped<
+    R: Threads + Wait + Copy + Send + Sync + Drop + 'static,
+    S: Service<()> + Send + Sync + 'static,
+    N: Notifiable + Send + Sync + 'static,
+>(rt: &R, alloc: Global, case: &AcceptCase<'_>, service: S, target: N) -> bool
+where
+    S::Future: Send,
+    S::Stream: Send,
+    N::Future: Send,
+    requires { S.can_call service }
+{
+    let flag = AtomicBool::new(false);
+    match wrap(alloc, &Settings::new(alloc), service, target) {
+        Ok(service) => is_served(rt, alloc, case, Plainly { service }, &flag),
         Err(_) => false,
     }
 }
 
-/// A connection to a service in all layers gets its frame.
+/// Whether that connection is by one that answers that all is well.
+fn is_layered<R: Threads + Wait + Copy + Send + Sync + Drop + 'static>(
+    rt: &R,
+    alloc: Global,
+) -> bool {
+    match Holding::new(alloc, false, OptRcode::NOERROR) {
+        Ok(service) => is_wrapped(rt, alloc, LAYERED, service, target(alloc)),
+        Err(_) => false,
+    }
+}
+
+/// Each loop ends as is wanted of it.
 #[test]
-fn a_connection_is_answered(rt: HostRuntime) -> Result<(), &'static str> {
-    ended(is_layered(&rt, rt.alloc()))
+fn each_case_is_served(rt: HostRuntime) -> Result<(), &'static str> {
+    // A connection to a service in all layers gets its frame.
+    if !is_layered(&rt, rt.alloc()) {
+        return Err("a_connection_is_answered");
+    }
+    all_hold(&rt, rt.alloc(), CASES)
 }

@@ -2,20 +2,20 @@
 
 ghost use Rattle.std.specs.Prelude.{◌≡◌};
 
-use crate::holding::Holding;
-use crate::places::let_go;
 use crate::servers::{connections, datagrams};
-use crate::trials::ended;
 use dns_name::{IpAddr, OptRcode, SocketAddr};
 use dns_outside::{
     AsyncAccept, AsyncDgramSock, Clock, HostClock, MioAccept, MioSock, Spawner, ThreadSpawner,
 };
 use dns_servers::{
-    ConnectionWork, Control, DgramEnd, DgramServer, Metered, ServerMetrics, Silent, StreamEnd,
-    StreamServer, VecBufSource,
+    ConnectionWork, Control, DgramEnd, DgramServer, Metered, Silent, StreamEnd, StreamServer,
+    VecBufSource,
 };
 use dns_service::{Plainly, Served};
+use rows_links::{Holding, let_go};
 use std::alloc::Global;
+use std::net::Net;
+use std::rt;
 use std::sync::Wait;
 use std::thread::Threads;
 
@@ -40,22 +40,7 @@ fn ends_shut<R: Wait, D: AsyncDgramSock + Drop, C: Clock + Drop, W: Served>(
 {
     shut(rt, server.control(rt));
     let end = server.run(rt, alloc, &mut Silent);
-    end == DgramEnd::Shutdown && received_none(server.metrics())
-}
-
-/// The same, and it is let go then.
-fn has_ended<R: Wait, D: AsyncDgramSock + Drop, C: Clock + Drop, W: Served>(
-    rt: &R,
-    alloc: Global,
-    mut server: DgramServer<D, VecBufSource, W, C>,
-) -> bool
-    requires { W.can_call server.service }
-{
-    ends_shut(rt, alloc, &mut server)
-}
-
-fn received_none(metrics: &ServerMetrics) -> bool {
-    metrics.num_received_requests() == 0
+    end == DgramEnd::Shutdown && server.metrics().num_received_requests() == 0
 }
 
 /// The same of a server over this socket.
@@ -69,7 +54,7 @@ fn udp_over<R: Wait, D: AsyncDgramSock + Drop, C: Clock + Drop, W: Served>(
     requires { W.can_call service }
 {
     match datagrams(alloc, sock, clock, service) {
-        Ok(server) => has_ended(rt, alloc, server),
+        Ok(mut server) => ends_shut(rt, alloc, &mut server),
         Err(_) => false,
     }
 }
@@ -87,12 +72,11 @@ fn udp_ends<R: Wait, D: AsyncDgramSock + Drop, C: Clock + Drop>(
     }
 }
 
-/// A server over a UDP socket ends once it is shut down.
-#[test]
-fn a_udp_server_ends(rt: HostRuntime) -> Result<(), &'static str> {
-    match MioSock::bind(&rt, rt.alloc(), HERE) {
-        Ok(sock) => ended(udp_ends(&rt, rt.alloc(), sock, HostClock::new(rt))),
-        Err(_) => Err("not bound"),
+/// Whether a server over a UDP socket ends once it is shut down.
+fn udp_holds<R: Net + rt::Clock + Wait + Copy>(rt: R, alloc: Global) -> bool {
+    match MioSock::bind(&rt, HERE) {
+        Ok(sock) => udp_ends(&rt, alloc, sock, HostClock::new(rt)),
+        Err(_) => false,
     }
 }
 
@@ -121,14 +105,8 @@ where
         requires { W.can_call self.old.server.service }
     {
         shut(self.rt, self.server.control(self.rt));
-        self.runs()
-    }
-
-    fn runs(&mut self) -> bool
-        requires { W.can_call self.old.server.service }
-    {
         let end = self.server.run(self.rt, self.alloc);
-        end == StreamEnd::Shutdown && has_none(self.server.metrics())
+        end == StreamEnd::Shutdown && self.server.metrics().num_connections() == 0
     }
 
     /// The same, and it is let go then.
@@ -151,23 +129,24 @@ where
     }
 }
 
-fn has_none(metrics: &ServerMetrics) -> bool {
-    metrics.num_connections() == 0
-}
-
-/// The same by a service that answers at once, with a thread for each connection.
-fn tcp_by<
+/// The same by a service, with a thread for each connection.
+fn tcp_over<
     R: Threads + Wait + Copy + Send + 'static,
     A: AsyncAccept + Drop,
     C: Clock + Send + Drop + 'static,
->(rt: &R, alloc: Global, accept: A, clock: C, service: Holding) -> bool
+    W: Served + Send + Sync + 'static,
+>(rt: &R, alloc: Global, accept: A, clock: C, service: W) -> bool
 where
     A::Link: Send + Drop + 'static,
+    W::Future: Send,
+    W::Stream: Send,
+    requires { W.can_call service }
 {
     let spawner = ThreadSpawner::new(alloc);
-    Closing::ends_over(rt, alloc, accept, clock, spawner, Plainly { service })
+    Closing::ends_over(rt, alloc, accept, clock, spawner, service)
 }
 
+/// The same by a service that answers at once.
 fn tcp_ends<
     R: Threads + Wait + Copy + Send + 'static,
     A: AsyncAccept + Drop,
@@ -177,16 +156,30 @@ where
     A::Link: Send + Drop + 'static,
 {
     match Holding::new(alloc, false, OptRcode::NOERROR) {
-        Ok(service) => tcp_by(rt, alloc, accept, clock, service),
+        Ok(service) => tcp_over(rt, alloc, accept, clock, Plainly { service }),
         Err(_) => false,
     }
 }
 
-/// A server over a TCP listener ends once it is shut down.
-#[test]
-fn a_tcp_server_ends(rt: HostRuntime) -> Result<(), &'static str> {
-    match MioAccept::bind(rt, rt.alloc(), HERE) {
-        Ok(accept) => ended(tcp_ends(&rt, rt.alloc(), accept, HostClock::new(rt))),
-        Err(_) => Err("not bound"),
+/// Whether a server over a TCP listener ends once it is shut down.
+fn tcp_holds<R: Net + rt::Clock + Threads + Wait + Copy + Send + 'static>(
+    rt: R,
+    alloc: Global,
+) -> bool {
+    match MioAccept::bind(&rt, HERE) {
+        Ok(accept) => tcp_ends(&rt, alloc, accept, HostClock::new(rt)),
+        Err(_) => false,
     }
+}
+
+/// Each server ends once it is shut down.
+#[test]
+fn each_server_ends(rt: HostRuntime) -> Result<(), &'static str> {
+    if !udp_holds(rt, rt.alloc()) {
+        return Err("a_udp_server_ends");
+    }
+    if !tcp_holds(rt, rt.alloc()) {
+        return Err("a_tcp_server_ends");
+    }
+    Ok(())
 }

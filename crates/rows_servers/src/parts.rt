@@ -1,6 +1,5 @@
 //! The parts of servers: buffers, commands, metrics and links that count.
 
-use crate::trials::ended;
 use dns_name::OutOfMemory;
 use dns_outside::{Link, LinkRead, LinkWrite, SteadyLink};
 use dns_servers::{BufSource, Metered, ServerCommand, ServerMetrics, VecBufSource};
@@ -31,26 +30,17 @@ fn gives_both(alloc: Global) -> bool {
     }
 }
 
-/// Buffers have 1,024 octets 0, or as many as are asked for, from a source that is shared too.
-#[test]
-fn buffers_are_zeros(rt: HostRuntime) -> Result<(), &'static str> {
-    ended(gives_both(rt.alloc()))
-}
-
-/// A command is copied with what it carries.
-#[test]
-fn a_command_is_copied(rt: HostRuntime) {
+/// Whether a command is copied with what it carries.
+fn is_copied() -> bool {
     let command = ServerCommand::Reconfigure(3u8);
     let copy = command;
-    assert!(&rt;
-        matches!(
-            (command, copy),
-            (ServerCommand::Reconfigure(3), ServerCommand::Reconfigure(3))
-        )
-    );
+    matches!(
+        (command, copy),
+        (ServerCommand::Reconfigure(3), ServerCommand::Reconfigure(3))
+    )
 }
 
-/// Whether each number is set, raised and lowered alone.
+/// Whether each number is set, raised and lowered alone, and 1 less than 0 is the largest number.
 fn stand_alone(metrics: &ServerMetrics) -> bool {
     metrics.inc_num_connections();
     metrics.set_num_inflight_requests(5);
@@ -66,23 +56,11 @@ fn stand_alone(metrics: &ServerMetrics) -> bool {
         && metrics.num_sent_responses() == 7
 }
 
-/// Each number is set, raised and lowered alone, and 1 less than 0 is the largest number.
-#[test]
-fn numbers_stand_alone(rt: HostRuntime) {
-    assert!(&rt; stand_alone(&ServerMetrics::connection_oriented()));
-}
-
-/// Whether the number of connections stays 0.
+/// Whether the number of connections stays 0, which metrics without connections show.
 fn leave_out(metrics: &ServerMetrics) -> bool {
     metrics.inc_num_connections();
     metrics.set_num_connections(9);
     metrics.num_connections() == 0 && metrics.num_sent_responses() == 0
-}
-
-/// Metrics without connections show none.
-#[test]
-fn connections_may_be_left_out(rt: HostRuntime) {
-    assert!(&rt; leave_out(&ServerMetrics::default()));
 }
 
 /// Octets of frames: one of three octets, two empty ones, one of one octet, and one that isn't whole.
@@ -143,8 +121,30 @@ fn counts(alloc: Global) -> bool {
     }
 }
 
-/// A link counts frames whose length or message comes in pieces, empty ones too, and the connection until it is closed.
+/// What a test ends with, where all parts do as is wanted, and else the name of the first that doesn't.
+fn all_hold(alloc: Global) -> Result<(), &'static str> {
+    // Buffers have 1,024 octets 0, or as many as are asked for, from a source that is shared too.
+    if !gives_both(alloc) {
+        return Err("buffers_are_zeros");
+    }
+    if !is_copied() {
+        return Err("a_command_is_copied");
+    }
+    if !stand_alone(&ServerMetrics::connection_oriented()) {
+        return Err("numbers_stand_alone");
+    }
+    if !leave_out(&ServerMetrics::default()) {
+        return Err("connections_may_be_left_out");
+    }
+    // A link counts frames whose length or message comes in pieces, empty ones too, and the connection until it is closed.
+    if !counts(alloc) {
+        return Err("a_link_counts_frames");
+    }
+    Ok(())
+}
+
+/// Each part does as is wanted.
 #[test]
-fn a_link_counts_frames(rt: HostRuntime) -> Result<(), &'static str> {
-    ended(counts(rt.alloc()))
+fn each_part_holds(rt: HostRuntime) -> Result<(), &'static str> {
+    all_hold(rt.alloc())
 }

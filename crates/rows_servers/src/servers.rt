@@ -6,20 +6,17 @@ mod answering;
 mod controls;
 mod mailing;
 
-use crate::holding::Holding;
-use crate::links::{Marking, links_of, show};
-use crate::places::{PEER, clock, let_go, letter};
-use crate::trials::ended;
 use answering::Answering;
-use dns_middleware::{Settings, Wrapped, wrap};
+use dns_middleware::{Notifiable, Settings, wrap};
 use dns_name::{OptRcode, OutOfMemory, SocketAddr};
 use dns_outside::{
     AsyncAccept, AsyncDgramSock, Clock, Link, MemorySpawner, SteadyAccept, SteadyLink, SteadySock,
 };
-use dns_server::{NotifyRules, ScriptTarget};
+use dns_script::{NotifyRules, ScriptTarget};
 use dns_servers::{DgramServer, NoHook, PreConnect, StreamServer, VecBufSource};
-use dns_service::{Plainly, Served};
+use dns_service::{Plainly, Served, Service};
 use mailing::Mailing;
+use rows_links::{Holding, Marking, PEER, clock, let_go, letter, links_of, show};
 use std::alloc::Global;
 use std::collections::VecDeque;
 use std::sync::{Arc, Wait};
@@ -36,15 +33,9 @@ pub const FRAME: &[u8] =
 pub const ANSWER: &[u8] =
     b"\x00\x22\x12\x34\x81\x00\x00\x01\x00\x00\x00\x00\x00\x01\x00\x00\x01\x00\x01\x00\x00\x29\x00\x00\x00\x00\x00\x00\x00\x06\x00\x0b\x00\x02\x01\x2c";
 
-/// A service in all layers, over the target of a script.
-pub type Layered = Plainly<Wrapped<Holding, ScriptTarget>>;
-
-/// A service in all layers that answers with this code.
-pub fn layered(alloc: Global, rcode: OptRcode) -> Result<Layered, OutOfMemory> {
-    let inner = Holding::new(alloc, false, rcode)?;
-    let target = ScriptTarget::new(NotifyRules::new(alloc));
-    let service = wrap(alloc, &Settings::new(alloc), inner, target)?;
-    Ok(Plainly { service })
+/// A target of no rules.
+pub fn target(alloc: Global) -> ScriptTarget {
+    ScriptTarget::new(NotifyRules::new(alloc))
 }
 
 /// A server of datagrams over this socket.
@@ -95,19 +86,7 @@ impl DgramCase {
         }
     }
 
-    /// The same, and the server is let go then.
-    fn was_served<R: Threads + Wait + Sync, W: Served>(
-        &self,
-        mut mailing: Mailing<'_, R, W>,
-    ) -> bool
-        requires { W.can_call mailing.server.service }
-    {
-        let held = self.is_served(&mut mailing);
-        let_go(mailing);
-        held
-    }
-
-    /// The same of a server over this socket.
+    /// The same of a server over this socket, which is let go then.
     fn is_served_over<R: Threads + Wait + Sync, W: Served>(
         &self,
         rt: &R,
@@ -118,7 +97,12 @@ impl DgramCase {
         requires { W.can_call service }
     {
         match datagrams(alloc, sock, clock(alloc), service) {
-            Ok(server) => self.was_served(Mailing { rt, alloc, server }),
+            Ok(server) => {
+                let mut mailing = Mailing { rt, alloc, server };
+                let held = self.is_served(&mut mailing);
+                let_go(mailing);
+                held
+            }
             Err(_) => false,
         }
     }
@@ -140,9 +124,25 @@ impl DgramCase {
 }
 
 /// Whether a case is served as is wanted by a service in all layers.
+fn is_wrapped<R: Threads + Wait + Sync, S: Service<()>, N: Notifiable>(
+    rt: &R,
+    alloc: Global,
+    case: DgramCase,
+    service: S,
+    target: N,
+) -> bool
+    requires { S.can_call service }
+{
+    match wrap(alloc, &Settings::new(alloc), service, target) {
+        Ok(service) => case.is_served_by(rt, alloc, Plainly { service }),
+        Err(_) => false,
+    }
+}
+
+/// The same by one that answers that the name isn't there.
 fn is_layered<R: Threads + Wait + Sync>(rt: &R, alloc: Global, case: DgramCase) -> bool {
-    match layered(alloc, OptRcode::NXDOMAIN) {
-        Ok(service) => case.is_served_by(rt, alloc, service),
+    match Holding::new(alloc, false, OptRcode::NXDOMAIN) {
+        Ok(service) => is_wrapped(rt, alloc, case, service, target(alloc)),
         Err(_) => false,
     }
 }
@@ -182,12 +182,6 @@ fn all_hold<R: Threads + Wait + Sync>(
     Ok(())
 }
 
-/// Each server of datagrams serves as is wanted of it.
-#[test]
-fn each_case_is_served(rt: HostRuntime) -> Result<(), &'static str> {
-    all_hold(&rt, rt.alloc(), CASES)
-}
-
 /// Whether a server of these links in memory, with this hook, answers each by a service.
 fn answers_links<
     R: Threads + Wait + Copy + Send + Sync + 'static,
@@ -217,13 +211,33 @@ fn link(alloc: Global) -> Result<VecDeque<(SteadyLink, SocketAddr)>, OutOfMemory
 }
 
 /// Whether a server of these links, with this hook, answers each by a service in all layers.
+fn answers_wrapped<
+    R: Threads + Wait + Copy + Send + Sync + 'static,
+    L: Link + Send + Drop + 'static,
+    H: PreConnect<L> + Drop,
+    S: Service<()> + Send + Sync + 'static,
+    N: Notifiable + Send + Sync + 'static,
+>(rt: &R, alloc: Global, links: VecDeque<(L, SocketAddr)>, hook: H, service: S, target: N) -> bool
+where
+    S::Future: Send,
+    S::Stream: Send,
+    N::Future: Send,
+    requires { S.can_call service }
+{
+    match wrap(alloc, &Settings::new(alloc), service, target) {
+        Ok(service) => answers_links(rt, alloc, links, hook, Plainly { service }),
+        Err(_) => false,
+    }
+}
+
+/// The same by one that answers that all is well.
 fn answers_layered<
     R: Threads + Wait + Copy + Send + Sync + 'static,
     L: Link + Send + Drop + 'static,
     H: PreConnect<L> + Drop,
 >(rt: &R, alloc: Global, links: VecDeque<(L, SocketAddr)>, hook: H) -> bool {
-    match layered(alloc, OptRcode::NOERROR) {
-        Ok(service) => answers_links(rt, alloc, links, hook, service),
+    match Holding::new(alloc, false, OptRcode::NOERROR) {
+        Ok(service) => answers_wrapped(rt, alloc, links, hook, service, target(alloc)),
         Err(_) => false,
     }
 }
@@ -234,12 +248,6 @@ fn answers_one<R: Threads + Wait + Copy + Send + Sync + 'static>(rt: &R, alloc: 
         Ok(links) => answers_layered(rt, alloc, links, NoHook),
         Err(_) => false,
     }
-}
-
-/// A server of connections answers a query, is shut down, and shows what it counted.
-#[test]
-fn a_connection_is_answered(rt: HostRuntime) -> Result<(), &'static str> {
-    ended(answers_one(&rt, rt.alloc()))
 }
 
 /// Three links that each give the query.
@@ -260,8 +268,16 @@ fn are_hooked<R: Threads + Wait + Copy + Send + Sync + Drop + 'static>(
     }
 }
 
-/// The hook is handed each link that is admitted, once, and each is answered.
+/// Each server serves as is wanted of it.
 #[test]
-fn the_hook_is_called(rt: HostRuntime) -> Result<(), &'static str> {
-    ended(are_hooked(rt, rt.alloc()))
+fn each_case_is_served(rt: HostRuntime) -> Result<(), &'static str> {
+    // A server of connections answers a query, is shut down, and shows what it counted.
+    if !answers_one(&rt, rt.alloc()) {
+        return Err("a_connection_is_answered");
+    }
+    // The hook is handed each link that is admitted, once, and each is answered.
+    if !are_hooked(rt, rt.alloc()) {
+        return Err("the_hook_is_called");
+    }
+    all_hold(&rt, rt.alloc(), CASES)
 }

@@ -7,21 +7,16 @@ pub(crate) fn push_line(text: &mut String, line: &str) -> Result<(), RowError> {
     match line.split_once('{') {
         Some((first, parts)) => {
             text.push_str(first)?;
-            push_parts(text, parts)
+            for part in parts.split('{') {
+                push_part(text, part)?;
+            }
+            Ok(())
         }
         None => Ok(text.push_str(line)?),
     }
 }
 
-/// Appends what each brace opens.
-fn push_parts(text: &mut String, parts: &str) -> Result<(), RowError> {
-    for part in parts.split('{') {
-        push_part(text, part)?;
-    }
-    Ok(())
-}
-
-/// Appends a repetition and what is behind it.
+/// Appends what a brace opens: a repetition and what is behind it.
 fn push_part(text: &mut String, part: &str) -> Result<(), RowError> {
     match part.split_once('}') {
         Some((repetition, rest)) => {
@@ -36,15 +31,12 @@ fn push_part(text: &mut String, part: &str) -> Result<(), RowError> {
 fn push_repetition(text: &mut String, repetition: &str) -> Result<(), RowError> {
     let (piece, times) = repetition.rsplit_once('*').unwrap_or(("", ""));
     match times.parse::<u16>() {
-        Ok(times) => push_times(text, piece, times),
+        Ok(times) => {
+            for _ in 0..times {
+                text.push_str(piece)?;
+            }
+            Ok(())
+        }
         Err(_) => Err(RowError::Repetition),
     }
-}
-
-/// Appends a text so many times.
-fn push_times(text: &mut String, piece: &str, times: u16) -> Result<(), RowError> {
-    for _ in 0..times {
-        text.push_str(piece)?;
-    }
-    Ok(())
 }

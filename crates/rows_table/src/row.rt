@@ -60,7 +60,7 @@ impl<'a> Row<'a> {
     }
 
     /// The value that was read, or else the other one and a fault.
-    fn read<T: Drop>(&mut self, read: Result<T, RowError>, other: T) -> T {
+    pub fn read<T: Drop>(&mut self, read: Result<T, RowError>, other: T) -> T {
         match read {
             Ok(value) => value,
             Err(fault) => {

@@ -42,18 +42,13 @@ fn answered<C: Calls>(calls: &C, row: Row<'_>, wanted: &str, report: &mut Report
     report.compare(&row, wanted)
 }
 
-/// The same of a call and its arguments as a text.
-fn asked<C: Calls>(alloc: Global, calls: &C, asked: &str, wanted: &str, report: &mut Report<'_>) {
-    match pages(alloc, asked) {
-        Ok(pages) => answered(calls, Row::of(alloc, asked, &pages), wanted, report),
-        Err(fault) => report.fail(fault.as_str()),
-    }
-}
-
-/// The same of a row whose repetitions are written out.
+/// The same of a row whose repetitions are written out: a call with its arguments, and what is wanted.
 fn judged<C: Calls>(alloc: Global, calls: &C, row: &str, report: &mut Report<'_>) {
     match row.split_once(" = ") {
-        Some((call, wanted)) => asked(alloc, calls, call, wanted.trim(), report),
+        Some((asked, wanted)) => match pages(alloc, asked) {
+            Ok(pages) => answered(calls, Row::of(alloc, asked, &pages), wanted.trim(), report),
+            Err(fault) => report.fail(fault.as_str()),
+        },
         None => report.fail(RowError::NothingWanted.as_str()),
     }
 }

@@ -2,7 +2,6 @@
 
 ghost use Rattle.std.specs.Prelude.{ℕ, ◌≡◌, ◌+◌, length};
 
-use crate::ended;
 use dns_book::{Admission, Book, BookSeat, BookState, Call, Look, Reply, call_both};
 use dns_service::{DgramConfig, Error, StreamConfig};
 use std::alloc::Global;
@@ -50,12 +49,6 @@ fn stays<R: Wait>(rt: &R, alloc: Global, closed: &Look) -> bool {
     }
 }
 
-/// At the last version no configuration is replaced, and all stays. A closed book says its version.
-#[test]
-fn the_last_version(rt: HostRuntime) -> Result<(), &'static str> {
-    ended(stays(&rt, rt.alloc(), &look(LAST, true, 0, 2)))
-}
-
 /// A configuration where each connection has this budget.
 fn with_budget(count: Option<u32>, window: u64) -> StreamConfig {
     let (_, mut stream) = with_limit(2);
@@ -96,12 +89,6 @@ fn are_shown<R: Wait>(rt: &R, alloc: Global, budgets: &[(Option<u32>, u64)]) -> 
     true
 }
 
-/// At both ends of a budget and of its window, and without a budget.
-#[test]
-fn budgets_are_shown(rt: HostRuntime) -> Result<(), &'static str> {
-    ended(are_shown(&rt, rt.alloc(), BUDGETS))
-}
-
 /// Whether a book with one slot admits one connection, tells the other that it is full, and admits none once it is closed.
 fn admits_one<R: Wait>(rt: &R, book: &Book, seat: &mut BookSeat, taken: &Look) -> bool
     requires { seat.old.book ≡ book.now }
@@ -125,12 +112,6 @@ fn has_one_slot<R: Wait>(rt: &R, alloc: Global, taken: &Look) -> bool {
         Ok((book, mut seat)) => admits_one(rt, &book, &mut seat, taken),
         Err(_) => false,
     }
-}
-
-/// With a limit of one the second admit finds no slot.
-#[test]
-fn one_slot(rt: HostRuntime) -> Result<(), &'static str> {
-    ended(has_one_slot(&rt, rt.alloc(), &look(0, false, 1, 1)))
 }
 
 /// Whether the machine gives these replies in some order of the calls in which each of the two lists keeps its own, and
@@ -237,7 +218,28 @@ fn two_agree<R: Threads + Wait + Sync>(rt: &R, alloc: Global) -> bool {
     always_agree(rt, alloc, BookState::new(dgram, stream), &replace)
 }
 
+/// What the test ends with, where each case holds, and else the name of the first that doesn't.
+fn all_hold<R: Threads + Wait + Sync>(rt: &R, alloc: Global) -> Result<(), &'static str> {
+    // At the last version no configuration is replaced, and all stays. A closed book says its version.
+    if !stays(rt, alloc, &look(LAST, true, 0, 2)) {
+        return Err("the_last_version");
+    }
+    // At both ends of a budget and of its window, and without a budget.
+    if !are_shown(rt, alloc, BUDGETS) {
+        return Err("budgets_are_shown");
+    }
+    // With a limit of one the second admit finds no slot.
+    if !has_one_slot(rt, alloc, &look(0, false, 1, 1)) {
+        return Err("one_slot");
+    }
+    if !two_agree(rt, alloc) {
+        return Err("two_threads");
+    }
+    Ok(())
+}
+
+/// Each case of a book holds.
 #[test]
-fn two_threads(rt: HostRuntime) -> Result<(), &'static str> {
-    ended(two_agree(&rt, rt.alloc()))
+fn each_case_holds(rt: HostRuntime) -> Result<(), &'static str> {
+    all_hold(&rt, rt.alloc())
 }

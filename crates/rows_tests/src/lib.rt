@@ -2,14 +2,10 @@
 //! in memory that fail. It has tests alone.
 #![tactic(auto)]
 
-/// What a test ends with, which holds or doesn't.
-#[cfg(test)]
-fn ended(holds: bool) -> Result<(), &'static str> {
-    holds.then_some(()).ok_or("does not hold")
-}
-
 #[cfg(test)]
 mod book;
+#[cfg(test)]
+mod clocks;
 #[cfg(test)]
 mod loopback;
 #[cfg(test)]

@@ -1,6 +1,5 @@
 //! Forms in memory, at the calls that fail.
 
-use crate::ended;
 use dns_name::{IpAddr, Octets, OutOfMemory, SocketAddr};
 use dns_outside::{
     AcceptAnswer, AsyncAccept, AsyncDgramSock, Clock, DgramRecv, DgramSend, Letter, Link, LinkRead,
@@ -83,13 +82,6 @@ fn a_link_holds(alloc: Global) -> bool {
     }
 }
 
-/// The first read answers Again, the second fails, and then the octets come, two a call, up to the end. Writes take two octets a
-/// call, and the second fails.
-#[test]
-fn a_link_fails_at_its_second_calls(rt: HostRuntime) -> Result<(), &'static str> {
-    ended(a_link_holds(rt.alloc()))
-}
-
 /// Whether the receives of a socket come to these.
 fn receives<D: AsyncDgramSock>(sock: &mut D, buf: &mut [u8], wanted: &[DgramRecv]) -> bool {
     for answer in wanted {
@@ -153,12 +145,6 @@ fn a_socket_holds(alloc: Global) -> bool {
     }
 }
 
-/// The first receive fails, the next gives the datagram, and then none is left; the first of two sends fails.
-#[test]
-fn a_socket_fails_at_its_first_calls(rt: HostRuntime) -> Result<(), &'static str> {
-    ended(a_socket_holds(rt.alloc()))
-}
-
 /// Whether a clock gives these readings.
 fn gives<C: Clock>(clock: &mut C, wanted: &[(u64, u64)]) -> bool {
     for reading in wanted {
@@ -191,12 +177,6 @@ fn goes_on(alloc: Global) -> bool {
 
 fn repeats_the_last(alloc: Global, clock: &mut MemoryClock) -> bool {
     gives(clock, &[FIRST, SECOND, SECOND]) && begins_anew(alloc, clock, FIRST)
-}
-
-/// The listed readings, then the last one again; another clock begins anew.
-#[test]
-fn a_clock_goes_on(rt: HostRuntime) -> Result<(), &'static str> {
-    ended(goes_on(rt.alloc()))
 }
 
 /// What an accept brings: a connection, with the answer to its first read, or none, or a fault.
@@ -277,12 +257,6 @@ fn no_connection_is_lost(alloc: Global) -> bool {
     }
 }
 
-/// The second accept fails, and no connection is lost by that.
-#[test]
-fn connections_come_in_order(rt: HostRuntime) -> Result<(), &'static str> {
-    ended(no_connection_is_lost(rt.alloc()))
-}
-
 /// Whether the connections come from an accept object of which no call fails.
 fn come_steadily(alloc: Global) -> bool {
     match connections(alloc) {
@@ -306,8 +280,34 @@ fn steady_ones_hold(alloc: Global) -> bool {
     come_steadily(alloc) && sends_steadily(&mut SteadySock::new(alloc, Vec::new(alloc)))
 }
 
-/// Forms of which no call fails give what they hold, and then answer Again.
+/// What the test ends with, where each form holds, and else the name of the first that doesn't.
+fn all_hold(alloc: Global) -> Result<(), &'static str> {
+    // The first read answers Again, the second fails, and then the octets come, two a call, up to the end. Writes take two octets a
+    // call, and the second fails.
+    if !a_link_holds(alloc) {
+        return Err("a_link_fails_at_its_second_calls");
+    }
+    // The first receive fails, the next gives the datagram, and then none is left; the first of two sends fails.
+    if !a_socket_holds(alloc) {
+        return Err("a_socket_fails_at_its_first_calls");
+    }
+    // The listed readings, then the last one again; another clock begins anew.
+    if !goes_on(alloc) {
+        return Err("a_clock_goes_on");
+    }
+    // The second accept fails, and no connection is lost by that.
+    if !no_connection_is_lost(alloc) {
+        return Err("connections_come_in_order");
+    }
+    // Forms of which no call fails give what they hold, and then answer Again.
+    if !steady_ones_hold(alloc) {
+        return Err("steady_forms");
+    }
+    Ok(())
+}
+
+/// Each form holds.
 #[test]
-fn steady_forms(rt: HostRuntime) -> Result<(), &'static str> {
-    ended(steady_ones_hold(rt.alloc()))
+fn each_form_holds(rt: HostRuntime) -> Result<(), &'static str> {
+    all_hold(rt.alloc())
 }

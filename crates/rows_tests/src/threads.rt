@@ -2,7 +2,6 @@
 
 ghost use Rattle.std.specs.Prelude.{◌≡◌};
 
-use crate::ended;
 use dns_name::{IpAddr, OutOfMemory, SocketAddr};
 use dns_outside::{MemorySpawner, Spawner, Start, ThreadSpawner, Work};
 use std::alloc::Global;
@@ -135,12 +134,6 @@ const MANY: &Works = &Works {
     sum: 40,
 };
 
-/// The second of three starts is refused: its work is given up, and the others are done before they are joined.
-#[test]
-fn a_refused_start_is_given_up(rt: HostRuntime) -> Result<(), &'static str> {
-    ended(are_done_in_memory(&rt, rt.alloc(), &[1], THREE))
-}
-
 /// Whether threads do these works.
 fn are_done_in_threads<R: Threads + Wait + Copy + Send + 'static>(
     rt: &R,
@@ -150,8 +143,16 @@ fn are_done_in_threads<R: Threads + Wait + Copy + Send + 'static>(
     does(rt, alloc, &mut ThreadSpawner::new(alloc), works)
 }
 
-/// Many works, one after the other, are all done.
+/// Each spawner does its works, and else the first that doesn't is named.
 #[test]
-fn all_work_is_done(rt: HostRuntime) -> Result<(), &'static str> {
-    ended(are_done_in_threads(&rt, rt.alloc(), MANY))
+fn each_spawner_holds(rt: HostRuntime) -> Result<(), &'static str> {
+    // The second of three starts is refused: its work is given up, and the others are done before they are joined.
+    if !are_done_in_memory(&rt, rt.alloc(), &[1], THREE) {
+        return Err("a_refused_start_is_given_up");
+    }
+    // Many works, one after the other, are all done.
+    if !are_done_in_threads(&rt, rt.alloc(), MANY) {
+        return Err("all_work_is_done");
+    }
+    Ok(())
 }

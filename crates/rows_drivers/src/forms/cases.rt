@@ -8,7 +8,7 @@ use crate::forms::nobody::Nobody;
 use crate::forms::services::{Refusal, refuse};
 use crate::forms::watched::Watched;
 use dns_book::{Book, BookSeat, BookState};
-use dns_middleware::{Settings, wrap};
+use dns_middleware::{Notifiable, Settings, wrap};
 use dns_name::{OutOfMemory, Rcode};
 use dns_service::{DgramConfig, Plainly, Served, Service, StreamConfig, service_fn};
 use std::alloc::Global;
@@ -83,11 +83,6 @@ fn is_served<R: Wait, S: Service<()> + Drop, K: Case>(
     }
 }
 
-/// The state of a book with default configurations.
-fn default_state() -> BookState {
-    BookState::new(DgramConfig::new(), StreamConfig::new())
-}
-
 /// The same over this, in a book of its own.
 fn is_served_over<R: Wait, W: Served, K: Case>(
     rt: &R,
@@ -98,7 +93,10 @@ fn is_served_over<R: Wait, W: Served, K: Case>(
 ) -> bool
     requires { W.can_call service.now }
 {
-    match Book::new(alloc, default_state()) {
+    match Book::new(
+        alloc,
+        BookState::new(DgramConfig::new(), StreamConfig::new()),
+    ) {
         Ok((book, seat)) => {
             let desk = Desk {
                 rt,
@@ -107,36 +105,41 @@ fn is_served_over<R: Wait, W: Served, K: Case>(
                 seat,
                 service,
             };
-            is_served_at(desk, case, outside)
+            let end = case.serve_at(desk, outside);
+            case.is_ended(end, outside)
         }
         Err(_) => false,
     }
 }
 
-/// The same at this desk.
-fn is_served_at<R: Wait, W: Served, K: Case>(
-    desk: Desk<'_, R, W>,
-    case: &K,
-    outside: &mut K::Outside,
-) -> bool
-    requires book { desk.seat.book ≡ desk.book.now }
-    requires can_call { W.can_call desk.service.now }
-{
-    let end = case.serve_at(desk, outside);
-    case.is_ended(end, outside)
+/// A case, and what it is served by.
+#[derive(Clone, Copy)]
+pub(crate) enum Trial<K> {
+    /// A service that answers each request with the error reply that the name isn't there.
+    Refused(K),
+    /// A service that counts, and how often it is called and its futures are polled.
+    Counted(K, (u64, u64)),
+    /// A service in all layers that answers each request with the error reply that the name isn't there, where that is said, or
+    /// else that all is well.
+    Layered(K, bool),
 }
 
-/// A case with the service that serves it.
-pub(crate) trait Trial {
-    /// Whether it is served as is wanted.
-    fn holds<R: Wait>(&self, rt: &R, alloc: Global) -> bool;
+impl<K: Case> Trial<K> {
+    /// Whether the case is served as is wanted.
+    fn holds<R: Wait>(&self, rt: &R, alloc: Global) -> bool {
+        match self {
+            Trial::Refused(case) => is_refused(rt, alloc, case),
+            Trial::Counted(case, counts) => is_counted(rt, alloc, case, *counts),
+            Trial::Layered(case, is_missing) => is_layered(rt, alloc, case, *is_missing),
+        }
+    }
 }
 
 /// What a test ends with, where all trials hold, and else the name of the first that doesn't.
-pub(crate) fn all_hold<R: Wait, T: Trial>(
+pub(crate) fn all_hold<R: Wait, K: Case>(
     rt: &R,
     alloc: Global,
-    trials: &[(&'static str, T)],
+    trials: &[(&'static str, Trial<K>)],
 ) -> Result<(), &'static str> {
     for (name, trial) in trials {
         if !trial.holds(rt, alloc) {
@@ -146,52 +149,42 @@ pub(crate) fn all_hold<R: Wait, T: Trial>(
     Ok(())
 }
 
-/// A case that is served by a service that answers each request with the error reply that the name isn't there.
-#[derive(Clone, Copy)]
-pub(crate) struct Refused<K>(pub(crate) K);
-
-impl<K: Case> Trial for Refused<K> {
-    fn holds<R: Wait>(&self, rt: &R, alloc: Global) -> bool {
-        let service = service_fn::<Refusal, _, _>(refuse, Rcode::NXDOMAIN);
-        is_served(rt, alloc, service, &self.0)
-    }
+/// Whether a case is served so by the service that refuses.
+fn is_refused<R: Wait, K: Case>(rt: &R, alloc: Global, case: &K) -> bool {
+    let service = service_fn::<Refusal, _, _>(refuse, Rcode::NXDOMAIN);
+    is_served(rt, alloc, service, case)
 }
 
-/// A case that is served by a service that counts, and how often the service is called and its futures are polled.
-#[derive(Clone, Copy)]
-pub(crate) struct Counted<K>(pub(crate) K, pub(crate) (u64, u64));
-
-impl<K: Case> Trial for Counted<K> {
-    fn holds<R: Wait>(&self, rt: &R, alloc: Global) -> bool {
-        let counts = Cell::new((0, 0));
-        let service = Counting { counts: &counts };
-        is_served(rt, alloc, service, &self.0) && counts.get() == self.1
-    }
+/// Whether it is by the service that counts, which comes to these counts.
+fn is_counted<R: Wait, K: Case>(rt: &R, alloc: Global, case: &K, wanted: (u64, u64)) -> bool {
+    let counts = Cell::new((0, 0));
+    let service = Counting { counts: &counts };
+    is_served(rt, alloc, service, case) && counts.get() == wanted
 }
 
-/// A case that is served by a service in all layers that answers each request with the error reply that the name isn't there, or
-/// that all is well.
-#[derive(Clone, Copy)]
-pub(crate) struct Layered<K> {
-    pub(crate) case: K,
-    pub(crate) is_missing: bool,
-}
-
-impl<K: Case> Trial for Layered<K> {
-    fn holds<R: Wait>(&self, rt: &R, alloc: Global) -> bool {
-        let rcode = if self.is_missing {
-            Rcode::NXDOMAIN
-        } else {
-            Rcode::NOERROR
-        };
-        is_layered(rt, alloc, rcode, &self.case)
-    }
-}
-
-fn is_layered<R: Wait, K: Case>(rt: &R, alloc: Global, rcode: Rcode, case: &K) -> bool {
-    let settings = Settings::new(alloc);
+/// Whether it is by the service in all layers.
+fn is_layered<R: Wait, K: Case>(rt: &R, alloc: Global, case: &K, is_missing: bool) -> bool {
+    let rcode = if is_missing {
+        Rcode::NXDOMAIN
+    } else {
+        Rcode::NOERROR
+    };
     let inner = service_fn::<Refusal, _, _>(refuse, rcode);
-    match wrap(alloc, &settings, inner, Nobody {}) {
+    is_wrapped(rt, alloc, inner, Nobody {}, case)
+}
+
+/// Whether it is by a service in the layers of the first settings.
+fn is_wrapped<R: Wait, S: Service<()>, N: Notifiable, K: Case>(
+    rt: &R,
+    alloc: Global,
+    service: S,
+    target: N,
+    case: &K,
+) -> bool
+    requires { S.can_call service }
+{
+    let settings = Settings::new(alloc);
+    match wrap(alloc, &settings, service, target) {
         Ok(service) => is_served(rt, alloc, service, case),
         Err(_) => false,
     }

@@ -3,7 +3,7 @@
 ghost use Rattle.std.specs.Prelude.{◌≡◌};
 
 use dns_book::{Book, BookSeat};
-use dns_outside::{Link, LinkRead, LinkWrite};
+use dns_memory::{Link, LinkRead, LinkWrite};
 use dns_service::{DgramConfig, StreamConfig};
 use std::sync::Wait;
 

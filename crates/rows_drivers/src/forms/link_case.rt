@@ -6,9 +6,9 @@ use crate::forms::cases::{Case, Desk, Outside};
 use crate::forms::halting::Halting;
 use crate::forms::notes::{are, calls};
 use dns_book::{Admission, Book, BookSeat, Look};
-use dns_drivers::{ConnectionEnd, serve_connection};
+use dns_drivers::{ConnectionEnd, Recorder, serve_connection};
+use dns_memory::{Clock, Link, MemoryClock, MemoryLink};
 use dns_name::{IpAddr, OutOfMemory, SocketAddr};
-use dns_outside::{MemoryClock, MemoryLink};
 use dns_service::Served;
 use std::alloc::Global;
 use std::sync::Wait;
@@ -57,11 +57,11 @@ impl LinkCase<'_> {
     }
 
     /// Serves a connection that is admitted, where no shutdown is shown. How it ends, and how many slots are taken then.
-    fn serve_admitted<R: Wait, W: Served>(
+    fn serve_admitted<R: Wait, W: Served, L: Link, C: Clock>(
         &self,
         desk: Desk<'_, R, W>,
         look: &Look,
-        outside: &mut Outside<MemoryLink, MemoryClock>,
+        outside: &mut Outside<L, C>,
     ) -> (ConnectionEnd, u64)
         requires book { desk.seat.book ≡ desk.book.now }
         requires can_call { W.can_call desk.service.now }
@@ -76,12 +76,22 @@ impl LinkCase<'_> {
             seat,
             service,
         } = desk;
-        let (mut seat, end) = self.serve(rt, alloc, book, seat, look, service, outside);
+        let (mut seat, end) = self.serve(
+            rt,
+            alloc,
+            book,
+            seat,
+            look,
+            service,
+            &mut outside.watched,
+            &mut outside.clock,
+            &mut outside.journal,
+        );
         (end, book.look(rt, &mut seat).taken)
     }
 
-    /// Serves it over its link.
-    fn serve<'a, R: Wait, W: Served>(
+    /// Serves it over a link, by a clock, into a recorder.
+    fn serve<'a, R: Wait, W: Served, L: Link, C: Clock, J: Recorder>(
         &self,
         rt: &R,
         alloc: Global,
@@ -89,7 +99,9 @@ impl LinkCase<'_> {
         seat: BookSeat,
         look: &Look,
         service: &W,
-        outside: &'a mut Outside<MemoryLink, MemoryClock>,
+        link: &'a mut L,
+        clock: &mut C,
+        journal: &mut J,
     ) -> (BookSeat, ConnectionEnd)
         requires book { seat.book ≡ book.now }
         requires running { look.now.closed ≡ false }
@@ -98,23 +110,13 @@ impl LinkCase<'_> {
     {
         let (seat, other) = self.seats(rt, book, seat);
         let mut link = Halting {
-            link: &mut outside.watched,
+            link,
             book,
             seat: other,
             halts: self.shut_at_waits,
         };
         serve_connection(
-            rt,
-            alloc,
-            book,
-            seat,
-            7,
-            PEER,
-            look,
-            service,
-            &mut link,
-            &mut outside.clock,
-            &mut outside.journal,
+            rt, alloc, book, seat, 7, PEER, look, service, &mut link, clock, journal,
         )
     }
 

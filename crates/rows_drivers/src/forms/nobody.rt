@@ -2,7 +2,7 @@
 
 ghost use Rattle.std.specs.Prelude.{◌≡◌, Err};
 ghost use Rattle.dns_service.specs.declared.service.Polled.TheVariants.{Ready};
-ghost use Rattle.dns_middleware.specs.declared.notifiable.NotifyError.TheVariants.{NotAuthForZone};
+ghost use Rattle.dns_layers.specs.declared.notifiable.NotifyError.TheVariants.{NotAuthForZone};
 
 use dns_base::{Class, IpAddr, Name, OutOfMemory, Serial};
 use dns_middleware::{Notifiable, NotifyError, VerdictFuture};
@@ -10,7 +10,7 @@ use dns_service::Polled;
 use std::alloc::Global;
 
 /// A target that is authoritative for nothing.
-#[derive(Clone, Copy, Debug)]
+#[derive(Clone, Copy)]
 pub struct Nobody {}
 
 impl Notifiable for Nobody {

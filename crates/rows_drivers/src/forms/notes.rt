@@ -1,7 +1,7 @@
 //! Events by their letters, and calls by their numbers.
 
+use dns_memory::ListedCalls;
 use dns_name::OutOfMemory;
-use dns_outside::ListedCalls;
 use dns_service::{Event, EventKind};
 use std::alloc::Global;
 
@@ -53,11 +53,7 @@ pub(crate) fn agree(events: &[Event], wanted: &[(u8, u64, u64)]) -> bool {
 }
 
 /// Calls of which these fail and those answer Again.
-pub(crate) fn calls(
-    alloc: Global,
-    failing: &[u64],
-    again: &[u64],
-) -> Result<ListedCalls, OutOfMemory> {
+pub fn calls(alloc: Global, failing: &[u64], again: &[u64]) -> Result<ListedCalls, OutOfMemory> {
     Ok(ListedCalls::new(
         Vec::from_slice(alloc, failing)?,
         Vec::from_slice(alloc, again)?,

@@ -1,11 +1,14 @@
 //! What is served over a socket in memory, and what is wanted of it.
 
+ghost use Rattle.std.specs.Prelude.{◌≡◌};
+
 use crate::forms::cases::{Case, Desk, Outside};
 use crate::forms::notes::{agree, calls};
 use crate::forms::standing::Standing;
 use dns_datagrams::{DgramEnd, serve_datagrams};
+use dns_drivers::Recorder;
+use dns_memory::{AsyncDgramSock, Clock, Letter, MemoryClock, MemorySock};
 use dns_name::{IpAddr, Octets, OutOfMemory, SocketAddr};
-use dns_outside::{Letter, MemoryClock, MemorySock};
 use dns_service::Served;
 use std::alloc::Global;
 use std::sync::Wait;
@@ -90,6 +93,28 @@ impl SockCase<'_> {
     }
 }
 
+/// How so many datagrams are served at a desk over a socket, by a clock, into a recorder.
+fn serve<R: Wait, W: Served, D: AsyncDgramSock, C: Clock, J: Recorder>(
+    desk: Desk<'_, R, W>,
+    sock: &mut D,
+    clock: &mut C,
+    journal: &mut J,
+    count: u64,
+) -> DgramEnd
+    requires book { desk.seat.book ≡ desk.book.now }
+    requires can_call { W.can_call desk.service.now }
+{
+    let Desk {
+        rt,
+        alloc,
+        book,
+        seat,
+        service,
+    } = desk;
+    let (_seat, end) = serve_datagrams(rt, alloc, book, seat, service, sock, clock, journal, count);
+    end
+}
+
 impl Case for SockCase<'_> {
     type Outside = Outside<MemorySock, Standing>;
 
@@ -112,18 +137,13 @@ impl Case for SockCase<'_> {
         if self.is_shut {
             desk.book.shutdown(desk.rt, &mut desk.seat);
         }
-        let (_seat, end) = serve_datagrams(
-            desk.rt,
-            desk.alloc,
-            desk.book,
-            desk.seat,
-            desk.service,
+        serve(
+            desk,
             &mut outside.watched,
             &mut outside.clock,
             &mut outside.journal,
             self.count,
-        );
-        end
+        )
     }
 
     /// These events were noted, these calls made of the socket, and these replies sent.

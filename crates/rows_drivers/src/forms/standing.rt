@@ -2,8 +2,8 @@
 
 ghost use Rattle.std.specs.Prelude.{[]};
 
+use dns_memory::{Clock, MemoryClock};
 use dns_name::OutOfMemory;
-use dns_outside::{Clock, MemoryClock};
 use std::alloc::Global;
 
 /// A clock that gives the readings of another. Where they stand, the latest one is given again until it is told that this is

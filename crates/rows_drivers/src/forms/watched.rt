@@ -1,10 +1,10 @@
 //! A link or a socket that keeps which calls were made of it.
 
 ghost use Rattle.std.specs.Prelude.{◌≡◌, ◌≤◌};
-ghost use Rattle.dns_outside.specs.Causes.{Tells};
+ghost use Rattle.dns_memory.specs.Causes.{Tells};
 
+use dns_memory::{AsyncDgramSock, DgramRecv, DgramSend, Link, LinkRead, LinkWrite};
 use dns_name::SocketAddr;
-use dns_outside::{AsyncDgramSock, DgramRecv, DgramSend, Link, LinkRead, LinkWrite};
 use std::alloc::Global;
 use std::sync::Wait;
 

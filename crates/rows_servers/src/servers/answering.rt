@@ -2,7 +2,6 @@
 
 ghost use Rattle.std.specs.Prelude.{◌≡◌};
 
-use crate::places::{clock, let_go};
 use crate::servers::connections;
 use crate::servers::controls::{count, shows_shutdown, shut_down_after};
 use dns_outside::{AsyncAccept, MemoryClock, Spawner};
@@ -11,6 +10,7 @@ use dns_servers::{
     VecBufSource,
 };
 use dns_service::Served;
+use rows_links::{clock, let_go};
 use std::alloc::Global;
 use std::sync::{Arc, Wait};
 use std::thread;
@@ -83,27 +83,17 @@ where
         self.answers_under(&mut early)
     }
 
-    /// The same, and the server is let go then.
-    fn has_answered(mut self) -> bool
-        requires { W.can_call self.server.service }
-    {
-        let held = self.answers();
-        let_go(self);
-        held
-    }
-
     /// The same, as this control shows.
     fn answers_under(&mut self, early: &mut Control) -> bool
         requires { W.can_call self.old.server.service }
     {
-        !early.is_shutdown(self.rt) && self.runs() && early.is_shutdown(self.rt) && self.counts()
+        !early.is_shutdown(self.rt)
+            && self.runs()
+            && early.is_shutdown(self.rt)
+            && count(self.server.metrics(), self.wanted)
     }
 
-    fn counts(&self) -> bool {
-        count(self.server.metrics(), self.wanted)
-    }
-
-    /// The same of this server, with this hook.
+    /// The same of this server, with this hook, and the server is let go then.
     fn answers_hooked(
         rt: &R,
         alloc: Global,
@@ -114,13 +104,15 @@ where
         requires { W.can_call server.service }
     {
         let server = server.with_pre_connect_hook(hook);
-        let answering = Answering {
+        let mut answering = Answering {
             rt,
             alloc,
             server,
             wanted,
         };
-        answering.has_answered()
+        let held = answering.answers();
+        let_go(answering);
+        held
     }
 
     /// The same of a server over this accept object.

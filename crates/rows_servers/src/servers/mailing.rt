@@ -2,11 +2,11 @@
 
 ghost use Rattle.std.specs.Prelude.{◌≡◌};
 
-use crate::places::PEER;
 use crate::servers::controls::{count, shows_shutdown, shut_down_after};
 use dns_outside::{MemoryClock, SteadySock};
 use dns_servers::{Control, DgramEnd, DgramServer, Kept, ServerMetrics, Silent, VecBufSource};
 use dns_service::Served;
+use rows_links::PEER;
 use std::alloc::Global;
 use std::sync::{Arc, Wait};
 use std::thread;

@@ -1,7 +1,7 @@
 //! Messages built of the parts of a message that was read.
 
-use crate::hash::cookie;
-use crate::response::RESPONSE;
+use crate::works::hash::cookie;
+use crate::works::response::RESPONSE;
 use dns_base::MessageRef;
 use dns_cookie::siphash24;
 use dns_name::ExtendedErrorCode;

@@ -93,7 +93,7 @@ pub fn links_of<R: Wait + Copy + Drop>(
 }
 
 /// A hook that marks each link that it is handed.
-#[derive(Clone, Copy, Debug)]
+#[derive(Clone, Copy)]
 pub struct Marking;
 
 impl<R> PreConnect<SeenLink<R>> for Marking {

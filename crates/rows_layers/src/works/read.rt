@@ -1,6 +1,6 @@
 //! A response read into borrowed views. What can't be read counts as zero.
 
-use crate::response::RESPONSE;
+use crate::works::response::RESPONSE;
 use dns_base::{MessageRef, QuestionIter, RecordIter, RecordRef, Rtype};
 use dns_opt::{AllOptData, ComposeOptData, OptData, OptRef};
 

@@ -20,7 +20,9 @@ const TURNS: u64 = 1_000_000_000;
 /// of memory where it was not set; that of a request with id 2 sets it.
 #[derive(Drop)]
 pub struct Holding {
+    /// Whether a held poll goes on.
     pub flag: Arc<AtomicBool>,
+    /// The code of each reply.
     pub rcode: OptRcode,
 }
 
@@ -33,7 +35,7 @@ impl Holding {
 }
 
 /// What a poll does with the flag.
-#[derive(Clone, Copy, Debug, PartialEq, Eq)]
+#[derive(Clone, Copy)]
 enum Part {
     Waits,
     Sets,
@@ -49,6 +51,7 @@ fn part_of(id: u16) -> Part {
     }
 }
 
+/// The reply to a request, which its first poll gives.
 #[derive(Drop)]
 pub struct Held {
     flag: Arc<AtomicBool>,

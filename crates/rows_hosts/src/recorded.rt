@@ -1,16 +1,15 @@
-//! A connection whose trace is served again.
+//! A connection whose trace is kept. A row of rows_server serves the trace again.
 
 ghost use Rattle.std.specs.Prelude.{◌≡◌, false};
 
 use dns_book::{Admission, Book, BookSeat, BookState, Look};
-use dns_middleware::{Settings, wrap};
+use dns_middleware::{Notifiable, Settings, wrap};
 use dns_name::{IpAddr, OutOfMemory, SocketAddr};
-use dns_outside::{MemoryClock, SteadyLink, SteadySink, SteadySource};
+use dns_outside::{MemoryClock, SteadyLink};
 use dns_server::{
-    NoEvent, NotifyRules, Rules, Script, ScriptError, ScriptService, ScriptTarget, Status,
-    TraceRecorder, read_script, run, serve_connection,
+    NoEvent, Script, ScriptService, ScriptTarget, TraceRecorder, read_script, serve_connection,
 };
-use dns_service::{Plainly, Served};
+use dns_service::{Plainly, Served, Service};
 use std::alloc::Global;
 use std::sync::Wait;
 
@@ -26,10 +25,7 @@ const QUERY: &[u8] =
 const REPLY: &[u8] =
     b"\x00\x22\x12\x34\x81\x00\x00\x01\x00\x00\x00\x00\x00\x01\x00\x00\x01\x00\x01\x00\x00\x29\x00\x00\x00\x00\x00\x00\x00\x06\x00\x0b\x00\x02\x01\x2c";
 
-/// The rule that it is answered by.
-const RULE: &[u8] = b"rule * rcode:0\n";
-
-/// The same, and the settings that it is answered under.
+/// The settings and the rule that it is answered by.
 const SCRIPT: &[u8] =
     b"strict no\nsecret 000102030405060708090a0b0c0d0e0f\ndeny 192.0.2.7\nrule * rcode:0\n";
 
@@ -38,10 +34,6 @@ const TRACE: &[u8] =
     b"strict no\nedns yes\nsecret 000102030405060708090a0b0c0d0e0f\ndeny 192.0.2.7\ndgram 1232 5000\n\
     stream 30000 30000 10 100 yes\nbudget none 1000\noffer 0 0 1 192.0.2.1 53\n\
     piece 0 0 1 001c12340100000100000000000100000100010000290000000000000000\nturn 0 0 1 0\nwrite 0 0 1 0\nend 0 0 1\n";
-
-/// What a replay of its trace writes.
-const REPLAYED: &[u8] =
-    b"frame 1 002212348100000100000000000100000100010000290000000000000006000b0002012c\nclosed 1 ended\n";
 
 /// What a connection is served over.
 #[derive(Drop)]
@@ -113,22 +105,22 @@ impl Outside {
         }
     }
 
-    /// Serves a connection in a book of its own.
+    /// Serves a connection in a book of its own, and says whether there was memory for the book.
     fn serve_in_a_book<R: Wait, W: Served>(
         &mut self,
         rt: &R,
         alloc: Global,
         settings: &Settings,
         service: &W,
-    ) -> Result<(), OutOfMemory>
+    ) -> bool
         requires { W.can_call service.now }
     {
         match Book::new(alloc, BookState::new(settings.dgram, settings.stream)) {
             Ok((book, seat)) => {
                 self.admit(rt, alloc, &book, seat, service);
-                Ok(())
+                true
             }
-            Err(error) => Err(error),
+            Err(_) => false,
         }
     }
 
@@ -152,19 +144,20 @@ fn told(recorder: TraceRecorder) -> Option<Vec<u8>> {
     }
 }
 
-/// Serves a connection over what is outside, and gives its trace.
+/// Serves a connection over what is outside, and gives its trace; none, here and below, where memory is short.
 fn trace_over<R: Wait, W: Served>(
     rt: &R,
     alloc: Global,
     settings: &Settings,
     service: &W,
     mut outside: Outside,
-) -> Result<Option<Vec<u8>>, OutOfMemory>
+) -> Option<Vec<u8>>
     requires { W.can_call service.now }
 {
-    match outside.serve_in_a_book(rt, alloc, settings, service) {
-        Ok(()) => Ok(outside.into_trace()),
-        Err(error) => Err(error),
+    if outside.serve_in_a_book(rt, alloc, settings, service) {
+        outside.into_trace()
+    } else {
+        None
     }
 }
 
@@ -174,107 +167,60 @@ fn recorded<R: Wait, W: Served>(
     alloc: Global,
     settings: &Settings,
     service: &W,
-) -> Result<Option<Vec<u8>>, OutOfMemory>
+) -> Option<Vec<u8>>
     requires { W.can_call service.now }
 {
     match Outside::new(alloc, settings) {
         Ok(outside) => trace_over(rt, alloc, settings, service, outside),
-        Err(error) => Err(error),
+        Err(_) => None,
     }
 }
 
-/// The trace of a connection to rules in the layers of settings.
-fn trace_under<R: Wait>(
+/// The trace of a connection to a service in the layers of settings.
+fn trace_under<R: Wait, S: Service<()>, N: Notifiable>(
     rt: &R,
     alloc: Global,
     settings: &Settings,
-    rules: Rules,
-    zones: NotifyRules,
-) -> Result<Option<Vec<u8>>, OutOfMemory> {
-    match wrap(
-        alloc,
-        settings,
-        ScriptService::new(rules),
-        ScriptTarget::new(zones),
-    ) {
+    service: S,
+    target: N,
+) -> Option<Vec<u8>>
+    requires { S.can_call service }
+{
+    match wrap(alloc, settings, service, target) {
         Ok(service) => recorded(rt, alloc, settings, &Plainly { service }),
-        Err(error) => Err(error),
+        Err(_) => None,
     }
 }
 
 /// The trace of a connection to what a script says.
-fn trace_of<R: Wait>(
-    rt: &R,
-    alloc: Global,
-    script: Script<NoEvent>,
-) -> Result<Option<Vec<u8>>, OutOfMemory> {
+fn trace_of<R: Wait>(rt: &R, alloc: Global, script: Script<NoEvent>) -> Option<Vec<u8>> {
     let (settings, service, zones, _) = script.into_parts();
-    trace_under(rt, alloc, &settings, service.into_rules(alloc), zones)
+    let service = ScriptService::new(service.into_rules(alloc));
+    trace_under(rt, alloc, &settings, service, ScriptTarget::new(zones))
 }
 
 /// The trace of a connection to the script.
-fn trace<R: Wait>(rt: &R, alloc: Global) -> Result<Option<Vec<u8>>, OutOfMemory> {
+fn trace<R: Wait>(rt: &R, alloc: Global) -> Option<Vec<u8>> {
     match read_script::<NoEvent>(alloc, SCRIPT) {
         Ok(script) => trace_of(rt, alloc, script),
-        Err(ScriptError::OutOfMemory) => Err(OutOfMemory),
-        Err(_) => Ok(None),
+        Err(_) => None,
     }
 }
 
-/// The word of the program.
-fn replay(alloc: Global) -> Result<Vec<String>, OutOfMemory> {
-    let mut words = Vec::new(alloc);
-    words.push(String::from_str(alloc, "replay")?)?;
-    Ok(words)
-}
-
-/// The rule, and a trace.
-fn ruled(alloc: Global, trace: &[u8]) -> Result<Vec<u8>, OutOfMemory> {
-    let mut script = Vec::from_slice(alloc, RULE)?;
-    script.extend_from_slice(trace)?;
-    Ok(script)
-}
-
-/// Whether the program writes for a script the frame of the reply, and that the connection is closed.
-fn writes_its_frame(alloc: Global, words: &[String], script: Vec<u8>) -> bool {
-    let mut source = SteadySource::new(script);
-    let mut sink = SteadySink::new(Vec::new(alloc));
-    let status = run(alloc, words, &mut source, &mut sink);
-    status == Status::Done && sink.written() == Some(REPLAYED)
-}
-
-/// Whether it does for the rule and a trace.
-fn replays_by(alloc: Global, words: &[String], trace: &[u8]) -> Result<bool, OutOfMemory> {
-    match ruled(alloc, trace) {
-        Ok(script) => Ok(writes_its_frame(alloc, words, script)),
-        Err(error) => Err(error),
-    }
-}
-
-/// Whether a trace says all settings and events, and its replay writes the frame of the reply, and that the connection is closed.
-fn replays(alloc: Global, trace: &[u8]) -> Result<bool, OutOfMemory> {
-    if trace != TRACE {
-        return Ok(false);
-    }
-    match replay(alloc) {
-        Ok(words) => replays_by(alloc, &words, trace),
-        Err(error) => Err(error),
-    }
-}
-
-/// Whether the trace of a connection to the script does.
-fn is_replayed<R: Wait>(rt: &R, alloc: Global) -> Result<bool, OutOfMemory> {
+/// Whether the trace of a connection to the script says all settings and events.
+fn is_recorded<R: Wait>(rt: &R, alloc: Global) -> bool {
     match trace(rt, alloc) {
-        Ok(Some(trace)) => replays(alloc, &trace),
-        Ok(None) => Ok(false),
-        Err(error) => Err(error),
+        Some(trace) => trace.as_slice() == TRACE,
+        None => false,
     }
 }
 
-/// A connection over memory is recorded: its trace says all settings and events, and replays to its frame.
+/// A connection over memory is recorded: its trace says all settings and events.
 #[test]
-fn a_trace_replays(rt: HostRuntime) -> Result<(), OutOfMemory> {
-    let replayed = is_replayed(&rt, rt.alloc())?;
-    assert!(&rt; replayed);
-    Ok(())
+fn a_connection_is_recorded(rt: HostRuntime) -> Result<(), &'static str> {
+    if is_recorded(&rt, rt.alloc()) {
+        Ok(())
+    } else {
+        Err("not as is wanted")
+    }
 }

@@ -11,6 +11,7 @@ use dns_service::{DgramConfig, StreamConfig};
 use std::alloc::Global;
 use std::sync::{Arc, Wait};
 
+/// Where each connection and each datagram comes from.
 pub const PEER: SocketAddr = SocketAddr {
     ip: IpAddr::V4([192, 0, 2, 1]),
     port: 53,

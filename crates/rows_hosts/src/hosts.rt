@@ -3,18 +3,14 @@
 ghost use Rattle.std.specs.Prelude.{◌≡◌};
 ghost use Rattle.std.specs.Arc.{arc_value};
 
-use crate::holding::Holding;
-use crate::links::{Seen, SeenLink, show};
-use crate::places::{accept_of, book_of, calls, letter};
-use crate::servers::Layered;
 use dns_book::{Book, BookSeat};
-use dns_middleware::Settings;
+use dns_middleware::{Notifiable, Settings, Wrapped};
 use dns_name::{OptRcode, OutOfMemory};
-use dns_outside::{
-    AsyncAccept, Letter, MemoryAccept, MemoryClock, MemorySock, MemorySpawner, Spawner,
-};
+use dns_outside::{AsyncAccept, Letter, MemoryClock, MemorySock, MemorySpawner, Spawner};
 use dns_server::{NotifyRules, ScriptTarget, Status, serve_host};
 use dns_servers::{ConnectionWork, Host, Silent};
+use dns_service::{Plainly, Service};
+use rows_links::{Holding, Seen, accept_of, book_of, calls, clock, letter, show};
 use std::alloc::Global;
 use std::sync::{Arc, Wait};
 use std::thread::Threads;
@@ -97,13 +93,19 @@ struct HostCase<'a> {
     sent: Option<&'a [u8]>,
 }
 
-/// What a host is given beside its links.
+/// What a host is given beside its links: a socket, the starts that fail, a service, and what is told of changed zones.
 #[derive(Drop)]
-struct Given {
+struct Given<S, N> {
     sock: MemorySock,
     failed_starts: Vec<u64>,
-    service: Holding,
+    service: S,
+    target: N,
 }
+
+/// What serves the connections of a service and a target in layers.
+type Connections<L, S, N> = MemorySpawner<
+    ConnectionWork<L, MemoryClock, Silent, Plainly<Wrapped<S, N>>>,
+>;
 
 impl HostCase<'_> {
     fn sock(&self, alloc: Global) -> Result<MemorySock, OutOfMemory> {
@@ -125,7 +127,7 @@ impl HostCase<'_> {
         Holding::new(alloc, !self.is_held, rcode)
     }
 
-    fn given(&self, alloc: Global) -> Result<Given, OutOfMemory> {
+    fn given(&self, alloc: Global) -> Result<Given<Holding, ScriptTarget>, OutOfMemory> {
         let failed_starts = Vec::from_slice(alloc, self.failed_starts)?;
         let service = self.service(alloc)?;
         match self.sock(alloc) {
@@ -133,19 +135,10 @@ impl HostCase<'_> {
                 sock,
                 failed_starts,
                 service,
+                target: ScriptTarget::new(NotifyRules::new(alloc)),
             }),
             Err(error) => Err(error),
         }
-    }
-
-    /// What links come from, with a link for each query.
-    fn links<R: Wait + Copy + Drop>(
-        &self,
-        rt: R,
-        alloc: Global,
-        seen: &mut Vec<Arc<Seen>>,
-    ) -> Result<MemoryAccept<SeenLink<R>>, OutOfMemory> {
-        accept_of(rt, alloc, self.queries, self.failed_accepts, &[], seen)
     }
 
     /// Whether the host ended so, with no slot taken and this datagram sent.
@@ -154,138 +147,132 @@ impl HostCase<'_> {
     }
 }
 
-/// A host, which is given what the case says.
-#[derive(Drop)]
-struct Hosting<'a, R, A, P> {
-    rt: &'a R,
-    alloc: Global,
-    case: &'a HostCase<'a>,
-    host: Host<A, MemorySock, MemoryClock, P, Silent>,
-}
-
-impl<'a, R, A, P> Hosting<'a, R, A, P> {
-    /// A host that is given these.
-    fn new(
-        rt: &'a R,
-        alloc: Global,
-        case: &'a HostCase<'a>,
-        accept: A,
-        sock: MemorySock,
-        spawner: P,
-    ) -> Hosting<'a, R, A, P> {
-        let clock = MemoryClock::new(Vec::new(alloc));
-        Hosting {
-            rt,
-            alloc,
-            case,
-            host: Host {
-                accept,
-                sock,
-                clock,
-                spawner,
-                journal: Silent,
-            },
-        }
-    }
-}
-
-impl<
+/// How a host ends by a service in the layers of the first settings, and how many slots of a book are taken then.
+fn end_in<
     R: Threads + Wait + Copy + Send + Sync + 'static,
-    A: AsyncAccept + Drop,
-    P: Spawner<ConnectionWork<A::Link, MemoryClock, Silent, Layered>> + Drop,
-> Hosting<'_, R, A, P>
+    A: AsyncAccept,
+    S: Service<()> + Send + Sync + 'static,
+    N: Notifiable + Send + Sync + 'static,
+    P: Spawner<ConnectionWork<A::Link, MemoryClock, Silent, Plainly<Wrapped<S, N>>>>,
+>(
+    rt: &R,
+    alloc: Global,
+    host: &mut Host<A, MemorySock, MemoryClock, P, Silent>,
+    service: S,
+    target: N,
+    book: &Arc<Book>,
+    seat: BookSeat,
+    count: u64,
+) -> (Status, u64)
 where
     A::Link: Send + Drop + 'static,
+    S::Future: Send,
+    S::Stream: Send,
+    N::Future: Send,
+    requires book { seat.book ≡ arc_value book.now }
+    requires can_call { S.can_call service }
 {
-    /// How the host ends by a service in the layers of the first settings, and the seat that it gives back.
-    fn serve(&mut self, service: Holding, book: &Arc<Book>, seat: BookSeat) -> (BookSeat, Status)
-        requires { seat.book ≡ arc_value book.now }
-        ensures { result.0.book ≡ seat.book }
-    {
-        let settings = Settings::new(self.alloc);
-        let target = ScriptTarget::new(NotifyRules::new(self.alloc));
-        serve_host(
-            self.rt,
-            self.alloc,
-            &settings,
-            service,
-            target,
-            book,
-            seat,
-            &mut self.host,
-            self.case.count,
-        )
-    }
+    let settings = Settings::new(alloc);
+    let (mut seat, status) = serve_host(
+        rt, alloc, &settings, service, target, book, seat, host, count,
+    );
+    (status, book.look(rt, &mut seat).taken)
+}
 
-    /// How the host ends, and how many slots of a book are taken then.
-    fn end_in(&mut self, service: Holding, book: &Arc<Book>, seat: BookSeat) -> (Status, u64)
-        requires { seat.book ≡ arc_value book.now }
-    {
-        let (mut seat, status) = self.serve(service, book, seat);
-        (status, book.look(self.rt, &mut seat).taken)
-    }
-
-    /// The same in a book with ten slots.
-    fn end(&mut self, service: Holding) -> (Status, u64) {
-        match book_of(self.alloc, 10) {
-            Ok((book, seat)) => self.end_in(service, &book, seat),
-            Err(_) => (Status::OutOfMemory, 1),
-        }
-    }
-
-    /// Whether a host that is given these ends as is wanted.
-    fn ends_by(
-        rt: &R,
-        alloc: Global,
-        case: &HostCase<'_>,
-        accept: A,
-        sock: MemorySock,
-        spawner: P,
-        service: Holding,
-    ) -> bool {
-        Hosting::new(rt, alloc, case, accept, sock, spawner).ends(service)
-    }
-
-    /// Whether it ends as is wanted.
-    fn ends(mut self, service: Holding) -> bool {
-        self.is_served_by(service)
-    }
-
-    fn is_served_by(&mut self, service: Holding) -> bool {
-        let end = self.end(service);
-        self.case.is_ended(end, self.host.sock.sent())
+/// The same in a book with ten slots.
+fn host_end<
+    R: Threads + Wait + Copy + Send + Sync + 'static,
+    A: AsyncAccept,
+    S: Service<()> + Send + Sync + 'static,
+    N: Notifiable + Send + Sync + 'static,
+    P: Spawner<ConnectionWork<A::Link, MemoryClock, Silent, Plainly<Wrapped<S, N>>>>,
+>(
+    rt: &R,
+    alloc: Global,
+    host: &mut Host<A, MemorySock, MemoryClock, P, Silent>,
+    service: S,
+    target: N,
+    count: u64,
+) -> (Status, u64)
+where
+    A::Link: Send + Drop + 'static,
+    S::Future: Send,
+    S::Stream: Send,
+    N::Future: Send,
+    requires { S.can_call service }
+{
+    match book_of(alloc, 10) {
+        Ok((book, seat)) => end_in(rt, alloc, host, service, target, &book, seat, count),
+        Err(_) => (Status::OutOfMemory, 1),
     }
 }
 
-/// Whether a host with this accept object ends as is wanted.
-fn ends_over<R: Threads + Wait + Copy + Send + Sync + 'static, A: AsyncAccept + Drop>(
+/// Whether a host ends as is wanted.
+fn host_ends<
+    R: Threads + Wait + Copy + Send + Sync + 'static,
+    A: AsyncAccept + Drop,
+    S: Service<()> + Send + Sync + 'static,
+    N: Notifiable + Send + Sync + 'static,
+    P: Spawner<ConnectionWork<A::Link, MemoryClock, Silent, Plainly<Wrapped<S, N>>>> + Drop,
+>(
     rt: &R,
     alloc: Global,
     case: &HostCase<'_>,
-    accept: A,
-    given: Given,
+    mut host: Host<A, MemorySock, MemoryClock, P, Silent>,
+    service: S,
+    target: N,
 ) -> bool
 where
     A::Link: Send + Drop + 'static,
+    S::Future: Send,
+    S::Stream: Send,
+    N::Future: Send,
+    requires { S.can_call service }
+{
+    let end = host_end(rt, alloc, &mut host, service, target, case.count);
+    case.is_ended(end, host.sock.sent())
+}
+
+/// Whether a host with this accept object ends as is wanted.
+fn ends_over<
+    R: Threads + Wait + Copy + Send + Sync + 'static,
+    A: AsyncAccept + Drop,
+    S: Service<()> + Send + Sync + 'static,
+    N: Notifiable + Send + Sync + 'static,
+>(rt: &R, alloc: Global, case: &HostCase<'_>, accept: A, given: Given<S, N>) -> bool
+where
+    A::Link: Send + Drop + 'static,
+    S::Future: Send,
+    S::Stream: Send,
+    N::Future: Send,
+    requires { S.can_call given.service }
 {
     let Given {
         sock,
         failed_starts,
         service,
+        target,
     } = given;
-    let spawner = MemorySpawner::new(alloc, failed_starts);
-    Hosting::ends_by(rt, alloc, case, accept, sock, spawner, service)
+    let spawner: Connections<A::Link, S, N> = MemorySpawner::new(alloc, failed_starts);
+    let host = Host {
+        accept,
+        sock,
+        clock: clock(alloc),
+        spawner,
+        journal: Silent,
+    };
+    host_ends(rt, alloc, case, host, service, target)
 }
 
-/// Whether a host ends as is wanted.
+/// Whether a host with a link for each query ends as is wanted.
 fn ends<R: Threads + Wait + Copy + Send + Sync + Drop + 'static>(
     rt: &R,
     alloc: Global,
     case: &HostCase<'_>,
-    given: Given,
+    given: Given<Holding, ScriptTarget>,
     seen: &mut Vec<Arc<Seen>>,
 ) -> bool {
-    match case.links(*rt, alloc, seen) {
+    match accept_of(*rt, alloc, case.queries, case.failed_accepts, &[], seen) {
         Ok(accept) => ends_over(rt, alloc, case, accept, given),
         Err(_) => false,
     }
@@ -296,7 +283,7 @@ fn is_shown<R: Threads + Wait + Copy + Send + Sync + Drop + 'static>(
     rt: &R,
     alloc: Global,
     case: &HostCase<'_>,
-    given: Given,
+    given: Given<Holding, ScriptTarget>,
 ) -> bool {
     let mut seen = Vec::new(alloc);
     ends(rt, alloc, case, given, &mut seen) && show(rt, &seen, case.shown, 1)
