@@ -1,4 +1,4 @@
-/* The C peer of crates/bench_calls: the same work, on the same octets, with the same checks and the same line of
+/* The C peer of the rows `work` of crates/rows_layers: the same work, on the same octets, with the same checks and the same line of
  * output. It is written from the SipHash paper (Aumasson and Bernstein, 2012), RFC 1035, RFC 6891, RFC 7873 and
  * RFC 9018, as plain C: a message is read in one pass, and built in one growing buffer.
  *
@@ -10,7 +10,7 @@
 #include <stdlib.h>
 #include <string.h>
 
-/* The response that crates/bench_calls/src/response.rt has, 512 octets. */
+/* The response that crates/rows_layers/src/works/response.rt has, 512 octets. */
 static const char RESPONSE[] =
     "\0224\201\200\000\001\000\004\000\002\000\005"
     "\007example\003com\000\000\001\000\001"
