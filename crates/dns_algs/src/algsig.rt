@@ -1,6 +1,6 @@
 //! Lists of algorithms, owned or borrowed.
 
-ghost use Rattle.std.specs.Prelude.{◌≡◌, ◌≤◌, ◌<◌, ◌++◌, ℕ, List, length, nat_le, true, Some, Ok, IfOk, OnOk, MatchResult};
+ghost use Rattle.std.specs.Prelude.{◌≡◌, ◌≤◌, ◌<◌, ◌++◌, ℕ, List, length, Some, Ok, IfOk, OnOk, MatchResult};
 ghost use Rattle.std.specs.Fmt.{WritesOnOk};
 ghost use Rattle.std.specs.Iterator.{IsFinite};
 ghost use Rattle.dns_name.specs.OptData.{ParsesData, for_code, list_data};
@@ -284,7 +284,7 @@ impl<S: HoldsOctets, K: Variant> ComposeOptData for HeldUnderstood<S, K> {
     /// The number of octets, of which every value has at most 65,535.
     fn compose_len(&self) -> u16
         ensures value { result ≡ length self.now }
-        ensures readable { nat_le (length self.now) 65535 ≡ true }
+        ensures readable { length self.now ≤ 65535 }
     {
         self.octets.as_slice().len() as u16
     }
@@ -296,7 +296,7 @@ impl<S: HoldsOctets, K: Variant> ComposeOptData for HeldUnderstood<S, K> {
 }
 
 impl<'a, K: Variant> ReadBack<'a> for HeldUnderstood<&'a [u8], K> {
-    ghost is_readable = { λ k. nat_le (length k) 65535 };
+    ghost is_readable = { λ k. length k ≤ 65535 };
 
     ghost comes_back = { list_again K.number };
 }

@@ -42,9 +42,6 @@ with_record s b r = record b { message = and_record s b.message r }
 abbrev pub with_answer : Built → ResourceRecord → Built
 with_answer b r = with_record Answer b r
 
-abbrev pub with_authority : Built → ResourceRecord → Built
-with_authority b r = with_record Authority b r
-
 abbrev pub with_additional : Built → ResourceRecord → Built
 with_additional b r = with_record Additional b r
 

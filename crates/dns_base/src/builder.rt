@@ -19,9 +19,8 @@ use crate::stream::StreamTarget;
 pub use assembled::assemble;
 use dns_message::{Header, HeaderCounts, Message, MessageRef, QuestionIter};
 use dns_name::OutOfMemory;
-use stage::{
-    AdditionalStage, AnswerStage, AuthorityStage, Before, HeaderStage, QuestionStage, Stage,
-};
+use stage::{AdditionalStage, AnswerStage, AuthorityStage, Before, HeaderStage, QuestionStage};
+pub use stage::{RecordStage, Stage};
 use std::alloc::Global;
 use std::marker::{Model, PhantomData};
 

@@ -1,51 +1,13 @@
-//! What is written at the end of a message as a record.
+//! OPT records by their fields.
 
-ghost use Rattle.std.specs.Prelude.{◌≡◌, ◌≤◌, ◌+◌, ◌++◌, if◌then◌else◌, is_ok, length, OnOk, OnErr};
-ghost use Rattle.dns_base.specs.Msg.{HasOwner, ResourceRecord};
+ghost use Rattle.std.specs.Prelude.{◌≡◌, ◌≤◌, ◌+◌, ◌++◌, if◌then◌else◌, is_ok, length};
 ghost use Rattle.dns_base.specs.Options.{IsOptionList};
-ghost use Rattle.dns_base.specs.Records.{IsLawful, record_of};
 ghost use Rattle.dns_base.specs.Wire.{record_octets};
 ghost use Rattle.dns_base.specs.OptFields.{opt_head, opt_resource};
 
-use dns_message::Record;
+use dns_message::ComposeRecord;
 use dns_name::{OutOfMemory, Ttl};
 use std::alloc::Global;
-
-/// What is written as a record.
-pub(crate) trait ComposeRecord {
-    /// The record.
-    ghost resource: { Self → ResourceRecord };
-
-    /// Its data can be written.
-    ghost is_lawful: { Self → Type 0 };
-
-    /// How many octets the record takes.
-    fn record_len(&self) -> usize
-        requires { is_lawful self.now }
-        ensures value { result ≡ length (record_octets (resource self.now)) }
-        ensures named { HasOwner (resource self.now) }
-        ensures short { result ≤ 65800 };
-
-    /// Appends the record's octets; nothing where there is no memory.
-    fn compose_record(&self, alloc: Global, target: &mut Vec<u8>) -> Result<(), OutOfMemory>
-        requires { is_lawful self.now }
-        ensures ok { OnOk result (target.new.items ≡ target.old.items ++ record_octets (resource self.now)) }
-        ensures err { OnErr result (target.new.items ≡ target.old.items) };
-}
-
-impl ComposeRecord for Record {
-    ghost resource = { record_of };
-
-    ghost is_lawful = { λ r. IsLawful r.rdata };
-
-    fn record_len(&self) -> usize {
-        self.compose_len()
-    }
-
-    fn compose_record(&self, alloc: Global, target: &mut Vec<u8>) -> Result<(), OutOfMemory> {
-        self.compose(alloc, target)
-    }
-}
 
 /// What an OPT record says beside its name and type (RFC 6891, section 6.1.2).
 #[derive(Clone, Copy)]

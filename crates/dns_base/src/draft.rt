@@ -11,11 +11,12 @@ ghost use Rattle.dns_base.specs.Replaced.{AreSpelt, less_type, other_than, recor
 
 mod copying;
 
-use crate::compose_record::ComposeRecord;
 use crate::error::PushError;
 use crate::replace::{Others, count_others, squeeze};
 use crate::stream::StreamTarget;
-use dns_message::{ComposeQuestion, Header, HeaderCounts, Message, MessageRef, number_at};
+use dns_message::{
+    ComposeQuestion, ComposeRecord, Header, HeaderCounts, Message, MessageRef, number_at,
+};
 use dns_name::{OutOfMemory, Rtype};
 use std::alloc::Global;
 use std::marker::Model;

@@ -14,20 +14,20 @@ ghost use Rattle.dns_book.specs.Rule.{KeptInOrder, CanCall, Made, Settled, newco
 use crate::rule::{
     ExpectsWords, Halves, HandOver, Looked, OneHistory, Opened, Read, Settle, TakeIn, Try, View,
 };
-use crate::words::{COUNT, Words, renew, state_in, words_after, words_of};
 use atomic_table::{Join, Split};
 use crossbeam_utils::atomic::seq_cell::{Pass, RuledSeqCell};
 use crossbeam_utils::rule::Outcome;
 use dns_admission::{Admission, BookState, Call, Look, Reply};
+use dns_book_words::{BookWords, book_words, renew, state_in, words_after};
 use dns_events::{DgramConfig, Error, StreamConfig};
 use dns_name::OutOfMemory;
 use std::alloc::Global;
 use std::marker::{Brand, Model};
 use std::sync::Wait;
 
-type Cell = RuledSeqCell<Words, View, OneHistory, COUNT>;
+type Cell = RuledSeqCell<BookWords, View, OneHistory, 10>;
 
-type SeatPass = Pass<Words, View>;
+type SeatPass = Pass<BookWords, View>;
 
 /// A book for any number of threads. In clauses it is the number that tells it from other books.
 #[derive(Drop)]
@@ -45,7 +45,7 @@ impl Model for Book {
 /// the seat knows.
 #[derive(Drop)]
 pub struct BookSeat {
-    pass: Pass<Words, View>,
+    pass: Pass<BookWords, View>,
     // Whether the book is open. The first seat opens it at its first call.
     opened: bool,
     // What the book showed the seat last, and before that what it opens with.
@@ -70,7 +70,7 @@ impl Book {
         ensures { IfOk result (λ r. (r.1.book ≡ r.0) × (r.1.known ≡ new_known state)) }
     {
         let shown = state.shown();
-        let (cell, pass): (Cell, SeatPass) = Cell::ruled(alloc, words_of(&shown))?;
+        let (cell, pass): (Cell, SeatPass) = Cell::ruled(alloc, book_words(&shown))?;
         let seat = BookSeat {
             pass,
             opened: false,
@@ -238,7 +238,7 @@ impl Book {
         ensures pass { IsSamePass pass.old pass.new }
         ensures view { cell_view pass.new ≡ opened_as shown.now }
     {
-        self.swap::<Opened, R>(rt, pass, words_of(shown));
+        self.swap::<Opened, R>(rt, pass, book_words(shown));
     }
 
     // The load after a join, by which the pass has seen the whole history.
@@ -257,15 +257,16 @@ impl Book {
         rt: &R,
         pass: &mut SeatPass,
         call: &Call,
-        current: Words,
-        next: Words,
+        current: BookWords,
+        next: BookWords,
     ) -> bool
         requires book { pass.old.table_id ≡ self.now }
         requires open { CanCall (cell_view pass.old) }
         requires asked { (K.ask ≡ call.now) × (K.current ≡ current) }
         requires step { state_of next ≡ state_after (state_of current) call.now }
         ensures pass { IsSamePass pass.old pass.new }
-        ensures made { MatchBool result (Made call.now (state_of current) (cell_view pass.old) (cell_view pass.new)) (cell_view pass.new ≡ cell_view pass.old) }
+        ensures made { MatchBool result (Made call.now (state_of current) (cell_view pass.old) (cell_view pass.new))
+            (cell_view pass.new ≡ cell_view pass.old) }
     {
         self.exchange::<Try<K>, R>(rt, pass, current, next).is_ok()
     }
@@ -291,7 +292,8 @@ impl Book {
         requires book { pass.old.table_id ≡ self.now }
         requires open { CanCall (cell_view pass.old) }
         ensures pass { IsSamePass pass.old pass.new }
-        ensures made { MatchOption result (cell_view pass.new ≡ cell_view pass.old) (λ found. Made call.now found (cell_view pass.old) (cell_view pass.new)) }
+        ensures made { MatchOption result (cell_view pass.new ≡ cell_view pass.old)
+            (λ found. Made call.now found (cell_view pass.old) (cell_view pass.new)) }
     {
         let words = self.load::<Read, R>(rt, pass);
         let found = state_in(&words);
@@ -303,7 +305,7 @@ impl Book {
     }
 
     // One load, after which the pass has what the outcome says.
-    fn load<M: Outcome<Words, View>, R: Wait>(&self, rt: &R, pass: &mut SeatPass) -> Words
+    fn load<M: Outcome<BookWords, View>, R: Wait>(&self, rt: &R, pass: &mut SeatPass) -> BookWords
         requires book { pass.old.table_id ≡ self.now }
         requires rule { Turns KeptInOrder pass.old.id (cell_view pass.old) (λ x. x) M.then }
         ensures pass { IsSamePass pass.old pass.new }
@@ -313,12 +315,12 @@ impl Book {
     }
 
     // The same, where the words are replaced. It answers those that stood there.
-    fn swap<M: Outcome<Words, View>, R: Wait>(
+    fn swap<M: Outcome<BookWords, View>, R: Wait>(
         &self,
         rt: &R,
         pass: &mut SeatPass,
-        words: Words,
-    ) -> Words
+        words: BookWords,
+    ) -> BookWords
         requires book { pass.old.table_id ≡ self.now }
         requires rule { Turns KeptInOrder pass.old.id (cell_view pass.old) (λ _. words) M.then }
         ensures pass { IsSamePass pass.old pass.new }
@@ -328,17 +330,19 @@ impl Book {
     }
 
     // The same, where the words that stand there are the expected ones.
-    fn exchange<M: Outcome<Words, View>, R: Wait>(
+    fn exchange<M: Outcome<BookWords, View>, R: Wait>(
         &self,
         rt: &R,
         pass: &mut SeatPass,
-        current: Words,
-        next: Words,
-    ) -> Result<Words, Words>
+        current: BookWords,
+        next: BookWords,
+    ) -> Result<BookWords, BookWords>
         requires book { pass.old.table_id ≡ self.now }
         requires rule { Turns KeptInOrder pass.old.id (cell_view pass.old) (λ x. if pointwise nat_eq x current then next else x) M.then }
         ensures pass { IsSamePass pass.old pass.new }
-        ensures told { MatchResult result (λ x. (pointwise nat_eq x current ≡ true) × M.then (cell_view pass.old) x next (cell_view pass.new)) (λ x. (pointwise nat_eq x current ≡ false) × M.then (cell_view pass.old) x x (cell_view pass.new)) }
+        ensures told { MatchResult result
+            (λ x. (pointwise nat_eq x current ≡ true) × M.then (cell_view pass.old) x next (cell_view pass.new))
+            (λ x. (pointwise nat_eq x current ≡ false) × M.then (cell_view pass.old) x x (cell_view pass.new)) }
     {
         self.cell
             .compare_exchange_as::<M, R>(rt, pass, current, next)
@@ -357,7 +361,8 @@ impl Book {
     // One pass of two.
     fn merge<M: Join<View>>(&self, pass: &mut SeatPass, other: SeatPass)
         requires book { (pass.old.table_id ≡ self.now) × (other.table_id ≡ pass.old.table_id) × (other.me.1 ≡ []) }
-        requires rule { Merges KeptInOrder pass.old.id (cell_view pass.old) other.id (cell_view other) (M.both (cell_view pass.old) (cell_view other)) M.spent }
+        requires rule { Merges KeptInOrder pass.old.id (cell_view pass.old) other.id (cell_view other)
+            (M.both (cell_view pass.old) (cell_view other)) M.spent }
         ensures { IsSamePass pass.old pass.new × (cell_view pass.new ≡ M.both (cell_view pass.old) (cell_view other)) }
     {
         self.cell.join_pass::<M>(pass, other);

@@ -18,7 +18,8 @@ fn call_twice<R: Wait>(
     requires { seat.book ≡ book.now }
     ensures book { result.0.book ≡ seat.book }
     ensures name { result.0.known.name ≡ seat.known.name }
-    ensures calls { Gained seat.known (entry seat.known.name calls.0 result.1.0 ∷ entry seat.known.name calls.1 result.1.1 ∷ []) result.0.known }
+    ensures calls { Gained seat.known
+        (entry seat.known.name calls.0 result.1.0 ∷ entry seat.known.name calls.1 result.1.1 ∷ []) result.0.known }
 {
     let reply = book.call(rt, &mut seat, calls.0);
     let next = book.call(rt, &mut seat, calls.1);
@@ -37,7 +38,10 @@ pub fn call_both<R: Threads + Wait + Sync>(
 ) -> (BookSeat, (Reply, Reply), (Reply, Reply))
     requires { seat.book ≡ book.now }
     ensures book { result.0.book ≡ seat.book }
-    ensures both { BothMade seat.known (entry (first_name seat.known) first.0 result.1.0 ∷ entry (first_name seat.known) first.1 result.1.1 ∷ []) (entry (second_name seat.known) second.0 result.2.0 ∷ entry (second_name seat.known) second.1 result.2.1 ∷ []) result.0.known }
+    ensures both { BothMade seat.known
+        (entry (first_name seat.known) first.0 result.1.0 ∷ entry (first_name seat.known) first.1 result.1.1 ∷ [])
+        (entry (second_name seat.known) second.0 result.2.0 ∷ entry (second_name seat.known) second.1 result.2.1 ∷ [])
+        result.0.known }
 {
     let (left, right) = book.split(rt, seat);
     let (a, b) = join(
@@ -46,12 +50,14 @@ pub fn call_both<R: Threads + Wait + Sync>(
             requires { left.book ≡ book.now }
             ensures book { result.0.book ≡ left.book }
             ensures name { result.0.known.name ≡ left.known.name }
-            ensures calls { Gained left.known (entry left.known.name first.0 result.1.0 ∷ entry left.known.name first.1 result.1.1 ∷ []) result.0.known }
+            ensures calls { Gained left.known
+                (entry left.known.name first.0 result.1.0 ∷ entry left.known.name first.1 result.1.1 ∷ []) result.0.known }
         { call_twice(rt, book, left, first) },
         || -> (BookSeat, (Reply, Reply))
             requires { right.book ≡ book.now }
             ensures book { result.0.book ≡ right.book }
-            ensures calls { Gained right.known (entry right.known.name second.0 result.1.0 ∷ entry right.known.name second.1 result.1.1 ∷ []) result.0.known }
+            ensures calls { Gained right.known
+                (entry right.known.name second.0 result.1.0 ∷ entry right.known.name second.1 result.1.1 ∷ []) result.0.known }
         { call_twice(rt, book, right, second) },
     );
     let (left, replies) = a;

@@ -6,7 +6,6 @@ pub mod book;
 pub mod both;
 pub mod history;
 mod rule;
-mod words;
 
 pub use book::{Book, BookSeat};
 pub use both::call_both;

@@ -6,9 +6,9 @@ ghost use Rattle.dns_admission.specs.declared.call.Call.TheVariants.{Look as loo
 ghost use Rattle.dns_book.specs.Rule.{KeptInOrder, newcomer, ReadsWords, Tries, Looks, Opens, Settles, first_view, second_view, whole_of, none_of, both_of, gone};
 
 use crate::history::{Entry, Known};
-use crate::words::Words;
 use atomic_table::{Join, Split};
 use crossbeam_utils::rule::{Outcome, Protocol};
+use dns_book_words::BookWords;
 use std::collections::LinkedList;
 use std::marker::{Brand, PhantomData};
 
@@ -24,7 +24,7 @@ pub struct View {
 /// The words stand for the state after one legal history, of which each seat knows a part.
 pub struct OneHistory;
 
-impl Protocol<Words, View> for OneHistory {
+impl Protocol<BookWords, View> for OneHistory {
     ghost holds = { KeptInOrder };
 
     ghost first = { newcomer };
@@ -46,7 +46,7 @@ impl ExpectsWords for Brand {
 /// A read, which leaves all as it is.
 pub struct Read;
 
-impl Outcome<Words, View> for Read {
+impl Outcome<BookWords, View> for Read {
     ghost then = { ReadsWords };
 }
 
@@ -55,28 +55,28 @@ pub struct Try<K: ExpectsWords> {
     of: PhantomData<K>,
 }
 
-impl<K: ExpectsWords> Outcome<Words, View> for Try<K> {
+impl<K: ExpectsWords> Outcome<BookWords, View> for Try<K> {
     ghost then = { Tries K.ask K.current };
 }
 
 /// A look, which is one load.
 pub struct Looked;
 
-impl Outcome<Words, View> for Looked {
+impl Outcome<BookWords, View> for Looked {
     ghost then = { Looks };
 }
 
 /// The opening of the book.
 pub struct Opened;
 
-impl Outcome<Words, View> for Opened {
+impl Outcome<BookWords, View> for Opened {
     ghost then = { Opens };
 }
 
 /// The load after a join.
 pub struct Settle;
 
-impl Outcome<Words, View> for Settle {
+impl Outcome<BookWords, View> for Settle {
     ghost then = { Settles };
 }
 

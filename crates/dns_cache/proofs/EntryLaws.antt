@@ -9,6 +9,16 @@ use Rattle.dns_cache.specs.Keys.{AskedKey, same_key, same_key_Decides}
 abbrev Entries : Type 0
 Entries = List (AskedKey × KeptReply)
 
+-- of no entry none is left, whatever the capacity
+none_left : (n : ℕ) (es : Entries) → es ≡ [] → lru_cache (take n es) n ≡ lru_cache [] n
+none_left zero [] e = refl
+none_left (suc n) [] e = refl
+none_left zero (x ∷ es) e = absurd (cc)
+none_left (suc n) (x ∷ es) e = absurd (cc)
+
+pub none_kept : (c : Cached) (n m : ℕ) → c ≡ lru_cache [] m → lru_cache (take n c.entries) n ≡ lru_cache [] n
+none_kept c n m e = none_left n c.entries (ap (λ (x : Cached). x.entries) e)
+
 module _ (key : AskedKey) where
   -- an entry of the key is found by its key alone
   found : (es : Entries) (o : Option (AskedKey × KeptReply)) → lookup_entry (same_key key) es ≡ o → lookup (same_key key) es ≡ option_map_or (λ e. Some e.1) o None

@@ -1,5 +1,5 @@
 -- A bounded cache of replies in front of a service (RFC 1034, section 5.3.3; RFC 1035, section 7.4; RFC 2308, section 5).
-use Rattle.std.specs.Prelude.{ℕ, ◌≡◌, ◌≤◌, ◌-◌, ◌+◌, ◌*◌, ◌&&◌, ◌||◌, Bool, not, List, [], ◌∷◌, length, take, nat_eq, nat_lt, nat_le, if◌then◌else◌, Option, Some, None, option_and_then, Result, Ok, Err, is_ok}
+use Rattle.std.specs.Prelude.{ℕ, ◌≡◌, ◌≤◌, ◌-◌, ◌+◌, ◌*◌, ◌&&◌, ◌||◌, Bool, false, not, List, [], ◌∷◌, length, take, nat_eq, nat_lt, nat_le, if◌then◌else◌, Option, Some, None, is_some, option_and_then, Result, Ok, Err, is_ok}
 use Rattle.std.specs.Map.{lookup, remove_entry}
 use Rattle.dns_name.specs.declared.error.ParseError.{ParseError}
 use Rattle.dns_base.specs.Msg.{Msg}
@@ -117,6 +117,16 @@ abbrev pub behind_call : Cached → Req (Unit {0}) → TurnAnswer → Option Ask
 behind_call c r answer None cached = c
 behind_call c r answer (Some key) (Some m) = with_used key c (lookup (same_key key) c.entries)
 behind_call c r answer (Some key) None = with_kept key c (kept_answer r answer)
+
+-- whether a reply is kept under a key
+abbrev pub has_entry : Cached → Option AskedKey → Bool
+has_entry c None = false
+has_entry c (Some key) = is_some (lookup (same_key key) c.entries)
+
+-- the cache without the entry of a key
+abbrev pub without_entry : Cached → Option AskedKey → Cached
+without_entry c None = c
+without_entry c (Some key) = lru_cache (remove_entry (same_key key) c.entries) c.cap
 
 -- a call's message out of the cache, and the cache behind it. Where there is no such message, the service's answer is given.
 pub record AskedCache : Type 0 where

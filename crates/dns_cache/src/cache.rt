@@ -1,17 +1,20 @@
 //! A bounded cache in front of a single service.
 
-ghost use Rattle.std.specs.Prelude.{◌≡◌, IfOk, Ok, OnOk, OnErr, Some, option_and_then};
+ghost use Rattle.std.specs.Prelude.{◌≡◌, [], length, IfOk, Ok, OnOk, OnErr, Some, option_and_then};
 ghost use Rattle.std.specs.Map.{lookup};
-ghost use Rattle.dns_cache.specs.AskedCache.{AnswersCached, asked_cache, cached_message, empty_cache, kept_answer, with_kept, young_message};
+ghost use Rattle.std.specs.NonZero.{non_zero_usize_get};
+ghost use Rattle.lru.specs.LruCache.{lru_cache};
+ghost use Rattle.dns_cache.specs.AskedCache.{AnswersCached, asked_cache, cached_message, empty_cache, has_entry, kept_answer, with_kept, without_entry, young_message};
 ghost use Rattle.dns_cache.specs.Steps.{GivesMessage, used_where};
 ghost use Rattle.dns_cache.specs.Keys.{AsksOnce, key_of, same_key};
 
 use crate::kept::{Kept, kept_reply};
 use crate::key::{CacheKey, key_of};
-use dns_route::{ReplyMessage, SingleService, Turned};
+use dns_route::{ReplyMessage, Seed, SingleService, Turned};
 use dns_service::{OutOfMemory, Polled, Request};
 use lru::LruCache;
 use std::alloc::Global;
+use std::hash::RandomState;
 use std::marker::Model;
 use std::num::NonZeroUsize;
 
@@ -20,7 +23,20 @@ use std::num::NonZeroUsize;
 /// many there may be.
 #[derive(Drop)]
 pub struct Cache {
-    entries: LruCache<CacheKey, Kept>,
+    entries: LruCache<CacheKey, Kept, Seed>,
+}
+
+/// No entry, of so many at most. Memory is taken as they come.
+fn no_entry(
+    alloc: Global,
+    capacity: NonZeroUsize,
+    seed: Seed,
+) -> Result<LruCache<CacheKey, Kept, Seed>, OutOfMemory>
+    ensures { IfOk result (λ c. c ≡ lru_cache [] (non_zero_usize_get capacity)) }
+{
+    let mut entries = LruCache::unbounded_with_hasher(alloc, seed)?;
+    entries.resize(capacity);
+    Ok(entries)
 }
 
 impl Model for Cache {
@@ -32,15 +48,65 @@ impl Model for Cache {
 }
 
 impl Cache {
-    /// A cache of so many replies at most, from 1 to 65,536. Memory is taken as replies come.
+    /// A cache of so many replies at most, from 1 to 65,536. Memory is taken as replies come. Keys are hashed from a fixed seed:
+    /// where the names come from queries of strangers, `new_with_seed` is the call to take.
     pub fn new(alloc: Global, capacity: usize) -> Result<Cache, OutOfMemory>
+        ensures { IfOk result (λ c. c ≡ empty_cache capacity) }
+    {
+        Cache::seeded(alloc, capacity, Seed::fixed())
+    }
+
+    /// The same, where keys are hashed from a random state, as `RandomState::new(&rt)` gives, so that nobody can pick names of
+    /// queries whose hashes meet.
+    pub fn new_with_seed(
+        alloc: Global,
+        capacity: usize,
+        seed: RandomState,
+    ) -> Result<Cache, OutOfMemory>
+        ensures { IfOk result (λ c. c ≡ empty_cache capacity) }
+    {
+        Cache::seeded(alloc, capacity, Seed::random(seed))
+    }
+
+    /// The same from any seed.
+    fn seeded(alloc: Global, capacity: usize, seed: Seed) -> Result<Cache, OutOfMemory>
         ensures { IfOk result (λ c. c ≡ empty_cache capacity) }
     {
         let Some(capacity) = NonZeroUsize::new(capacity.clamp(1, 65_536)) else {
             unreachable!();
         };
-        let entries = LruCache::sparse(alloc, capacity)?;
+        let entries = no_entry(alloc, capacity, seed)?;
         Ok(Cache { entries })
+    }
+
+    /// How many replies are kept, young or not.
+    pub fn len(&self) -> usize
+        ensures { result ≡ length self.now.entries }
+    {
+        self.entries.len()
+    }
+
+    /// Removes all replies. How many there may be stays.
+    pub fn clear(&mut self)
+        ensures { self.new ≡ lru_cache [] self.old.cap }
+    {
+        self.entries.clear();
+    }
+
+    /// Removes the reply that is kept for a request's question, with the DO bit or without as the request has it, and says
+    /// whether there was one. A refused call leaves the cache.
+    pub fn remove(&mut self, alloc: Global, request: &Request<()>) -> Result<bool, OutOfMemory>
+        ensures found { IfOk result (λ b. b ≡ has_entry self.old (key_of request.now.octets)) }
+        ensures cache { OnOk result (self.new ≡ without_entry self.old (key_of request.now.octets)) }
+        ensures err { OnErr result (self.new ≡ self.old) }
+    {
+        match key_of(alloc, request)? {
+            Some(key) => {
+                let kept = self.entries.pop(&key);
+                Ok(kept.is_some())
+            }
+            None => Ok(false),
+        }
     }
 
     /// Answers turn k of a request, whose seconds are the time: at turn 0 out of the cache, where a reply is kept that is

@@ -10,7 +10,7 @@ use Rattle.dns_events.specs.declared.event.Why.TheVariants.{Short}
 use Rattle.dns_service.specs.declared.polled.PolledRequest.{PolledRequest}
 use Rattle.dns_client.specs.Frames.{first_frame, framed, frames}
 use Rattle.dns_client.specs.Connections.{piece, take_frames}
-use Rattle.dns_client.specs.Stands.{Leads, TakesLent, TakesMessage}
+use Rattle.dns_client.specs.Goings.{Leads, TakesLent, TakesMessage}
 use Rattle.dns_client.specs.declared.connection.OpenConnection.{OpenConnection}
 use Rattle.dns_client.specs.declared.outcome.Outcome.{Outcome}
 use Rattle.dns_client.specs.declared.outcome.Outcome.TheVariants.{Nothing, Ends}

@@ -23,7 +23,7 @@ use Rattle.dns_client.specs.Reasons.{ClosesFor}
 use Rattle.dns_client.specs.Requests.{unpolled, header_size, most_requests, request_of_frame}
 use Rattle.dns_client.specs.Datagrams.{datagram}
 use Rattle.dns_client.specs.Timers.{is_expired}
-use Rattle.dns_client.specs.Connections.{opened, reconfigured, released, close, wind_up, append_frame, enqueue, in_transaction, room, take_frame, take_request, take_frames, piece, took_too_long, written, write, flushed, flush}
+use Rattle.dns_client.specs.Connections.{opened, reconfigured, released, close, wind_up, append_frame, enqueue_or_drop, in_transaction, room, take_frame, take_request, take_frames, piece, took_too_long, written, write, flushed, flush}
 use Rattle.dns_client.specs.Turns.{exchange_turn, turn, turn_request, poll_request, polled, answered, retimed, with_request, reply_to, sent_at_once, sent_for, hold, queue_reply}
 use Rattle.dns_client.proofs.Taken.{takes}
 use Rattle.dns_client.specs.Rule.{rule, in_phase, unused_rule, exchange_rule, open_rule, flushing_rule, closed_rule}
@@ -157,7 +157,7 @@ module _ (answers : Serving) (e : Event) where
     room_case m s p true is = w.queues m s p is
     room_case m s p false is = w.stays s
 
-    frame_case : (f : List ℕ) (s : Slate) → s.phase ≡ Open → (b : Bool) → P s ((if b then enqueue e.at (framed (wire (error_reply f 1))) s else take_request e.at e.secs f s), [])
+    frame_case : (f : List ℕ) (s : Slate) → s.phase ≡ Open → (b : Bool) → P s ((if b then enqueue_or_drop e.at (framed (wire (error_reply f 1))) s else take_request e.at e.secs f s), [])
     frame_case f s p true = room_case (framed (wire (error_reply f 1))) s p (room e.at s) refl
     frame_case f s p false = asked_case f s p (nat_lt (length s.requests) most_requests)
 

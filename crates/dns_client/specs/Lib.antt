@@ -15,6 +15,7 @@ pub mod Requests
 pub mod Reasons
 pub mod Datagrams
 pub mod Connections
+pub mod Heard
 pub mod Turns
 pub mod Rule
 pub mod After
@@ -25,4 +26,5 @@ pub mod TurnedAt
 pub mod Unfinished
 pub mod Stands
 pub mod Spent
+pub mod Goings
 pub mod Pieces

@@ -82,10 +82,8 @@ impl<W: Served> ClientCore<W> {
         ensures version { IfOk result (λ p. p.0.version ≡ look.now.version) }
     {
         let octets = cut_datagram(alloc, octets)?;
-        match begin_cut(alloc, service, addr, at, secs, octets, &look.dgram) {
-            Ok(begun) => ClientCore::exchange(alloc, client, look.version, begun),
-            Err(error) => Err(error),
-        }
+        let begun = begin_cut(alloc, service, addr, at, secs, octets, &look.dgram)?;
+        ClientCore::exchange(alloc, client, look.version, begun)
     }
 
     /// What is kept of an exchange that began, under a version, and what its client is sent at once.
@@ -98,17 +96,13 @@ impl<W: Served> ClientCore<W> {
         ensures { IfOk result (λ p. (p.0 ≡ record { client = client; state = State.Exchange begun.0; version = version }) × (p.1.items ≡ datagrams_to client begun.1)) }
     {
         let (unfinished, sent) = begun;
-        match datagrams_to(alloc, client, sent) {
-            Ok(outs) => {
-                let core = ClientCore {
-                    client,
-                    state: State::Exchange(unfinished),
-                    version,
-                };
-                Ok((core, outs))
-            }
-            Err(error) => Err(error),
-        }
+        let outs = datagrams_to(alloc, client, sent)?;
+        let core = ClientCore {
+            client,
+            state: State::Exchange(unfinished),
+            version,
+        };
+        Ok((core, outs))
     }
 
     /// An open connection from a moment on, by a look that shows no shutdown. It takes the memory of its queue.
@@ -151,7 +145,10 @@ impl<W: Served> ClientCore<W> {
     {
         match step_state(&mut self.state, alloc, service, self.client, event) {
             Ok(outs) => Ok(outs),
-            Err(error) => Err(lose(&mut self.state, error)),
+            Err(error) => {
+                lose(&mut self.state);
+                Err(error)
+            }
         }
     }
 
@@ -190,7 +187,10 @@ impl<W: Served> ClientCore<W> {
         }
         match shut_down(&mut self.state, alloc, self.client) {
             Ok(outs) => Ok(outs),
-            Err(error) => Err(lose(&mut self.state, error)),
+            Err(error) => {
+                lose(&mut self.state);
+                Err(error)
+            }
         }
     }
 

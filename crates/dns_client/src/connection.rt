@@ -7,11 +7,11 @@ ghost use Rattle.dns_client.specs.Frames.{frames};
 ghost use Rattle.dns_client.specs.Invoker.{finds_room};
 ghost use Rattle.dns_client.specs.Connections.{opened, take_frames, piece, write, tick, wind_up, reconfigured};
 ghost use Rattle.dns_client.specs.Requests.{unpolled, request_of_frame};
-ghost use Rattle.dns_client.specs.Stands.{flushing_for};
+ghost use Rattle.dns_client.specs.Goings.{changes_kept, flushing_for, takes_memory};
 ghost use Rattle.dns_client.specs.Timers.{deadline};
 ghost use Rattle.dns_client.specs.Turns.{turn};
 ghost use Rattle.dns_client.specs.Waiting.{first_unfinished, next_unfinished};
-ghost use Rattle.dns_client.specs.Rule.{changes_kept, rule, takes_memory};
+ghost use Rattle.dns_client.specs.Rule.{rule};
 ghost use Rattle.dns_base.specs.Header.{header_of};
 ghost use Rattle.dns_service.specs.PolledRequest.{request_answer};
 ghost use Rattle.dns_service.specs.Req.{Req};
@@ -46,7 +46,8 @@ pub struct OpenConnection<W: Served> {
 }
 
 impl<W: Served> OpenConnection<W> {
-    ghost use Rattle.dns_client.specs.Stands.{IsGoing, IsOpen, Leads, Asks, TakesFrame, TakesMessage, refusing};
+    ghost use Rattle.dns_client.specs.Goings.{Leads, Asks, TakesFrame, TakesMessage, refusing};
+    ghost use Rattle.dns_client.specs.Stands.{IsGoing, IsOpen};
 
     /// Of no requests, from a moment on. It takes the memory of its queue.
     pub fn open(
@@ -104,10 +105,8 @@ impl<W: Served> OpenConnection<W> {
         if self.unfinished.count() == u64::MAX {
             return Ok(());
         }
-        match ask(alloc, service, request) {
-            Ok(kept) => self.keep(kept),
-            Err(error) => Err(error),
-        }
+        let kept = ask(alloc, service, request)?;
+        self.keep(kept)
     }
 
     /// Keeps a request under its number.
@@ -204,10 +203,8 @@ impl<W: Served> OpenConnection<W> {
             return Ok(Some(Outcome::Ends(Why::Short)));
         };
         self.timer.reset(at);
-        match self.take_message(alloc, service, at, secs, message) {
-            Ok(()) => Ok(None),
-            Err(error) => Err(error),
-        }
+        self.take_message(alloc, service, at, secs, message)?;
+        Ok(None)
     }
 
     /// Takes a message: a response is refused, and a query asked. A response without room for its reply takes no memory.
@@ -242,10 +239,8 @@ impl<W: Served> OpenConnection<W> {
         ensures { OnOk result (Asks (request_answer W.Future.answer W.Stream.answer) (serving (W.answer service.now) (W.hint service.now)) self.old self.new (request_of_frame self.old.invoker.idle_timeout self.old.addr at secs message)) }
     {
         let idle_timeout = self.invoker.idle_timeout;
-        match frame_request(alloc, idle_timeout, self.addr, at, secs, message) {
-            Ok(request) => self.ask(alloc, service, request),
-            Err(error) => Err(error),
-        }
+        let request = frame_request(alloc, idle_timeout, self.addr, at, secs, message)?;
+        self.ask(alloc, service, request)
     }
 
     /// Octets of the stream came.
@@ -274,15 +269,12 @@ impl<W: Served> OpenConnection<W> {
         ensures { (answers : Serving)
             → Leads (request_answer W.Future.answer W.Stream.answer) answers self.old self.new result (λ s. write at took s.queue s) }
     {
-        if self.invoker.queue.is_empty() {
-            return Outcome::Nothing;
-        }
-        if took > self.write_timeout {
-            return Outcome::Ends(Why::WriteTimeout);
-        }
         let Some(octets) = self.invoker.queue.pop_front() else {
             return Outcome::Nothing;
         };
+        if took > self.write_timeout {
+            return Outcome::Ends(Why::WriteTimeout);
+        }
         if self.invoker.queue.is_empty() {
             self.timer.reset(at);
             return Outcome::Written(octets);

@@ -19,21 +19,18 @@ pub struct FlushingConnection {
 }
 
 impl FlushingConnection {
-    ghost use Rattle.dns_client.specs.Stands.{LeadsOn};
+    ghost use Rattle.dns_client.specs.Goings.{LeadsOn};
 
     /// Writes the front frame. The last one closes the connection.
     fn write(&mut self, took: u64) -> Outcome
         ensures { LeadsOn self.old self.new result (λ s. flush self.old.why took s.queue s) }
     {
-        if self.queue.is_empty() {
-            return Outcome::Nothing;
-        }
-        if took > self.write_timeout {
-            return Outcome::Ends(Why::WriteTimeout);
-        }
         let Some(octets) = self.queue.pop_front() else {
             return Outcome::Nothing;
         };
+        if took > self.write_timeout {
+            return Outcome::Ends(Why::WriteTimeout);
+        }
         if self.queue.is_empty() {
             return Outcome::WrittenLast(octets, self.why);
         }

@@ -6,7 +6,8 @@ ghost use Rattle.dns_client.specs.News.{wide};
 ghost use Rattle.dns_client.specs.Rule.{rule};
 ghost use Rattle.dns_client.specs.Serving.{Serving, serving};
 ghost use Rattle.dns_client.specs.Slate.{Slate};
-ghost use Rattle.dns_client.specs.Stands.{IsClosed, StateGoes, outputs_of, state_behind, state_is_open, wound_up};
+ghost use Rattle.dns_client.specs.Goings.{StateGoes, outputs_of, state_behind, wound_up};
+ghost use Rattle.dns_client.specs.Stands.{IsClosed, state_is_open};
 ghost use Rattle.dns_service.specs.PolledRequest.{request_answer};
 
 use crate::client::State;
@@ -42,11 +43,10 @@ fn wind_up<W: Served>(state: &mut State<W>, why: Why)
 }
 
 /// A call found no memory: nothing is kept any more.
-pub(crate) fn lose<W: Served>(state: &mut State<W>, error: OutOfMemory) -> OutOfMemory
+pub(crate) fn lose<W: Served>(state: &mut State<W>)
     ensures { state.new ≡ State.Lost }
 {
     set(state, State::Lost);
-    error
 }
 
 /// An event of a closed connection: a release gives its slot back.
@@ -63,7 +63,8 @@ fn step_closed(freed: &mut bool, event: &Event)
 fn last(alloc: Global, client: u64, octets: Octets, why: Why) -> Result<Vec<Output>, OutOfMemory>
     ensures { IfOk result (λ outs. outs.items ≡ Output.Frame client octets ∷ Output.Closed client why ∷ []) }
 {
-    let mut outs = one(alloc, Output::Frame { client, octets })?;
+    let mut outs = Vec::with_capacity(alloc, 2)?;
+    outs.push(Output::Frame { client, octets })?;
     outs.push(Output::Closed { client, why })?;
     Ok(outs)
 }

@@ -1,5 +1,5 @@
 -- The data of a COOKIE option, read and written (RFC 7873, section 4).
-use Rattle.std.specs.Prelude.{ℕ, ◌+◌, List, [], ◌∷◌, ◌++◌, length, take, drop, Option, Some, None, Ok, Err, Bool, true, ◌==◌, ◌&&◌, nat_lt, nat_le, if◌then◌else◌}
+use Rattle.std.specs.Prelude.{ℕ, ◌+◌, List, [], ◌∷◌, ◌++◌, length, take, drop, Option, Some, None, Ok, Err, IfSome, ◌≡◌, ◌≤◌, nat_lt, if◌then◌else◌}
 use Rattle.dns_name.specs.declared.error.ParseError.TheVariants.{ShortInput, Form}
 use Rattle.dns_name.specs.declared.error.FormReason.TheVariants.{ShortServerCookie, LongServerCookie}
 use Rattle.dns_name.specs.OptData.{Taken}
@@ -49,9 +49,9 @@ cookie_octets c = c.client ++ server_octets c.server
 
 -- ---- the cookies that there are
 
-abbrev pub is_server_part : Option (List ℕ) → Bool
-is_server_part None = true
-is_server_part (Some s) = nat_le 8 (length s) && nat_le (length s) 32
+-- a server part, where there is one, has 8 to 32 octets
+abbrev pub IsServerPart : Option (List ℕ) → Type 0
+IsServerPart o = IfSome o (λ s. (8 ≤ length s) × (length s ≤ 32))
 
-abbrev pub is_cookie : Cookie → Bool
-is_cookie c = (length c.client == 8) && is_server_part c.server
+abbrev pub IsCookie : Cookie → Type 0
+IsCookie c = (length c.client ≡ 8) × IsServerPart c.server

@@ -1,12 +1,11 @@
 -- A cookie that is written and read again is the same.
-use Rattle.std.specs.Prelude.{◌≡◌, ℕ, ◌+◌, ◌≤◌, List, [], ◌∷◌, ◌++◌, length, take, drop, Option, Some, None, Ok, true, false, ◌==◌, nat_lt, nat_le}
+use Rattle.std.specs.Prelude.{◌≡◌, ℕ, ◌+◌, ◌≤◌, List, [], ◌∷◌, ◌++◌, length, take, drop, Option, Some, None, Ok, false, nat_lt}
 use Rattle.std.proofs.Common.{arith, refl, sym, ap, ◌∙◌, length-append}
 use Rattle.std.proofs.Math.Seq.{take-append_seam, drop-append_seam}
-use Rattle.std.proofs.lemmas.Bool.{le-ltb, leb-true, eqb-true}
+use Rattle.std.proofs.lemmas.Bool.{le-ltb}
 use Rattle.dns_name.specs.OptData.{kind, for_code, whole}
-use Rattle.dns_name.proofs.Readings.{both}
 use Rattle.dns_cookie.specs.Cookies.{Cookie}
-use Rattle.dns_cookie.specs.CookieData.{cookie_data, cookie_octets, server_octets, server_part, server_data, with_some, with_client, is_cookie, is_server_part}
+use Rattle.dns_cookie.specs.CookieData.{cookie_data, cookie_octets, server_octets, server_part, server_data, with_some, with_client, IsCookie, IsServerPart}
 
 server_whole : (s : List ℕ) → 8 ≤ length s → length s ≤ 32 → with_some (server_data s) ≡ Ok (Some s, length s)
 server_whole s least most =
@@ -15,13 +14,10 @@ server_whole s least most =
     rw (low, high) refl
 
 -- a server part is read as itself, whole
-server_again : (o : Option (List ℕ)) → is_server_part o ≡ true → server_part (server_octets o) ≡ Ok (o, length (server_octets o))
+server_again : (o : Option (List ℕ)) → IsServerPart o → server_part (server_octets o) ≡ Ok (o, length (server_octets o))
 server_again None h = refl
-server_again (Some []) h = cc
-server_again (Some (x ∷ d)) h =
-    let s : List ℕ = x ∷ d in
-    let tests : (nat_le 8 (length s) ≡ true) × (nat_le (length s) 32 ≡ true) = both (nat_le 8 (length s)) (nat_le (length s) 32) h in
-    server_whole (x ∷ d) (leb-true 8 (length s) tests.0) (leb-true (length s) 32 tests.1)
+server_again (Some []) h = absurd (omega (arith, h.0))
+server_again (Some (x ∷ d)) h = server_whole (x ∷ d) h.0 h.1
 
 -- what follows eight octets is read as the server part
 client_again : (c t : List ℕ) → length c ≡ 8 → cookie_data (c ++ t) ≡ with_client c (server_part t)
@@ -39,7 +35,5 @@ parts_again c t o e h =
     let all : nat_lt (8 + length t) (length (c ++ t)) ≡ false = le-ltb (8 + length t) (length (c ++ t)) (omega arith) in
     rw (client_again c t e, h, all) refl
 
-pub cookie_again : (k : Cookie) → is_cookie k ≡ true → kind (for_code 10 cookie_data) 10 (cookie_octets k) ≡ Some (Ok k)
-cookie_again k h =
-    let tests : ((length k.client == 8) ≡ true) × (is_server_part k.server ≡ true) = both (length k.client == 8) (is_server_part k.server) h in
-    ap Some (parts_again k.client (server_octets k.server) k.server (eqb-true (length k.client) 8 tests.0) (server_again k.server tests.1))
+pub cookie_again : (k : Cookie) → IsCookie k → kind (for_code 10 cookie_data) 10 (cookie_octets k) ≡ Some (Ok k)
+cookie_again k h = ap Some (parts_again k.client (server_octets k.server) k.server h.0 (server_again k.server h.1))

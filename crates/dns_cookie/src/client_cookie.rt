@@ -24,6 +24,9 @@ pub struct ClientCookie {
     cells: Cells<8>,
 }
 
+/// A client cookie has eight octets (RFC 7873, section 4.1).
+const _: () = prove!(ClientCookie::COMPOSE_LEN == 8);
+
 impl ClientCookie {
     /// The number of octets of a client cookie.
     pub const COMPOSE_LEN: u16 = 8;

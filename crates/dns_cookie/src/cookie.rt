@@ -1,11 +1,11 @@
 //! Cookies as clients send them and servers answer them (RFC 7873, section 4).
 
-ghost use Rattle.std.specs.Prelude.{length, true, OnOk, OnErr, ◌++◌, ◌≡◌, Some};
+ghost use Rattle.std.specs.Prelude.{length, OnOk, OnErr, ◌++◌, ◌≡◌, Some};
 ghost use Rattle.std.specs.Option.{option_copied};
 ghost use Rattle.dns_name.specs.OptData.{ParsesData, for_code};
 ghost use Rattle.dns_name.specs.Place.{rest};
 ghost use Rattle.dns_cookie.specs.ClientCookie.{client_octets};
-ghost use Rattle.dns_cookie.specs.CookieData.{cookie_data, cookie_octets, is_cookie};
+ghost use Rattle.dns_cookie.specs.CookieData.{IsCookie, cookie_data, cookie_octets};
 ghost use Rattle.dns_cookie.specs.ReadBack.{cookie_again};
 ghost use Rattle.dns_cookie.specs.Cookies.{cookie_text, standard_of, response, Checks, IsChecked};
 
@@ -155,7 +155,7 @@ impl ComposeOptData for Cookie {
     /// The number of octets: 8 without a server part, and at most 40.
     fn compose_len(&self) -> u16
         ensures value { result ≡ length (cookie_octets self.now) }
-        ensures readable { is_cookie self.now ≡ true }
+        ensures readable { IsCookie self.now }
     {
         match &self.server {
             Some(server) => self.client.compose_len() + server.compose_len(),
@@ -178,7 +178,7 @@ impl ComposeOptData for Cookie {
 }
 
 impl<'a> ReadBack<'a> for Cookie {
-    ghost is_readable = { is_cookie };
+    ghost is_readable = { IsCookie };
 
     ghost comes_back = { cookie_again };
 }

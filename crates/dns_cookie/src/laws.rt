@@ -15,22 +15,6 @@ use crate::standard_server_cookie::StandardServerCookie;
 use crate::timestamp::timestamp_ok;
 use dns_name::{IpAddr, Serial};
 
-/// A cookie that `create_response` makes checks true from the same address under the same secret,
-/// exactly where the closure accepts its timestamp.
-pub fn check_response<F: FnOnce(Serial) -> bool>(
-    cookie: &Cookie,
-    timestamp: Serial,
-    client_ip: IpAddr,
-    secret: &[u8; 16],
-    timestamp_ok: F,
-) -> bool
-    requires { F.IsAlwaysCallable timestamp_ok }
-    ensures { F.post timestamp_ok timestamp result }
-{
-    let response = cookie.create_response(timestamp, client_ip, secret);
-    response.check_server_hash(client_ip, secret, timestamp_ok)
-}
-
 /// With `timestamp_ok` a check is true exactly where the server part is a standard server cookie that
 /// is timely at `now` and whose hash agrees.
 pub fn check_at(cookie: &Cookie, client_ip: IpAddr, secret: &[u8; 16], now: Serial) -> bool

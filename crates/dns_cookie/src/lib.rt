@@ -14,7 +14,7 @@ mod timestamp;
 
 pub use client_cookie::ClientCookie;
 pub use cookie::Cookie;
-pub use laws::{check_at, check_response, order_is_that_of_octets, responses_check};
+pub use laws::{check_at, order_is_that_of_octets, responses_check};
 pub use server_cookie::ServerCookie;
 pub use siphash::siphash24;
 pub use standard_server_cookie::StandardServerCookie;

@@ -3,7 +3,6 @@
 ghost use Rattle.std.specs.Prelude.{Some, ◌≡◌, ◌≤◌, ◌+◌, ◌++◌, ◌↔◌, IsTrue, length, take};
 ghost use Rattle.std.specs.Int.{w64, to_le_bytes};
 ghost use Rattle.dns_cookie.specs.ClientCookie.{client_octets};
-ghost use Rattle.dns_name.specs.Addresses.{address_octets};
 ghost use Rattle.dns_cookie.specs.Cookies.{octets_before_hash, version_of, reserved_of, timestamp_of, hash_of, hash_number, server_cookie, HashAgrees};
 ghost use Rattle.hex.specs.Hex.{encode_upper};
 
@@ -144,7 +143,7 @@ impl StandardServerCookie {
     ) -> u64
         ensures { result ≡ hash_number secret.now (client_octets client_cookie) (take 8 self) client_ip }
     {
-        let address = octets_of(&client_ip);
+        let address = client_ip.as_slice();
         let mut input = [0; 32];
         put(&mut input, 0, client_cookie.as_slice());
         put(&mut input, 8, &self.octets[..8]);
@@ -166,17 +165,6 @@ fn is_number(octets: &[u8; 8], number: u64) -> bool
     ensures { IsTrue result ↔ (octets.now ≡ to_le_bytes w64 number) }
 {
     u64::from_le_bytes(*octets) == number
-}
-
-/// An address as 4 or 16 octets.
-fn octets_of(address: &IpAddr) -> &[u8]
-    ensures value { result.now ≡ address_octets address.now }
-    ensures most { length result.now ≤ 16 }
-{
-    match address {
-        IpAddr::V4(octets) => octets,
-        IpAddr::V6(octets) => octets,
-    }
 }
 
 impl fmt::Display for StandardServerCookie {

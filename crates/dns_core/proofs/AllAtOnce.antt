@@ -21,13 +21,13 @@ use Rattle.dns_core.specs.Out.{gain, gained, heard, is_unused, joins, members, o
 use Rattle.dns_core.specs.ByClient.{is_member}
 use Rattle.dns_core.specs.Books.{book_rule, is_entry}
 use Rattle.dns_core.specs.Placed.{Knowledge, book_now, entries, knows, looks, placed}
-use Rattle.dns_core.specs.Outs.{Hall, placed_slate, hall, step_gained, outs, outs_after}
+use Rattle.dns_core.specs.Outs.{Membership, placed_slate, membership, step_gained, outs, outs_after}
 use Rattle.dns_events.specs.declared.settings.Settings.{Settings}
 use Rattle.dns_core.proofs.AtOnce.{closed_if, enters}
 use Rattle.dns_core.proofs.Counted.{put_keeps}
 use Rattle.dns_core.proofs.Gained.{concerns_all, conf_more, members_away, members_joined, members_kept, none_away}
 use Rattle.dns_core.proofs.OutLemmas.{slate_some}
-use Rattle.dns_core.proofs.Keys.{flat_among}
+use Rattle.dns_clients.proofs.Keys.{flat_among}
 use Rattle.dns_core.proofs.Late.{NotOver, not_over}
 use Rattle.dns_core.proofs.Looked.{over_idle, told}
 use Rattle.dns_core.proofs.Plain.{plain}
@@ -40,7 +40,7 @@ use Rattle.dns_core.proofs.StepsByClient.{joined}
 use Rattle.dns_core.proofs.StepsAlike.{outs_split}
 use Rattle.dns_core.proofs.StepsNothing.{gain_or_not, untaken_entry}
 use Rattle.dns_core.proofs.StepsHeld.{members_rise}
-use Rattle.dns_core.proofs.LooksInTurn.{Hears, flat_equal, looks_hall, looks_hear, looks_out, looks_unused, tells}
+use Rattle.dns_core.proofs.LooksInTurn.{Hears, flat_equal, looks_membership, looks_hear, looks_out, looks_unused, tells}
 
 module _ (answers : Serving) (settings : Settings) where
   -- ---- an event that all hear, and a look of each of some, the members among them
@@ -62,26 +62,26 @@ module _ (answers : Serving) (settings : Settings) where
 
   -- after the event, before the looks
   record Wide (q : List Event) (p : List Step) (e : Event) : Type 0 where
-    members_stay : (hall answers settings (p ++ Own e ∷ [])).members ≡ members answers settings q
-    book : (hall answers settings (p ++ Own e ∷ [])).book ≡ book_rule (hall answers settings p).book e.kind
+    members_stay : (membership answers settings (p ++ Own e ∷ [])).members ≡ members answers settings q
+    book : (membership answers settings (p ++ Own e ∷ [])).book ≡ book_rule (membership answers settings p).book e.kind
     gained : step_gained answers settings p (Own e) ≡ []
     slates : (c : ℕ) → placed_slate answers settings c (p ++ Own e ∷ []) ≡ placed_slate answers settings c p
     -- of a member
     tells : (c : ℕ) → joined answers settings c p ≡ true → told answers (knows settings c (p ++ Own e ∷ [])).unheard (placed_slate answers settings c p) ≡ rule answers e (slate answers settings c q)
 
-  wide_unheard : (p : List Step) (e : Event) (c : ℕ) → is_wide e.kind ≡ true → (knows settings c p).unheard ≡ [] → (knows settings c (p ++ Own e ∷ [])).unheard ≡ (if is_entry (hall answers settings p).book e.kind then e ∷ [] else [])
+  wide_unheard : (p : List Step) (e : Event) (c : ℕ) → is_wide e.kind ≡ true → (knows settings c p).unheard ≡ [] → (knows settings c (p ++ Own e ∷ [])).unheard ≡ (if is_entry (membership answers settings p).book e.kind then e ∷ [] else [])
   wide_unheard p e c w h =
       let k = knows settings c p in
       let o = wide_no_beginning e.kind w in
       let l : looks c k.began (Own e) ≡ false = rw o refl in
-      let is : is_entry (book_now k) e.kind ≡ is_entry (hall answers settings p).book e.kind = ap (λ x. is_entry x e.kind) (sym (tied answers settings c p).book) ∙ untaken_entry answers settings e.kind (hall answers settings p).book in
+      let is : is_entry (book_now k) e.kind ≡ is_entry (membership answers settings p).book e.kind = ap (λ x. is_entry x e.kind) (sym (tied answers settings c p).book) ∙ untaken_entry answers settings e.kind (membership answers settings p).book in
       ap (λ (x : Knowledge). x.unheard) (knows_more settings c p (Own e)) ∙ rw l (ap (λ es. es ++ entries (book_now k) (Own e)) h ∙ ap (λ z. if z then e ∷ [] else []) is)
 
   wide_goes : (q : List Event) (p : List Step) (e : Event) → is_wide e.kind ≡ true → Same answers settings q p → length q < last_version → Wide q p e
   wide_goes q p e w h lt =
       let c = e.client in
       let o = wide_no_beginning e.kind w in
-      let b = (hall answers settings p).book in
+      let b = (membership answers settings p).book in
       let v : has_version b ≡ true = lt-ltb b.version last_version (omega (arith, h.few, lt)) in
       record {
         members_stay = members_same answers settings p (Own e) (own_enters answers settings p e o) ∙ h.same_members;
@@ -101,7 +101,7 @@ module _ (answers : Serving) (settings : Settings) where
   all_look cs q p e so w h lt there =
       let p1 = p ++ Own e ∷ [] in
       let g = wide_goes q p e w h lt in
-      let ks = (hall answers settings p1).members in
+      let ks = (membership answers settings p1).members in
       let was : (c : ℕ) → joined answers settings c p1 ≡ true → joined answers settings c p ≡ true = λ c m. ap (list_any (nat_eq c)) (h.same_members ∙ sym g.members_stay) ∙ m in
       let among : (c : ℕ) → list_any (nat_eq c) ks ≡ true → list_any (nat_eq c) cs ≡ true = λ c m. there c (ap (list_any (nat_eq c)) (sym g.members_stay) ∙ m) in
       let silent : (c : ℕ) → list_any (nat_eq c) cs ≡ true → list_any (nat_eq c) ks ≡ false → tells answers settings p1 c ≡ [] = λ c m n. ap (λ b. if b then sent_after answers (placed_slate answers settings c p1) (knows settings c p1).unheard else []) n in
@@ -119,19 +119,19 @@ module _ (answers : Serving) (settings : Settings) where
       → Same answers settings (q ++ e ∷ []) ((p ++ Own e ∷ []) ++ map (look_by e) cs)
   all_same cs q p e w h lt there =
       let p1 = p ++ Own e ∷ [] in
-      let b = (hall answers settings p).book in
+      let b = (membership answers settings p).book in
       let g = wide_goes q p e w h lt in
-      let hl = looks_hall answers settings cs p1 e in
+      let hl = looks_membership answers settings cs p1 e in
       let v : has_version b ≡ true = lt-ltb b.version last_version (omega (arith, h.few, lt)) in
       let en = enters e.kind b w v in
-      let bk : (hall answers settings (p1 ++ map (look_by e) cs)).book ≡ book_rule b e.kind = ap (λ (x : Hall). x.book) hl ∙ g.book in
+      let bk : (membership answers settings (p1 ++ map (look_by e) cs)).book ≡ book_rule b e.kind = ap (λ (x : Membership). x.book) hl ∙ g.book in
       let fewer : (book_rule b e.kind).version ≤ length (q ++ e ∷ []) = simp length-append (omega (arith, en.version, h.few)) in
       let after : (c : ℕ) → slate answers settings c (q ++ e ∷ []) ≡ (rule answers e (slate answers settings c q)).0 = λ c. slate_some answers settings c q e (concerns_all c e w) in
-      let now : (c : ℕ) → joined answers settings c (p1 ++ map (look_by e) cs) ≡ list_any (nat_eq c) (members answers settings q) = λ c. ap (λ (x : Hall). list_any (nat_eq c) x.members) hl ∙ ap (list_any (nat_eq c)) g.members_stay in
+      let now : (c : ℕ) → joined answers settings c (p1 ++ map (look_by e) cs) ≡ list_any (nat_eq c) (members answers settings q) = λ c. ap (λ (x : Membership). list_any (nat_eq c) x.members) hl ∙ ap (list_any (nat_eq c)) g.members_stay in
       let was : (c : ℕ) → joined answers settings c (p1 ++ map (look_by e) cs) ≡ true → joined answers settings c p ≡ true = λ c m. ap (list_any (nat_eq c)) h.same_members ∙ sym (now c) ∙ m in
       let hear : (c : ℕ) → joined answers settings c (p1 ++ map (look_by e) cs) ≡ true → Hears answers settings c p1 (knows settings c p1).unheard (p1 ++ map (look_by e) cs) = λ c m. looks_hear answers settings cs p1 e c (there c (sym (now c) ∙ m)) in
       record {
-        same_members = ap (λ (x : Hall). x.members) hl ∙ g.members_stay ∙ sym (members_kept answers settings q e (wide_not_new answers settings q e w));
+        same_members = ap (λ (x : Membership). x.members) hl ∙ g.members_stay ∙ sym (members_kept answers settings q e (wide_not_new answers settings q e w));
         shown = ap conf_of bk ∙ en.conf ∙ ap (conf_rule e.kind) h.shown ∙ sym (conf_more settings q e);
         few = rw bk fewer;
         unused = λ c. looks_unused answers settings cs p1 e c ∙ ap (λ (s : Slate). is_unused s.phase) (g.slates c) ∙ h.unused c ∙ sym (ap (λ (s : Slate). is_unused s.phase) (after c) ∙ wide_use answers e (slate answers settings c q) w);
@@ -182,7 +182,7 @@ module _ (answers : Serving) (settings : Settings) where
   all_out cs (e ∷ es) so q p h few there = event_case (is_wide e.kind) cs e es q p so (all_out cs es so) h few there refl
 
   none_same : Same answers settings [] []
-  unfolding hall members conf placed_slate slate placed
+  unfolding membership members conf placed_slate slate placed
   none_same = record { same_members = refl; shown = refl; few = omega arith; unused = λ c. refl; slates = λ c m. cc; heard_all = λ c m. cc }
 
   -- where all members look after each event that all hear, by rising number

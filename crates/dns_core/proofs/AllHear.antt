@@ -29,7 +29,7 @@ use Rattle.dns_events.specs.declared.settings.Settings.{Settings}
 use Rattle.dns_core.specs.declared.server.Server.{Server}
 use Rattle.dns_core.proofs.Gained.{concerns_all, conf_more, members_kept, none_away, taken_still}
 use Rattle.dns_core.proofs.OutLemmas.{slate_some}
-use Rattle.dns_core.proofs.Keys.{flat_among, has_key}
+use Rattle.dns_clients.proofs.Keys.{flat_among, has_key}
 use Rattle.dns_core.proofs.Late.{not_over}
 use Rattle.dns_core.proofs.Looked.{heard_one}
 use Rattle.dns_core.proofs.Plain.{plain}

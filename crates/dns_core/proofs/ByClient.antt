@@ -19,7 +19,7 @@ use Rattle.dns_core.specs.Sent.{conf, sent, slate}
 use Rattle.dns_core.specs.Out.{is_unused, is_new, is_turned_away, joins, members, gain, heard, turned_away, gained, out}
 use Rattle.dns_core.specs.ByClient.{is_for, is_member, was_turned_away}
 use Rattle.dns_events.specs.declared.settings.Settings.{Settings}
-use Rattle.dns_core.proofs.Counted.{less_absent}
+use Rattle.dns_clients.proofs.Keys.{less_absent}
 use Rattle.dns_core.proofs.OutLemmas.{slate_some, sent_more, sent_still, out_more}
 use Rattle.dns_core.proofs.Plain.{unused_is}
 use Rattle.dns_core.proofs.Gained.{concerns_own, used_more, new_was, new_became, used_not_new, members_kept, members_away}

@@ -1,14 +1,14 @@
 -- Counts of numbers in rising lists.
-use Rattle.std.proofs.Common.{◌≡◌, ◌≢◌, ℕ, ◌+◌, ◌-◌, List, [], ◌∷◌, length, Bool, true, false, cond, refl, ap, sym, ◌∙◌, arith, ⊎_elim, Less}
+use Rattle.std.proofs.Common.{◌≡◌, ◌≢◌, ℕ, ◌+◌, ◌-◌, List, [], ◌∷◌, length, Bool, true, false, cond, refl, ap, sym, ◌∙◌, arith, ⊎_elim}
 use Rattle.std.specs.Prelude.{filter, nat_lt, nat_eq, if◌then◌else◌, ◌||◌}
-use Rattle.std.specs.List.{list_any, AllByRecursion}
+use Rattle.std.specs.List.{list_any}
 use Rattle.std.specs.List.Sorted.{IsStrictlySortedBy}
 use Rattle.std.specs.Ordering.{nat_cmp}
 use Rattle.std.proofs.lemmas.Bool.{eq-eqb, ne_eqb, cases_eq}
-use Rattle.std.proofs.lemmas.Bool.Decides.{nat_tests}
 use Rattle.std.proofs.lemmas.Map.Keys.{sorted_head, sorted_tail}
 use Rattle.std.proofs.Math.Bool.{or-true}
 use Rattle.dns_core.specs.Out.{put}
+use Rattle.dns_clients.proofs.Keys.{less_absent}
 
 pub filter_same : (p q : ℕ → Bool) (ms : List ℕ) → ((c : ℕ) → list_any (nat_eq c) ms ≡ true → p c ≡ q c) → filter p ms ≡ filter q ms
 filter_same p q [] h = refl
@@ -25,12 +25,6 @@ put_there c (m ∷ ms) =
       | true ↦ rw (eq-eqb c c refl) refl
       | false ↦ rw (put_there c ms) (or-true (nat_eq c m))
     ])
-
-pub less_absent : (c : ℕ) (ns : List ℕ) → AllByRecursion (λ y. nat_cmp c y ≡ Less) ns → list_any (nat_eq c) ns ≡ false
-less_absent c [] h = refl
-less_absent c (n ∷ ns) h =
-    let ne : nat_eq c n ≡ false = grind (arith, nat_tests, h.0) in
-    rw (ne, less_absent c ns h.1) refl
 
 pub absent_other : (c m : ℕ) (ms : List ℕ) → list_any (nat_eq c) ms ≡ false → list_any (nat_eq m) ms ≡ true → m ≢ c
 absent_other c m ms h k e = let w = rw e at k in cc

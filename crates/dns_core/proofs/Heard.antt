@@ -16,7 +16,8 @@ use Rattle.dns_core.specs.Own.{is_wide, concerns}
 use Rattle.dns_core.specs.Sent.{conf}
 use Rattle.dns_core.specs.Out.{gain, heard, is_new, is_turned_away, joins, members, turned_away, gained}
 use Rattle.dns_events.specs.declared.settings.Settings.{Settings}
-use Rattle.dns_core.proofs.Counted.{filter_same, less_absent, put_there}
+use Rattle.dns_core.proofs.Counted.{filter_same, put_there}
+use Rattle.dns_clients.proofs.Keys.{less_absent}
 use Rattle.dns_core.proofs.Gained.{concerns_own, members_kept, members_joined, members_away, none_away}
 use Rattle.dns_core.proofs.Rising.{rises, new_absent}
 

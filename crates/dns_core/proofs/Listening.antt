@@ -9,12 +9,12 @@ use Rattle.dns_base.specs.Wire.{wire}
 use Rattle.dns_service.specs.ErrorReply.{error_reply}
 use Rattle.dns_service.specs.Req.{Req}
 use Rattle.dns_events.specs.declared.event.Why.TheVariants.{Short}
-use Rattle.dns_client.specs.Connections.{append_frame, close, enqueue, room, is_in_transaction, take_frame, take_frames, take_request}
+use Rattle.dns_client.specs.Connections.{append_frame, close, enqueue_or_drop, room, is_in_transaction, take_frame, take_frames, take_request}
 use Rattle.dns_client.specs.Frames.{framed}
 use Rattle.dns_client.specs.Requests.{unpolled, header_size, most_requests, request_of_frame}
 use Rattle.dns_client.specs.Serving.{Serving}
 use Rattle.dns_client.specs.Slate.{Slate, SlateRequest, Told}
-use Rattle.dns_client.specs.Turns.{answered, hold, queue_frame, queue_held, queue_reply, reply_to, retimed, turn, turn_request, with_request}
+use Rattle.dns_client.specs.Turns.{answered, hold, enqueue, queue_held, queue_reply, reply_to, retimed, turn, turn_request, with_request}
 use Rattle.dns_core.specs.ReplyTo.{Responds}
 use Rattle.dns_core.proofs.Replied.{refused_responds}
 use Rattle.dns_client.proofs.Taken.{takes}
@@ -62,7 +62,7 @@ module _ (Asked : List ℕ → Type 0) where
 
   -- ---- a piece
 
-  enqueue_listens : (at : ℕ) (m : List ℕ) (s : Slate) → RepliesTo m → Listens s → Listens (enqueue at m s)
+  enqueue_listens : (at : ℕ) (m : List ℕ) (s : Slate) → RepliesTo m → Listens s → Listens (enqueue_or_drop at m s)
   enqueue_listens at m s r h =
       (elim (room at s) as (λ b. Listens (if b then append_frame at m s else s)) [
         | true ↦ record { requests = h.requests; queue = All-push RepliesTo s.queue m h.queue r }
@@ -81,7 +81,7 @@ module _ (Asked : List ℕ → Type 0) where
   frame_listens at secs f s c h =
       let t : Slate = record s { taken = s.taken + 1; reset_at = at } in
       let g : Listens t = record { requests = h.requests; queue = h.queue } in
-      (elim (header_of f).qr as (λ b. Listens (if b then enqueue at (framed (wire (error_reply f 1))) t else take_request at secs f t)) [
+      (elim (header_of f).qr as (λ b. Listens (if b then enqueue_or_drop at (framed (wire (error_reply f 1))) t else take_request at secs f t)) [
         | true ↦ enqueue_listens at (framed (wire (error_reply f 1))) t (reply f (error_reply f 1) c (refused_responds f None 1)) g
         | false ↦ request_listens at secs f t c g
       ])
@@ -108,7 +108,7 @@ module _ (Asked : List ℕ → Type 0) where
   hold_asks : (m : List ℕ) (r : SlateRequest) → RepliesTo m → Asks r → Asks (hold m r)
   hold_asks m r p a = (elim (is_in_transaction r.status) as (λ b. Asks (if b then record r { held = Some m } else r)) [ true ↦ record { asked = a.asked; held = p } | false ↦ a ])
 
-  queue_on : (at k : ℕ) (m : List ℕ) (r : SlateRequest) (s : Slate) → RepliesTo m → Asks r → Listens s → GoesOn s (queue_frame at k m r s)
+  queue_on : (at k : ℕ) (m : List ℕ) (r : SlateRequest) (s : Slate) → RepliesTo m → Asks r → Listens s → GoesOn s (enqueue at k m r s)
   queue_on at k m r s p a h =
       (elim (room at s) as (λ b. GoesOn s (if b then append_frame at m (with_request k r s) else with_request k (hold m r) s)) [ true ↦ append_on at k m r s p a h | false ↦ set_on k (hold m r) s (hold_asks m r p a) h ])
 

@@ -17,13 +17,13 @@ use Rattle.dns_client.specs.Slate.{Slate}
 use Rattle.dns_core.specs.AtOnce.{look_by}
 use Rattle.dns_core.specs.Out.{is_unused}
 use Rattle.dns_core.specs.Placed.{Knowledge, knows, puts}
-use Rattle.dns_core.specs.Outs.{Hall, placed_slate, placed_gain, hall, step_gained, outs_after}
+use Rattle.dns_core.specs.Outs.{Membership, placed_slate, placed_gain, membership, step_gained, outs_after}
 use Rattle.dns_events.specs.declared.settings.Settings.{Settings}
-use Rattle.dns_core.proofs.Counted.{less_absent}
+use Rattle.dns_clients.proofs.Keys.{less_absent}
 use Rattle.dns_core.proofs.Placing.{knows_more, slate_more, gain_more}
 use Rattle.dns_core.proofs.Stepping.{look_quiet, quiet_slate}
 use Rattle.dns_core.proofs.StepsByClient.{joined}
-use Rattle.dns_core.proofs.StepsNothing.{hall_kept, look_knows, look_unused}
+use Rattle.dns_core.proofs.StepsNothing.{membership_kept, look_knows, look_unused}
 
 -- ---- numbers
 pub flat_equal : {X : Type 0} (f g : ℕ → List X) (cs : List ℕ) → ((c : ℕ) → list_any (nat_eq c) cs ≡ true → f c ≡ g c) → flat_map f cs ≡ flat_map g cs
@@ -51,7 +51,7 @@ module _ (answers : Serving) (settings : Settings) where
       let k = knows settings c p in
       let self = eq-eqb c c refl in
       let u : puts c k s ≡ k.unheard = rw self (append-nil k.unheard) in
-      let now : joined answers settings c (p ++ s ∷ []) ≡ joined answers settings c p = ap (λ (x : Hall). list_any (nat_eq c) x.members) (hall_kept answers settings p s refl refl) in
+      let now : joined answers settings c (p ++ s ∷ []) ≡ joined answers settings c p = ap (λ (x : Membership). list_any (nat_eq c) x.members) (membership_kept answers settings p s refl refl) in
       ap (λ b. if b then placed_gain answers settings c p s else []) now
       ∙ ap (λ os. if joined answers settings c p then os else []) (gain_more answers settings c p s ∙ ap (sent_after answers (placed_slate answers settings c p)) u)
 
@@ -65,14 +65,14 @@ module _ (answers : Serving) (settings : Settings) where
     knows = knows_more settings c p (look_by e d) ∙ look_knows answers settings c e.at e.secs d (knows settings c p) apart;
   }
 
-  look_hall : (p : List Step) (e : Event) (d : ℕ) → hall answers settings (p ++ look_by e d ∷ []) ≡ hall answers settings p
-  look_hall p e d = hall_kept answers settings p (look_by e d) refl refl
+  look_membership : (p : List Step) (e : Event) (d : ℕ) → membership answers settings (p ++ look_by e d ∷ []) ≡ membership answers settings p
+  look_membership p e d = membership_kept answers settings p (look_by e d) refl refl
 
   other_tells : (p : List Step) (e : Event) (d c : ℕ) → c ≢ d → tells (p ++ look_by e d ∷ []) c ≡ tells p c
   other_tells p e d c apart =
       let st = other_look p e d c apart in
       let f : Bool → Slate → Knowledge → List Output = λ b s k. if b then sent_after answers s k.unheard else [] in
-      ap (λ (x : Hall). f (list_any (nat_eq c) x.members) (placed_slate answers settings c (p ++ look_by e d ∷ [])) (knows settings c (p ++ look_by e d ∷ []))) (look_hall p e d)
+      ap (λ (x : Membership). f (list_any (nat_eq c) x.members) (placed_slate answers settings c (p ++ look_by e d ∷ [])) (knows settings c (p ++ look_by e d ∷ []))) (look_membership p e d)
       ∙ ap (λ x. f (joined answers settings c p) x (knows settings c (p ++ look_by e d ∷ []))) st.slate
       ∙ ap (λ x. f (joined answers settings c p) (placed_slate answers settings c p) x) st.knows
 
@@ -83,9 +83,9 @@ module _ (answers : Serving) (settings : Settings) where
       ∙ ap (λ os. tells p d ++ os) (looks_out ds (p ++ look_by e d ∷ []) e (sorted_tail nat_cmp d ds so) ∙ flat_equal (tells (p ++ look_by e d ∷ [])) (tells p) ds (λ c there. other_tells p e d c (not_first c d ds so there)))
 
   -- and what they leave
-  pub looks_hall : (ds : List ℕ) (p : List Step) (e : Event) → hall answers settings (p ++ map (look_by e) ds) ≡ hall answers settings p
-  looks_hall [] p e = ap (hall answers settings) (append-nil p)
-  looks_hall (d ∷ ds) p e = ap (hall answers settings) (sym (append_assoc p (look_by e d ∷ []) (map (look_by e) ds))) ∙ looks_hall ds (p ++ look_by e d ∷ []) e ∙ look_hall p e d
+  pub looks_membership : (ds : List ℕ) (p : List Step) (e : Event) → membership answers settings (p ++ map (look_by e) ds) ≡ membership answers settings p
+  looks_membership [] p e = ap (membership answers settings) (append-nil p)
+  looks_membership (d ∷ ds) p e = ap (membership answers settings) (sym (append_assoc p (look_by e d ∷ []) (map (look_by e) ds))) ∙ looks_membership ds (p ++ look_by e d ∷ []) e ∙ look_membership p e d
 
   pub looks_unused : (ds : List ℕ) (p : List Step) (e : Event) (c : ℕ) → is_unused (placed_slate answers settings c (p ++ map (look_by e) ds)).phase ≡ is_unused (placed_slate answers settings c p).phase
   looks_unused [] p e c = ap (λ x. is_unused (placed_slate answers settings c x).phase) (append-nil p)

@@ -115,13 +115,13 @@ module _ (answers : Serving) (settings : Settings) where
       ap (λ (os : List Output). os ++ turned_away answers settings q x) (gains_alike q p x h)
       ∙ ap (λ (os : List Output). flat_map (λ c. gain answers settings c p x) (heard answers settings p x) ++ os) (away_alike q p x h)
 
-  out_alike : (r q p : List Event) → Alike q p → out_after answers settings q r ≡ out_after answers settings p r
+  pub out_alike : (r q p : List Event) → Alike q p → out_after answers settings q r ≡ out_after answers settings p r
   out_alike [] q p h = refl
   out_alike (x ∷ r) q p h =
       ap (λ (os : List Output). os ++ out_after answers settings (q ++ x ∷ []) r) (gained_alike q p x h)
       ∙ ap (λ (os : List Output). gained answers settings p x ++ os) (out_alike r (q ++ x ∷ []) (p ++ x ∷ []) (alike_more q p x h))
 
-  out_split : (p q r : List Event) → out_after answers settings p (q ++ r) ≡ out_after answers settings p q ++ out_after answers settings (p ++ q) r
+  pub out_split : (p q r : List Event) → out_after answers settings p (q ++ r) ≡ out_after answers settings p q ++ out_after answers settings (p ++ q) r
   out_split p [] r = ap (λ (x : List Event). out_after answers settings x r) (sym (append-nil p))
   out_split p (x ∷ q) r = ap (λ (os : List Output). gained answers settings p x ++ os) (out_split (p ++ x ∷ []) q r ∙ ap (λ (y : List Event). out_after answers settings (p ++ x ∷ []) q ++ out_after answers settings y r) (append_assoc p (x ∷ []) q)) ∙ sym (append_assoc (gained answers settings p x) (out_after answers settings (p ++ x ∷ []) q) (out_after answers settings (p ++ x ∷ q) r))
 

@@ -11,7 +11,7 @@ use Rattle.dns_client.specs.Slate.{Slate, fresh}
 use Rattle.dns_core.specs.Settings.{opening}
 use Rattle.dns_core.specs.Sent.{sent}
 use Rattle.dns_core.specs.Placed.{Knowledge, puts, learns, place, learned, placed, knows, knowledge_at_first}
-use Rattle.dns_core.specs.Outs.{Hall, placed_slate, placed_gain, next_hall, hall_after, hall, step_gained, outs_after, outs}
+use Rattle.dns_core.specs.Outs.{Membership, placed_slate, placed_gain, next_membership, membership_after, membership, step_gained, outs_after, outs}
 use Rattle.dns_events.specs.declared.settings.Settings.{Settings}
 use Rattle.dns_core.proofs.OutLemmas.{sent_after_append}
 
@@ -51,13 +51,13 @@ module _ (answers : Serving) where
         ∙ ap (drop (length before)) (sent_after_append answers f (placed settings c q) (puts c (knows settings c q) s))
         ∙ drop_at before more (length before) refl
 
-    hall_snoc : (p : List Step) (h : Hall) (q : List Step) (s : Step) → hall_after answers settings p h (q ++ s ∷ []) ≡ next_hall answers settings (p ++ q) (hall_after answers settings p h q) s
-    hall_snoc p h [] s = ap (λ x. next_hall answers settings x h s) (sym (append-nil p))
-    hall_snoc p h (x ∷ q) s = hall_snoc (p ++ x ∷ []) (next_hall answers settings p h x) q s ∙ ap (λ y. next_hall answers settings y (hall_after answers settings (p ++ x ∷ []) (next_hall answers settings p h x) q) s) (append_assoc p (x ∷ []) q)
+    membership_snoc : (p : List Step) (h : Membership) (q : List Step) (s : Step) → membership_after answers settings p h (q ++ s ∷ []) ≡ next_membership answers settings (p ++ q) (membership_after answers settings p h q) s
+    membership_snoc p h [] s = ap (λ x. next_membership answers settings x h s) (sym (append-nil p))
+    membership_snoc p h (x ∷ q) s = membership_snoc (p ++ x ∷ []) (next_membership answers settings p h x) q s ∙ ap (λ y. next_membership answers settings y (membership_after answers settings (p ++ x ∷ []) (next_membership answers settings p h x) q) s) (append_assoc p (x ∷ []) q)
 
-    pub hall_more : (q : List Step) (s : Step) → hall answers settings (q ++ s ∷ []) ≡ next_hall answers settings q (hall answers settings q) s
-    unfolding hall
-    hall_more q s = hall_snoc [] (record { book = new_state settings.dgram settings.stream; members = [] }) q s
+    pub membership_more : (q : List Step) (s : Step) → membership answers settings (q ++ s ∷ []) ≡ next_membership answers settings q (membership answers settings q) s
+    unfolding membership
+    membership_more q s = membership_snoc [] (record { book = new_state settings.dgram settings.stream; members = [] }) q s
 
     outs_snoc : (p q : List Step) (s : Step) → outs_after answers settings p (q ++ s ∷ []) ≡ outs_after answers settings p q ++ step_gained answers settings (p ++ q) s
     outs_snoc p [] s = append-nil (step_gained answers settings p s) ∙ ap (λ x. step_gained answers settings x s) (sym (append-nil p))

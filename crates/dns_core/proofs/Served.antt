@@ -1,6 +1,6 @@
 -- A server after one event more.
 use Rattle.dns_client.specs.Serving.{Serving}
-use Rattle.std.proofs.Common.{◌≡◌, ◌≢◌, ℕ, ◌-◌, List, [], ◌∷◌, ◌++◌, Option, Some, Bool, true, false, refl, ap, sym, ◌∙◌, ⊎_elim}
+use Rattle.std.proofs.Common.{◌≡◌, ◌≢◌, ℕ, ◌-◌, List, [], ◌∷◌, ◌++◌, Option, Bool, true, false, refl, ap, sym, ◌∙◌, ⊎_elim}
 use Rattle.std.specs.Prelude.{nat_eq, if◌then◌else◌, not}
 use Rattle.std.specs.List.{list_any}
 use Rattle.std.specs.Ordering.{nat_cmp}
@@ -18,12 +18,11 @@ use Rattle.dns_events.specs.declared.event.Output.{Output}
 use Rattle.dns_service.specs.declared.polled.PolledRequest.{PolledRequest}
 use Rattle.dns_client.specs.Slate.{Slate, Told, conf_of}
 use Rattle.dns_client.specs.Rule.{rule}
-use Rattle.dns_client.specs.Stands.{Stands, GoesAs}
 use Rattle.dns_client.specs.declared.client.ClientCore.{ClientCore}
 use Rattle.dns_core.specs.Own.{is_wide}
 use Rattle.dns_core.specs.Sent.{slate}
 use Rattle.dns_core.specs.Out.{is_unused, holds_slot, is_new, taken, members, gained}
-use Rattle.dns_core.specs.Serves.{IsOver, IsAt, Holds, Steps, StepsKey}
+use Rattle.dns_core.specs.Serves.{IsAt, Holds, StepsKey}
 use Rattle.dns_core.specs.Placed.{is_beginning}
 use Rattle.dns_core.specs.Server.{Serves}
 use Rattle.dns_events.specs.declared.settings.Settings.{Settings}
@@ -49,15 +48,10 @@ module _ (answers : Serving) (settings : Settings) where
   own_new_case q e true begins u = unused_not_new answers settings q e (ap (λ (s : Slate). is_unused s.phase) (slate_same answers settings q e) ∙ unused_stays answers e (slate answers settings e.client q) begins ∙ u)
   own_new_case q e false begins u = used_not_new answers settings q e u
 
-  own_not_new : (q : List Event) (e : Event) → is_beginning e.kind ≡ false → is_new answers settings q e ≡ false
+  pub own_not_new : (q : List Event) (e : Event) → is_beginning e.kind ≡ false → is_new answers settings q e ≡ false
   own_not_new q e begins = own_new_case q e (is_unused (slate answers settings e.client q).phase) begins refl
 
 module _ {W R F : Type 0} (answer : PolledRequest F R → ℕ → Answer) (answers : Serving) where
-  -- the event of a client of which a core is kept
-  pub steps_there : (o w : Option (ClientCore W R F)) (core new : ClientCore W R F) (e : Event) (outs : List Output) (finished freed : Bool) → o ≡ Some core → w ≡ Some new
-      → GoesAs answer answers core new outs (rule answers e) → ((s : Slate) → Stands answer answers new s → IsOver finished freed s) → Steps answer answers o e outs finished freed w
-  steps_there o w core new e outs finished freed is now f over = rw (is, now) (f, over)
-
   module _ (settings : Settings) where
     own_says : (old : Server W R F) (w : Option (ClientCore W R F)) (q : List Event) (e : Event) (outs : List Output) (freed : Bool) → is_wide e.kind ≡ false → is_new answers settings q e ≡ false → StepsKey answer answers (get nat_cmp old.clients e.client) e outs freed w → Serves answer answers settings q old → outs ≡ gained answers settings q e
     own_says old w q e outs freed n nw k h =

@@ -35,7 +35,7 @@ use Rattle.dns_core.specs.Own.{is_wide}
 use Rattle.dns_core.specs.Out.{is_unused, put}
 use Rattle.dns_core.specs.Serves.{Holds, IsAt, EntersWith}
 use Rattle.dns_core.specs.Placed.{Knowledge, book_now, own_events, is_beginning, looks, learns, knows}
-use Rattle.dns_core.specs.Outs.{Hall, placed_slate, placed_gain, hall, step_gained, call_for, call_at, enters, enters_at, refused_offer}
+use Rattle.dns_core.specs.Outs.{Membership, placed_slate, placed_gain, membership, step_gained, call_for, call_at, enters, enters_at, refused_offer}
 use Rattle.dns_core.specs.SplitServer.{ServesSteps}
 use Rattle.dns_events.specs.declared.settings.Settings.{Settings}
 use Rattle.dns_core.specs.declared.server.Server.{Server}
@@ -43,7 +43,7 @@ use Rattle.dns_core.proofs.Counted.{put_there, put_other}
 use Rattle.dns_core.proofs.Late.{late_datagram, late_offer}
 use Rattle.dns_core.proofs.Plain.{Plain, unused_is, begun, offered, used_datagram, used_offer}
 use Rattle.dns_core.proofs.OutLemmas.{sent_after_append}
-use Rattle.dns_core.proofs.Placing.{slate_append, knows_more, slate_more, gain_more, hall_more}
+use Rattle.dns_core.proofs.Placing.{slate_append, knows_more, slate_more, gain_more, membership_more}
 use Rattle.dns_core.proofs.Tied.{tied, heard_slate, still_closed, middle_plain, unused_says}
 use Rattle.dns_core.proofs.Stepping.{other_quiet, quiet_slate, quiet_seen, own_slate, own_gain, members_same, book_more}
 
@@ -120,12 +120,12 @@ module _ (answers : Serving) where
           plain = middle_plain answers l kn sl t;
         }
 
-    seen_closed : (b : Bool) (q : List Step) (c : ℕ) → (knows settings c q).began ≡ b → is_unused (placed_slate answers settings c q).phase ≡ true → (hall answers settings q).book.closed ≡ true → (if not b then book_now (knows settings c q) else (knows settings c q).seen).closed ≡ true
+    seen_closed : (b : Bool) (q : List Step) (c : ℕ) → (knows settings c q).began ≡ b → is_unused (placed_slate answers settings c q).phase ≡ true → (membership answers settings q).book.closed ≡ true → (if not b then book_now (knows settings c q) else (knows settings c q).seen).closed ≡ true
     seen_closed true q c is un cl = (tied answers settings c q).slate.over is un
     seen_closed false q c is un cl = ap (λ (x : State). x.closed) (sym (tied answers settings c q).book) ∙ cl
 
     -- a closed book: whoever comes hears of that, or did
-    pub met_closed : (q : List Step) (e : Event) → is_beginning e.kind ≡ true → is_unused (placed_slate answers settings e.client q).phase ≡ true → (hall answers settings q).book.closed ≡ true
+    pub met_closed : (q : List Step) (e : Event) → is_beginning e.kind ≡ true → is_unused (placed_slate answers settings e.client q).phase ≡ true → (membership answers settings q).book.closed ≡ true
         → (is_unused (placed_slate answers settings e.client (q ++ Own e ∷ [])).phase ≡ true) × (placed_gain answers settings e.client q (Own e) ≡ [])
     met_closed q e k un cl =
         let c = e.client in
@@ -135,7 +135,7 @@ module _ (answers : Serving) where
         let idle = begin_late e.kind e (met q e) refl k over in
         (ap (λ (s : Slate). is_unused s.phase) (m.slate ∙ ap (λ (r : Told). r.0) idle) ∙ m.unused, m.gain ∙ ap (λ (r : Told). r.1) idle)
 
-    pub none_before : (b : Bool) (q : List Step) (c : ℕ) → (knows settings c q).began ≡ b → is_unused (placed_slate answers settings c q).phase ≡ true → (hall answers settings q).book.closed ≡ false → b ≡ false
+    pub none_before : (b : Bool) (q : List Step) (c : ℕ) → (knows settings c q).began ≡ b → is_unused (placed_slate answers settings c q).phase ≡ true → (membership answers settings q).book.closed ≡ false → b ≡ false
     none_before false q c is un cl = refl
     none_before true q c is un cl =
         let kn = knows settings c q in
@@ -147,11 +147,11 @@ module _ (answers : Serving) where
     -- an open book: the event is the client's first
     pub record MetOpen (q : List Step) (e : Event) : Type 0 where
       pub unused : IsUnused (met q e)
-      pub shown : (met q e).conf ≡ conf_of (hall answers settings q).book
+      pub shown : (met q e).conf ≡ conf_of (membership answers settings q).book
       pub not_over : (met q e).conf.over ≡ false
-      pub version : (knows settings e.client (q ++ Own e ∷ [])).seen.version ≡ (hall answers settings q).book.version
+      pub version : (knows settings e.client (q ++ Own e ∷ [])).seen.version ≡ (membership answers settings q).book.version
 
-    pub met_open : (q : List Step) (e : Event) → is_beginning e.kind ≡ true → is_unused (placed_slate answers settings e.client q).phase ≡ true → (hall answers settings q).book.closed ≡ false → MetOpen q e
+    pub met_open : (q : List Step) (e : Event) → is_beginning e.kind ≡ true → is_unused (placed_slate answers settings e.client q).phase ≡ true → (membership answers settings q).book.closed ≡ false → MetOpen q e
     met_open q e k un cl =
         let c = e.client in
         let kn = knows settings c q in
@@ -160,7 +160,7 @@ module _ (answers : Serving) where
         let first : kn.began ≡ false = none_before kn.began q c refl un cl in
         let l : looks c kn.began (Own e) ≡ true = begin_looks kn e k ∙ ap not first in
         let seen : (learns c kn (Own e)).seen ≡ book_now kn = rw l refl in
-        let conf : (met q e).conf ≡ conf_of (hall answers settings q).book = m.plain.conf ∙ ap conf_of seen ∙ ap conf_of (sym t.book) in
+        let conf : (met q e).conf ≡ conf_of (membership answers settings q).book = m.plain.conf ∙ ap conf_of seen ∙ ap conf_of (sym t.book) in
         record {
           unused = m.plain.unused m.unused ∙ ap fresh (sym m.plain.conf);
           shown = conf;
@@ -178,7 +178,7 @@ module _ {W R F : Type 0} (answer : PolledRequest F R → ℕ → Answer) (answe
         let wd = begin_narrow e.kind k in
         let sl = placed_slate answers settings c q in
         let kn = knows settings c q in
-        let hl = hall answers settings q in
+        let hl = membership answers settings q in
         let member = list_any (nat_eq c) hl.members in
         let used : is_unused sl.phase ≡ false = not-true (is_unused sl.phase) (sym (h.used c) ∙ there) in
         let began = (tied answers settings c q).slate.begun used in
@@ -195,7 +195,7 @@ module _ {W R F : Type 0} (answer : PolledRequest F R → ℕ → Answer) (answe
         (λ (same : d ≡ c). rw same (quiet_seen answers settings c q (Own e) nl))
         (λ (apart : d ≢ c). quiet_seen answers settings d q (Own e) (other_quiet d (knows settings d q) e apart).looks)
         (cases_eq d c) in (
-          none ∙ nothing_either_way (list_any (nat_eq c) (hall answers settings (q ++ Own e ∷ [])).members) (placed_gain answers settings c q (Own e)) (own_gain answers settings q e wd nl ∙ ap (λ (r : Told). r.1) idle) ∙ sym (rw called refl),
+          none ∙ nothing_either_way (list_any (nat_eq c) (membership answers settings (q ++ Own e ∷ [])).members) (placed_gain answers settings c q (Own e)) (own_gain answers settings q e wd nl ∙ ap (λ (r : Told). r.1) idle) ∙ sym (rw called refl),
           record {
             clients = λ d. rw (ms, still d) (h.clients d);
             versions = λ d. rw (seen d) (h.versions d);
@@ -208,14 +208,14 @@ module _ {W R F : Type 0} (answer : PolledRequest F R → ℕ → Answer) (answe
     pub record IsFree (old : Server W R F) (q : List Step) (e : Event) : Type 0 where
       pub unused : is_unused (placed_slate answers settings e.client q).phase ≡ true
       pub no_core : get nat_cmp old.clients e.client ≡ None
-      pub no_member : list_any (nat_eq e.client) (hall answers settings q).members ≡ false
+      pub no_member : list_any (nat_eq e.client) (membership answers settings q).members ≡ false
 
     pub is_free : (old : Server W R F) (q : List Step) (e : Event) → contains nat_cmp old.used e.client ≡ false → ServesSteps answer answers settings q old → IsFree old q e
     is_free old q e free h =
         let c = e.client in
         let sl = placed_slate answers settings c q in
         let un : is_unused sl.phase ≡ true = not-false (is_unused sl.phase) (sym (h.used c) ∙ free) in
-        let none = nothing_held answer answers (get nat_cmp old.clients c) (list_any (nat_eq c) (hall answers settings q).members) sl un (h.clients c) in
+        let none = nothing_held answer answers (get nat_cmp old.clients c) (list_any (nat_eq c) (membership answers settings q).members) sl un (h.clients c) in
         record { unused = un; no_core = none.0; no_member = none.1 }
 
     others_used : (old : Server W R F) (q : List Step) (e : Event) → ServesSteps answer answers settings q old → (d : ℕ) → d ≢ e.client → contains nat_cmp old.used d ≡ not (is_unused (placed_slate answers settings d (q ++ Own e ∷ [])).phase)
@@ -223,15 +223,15 @@ module _ {W R F : Type 0} (answer : PolledRequest F R → ℕ → Answer) (answe
 
     -- a client that doesn't enter, of which nothing is kept
     record Out (old : Server W R F) (q : List Step) (e : Event) : Type 0 where
-      no_member : list_any (nat_eq e.client) (hall answers settings (q ++ Own e ∷ [])).members ≡ false
-      clients : (d : ℕ) → Holds answer answers (get nat_cmp old.clients d) (list_any (nat_eq d) (hall answers settings (q ++ Own e ∷ [])).members) (placed_slate answers settings d (q ++ Own e ∷ []))
+      no_member : list_any (nat_eq e.client) (membership answers settings (q ++ Own e ∷ [])).members ≡ false
+      clients : (d : ℕ) → Holds answer answers (get nat_cmp old.clients d) (list_any (nat_eq d) (membership answers settings (q ++ Own e ∷ [])).members) (placed_slate answers settings d (q ++ Own e ∷ []))
       versions : (d : ℕ) → IsAt (get nat_cmp old.clients d) (knows settings d (q ++ Own e ∷ [])).seen.version
 
-    stays_out : (old : Server W R F) (q : List Step) (e : Event) → IsFree old q e → enters_at answers settings q (hall answers settings q) (Own e) ≡ false → ServesSteps answer answers settings q old → Out old q e
+    stays_out : (old : Server W R F) (q : List Step) (e : Event) → IsFree old q e → enters_at answers settings q (membership answers settings q) (Own e) ≡ false → ServesSteps answer answers settings q old → Out old q e
     stays_out old q e f stays h =
         let c = e.client in
         let ms = members_same answers settings q (Own e) stays in
-        let out : list_any (nat_eq c) (hall answers settings (q ++ Own e ∷ [])).members ≡ false = ap (list_any (nat_eq c)) ms ∙ f.no_member in
+        let out : list_any (nat_eq c) (membership answers settings (q ++ Own e ∷ [])).members ≡ false = ap (list_any (nat_eq c)) ms ∙ f.no_member in
         record {
           no_member = out;
           clients = λ d. ⊎_elim
@@ -250,7 +250,7 @@ module _ {W R F : Type 0} (answer : PolledRequest F R → ℕ → Answer) (answe
     closed_goes old b q e outs k none free cl bk h =
         let c = e.client in
         let f = is_free old q e free h in
-        let hl = hall answers settings q in
+        let hl = membership answers settings q in
         let cl' : hl.book.closed ≡ true = ap (λ (x : State). x.closed) (sym h.book) ∙ cl in
         let after = met_closed answers settings q e k f.unused cl' in
         let refuses = closed_refuses e.kind (placed_slate answers settings c q) (list_any (nat_eq c) hl.members) hl.book k f.unused cl' in
@@ -278,7 +278,7 @@ module _ {W R F : Type 0} (answer : PolledRequest F R → ℕ → Answer) (answe
         let c = e.client in
         let k : is_beginning e.kind ≡ true = ap is_beginning kind in
         let f = is_free old q e free h in
-        let hl = hall answers settings q in
+        let hl = membership answers settings q in
         let cl' : hl.book.closed ≡ false = ap (λ (x : State). x.closed) (sym h.book) ∙ cl in
         let full' : has_slot hl.book ≡ false = ap has_slot (sym h.book) ∙ full in
         let op = met_open answers settings q e k f.unused cl' in
@@ -301,8 +301,8 @@ module _ {W R F : Type 0} (answer : PolledRequest F R → ℕ → Answer) (answe
 
     -- a client begins, with what is kept of it
     begin_goes : (old : Server W R F) (m : BTreeMap ℕ (ClientCore W R F)) (u : BTreeSet ℕ) (b : State) (core : ClientCore W R F) (q : List Step) (e : Event) (outs : List Output) → is_beginning e.kind ≡ true → contains nat_cmp old.used e.client ≡ false
-        → enters_at answers settings q (hall answers settings q) (Own e) ≡ true
-        → b ≡ state_after (hall answers settings q).book (call_at answers settings q (hall answers settings q).members (Own e))
+        → enters_at answers settings q (membership answers settings q) (Own e) ≡ true
+        → b ≡ state_after (membership answers settings q).book (call_at answers settings q (membership answers settings q).members (Own e))
         → is_unused (rule answers e (met answers settings q e)).0.phase ≡ false
         → (outs ≡ (rule answers e (met answers settings q e)).1) × Stands answer answers core (rule answers e (met answers settings q e)).0
         → core.version ≡ (knows settings e.client (q ++ Own e ∷ [])).seen.version
@@ -312,10 +312,10 @@ module _ {W R F : Type 0} (answer : PolledRequest F R → ℕ → Answer) (answe
     begin_goes old m u b core q e outs k free joins bk opens st version w h =
         let c = e.client in
         let f = is_free old q e free h in
-        let hl = hall answers settings q in
+        let hl = membership answers settings q in
         let me = meets answers settings q e k f.unused in
-        let ms : (hall answers settings (q ++ Own e ∷ [])).members ≡ put c hl.members = ap (λ (x : Hall). x.members) (hall_more answers settings q (Own e)) ∙ rw joins refl in
-        let in_now : list_any (nat_eq c) (hall answers settings (q ++ Own e ∷ [])).members ≡ true = ap (list_any (nat_eq c)) ms ∙ put_there c hl.members in (
+        let ms : (membership answers settings (q ++ Own e ∷ [])).members ≡ put c hl.members = ap (λ (x : Membership). x.members) (membership_more answers settings q (Own e)) ∙ rw joins refl in
+        let in_now : list_any (nat_eq c) (membership answers settings (q ++ Own e ∷ [])).members ≡ true = ap (list_any (nat_eq c)) ms ∙ put_there c hl.members in (
           st.0 ∙ sym (rw in_now me.gain),
           record {
             clients = λ d. ⊎_elim
@@ -357,7 +357,7 @@ module _ {W R F : Type 0} (answer : PolledRequest F R → ℕ → Answer) (answe
     datagram_goes old m u core q e addr o outs kind running free st version w h =
         let k : is_beginning e.kind ≡ true = ap is_beginning kind in
         let f = is_free old q e free h in
-        let hl = hall answers settings q in
+        let hl = membership answers settings q in
         let cl' : hl.book.closed ≡ false = ap (λ (x : State). x.closed) (sym h.book) ∙ running in
         let op = met_open answers settings q e k f.unused cl' in
         let me = meets answers settings q e k f.unused in
@@ -388,7 +388,7 @@ module _ {W R F : Type 0} (answer : PolledRequest F R → ℕ → Answer) (answe
     offer_goes old m u b look core q e addr outs kind free admits after none st version w h =
         let k : is_beginning e.kind ≡ true = ap is_beginning kind in
         let f = is_free old q e free h in
-        let hl = hall answers settings q in
+        let hl = membership answers settings q in
         let cl' : hl.book.closed ≡ false = ap (λ (x : State). x.closed) (sym h.book) ∙ admits.0 in
         let room : has_slot hl.book ≡ true = ap has_slot (sym h.book) ∙ lt-ltb old.book.taken (limit_of old.book) admits.1 in
         let op = met_open answers settings q e k f.unused cl' in

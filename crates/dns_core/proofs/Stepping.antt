@@ -27,7 +27,7 @@ use Rattle.dns_client.specs.News.{told_of}
 use Rattle.dns_client.specs.Rule.{rule, in_phase, closed_rule}
 use Rattle.dns_client.specs.Slate.{Slate, Told, Phase, Exchange, Open, Closed, conf_rule, with_conf, phase_is_closed}
 use Rattle.dns_client.specs.Spent.{is_spent, is_spent_in}
-use Rattle.dns_client.specs.Stands.{Stands, StandsIn, GoesAs}
+use Rattle.dns_client.specs.Stands.{Stands, StandsIn}
 use Rattle.dns_client.specs.declared.client.ClientCore.{ClientCore}
 use Rattle.dns_client.specs.declared.client.State.{State as CoreState}
 use Rattle.dns_client.specs.declared.client.State.TheVariants.{Exchange as Is_exchange, Open as Is_open, Flushing as Is_flushing, Closed as Is_closed, Lost as Is_lost}
@@ -37,7 +37,7 @@ use Rattle.dns_core.specs.Trails.{is_open}
 use Rattle.dns_core.specs.Books.{book_rule}
 use Rattle.dns_core.specs.Serves.{Holds, IsAt, LooksOne, Steps, StepsKey}
 use Rattle.dns_core.specs.Placed.{Knowledge, own_events, is_beginning, looks, puts, knows}
-use Rattle.dns_core.specs.Outs.{Hall, placed_slate, placed_gain, hall, step_gained, call_for, call_at, enters, enters_at, refused_offer, stepping}
+use Rattle.dns_core.specs.Outs.{Membership, placed_slate, placed_gain, membership, step_gained, call_for, call_at, enters, enters_at, refused_offer, stepping}
 use Rattle.dns_core.specs.SplitServer.{ServesSteps}
 use Rattle.dns_events.specs.declared.settings.Settings.{Settings}
 use Rattle.dns_core.specs.declared.server.Server.{Server}
@@ -46,7 +46,7 @@ use Rattle.dns_core.proofs.Slots.{exchange_freed}
 use Rattle.dns_core.proofs.Spent.{spent_idle, spent_kept, open_unspent, idle_unspent}
 use Rattle.dns_core.proofs.Wide.{wide_idle, open_is}
 use Rattle.dns_core.proofs.Looked.{Enter, told, heard_all, entry_wide}
-use Rattle.dns_core.proofs.Placing.{knows_more, slate_more, gain_more, hall_more}
+use Rattle.dns_core.proofs.Placing.{knows_more, slate_more, gain_more, membership_more}
 use Rattle.dns_core.proofs.Tied.{unused_kept, unused_list, wide_no_beginning, tied}
 
 -- ---- whom a step concerns
@@ -136,33 +136,21 @@ module _ (answers : Serving) (settings : Settings) where
   own_gain q e w l = gain_more answers settings e.client q (Own e) ∙ ap (sent_after answers (placed_slate answers settings e.client q)) (own_puts (knows settings e.client q) e w l) ∙ append-nil (rule answers e (placed_slate answers settings e.client q)).1
 
   -- who doesn't enter leaves answer answers the members
-  pub members_same : (q : List Step) (s : Step) → enters_at answers settings q (hall answers settings q) s ≡ false → (hall answers settings (q ++ s ∷ [])).members ≡ (hall answers settings q).members
-  members_same q s h = ap (λ (x : Hall). x.members) (hall_more answers settings q s) ∙ rw h refl
+  pub members_same : (q : List Step) (s : Step) → enters_at answers settings q (membership answers settings q) s ≡ false → (membership answers settings (q ++ s ∷ [])).members ≡ (membership answers settings q).members
+  members_same q s h = ap (λ (x : Membership). x.members) (membership_more answers settings q s) ∙ rw h refl
 
-  pub book_more : (q : List Step) (s : Step) → (hall answers settings (q ++ s ∷ [])).book ≡ state_after (hall answers settings q).book (call_at answers settings q (hall answers settings q).members s)
-  book_more q s = ap (λ (x : Hall). x.book) (hall_more answers settings q s)
+  pub book_more : (q : List Step) (s : Step) → (membership answers settings (q ++ s ∷ [])).book ≡ state_after (membership answers settings q).book (call_at answers settings q (membership answers settings q).members s)
+  book_more q s = ap (λ (x : Membership). x.book) (membership_more answers settings q s)
 
-  pub own_enters : (q : List Step) (e : Event) → is_beginning e.kind ≡ false → enters_at answers settings q (hall answers settings q) (Own e) ≡ false
-  own_enters q e n = no_enter e.kind (placed_slate answers settings e.client q) (hall answers settings q).book (reply_of (hall answers settings q).book (call_at answers settings q (hall answers settings q).members (Own e))) n
+  pub own_enters : (q : List Step) (e : Event) → is_beginning e.kind ≡ false → enters_at answers settings q (membership answers settings q) (Own e) ≡ false
+  own_enters q e n = no_enter e.kind (placed_slate answers settings e.client q) (membership answers settings q).book (reply_of (membership answers settings q).book (call_at answers settings q (membership answers settings q).members (Own e))) n
 
   -- what a look tells is what its client has not heard of
-  pub look_tells : (q : List Step) (c : ℕ) → told_of answers (knows settings c q).seen.version (hall answers settings q).book (placed_slate answers settings c q) ≡ told answers (knows settings c q).unheard (placed_slate answers settings c q)
+  pub look_tells : (q : List Step) (c : ℕ) → told_of answers (knows settings c q).seen.version (membership answers settings q).book (placed_slate answers settings c q) ≡ told answers (knows settings c q).unheard (placed_slate answers settings c q)
   look_tells q c =
       let t = tied answers settings c q in
       let k = knows settings c q in
       ap (λ (b : State). told_of answers k.seen.version b (placed_slate answers settings c q)) t.book ∙ heard_all answers k.seen k.unheard (placed_slate answers settings c q) t.slate.enter t.slate.plain.conf t.slate.not_over
-
--- ---- versions: an event leaves answer answers that of its client, and who leaves answer answers has none
-pub at_there : {W R F : Type 0} (o w : Option (ClientCore W R F)) (core new : ClientCore W R F) (v : ℕ) → o ≡ Some core → w ≡ Some new → new.version ≡ core.version → IsAt o v → IsAt w v
-at_there o w core new v is now same h = rw now (same ∙ rw is at h)
-
-pub at_left : {W R F : Type 0} (o w : Option (ClientCore W R F)) (finished : Bool) (v : ℕ) → w ≡ (if finished then None else o) → IsAt o v → IsAt w v
-at_left o w true v is h = rw is tt
-at_left o w false v is h = rw is h
-
-pub looks_there : {W R F : Type 0} (answer : PolledRequest F R → ℕ → Answer) (answers : Serving) (o w : Option (ClientCore W R F)) (core new : ClientCore W R F) (look : State) (outs : List Output) → o ≡ Some core → w ≡ Some new
-    → GoesAs answer answers core new outs (told_of answers core.version look) → new.version ≡ look.version → LooksOne answer answers o look outs w
-looks_there answer answers o w core new look outs is now f v = rw (is, now) (f, v)
 
 -- ---- slots: a release that finds a connection closed gives it back
 held_open : (t : Slate) → (is_connection t.phase && not t.freed) ≡ true → t.freed ≡ false
@@ -283,7 +271,7 @@ module _ {W R F : Type 0} (answer : PolledRequest F R → ℕ → Answer) (answe
         let sl = placed_slate answers settings c q in
         let kn = knows settings c q in
         let nl = no_look kn e off in
-        let hl = hall answers settings q in
+        let hl = membership answers settings q in
         let member = list_any (nat_eq c) hl.members in
         let ms = members_same answers settings q (Own e) (own_enters answers settings q e off) in
         let there : (d : ℕ) → (d ≢ c) → (placed_slate answers settings d (q ++ Own e ∷ []) ≡ placed_slate answers settings d q) = λ d apart. quiet_slate answers settings d q (Own e) (other_quiet d (knows settings d q) e apart) in
@@ -317,12 +305,12 @@ module _ {W R F : Type 0} (answer : PolledRequest F R → ℕ → Answer) (answe
         → ([] ≡ step_gained answers settings q (Own e)) × ServesSteps answer answers settings (q ++ Own e ∷ []) (record old { book = b })
     wide_goes old b q e wd bk h =
         let qu : (c : ℕ) → Quiet c (knows settings c q) (Own e) = λ c. wide_quiet c (knows settings c q) e wd in
-        let hl = hall answers settings q in
+        let hl = membership answers settings q in
         let off = wide_no_beginning e.kind wd in
         let sl = placed_slate answers settings e.client q in
         let member = list_any (nat_eq e.client) hl.members in
         let ms = members_same answers settings q (Own e) (own_enters answers settings q e off) in (
-          nothing_either_way (list_any (nat_eq e.client) (hall answers settings (q ++ Own e ∷ [])).members) (placed_gain answers settings e.client q (Own e)) (quiet_gain answers settings e.client q (Own e) (qu e.client))
+          nothing_either_way (list_any (nat_eq e.client) (membership answers settings (q ++ Own e ∷ [])).members) (placed_gain answers settings e.client q (Own e)) (quiet_gain answers settings e.client q (Own e) (qu e.client))
               ∙ sym (rw (no_refusal e.kind hl.book sl member e.client off) refl),
           record {
             clients = λ d. rw (ms, quiet_slate answers settings d q (Own e) (qu d)) (h.clients d);
@@ -341,7 +329,7 @@ module _ {W R F : Type 0} (answer : PolledRequest F R → ℕ → Answer) (answe
         let st = Look at secs c in
         let sl = placed_slate answers settings c q in
         let kn = knows settings c q in
-        let hl = hall answers settings q in
+        let hl = membership answers settings q in
         let member = list_any (nat_eq c) hl.members in
         let t = tied answers settings c q in
         let self = eq-eqb c c refl in

@@ -20,9 +20,9 @@ use Rattle.dns_client.specs.Slate.{Slate, conf_of, fresh}
 use Rattle.dns_core.specs.Own.{is_wide}
 use Rattle.dns_core.specs.Out.{is_unused, put}
 use Rattle.dns_core.specs.Placed.{Knowledge, book_now, begins, is_beginning, looks, puts, learns, knows}
-use Rattle.dns_core.specs.Outs.{Hall, placed_slate, placed_gain, hall, step_gained, outs, outs_after, call_for, call_at, enters, enters_at, refused_offer, stepping}
+use Rattle.dns_core.specs.Outs.{Membership, placed_slate, placed_gain, membership, step_gained, outs, outs_after, call_for, call_at, enters, enters_at, refused_offer, stepping}
 use Rattle.dns_events.specs.declared.settings.Settings.{Settings}
-use Rattle.dns_core.proofs.Placing.{knows_more, slate_more, gain_more, hall_more}
+use Rattle.dns_core.proofs.Placing.{knows_more, slate_more, gain_more, membership_more}
 use Rattle.dns_core.proofs.Tied.{tied, unused_kept, unused_list, untaken}
 use Rattle.dns_core.proofs.Stepping.{quiet_slate, own_slate, wide_quiet, other_step}
 use Rattle.dns_core.proofs.StepBegins.{met, met_closed, met_open, meets}
@@ -47,13 +47,13 @@ just_begun b = record { began = true; seen = b; unheard = [] }
 
 module _ (answers : Serving) (settings : Settings) where
   pub record Alike (q p : List Step) : Type 0 where
-    pub same_hall : hall answers settings q ≡ hall answers settings p
+    pub same_membership : membership answers settings q ≡ membership answers settings p
     pub same_unused : (c : ℕ) → is_unused (placed_slate answers settings c q).phase ≡ is_unused (placed_slate answers settings c p).phase
     pub same_slates : (c : ℕ) → joined answers settings c q ≡ true → placed_slate answers settings c q ≡ placed_slate answers settings c p
     pub same_knows : (c : ℕ) → joined answers settings c q ≡ true → knows settings c q ≡ knows settings c p
 
   same_joined : (c : ℕ) (q p : List Step) → Alike q p → joined answers settings c q ≡ joined answers settings c p
-  same_joined c q p h = ap (λ (x : Hall). list_any (nat_eq c) x.members) h.same_hall
+  same_joined c q p h = ap (λ (x : Membership). list_any (nat_eq c) x.members) h.same_membership
 
   -- a member's number is used
   used_case : (b : Bool) (c : ℕ) (q : List Step) → is_unused (placed_slate answers settings c q).phase ≡ b → joined answers settings c q ≡ true → b ≡ false
@@ -69,45 +69,45 @@ module _ (answers : Serving) (settings : Settings) where
   kind_case true q p e h m = ap (λ (s : Slate). call_for s true e.kind) (h.same_slates e.client m)
   kind_case false q p e h m = outside_call e.kind (placed_slate answers settings e.client q) (placed_slate answers settings e.client p) (h.same_unused e.client)
 
-  pub call_alike : (q p : List Step) (s : Step) → Alike q p → call_at answers settings q (hall answers settings q).members s ≡ call_at answers settings p (hall answers settings p).members s
+  pub call_alike : (q p : List Step) (s : Step) → Alike q p → call_at answers settings q (membership answers settings q).members s ≡ call_at answers settings p (membership answers settings p).members s
   call_alike q p (Own e) h = kind_case (joined answers settings e.client q) q p e h refl ∙ ap (λ b. call_for (placed_slate answers settings e.client p) b e.kind) (same_joined e.client q p h)
   call_alike q p (Look at secs d) h = refl
 
-  reply_alike : (q p : List Step) (s : Step) → Alike q p → reply_of (hall answers settings q).book (call_at answers settings q (hall answers settings q).members s) ≡ reply_of (hall answers settings p).book (call_at answers settings p (hall answers settings p).members s)
+  reply_alike : (q p : List Step) (s : Step) → Alike q p → reply_of (membership answers settings q).book (call_at answers settings q (membership answers settings q).members s) ≡ reply_of (membership answers settings p).book (call_at answers settings p (membership answers settings p).members s)
   reply_alike q p s h =
-      ap (reply_of (hall answers settings q).book) (call_alike q p s h)
-      ∙ ap (λ (x : Hall). reply_of x.book (call_at answers settings p (hall answers settings p).members s)) h.same_hall
+      ap (reply_of (membership answers settings q).book) (call_alike q p s h)
+      ∙ ap (λ (x : Membership). reply_of x.book (call_at answers settings p (membership answers settings p).members s)) h.same_membership
 
-  pub enters_alike : (q p : List Step) (s : Step) → Alike q p → enters_at answers settings q (hall answers settings q) s ≡ enters_at answers settings p (hall answers settings p) s
+  pub enters_alike : (q p : List Step) (s : Step) → Alike q p → enters_at answers settings q (membership answers settings q) s ≡ enters_at answers settings p (membership answers settings p) s
   enters_alike q p (Own e) h =
-      outside_enters e.kind (placed_slate answers settings e.client q) (placed_slate answers settings e.client p) (hall answers settings q).book (reply_of (hall answers settings q).book (call_at answers settings q (hall answers settings q).members (Own e))) (h.same_unused e.client)
-      ∙ ap (λ r. enters (placed_slate answers settings e.client p) (hall answers settings q).book r e.kind) (reply_alike q p (Own e) h)
-      ∙ ap (λ (x : Hall). enters (placed_slate answers settings e.client p) x.book (reply_of (hall answers settings p).book (call_at answers settings p (hall answers settings p).members (Own e))) e.kind) h.same_hall
+      outside_enters e.kind (placed_slate answers settings e.client q) (placed_slate answers settings e.client p) (membership answers settings q).book (reply_of (membership answers settings q).book (call_at answers settings q (membership answers settings q).members (Own e))) (h.same_unused e.client)
+      ∙ ap (λ r. enters (placed_slate answers settings e.client p) (membership answers settings q).book r e.kind) (reply_alike q p (Own e) h)
+      ∙ ap (λ (x : Membership). enters (placed_slate answers settings e.client p) x.book (reply_of (membership answers settings p).book (call_at answers settings p (membership answers settings p).members (Own e))) e.kind) h.same_membership
   enters_alike q p (Look at secs d) h = refl
 
-  pub hall_alike : (q p : List Step) (s : Step) → Alike q p → hall answers settings (q ++ s ∷ []) ≡ hall answers settings (p ++ s ∷ [])
-  hall_alike q p s h =
-      let after : State → Bool → List ℕ → Hall = λ b n ms. record { book = b; members = if n then put (stepping s) ms else ms } in
-      let k = call_at answers settings p (hall answers settings p).members s in
-      let n = enters_at answers settings p (hall answers settings p) s in
-      hall_more answers settings q s
-      ∙ ap (λ x. after (state_after (hall answers settings q).book x) (enters_at answers settings q (hall answers settings q) s) (hall answers settings q).members) (call_alike q p s h)
-      ∙ ap (λ x. after (state_after (hall answers settings q).book k) x (hall answers settings q).members) (enters_alike q p s h)
-      ∙ ap (λ (x : Hall). after (state_after x.book k) n x.members) h.same_hall
-      ∙ sym (hall_more answers settings p s)
+  pub membership_alike : (q p : List Step) (s : Step) → Alike q p → membership answers settings (q ++ s ∷ []) ≡ membership answers settings (p ++ s ∷ [])
+  membership_alike q p s h =
+      let after : State → Bool → List ℕ → Membership = λ b n ms. record { book = b; members = if n then put (stepping s) ms else ms } in
+      let k = call_at answers settings p (membership answers settings p).members s in
+      let n = enters_at answers settings p (membership answers settings p) s in
+      membership_more answers settings q s
+      ∙ ap (λ x. after (state_after (membership answers settings q).book x) (enters_at answers settings q (membership answers settings q) s) (membership answers settings q).members) (call_alike q p s h)
+      ∙ ap (λ x. after (state_after (membership answers settings q).book k) x (membership answers settings q).members) (enters_alike q p s h)
+      ∙ ap (λ (x : Membership). after (state_after x.book k) n x.members) h.same_membership
+      ∙ sym (membership_more answers settings p s)
 
   -- ---- who begins
   pub record Enters (q : List Step) (e : Event) : Type 0 where
     pub unused : is_unused (placed_slate answers settings e.client q).phase ≡ true
-    pub open_book : (hall answers settings q).book.closed ≡ false
+    pub open_book : (membership answers settings q).book.closed ≡ false
     pub beginning : is_beginning e.kind ≡ true
 
-  pub enters_by : (q : List Step) (e : Event) → enters_at answers settings q (hall answers settings q) (Own e) ≡ true → Enters q e
+  pub enters_by : (q : List Step) (e : Event) → enters_at answers settings q (membership answers settings q) (Own e) ≡ true → Enters q e
   unfolding Settled
   enters_by q e n = ⊎_elim
-      (λ (x : (is_unused (placed_slate answers settings e.client q).phase ≡ true) × ((hall answers settings q).book.closed ≡ false) × (is_beginning e.kind ≡ true)). record { unused = x.0; open_book = x.1; beginning = x.2 })
-      (λ (y : (refused_offer e.client (reply_of (hall answers settings q).book (call_at answers settings q (hall answers settings q).members (Own e))) ≡ []) × (enters_at answers settings q (hall answers settings q) (Own e) ≡ false)). let z = y.1 in cc)
-      (settle e.kind e.client (placed_slate answers settings e.client q) (list_any (nat_eq e.client) (hall answers settings q).members) (hall answers settings q).book)
+      (λ (x : (is_unused (placed_slate answers settings e.client q).phase ≡ true) × ((membership answers settings q).book.closed ≡ false) × (is_beginning e.kind ≡ true)). record { unused = x.0; open_book = x.1; beginning = x.2 })
+      (λ (y : (refused_offer e.client (reply_of (membership answers settings q).book (call_at answers settings q (membership answers settings q).members (Own e))) ≡ []) × (enters_at answers settings q (membership answers settings q) (Own e) ≡ false)). let z = y.1 in cc)
+      (settle e.kind e.client (placed_slate answers settings e.client q) (list_any (nat_eq e.client) (membership answers settings q).members) (membership answers settings q).book)
 
   -- who enters is met as one of which nothing came, at the book as it is
   pub record Entered (q : List Step) (e : Event) (b : State) : Type 0 where
@@ -115,14 +115,14 @@ module _ (answers : Serving) (settings : Settings) where
     pub gain : placed_gain answers settings e.client q (Own e) ≡ (rule answers e (fresh (conf_of b))).1
     pub knows : knows settings e.client (q ++ Own e ∷ []) ≡ just_begun (untaken b)
 
-  first_time : (b : Bool) (q : List Step) (c : ℕ) → (knows settings c q).began ≡ b → is_unused (placed_slate answers settings c q).phase ≡ true → (hall answers settings q).book.closed ≡ false → b ≡ false
+  first_time : (b : Bool) (q : List Step) (c : ℕ) → (knows settings c q).began ≡ b → is_unused (placed_slate answers settings c q).phase ≡ true → (membership answers settings q).book.closed ≡ false → b ≡ false
   first_time = Rattle.dns_core.proofs.StepBegins.none_before answers settings
 
-  pub entered : (q : List Step) (e : Event) → Enters q e → Entered q e (hall answers settings q).book
+  pub entered : (q : List Step) (e : Event) → Enters q e → Entered q e (membership answers settings q).book
   entered q e n =
       let c = e.client in
       let kn = knows settings c q in
-      let b = (hall answers settings q).book in
+      let b = (membership answers settings q).book in
       let me = meets answers settings q e n.beginning n.unused in
       let op = met_open answers settings q e n.beginning n.unused n.open_book in
       let is : met answers settings q e ≡ fresh (conf_of b) = op.unused ∙ ap fresh op.shown in
@@ -138,14 +138,14 @@ module _ (answers : Serving) (settings : Settings) where
       }
 
   -- ---- slates and what is known, of a member
-  came_case : (n : Bool) (c : ℕ) (q : List Step) (s : Step) → c ≡ stepping s → enters_at answers settings q (hall answers settings q) s ≡ n → joined answers settings c q ≡ false → joined answers settings c (q ++ s ∷ []) ≡ true → n ≡ true
+  came_case : (n : Bool) (c : ℕ) (q : List Step) (s : Step) → c ≡ stepping s → enters_at answers settings q (membership answers settings q) s ≡ n → joined answers settings c q ≡ false → joined answers settings c (q ++ s ∷ []) ≡ true → n ≡ true
   came_case true c q s same is was m = refl
   came_case false c q s same is was m = let z = joined_by answers settings false c q s is in cc
 
   -- one more member is who enters
-  came : (c : ℕ) (q : List Step) (s : Step) → joined answers settings c q ≡ false → joined answers settings c (q ++ s ∷ []) ≡ true → (c ≡ stepping s) × (enters_at answers settings q (hall answers settings q) s ≡ true)
+  came : (c : ℕ) (q : List Step) (s : Step) → joined answers settings c q ≡ false → joined answers settings c (q ++ s ∷ []) ≡ true → (c ≡ stepping s) × (enters_at answers settings q (membership answers settings q) s ≡ true)
   came c q s was m = ⊎_elim
-      (λ (same : c ≡ stepping s). (same, came_case (enters_at answers settings q (hall answers settings q) s) c q s same refl was m))
+      (λ (same : c ≡ stepping s). (same, came_case (enters_at answers settings q (membership answers settings q) s) c q s same refl was m))
       (λ (apart : c ≢ stepping s). let z = joined_other answers settings c q s apart in let no : true ≡ false = sym m ∙ z ∙ was in cc)
       (cases_eq c (stepping s))
 
@@ -154,16 +154,16 @@ module _ (answers : Serving) (settings : Settings) where
     pub slate : placed_slate answers settings c q ≡ placed_slate answers settings c p
     pub knows : knows settings c q ≡ knows settings c p
 
-  enters_same : (q p : List Step) (e : Event) → Alike q p → enters_at answers settings q (hall answers settings q) (Own e) ≡ true → SameMember e.client (q ++ Own e ∷ []) (p ++ Own e ∷ [])
+  enters_same : (q p : List Step) (e : Event) → Alike q p → enters_at answers settings q (membership answers settings q) (Own e) ≡ true → SameMember e.client (q ++ Own e ∷ []) (p ++ Own e ∷ [])
   enters_same q p e h n =
       let a = entered q e (enters_by q e n) in
       let b = entered p e (enters_by p e (sym (enters_alike q p (Own e) h) ∙ n)) in
       record {
-        slate = a.slate ∙ ap (λ (x : Hall). (rule answers e (fresh (conf_of x.book))).0) h.same_hall ∙ sym b.slate;
-        knows = a.knows ∙ ap (λ (x : Hall). just_begun (untaken x.book)) h.same_hall ∙ sym b.knows;
+        slate = a.slate ∙ ap (λ (x : Membership). (rule answers e (fresh (conf_of x.book))).0) h.same_membership ∙ sym b.slate;
+        knows = a.knows ∙ ap (λ (x : Membership). just_begun (untaken x.book)) h.same_membership ∙ sym b.knows;
       }
 
-  came_same : (c : ℕ) (q p : List Step) (s : Step) → Alike q p → c ≡ stepping s → enters_at answers settings q (hall answers settings q) s ≡ true → SameMember c (q ++ s ∷ []) (p ++ s ∷ [])
+  came_same : (c : ℕ) (q p : List Step) (s : Step) → Alike q p → c ≡ stepping s → enters_at answers settings q (membership answers settings q) s ≡ true → SameMember c (q ++ s ∷ []) (p ++ s ∷ [])
   came_same c q p (Look at secs d) h same n = cc
   came_same c q p (Own e) h same n = subst (λ (d : ℕ). SameMember d (q ++ Own e ∷ []) (p ++ Own e ∷ [])) (sym same) (enters_same q p e h n)
 
@@ -183,7 +183,7 @@ module _ (answers : Serving) (settings : Settings) where
 
   -- ---- which numbers are used
 
-  beginning_case : (z : Bool) (q : List Step) (e : Event) → is_beginning e.kind ≡ true → is_unused (placed_slate answers settings e.client q).phase ≡ true → (hall answers settings q).book.closed ≡ z → is_unused (placed_slate answers settings e.client (q ++ Own e ∷ [])).phase ≡ z
+  beginning_case : (z : Bool) (q : List Step) (e : Event) → is_beginning e.kind ≡ true → is_unused (placed_slate answers settings e.client q).phase ≡ true → (membership answers settings q).book.closed ≡ z → is_unused (placed_slate answers settings e.client (q ++ Own e ∷ [])).phase ≡ z
   beginning_case true q e k u cl = (met_closed answers settings q e k u cl).0
   beginning_case false q e k u cl = opens answers settings q e k u cl
 
@@ -197,11 +197,11 @@ module _ (answers : Serving) (settings : Settings) where
   abbrev pub still_unused : EventKind → State → Bool
   still_unused k b = if is_beginning k then b.closed else true
 
-  unused_case : (z : Bool) (q : List Step) (e : Event) → is_beginning e.kind ≡ z → is_unused (placed_slate answers settings e.client q).phase ≡ true → is_unused (placed_slate answers settings e.client (q ++ Own e ∷ [])).phase ≡ (if z then (hall answers settings q).book.closed else true)
-  unused_case true q e k u = beginning_case (hall answers settings q).book.closed q e k u refl
+  unused_case : (z : Bool) (q : List Step) (e : Event) → is_beginning e.kind ≡ z → is_unused (placed_slate answers settings e.client q).phase ≡ true → is_unused (placed_slate answers settings e.client (q ++ Own e ∷ [])).phase ≡ (if z then (membership answers settings q).book.closed else true)
+  unused_case true q e k u = beginning_case (membership answers settings q).book.closed q e k u refl
   unused_case false q e k u = narrow_case (is_wide e.kind) q e k u refl
 
-  pub unused_after : (q : List Step) (e : Event) → is_unused (placed_slate answers settings e.client q).phase ≡ true → is_unused (placed_slate answers settings e.client (q ++ Own e ∷ [])).phase ≡ still_unused e.kind (hall answers settings q).book
+  pub unused_after : (q : List Step) (e : Event) → is_unused (placed_slate answers settings e.client q).phase ≡ true → is_unused (placed_slate answers settings e.client (q ++ Own e ∷ [])).phase ≡ still_unused e.kind (membership answers settings q).book
   unused_after q e u = unused_case (is_beginning e.kind) q e refl u
 
   pub unused_look : (q : List Step) (at secs c : ℕ) → is_unused (placed_slate answers settings c q).phase ≡ true → is_unused (placed_slate answers settings c (q ++ Look at secs c ∷ [])).phase ≡ true
@@ -215,7 +215,7 @@ module _ (answers : Serving) (settings : Settings) where
   unused_self : (q p : List Step) (s : Step) → Alike q p → is_unused (placed_slate answers settings (stepping s) q).phase ≡ true
       → is_unused (placed_slate answers settings (stepping s) (q ++ s ∷ [])).phase ≡ is_unused (placed_slate answers settings (stepping s) (p ++ s ∷ [])).phase
   unused_self q p (Own e) h u =
-      unused_after q e u ∙ ap (λ (x : Hall). still_unused e.kind x.book) h.same_hall ∙ sym (unused_after p e (sym (h.same_unused e.client) ∙ u))
+      unused_after q e u ∙ ap (λ (x : Membership). still_unused e.kind x.book) h.same_membership ∙ sym (unused_after p e (sym (h.same_unused e.client) ∙ u))
   unused_self q p (Look at secs d) h u = unused_look q at secs d u ∙ sym (unused_look p at secs d (sym (h.same_unused d) ∙ u))
 
   unused_alike_case : (b : Bool) (c : ℕ) (q p : List Step) (s : Step) → Alike q p → is_unused (placed_slate answers settings c q).phase ≡ b
@@ -232,7 +232,7 @@ module _ (answers : Serving) (settings : Settings) where
 
   alike_more : (q p : List Step) (s : Step) → Alike q p → Alike (q ++ s ∷ []) (p ++ s ∷ [])
   alike_more q p s h = record {
-    same_hall = hall_alike q p s h;
+    same_membership = membership_alike q p s h;
     same_unused = λ c. unused_alike_case (is_unused (placed_slate answers settings c q).phase) c q p s h refl;
     same_slates = λ c m. (member_alike c q p s h m).slate;
     same_knows = λ c m. (member_alike c q p s h m).knows;
@@ -248,19 +248,19 @@ module _ (answers : Serving) (settings : Settings) where
       ∙ sym (gain_more answers settings c p s)
   gain_member false q p s h was m = by s (came (stepping s) q s was m).1
     where
-      by : (x : Step) → enters_at answers settings q (hall answers settings q) x ≡ true → placed_gain answers settings (stepping x) q x ≡ placed_gain answers settings (stepping x) p x
+      by : (x : Step) → enters_at answers settings q (membership answers settings q) x ≡ true → placed_gain answers settings (stepping x) q x ≡ placed_gain answers settings (stepping x) p x
       by (Look at secs d) n = cc
       by (Own e) n =
           let a = entered q e (enters_by q e n) in
           let b = entered p e (enters_by p e (sym (enters_alike q p (Own e) h) ∙ n)) in
-          a.gain ∙ ap (λ (x : Hall). (rule answers e (fresh (conf_of x.book))).1) h.same_hall ∙ sym b.gain
+          a.gain ∙ ap (λ (x : Membership). (rule answers e (fresh (conf_of x.book))).1) h.same_membership ∙ sym b.gain
 
   gained_case : (b : Bool) (q p : List Step) (s : Step) → Alike q p → joined answers settings (stepping s) (q ++ s ∷ []) ≡ b → step_gained answers settings q s ≡ step_gained answers settings p s
   gained_case true q p s h m =
-      let m' : joined answers settings (stepping s) (p ++ s ∷ []) ≡ true = ap (λ (x : Hall). list_any (nat_eq (stepping s)) x.members) (sym (hall_alike q p s h)) ∙ m in
+      let m' : joined answers settings (stepping s) (p ++ s ∷ []) ≡ true = ap (λ (x : Membership). list_any (nat_eq (stepping s)) x.members) (sym (membership_alike q p s h)) ∙ m in
       rw (m, m') (gain_member (joined answers settings (stepping s) q) q p s h refl m)
   gained_case false q p s h m =
-      let m' : joined answers settings (stepping s) (p ++ s ∷ []) ≡ false = ap (λ (x : Hall). list_any (nat_eq (stepping s)) x.members) (sym (hall_alike q p s h)) ∙ m in
+      let m' : joined answers settings (stepping s) (p ++ s ∷ []) ≡ false = ap (λ (x : Membership). list_any (nat_eq (stepping s)) x.members) (sym (membership_alike q p s h)) ∙ m in
       rw (m, m') (ap (refused_offer (stepping s)) (reply_alike q p s h))
 
   pub gained_alike : (q p : List Step) (s : Step) → Alike q p → step_gained answers settings q s ≡ step_gained answers settings p s

@@ -23,7 +23,7 @@ use Rattle.dns_core.specs.Sent.{sent}
 use Rattle.dns_core.specs.Out.{is_unused, put}
 use Rattle.dns_core.specs.ByClient.{is_for}
 use Rattle.dns_core.specs.Placed.{Knowledge, own_events, is_beginning, looks, puts, learns, place, placed, knows, knowledge_at_first}
-use Rattle.dns_core.specs.Outs.{Hall, placed_slate, placed_gain, hall, step_gained, outs, outs_after, call_for, call_at, enters, enters_at, refused_offer, stepping}
+use Rattle.dns_core.specs.Outs.{Membership, placed_slate, placed_gain, membership, step_gained, outs, outs_after, call_for, call_at, enters, enters_at, refused_offer, stepping}
 use Rattle.dns_events.specs.declared.settings.Settings.{Settings}
 use Rattle.dns_core.proofs.Counted.{put_other}
 use Rattle.dns_core.proofs.Gained.{concerns_all}
@@ -31,7 +31,7 @@ use Rattle.dns_core.proofs.Named.{AreFor, IsOf, for_both, filter_for, filter_oth
 use Rattle.dns_core.proofs.OutLemmas.{sent_after_append}
 use Rattle.dns_core.proofs.Plain.{unused_is}
 use Rattle.dns_core.proofs.Looked.{Enter, entry_wide}
-use Rattle.dns_core.proofs.Placing.{slate_append, placed_more, slate_more, gain_more, hall_more}
+use Rattle.dns_core.proofs.Placing.{slate_append, placed_more, slate_more, gain_more, membership_more}
 use Rattle.dns_core.proofs.Tied.{TiedSlate, opens_kind, tied, tied_slate}
 use Rattle.dns_core.proofs.Stepping.{Quiet, no_enter, no_refusal, quiet_gain, quiet_slate, other_step}
 use Rattle.dns_core.proofs.StepBegins.{met_open, meets}
@@ -128,19 +128,19 @@ module _ (answers : Serving) where
 
     -- what is sent for a step is for its client
     pub step_for : (q : List Step) (s : Step) → AreFor (stepping s) (step_gained answers settings q s)
-    step_for q s = (elim (list_any (nat_eq (stepping s)) (hall answers settings (q ++ s ∷ [])).members) as (λ b. AreFor (stepping s) (if b then placed_gain answers settings (stepping s) q s else refused_offer (stepping s) (reply_of (hall answers settings q).book (call_at answers settings q (hall answers settings q).members s)))) [ true ↦ gain_for (stepping s) q s | false ↦ refusal_for (stepping s) (reply_of (hall answers settings q).book (call_at answers settings q (hall answers settings q).members s)) ])
+    step_for q s = (elim (list_any (nat_eq (stepping s)) (membership answers settings (q ++ s ∷ [])).members) as (λ b. AreFor (stepping s) (if b then placed_gain answers settings (stepping s) q s else refused_offer (stepping s) (reply_of (membership answers settings q).book (call_at answers settings q (membership answers settings q).members s)))) [ true ↦ gain_for (stepping s) q s | false ↦ refusal_for (stepping s) (reply_of (membership answers settings q).book (call_at answers settings q (membership answers settings q).members s)) ])
 
     abbrev pub joined : ℕ → List Step → Bool
-    joined c q = list_any (nat_eq c) (hall answers settings q).members
+    joined c q = list_any (nat_eq c) (membership answers settings q).members
 
-    pub joined_by : (b : Bool) (c : ℕ) (q : List Step) (s : Step) → enters_at answers settings q (hall answers settings q) s ≡ b → joined c (q ++ s ∷ []) ≡ list_any (nat_eq c) (if b then put (stepping s) (hall answers settings q).members else (hall answers settings q).members)
-    joined_by b c q s h = ap (λ (x : Hall). list_any (nat_eq c) x.members) (hall_more answers settings q s) ∙ rw h refl
+    pub joined_by : (b : Bool) (c : ℕ) (q : List Step) (s : Step) → enters_at answers settings q (membership answers settings q) s ≡ b → joined c (q ++ s ∷ []) ≡ list_any (nat_eq c) (if b then put (stepping s) (membership answers settings q).members else (membership answers settings q).members)
+    joined_by b c q s h = ap (λ (x : Membership). list_any (nat_eq c) x.members) (membership_more answers settings q s) ∙ rw h refl
 
     pub joined_other : (c : ℕ) (q : List Step) (s : Step) → c ≢ stepping s → joined c (q ++ s ∷ []) ≡ joined c q
-    joined_other c q s apart = by (enters_at answers settings q (hall answers settings q) s) refl
+    joined_other c q s apart = by (enters_at answers settings q (membership answers settings q) s) refl
       where
-        by : (b : Bool) → enters_at answers settings q (hall answers settings q) s ≡ b → joined c (q ++ s ∷ []) ≡ joined c q
-        by true h = joined_by true c q s h ∙ put_other c (stepping s) (hall answers settings q).members apart
+        by : (b : Bool) → enters_at answers settings q (membership answers settings q) s ≡ b → joined c (q ++ s ∷ []) ≡ joined c q
+        by true h = joined_by true c q s h ∙ put_other c (stepping s) (membership answers settings q).members apart
         by false h = joined_by false c q s h
 
     pub used_stays : (c : ℕ) (q : List Step) (s : Step) → is_unused (placed_slate answers settings c q).phase ≡ false → is_unused (placed_slate answers settings c (q ++ s ∷ [])).phase ≡ false
@@ -159,7 +159,7 @@ module _ (answers : Serving) where
         ∙ ap (λ os. sent_after answers (fresh (opening settings)) (placed settings c q) ++ os) (sym (gain_more answers settings c q s))
 
     -- who begins at an open book is used then
-    pub opens : (q : List Step) (e : Event) → is_beginning e.kind ≡ true → is_unused (placed_slate answers settings e.client q).phase ≡ true → (hall answers settings q).book.closed ≡ false → is_unused (placed_slate answers settings e.client (q ++ Own e ∷ [])).phase ≡ false
+    pub opens : (q : List Step) (e : Event) → is_beginning e.kind ≡ true → is_unused (placed_slate answers settings e.client q).phase ≡ true → (membership answers settings q).book.closed ≡ false → is_unused (placed_slate answers settings e.client (q ++ Own e ∷ [])).phase ≡ false
     opens q e k u cl =
         let m = meets answers settings q e k u in
         let o = met_open answers settings q e k u cl in
@@ -167,14 +167,14 @@ module _ (answers : Serving) where
 
     unfoldable pub Comes : ℕ → List Step → Step → Type 0
     Comes c q s = ((is_unused (placed_slate answers settings c q).phase ≡ true) × (is_unused (placed_slate answers settings c (q ++ s ∷ [])).phase ≡ false))
-        ⊎ ((refused_offer c (reply_of (hall answers settings q).book (call_at answers settings q (hall answers settings q).members s)) ≡ []) × (enters_at answers settings q (hall answers settings q) s ≡ false))
+        ⊎ ((refused_offer c (reply_of (membership answers settings q).book (call_at answers settings q (membership answers settings q).members s)) ≡ []) × (enters_at answers settings q (membership answers settings q) s ≡ false))
 
     pub comes : (q : List Step) (s : Step) → Comes (stepping s) q s
     unfolding Comes Settled
     comes q (Own e) = ⊎_elim
-        (λ (x : (is_unused (placed_slate answers settings e.client q).phase ≡ true) × ((hall answers settings q).book.closed ≡ false) × (is_beginning e.kind ≡ true)). inl (x.0, opens q e x.2 x.0 x.1))
-        (λ (y : (refused_offer e.client (reply_of (hall answers settings q).book (call_at answers settings q (hall answers settings q).members (Own e))) ≡ []) × (enters_at answers settings q (hall answers settings q) (Own e) ≡ false)). inr y)
-        (settle e.kind e.client (placed_slate answers settings e.client q) (list_any (nat_eq e.client) (hall answers settings q).members) (hall answers settings q).book)
+        (λ (x : (is_unused (placed_slate answers settings e.client q).phase ≡ true) × ((membership answers settings q).book.closed ≡ false) × (is_beginning e.kind ≡ true)). inl (x.0, opens q e x.2 x.0 x.1))
+        (λ (y : (refused_offer e.client (reply_of (membership answers settings q).book (call_at answers settings q (membership answers settings q).members (Own e))) ≡ []) × (enters_at answers settings q (membership answers settings q) (Own e) ≡ false)). inr y)
+        (settle e.kind e.client (placed_slate answers settings e.client q) (list_any (nat_eq e.client) (membership answers settings q).members) (membership answers settings q).book)
     comes q (Look at secs d) = inr (refl, refl)
 
     -- what a client was sent of all that was sent
@@ -206,7 +206,7 @@ module _ (answers : Serving) where
     member_case false true q s all was is m h = (h.unused is).0 ∙ sym (nothing_yet (stepping s) q is)
     member_case false false q s all was is m h = ⊎_elim
         (λ (x : (is_unused (placed_slate answers settings (stepping s) q).phase ≡ true) × (is_unused (placed_slate answers settings (stepping s) (q ++ s ∷ [])).phase ≡ false)). let z = x.0 in cc)
-        (λ (y : (refused_offer (stepping s) (reply_of (hall answers settings q).book (call_at answers settings q (hall answers settings q).members s)) ≡ []) × (enters_at answers settings q (hall answers settings q) s ≡ false)). let z = joined_by false (stepping s) q s y.1 in cc)
+        (λ (y : (refused_offer (stepping s) (reply_of (membership answers settings q).book (call_at answers settings q (membership answers settings q).members s)) ≡ []) × (enters_at answers settings q (membership answers settings q) s ≡ false)). let z = joined_by false (stepping s) q s y.1 in cc)
         (comes q s)
 
     unused_before : (u : Bool) (q : List Step) (s : Step) → is_unused (placed_slate answers settings (stepping s) q).phase ≡ u → is_unused (placed_slate answers settings (stepping s) (q ++ s ∷ [])).phase ≡ true → is_unused (placed_slate answers settings (stepping s) q).phase ≡ true
@@ -220,7 +220,7 @@ module _ (answers : Serving) where
         let was = h.unused (unused_before (is_unused (placed_slate answers settings (stepping s) q).phase) q s refl u) in
         ⊎_elim
         (λ (x : (is_unused (placed_slate answers settings (stepping s) q).phase ≡ true) × (is_unused (placed_slate answers settings (stepping s) (q ++ s ∷ [])).phase ≡ false)). let z = x.1 in cc)
-        (λ (y : (refused_offer (stepping s) (reply_of (hall answers settings q).book (call_at answers settings q (hall answers settings q).members s)) ≡ []) × (enters_at answers settings q (hall answers settings q) s ≡ false)).
+        (λ (y : (refused_offer (stepping s) (reply_of (membership answers settings q).book (call_at answers settings q (membership answers settings q).members s)) ≡ []) × (enters_at answers settings q (membership answers settings q) s ≡ false)).
         let out : joined (stepping s) (q ++ s ∷ []) ≡ false = joined_by false (stepping s) q s y.1 ∙ was.1 in
         let none : step_gained answers settings q s ≡ [] = rw out y.0 in
         (ap (λ os. filter (is_for (stepping s)) (all ++ os)) none ∙ ap (filter (is_for (stepping s))) (append-nil all) ∙ was.0, out))
@@ -252,5 +252,5 @@ module _ (answers : Serving) where
         rw (← append_assoc p (s ∷ []) q, ← append_assoc all (step_gained answers settings p s) (outs_after answers settings (p ++ s ∷ []) q)) more
 
     pub owns : (c : ℕ) (q : List Step) → Owns c q (outs answers settings q)
-    unfolding outs hall placed_slate placed sent
+    unfolding outs membership placed_slate placed sent
     owns c q = owns_after c [] q [] (record { member = λ m. let z : false ≡ true = m in cc; unused = λ u. (refl, refl) })

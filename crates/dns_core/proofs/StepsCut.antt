@@ -11,7 +11,7 @@ use Rattle.dns_client.specs.Pieces.{IsCut, piece_of}
 use Rattle.dns_client.specs.Rule.{rule}
 use Rattle.dns_client.specs.Slate.{Slate}
 use Rattle.dns_core.specs.Out.{is_unused}
-use Rattle.dns_core.specs.Outs.{Hall, placed_slate, placed_gain, hall, step_gained, outs, outs_after}
+use Rattle.dns_core.specs.Outs.{Membership, placed_slate, placed_gain, membership, step_gained, outs, outs_after}
 use Rattle.dns_core.specs.Placed.{knows}
 use Rattle.dns_events.specs.declared.settings.Settings.{Settings}
 use Rattle.dns_core.proofs.Placing.{knows_more}
@@ -19,18 +19,18 @@ use Rattle.dns_core.proofs.Tied.{tied}
 use Rattle.dns_core.proofs.Stepping.{other_quiet, own_gain, own_slate, quiet_slate}
 use Rattle.dns_core.proofs.StepsByClient.{joined, used_stays}
 use Rattle.dns_core.proofs.StepsAlike.{Alike, member_used, outs_alike, outs_split, unused_after}
-use Rattle.dns_core.proofs.StepsNothing.{begun_knows, hall_kept}
+use Rattle.dns_core.proofs.StepsNothing.{begun_knows, membership_kept}
 
 module _ (answers : Serving) (settings : Settings) (n at secs : ℕ) where
   abbrev step : List ℕ → Step
   step o = Own (piece_of n at secs o)
 
   -- a piece leaves the book and the members, what is known of the book, and which numbers are used
-  piece_hall : (q : List Step) (o : List ℕ) → hall answers settings (q ++ step o ∷ []) ≡ hall answers settings q
-  piece_hall q o = hall_kept answers settings q (step o) refl refl
+  piece_membership : (q : List Step) (o : List ℕ) → membership answers settings (q ++ step o ∷ []) ≡ membership answers settings q
+  piece_membership q o = membership_kept answers settings q (step o) refl refl
 
   piece_joined : (c : ℕ) (q : List Step) (o : List ℕ) → joined answers settings c (q ++ step o ∷ []) ≡ joined answers settings c q
-  piece_joined c q o = ap (λ (x : Hall). list_any (nat_eq c) x.members) (piece_hall q o)
+  piece_joined c q o = ap (λ (x : Membership). list_any (nat_eq c) x.members) (piece_membership q o)
 
   piece_knows : (c : ℕ) (q : List Step) (o : List ℕ) → joined answers settings c q ≡ true → knows settings c (q ++ step o ∷ []) ≡ knows settings c q
   piece_knows c q o m = knows_more settings c q (step o) ∙ begun_knows answers settings c (knows settings c q) (piece_of n at secs o) refl ((tied answers settings c q).slate.begun (member_used answers settings c q m))
@@ -67,7 +67,7 @@ module _ (answers : Serving) (settings : Settings) (n at secs : ℕ) where
         let q1 = q ++ step a ∷ [] in
         let was : (c : ℕ) → joined answers settings c (q ++ step (a ++ b) ∷ []) ≡ true → joined answers settings c q ≡ true = λ c m. sym (piece_joined c q (a ++ b)) ∙ m in
         record {
-          same_hall = piece_hall q (a ++ b) ∙ sym (piece_hall q1 b ∙ piece_hall q a);
+          same_membership = piece_membership q (a ++ b) ∙ sym (piece_membership q1 b ∙ piece_membership q a);
           same_unused = λ c. piece_unused c q (a ++ b) ∙ sym (piece_unused c q1 b ∙ piece_unused c q a);
           same_slates = λ c m. ⊎_elim
               (λ (same : c ≡ n). rw same (piece_slate q (a ++ b) ∙ (cut (placed_slate answers settings n q)).slate ∙ sym (piece_slate q1 b ∙ ap (λ s. (rule answers (piece_of n at secs b) s).0) (piece_slate q a))))

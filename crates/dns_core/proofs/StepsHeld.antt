@@ -24,7 +24,7 @@ use Rattle.dns_core.specs.Own.{is_wide}
 use Rattle.dns_core.specs.Out.{holds_slot, is_unused, put}
 use Rattle.dns_core.specs.Books.{book_rule}
 use Rattle.dns_core.specs.Placed.{begins, is_beginning, knows, looks, puts}
-use Rattle.dns_core.specs.Outs.{Hall, placed_slate, hall, call_for, call_at, enters, enters_at, stepping}
+use Rattle.dns_core.specs.Outs.{Membership, placed_slate, membership, call_for, call_at, enters, enters_at, stepping}
 use Rattle.dns_core.specs.StepsByClient.{slots_held}
 use Rattle.dns_events.specs.declared.settings.Settings.{Settings}
 use Rattle.dns_core.proofs.Counted.{absent_other, filter_put, filter_put_not, filter_same, one_less}
@@ -32,7 +32,7 @@ use Rattle.dns_core.proofs.Plain.{slot_kept, slot_stays}
 use Rattle.dns_core.proofs.Rising.{sorted_none, sorted_put}
 use Rattle.dns_core.proofs.Wide.{wide_slot}
 use Rattle.dns_core.proofs.Looked.{Enter, entry_wide}
-use Rattle.dns_core.proofs.Placing.{hall_more, slate_more}
+use Rattle.dns_core.proofs.Placing.{membership_more, slate_more}
 use Rattle.dns_core.proofs.Tied.{tied}
 use Rattle.dns_core.proofs.Stepping.{book_more, members_same, other_quiet, look_quiet, own_slate, quiet_slate, wide_call, wide_quiet, other_step}
 use Rattle.dns_core.proofs.StepsByClient.{joined, owns}
@@ -122,18 +122,18 @@ seat _ e sl m b answers is k u cl n = cc
 
 module _ (answers : Serving) (settings : Settings) where
   -- ---- the members
-  members_joined : (q : List Step) (s : Step) → enters_at answers settings q (hall answers settings q) s ≡ true → (hall answers settings (q ++ s ∷ [])).members ≡ put (stepping s) (hall answers settings q).members
-  members_joined q s n = ap (λ (x : Hall). x.members) (hall_more answers settings q s) ∙ rw n refl
+  members_joined : (q : List Step) (s : Step) → enters_at answers settings q (membership answers settings q) s ≡ true → (membership answers settings (q ++ s ∷ [])).members ≡ put (stepping s) (membership answers settings q).members
+  members_joined q s n = ap (λ (x : Membership). x.members) (membership_more answers settings q s) ∙ rw n refl
 
-  enters_absent : (q : List Step) (s : Step) → enters_at answers settings q (hall answers settings q) s ≡ true → joined answers settings (stepping s) q ≡ false
+  enters_absent : (q : List Step) (s : Step) → enters_at answers settings q (membership answers settings q) s ≡ true → joined answers settings (stepping s) q ≡ false
   enters_absent q (Own e) n = ((owns answers settings e.client q).unused (enters_by answers settings q e n).unused).1
   enters_absent q (Look at secs d) n = cc
 
   abbrev Rises : List Step → Type 0
-  Rises q = IsStrictlySortedBy nat_cmp (hall answers settings q).members
+  Rises q = IsStrictlySortedBy nat_cmp (membership answers settings q).members
 
-  rises_case : (b : Bool) (q : List Step) (s : Step) → Rises q → enters_at answers settings q (hall answers settings q) s ≡ b → Rises (q ++ s ∷ [])
-  rises_case true q s h n = subst (IsStrictlySortedBy nat_cmp) (sym (members_joined q s n)) (sorted_put (stepping s) (hall answers settings q).members h (enters_absent q s n))
+  rises_case : (b : Bool) (q : List Step) (s : Step) → Rises q → enters_at answers settings q (membership answers settings q) s ≡ b → Rises (q ++ s ∷ [])
+  rises_case true q s h n = subst (IsStrictlySortedBy nat_cmp) (sym (members_joined q s n)) (sorted_put (stepping s) (membership answers settings q).members h (enters_absent q s n))
   rises_case false q s h n = subst (IsStrictlySortedBy nat_cmp) (sym (members_same answers settings q s n)) h
 
   -- ---- the slots
@@ -141,7 +141,7 @@ module _ (answers : Serving) (settings : Settings) where
   count p ms = length (filter (λ c. holds_slot (placed_slate answers settings c p)) ms)
 
   abbrev Counts : List Step → Type 0
-  Counts q = (hall answers settings q).book.taken ≡ count q (hall answers settings q).members
+  Counts q = (membership answers settings q).book.taken ≡ count q (membership answers settings q).members
 
   same_count : (q p : List Step) (ms : List ℕ) → ((c : ℕ) → list_any (nat_eq c) ms ≡ true → placed_slate answers settings c p ≡ placed_slate answers settings c q) → count p ms ≡ count q ms
   same_count q p ms h = ap length (filter_same (λ c. holds_slot (placed_slate answers settings c p)) (λ c. holds_slot (placed_slate answers settings c q)) ms (λ c there. ap holds_slot (h c there)))
@@ -153,11 +153,11 @@ module _ (answers : Serving) (settings : Settings) where
   put_count true q s ms absent held = filter_put (λ c. holds_slot (placed_slate answers settings c (q ++ s ∷ []))) (stepping s) ms held ∙ ap (λ n. n + 1) (others_same q s ms absent)
   put_count false q s ms absent held = filter_put_not (λ c. holds_slot (placed_slate answers settings c (q ++ s ∷ []))) (stepping s) ms held ∙ others_same q s ms absent
 
-  enters_counts : (q : List Step) (s : Step) → Counts q → enters_at answers settings q (hall answers settings q) s ≡ true → Counts (q ++ s ∷ [])
+  enters_counts : (q : List Step) (s : Step) → Counts q → enters_at answers settings q (membership answers settings q) s ≡ true → Counts (q ++ s ∷ [])
   enters_counts q (Look at secs d) h n = cc
   enters_counts q (Own e) h n =
       let s = Own e in
-      let hl = hall answers settings q in
+      let hl = membership answers settings q in
       let en = enters_by answers settings q e n in
       let a = entered answers settings q e en in
       let st = seat e.kind e (placed_slate answers settings e.client q) (joined answers settings e.client q) hl.book answers refl en.beginning en.unused en.open_book n in
@@ -179,7 +179,7 @@ module _ (answers : Serving) (settings : Settings) where
           ∙ held_list answers k.seen k.unheard (placed_slate answers settings d q) (tied answers settings d q).slate.enter
 
   member_count : (q : List Step) (e : Event) → is_wide e.kind ≡ false → Rises q → joined answers settings e.client q ≡ true
-      → count (q ++ Own e ∷ []) (hall answers settings q).members ≡ (if gives_back e.kind (placed_slate answers settings e.client q) then count q (hall answers settings q).members - 1 else count q (hall answers settings q).members)
+      → count (q ++ Own e ∷ []) (membership answers settings q).members ≡ (if gives_back e.kind (placed_slate answers settings e.client q) then count q (membership answers settings q).members - 1 else count q (membership answers settings q).members)
   member_count q e w so m =
       let c = e.client in
       let sl = placed_slate answers settings c q in
@@ -187,34 +187,34 @@ module _ (answers : Serving) (settings : Settings) where
       let b = (tied answers settings c q).slate.begun u in
       let l : looks c (knows settings c q).began (Own e) ≡ false = rw b (and-false (begins c (Own e))) in
       let t : Slot e sl (placed_slate answers settings c (q ++ Own e ∷ [])) = rw (own_slate answers settings q e w l) (slot_after answers e sl u) in
-      one_less (λ d. holds_slot (placed_slate answers settings d q)) (λ d. holds_slot (placed_slate answers settings d (q ++ Own e ∷ []))) c (hall answers settings q).members (gives_back e.kind sl) so m
+      one_less (λ d. holds_slot (placed_slate answers settings d q)) (λ d. holds_slot (placed_slate answers settings d (q ++ Own e ∷ []))) c (membership answers settings q).members (gives_back e.kind sl) so m
       (λ y apart. ap holds_slot (quiet_slate answers settings y q (Own e) (other_quiet y (knows settings y q) e apart))) t.gone t.kept
 
-  narrow_counts : (m : Bool) (q : List Step) (e : Event) → is_wide e.kind ≡ false → Rises q → Counts q → enters_at answers settings q (hall answers settings q) (Own e) ≡ false → joined answers settings e.client q ≡ m
-      → (state_after (hall answers settings q).book (call_for (placed_slate answers settings e.client q) m e.kind)).taken ≡ count (q ++ Own e ∷ []) (hall answers settings q).members
+  narrow_counts : (m : Bool) (q : List Step) (e : Event) → is_wide e.kind ≡ false → Rises q → Counts q → enters_at answers settings q (membership answers settings q) (Own e) ≡ false → joined answers settings e.client q ≡ m
+      → (state_after (membership answers settings q).book (call_for (placed_slate answers settings e.client q) m e.kind)).taken ≡ count (q ++ Own e ∷ []) (membership answers settings q).members
   narrow_counts true q e w so h n m =
       let sl = placed_slate answers settings e.client q in
-      taken_member e.kind sl (hall answers settings q).book w (member_used answers settings e.client q m) ∙ ap (λ x. if gives_back e.kind sl then x - 1 else x) h ∙ sym (member_count q e w so m)
+      taken_member e.kind sl (membership answers settings q).book w (member_used answers settings e.client q m) ∙ ap (λ x. if gives_back e.kind sl then x - 1 else x) h ∙ sym (member_count q e w so m)
   narrow_counts false q e w so h n m =
       let sl = placed_slate answers settings e.client q in
-      let b = (hall answers settings q).book in
+      let b = (membership answers settings q).book in
       let n' : enters sl b (reply_of b (call_for sl false e.kind)) e.kind ≡ false = rw m at n in
-      taken_other e.kind sl b w n' ∙ h ∙ sym (others_same q (Own e) (hall answers settings q).members m)
+      taken_other e.kind sl b w n' ∙ h ∙ sym (others_same q (Own e) (membership answers settings q).members m)
 
-  own_counts : (w : Bool) (q : List Step) (e : Event) → Rises q → Counts q → enters_at answers settings q (hall answers settings q) (Own e) ≡ false → is_wide e.kind ≡ w
-      → (state_after (hall answers settings q).book (call_at answers settings q (hall answers settings q).members (Own e))).taken ≡ count (q ++ Own e ∷ []) (hall answers settings q).members
+  own_counts : (w : Bool) (q : List Step) (e : Event) → Rises q → Counts q → enters_at answers settings q (membership answers settings q) (Own e) ≡ false → is_wide e.kind ≡ w
+      → (state_after (membership answers settings q).book (call_at answers settings q (membership answers settings q).members (Own e))).taken ≡ count (q ++ Own e ∷ []) (membership answers settings q).members
   own_counts true q e so h n w =
-      let b = (hall answers settings q).book in
+      let b = (membership answers settings q).book in
       ap (λ (x : State). x.taken) (wide_call e.kind b (placed_slate answers settings e.client q) (joined answers settings e.client q) w) ∙ taken_wide e.kind b ∙ h
-      ∙ sym (same_count q (q ++ Own e ∷ []) (hall answers settings q).members (λ c there. quiet_slate answers settings c q (Own e) (wide_quiet c (knows settings c q) e w)))
+      ∙ sym (same_count q (q ++ Own e ∷ []) (membership answers settings q).members (λ c there. quiet_slate answers settings c q (Own e) (wide_quiet c (knows settings c q) e w)))
   own_counts false q e so h n w = narrow_counts (joined answers settings e.client q) q e w so h n refl
 
-  still_counts : (q : List Step) (s : Step) → Rises q → Counts q → enters_at answers settings q (hall answers settings q) s ≡ false
-      → (state_after (hall answers settings q).book (call_at answers settings q (hall answers settings q).members s)).taken ≡ count (q ++ s ∷ []) (hall answers settings q).members
+  still_counts : (q : List Step) (s : Step) → Rises q → Counts q → enters_at answers settings q (membership answers settings q) s ≡ false
+      → (state_after (membership answers settings q).book (call_at answers settings q (membership answers settings q).members s)).taken ≡ count (q ++ s ∷ []) (membership answers settings q).members
   still_counts q (Own e) so h n = own_counts (is_wide e.kind) q e so h n refl
-  still_counts q (Look at secs d) so h n = h ∙ sym (look_count q at secs d (hall answers settings q).members)
+  still_counts q (Look at secs d) so h n = h ∙ sym (look_count q at secs d (membership answers settings q).members)
 
-  counts_case : (b : Bool) (q : List Step) (s : Step) → Rises q → Counts q → enters_at answers settings q (hall answers settings q) s ≡ b → Counts (q ++ s ∷ [])
+  counts_case : (b : Bool) (q : List Step) (s : Step) → Rises q → Counts q → enters_at answers settings q (membership answers settings q) s ≡ b → Counts (q ++ s ∷ [])
   counts_case true q s so h n = enters_counts q s h n
   counts_case false q s so h n = ap (λ (b : State). b.taken) (book_more answers settings q s) ∙ still_counts q s so h n ∙ sym (ap (count (q ++ s ∷ [])) (members_same answers settings q s n))
 
@@ -224,16 +224,16 @@ module _ (answers : Serving) (settings : Settings) where
   both_on : (r q : List Step) → Both q → Both (q ++ r)
   both_on [] q h = subst Both (sym (append-nil q)) h
   both_on (s ∷ r) q h =
-      let n = enters_at answers settings q (hall answers settings q) s in
+      let n = enters_at answers settings q (membership answers settings q) s in
       subst Both (append_assoc q (s ∷ []) r) (both_on r (q ++ s ∷ []) (rises_case n q s h.0 refl, counts_case n q s h.0 h.1 refl))
 
   both_none : Both []
-  unfolding hall
+  unfolding membership
   both_none = (sorted_none, refl)
 
-  pub members_rise : (q : List Step) → IsStrictlySortedBy nat_cmp (hall answers settings q).members
+  pub members_rise : (q : List Step) → IsStrictlySortedBy nat_cmp (membership answers settings q).members
   members_rise q = (both_on q [] both_none).0
 
-  pub book_counts : (q : List Step) → (hall answers settings q).book.taken ≡ slots_held answers settings q
+  pub book_counts : (q : List Step) → (membership answers settings q).book.taken ≡ slots_held answers settings q
   unfolding slots_held
   book_counts q = (both_on q [] both_none).1

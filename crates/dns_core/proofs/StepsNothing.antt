@@ -23,13 +23,13 @@ use Rattle.dns_core.specs.Own.{is_wide}
 use Rattle.dns_core.specs.Out.{is_unused, put}
 use Rattle.dns_core.specs.Books.{is_entry}
 use Rattle.dns_core.specs.Placed.{Knowledge, book_now, begins, is_beginning, looks, puts, learns, knows, placed}
-use Rattle.dns_core.specs.Outs.{Hall, placed_slate, placed_gain, hall, step_gained, outs, call_for, call_at, enters, enters_at, refused_offer, stepping}
+use Rattle.dns_core.specs.Outs.{Membership, placed_slate, placed_gain, membership, step_gained, outs, call_for, call_at, enters, enters_at, refused_offer, stepping}
 use Rattle.dns_core.specs.StepsByClient.{is_first}
 use Rattle.dns_events.specs.declared.settings.Settings.{Settings}
 use Rattle.dns_core.proofs.AtOnce.{own_no_entry}
 use Rattle.dns_core.proofs.Plain.{closed_idle}
 use Rattle.dns_core.proofs.Settled.{Settled, nothing_received, settled_after}
-use Rattle.dns_core.proofs.Placing.{knows_more, slate_more, gain_more, hall_more}
+use Rattle.dns_core.proofs.Placing.{knows_more, slate_more, gain_more, membership_more}
 use Rattle.dns_core.proofs.Tied.{tied, no_entry, untaken, wide_no_beginning}
 use Rattle.dns_core.proofs.Stepping.{look_quiet, no_refusal, other_quiet, own_enters, own_gain, own_slate, quiet_gain, quiet_slate, wide_call, wide_quiet}
 use Rattle.dns_core.proofs.StepBegins.{begin_narrow, begin_used, closed_refuses, used_call, used_enters, Refuses}
@@ -67,27 +67,27 @@ module _ (answers : Serving) where
   narrow_passes k e sl m b is w n idle = passes_by k sl m b refl refl
 
   module _ (settings : Settings) where
-    open_case : (z : Bool) (q : List Step) (e : Event) → is_beginning e.kind ≡ true → is_unused (placed_slate answers settings e.client q).phase ≡ true → is_first answers settings q e ≡ false → (hall answers settings q).book.closed ≡ z → z ≡ true
+    open_case : (z : Bool) (q : List Step) (e : Event) → is_beginning e.kind ≡ true → is_unused (placed_slate answers settings e.client q).phase ≡ true → is_first answers settings q e ≡ false → (membership answers settings q).book.closed ≡ z → z ≡ true
     unfolding is_first
     open_case true q e k u n cl = refl
     open_case false q e k u n cl = let o = opens answers settings q e k u cl in let z : true ≡ false = rw (u, o) at n in cc
 
     beginning_passes : (u : Bool) (q : List Step) (e : Event) → is_beginning e.kind ≡ true → is_first answers settings q e ≡ false → is_unused (placed_slate answers settings e.client q).phase ≡ u
-        → Refuses e.kind (placed_slate answers settings e.client q) (joined answers settings e.client q) (hall answers settings q).book
+        → Refuses e.kind (placed_slate answers settings e.client q) (joined answers settings e.client q) (membership answers settings q).book
     beginning_passes true q e k n u =
-        let b = (hall answers settings q).book in
+        let b = (membership answers settings q).book in
         let r = closed_refuses e.kind (placed_slate answers settings e.client q) (joined answers settings e.client q) b k u (open_case b.closed q e k u n refl) in
         record { state = r.state; says = r.says; enters = r.enters }
     beginning_passes false q e k n u =
         let sl = placed_slate answers settings e.client q in
-        let b = (hall answers settings q).book in
+        let b = (membership answers settings q).book in
         passes_by e.kind sl (joined answers settings e.client q) b (used_call e.kind sl (joined answers settings e.client q) k u) (used_enters e.kind sl b k u)
 
     passes_case : (k : Bool) (q : List Step) (e : Event) → is_wide e.kind ≡ false → is_beginning e.kind ≡ k → is_first answers settings q e ≡ false
         → (joined answers settings e.client q ≡ true → rule answers e (placed_slate answers settings e.client q) ≡ (placed_slate answers settings e.client q, []))
-        → Refuses e.kind (placed_slate answers settings e.client q) (joined answers settings e.client q) (hall answers settings q).book
+        → Refuses e.kind (placed_slate answers settings e.client q) (joined answers settings e.client q) (membership answers settings q).book
     passes_case true q e w k n idle = beginning_passes (is_unused (placed_slate answers settings e.client q).phase) q e k n refl
-    passes_case false q e w k n idle = narrow_passes e.kind e (placed_slate answers settings e.client q) (joined answers settings e.client q) (hall answers settings q).book refl w k idle
+    passes_case false q e w k n idle = narrow_passes e.kind e (placed_slate answers settings e.client q) (joined answers settings e.client q) (membership answers settings q).book refl w k idle
 
     -- ---- what is known after it
     no_new : (c : ℕ) (k : Knowledge) (e : Event) → is_wide e.kind ≡ false → looks c k.began (Own e) ≡ false → (k.began || begins c (Own e)) ≡ k.began → learns c k (Own e) ≡ k
@@ -108,12 +108,12 @@ module _ (answers : Serving) where
         let n : (d == c) ≡ false = ne_eqb d c (λ h. apart (sym h)) in
         rw n (known k (k.began || false) (k.unheard ++ []) (or-false k.began) (append-nil k.unheard))
 
-    pub hall_kept : (q : List Step) (s : Step) → enters_at answers settings q (hall answers settings q) s ≡ false → state_after (hall answers settings q).book (call_at answers settings q (hall answers settings q).members s) ≡ (hall answers settings q).book
-        → hall answers settings (q ++ s ∷ []) ≡ hall answers settings q
-    hall_kept q s n b =
-        let h = hall answers settings q in
-        let after : State → List ℕ → Hall = λ x ms. record { book = x; members = ms } in
-        hall_more answers settings q s ∙ ap (λ x. after (state_after h.book (call_at answers settings q h.members s)) (if x then put (stepping s) h.members else h.members)) n ∙ ap (λ x. after x h.members) b
+    pub membership_kept : (q : List Step) (s : Step) → enters_at answers settings q (membership answers settings q) s ≡ false → state_after (membership answers settings q).book (call_at answers settings q (membership answers settings q).members s) ≡ (membership answers settings q).book
+        → membership answers settings (q ++ s ∷ []) ≡ membership answers settings q
+    membership_kept q s n b =
+        let h = membership answers settings q in
+        let after : State → List ℕ → Membership = λ x ms. record { book = x; members = ms } in
+        membership_more answers settings q s ∙ ap (λ x. after (state_after h.book (call_at answers settings q h.members s)) (if x then put (stepping s) h.members else h.members)) n ∙ ap (λ x. after x h.members) b
 
     -- an event of one client by which it doesn't begin, and that changes nothing of it, if it is a member, changes nothing at all
     pub nothing : (q r : List Step) (e : Event) → is_wide e.kind ≡ false → is_first answers settings q e ≡ false
@@ -124,11 +124,11 @@ module _ (answers : Serving) where
         let c = e.client in
         let s = Own e in
         let p = passes_case (is_beginning e.kind) q e w refl n idle in
-        let same = hall_kept q s p.enters p.state in
-        let now : (d : ℕ) → joined answers settings d (q ++ s ∷ []) ≡ joined answers settings d q = λ d. ap (λ (x : Hall). list_any (nat_eq d) x.members) same in
+        let same = membership_kept q s p.enters p.state in
+        let now : (d : ℕ) → joined answers settings d (q ++ s ∷ []) ≡ joined answers settings d q = λ d. ap (λ (x : Membership). list_any (nat_eq d) x.members) same in
         let no_look : joined answers settings c q ≡ true → looks c (knows settings c q).began s ≡ false = λ m. let b = (tied answers settings c q).slate.begun (member_used answers settings c q m) in rw b (and-false (begins c s)) in
         skipped answers settings q r s (by (joined answers settings c q) refl) (record {
-          same_hall = same;
+          same_membership = same;
           same_unused = λ d. ⊎_elim
               (λ (i : d ≡ c). rw i (unused_as_before (is_unused (placed_slate answers settings c q).phase) (is_unused (placed_slate answers settings c (q ++ s ∷ [])).phase) n (used_stays answers settings c q s)))
               (λ (apart : d ≢ c). ap (λ (x : Slate). is_unused x.phase) (quiet_slate answers settings d q s (other_quiet d (knows settings d q) e apart)))
@@ -148,16 +148,16 @@ module _ (answers : Serving) where
             let p = passes_case (is_beginning e.kind) q e w refl n idle in
             let b = (tied answers settings e.client q).slate.begun (member_used answers settings e.client q m) in
             let l : looks e.client (knows settings e.client q).began (Own e) ≡ false = rw b (and-false (begins e.client (Own e))) in
-            let now : joined answers settings e.client (q ++ Own e ∷ []) ≡ true = ap (λ (x : Hall). list_any (nat_eq e.client) x.members) (hall_kept q (Own e) p.enters p.state) ∙ m in
+            let now : joined answers settings e.client (q ++ Own e ∷ []) ≡ true = ap (λ (x : Membership). list_any (nat_eq e.client) x.members) (membership_kept q (Own e) p.enters p.state) ∙ m in
             rw now (own_gain answers settings q e w l ∙ ap (λ (t : Told). t.1) (idle m))
         by false m =
             let p = passes_case (is_beginning e.kind) q e w refl n idle in
-            let now : joined answers settings e.client (q ++ Own e ∷ []) ≡ false = ap (λ (x : Hall). list_any (nat_eq e.client) x.members) (hall_kept q (Own e) p.enters p.state) ∙ m in
+            let now : joined answers settings e.client (q ++ Own e ∷ []) ≡ false = ap (λ (x : Membership). list_any (nat_eq e.client) x.members) (membership_kept q (Own e) p.enters p.state) ∙ m in
             rw now (p.says e.client)
 
     -- ---- looks
     pub gain_or_not : (b : Bool) (q : List Step) (s : Step) → joined answers settings (stepping s) (q ++ s ∷ []) ≡ b → (b ≡ true → placed_gain answers settings (stepping s) q s ≡ [])
-        → refused_offer (stepping s) (reply_of (hall answers settings q).book (call_at answers settings q (hall answers settings q).members s)) ≡ [] → step_gained answers settings q s ≡ []
+        → refused_offer (stepping s) (reply_of (membership answers settings q).book (call_at answers settings q (membership answers settings q).members s)) ≡ [] → step_gained answers settings q s ≡ []
     gain_or_not true q s m g f = rw m (g refl)
     gain_or_not false q s m g f = rw m f
 
@@ -171,10 +171,10 @@ module _ (answers : Serving) where
         → outs answers settings (q ++ Look at secs c ∷ r) ≡ outs answers settings (q ++ r)
     look_nothing q r at secs c idle =
         let s = Look at secs c in
-        let same = hall_kept q s refl refl in
-        let now : (d : ℕ) → joined answers settings d (q ++ s ∷ []) ≡ joined answers settings d q = λ d. ap (λ (x : Hall). list_any (nat_eq d) x.members) same in
+        let same = membership_kept q s refl refl in
+        let now : (d : ℕ) → joined answers settings d (q ++ s ∷ []) ≡ joined answers settings d q = λ d. ap (λ (x : Membership). list_any (nat_eq d) x.members) same in
         skipped answers settings q r s (gain_or_not (joined answers settings c (q ++ s ∷ [])) q s refl (λ b. (idle (sym (now c) ∙ b)).1) refl) (record {
-          same_hall = same;
+          same_membership = same;
           same_unused = λ d. ⊎_elim
               (λ (i : d ≡ c). rw i (look_unused (is_unused (placed_slate answers settings c q).phase) q at secs c refl))
               (λ (apart : d ≢ c). ap (λ (x : Slate). is_unused x.phase) (quiet_slate answers settings d q s (look_quiet d c at secs (knows settings d q) apart)))
@@ -222,17 +222,17 @@ module _ (answers : Serving) where
         let l : looks c k.began (Own e) ≡ false = rw o refl in
         rw (l, n, b) (known k (k.began || false) (k.unheard ++ []) (or-false k.began) (append-nil k.unheard))
 
-    pub nothing_entered : (q r : List Step) (e : Event) → is_wide e.kind ≡ true → is_entry (hall answers settings q).book e.kind ≡ false → outs answers settings (q ++ Own e ∷ r) ≡ outs answers settings (q ++ r)
+    pub nothing_entered : (q r : List Step) (e : Event) → is_wide e.kind ≡ true → is_entry (membership answers settings q).book e.kind ≡ false → outs answers settings (q ++ Own e ∷ r) ≡ outs answers settings (q ++ r)
     nothing_entered q r e w n =
         let s = Own e in
         let c = e.client in
-        let b = (hall answers settings q).book in
+        let b = (membership answers settings q).book in
         let off = wide_no_beginning e.kind w in
         let sl = placed_slate answers settings c q in
-        let same = hall_kept q s (own_enters answers settings q e off) (wide_call e.kind b sl (joined answers settings c q) w ∙ no_entry e.kind b n) in
+        let same = membership_kept q s (own_enters answers settings q e off) (wide_call e.kind b sl (joined answers settings c q) w ∙ no_entry e.kind b n) in
         let none : (d : ℕ) → is_entry (book_now (knows settings d q)) e.kind ≡ false = λ d. ap (λ x. is_entry x e.kind) (sym (tied answers settings d q).book) ∙ untaken_entry e.kind b ∙ n in
         skipped answers settings q r s (gain_or_not (joined answers settings c (q ++ s ∷ [])) q s refl (λ x. quiet_gain answers settings c q s (wide_quiet c (knows settings c q) e w)) (no_refusal e.kind b sl (joined answers settings c q) c off)) (record {
-          same_hall = same;
+          same_membership = same;
           same_unused = λ d. ap (λ (x : Slate). is_unused x.phase) (quiet_slate answers settings d q s (wide_quiet d (knows settings d q) e w));
           same_slates = λ d there. quiet_slate answers settings d q s (wide_quiet d (knows settings d q) e w);
           same_knows = λ d there. knows_more settings d q s ∙ wide_knows d (knows settings d q) e w (none d);
@@ -243,7 +243,7 @@ module _ (answers : Serving) where
     unfolding is_first
     used_not_first q e u = rw u refl
 
-    not_first_case : (b : Bool) (q : List Step) (e : Event) → is_unused (placed_slate answers settings e.client q).phase ≡ b → still_unused answers settings e.kind (hall answers settings q).book ≡ true → is_first answers settings q e ≡ false
+    not_first_case : (b : Bool) (q : List Step) (e : Event) → is_unused (placed_slate answers settings e.client q).phase ≡ b → still_unused answers settings e.kind (membership answers settings q).book ≡ true → is_first answers settings q e ≡ false
     unfolding is_first
     not_first_case true q e u h = let a = unused_after answers settings q e u ∙ h in rw a (and-false (is_unused (placed_slate answers settings e.client q).phase))
     not_first_case false q e u h = rw u refl
@@ -251,11 +251,11 @@ module _ (answers : Serving) where
     pub not_first : (q : List Step) (e : Event) → is_beginning e.kind ≡ false → is_first answers settings q e ≡ false
     not_first q e n = not_first_case (is_unused (placed_slate answers settings e.client q).phase) q e refl (rw n refl)
 
-    closed_not_first : (q : List Step) (e : Event) → is_beginning e.kind ≡ true → (hall answers settings q).book.closed ≡ true → is_first answers settings q e ≡ false
+    closed_not_first : (q : List Step) (e : Event) → is_beginning e.kind ≡ true → (membership answers settings q).book.closed ≡ true → is_first answers settings q e ≡ false
     closed_not_first q e k cl = not_first_case (is_unused (placed_slate answers settings e.client q).phase) q e refl (rw k cl)
 
     -- ---- events that change nothing
-    pub late_beginning : (q r : List Step) (e : Event) → is_beginning e.kind ≡ true → (hall answers settings q).book.closed ≡ true → outs answers settings (q ++ Own e ∷ r) ≡ outs answers settings (q ++ r)
+    pub late_beginning : (q r : List Step) (e : Event) → is_beginning e.kind ≡ true → (membership answers settings q).book.closed ≡ true → outs answers settings (q ++ Own e ∷ r) ≡ outs answers settings (q ++ r)
     late_beginning q r e k cl = nothing q r e (begin_narrow e.kind k) (closed_not_first q e k cl) (λ m. begin_used answers e.kind e (placed_slate answers settings e.client q) refl k (member_used answers settings e.client q m))
 
     pub used_beginning : (q r : List Step) (e : Event) → is_beginning e.kind ≡ true → is_unused (placed_slate answers settings e.client q).phase ≡ false → outs answers settings (q ++ Own e ∷ r) ≡ outs answers settings (q ++ r)

@@ -18,7 +18,7 @@ use Rattle.dns_core.specs.ByClient.{IsPrefix, is_for}
 use Rattle.dns_client.specs.Slate.{Slate}
 use Rattle.dns_name.specs.declared.address.SocketAddr.{SocketAddr}
 use Rattle.dns_core.specs.Out.{is_unused}
-use Rattle.dns_core.specs.Outs.{placed_slate, hall, step_gained, outs, outs_after, call_at, enters_at, refused_offer, stepping}
+use Rattle.dns_core.specs.Outs.{placed_slate, membership, step_gained, outs, outs_after, call_at, enters_at, refused_offer, stepping}
 use Rattle.dns_core.specs.Placed.{is_beginning, knows, learned, knowledge_at_first, place, placed}
 use Rattle.dns_core.specs.Sent.{sent}
 use Rattle.dns_core.specs.StepsByClient.{TurnedAwayIn, finds_no_slot, is_offer, was_refused}
@@ -42,14 +42,14 @@ module _ (answers : Serving) (settings : Settings) where
 
   -- by a step of a used number nobody enters, and nobody is turned away
   pub record Known (q : List Step) (s : Step) : Type 0 where
-    pub says : refused_offer (stepping s) (reply_of (hall answers settings q).book (call_at answers settings q (hall answers settings q).members s)) ≡ []
-    pub enters : enters_at answers settings q (hall answers settings q) s ≡ false
+    pub says : refused_offer (stepping s) (reply_of (membership answers settings q).book (call_at answers settings q (membership answers settings q).members s)) ≡ []
+    pub enters : enters_at answers settings q (membership answers settings q) s ≡ false
 
   pub known : (q : List Step) (s : Step) → is_unused (placed_slate answers settings (stepping s) q).phase ≡ false → Known q s
   unfolding Comes
   known q s u = ⊎_elim
       (λ (x : (is_unused (placed_slate answers settings (stepping s) q).phase ≡ true) × (is_unused (placed_slate answers settings (stepping s) (q ++ s ∷ [])).phase ≡ false)). let z = x.0 in cc)
-      (λ (y : (refused_offer (stepping s) (reply_of (hall answers settings q).book (call_at answers settings q (hall answers settings q).members s)) ≡ []) × (enters_at answers settings q (hall answers settings q) s ≡ false)). record { says = y.0; enters = y.1 })
+      (λ (y : (refused_offer (stepping s) (reply_of (membership answers settings q).book (call_at answers settings q (membership answers settings q).members s)) ≡ []) × (enters_at answers settings q (membership answers settings q) s ≡ false)). record { says = y.0; enters = y.1 })
       (comes answers settings q s)
 
   -- one that was turned away stays so
@@ -92,29 +92,29 @@ module _ (answers : Serving) (settings : Settings) where
   -- what the book replies to such an offer
   record Refused (q : List Step) (e : Event) : Type 0 where
     unused : is_unused (placed_slate answers settings e.client q).phase ≡ true
-    open_book : (hall answers settings q).book.closed ≡ false
-    says : refused_offer e.client (reply_of (hall answers settings q).book (call_at answers settings q (hall answers settings q).members (Own e))) ≡ TurnedAway e.client (hall answers settings q).book.stream.accept_connections_at_max ∷ []
-    enters : enters_at answers settings q (hall answers settings q) (Own e) ≡ false
+    open_book : (membership answers settings q).book.closed ≡ false
+    says : refused_offer e.client (reply_of (membership answers settings q).book (call_at answers settings q (membership answers settings q).members (Own e))) ≡ TurnedAway e.client (membership answers settings q).book.stream.accept_connections_at_max ∷ []
+    enters : enters_at answers settings q (membership answers settings q) (Own e) ≡ false
 
-  refused_kind : (k : EventKind) (q : List Step) (e : Event) → e.kind ≡ k → is_offer k ≡ true → is_unused (placed_slate answers settings e.client q).phase ≡ true → (hall answers settings q).book.closed ≡ false → has_slot (hall answers settings q).book ≡ false → Refused q e
+  refused_kind : (k : EventKind) (q : List Step) (e : Event) → e.kind ≡ k → is_offer k ≡ true → is_unused (placed_slate answers settings e.client q).phase ≡ true → (membership answers settings q).book.closed ≡ false → has_slot (membership answers settings q).book ≡ false → Refused q e
   refused_kind (Offer addr) q e is k u cl full = record { unused = u; open_book = cl; says = rw (is, u, cl, full) refl; enters = rw (is, u, cl, full) refl }
   refused_kind _ q e is k u cl full = cc
 
   refused : (q : List Step) (e : Event) → finds_no_slot answers settings q e ≡ true → Refused q e
   refused q e h =
       let u = is_unused (placed_slate answers settings e.client q).phase in
-      let o = not (hall answers settings q).book.closed in
-      let f = not (has_slot (hall answers settings q).book) in
+      let o = not (membership answers settings q).book.closed in
+      let f = not (has_slot (membership answers settings q).book) in
       let h1 = (and_parts (is_offer e.kind) (u && (o && f)) h).1 in
       let h2 = (and_parts u (o && f) h1).1 in
-      refused_kind e.kind q e refl (and_parts (is_offer e.kind) (u && (o && f)) h).0 (and_parts u (o && f) h1).0 (not-true (hall answers settings q).book.closed (and_parts o f h2).0) (not-true (has_slot (hall answers settings q).book) (and_parts o f h2).1)
+      refused_kind e.kind q e refl (and_parts (is_offer e.kind) (u && (o && f)) h).0 (and_parts u (o && f) h1).0 (not-true (membership answers settings q).book.closed (and_parts o f h2).0) (not-true (has_slot (membership answers settings q).book) (and_parts o f h2).1)
 
-  pub turned : (q r : List Step) (e : Event) → finds_no_slot answers settings q e ≡ true → sent_to e.client (q ++ Own e ∷ r) ≡ TurnedAway e.client (hall answers settings q).book.stream.accept_connections_at_max ∷ []
+  pub turned : (q r : List Step) (e : Event) → finds_no_slot answers settings q e ≡ true → sent_to e.client (q ++ Own e ∷ r) ≡ TurnedAway e.client (membership answers settings q).book.stream.accept_connections_at_max ∷ []
   turned q r e h =
       let c = e.client in
-      let line = TurnedAway c (hall answers settings q).book.stream.accept_connections_at_max ∷ [] in
+      let line = TurnedAway c (membership answers settings q).book.stream.accept_connections_at_max ∷ [] in
       let f = refused q e h in
-      let k = offer_begins e.kind (and_parts (is_offer e.kind) (is_unused (placed_slate answers settings e.client q).phase && (not (hall answers settings q).book.closed && not (has_slot (hall answers settings q).book))) h).0 in
+      let k = offer_begins e.kind (and_parts (is_offer e.kind) (is_unused (placed_slate answers settings e.client q).phase && (not (membership answers settings q).book.closed && not (has_slot (membership answers settings q).book))) h).0 in
       let was = (owns answers settings c q).unused f.unused in
       let out : joined answers settings c (q ++ Own e ∷ []) ≡ false = joined_by answers settings false c q (Own e) f.enters ∙ was.1 in
       let gained : step_gained answers settings q (Own e) ≡ line = rw out f.says in
@@ -148,26 +148,26 @@ module _ (answers : Serving) (settings : Settings) where
 
   -- ---- whoever began, and is no member, was turned away
 
-  joined_case : (b : Bool) (c : ℕ) (q : List Step) (s : Step) → enters_at answers settings q (hall answers settings q) s ≡ b → joined answers settings c q ≡ true → joined answers settings c (q ++ s ∷ []) ≡ true
-  joined_case true c q s n m = joined_by answers settings true c q s n ∙ put_keeps c (stepping s) (hall answers settings q).members m
+  joined_case : (b : Bool) (c : ℕ) (q : List Step) (s : Step) → enters_at answers settings q (membership answers settings q) s ≡ b → joined answers settings c q ≡ true → joined answers settings c (q ++ s ∷ []) ≡ true
+  joined_case true c q s n m = joined_by answers settings true c q s n ∙ put_keeps c (stepping s) (membership answers settings q).members m
   joined_case false c q s n m = joined_by answers settings false c q s n ∙ m
 
   pub joined_stays : (c : ℕ) (q : List Step) (s : Step) → joined answers settings c q ≡ true → joined answers settings c (q ++ s ∷ []) ≡ true
-  joined_stays c q s m = joined_case (enters_at answers settings q (hall answers settings q) s) c q s refl m
+  joined_stays c q s m = joined_case (enters_at answers settings q (membership answers settings q) s) c q s refl m
 
-  slot_case : (f : Bool) (q : List Step) (e : Event) (addr : SocketAddr) → e.kind ≡ Offer addr → is_unused (placed_slate answers settings e.client q).phase ≡ true → (hall answers settings q).book.closed ≡ false
-      → enters_at answers settings q (hall answers settings q) (Own e) ≡ false → has_slot (hall answers settings q).book ≡ f → finds_no_slot answers settings q e ≡ true
+  slot_case : (f : Bool) (q : List Step) (e : Event) (addr : SocketAddr) → e.kind ≡ Offer addr → is_unused (placed_slate answers settings e.client q).phase ≡ true → (membership answers settings q).book.closed ≡ false
+      → enters_at answers settings q (membership answers settings q) (Own e) ≡ false → has_slot (membership answers settings q).book ≡ f → finds_no_slot answers settings q e ≡ true
   slot_case true q e addr is u cl n f = let z : true ≡ false = rw (is, u, cl, f) at n in cc
   slot_case false q e addr is u cl n f = rw (is, u, cl, f) refl
 
-  finds_kind : (k : EventKind) (q : List Step) (e : Event) → e.kind ≡ k → is_beginning k ≡ true → is_unused (placed_slate answers settings e.client q).phase ≡ true → (hall answers settings q).book.closed ≡ false
-      → enters_at answers settings q (hall answers settings q) (Own e) ≡ false → finds_no_slot answers settings q e ≡ true
-  finds_kind (Offer addr) q e is k u cl n = slot_case (has_slot (hall answers settings q).book) q e addr is u cl n refl
+  finds_kind : (k : EventKind) (q : List Step) (e : Event) → e.kind ≡ k → is_beginning k ≡ true → is_unused (placed_slate answers settings e.client q).phase ≡ true → (membership answers settings q).book.closed ≡ false
+      → enters_at answers settings q (membership answers settings q) (Own e) ≡ false → finds_no_slot answers settings q e ≡ true
+  finds_kind (Offer addr) q e is k u cl n = slot_case (has_slot (membership answers settings q).book) q e addr is u cl n refl
   finds_kind (Datagram addr o) q e is k u cl n = let z : true ≡ false = rw (is, u, cl) at n in cc
   finds_kind _ q e is k u cl n = cc
 
-  no_entry_case : (b : Bool) (q : List Step) (s : Step) → enters_at answers settings q (hall answers settings q) s ≡ b → joined answers settings (stepping s) (q ++ s ∷ []) ≡ false → b ≡ false
-  no_entry_case true q s n m = let j = joined_by answers settings true (stepping s) q s n ∙ put_there (stepping s) (hall answers settings q).members in cc
+  no_entry_case : (b : Bool) (q : List Step) (s : Step) → enters_at answers settings q (membership answers settings q) s ≡ b → joined answers settings (stepping s) (q ++ s ∷ []) ≡ false → b ≡ false
+  no_entry_case true q s n m = let j = joined_by answers settings true (stepping s) q s n ∙ put_there (stepping s) (membership answers settings q).members in cc
   no_entry_case false q s n m = refl
 
   begins_case : (k z : Bool) → (if k then z else true) ≡ false → (k ≡ true) × (z ≡ false)
@@ -184,8 +184,8 @@ module _ (answers : Serving) (settings : Settings) where
       let u' : is_unused (placed_slate answers settings e.client q).phase ≡ true = rw (← same) u in
       let used' : is_unused (placed_slate answers settings e.client (q ++ Own e ∷ [])).phase ≡ false = ap (λ (x : ℕ). is_unused (placed_slate answers settings x (q ++ Own e ∷ [])).phase) (sym same) ∙ used in
       let out' : joined answers settings e.client (q ++ Own e ∷ []) ≡ false = ap (λ (x : ℕ). joined answers settings x (q ++ Own e ∷ [])) (sym same) ∙ out in
-      let b = begins_case (is_beginning e.kind) (hall answers settings q).book.closed (sym (unused_after answers settings q e u') ∙ used') in
-      let n = no_entry_case (enters_at answers settings q (hall answers settings q) (Own e)) q (Own e) refl out' in
+      let b = begins_case (is_beginning e.kind) (membership answers settings q).book.closed (sym (unused_after answers settings q e u') ∙ used') in
+      let n = no_entry_case (enters_at answers settings q (membership answers settings q) (Own e)) q (Own e) refl out' in
       record { before = q; offer = e; behind = []; place = refl; client = sym same; full = finds_kind e.kind q e refl b.0 u' b.1 n }
 
   both_of : (u m : Bool) → (not u && not m) ≡ true → (u ≡ false) × (m ≡ false)
@@ -226,7 +226,7 @@ module _ (answers : Serving) (settings : Settings) where
       (refused_on c r (q ++ s ∷ []) (refused_case (is_unused (placed_slate answers settings c q).phase) (joined answers settings c q) c q s refl refl h))
 
   none_refused : (c : ℕ) → was_refused answers settings c [] ≡ true → TurnedAwayIn answers settings c []
-  unfolding placed_slate placed hall
+  unfolding placed_slate placed membership
   none_refused c h = cc
 
   pub turned_in : (c : ℕ) (steps : List Step) → was_refused answers settings c steps ≡ true → TurnedAwayIn answers settings c steps

@@ -23,7 +23,7 @@ use Rattle.dns_core.specs.Out.{is_unused}
 use Rattle.dns_core.specs.Trails.{is_open}
 use Rattle.dns_core.specs.Books.{book_rule, is_entry, books}
 use Rattle.dns_core.specs.Placed.{Knowledge, book_now, entries, own_events, is_beginning, begins, looks, puts, learns, place, learned, placed, knows, knowledge_at_first}
-use Rattle.dns_core.specs.Outs.{Hall, placed_slate, call_for, next_hall, hall_after, hall}
+use Rattle.dns_core.specs.Outs.{Membership, placed_slate, call_for, next_membership, membership_after, membership}
 use Rattle.dns_events.specs.declared.settings.Settings.{Settings}
 use Rattle.dns_core.proofs.Plain.{Plain, plain_rule, narrow_conf, rule_used, unused_is, begun, offered}
 use Rattle.dns_core.proofs.Late.{NotOver, over_after, never_open}
@@ -280,23 +280,23 @@ module _ (answers : Serving) where
     pub book : untaken b ≡ book_now k
 
   module _ (settings : Settings) where
-    book_next : (q : List Step) (h : Hall) (s : Step) → untaken (next_hall answers settings q h s).book ≡ book_step (untaken h.book) s
+    book_next : (q : List Step) (h : Membership) (s : Step) → untaken (next_membership answers settings q h s).book ≡ book_step (untaken h.book) s
     book_next q h (Own e) = untaken_kind e.kind h.book (placed_slate answers settings e.client q) (list_any (nat_eq e.client) h.members)
     book_next q h (Look at secs d) = refl
 
-    tied_more : (c : ℕ) (q : List Step) (h : Hall) (k : Knowledge) (sl : Slate) (s : Step) → Tied h.book k sl → Tied (next_hall answers settings q h s).book (learns c k s) (slate_after answers sl (puts c k s))
+    tied_more : (c : ℕ) (q : List Step) (h : Membership) (k : Knowledge) (sl : Slate) (s : Step) → Tied h.book k sl → Tied (next_membership answers settings q h s).book (learns c k s) (slate_after answers sl (puts c k s))
     tied_more c q h k sl s t = record {
       slate = tied_slate c k s sl t.slate;
       book = book_next q h s ∙ ap (λ b. book_step b s) t.book ∙ sym (now_learns c k s);
     }
 
-    tied_after : (c : ℕ) (p : List Step) (h : Hall) (k : Knowledge) (sl : Slate) (q : List Step) → Tied h.book k sl → Tied (hall_after answers settings p h q).book (learned c k q) (slate_after answers sl (place c k q))
+    tied_after : (c : ℕ) (p : List Step) (h : Membership) (k : Knowledge) (sl : Slate) (q : List Step) → Tied h.book k sl → Tied (membership_after answers settings p h q).book (learned c k q) (slate_after answers sl (place c k q))
     tied_after c p h k sl [] t = t
-    tied_after c p h k sl (s ∷ q) t = rw (slate_append answers (puts c k s) (place c (learns c k s) q) sl) (tied_after c (p ++ s ∷ []) (next_hall answers settings p h s) (learns c k s) (slate_after answers sl (puts c k s)) q (tied_more c p h k sl s t))
+    tied_after c p h k sl (s ∷ q) t = rw (slate_append answers (puts c k s) (place c (learns c k s) q) sl) (tied_after c (p ++ s ∷ []) (next_membership answers settings p h s) (learns c k s) (slate_after answers sl (puts c k s)) q (tied_more c p h k sl s t))
 
     -- the book, what a client knows of it and its slate are tied after any steps
-    pub tied : (c : ℕ) (q : List Step) → Tied (hall answers settings q).book (knows settings c q) (placed_slate answers settings c q)
-    unfolding hall knows placed_slate placed
+    pub tied : (c : ℕ) (q : List Step) → Tied (membership answers settings q).book (knows settings c q) (placed_slate answers settings c q)
+    unfolding membership knows placed_slate placed
     tied c q = tied_after c [] (record { book = new_state settings.dgram settings.stream; members = [] }) (knowledge_at_first settings) (fresh (opening settings)) q (record {
       slate = record {
         plain = record { conf = refl; unused = λ u. refl };

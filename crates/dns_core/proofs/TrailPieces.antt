@@ -11,13 +11,13 @@ use Rattle.dns_service.specs.Req.{Req}
 use Rattle.dns_service.specs.Transport.{is_stream}
 use Rattle.dns_events.specs.declared.event.Output.{Output}
 use Rattle.dns_events.specs.declared.event.Why.TheVariants.{Short}
-use Rattle.dns_client.specs.Connections.{append_frame, close, enqueue, piece, room, take_frame, take_frames, take_request}
+use Rattle.dns_client.specs.Connections.{append_frame, close, enqueue_or_drop, piece, room, take_frame, take_frames, take_request}
 use Rattle.dns_client.specs.Frames.{frames, framed}
 use Rattle.dns_client.specs.Requests.{unpolled, header_size, most_requests, request_of_frame}
 use Rattle.dns_client.specs.Serving.{Serving}
 use Rattle.dns_client.specs.Slate.{Slate, SlateRequest, Told, Phase, Open}
-use Rattle.dns_core.specs.Trails.{Mark, Trail, IsRising, in_order, polls_of}
-use Rattle.dns_core.proofs.Marks.{FrameRefuses, polls_none, push_cases, queued_none}
+use Rattle.dns_core.specs.Trails.{Origin, Trail, IsRising, in_order, polls_of}
+use Rattle.dns_core.proofs.Origins.{FrameRefuses, polls_none, push_cases, queued_none}
 use Rattle.dns_core.proofs.Trailing.{Asks, AsksAll, AsksAt, Has, Keeps, Kept, asks_on, closes, joined_on, joins, polls_joined, waits_with}
 
 module _ (answers : Serving) where
@@ -58,7 +58,7 @@ module _ (answers : Serving) where
         | false ↦ h
       ])
 
-  refused_takes : (q : List (List ℕ)) (t : Trail) (at : ℕ) (m : List ℕ) (s : Slate) → FrameRefuses m → Takes q t s → Takes q t (enqueue at m s)
+  refused_takes : (q : List (List ℕ)) (t : Trail) (at : ℕ) (m : List ℕ) (s : Slate) → FrameRefuses m → Takes q t s → Takes q t (enqueue_or_drop at m s)
   refused_takes q t at m s refuses h =
       (elim (room at s) as (λ b. Takes q t (if b then append_frame at m s else s)) [
         | true ↦ record {
@@ -71,7 +71,7 @@ module _ (answers : Serving) where
         | false ↦ h
       ])
 
-  frame_case : (q : List (List ℕ)) (t : Trail) (at secs : ℕ) (f : List ℕ) (s : Slate) (b : Bool) → (header_of f).qr ≡ b → Takes q t s → Takes q t (if b then enqueue at (framed (wire (error_reply f 1))) s else take_request at secs f s)
+  frame_case : (q : List (List ℕ)) (t : Trail) (at secs : ℕ) (f : List ℕ) (s : Slate) (b : Bool) → (header_of f).qr ≡ b → Takes q t s → Takes q t (if b then enqueue_or_drop at (framed (wire (error_reply f 1))) s else take_request at secs f s)
   frame_case q t at secs f s true qr h = refused_takes q t at (framed (wire (error_reply f 1))) s (f, qr, refl) h
   frame_case q t at secs f s false qr h = request_takes q t at secs f s h
 
@@ -81,11 +81,11 @@ module _ (answers : Serving) where
       let g : Takes q t u = record { phase = h.phase; news = h.news; queue = h.queue; refuse = h.refuse; asks = h.asks } in
       frame_case q t at secs f u (header_of f).qr refl g
 
-  none_polls : (k n : ℕ) (ds : List Mark) (t : Trail) → polls_of k (in_order (waits_with (replicate n None) ds t)) ≡ polls_of k (in_order t)
+  none_polls : (k n : ℕ) (ds : List Origin) (t : Trail) → polls_of k (in_order (waits_with (replicate n None) ds t)) ≡ polls_of k (in_order t)
   none_polls k n ds t = polls_joined k (replicate n None) ds t ∙ ap (λ (ns : List ℕ). polls_of k (in_order t) ++ ns) (polls_none k n) ∙ append-nil (polls_of k (in_order t))
 
   -- what is queued refuses responses
-  taken_keeps : (s u : Slate) (t : Trail) (os : List Output) (ds : List Mark) → Kept answers s t os → Takes s.queue t u → Keeps answers (u, []) None ds t os
+  taken_keeps : (s u : Slate) (t : Trail) (os : List Output) (ds : List Origin) → Kept answers s t os → Takes s.queue t u → Keeps answers (u, []) None ds t os
   taken_keeps s u t os ds h g =
       let n = length g.news in
       let v = waits_with (replicate n None) ds t in
@@ -93,13 +93,13 @@ module _ (answers : Serving) where
       (λ k. subst (λ (ns : List ℕ). IsRising (polls_of k (in_order t) ++ ns)) (sym (polls_none k n)) (subst IsRising (sym (append-nil (polls_of k (in_order t)))) (h.order k)))
       (subst (λ (p : Phase). Has answers p u.requests v) (sym g.phase) (λ k. asks_on answers true k (slice_get u.requests k) t v (none_polls k n ds t) (joined_on (replicate n None) ds t) (g.asks k)))
 
-  take_keeps : (s : Slate) (t : Trail) (os : List Output) (ds : List Mark) → Kept answers s t os → (at secs : ℕ) (fs : List (List ℕ)) (u : Slate) → Takes s.queue t u → Keeps answers (take_frames at secs fs u) None ds t os
+  take_keeps : (s : Slate) (t : Trail) (os : List Output) (ds : List Origin) → Kept answers s t os → (at secs : ℕ) (fs : List (List ℕ)) (u : Slate) → Takes s.queue t u → Keeps answers (take_frames at secs fs u) None ds t os
   take_keeps s t os ds h at secs [] u g = taken_keeps s u t os ds h g
   take_keeps s t os ds h at secs (f ∷ fs) u g =
       let more = take_keeps s t os ds h at secs fs (take_frame at secs f u) (frame_takes s.queue t at secs f u g) in
       (elim (nat_lt (length f) header_size) as (λ b. let told : Told = (if b then close Short u else take_frames at secs fs (take_frame at secs f u)) in Keeps answers told None ds t os) [ true ↦ closes answers Short s u t os None ds h | false ↦ more ])
 
-  pub piece_keeps : (at secs : ℕ) (o : List ℕ) (s : Slate) (t : Trail) (os : List Output) (ds : List Mark) → s.phase ≡ Open → Kept answers s t os → Keeps answers (piece at secs o s) None ds t os
+  pub piece_keeps : (at secs : ℕ) (o : List ℕ) (s : Slate) (t : Trail) (os : List Output) (ds : List Origin) → s.phase ≡ Open → Kept answers s t os → Keeps answers (piece at secs o s) None ds t os
   piece_keeps at secs o s t os ds p h =
       let u : Slate = record s { received = s.received ++ o } in
       take_keeps s t os ds h at secs (drop s.taken (frames (s.received ++ o))) u

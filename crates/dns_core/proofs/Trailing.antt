@@ -1,5 +1,6 @@
--- What a slate keeps of its trail: what went and what waits is marked, each request's polls rise, and each reply is somewhere. Where
--- an event moves the trail: others join behind what waits, what waits goes from the front, and what waits is forgotten.
+-- What a slate keeps of its trail: what went and what waits comes from its polls, each request's polls rise, and each reply is
+-- somewhere. Where an event moves the trail: others join behind what waits, what waits goes from the front, and what waits is
+-- forgotten.
 use Rattle.std.proofs.Common.{◌≡◌, ◌≢◌, ℕ, ◌+◌, ◌<◌, ◌⊎◌, inl, inr, true, false, Bool, List, [], ◌∷◌, ◌++◌, length, drop, take, replicate, Option, Some, None, refl, ap, sym, ◌∙◌, subst, append_assoc, length-append}
 use Rattle.std.specs.Prelude.{filter, slice_get}
 use Rattle.std.specs.List.{All}
@@ -10,14 +11,14 @@ use Rattle.dns_events.specs.declared.event.Why.{Why}
 use Rattle.dns_client.specs.Connections.{close}
 use Rattle.dns_client.specs.Serving.{Serving}
 use Rattle.dns_client.specs.Slate.{Slate, SlateRequest, Told, Phase, Unused, Exchange, Open, Flushing, Closed}
-use Rattle.dns_core.specs.Trails.{Mark, Trail, AreAsMarked, IsRising, IsSomewhere, in_order, is_datagram_sent, is_frame, mark, messages_sent, poll_of, polls_of, reply_at}
-use Rattle.dns_core.proofs.Marks.{At, at_left, at_right, at_split, take_joined, rising_front, polls_append, AreQueued, queued_length, queued_append, marked_append}
+use Rattle.dns_core.specs.Trails.{Origin, Trail, AreFrom, AreQueued, IsRising, IsSomewhere, in_order, is_datagram_sent, is_frame, origin, messages_sent, poll_of, polls_of, reply_at}
+use Rattle.dns_core.proofs.Origins.{At, at_left, at_right, at_split, take_joined, rising_front, polls_append, queued_length, queued_append, from_append}
 
-abbrev pub trail : List (Option Mark) → List (Option Mark) → List Mark → Trail
+abbrev pub trail : List (Option Origin) → List (Option Origin) → List Origin → Trail
 trail went waiting dropped = record { went = went; waiting = waiting; dropped = dropped }
 
--- what an event makes of a trail, by what it told, its mark and what it dropped
-abbrev pub trail_by : Told → Option Mark → List Mark → Trail → Trail
+-- what an event makes of a trail, by what it told, its poll and what it dropped
+abbrev pub trail_by : Told → Option Origin → List Origin → Trail → Trail
 trail_by told x ds t =
     let gone = length (filter is_frame told.1) in
     trail
@@ -26,22 +27,22 @@ trail_by told x ds t =
     (t.dropped ++ ds)
 
 -- others join behind what waits
-abbrev pub waits_with : List (Option Mark) → List Mark → Trail → Trail
+abbrev pub waits_with : List (Option Origin) → List Origin → Trail → Trail
 waits_with ms ds t = trail t.went (t.waiting ++ ms) (t.dropped ++ ds)
 
 -- what went or waits still does, and what was dropped is
 pub record GoesOn (t u : Trail) : Type 0 where
-  pub sent : (m : Mark) → At t.went (Some m) ⊎ At t.waiting (Some m) → At u.went (Some m) ⊎ At u.waiting (Some m)
-  pub dropped : (m : Mark) → At t.dropped m → At u.dropped m
+  pub sent : (m : Origin) → At t.went (Some m) ⊎ At t.waiting (Some m) → At u.went (Some m) ⊎ At u.waiting (Some m)
+  pub dropped : (m : Origin) → At t.dropped m → At u.dropped m
 
-pub joined_on : (ms : List (Option Mark)) (ds : List Mark) (t : Trail) → GoesOn t (waits_with ms ds t)
+pub joined_on : (ms : List (Option Origin)) (ds : List Origin) (t : Trail) → GoesOn t (waits_with ms ds t)
 joined_on ms ds t = record {
   sent = λ m h. elim h [ inl g ↦ inl g | inr w ↦ inr (at_left t.waiting ms (Some m) w) ];
   dropped = λ m h. at_left t.dropped ds m h;
 }
 
 -- the first of what waits goes
-pub front_on : (went xs : List (Option Mark)) (x : Option Mark) (dropped ds : List Mark) → GoesOn (trail went (x ∷ xs) dropped) (trail (went ++ x ∷ []) xs (dropped ++ ds))
+pub front_on : (went xs : List (Option Origin)) (x : Option Origin) (dropped ds : List Origin) → GoesOn (trail went (x ∷ xs) dropped) (trail (went ++ x ∷ []) xs (dropped ++ ds))
 front_on went xs x dropped ds = record {
   sent = λ m h. elim h [
     | inl g ↦ inl (at_left went (x ∷ []) (Some m) g)
@@ -50,30 +51,30 @@ front_on went xs x dropped ds = record {
   dropped = λ m h. at_left dropped ds m h;
 }
 
--- a reply stays somewhere, if it isn't held
-pub somewhere_on : (k : ℕ) (r r' : SlateRequest) (t u : Trail) (m : Mark) → GoesOn t u → ((r.held ≢ None) × (m ≡ mark k r) → IsSomewhere k r' u m) → IsSomewhere k r t m → IsSomewhere k r' u m
-somewhere_on k r r' t u m g held h = elim h [
-  | inl went ↦ (elim (g.sent m (inl went)) [ inl x ↦ inl x | inr x ↦ inr (inl x) ])
-  | inr (inl waits) ↦ (elim (g.sent m (inr waits)) [ inl x ↦ inl x | inr x ↦ inr (inl x) ])
-  | inr (inr (inl x)) ↦ held x
-  | inr (inr (inr drops)) ↦ inr (inr (inr (g.dropped m drops)))
-]
-
 -- the polls of a request among what went and waits
-pub polls_joined : (k : ℕ) (ms : List (Option Mark)) (ds : List Mark) (t : Trail) → polls_of k (in_order (waits_with ms ds t)) ≡ polls_of k (in_order t) ++ polls_of k ms
+pub polls_joined : (k : ℕ) (ms : List (Option Origin)) (ds : List Origin) (t : Trail) → polls_of k (in_order (waits_with ms ds t)) ≡ polls_of k (in_order t) ++ polls_of k ms
 polls_joined k ms ds t = ap (polls_of k) (sym (append_assoc t.went t.waiting ms)) ∙ polls_append k (in_order t) ms
 
-pub still_polls : (k : ℕ) (ds : List Mark) (t : Trail) → polls_of k (in_order (waits_with [] ds t)) ≡ polls_of k (in_order t)
+pub still_polls : (k : ℕ) (ds : List Origin) (t : Trail) → polls_of k (in_order (waits_with [] ds t)) ≡ polls_of k (in_order t)
 still_polls k ds t = polls_joined k [] ds t ∙ append-nil (polls_of k (in_order t))
 
 module _ (answers : Serving) where
+  -- a reply stays somewhere, if it isn't held
+  pub somewhere_on : (k : ℕ) (r r' : SlateRequest) (t u : Trail) (m : Origin) → GoesOn t u → ((r.held ≡ reply_at answers m) × (m ≡ origin k r) → IsSomewhere answers k r' u m) → IsSomewhere answers k r t m → IsSomewhere answers k r' u m
+  somewhere_on k r r' t u m g held h = elim h [
+    | inl went ↦ (elim (g.sent m (inl went)) [ inl x ↦ inl x | inr x ↦ inr (inl x) ])
+    | inr (inl waits) ↦ (elim (g.sent m (inr waits)) [ inl x ↦ inl x | inr x ↦ inr (inl x) ])
+    | inr (inr (inl x)) ↦ held x
+    | inr (inr (inr drops)) ↦ inr (inr (inr (g.dropped m drops)))
+  ]
+
   -- what holds of a request and its replies
   pub record Asks (stream : Bool) (k : ℕ) (r : SlateRequest) (t : Trail) : Type 0 where
     pub transport : is_stream r.request.transport ≡ stream
     pub unheld : stream ≡ false → r.held ≡ None
-    pub below : All (λ n. n < (mark k r).poll) (polls_of k (in_order t))
-    pub held : (m : List ℕ) → r.held ≡ Some m → (0 < r.polls) × (reply_at answers (mark k r) ≡ Some m)
-    pub somewhere : (n : ℕ) → n < r.polls → reply_at answers (poll_of k r n) ≢ None → IsSomewhere k r t (poll_of k r n)
+    pub below : All (λ n. n < (origin k r).poll) (polls_of k (in_order t))
+    pub held : (m : List ℕ) → r.held ≡ Some m → (0 < r.polls) × (reply_at answers (origin k r) ≡ Some m)
+    pub somewhere : (n : ℕ) → n < r.polls → reply_at answers (poll_of k r n) ≢ None → IsSomewhere answers k r t (poll_of k r n)
 
   -- of a request that wasn't made, nothing went
   abbrev pub AsksAt : Bool → ℕ → Option SlateRequest → Trail → Type 0
@@ -92,13 +93,13 @@ module _ (answers : Serving) where
   Has Closed rs t = rs ≡ []
 
   pub record Kept (s : Slate) (t : Trail) (os : List Output) : Type 0 where
-    pub went : AreAsMarked answers t.went os
+    pub went : AreFrom answers t.went os
     pub waiting : AreQueued answers t.waiting s.queue
     pub order : (k : ℕ) → IsRising (polls_of k (in_order t))
     pub has : Has s.phase s.requests t
 
   -- what is kept once an event told this
-  abbrev pub Keeps : Told → Option Mark → List Mark → Trail → List Output → Type 0
+  abbrev pub Keeps : Told → Option Origin → List Origin → Trail → List Output → Type 0
   Keeps told x ds t os = Kept told.0 (trail_by told x ds t) (os ++ messages_sent told.1)
 
   asks_case : (stream : Bool) (k : ℕ) (x : Option SlateRequest) (t u : Trail) → polls_of k (in_order u) ≡ polls_of k (in_order t) → GoesOn t u → AsksAt stream k x t → AsksAt stream k x u
@@ -106,7 +107,7 @@ module _ (answers : Serving) where
   asks_case stream k (Some r) t u e g h = record {
     transport = h.transport;
     unheld = h.unheld;
-    below = subst (All (λ n. n < (mark k r).poll)) (sym e) h.below;
+    below = subst (All (λ n. n < (origin k r).poll)) (sym e) h.below;
     held = h.held;
     somewhere = λ n lt ne. somewhere_on k r r t u (poll_of k r n) g (λ x. inr (inr (inl x))) (h.somewhere n lt ne);
   }
@@ -124,26 +125,26 @@ module _ (answers : Serving) where
 
   -- ---- what joins
 
-  joined_trail : (u : Slate) (x : Option Mark) (ds : List Mark) (t : Trail) (n : ℕ) → length u.queue ≡ length t.waiting + n → waits_with (replicate n x) ds t ≡ trail_by (u, []) x ds t
+  joined_trail : (u : Slate) (x : Option Origin) (ds : List Origin) (t : Trail) (n : ℕ) → length u.queue ≡ length t.waiting + n → waits_with (replicate n x) ds t ≡ trail_by (u, []) x ds t
   joined_trail u x ds t n h =
-      ap (λ (ws : List (Option Mark)). trail t.went ws (t.dropped ++ ds)) (sym (take_joined t.waiting n (length u.queue) x h))
-      ∙ ap (λ (ws : List (Option Mark)). trail ws (take (length u.queue) (t.waiting ++ replicate (length u.queue) x)) (t.dropped ++ ds)) (sym (append-nil t.went))
+      ap (λ (ws : List (Option Origin)). trail t.went ws (t.dropped ++ ds)) (sym (take_joined t.waiting n (length u.queue) x h))
+      ∙ ap (λ (ws : List (Option Origin)). trail ws (take (length u.queue) (t.waiting ++ replicate (length u.queue) x)) (t.dropped ++ ds)) (sym (append-nil t.went))
 
-  joined_kept : (s u : Slate) (t : Trail) (os : List Output) (news : List (List ℕ)) (ms : List (Option Mark)) (ds : List Mark) → Kept s t os → u.queue ≡ s.queue ++ news → AreQueued answers ms news
+  joined_kept : (s u : Slate) (t : Trail) (os : List Output) (news : List (List ℕ)) (ms : List (Option Origin)) (ds : List Origin) → Kept s t os → u.queue ≡ s.queue ++ news → AreQueued answers ms news
       → ((k : ℕ) → IsRising (polls_of k (in_order t) ++ polls_of k ms)) → Has u.phase u.requests (waits_with ms ds t) → Kept u (waits_with ms ds t) os
-  joined_kept s u t os news ms ds h q marked rises has = record {
+  joined_kept s u t os news ms ds h q from rises has = record {
     went = h.went;
-    waiting = subst (AreQueued answers (t.waiting ++ ms)) (sym q) (queued_append answers t.waiting ms s.queue news h.waiting marked);
+    waiting = subst (AreQueued answers (t.waiting ++ ms)) (sym q) (queued_append answers t.waiting ms s.queue news h.waiting from);
     order = λ k. subst IsRising (sym (polls_joined k ms ds t)) (rises k);
     has = has;
   }
 
-  -- frames with this mark are queued, and nothing is sent
-  pub joins : (s u : Slate) (t : Trail) (os : List Output) (news : List (List ℕ)) (x : Option Mark) (ds : List Mark) → Kept s t os → u.queue ≡ s.queue ++ news → AreQueued answers (replicate (length news) x) news
+  -- frames that come from this poll are queued, and nothing is sent
+  pub joins : (s u : Slate) (t : Trail) (os : List Output) (news : List (List ℕ)) (x : Option Origin) (ds : List Origin) → Kept s t os → u.queue ≡ s.queue ++ news → AreQueued answers (replicate (length news) x) news
       → ((k : ℕ) → IsRising (polls_of k (in_order t) ++ polls_of k (replicate (length news) x))) → Has u.phase u.requests (waits_with (replicate (length news) x) ds t) → Keeps (u, []) x ds t os
-  joins s u t os news x ds h q marked rises has =
+  joins s u t os news x ds h q from rises has =
       let l : length u.queue ≡ length t.waiting + length news = ap length q ∙ length-append s.queue news ∙ ap (λ (n : ℕ). n + length news) (sym (queued_length answers t.waiting s.queue h.waiting)) in
-      let k = joined_kept s u t os news (replicate (length news) x) ds h q marked rises has in
+      let k = joined_kept s u t os news (replicate (length news) x) ds h q from rises has in
       subst (λ (v : Trail). Kept u v (os ++ [])) (joined_trail u x ds t (length news) l)
       (subst (λ (ps : List Output). Kept u (waits_with (replicate (length news) x) ds t) ps) (sym (append-nil os)) k)
 
@@ -151,28 +152,28 @@ module _ (answers : Serving) where
   rising_nil k t h = subst IsRising (sym (append-nil (polls_of k (in_order t)))) h
 
   -- no frame is queued, and nothing is sent
-  pub stays : (s u : Slate) (t : Trail) (os : List Output) (x : Option Mark) (ds : List Mark) → Kept s t os → u.queue ≡ s.queue → Has u.phase u.requests (waits_with [] ds t) → Keeps (u, []) x ds t os
+  pub stays : (s u : Slate) (t : Trail) (os : List Output) (x : Option Origin) (ds : List Origin) → Kept s t os → u.queue ≡ s.queue → Has u.phase u.requests (waits_with [] ds t) → Keeps (u, []) x ds t os
   stays s u t os x ds h q has = joins s u t os [] x ds h (q ∙ sym (append-nil s.queue)) tt (λ k. rising_nil k t (h.order k)) has
 
-  pub has_still : (p : Phase) (rs : List SlateRequest) (ds : List Mark) (t : Trail) → Has p rs t → Has p rs (waits_with [] ds t)
+  pub has_still : (p : Phase) (rs : List SlateRequest) (ds : List Origin) (t : Trail) → Has p rs t → Has p rs (waits_with [] ds t)
   has_still p rs ds t h = has_on p rs t (waits_with [] ds t) (λ e. append-nil t.waiting ∙ e) (λ k. still_polls k ds t) (joined_on [] ds t) h
 
   -- nothing changes
-  pub still : (s : Slate) (t : Trail) (os : List Output) (x : Option Mark) (ds : List Mark) → Kept s t os → Keeps (s, []) x ds t os
+  pub still : (s : Slate) (t : Trail) (os : List Output) (x : Option Origin) (ds : List Origin) → Kept s t os → Keeps (s, []) x ds t os
   still s t os x ds h = stays s s t os x ds h refl (has_still s.phase s.requests ds t h.has)
 
   -- ---- what goes
 
   -- all that waits is forgotten
-  pub ends : (why : Why) (s : Slate) (went rest : List (Option Mark)) (dropped : List Mark) (os : List Output) → AreAsMarked answers went os → ((k : ℕ) → IsRising (polls_of k (went ++ rest))) → Kept (close why s).0 (trail went [] dropped) os
-  ends why s went rest dropped os marked rises = record {
-    went = marked;
+  pub ends : (why : Why) (s : Slate) (went rest : List (Option Origin)) (dropped : List Origin) (os : List Output) → AreFrom answers went os → ((k : ℕ) → IsRising (polls_of k (went ++ rest))) → Kept (close why s).0 (trail went [] dropped) os
+  ends why s went rest dropped os from rises = record {
+    went = from;
     waiting = tt;
-    order = λ k. subst (λ (ms : List (Option Mark)). IsRising (polls_of k ms)) (sym (append-nil went)) (rising_front (polls_of k went) (polls_of k rest) (subst IsRising (polls_append k went rest) (rises k)));
+    order = λ k. subst (λ (ms : List (Option Origin)). IsRising (polls_of k ms)) (sym (append-nil went)) (rising_front (polls_of k went) (polls_of k rest) (subst IsRising (polls_append k went rest) (rises k)));
     has = refl;
   }
 
-  pub closes : (why : Why) (s u : Slate) (t : Trail) (os : List Output) (x : Option Mark) (ds : List Mark) → Kept s t os → Keeps (close why u) x ds t os
+  pub closes : (why : Why) (s u : Slate) (t : Trail) (os : List Output) (x : Option Origin) (ds : List Origin) → Kept s t os → Keeps (close why u) x ds t os
   closes why s u t os x ds h =
-      ends why u (t.went ++ []) t.waiting (t.dropped ++ ds) (os ++ []) (marked_append answers t.went [] os [] h.went tt)
-      (λ k. subst (λ (ms : List (Option Mark)). IsRising (polls_of k (ms ++ t.waiting))) (sym (append-nil t.went)) (h.order k))
+      ends why u (t.went ++ []) t.waiting (t.dropped ++ ds) (os ++ []) (from_append answers t.went [] os [] h.went tt)
+      (λ k. subst (λ (ms : List (Option Origin)). IsRising (polls_of k (ms ++ t.waiting))) (sym (append-nil t.went)) (h.order k))

@@ -11,6 +11,7 @@ pub use Rattle.dns_sent.specs.Settings
 pub use Rattle.dns_sent.specs.Own
 pub use Rattle.dns_sent.specs.Sent
 pub use Rattle.dns_sent.specs.Out
+pub use Rattle.dns_clients.specs.Serves
 pub mod ByClient
 pub mod Books
 pub mod Placed
@@ -22,8 +23,8 @@ pub mod Budgets
 pub mod StepsByClient
 pub mod SplitServer
 pub mod Runs
+pub mod WrappedServing
 pub mod ReplyTo
 pub mod Trails
-pub mod Serves
 pub mod Server
 pub mod Finished

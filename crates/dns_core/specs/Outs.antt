@@ -53,7 +53,7 @@ refused_offer c (reply.Admission (Full taken limit accepted)) = TurnedAway c acc
 refused_offer c _ = []
 
 -- the book, and the exchanges and connections by rising number
-pub record Hall : Type 0 where
+pub record Membership : Type 0 where
   pub book : State
   pub members : List ℕ
 
@@ -70,29 +70,29 @@ module _ (answers : Serving) (settings : Settings) where
   call_at q ms (Own e) = call_for (placed_slate e.client q) (list_any (nat_eq e.client) ms) e.kind
   call_at q ms (Look at secs c) = call.Look
 
-  abbrev pub enters_at : List Step → Hall → Step → Bool
+  abbrev pub enters_at : List Step → Membership → Step → Bool
   enters_at q h (Own e) = enters (placed_slate e.client q) h.book (reply_of h.book (call_at q h.members (Own e))) e.kind
   enters_at q h (Look at secs c) = false
 
   -- the book and the members after a step
-  abbrev pub next_hall : List Step → Hall → Step → Hall
-  next_hall q h s = record {
+  abbrev pub next_membership : List Step → Membership → Step → Membership
+  next_membership q h s = record {
     book = state_after h.book (call_at q h.members s);
     members = (if enters_at q h s then put (stepping s) h.members else h.members);
   }
 
-  abbrev pub hall_after : List Step → Hall → List Step → Hall
-  hall_after q h [] = h
-  hall_after q h (s ∷ ss) = hall_after (q ++ s ∷ []) (next_hall q h s) ss
+  abbrev pub membership_after : List Step → Membership → List Step → Membership
+  membership_after q h [] = h
+  membership_after q h (s ∷ ss) = membership_after (q ++ s ∷ []) (next_membership q h s) ss
 
-  unfoldable pub hall : List Step → Hall
-  hall steps = hall_after [] (record { book = new_state settings.dgram settings.stream; members = [] }) steps
+  unfoldable pub membership : List Step → Membership
+  membership steps = membership_after [] (record { book = new_state settings.dgram settings.stream; members = [] }) steps
 
   -- what is sent for a step: to a member its gain, and to who is turned away that it is
   abbrev pub step_gained : List Step → Step → List Output
   step_gained q s =
-      if list_any (nat_eq (stepping s)) (hall (q ++ s ∷ [])).members then placed_gain (stepping s) q s
-      else refused_offer (stepping s) (reply_of (hall q).book (call_at q (hall q).members s))
+      if list_any (nat_eq (stepping s)) (membership (q ++ s ∷ [])).members then placed_gain (stepping s) q s
+      else refused_offer (stepping s) (reply_of (membership q).book (call_at q (membership q).members s))
 
   abbrev pub outs_after : List Step → List Step → List Output
   outs_after q [] = []

@@ -10,7 +10,7 @@ use Rattle.dns_events.specs.declared.event.Step.{Step}
 use Rattle.dns_service.specs.declared.polled.PolledRequest.{PolledRequest}
 use Rattle.dns_client.specs.Serving.{Serving}
 use Rattle.dns_core.specs.Out.{is_unused}
-use Rattle.dns_core.specs.Outs.{placed_slate, hall, step_gained, outs}
+use Rattle.dns_core.specs.Outs.{placed_slate, membership, step_gained, outs}
 use Rattle.dns_core.specs.Placed.{knows}
 use Rattle.dns_core.specs.Serves.{Holds, IsAt}
 use Rattle.dns_core.specs.declared.server.Server.{Server}
@@ -25,10 +25,10 @@ pub record SendsForStep (answers : Serving) (settings : Settings) (q : List Step
 module _ {W R F : Type 0} (answer : PolledRequest F R → ℕ → Answer) (answers : Serving) where
   -- the cores of the members that aren't spent, each at the version of its last look, the numbers that were used, and the book
   pub record ServesSteps (settings : Settings) (q : List Step) (server : Server W R F) : Type 0 where
-    pub clients : (c : ℕ) → Holds answer answers (get nat_cmp server.clients c) (list_any (nat_eq c) (hall answers settings q).members) (placed_slate answers settings c q)
+    pub clients : (c : ℕ) → Holds answer answers (get nat_cmp server.clients c) (list_any (nat_eq c) (membership answers settings q).members) (placed_slate answers settings c q)
     pub versions : (c : ℕ) → IsAt (get nat_cmp server.clients c) (knows settings c q).seen.version
     pub used : (c : ℕ) → contains nat_cmp server.used c ≡ not (is_unused (placed_slate answers settings c q).phase)
-    pub book : server.book ≡ (hall answers settings q).book
+    pub book : server.book ≡ (membership answers settings q).book
 
   -- whatever the settings and the steps before, s is answered as it is to be
   abbrev pub StepGoes : Server W R F → Server W R F → Step → List Output → Type 0

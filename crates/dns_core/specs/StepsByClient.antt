@@ -9,7 +9,7 @@ use Rattle.dns_events.specs.declared.event.Step.{Step}
 use Rattle.dns_events.specs.declared.event.Step.TheVariants.{Own}
 use Rattle.dns_client.specs.Serving.{Serving}
 use Rattle.dns_core.specs.Out.{holds_slot, is_unused}
-use Rattle.dns_core.specs.Outs.{hall, placed_slate}
+use Rattle.dns_core.specs.Outs.{membership, placed_slate}
 use Rattle.dns_events.specs.declared.settings.Settings.{Settings}
 
 abbrev pub is_offer : EventKind → Bool
@@ -19,7 +19,7 @@ is_offer _ = false
 module _ (answers : Serving) (settings : Settings) where
   -- an exchange or a connection
   abbrev pub is_served : ℕ → List Step → Bool
-  is_served c q = list_any (nat_eq c) (hall answers settings q).members
+  is_served c q = list_any (nat_eq c) (membership answers settings q).members
 
   -- the client of e begins with it: its number was unused, and is used now
   unfoldable pub is_first : List Step → Event → Bool
@@ -31,7 +31,7 @@ module _ (answers : Serving) (settings : Settings) where
 
   -- an offer under an unused number, before a shutdown, for which every slot is taken
   abbrev pub finds_no_slot : List Step → Event → Bool
-  finds_no_slot q e = is_offer e.kind && (is_unused (placed_slate answers settings e.client q).phase && (not (hall answers settings q).book.closed && not (has_slot (hall answers settings q).book)))
+  finds_no_slot q e = is_offer e.kind && (is_unused (placed_slate answers settings e.client q).phase && (not (membership answers settings q).book.closed && not (has_slot (membership answers settings q).book)))
 
   -- one of some steps is such an offer of a client
   pub record TurnedAwayIn (c : ℕ) (steps : List Step) : Type 0 where
@@ -44,4 +44,4 @@ module _ (answers : Serving) (settings : Settings) where
 
   -- how many exchanges and connections hold a slot
   unfoldable pub slots_held : List Step → ℕ
-  slots_held q = length (filter (λ c. holds_slot (placed_slate answers settings c q)) (hall answers settings q).members)
+  slots_held q = length (filter (λ c. holds_slot (placed_slate answers settings c q)) (membership answers settings q).members)

@@ -1,6 +1,6 @@
 //! Laws of what is sent.
 
-ghost use Rattle.dns_client.specs.Serving.{Serving, serving};
+ghost use Rattle.dns_client.specs.Serving.{Serving};
 ghost use Rattle.std.specs.Prelude.{◌≡◌, ◌≢◌, ◌<◌, ◌≤◌, ℕ, List, length, [], ◌∷◌, ◌++◌, true, false, Option, Some, None, slice_get, nat_eq, filter, All};
 ghost use Rattle.std.specs.List.{list_any};
 ghost use Rattle.std.specs.List.Sorted.{IsNonDecreasingBy};
@@ -15,20 +15,19 @@ ghost use Rattle.dns_events.specs.declared.event.Output.{Output};
 ghost use Rattle.dns_name.specs.declared.address.SocketAddr.{SocketAddr};
 ghost use Rattle.dns_service.specs.Config.{Dgram, Stream, IsBudget};
 ghost use Rattle.dns_core.specs.Budgets.{AllowsAtMost, StaysAtMost, queued_in};
-ghost use Rattle.dns_core.specs.Own.{is_wide, own};
+ghost use Rattle.dns_core.specs.Own.{concerns, is_wide, own};
 ghost use Rattle.dns_core.specs.Placed.{is_beginning};
 ghost use Rattle.dns_core.specs.Runs.{IsReconfigure};
 ghost use Rattle.dns_core.specs.Sent.{conf, sent, slate};
 ghost use Rattle.dns_core.specs.Out.{gain, is_new, is_turned_away, is_unused, members, out};
 ghost use Rattle.dns_core.specs.ByClient.{IsPrefix, is_for, is_member, was_turned_away};
 ghost use Rattle.dns_core.specs.Finished.{IsFinished};
-ghost use Rattle.dns_client.specs.Slate.{SlateRequest, fresh};
+ghost use Rattle.dns_client.specs.Slate.{SlateRequest};
 ghost use Rattle.dns_core.specs.ReplyTo.{IsReply};
-ghost use Rattle.dns_core.specs.Settings.{opening};
 ghost use Rattle.dns_core.specs.SlateBy.{slate_by};
-ghost use Rattle.dns_core.specs.Trails.{AreAsMarked, IsRising, IsSomewhere, in_order, messages_sent, no_trail, poll_of, polls_of, reply_at, trail_after};
-ghost use Rattle.dns_middleware.specs.Verdicts.{Verdicts, verdict_on};
-ghost use Rattle.dns_middleware.specs.Wrapped.{hint_left, replies};
+ghost use Rattle.dns_core.specs.Trails.{AreAnswers, AreFrom, AreQueued, IsRising, IsSomewhere, in_order, messages_sent, poll_of, polls_of, reply_at, trail_of};
+ghost use Rattle.dns_core.specs.WrappedServing.{wrapped_serving};
+ghost use Rattle.dns_middleware.specs.Verdicts.{Verdicts};
 ghost use Rattle.dns_events.specs.declared.settings.Settings.{Settings};
 
 /// The headline, read by client. Of all that is sent, what is for an exchange or a connection is what the rules for it
@@ -40,7 +39,8 @@ pub fn clients_are_sent_their_own()
         → filter (is_for c) (out answers settings es) ≡ sent answers settings (own c es) }
     ensures away { (answers : Serving) (settings : Settings) (q r : List Event) (e : Event)
         → is_turned_away answers settings q e ≡ true
-        → filter (is_for e.client) (out answers settings (q ++ e ∷ r)) ≡ Output.TurnedAway e.client (conf settings q).stream.accept_connections_at_max ∷ [] }
+        → filter (is_for e.client) (out answers settings (q ++ e ∷ r))
+        ≡ Output.TurnedAway e.client (conf settings q).stream.accept_connections_at_max ∷ [] }
     ensures stranger { (answers : Serving) (settings : Settings) (c : ℕ) (es : List Event)
         → is_member answers settings c es ≡ false → was_turned_away answers settings c es ≡ false
         → filter (is_for c) (out answers settings es) ≡ [] }
@@ -55,14 +55,15 @@ pub fn others_change_nothing()
 {}
 
 /// What is sent for the first of some events is the front of what is sent for all of them, to one client and to all. What
-/// one event more of a client adds to what it is sent is the gain.
+/// one event more adds to what each client that hears it is sent is that client's gain.
 pub fn more_events_send_more()
     ensures one { (answers : Serving) (settings : Settings) (p r : List Event)
         → IsPrefix (sent answers settings p) (sent answers settings (p ++ r)) }
     ensures all { (answers : Serving) (settings : Settings) (p r : List Event)
         → IsPrefix (out answers settings p) (out answers settings (p ++ r)) }
-    ensures more { (answers : Serving) (settings : Settings) (q : List Event) (e : Event)
-        → sent answers settings (own e.client (q ++ e ∷ [])) ≡ sent answers settings (own e.client q) ++ gain answers settings e.client q e }
+    ensures more { (answers : Serving) (settings : Settings) (c : ℕ) (q : List Event) (e : Event)
+        → concerns c e ≡ true
+        → sent answers settings (own c (q ++ e ∷ [])) ≡ sent answers settings (own c q) ++ gain answers settings c q e }
 {}
 
 /// Each datagram that is sent answers the one by which its client began: it carries that one's identifier, and QR, and has no
@@ -70,34 +71,47 @@ pub fn more_events_send_more()
 /// one's identifier, and QR.
 pub fn replies_answer_what_was_asked()
     ensures { (settings : Settings) (given : Req (Unit {0}) → ℕ → Answer) (verdicts : Verdicts) (es : List Event)
-        → All (IsReply (serving (replies settings given (verdict_on verdicts)) (hint_left settings)) settings es)
-        (out (serving (replies settings given (verdict_on verdicts)) (hint_left settings)) settings es) }
+        → All (IsReply (wrapped_serving settings given verdicts) settings es)
+        (out (wrapped_serving settings given verdicts) settings es) }
 {
     dns_middleware::wrapped_replies_respond();
     dns_middleware::wrapped_replies_fit();
     dns_service::cut_fits();
 }
 
-/// A client is sent its replies in order: each message that it is sent is the reply to one poll of one of its requests, or
-/// refuses a response with FORMERR, and those of one request are sent in the order of its polls, each at most once. Of what its
-/// requests were polled for, a reply was sent unless it waits in the queue, is held, or was dropped outside of a transaction,
-/// since the queue stood full or the response budget was spent in that window of time; a connection that closes forgets its
-/// requests.
+/// A client is sent its replies in order: each message that it is sent, and each frame of its queue, is the reply to one poll of one
+/// of its requests, or refuses a response with FORMERR, and those of one request stand in the order of its polls, each at most once.
+/// Of what its requests were polled for, a reply was sent unless it waits in the queue, is the one that its request holds, or was
+/// dropped outside of a transaction, since the queue stood full or the response budget was spent in that window of time; a connection
+/// that closes forgets its requests. Where a service is served in its layers, each reply that is sent carries the identifier of the
+/// request that it is the reply to, and QR.
 pub fn replies_keep_their_order()
     ensures sent { (answers : Serving) (settings : Settings) (c : ℕ) (es : List Event)
-        → AreAsMarked answers (trail_after answers (fresh (opening settings)) no_trail (own c es)).went (messages_sent (sent answers settings (own c es))) }
+        → AreFrom answers (trail_of answers settings (own c es)).went (messages_sent (sent answers settings (own c es))) }
+    ensures waits { (answers : Serving) (settings : Settings) (c : ℕ) (es : List Event)
+        → AreQueued answers (trail_of answers settings (own c es)).waiting (slate answers settings c es).queue }
     ensures order { (answers : Serving) (settings : Settings) (c k : ℕ) (es : List Event)
-        → IsRising (polls_of k (in_order (trail_after answers (fresh (opening settings)) no_trail (own c es)))) }
+        → IsRising (polls_of k (in_order (trail_of answers settings (own c es)))) }
     ensures missing { (answers : Serving) (settings : Settings) (c k n : ℕ) (es : List Event) (r : SlateRequest)
         → slice_get (slate answers settings c es).requests k ≡ Some r → n < r.polls
         → reply_at answers (poll_of k r n) ≢ None
-        → IsSomewhere k r (trail_after answers (fresh (opening settings)) no_trail (own c es)) (poll_of k r n) }
-{}
+        → IsSomewhere answers k r (trail_of answers settings (own c es)) (poll_of k r n) }
+    ensures responds { (settings : Settings) (given : Req (Unit {0}) → ℕ → Answer) (verdicts : Verdicts) (c : ℕ) (es : List Event)
+        → AreAnswers (trail_of (wrapped_serving settings given verdicts) settings (own c es)).went
+        (messages_sent (sent (wrapped_serving settings given verdicts) settings (own c es))) }
+{
+    dns_middleware::wrapped_replies_respond();
+}
 
-/// A piece cut in two, both parts at its moment and seconds and next to each other, changes nothing, wherever it is cut.
+/// A piece cut in two, both parts at its moment and seconds and next to each other, changes nothing of what its client and all are sent,
+/// wherever it is cut.
 pub fn cut_pieces_change_nothing()
-    ensures { (answers : Serving) (settings : Settings) (client at secs : ℕ) (a b : List ℕ) (p r : List Event)
-        → sent answers settings (p ++ piece_of client at secs (a ++ b) ∷ r) ≡ sent answers settings (p ++ piece_of client at secs a ∷ piece_of client at secs b ∷ r) }
+    ensures one { (answers : Serving) (settings : Settings) (client at secs : ℕ) (a b : List ℕ) (p r : List Event)
+        → sent answers settings (p ++ piece_of client at secs (a ++ b) ∷ r)
+        ≡ sent answers settings (p ++ piece_of client at secs a ∷ piece_of client at secs b ∷ r) }
+    ensures all { (answers : Serving) (settings : Settings) (client at secs : ℕ) (a b : List ℕ) (p r : List Event)
+        → out answers settings (p ++ piece_of client at secs (a ++ b) ∷ r)
+        ≡ out answers settings (p ++ piece_of client at secs a ∷ piece_of client at secs b ∷ r) }
 {
     dns_client::pieces_may_be_cut();
 }
@@ -210,8 +224,10 @@ pub fn queues_keep_their_bound()
     ensures within { (answers : Serving) (settings : Settings) (es : List Event)
         → length (slate_by answers settings es).queue ≤ (slate_by answers settings es).bound }
     ensures taken { (answers : Serving) (settings : Settings) (es : List Event) (e : Event) (addr : SocketAddr)
-        → e.kind ≡ EventKind.Offer addr → is_unused (slate_by answers settings es).phase ≡ true → (slate_by answers settings es).conf.over ≡ false
-        → (slate_by answers settings (es ++ e ∷ [])).bound ≡ (slate_by answers settings es).conf.stream.connection_config.max_queued_responses }
+        → e.kind ≡ EventKind.Offer addr → is_unused (slate_by answers settings es).phase ≡ true
+        → (slate_by answers settings es).conf.over ≡ false
+        → (slate_by answers settings (es ++ e ∷ [])).bound
+        ≡ (slate_by answers settings es).conf.stream.connection_config.max_queued_responses }
     ensures kept { (answers : Serving) (settings : Settings) (es fs : List Event)
         → is_unused (slate_by answers settings es).phase ≡ false
         → (slate_by answers settings (es ++ fs)).bound ≡ (slate_by answers settings es).bound }

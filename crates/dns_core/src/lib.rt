@@ -1,7 +1,6 @@
 //! A server over a list of events, or of steps: what its clients are sent.
 #![tactic(auto)]
 
-mod clients;
 mod laws;
 mod server;
 mod split;

@@ -19,10 +19,10 @@ ghost use Rattle.dns_events.specs.declared.event.Step.{Step};
 ghost use Rattle.dns_middleware.specs.Verdicts.{verdict_on};
 ghost use Rattle.dns_middleware.specs.Wrapped.{hint_left, replies};
 
-use crate::clients::{append, begin, look_all, step_at, turn_away};
 use dns_admission::{Admission, BookState, Look};
 use dns_base::SocketAddr;
 use dns_client::ClientCore;
+use dns_clients::{append, begin, look_all, step_at, turn_away};
 use dns_middleware::{Notifiable, Settings, wrap};
 use dns_service::{Event, EventKind, OutOfMemory, Output, Plainly, Served, Service};
 use std::alloc::Global;
@@ -50,8 +50,8 @@ impl<W: Served> Server<W> {
     ghost use Rattle.dns_core.specs.Server.{Serves, Goes, AddsOutputs};
     ghost use Rattle.dns_core.specs.SplitServer.{ServesSteps, StepGoes};
 
-    /// A server that served no event, and no step.
-    pub(crate) fn idle(alloc: Global, settings: &Settings) -> Self
+    /// A server that served no event, and no step of a split server.
+    pub fn new(alloc: Global, settings: &Settings) -> Self
         ensures serves { (answers : Serving) → Serves (request_answer W.Future.answer W.Stream.answer) answers settings.now [] result }
         ensures steps { (answers : Serving) → ServesSteps (request_answer W.Future.answer W.Stream.answer) answers settings.now [] result }
     {
@@ -60,13 +60,6 @@ impl<W: Served> Server<W> {
             used: BTreeSet::new(alloc),
             book: BookState::new(settings.dgram, settings.stream),
         }
-    }
-
-    /// A server that served no event.
-    pub fn new(alloc: Global, settings: &Settings) -> Self
-        ensures { (answers : Serving) → Serves (request_answer W.Future.answer W.Stream.answer) answers settings.now [] result }
-    {
-        Server::idle(alloc, settings)
     }
 
     /// An event of one client, which is there or isn't. A slot that it frees is given back.
@@ -299,8 +292,6 @@ pub fn serve_events<S: Service<()>, N: Notifiable>(
     requires { S.can_call service }
     ensures { IfOk result (λ outs. outs.items ≡ out (serving (replies settings.now (S.answer service) (verdict_on (N.verdict target))) (hint_left settings.now)) settings.now events.now) }
 {
-    match wrap(alloc, settings, service, target) {
-        Ok(service) => serve(alloc, settings, &Plainly { service }, events),
-        Err(error) => Err(error),
-    }
+    let service = wrap(alloc, settings, service, target)?;
+    serve(alloc, settings, &Plainly { service }, events)
 }

@@ -10,8 +10,8 @@ ghost use Rattle.dns_events.specs.declared.settings.Settings.{Settings as TheSet
 ghost use Rattle.dns_middleware.specs.Verdicts.{verdict_on};
 ghost use Rattle.dns_middleware.specs.Wrapped.{hint_left, replies};
 
-use crate::clients::{append, look_at};
 use crate::server::{Server, note};
+use dns_clients::{append, look_at};
 use dns_middleware::{Notifiable, Settings, wrap};
 use dns_service::{Event, EventKind, OutOfMemory, Output, Plainly, Served, Service, Step};
 use std::alloc::Global;
@@ -30,7 +30,7 @@ impl<W: Served> SplitServer<W> {
         ensures { (answers : Serving) → ServesSteps (request_answer W.Future.answer W.Stream.answer) answers settings.now [] result.inner }
     {
         SplitServer {
-            inner: Server::idle(alloc, settings),
+            inner: Server::new(alloc, settings),
         }
     }
 
@@ -140,10 +140,8 @@ pub fn serve_each_step<W: Served>(
 {
     let mut server = SplitServer::new(alloc, settings);
     let mut outs = Vec::new(alloc);
-    match each_step(alloc, service, &mut server, steps, &mut outs) {
-        Ok(()) => Ok(outs),
-        Err(error) => Err(error),
-    }
+    each_step(alloc, service, &mut server, steps, &mut outs)?;
+    Ok(outs)
 }
 
 /// What all clients are sent, where each hears of the server's changes only when it looks. The wrapped service is that of
@@ -158,8 +156,6 @@ pub fn serve_steps<S: Service<()>, N: Notifiable>(
     requires { S.can_call service }
     ensures { IfOk result (λ result. result.items ≡ outs (serving (replies settings.now (S.answer service) (verdict_on (N.verdict target))) (hint_left settings.now)) settings.now steps.now) }
 {
-    match wrap(alloc, settings, service, target) {
-        Ok(service) => serve_each_step(alloc, settings, &Plainly { service }, steps),
-        Err(error) => Err(error),
-    }
+    let service = wrap(alloc, settings, service, target)?;
+    serve_each_step(alloc, settings, &Plainly { service }, steps)
 }

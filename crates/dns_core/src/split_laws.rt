@@ -1,13 +1,13 @@
 //! Laws of what is sent where clients look for themselves.
 
-ghost use Rattle.dns_client.specs.Serving.{Serving, serving};
+ghost use Rattle.dns_client.specs.Serving.{Serving};
 ghost use Rattle.std.specs.Prelude.{◌≡◌, ◌≢◌, ◌<◌, ◌≤◌, ℕ, List, length, [], ◌∷◌, ◌++◌, true, false, Some, None, slice_get, nat_eq, filter, not, All};
 ghost use Rattle.std.specs.List.{flat_map, list_any};
 ghost use Rattle.std.specs.List.Sorted.{IsStrictlySortedBy};
 ghost use Rattle.std.specs.Ordering.{nat_cmp};
 ghost use Rattle.dns_admission.specs.Machine.{last_version};
 ghost use Rattle.dns_client.specs.Pieces.{piece_of};
-ghost use Rattle.dns_client.specs.Slate.{Closed, SlateRequest, fresh};
+ghost use Rattle.dns_client.specs.Slate.{Closed, SlateRequest};
 ghost use Rattle.dns_name.specs.declared.address.SocketAddr.{SocketAddr};
 ghost use Rattle.dns_service.specs.Answer.{Answer};
 ghost use Rattle.dns_service.specs.Config.{Dgram, Stream};
@@ -21,16 +21,15 @@ ghost use Rattle.dns_core.specs.ByClient.{IsPrefix, is_for, is_member};
 ghost use Rattle.dns_core.specs.Changes.{changes};
 ghost use Rattle.dns_core.specs.Finished.{IsFinished};
 ghost use Rattle.dns_core.specs.Out.{is_unused, out};
-ghost use Rattle.dns_core.specs.Outs.{hall, outs, placed_slate};
+ghost use Rattle.dns_core.specs.Outs.{membership, outs, placed_gain, placed_slate};
 ghost use Rattle.dns_core.specs.Own.{is_wide, own};
-ghost use Rattle.dns_core.specs.Placed.{knows, own_events, placed};
+ghost use Rattle.dns_core.specs.Placed.{knows, own_events, placed, puts};
 ghost use Rattle.dns_core.specs.ReplyTo.{IsReply};
-ghost use Rattle.dns_core.specs.Sent.{sent};
-ghost use Rattle.dns_core.specs.Settings.{opening};
+ghost use Rattle.dns_core.specs.Sent.{sent, sent_after};
 ghost use Rattle.dns_core.specs.StepsByClient.{TurnedAwayIn, finds_no_slot, is_first, is_served, slots_held, was_refused};
-ghost use Rattle.dns_core.specs.Trails.{AreAsMarked, IsRising, IsSomewhere, in_order, messages_sent, no_trail, poll_of, polls_of, reply_at, trail_after};
-ghost use Rattle.dns_middleware.specs.Verdicts.{Verdicts, verdict_on};
-ghost use Rattle.dns_middleware.specs.Wrapped.{hint_left, replies};
+ghost use Rattle.dns_core.specs.Trails.{AreAnswers, AreFrom, AreQueued, IsRising, IsSomewhere, in_order, messages_sent, poll_of, polls_of, reply_at, trail_of};
+ghost use Rattle.dns_core.specs.WrappedServing.{wrapped_serving};
+ghost use Rattle.dns_middleware.specs.Verdicts.{Verdicts};
 ghost use Rattle.dns_events.specs.declared.settings.Settings.{Settings};
 
 /// The headline, read by client. Of all that is sent for some steps, what is for an exchange or a connection is what the rules for
@@ -43,7 +42,8 @@ pub fn clients_are_sent_what_they_heard()
         → filter (is_for c) (outs answers settings steps) ≡ sent answers settings (placed settings c steps) }
     ensures away { (answers : Serving) (settings : Settings) (q r : List Step) (e : Event)
         → finds_no_slot answers settings q e ≡ true
-        → filter (is_for e.client) (outs answers settings (q ++ Step.Own e ∷ r)) ≡ Output.TurnedAway e.client (hall answers settings q).book.stream.accept_connections_at_max ∷ [] }
+        → filter (is_for e.client) (outs answers settings (q ++ Step.Own e ∷ r))
+        ≡ Output.TurnedAway e.client (membership answers settings q).book.stream.accept_connections_at_max ∷ [] }
     ensures refused { (answers : Serving) (settings : Settings) (c : ℕ) (steps : List Step)
         → was_refused answers settings c steps ≡ true → TurnedAwayIn answers settings c steps }
     ensures stranger { (answers : Serving) (settings : Settings) (c : ℕ) (steps : List Step)
@@ -65,7 +65,7 @@ pub fn clients_hear_each_change_once()
 /// The book counts the connections that hold a slot, which are those that no release found closed.
 pub fn slots_are_counted()
     ensures { (answers : Serving) (settings : Settings) (q : List Step)
-        → (hall answers settings q).book.taken ≡ slots_held answers settings q }
+        → (membership answers settings q).book.taken ≡ slots_held answers settings q }
 {}
 
 /// Whatever the others do, and whenever: two lists of steps by which a client hears the same events and the same changes of the
@@ -76,46 +76,62 @@ pub fn interleavings_change_nothing()
         → filter (is_for c) (outs answers settings p) ≡ filter (is_for c) (outs answers settings q) }
 {}
 
-/// What is sent for the first of some steps is the front of what is sent for all of them, to one client and to all.
+/// What is sent for the first of some steps is the front of what is sent for all of them, to one client and to all. What one step more
+/// adds to what a client is sent is its gain, and that is what the rules send it, at its slate, for what it hears with this step.
 pub fn more_steps_send_more()
     ensures one { (answers : Serving) (settings : Settings) (c : ℕ) (p r : List Step)
         → IsPrefix (sent answers settings (placed settings c p)) (sent answers settings (placed settings c (p ++ r))) }
     ensures all { (answers : Serving) (settings : Settings) (p r : List Step)
         → IsPrefix (outs answers settings p) (outs answers settings (p ++ r)) }
+    ensures more { (answers : Serving) (settings : Settings) (c : ℕ) (q : List Step) (s : Step)
+        → sent answers settings (placed settings c (q ++ s ∷ []))
+        ≡ sent answers settings (placed settings c q) ++ placed_gain answers settings c q s }
+    ensures gain { (answers : Serving) (settings : Settings) (c : ℕ) (q : List Step) (s : Step)
+        → placed_gain answers settings c q s ≡ sent_after answers (placed_slate answers settings c q) (puts c (knows settings c q) s) }
 {}
 
 /// Each datagram that a client is sent answers the one by which it began, as `replies_answer_what_was_asked` says, at the
 /// configurations as it heard them; and each frame answers one of those that it received before.
 pub fn replies_of_steps_answer_what_was_asked()
     ensures { (settings : Settings) (given : Req (Unit {0}) → ℕ → Answer) (verdicts : Verdicts) (c : ℕ) (steps : List Step)
-        → All (IsReply (serving (replies settings given (verdict_on verdicts)) (hint_left settings)) settings (placed settings c steps))
-        (sent (serving (replies settings given (verdict_on verdicts)) (hint_left settings)) settings (placed settings c steps)) }
+        → All (IsReply (wrapped_serving settings given verdicts) settings (placed settings c steps))
+        (sent (wrapped_serving settings given verdicts) settings (placed settings c steps)) }
 {
     dns_middleware::wrapped_replies_respond();
     dns_middleware::wrapped_replies_fit();
     dns_service::cut_fits();
 }
 
-/// A client is sent its replies in order, as where it hears of all at once: each message that it is sent is the reply to one poll of
-/// one of its requests, or refuses a response with FORMERR, and those of one request are sent in the order of its polls, each at most
-/// once. Of what its requests were polled for, a reply was sent unless it waits in the queue, is held, or was dropped outside of a
-/// transaction, since the queue stood full or the response budget was spent in that window of time; a connection that closes forgets
-/// its requests.
+/// A client is sent its replies in order, as where it hears of all at once: each message that it is sent, and each frame of its
+/// queue, is the reply to one poll of one of its requests, or refuses a response with FORMERR, and those of one request stand in the
+/// order of its polls, each at most once. Of what its requests were polled for, a reply was sent unless it waits in the queue, is the
+/// one that its request holds, or was dropped outside of a transaction, since the queue stood full or the response budget was spent in
+/// that window of time; a connection that closes forgets its requests. Where a service is served in its layers, each reply that is sent
+/// carries the identifier of the request that it is the reply to, and QR.
 pub fn replies_of_steps_keep_their_order()
     ensures sent { (answers : Serving) (settings : Settings) (c : ℕ) (steps : List Step)
-        → AreAsMarked answers (trail_after answers (fresh (opening settings)) no_trail (placed settings c steps)).went (messages_sent (sent answers settings (placed settings c steps))) }
+        → AreFrom answers (trail_of answers settings (placed settings c steps)).went
+        (messages_sent (sent answers settings (placed settings c steps))) }
+    ensures waits { (answers : Serving) (settings : Settings) (c : ℕ) (steps : List Step)
+        → AreQueued answers (trail_of answers settings (placed settings c steps)).waiting (placed_slate answers settings c steps).queue }
     ensures order { (answers : Serving) (settings : Settings) (c k : ℕ) (steps : List Step)
-        → IsRising (polls_of k (in_order (trail_after answers (fresh (opening settings)) no_trail (placed settings c steps)))) }
+        → IsRising (polls_of k (in_order (trail_of answers settings (placed settings c steps)))) }
     ensures missing { (answers : Serving) (settings : Settings) (c k n : ℕ) (steps : List Step) (r : SlateRequest)
         → slice_get (placed_slate answers settings c steps).requests k ≡ Some r → n < r.polls
         → reply_at answers (poll_of k r n) ≢ None
-        → IsSomewhere k r (trail_after answers (fresh (opening settings)) no_trail (placed settings c steps)) (poll_of k r n) }
-{}
+        → IsSomewhere answers k r (trail_of answers settings (placed settings c steps)) (poll_of k r n) }
+    ensures responds { (settings : Settings) (given : Req (Unit {0}) → ℕ → Answer) (verdicts : Verdicts) (c : ℕ) (steps : List Step)
+        → AreAnswers (trail_of (wrapped_serving settings given verdicts) settings (placed settings c steps)).went
+        (messages_sent (sent (wrapped_serving settings given verdicts) settings (placed settings c steps))) }
+{
+    dns_middleware::wrapped_replies_respond();
+}
 
 /// A piece cut in two, both parts at its moment and seconds and next to each other, changes nothing for anybody, wherever it is cut.
 pub fn pieces_of_steps_may_be_cut()
     ensures { (answers : Serving) (settings : Settings) (client at secs : ℕ) (a b : List ℕ) (q r : List Step)
-        → outs answers settings (q ++ Step.Own (piece_of client at secs (a ++ b)) ∷ r) ≡ outs answers settings (q ++ Step.Own (piece_of client at secs a) ∷ Step.Own (piece_of client at secs b) ∷ r) }
+        → outs answers settings (q ++ Step.Own (piece_of client at secs (a ++ b)) ∷ r)
+        ≡ outs answers settings (q ++ Step.Own (piece_of client at secs a) ∷ Step.Own (piece_of client at secs b) ∷ r) }
 {
     dns_client::pieces_may_be_cut();
 }
@@ -187,15 +203,15 @@ pub fn steps_of_used_numbers_change_nothing()
 /// anybody.
 pub fn late_steps_change_nothing()
     ensures datagram { (answers : Serving) (settings : Settings) (q r : List Step) (e : Event) (addr : SocketAddr) (o : List ℕ)
-        → e.kind ≡ EventKind.Datagram addr o → (hall answers settings q).book.closed ≡ true
+        → e.kind ≡ EventKind.Datagram addr o → (membership answers settings q).book.closed ≡ true
         → outs answers settings (q ++ Step.Own e ∷ r) ≡ outs answers settings (q ++ r) }
     ensures offer { (answers : Serving) (settings : Settings) (q r : List Step) (e : Event) (addr : SocketAddr)
-        → e.kind ≡ EventKind.Offer addr → (hall answers settings q).book.closed ≡ true
+        → e.kind ≡ EventKind.Offer addr → (membership answers settings q).book.closed ≡ true
         → outs answers settings (q ++ Step.Own e ∷ r) ≡ outs answers settings (q ++ r) }
     ensures reconfigure { (answers : Serving) (settings : Settings) (q r : List Step) (e : Event) (dgram : Dgram) (stream : Stream)
-        → e.kind ≡ EventKind.Reconfigure dgram stream → (hall answers settings q).book.closed ≡ true
+        → e.kind ≡ EventKind.Reconfigure dgram stream → (membership answers settings q).book.closed ≡ true
         → outs answers settings (q ++ Step.Own e ∷ r) ≡ outs answers settings (q ++ r) }
     ensures shutdown { (answers : Serving) (settings : Settings) (q r : List Step) (e : Event)
-        → e.kind ≡ EventKind.Shutdown → (hall answers settings q).book.closed ≡ true
+        → e.kind ≡ EventKind.Shutdown → (membership answers settings q).book.closed ≡ true
         → outs answers settings (q ++ Step.Own e ∷ r) ≡ outs answers settings (q ++ r) }
 {}

@@ -13,7 +13,8 @@ use Rattle.dns_client.specs.Slate.{Conf, Slate, Phase, Unused, Exchange, IsUnuse
 use Rattle.dns_client.specs.Datagrams.{cut_datagram, datagram, datagrams_to}
 use Rattle.dns_client.specs.Rule.{rule}
 use Rattle.dns_client.specs.Spent.{is_spent, is_spent_in}
-use Rattle.dns_client.specs.Stands.{BeginsAs, SpentWith, IsExchange, TurnsAs, unless_done}
+use Rattle.dns_client.specs.Goings.{BeginsAs, SpentWith, TurnsAs, unless_done}
+use Rattle.dns_client.specs.Stands.{IsExchange}
 use Rattle.dns_client.specs.declared.kept.KeptRequest.{KeptRequest}
 use Rattle.dns_datagrams.specs.DatagramsPolled.{is_finished}
 use Rattle.dns_datagrams.specs.DatagramSteps.{last_octets, letter_to, kept_under, IsKeptOf, KeepsExchange, TurnedExchange, TurnedOne, Begun}

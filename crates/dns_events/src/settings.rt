@@ -6,9 +6,10 @@ ghost use Rattle.dns_events.specs.Config.{default_dgram, default_stream};
 use crate::config::{DgramConfig, StreamConfig};
 use dns_name::{Addrs, OutOfMemory};
 use std::alloc::Global;
+use std::fmt;
 
-/// The settings of a server. The secret of server cookies has 16 octets (RFC 9018, section 4).
-#[derive(Debug, Drop)]
+/// The settings of a server. The secret of server cookies has 16 octets (RFC 9018, section 4), which Debug doesn't show.
+#[derive(Drop)]
 pub struct Settings {
     /// Whether faulty queries are refused.
     pub strict: bool,
@@ -50,5 +51,19 @@ impl Settings {
             dgram: self.dgram,
             stream: self.stream,
         })
+    }
+}
+
+impl fmt::Debug for Settings {
+    fn fmt<W: fmt::Write>(&self, f: &mut fmt::Formatter<W>) -> fmt::Result {
+        let cookies = self.cookies.is_some();
+        f.debug_struct("Settings")
+            .field("strict", &self.strict)
+            .field("edns", &self.edns)
+            .field("cookies", &cookies)
+            .field("denied", &self.denied)
+            .field("dgram", &self.dgram)
+            .field("stream", &self.stream)
+            .finish()
     }
 }

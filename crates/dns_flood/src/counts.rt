@@ -9,7 +9,7 @@ use dns_service::Output;
 use std::alloc::Global;
 
 /// How many outputs there were of each kind.
-#[derive(Clone, Copy, Debug, PartialEq, Eq)]
+#[derive(Clone, Copy)]
 pub struct Counts {
     pub datagrams: u128,
     pub frames: u128,

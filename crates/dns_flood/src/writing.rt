@@ -14,7 +14,7 @@ use dns_trace::Reason;
 use std::alloc::Global;
 
 /// Why a text was not written whole.
-#[derive(Clone, Copy, Debug, PartialEq, Eq)]
+#[derive(Clone, Copy)]
 pub enum WriteError {
     OutOfMemory,
     /// A write failed.

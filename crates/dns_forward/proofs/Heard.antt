@@ -1,5 +1,5 @@
 -- What an asking has left, one event on, and what comes of the event.
-use Rattle.std.proofs.Common.{◌≡◌, ℕ, zero, suc, ◌+◌, ◌≤◌, ◌<◌, Bool, true, false, List, [], ◌∷◌, ◌++◌, length, cond, nat_le, nat_lt, Some, None, refl, ap, sym, subst, ◌∙◌, arith, length-append}
+use Rattle.std.proofs.Common.{◌≡◌, ℕ, zero, suc, ◌+◌, ◌≤◌, ◌<◌, Bool, true, false, List, [], ◌∷◌, ◌++◌, length, cond, nat_eq, nat_le, nat_lt, Some, None, refl, ap, sym, subst, ◌∙◌, arith, length-append}
 use Rattle.std.specs.Prelude.{◌||◌, is_some}
 use Rattle.std.proofs.lemmas.Bool.Decides.{nat_tests}
 use Rattle.std.proofs.lemmas.List.{append-nil}
@@ -9,7 +9,7 @@ use Rattle.dns_forward.specs.declared.asking_event.AskingEvent.{AskingEvent}
 use Rattle.dns_forward.specs.declared.asking_event.AskingEvent.TheVariants.{Arrived, Tick}
 use Rattle.dns_forward.specs.declared.asking_event.AskingOutcome.TheVariants.{OfArrival, OfTick}
 use Rattle.dns_forward.specs.declared.asking_event.Ticked.TheVariants.{Nothing, Send, GaveUp}
-use Rattle.dns_forward.specs.Asked.{Inquiry, arrival_outcome, due_ticks, ended_by, has_ended, is_due, last_from, matching_arrivals, outcome, tick_outcome}
+use Rattle.dns_forward.specs.Asked.{Inquiry, arrival_outcome, deadline, due_ticks, ended_by, first_due, has_ended, is_due, last_from, matching_arrivals, outcome, tick_outcome}
 use Rattle.dns_forward.specs.Askings.{HasLeft}
 use Rattle.dns_forward.specs.Matching.{matches, with_id}
 use Rattle.dns_forward.proofs.Events.{arrived-more, arrived-same, last-more, match-more, stray-more, ticked-more, ticked-same}
@@ -45,6 +45,12 @@ true_le a b h = grind (arith, nat_tests)
 
 false_le : (a b : ℕ) → nat_le a b ≡ false → b < a
 false_le a b h = grind (arith, nat_tests)
+
+eq_true : (a b : ℕ) → a ≡ b → nat_eq a b ≡ true
+eq_true a b h = grind (arith, nat_tests)
+
+eq_false : (a b : ℕ) → b < a → nat_eq a b ≡ false
+eq_false a b h = grind (arith, nat_tests)
 
 none_there : (xs : List (List ℕ)) → is_some (first_of xs) ≡ false → xs ≡ []
 none_there [] h = refl
@@ -110,6 +116,29 @@ still_by_ticks tries (x ∷ xs) ats bts h = refl
 answered : (tries : ℕ) (xs : List (List ℕ)) (o : List ℕ) (ats : List ℕ) → ended_by tries (xs ++ o ∷ []) ats ≡ true
 answered tries [] o ats = refl
 answered tries (x ∷ xs) o ats = refl
+
+-- it has ended exactly where none is left
+none_left_so : (b : Bool) (q : Inquiry) (xs : List (List ℕ)) (ats : List ℕ) (left last : ℕ) → ended_by q.tries xs ats ≡ b → HasLeft b q ats left last → nat_eq left 0 ≡ b
+none_left_so true q xs ats left last e h = eq_true left 0 h
+none_left_so false q xs ats left last e h =
+    let few : length ats < q.tries = false_le q.tries (length ats) (or_second (is_some (first_of xs)) (nat_le q.tries (length ats)) e) in
+    let all : left + length ats ≡ q.tries = h.0 in
+    eq_false left 0 (omega arith)
+
+pub none_left : (q : Inquiry) (es : List AskingEvent) (left last : ℕ) → LeftBehind q es left last → nat_eq left 0 ≡ has_ended q es
+none_left q es left last h = none_left_so (has_ended q es) q (matching_arrivals q es) (due_ticks q es) left last refl h
+
+-- no tick is due any more where none is left
+pub no_deadline : (q : Inquiry) (es : List AskingEvent) (left last : ℕ) → LeftBehind q es left last → left ≡ 0 → deadline q es ≡ None
+no_deadline q es left last h z =
+    ap (λ (b : Bool). cond b None (Some (first_due q.timeout (last_from q.at (due_ticks q es))))) (ended q (matching_arrivals q es) (due_ticks q es) left last h z)
+
+-- and else from the last send on that is kept
+pub deadline_left : (q : Inquiry) (es : List AskingEvent) (left last timeout : ℕ) → LeftBehind q es left last → (left ≡ 0 → ⊥) → timeout ≡ q.timeout → deadline q es ≡ Some (first_due timeout last)
+deadline_left q es left last timeout h n t =
+    let g = goes q (matching_arrivals q es) (due_ticks q es) left last h n in
+    ap (λ (b : Bool). cond b None (Some (first_due q.timeout (last_from q.at (due_ticks q es))))) g.going
+    ∙ (ap (λ (k : ℕ). Some (first_due k (last_from q.at (due_ticks q es)))) (sym t) ∙ ap (λ (k : ℕ). Some (first_due timeout k)) (sym g.latest))
 
 -- none is left when it begins but its tries
 pub begun : (q : Inquiry) → 1 ≤ q.tries → LeftBehind q [] q.tries q.at

@@ -98,3 +98,11 @@ led_to (OfTick Nothing ∷ os) = led_to os
 abbrev pub led_on : SentAnswer → AskingOutcome → SentAnswer
 led_on (Ready answer) o = Ready answer
 led_on Pending o = led_to (o ∷ [])
+
+-- the first moment at which a tick is due; that is 0 where the moment at which the timeout passes has no number
+abbrev pub first_due : ℕ → ℕ → ℕ
+first_due timeout last = if nat_lt 18446744073709551615 (last + timeout) then 0 else last + timeout
+
+-- the deadline behind events: the first moment at which a tick is due, counted from the last send; none once it has ended
+abbrev pub deadline : Inquiry → List AskingEvent → Option ℕ
+deadline q es = if has_ended q es then None else Some (first_due q.timeout (last_from q.at (due_ticks q es)))

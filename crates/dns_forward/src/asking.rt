@@ -4,7 +4,7 @@ ghost use Rattle.std.specs.Prelude.{◌≡◌, ◌≤◌, ◌+◌, [], max, IfOk
 ghost use Rattle.dns_service.specs.Config.{in_range};
 ghost use Rattle.dns_forward.specs.declared.asking_event.AskingEvent.{AskingEvent};
 ghost use Rattle.dns_forward.specs.declared.asking_event.AskingOutcome.{AskingOutcome};
-ghost use Rattle.dns_forward.specs.Asked.{Inquiry, is_due};
+ghost use Rattle.dns_forward.specs.Asked.{Inquiry, deadline, first_due, has_ended, is_due};
 ghost use Rattle.dns_forward.specs.Matching.{with_id};
 
 use crate::asking_event::{AskingEvent, AskingOutcome, Ticked};
@@ -79,6 +79,34 @@ impl Asking {
         ensures { (q : Inquiry) (es : List AskingEvent) → HasHeard q es self.now → result.now ≡ with_id q.id q.message }
     {
         self.octets.as_slice()
+    }
+
+    /// Whether it has ended: an answer came, or it was given up.
+    pub fn has_ended(&self) -> bool
+        ensures { (q : Inquiry) (es : List AskingEvent) → HasHeard q es self.now → result ≡ has_ended q es }
+    {
+        self.left == 0
+    }
+
+    /// The deadline: the first moment at which a tick is due, so that its owner need not look before. It is 0 where the moment
+    /// at which the timeout passes would be past 2^64 - 1. There is none once it has ended.
+    pub fn deadline(&self) -> Option<u64>
+        ensures { (q : Inquiry) (es : List AskingEvent) → HasHeard q es self.now → result ≡ deadline q es }
+    {
+        if self.left == 0 {
+            return None;
+        }
+        Some(self.first_due())
+    }
+
+    /// The first moment at which a tick is due.
+    fn first_due(&self) -> u64
+        ensures { result ≡ first_due self.now.timeout self.now.last }
+    {
+        match self.last.checked_add(self.timeout) {
+            Some(until) => until,
+            None => 0,
+        }
     }
 
     /// The answer, where octets that arrive are the first that match: under the identifier of the message that was asked, and

@@ -60,7 +60,10 @@ impl From<AllocError> for ReadError {
 /// The most octets of a source that is read whole.
 pub const LIMIT: usize = 67_108_864;
 
-/// Reads a source to its end. At most `LIMIT + 1` octets are taken from it.
+/// The most octets of one read of a source that is read whole.
+const PIECE: usize = 65_536;
+
+/// Reads a source to its end, up to 65,536 octets by one read. At most `LIMIT + 1` octets are taken from it.
 pub fn read_all<S: Source>(alloc: Global, source: &mut S) -> Result<Vec<u8>, ReadError>
     ensures told { Tells (S.tells source.new) (S.tells source.old) (ReadTo (λ v. v.items) result (S.left source.old) (S.left source.new)) }
     ensures few { IfOk result (λ v. length v.items ≤ LIMIT) }
@@ -68,9 +71,9 @@ pub fn read_all<S: Source>(alloc: Global, source: &mut S) -> Result<Vec<u8>, Rea
     ensures cause { ReadAllCause result (S.faults source.old) (S.faults source.new) }
 {
     let mut out: Vec<u8> = Vec::new(alloc);
-    let mut buf = [0u8; 4096];
+    let mut buf = [0u8; PIECE];
     'pieces: while out.len() <= LIMIT {
-        let room = (LIMIT + 1 - out.len()).min(4096);
+        let room = (LIMIT + 1 - out.len()).min(PIECE);
         match source.read(&mut buf[..room]) {
             SourceRead::Got(count) => match out.extend_from_slice(&buf[..count]) {
                 Ok(()) => {}

@@ -1,27 +1,26 @@
 -- Subnets come back.
-use Rattle.std.proofs.Common.{◌≡◌, ℕ, zero, suc, ◌+◌, ◌-◌, ◌*◌, ◌≤◌, ◌<◌, List, [], ◌∷◌, ◌++◌, length, take, drop, replicate, Bool, true, false, refl, sym, ap, ◌∙◌, arith}
+use Rattle.std.proofs.Common.{◌≡◌, ℕ, zero, suc, ◌+◌, ◌-◌, ◌*◌, ◌≤◌, ◌<◌, List, [], ◌∷◌, ◌++◌, length, take, drop, replicate, true, false, refl, sym, ap, arith, ◌∙◌}
+use Rattle.std.proofs.lemmas.Bool.{and_parts}
 use Rattle.std.proofs.lemmas.Bool.Decides.{nat_tests}
-use Rattle.std.specs.Prelude.{◌&&◌, nat_le, nat_lt, nat_eq, Some, Ok}
+use Rattle.std.specs.Prelude.{nat_lt, nat_eq, Some, Ok}
 use Rattle.std.specs.Cmp.Lexicographic.{pointwise}
 use Rattle.std.specs.List.{list_all}
+use Rattle.dns_name.specs.Addresses.{address_octets}
 use Rattle.dns_name.specs.OptData.{kind, whole, for_code}
-use Rattle.dns_name.proofs.Readings.{both, below, at_most, same_number, taken_whole}
+use Rattle.dns_name.proofs.Readings.{same_number, taken_whole}
 use Rattle.dns_name.specs.declared.address.IpAddr.TheVariants.{V4, V6}
 use Rattle.dns_name.specs.declared.address.IpAddr.{IpAddr}
-use Rattle.dns_kinds.specs.Subnet.{Subnet, mask_octet, masked, octets_for, with_zeros, address, with_address, subnet_data, subnet_octets, is_clear, is_clear_addr, is_clear_subnet}
+use Rattle.dns_kinds.specs.Subnet.{AreOctets, IsClear, IsSubnet, Subnet, mask_octet, masked, octets_for, with_zeros, address, with_address, subnet_data, subnet_octets}
 
-same : (k n : ℕ) → nat_eq k n ≡ true → k ≡ n
-same k n h = grind (arith, nat_tests)
+alike : (a : List ℕ) → pointwise nat_eq a a ≡ true
+alike [] = refl
+alike (x ∷ a) = rw (same_number x, alike a) refl
 
-alike : (a b : List ℕ) → pointwise nat_eq a b ≡ true → a ≡ b
-alike [] [] h = refl
-alike [] (y ∷ b) h = absurd (cc)
-alike (x ∷ a) [] h = absurd (cc)
-alike (x ∷ a) (y ∷ b) h =
-    let parts = both (nat_eq x y) (pointwise nat_eq a b) h in
-    let e : x ≡ y = same x y parts.0 in
-    let f : a ≡ b = alike a b parts.1 in
-    cc
+octet_small : (x : ℕ) → nat_lt x 256 ≡ true → x < 256
+octet_small x h = grind (arith, nat_tests)
+
+all_octets : (x : ℕ) (a : List ℕ) → AreOctets (x ∷ a) → (x < 256) × AreOctets a
+all_octets x a h = let parts = and_parts (nat_lt x 256) (list_all (λ y. nat_lt y 256) a) h in (octet_small x parts.0, parts.1)
 
 -- an octet without any bit is 0
 no_bits : (x : ℕ) → x < 256 → mask_octet 0 x ≡ x → x ≡ 0
@@ -32,18 +31,18 @@ more_octets : (s : ℕ) → octets_for (suc s) ≡ suc (octets_for (suc s - 8))
 more_octets s = omega arith
 
 -- what stands past the bits is zeros
-pub padded_again : (s : ℕ) (a : List ℕ) → list_all (λ x. nat_lt x 256) a ≡ true → masked s a ≡ a → take (octets_for s) a ++ drop (octets_for s) (replicate (length a) 0) ≡ a
+pub padded_again : (s : ℕ) (a : List ℕ) → AreOctets a → masked s a ≡ a → take (octets_for s) a ++ drop (octets_for s) (replicate (length a) 0) ≡ a
 padded_again zero [] small e = refl
 padded_again (suc s) [] small e = rw (more_octets s) refl
 padded_again zero (x ∷ a) small e =
-    let parts = both (nat_lt x 256) (list_all (λ x. nat_lt x 256) a) small in
+    let parts = all_octets x a small in
     let first : mask_octet 0 x ≡ x = cc in
     let more : masked 0 a ≡ a = cc in
-    let none : x ≡ 0 = no_bits x (below x 256 parts.0) first in
+    let none : x ≡ 0 = no_bits x parts.0 first in
     let rest : replicate (length a) 0 ≡ a = padded_again zero a parts.1 more in
     cc
 padded_again (suc s) (x ∷ a) small e =
-    let parts = both (nat_lt x 256) (list_all (λ x. nat_lt x 256) a) small in
+    let parts = all_octets x a small in
     let more : masked (suc s - 8) a ≡ a = cc in
     rw (more_octets s) (ap (λ l. x ∷ l) (padded_again (suc s - 8) a parts.1 more))
 
@@ -59,37 +58,34 @@ too_few : (w n : ℕ) → n ≤ w → nat_lt w n ≡ false
 too_few w n h = grind (arith, nat_tests)
 
 -- an address without bits past the prefix comes back
-pub address_again : (w s : ℕ) (a : List ℕ) → is_clear w s a ≡ true → (address w s (take (octets_for s) a) ≡ Ok a) × (length (take (octets_for s) a) ≡ octets_for s)
+pub address_again : (w s : ℕ) (a : List ℕ) → s ≤ 8 * w → length a ≡ w → masked s a ≡ a → AreOctets a → (address w s (take (octets_for s) a) ≡ Ok a) × (length (take (octets_for s) a) ≡ octets_for s)
 unfolding address
-address_again w s a h =
-    let short = both (nat_le s (8 * w)) _ h in
-    let long = both (nat_eq (length a) w) _ short.1 in
-    let small = both (list_all (λ x. nat_lt x 256) a) _ long.1 in
-    let size : length a ≡ w = same (length a) w long.0 in
-    let room : octets_for s ≤ w = enough s w (at_most s (8 * w) short.0) in
+address_again w s a short size clear small =
+    let room : octets_for s ≤ w = enough s w short in
     let taken : length (take (octets_for s) a) ≡ octets_for s = length_take (octets_for s) a (omega arith) in
-    let back = padded_again s a small.0 (alike (masked s a) a small.1) in
+    let back = padded_again s a small clear in
     let full : with_zeros w (take (octets_for s) a) ≡ a = rw (taken, sym size) back in
-    (rw (too_few w (octets_for s) room, full, taken, same_number (octets_for s), small.1) refl, taken)
+    let same : pointwise nat_eq (masked s a) a ≡ true = rw clear (alike a) in
+    (rw (too_few w (octets_for s) room, full, taken, same_number (octets_for s), same) refl, taken)
 
-v4_again : (s c : ℕ) (a : List ℕ) → is_clear 4 s a ≡ true → kind (for_code 8 subnet_data) 8 (0 ∷ 1 ∷ s ∷ c ∷ take (octets_for s) a) ≡ Some (Ok (record { source = s; scope = c; addr = V4 a }))
-v4_again s c a h =
-    let back = address_again 4 s a h in
+v4_again : (s c : ℕ) (a : List ℕ) → IsSubnet s (V4 a) → AreOctets a → kind (for_code 8 subnet_data) 8 (0 ∷ 1 ∷ s ∷ c ∷ take (octets_for s) a) ≡ Some (Ok (record { source = s; scope = c; addr = V4 a }))
+v4_again s c a h o =
+    let back = address_again 4 s a h.0 h.1 h.2 o in
     let d : List ℕ = 0 ∷ 1 ∷ s ∷ c ∷ take (octets_for s) a in
     let long : length (take (octets_for s) a) + 4 ≡ length d = omega arith in
     ap (λ x. Some (whole d (with_address V4 s c (length (take (octets_for s) a) + 4) x))) back.0 ∙ ap (λ x. Some x) (taken_whole d (length (take (octets_for s) a) + 4) (record { source = s; scope = c; addr = V4 a }) long)
 
-v6_again : (s c : ℕ) (a : List ℕ) → is_clear 16 s a ≡ true → kind (for_code 8 subnet_data) 8 (0 ∷ 2 ∷ s ∷ c ∷ take (octets_for s) a) ≡ Some (Ok (record { source = s; scope = c; addr = V6 a }))
-v6_again s c a h =
-    let back = address_again 16 s a h in
+v6_again : (s c : ℕ) (a : List ℕ) → IsSubnet s (V6 a) → AreOctets a → kind (for_code 8 subnet_data) 8 (0 ∷ 2 ∷ s ∷ c ∷ take (octets_for s) a) ≡ Some (Ok (record { source = s; scope = c; addr = V6 a }))
+v6_again s c a h o =
+    let back = address_again 16 s a h.0 h.1 h.2 o in
     let d : List ℕ = 0 ∷ 2 ∷ s ∷ c ∷ take (octets_for s) a in
     let long : length (take (octets_for s) a) + 4 ≡ length d = omega arith in
     ap (λ x. Some (whole d (with_address V6 s c (length (take (octets_for s) a) + 4) x))) back.0 ∙ ap (λ x. Some x) (taken_whole d (length (take (octets_for s) a) + 4) (record { source = s; scope = c; addr = V6 a }) long)
 
-by_address : (s c : ℕ) (x : IpAddr) → is_clear_addr s x ≡ true → kind (for_code 8 subnet_data) 8 (subnet_octets (record { source = s; scope = c; addr = x })) ≡ Some (Ok (record { source = s; scope = c; addr = x }))
-by_address s c (V4 a) h = v4_again s c a h
-by_address s c (V6 a) h = v6_again s c a h
+by_address : (s c : ℕ) (x : IpAddr) → IsSubnet s x → AreOctets (address_octets x) → kind (for_code 8 subnet_data) 8 (subnet_octets (record { source = s; scope = c; addr = x })) ≡ Some (Ok (record { source = s; scope = c; addr = x }))
+by_address s c (V4 a) h o = v4_again s c a h o
+by_address s c (V6 a) h o = v6_again s c a h o
 
 -- a subnet comes back
-pub subnet_again : (k : Subnet) → is_clear_subnet k ≡ true → kind (for_code 8 subnet_data) 8 (subnet_octets k) ≡ Some (Ok k)
-subnet_again k h = by_address k.source k.scope k.addr h
+pub subnet_again : (k : Subnet) → IsClear k → kind (for_code 8 subnet_data) 8 (subnet_octets k) ≡ Some (Ok k)
+subnet_again k h = by_address k.source k.scope k.addr h.0 h.1

@@ -1,10 +1,9 @@
 -- EXTENDED-ERROR (RFC 8914, section 2).
-use Rattle.std.specs.Prelude.{◌≡◌, ℕ, ◌+◌, ◌<◌, ◌≤◌, List, [], ◌∷◌, ◌++◌, length, Bool, true, false, ◌&&◌, nat_le, Option, Some, None, Result, Ok, Err, nat_lt, encode_utf8_all, if◌then◌else◌}
+use Rattle.std.specs.Prelude.{◌≡◌, ℕ, ◌+◌, ◌<◌, ◌≤◌, List, [], ◌∷◌, ◌++◌, length, ◌≢◌, Option, Some, None, Result, Ok, Err, nat_lt, encode_utf8_all, if◌then◌else◌}
 use Rattle.std.specs.Borrow.{Bor}
 use Rattle.std.specs.Fmt.{decimal}
 use Rattle.std.specs.Str.{IsUtf8}
 use Rattle.bstr.specs.Utf8.{lossy_chars}
-use Rattle.dns_name.specs.declared.error.ParseError.{ParseError}
 use Rattle.dns_name.specs.declared.error.ParseError.TheVariants.{ShortInput, Form}
 use Rattle.dns_name.specs.declared.error.FormReason.TheVariants.{LongList}
 use Rattle.dns_name.specs.declared.opt_error.BuildDataError.{BuildDataError}
@@ -75,17 +74,6 @@ text_shown (Some t) = 32 ∷ encode_utf8_all (lossy_chars t)
 abbrev pub extended_text : Extended → List ℕ
 extended_text k = decimal k.code ++ text_shown k.text
 
--- octets are read whole, or refused
-abbrev pub IsRead : List ℕ → Taken Extended → Result Extended ParseError → Type 0
-IsRead d (Ok p) result = (result ≡ Ok p.0) × (p.1 ≡ length d)
-IsRead d (Err e) result = result ≡ Err e
-
--- a text that has octets, or none
-abbrev pub has_octets : Option (List ℕ) → Bool
-has_octets None = true
-has_octets (Some []) = false
-has_octets (Some (x ∷ t)) = true
-
 -- the extended errors that come back: those without an empty text
-abbrev pub is_extended : Extended → Bool
-is_extended k = nat_le (length (text_octets k.text)) 65533 && has_octets k.text
+abbrev pub IsExtended : Extended → Type 0
+IsExtended k = TextFits k.text × (k.text ≢ Some [])

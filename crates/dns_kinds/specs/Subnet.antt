@@ -1,5 +1,5 @@
 -- CLIENT-SUBNET (RFC 7871, section 6).
-use Rattle.std.specs.Prelude.{◌≡◌, ℕ, ◌+◌, ◌-◌, ◌*◌, ◌/◌, ◌^◌, ◌≤◌, Bool, ◌&&◌, List, [], ◌∷◌, ◌++◌, length, take, drop, replicate, Result, Ok, Err, nat_lt, nat_le, nat_eq, min, if◌then◌else◌}
+use Rattle.std.specs.Prelude.{◌≡◌, ℕ, ◌+◌, ◌-◌, ◌*◌, ◌/◌, ◌^◌, ◌≤◌, true, List, [], ◌∷◌, ◌++◌, length, take, drop, replicate, Result, Ok, Err, nat_lt, nat_le, nat_eq, min, if◌then◌else◌}
 use Rattle.std.specs.declared.cmp.Ordering.{Ordering}
 use Rattle.std.specs.declared.cmp.Ordering.TheVariants.{Less, Greater}
 use Rattle.std.specs.Cmp.Lexicographic.{pointwise, slice_cmp}
@@ -85,17 +85,13 @@ abbrev pub IsSubnet : ℕ → IpAddr → Type 0
 IsSubnet s (V4 a) = (s ≤ 32) × (length a ≡ 4) × (masked s a ≡ a)
 IsSubnet s (V6 a) = (s ≤ 128) × (length a ≡ 16) × (masked s a ≡ a)
 
--- an address of w octets without a bit past the first s
-abbrev pub is_clear : ℕ → ℕ → List ℕ → Bool
-is_clear w s a = nat_le s (8 * w) && (nat_eq (length a) w && (list_all (λ x. nat_lt x 256) a && pointwise nat_eq (masked s a) a))
-
-abbrev pub is_clear_addr : ℕ → IpAddr → Bool
-is_clear_addr s (V4 a) = is_clear 4 s a
-is_clear_addr s (V6 a) = is_clear 16 s a
+-- numbers that are octets
+abbrev pub AreOctets : List ℕ → Type 0
+AreOctets a = list_all (λ x. nat_lt x 256) a ≡ true
 
 -- the subnets that come back
-abbrev pub is_clear_subnet : Subnet → Bool
-is_clear_subnet k = is_clear_addr k.source k.addr
+abbrev pub IsClear : Subnet → Type 0
+IsClear k = IsSubnet k.source k.addr × AreOctets (address_octets k.addr)
 
 -- the order of addresses: those of version 4 first, and of one version by their octets
 abbrev pub addr_cmp : IpAddr → IpAddr → Ordering
@@ -107,8 +103,3 @@ addr_cmp (V6 a) (V6 b) = slice_cmp nat_cmp a b
 -- the order of subnets: by the source prefix, then the scope prefix, then the address
 abbrev pub subnet_cmp : Subnet → Subnet → Ordering
 subnet_cmp a b = ordering_then (nat_cmp a.source b.source) (ordering_then (nat_cmp a.scope b.scope) (addr_cmp a.addr b.addr))
-
--- octets are read whole, or refused
-abbrev pub IsWhole : List ℕ → Taken Subnet → Result Subnet ParseError → Type 0
-IsWhole d (Ok p) result = (result ≡ Ok p.0) × (p.1 ≡ length d)
-IsWhole d (Err e) result = result ≡ Err e

@@ -1,5 +1,5 @@
 -- EXPIRE (RFC 7314) and TCP-KEEPALIVE (RFC 7828).
-use Rattle.std.specs.Prelude.{ℕ, List, [], ◌∷◌, Bool, true, nat_lt, Option, Some, None, Ok, Err}
+use Rattle.std.specs.Prelude.{ℕ, List, [], ◌∷◌, Option, Some, None, Ok, Err}
 use Rattle.std.specs.Fmt.{decimal}
 use Rattle.dns_name.specs.declared.error.ParseError.TheVariants.{ShortInput}
 use Rattle.dns_name.specs.OptData.{Taken}
@@ -31,8 +31,3 @@ keepalive_octets (Some n) = two n
 abbrev pub number_text : Option ℕ → List ℕ
 number_text None = []
 number_text (Some n) = decimal n
-
--- whether a number, where there is one, is below a bound
-abbrev pub is_below : ℕ → Option ℕ → Bool
-is_below n None = true
-is_below n (Some k) = nat_lt k n

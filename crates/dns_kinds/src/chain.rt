@@ -1,6 +1,6 @@
 //! CHAIN: the closest name that a client trusts already (RFC 7901).
 
-ghost use Rattle.std.specs.Prelude.{◌≡◌, length, Some, IfOk, refl, true, ⊤};
+ghost use Rattle.std.specs.Prelude.{◌≡◌, length, Some, IfOk, refl, ⊤};
 ghost use Rattle.std.specs.Cmp.{partial_equiv_from_equiv};
 ghost use Rattle.std.specs.Ordering.{as_partial_cmp};
 ghost use Rattle.dns_name.specs.Canonical.{name_cmp, name_cmp_total, name_writes, same_name, same_name_equiv, same_name_order, same_name_ties, same_name_writes};
@@ -9,7 +9,7 @@ ghost use Rattle.dns_name.specs.NameText.{name_text};
 ghost use Rattle.dns_name.specs.OptData.{ParsesData, for_code};
 ghost use Rattle.dns_name.specs.Place.{rest};
 ghost use Rattle.dns_kinds.specs.Again.{chain_again};
-ghost use Rattle.dns_kinds.specs.Chains.{chain_data, is_name};
+ghost use Rattle.dns_kinds.specs.Chains.{chain_data};
 
 use dns_name::{
     ComposeOptData, HoldsName, Name, NameRef, OptData, OptionCode, OutOfMemory, ParseError,
@@ -132,10 +132,9 @@ impl<N: HoldsName> ComposeOptData for HeldChain<N> {
     ghost octets = { spell };
 
     /// The number of octets, at most 255.
-    #[tactic(auto, using(crate::proofs::Readable::name_is))]
     fn compose_len(&self) -> u16
         ensures value { result ≡ length (spell self.now) }
-        ensures readable { is_name self.now ≡ true }
+        ensures readable { IsName self.now }
     {
         self.start.as_name().as_slice().len() as u16
     }
@@ -146,7 +145,7 @@ impl<N: HoldsName> ComposeOptData for HeldChain<N> {
 }
 
 impl<'a> ReadBack<'a> for HeldChain<NameRef<'a>> {
-    ghost is_readable = { is_name };
+    ghost is_readable = { IsName };
 
     ghost comes_back = { chain_again };
 }

@@ -1,10 +1,10 @@
 //! EXPIRE: after how many seconds a zone expires (RFC 7314).
 
-ghost use Rattle.std.specs.Prelude.{◌≡◌, Some, length, true};
+ghost use Rattle.std.specs.Prelude.{◌≡◌, ◌<◌, Some, IfSome, length};
 ghost use Rattle.dns_name.specs.OptData.{ParsesData, for_code};
 ghost use Rattle.dns_name.specs.Place.{rest};
 ghost use Rattle.dns_kinds.specs.Again.{expire_again};
-ghost use Rattle.dns_kinds.specs.Timers.{is_below, expire_data, expire_octets, number_text};
+ghost use Rattle.dns_kinds.specs.Timers.{expire_data, expire_octets, number_text};
 
 use dns_name::{
     ComposeOptData, OptData, OptionCode, OutOfMemory, ParseError, ParseOptData, Parser, ReadBack,
@@ -94,7 +94,7 @@ impl ComposeOptData for Expire {
     /// The number of octets, 4 or none.
     fn compose_len(&self) -> u16
         ensures value { result ≡ length (expire_octets self.now) }
-        ensures readable { is_below 4294967296 self.now ≡ true }
+        ensures readable { IfSome self.now (λ n. n < 4294967296) }
     {
         match self.expire {
             None => 0,
@@ -120,7 +120,7 @@ impl ComposeOptData for Expire {
 }
 
 impl<'a> ReadBack<'a> for Expire {
-    ghost is_readable = { is_below 4294967296 };
+    ghost is_readable = { λ k. IfSome k (λ n. n < 4294967296) };
 
     ghost comes_back = { expire_again };
 }

@@ -1,11 +1,11 @@
 //! EXTENDED-ERROR: why an answer is as it is (RFC 8914), owned or borrowed.
 
-ghost use Rattle.std.specs.Prelude.{◌≡◌, ◌≢◌, [], true, ◌≤◌, ◌<◌, ◌+◌, ◌++◌, ◌↔◌, length, Some, None, IsTrue, IfOk, MatchResult, option_map};
+ghost use Rattle.std.specs.Prelude.{◌≡◌, ◌≢◌, [], ◌≤◌, ◌<◌, ◌+◌, ◌++◌, ◌↔◌, length, Some, None, IsTrue, IfOk, MatchResult, option_map};
 ghost use Rattle.std.specs.Option.{option_copied};
-ghost use Rattle.dns_name.specs.OptData.{ParsesData, for_code};
+ghost use Rattle.dns_name.specs.OptData.{GivesWhole, ParsesData, for_code};
 ghost use Rattle.dns_name.specs.Place.{rest};
 ghost use Rattle.dns_kinds.specs.Again.{extended_again};
-ghost use Rattle.dns_kinds.specs.Extended.{Copied, TextFits, IsRead, is_extended, MadeExtended, ReadsText, extended, extended_data, extended_octets, extended_text, text_octets, text_shown};
+ghost use Rattle.dns_kinds.specs.Extended.{Copied, IsExtended, TextFits, MadeExtended, ReadsText, extended, extended_data, extended_octets, extended_text, text_octets, text_shown};
 
 use bstr::BStr;
 use dns_name::{
@@ -128,7 +128,7 @@ impl<'a> HeldExtendedError<&'a [u8]> {
 
 /// The extended error that octets are.
 fn of_octets(octets: &[u8]) -> Result<ExtendedErrorRef<'_>, ParseError>
-    ensures { IsRead octets.now (extended_data octets.now) result }
+    ensures { GivesWhole octets.now (extended_data octets.now) result }
 {
     if octets.len() > 65535 {
         return Err(ParseError::Form(FormReason::LongList));
@@ -265,10 +265,9 @@ impl<S: HoldsOctets> ComposeOptData for HeldExtendedError<S> {
     ghost octets = { extended_octets };
 
     /// The number of octets: 2, and those of the text. An empty text alone isn't read back: it is read as none.
-    #[tactic(auto, using(crate::proofs::Readable::extended_is))]
     fn compose_len(&self) -> u16
         ensures value { result ≡ length (extended_octets self.now) }
-        ensures readable { self.now.text ≢ Some [] → is_extended self.now ≡ true }
+        ensures readable { self.now.text ≢ Some [] → IsExtended self.now }
     {
         match &self.text {
             None => 2,
@@ -289,7 +288,7 @@ impl<S: HoldsOctets> ComposeOptData for HeldExtendedError<S> {
 }
 
 impl<'a> ReadBack<'a> for HeldExtendedError<&'a [u8]> {
-    ghost is_readable = { is_extended };
+    ghost is_readable = { IsExtended };
 
     ghost comes_back = { extended_again };
 }

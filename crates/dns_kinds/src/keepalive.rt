@@ -1,11 +1,11 @@
 //! TCP-KEEPALIVE: how long an idle connection stays open (RFC 7828).
 
-ghost use Rattle.std.specs.Prelude.{◌≡◌, ◌*◌, ◌/◌, ◌≤◌, ◌<◌, Some, MatchResult, codes, length, true};
+ghost use Rattle.std.specs.Prelude.{◌≡◌, ◌*◌, ◌/◌, ◌≤◌, ◌<◌, Some, IfSome, MatchResult, codes, length};
 ghost use Rattle.std.specs.Fmt.{decimal};
 ghost use Rattle.dns_name.specs.OptData.{ParsesData, for_code};
 ghost use Rattle.dns_name.specs.Place.{rest};
 ghost use Rattle.dns_kinds.specs.Again.{keepalive_again};
-ghost use Rattle.dns_kinds.specs.Timers.{is_below, keepalive_data, keepalive_octets, number_text};
+ghost use Rattle.dns_kinds.specs.Timers.{keepalive_data, keepalive_octets, number_text};
 
 use dns_name::{
     ComposeOptData, OptData, OptionCode, OutOfMemory, ParseError, ParseOptData, Parser, ReadBack,
@@ -167,7 +167,7 @@ impl ComposeOptData for TcpKeepalive {
     /// The number of octets, 2 or none.
     fn compose_len(&self) -> u16
         ensures value { result ≡ length (keepalive_octets self.now) }
-        ensures readable { is_below 65536 self.now ≡ true }
+        ensures readable { IfSome self.now (λ n. n < 65536) }
     {
         match self.timeout {
             None => 0,
@@ -186,7 +186,7 @@ impl ComposeOptData for TcpKeepalive {
 }
 
 impl<'a> ReadBack<'a> for TcpKeepalive {
-    ghost is_readable = { is_below 65536 };
+    ghost is_readable = { λ k. IfSome k (λ n. n < 65536) };
 
     ghost comes_back = { keepalive_again };
 }

@@ -44,9 +44,10 @@ fn clear(s: u8, a: &mut [u8])
     }
 }
 
+/// An array without the bits past the first s.
 #[tactic(auto, using(crate::proofs::Twice::masked_again))]
-pub(crate) fn mask4(s: u8, a: [u8; 4]) -> [u8; 4]
-    ensures value { result ≡ masked s a }
+pub(crate) fn masked_array<const N: usize>(s: u8, a: [u8; N]) -> [u8; N]
+    ensures value { result ≡ masked s a.entry }
     ensures clear { masked s result ≡ result }
 {
     let mut out = a;
@@ -54,47 +55,19 @@ pub(crate) fn mask4(s: u8, a: [u8; 4]) -> [u8; 4]
     out
 }
 
-#[tactic(auto, using(crate::proofs::Twice::masked_again))]
-pub(crate) fn mask16(s: u8, a: [u8; 16]) -> [u8; 16]
-    ensures value { result ≡ masked s a }
-    ensures clear { masked s result ≡ result }
-{
-    let mut out = a;
-    clear(s, &mut out);
-    out
-}
-
-/// The address of 16 octets that octets stand for under s bits.
+/// The address of N octets that octets stand for under s bits.
 #[tactic(auto, unfolding(crate::specs::Subnet::address))]
-pub(crate) fn address16(s: u8, octets: &[u8]) -> Result<[u8; 16], ParseError>
-    ensures value { result ≡ address 16 s octets.now }
-    ensures within { IfOk result (λ a. (s ≤ 128) × (masked s a ≡ a)) }
+pub(crate) fn address_of<const N: usize>(s: u8, octets: &[u8]) -> Result<[u8; N], ParseError>
+    ensures value { result ≡ address N s octets.now }
+    ensures within { IfOk result (λ a. (s ≤ 8 * N) × (masked s a ≡ a)) }
 {
     let len = (s as usize + 7) / 8;
-    if len > 16 || octets.len() != len {
+    if len > N || octets.len() != len {
         return Err(ParseError::Form(FormReason::AddressLength));
     }
-    let mut out = [0u8; 16];
+    let mut out = [0u8; N];
     out[..len].copy_from_slice(octets);
-    if mask16(s, out) != out {
-        return Err(ParseError::Form(FormReason::AddressBits));
-    }
-    Ok(out)
-}
-
-/// The address of 4 octets that octets stand for under s bits.
-#[tactic(auto, unfolding(crate::specs::Subnet::address))]
-pub(crate) fn address4(s: u8, octets: &[u8]) -> Result<[u8; 4], ParseError>
-    ensures value { result ≡ address 4 s octets.now }
-    ensures within { IfOk result (λ a. (s ≤ 32) × (masked s a ≡ a)) }
-{
-    let len = (s as usize + 7) / 8;
-    if len > 4 || octets.len() != len {
-        return Err(ParseError::Form(FormReason::AddressLength));
-    }
-    let mut out = [0u8; 4];
-    out[..len].copy_from_slice(octets);
-    if mask4(s, out) != out {
+    if masked_array(s, out) != out {
         return Err(ParseError::Form(FormReason::AddressBits));
     }
     Ok(out)

@@ -1,13 +1,13 @@
 //! CLIENT-SUBNET: the network that a query comes from (RFC 7871).
 
-ghost use Rattle.std.specs.Prelude.{◌≡◌, ◌≤◌, length, take, true};
-ghost use Rattle.dns_name.specs.OptData.{ParsesData, for_code};
+ghost use Rattle.std.specs.Prelude.{◌≡◌, ◌≤◌, length, take};
+ghost use Rattle.dns_name.specs.OptData.{GivesWhole, ParsesData, for_code};
 ghost use Rattle.dns_name.specs.Place.{rest};
 ghost use Rattle.dns_kinds.specs.Clears.{subnet_again};
 ghost use Rattle.dns_name.specs.Addresses.{address_octets};
-ghost use Rattle.dns_kinds.specs.Subnet.{IsWhole, is_clear_subnet, family, within_address, octets_for, subnet_data, subnet_octets};
+ghost use Rattle.dns_kinds.specs.Subnet.{IsClear, family, within_address, octets_for, subnet_data, subnet_octets};
 
-use crate::mask::{address4, address16, mask4, mask16, prefix};
+use crate::mask::{address_of, masked_array, prefix};
 use dns_name::{
     ComposeOptData, FormReason, IpAddr, OptData, OptionCode, OutOfMemory, ParseError, ParseOptData,
     Parser, ReadBack,
@@ -47,7 +47,7 @@ impl ClientSubnet {
                 ClientSubnet {
                     source,
                     scope: scope_prefix_len.min(32),
-                    addr: IpAddr::V4(mask4(source, a)),
+                    addr: IpAddr::V4(masked_array(source, a)),
                 }
             }
             IpAddr::V6(a) => {
@@ -55,7 +55,7 @@ impl ClientSubnet {
                 ClientSubnet {
                     source,
                     scope: scope_prefix_len.min(128),
-                    addr: IpAddr::V6(mask16(source, a)),
+                    addr: IpAddr::V6(masked_array(source, a)),
                 }
             }
         }
@@ -86,9 +86,9 @@ impl ClientSubnet {
     fn sent(&self) -> &[u8]
         ensures value { result.now ≡ take (octets_for self.now.source) (address_octets self.now.addr) }
         ensures few { length result.now ≤ 16 }
-        ensures clear { is_clear_subnet self.now ≡ true }
+        ensures clear { IsClear self.now }
     {
-        prefix(self.source, octets(&self.addr))
+        prefix(self.source, self.addr.as_slice())
     }
 
     /// Reads all that is left.
@@ -111,26 +111,16 @@ fn family_of(addr: &IpAddr) -> u8
     }
 }
 
-/// The octets of an address.
-fn octets(addr: &IpAddr) -> &[u8]
-    ensures { result.now ≡ address_octets addr.now }
-{
-    match addr {
-        IpAddr::V4(octets) => octets,
-        IpAddr::V6(octets) => octets,
-    }
-}
-
 /// The subnet that octets are.
 fn of_octets(octets: &[u8]) -> Result<ClientSubnet, ParseError>
-    ensures { IsWhole octets.now (subnet_data octets.now) result }
+    ensures { GivesWhole octets.now (subnet_data octets.now) result }
 {
     let [f, g, source, scope, address @ ..] = octets else {
         return Err(ParseError::ShortInput);
     };
     let family = 256 * *f as u16 + *g as u16;
     if family == 1 {
-        let found = address4(*source, address)?;
+        let found = address_of::<4>(*source, address)?;
         return Ok(ClientSubnet {
             source: *source,
             scope: *scope,
@@ -138,7 +128,7 @@ fn of_octets(octets: &[u8]) -> Result<ClientSubnet, ParseError>
         });
     }
     if family == 2 {
-        let found = address16(*source, address)?;
+        let found = address_of::<16>(*source, address)?;
         return Ok(ClientSubnet {
             source: *source,
             scope: *scope,
@@ -177,7 +167,7 @@ impl ComposeOptData for ClientSubnet {
     /// The number of octets: 4, and those that the source prefix takes.
     fn compose_len(&self) -> u16
         ensures value { result ≡ length (subnet_octets self.now) }
-        ensures readable { is_clear_subnet self.now ≡ true }
+        ensures readable { IsClear self.now }
     {
         4 + self.sent().len() as u16
     }
@@ -192,7 +182,7 @@ impl ComposeOptData for ClientSubnet {
 }
 
 impl<'a> ReadBack<'a> for ClientSubnet {
-    ghost is_readable = { is_clear_subnet };
+    ghost is_readable = { IsClear };
 
     ghost comes_back = { subnet_again };
 }

@@ -1,33 +1,27 @@
 -- A reply with an OPT record that holds a cookie.
 use Rattle.std.proofs.Common.{◌≡◌, ℕ, ◌+◌, ◌≤◌, ◌<◌, Bool, true, false, List, length, nat_le, Option, Some, None, refl, sym, subst, arith, length-append}
 use Rattle.std.proofs.lemmas.Bool.Decides.{nat_tests}
-use Rattle.std.proofs.lemmas.Bool.{eqb-true, leb-true}
-use Rattle.std.specs.Prelude.{⊤, ◌&&◌, ◌==◌, Result, Ok, Err}
+use Rattle.std.specs.Prelude.{⊤, Result, Ok, Err}
 use Rattle.dns_name.specs.declared.opt_error.BuildDataError.{BuildDataError}
 use Rattle.dns_name.specs.declared.opt_error.BuildDataError.TheVariants.{LongOptData, WrongLength, ShortBuf, OutOfMemory as NoMemory}
 use Rattle.dns_base.specs.Built.{Built, PassesLimit}
-use Rattle.dns_cookie.specs.CookieData.{cookie_octets, is_cookie, is_server_part, server_octets}
+use Rattle.dns_cookie.specs.CookieData.{IsCookie, IsServerPart, cookie_octets, server_octets}
 use Rattle.dns_cookie.specs.Cookies.{Cookie}
 use Rattle.dns_opt.specs.Drafts.{Appended, BuiltFitting, BuiltOpt, Ends, OptDraft, PushedIn, opened_opt, room_of, with_opt_record}
 use Rattle.dns_opt.proofs.Sizes.{opt_grows}
 use Rattle.dns_service.specs.ErrorReply.{code_draft}
 use Rattle.dns_layers.specs.Cookies.{cookie_draft}
 
-both_true : (a b : Bool) → (a && b) ≡ true → (a ≡ true) × (b ≡ true)
-both_true true b h = (refl, h)
-both_true false b h = absurd (cc)
-
-server_short : (o : Option (List ℕ)) → is_server_part o ≡ true → length (server_octets o) ≤ 32
+server_short : (o : Option (List ℕ)) → IsServerPart o → length (server_octets o) ≤ 32
 server_short None h = omega arith
-server_short (Some s) h = leb-true (length s) 32 (both_true (nat_le 8 (length s)) (nat_le (length s) 32) h).1
+server_short (Some s) h = h.1
 
 -- a cookie has at most 40 octets
-cookie_short : (c : Cookie) → is_cookie c ≡ true → length (cookie_octets c) ≤ 40
+cookie_short : (c : Cookie) → IsCookie c → length (cookie_octets c) ≤ 40
 cookie_short c h =
-    let b = both_true (length c.client == 8) (is_server_part c.server) h in
     let n = length-append c.client (server_octets c.server) in
-    let e : length c.client ≡ 8 = eqb-true (length c.client) 8 b.0 in
-    let s = server_short c.server b.1 in
+    let e : length c.client ≡ 8 = h.0 in
+    let s = server_short c.server h.1 in
     omega arith
 
 module _ (calls : OptDraft → Result ⊤ BuildDataError → OptDraft → Type 0) (old new : Built) (result : Result ⊤ BuildDataError) (code : ℕ) (c : Cookie) where
@@ -41,18 +35,18 @@ module _ (calls : OptDraft → Result ⊤ BuildDataError → OptDraft → Type 0
       let g = opt_grows d.head d.options old in
       omega (arith, h, g)
 
-  ended : (answer : Result ⊤ BuildDataError) (left : OptDraft) → is_cookie c ≡ true → PushedIn 10 (cookie_octets c) (code_draft old code) left answer → Ends answer left old new result → Appended (cookie_draft old code c) old new result
+  ended : (answer : Result ⊤ BuildDataError) (left : OptDraft) → IsCookie c → PushedIn 10 (cookie_octets c) (code_draft old code) left answer → Ends answer left old new result → Appended (cookie_draft old code c) old new result
   ended (Ok u) left k p h = subst (λ (d : OptDraft). Appended d old new result) p.2 h
   ended (Err LongOptData) left k p h = let s = cookie_short c k in absurd (omega (arith, p.0, s))
   ended (Err (WrongLength s t)) left k p h = absurd p
   ended (Err ShortBuf) left k p h = subst (λ (r : Result ⊤ BuildDataError). Appended (cookie_draft old code c) old new r) (sym h.0) (h.1, passes p.1)
   ended (Err NoMemory) left k p h = subst (λ (r : Result ⊤ BuildDataError). Appended (cookie_draft old code c) old new r) (sym h.0) h.1
 
-  by_room : (b : Bool) → nat_le 11 (room_of old) ≡ b → is_cookie c ≡ true → PutsCookie → BuiltFitting b calls old new result → Appended (cookie_draft old code c) old new result
+  by_room : (b : Bool) → nat_le 11 (room_of old) ≡ b → IsCookie c → PutsCookie → BuiltFitting b calls old new result → Appended (cookie_draft old code c) old new result
   by_room false e k p h =
       let small : room_of old < 11 = grind (arith, nat_tests) in
       subst (λ (r : Result ⊤ BuildDataError). Appended (cookie_draft old code c) old new r) (sym h.0) (h.1, passes (omega (arith, small)))
   by_room true e k p h = ended h.answer h.left k (p h.answer h.left h.met) h.ends
 
-  pub cookie_put : is_cookie c ≡ true → PutsCookie → BuiltOpt calls old new result → Appended (cookie_draft old code c) old new result
+  pub cookie_put : IsCookie c → PutsCookie → BuiltOpt calls old new result → Appended (cookie_draft old code c) old new result
   cookie_put k p h = by_room (nat_le 11 (room_of old)) refl k p h

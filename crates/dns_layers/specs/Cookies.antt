@@ -19,14 +19,14 @@ use Rattle.dns_service.specs.declared.message.TransportSpecificContext.{Transpor
 use Rattle.dns_service.specs.declared.message.TransportSpecificContext.TheVariants.{Udp, NonUdp}
 use Rattle.dns_service.specs.Answer.{Answer}
 use Rattle.dns_service.specs.Asked.{asked_of, asked_cookie}
+use Rattle.dns_service.specs.Codes.{badcookie, formerr, noerror, refused_code, servfail}
 use Rattle.dns_service.specs.ErrorReply.{error_reply}
 use Rattle.dns_service.specs.Req.{Req}
 use Rattle.dns_layers.specs.declared.cookie_verdict.CookieVerdict.{CookieVerdict}
 use Rattle.dns_layers.specs.declared.cookie_verdict.CookieVerdict.TheVariants.{Absent, Malformed, Bare, Good, Wrong}
 use Rattle.dns_layers.specs.declared.cookie_verdict.CookieAnswer.{CookieAnswer}
 use Rattle.dns_layers.specs.declared.cookie_verdict.CookieAnswer.TheVariants.{Zero, Fresh}
-use Rattle.dns_layers.specs.Mandatory.{hint_by}
-use Rattle.dns_layers.specs.Rewritten.{own_reply}
+use Rattle.dns_layers.specs.Rewritten.{hint_by, own_reply}
 
 -- ---- how a cookie is taken
 
@@ -57,14 +57,14 @@ verdict secret r = verdict_by secret r.client_addr.ip (r.received_secs % 2 ^ 32)
 -- ---- what a server answers by itself
 
 -- REFUSED, by the header alone and truncated, without a cookie from an address that is denied; FORMERR where the cookie can't be
--- read; and a new cookie to a request that has no question, with BADCOOKIE where the cookie was wrong, or where a cookie that isn't
--- good comes from an address that is denied
+-- read; a new cookie to a request that has no question, with BADCOOKIE where its own was wrong; and a new cookie with BADCOOKIE to
+-- a request that has questions, where its own isn't good and its address is denied
 abbrev pub own_answer : CookieVerdict → Bool → Bool → Option CookieAnswer
-own_answer Absent unasked denied = if denied then Some (Zero 5 true) else None
-own_answer Malformed unasked denied = Some (Zero 1 false)
-own_answer (Good c) unasked denied = if unasked then Some (Fresh 0 c) else None
-own_answer (Bare c) unasked denied = if unasked then Some (Fresh 0 c) else (if denied then Some (Fresh 23 c) else None)
-own_answer (Wrong c) unasked denied = if unasked || denied then Some (Fresh 23 c) else None
+own_answer Absent unasked denied = if denied then Some (Zero refused_code true) else None
+own_answer Malformed unasked denied = Some (Zero formerr false)
+own_answer (Good c) unasked denied = if unasked then Some (Fresh noerror c) else None
+own_answer (Bare c) unasked denied = if unasked then Some (Fresh noerror c) else (if denied then Some (Fresh badcookie c) else None)
+own_answer (Wrong c) unasked denied = if unasked || denied then Some (Fresh badcookie c) else None
 
 -- addresses that are the same
 abbrev pub same_address : IpAddr → IpAddr → Bool
@@ -101,7 +101,7 @@ with_cookie b code c = if within_limit (with_opt_record (cookie_draft b code c) 
 
 -- an answer with that record, or SERVFAIL where the questions have no room
 abbrev pub fresh_reply : List ℕ → ℕ → Cookie → Msg
-fresh_reply o code c = if have_room begun_reply o (code % 16) then (with_cookie (answer_to begun_reply o (code % 16)) code c).message else error_reply o 2
+fresh_reply o code c = if have_room begun_reply o (code % 16) then (with_cookie (answer_to begun_reply o (code % 16)) code c).message else error_reply o servfail
 
 -- the message of such an answer: a cookie is made of the client part that was sent, at this time
 abbrev pub own_message : List ℕ → List ℕ → ℕ → IpAddr → CookieAnswer → Msg

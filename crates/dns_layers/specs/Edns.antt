@@ -7,30 +7,29 @@ use Rattle.dns_base.specs.Wire.{wire}
 use Rattle.dns_opt.specs.OptRecords.{opt_record, opt_state, zero_head}
 use Rattle.dns_service.specs.declared.asked.Asked.{Asked}
 use Rattle.dns_service.specs.declared.asked.AskedOpt.{AskedOpt}
-use Rattle.dns_service.specs.declared.asked.AskedOpt.TheVariants.{NoItem, One, Refused}
+use Rattle.dns_service.specs.declared.asked.AskedOpt.TheVariants.{NoItem, One, Faulty}
 use Rattle.dns_service.specs.declared.asked.AskedRecord.{AskedRecord}
 use Rattle.dns_service.specs.declared.message.TransportSpecificContext.{TransportSpecificContext}
 use Rattle.dns_service.specs.declared.message.TransportSpecificContext.TheVariants.{Udp, NonUdp}
 use Rattle.dns_service.specs.Answer.{Answer, mapped}
 use Rattle.dns_service.specs.Asked.{asked_of, client_size, has_item}
+use Rattle.dns_service.specs.Codes.{badvers, formerr, keepalive_option}
 use Rattle.dns_service.specs.ErrorReply.{error_reply}
-use Rattle.dns_service.specs.Req.{Req}
-use Rattle.dns_service.specs.ServiceFn.{hint_at_entry}
+use Rattle.dns_service.specs.Req.{Req, hint_at_entry}
 use Rattle.dns_service.specs.Transport.{hint_of, hinted, is_stream}
 use Rattle.dns_service.specs.WithOption.{with_option}
 use Rattle.dns_layers.specs.declared.edns_post.EdnsPost.{EdnsPost}
-use Rattle.dns_layers.specs.Mandatory.{hint_by}
-use Rattle.dns_layers.specs.Rewritten.{own_reply, rewritten}
+use Rattle.dns_layers.specs.Rewritten.{hint_by, own_reply, rewritten}
 
 -- BADVERS for another version than 0, and FORMERR for a keepalive with a timeout over a stream
 abbrev pub record_refusal : Bool → AskedRecord → Option ℕ
-record_refusal stream h = if nat_lt 0 h.version then Some 16 else (if stream && h.sends_timeout then Some 1 else None)
+record_refusal stream h = if nat_lt 0 h.version then Some badvers else (if stream && h.sends_timeout then Some formerr else None)
 
 -- FORMERR for two or more items, or where the first is no record
 abbrev pub opt_refusal : Bool → AskedOpt → Option ℕ
 opt_refusal stream NoItem = None
 opt_refusal stream (One h) = record_refusal stream h
-opt_refusal stream (Refused first) = Some 1
+opt_refusal stream (Faulty first) = Some formerr
 
 -- the response code with which a request is refused
 abbrev pub edns_refusal : {Meta : Type 0} → Req Meta → Option ℕ
@@ -84,7 +83,7 @@ keepalive_over (NonUdp timeout) opt = if has_item opt then units_of timeout else
 
 abbrev pub with_keepalive : Option ℕ → Msg → Msg
 with_keepalive None m = m
-with_keepalive (Some units) m = with_option m 11 (two units)
+with_keepalive (Some units) m = with_option m keepalive_option (two units)
 
 -- the message with an empty OPT record
 abbrev pub and_empty : Msg → Msg
@@ -100,11 +99,11 @@ with_some_opt false m = m
 
 -- what the rule of a request makes of a reply
 abbrev pub edns_by : EdnsPost → Msg → Msg
-edns_by p m = with_some_opt p.answered (with_keepalive p.keepalive (in_kind p.answered m))
+edns_by p m = with_some_opt p.request_has_opt (with_keepalive p.keepalive (in_kind p.request_has_opt m))
 
 -- the rule for the replies to what is asked
 abbrev pub edns_rule : TransportSpecificContext → Asked → EdnsPost
-edns_rule t a = record { answered = is_some (client_size a.opt); keepalive = keepalive_over t a.opt }
+edns_rule t a = record { request_has_opt = is_some (client_size a.opt); keepalive = keepalive_over t a.opt }
 
 -- a reply to a request, rewritten
 abbrev pub edns_post : {Meta : Type 0} → Req Meta → Msg → Msg

@@ -6,6 +6,7 @@ pub use Rattle.dns_message.specs.Wire
 pub use Rattle.dns_opt.specs.OptRecords
 pub use Rattle.dns_service.specs.Answer
 pub use Rattle.dns_service.specs.Asked
+pub use Rattle.dns_service.specs.Codes
 pub use Rattle.dns_service.specs.Config
 pub use Rattle.dns_service.specs.Copied
 pub use Rattle.dns_service.specs.Cut
@@ -17,6 +18,7 @@ pub use Rattle.dns_service.specs.OptItems
 pub use Rattle.dns_service.specs.Req
 pub use Rattle.dns_service.specs.Transport
 pub use Rattle.dns_stream.specs.Streams
+pub mod Calls
 pub mod Rewritten
 pub mod Mandatory
 pub mod Edns

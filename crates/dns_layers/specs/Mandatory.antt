@@ -7,13 +7,13 @@ use Rattle.dns_service.specs.declared.asked.Asked.{Asked}
 use Rattle.dns_service.specs.declared.message.TransportSpecificContext.{TransportSpecificContext}
 use Rattle.dns_service.specs.Answer.{Answer, mapped}
 use Rattle.dns_service.specs.Asked.{asked_of}
+use Rattle.dns_service.specs.Codes.{formerr, iquery_opcode, notimp, query_opcode}
 use Rattle.dns_service.specs.ErrorReply.{error_reply}
-use Rattle.dns_service.specs.Req.{Req}
+use Rattle.dns_service.specs.Req.{Req, hint_at_entry}
 use Rattle.dns_service.specs.Cut.{sized}
-use Rattle.dns_service.specs.ServiceFn.{hint_at_entry}
 use Rattle.dns_service.specs.Transport.{limit, limit_over}
 use Rattle.dns_layers.specs.declared.mandatory_post.MandatoryPost.{MandatoryPost}
-use Rattle.dns_layers.specs.Rewritten.{own_reply, rewritten}
+use Rattle.dns_layers.specs.Rewritten.{hint_by, own_reply, rewritten}
 
 -- a header as a response to a query of this identifier and RD
 abbrev pub responding : ℕ → Bool → Header → Header
@@ -37,8 +37,8 @@ mand_post n r m = mand_by (mand_rule r.transport n (asked_of r.octets)) m
 -- the response code with which a strict server refuses what is asked: NOTIMP for IQUERY, FORMERR for a QUERY of several questions
 abbrev pub strict_refusal : Asked → Option ℕ
 strict_refusal a =
-    if nat_eq a.opcode 1 then Some 4
-    else if nat_eq a.opcode 0 && nat_lt 1 a.qdcount then Some 1
+    if nat_eq a.opcode iquery_opcode then Some notimp
+    else if nat_eq a.opcode query_opcode && nat_lt 1 a.qdcount then Some formerr
     else None
 
 abbrev pub mandatory_refusal : Bool → Asked → Option ℕ
@@ -51,11 +51,6 @@ mandatory_by answer hint r k None = mapped (rewritten (mand_post (limit (hint r)
 
 abbrev pub mandatory : {Meta : Type 0} → Bool → (Req Meta → ℕ → Answer) → (Req Meta → Option ℕ) → Req Meta → ℕ → Answer
 mandatory strict answer hint r k = mandatory_by answer hint r k (mandatory_refusal strict (asked_of r.octets))
-
--- the hint that a layer leaves which may answer by itself
-abbrev pub hint_by : {A Meta : Type 0} → (Req Meta → Option ℕ) → Req Meta → Option A → Option ℕ
-hint_by hint r (Some own) = hint_at_entry r
-hint_by hint r None = hint r
 
 abbrev pub mandatory_hint : {Meta : Type 0} → Bool → (Req Meta → Option ℕ) → Req Meta → Option ℕ
 mandatory_hint strict hint r = hint_by hint r (mandatory_refusal strict (asked_of r.octets))

@@ -15,6 +15,7 @@ use Rattle.dns_service.specs.declared.service.Polled.{Polled}
 use Rattle.dns_service.specs.declared.service.Polled.TheVariants.{Pending, Ready}
 use Rattle.dns_service.specs.Answer.{Answer}
 use Rattle.dns_service.specs.Asked.{asked_of}
+use Rattle.dns_service.specs.Codes.{notauth, notify_opcode, servfail, soa_type}
 use Rattle.dns_service.specs.Copied.{copied}
 use Rattle.dns_service.specs.ErrorReply.{error_reply}
 use Rattle.dns_service.specs.Req.{Req}
@@ -23,8 +24,7 @@ use Rattle.dns_layers.specs.declared.notifiable.NotifyError.{NotifyError}
 use Rattle.dns_layers.specs.declared.notifiable.NotifyError.TheVariants.{NotAuthForZone, Other}
 use Rattle.dns_layers.specs.declared.ask_stream.AskStream.{AskStream}
 use Rattle.dns_layers.specs.declared.ask_stream.AskStream.TheVariants.{Asking, Answered}
-use Rattle.dns_layers.specs.Mandatory.{hint_by}
-use Rattle.dns_layers.specs.Rewritten.{reply}
+use Rattle.dns_layers.specs.Rewritten.{hint_by, reply}
 
 -- ---- what a target is asked
 
@@ -53,11 +53,11 @@ told_serial o = serial_reached (reached (questions_of o).1 (standing_answers o))
 -- by the first question, where that can be read and is for a zone's start
 abbrev pub notice_by : List ℕ → IpAddr → Option Question → Option Notice
 notice_by o source None = None
-notice_by o source (Some q) = if nat_eq q.qtype 6 then Some (record { class = q.qclass; apex_name = q.qname; serial = told_serial o; source = source }) else None
+notice_by o source (Some q) = if nat_eq q.qtype soa_type then Some (record { class = q.qclass; apex_name = q.qname; serial = told_serial o; source = source }) else None
 
 -- what the target is asked by a request of opcode NOTIFY
 abbrev pub notice_of : {Meta : Type 0} → Req Meta → Option Notice
-notice_of r = if nat_eq (asked_of r.octets).opcode 4 then notice_by r.octets r.client_addr.ip (first_of (questions_of r.octets).0) else None
+notice_of r = if nat_eq (asked_of r.octets).opcode notify_opcode then notice_by r.octets r.client_addr.ip (first_of (questions_of r.octets).0) else None
 
 -- ---- the reply
 
@@ -67,13 +67,13 @@ confirming m = record m { header = record m.header { qr = true; aa = true; rcode
 
 -- the copy of what was sent, confirmed; SERVFAIL where it can't be read whole or is too long
 abbrev pub confirmation : List ℕ → Result Msg ParseError → Msg
-confirmation o (Ok m) = if nat_le (length (wire (confirming m))) 65535 then confirming m else error_reply o 2
-confirmation o (Err e) = error_reply o 2
+confirmation o (Ok m) = if nat_le (length (wire (confirming m))) 65535 then confirming m else error_reply o servfail
+confirmation o (Err e) = error_reply o servfail
 
 abbrev pub notify_reply : List ℕ → Result (Unit {0}) NotifyError → Msg
 notify_reply o (Ok u) = confirmation o (copied o)
-notify_reply o (Err NotAuthForZone) = error_reply o 9
-notify_reply o (Err Other) = error_reply o 2
+notify_reply o (Err NotAuthForZone) = error_reply o notauth
+notify_reply o (Err Other) = error_reply o servfail
 
 -- ---- waiting for a verdict
 

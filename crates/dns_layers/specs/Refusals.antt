@@ -1,5 +1,5 @@
 -- Why a request is refused before it is looked at for cookies and notices, and the client's size that it is passed on by.
-use Rattle.std.specs.Prelude.{ℕ, Option, Some, None, if◌then◌else◌}
+use Rattle.std.specs.Prelude.{ℕ, List, [], ◌∷◌, Option, Some, None, option_map, if◌then◌else◌}
 use Rattle.dns_service.specs.declared.asked.Asked.{Asked}
 use Rattle.dns_service.specs.declared.message.TransportSpecificContext.{TransportSpecificContext}
 use Rattle.dns_events.specs.declared.settings.Settings.{Settings}
@@ -10,17 +10,18 @@ use Rattle.dns_layers.specs.declared.refusal.Refusal.TheVariants.{FromOutside, F
 use Rattle.dns_layers.specs.Edns.{opt_refusal}
 use Rattle.dns_layers.specs.Mandatory.{mandatory_refusal}
 
--- the code of what EDNS refuses, and of what is refused before that
-abbrev pub inner_refusal : Option ℕ → Option Refusal
-inner_refusal None = None
-inner_refusal (Some code) = Some (FromInside code)
+-- the first case that fits
+abbrev pub first_some : {A : Type 0} → List (Option A) → Option A
+first_some [] = None
+first_some (Some x ∷ more) = Some x
+first_some (None ∷ more) = first_some more
 
-abbrev pub outer_refusal : Option ℕ → Option Refusal → Option Refusal
-outer_refusal (Some code) after = Some (FromOutside code)
-outer_refusal None after = after
-
+-- what each server refuses comes before what EDNS refuses
 abbrev pub refusal_by : Settings → TransportSpecificContext → Asked → Option Refusal
-refusal_by s t a = outer_refusal (mandatory_refusal s.strict a) (if s.edns then inner_refusal (opt_refusal (is_stream t) a.opt) else None)
+refusal_by s t a = first_some
+    (option_map FromOutside (mandatory_refusal s.strict a)
+    ∷ option_map FromInside (if s.edns then opt_refusal (is_stream t) a.opt else None)
+    ∷ [])
 
 -- the client's size, where EDNS is on
 abbrev pub size_by : Settings → Asked → Option ℕ

@@ -3,6 +3,7 @@
 ghost use Rattle.std.specs.Prelude.{◌≡◌, ℕ, suc, IfOk};
 ghost use Rattle.std.specs.Arc.{arc_value};
 ghost use Rattle.dns_service.specs.Answer.{IfPending};
+ghost use Rattle.dns_layers.specs.Calls.{AnswersAs};
 ghost use Rattle.dns_layers.specs.Notify.{ask_answer, ask_size, asking, verdict_answer};
 ghost use Rattle.dns_layers.specs.Verdicts.{verdict_on};
 
@@ -17,7 +18,9 @@ use std::sync::Arc;
 /// Pending as a verdict is, then its reply, then the end.
 #[derive(Drop)]
 pub enum AskStream<V> {
+    /// The verdict on this message may still have to come.
     Asking(V, Arc<Message>),
+    /// The reply was given.
     Answered,
 }
 
@@ -72,7 +75,8 @@ pub fn ask_owned<N: Notifiable>(
     request: &Arc<Message>,
     notice: Notice,
 ) -> Result<AskStream<N::Future>, OutOfMemory>
-    ensures { IfOk result (λ s. (k : ℕ) → ⟦<AskStream<N::Future> as ReplyStream>⟧.answer s k ≡ asking (arc_value request.now) (verdict_on (N.verdict target.now) notice) k) }
+    ensures { AnswersAs ⟦<AskStream<N::Future> as ReplyStream>⟧.answer
+        (asking (arc_value request.now) (verdict_on (N.verdict target.now) notice)) result }
 {
     ask(alloc, target, request, &notice)
 }
@@ -84,7 +88,8 @@ fn ask<N: Notifiable>(
     request: &Arc<Message>,
     notice: &Notice,
 ) -> Result<AskStream<N::Future>, OutOfMemory>
-    ensures { IfOk result (λ s. (k : ℕ) → ⟦<AskStream<N::Future> as ReplyStream>⟧.answer s k ≡ asking (arc_value request.now) (verdict_on (N.verdict target.now) notice.now) k) }
+    ensures { AnswersAs ⟦<AskStream<N::Future> as ReplyStream>⟧.answer
+        (asking (arc_value request.now) (verdict_on (N.verdict target.now) notice.now)) result }
 {
     let future = target.notify_zone_changed(
         alloc,

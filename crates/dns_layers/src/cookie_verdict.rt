@@ -42,7 +42,12 @@ pub(crate) fn now_of<Meta>(request: &Request<Meta>) -> Serial
 }
 
 /// How the first cookie of a request is taken.
-fn verdict_by(secret: &[u8; 16], address: IpAddr, now: Serial, cookie: AskedCookie) -> CookieVerdict
+pub(crate) fn verdict_by(
+    secret: &[u8; 16],
+    address: IpAddr,
+    now: Serial,
+    cookie: AskedCookie,
+) -> CookieVerdict
     ensures { result ≡ verdict_by secret.now address now.0 cookie }
 {
     match cookie {

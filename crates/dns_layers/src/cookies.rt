@@ -1,12 +1,13 @@
 //! The cookie layer (RFC 7873).
 
-ghost use Rattle.std.specs.Prelude.{◌≡◌, ℕ, Some, None, true, IfOk, OnErr, OnOk};
+ghost use Rattle.std.specs.Prelude.{◌≡◌, Some, None, true, IfOk, OnErr};
 ghost use Rattle.dns_service.specs.declared.message.Request.{Request};
 ghost use Rattle.dns_service.specs.Given.{message_in};
-ghost use Rattle.dns_service.specs.Transport.{hinted};
-ghost use Rattle.dns_layers.specs.Cookies.{cookie_own, cookies, cookies_hint, secret_where};
+ghost use Rattle.dns_layers.specs.Calls.{AnswersAs, LeavesHint};
+ghost use Rattle.dns_layers.specs.Cookies.{cookie_own, cookies, cookies_hint, secret_where, verdict};
 
 use crate::cookie_replies::cookie_own;
+use crate::cookie_verdict::{CookieVerdict, now_of, verdict_by};
 use crate::layered::{of_inner, of_own};
 use crate::refusal::read_request;
 use dns_base::{AdditionalBuilder, Addrs};
@@ -129,10 +130,25 @@ fn pass<S: Service<Meta>, Meta>(
     request: &mut Request<Meta>,
 ) -> Result<Now<CookieStream<S, Meta>>, OutOfMemory>
     requires { S.can_call next.now }
-    ensures answers { IfOk result (λ f. (k : ℕ) → ⟦<Now<CookieStream<S, Meta>> as ReplyFuture>⟧.answer f k ≡ S.answer next.now request.old k) }
-    ensures kept { OnOk result (request.new ≡ record request.old { transport = hinted (S.hint next.now request.old) request.old.transport; reserved = request.new.reserved }) }
+    ensures answers { AnswersAs ⟦<Now<CookieStream<S, Meta>> as ReplyFuture>⟧.answer
+        (S.answer next.now request.old) result }
+    ensures kept { LeavesHint (S.hint next.now request.old) request.old request.new result }
     ensures refused { OnErr result (request.new ≡ request.old) }
 {
     let future = next.call(alloc, request)?;
     Ok(of_inner::<S, Meta, _, _>(future))
+}
+
+/// How a server with this secret takes the first cookie of a request (RFC 7873, section 5.2), for who answers it otherwise than
+/// the layer does.
+pub fn cookie_verdict_of<Meta>(secret: &[u8; 16], request: &Request<Meta>) -> CookieVerdict
+    ensures { result ≡ verdict secret.now request.now }
+{
+    let asked = read_request(request);
+    verdict_by(
+        secret,
+        request.client_addr().ip,
+        now_of(request),
+        asked.opt.cookie(),
+    )
 }

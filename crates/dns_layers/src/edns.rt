@@ -1,12 +1,13 @@
 //! The EDNS layer (RFC 6891): what it refuses, and what it tells the service inside of a response's size.
 
-ghost use Rattle.std.specs.Prelude.{◌≡◌, ℕ, IfOk, OnErr, OnOk, None, true};
+ghost use Rattle.std.specs.Prelude.{◌≡◌, OnErr, None, true};
 ghost use Rattle.dns_service.specs.declared.message.Request.{Request};
-ghost use Rattle.dns_service.specs.Answer.{mapped};
 ghost use Rattle.dns_service.specs.Asked.{asked_of};
 ghost use Rattle.dns_service.specs.ErrorReply.{error_reply};
-ghost use Rattle.dns_service.specs.ServiceFn.{hint_at_entry};
-ghost use Rattle.dns_service.specs.Transport.{hint_of, hinted};
+ghost use Rattle.dns_service.specs.Req.{hint_at_entry};
+ghost use Rattle.dns_service.specs.Transport.{hint_of};
+ghost use Rattle.dns_stream.specs.Streams.{each_mapped};
+ghost use Rattle.dns_layers.specs.Calls.{AnswersAs, LeavesHint};
 ghost use Rattle.dns_layers.specs.Edns.{edns, edns_by, edns_hint, edns_passed, edns_post, opt_refusal, passed_by, record_refusal, transport_by};
 ghost use Rattle.dns_layers.specs.Rewritten.{own_reply, rewritten};
 
@@ -82,8 +83,9 @@ fn spoken<S: Service<Meta>, Meta>(
     request: &mut Request<Meta>,
 ) -> Result<Now<Layered<S, Meta, EdnsPost>>, OutOfMemory>
     requires { S.can_call next.now }
-    ensures answers { IfOk result (λ f. (k : ℕ) → ⟦<Now<Layered<S, Meta, EdnsPost>> as ReplyFuture>⟧.answer f k ≡ edns true (S.answer next.now) request.old k) }
-    ensures kept { OnOk result (request.new ≡ record request.old { transport = hinted (edns_hint true request.old) request.old.transport; reserved = request.new.reserved }) }
+    ensures answers { AnswersAs ⟦<Now<Layered<S, Meta, EdnsPost>> as ReplyFuture>⟧.answer
+        (edns true (S.answer next.now) request.old) result }
+    ensures kept { LeavesHint (edns_hint true request.old) request.old request.new result }
     ensures refused { OnErr result (request.new ≡ request.old) }
 {
     let asked = read_request(request);
@@ -101,7 +103,8 @@ fn refused<S: Service<Meta>, Meta>(
     rcode: OptRcode,
 ) -> Result<Now<Layered<S, Meta, EdnsPost>>, OutOfMemory>
     requires { asked.now ≡ asked_of request.now.octets }
-    ensures { let r = request.now in IfOk result (λ f. (k : ℕ) → ⟦<Now<Layered<S, Meta, EdnsPost>> as ReplyFuture>⟧.answer f k ≡ own_reply (edns_post r (error_reply r.octets rcode)) k) }
+    ensures { let r = request.now in AnswersAs ⟦<Now<Layered<S, Meta, EdnsPost>> as ReplyFuture>⟧.answer
+        (own_reply (edns_post r (error_reply r.octets rcode))) result }
 {
     let rule = EdnsPost::new(asked, request.transport_ctx());
     let reply = refuse(&rule, alloc, request.message(), rcode)?;
@@ -115,8 +118,9 @@ fn pass_whole<S: Service<Meta>, Meta>(
     request: &mut Request<Meta>,
 ) -> Result<Now<Layered<S, Meta, EdnsPost>>, OutOfMemory>
     requires { S.can_call next.now }
-    ensures answers { IfOk result (λ f. (k : ℕ) → ⟦<Now<Layered<S, Meta, EdnsPost>> as ReplyFuture>⟧.answer f k ≡ S.answer next.now request.old k) }
-    ensures kept { OnOk result (request.new ≡ record request.old { transport = hinted (hint_of request.old.transport) request.old.transport; reserved = request.new.reserved }) }
+    ensures answers { AnswersAs ⟦<Now<Layered<S, Meta, EdnsPost>> as ReplyFuture>⟧.answer
+        (S.answer next.now request.old) result }
+    ensures kept { LeavesHint (hint_of request.old.transport) request.old request.new result }
     ensures refused { OnErr result (request.new ≡ request.old) }
 {
     let future = call_passed(alloc, next, None, request)?;
@@ -132,8 +136,9 @@ fn pass<S: Service<Meta>, Meta>(
 ) -> Result<Now<Layered<S, Meta, EdnsPost>>, OutOfMemory>
     requires can_call { S.can_call next.now }
     requires asked { asked.now ≡ asked_of request.old.octets }
-    ensures answers { let r = request.old in IfOk result (λ f. (k : ℕ) → ⟦<Now<Layered<S, Meta, EdnsPost>> as ReplyFuture>⟧.answer f k ≡ mapped (rewritten (edns_post r)) (S.answer next.now (edns_passed r) k)) }
-    ensures kept { OnOk result (request.new ≡ record request.old { transport = hinted (hint_at_entry (edns_passed request.old)) request.old.transport; reserved = request.new.reserved }) }
+    ensures answers { let r = request.old in AnswersAs ⟦<Now<Layered<S, Meta, EdnsPost>> as ReplyFuture>⟧.answer
+        (each_mapped (rewritten (edns_post r)) (S.answer next.now (edns_passed r))) result }
+    ensures kept { LeavesHint (hint_at_entry (edns_passed request.old)) request.old request.new result }
     ensures refused { OnErr result (request.new ≡ request.old) }
 {
     let rule = EdnsPost::new(asked, request.transport_ctx());
@@ -158,8 +163,9 @@ fn call_mapped<S: Service<Meta>, Meta>(
     request: &mut Request<Meta>,
 ) -> Result<Now<Layered<S, Meta, EdnsPost>>, OutOfMemory>
     requires { S.can_call next.now }
-    ensures answers { IfOk result (λ f. (k : ℕ) → ⟦<Now<Layered<S, Meta, EdnsPost>> as ReplyFuture>⟧.answer f k ≡ mapped (rewritten (edns_by rule)) (S.answer next.now (passed_by size request.old) k)) }
-    ensures kept { OnOk result (request.new ≡ record request.old { transport = hinted (hint_of (transport_by size request.old.transport)) request.old.transport; reserved = request.new.reserved }) }
+    ensures answers { AnswersAs ⟦<Now<Layered<S, Meta, EdnsPost>> as ReplyFuture>⟧.answer
+        (each_mapped (rewritten (edns_by rule)) (S.answer next.now (passed_by size request.old))) result }
+    ensures kept { LeavesHint (hint_of (transport_by size request.old.transport)) request.old request.new result }
     ensures refused { OnErr result (request.new ≡ request.old) }
 {
     let future = call_passed(alloc, next, size, request)?;
@@ -173,7 +179,7 @@ pub(crate) fn opt_refusal(stream: bool, opt: &AskedOpt) -> Option<OptRcode>
     match opt {
         AskedOpt::NoItem => None,
         AskedOpt::One(record) => record_refusal(stream, record),
-        AskedOpt::Refused(_) => Some(OptRcode::FORMERR),
+        AskedOpt::Faulty(_) => Some(OptRcode::FORMERR),
     }
 }
 

@@ -17,7 +17,7 @@ use std::alloc::Global;
 #[derive(Clone, Copy, Debug)]
 pub struct EdnsPost {
     /// Whether the request has an OPT record, which each reply answers with one.
-    pub answered: bool,
+    pub request_has_opt: bool,
     /// The keepalive that each reply gets.
     pub keepalive: Option<IdleTimeout>,
 }
@@ -28,7 +28,7 @@ impl EdnsPost {
         ensures { result ≡ edns_rule transport.now asked.now }
     {
         EdnsPost {
-            answered: asked.opt.client_size().is_some(),
+            request_has_opt: asked.opt.client_size().is_some(),
             keepalive: keepalive_over(transport, &asked.opt),
         }
     }
@@ -40,9 +40,9 @@ impl Rewrite for EdnsPost {
     /// The limit of the reply is cleared.
     fn rewrite(&self, alloc: Global, reply: &mut AdditionalBuilder) -> Result<(), OutOfMemory> {
         reply.clear_push_limit();
-        in_kind(alloc, self.answered, reply)?;
+        in_kind(alloc, self.request_has_opt, reply)?;
         with_keepalive(alloc, self.keepalive, reply)?;
-        with_some_opt(alloc, self.answered, reply)
+        with_some_opt(alloc, self.request_has_opt, reply)
     }
 }
 
@@ -116,13 +116,13 @@ fn put_keepalive(
 /// Adds an empty OPT record in reply to a request that has one, where the reply has none and it has room.
 fn with_some_opt(
     alloc: Global,
-    answered: bool,
+    request_has_opt: bool,
     reply: &mut AdditionalBuilder,
 ) -> Result<(), OutOfMemory>
     requires { reply.old.limit ≡ 65535 }
-    ensures { OnOk result (reply.new ≡ record reply.old { message = with_some_opt answered reply.old.message }) }
+    ensures { OnOk result (reply.new ≡ record reply.old { message = with_some_opt request_has_opt reply.old.message }) }
 {
-    if !answered {
+    if !request_has_opt {
         return Ok(());
     }
     and_some_opt(alloc, reply)

@@ -21,7 +21,7 @@ pub type Layered<S, Meta, R> = MiddlewareStream<
 >;
 
 /// A layer's replies that are its own, at once.
-pub(crate) fn of_own<S: Service<Meta>, Meta, M: ReplyStream>(
+pub fn of_own<S: Service<Meta>, Meta, M: ReplyStream>(
     reply: AdditionalBuilder,
 ) -> Now<MiddlewareStream<S::Future, S::Stream, M, Once>>
     ensures { (k : ℕ) → ⟦<Now<MiddlewareStream<S::Future, S::Stream, M, Once>> as ReplyFuture>⟧.answer result k ≡ own_reply reply.message k }
@@ -30,7 +30,7 @@ pub(crate) fn of_own<S: Service<Meta>, Meta, M: ReplyStream>(
 }
 
 /// A layer's replies that are those of the service inside as they are, at once.
-pub(crate) fn of_inner<S: Service<Meta>, Meta, M: ReplyStream, O: ReplyStream>(
+pub fn of_inner<S: Service<Meta>, Meta, M: ReplyStream, O: ReplyStream>(
     future: S::Future,
 ) -> Now<MiddlewareStream<S::Future, S::Stream, M, O>>
     ensures { (k : ℕ) → ⟦<Now<MiddlewareStream<S::Future, S::Stream, M, O>> as ReplyFuture>⟧.answer result k ≡ S.Future.answer future k }
@@ -39,7 +39,7 @@ pub(crate) fn of_inner<S: Service<Meta>, Meta, M: ReplyStream, O: ReplyStream>(
 }
 
 /// A layer's replies that are those of the service inside, rewritten by a rule for the request as it came, at once.
-pub(crate) fn of_mapped<S: Service<Meta>, Meta, R: Rewrite>(
+pub fn of_mapped<S: Service<Meta>, Meta, R: Rewrite>(
     future: S::Future,
     original: Request<()>,
     rule: R,

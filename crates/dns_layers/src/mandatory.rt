@@ -1,12 +1,13 @@
 //! The mandatory layer: refusals of a strict server, and replies that fit and answer their request.
 
-ghost use Rattle.std.specs.Prelude.{◌≡◌, ℕ, IfOk, OnErr, OnOk, false, true};
+ghost use Rattle.std.specs.Prelude.{◌≡◌, OnErr, false, true};
 ghost use Rattle.dns_service.specs.declared.message.Request.{Request};
-ghost use Rattle.dns_service.specs.Answer.{mapped};
 ghost use Rattle.dns_service.specs.Asked.{asked_of};
 ghost use Rattle.dns_service.specs.ErrorReply.{error_reply};
-ghost use Rattle.dns_service.specs.ServiceFn.{hint_at_entry};
-ghost use Rattle.dns_service.specs.Transport.{hint_of, hinted, limit};
+ghost use Rattle.dns_service.specs.Req.{hint_at_entry};
+ghost use Rattle.dns_service.specs.Transport.{hint_of, limit};
+ghost use Rattle.dns_stream.specs.Streams.{each_mapped};
+ghost use Rattle.dns_layers.specs.Calls.{AnswersAs, LeavesHint};
 ghost use Rattle.dns_layers.specs.Rewritten.{own_reply, rewritten};
 ghost use Rattle.dns_layers.specs.Mandatory.{mand_post, mand_rule, mandatory, mandatory_hint, mandatory_refusal, strict_refusal};
 
@@ -80,7 +81,8 @@ fn refused<S: Service<Meta>, Meta>(
     rcode: OptRcode,
 ) -> Result<Now<Layered<S, Meta, MandatoryPost>>, OutOfMemory>
     requires { asked.now ≡ asked_of request.now.octets }
-    ensures { let r = request.now in IfOk result (λ f. (k : ℕ) → ⟦<Now<Layered<S, Meta, MandatoryPost>> as ReplyFuture>⟧.answer f k ≡ own_reply (mand_post (limit (hint_at_entry r)) r (error_reply r.octets rcode)) k) }
+    ensures { let r = request.now in AnswersAs ⟦<Now<Layered<S, Meta, MandatoryPost>> as ReplyFuture>⟧.answer
+        (own_reply (mand_post (limit (hint_at_entry r)) r (error_reply r.octets rcode))) result }
 {
     let reply = refuse(&rule_now(asked, request), alloc, request.message(), rcode)?;
     Ok(of_own::<S, Meta, _>(reply))
@@ -95,8 +97,9 @@ fn pass<S: Service<Meta>, Meta>(
 ) -> Result<Now<Layered<S, Meta, MandatoryPost>>, OutOfMemory>
     requires can_call { S.can_call next.now }
     requires asked { asked.now ≡ asked_of request.old.octets }
-    ensures answers { let r = request.old in IfOk result (λ f. (k : ℕ) → ⟦<Now<Layered<S, Meta, MandatoryPost>> as ReplyFuture>⟧.answer f k ≡ mapped (rewritten (mand_post (limit (S.hint next.now r)) r)) (S.answer next.now r k)) }
-    ensures kept { OnOk result (request.new ≡ record request.old { transport = hinted (S.hint next.now request.old) request.old.transport; reserved = request.new.reserved }) }
+    ensures answers { let r = request.old in AnswersAs ⟦<Now<Layered<S, Meta, MandatoryPost>> as ReplyFuture>⟧.answer
+        (each_mapped (rewritten (mand_post (limit (S.hint next.now r)) r)) (S.answer next.now r)) result }
+    ensures kept { LeavesHint (S.hint next.now request.old) request.old request.new result }
     ensures refused { OnErr result (request.new ≡ request.old) }
 {
     let Ok(original) = request.try_clone(alloc, ()) else {

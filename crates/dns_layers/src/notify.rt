@@ -1,8 +1,8 @@
 //! The NOTIFY layer (RFC 1996).
 
-ghost use Rattle.std.specs.Prelude.{◌≡◌, ℕ, IfOk, OnErr, OnOk};
+ghost use Rattle.std.specs.Prelude.{◌≡◌, IfOk, OnErr};
 ghost use Rattle.dns_service.specs.declared.message.Request.{Request};
-ghost use Rattle.dns_service.specs.Transport.{hinted};
+ghost use Rattle.dns_layers.specs.Calls.{AnswersAs, LeavesHint};
 ghost use Rattle.dns_layers.specs.Notify.{asking, notice_of, notify, notify_hint};
 ghost use Rattle.dns_layers.specs.Verdicts.{verdict_on};
 
@@ -74,8 +74,9 @@ fn pass<S: Service<Meta>, N: Notifiable, Meta>(
     request: &mut Request<Meta>,
 ) -> Result<Now<NotifyStream<S, N, Meta>>, OutOfMemory>
     requires { S.can_call next.now }
-    ensures answers { IfOk result (λ f. (k : ℕ) → ⟦<Now<NotifyStream<S, N, Meta>> as ReplyFuture>⟧.answer f k ≡ S.answer next.now request.old k) }
-    ensures kept { OnOk result (request.new ≡ record request.old { transport = hinted (S.hint next.now request.old) request.old.transport; reserved = request.new.reserved }) }
+    ensures answers { AnswersAs ⟦<Now<NotifyStream<S, N, Meta>> as ReplyFuture>⟧.answer
+        (S.answer next.now request.old) result }
+    ensures kept { LeavesHint (S.hint next.now request.old) request.old request.new result }
     ensures refused { OnErr result (request.new ≡ request.old) }
 {
     let future = next.call(alloc, request)?;
@@ -97,7 +98,8 @@ fn of_asked<S: Service<Meta>, N: Notifiable, Meta>(
     request: &Request<Meta>,
     notice: Notice,
 ) -> Result<Now<NotifyStream<S, N, Meta>>, OutOfMemory>
-    ensures { IfOk result (λ f. (k : ℕ) → ⟦<Now<NotifyStream<S, N, Meta>> as ReplyFuture>⟧.answer f k ≡ asking request.now.octets (verdict_on (N.verdict target.now) notice) k) }
+    ensures { AnswersAs ⟦<Now<NotifyStream<S, N, Meta>> as ReplyFuture>⟧.answer
+        (asking request.now.octets (verdict_on (N.verdict target.now) notice)) result }
 {
     let stream = ask_owned(alloc, target, request.message(), notice)?;
     Ok(Now::new(MiddlewareStream::Result(stream)))

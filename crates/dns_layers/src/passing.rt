@@ -1,8 +1,9 @@
 //! A request as it is passed on, with the client's size and room for an OPT record (RFC 6891, section 6.2.5).
 
-ghost use Rattle.std.specs.Prelude.{◌≡◌, ℕ, IfOk, OnErr, OnOk, Some};
+ghost use Rattle.std.specs.Prelude.{◌≡◌, OnErr, Some};
 ghost use Rattle.dns_service.specs.declared.message.Request.{Request};
 ghost use Rattle.dns_service.specs.Transport.{hint_of, hinted};
+ghost use Rattle.dns_layers.specs.Calls.{AnswersAs, LeavesHint};
 ghost use Rattle.dns_layers.specs.Edns.{negotiated, passed_by, reserved_over, transport_by};
 
 use dns_service::{Request, Service, TransportSpecificContext};
@@ -18,8 +19,8 @@ pub fn call_passed<S: Service<Meta>, Meta>(
     request: &mut Request<Meta>,
 ) -> Result<S::Future, OutOfMemory>
     requires { S.can_call next.now }
-    ensures answers { IfOk result (λ f. (k : ℕ) → S.Future.answer f k ≡ S.answer next.now (passed_by size request.old) k) }
-    ensures kept { OnOk result (request.new ≡ record request.old { transport = hinted (hint_of (transport_by size request.old.transport)) request.old.transport; reserved = request.new.reserved }) }
+    ensures answers { AnswersAs S.Future.answer (S.answer next.now (passed_by size request.old)) result }
+    ensures kept { LeavesHint (hint_of (transport_by size request.old.transport)) request.old request.new result }
     ensures refused { OnErr result (request.new ≡ request.old) }
 {
     let hint = request.transport_ctx().hint();
@@ -50,8 +51,8 @@ fn call_inside<S: Service<Meta>, Meta>(
     request: &mut Request<Meta>,
 ) -> Result<S::Future, OutOfMemory>
     requires { S.can_call next.now }
-    ensures answers { IfOk result (λ f. (k : ℕ) → S.Future.answer f k ≡ S.answer next.now request.old k) }
-    ensures kept { OnOk result (request.new ≡ record request.old { transport = hinted (hint_of request.old.transport) request.old.transport; reserved = request.new.reserved }) }
+    ensures answers { AnswersAs S.Future.answer (S.answer next.now request.old) result }
+    ensures kept { LeavesHint (hint_of request.old.transport) request.old request.new result }
     ensures refused { OnErr result (request.new ≡ request.old) }
 {
     let hint = request.transport_ctx().hint();

@@ -12,7 +12,9 @@ use dns_service::{Asked, Request, Settings, TransportSpecificContext, read_asked
 /// Why a request is refused: by what each server does, or by EDNS, whose rule its reply then goes through.
 #[derive(Clone, Copy, Debug, PartialEq, Eq)]
 pub enum Refusal {
+    /// By what each server does: its reply goes through that rule alone.
     FromOutside(OptRcode),
+    /// By EDNS: its reply goes through the rule of EDNS too.
     FromInside(OptRcode),
 }
 

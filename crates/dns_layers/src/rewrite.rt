@@ -2,7 +2,8 @@
 
 ghost use Rattle.std.specs.Prelude.{◌≡◌, OnOk};
 ghost use Rattle.dns_base.specs.Msg.{Msg};
-ghost use Rattle.dns_service.specs.Answer.{mapped};
+ghost use Rattle.dns_service.specs.declared.message.Request.{Request};
+ghost use Rattle.dns_service.specs.Answer.{Item, mapped};
 ghost use Rattle.dns_layers.specs.Rewritten.{rewritten};
 
 use dns_base::AdditionalBuilder;
@@ -15,7 +16,8 @@ pub trait Rewrite: Drop {
     /// The rewritten reply.
     ghost rewriting: { Self → Msg → Msg };
 
-    /// Rewrites a reply in place. After want of memory the reply isn't to be used.
+    /// Rewrites a reply in place. After want of memory the reply isn't to be used. Its push limit may be any, and may be
+    /// left as any: a rule that pushes clears it first (`clear_push_limit`), since a push that would pass it is refused.
     fn rewrite(&self, alloc: Global, reply: &mut AdditionalBuilder) -> Result<(), OutOfMemory>
         ensures { OnOk result (reply.new.message ≡ rewriting self.now reply.old.message) };
 }
@@ -24,6 +26,15 @@ pub trait Rewrite: Drop {
 #[derive(Drop)]
 pub struct Rewriting<R> {
     pub(crate) rule: R,
+}
+
+impl<R: Rewrite> Rewriting<R> {
+    /// By a rule.
+    pub fn new(rule: R) -> Self
+        ensures { (r : Request (Unit {0})) (i : Item) → ⟦<Rewriting<R> as Postprocess<()>>⟧.post result r i ≡ rewritten (R.rewriting rule) i }
+    {
+        Rewriting { rule }
+    }
 }
 
 impl<R: Rewrite> Postprocess<()> for Rewriting<R> {

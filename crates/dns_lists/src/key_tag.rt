@@ -1,12 +1,12 @@
 //! Key tags, owned or borrowed.
 
-ghost use Rattle.std.specs.Prelude.{◌≡◌, ◌≤◌, ◌<◌, ◌%◌, ◌++◌, ℕ, List, length, true, Some, Ok, Err, IfOk, OnOk, MatchResult};
+ghost use Rattle.std.specs.Prelude.{◌≡◌, ◌≤◌, ◌<◌, ◌%◌, ◌++◌, ℕ, List, length, Some, Ok, Err, IfOk, OnOk, MatchResult};
 ghost use Rattle.std.specs.Fmt.{WritesOnOk};
 ghost use Rattle.std.specs.Iterator.{YieldsFirst, item_count};
 ghost use Rattle.dns_name.specs.OptData.{ParsesData, for_code};
 ghost use Rattle.dns_name.specs.Place.{rest};
 ghost use Rattle.dns_lists.specs.Again.{tags_again};
-ghost use Rattle.dns_lists.specs.Tags.{AreTags, are_tags, tag_data, tag_octets, tags};
+ghost use Rattle.dns_lists.specs.Tags.{AreTags, tag_data, tag_octets, tags};
 ghost use Rattle.dns_lists.specs.Texts.{more_numbers_text, numbers_text};
 
 use dns_name::{
@@ -229,7 +229,7 @@ impl<S: HoldsOctets> ComposeOptData for HeldKeyTag<S> {
     /// The number of octets, two for each tag.
     fn compose_len(&self) -> u16
         ensures value { result ≡ length self.now }
-        ensures readable { are_tags self.now ≡ true }
+        ensures readable { AreTags self.now }
     {
         self.octets.as_slice().len() as u16
     }
@@ -241,7 +241,7 @@ impl<S: HoldsOctets> ComposeOptData for HeldKeyTag<S> {
 }
 
 impl<'a> ReadBack<'a> for HeldKeyTag<&'a [u8]> {
-    ghost is_readable = { are_tags };
+    ghost is_readable = { AreTags };
 
     ghost comes_back = { tags_again };
 }

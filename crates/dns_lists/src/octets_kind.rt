@@ -1,6 +1,6 @@
 //! Any octets, owned or borrowed: NSID and PADDING.
 
-ghost use Rattle.std.specs.Prelude.{◌≡◌, ◌≤◌, ◌<◌, ◌++◌, [], ℕ, List, length, nat_le, true, Some, Ok, IfOk, OnOk, MatchResult};
+ghost use Rattle.std.specs.Prelude.{◌≡◌, ◌≤◌, ◌<◌, ◌++◌, [], ℕ, List, length, Some, Ok, IfOk, OnOk, MatchResult};
 ghost use Rattle.dns_name.specs.OptData.{ParsesData, for_code, list_data};
 ghost use Rattle.dns_name.specs.Place.{rest};
 ghost use Rattle.dns_name.proofs.Readings.{list_again};
@@ -45,7 +45,7 @@ impl OctetsKind for PaddingKind {
     ghost number = { 12 };
 
     fn code() -> OptionCode {
-        OptionCode::PADDING
+        Padding::CODE
     }
 }
 
@@ -223,7 +223,7 @@ impl<S: HoldsOctets, K: OctetsKind> ComposeOptData for HeldPlain<S, K> {
     /// The number of octets, of which every value has at most 65,535.
     fn compose_len(&self) -> u16
         ensures value { result ≡ length self.now }
-        ensures readable { nat_le (length self.now) 65535 ≡ true }
+        ensures readable { length self.now ≤ 65535 }
     {
         self.octets.as_slice().len() as u16
     }
@@ -235,7 +235,7 @@ impl<S: HoldsOctets, K: OctetsKind> ComposeOptData for HeldPlain<S, K> {
 }
 
 impl<'a, K: OctetsKind> ReadBack<'a> for HeldPlain<&'a [u8], K> {
-    ghost is_readable = { λ k. nat_le (length k) 65535 };
+    ghost is_readable = { λ k. length k ≤ 65535 };
 
     ghost comes_back = { list_again K.number };
 }

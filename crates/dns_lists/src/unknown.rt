@@ -1,6 +1,6 @@
 //! Options of any code, owned or borrowed.
 
-ghost use Rattle.std.specs.Prelude.{◌≡◌, ◌≤◌, ◌<◌, ◌++◌, ℕ, List, length, nat_le, true, Some, Ok, IfOk, OnOk, MatchResult};
+ghost use Rattle.std.specs.Prelude.{◌≡◌, ◌≤◌, ◌<◌, ◌++◌, ℕ, List, length, Some, Ok, IfOk, OnOk, MatchResult};
 ghost use Rattle.dns_lists.specs.Again.{unknown_again};
 ghost use Rattle.dns_lists.specs.Texts.{plain_text};
 ghost use Rattle.dns_lists.specs.Unknowns.{unknown, unknown_taken};
@@ -151,7 +151,7 @@ impl<'a> ParseOptData<'a> for HeldUnknown<&'a [u8]> {
 }
 
 impl<'a> ReadBack<'a> for HeldUnknown<&'a [u8]> {
-    ghost is_readable = { λ k. nat_le (length k.octets) 65535 };
+    ghost is_readable = { λ k. length k.octets ≤ 65535 };
 
     ghost comes_back = { unknown_again };
 }
@@ -162,7 +162,7 @@ impl<S: HoldsOctets> ComposeOptData for HeldUnknown<S> {
     /// The number of octets, of which every value has at most 65,535.
     fn compose_len(&self) -> u16
         ensures value { result ≡ length self.now.octets }
-        ensures readable { nat_le (length self.now.octets) 65535 ≡ true }
+        ensures readable { length self.now.octets ≤ 65535 }
     {
         self.octets.as_slice().len() as u16
     }

@@ -2,27 +2,36 @@
 use Rattle.std.proofs.Common.{◌≡◌, ℕ, zero, suc, ◌-◌, ◌<◌, List, [], ◌∷◌, Some, None, Result, Ok, Err, refl, ap, sym, arith, ◌∙◌}
 use Rattle.dns_name.specs.declared.error.ParseError.{ParseError}
 use Rattle.dns_name.specs.Place.{Read}
-use Rattle.dns_message.specs.Sections.{Items, by_item, items_from, all_of, by_next, to_come, first_of, end_next, ends_at, items_behind, field, questions_of, answers_of, authority_of, additional_of, standing_answers, standing_authority, standing_additional, SameRecords}
+use Rattle.dns_message.specs.Sections.{Items, by_item, items_from, all_of, to_come, first_of, ends_at, items_behind, field, questions_of, answers_of, authority_of, additional_of, standing_answers, standing_authority, standing_additional, SameRecords}
 use Rattle.dns_message.specs.Msg.{ResourceRecord}
 use Rattle.dns_message.specs.Read.{◌>>=◌}
 use Rattle.dns_message.specs.Standing.{Standing, standing_at, record_at}
 
+-- what an iterator gives from one item on
+abbrev pub by_next : {A : Type 0} → (ℕ → List (Result A ParseError)) → Read A → List (Result A ParseError)
+by_next go (Ok (x, end)) = Ok x ∷ go end
+by_next go (Err e) = Err e ∷ []
+
+-- where items end, from one item on
+abbrev pub end_next : {A : Type 0} → (ℕ → Result ℕ ParseError) → Read A → Result ℕ ParseError
+end_next go (Ok (x, end)) = go end
+end_next go (Err e) = Err e
+
+pub given_first : {A : Type 0} (x : A) (i : Items A) → all_of (x ∷ i.0, i.1) ≡ Ok x ∷ all_of i
+given_first x (xs, Ok end) = refl
+given_first x (xs, Err e) = refl
+
+came : {A : Type 0} (one : ℕ → Read A) (k : ℕ) (r : Read A) → all_of (by_item (items_from one k) r) ≡ by_next (to_come one k) r
+came one k (Ok x) = given_first x.0 (items_from one k x.1)
+came one k (Err e) = refl
+
 pub coming : {A : Type 0} (one : ℕ → Read A) (k at : ℕ) → 0 < k → to_come one k at ≡ by_next (to_come one (k - 1)) (one at)
 coming one zero at h = absurd (omega arith)
-coming one (suc k) at h = let e : suc k - 1 ≡ k = omega arith in ap (λ (n : ℕ). by_next (to_come one n) (one at)) (sym e)
-
-more : {A : Type 0} (x : A) (i : Items A) → all_of (x ∷ i.0, i.1) ≡ Ok x ∷ all_of i
-more x (xs, Ok end) = refl
-more x (xs, Err e) = refl
-
-came : {A : Type 0} (one : ℕ → Read A) (k : ℕ) (r : Read A) → ((at : ℕ) → to_come one k at ≡ all_of (items_from one k at)) → by_next (to_come one k) r ≡ all_of (by_item (items_from one k) r)
-came one k (Ok x) h = ap (λ l. Ok x.0 ∷ l) (h x.1) ∙ sym (more x.0 (items_from one k x.1))
-came one k (Err e) h = refl
+coming one (suc k) at h = let e : suc k - 1 ≡ k = omega arith in came one k (one at) ∙ ap (λ (n : ℕ). by_next (to_come one n) (one at)) (sym e)
 
 -- an iterator gives the section's items and then its refusal
 pub all_come : {A : Type 0} (one : ℕ → Read A) (k at : ℕ) → to_come one k at ≡ all_of (items_from one k at)
-all_come one zero at = refl
-all_come one (suc k) at = came one k (one at) (all_come one k)
+all_come one k at = refl
 
 -- the first item, by what an iterator gives
 pub first_here : {A : Type 0} (i : Items A) (x : A) (more : List (Result A ParseError)) → all_of i ≡ Ok x ∷ more → first_of i.0 ≡ Some x
@@ -44,17 +53,16 @@ first_none (y ∷ ys, Ok end) h = absurd (cc)
 first_none (y ∷ ys, Err e) h = absurd (cc)
 
 -- where a section ends, by its steps
+ended : {A : Type 0} (one : ℕ → Read A) (k : ℕ) (r : Read A) → (by_item (items_from one k) r).1 ≡ end_next (ends_at one k) r
+ended one k (Ok x) = refl
+ended one k (Err e) = refl
+
 pub ending : {A : Type 0} (one : ℕ → Read A) (k at : ℕ) → 0 < k → ends_at one k at ≡ end_next (ends_at one (k - 1)) (one at)
 ending one zero at h = absurd (omega arith)
-ending one (suc k) at h = let e : suc k - 1 ≡ k = omega arith in ap (λ (n : ℕ). end_next (ends_at one n) (one at)) (sym e)
-
-ended : {A : Type 0} (one : ℕ → Read A) (k : ℕ) (r : Read A) → ((at : ℕ) → ends_at one k at ≡ (items_from one k at).1) → end_next (ends_at one k) r ≡ (by_item (items_from one k) r).1
-ended one k (Ok x) h = h x.1
-ended one k (Err e) h = refl
+ending one (suc k) at h = let e : suc k - 1 ≡ k = omega arith in ended one k (one at) ∙ ap (λ (n : ℕ). end_next (ends_at one n) (one at)) (sym e)
 
 pub all_ended : {A : Type 0} (one : ℕ → Read A) (k at : ℕ) → ends_at one k at ≡ (items_from one k at).1
-all_ended one zero at = refl
-all_ended one (suc k) at = ended one k (one at) (all_ended one k)
+all_ended one k at = refl
 
 -- ---- the records of standing items
 

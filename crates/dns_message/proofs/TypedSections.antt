@@ -1,5 +1,5 @@
 -- The sections of a message that is written, record for record.
-use Rattle.std.proofs.Common.{◌≡◌, ℕ, ◌+◌, ◌≤◌, List, [], ◌∷◌, ◌++◌, length, drop, Result, Ok, refl, ap, subst, ◌∙◌, arith, length-append, length-drop, append_assoc}
+use Rattle.std.proofs.Common.{◌≡◌, ℕ, ◌+◌, ◌≤◌, List, [], ◌∷◌, ◌++◌, length, drop, Result, Ok, refl, sym, ap, subst, ◌∙◌, arith, length-append, length-drop, append_assoc}
 use Rattle.std.specs.List.{flat_map, AllByRecursion, AllZip}
 use Rattle.dns_name.specs.declared.error.ParseError.{ParseError}
 use Rattle.dns_name.specs.Labels.{spell, IsName}
@@ -11,7 +11,7 @@ use Rattle.dns_message.specs.Fixed.{fixed_octets, fixed_of}
 use Rattle.dns_message.specs.Standing.{Standing, standing_at, typed, typed_by}
 use Rattle.dns_message.specs.Sections.{all_of, items_from, to_come, reached, questions_of, answers_of, authority_of, standing_answers, standing_authority, standing_additional}
 use Rattle.dns_message.specs.TypedData.{IsTyped, StandsFor, IsReadAs, ReadsBack}
-use Rattle.dns_message.proofs.Coming.{all_come}
+use Rattle.dns_message.proofs.Coming.{all_come, given_first}
 use Rattle.dns_message.proofs.Written.{past, halves, data_place, standing_by, rdata_written, standing_written, questions_written, answers_written, authority_written, answers_place, authority_place, additional_place, behind_answers, behind_authority, answers_here, authority_here, additional_here}
 use Rattle.dns_message.proofs.TypedWritten.{data_written}
 
@@ -35,7 +35,10 @@ all_stand (x ∷ xs) o more at n h =
     let rest : List ℕ = flat_map record_octets xs ++ more in
     let h0 : drop at o ≡ record_octets x ++ rest = h ∙ append_assoc (record_octets x) (flat_map record_octets xs) more in
     let w = stands_written x o rest at n.0 h0 in
-    rw w.1 (w.2, all_stand xs o more (at + length (record_octets x)) n.1 (past o (record_octets x) rest at h0))
+    let behind : ℕ = at + length (record_octets x) in
+    rw w.1
+    (subst (λ (l : List (Result Standing ParseError)). AllZip IsReadAs (x ∷ xs) l) (sym (given_first w.0 (items_from (standing_at o) (length xs) behind)))
+    (w.2, all_stand xs o more behind n.1 (past o (record_octets x) rest at h0)))
 
 section_back : (xs : List ResourceRecord) (o more : List ℕ) (at : ℕ) → AllByRecursion HasOwner xs → drop at o ≡ flat_map record_octets xs ++ more → ReadsBack xs (Ok (all_of (items_from (standing_at o) (length xs) at)))
 section_back xs o more at n h = subst (λ (l : List (Result Standing ParseError)). AllZip IsReadAs xs l) (all_come (standing_at o) (length xs) at) (all_stand xs o more at n h)

@@ -7,6 +7,7 @@ use Rattle.dns_message.specs.declared.rdata.Shape.TheVariants.{Address, LongAddr
 use Rattle.dns_message.specs.declared.rdata.RecordData.{RecordData}
 use Rattle.dns_message.specs.declared.rdata.RecordData.TheVariants.{A, Aaaa, Named, Soa, Minfo, Mx, Srv, Opt, Unknown}
 use Rattle.dns_message.specs.declared.record.Record.{Record}
+use Rattle.dns_message.specs.declared.compose_record.RecordFields.{RecordFields}
 use Rattle.dns_message.specs.Msg.{ResourceRecord}
 use Rattle.dns_message.specs.Options.{IsOptionList, options}
 
@@ -97,3 +98,7 @@ opt_data o = if nat_lt 65535 (length o) then None else (if is_some (options o) t
 -- the record with its data as octets
 abbrev pub record_of : Record → ResourceRecord
 record_of r = record { owner = r.owner; rtype = data_type r.rdata; class = r.class; ttl = r.ttl; rdata = data_octets r.rdata }
+
+-- the same of a record whose name and data are borrowed
+abbrev pub record_by : RecordFields → ResourceRecord
+record_by r = record { owner = r.owner; rtype = data_type r.rdata.now; class = r.class; ttl = r.ttl; rdata = data_octets r.rdata.now }

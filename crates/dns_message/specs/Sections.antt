@@ -99,20 +99,9 @@ abbrev pub first_of : {A : Type 0} → List A → Option A
 first_of [] = None
 first_of (x ∷ xs) = Some x
 
--- what an iterator gives from a place on, and where so many items end
-abbrev pub by_next : {A : Type 0} → (ℕ → List (Result A ParseError)) → Read A → List (Result A ParseError)
-by_next go (Ok (x, end)) = Ok x ∷ go end
-by_next go (Err e) = Err e ∷ []
-
+-- what an iterator over so many items from a place on gives, and where they end
 abbrev pub to_come : {A : Type 0} → (ℕ → Read A) → ℕ → ℕ → List (Result A ParseError)
-to_come one zero at = []
-to_come one (suc k) at = by_next (to_come one k) (one at)
-
--- where so many items end, item by item
-abbrev pub end_next : {A : Type 0} → (ℕ → Result ℕ ParseError) → Read A → Result ℕ ParseError
-end_next go (Ok (x, end)) = go end
-end_next go (Err e) = Err e
+to_come one k at = all_of (items_from one k at)
 
 abbrev pub ends_at : {A : Type 0} → (ℕ → Read A) → ℕ → ℕ → Result ℕ ParseError
-ends_at one zero at = Ok at
-ends_at one (suc k) at = end_next (ends_at one k) (one at)
+ends_at one k at = (items_from one k at).1

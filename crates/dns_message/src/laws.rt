@@ -1,10 +1,8 @@
 //! Laws of messages.
 
-ghost use Rattle.std.specs.Prelude.{◌≡◌, [], ◌∷◌, ℕ, List, Ok, length, true};
-ghost use Rattle.dns_message.specs.declared.question.Question.{Question};
+ghost use Rattle.std.specs.Prelude.{◌≡◌, ℕ, List, Ok, length};
 ghost use Rattle.dns_message.specs.Msg.{IsMessage, Msg};
-ghost use Rattle.dns_message.specs.Plain.{is_plain};
-ghost use Rattle.dns_message.specs.Sections.{answers_of, authority_of, additional_of, message_of, questions_of, standing_answers, standing_authority, standing_additional, SameRecords};
+ghost use Rattle.dns_message.specs.Sections.{answers_of, authority_of, additional_of, message_of, standing_answers, standing_authority, standing_additional, SameRecords};
 ghost use Rattle.dns_message.specs.Wire.{wire};
 
 /// A message that is written reads back as itself, and no octet of it is left.
@@ -18,9 +16,4 @@ pub fn records_stand()
     ensures answers { (o : List ℕ) → SameRecords (standing_answers o) (answers_of o) }
     ensures authority { (o : List ℕ) → SameRecords (standing_authority o) (authority_of o) }
     ensures additional { (o : List ℕ) → SameRecords (standing_additional o) (additional_of o) }
-{}
-
-/// The plainest query has one question, which is readable and ends its octets.
-pub fn plain_queries_ask_once()
-    ensures { (o : List ℕ) → is_plain o ≡ true → ((q : Question) × (questions_of o ≡ (q ∷ [], Ok (length o)))) }
 {}

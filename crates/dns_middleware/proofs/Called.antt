@@ -1,5 +1,6 @@
 -- What the service in its layers answers, by what a call finds and makes on its way.
-use Rattle.std.proofs.Common.{◌≡◌, ◌∙◌, sym, ℕ, Option, Some, None, option_map, Result, Ok, Err, IfOk, refl, ap}
+use Rattle.std.proofs.Common.{◌≡◌, ◌∙◌, sym, ℕ, [], ◌∷◌, Option, Some, None, option_map, Result, Ok, Err, IfOk, refl, ap}
+use Rattle.std.specs.Prelude.{unwrap_or}
 use Rattle.dns_base.specs.Built.{Built}
 use Rattle.dns_base.specs.Msg.{Msg}
 use Rattle.dns_service.specs.declared.asked.Asked.{Asked}
@@ -16,9 +17,10 @@ use Rattle.dns_middleware.specs.declared.wrap_post.WrapPost.{WrapPost}
 use Rattle.dns_layers.specs.Cookies.{cookie_own}
 use Rattle.dns_layers.specs.Edns.{passed_by, transport_by}
 use Rattle.dns_layers.specs.Notify.{PolledVerdict, notice_of, notify_by}
-use Rattle.dns_layers.specs.Refusals.{refusal_by, size_by}
+use Rattle.dns_layers.specs.Refusals.{first_some, refusal_by, size_by}
 use Rattle.dns_layers.specs.Rewritten.{own_reply, rewritten}
-use Rattle.dns_middleware.specs.Wrapped.{Pass, ask_or, by_gate, inner_gate, inner_or, left_by, passed, refusal_of, refused_or, replies}
+use Rattle.dns_middleware.specs.Wrapped.{Inner, Ask, Pass, by_gate, left_by, passed, refusal_of, refused_gate, replies}
+use Rattle.dns_middleware.specs.WrappedCalls.{gate_past, inner_gate}
 use Rattle.dns_middleware.specs.WrappedStreams.{wrap_by, wrap_rule}
 
 -- the rule for the replies to a request that leaves this hint
@@ -70,7 +72,7 @@ own-known s svc tgt r k post m (Some x) is e p =
     let rewrite : m ≡ wrap_by post x = cc in
     ap (λ (y : Msg). own_reply y k) rewrite
     ∙ ap (λ (q : WrapPost). own_reply (wrap_by q x) k) p
-    ∙ ap (λ (y : Option Msg). by_gate s svc tgt (limit (hint_of (passed s r).transport)) r (inner_or y (ask_or (notice_of r) (Pass (passed s r)))) k) is
+    ∙ ap (λ (y : Option Msg). by_gate s svc tgt (limit (hint_of (passed s r).transport)) r (gate_past y (notice_of r) (Pass (passed s r))) k) is
 
 pub own-found : {Meta : Type 0} → (s : Settings) (svc : Req Meta → ℕ → Answer) (tgt : Notice → ℕ → PolledVerdict) (r : Req Meta) (k : ℕ) (post : WrapPost) (found : Option Built) (reply : Built)
     → message_in found ≡ option_map (wrap_by post) (cookie_own s.cookies s.denied r) → found ≡ Some reply → post ≡ rule_for s r (hint_of (passed s r).transport)
@@ -85,7 +87,7 @@ if-ok (Err e) f h = h
 -- a request that the cookie layer doesn't answer
 by-notice : {Meta : Type 0} → (s : Settings) (svc : Req Meta → ℕ → Answer) (tgt : Notice → ℕ → PolledVerdict) (r : Req Meta) (k : ℕ) (notice : Option Notice)
     → mapped (rewritten (wrap_by (rule_for s r (hint_of (passed s r).transport)))) (notify_by tgt (λ (q : Req Meta). svc (passed_by (size_by s (asked_of r.octets)) q)) r k notice)
-    ≡ by_gate s svc tgt (limit (hint_of (passed s r).transport)) r (inner_or None (ask_or notice (Pass (passed s r)))) k
+    ≡ by_gate s svc tgt (limit (hint_of (passed s r).transport)) r (gate_past None notice (Pass (passed s r))) k
 by-notice s svc tgt r k None = refl
 by-notice s svc tgt r k (Some notice) = refl
 
@@ -96,10 +98,11 @@ past-cookies s svc tgt r k size post notice o es p en =
     ap (λ (q : WrapPost). mapped (rewritten (wrap_by q)) (notify_by tgt (λ (x : Req _). svc (passed_by size x)) r k notice)) p
     ∙ ap (λ (n : Option ℕ). mapped (rewritten (wrap_by (rule_for s r (hint_of (passed s r).transport)))) (notify_by tgt (λ (x : Req _). svc (passed_by n x)) r k notice)) es
     ∙ by-notice s svc tgt r k notice
-    ∙ ap (λ (n : Option Notice). by_gate s svc tgt (limit (hint_of (passed s r).transport)) r (inner_or None (ask_or n (Pass (passed s r)))) k) en
-    ∙ ap (λ (y : Option Msg). by_gate s svc tgt (limit (hint_of (passed s r).transport)) r (inner_or y (ask_or (notice_of r) (Pass (passed s r)))) k) o
+    ∙ ap (λ (n : Option Notice). by_gate s svc tgt (limit (hint_of (passed s r).transport)) r (gate_past None n (Pass (passed s r))) k) en
+    ∙ ap (λ (y : Option Msg). by_gate s svc tgt (limit (hint_of (passed s r).transport)) r (gate_past y (notice_of r) (Pass (passed s r))) k) o
 
 -- a request that isn't refused
 pub unrefused : {Meta : Type 0} → (s : Settings) (svc : Req Meta → ℕ → Answer) (tgt : Notice → ℕ → PolledVerdict) (r : Req Meta) (k : ℕ)
     → None ≡ refusal_of s r → by_gate s svc tgt (limit (hint_of (passed s r).transport)) r (inner_gate s r) k ≡ replies s svc tgt r k
-unrefused s svc tgt r k x = ap (λ (y : Option Refusal). by_gate s svc tgt (limit (left_by y s r)) r (refused_or r.octets y (inner_gate s r)) k) x
+unrefused s svc tgt r k x = ap (λ (y : Option Refusal). by_gate s svc tgt (limit (left_by y s r)) r
+    (unwrap_or (first_some (option_map (refused_gate r.octets) y ∷ option_map Inner (cookie_own s.cookies s.denied r) ∷ option_map Ask (notice_of r) ∷ [])) (Pass (passed s r))) k) x

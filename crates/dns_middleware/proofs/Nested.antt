@@ -1,5 +1,6 @@
 -- The layers one inside the other answer as the service in its layers does.
-use Rattle.std.proofs.Common.{◌≡◌, ◌∙◌, sym, ℕ, zero, suc, Bool, true, false, if◌then◌else◌, List, Option, Some, None, Ok, Err, option_map, refl, ap}
+use Rattle.std.specs.Prelude.{unwrap_or}
+use Rattle.std.proofs.Common.{◌≡◌, ◌∙◌, sym, ℕ, zero, suc, Bool, true, false, if◌then◌else◌, List, [], ◌∷◌, Option, Some, None, Ok, Err, option_map, refl, ap}
 use Rattle.dns_name.specs.declared.address.IpAddr.{IpAddr}
 use Rattle.dns_base.specs.Msg.{Msg}
 use Rattle.dns_service.specs.Config.{Dgram, Stream}
@@ -8,18 +9,19 @@ use Rattle.dns_service.specs.declared.message.TransportSpecificContext.TheVarian
 use Rattle.dns_service.specs.declared.service.Polled.TheVariants.{Pending, Ready}
 use Rattle.dns_service.specs.Answer.{Answer, mapped}
 use Rattle.dns_service.specs.Asked.{asked_of, client_size}
-use Rattle.dns_service.specs.Req.{Req}
-use Rattle.dns_service.specs.ServiceFn.{hint_at_entry}
+use Rattle.dns_service.specs.Req.{Req, hint_at_entry}
 use Rattle.dns_service.specs.Transport.{is_stream, limit}
 use Rattle.dns_layers.specs.declared.notice.Notice.{Notice}
 use Rattle.dns_events.specs.declared.settings.Settings.{Settings}
 use Rattle.dns_layers.specs.Cookies.{cookie_own, cookies, cookies_by, denied_over}
 use Rattle.dns_layers.specs.Edns.{edns, edns_by_code, edns_hint, edns_passed, opt_refusal, passed_by, transport_by}
-use Rattle.dns_layers.specs.Mandatory.{hint_by, mandatory, mandatory_by, mandatory_hint, mandatory_refusal}
+use Rattle.dns_layers.specs.Mandatory.{mandatory, mandatory_by, mandatory_hint, mandatory_refusal}
 use Rattle.dns_layers.specs.Notify.{PolledVerdict, notice_of, notify, notify_by}
-use Rattle.dns_layers.specs.Refusals.{inner_refusal, outer_refusal}
-use Rattle.dns_layers.specs.Rewritten.{own_reply, rewritten}
-use Rattle.dns_middleware.specs.Wrapped.{Pass, ask_or, by_gate, hint_left, inner_or, left_by, passed, refused_or, replies}
+use Rattle.dns_layers.specs.declared.refusal.Refusal.{Refusal}
+use Rattle.dns_layers.specs.declared.refusal.Refusal.TheVariants.{FromOutside, FromInside}
+use Rattle.dns_layers.specs.Refusals.{first_some}
+use Rattle.dns_layers.specs.Rewritten.{hint_by, own_reply, rewritten}
+use Rattle.dns_middleware.specs.Wrapped.{Inner, Ask, Pass, by_gate, hint_left, left_by, passed, refused_gate, replies}
 
 -- EDNS changes nothing of who is denied
 denied-passed : (size : Option ℕ) (t : TransportSpecificContext) (denied : List IpAddr) (address : IpAddr) → denied_over (transport_by size t) denied address ≡ denied_over t denied address
@@ -55,11 +57,16 @@ by_layers on m e c d n svc tgt r k = mandatory_by
     (λ q. if on then hint_by (λ p. hint_at_entry (edns_passed p)) q e else hint_at_entry q)
     r k m
 
+-- why a request is refused, by what the mandatory layer and EDNS decide
+abbrev refused_with : Bool → Option ℕ → Option ℕ → Option Refusal
+refused_with on m e = first_some (option_map FromOutside m ∷ option_map FromInside (if on then e else None) ∷ [])
+
 -- the service in its layers, by what each layer decides
 abbrev by_cases : {Meta : Type 0} → Settings → Option ℕ → Option ℕ → Option Msg → Option Notice → (Req Meta → ℕ → Answer) → (Notice → ℕ → PolledVerdict) → Req Meta → ℕ → Answer
 by_cases s m e c n svc tgt r k =
-    let refused = outer_refusal m (if s.edns then inner_refusal e else None) in
-    by_gate s svc tgt (limit (left_by refused s r)) r (refused_or r.octets refused (inner_or c (ask_or n (Pass (passed s r))))) k
+    let refused = refused_with s.edns m e in
+    by_gate s svc tgt (limit (left_by refused s r)) r
+    (unwrap_or (first_some (option_map (refused_gate r.octets) refused ∷ option_map Inner c ∷ option_map Ask n ∷ [])) (Pass (passed s r))) k
 
 module _ (strict : Bool) (secret : Option (List ℕ)) (denied : List IpAddr) (dgram : Dgram) (stream : Stream) where
   abbrev set : Bool → Settings
@@ -78,7 +85,7 @@ module _ (strict : Bool) (secret : Option (List ℕ)) (denied : List IpAddr) (dg
 
   -- the hint that is left, by what each layer decides
   same-hint : {Meta : Type 0} → (on : Bool) (m e : Option ℕ) (r : Req Meta)
-      → left_by (outer_refusal m (if on then inner_refusal e else None)) (set on) r
+      → left_by (refused_with on m e) (set on) r
       ≡ hint_by (λ q. if on then hint_by (λ p. hint_at_entry (edns_passed p)) q e else hint_at_entry q) r m
   same-hint on (Some code) e r = refl
   same-hint true None (Some code) r = refl

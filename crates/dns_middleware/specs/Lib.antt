@@ -3,6 +3,7 @@ pub use Rattle.dns_base.specs.Msg
 pub use Rattle.dns_base.specs.Records
 pub use Rattle.dns_base.specs.Replies
 pub use Rattle.dns_base.specs.Wire
+pub use Rattle.dns_layers.specs.Calls
 pub use Rattle.dns_layers.specs.Cookies
 pub use Rattle.dns_layers.specs.Edns
 pub use Rattle.dns_layers.specs.Mandatory
@@ -14,6 +15,7 @@ pub use Rattle.dns_layers.specs.Streams
 pub use Rattle.dns_layers.specs.Verdicts
 pub use Rattle.dns_service.specs.Answer
 pub use Rattle.dns_service.specs.Asked
+pub use Rattle.dns_service.specs.Codes
 pub use Rattle.dns_service.specs.Config
 pub use Rattle.dns_service.specs.Copied
 pub use Rattle.dns_service.specs.Cut
@@ -25,5 +27,6 @@ pub use Rattle.dns_service.specs.Req
 pub use Rattle.dns_service.specs.Transport
 pub mod Wrapped
 pub mod WrappedStreams
+pub mod WrappedCalls
 pub mod Nested
 pub mod ReplyLaws

@@ -1,6 +1,6 @@
 -- The service in its layers: how a request is taken, and what is answered, by the settings, the given service and the target. No
 -- layer is named here.
-use Rattle.std.specs.Prelude.{ℕ, List, Option, Some, None, if◌then◌else◌}
+use Rattle.std.specs.Prelude.{ℕ, List, [], ◌∷◌, Option, Some, None, option_map, unwrap_or, if◌then◌else◌}
 use Rattle.dns_base.specs.Msg.{Msg}
 use Rattle.dns_service.specs.Answer.{Answer, mapped}
 use Rattle.dns_service.specs.Asked.{asked_of}
@@ -15,7 +15,7 @@ use Rattle.dns_layers.specs.Cookies.{cookie_own}
 use Rattle.dns_layers.specs.Edns.{edns_post, passed_by}
 use Rattle.dns_layers.specs.Mandatory.{mand_post}
 use Rattle.dns_layers.specs.Notify.{PolledVerdict, asking, notice_of}
-use Rattle.dns_layers.specs.Refusals.{refusal_by, size_by}
+use Rattle.dns_layers.specs.Refusals.{first_some, refusal_by, size_by}
 use Rattle.dns_layers.specs.Rewritten.{own_reply, rewritten}
 
 -- a reply of the server's own, rewritten by the mandatory rule alone, or also by that of EDNS; a question to the target; or the
@@ -30,34 +30,23 @@ pub data Gate (Meta : Type 0) : Type 0 where
 abbrev pub refusal_of : {Meta : Type 0} → Settings → Req Meta → Option Refusal
 refusal_of s r = refusal_by s r.transport (asked_of r.octets)
 
--- one case where it fits, and else the others
-abbrev pub refused_or : {Meta : Type 0} → List ℕ → Option Refusal → Gate Meta → Gate Meta
-refused_or o (Some (FromOutside code)) more = Outer (error_reply o code)
-refused_or o (Some (FromInside code)) more = Inner (error_reply o code)
-refused_or o None more = more
-
-abbrev pub inner_or : {Meta : Type 0} → Option Msg → Gate Meta → Gate Meta
-inner_or (Some m) more = Inner m
-inner_or None more = more
-
-abbrev pub ask_or : {Meta : Type 0} → Option Notice → Gate Meta → Gate Meta
-ask_or (Some notice) more = Ask notice
-ask_or None more = more
+-- a request that is refused is answered by an error reply
+abbrev pub refused_gate : {Meta : Type 0} → List ℕ → Refusal → Gate Meta
+refused_gate o (FromOutside code) = Outer (error_reply o code)
+refused_gate o (FromInside code) = Inner (error_reply o code)
 
 -- the request as it is passed on
 abbrev pub passed : {Meta : Type 0} → Settings → Req Meta → Req Meta
 passed s r = passed_by (size_by s (asked_of r.octets)) r
 
--- how a request is taken that isn't refused: the first case that fits
-abbrev pub inner_gate : {Meta : Type 0} → Settings → Req Meta → Gate Meta
-inner_gate s r =
-    inner_or (cookie_own s.cookies s.denied r)
-    (ask_or (notice_of r)
-    (Pass (passed s r)))
-
--- how a request is taken
+-- how a request is taken: the first case that fits, and else it is passed on
 abbrev pub gate : {Meta : Type 0} → Settings → Req Meta → Gate Meta
-gate s r = refused_or r.octets (refusal_of s r) (inner_gate s r)
+gate s r = unwrap_or (first_some
+    (option_map (refused_gate r.octets) (refusal_of s r)
+    ∷ option_map Inner (cookie_own s.cookies s.denied r)
+    ∷ option_map Ask (notice_of r)
+    ∷ []))
+    (Pass (passed s r))
 
 -- the hint that the request has after the call
 abbrev pub left_by : {Meta : Type 0} → Option Refusal → Settings → Req Meta → Option ℕ

@@ -10,8 +10,9 @@ mod wrapped_stream;
 
 pub use dns_layers::{
     AskStream, CookieAnswer, CookieStream, CookieVerdict, CookiesMiddlewareSvc, EdnsMiddlewareSvc,
-    EdnsPost, Layered, MandatoryMiddlewareSvc, MandatoryPost, Notice, Notifiable, NotifyError,
-    NotifyMiddlewareSvc, NotifyStream, Refusal, Rewrite, Rewriting, VerdictFuture, replies_fit,
+    EdnsPost, Layered, MandatoryMiddlewareSvc, MandatoryPost, NoSecondaries, Notice, Notifiable,
+    NotifyError, NotifyMiddlewareSvc, NotifyStream, Refusal, Rewrite, Rewriting, VerdictFuture,
+    cookie_verdict_of, of_inner, of_mapped, of_own, refuse, replies_fit,
 };
 pub use dns_service::{MINIMUM_RESPONSE_BYTE_LEN, Settings, cut, cut_fits, items_begin_with_opt};
 pub use wrap_post::WrapPost;

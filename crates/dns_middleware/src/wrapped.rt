@@ -22,6 +22,25 @@ pub struct Wrapped<S, N> {
     pub(crate) target: N,
 }
 
+impl<S: Drop, N: Drop> Wrapped<S, N> {
+    /// A service and a target in the layers of the settings, for requests with metadata of any type.
+    pub fn new(
+        alloc: Global,
+        settings: &Settings,
+        service: S,
+        target: N,
+    ) -> Result<Wrapped<S, N>, OutOfMemory>
+        ensures { IfOk result (λ w. w ≡ record { settings = settings.now; service = service; target = target }) }
+    {
+        let settings = settings.try_clone(alloc)?;
+        Ok(Wrapped {
+            settings,
+            service,
+            target,
+        })
+    }
+}
+
 /// The replies of the service in its layers.
 pub type WrappedReplies<S, N, Meta> = WrappedStream<
     <S as Service<Meta>>::Stream,
@@ -71,7 +90,8 @@ fn refusal_of<Meta>(settings: &Settings, request: &Request<Meta>, asked: &Asked)
     refusal_by(settings, request.transport_ctx(), asked)
 }
 
-/// A service in the layers of the settings: mandatory over EDNS over cookies over NOTIFY.
+/// A service in the layers of the settings: mandatory over EDNS over cookies over NOTIFY. For requests with metadata it is made by
+/// `Wrapped::new`.
 pub fn wrap<S, N>(
     alloc: Global,
     settings: &Settings,
@@ -85,12 +105,8 @@ where
     ensures replies { IfOk result (λ w. ⟦<Wrapped<S, N> as Service<()>>⟧.answer w ≡ replies settings.now (S.answer service) (verdict_on (N.verdict target))) }
     ensures hint { IfOk result (λ w. ⟦<Wrapped<S, N> as Service<()>>⟧.hint w ≡ hint_left settings.now) }
 {
-    let settings = settings.try_clone(alloc)?;
-    Ok(Wrapped {
-        settings,
-        service,
-        target,
-    })
+    let wrapped = Wrapped::new(alloc, settings, service, target)?;
+    Ok(wrapped)
 }
 
 /// The service in its layers answers as the mandatory layer over EDNS over cookies over NOTIFY over the given service does,

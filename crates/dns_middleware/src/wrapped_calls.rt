@@ -1,18 +1,19 @@
 //! How the service in its layers takes a request: refused, answered by the cookie layer, told to the target, or passed on.
 
-ghost use Rattle.std.specs.Prelude.{◌≡◌, ℕ, IfOk, OnErr, OnOk, option_map};
+ghost use Rattle.std.specs.Prelude.{◌≡◌, IfOk, OnErr, OnOk, option_map};
 ghost use Rattle.dns_service.specs.declared.message.Request.{Request};
-ghost use Rattle.dns_service.specs.Answer.{mapped};
 ghost use Rattle.dns_service.specs.Asked.{asked_of};
 ghost use Rattle.dns_service.specs.Given.{message_in};
-ghost use Rattle.dns_service.specs.Transport.{hint_of, hinted, limit};
+ghost use Rattle.dns_service.specs.Transport.{hint_of, limit};
+ghost use Rattle.dns_layers.specs.Calls.{AnswersAs, LeavesHint};
 ghost use Rattle.dns_layers.specs.Cookies.{cookie_own};
 ghost use Rattle.dns_layers.specs.Edns.{passed_by, transport_by};
 ghost use Rattle.dns_layers.specs.Notify.{asking, notice_of, notify_by};
 ghost use Rattle.dns_layers.specs.Refusals.{size_by};
-ghost use Rattle.dns_layers.specs.Rewritten.{own_reply, rewritten};
+ghost use Rattle.dns_layers.specs.Rewritten.{own_reply};
 ghost use Rattle.dns_layers.specs.Verdicts.{verdict_on};
-ghost use Rattle.dns_middleware.specs.Wrapped.{by_gate, inner_gate, passed};
+ghost use Rattle.dns_middleware.specs.Wrapped.{passed};
+ghost use Rattle.dns_middleware.specs.WrappedCalls.{each_rewritten, replies_unrefused, rule_passed};
 ghost use Rattle.dns_middleware.specs.WrappedStreams.{refused_reply, wrap_by, wrap_rule};
 
 use crate::wrap_post::WrapPost;
@@ -42,7 +43,9 @@ pub(crate) fn refused<S: Service<Meta>, N: Notifiable, Meta>(
     refused: Refusal,
 ) -> Result<ComingReplies<S, N, Meta>, OutOfMemory>
     requires { asked.now ≡ asked_of request.now.octets }
-    ensures { let r = request.now in IfOk result (λ f. (k : ℕ) → ⟦<ComingReplies<S, N, Meta> as ReplyFuture>⟧.answer f k ≡ own_reply (refused_reply (wrap_rule settings.now.edns r.transport (limit (hint_of r.transport)) (asked_of r.octets)) r.octets refused) k) }
+    ensures { let r = request.now in
+        let rule = wrap_rule settings.now.edns r.transport (limit (hint_of r.transport)) (asked_of r.octets) in
+        AnswersAs ⟦<ComingReplies<S, N, Meta> as ReplyFuture>⟧.answer (own_reply (refused_reply rule r.octets refused)) result }
 {
     let transport = request.transport_ctx();
     let post = WrapPost::new(settings.edns, asked, transport, transport.hint());
@@ -60,8 +63,10 @@ pub(crate) fn not_refused<S: Service<Meta>, N: Notifiable, Meta>(
 ) -> Result<ComingReplies<S, N, Meta>, OutOfMemory>
     requires can_call { S.can_call wrapped.now.service }
     requires asked { asked.now ≡ asked_of request.old.octets }
-    ensures answers { let r = request.old in let s = wrapped.now.settings in IfOk result (λ f. (k : ℕ) → ⟦<ComingReplies<S, N, Meta> as ReplyFuture>⟧.answer f k ≡ by_gate s (S.answer wrapped.now.service) (verdict_on (N.verdict wrapped.now.target)) (limit (hint_of (passed s r).transport)) r (inner_gate s r) k) }
-    ensures kept { OnOk result (request.new ≡ record request.old { transport = hinted (hint_of (passed wrapped.now.settings request.old).transport) request.old.transport; reserved = request.new.reserved }) }
+    ensures answers { let w = wrapped.now in AnswersAs ⟦<ComingReplies<S, N, Meta> as ReplyFuture>⟧.answer
+        (replies_unrefused w.settings (S.answer w.service) (verdict_on (N.verdict w.target)) request.old)
+        result }
+    ensures kept { LeavesHint (hint_of (passed wrapped.now.settings request.old).transport) request.old request.new result }
     ensures refused { OnErr result (request.new ≡ request.old) }
 {
     let settings = &wrapped.settings;
@@ -87,10 +92,13 @@ fn own_or_past<S: Service<Meta>, N: Notifiable, Meta>(
     requires can_call { S.can_call wrapped.now.service }
     requires asked { asked.now ≡ asked_of request.old.octets }
     requires size { passage.size ≡ size_by wrapped.now.settings asked.now }
-    requires post { let t = request.old.transport in passage.post ≡ wrap_rule wrapped.now.settings.edns t (limit (hint_of (transport_by (size_by wrapped.now.settings asked.now) t))) asked.now }
-    requires found { message_in found ≡ option_map (wrap_by passage.post) (cookie_own wrapped.now.settings.cookies wrapped.now.settings.denied request.old) }
-    ensures answers { let r = request.old in let s = wrapped.now.settings in IfOk result (λ f. (k : ℕ) → ⟦<ComingReplies<S, N, Meta> as ReplyFuture>⟧.answer f k ≡ by_gate s (S.answer wrapped.now.service) (verdict_on (N.verdict wrapped.now.target)) (limit (hint_of (passed s r).transport)) r (inner_gate s r) k) }
-    ensures kept { OnOk result (request.new ≡ record request.old { transport = hinted (hint_of (passed wrapped.now.settings request.old).transport) request.old.transport; reserved = request.new.reserved }) }
+    requires post { passage.post ≡ rule_passed wrapped.now.settings request.old.transport asked.now }
+    requires found { let s = wrapped.now.settings in
+        message_in found ≡ option_map (wrap_by passage.post) (cookie_own s.cookies s.denied request.old) }
+    ensures answers { let w = wrapped.now in AnswersAs ⟦<ComingReplies<S, N, Meta> as ReplyFuture>⟧.answer
+        (replies_unrefused w.settings (S.answer w.service) (verdict_on (N.verdict w.target)) request.old)
+        result }
+    ensures kept { LeavesHint (hint_of (passed wrapped.now.settings request.old).transport) request.old request.new result }
     ensures refused { OnErr result (request.new ≡ request.old) }
 {
     match found {
@@ -105,7 +113,7 @@ fn own_or_past<S: Service<Meta>, N: Notifiable, Meta>(
 /// How a request is passed on, of which this was read.
 fn passage_by<Meta>(settings: &Settings, asked: &Asked, request: &Request<Meta>) -> Passage
     ensures size { result.size ≡ size_by settings.now asked.now }
-    ensures post { let t = request.now.transport in result.post ≡ wrap_rule settings.now.edns t (limit (hint_of (transport_by (size_by settings.now asked.now) t))) asked.now }
+    ensures post { result.post ≡ rule_passed settings.now request.now.transport asked.now }
 {
     let size = size_by(settings, asked);
     let transport = request.transport_ctx();
@@ -120,7 +128,7 @@ fn own<S: Service<Meta>, N: Notifiable, Meta>(
     size: Option<u16>,
     request: &mut Request<Meta>,
 ) -> Result<ComingReplies<S, N, Meta>, OutOfMemory>
-    ensures answers { IfOk result (λ f. (k : ℕ) → ⟦<ComingReplies<S, N, Meta> as ReplyFuture>⟧.answer f k ≡ own_reply reply.message k) }
+    ensures answers { AnswersAs ⟦<ComingReplies<S, N, Meta> as ReplyFuture>⟧.answer (own_reply reply.message) result }
     ensures passed { OnOk result (request.new ≡ passed_by size request.old) }
     ensures refused { OnErr result (request.new ≡ request.old) }
 {
@@ -138,7 +146,8 @@ fn own_rewritten<Meta>(
     asked: &Asked,
 ) -> Result<Option<AdditionalBuilder>, OutOfMemory>
     requires { asked.now ≡ asked_of request.now.octets }
-    ensures { IfOk result (λ own. message_in own ≡ option_map (wrap_by post.now) (cookie_own settings.now.cookies settings.now.denied request.now)) }
+    ensures { let s = settings.now in
+        IfOk result (λ own. message_in own ≡ option_map (wrap_by post.now) (cookie_own s.cookies s.denied request.now)) }
 {
     let own = cookie_own(
         alloc,
@@ -165,8 +174,11 @@ fn told_or_passed<S: Service<Meta>, N: Notifiable, Meta>(
     request: &mut Request<Meta>,
 ) -> Result<ComingReplies<S, N, Meta>, OutOfMemory>
     requires { S.can_call wrapped.now.service }
-    ensures answers { let r = request.old in IfOk result (λ f. (k : ℕ) → ⟦<ComingReplies<S, N, Meta> as ReplyFuture>⟧.answer f k ≡ mapped (rewritten (wrap_by passage.post)) (notify_by (verdict_on (N.verdict wrapped.now.target)) (λ q. S.answer wrapped.now.service (passed_by passage.size q)) r k notice)) }
-    ensures kept { OnOk result (request.new ≡ record request.old { transport = hinted (hint_of (transport_by passage.size request.old.transport)) request.old.transport; reserved = request.new.reserved }) }
+    ensures answers { let w = wrapped.now in AnswersAs ⟦<ComingReplies<S, N, Meta> as ReplyFuture>⟧.answer
+        (each_rewritten passage.post (λ k. notify_by (verdict_on (N.verdict w.target))
+            (λ q. S.answer w.service (passed_by passage.size q)) request.old k notice))
+        result }
+    ensures kept { LeavesHint (hint_of (transport_by passage.size request.old.transport)) request.old request.new result }
     ensures refused { OnErr result (request.new ≡ request.old) }
 {
     match notice {
@@ -183,7 +195,9 @@ fn told<S: Service<Meta>, N: Notifiable, Meta>(
     passage: Passage,
     request: &mut Request<Meta>,
 ) -> Result<ComingReplies<S, N, Meta>, OutOfMemory>
-    ensures answers { IfOk result (λ f. (k : ℕ) → ⟦<ComingReplies<S, N, Meta> as ReplyFuture>⟧.answer f k ≡ mapped (rewritten (wrap_by passage.post)) (asking request.old.octets (verdict_on (N.verdict target.now) notice) k)) }
+    ensures answers { AnswersAs ⟦<ComingReplies<S, N, Meta> as ReplyFuture>⟧.answer
+        (each_rewritten passage.post (asking request.old.octets (verdict_on (N.verdict target.now) notice)))
+        result }
     ensures passed { OnOk result (request.new ≡ passed_by passage.size request.old) }
     ensures refused { OnErr result (request.new ≡ request.old) }
 {
@@ -200,8 +214,10 @@ fn passed_on<S: Service<Meta>, N: Notifiable, Meta>(
     request: &mut Request<Meta>,
 ) -> Result<ComingReplies<S, N, Meta>, OutOfMemory>
     requires { S.can_call service.now }
-    ensures answers { IfOk result (λ f. (k : ℕ) → ⟦<ComingReplies<S, N, Meta> as ReplyFuture>⟧.answer f k ≡ mapped (rewritten (wrap_by passage.post)) (S.answer service.now (passed_by passage.size request.old) k)) }
-    ensures kept { OnOk result (request.new ≡ record request.old { transport = hinted (hint_of (transport_by passage.size request.old.transport)) request.old.transport; reserved = request.new.reserved }) }
+    ensures answers { AnswersAs ⟦<ComingReplies<S, N, Meta> as ReplyFuture>⟧.answer
+        (each_rewritten passage.post (S.answer service.now (passed_by passage.size request.old)))
+        result }
+    ensures kept { LeavesHint (hint_of (transport_by passage.size request.old.transport)) request.old request.new result }
     ensures refused { OnErr result (request.new ≡ request.old) }
 {
     let future = call_passed(alloc, service, passage.size, request)?;

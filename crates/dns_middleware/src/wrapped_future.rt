@@ -15,8 +15,11 @@ use std::alloc::Global;
 /// A reply of its own and a target's are there at once, and the given service's as its future gives them.
 #[derive(Drop)]
 pub enum WrappedFuture<F, V> {
+    /// A reply of its own, until it is taken.
     Own(Option<Once>),
+    /// The reply by a target's verdict, until it is taken.
     Asking(Option<AskStream<V>>, WrapPost),
+    /// The replies of the given service, rewritten.
     Passing(F, WrapPost),
 }
 

@@ -9,3 +9,6 @@ pub mod FromTexts
 pub mod FromNames
 pub mod TextsBack
 pub mod Sames
+pub mod Parents
+mod FoundIn
+mod CodesBack

@@ -1,19 +1,8 @@
 -- What is composed is read again.
-use Rattle.std.proofs.Common.{◌≡◌, ℕ, ◌<◌, ◌≤◌, List, length, Bool, true, false, arith, refl}
+use Rattle.std.proofs.Common.{◌≡◌, ℕ, ◌≤◌, List, length, true, false, arith, refl}
 use Rattle.std.proofs.lemmas.Bool.Decides.{nat_tests}
-use Rattle.std.specs.Prelude.{◌&&◌, nat_le, nat_lt, nat_eq, Some, Ok}
+use Rattle.std.specs.Prelude.{nat_lt, nat_eq, Some, Ok}
 use Rattle.dns_name.specs.OptData.{kind, whole, for_code, list_data}
-
-pub both : (a b : Bool) → (a && b) ≡ true → (a ≡ true) × (b ≡ true)
-both true true h = (refl, refl)
-both true false h = absurd (cc)
-both false b h = absurd (cc)
-
-pub below : (k n : ℕ) → nat_lt k n ≡ true → k < n
-below k n h = grind (arith, nat_tests)
-
-pub at_most : (k n : ℕ) → nat_le k n ≡ true → k ≤ n
-at_most k n h = grind (arith, nat_tests)
 
 pub same_number : (n : ℕ) → nat_eq n n ≡ true
 same_number n = grind (arith, nat_tests)
@@ -21,11 +10,11 @@ same_number n = grind (arith, nat_tests)
 pub not_below : (n : ℕ) → nat_lt n n ≡ false
 not_below n = grind (arith, nat_tests)
 
-pub not_above : (m n : ℕ) → nat_le n m ≡ true → nat_lt m n ≡ false
+pub not_above : (m n : ℕ) → n ≤ m → nat_lt m n ≡ false
 not_above m n h = grind (arith, nat_tests)
 
 -- any octets come back, under any code
-pub list_again : (n : ℕ) (k : List ℕ) → nat_le (length k) 65535 ≡ true → kind (for_code n list_data) n k ≡ Some (Ok k)
+pub list_again : (n : ℕ) (k : List ℕ) → length k ≤ 65535 → kind (for_code n list_data) n k ≡ Some (Ok k)
 list_again n k h = rw (same_number n, not_above 65535 (length k) h, not_below (length k)) refl
 
 -- a value that took all is the option's

@@ -1,5 +1,5 @@
 -- The labels of a name, from the first to the last and without the root's, and how they are written (RFC 1035, section 3.1).
-use Rattle.std.specs.Prelude.{ℕ, ◌≡◌, ◌+◌, ◌-◌, ◌≤◌, ◌<◌, List, [], ◌∷◌, ◌++◌, length, drop, map}
+use Rattle.std.specs.Prelude.{ℕ, ◌≡◌, ◌+◌, ◌-◌, ◌≤◌, ◌<◌, List, [], ◌∷◌, ◌++◌, length, drop, map, Option, Some, None}
 use Rattle.std.specs.Char.{to_ascii_lowercase}
 
 -- a name as octets: each label behind its length, and the root
@@ -24,6 +24,11 @@ IsName ls = FitBehind 0 ls
 -- labels with ASCII letters in lower case (RFC 4343, section 3)
 abbrev pub folded : List (List ℕ) → List (List ℕ)
 folded ls = map (map to_ascii_lowercase) ls
+
+-- the name behind the first label; the root has none
+abbrev pub parent_of : List (List ℕ) → Option (List (List ℕ))
+parent_of [] = None
+parent_of (l ∷ ls) = Some ls
 
 -- the last labels are the others, up to ASCII case
 pub record EndsWith (ls others : List (List ℕ)) : Type 0 where

@@ -10,4 +10,5 @@ pub mod Grammar
 pub mod OptData
 pub mod OptErrors
 pub mod ErrorTexts
+pub mod Registries
 pub mod Lending

@@ -33,6 +33,16 @@ whole d (Err e) = Err e
 abbrev pub kind : {X : Type 0} → (ℕ → List ℕ → Option (Taken X)) → ℕ → List ℕ → Option (Result X ParseError)
 kind takes code d = option_map (whole d) (takes code d)
 
+-- what is read of data that is taken whole
+abbrev pub all_taken : {X : Type 0} → List ℕ → Result X ParseError → Taken X
+all_taken d (Ok x) = Ok (x, length d)
+all_taken d (Err e) = Err e
+
+-- a reading takes octets whole and gives its value, or is refused
+abbrev pub GivesWhole : {X : Type 0} → List ℕ → Taken X → Result X ParseError → Type 0
+GivesWhole d (Ok p) result = (result ≡ Ok p.0) × (p.1 ≡ length d)
+GivesWhole d (Err e) result = result ≡ Err e
+
 -- any octets
 abbrev pub list_data : List ℕ → Taken (List ℕ)
 list_data d = if nat_lt 65535 (length d) then Err (Form LongList) else Ok (d, length d)

@@ -1,6 +1,7 @@
 //! Addresses of clients.
 
-ghost use Rattle.std.specs.Prelude.{◌≡◌};
+ghost use Rattle.std.specs.Prelude.{◌≡◌, ◌≤◌, length};
+ghost use Rattle.dns_name.specs.Addresses.{address_octets};
 
 use std::fmt;
 use std::marker::Model;
@@ -10,6 +11,19 @@ use std::marker::Model;
 pub enum IpAddr {
     V4([u8; 4]),
     V6([u8; 16]),
+}
+
+impl IpAddr {
+    /// The 4 or 16 octets.
+    pub fn as_slice(&self) -> &[u8]
+        ensures value { result.now ≡ address_octets self.now }
+        ensures most { length result.now ≤ 16 }
+    {
+        match self {
+            IpAddr::V4(octets) => octets,
+            IpAddr::V6(octets) => octets,
+        }
+    }
 }
 
 /// Dotted decimal, and eight groups of hexadecimal digits joined by colons.

@@ -2,6 +2,8 @@
 
 ghost use Rattle.std.specs.Prelude.{◌≡◌, ◌<◌, ◌≤◌, MatchOption};
 
+mod named;
+
 use std::marker::{Model, PhantomData};
 
 /// A code of sixteen bits in the registry K, which contracts see as its number.

@@ -1,9 +1,9 @@
 //! The labels of a name.
 
-ghost use Rattle.std.specs.Prelude.{◌≡◌, ◌≤◌, ◌<◌, ◌+◌, ◌++◌, ◌∷◌, ◌↔◌, length, drop, map, IsTrue, OnOk};
+ghost use Rattle.std.specs.Prelude.{◌≡◌, ◌≤◌, ◌<◌, ◌+◌, ◌++◌, ◌∷◌, ◌↔◌, length, drop, map, IsTrue, OnErr, OnOk};
 ghost use Rattle.std.specs.Char.{to_ascii_lowercase};
 ghost use Rattle.std.specs.Iterator.{YieldsFirstBy, item_count};
-ghost use Rattle.dns_name.specs.Canonical.{label_cmp, name_cmp, same_name};
+ghost use Rattle.dns_name.specs.Canonical.{label_cmp, name_cmp};
 ghost use Rattle.dns_name.specs.Labels.{IsName, EndsWith, folded};
 ghost use Rattle.dns_name.specs.Names.{CanGoOn, labels_of, name_by};
 
@@ -97,13 +97,14 @@ pub(crate) fn push_spelt(label: &[u8], octets: &mut Vec<u8>) -> Result<(), OutOf
     Ok(())
 }
 
-/// Appends octets in lower case. Where there is no memory, some of them may have been appended.
+/// Appends octets in lower case; nothing where there is no memory.
 pub fn push_lower(label: &[u8], octets: &mut Vec<u8>) -> Result<(), OutOfMemory>
-    ensures { OnOk result (octets.new.items ≡ octets.old.items ++ map to_ascii_lowercase label.now) }
+    ensures ok { OnOk result (octets.new.items ≡ octets.old.items ++ map to_ascii_lowercase label.now) }
+    ensures err { OnErr result (octets.new.items ≡ octets.old.items) }
 {
-    'octets: for octet in label {
-        octets.push(octet.to_ascii_lowercase())?;
-    }
+    let start = octets.len();
+    octets.extend_from_slice(label)?;
+    octets.as_mut_slice()[start..].make_ascii_lowercase();
     Ok(())
 }
 
@@ -122,13 +123,6 @@ pub(crate) fn same(mut labels: Labels<'_>, mut others: Labels<'_>) -> bool
             return false;
         }
     }
-}
-
-/// The same, as what definitions name.
-pub(crate) fn alike(labels: Labels<'_>, others: Labels<'_>) -> bool
-    ensures { result ≡ same_name labels.entry others.entry }
-{
-    same(labels, others)
 }
 
 /// Whether the labels, of which there are this many with the root's, end with the others.

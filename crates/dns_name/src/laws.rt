@@ -1,6 +1,6 @@
 //! Laws of names.
 
-ghost use Rattle.std.specs.Prelude.{◌≡◌, ◌+◌, ℕ, List, Ok, ◌↔◌, length, IsTrue};
+ghost use Rattle.std.specs.Prelude.{◌≡◌, ◌+◌, ◌<◌, ℕ, List, Ok, Some, ◌↔◌, length, IsTrue};
 ghost use Rattle.std.specs.Cmp.{IsTotalOrder};
 ghost use Rattle.std.specs.declared.cmp.Ordering.TheVariants.{Equal};
 ghost use Rattle.dns_name.specs.Canonical.{name_cmp, same_name};
@@ -9,6 +9,8 @@ ghost use Rattle.dns_name.specs.Labels.{IsName, folded, spell};
 ghost use Rattle.dns_name.specs.NameText.{name_text};
 ghost use Rattle.dns_name.specs.Names.{name_within, uncompressed_at};
 ghost use Rattle.dns_name.specs.Grammar.{Found, StandsPlain};
+ghost use Rattle.dns_name.specs.declared.registry.Registry.{Registry};
+ghost use Rattle.dns_name.specs.Registries.{code_named, code_text};
 
 use crate::name::NameRef;
 
@@ -36,4 +38,9 @@ pub fn names_read_back(name: &NameRef<'_>)
 /// The same of the name that octets are.
 fn octets_read_back(octets: &[u8])
     ensures { (ls : List (List ℕ)) → octets.now ≡ spell ls → IsName ls → text_name (name_text ls) ≡ Ok ls }
+{}
+
+/// The text that Display writes of a code reads as that code (RFC 3597, section 5).
+pub fn codes_read_back()
+    ensures { (r : Registry) (n : ℕ) → n < 65536 → code_named r (code_text r n) ≡ Some n }
 {}

@@ -18,6 +18,8 @@ mod opt_rcode;
 mod parsed;
 mod parser;
 mod piece;
+mod registry;
+mod registry_names;
 mod serial;
 mod ttl;
 
@@ -30,7 +32,7 @@ pub use iana::{
     OptionCode, OptionCodes, Rcode, Rcodes, Rtype, Rtypes, SecurityAlgorithm,
 };
 pub use labels::{Labels, push_lower};
-pub use laws::{names_are_ordered, names_are_the_grammar, names_read_back};
+pub use laws::{codes_read_back, names_are_ordered, names_are_the_grammar, names_read_back};
 pub use name::{HoldsName, Name, NameRef};
 pub use octets::Octets;
 pub use opt_data::{ComposeOptData, OptData, ParseOptData, ReadBack};
@@ -38,5 +40,6 @@ pub use opt_error::{BuildDataError, LongOptData};
 pub use opt_rcode::OptRcode;
 pub use parsed::ParsedName;
 pub use parser::Parser;
+pub use registry::{Registered, Registry};
 pub use serial::Serial;
 pub use ttl::Ttl;

@@ -8,9 +8,11 @@ ghost use Rattle.dns_name.specs.NameText.{name_text};
 ghost use Rattle.dns_name.specs.Names.{uncompressed, uncompressed_at};
 ghost use Rattle.dns_name.specs.Place.{Parses};
 
+mod parents;
+
 use crate::error::{FormReason, OutOfMemory, ParseError};
 use crate::from_text::{FromTextError, name_in};
-use crate::labels::{Labels, canonical, ends, push_spelt, same};
+use crate::labels::{Labels, canonical, ends, push_spelt};
 use crate::name_text::write_name;
 use crate::parsed::end_at;
 use crate::parser::Parser;
@@ -21,7 +23,7 @@ use std::fmt;
 use std::marker::Model;
 
 /// A name, owned, that contracts see as its labels without the root's (RFC 1035, section 3.1).
-#[derive(Debug, Drop)]
+#[derive(Drop)]
 pub struct Name {
     octets: Vec<u8>,
 }
@@ -38,7 +40,7 @@ impl Model for Name {
 }
 
 /// A name, borrowed, that contracts see as its labels without the root's.
-#[derive(Debug, Drop)]
+#[derive(Drop)]
 pub struct NameRef<'a> {
     octets: &'a [u8],
 }
@@ -154,7 +156,7 @@ impl<'a> NameRef<'a> {
     pub fn name_eq(&self, other: &NameRef<'_>) -> bool
         ensures { IsTrue result ↔ (folded self.now ≡ folded other.now) }
     {
-        same(self.labels(), other.labels())
+        self.as_slice().eq_ignore_ascii_case(other.as_slice())
     }
 
     /// How the names compare in the canonical order (RFC 4034, section 6.1).
@@ -216,7 +218,7 @@ impl Name {
     }
 
     /// The name of these labels.
-    pub(crate) fn of(alloc: Global, labels: Labels<'_>) -> Result<Name, OutOfMemory>
+    pub fn of(alloc: Global, labels: Labels<'_>) -> Result<Name, OutOfMemory>
         requires { IsName labels }
         ensures { IfOk result (λ n. n ≡ labels.entry) }
     {
@@ -347,6 +349,22 @@ impl fmt::Display for Name {
     }
 }
 
+impl<'a> fmt::Debug for NameRef<'a> {
+    ghost debug_output = { λ n. Some (name_text n) };
+
+    fn fmt<W: fmt::Write>(&self, f: &mut fmt::Formatter<W>) -> fmt::Result {
+        write_name(self.labels(), f)
+    }
+}
+
+impl fmt::Debug for Name {
+    ghost debug_output = { λ n. Some (name_text n) };
+
+    fn fmt<W: fmt::Write>(&self, f: &mut fmt::Formatter<W>) -> fmt::Result {
+        write_name(self.labels(), f)
+    }
+}
+
 /// The octets between two places.
 fn part(octets: &[u8], start: usize, end: usize) -> &[u8]
     requires order { start ≤ end }
@@ -356,12 +374,15 @@ fn part(octets: &[u8], start: usize, end: usize) -> &[u8]
     &octets[start..end]
 }
 
+/// How many octets a name has room for at first, when it is put together of labels.
+const ROOM: usize = 32;
+
 /// The octets of labels.
 fn spelt(alloc: Global, mut labels: Labels<'_>) -> Result<Vec<u8>, OutOfMemory>
     requires { IsName labels }
     ensures { IfOk result (λ v. v.items ≡ spell labels.entry) }
 {
-    let mut octets = Vec::new(alloc);
+    let mut octets = Vec::with_capacity(alloc, ROOM)?;
     'labels: while let Some(label) = labels.next() {
         push_spelt(label, &mut octets)?;
     }

@@ -5,7 +5,6 @@ ghost use Rattle.std.specs.Cmp.{partial_equiv_from_equiv};
 ghost use Rattle.std.specs.Ordering.{as_partial_cmp};
 ghost use Rattle.dns_name.specs.Canonical.{name_cmp, name_cmp_total, name_writes, same_name, same_name_equiv, same_name_order, same_name_ties, same_name_writes};
 
-use crate::labels::alike;
 use crate::name::{Name, NameRef};
 use std::cmp::Ordering;
 use std::hash::{Hash, Hasher};
@@ -16,7 +15,7 @@ impl<'a> PartialEq for NameRef<'a> {
     ghost laws = { partial_equiv_from_equiv same_name_equiv };
 
     fn eq(&self, other: &NameRef<'a>) -> bool {
-        alike(self.labels(), other.labels())
+        self.name_eq(other)
     }
 }
 

@@ -1,6 +1,6 @@
 //! What every kind of option can do.
 
-ghost use Rattle.std.specs.Prelude.{◌≡◌, ◌++◌, Bool, true, List, ℕ, length, Option, Some, Ok, OnOk, OnErr};
+ghost use Rattle.std.specs.Prelude.{◌≡◌, ◌++◌, List, ℕ, length, Option, Some, Ok, OnOk, OnErr};
 ghost use Rattle.dns_name.specs.OptData.{ParsesOption, Taken, kind};
 ghost use Rattle.dns_name.specs.Place.{rest};
 
@@ -50,8 +50,8 @@ pub trait ComposeOptData: OptData {
 /// Option data that comes back where it is written and read again.
 pub trait ReadBack<'a>: ParseOptData<'a> + ComposeOptData {
     /// The values that there are and that come back.
-    ghost is_readable: { Self → Bool };
+    ghost is_readable: { Self → Type 0 };
 
     /// Written and read again, a value is the same.
-    ghost comes_back: { (k : Self) → is_readable k ≡ true → kind Self.takes (Self.code_of k) (Self.octets k) ≡ Some (Ok k) };
+    ghost comes_back: { (k : Self) → is_readable k → kind Self.takes (Self.code_of k) (Self.octets k) ≡ Some (Ok k) };
 }

@@ -1,8 +1,12 @@
 //! Extended response codes.
 
-ghost use Rattle.std.specs.Prelude.{◌≡◌, ◌<◌, ◌+◌, ◌*◌, ◌/◌, ◌%◌};
+ghost use Rattle.std.specs.Prelude.{◌≡◌, ◌<◌, ◌+◌, ◌*◌, ◌/◌, ◌%◌, Some};
+ghost use Rattle.dns_name.specs.declared.registry.Registry.{Registry};
+ghost use Rattle.dns_name.specs.Registries.{code_named, code_text, if_below};
 
 use crate::iana::Rcode;
+use crate::registry::{Registry, code_in, write_code};
+use std::fmt;
 use std::marker::Model;
 
 /// A response code of twelve bits, below 4,096: four in the header and eight in the OPT record (RFC 6891,
@@ -114,6 +118,25 @@ impl OptRcode {
         ensures fits { result < 4096 }
     {
         self.number
+    }
+
+    /// The code that a text names: by its registered name up to ASCII case, or by its decimal number. None from 4,096.
+    pub fn from_text(text: &str) -> Option<OptRcode>
+        ensures { result ≡ if_below 4096 (code_named Registry.Rcodes text.now) }
+    {
+        match code_in(Registry::Rcodes, text) {
+            Some(number) if number < 4096 => Some(OptRcode { number }),
+            _ => None,
+        }
+    }
+}
+
+/// The registered name, or the decimal number where there is none.
+impl fmt::Display for OptRcode {
+    ghost output = { λ c. Some (code_text Registry.Rcodes c) };
+
+    fn fmt<W: fmt::Write>(&self, f: &mut fmt::Formatter<W>) -> fmt::Result {
+        write_code(Registry::Rcodes, self.number, f)
     }
 }
 

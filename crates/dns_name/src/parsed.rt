@@ -9,7 +9,7 @@ ghost use Rattle.dns_name.specs.Names.{end_of, name_at, name_by, name_within};
 ghost use Rattle.dns_name.specs.Place.{Parses};
 
 use crate::error::{FormReason, OutOfMemory, ParseError};
-use crate::labels::{Labels, alike, ends, same};
+use crate::labels::{Labels, ends, same};
 use crate::name::{Name, NameRef};
 use crate::name_text::write_name;
 use crate::parser::Parser;
@@ -57,7 +57,8 @@ impl<'a> PartialEq for ParsedName<'a> {
     ghost laws = { partial_equiv_from_equiv same_name_equiv };
 
     fn eq(&self, other: &ParsedName<'a>) -> bool {
-        alike(self.labels(), other.labels())
+        let others = other.labels();
+        same(self.labels(), others)
     }
 }
 
@@ -135,6 +136,22 @@ impl<'a> ParsedName<'a> {
         };
         let end = end_at(message, reach, at)?;
         Ok((ParsedName { message, reach, at }, end))
+    }
+
+    /// The same name as one that stands alone.
+    pub fn of(name: &NameRef<'a>) -> ParsedName<'a>
+        ensures { result ≡ name.now }
+    {
+        let message = name.as_slice();
+        let reach = Reach {
+            limit: message.len(),
+            pointers: false,
+        };
+        ParsedName {
+            message,
+            reach,
+            at: 0,
+        }
     }
 
     /// The name at the parser's place, whose slice is the message.

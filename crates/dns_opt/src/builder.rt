@@ -1,8 +1,8 @@
 //! OPT records under construction.
 
-ghost use Rattle.std.specs.Prelude.{◌≡◌, ◌+◌, ◌<◌, ◌/◌, ◌%◌, ℕ, length};
+ghost use Rattle.std.specs.Prelude.{◌≡◌, ◌*◌, ◌+◌, ◌<◌, ◌/◌, ◌%◌, ℕ, length};
 ghost use Rattle.dns_opt.specs.Drafts.{OptDraft, PushedIn, PushedRawIn};
-ghost use Rattle.dns_opt.specs.OptRecords.{with_do};
+ghost use Rattle.dns_opt.specs.OptRecords.{is_do, with_do};
 ghost use Rattle.dns_options.specs.Pushes.{Fits};
 ghost use Rattle.dns_options.specs.Writes.{Writes};
 
@@ -30,6 +30,41 @@ impl Model for OptBuilder {
 }
 
 impl OptBuilder {
+    /// The greatest payload over UDP, in octets.
+    pub fn udp_payload_size(&self) -> u16
+        ensures { result ≡ self.now.head.size }
+    {
+        self.head.udp_payload_size()
+    }
+
+    /// The response code: its upper eight bits are here, its lower four in the message's header.
+    pub fn rcode(&self) -> OptRcode
+        ensures { result ≡ 16 * self.now.head.ext + self.now.low }
+    {
+        self.head.rcode_above(self.low)
+    }
+
+    /// The version of EDNS.
+    pub fn version(&self) -> u8
+        ensures { result ≡ self.now.head.version }
+    {
+        self.head.version()
+    }
+
+    /// Whether DNSSEC records are wanted.
+    pub fn dnssec_ok(&self) -> bool
+        ensures { result ≡ is_do self.now.head.flags }
+    {
+        self.head.dnssec_ok()
+    }
+
+    /// The options so far.
+    pub fn options(&self) -> &Opt
+        ensures { result.now ≡ self.now.options }
+    {
+        &self.options
+    }
+
     /// Sets the greatest payload over UDP, in octets.
     pub fn set_udp_payload_size(&mut self, size: u16)
         ensures { self.new ≡ record self.old { head = record self.old.head { size = size } } }

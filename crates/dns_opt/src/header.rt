@@ -4,7 +4,7 @@ ghost use Rattle.std.specs.Prelude.{◌≡◌, ◌+◌, ◌*◌, ◌/◌, ◌++�
 ghost use Rattle.dns_opt.specs.OptRecords.{head_octets, head_of, is_do, with_do, zero_head};
 
 use dns_base::Header;
-use dns_name::{OptRcode, OutOfMemory, ParseError, Ttl};
+use dns_name::{OptRcode, OutOfMemory, ParseError, Rcode, Ttl};
 use std::alloc::Global;
 use std::marker::Model;
 
@@ -77,7 +77,14 @@ impl OptHeader {
     pub fn rcode(&self, header: Header) -> OptRcode
         ensures { result ≡ 16 * self.now.ext + header.rcode }
     {
-        OptRcode::from_parts(header.rcode, self.ext)
+        self.rcode_above(header.rcode)
+    }
+
+    /// The response code with these lower four bits.
+    pub(crate) fn rcode_above(&self, low: Rcode) -> OptRcode
+        ensures { result ≡ 16 * self.now.ext + low }
+    {
+        OptRcode::from_parts(low, self.ext)
     }
 
     /// Sets the upper eight bits of the response code.

@@ -21,5 +21,5 @@ pub use dns_options::{
 };
 pub use header::OptHeader;
 pub use laws::opts_read_back;
-pub use message_opt::MessageOpt;
+pub use message_opt::{MessageOpt, opt_of};
 pub use record::{OptRecord, OptRecordRef};

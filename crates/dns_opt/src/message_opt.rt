@@ -40,14 +40,22 @@ pub(crate) fn first_opt(records: RecordIter<'_>) -> Option<OptRecordRef<'_>>
     None
 }
 
+/// The first OPT record of a borrowed message, which lives as long as the message; none where it, or a record before it,
+/// is unreadable.
+pub fn opt_of<'m>(message: &MessageRef<'m>) -> Option<OptRecordRef<'m>>
+    ensures { result ≡ opt_of message.now }
+{
+    match message.additional() {
+        Ok(records) => first_opt(records),
+        Err(_) => None,
+    }
+}
+
 impl<'m> MessageOpt for MessageRef<'m> {
     ghost octets = { λ m. m };
 
     fn opt(&self) -> Option<OptRecordRef<'_>> {
-        match self.additional() {
-            Ok(records) => first_opt(records),
-            Err(_) => None,
-        }
+        opt_of(self)
     }
 }
 

@@ -1,7 +1,7 @@
 -- The options of a list that a type reads, in order (RFC 6891, section 6.1.2).
-use Rattle.std.specs.Prelude.{◌≡◌, ℕ, List, [], ◌∷◌, length, Option, Some, None, Result, Ok, Err, unwrap_or}
+use Rattle.std.specs.Prelude.{◌≡◌, ℕ, List, [], ◌∷◌, Option, Some, None, Result, Ok, Err, unwrap_or}
 use Rattle.dns_name.specs.declared.error.ParseError.{ParseError}
-use Rattle.dns_name.specs.OptData.{Taken, kind}
+use Rattle.dns_name.specs.OptData.{Taken, all_taken, kind}
 use Rattle.dns_message.specs.Options.{options, option_list}
 
 -- an option's value in front of those behind it; none where it is not read, and a refusal is the last
@@ -31,9 +31,5 @@ NextItem old None new = (old ≡ []) × (new ≡ [])
 NextItem old (Some x) new = old ≡ x ∷ new
 
 -- a list is taken whole
-abbrev pub list_with_length : List ℕ → Result (List ℕ) ParseError → Taken (List ℕ)
-list_with_length d (Ok o) = Ok (o, length d)
-list_with_length d (Err e) = Err e
-
 abbrev pub list_taken : List ℕ → Taken (List ℕ)
-list_taken d = list_with_length d (option_list d)
+list_taken d = all_taken d (option_list d)

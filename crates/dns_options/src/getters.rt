@@ -15,7 +15,7 @@ use crate::opt::Opt;
 use dns_algs::{DauRef, DhuRef, N3uRef};
 use dns_cookie::Cookie;
 use dns_kinds::{ChainRef, ClientSubnet, Expire, ExtendedErrorRef, TcpKeepalive};
-use dns_lists::{KeyTagRef, NsidRef};
+use dns_lists::{KeyTagRef, NsidRef, PaddingRef};
 
 impl<'a> OptRef<'a> {
     /// The first understood DNSSEC algorithms (RFC 6975); none where it is refused.
@@ -86,6 +86,13 @@ impl<'a> OptRef<'a> {
         ensures { result ≡ first_ok (items_of (for_code 3 list_data) self.now) }
     {
         self.first::<NsidRef<'a>>()
+    }
+
+    /// The first padding (RFC 7830); none where it is refused.
+    pub fn padding(&self) -> Option<PaddingRef<'a>>
+        ensures { result ≡ first_ok (items_of (for_code 12 list_data) self.now) }
+    {
+        self.first::<PaddingRef<'a>>()
     }
 
     /// The first client subnet (RFC 7871); none where it is refused.
@@ -165,6 +172,13 @@ impl Opt {
         ensures { result ≡ first_ok (items_of (for_code 3 list_data) self.now) }
     {
         self.for_slice_ref().nsid()
+    }
+
+    /// The first padding (RFC 7830); none where it is refused.
+    pub fn padding(&self) -> Option<PaddingRef<'_>>
+        ensures { result ≡ first_ok (items_of (for_code 12 list_data) self.now) }
+    {
+        self.for_slice_ref().padding()
     }
 
     /// The first client subnet (RFC 7871); none where it is refused.

@@ -13,7 +13,8 @@ use Rattle.dns_base.specs.Wire.{question_octets, record_octets, wire}
 use Rattle.dns_base.specs.Built.{Built, with_additional, with_question}
 use Rattle.dns_base.specs.Replies.{with_copied}
 use Rattle.dns_base.specs.Readers.{readable_items}
-use Rattle.dns_replies.specs.Cut.{fits, truncated, first_fitting, shortened, cut, built_fitting, or_else, Added}
+use Rattle.dns_replies.specs.Cut.{fits, truncated, first_fitting, shortened, cut}
+use Rattle.dns_replies.specs.CutSteps.{built_fitting, or_else, Added}
 use Rattle.dns_opt.specs.OptRecords.{where_list, listed, opt_record_among}
 use Rattle.dns_replies.specs.OptIn.{minimal, opt_record_in}
 

@@ -1,9 +1,9 @@
 -- Truncation (RFC 1035, section 4.1.1, for TC; RFC 2181, section 9; RFC 6891, section 7, for the OPT record that stays).
-use Rattle.std.specs.Prelude.{◌≡◌, ℕ, ◌≤◌, Bool, true, false, List, [], ◌∷◌, length, Option, Some, None, nat_le, if◌then◌else◌}
+use Rattle.std.specs.Prelude.{ℕ, Bool, true, List, [], ◌∷◌, length, Option, Some, None, nat_le, if◌then◌else◌}
 use Rattle.dns_message.specs.declared.question.Question.{Question}
 use Rattle.dns_base.specs.Msg.{Msg, ResourceRecord}
 use Rattle.dns_base.specs.Wire.{wire}
-use Rattle.dns_base.specs.Built.{Built, PassesLimit}
+use Rattle.dns_base.specs.Built.{Built}
 use Rattle.dns_replies.specs.OptIn.{minimal, opt_record_in}
 
 -- the message takes at most so many octets
@@ -32,29 +32,6 @@ cut n m = if fits n m then m else shortened n m (opt_record_in m)
 -- the same of what is built, whose limit stays
 abbrev pub cut_built : ℕ → Built → Built
 cut_built n b = record b { message = cut n b.message }
-
--- a truncated message with these records more, where it fits; its own limit is the same
-abbrev pub built_fitting : ℕ → Msg → Option Built
-built_fitting n m = if fits n m then Some (record { message = m; limit = n }) else None
-
--- the first of two where there is one
-abbrev pub or_else : {A : Type 0} → Option A → Option A → Option A
-or_else (Some x) other = Some x
-or_else None other = other
-
--- a record was added, or it had no room
-abbrev pub Added : Built → Built → Built → Bool → Type 0
-Added old new more true = (new ≡ more) × (length (wire more.message) ≤ more.limit)
-Added old new more false = (new ≡ old) × PassesLimit more
-
--- what is built, where it fits
-abbrev pub where_fitting : Built → Option Built
-where_fitting b = built_fitting b.limit b.message
-
--- the first of two that fits was built, or neither fits
-abbrev pub AddedEither : Built → Option Built → Option Built → Bool → Type 0
-AddedEither new first second true = Some new ≡ or_else first second
-AddedEither new first second false = None ≡ or_else first second
 
 -- a message that is cut where there is a limit
 abbrev pub sized : Option ℕ → Msg → Msg

@@ -7,3 +7,4 @@ pub mod ErrorReply
 pub mod WithOption
 pub mod OptIn
 pub mod Cut
+pub mod CutSteps

@@ -7,10 +7,11 @@ ghost use Rattle.dns_base.specs.Readers.{readable_items};
 ghost use Rattle.dns_base.specs.Records.{record_of, IsLawful};
 ghost use Rattle.dns_base.specs.Replies.{with_copied};
 ghost use Rattle.dns_base.specs.Wire.{wire};
-ghost use Rattle.dns_replies.specs.Cut.{cut, cut_built, built_fitting, or_else, shortened, truncated, where_fitting, Added, AddedEither};
+ghost use Rattle.dns_replies.specs.Cut.{cut, cut_built, shortened, truncated};
+ghost use Rattle.dns_replies.specs.CutSteps.{built_fitting, or_else, where_fitting, Added, AddedEither};
 ghost use Rattle.dns_replies.specs.OptIn.{minimal, opt_record_in};
 
-use crate::opt_in::{minimal, opt_record_in};
+use crate::opt_in::{minimal_ttl, opt_record_in};
 use dns_base::{
     AdditionalBuilder, MessageBuilder, PushError, QuestionBuilder, QuestionIter, QuestionRef,
     Record,
@@ -156,7 +157,8 @@ fn alone(
     Ok(shorter)
 }
 
-/// Adds a minimal OPT record where it has room, and says whether it had.
+/// Adds a minimal OPT record where it has room, and says whether it had. It is written as it is added.
+#[tactic(auto, unfolding(dns_message::specs::Options::options))]
 fn minimal_added(
     alloc: Global,
     message: &mut AdditionalBuilder,
@@ -164,20 +166,12 @@ fn minimal_added(
 ) -> Result<bool, OutOfMemory>
     ensures { IfOk result (Added message.old message.new (with_additional message.old (minimal (record_of opt.now)))) }
 {
-    let small = minimal(alloc, opt)?;
-    owned_added(alloc, message, small)
-}
-
-/// Adds a record of its own where it has room, and says whether it had.
-fn owned_added(
-    alloc: Global,
-    message: &mut AdditionalBuilder,
-    own: Record,
-) -> Result<bool, OutOfMemory>
-    requires { IsLawful own.rdata }
-    ensures { IfOk result (Added message.old message.new (with_additional message.old (record_of own))) }
-{
-    added(alloc, message, &own)
+    let size = opt.class.to_int();
+    match message.push_opt(alloc, size, minimal_ttl(opt), &[]) {
+        Ok(()) => Ok(true),
+        Err(PushError::ShortBuf) => Ok(false),
+        Err(PushError::OutOfMemory) => Err(OutOfMemory),
+    }
 }
 
 /// The header with TC and the questions, where they fit.

@@ -1,14 +1,13 @@
 //! The OPT record of a message under construction.
 
 ghost use Rattle.std.specs.Prelude.{◌≡◌, [], IfOk, IfSome, option_map};
+ghost use Rattle.dns_base.specs.OptFields.{opt_resource};
 ghost use Rattle.dns_base.specs.Readers.{resources};
 ghost use Rattle.dns_base.specs.Records.{record_of, IsLawful};
 ghost use Rattle.dns_opt.specs.OptRecords.{listed, opt_record_among};
 ghost use Rattle.dns_replies.specs.OptIn.{minimal, opt_record_in};
 
-use dns_base::{
-    AdditionalBuilder, Name, Octets, Record, RecordData, RecordIter, RecordRef, Rtype, Ttl,
-};
+use dns_base::{AdditionalBuilder, Name, Record, RecordData, RecordIter, RecordRef, Rtype, Ttl};
 use dns_name::OutOfMemory;
 use std::alloc::Global;
 
@@ -79,29 +78,13 @@ fn with_data(found: &RecordRef<'_>, owner: Name, rdata: RecordData) -> Record
     }
 }
 
-/// No options.
-#[tactic(auto, unfolding(dns_message::specs::Options::options))]
-fn no_options(alloc: Global) -> RecordData
-    ensures value { result ≡ RecordData.Opt [] }
-    ensures lawful { IsLawful result }
-{
-    RecordData::Opt(Octets::from_vec(Vec::new(alloc)))
-}
-
 /// How many values the flags have, which are the lower sixteen bits of an OPT record's TTL.
 const FLAG_VALUES: u32 = 65536;
 
-/// An OPT record with the same size, extended code and version, no flags and no options.
-pub(crate) fn minimal(alloc: Global, opt: &Record) -> Result<Record, OutOfMemory>
-    ensures value { IfOk result (λ r. record_of r ≡ minimal (record_of opt.now)) }
-    ensures lawful { IfOk result (λ r. IsLawful r.rdata) }
+/// The TTL of an OPT record with the same extended code and version and no flags.
+pub(crate) fn minimal_ttl(opt: &Record) -> Ttl
+    ensures { opt_resource opt.now.class result [] ≡ minimal (record_of opt.now) }
 {
-    let owner = Name::root(alloc)?;
     let secs = opt.ttl.as_secs();
-    Ok(Record {
-        owner,
-        class: opt.class,
-        ttl: Ttl::from_secs(secs / FLAG_VALUES * FLAG_VALUES),
-        rdata: no_options(alloc),
-    })
+    Ttl::from_secs(secs / FLAG_VALUES * FLAG_VALUES)
 }

@@ -17,11 +17,11 @@ copy_refused opt read (Form f) g = (Form f, ap (reply_with_opt opt) g)
 copy_refused opt read NoMemory g = tt
 
 -- what is refused isn't begun
-refused_so : (read : Result ReplyState ParseError) (e : ParseError) → GivesParsed (Err e) read → BeginsReply read (Err (parse_refused e))
+refused_so : (read : Result ReplyState ParseError) (e : ParseError) → GivesParsed (Err e) read → BeginsReply (λ (r : ReplyState). r) read (Err (parse_refused e))
 refused_so read ShortInput g = (ShortInput, g)
 refused_so read (Form f) g = (Form f, g)
 refused_so read NoMemory g = tt
 
 -- options that are refused are so as a reply
-pub options_refused : (o : List ℕ) (s : OptState) (e : ParseError) → opt_of o ≡ Some s → GivesParsed (Err e) (reply_with o (kept_opt s.head.size SubnetsAndErrors s)) → BeginsReply (reply_read o) (Err (parse_refused e))
-options_refused o s e h g = subst (λ r. BeginsReply r (Err (parse_refused e))) (sym (ap (reply_by o) h)) (refused_so (reply_with o (kept_opt s.head.size SubnetsAndErrors s)) e g)
+pub options_refused : (o : List ℕ) (s : OptState) (e : ParseError) → opt_of o ≡ Some s → GivesParsed (Err e) (reply_with o (kept_opt s.head.size SubnetsAndErrors s)) → BeginsReply (λ (r : ReplyState). r) (reply_read o) (Err (parse_refused e))
+options_refused o s e h g = subst (λ r. BeginsReply (λ (x : ReplyState). x) r (Err (parse_refused e))) (sym (ap (reply_by o) h)) (refused_so (reply_with o (kept_opt s.head.size SubnetsAndErrors s)) e g)

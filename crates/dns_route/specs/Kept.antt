@@ -5,13 +5,14 @@ use Rattle.dns_base.specs.Options.{options, option_octets}
 use Rattle.dns_opt.specs.All.{all_takes}
 use Rattle.dns_opt.specs.Items.{items_of}
 use Rattle.dns_opt.specs.OptRecords.{OptHead, OptState, is_do, opt_state, with_do}
+use Rattle.dns_service.specs.Codes.{extended_error_option, subnet_option}
 use Rattle.dns_route.specs.declared.kept.KeptKinds.{KeptKinds}
 use Rattle.dns_route.specs.declared.kept.KeptKinds.TheVariants.{Subnets, SubnetsAndErrors}
 
 -- whether the options of a code are kept
 abbrev pub keeps : KeptKinds → ℕ → Bool
-keeps Subnets code = nat_eq code 8
-keeps SubnetsAndErrors code = if nat_eq code 8 then true else nat_eq code 15
+keeps Subnets code = nat_eq code subnet_option
+keeps SubnetsAndErrors code = if nat_eq code subnet_option then true else nat_eq code extended_error_option
 
 -- the kept ones of codes and data, in order and as they stand
 abbrev pub kept_options : KeptKinds → List (ℕ × List ℕ) → List ℕ

@@ -11,6 +11,7 @@ pub use Rattle.dns_message.specs.Sections
 pub use Rattle.dns_message.specs.Standing
 pub use Rattle.dns_opt.specs.OptRecords
 pub use Rattle.dns_opt.specs.Pushes
+pub use Rattle.dns_service.specs.Codes
 pub use Rattle.dns_service.specs.Copied
 pub use Rattle.dns_service.specs.LastOpt
 pub use Rattle.dns_message.specs.TypedData

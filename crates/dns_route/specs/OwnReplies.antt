@@ -5,6 +5,7 @@ use Rattle.dns_base.specs.Msg.{Msg}
 use Rattle.dns_base.specs.Wire.{wire}
 use Rattle.dns_opt.specs.Extended.{extended, extended_octets}
 use Rattle.dns_opt.specs.Reopened.{opt_among}
+use Rattle.dns_service.specs.Codes.{extended_error_option, servfail}
 use Rattle.dns_service.specs.ErrorReply.{error_reply}
 use Rattle.dns_route.specs.ReplyMessage.{ReplyState, with_reply_option}
 use Rattle.dns_route.specs.declared.send_request.SendError.{SendError}
@@ -20,7 +21,7 @@ error_state query code = kept_whole (error_reply query code)
 
 -- SERVFAIL with an extended error of code 0, which is another reason than those that have codes, and a text
 abbrev pub explained : List ℕ → List ℕ → ReplyState
-explained query text = with_reply_option 15 (extended_octets (extended 0 (Some text))) (error_state query 2)
+explained query text = with_reply_option extended_error_option (extended_octets (extended 0 (Some text))) (error_state query servfail)
 
 -- why a router has no service for a name
 abbrev pub no_upstream : List ℕ

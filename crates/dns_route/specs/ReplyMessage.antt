@@ -37,14 +37,14 @@ reply_read o = reply_by o (opt_of o)
 abbrev pub IsRefused : {A : Type 0} → Result A ParseError → Type 0
 IsRefused read = (e : ParseError) × (read ≡ Err e)
 
--- a reply is begun; FormatError exactly where an option is unreadable
-abbrev pub BeginsReply : {R : Type 0} → Result R ParseError → Result R ReplyError → Type 0
-BeginsReply read (Ok r) = read ≡ Ok r
-BeginsReply read (Err (Service FormatError)) = IsRefused read
-BeginsReply read (Err (Service InternalError)) = ⊥
-BeginsReply read (Err (Service NotImplemented)) = ⊥
-BeginsReply read (Err (Service Refused)) = ⊥
-BeginsReply read (Err NoMemory) = Unit {0}
+-- a reply is begun that has this state; FormatError exactly where an option is unreadable
+abbrev pub BeginsReply : {R : Type 0} → (R → ReplyState) → Result ReplyState ParseError → Result R ReplyError → Type 0
+BeginsReply state read (Ok r) = read ≡ Ok (state r)
+BeginsReply state read (Err (Service FormatError)) = IsRefused read
+BeginsReply state read (Err (Service InternalError)) = ⊥
+BeginsReply state read (Err (Service NotImplemented)) = ⊥
+BeginsReply state read (Err (Service Refused)) = ⊥
+BeginsReply state read (Err NoMemory) = Unit {0}
 
 -- the OPT record that an option is added to
 abbrev pub begun : Option OptState → OptState
@@ -79,3 +79,8 @@ Composes read (Err (Service InternalError)) = (m : Msg) × (read ≡ Ok m) × (6
 Composes read (Err (Service NotImplemented)) = ⊥
 Composes read (Err (Service Refused)) = ⊥
 Composes read (Err NoMemory) = Unit {0}
+
+-- what may be kept beside a reply: the message that is built of it, so that the reply isn't read for it
+abbrev pub KeepsBuilt : ReplyState → Option Built → Type 0
+KeepsBuilt r None = Unit {0}
+KeepsBuilt r (Some b) = Composes (reply_message r) (Ok b)

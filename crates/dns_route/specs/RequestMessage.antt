@@ -28,10 +28,14 @@ abbrev pub request_opt : Msg → Result OptState ParseError → Result RequestSt
 request_opt m (Ok s) = Ok (record { message = m; dnssec_ok = is_do s.head.flags; options = s.options })
 request_opt m (Err e) = Err e
 
+-- the size of the OPT record that is sent, in octets
+abbrev pub sent_size : ℕ
+sent_size = 1232
+
 -- a message with the DO bit and the client subnets of an OPT record, refused where one of its options is unreadable
 abbrev pub request_by : Msg → Option OptState → Result RequestState ParseError
 request_by m None = Ok (record { message = m; dnssec_ok = false; options = [] })
-request_by m (Some s) = request_opt m (kept_opt 1232 Subnets s)
+request_by m (Some s) = request_opt m (kept_opt sent_size Subnets s)
 
 abbrev pub request_with : Option OptState → Result Msg ParseError → Result RequestState ParseError
 request_with opt (Ok m) = request_by m opt
@@ -64,11 +68,11 @@ request_error_text NoMemory = codes "out of memory"
 abbrev pub AddsTo : ℕ → List ℕ → RequestState → RequestState → Result ⊤ BuildDataError → Type 0
 AddsTo code d old new result = Pushed code d old.options new.options result × (new ≡ record old { options = new.options })
 
--- the OPT record that is sent: of size 1,232, where DO is set or there are options
+-- the OPT record that is sent, where DO is set or there are options
 abbrev pub sent_opt : Bool → List ℕ → Option OptState
-sent_opt true o = Some (opt_state (plain_head 1232 true) o)
+sent_opt true o = Some (opt_state (plain_head sent_size true) o)
 sent_opt false [] = None
-sent_opt false (x ∷ o) = Some (opt_state (plain_head 1232 false) (x ∷ o))
+sent_opt false (x ∷ o) = Some (opt_state (plain_head sent_size false) (x ∷ o))
 
 -- the message that is sent, its OPT record last
 abbrev pub request_sent : RequestState → Msg

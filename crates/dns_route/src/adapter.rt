@@ -46,7 +46,9 @@ impl<C: SendRequest> SingleService for ClientTransportToSingleService<C> {
 
     fn turn(&self, alloc: Global, request: &Request<()>, k: u64) -> Result<Turned, OutOfMemory> {
         match readable(alloc, request) {
-            Ok(Some(sent)) => relay(alloc, request.message(), self.answered(alloc, sent, k)?),
+            Ok(Some(sent)) => {
+                relay_answer(alloc, request.message(), self.answered(alloc, sent, k)?)
+            }
             Ok(None) => Ok(Polled::Ready(Err(ServiceError::InternalError))),
             Err(error) => Err(error),
         }
@@ -80,7 +82,9 @@ impl SingleService for BoxClientTransportToSingleService {
 
     fn turn(&self, alloc: Global, request: &Request<()>, k: u64) -> Result<Turned, OutOfMemory> {
         match readable(alloc, request) {
-            Ok(Some(sent)) => relay(alloc, request.message(), self.answered(alloc, sent, k)?),
+            Ok(Some(sent)) => {
+                relay_answer(alloc, request.message(), self.answered(alloc, sent, k)?)
+            }
             Ok(None) => Ok(Polled::Ready(Err(ServiceError::InternalError))),
             Err(error) => Err(error),
         }
@@ -98,8 +102,9 @@ fn readable(alloc: Global, request: &Request<()>) -> Result<Option<RequestMessag
     }
 }
 
-/// What a turn answers where a transport gave this answer to the query.
-fn relay(alloc: Global, query: &Message, answer: Answered) -> Result<Turned, OutOfMemory>
+/// What a turn answers where a transport gave this answer to the query: the reply that the message begins, FormatError where an
+/// option of its OPT record is unreadable, or SERVFAIL with the text of the error.
+pub fn relay_answer(alloc: Global, query: &Message, answer: Answered) -> Result<Turned, OutOfMemory>
     ensures { IfOk result (λ p. p ≡ relay_answer query.now answer) }
 {
     match answer {

@@ -10,9 +10,10 @@ use crate::own_reply::{error_begun, no_service};
 use crate::single_service::{SingleService, Turned};
 use dns_base::Message;
 use dns_name::{Name, OptRcode, ParsedName};
-use dns_routes::Routes;
+use dns_routes::{Routes, Seed};
 use dns_service::{OutOfMemory, Polled, Request};
 use std::alloc::Global;
+use std::hash::RandomState;
 use std::marker::Model;
 
 /// Asks the service whose name ends the question's, up to ASCII case: of several the one with the most labels, and of
@@ -32,12 +33,23 @@ impl<S> Model for QnameRouter<S> {
 }
 
 impl<S: SingleService> QnameRouter<S> {
-    /// A router that has no service.
+    /// A router that has no service. Names are hashed from a fixed seed: where strangers choose names that are added,
+    /// `new_with_seed` is the call to take.
     pub fn new(alloc: Global) -> Self
         ensures { result ≡ [] }
     {
         QnameRouter {
-            routes: Routes::new(alloc),
+            routes: Routes::new(alloc, Seed::fixed()),
+        }
+    }
+
+    /// The same, where names are hashed from a random state, as `RandomState::new(&rt)` gives, so that nobody can pick names
+    /// whose hashes meet.
+    pub fn new_with_seed(alloc: Global, seed: RandomState) -> Self
+        ensures { result ≡ [] }
+    {
+        QnameRouter {
+            routes: Routes::new(alloc, Seed::random(seed)),
         }
     }
 

@@ -1,16 +1,14 @@
 //! Replies that are composed of other messages.
 
-ghost use Rattle.std.specs.Prelude.{◌≡◌, ℕ, ⊤, IfOk, List, None, Ok, Result};
+ghost use Rattle.std.specs.Prelude.{◌≡◌, IfOk, None, Ok};
 ghost use Rattle.std.specs.Option.{option_copied};
-ghost use Rattle.dns_name.specs.declared.error.ParseError.{ParseError};
-ghost use Rattle.dns_name.specs.declared.opt_error.BuildDataError.{BuildDataError};
-ghost use Rattle.dns_base.specs.Msg.{Msg};
 ghost use Rattle.dns_route.specs.OwnReplies.{kept_whole};
 ghost use Rattle.dns_base.specs.Standing.{GivesParsed};
+ghost use Rattle.dns_opt.specs.Reopened.{opt_among};
 ghost use Rattle.dns_service.specs.LastOpt.{and_opt};
 ghost use Rattle.dns_route.specs.declared.kept.KeptKinds.TheVariants.{SubnetsAndErrors};
 ghost use Rattle.dns_route.specs.Kept.{kept_opt};
-ghost use Rattle.dns_route.specs.ReplyMessage.{Adds, BeginsReply, Composes, reply_message, reply_read, reply_with};
+ghost use Rattle.dns_route.specs.ReplyMessage.{Adds, BeginsReply, Composes, ReplyState, reply_message, reply_read, reply_with};
 
 use crate::kept::{KeptKinds, kept_opt};
 use dns_base::{AdditionalBuilder, Message, MessageRef, ParseError};
@@ -22,22 +20,17 @@ use std::marker::Model;
 
 /// A reply that is composed of another message.
 pub trait ComposeReply: Sized {
-    /// The reply that a message's octets begin, or why an option of theirs is refused.
-    ghost begun: { List ℕ → Result Self ParseError };
-
-    /// What a call that adds an option, of a code and data, may leave and answer.
-    ghost adds: { ℕ → List ℕ → Self → Self → Result ⊤ BuildDataError → Type 0 };
-
-    /// The message that a reply is, or why it can't be read.
-    ghost composed: { Self → Result Msg ParseError };
+    /// The octets of the message that a reply is composed of, and the OPT record that it gets.
+    ghost state: { Self → ReplyState };
 
     /// Begins a reply with a message. FormatError where one of its options is unreadable.
     fn from_message(alloc: Global, message: &MessageRef<'_>) -> Result<Self, ReplyError>
-        ensures { BeginsReply (begun message.now) result };
+        ensures { BeginsReply state (reply_read message.now) result };
 
-    /// Adds an option to the reply's OPT record.
+    /// Adds an option to the reply's OPT record. Refused LongOptData exactly where the options would pass 65,535 octets; a
+    /// refused call leaves the reply.
     fn add_opt<D: ComposeOptData>(&mut self, alloc: Global, opt: &D) -> Result<(), BuildDataError>
-        ensures { adds (D.code_of opt.now) (D.octets opt.now) self.old self.new result };
+        ensures { Adds (D.code_of opt.now) (D.octets opt.now) (state self.old) (state self.new) result };
 
     /// The reply, which may be added to. FormatError where a section or its data is unreadable, else InternalError where
     /// something has no room in 65,535 octets.
@@ -45,32 +38,32 @@ pub trait ComposeReply: Sized {
         &self,
         alloc: Global,
     ) -> Result<AdditionalBuilder, ReplyError>
-        ensures { Composes (composed self.now) result };
+        ensures { Composes (reply_message (state self.now)) result };
 }
 
-/// A message and the OPT record that it gets: in place of its own, if it has one.
+/// A message and the OPT record that it gets: in place of its own, if it has one. Beside them the message that is built of it may
+/// be kept, so that it isn't read for it.
 #[derive(Debug, Drop)]
 pub struct ReplyMessage {
     message: Message,
     opt: Option<OptRecord>,
+    built: Option<AdditionalBuilder>,
 }
 
 impl Model for ReplyMessage {
-    ghost use Rattle.dns_route.specs.ReplyMessage.{ReplyState};
+    ghost use Rattle.dns_route.specs.ReplyMessage.{KeepsBuilt, ReplyState};
 
     ghost Value = { ReplyState };
 
     ghost view = { λ r. record { octets = r.message; opt = r.opt } };
+
+    ghost invariant = { λ r. KeepsBuilt (record { octets = r.message; opt = r.opt }) r.built };
 }
 
 impl ComposeReply for ReplyMessage {
-    ghost begun = { reply_read };
+    ghost state = { λ r. r };
 
-    ghost adds = { Adds };
-
-    ghost composed = { reply_message };
-
-    /// KeptKinds the octets, and of a readable OPT record the size, the DO bit, the client subnets and the extended errors.
+    /// Keeps the octets, and of a readable OPT record the size, the DO bit, the client subnets and the extended errors.
     fn from_message(alloc: Global, message: &MessageRef<'_>) -> Result<Self, ReplyError> {
         match message.opt() {
             Some(found) => Ok(kept_reply(alloc, message, &found)?),
@@ -81,6 +74,7 @@ impl ComposeReply for ReplyMessage {
     /// An OPT record whose numbers are all 0 is begun where there was none. Refused LongOptData exactly where its options
     /// would pass 65,535 octets.
     fn add_opt<D: ComposeOptData>(&mut self, alloc: Global, opt: &D) -> Result<(), BuildDataError> {
+        self.built = None;
         match &mut self.opt {
             Some(kept) => kept.push(alloc, opt),
             None => self.begin_opt(alloc, opt),
@@ -93,17 +87,34 @@ impl ComposeReply for ReplyMessage {
         &self,
         alloc: Global,
     ) -> Result<AdditionalBuilder, ReplyError> {
-        let copied = CopiedMessage::read(alloc, &self.message.for_ref())?;
-        composed(alloc, copied, self.opt.as_ref())
+        match self.built.as_ref() {
+            Some(built) => match built.try_clone(alloc) {
+                Ok(copy) => Ok(copy),
+                Err(_) => Err(ReplyError::OutOfMemory),
+            },
+            None => self.read_again(alloc),
+        }
     }
 }
 
 impl ReplyMessage {
+    /// The reply, whose message is read for it.
+    fn read_again(&self, alloc: Global) -> Result<AdditionalBuilder, ReplyError>
+        ensures { Composes (reply_message self.now) result }
+    {
+        let copied = CopiedMessage::read(alloc, &self.message.for_ref())?;
+        composed(alloc, copied, self.opt.as_ref())
+    }
+
     /// The reply of a message and the OPT record that takes the place of its own. The message is not copied.
     pub fn of(message: Message, opt: Option<OptRecord>) -> ReplyMessage
         ensures { result ≡ record { octets = message; opt = opt } }
     {
-        ReplyMessage { message, opt }
+        ReplyMessage {
+            message,
+            opt,
+            built: None,
+        }
     }
 
     /// The message that the reply is composed of. Its OPT record isn't the reply's.
@@ -127,6 +138,7 @@ impl ReplyMessage {
     {
         let mut begun = OptRecord::default(alloc);
         begun.push(alloc, opt)?;
+        self.built = None;
         self.opt = Some(begun);
         Ok(())
     }
@@ -139,12 +151,37 @@ impl ReplyMessage {
     ) -> Result<ReplyMessage, OutOfMemory>
         ensures { IfOk result (λ r. r ≡ kept_whole built.message) }
     {
-        let opt = match built.opt_record() {
-            Some(found) => Some(found.to_owned(alloc)?),
-            None => None,
-        };
+        let opt = own_record(alloc, &built)?;
         let message = built.into_message();
-        Ok(ReplyMessage { message, opt })
+        Ok(ReplyMessage {
+            message,
+            opt,
+            built: None,
+        })
+    }
+
+    /// The same of a message that is what is built of this reply: it is kept, and not read again.
+    pub fn from_typed(alloc: Global, built: AdditionalBuilder) -> Result<ReplyMessage, OutOfMemory>
+        requires { Composes (reply_message (kept_whole built.message)) (Ok built) }
+        ensures { IfOk result (λ r. r ≡ kept_whole built.message) }
+    {
+        let opt = own_record(alloc, &built)?;
+        let message = owned(alloc, &built.as_message())?;
+        Ok(ReplyMessage {
+            message,
+            opt,
+            built: Some(built),
+        })
+    }
+}
+
+/// The OPT record of a message that was built, owned.
+fn own_record(alloc: Global, built: &AdditionalBuilder) -> Result<Option<OptRecord>, OutOfMemory>
+    ensures { IfOk result (λ o. o ≡ opt_among built.now.message.additional) }
+{
+    match built.opt_record() {
+        Some(found) => Ok(Some(found.to_owned(alloc)?)),
+        None => Ok(None),
     }
 }
 
@@ -191,7 +228,7 @@ pub(crate) fn owned_reply(alloc: Global, message: Message) -> Result<ReplyMessag
         )?),
         None => None,
     };
-    Ok(ReplyMessage { message, opt })
+    Ok(ReplyMessage::of(message, opt))
 }
 
 /// The same message, owned, as a reply with an OPT record or without.
@@ -203,7 +240,7 @@ fn reply_of(
     ensures { IfOk result (λ r. r ≡ record { octets = message.now; opt = opt }) }
 {
     let message = owned(alloc, message)?;
-    Ok(ReplyMessage { message, opt })
+    Ok(ReplyMessage::of(message, opt))
 }
 
 /// The same message, owned.

@@ -4,7 +4,7 @@ ghost use Rattle.std.specs.Prelude.{◌≡◌, ◌≤◌, [], IfOk, Some, false,
 ghost use Rattle.std.specs.Option.{option_copied};
 ghost use Rattle.dns_route.specs.declared.kept.KeptKinds.TheVariants.{Subnets};
 ghost use Rattle.dns_route.specs.Kept.{kept_opt};
-ghost use Rattle.dns_route.specs.RequestMessage.{AddsTo, ReadsRequest, Sends, request_error_text, request_of, request_opt, request_sent, sent_opt};
+ghost use Rattle.dns_route.specs.RequestMessage.{AddsTo, ReadsRequest, Sends, request_error_text, request_of, request_opt, request_sent, sent_opt, sent_size};
 
 use crate::kept::{KeptKinds, kept_opt, plain};
 use dns_base::{Message, ParseError, PushError};
@@ -63,13 +63,13 @@ impl Model for RequestMessage {
     ghost use Rattle.std.specs.Prelude.{◌≡◌};
     ghost use Rattle.dns_opt.specs.OptRecords.{is_do};
     ghost use Rattle.dns_route.specs.Kept.{plain_head};
-    ghost use Rattle.dns_route.specs.RequestMessage.{RequestState};
+    ghost use Rattle.dns_route.specs.RequestMessage.{RequestState, sent_size};
 
     ghost Value = { RequestState };
 
     ghost view = { λ r. record { message = r.message; dnssec_ok = is_do r.opt.head.flags; options = r.opt.options } };
 
-    ghost invariant = { λ r. r.opt.head ≡ plain_head 1232 (is_do r.opt.head.flags) };
+    ghost invariant = { λ r. r.opt.head ≡ plain_head sent_size (is_do r.opt.head.flags) };
 }
 
 impl RequestMessage {
@@ -92,7 +92,7 @@ impl RequestMessage {
         message: CopiedMessage,
         found: &OptRecordRef<'_>,
     ) -> Result<RequestMessage, Error>
-        ensures { ReadsRequest (request_opt message (kept_opt 1232 Subnets found.now)) result }
+        ensures { ReadsRequest (request_opt message (kept_opt sent_size Subnets found.now)) result }
     {
         let opt = kept_opt(alloc, SIZE, KeptKinds::Subnets, found)?;
         Ok(RequestMessage { message, opt })

@@ -4,7 +4,7 @@ ghost use Rattle.std.specs.Prelude.{◌≡◌, Err, IfOk};
 ghost use Rattle.std.specs.Arc.{arc_value};
 ghost use Rattle.dns_service.specs.Once.{once};
 ghost use Rattle.dns_service.specs.declared.service.ServiceError.TheVariants.{InternalError};
-ghost use Rattle.dns_service.specs.ServiceFn.{hint_at_entry};
+ghost use Rattle.dns_service.specs.Req.{hint_at_entry};
 ghost use Rattle.dns_route.specs.ReplyMessage.{reply_message};
 ghost use Rattle.dns_route.specs.Turns.{built_item, turn_item, turned_over, turns_answer};
 

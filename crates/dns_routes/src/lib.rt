@@ -4,6 +4,8 @@
 mod laws;
 mod places;
 mod routes;
+mod seed;
 
 pub use laws::matches_are_suffixes;
 pub use routes::Routes;
+pub use seed::Seed;

@@ -7,6 +7,7 @@ ghost use Rattle.std.specs.Str.{bytes_eq};
 ghost use Rattle.dns_name.specs.Labels.{AreLabels};
 ghost use Rattle.dns_routes.specs.Places.{Knows, name_key, place_under};
 
+use crate::seed::Seed;
 use dns_name::{Labels, Name, OutOfMemory, push_lower};
 use smallvec::SmallVec;
 use std::alloc::Global;
@@ -14,6 +15,9 @@ use std::collections::HashMap;
 
 /// The octets of a name in lower case. Up to 32 of them lie in the map itself, where a look-up compares them.
 pub(crate) type Key = SmallVec<u8, 32>;
+
+/// Places of services, found by the octets of names.
+pub(crate) type PlacesByName = HashMap<Key, usize, Seed>;
 
 /// Appends a label in lower case behind its length.
 fn push_folded(label: &[u8], octets: &mut Vec<u8>) -> Result<(), OutOfMemory>
@@ -51,7 +55,7 @@ pub(crate) fn key_of(alloc: Global, name: &Name) -> Result<Key, OutOfMemory>
 }
 
 /// Keeps a place under octets, in place of what was kept there.
-fn put(places: &mut HashMap<Key, usize>, key: Key, place: usize) -> Result<(), OutOfMemory>
+fn put(places: &mut PlacesByName, key: Key, place: usize) -> Result<(), OutOfMemory>
     ensures ok { OnOk result ((o : _) → place_under places.new o ≡ (if bytes_eq key.items o then Some place else place_under places.old o)) }
     ensures err { OnErr result (places.new.entries ≡ places.old.entries) }
 {
@@ -74,7 +78,7 @@ fn reserve_both<S: Drop>(names: &mut Vec<Name>, services: &mut Vec<S>) -> Result
 fn place_next<S: Drop>(
     names: &mut Vec<Name>,
     services: &mut Vec<S>,
-    places: &mut HashMap<Key, usize>,
+    places: &mut PlacesByName,
     key: Key,
 ) -> Result<(), OutOfMemory>
     ensures names { names.new.items ≡ names.old.items }
@@ -102,7 +106,7 @@ fn push_both<S: Drop>(names: &mut Vec<Name>, services: &mut Vec<S>, route: (Name
 pub(crate) fn put_route<S: Drop>(
     names: &mut Vec<Name>,
     services: &mut Vec<S>,
-    places: &mut HashMap<Key, usize>,
+    places: &mut PlacesByName,
     key: Key,
     route: (Name, S),
 ) -> Result<(), OutOfMemory>

@@ -5,7 +5,8 @@ ghost use Rattle.std.specs.Option.{option_copied};
 ghost use Rattle.dns_routes.specs.Places.{last_under, name_key};
 ghost use Rattle.dns_routes.specs.Routes.{chosen, most_labels};
 
-use crate::places::{Key, folded_octets, key_of, put_route};
+use crate::places::{Key, PlacesByName, folded_octets, key_of, put_route};
+use crate::seed::Seed;
 use dns_name::{Labels, Name, OutOfMemory, ParsedName};
 use std::alloc::Global;
 use std::collections::HashMap;
@@ -17,7 +18,7 @@ use std::marker::Model;
 pub struct Routes<S> {
     names: Vec<Name>,
     services: Vec<S>,
-    places: HashMap<Key, usize>,
+    places: PlacesByName,
     most: usize,
 }
 
@@ -34,14 +35,14 @@ impl<S> Model for Routes<S> {
 }
 
 impl<S: Drop> Routes<S> {
-    /// No names.
-    pub fn new(alloc: Global) -> Self
+    /// No names, whose octets are hashed from a seed.
+    pub fn new(alloc: Global, seed: Seed) -> Self
         ensures { result ≡ [] }
     {
         Routes {
             names: Vec::new(alloc),
             services: Vec::new(alloc),
-            places: HashMap::new(alloc),
+            places: HashMap::with_hasher(alloc, seed),
             most: 0,
         }
     }

@@ -28,4 +28,4 @@ pub record PlaysScript (read : Result (Plan NoEvent) (ℕ × Reason)) (settings 
   pub is_read : read ≡ Ok said
   pub settings_said : settings ≡ settings_of said
   pub answers_said : answers ≡ played (rules_of said.service)
-  pub verdicts_said : verdicts ≡ script_verdicts said.zones
+  pub verdicts_said : verdicts ≡ script_verdicts said.notify_rules

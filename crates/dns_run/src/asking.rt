@@ -121,6 +121,6 @@ pub(crate) fn write_answers<W: Sink>(
     ensures told { Tells (W.tells sink.new) (W.tells sink.old) (Wrote result (cache_text capacity script) (W.taken sink.old) (W.taken sink.new)) }
     ensures cause { WroteFaults result (W.faults sink.old) (W.faults sink.new) }
 {
-    let (_settings, service, _zones, asks) = script.into_parts();
+    let (_settings, service, _notify_rules, asks) = script.into_parts();
     write_cached(alloc, sink, service.into_rules(alloc), asks, capacity)
 }

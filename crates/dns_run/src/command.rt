@@ -7,7 +7,7 @@ ghost use Rattle.dns_run.specs.Command.{IsFit, cache_command, cache_of, command_
 use dns_trace::{decimal, num};
 
 /// What the program is asked to do.
-#[derive(Clone, Copy, Debug, PartialEq, Eq)]
+#[derive(Clone, Copy)]
 pub enum Command {
     /// `replay`: a script is read from the source, and its outputs are written.
     Replay,

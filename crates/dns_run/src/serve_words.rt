@@ -10,7 +10,7 @@ use dns_trace::{LineError, addr, num, port};
 use std::alloc::Global;
 
 /// What `serve ADDR PORT COUNT` asks for.
-#[derive(Clone, Copy, Debug, PartialEq, Eq)]
+#[derive(Clone, Copy)]
 pub struct ServeWords {
     /// Where datagrams and connections come in.
     pub addr: SocketAddr,

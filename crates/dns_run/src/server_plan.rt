@@ -40,15 +40,15 @@ fn plan_of(alloc: Global, asked: ServeWords, script: Script<NoEvent>) -> ServePl
     ensures count { result.count ≡ asked.count }
     ensures settings { result.settings ≡ settings_of script }
     ensures service { ⟦<ScriptService as Service<()>>⟧.answer result.service ≡ played (rules_of script.service) }
-    ensures target { ⟦<ScriptTarget as Notifiable>⟧.verdict result.target ≡ script_verdicts script.zones }
+    ensures target { ⟦<ScriptTarget as Notifiable>⟧.verdict result.target ≡ script_verdicts script.notify_rules }
 {
-    let (settings, service, zones, _events) = script.into_parts();
+    let (settings, service, notify_rules, _events) = script.into_parts();
     ServePlan {
         addr: asked.addr,
         count: asked.count,
         settings,
         service: ScriptService::new(service.into_rules(alloc)),
-        target: ScriptTarget::new(zones),
+        target: ScriptTarget::new(notify_rules),
     }
 }
 

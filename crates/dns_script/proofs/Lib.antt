@@ -1,5 +1,6 @@
 pub mod Answered
 mod AnswersBack
+mod AnswersOn
 pub mod Between
 pub mod Called
 mod Kept
@@ -7,6 +8,7 @@ mod LinesBack
 pub mod Names
 mod NamesBack
 mod Padded
+mod Pends
 mod ReadRange
 mod RecordsBack
 mod ScriptBack

@@ -113,18 +113,18 @@ service_said (Zone z) p e h = rw (zone_step (unserved p) z.apex e refl refl refl
 
 -- ---- the lines of a target
 
-notify_step : (d : Draft Event) (n : NotifyRule) → d.plan.events ≡ [] → IsReadNotify n → line d (words_of_notify n) ≡ Ok (record d { plan = record d.plan { zones = d.plan.zones ++ n ∷ [] } })
+notify_step : (d : Draft Event) (n : NotifyRule) → d.plan.events ≡ [] → IsReadNotify n → line d (words_of_notify n) ≡ Ok (record d { plan = record d.plan { notify_rules = d.plan.notify_rules ++ n ∷ [] } })
 unfolding said_line service_line plan_line notify_line
 notify_step d n e h = rw (e, notify_back n h) refl
 
-abbrev with_zones : Draft Event → List NotifyRule → Draft Event
-with_zones d zones = record d { plan = record d.plan { zones = zones } }
+abbrev with_notify_rules : Draft Event → List NotifyRule → Draft Event
+with_notify_rules d notify_rules = record d { plan = record d.plan { notify_rules = notify_rules } }
 
-target_said : (ns : List NotifyRule) (d : Draft Event) → d.plan.events ≡ [] → AllByRecursion IsReadNotify ns → said_by line d (map words_of_notify ns) ≡ Ok (with_zones d (d.plan.zones ++ ns))
-target_said [] d e h = ap (λ (q : List NotifyRule). Ok (with_zones d q)) (sym (append-nil d.plan.zones))
+target_said : (ns : List NotifyRule) (d : Draft Event) → d.plan.events ≡ [] → AllByRecursion IsReadNotify ns → said_by line d (map words_of_notify ns) ≡ Ok (with_notify_rules d (d.plan.notify_rules ++ ns))
+target_said [] d e h = ap (λ (q : List NotifyRule). Ok (with_notify_rules d q)) (sym (append-nil d.plan.notify_rules))
 target_said (n ∷ ns) d e h =
     rw (notify_step d n e h.0)
-    (target_said ns (with_zones d (d.plan.zones ++ n ∷ [])) e h.1 ∙ ap (λ (q : List NotifyRule). Ok (with_zones d q)) (append_assoc d.plan.zones (n ∷ []) ns))
+    (target_said ns (with_notify_rules d (d.plan.notify_rules ++ n ∷ [])) e h.1 ∙ ap (λ (q : List NotifyRule). Ok (with_notify_rules d q)) (append_assoc d.plan.notify_rules (n ∷ []) ns))
 
 -- ---- the lines of events
 
@@ -222,15 +222,15 @@ settings_script s h = plainly_said (settings_lines s) empty_draft (only_said (wh
 -- ---- all lines
 
 abbrev all_lines : Settings → Plan Event → List (List (List ℕ))
-all_lines s p = settings_lines s ++ (words_of_service p.service ++ (map words_of_notify p.zones ++ map event_words p.events))
+all_lines s p = settings_lines s ++ (words_of_service p.service ++ (map words_of_notify p.notify_rules ++ map event_words p.events))
 
 -- what they say
 abbrev again : Settings → Plan Event → Plan Event
-again s p = record (set s) { service = p.service; zones = p.zones; events = p.events }
+again s p = record (set s) { service = p.service; notify_rules = p.notify_rules; events = p.events }
 
 -- the same with a service that isn't made yet
 abbrev drafted : Settings → Plan Event → Draft Event
-drafted s p = served (record (set s) { zones = p.zones; events = p.events }) p.service
+drafted s p = served (record (set s) { notify_rules = p.notify_rules; events = p.events }) p.service
 
 kind_plan : (p q : Plan Event) (s : ServiceLines) → record (served p s) { plan = q } ≡ served q s
 kind_plan p q (Rules rules) = refl
@@ -242,7 +242,7 @@ plan_is p (Rules rules) = refl
 plan_is p (Upstreams upstreams) = refl
 plan_is p (Zone z) = refl
 
-target_kind : (s : ServiceLines) (p : Plan Event) (ns : List NotifyRule) → p.events ≡ [] → AllByRecursion IsReadNotify ns → said_by line (served p s) (map words_of_notify ns) ≡ Ok (served (record p { zones = p.zones ++ ns }) s)
+target_kind : (s : ServiceLines) (p : Plan Event) (ns : List NotifyRule) → p.events ≡ [] → AllByRecursion IsReadNotify ns → said_by line (served p s) (map words_of_notify ns) ≡ Ok (served (record p { notify_rules = p.notify_rules ++ ns }) s)
 target_kind (Rules rules) p ns e h = target_said ns (served p (Rules rules)) e h
 target_kind (Upstreams upstreams) p ns e h = target_said ns (served p (Upstreams upstreams)) e h
 target_kind (Zone z) p ns e h = target_said ns (served p (Zone z)) e h
@@ -254,11 +254,11 @@ events_kind (Zone z) p es h = events_said es (served p (Zone z)) h
 
 all_said : (s : Settings) (p : Plan Event) → IsSettings s → IsReadScript p → said_by line empty_draft (all_lines s p) ≡ Ok (drafted s p)
 all_said s p h k =
-    let more = map words_of_notify p.zones ++ map event_words p.events in
-    let p1 : Plan Event = record (set s) { zones = p.zones } in
+    let more = map words_of_notify p.notify_rules ++ map event_words p.events in
+    let p1 : Plan Event = record (set s) { notify_rules = p.notify_rules } in
     said_append line (settings_lines s) (words_of_service p.service ++ more) empty_draft (unserved (set s)) (settings_script s h)
     ∙ said_append line (words_of_service p.service) more (unserved (set s)) (served (set s) p.service) (service_said p.service (set s) refl k.service)
-    ∙ said_append line (map words_of_notify p.zones) (map event_words p.events) (served (set s) p.service) (served p1 p.service) (target_kind p.service (set s) p.zones refl k.plan.zones)
+    ∙ said_append line (map words_of_notify p.notify_rules) (map event_words p.events) (served (set s) p.service) (served p1 p.service) (target_kind p.service (set s) p.notify_rules refl k.plan.notify_rules)
     ∙ events_kind p.service p1 p.events k.plan.events
 
 -- ---- each of them says something
@@ -288,7 +288,7 @@ all_say : (s : Settings) (p : Plan Event) → IsSettings s → IsReadScript p �
 all_say s p h k =
     say_append (settings_lines s) _ (settings_say s h)
     (say_append (words_of_service p.service) _ (service_say p.service k.service)
-    (say_append (map words_of_notify p.zones) _ (target_say p.zones k.plan.zones) (events_say p.events k.plan.events)))
+    (say_append (map words_of_notify p.notify_rules) _ (target_say p.notify_rules k.plan.notify_rules) (events_say p.events k.plan.events)))
 
 -- ---- the text
 
@@ -297,14 +297,14 @@ unfolding script_text settings_text service_text target_text event_text
 text_is p =
     let s = settings_of p in
     let service = words_of_service p.service in
-    let target = map words_of_notify p.zones in
+    let target = map words_of_notify p.notify_rules in
     let events = map event_words p.events in
     sym (flat_map-append line_of_words (settings_lines s) (service ++ (target ++ events))
     ∙ ap (λ (t : List ℕ). flat_map line_of_words (settings_lines s) ++ t) (flat_map-append line_of_words service (target ++ events)
     ∙ ap (λ (t : List ℕ). flat_map line_of_words service ++ t) (flat_map-append line_of_words target events
     ∙ ap (λ (t : List ℕ). flat_map line_of_words target ++ t) (flat_map-map line_of_words event_words p.events))))
 
-finished_again : (s : Settings) (p : Plan Event) (service : ServiceLines) → service ≡ p.service → IsReadService service → finished (served (record (set s) { zones = p.zones; events = p.events }) service) ≡ Ok (again s p)
+finished_again : (s : Settings) (p : Plan Event) (service : ServiceLines) → service ≡ p.service → IsReadService service → finished (served (record (set s) { notify_rules = p.notify_rules; events = p.events }) service) ≡ Ok (again s p)
 finished_again s p (Rules rules) e h = rw (← e) refl
 finished_again s p (Upstreams []) e h = absurd (omega (arith, h.1))
 finished_again s p (Upstreams (u ∷ us)) e h = rw (← e) refl
@@ -331,5 +331,5 @@ script_back t p e =
       again s p,
       read_again p k,
       record { settings = whole; service = refl; target = refl; events = refl },
-      ap (λ (x : Settings). settings_text x ++ (service_text p.service ++ (target_text p.zones ++ flat_map event_text p.events))) whole,
+      ap (λ (x : Settings). settings_text x ++ (service_text p.service ++ (target_text p.notify_rules ++ flat_map event_text p.events))) whole,
     )

@@ -36,7 +36,7 @@ use Rattle.dns_script.specs.declared.upstream.UpstreamLine.{UpstreamLine}
 
 pub record IsReadPlan (p : Plan Event) : Type 0 where
   pub said : IsSaid p.said
-  pub zones : AllByRecursion IsReadNotify p.zones
+  pub notify_rules : AllByRecursion IsReadNotify p.notify_rules
   pub events : AllByRecursion IsEvent p.events
 
 pub record IsReadZone (z : ZoneSaid) : Type 0 where
@@ -54,14 +54,14 @@ pub record IsReadDraft (d : Draft Event) : Type 0 where
 event_kept : (p : Plan Event) (ws : List (List ℕ)) → IsReadPlan p → Reads IsReadPlan (next_event_line every_word event_line p ws)
 unfolding next_event_line
 event_kept p ws h =
-    bound IsReadPlan (event_line ws) _ (λ e is. given _ _ (record { said = h.said; zones = h.zones; events = one_behind IsEvent p.events e h.events (at_ok IsEvent (event_line ws) e (event_read ws) is) }))
+    bound IsReadPlan (event_line ws) _ (λ e is. given _ _ (record { said = h.said; notify_rules = h.notify_rules; events = one_behind IsEvent p.events e h.events (at_ok IsEvent (event_line ws) e (event_read ws) is) }))
 
 setting_kept : (setting : Setting) (p : Plan Event) (ws : List (List ℕ)) → IsReadPlan p → Reads IsReadPlan (next_setting_line setting p ws)
 unfolding next_setting_line
 setting_kept setting p ws h =
     let before : Bool = length p.events == 0 in
     bound IsReadPlan (setting_line setting before p.said ws) _ (λ s is.
-    given _ _ (record { said = at_ok IsSaid (setting_line setting before p.said ws) s (setting_read setting before p.said ws h.said) is; zones = h.zones; events = h.events }))
+    given _ _ (record { said = at_ok IsSaid (setting_line setting before p.said ws) s (setting_read setting before p.said ws h.said) is; notify_rules = h.notify_rules; events = h.events }))
 
 next_kept : (o : Option Setting) (p : Plan Event) (ws : List (List ℕ)) → IsReadPlan p → Reads IsReadPlan (next_line every_word event_line o p ws)
 next_kept (Some setting) p ws h = setting_kept setting p ws h
@@ -71,7 +71,7 @@ notify_kept : (p : Plan Event) (ws : List (List ℕ)) → IsReadPlan p → Reads
 unfolding notify_line
 notify_kept p ws h =
     bound IsReadPlan (before_events p) _ (λ u e. bound _ (notify_of ws) _ (λ n is.
-    given _ _ (record { said = h.said; zones = one_behind IsReadNotify p.zones n h.zones (at_ok IsReadNotify (notify_of ws) n (notify_read ws) is); events = h.events })))
+    given _ _ (record { said = h.said; notify_rules = one_behind IsReadNotify p.notify_rules n h.notify_rules (at_ok IsReadNotify (notify_of ws) n (notify_read ws) is); events = h.events })))
 
 plan_kept : (p : Plan Event) (ws : List (List ℕ)) → IsReadPlan p → Reads IsReadPlan (plan_line every_word event_line p ws)
 unfolding plan_line
@@ -166,12 +166,12 @@ finished_kept : (d : Draft Event) → IsReadDraft d → Reads IsReadScript (fini
 finished_kept d h =
     bound IsReadScript (service_by d.rules d.upstreams d.zone) _ (λ service is.
     given _ _ (record {
-      plan = record { said = h.plan.said; zones = h.plan.zones; events = h.plan.events };
+      plan = record { said = h.plan.said; notify_rules = h.plan.notify_rules; events = h.plan.events };
       service = at_ok IsReadService (service_by d.rules d.upstreams d.zone) service (service_kept d.rules d.upstreams d.zone h.rules h.upstreams h.zone) is;
     }))
 
 none_read : IsReadDraft empty_draft
-none_read = record { plan = record { said = record { secret = tt; denied = tt; dgram = tt; stream = tt }; zones = tt; events = tt }; rules = tt; upstreams = tt; zone = tt }
+none_read = record { plan = record { said = record { secret = tt; denied = tt; dgram = tt; stream = tt }; notify_rules = tt; events = tt }; rules = tt; upstreams = tt; zone = tt }
 
 pub script_read : (t : List ℕ) → Reads IsReadScript (event_script t)
 unfolding script

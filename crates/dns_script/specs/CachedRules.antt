@@ -1,5 +1,5 @@
 -- What is written for questions that a cache in front of a script's rules is asked.
-use Rattle.std.specs.Prelude.{ℕ, zero, suc, ◌+◌, List, [], ◌∷◌, ◌++◌, Option, Some, None, Result, Ok, Err, codes, if◌then◌else◌}
+use Rattle.std.specs.Prelude.{ℕ, zero, suc, ◌≡◌, ◌≤◌, ◌⊎◌, ◌+◌, List, [], ◌∷◌, ◌++◌, Option, Some, None, Result, Ok, Err, codes, if◌then◌else◌}
 use Rattle.hex.specs.Hex.{encode_lower}
 use Rattle.dns_name.specs.declared.error.ParseError.{ParseError}
 use Rattle.dns_base.specs.Msg.{Msg}
@@ -96,6 +96,25 @@ called_from answers r zero k c = record { line = codes "pending\n"; behind = c }
 called_from answers r (suc n) k c =
     let call = called answers c (record { request = r; k = k }) in
     or_later (call_text call.cached (answers r k)) call.behind (called_from answers r n (k + 1) call.behind)
+
+-- the cache behind a call of a request
+abbrev pub call_behind : TurnAnswers → Req (Unit {0}) → ℕ → Cached → Cached
+call_behind answers r k c = (called answers c (record { request = r; k = k })).behind
+
+-- the cache behind n calls of a request, of which the first has number k
+abbrev pub calls_behind : TurnAnswers → Req (Unit {0}) → ℕ → ℕ → Cached → Cached
+calls_behind answers r zero k c = c
+calls_behind answers r (suc n) k c = calls_behind answers r n (k + 1) (call_behind answers r k c)
+
+-- a cache is as before a call of a request, or as behind it
+abbrev pub IsAtCall : TurnAnswers → Req (Unit {0}) → ℕ → Cached → Cached → Type 0
+IsAtCall answers r k c d = (d ≡ c) ⊎ (d ≡ call_behind answers r k c)
+
+-- a cache is as behind the first of at most 1,000 calls of a request, none or more
+pub record IsBehindCalls (answers : TurnAnswers) (r : Req (Unit {0})) (c d : Cached) : Type 0 where
+  pub calls : ℕ
+  pub few : calls ≤ 1000
+  pub behind : d ≡ calls_behind answers r calls 0 c
 
 -- at most 1,000 calls
 unfoldable pub first_ready : TurnAnswers → Req (Unit {0}) → Cached → CacheLine

@@ -14,11 +14,11 @@ use Rattle.dns_script.specs.declared.service_lines.ServiceLines.TheVariants.{Rul
 pub record Plan (E : Type 0) : Type 0 where
   pub said : Said
   pub service : ServiceLines
-  pub zones : List NotifyRule
+  pub notify_rules : List NotifyRule
   pub events : List E
 
 abbrev pub empty_plan : {E : Type 0} → Plan E
-empty_plan = record { said = nothing_said; service = Rules []; zones = []; events = [] }
+empty_plan = record { said = nothing_said; service = Rules []; notify_rules = []; events = [] }
 
 -- before the first event
 abbrev pub before_events : {E : Type 0} → Plan E → Result (Unit {0}) Reason

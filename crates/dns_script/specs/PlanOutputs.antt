@@ -5,11 +5,10 @@ use Rattle.dns_service.specs.Req.{Req}
 use Rattle.dns_events.specs.declared.event.Event.{Event}
 use Rattle.dns_events.specs.declared.event.Output.{Output}
 use Rattle.dns_events.specs.declared.event.Step.{Step}
-use Rattle.dns_client.specs.Serving.{Serving, serving}
+use Rattle.dns_client.specs.Serving.{Serving}
 use Rattle.dns_core.specs.Out.{out}
 use Rattle.dns_core.specs.Outs.{outs}
-use Rattle.dns_middleware.specs.Verdicts.{Verdicts, verdict_on}
-use Rattle.dns_middleware.specs.Wrapped.{hint_left, replies}
+pub use Rattle.dns_core.specs.WrappedServing.{wrapped_serving}
 use Rattle.dns_events.specs.declared.settings.Settings.{Settings}
 use Rattle.dns_route.specs.Routes.{routed}
 use Rattle.dns_route.specs.Turns.{turned_over}
@@ -27,13 +26,9 @@ service_answers (Rules rules) = played rules
 service_answers (Upstreams upstreams) = turned_over (routed upstream_turn (upstreams_under upstreams))
 service_answers (Zone zone) = turned_over (zone_turn zone)
 
--- how a service serves in the layers of the settings, by what it answers and a target's verdicts
-abbrev pub wrapped_serving : Settings → (Req (Unit {0}) → ℕ → Answer) → Verdicts → Serving
-wrapped_serving s answers verdicts = serving (replies s answers (verdict_on verdicts)) (hint_left s)
-
 -- what the clients of a script are sent for its events, or its steps, where this is what clients are sent for such
 unfoldable pub plan_sent : {E : Type 0} → (Serving → Settings → List E → List Output) → Plan E → List Output
-plan_sent sent p = sent (wrapped_serving (settings_of p) (service_answers p.service) (script_verdicts p.zones)) (settings_of p) p.events
+plan_sent sent p = sent (wrapped_serving (settings_of p) (service_answers p.service) (script_verdicts p.notify_rules)) (settings_of p) p.events
 
 -- what the clients are sent: the outputs of the events, served by the service under the settings
 abbrev pub plan_outputs : Plan Event → List Output

@@ -79,8 +79,8 @@ notify_of ws = do
 unfoldable pub notify_line : {E : Type 0} → Plan E → List (List ℕ) → Result (Plan E) Reason
 notify_line p ws = do
   _ ← before_events p
-  zone ← notify_of ws
-  Ok (record p { zones = p.zones ++ zone ∷ [] })
+  n ← notify_of ws
+  Ok (record p { notify_rules = p.notify_rules ++ n ∷ [] })
 
 -- a line that speaks of the plan alone
 abbrev pub of_plan : {E : Type 0} → Draft E → Result (Plan E) Reason → Result (Draft E) Reason

@@ -2,8 +2,6 @@
 pub use Rattle.dns_trace.specs.Reading.{TakesLine}
 use Rattle.std.specs.Prelude.{◌≡◌, ℕ, Result, Ok, Err}
 use Rattle.dns_trace.specs.declared.reason.Reason.{Reason}
-use Rattle.dns_trace.specs.declared.text_reader.TraceError.{TraceError}
-use Rattle.dns_trace.specs.declared.text_reader.TraceError.TheVariants.{Line, OutOfMemory as NoMemory}
 use Rattle.dns_script.specs.declared.script.ScriptError.{ScriptError}
 use Rattle.dns_script.specs.declared.script.ScriptError.TheVariants.{OutOfMemory, Refused}
 
@@ -11,12 +9,6 @@ use Rattle.dns_script.specs.declared.script.ScriptError.TheVariants.{OutOfMemory
 abbrev pub kept : {A E : Type 0} → A → Result (Unit {0}) E → Result A E
 kept x (Ok u) = Ok x
 kept x (Err e) = Err e
-
--- nothing is refused, or why a text is no script
-abbrev pub all_read : Result (Unit {0}) TraceError → Result (Unit {0}) ScriptError
-all_read (Ok u) = Ok u
-all_read (Err NoMemory) = Err OutOfMemory
-all_read (Err (Line n r)) = Err (Refused n r)
 
 abbrev pub RefusesScript : {A : Type 0} → ScriptError → Result A (ℕ × Reason) → Type 0
 RefusesScript OutOfMemory read = Unit {0}

@@ -44,15 +44,15 @@ service_text service = flat_map line_of_words (words_of_service service)
 
 -- the lines of a target
 unfoldable pub target_text : List NotifyRule → List ℕ
-target_text zones = flat_map line_of_words (map words_of_notify zones)
+target_text notify_rules = flat_map line_of_words (map words_of_notify notify_rules)
 
 -- the settings, also where they are the default ones, the service, the target, and one line for each event
 unfoldable pub script_text : Plan Event → List ℕ
-script_text p = settings_text (settings_of p) ++ (service_text p.service ++ (target_text p.zones ++ flat_map event_text p.events))
+script_text p = settings_text (settings_of p) ++ (service_text p.service ++ (target_text p.notify_rules ++ flat_map event_text p.events))
 
 -- scripts of the same settings, service, target and events
 pub record SameScript (p q : Plan Event) : Type 0 where
   pub settings : settings_of q ≡ settings_of p
   pub service : q.service ≡ p.service
-  pub target : q.zones ≡ p.zones
+  pub target : q.notify_rules ≡ p.notify_rules
   pub events : q.events ≡ p.events

@@ -1,6 +1,6 @@
 -- What a script's upstreams answer: each question is sent twice at most, under an identifier of its own, and at each poll what its word
 -- says happens.
-use Rattle.std.specs.Prelude.{ℕ, Bool, false, zero, suc, ◌+◌, ◌%◌, List, [], ◌∷◌, ◌++◌, bit_xor, length, map, nat_le, nat_lt, unwrap_or, if◌then◌else◌, Result, Ok, Err}
+use Rattle.std.specs.Prelude.{ℕ, ◌≡◌, ◌<◌, zero, suc, ◌+◌, ◌%◌, List, [], ◌∷◌, ◌++◌, bit_xor, length, map, nat_le, unwrap_or, if◌then◌else◌, Result, Ok, Err}
 use Rattle.std.specs.List.{slice_get}
 use Rattle.dns_base.specs.Header.{header_of}
 use Rattle.dns_base.specs.Msg.{Msg}
@@ -8,14 +8,14 @@ use Rattle.dns_base.specs.Replies.{answer_to, have_room}
 use Rattle.dns_base.specs.Wire.{wire}
 use Rattle.dns_client.specs.Timers.{last_moment}
 use Rattle.dns_forward.specs.Asked.{asked, led_to}
-use Rattle.dns_forward.specs.Forwarded.{SingleAnswers, Upstream}
+use Rattle.dns_forward.specs.Forwarded.{SingleAnswers}
 use Rattle.dns_forward.specs.declared.asking_event.AskingEvent.{AskingEvent}
 use Rattle.dns_forward.specs.declared.asking_event.AskingEvent.TheVariants.{Arrived, Tick}
 use Rattle.dns_name.specs.declared.error.ParseError.{ParseError}
-use Rattle.dns_route.specs.Relays.{SentAnswer, relayed}
+use Rattle.dns_route.specs.Relays.{SentAnswer, relay_answer}
 use Rattle.dns_route.specs.RequestMessage.{RequestState, request_of, request_sent}
 use Rattle.dns_route.specs.Routes.{Route}
-use Rattle.dns_route.specs.declared.send_request.SendError.TheVariants.{Unreachable}
+use Rattle.dns_route.specs.Turns.{TurnAnswer}
 use Rattle.dns_service.specs.declared.service.Polled.TheVariants.{Ready}
 use Rattle.dns_service.specs.declared.service.ServiceError.TheVariants.{InternalError}
 use Rattle.dns_script.specs.Played.{new_builder}
@@ -42,6 +42,10 @@ word_events id o Late = Tick last_moment ∷ []
 abbrev pub word_of_poll : List UpstreamWord → ℕ → UpstreamWord
 word_of_poll words k = unwrap_or (slice_get words k) Late
 
+-- the word of each of the first polls is pend
+abbrev pub PendFirst : List UpstreamWord → ℕ → Type 0
+PendFirst words n = (k : ℕ) → k < n → word_of_poll words k ≡ Pend
+
 -- what happens up to a poll
 abbrev pub events_to : ℕ → List ℕ → List UpstreamWord → ℕ → List AskingEvent
 events_to id o words zero = word_events id o (word_of_poll words zero)
@@ -55,19 +59,18 @@ sent_id o = bit_xor (header_of o).id 0x5555
 abbrev pub answered_at : List UpstreamWord → List ℕ → ℕ → SentAnswer
 answered_at words o k = led_to (asked o (sent_id o) 2 1 0 (events_to (sent_id o) o words k))
 
--- what an upstream of these words answers to a request; none can be reached with a message above 65,535 octets
-abbrev pub upstream_answers : List UpstreamWord → Upstream
-upstream_answers words m k = let o = wire (request_sent m) in if nat_le (length o) 65535 then answered_at words o k else Ready (Err Unreachable)
+-- what the answer of an upstream of these words to a message of these octets becomes; InternalError to one above 65,535 octets
+abbrev pub sent_turn : List UpstreamWord → List ℕ → ℕ → List ℕ → TurnAnswer
+sent_turn words query k o = if nat_le (length o) 65535 then relay_answer query (answered_at words o k) else Ready (Err InternalError)
 
--- whether a request can be read, and the message that is sent for it would have more than 65,535 octets
-abbrev pub is_too_long : Result RequestState ParseError → Bool
-is_too_long (Ok m) = nat_lt 65535 (length (wire (request_sent m)))
-is_too_long (Err e) = false
+-- a request is sent as a message where it can be read, and else InternalError
+abbrev pub request_turn : List UpstreamWord → List ℕ → ℕ → Result RequestState ParseError → TurnAnswer
+request_turn words query k (Ok m) = sent_turn words query k (wire (request_sent m))
+request_turn words query k (Err e) = Ready (Err InternalError)
 
--- what a single service over an upstream of these words answers: InternalError to a request that is too long, and to each other what the
--- upstream's answer becomes
+-- what a single service over an upstream of these words answers
 abbrev pub upstream_turn : List UpstreamWord → SingleAnswers
-upstream_turn words r k = if is_too_long (request_of r.octets) then Ready (Err InternalError) else relayed (upstream_answers words) r k
+upstream_turn words r k = request_turn words r.octets k (request_of r.octets)
 
 -- the names of upstreams, and their words
 abbrev pub upstreams_under : List UpstreamLine → List (Route (List UpstreamWord))

@@ -4,7 +4,7 @@ ghost use Rattle.std.specs.Prelude.{◌≡◌, [], MatchOption, take, drop, leng
 ghost use Rattle.std.specs.Str.{bytes_eq};
 ghost use Rattle.dns_trace.specs.Reading.{GivesLine};
 ghost use Rattle.dns_trace.specs.Values.{number};
-ghost use Rattle.dns_script.specs.AnswerWords.{answer_in, answer_of, answers_after, double_answer, error_word, feedback_or, feedback_word, reply_word, single_answer, sized_reply, timed_reply};
+ghost use Rattle.dns_script.specs.AnswerWords.{answer_in, answer_of, answers_after, feedback_word, reply_word, single_answer};
 
 use crate::rule::{ScriptAnswer, ScriptAnswers, ScriptReply};
 use dns_name::{Rcode, Ttl};
@@ -41,16 +41,8 @@ fn octets(word: &[u8]) -> Result<u16, Reason>
     Ok(number as u16)
 }
 
-/// A reply with a time to live of 32 bits.
-fn timed_reply(word: &[u8]) -> Result<ScriptReply, Reason>
-    ensures { result ≡ timed_reply word.now }
-{
-    let number = decimal(word, 20, 4294967296)?;
-    Ok(ScriptReply::Live(Ttl::from_secs(number as u32)))
-}
-
-/// A reply: `rcode:N`, `blank:N`, `live:T`, `fill:L` or `opt:L`.
-#[tactic(auto, unfolding(crate::specs::AnswerWords::reply_word))]
+/// A reply: `rcode:N`, `blank:N`, `live:T` with a time to live of 32 bits, or `fill:L` or `opt:L` with so many zeros.
+#[tactic(auto, unfolding(crate::specs::AnswerWords::reply_word, crate::specs::AnswerWords::sized_reply))]
 fn reply(word: &[u8]) -> Result<ScriptReply, Reason>
     ensures { result ≡ reply_word word.now }
 {
@@ -61,16 +53,9 @@ fn reply(word: &[u8]) -> Result<ScriptReply, Reason>
         return Ok(ScriptReply::Blank(rcode(rest)?));
     }
     if let Some(rest) = behind(word, b"live:".as_slice()) {
-        return timed_reply(rest);
+        let number = decimal(rest, 20, 4294967296)?;
+        return Ok(ScriptReply::Live(Ttl::from_secs(number as u32)));
     }
-    sized_reply(word)
-}
-
-/// A reply with so many zeros: `fill:L` or `opt:L`.
-#[tactic(auto, unfolding(crate::specs::AnswerWords::sized_reply))]
-fn sized_reply(word: &[u8]) -> Result<ScriptReply, Reason>
-    ensures { result ≡ sized_reply word.now }
-{
     if let Some(rest) = behind(word, b"fill:".as_slice()) {
         return Ok(ScriptReply::Fill(octets(rest)?));
     }
@@ -78,25 +63,6 @@ fn sized_reply(word: &[u8]) -> Result<ScriptReply, Reason>
         return Ok(ScriptReply::Opt(octets(rest)?));
     }
     Err(Reason::Value)
-}
-
-/// An error, where the word is one.
-fn error(word: &[u8]) -> Option<ServiceError>
-    ensures { result ≡ error_word word.now }
-{
-    if word == b"formerr".as_slice() {
-        return Some(ServiceError::FormatError);
-    }
-    if word == b"servfail".as_slice() {
-        return Some(ServiceError::InternalError);
-    }
-    if word == b"notimp".as_slice() {
-        return Some(ServiceError::NotImplemented);
-    }
-    if word == b"refused".as_slice() {
-        return Some(ServiceError::Refused);
-    }
-    None
 }
 
 /// A feedback: `begin`, `end` or `idle:NUM`.
@@ -117,16 +83,6 @@ fn feedback(word: &[u8]) -> Result<ServiceFeedback, Reason>
     Err(Reason::Value)
 }
 
-/// A feedback where the word is one, and else a reply.
-fn told(word: &[u8]) -> Result<ScriptAnswer, Reason>
-    ensures { result ≡ feedback_or (feedback_word word.now) (reply_word word.now) }
-{
-    match feedback(word) {
-        Ok(feedback) => Ok(ScriptAnswer::Feedback(feedback)),
-        Err(_) => Ok(ScriptAnswer::Reply(reply(word)?)),
-    }
-}
-
 /// An answer without `+`: `pend`, an error, a feedback or a reply.
 #[tactic(auto, unfolding(crate::specs::AnswerWords::single_answer))]
 fn single(word: &[u8]) -> Result<ScriptAnswer, Reason>
@@ -135,23 +91,26 @@ fn single(word: &[u8]) -> Result<ScriptAnswer, Reason>
     if word == b"pend".as_slice() {
         return Ok(ScriptAnswer::Pend);
     }
-    if let Some(error) = error(word) {
-        return Ok(ScriptAnswer::Error(error));
+    if word == b"formerr".as_slice() {
+        return Ok(ScriptAnswer::Error(ServiceError::FormatError));
     }
-    told(word)
-}
-
-/// A feedback and a reply.
-#[tactic(auto, unfolding(crate::specs::AnswerWords::double_answer))]
-fn double(first: &[u8], second: &[u8]) -> Result<ScriptAnswer, Reason>
-    ensures { result ≡ double_answer first.now second.now }
-{
-    let feedback = feedback(first)?;
-    let reply = reply(second)?;
-    Ok(ScriptAnswer::Both(feedback, reply))
+    if word == b"servfail".as_slice() {
+        return Ok(ScriptAnswer::Error(ServiceError::InternalError));
+    }
+    if word == b"notimp".as_slice() {
+        return Ok(ScriptAnswer::Error(ServiceError::NotImplemented));
+    }
+    if word == b"refused".as_slice() {
+        return Ok(ScriptAnswer::Error(ServiceError::Refused));
+    }
+    match feedback(word) {
+        Ok(feedback) => Ok(ScriptAnswer::Feedback(feedback)),
+        Err(_) => Ok(ScriptAnswer::Reply(reply(word)?)),
+    }
 }
 
 /// An answer by what stands before, between and behind its `+`.
+#[tactic(auto, unfolding(crate::specs::AnswerWords::double_answer))]
 fn answer_in(parts: &Words) -> Result<ScriptAnswer, Reason>
     ensures { result ≡ answer_in parts.now }
 {
@@ -159,7 +118,9 @@ fn answer_in(parts: &Words) -> Result<ScriptAnswer, Reason>
         return single(parts.word(0));
     }
     if parts.len() == 2 {
-        return double(parts.word(0), parts.word(1));
+        let feedback = feedback(parts.word(0))?;
+        let reply = reply(parts.word(1))?;
+        return Ok(ScriptAnswer::Both(feedback, reply));
     }
     Err(Reason::Value)
 }

@@ -1,9 +1,8 @@
 //! The lines of questions that a cache is asked.
 
 ghost use Rattle.std.specs.Prelude.{◌≡◌, IfOk};
-ghost use Rattle.dns_trace.specs.EventLines.{moment_of};
 ghost use Rattle.dns_trace.specs.Reading.{GivesLine};
-ghost use Rattle.dns_script.specs.Asks.{ask_line, ask_of, asker_of, is_of_asks, message_word};
+ghost use Rattle.dns_script.specs.Asks.{ask_line, ask_of, is_of_asks, message_word};
 ghost use Rattle.dns_script.specs.CachedRules.{request_of_ask};
 
 use crate::script_line::ScriptLine;
@@ -38,26 +37,6 @@ impl Ask {
     }
 }
 
-/// The moment and the seconds of a line.
-#[tactic(auto, unfolding(dns_trace::specs::EventLines::moment_of))]
-fn moment(words: &Words) -> Result<(u64, u64), Reason>
-    ensures { result ≡ moment_of words.now }
-{
-    let at = num(words.word(1))?;
-    let secs = num(words.word(2))?;
-    Ok((at, secs))
-}
-
-/// The address and the port behind the moment of a line.
-#[tactic(auto, unfolding(crate::specs::Asks::asker_of))]
-fn asker(alloc: Global, words: &Words) -> Result<SocketAddr, LineError>
-    ensures { GivesLine (λ a. a) result (asker_of words.now) }
-{
-    let ip = addr(alloc, words.word(3))?;
-    let port = port(words.word(4))?;
-    Ok(SocketAddr { ip, port })
-}
-
 /// A message of at least 12 octets.
 #[tactic(auto, unfolding(crate::specs::Asks::message_word))]
 fn message(alloc: Global, word: &[u8]) -> Result<Message, LineError>
@@ -71,18 +50,20 @@ fn message(alloc: Global, word: &[u8]) -> Result<Message, LineError>
 }
 
 /// The question of a line `ask AT SECS ADDR PORT HEX`. The first word is not looked at.
-#[tactic(auto, unfolding(crate::specs::Asks::ask_of))]
+#[tactic(auto, unfolding(crate::specs::Asks::ask_of, crate::specs::Asks::asker_of, dns_trace::specs::EventLines::moment_of))]
 fn ask_of(alloc: Global, words: &Words) -> Result<Ask, LineError>
     ensures { GivesLine (λ a. a) result (ask_of words.now) }
 {
     unless(Reason::Count, words.len() == 6)?;
-    let (at, secs) = moment(words)?;
-    let addr = asker(alloc, words)?;
+    let at = num(words.word(1))?;
+    let secs = num(words.word(2))?;
+    let ip = addr(alloc, words.word(3))?;
+    let port = port(words.word(4))?;
     let message = message(alloc, words.word(5))?;
     Ok(Ask {
         at,
         secs,
-        addr,
+        addr: SocketAddr { ip, port },
         message,
     })
 }

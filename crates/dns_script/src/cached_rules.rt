@@ -1,11 +1,11 @@
 //! A cache in front of a script's rules, and the line of each question that it is asked.
 
-ghost use Rattle.std.specs.Prelude.{◌≡◌, ◌++◌, IfOk, OnOk, Some, codes, option_map, string_bytes};
+ghost use Rattle.std.specs.Prelude.{◌≡◌, ◌++◌, IfOk, OnErr, OnOk, codes, option_map, string_bytes};
 ghost use Rattle.hex.specs.Hex.{encode_lower};
 ghost use Rattle.dns_cache.specs.AskedCache.{empty_cache};
 ghost use Rattle.dns_cache.specs.Calls.{called};
 ghost use Rattle.dns_route.specs.ReplyMessage.{reply_message};
-ghost use Rattle.dns_script.specs.CachedRules.{answer_line, asked_state, call_text, error_line, first_ready, reply_line, rule_turns, turn_text};
+ghost use Rattle.dns_script.specs.CachedRules.{IsAtCall, IsBehindCalls, answer_line, asked_state, call_text, error_line, first_ready, reply_line, request_of_ask, rule_turns, turn_text};
 ghost use Rattle.dns_script.specs.Spelled.{spelled_error};
 
 use crate::ask::Ask;
@@ -54,6 +54,7 @@ impl CachedRules {
         ensures line { IfOk result (λ t. string_bytes t ≡ (asked_state self.old ask).line) }
         ensures cached { OnOk result (self.new ≡ record self.old { cached = (asked_state self.old ask).behind }) }
         ensures rules { self.new.rules ≡ self.old.rules }
+        ensures err { OnErr result (IsBehindCalls (rule_turns self.old.rules) (request_of_ask ask) self.old.cached self.new.cached) }
     {
         let request = ask.into_request(alloc)?;
         ask_request(alloc, &self.turns, &mut self.cache, &request)
@@ -69,6 +70,7 @@ fn ask_request(
 ) -> Result<String, OutOfMemory>
     ensures line { IfOk result (λ t. string_bytes t ≡ (first_ready (rule_turns turns.now.rules) request.now cache.old).line) }
     ensures cached { OnOk result (cache.new ≡ (first_ready (rule_turns turns.now.rules) request.now cache.old).behind) }
+    ensures err { OnErr result (IsBehindCalls (rule_turns turns.now.rules) request.now cache.old cache.new) }
 {
     for k in 0..MOST_CALLS {
         if let Some(line) = call(alloc, turns, cache, request, k)? {
@@ -95,6 +97,7 @@ fn call(
 ) -> Result<Option<String>, OutOfMemory>
     ensures line { IfOk result (λ t. option_map string_bytes t ≡ call_text (called (rule_turns turns.now.rules) cache.old (record { request = request.now; k = k })).cached (rule_turns turns.now.rules request.now k)) }
     ensures cached { OnOk result (cache.new ≡ (called (rule_turns turns.now.rules) cache.old (record { request = request.now; k = k })).behind) }
+    ensures err { OnErr result (IsAtCall (rule_turns turns.now.rules) request.now k cache.old cache.new) }
 {
     let turned = cache.ask(alloc, turns, request, k)?;
     turn_text(alloc, turned)
@@ -106,16 +109,9 @@ fn turn_text(alloc: Global, turned: Turned) -> Result<Option<String>, OutOfMemor
 {
     match turned {
         Polled::Pending => Ok(None),
-        Polled::Ready(Ok(reply)) => reply_text(alloc, reply),
+        Polled::Ready(Ok(reply)) => Ok(Some(reply_line(alloc, &reply)?)),
         Polled::Ready(Err(error)) => Ok(Some(error_line(alloc, error)?)),
     }
-}
-
-/// The line of a reply that is given up for it.
-fn reply_text(alloc: Global, reply: ReplyMessage) -> Result<Option<String>, OutOfMemory>
-    ensures { IfOk result (λ t. option_map string_bytes t ≡ Some (reply_line (reply_message reply))) }
-{
-    Ok(Some(reply_line(alloc, &reply)?))
 }
 
 /// The line of a reply, by the message that is built of it.

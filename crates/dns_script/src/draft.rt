@@ -4,12 +4,12 @@ ghost use Rattle.std.specs.Prelude.{◌≡◌, ◌++◌, ◌∷◌, [], OnOk, So
 ghost use Rattle.dns_base.specs.Records.{IsLawful};
 ghost use Rattle.dns_zone.specs.ZoneErrors.{zone_error};
 ghost use Rattle.dns_trace.specs.Reading.{GivesLine, TakesLine};
-ghost use Rattle.dns_script.specs.Draft.{empty_draft, finished, made_zone, may_be_rule, may_be_upstream, may_be_zone, record_more, service_by, with_zone_record, with_service, without_zone, zone_refused};
+ghost use Rattle.dns_script.specs.Draft.{empty_draft, finished, made_zone, may_be_rule, may_be_upstream, may_be_zone, record_more, service_by, with_zone_record, with_service, zone_refused};
 
+use crate::line_checks::kept;
 use crate::rule::{Rule, Rules};
 use crate::script::Script;
 use crate::service_lines::ServiceLines;
-use crate::setting_lines::kept;
 use crate::upstream::{UpstreamLine, Upstreams};
 use dns_base::Record;
 use dns_name::{Name, OutOfMemory};
@@ -195,18 +195,13 @@ fn service_of(
 {
     match zone {
         Some(zone) => made_zone(alloc, zone),
-        None => Ok(without_zone(rules, upstreams)),
+        None => {
+            if upstreams.as_slice().is_empty() {
+                return Ok(ServiceLines::Rules(rules));
+            }
+            Ok(ServiceLines::Upstreams(upstreams))
+        }
     }
-}
-
-/// The service of rules or upstreams.
-fn without_zone(rules: Rules, upstreams: Upstreams) -> ServiceLines
-    ensures { result ≡ without_zone rules upstreams }
-{
-    if upstreams.as_slice().is_empty() {
-        return ServiceLines::Rules(rules);
-    }
-    ServiceLines::Upstreams(upstreams)
 }
 
 /// The zone, where its records make one.

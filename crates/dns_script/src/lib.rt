@@ -2,12 +2,12 @@
 //! what the clients are sent for them, and the lines of what they are sent.
 #![tactic(auto)]
 
-mod answer_fmt;
 mod answer_words;
 mod ask;
 mod cached_rules;
 mod draft;
 mod laws;
+mod line_checks;
 mod notify_lines;
 mod notify_rule;
 mod output_line;
@@ -26,7 +26,6 @@ mod script_writer;
 mod scripted;
 mod service_lines;
 mod service_text;
-mod setting_lines;
 mod upstream;
 mod upstream_lines;
 mod zone_lines;

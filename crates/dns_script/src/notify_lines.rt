@@ -6,11 +6,11 @@ ghost use Rattle.std.specs.Str.{bytes_eq};
 ghost use Rattle.dns_trace.specs.Reading.{GivesLine, TakesLine};
 ghost use Rattle.dns_script.specs.Script.{notify_line, notify_of, verdict_word, words_between};
 
+use crate::line_checks::before_events;
 use crate::notify_rule::NotifyRule;
 use crate::script::Script;
-use crate::setting_lines::{before_events, of_more_words};
 use dns_core::NotifyError;
-use dns_trace::{LineError, Reason, Words, name};
+use dns_trace::{LineError, Reason, Words, name, unless};
 use std::alloc::Global;
 
 /// `ok`, `notauth` or `other`.
@@ -48,7 +48,7 @@ fn all_pend(words: &Words) -> bool
 fn notify_of(alloc: Global, words: &Words) -> Result<NotifyRule, LineError>
     ensures { GivesLine (λ r. r) result (notify_of words.now) }
 {
-    of_more_words(words)?;
+    unless(Reason::Count, words.len() >= 3)?;
     let apex = name(alloc, words.word(1))?;
     if !all_pend(words) {
         return Err(LineError::Refused(Reason::Value));
@@ -72,7 +72,7 @@ pub fn read_notify<E: Drop>(
     ensures { TakesLine result script.new (notify_line script.old words.now) }
 {
     before_events(script)?;
-    let zone = notify_of(alloc, words)?;
-    script.push_zone(zone)?;
+    let rule = notify_of(alloc, words)?;
+    script.push_notify_rule(rule)?;
     Ok(())
 }

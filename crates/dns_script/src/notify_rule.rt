@@ -5,7 +5,7 @@ use dns_core::NotifyError;
 use dns_name::Name;
 
 /// A notify line.
-#[derive(Debug, Drop)]
+#[derive(Drop)]
 pub struct NotifyRule {
     /// The name of the zone.
     pub apex: Name,

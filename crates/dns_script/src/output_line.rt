@@ -3,7 +3,6 @@
 ghost use Rattle.std.specs.Prelude.{◌≡◌, ◌++◌, IfOk, codes, decimal, string_bytes};
 ghost use Rattle.hex.specs.Hex.{encode_lower};
 ghost use Rattle.dns_script.specs.Line.{line_of, refused_line, reason_word, why_word};
-ghost use Rattle.dns_trace.specs.Spelling.{yes_no};
 
 use dns_name::{Octets, OutOfMemory};
 use dns_service::{Output, Why};
@@ -21,7 +20,8 @@ pub fn line(alloc: Global, output: &Output) -> Result<String, OutOfMemory>
         Output::Frame { client, octets } => octets_line(alloc, "frame", *client, octets),
         Output::Closed { client, why } => word_line(alloc, "closed", *client, why_text(*why)),
         Output::TurnedAway { client, accepted } => {
-            word_line(alloc, "turned", *client, yes_no_text(*accepted))
+            let answer = if *accepted { "yes" } else { "no" };
+            word_line(alloc, "turned", *client, answer)
         }
     }
 }
@@ -58,12 +58,6 @@ fn why_text(why: Why) -> &'static str
         Why::Commanded => "commanded",
         Why::Shutdown => "shutdown",
     }
-}
-
-fn yes_no_text(yes: bool) -> &'static str
-    ensures { result.now ≡ yes_no yes }
-{
-    if yes { "yes" } else { "no" }
 }
 
 fn reason_text(reason: Reason) -> &'static str

@@ -10,7 +10,7 @@ use std::marker::Model;
 use std::sync::Arc;
 
 /// A reply.
-#[derive(Clone, Copy, Debug, PartialEq, Eq)]
+#[derive(Clone, Copy)]
 pub enum ScriptReply {
     /// A reply with the request's questions and this response code.
     Rcode(Rcode),
@@ -25,7 +25,7 @@ pub enum ScriptReply {
 }
 
 /// The answer of one poll.
-#[derive(Clone, Copy, PartialEq, Eq)]
+#[derive(Clone, Copy)]
 pub enum ScriptAnswer {
     /// Nothing yet.
     Pend,
@@ -40,7 +40,7 @@ pub enum ScriptAnswer {
 }
 
 /// Poll answers, in order, which all requests that play them share.
-#[derive(Debug, Drop)]
+#[derive(Drop)]
 pub struct ScriptAnswers {
     answers: Arc<Vec<ScriptAnswer>>,
 }
@@ -87,7 +87,7 @@ impl ScriptAnswers {
 }
 
 /// A service line.
-#[derive(Debug, Drop)]
+#[derive(Drop)]
 pub struct Rule {
     /// The name that it is for, where it isn't for all.
     pub name: Option<Name>,

@@ -2,12 +2,12 @@
 
 ghost use Rattle.std.specs.Prelude.{◌≡◌};
 ghost use Rattle.dns_trace.specs.Reading.{GivesLine, TakesLine};
-ghost use Rattle.dns_script.specs.Script.{before_rule, rule_line, rule_name, rule_of};
+ghost use Rattle.dns_script.specs.Script.{rule_line, rule_name, rule_of};
 
 use crate::answer_words::answers;
 use crate::draft::Draft;
+use crate::line_checks::before_events;
 use crate::rule::Rule;
-use crate::setting_lines::{before_events, of_more_words};
 use dns_name::Name;
 use dns_trace::{LineError, Reason, Words, name, unless};
 use std::alloc::Global;
@@ -28,13 +28,13 @@ fn rule_name(alloc: Global, word: &[u8]) -> Result<Option<Name>, LineError>
 fn rule_of(alloc: Global, words: &Words) -> Result<Rule, LineError>
     ensures { GivesLine (λ r. r) result (rule_of words.now) }
 {
-    of_more_words(words)?;
+    unless(Reason::Count, words.len() >= 3)?;
     let name = rule_name(alloc, words.word(1))?;
     let answers = answers(alloc, words)?;
     Ok(Rule { name, answers })
 }
 
-/// A line `rule NAME|* ANSWER ..`.
+/// A line `rule NAME|* ANSWER ..`. A rule stands before the first event, where no service line of another kind does.
 #[tactic(auto, unfolding(crate::specs::Script::rule_line))]
 pub(crate) fn read_rule<E: Drop>(
     alloc: Global,
@@ -43,16 +43,9 @@ pub(crate) fn read_rule<E: Drop>(
 ) -> Result<(), LineError>
     ensures { TakesLine result draft.new (rule_line draft.old words.now) }
 {
-    may_be_rule(draft)?;
+    before_events(&draft.script)?;
+    unless(Reason::Mix, draft.may_be_rule())?;
     let rule = rule_of(alloc, words)?;
     draft.push_rule(rule)?;
     Ok(())
-}
-
-/// A rule stands before the first event, where no service line of another kind does.
-fn may_be_rule<E: Drop>(draft: &Draft<E>) -> Result<(), Reason>
-    ensures { result ≡ before_rule draft.now }
-{
-    before_events(&draft.script)?;
-    unless(Reason::Mix, draft.may_be_rule())
 }

@@ -7,7 +7,7 @@ use std::alloc::Global;
 use std::marker::Model;
 
 /// Rules of one kind, in order.
-#[derive(Debug, Drop)]
+#[derive(Drop)]
 pub struct RuleList<R> {
     rules: Vec<R>,
 }

@@ -9,7 +9,6 @@ ghost use Rattle.dns_script.specs.Script.{next_setting_line};
 use crate::notify_rule::{NotifyRule, NotifyRules};
 use crate::rule::Rules;
 use crate::service_lines::ServiceLines;
-use crate::setting_lines::put;
 use dns_name::OutOfMemory;
 use dns_service::Settings;
 use dns_trace::{LineError, Reason, SaidSettings, Setting, Words, read_setting};
@@ -17,19 +16,26 @@ use std::alloc::Global;
 use std::marker::Model;
 
 /// Why a text is no script.
-#[derive(Clone, Copy, Debug, PartialEq, Eq)]
+#[derive(Clone, Copy)]
 pub enum ScriptError {
     OutOfMemory,
     /// The first bad line, counted from 1, and why it is refused.
     Refused { line: u64, reason: Reason },
 }
 
+/// A value in the place of another.
+fn put<T: Drop>(place: &mut T, value: T)
+    ensures { place.new ≡ value }
+{
+    *place = value;
+}
+
 /// The settings, the service, the rules of the target, and the events, or the steps.
-#[derive(Debug, Drop)]
+#[derive(Drop)]
 pub struct Script<E> {
     said: SaidSettings,
     service: ServiceLines,
-    zones: NotifyRules,
+    notify_rules: NotifyRules,
     events: Vec<E>,
 }
 
@@ -38,7 +44,7 @@ impl<E> Model for Script<E> {
 
     ghost Value = { Plan E };
 
-    ghost view = { λ s. record { said = s.said; service = s.service; zones = s.zones; events = s.events.items } };
+    ghost view = { λ s. record { said = s.said; service = s.service; notify_rules = s.notify_rules; events = s.events.items } };
 }
 
 impl<E: Drop> Script<E> {
@@ -51,7 +57,7 @@ impl<E: Drop> Script<E> {
         Script {
             said: SaidSettings::new(alloc),
             service: ServiceLines::Rules(Rules::new(alloc)),
-            zones: NotifyRules::new(alloc),
+            notify_rules: NotifyRules::new(alloc),
             events: Vec::new(alloc),
         }
     }
@@ -93,11 +99,11 @@ impl<E: Drop> Script<E> {
     }
 
     /// One rule of the target more.
-    pub fn push_zone(&mut self, zone: NotifyRule) -> Result<(), OutOfMemory>
-        ensures ok { OnOk result (self.new ≡ record self.old { zones = self.old.zones ++ zone ∷ [] }) }
+    pub fn push_notify_rule(&mut self, rule: NotifyRule) -> Result<(), OutOfMemory>
+        ensures ok { OnOk result (self.new ≡ record self.old { notify_rules = self.old.notify_rules ++ rule ∷ [] }) }
         ensures err { OnErr result (self.new ≡ self.old) }
     {
-        self.zones.push(zone)
+        self.notify_rules.push(rule)
     }
 
     /// One event more.
@@ -120,15 +126,15 @@ impl<E: Drop> Script<E> {
     pub fn into_parts(self) -> (Settings, ServiceLines, NotifyRules, Vec<E>)
         ensures settings { result.0 ≡ settings_of self }
         ensures service { result.1 ≡ self.service }
-        ensures zones { result.2 ≡ self.zones }
+        ensures notify_rules { result.2 ≡ self.notify_rules }
         ensures events { result.3.items ≡ self.events }
     {
         let Script {
             said,
             service,
-            zones,
+            notify_rules,
             events,
         } = self;
-        (said.into_settings(), service, zones, events)
+        (said.into_settings(), service, notify_rules, events)
     }
 }

@@ -1,7 +1,6 @@
 //! The answers of a script, made for a message.
 
 ghost use Rattle.std.specs.Prelude.{◌≡◌, IfErr, IfOk, MatchOption, OnOk, Some, replicate, true, false};
-ghost use Rattle.std.specs.Result.{result_map_both};
 ghost use Rattle.dns_base.specs.Built.{with_answer};
 ghost use Rattle.dns_base.specs.Records.{IsLawful, record_of};
 ghost use Rattle.dns_base.specs.Replies.{answer_to, have_room, within_limit};
@@ -32,8 +31,11 @@ pub fn make_answer(
         ScriptAnswer::Feedback(feedback) => {
             Ok(Polled::Ready(Some(Ok(CallResult::feedback_only(feedback)))))
         }
-        ScriptAnswer::Reply(reply) => ready(make_item(alloc, message, reply)),
-        ScriptAnswer::Both(feedback, reply) => ready(make_both(alloc, message, feedback, reply)),
+        ScriptAnswer::Reply(reply) => {
+            let item = make_item(alloc, message, reply)?;
+            Ok(Polled::Ready(Some(item)))
+        }
+        ScriptAnswer::Both(feedback, reply) => make_both(alloc, message, feedback, reply),
     }
 }
 
@@ -61,22 +63,13 @@ fn make_both(
     message: &Message,
     feedback: ServiceFeedback,
     reply: ScriptReply,
-) -> Result<ServiceResult, OutOfMemory>
-    ensures { IfOk result (λ i. i ≡ told_with feedback (reply_item message.now reply)) }
+) -> Result<Polled<Option<ServiceResult>>, OutOfMemory>
+    ensures { IfOk result (λ p. p ≡ Polled.Ready (Some (told_with feedback (reply_item message.now reply)))) }
 {
     match make_item(alloc, message, reply)? {
-        Ok(given) => Ok(Ok(given.with_feedback(feedback))),
-        Err(error) => Ok(Err(error)),
+        Ok(given) => Ok(Polled::Ready(Some(Ok(given.with_feedback(feedback))))),
+        Err(error) => Ok(Polled::Ready(Some(Err(error)))),
     }
-}
-
-/// An item is there, once it was made.
-fn ready(
-    made: Result<ServiceResult, OutOfMemory>,
-) -> Result<Polled<Option<ServiceResult>>, OutOfMemory>
-    ensures { result ≡ result_map_both (λ i. Polled.Ready (Some i)) (λ e. e) made }
-{
-    Ok(Polled::Ready(Some(made?)))
 }
 
 /// An answer to a message is begun; none where there is no room for the questions.
@@ -157,18 +150,9 @@ fn put_zeros(reply: &mut AnswerBuilder, alloc: Global, ttl: Ttl, len: u16) -> Re
     ensures full { IfErr result (λ e. e ≡ PushError.ShortBuf → within_limit (with_answer reply.old (private_record ttl (replicate len 0))) ≡ false) }
 {
     match zeros(alloc, ttl, len) {
-        Ok(record) => put_record(reply, alloc, record),
+        Ok(record) => reply.push(alloc, &record),
         Err(OutOfMemory) => Err(PushError::OutOfMemory),
     }
-}
-
-/// Appends an answer, where it has room.
-fn put_record(reply: &mut AnswerBuilder, alloc: Global, answer: Record) -> Result<(), PushError>
-    requires { IsLawful answer.rdata }
-    ensures added { OnOk result ((reply.new ≡ with_answer reply.old (record_of answer)) × (within_limit (with_answer reply.old (record_of answer)) ≡ true)) }
-    ensures full { IfErr result (λ e. e ≡ PushError.ShortBuf → within_limit (with_answer reply.old (record_of answer)) ≡ false) }
-{
-    reply.push(alloc, &answer)
 }
 
 /// The record of this time to live and so many zeros.

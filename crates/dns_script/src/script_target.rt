@@ -61,7 +61,7 @@ fn verdict_of(rules: &[NotifyRule], apex: &Name) -> ScriptVerdict
 }
 
 /// A verdict that is pending some times.
-#[derive(Clone, Copy, Debug)]
+#[derive(Clone, Copy)]
 pub struct ScriptVerdict {
     pends: usize,
     verdict: Result<(), NotifyError>,

@@ -4,7 +4,6 @@ ghost use Rattle.std.specs.Prelude.{◌≡◌, IfOk, slice_get};
 ghost use Rattle.dns_base.specs.Wire.{wire};
 ghost use Rattle.dns_route.specs.Relays.{read_reply};
 ghost use Rattle.dns_route.specs.ReplyMessage.{reply_read};
-ghost use Rattle.dns_service.specs.Given.{message_in};
 ghost use Rattle.dns_script.specs.CachedRules.{rule_turns, turn_by, turn_of_item};
 ghost use Rattle.dns_script.specs.Played.{played_from};
 ghost use Rattle.dns_script.specs.Rules.{answers_for, name_asked};
@@ -15,9 +14,7 @@ use crate::script_service::answers_for;
 use dns_base::{AdditionalBuilder, Message};
 use dns_name::OutOfMemory;
 use dns_route::{ComposeReply, ReplyMessage, SingleService, Turned};
-use dns_service::{
-    CallResult, Polled, ReplyError, Request, ServiceError, ServiceFeedback, ServiceResult,
-};
+use dns_service::{CallResult, Polled, ReplyError, Request, ServiceError, ServiceResult};
 use std::alloc::Global;
 
 /// Answers each turn of a request by the answer of that number of the first rule that fits. A feedback, which a turn can't
@@ -89,17 +86,6 @@ fn turn_of_item(
     ensures { IfOk result (λ t. t ≡ turn_of_item given.response given.feedback) }
 {
     let (response, feedback) = given.into_inner();
-    turn_of(alloc, response, feedback)
-}
-
-/// The same of a reply and a feedback.
-fn turn_of(
-    alloc: Global,
-    response: Option<AdditionalBuilder>,
-    feedback: Option<ServiceFeedback>,
-) -> Result<Result<ReplyMessage, ServiceError>, OutOfMemory>
-    ensures { IfOk result (λ t. t ≡ turn_of_item (message_in response) feedback) }
-{
     match (response, feedback) {
         (Some(built), None) => begun(alloc, &built),
         _ => Ok(Err(ServiceError::InternalError)),

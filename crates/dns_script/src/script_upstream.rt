@@ -1,13 +1,10 @@
 //! The upstreams of a script, and the forwarder that has them.
 
-ghost use Rattle.std.specs.Prelude.{◌≡◌, ◌++◌, ◌∷◌, [], IfOk, MatchOption, Ok, OnOk, true, false};
-ghost use Rattle.dns_base.specs.Replies.{have_room};
+ghost use Rattle.std.specs.Prelude.{◌≡◌, ◌++◌, ◌∷◌, [], IfOk, OnOk};
 ghost use Rattle.dns_base.specs.Wire.{wire};
 ghost use Rattle.dns_forward.specs.Asked.{asked};
-ghost use Rattle.dns_route.specs.Relays.{relayed};
-ghost use Rattle.dns_route.specs.RequestMessage.{request_of};
-ghost use Rattle.dns_script.specs.Played.{new_builder};
-ghost use Rattle.dns_script.specs.Upstreams.{answered_at, events_to, is_too_long, replied_to, reply_under, upstream_answers, upstream_turn, upstreams_under, word_events, word_of_poll};
+ghost use Rattle.dns_route.specs.RequestMessage.{request_sent};
+ghost use Rattle.dns_script.specs.Upstreams.{PendFirst, answered_at, events_to, replied_to, sent_turn, upstream_turn, upstreams_under, word_events, word_of_poll};
 
 use crate::rule_list::RuleList;
 use crate::script_answers::begin;
@@ -16,9 +13,7 @@ use dns_base::{AnswerBuilder, Message, PushError};
 use dns_forward::{Asking, AskingEvent, AskingOutcome, Forwarding, ask_all, led_to};
 use dns_name::{Octets, OutOfMemory, Rcode};
 use dns_route::request::Error;
-use dns_route::{
-    ClientTransportToSingleService, RequestMessage, SendError, SendRequest, SingleService, Turned,
-};
+use dns_route::{RequestMessage, SendError, SingleService, Turned, relay_answer};
 use dns_service::{Polled, Request, ServiceError};
 use std::alloc::Global;
 use std::marker::Model;
@@ -40,22 +35,7 @@ fn under(reply: AnswerBuilder, id: u16) -> Octets
     Octets::from_vec(reply.into_message().into_octets())
 }
 
-/// The reply to a message with this response code under an identifier; none where it has no room for the questions.
-fn reply_under(
-    alloc: Global,
-    message: &Message,
-    id: u16,
-    rcode: Rcode,
-) -> Result<Option<Octets>, OutOfMemory>
-    ensures { IfOk result (λ r. MatchOption r (have_room new_builder message.now rcode ≡ false) (λ o. (o ≡ wire (reply_under id message.now rcode)) × (have_room new_builder message.now rcode ≡ true))) }
-{
-    match begin(alloc, message, rcode)? {
-        Some(reply) => Ok(Some(under(reply, id))),
-        None => Ok(None),
-    }
-}
-
-/// That reply arrives.
+/// The reply to a message with this response code under an identifier arrives; none where it has no room for the questions.
 fn push_reply(
     alloc: Global,
     events: &mut Vec<AskingEvent>,
@@ -65,7 +45,8 @@ fn push_reply(
 ) -> Result<(), OutOfMemory>
     ensures { OnOk result (events.new.items ≡ events.old.items ++ replied_to id message.now rcode) }
 {
-    if let Some(octets) = reply_under(alloc, message, id, rcode)? {
+    if let Some(reply) = begin(alloc, message, rcode)? {
+        let octets = under(reply, id);
         events.push(AskingEvent::Arrived {
             at: LAST_MOMENT,
             octets,
@@ -148,82 +129,79 @@ fn asked(
     ask_all(alloc, asking, events)
 }
 
-/// An upstream that plays words.
-#[derive(Drop)]
-struct ScriptUpstream<'a> {
-    words: &'a [UpstreamWord],
-}
-
-impl SendRequest for ScriptUpstream<'_> {
-    ghost answer = { λ u. upstream_answers u.words.now };
-
-    fn poll_response(&self, alloc: Global, request: &RequestMessage, k: u64) -> SentAnswer {
-        match request.to_message(alloc) {
-            Ok(message) => answered_at(alloc, message, self.words, k),
-            Err(PushError::ShortBuf) => Ok(Polled::Ready(Err(SendError::Unreachable))),
-            Err(PushError::OutOfMemory) => Err(OutOfMemory),
+/// How many words `pend` there are in front of all others.
+fn pends_before(words: &[UpstreamWord]) -> u64
+    ensures { PendFirst words.now result }
+{
+    let len = words.len() as u64;
+    for k in 0..len {
+        match word_of_poll(words, k) {
+            UpstreamWord::Pend => {}
+            _ => return k,
         }
     }
+    len
 }
 
-/// A single service over an upstream of a script. Contracts see its words.
+/// A single service over an upstream of a script. Contracts see its words. How many of these are `pend` in front of all others is
+/// kept, so that a poll at which nothing came yet makes no event.
 #[derive(Drop)]
 pub(crate) struct ScriptRelay {
     words: RuleList<UpstreamWord>,
+    pends: u64,
 }
 
 impl Model for ScriptRelay {
     ghost use Rattle.std.specs.Prelude.{List};
+    ghost use Rattle.dns_script.specs.Upstreams.{PendFirst};
     ghost use Rattle.dns_script.specs.declared.upstream.UpstreamWord.{UpstreamWord};
 
     ghost Value = { List UpstreamWord };
 
     ghost view = { λ r. r.words };
+
+    ghost invariant = { λ r. PendFirst r.words r.pends };
+}
+
+impl ScriptRelay {
+    /// What is answered to a message at a poll.
+    fn answered(&self, alloc: Global, message: Message, k: u64) -> SentAnswer
+        ensures { IfOk result (λ p. p ≡ answered_at self.now message k) }
+    {
+        let pends = self.pends;
+        if k < pends {
+            return Ok(Polled::Pending);
+        }
+        answered_at(alloc, message, self.words.as_slice(), k)
+    }
+
+    /// What the answer to a request becomes that is sent for a query.
+    fn turn_of(
+        &self,
+        alloc: Global,
+        query: &Message,
+        sent: &RequestMessage,
+        k: u64,
+    ) -> Result<Turned, OutOfMemory>
+        ensures { IfOk result (λ p. p ≡ sent_turn self.now query.now k (wire (request_sent sent.now))) }
+    {
+        match sent.to_message(alloc) {
+            Ok(message) => relay_answer(alloc, query, self.answered(alloc, message, k)?),
+            Err(PushError::ShortBuf) => Ok(Polled::Ready(Err(ServiceError::InternalError))),
+            Err(PushError::OutOfMemory) => Err(OutOfMemory),
+        }
+    }
 }
 
 impl SingleService for ScriptRelay {
     ghost answer = { upstream_turn };
 
     fn turn(&self, alloc: Global, request: &Request<()>, k: u64) -> Result<Turned, OutOfMemory> {
-        if is_too_long(alloc, request)? {
-            return Ok(Polled::Ready(Err(ServiceError::InternalError)));
+        match RequestMessage::try_from(alloc, request) {
+            Ok(sent) => self.turn_of(alloc, request.message(), &sent, k),
+            Err(Error::Unreadable(_)) => Ok(Polled::Ready(Err(ServiceError::InternalError))),
+            Err(Error::OutOfMemory) => Err(OutOfMemory),
         }
-        relayed(alloc, self.words.as_slice(), request, k)
-    }
-}
-
-/// What the answer of an upstream of these words becomes.
-fn relayed(
-    alloc: Global,
-    words: &[UpstreamWord],
-    request: &Request<()>,
-    k: u64,
-) -> Result<Turned, OutOfMemory>
-    ensures { IfOk result (λ p. p ≡ relayed (upstream_answers words.now) request.now k) }
-{
-    let relay = ClientTransportToSingleService::new(ScriptUpstream { words });
-    relay.turn(alloc, request, k)
-}
-
-/// Whether a request can be read and no message can hold it.
-fn is_too_long(alloc: Global, request: &Request<()>) -> Result<bool, OutOfMemory>
-    ensures { IfOk result (λ b. b ≡ is_too_long (request_of request.now.octets)) }
-{
-    match RequestMessage::try_from(alloc, request) {
-        Ok(sent) => passes(alloc, &sent),
-        Err(Error::Unreadable(_)) => Ok(false),
-        Err(Error::OutOfMemory) => Err(OutOfMemory),
-    }
-}
-
-/// Whether no message can hold a request that was read.
-fn passes(alloc: Global, sent: &RequestMessage) -> Result<bool, OutOfMemory>
-    ensures { IfOk result (λ b. b ≡ is_too_long (Ok sent.now)) }
-{
-    match sent.to_message(alloc) {
-        Ok(_) => Ok(false),
-        Err(PushError::ShortBuf) => Ok(true),
-        Err(PushError::OutOfMemory) => Err(OutOfMemory),
     }
 }
 
@@ -250,5 +228,7 @@ fn add(
     ensures { OnOk result (forwarder.new ≡ forwarder.old ++ (upstream.name, upstream.words) ∷ []) }
 {
     let UpstreamLine { name, words } = upstream;
-    forwarder.add_service(alloc, name, ScriptRelay { words })
+    let pends = pends_before(words.as_slice());
+    let relay = ScriptRelay { words, pends };
+    forwarder.add_service(alloc, name, relay)
 }

@@ -13,17 +13,6 @@ use dns_service::{Event, Settings};
 use dns_trace::{TextWriter, write_event, write_settings};
 use std::alloc::Global;
 
-/// The lines of settings, which begin a text.
-fn settings_head(alloc: Global, settings: Settings) -> Result<TextWriter, OutOfMemory>
-    ensures { IfOk result (λ text. text ≡ settings_text settings) }
-{
-    let mut text = TextWriter::new(alloc);
-    match write_settings(&mut text, &settings) {
-        Ok(()) => Ok(text),
-        Err(error) => Err(error),
-    }
-}
-
 /// The lines of events.
 fn write_events(text: &mut TextWriter, events: &[Event]) -> Result<(), OutOfMemory>
     ensures { OnOk result (text.new ≡ text.old ++ flat_map event_text events.now) }
@@ -39,47 +28,30 @@ fn write_lines(
     alloc: Global,
     text: &mut TextWriter,
     service: &ServiceLines,
-    zones: &NotifyRules,
+    notify_rules: &NotifyRules,
     events: &[Event],
 ) -> Result<(), OutOfMemory>
-    ensures { OnOk result (text.new ≡ text.old ++ (service_text service.now ++ (target_text zones.now ++ flat_map event_text events.now))) }
+    ensures { OnOk result (text.new ≡ text.old ++ (service_text service.now ++ (target_text notify_rules.now ++ flat_map event_text events.now))) }
 {
     write_service(alloc, text, service)?;
-    write_target(text, zones.as_slice())?;
+    write_target(text, notify_rules.as_slice())?;
     write_events(text, events)
-}
-
-/// A text with the lines of a service, of a target and of events behind it.
-fn with_lines(
-    alloc: Global,
-    text: TextWriter,
-    service: &ServiceLines,
-    zones: &NotifyRules,
-    events: &[Event],
-) -> Result<Vec<u8>, OutOfMemory>
-    ensures { IfOk result (λ whole. whole.items ≡ text ++ (service_text service.now ++ (target_text zones.now ++ flat_map event_text events.now))) }
-{
-    let mut text = text;
-    match write_lines(alloc, &mut text, service, zones, events) {
-        Ok(()) => Ok(text.into_vec()),
-        Err(error) => Err(error),
-    }
 }
 
 /// The lines of settings, of a service, of a target and of events.
 fn whole_text(
     alloc: Global,
-    settings: Settings,
+    settings: &Settings,
     service: &ServiceLines,
-    zones: &NotifyRules,
+    notify_rules: &NotifyRules,
     events: &[Event],
 ) -> Result<Vec<u8>, OutOfMemory>
-    ensures { IfOk result (λ whole. whole.items ≡ settings_text settings ++ (service_text service.now ++ (target_text zones.now ++ flat_map event_text events.now))) }
+    ensures { IfOk result (λ whole. whole.items ≡ settings_text settings.now ++ (service_text service.now ++ (target_text notify_rules.now ++ flat_map event_text events.now))) }
 {
-    match settings_head(alloc, settings) {
-        Ok(text) => with_lines(alloc, text, service, zones, events),
-        Err(error) => Err(error),
-    }
+    let mut text = TextWriter::new(alloc);
+    write_settings(&mut text, settings)?;
+    write_lines(alloc, &mut text, service, notify_rules, events)?;
+    Ok(text.into_vec())
 }
 
 /// The text of a script: a line for each setting, also where that is the default one, then the lines of the service, of the
@@ -91,8 +63,8 @@ fn whole_text(
 pub fn script_text(alloc: Global, script: Script<Event>) -> Result<Vec<u8>, OutOfMemory>
     ensures { IfOk result (λ v. v.items ≡ script_text script) }
 {
-    let (settings, service, zones, events) = script.into_parts();
-    let text = whole_text(alloc, settings, &service, &zones, events.as_slice());
+    let (settings, service, notify_rules, events) = script.into_parts();
+    let text = whole_text(alloc, &settings, &service, &notify_rules, events.as_slice());
     drop(service);
     text
 }

@@ -127,10 +127,10 @@ pub fn serve_script<E: Scripted>(
 ) -> Result<Vec<Output>, OutOfMemory>
     ensures { IfOk result (λ v. v.items ≡ plan_sent E.sent script) }
 {
-    let (settings, service, zones, events) = script.into_parts();
+    let (settings, service, notify_rules, events) = script.into_parts();
     let script = UnservedScript {
         settings,
-        target: ScriptTarget::new(zones),
+        target: ScriptTarget::new(notify_rules),
         events,
     };
     serve_lines(alloc, script, service)

@@ -9,7 +9,7 @@ use dns_zone::Zone;
 use std::alloc::Global;
 
 /// What the service lines of a script say, which are of one kind.
-#[derive(Debug, Drop)]
+#[derive(Drop)]
 pub enum ServiceLines {
     /// Rules, of which the first that fits answers.
     Rules(Rules),

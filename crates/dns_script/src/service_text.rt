@@ -1,7 +1,7 @@
 //! The lines of a service and of a target, as they are written.
 
-ghost use Rattle.std.specs.Prelude.{◌≡◌, ◌++◌, ◌∷◌, [], OnOk, codes, decimal, flat_map, map, replicate};
-ghost use Rattle.dns_base.specs.Records.{data_octets, data_type};
+ghost use Rattle.std.specs.Prelude.{◌≡◌, ◌++◌, ◌∷◌, OnOk, codes, decimal, flat_map, map, replicate};
+ghost use Rattle.dns_base.specs.Records.{data_octets};
 ghost use Rattle.dns_trace.specs.Spelling.{line_of_words, octets_word, spaced};
 ghost use Rattle.dns_script.specs.ScriptText.{service_text, target_text, words_of_apex, words_of_notify, words_of_record, words_of_rule, words_of_service, words_of_upstream};
 ghost use Rattle.dns_script.specs.Spelled.{name_or_star, spelled_answer, spelled_event, spelled_feedback, spelled_name, spelled_reply, spelled_verdict};
@@ -73,38 +73,18 @@ fn push_reply(text: &mut TextWriter, reply: ScriptReply) -> Result<(), OutOfMemo
     }
 }
 
-/// An idle timeout in ms.
-fn push_timeout(text: &mut TextWriter, timeout: Option<u64>) -> Result<(), OutOfMemory>
-    ensures { OnOk result (text.new ≡ text.old ++ spelled_feedback (ServiceFeedback.Reconfigure timeout)) }
-{
-    match timeout {
-        Some(timeout) => push_counted(text, "idle", timeout),
-        None => text.name("idle:none"),
-    }
-}
-
-/// A feedback.
+/// A feedback, of which an idle timeout is in ms.
 fn push_feedback(text: &mut TextWriter, feedback: ServiceFeedback) -> Result<(), OutOfMemory>
     ensures { OnOk result (text.new ≡ text.old ++ spelled_feedback feedback) }
 {
     match feedback {
-        ServiceFeedback::Reconfigure { idle_timeout } => push_timeout(text, idle_timeout),
+        ServiceFeedback::Reconfigure { idle_timeout } => match idle_timeout {
+            Some(timeout) => push_counted(text, "idle", timeout),
+            None => text.name("idle:none"),
+        },
         ServiceFeedback::BeginTransaction => text.name("begin"),
         ServiceFeedback::EndTransaction => text.name("end"),
     }
-}
-
-/// A feedback and a reply.
-fn push_both(
-    text: &mut TextWriter,
-    feedback: ServiceFeedback,
-    reply: ScriptReply,
-) -> Result<(), OutOfMemory>
-    ensures { OnOk result (text.new ≡ text.old ++ spelled_answer (ScriptAnswer.Both feedback reply)) }
-{
-    push_feedback(text, feedback)?;
-    text.character(b'+')?;
-    push_reply(text, reply)
 }
 
 /// An answer behind a space.
@@ -117,7 +97,11 @@ fn push_answer(text: &mut TextWriter, answer: ScriptAnswer) -> Result<(), OutOfM
         ScriptAnswer::Error(error) => text.name(error_text(error)),
         ScriptAnswer::Feedback(feedback) => push_feedback(text, feedback),
         ScriptAnswer::Reply(reply) => push_reply(text, reply),
-        ScriptAnswer::Both(feedback, reply) => push_both(text, feedback, reply),
+        ScriptAnswer::Both(feedback, reply) => {
+            push_feedback(text, feedback)?;
+            text.character(b'+')?;
+            push_reply(text, reply)
+        }
     }
 }
 
@@ -194,15 +178,6 @@ fn upstream_lines(text: &mut TextWriter, upstreams: &[UpstreamLine]) -> Result<(
     Ok(())
 }
 
-/// The line of the name of a zone.
-fn zone_line(text: &mut TextWriter, apex: &Name) -> Result<(), OutOfMemory>
-    ensures { OnOk result (text.new ≡ text.old ++ line_of_words (words_of_apex apex.now)) }
-{
-    text.name("zone")?;
-    push_name(text, apex)?;
-    text.end_line()
-}
-
 /// The data of a record, or `-` for none, behind a space.
 fn push_data(alloc: Global, text: &mut TextWriter, rdata: &RecordData) -> Result<(), OutOfMemory>
     ensures { OnOk result (text.new ≡ text.old ++ 32 ∷ octets_word (data_octets rdata.now)) }
@@ -212,21 +187,14 @@ fn push_data(alloc: Global, text: &mut TextWriter, rdata: &RecordData) -> Result
     text.octets(octets.as_slice())
 }
 
-/// The time to live in s and the type of a record, each behind a space.
-fn push_numbers(text: &mut TextWriter, resource: &Record) -> Result<(), OutOfMemory>
-    ensures { OnOk result (text.new ≡ text.old ++ spaced (decimal resource.now.ttl ∷ decimal (data_type resource.now.rdata) ∷ [])) }
-{
-    text.number(u64::from(resource.ttl.as_secs()))?;
-    text.number(u64::from(resource.rdata.rtype().to_int()))
-}
-
-/// The line of a record.
+/// The line of a record, with its time to live in s.
 fn record_line(alloc: Global, text: &mut TextWriter, resource: &Record) -> Result<(), OutOfMemory>
     ensures { OnOk result (text.new ≡ text.old ++ line_of_words (words_of_record resource.now)) }
 {
     text.name("record")?;
     push_name(text, &resource.owner)?;
-    push_numbers(text, resource)?;
+    text.number(u64::from(resource.ttl.as_secs()))?;
+    text.number(u64::from(resource.rdata.rtype().to_int()))?;
     push_data(alloc, text, &resource.rdata)?;
     text.end_line()
 }
@@ -245,7 +213,9 @@ fn record_lines(alloc: Global, text: &mut TextWriter, records: &[Record]) -> Res
 fn zone_lines(alloc: Global, text: &mut TextWriter, zone: &Zone) -> Result<(), OutOfMemory>
     ensures { OnOk result (text.new ≡ text.old ++ flat_map line_of_words (words_of_apex zone.now.apex ∷ map words_of_record zone.now.records)) }
 {
-    zone_line(text, zone.apex())?;
+    text.name("zone")?;
+    push_name(text, zone.apex())?;
+    text.end_line()?;
     record_lines(alloc, text, zone.records())
 }
 

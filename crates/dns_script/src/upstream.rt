@@ -4,7 +4,7 @@ use crate::rule_list::RuleList;
 use dns_name::{Name, Rcode};
 
 /// What happens at a poll of an upstream.
-#[derive(Clone, Copy, Debug, PartialEq, Eq)]
+#[derive(Clone, Copy)]
 pub enum UpstreamWord {
     /// Nothing arrives.
     Pend,
@@ -17,7 +17,7 @@ pub enum UpstreamWord {
 }
 
 /// An upstream line: behind its words an upstream is late.
-#[derive(Debug, Drop)]
+#[derive(Drop)]
 pub struct UpstreamLine {
     /// The name of the questions that it is for, and of those below.
     pub name: Name,

@@ -2,12 +2,12 @@
 
 ghost use Rattle.std.specs.Prelude.{◌≡◌, [], drop};
 ghost use Rattle.dns_trace.specs.Reading.{GivesLine, TakesLine};
-ghost use Rattle.dns_script.specs.ServiceLines.{before_upstream, reply_of_word, upstream_line, upstream_of, upstream_word, upstream_words_after};
+ghost use Rattle.dns_script.specs.ServiceLines.{upstream_line, upstream_of, upstream_word, upstream_words_after};
 
 use crate::answer_words::{behind, rcode};
 use crate::draft::Draft;
+use crate::line_checks::before_events;
 use crate::rule_list::RuleList;
-use crate::setting_lines::{before_events, of_more_words};
 use crate::upstream::{UpstreamLine, UpstreamWord};
 use dns_trace::{LineError, Reason, Words, name, unless};
 use std::alloc::Global;
@@ -23,13 +23,6 @@ fn upstream_word(word: &[u8]) -> Result<UpstreamWord, Reason>
     if word == b"late".as_slice() {
         return Ok(UpstreamWord::Late);
     }
-    reply_word(word)
-}
-
-/// `rcode:N` or `stray:N`.
-fn reply_word(word: &[u8]) -> Result<UpstreamWord, Reason>
-    ensures { result ≡ reply_of_word word.now }
-{
     if let Some(rest) = behind(word, b"rcode:".as_slice()) {
         return Ok(UpstreamWord::Rcode(rcode(rest)?));
     }
@@ -56,13 +49,13 @@ fn upstream_words(alloc: Global, words: &Words) -> Result<RuleList<UpstreamWord>
 fn upstream_of(alloc: Global, words: &Words) -> Result<UpstreamLine, LineError>
     ensures { GivesLine (λ u. u) result (upstream_of words.now) }
 {
-    of_more_words(words)?;
+    unless(Reason::Count, words.len() >= 3)?;
     let name = name(alloc, words.word(1))?;
     let words = upstream_words(alloc, words)?;
     Ok(UpstreamLine { name, words })
 }
 
-/// A line `upstream NAME WORD ..`.
+/// A line `upstream NAME WORD ..`. An upstream stands before the first event, where no service line of another kind does.
 #[tactic(auto, unfolding(crate::specs::ServiceLines::upstream_line))]
 pub(crate) fn read_upstream<E: Drop>(
     alloc: Global,
@@ -71,16 +64,9 @@ pub(crate) fn read_upstream<E: Drop>(
 ) -> Result<(), LineError>
     ensures { TakesLine result draft.new (upstream_line draft.old words.now) }
 {
-    may_be_upstream(draft)?;
+    before_events(&draft.script)?;
+    unless(Reason::Mix, draft.may_be_upstream())?;
     let upstream = upstream_of(alloc, words)?;
     draft.push_upstream(upstream)?;
     Ok(())
-}
-
-/// An upstream stands before the first event, where no service line of another kind does.
-fn may_be_upstream<E: Drop>(draft: &Draft<E>) -> Result<(), Reason>
-    ensures { result ≡ before_upstream draft.now }
-{
-    before_events(&draft.script)?;
-    unless(Reason::Mix, draft.may_be_upstream())
 }

@@ -8,24 +8,14 @@ ghost use Rattle.dns_message.specs.Records.{IsLawful, data_octets};
 ghost use Rattle.dns_message.specs.Standing.{standing_at};
 ghost use Rattle.dns_message.specs.Wire.{record_octets};
 ghost use Rattle.dns_trace.specs.Reading.{GivesLine, TakesLine, unless};
-ghost use Rattle.dns_trace.specs.Values.{number};
-ghost use Rattle.dns_script.specs.ServiceLines.{GivesRead, apex_of, before_record, before_zone, data_word, read_alone, record_line, record_with_owner, record_words, resource_of, typed_record, written_uncompressed, zone_line};
+ghost use Rattle.dns_script.specs.ServiceLines.{GivesRead, read_alone, record_line, record_with_owner, record_words, resource_of, written_uncompressed, zone_line};
 
 use crate::draft::Draft;
-use crate::setting_lines::{before_events, kept};
+use crate::line_checks::{before_events, kept};
 use dns_base::{ParseError, Record, record_in};
-use dns_name::{Name, Octets, OutOfMemory};
+use dns_name::{Name, OutOfMemory};
 use dns_trace::{LineError, Reason, Words, decimal, name, octets, port, unless};
 use std::alloc::Global;
-
-/// The name of a line `zone NAME`.
-#[tactic(auto, unfolding(crate::specs::ServiceLines::apex_of))]
-fn apex_of(alloc: Global, words: &Words) -> Result<Name, LineError>
-    ensures { GivesLine (λ n. n) result (apex_of words.now) }
-{
-    unless(Reason::Count, words.len() == 2)?;
-    name(alloc, words.word(1))
-}
 
 /// Octets behind others.
 fn push(target: &mut Vec<u8>, octets: &[u8]) -> Result<(), OutOfMemory>
@@ -120,24 +110,6 @@ fn written_uncompressed(alloc: Global, resource: Record, rdata: &[u8]) -> Result
     kept(resource, written)
 }
 
-/// A time to live in seconds.
-fn ttl(word: &[u8]) -> Result<u32, Reason>
-    ensures { result ≡ number 20 4294967296 word.now }
-{
-    let number = decimal(word, 20, 4294967296)?;
-    Ok(number as u32)
-}
-
-/// Data of at most 65,535 octets.
-fn data(alloc: Global, word: &[u8]) -> Result<Octets, LineError>
-    ensures value { GivesLine (λ o. o) result (data_word word.now) }
-    ensures short { IfOk result (λ o. length o ≤ 65535) }
-{
-    let data = octets(alloc, word)?;
-    unless(Reason::Value, data.as_slice().len() <= 65535)?;
-    Ok(data)
-}
-
 /// The record of a line `record NAME TTL TYPE HEX`.
 #[tactic(auto, unfolding(crate::specs::ServiceLines::record_words))]
 fn record_words(alloc: Global, words: &Words) -> Result<Record, LineError>
@@ -149,34 +121,20 @@ fn record_words(alloc: Global, words: &Words) -> Result<Record, LineError>
     record_with_owner(alloc, &owner, words)
 }
 
-/// The record with this owner of such a line.
+/// The record with this owner of such a line. Its data has at most 65,535 octets.
 fn record_with_owner(alloc: Global, owner: &Name, words: &Words) -> Result<Record, LineError>
     ensures value { GivesLine (λ r. r) result (record_with_owner owner.now words.now) }
     ensures lawful { IfOk result (λ r. IsLawful r.rdata) }
 {
-    let ttl = ttl(words.word(2))?;
+    let seconds = decimal(words.word(2), 20, 4294967296)?;
     let rtype = port(words.word(3))?;
-    let data = data(alloc, words.word(4))?;
-    record_with(alloc, owner, ttl, rtype, data.as_slice())
+    let data = octets(alloc, words.word(4))?;
+    unless(Reason::Value, data.as_slice().len() <= 65535)?;
+    let octets = composed(alloc, owner, seconds as u32, rtype, data.as_slice())?;
+    typed_record(alloc, octets.as_slice(), data.as_slice())
 }
 
-/// The record of class IN with these values.
-fn record_with(
-    alloc: Global,
-    owner: &Name,
-    ttl: u32,
-    rtype: u16,
-    rdata: &[u8],
-) -> Result<Record, LineError>
-    requires { length rdata.now ≤ 65535 }
-    ensures value { GivesLine (λ r. r) result (typed_record owner.now ttl rtype rdata.now) }
-    ensures lawful { IfOk result (λ r. IsLawful r.rdata) }
-{
-    let octets = composed(alloc, owner, ttl, rtype, rdata)?;
-    typed_record(alloc, octets.as_slice(), rdata)
-}
-
-/// A line `record NAME TTL TYPE HEX`.
+/// A line `record NAME TTL TYPE HEX`. A record stands before the first event, and behind the line of its zone.
 #[tactic(auto, unfolding(crate::specs::ServiceLines::record_line))]
 pub(crate) fn read_record<E: Drop>(
     alloc: Global,
@@ -185,22 +143,15 @@ pub(crate) fn read_record<E: Drop>(
 ) -> Result<(), LineError>
     ensures { TakesLine result draft.new (record_line draft.old words.now) }
 {
-    may_be_record(draft)?;
+    before_events(&draft.script)?;
+    unless(Reason::Order, draft.has_zone())?;
     let record = record_words(alloc, words)?;
     draft.push_record(record)?;
     Ok(())
 }
 
-/// A record stands before the first event, and behind the line of its zone.
-fn may_be_record<E: Drop>(draft: &Draft<E>) -> Result<(), Reason>
-    ensures { result ≡ before_record draft.now }
-{
-    before_events(&draft.script)?;
-    unless(Reason::Order, draft.has_zone())
-}
-
-/// A line `zone NAME`.
-#[tactic(auto, unfolding(crate::specs::ServiceLines::zone_line))]
+/// A line `zone NAME`. A zone stands before the first event, where no other service line does.
+#[tactic(auto, unfolding(crate::specs::ServiceLines::zone_line, crate::specs::ServiceLines::apex_of))]
 pub(crate) fn read_zone<E: Drop>(
     alloc: Global,
     draft: &mut Draft<E>,
@@ -208,17 +159,11 @@ pub(crate) fn read_zone<E: Drop>(
 ) -> Result<(), LineError>
     ensures { TakesLine result draft.new (zone_line draft.old words.now) }
 {
-    may_be_zone(draft)?;
-    let apex = apex_of(alloc, words)?;
-    draft.begin_zone(alloc, apex);
-    Ok(())
-}
-
-/// A zone stands before the first event, where no other service line does.
-fn may_be_zone<E: Drop>(draft: &Draft<E>) -> Result<(), Reason>
-    ensures { result ≡ before_zone draft.now }
-{
     before_events(&draft.script)?;
     unless(Reason::Mix, draft.may_be_zone())?;
-    unless(Reason::Repeat, !draft.has_zone())
+    unless(Reason::Repeat, !draft.has_zone())?;
+    unless(Reason::Count, words.len() == 2)?;
+    let apex = name(alloc, words.word(1))?;
+    draft.begin_zone(alloc, apex);
+    Ok(())
 }

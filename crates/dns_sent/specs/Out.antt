@@ -34,18 +34,19 @@ module _ (answers : Serving) (settings : Settings) where
   abbrev pub gain : ℕ → List Event → Event → List Output
   gain c q e = (rule answers e (slate answers settings c q)).1
 
-  -- the client of e begins with it: its number was unused, and is used now
+  -- the client of e begins with it, by its first offer or datagram before every shutdown: its number was unused, and is used now
   unfoldable pub is_new : List Event → Event → Bool
   is_new q e = is_unused (slate answers settings e.client q).phase && not (is_unused (slate answers settings e.client (q ++ e ∷ [])).phase)
 
-  -- how many of the members hold a slot
+  -- how many of the members hold a slot, which are the connections that no release found closed
   unfoldable pub taken : List Event → List ℕ → ℕ
   taken q ms = length (filter (λ c. holds_slot (slate answers settings c q)) ms)
 
   unfoldable pub has_room : List Event → List ℕ → Bool
   has_room q ms = nat_lt (taken q ms) (conf settings q).stream.max_concurrent_connections
 
-  -- a client that begins joins the members ms, unless it takes a slot and every slot is taken
+  -- a client that begins joins the members ms: by a datagram as an exchange, which holds no slot, and by an offer as a connection,
+  -- unless every slot is taken
   abbrev pub joins : List Event → List ℕ → Event → Bool
   joins q ms e = is_new q e && (not (holds_slot (slate answers settings e.client (q ++ e ∷ []))) || has_room q ms)
 

@@ -16,7 +16,7 @@ use std::alloc::Global;
 
 /// Writes settings and the events that a driver notes, one line each. It tells, unless an event that all clients hear named
 /// one, which its line doesn't say. Before the events noted contracts see the settings, as one event that carries their lines.
-#[derive(Debug, Drop)]
+#[derive(Drop)]
 pub struct TraceRecorder {
     writer: TraceWriter,
     /// Whether the lines say all of their events.

@@ -13,7 +13,7 @@ use Rattle.dns_opt.specs.Timers.{keepalive_data}
 use Rattle.dns_service.specs.OptItems.{opt_items}
 use Rattle.dns_service.specs.declared.asked.Asked.{Asked}
 use Rattle.dns_service.specs.declared.asked.AskedOpt.{AskedOpt}
-use Rattle.dns_service.specs.declared.asked.AskedOpt.TheVariants.{NoItem, One, Refused}
+use Rattle.dns_service.specs.declared.asked.AskedOpt.TheVariants.{NoItem, One, Faulty}
 use Rattle.dns_service.specs.declared.asked.AskedRecord.{AskedRecord}
 use Rattle.dns_service.specs.declared.asked.AskedCookie.{AskedCookie}
 use Rattle.dns_service.specs.declared.asked.AskedCookie.TheVariants.{NoCookie, Unreadable, Sent}
@@ -45,11 +45,11 @@ asked_record s = record { size = s.head.size; version = s.head.version; sends_ti
 -- none, one record, or what is refused: two or more items, or a first one that is no record. The first record is kept.
 abbrev pub behind_record : AskedRecord → List (Option OptState) → AskedOpt
 behind_record h [] = One h
-behind_record h (x ∷ more) = Refused (Some h)
+behind_record h (x ∷ more) = Faulty (Some h)
 
 abbrev pub asked_opt : List (Option OptState) → AskedOpt
 asked_opt [] = NoItem
-asked_opt (None ∷ more) = Refused None
+asked_opt (None ∷ more) = Faulty None
 asked_opt (Some s ∷ more) = behind_record (asked_record s) more
 
 -- what is asked by octets that are a message
@@ -60,24 +60,24 @@ asked_of o = record { id = (header_of o).id; rd = (header_of o).rd; opcode = (he
 abbrev pub first_asked : AskedOpt → Option AskedRecord
 first_asked NoItem = None
 first_asked (One h) = Some h
-first_asked (Refused first) = first
+first_asked (Faulty first) = first
 
 -- the first cookie of that record
 abbrev pub asked_cookie : AskedOpt → AskedCookie
 asked_cookie NoItem = NoCookie
 asked_cookie (One h) = h.cookie
-asked_cookie (Refused None) = NoCookie
-asked_cookie (Refused (Some h)) = h.cookie
+asked_cookie (Faulty None) = NoCookie
+asked_cookie (Faulty (Some h)) = h.cookie
 
 -- the greatest payload that it states, none where there is no record
 abbrev pub client_size : AskedOpt → Option ℕ
 client_size NoItem = None
 client_size (One h) = Some h.size
-client_size (Refused None) = None
-client_size (Refused (Some h)) = Some h.size
+client_size (Faulty None) = None
+client_size (Faulty (Some h)) = Some h.size
 
 -- there is an item
 abbrev pub has_item : AskedOpt → Bool
 has_item NoItem = false
 has_item (One h) = true
-has_item (Refused first) = true
+has_item (Faulty first) = true

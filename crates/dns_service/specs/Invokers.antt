@@ -19,51 +19,17 @@ abbrev pub reply_in : List ℕ → Item → Option Msg
 reply_in o (Ok given) = given.response
 reply_in o (Err error) = Some (error_reply o (rcode_of error))
 
+-- what an item tells beside its reply
+abbrev pub told_by : Item → Option ServiceFeedback
+told_by (Ok given) = given.feedback
+told_by (Err error) = None
+
 -- what a poll led to
 abbrev pub dispatched_by : Answer → Dispatched
 dispatched_by Pending = dispatched.Pending
 dispatched_by (Ready None) = dispatched.Ended
 dispatched_by (Ready (Some (Ok given))) = dispatched.Item
 dispatched_by (Ready (Some (Err error))) = dispatched.Aborted
-
--- how far a request is after a feedback, and after an item
-abbrev pub status_after : ServiceFeedback → InvokerStatus → InvokerStatus
-status_after (Reconfigure timeout) status = status
-status_after BeginTransaction status = InTransaction
-status_after EndTransaction status = Normal
-
-abbrev pub status_told : Option ServiceFeedback → InvokerStatus → InvokerStatus
-status_told None status = status
-status_told (Some feedback) status = status_after feedback status
-
-abbrev pub item_status : Item → InvokerStatus → InvokerStatus
-item_status (Ok given) status = status_told given.feedback status
-item_status (Err error) status = Aborting
-
-abbrev pub answer_status : Answer → InvokerStatus → InvokerStatus
-answer_status Pending status = status
-answer_status (Ready None) status = status
-answer_status (Ready (Some item)) status = item_status item status
-
--- how long a connection may be idle: a time that is given holds from now on
-abbrev pub timeout_given : Option ℕ → ℕ → ℕ
-timeout_given None now = now
-timeout_given (Some timeout) now = timeout
-
-abbrev pub timeout_after : ServiceFeedback → ℕ → ℕ
-timeout_after (Reconfigure timeout) now = timeout_given timeout now
-timeout_after BeginTransaction now = now
-timeout_after EndTransaction now = now
-
-abbrev pub timeout_told : Option ServiceFeedback → ℕ → ℕ
-timeout_told None now = now
-timeout_told (Some feedback) now = timeout_after feedback now
-
-abbrev pub answer_timeout : Answer → ℕ → ℕ
-answer_timeout Pending now = now
-answer_timeout (Ready None) now = now
-answer_timeout (Ready (Some (Ok given))) now = timeout_told given.feedback now
-answer_timeout (Ready (Some (Err error))) now = now
 
 -- what the calls of an invoker do: how far its request is, and what it is after each call
 pub record Invoking (X : Type 0) : Type 0 where

@@ -14,6 +14,7 @@ pub use Rattle.dns_replies.specs.WithOption
 pub use Rattle.dns_replies.specs.OptIn
 pub use Rattle.dns_replies.specs.Cut
 pub use Rattle.dns_events.specs.Config
+pub mod Codes
 pub mod OptItems
 pub mod Asked
 pub mod Transport

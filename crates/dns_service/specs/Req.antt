@@ -1,7 +1,8 @@
 -- A request as a plain record: the octets of its message, where and when it came from, its transport, the octets that are
 -- reserved in its response, and its metadata.
-use Rattle.std.specs.Prelude.{ℕ, List}
+use Rattle.std.specs.Prelude.{ℕ, List, Option}
 use Rattle.dns_name.specs.declared.address.SocketAddr.{SocketAddr}
+use Rattle.dns_service.specs.Transport.{hint_of}
 use Rattle.dns_service.specs.declared.message.TransportSpecificContext.{TransportSpecificContext}
 
 pub record Req (Meta : Type 0) : Type 0 where
@@ -28,3 +29,7 @@ with_metadata r meta = record {
 -- a request that came otherwise
 abbrev pub with_transport : {A : Type 0} → Req A → TransportSpecificContext → Req A
 with_transport r transport = record r { transport = transport }
+
+-- the hint of a request, as it came
+abbrev pub hint_at_entry : {Meta : Type 0} → Req Meta → Option ℕ
+hint_at_entry r = hint_of r.transport

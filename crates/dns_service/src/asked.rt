@@ -1,10 +1,9 @@
 //! What is read of a request, once, before anything is decided about it.
 
 ghost use Rattle.std.specs.Prelude.{◌≡◌, [], IfOk};
-ghost use Rattle.std.specs.Option.{option_copied};
 ghost use Rattle.dns_opt.specs.OptRecords.{head_by, opt_state};
 ghost use Rattle.dns_service.specs.OptItems.{items_among, opt_items};
-ghost use Rattle.dns_service.specs.Asked.{asked_cookie, asked_of, asked_opt, asked_record, behind_record, client_size, cookie_in, first_asked, has_item, sends_timeout};
+ghost use Rattle.dns_service.specs.Asked.{asked_cookie, asked_of, asked_opt, asked_record, behind_record, client_size, cookie_in, has_item, sends_timeout};
 
 use dns_base::{Message, Opcode, RecordIter, RecordRef, Rtype};
 use dns_opt::{Cookie, OptRef};
@@ -41,7 +40,7 @@ pub enum AskedOpt {
     /// One record that can be read.
     One(AskedRecord),
     /// Two or more items, or a first one that can't be read. The first record is kept, where it can be read.
-    Refused(Option<AskedRecord>),
+    Faulty(Option<AskedRecord>),
 }
 
 /// What is read of a request.
@@ -60,38 +59,27 @@ pub struct Asked {
 }
 
 impl AskedOpt {
-    /// What is kept of the first item, where it is a record that can be read.
-    pub fn record(&self) -> Option<&AskedRecord>
-        ensures { option_copied result ≡ first_asked self.now }
-    {
-        match self {
-            AskedOpt::NoItem => None,
-            AskedOpt::One(record) => Some(record),
-            AskedOpt::Refused(first) => first.as_ref(),
-        }
-    }
-
-    /// The first cookie of that record.
+    /// The first cookie of the first item, where that is a record that can be read.
     pub fn cookie(&self) -> AskedCookie
         ensures { result ≡ asked_cookie self.now }
     {
         match self {
             AskedOpt::NoItem => AskedCookie::NoCookie,
             AskedOpt::One(record) => record.cookie,
-            AskedOpt::Refused(None) => AskedCookie::NoCookie,
-            AskedOpt::Refused(Some(record)) => record.cookie,
+            AskedOpt::Faulty(None) => AskedCookie::NoCookie,
+            AskedOpt::Faulty(Some(record)) => record.cookie,
         }
     }
 
-    /// The greatest payload over UDP that the record states, in octets.
+    /// The greatest payload over UDP that this record states, in octets.
     pub fn client_size(&self) -> Option<u16>
         ensures { result ≡ client_size self.now }
     {
         match self {
             AskedOpt::NoItem => None,
             AskedOpt::One(record) => Some(record.size),
-            AskedOpt::Refused(None) => None,
-            AskedOpt::Refused(Some(record)) => Some(record.size),
+            AskedOpt::Faulty(None) => None,
+            AskedOpt::Faulty(Some(record)) => Some(record.size),
         }
     }
 
@@ -102,7 +90,7 @@ impl AskedOpt {
         match self {
             AskedOpt::NoItem => false,
             AskedOpt::One(_) => true,
-            AskedOpt::Refused(_) => true,
+            AskedOpt::Faulty(_) => true,
         }
     }
 }
@@ -142,12 +130,12 @@ fn first_among(records: RecordIter<'_>) -> AskedOpt
     let mut left = records;
     'walk: while let Some(item) = left.next() {
         let Ok(record) = item else {
-            return AskedOpt::Refused(None);
+            return AskedOpt::Faulty(None);
         };
         if record.rtype() == Rtype::OPT {
             return match OptRef::from_slice(record.rdata()) {
                 Ok(options) => behind_record(asked_record(&record, &options), left),
-                Err(_) => AskedOpt::Refused(None),
+                Err(_) => AskedOpt::Faulty(None),
             };
         }
     }
@@ -161,10 +149,10 @@ fn behind_record(first: AskedRecord, records: RecordIter<'_>) -> AskedOpt
     let mut left = records;
     'walk: while let Some(item) = left.next() {
         let Ok(record) = item else {
-            return AskedOpt::Refused(Some(first));
+            return AskedOpt::Faulty(Some(first));
         };
         if record.rtype() == Rtype::OPT {
-            return AskedOpt::Refused(Some(first));
+            return AskedOpt::Faulty(Some(first));
         }
     }
     AskedOpt::One(first)

@@ -4,7 +4,8 @@ ghost use Rattle.std.specs.Prelude.{◌≡◌, ℕ};
 ghost use Rattle.std.specs.Result.{ForOk};
 ghost use Rattle.dns_service.specs.declared.message.Request.{Request};
 ghost use Rattle.dns_service.specs.Answer.{Item};
-ghost use Rattle.dns_service.specs.ServiceFn.{answers_once, hint_at_entry};
+ghost use Rattle.dns_service.specs.Req.{hint_at_entry};
+ghost use Rattle.dns_service.specs.ServiceFn.{answers_once};
 
 use crate::message::Request;
 use crate::once::{Now, Once};

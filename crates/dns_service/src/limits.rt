@@ -14,14 +14,14 @@ use std::alloc::Global;
 pub const MINIMUM_RESPONSE_BYTE_LEN: u16 = 512;
 
 /// How many octets a reply over UDP may take, by its request's hint.
-pub fn reply_limit(hint: Option<u16>) -> usize
+pub fn reply_limit(hint: Option<u16>) -> u16
     ensures value { result ≡ limit hint }
     ensures least { 512 ≤ result }
     ensures most { result ≤ 65535 }
 {
     match hint {
-        Some(hint) => hint.max(MINIMUM_RESPONSE_BYTE_LEN) as usize,
-        None => MINIMUM_RESPONSE_BYTE_LEN as usize,
+        Some(hint) => hint.max(MINIMUM_RESPONSE_BYTE_LEN),
+        None => MINIMUM_RESPONSE_BYTE_LEN,
     }
 }
 
@@ -30,7 +30,7 @@ pub fn limit_over(transport: &TransportSpecificContext, hint: Option<u16>) -> Op
     ensures { result ≡ limit_over transport.now (limit hint) }
 {
     match transport {
-        TransportSpecificContext::Udp(_) => Some(reply_limit(hint) as u16),
+        TransportSpecificContext::Udp(_) => Some(reply_limit(hint)),
         TransportSpecificContext::NonUdp(_) => None,
     }
 }

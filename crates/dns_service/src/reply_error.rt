@@ -10,7 +10,9 @@ use dns_name::{OutOfMemory, ParseError};
 /// Why a reply could not be made: the service's own error, or want of memory, which no client is told of.
 #[derive(Clone, Copy, Debug, PartialEq, Eq)]
 pub enum ReplyError {
+    /// The service's own error.
     Service(ServiceError),
+    /// There was no memory.
     OutOfMemory,
 }
 

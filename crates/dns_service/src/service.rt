@@ -8,7 +8,7 @@ ghost use Rattle.dns_base.specs.Built.{Built};
 ghost use Rattle.dns_service.specs.declared.message.Request.{Request};
 ghost use Rattle.dns_service.specs.Answer.{Answer, Item, IfPending, IfReady};
 ghost use Rattle.dns_service.specs.Transport.{hinted};
-ghost use Rattle.dns_service.specs.Given.{message_in};
+ghost use Rattle.dns_service.specs.Given.{IsEither, message_in};
 ghost use Rattle.dns_service.specs.Lending.{LendsReply};
 ghost use Rattle.dns_service.specs.Errors.{rcode_of, service_error_text};
 
@@ -23,16 +23,22 @@ use std::sync::Arc;
 /// What a poll answers.
 #[derive(Debug, Drop)]
 pub enum Polled<T> {
+    /// Nothing yet: poll again.
     Pending,
+    /// This.
     Ready(T),
 }
 
 /// Why a service gives no reply.
 #[derive(Clone, Copy, Debug, PartialEq, Eq)]
 pub enum ServiceError {
+    /// The request can't be read.
     FormatError,
+    /// The service failed.
     InternalError,
+    /// The service doesn't know requests of this kind.
     NotImplemented,
+    /// The service doesn't serve this client or this name.
     Refused,
 }
 
@@ -68,11 +74,14 @@ impl fmt::Display for ServiceError {
 pub enum ServiceFeedback {
     /// The idle timeout in ms, where there is one, holds from now on.
     Reconfigure { idle_timeout: Option<u64> },
+    /// From now on no reply to the request is dropped.
     BeginTransaction,
+    /// From now on a reply to the request is dropped where the queue is full.
     EndTransaction,
 }
 
-/// A reply, a feedback or both.
+/// A reply, a feedback or both. Of a reply the message counts alone: what its builder has for a push limit is forgotten, so who
+/// pushes behind it clears the limit first (`clear_push_limit`).
 #[derive(Drop)]
 pub struct CallResult {
     response: Option<AdditionalBuilder>,
@@ -80,11 +89,13 @@ pub struct CallResult {
 }
 
 impl Model for CallResult {
-    ghost use Rattle.dns_service.specs.Given.{Given, message_in};
+    ghost use Rattle.dns_service.specs.Given.{Given, IsEither, message_in};
 
     ghost Value = { Given };
 
     ghost view = { λ c. record { response = message_in c.response; feedback = c.feedback } };
+
+    ghost invariant = { λ c. IsEither c.response c.feedback };
 }
 
 impl CallResult {
@@ -125,7 +136,7 @@ impl CallResult {
         self.response.as_ref()
     }
 
-    /// The reply, for writing.
+    /// The reply, for writing. Its push limit may be any.
     pub fn response_mut(&mut self) -> Option<&mut AdditionalBuilder>
         ensures* writes_back { sem 𝓛 (LendsReply self.entry result) }
         ensures value { option_map (λ r. r.now.message) result ≡ self.old.response }
@@ -140,10 +151,11 @@ impl CallResult {
         self.feedback
     }
 
-    /// The reply and the feedback.
+    /// The reply, whose push limit may be any, and the feedback.
     pub fn into_inner(self) -> (Option<AdditionalBuilder>, Option<ServiceFeedback>)
         ensures response { message_in result.0 ≡ self.response }
         ensures feedback { result.1 ≡ self.feedback }
+        ensures either { IsEither result.0 result.1 }
     {
         let CallResult { response, feedback } = self;
         (response, feedback)

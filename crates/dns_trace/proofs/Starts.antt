@@ -25,3 +25,7 @@ starts_on old more mid new h e = starts_with_trans new mid old (starts_with_of_a
 -- nothing more was written
 pub starts_kept : (old mid new : List ℕ) → StartsWith mid old → new ≡ mid → StartsWith new old
 starts_kept old mid new h e = starts_with_trans new mid old (starts_with_of_eq new mid e) h
+
+-- more may have been written
+pub starts_later : (old mid new : List ℕ) → StartsWith mid old → StartsWith new mid → StartsWith new old
+starts_later old mid new h later = starts_with_trans new mid old later h

@@ -11,7 +11,7 @@ use dns_events::StreamConfig;
 
 /// How many responses each connection may queue in one window, where that is limited, and how long a window is, in
 /// milliseconds. The numbers are those that were said; a configuration limits them to their ranges.
-#[derive(Clone, Copy, Debug, PartialEq, Eq)]
+#[derive(Clone, Copy)]
 pub struct Budget {
     pub count: Option<u64>,
     pub window: u64,

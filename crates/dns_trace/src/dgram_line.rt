@@ -1,24 +1,14 @@
 //! The line that configures the datagram server.
 
 ghost use Rattle.std.specs.Prelude.{◌≡◌, ◌<◌};
-ghost use Rattle.dns_trace.specs.DgramLine.{dgram_line, dgram_values, sized_dgram};
+ghost use Rattle.dns_trace.specs.DgramLine.{dgram_line, dgram_values};
 
 use crate::reason::Reason;
 use crate::values::{num, size};
 use crate::words::Words;
 use dns_events::DgramConfig;
 
-/// The configuration of these numbers, each limited to its range: a size in octets and a time in milliseconds.
-fn configure(size: Option<u16>, write: u64) -> DgramConfig
-    ensures { result ≡ sized_dgram size write }
-{
-    let mut dgram = DgramConfig::new();
-    dgram.set_max_response_size(size);
-    dgram.set_write_timeout(write);
-    dgram
-}
-
-/// The configuration `SIZE WRITE` from a word on.
+/// The configuration `SIZE WRITE` from a word on, each limited to its range: a size in octets and a time in milliseconds.
 #[tactic(auto, unfolding(crate::specs::DgramLine::dgram_values))]
 pub(crate) fn dgram_values(words: &Words, from: usize) -> Result<DgramConfig, Reason>
     requires { from < 16 }
@@ -26,7 +16,10 @@ pub(crate) fn dgram_values(words: &Words, from: usize) -> Result<DgramConfig, Re
 {
     let size = size(words.word(from))?;
     let write = num(words.word(from + 1))?;
-    Ok(configure(size, write))
+    let mut dgram = DgramConfig::new();
+    dgram.set_max_response_size(size);
+    dgram.set_write_timeout(write);
+    Ok(dgram)
 }
 
 /// The configuration of a line `dgram SIZE WRITE`. The first word is not looked at.

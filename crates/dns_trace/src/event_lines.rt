@@ -2,7 +2,7 @@
 
 ghost use Rattle.std.specs.Prelude.{◌≡◌};
 ghost use Rattle.dns_trace.specs.Reading.{GivesLine};
-ghost use Rattle.dns_trace.specs.EventLines.{moment_of, event_of, socket_addr_of, datagram_line, turn_line, offer_line, piece_line, write_line, bare_line, wide_event_of, last_budget, reconfigure_line, shutdown_line, wide_line, named_kind, named_line, connection_line, event_line, look_line, step_line};
+ghost use Rattle.dns_trace.specs.EventLines.{moment_of, event_of, socket_addr_of, datagram_line, turn_line, offer_line, piece_line, write_line, bare_line, wide_event_of, last_budget, reconfigure_line, named_line, event_line, step_line};
 
 use crate::budget_line::{Budget, budget_values, with_budget};
 use crate::dgram_line::dgram_values;
@@ -162,77 +162,35 @@ fn read_reconfigure(words: &Words) -> Result<Event, Reason>
     wide_event(words, EventKind::Reconfigure { dgram, stream })
 }
 
-/// The event of a line `shutdown AT SECS`. The first word is not looked at.
+/// The event of a line of a name and `AT SECS CLIENT`: `end`, `fault`, `close` or `tick`; or one that all clients hear:
+/// `reconfigure AT SECS SIZE WRITE IDLE WRITE QUEUE LIMIT yes|no`, and then `BUDGET WINDOW` or nothing; or `shutdown AT SECS`.
 #[tactic(auto, unfolding(crate::specs::EventLines::shutdown_line))]
-fn read_shutdown(words: &Words) -> Result<Event, Reason>
-    ensures { result ≡ shutdown_line words.now }
-{
-    if words.len() != 3 {
-        return Err(Reason::Count);
-    }
-    wide_event(words, EventKind::Shutdown)
-}
-
-/// The event of a line that all clients hear: `reconfigure AT SECS SIZE WRITE IDLE WRITE QUEUE LIMIT yes|no`, and then
-/// `BUDGET WINDOW` or nothing; or `shutdown AT SECS`.
-fn read_wide(words: &Words) -> Result<Event, Reason>
-    ensures { result ≡ wide_line words.now }
-{
-    let name = words.word(0);
-    if name == b"reconfigure".as_slice() {
-        return read_reconfigure(words);
-    }
-    if name == b"shutdown".as_slice() {
-        return read_shutdown(words);
-    }
-    Err(Reason::Word)
-}
-
-/// The event of a connection whose line says no more than this name and `AT SECS CLIENT`: `end`, `fault`, `close` or `tick`.
-fn named_kind(name: &[u8]) -> Option<EventKind>
-    ensures { result ≡ named_kind name.now }
-{
-    if name == b"end".as_slice() {
-        return Some(EventKind::End);
-    }
-    if name == b"fault".as_slice() {
-        return Some(EventKind::Fault);
-    }
-    if name == b"close".as_slice() {
-        return Some(EventKind::Close);
-    }
-    if name == b"tick".as_slice() {
-        return Some(EventKind::Tick);
-    }
-    None
-}
-
-/// The event of a line of a name and `AT SECS CLIENT`: `end`, `fault`, `close` or `tick`; or one that all clients hear.
 fn read_named(words: &Words) -> Result<Event, LineError>
     ensures { GivesLine (λ e. e) result (named_line words.now) }
 {
-    match named_kind(words.word(0)) {
-        Some(kind) => read_bare(words, kind),
-        None => Ok(read_wide(words)?),
-    }
-}
-
-/// The event of a line of a connection that was offered: `piece AT SECS CLIENT HEX`, `write AT SECS CLIENT TOOK`, `release`,
-/// `end`, `fault`, `close` or `tick` and `AT SECS CLIENT`; or one that all clients hear.
-fn read_connection(alloc: Global, words: &Words) -> Result<Event, LineError>
-    ensures { GivesLine (λ e. e) result (connection_line words.now) }
-{
     let name = words.word(0);
-    if name == b"piece".as_slice() {
-        return read_piece(alloc, words);
+    if name == b"end".as_slice() {
+        return read_bare(words, EventKind::End);
     }
-    if name == b"write".as_slice() {
-        return read_write(words);
+    if name == b"fault".as_slice() {
+        return read_bare(words, EventKind::Fault);
     }
-    if name == b"release".as_slice() {
-        return read_bare(words, EventKind::Release);
+    if name == b"close".as_slice() {
+        return read_bare(words, EventKind::Close);
     }
-    read_named(words)
+    if name == b"tick".as_slice() {
+        return read_bare(words, EventKind::Tick);
+    }
+    if name == b"reconfigure".as_slice() {
+        return Ok(read_reconfigure(words)?);
+    }
+    if name == b"shutdown".as_slice() {
+        if words.len() != 3 {
+            return Err(LineError::Refused(Reason::Count));
+        }
+        return Ok(wide_event(words, EventKind::Shutdown)?);
+    }
+    Err(LineError::Refused(Reason::Word))
 }
 
 /// The event of a line: `datagram AT SECS CLIENT ADDR PORT HEX`, `turn AT SECS CLIENT REQUEST`,
@@ -251,30 +209,31 @@ pub fn read_event(alloc: Global, words: &Words) -> Result<Event, LineError>
     if name == b"offer".as_slice() {
         return read_offer(alloc, words);
     }
-    read_connection(alloc, words)
+    if name == b"piece".as_slice() {
+        return read_piece(alloc, words);
+    }
+    if name == b"write".as_slice() {
+        return read_write(words);
+    }
+    if name == b"release".as_slice() {
+        return read_bare(words, EventKind::Release);
+    }
+    read_named(words)
 }
 
-/// The look of a line `look AT SECS CLIENT`. The first word is not looked at.
-#[tactic(auto, unfolding(crate::specs::EventLines::look_line))]
-fn read_look(words: &Words) -> Result<Step, Reason>
-    ensures { result ≡ look_line words.now }
+/// The step of a line: `look AT SECS CLIENT`, or the line of an event.
+#[tactic(auto, unfolding(crate::specs::EventLines::step_line, crate::specs::EventLines::look_line))]
+pub fn read_step(alloc: Global, words: &Words) -> Result<Step, LineError>
+    ensures { GivesLine (λ s. s) result (step_line words.now) }
 {
+    if words.word(0) != b"look".as_slice() {
+        let event = read_event(alloc, words)?;
+        return Ok(Step::Own(event));
+    }
     if words.len() == 4 {
         let (at, secs) = moment(words)?;
         let client = num(words.word(3))?;
         return Ok(Step::Look { at, secs, client });
     }
-    Err(Reason::Count)
-}
-
-/// The step of a line: `look AT SECS CLIENT`, or the line of an event.
-#[tactic(auto, unfolding(crate::specs::EventLines::step_line))]
-pub fn read_step(alloc: Global, words: &Words) -> Result<Step, LineError>
-    ensures { GivesLine (λ s. s) result (step_line words.now) }
-{
-    if words.word(0) == b"look".as_slice() {
-        return Ok(read_look(words)?);
-    }
-    let event = read_event(alloc, words)?;
-    Ok(Step::Own(event))
+    Err(LineError::Refused(Reason::Count))
 }

@@ -6,7 +6,7 @@ use dns_name::OutOfMemory;
 use std::alloc::{AllocError, AllocFailed};
 
 /// Why a line of a script is refused: the first of these that fits.
-#[derive(Clone, Copy, Debug, PartialEq, Eq)]
+#[derive(Clone, Copy, Debug)]
 pub enum Reason {
     /// An octet is no character from the space to the tilde.
     Text,
@@ -27,7 +27,7 @@ pub enum Reason {
 }
 
 /// Why a line gave nothing.
-#[derive(Clone, Copy, Debug, PartialEq, Eq)]
+#[derive(Clone, Copy)]
 pub enum LineError {
     OutOfMemory,
     Refused(Reason),

@@ -11,7 +11,7 @@ use std::alloc::Global;
 use std::marker::Model;
 
 /// Each value that a line said, and the addresses that are denied.
-#[derive(Debug, Drop)]
+#[derive(Drop)]
 pub struct SaidSettings {
     strict: Option<bool>,
     edns: Option<bool>,

@@ -1,10 +1,10 @@
 //! The settings that lines say.
 
 ghost use Rattle.std.specs.Prelude.{◌≡◌};
-ghost use Rattle.dns_trace.specs.SettingLines.{configuration_named, setting_named};
+ghost use Rattle.dns_trace.specs.SettingLines.{setting_named};
 
 /// A setting, as a line's name has it.
-#[derive(Clone, Copy, Debug, PartialEq, Eq)]
+#[derive(Clone, Copy)]
 pub enum Setting {
     /// Whether faulty queries are refused.
     Strict,
@@ -20,22 +20,6 @@ pub enum Setting {
     Stream,
     /// How many responses each connection may queue.
     Budget,
-}
-
-/// The configuration of servers whose lines begin with this word.
-fn configuration_named(word: &[u8]) -> Option<Setting>
-    ensures { result ≡ configuration_named word.now }
-{
-    if word == b"dgram".as_slice() {
-        return Some(Setting::Dgram);
-    }
-    if word == b"stream".as_slice() {
-        return Some(Setting::Stream);
-    }
-    if word == b"budget".as_slice() {
-        return Some(Setting::Budget);
-    }
-    None
 }
 
 /// The setting whose lines begin with this word.
@@ -54,5 +38,14 @@ pub fn setting_named(word: &[u8]) -> Option<Setting>
     if word == b"deny".as_slice() {
         return Some(Setting::Deny);
     }
-    configuration_named(word)
+    if word == b"dgram".as_slice() {
+        return Some(Setting::Dgram);
+    }
+    if word == b"stream".as_slice() {
+        return Some(Setting::Stream);
+    }
+    if word == b"budget".as_slice() {
+        return Some(Setting::Budget);
+    }
+    None
 }

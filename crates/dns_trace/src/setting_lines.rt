@@ -1,8 +1,8 @@
 //! The lines of settings.
 
-ghost use Rattle.std.specs.Prelude.{◌≡◌, ◌==◌, OnErr, length};
-ghost use Rattle.dns_trace.specs.Reading.{GivesLine, TakesLine, unless};
-ghost use Rattle.dns_trace.specs.SettingLines.{denied_of, deny_line, edns_line, first_budget_line, first_dgram_line, first_said, first_stream_line, secret_line, setting_line, strict_line};
+ghost use Rattle.std.specs.Prelude.{◌≡◌, OnErr};
+ghost use Rattle.dns_trace.specs.Reading.{TakesLine, unless};
+ghost use Rattle.dns_trace.specs.SettingLines.{deny_line, edns_line, first_said, secret_line, setting_line, strict_line};
 
 use crate::budget_line::read_budget;
 use crate::dgram_line::read_dgram;
@@ -12,7 +12,6 @@ use crate::setting::Setting;
 use crate::stream_line::read_stream;
 use crate::values::{addr, secret, yes_no};
 use crate::words::Words;
-use dns_name::IpAddr;
 use std::alloc::Global;
 
 /// A refusal for a reason, unless something holds.
@@ -30,13 +29,6 @@ fn first_said<A>(before_events: bool, said: &Option<A>) -> Result<(), Reason>
     unless(Reason::Repeat, said.is_none())
 }
 
-/// A line has one word behind its name.
-fn has_one_word(words: &Words) -> Result<(), Reason>
-    ensures { result ≡ unless Reason.Count (length words.now == 2) }
-{
-    unless(Reason::Count, words.len() == 2)
-}
-
 /// A line `strict yes|no`.
 #[tactic(auto, unfolding(crate::specs::SettingLines::strict_line))]
 fn read_strict(said: &mut SaidSettings, before_events: bool, words: &Words) -> Result<(), LineError>
@@ -44,7 +36,7 @@ fn read_strict(said: &mut SaidSettings, before_events: bool, words: &Words) -> R
     ensures kept { OnErr result (said.new ≡ said.old) }
 {
     first_said(before_events, &said.strict())?;
-    has_one_word(words)?;
+    unless(Reason::Count, words.len() == 2)?;
     let yes = yes_no(words.word(1))?;
     said.set_strict(yes);
     Ok(())
@@ -57,7 +49,7 @@ fn read_edns(said: &mut SaidSettings, before_events: bool, words: &Words) -> Res
     ensures kept { OnErr result (said.new ≡ said.old) }
 {
     first_said(before_events, &said.edns())?;
-    has_one_word(words)?;
+    unless(Reason::Count, words.len() == 2)?;
     let yes = yes_no(words.word(1))?;
     said.set_edns(yes);
     Ok(())
@@ -70,23 +62,14 @@ fn read_secret(said: &mut SaidSettings, before_events: bool, words: &Words) -> R
     ensures kept { OnErr result (said.new ≡ said.old) }
 {
     first_said(before_events, &said.secret())?;
-    has_one_word(words)?;
+    unless(Reason::Count, words.len() == 2)?;
     let octets = secret(words.word(1))?;
     said.set_secret(octets);
     Ok(())
 }
 
-/// The address of a line `deny ADDR`.
-#[tactic(auto, unfolding(crate::specs::SettingLines::denied_of))]
-fn denied(alloc: Global, words: &Words) -> Result<IpAddr, LineError>
-    ensures { GivesLine (λ a. a) result (denied_of words.now) }
-{
-    has_one_word(words)?;
-    addr(alloc, words.word(1))
-}
-
 /// A line `deny ADDR`.
-#[tactic(auto, unfolding(crate::specs::SettingLines::deny_line))]
+#[tactic(auto, unfolding(crate::specs::SettingLines::deny_line, crate::specs::SettingLines::denied_of))]
 fn read_deny(
     alloc: Global,
     said: &mut SaidSettings,
@@ -97,61 +80,15 @@ fn read_deny(
     ensures kept { OnErr result (said.new ≡ said.old) }
 {
     unless(Reason::Order, before_events)?;
-    let address = denied(alloc, words)?;
+    unless(Reason::Count, words.len() == 2)?;
+    let address = addr(alloc, words.word(1))?;
     said.deny(address)?;
-    Ok(())
-}
-
-/// A line `dgram SIZE WRITE`.
-#[tactic(auto, unfolding(crate::specs::SettingLines::first_dgram_line))]
-fn read_dgram_line(
-    said: &mut SaidSettings,
-    before_events: bool,
-    words: &Words,
-) -> Result<(), LineError>
-    ensures line { TakesLine result said.new (first_dgram_line before_events said.old words.now) }
-    ensures kept { OnErr result (said.new ≡ said.old) }
-{
-    first_said(before_events, &said.dgram())?;
-    let dgram = read_dgram(words)?;
-    said.set_dgram(dgram);
-    Ok(())
-}
-
-/// A line `stream IDLE WRITE QUEUE LIMIT yes|no`.
-#[tactic(auto, unfolding(crate::specs::SettingLines::first_stream_line))]
-fn read_stream_line(
-    said: &mut SaidSettings,
-    before_events: bool,
-    words: &Words,
-) -> Result<(), LineError>
-    ensures line { TakesLine result said.new (first_stream_line before_events said.old words.now) }
-    ensures kept { OnErr result (said.new ≡ said.old) }
-{
-    first_said(before_events, &said.stream())?;
-    let stream = read_stream(words)?;
-    said.set_stream(stream);
-    Ok(())
-}
-
-/// A line `budget BUDGET WINDOW`.
-#[tactic(auto, unfolding(crate::specs::SettingLines::first_budget_line))]
-fn read_budget_line(
-    said: &mut SaidSettings,
-    before_events: bool,
-    words: &Words,
-) -> Result<(), LineError>
-    ensures line { TakesLine result said.new (first_budget_line before_events said.old words.now) }
-    ensures kept { OnErr result (said.new ≡ said.old) }
-{
-    first_said(before_events, &said.budget())?;
-    let budget = read_budget(words)?;
-    said.set_budget(budget);
     Ok(())
 }
 
 /// What is said with the line of this setting more. The first word is not looked at. After a refusal, and after want of memory, what
 /// was said is as before.
+#[tactic(auto, unfolding(crate::specs::SettingLines::first_dgram_line, crate::specs::SettingLines::first_stream_line, crate::specs::SettingLines::first_budget_line))]
 pub fn read_setting(
     alloc: Global,
     said: &mut SaidSettings,
@@ -167,8 +104,23 @@ pub fn read_setting(
         Setting::Edns => read_edns(said, before_events, words),
         Setting::Secret => read_secret(said, before_events, words),
         Setting::Deny => read_deny(alloc, said, before_events, words),
-        Setting::Dgram => read_dgram_line(said, before_events, words),
-        Setting::Stream => read_stream_line(said, before_events, words),
-        Setting::Budget => read_budget_line(said, before_events, words),
+        Setting::Dgram => {
+            first_said(before_events, &said.dgram())?;
+            let dgram = read_dgram(words)?;
+            said.set_dgram(dgram);
+            Ok(())
+        }
+        Setting::Stream => {
+            first_said(before_events, &said.stream())?;
+            let stream = read_stream(words)?;
+            said.set_stream(stream);
+            Ok(())
+        }
+        Setting::Budget => {
+            first_said(before_events, &said.budget())?;
+            let budget = read_budget(words)?;
+            said.set_budget(budget);
+            Ok(())
+        }
     }
 }

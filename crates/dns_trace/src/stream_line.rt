@@ -1,7 +1,7 @@
 //! The line that configures the stream server.
 
 ghost use Rattle.std.specs.Prelude.{◌≡◌, ◌<◌};
-ghost use Rattle.dns_trace.specs.StreamLine.{configured, stream_line, stream_values, timeouts_of};
+ghost use Rattle.dns_trace.specs.StreamLine.{configured, stream_line, stream_values};
 
 use crate::reason::Reason;
 use crate::values::{num, yes_no};
@@ -23,24 +23,14 @@ fn configure(idle: u64, write: u64, queue: u64, limit: u64, accepts: bool) -> St
     stream
 }
 
-/// How long a connection may be idle and a write may take, `IDLE WRITE`, from a word on.
-#[tactic(auto, unfolding(crate::specs::StreamLine::timeouts_of))]
-fn timeouts(words: &Words, from: usize) -> Result<(u64, u64), Reason>
-    requires { from < 16 }
-    ensures { result ≡ timeouts_of words.now from }
-{
-    let idle = num(words.word(from))?;
-    let write = num(words.word(from + 1))?;
-    Ok((idle, write))
-}
-
 /// The configuration `IDLE WRITE QUEUE LIMIT yes|no` from a word on.
-#[tactic(auto, unfolding(crate::specs::StreamLine::stream_values))]
+#[tactic(auto, unfolding(crate::specs::StreamLine::stream_values, crate::specs::StreamLine::timeouts_of))]
 pub(crate) fn stream_values(words: &Words, from: usize) -> Result<StreamConfig, Reason>
     requires { from < 16 }
     ensures { result ≡ stream_values words.now from }
 {
-    let (idle, write) = timeouts(words, from)?;
+    let idle = num(words.word(from))?;
+    let write = num(words.word(from + 1))?;
     let queue = num(words.word(from + 2))?;
     let limit = num(words.word(from + 3))?;
     let accepts = yes_no(words.word(from + 4))?;

@@ -3,7 +3,7 @@
 ghost use Rattle.std.specs.Prelude.{◌≡◌, ℕ, List, Result};
 ghost use Rattle.std.specs.Str.Lines.{lines};
 ghost use Rattle.dns_trace.specs.Reading.{TakesLine};
-ghost use Rattle.dns_trace.specs.TextLines.{TakesLines, after_line, after_lines, after_words, numbered};
+ghost use Rattle.dns_trace.specs.TextLines.{TakesLines, after_line, after_lines, numbered};
 ghost use Rattle.dns_trace.specs.declared.reason.Reason.{Reason as TheReason};
 
 use crate::lines::{is_text, says_nothing, split_line};
@@ -12,7 +12,7 @@ use crate::words::Words;
 use std::alloc::Global;
 
 /// Why a text says nothing.
-#[derive(Clone, Copy, Debug, PartialEq, Eq)]
+#[derive(Clone, Copy)]
 pub enum TraceError {
     /// The first bad line, counted from 1, and why it is refused.
     Line { line: u64, reason: Reason },
@@ -29,31 +29,19 @@ pub trait TakeLine: Sized + Drop {
         ensures { TakesLine result self.new (with_line self.old words.now) };
 }
 
-/// Takes the line of these words, which is text or isn't.
+/// Takes one line, where it says something.
 #[tactic(auto, unfolding(crate::specs::TextLines::after_words))]
-fn after_words<T: TakeLine>(
-    alloc: Global,
-    taker: &mut T,
-    text: bool,
-    words: &Words,
-) -> Result<(), LineError>
-    ensures { TakesLine result taker.new (after_words T.with_line taker.old text words.now) }
-{
-    if says_nothing(words) {
-        return Ok(());
-    }
-    if !text {
-        return Err(LineError::Refused(Reason::Text));
-    }
-    taker.take_line(alloc, words)
-}
-
-/// Takes one line.
 fn after<T: TakeLine>(alloc: Global, taker: &mut T, line: &[u8]) -> Result<(), LineError>
     ensures { TakesLine result taker.new (after_line T.with_line taker.old line.now) }
 {
     let words = Words::of(alloc, line)?;
-    after_words(alloc, taker, is_text(line), &words)
+    if says_nothing(&words) {
+        return Ok(());
+    }
+    if !is_text(line) {
+        return Err(LineError::Refused(Reason::Text));
+    }
+    taker.take_line(alloc, &words)
 }
 
 /// Takes one line, which has this number.

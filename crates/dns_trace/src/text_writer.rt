@@ -14,7 +14,7 @@ use std::marker::Model;
 const DIGITS: &[u8; 16] = b"0123456789abcdef";
 
 /// A text. What a call leaves after want of memory begins with the text before.
-#[derive(Debug, Drop)]
+#[derive(Drop)]
 pub struct TextWriter {
     text: Vec<u8>,
 }

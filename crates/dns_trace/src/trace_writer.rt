@@ -14,7 +14,7 @@ use std::alloc::Global;
 use std::marker::Model;
 
 /// Writes settings, and then events as they are noted, one line each. Contracts see it as its text.
-#[derive(Debug, Drop)]
+#[derive(Drop)]
 pub struct TraceWriter {
     text: TextWriter,
     /// The line that is being written.

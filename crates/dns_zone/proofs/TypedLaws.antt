@@ -1,15 +1,17 @@
 -- A zone's reply is a message of typed data, where its records have typed data.
-use Rattle.std.proofs.Common.{◌≡◌, ℕ, zero, suc, Bool, true, false, List, [], ◌∷◌, map, cond, nat_eq, Option, Some, None, refl, ap, sym, subst, ◌∙◌}
+use Rattle.std.proofs.Common.{◌≡◌, ℕ, zero, suc, ◌+◌, ◌<◌, Bool, true, false, List, [], ◌∷◌, ◌++◌, length, take, map, cond, get_or, nat_eq, Option, Some, None, refl, ap, sym, subst, ◌∙◌}
 use Rattle.std.specs.Prelude.{◌&&◌, ◌||◌, if◌then◌else◌}
 use Rattle.std.specs.List.{AllByRecursion, filter, list_any}
+use Rattle.std.proofs.lemmas.List.{take_more}
 use Rattle.dns_base.specs.Msg.{ResourceRecord}
 use Rattle.dns_base.specs.Records.{data_type, record_of}
 use Rattle.dns_message.specs.declared.question.Question.{Question}
+use Rattle.dns_message.specs.TypedData.{HasNames}
 use Rattle.dns_message.specs.declared.record.Record.{Record}
 use Rattle.dns_route.specs.Typed.{AreTyped, IsTypedMessage}
 use Rattle.dns_zone.specs.Aliases.{aliased, followed, gone_on, is_within, unaliased}
 use Rattle.dns_zone.specs.Cuts.{cut_records, delegates, is_address_at, is_cut_off, is_glue, is_shortest}
-use Rattle.dns_zone.specs.Owned.{HasTypedData, ZoneState, asked_records, is_asked, is_of, is_owned, target}
+use Rattle.dns_zone.specs.Owned.{AreLawful, HasNamedData, HasTypedData, ZoneState, asked_records, is_asked, is_of, is_owned, target}
 use Rattle.dns_zone.specs.ZoneReply.{ZoneReply, authoritative, denied, exists, follows, negative_soa, referral, zone_reply}
 use Rattle.dns_zone.specs.ZoneTurns.{zone_message}
 use Rattle.dns_zone.proofs.KeepLaws.{passing}
@@ -18,6 +20,24 @@ use Rattle.dns_zone.proofs.ReplyLaws.{by_tests}
 
 abbrev pub AllTyped : List Record → Type 0
 AllTyped rs = AllByRecursion HasTypedData rs
+
+-- ---- lawful data whose names are names
+
+named_behind : (rs : List Record) (r : Record) → AllByRecursion HasNamedData rs → HasNames r.rdata → AllByRecursion HasNamedData (rs ++ r ∷ [])
+named_behind [] r h n = (n, tt)
+named_behind (x ∷ rs) r h n = (h.0, named_behind rs r h.1 n)
+
+-- one record more
+pub next_named : (rs : List Record) (i : ℕ) (r : Record) → AllByRecursion HasNamedData (take i rs) → i < length rs → r ≡ get_or rs i r → HasNames r.rdata → AllByRecursion HasNamedData (take (i + 1) rs)
+next_named rs i r h lt is n =
+    let s : take (i + 1) rs ≡ take i rs ++ r ∷ [] = take_more rs i r lt ∙ ap (λ x. take i rs ++ x ∷ []) (sym is) in
+    subst (AllByRecursion HasNamedData) (sym s) (named_behind (take i rs) r h n)
+
+pub all_typed : (rs : List Record) → AreLawful rs → AllByRecursion HasNamedData rs → AllTyped rs
+all_typed [] l n = tt
+all_typed (r ∷ rs) l n = (record { lawful = l.0; names = n.0 }, all_typed rs l.1 n.1)
+
+-- ---- records of a reply
 
 written : (rs : List Record) → AllTyped rs → AreTyped (map record_of rs)
 written [] h = tt

@@ -10,7 +10,7 @@ use Rattle.std.specs.declared.alloc.Global.{Global}
 use Rattle.dns_message.specs.declared.record.Record.{Record}
 use Rattle.dns_route.specs.Routes.{ends_name}
 use Rattle.dns_zone.specs.declared.name_places.NamePlaces.{NamePlaces}
-use Rattle.dns_zone.specs.Owned.{AreLawful, is_of}
+use Rattle.dns_zone.specs.Owned.{AreLawful, HasTypedData, is_of}
 use Rattle.dns_zone.specs.Paths.{name_path}
 use Rattle.dns_zone.specs.Places.{Kinds, kind_places, places}
 use Rattle.dns_zone.specs.ZoneReply.{negative_soa}
@@ -51,9 +51,10 @@ pub record KnowsPlaces (n : NamePlaces) (rs : List Record) : Type 0 where
 abbrev pub IsInZone : List (List ℕ) → Record → Type 0
 IsInZone apex r = IsTrue (ends_name r.owner apex)
 
--- records within an apex, their places, and the SOA record of negative answers
+-- records of typed data within an apex, their places, and the SOA record of negative answers
 pub record IsZone (apex : List (List ℕ)) (rs : List Record) (n : NamePlaces) (negative : Record) : Type 0 where
   pub lawful : AreLawful rs
+  pub typed : AllByRecursion HasTypedData rs
   pub within : AllByRecursion (IsInZone apex) rs
   pub known : KnowsPlaces n rs
   pub soa : map negative_soa (filter (is_of 6) rs) ≡ negative ∷ []

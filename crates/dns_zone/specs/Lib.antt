@@ -1,6 +1,7 @@
 pub use Rattle.dns_base.specs.Builds
 pub use Rattle.dns_base.specs.Replies
 pub use Rattle.dns_route.specs.OwnReplies
+pub use Rattle.dns_route.specs.ReplyMessage
 pub use Rattle.dns_route.specs.Routes
 pub use Rattle.dns_route.specs.Turns
 pub mod Owned

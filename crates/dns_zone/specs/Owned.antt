@@ -4,7 +4,7 @@ use Rattle.std.specs.Prelude.{ℕ, Bool, ◌||◌, ◌&&◌, List, nat_eq, Optio
 use Rattle.std.specs.List.{AllByRecursion, filter}
 use Rattle.dns_name.specs.Canonical.{same_name}
 use Rattle.dns_base.specs.Records.{IsLawful, data_type}
-use Rattle.dns_message.specs.TypedData.{IsTyped}
+use Rattle.dns_message.specs.TypedData.{HasNames, IsTyped}
 use Rattle.dns_message.specs.declared.rdata.RecordData.{RecordData}
 use Rattle.dns_message.specs.declared.rdata.RecordData.TheVariants.{Named}
 use Rattle.dns_message.specs.declared.record.Record.{Record}
@@ -16,6 +16,10 @@ pub record ZoneState : Type 0 where
 
 abbrev pub HasLawfulData : Record → Type 0
 HasLawfulData r = IsLawful r.rdata
+
+-- each name in the data is a name
+abbrev pub HasNamedData : Record → Type 0
+HasNamedData r = HasNames r.rdata
 
 -- data that can be written and read again
 abbrev pub HasTypedData : Record → Type 0

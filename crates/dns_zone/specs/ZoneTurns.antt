@@ -1,5 +1,6 @@
 -- What a zone answers to a request: the reply to its first question as a message (RFC 1035, section 4.1), or an error.
 use Rattle.std.specs.Prelude.{ℕ, ◌≡◌, Bool, ◌&&◌, List, map, length, nat_eq, nat_le, if◌then◌else◌, Option, Some, None, Result, Ok, Err}
+use Rattle.dns_name.specs.declared.error.ParseError.{ParseError}
 use Rattle.dns_base.specs.Builds.{unlimited}
 use Rattle.dns_base.specs.Built.{empty}
 use Rattle.dns_base.specs.Header.{header_of}
@@ -10,13 +11,13 @@ use Rattle.dns_base.specs.Sections.{first_of, questions_of}
 use Rattle.dns_base.specs.Wire.{wire}
 use Rattle.dns_message.specs.declared.question.Question.{Question}
 use Rattle.dns_service.specs.Req.{Req}
-use Rattle.dns_service.specs.declared.service.Polled.TheVariants.{Ready}
+use Rattle.dns_service.specs.declared.service.Polled.TheVariants.{Pending, Ready}
 use Rattle.dns_service.specs.declared.service.ServiceError.{ServiceError}
 use Rattle.dns_service.specs.declared.service.ServiceError.TheVariants.{FormatError, InternalError, NotImplemented, Refused}
 use Rattle.dns_service.specs.declared.reply_error.ReplyError.{ReplyError}
 use Rattle.dns_service.specs.declared.reply_error.ReplyError.TheVariants.{Service, OutOfMemory as NoMemory}
 use Rattle.dns_route.specs.OwnReplies.{kept_whole}
-use Rattle.dns_route.specs.ReplyMessage.{ReplyState}
+use Rattle.dns_route.specs.ReplyMessage.{ReplyState, reply_message}
 use Rattle.dns_route.specs.Routes.{ends_name}
 use Rattle.dns_route.specs.Turns.{TurnAnswer}
 use Rattle.dns_zone.specs.Owned.{ZoneState}
@@ -57,3 +58,18 @@ zone_answer z o opcode (Some q) =
 
 abbrev pub zone_turn : ZoneState → Req (Unit {0}) → ℕ → TurnAnswer
 zone_turn z r k = Ready (zone_answer z r.octets (header_of r.octets).opcode (first_of (questions_of r.octets).0))
+
+-- what is built for a query's octets: the message of the zone's reply to their question, section for section
+abbrev pub built_for : ZoneState → List ℕ → Option Question → Option (Result Msg ParseError)
+built_for z o None = None
+built_for z o (Some q) = Some (Ok (zone_message o (zone_reply z q)))
+
+-- that is what is built of a reply
+abbrev pub IsReplyTo : ZoneState → List ℕ → Option Question → ReplyState → Type 0
+IsReplyTo z o q r = Some (reply_message r) ≡ built_for z o q
+
+-- a turn that gives a reply to a query's octets gives such a one
+abbrev pub TurnsTo : ZoneState → List ℕ → TurnAnswer → Type 0
+TurnsTo z o Pending = Unit {0}
+TurnsTo z o (Ready (Err e)) = Unit {0}
+TurnsTo z o (Ready (Ok r)) = IsReplyTo z o (first_of (questions_of o).0) r

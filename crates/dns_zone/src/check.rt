@@ -1,12 +1,12 @@
 //! Which lists of records are zones.
 
 ghost use Rattle.std.specs.Prelude.{◌≡◌, List, length, None, Err, IfOk, MatchResult};
-ghost use Rattle.std.specs.List.{filter, position};
+ghost use Rattle.std.specs.List.{AllByRecursion, filter, position};
 ghost use Rattle.dns_route.specs.Routes.{ends_name};
 ghost use Rattle.dns_message.specs.declared.record.Record.{Record};
 ghost use Rattle.dns_zone.specs.Faults.{has_fault, list_error, refused, soa_error};
 ghost use Rattle.dns_zone.specs.Kept.{KnowsPlaces};
-ghost use Rattle.dns_zone.specs.Owned.{ZoneState, is_of};
+ghost use Rattle.dns_zone.specs.Owned.{HasNamedData, ZoneState, is_of};
 ghost use Rattle.dns_zone.specs.ZoneErrors.{Makes, is_crowded, zone_error};
 
 use crate::error::ZoneError;
@@ -146,7 +146,7 @@ pub(crate) fn checked(
     apex: &Name,
     records: &[Record],
 ) -> Result<NamePlaces, ZoneError>
-    ensures { MatchResult result (λ n. (zone_error apex.now records.now ≡ None) × KnowsPlaces n records.now) (λ e. (z : ZoneState) → Makes (zone_error apex.now records.now) z (Err e)) }
+    ensures { MatchResult result (λ n. (zone_error apex.now records.now ≡ None) × KnowsPlaces n records.now × AllByRecursion HasNamedData records.now) (λ e. (z : ZoneState) → Makes (zone_error apex.now records.now) z (Err e)) }
 {
     check_list(apex, records)?;
     let names = names_of(alloc, records)?;

@@ -1,16 +1,28 @@
 //! Cuts, at which a zone's authority ends, and what is found of a name.
 
-ghost use Rattle.std.specs.Prelude.{◌≡◌, true, false, ℕ, List, MatchOption};
+ghost use Rattle.std.specs.Prelude.{◌≡◌, ◌<◌, [], length, true, false, ℕ, List, MatchOption};
 ghost use Rattle.std.specs.List.{list_any};
+ghost use Rattle.std.specs.Option.{option_copied};
 ghost use Rattle.dns_zone.specs.Cuts.{cut_records, is_cut_off};
-ghost use Rattle.dns_zone.specs.Kept.{IsSought, begins_at};
+ghost use Rattle.dns_zone.specs.Kept.{IsSought, begins_at, places_in};
 ghost use Rattle.dns_zone.specs.Owned.{is_asked};
 ghost use Rattle.dns_zone.specs.Paths.{name_path};
 ghost use Rattle.dns_zone.specs.Places.{at_places, places};
 ghost use Rattle.dns_zone.specs.ZoneReply.{exists};
 
+use crate::kinds::{Kinds, find_kind};
 use crate::zone::Zone;
 use dns_base::Rtype;
+
+/// The places of a type among those of a name, where there are any.
+pub(crate) fn places_in(kinds: Option<&Kinds>, rtype: u16) -> Option<&[usize]>
+    ensures { MatchOption result (places_in rtype (option_copied kinds.entry) ≡ []) (λ s. (s.now ≡ places_in rtype (option_copied kinds.entry)) × (0 < length s.now)) }
+{
+    match kinds {
+        Some(kinds) => find_kind(kinds, rtype),
+        None => None,
+    }
+}
 
 impl Zone {
     /// The places of the NS records of the cut for the name of a path, where there is one. The names below the apex are
@@ -34,6 +46,13 @@ impl Zone {
         ensures { (name : List (List ℕ)) → path.now ≡ name_path name → MatchOption result (list_any (is_asked name rtype) self.now.records ≡ false) (λ s. (list_any (is_asked name rtype) self.now.records ≡ true) × (s.now ≡ places (is_asked name rtype) self.now.records)) }
     {
         self.names.find(path, rtype)
+    }
+
+    /// The places of the records that the name of a path owns, by their types.
+    pub(crate) fn kinds_of(&self, path: &[u8]) -> Option<&Kinds>
+        ensures { (name : List (List ℕ)) → path.now ≡ name_path name → (t : ℕ) → places_in t (option_copied result) ≡ places (is_asked name t) self.now.records }
+    {
+        self.names.kinds_at(path)
     }
 
     /// Whether the name of a path owns a record, or a name below it does.

@@ -1,23 +1,25 @@
 //! What is kept of a list of records: their places by names, and the SOA record of negative answers.
 
-ghost use Rattle.std.specs.Prelude.{◌≡◌, [], ◌∷◌, length, map, IfOk};
-ghost use Rattle.std.specs.List.{filter};
+ghost use Rattle.std.specs.Prelude.{◌≡◌, [], ◌∷◌, length, map, IfOk, OnOk};
+ghost use Rattle.std.specs.List.{AllByRecursion, filter};
 ghost use Rattle.dns_zone.specs.Kept.{KnowsPlaces};
-ghost use Rattle.dns_zone.specs.Owned.{is_of};
+ghost use Rattle.dns_zone.specs.Owned.{HasNamedData, is_of};
 ghost use Rattle.dns_zone.specs.ZoneReply.{negative_soa, negative_ttl};
 
 use crate::name_places::NamePlaces;
 use crate::path::path_of_name;
-use dns_base::{Record, RecordData, Rtype, Ttl};
+use dns_base::{Record, RecordData, Rtype, Ttl, data_has_names};
 use dns_name::OutOfMemory;
 use std::alloc::Global;
 
 /// The places of the records of a list.
 pub(crate) fn names_of(alloc: Global, records: &[Record]) -> Result<NamePlaces, OutOfMemory>
-    ensures { IfOk result (λ n. KnowsPlaces n records.now) }
+    ensures known { IfOk result (λ n. KnowsPlaces n records.now) }
+    ensures named { OnOk result (AllByRecursion HasNamedData records.now) }
 {
     let mut names = NamePlaces::new(alloc);
     'each: for (place, record) in records.iter().enumerate() {
+        data_has_names(&record.rdata);
         let path = path_of_name(alloc, &record.owner)?;
         names.put(alloc, path, record.rdata.rtype().to_int(), place)?;
     }

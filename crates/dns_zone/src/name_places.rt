@@ -19,6 +19,7 @@ pub(crate) struct NamePlaces {
 impl NamePlaces {
     ghost use Rattle.std.specs.List.{list_any};
     ghost use Rattle.dns_message.specs.declared.record.Record.{Record};
+    ghost use Rattle.std.specs.Option.{option_copied};
     ghost use Rattle.dns_zone.specs.Kept.{KnowsPlaces, Puts, begins_at, kinds_under, places_under};
 
     /// Nothing is kept.
@@ -64,6 +65,13 @@ impl NamePlaces {
         let kinds = first_kinds(alloc, rtype, place)?;
         self.kinds.insert(path, kinds)?;
         Ok(())
+    }
+
+    /// What is kept under a path.
+    pub(crate) fn kinds_at(&self, path: &[u8]) -> Option<&Kinds>
+        ensures { option_copied result ≡ kinds_under self.now path.now }
+    {
+        self.kinds.get(path)
     }
 
     /// The places that are kept under a path and a type, where there are any.

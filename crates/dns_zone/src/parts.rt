@@ -1,7 +1,8 @@
 //! What a zone was made of.
 
 ghost use Rattle.std.specs.Prelude.{◌≡◌};
-ghost use Rattle.dns_zone.specs.Owned.{AreLawful};
+ghost use Rattle.std.specs.List.{AllByRecursion};
+ghost use Rattle.dns_zone.specs.Owned.{AreLawful, HasTypedData};
 
 use crate::zone::Zone;
 use dns_base::Record;
@@ -20,6 +21,7 @@ impl Zone {
     pub fn records(&self) -> &[Record]
         ensures value { result.now ≡ self.now.records }
         ensures lawful { AreLawful result.now }
+        ensures typed { AllByRecursion HasTypedData result.now }
     {
         self.records.as_slice()
     }

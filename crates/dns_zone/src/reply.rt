@@ -1,6 +1,6 @@
 //! The replies of a zone.
 
-ghost use Rattle.std.specs.Prelude.{◌≡◌, ℕ, List, IsTrue, Some, false, if◌then◌else◌};
+ghost use Rattle.std.specs.Prelude.{◌≡◌, ℕ, List, IfOk, IsTrue, Some, false, if◌then◌else◌};
 ghost use Rattle.dns_base.specs.Builds.{Builds, unlimited};
 ghost use Rattle.dns_base.specs.Header.{header_of};
 ghost use Rattle.dns_base.specs.Sections.{first_of, questions_of};
@@ -12,9 +12,11 @@ ghost use Rattle.dns_zone.specs.Kept.{IsSought};
 ghost use Rattle.dns_zone.specs.Paths.{name_path};
 ghost use Rattle.dns_zone.specs.Places.{at_places};
 ghost use Rattle.dns_zone.specs.ZoneReply.{authoritative, delegation, denied, follows, referral, zone_reply};
-ghost use Rattle.dns_zone.specs.ZoneTurns.{GivesReply, asks_zone, zone_answer, zone_message};
+ghost use Rattle.dns_zone.specs.ZoneTurns.{GivesReply, IsReplyTo, asks_zone, zone_answer, zone_message};
 
+use crate::cuts::places_in;
 use crate::kinds::ANY;
+use crate::laws::zone_replies_are_built;
 use crate::path::path_of;
 use crate::sections::{add_places, begun};
 use crate::zone::Zone;
@@ -127,12 +129,13 @@ impl Zone {
     ) -> Result<AdditionalBuilder, PushError>
         ensures { (q : Question) → path.now.items ≡ name_path q.qname → q.qtype ≡ rtype → is_cut_off self.now q.qname ≡ false → Builds (unlimited (zone_message query.now (zone_reply self.now q))) result }
     {
+        let kinds = self.kinds_of(path.as_slice());
         if follows(rtype) {
-            if let Some(aliases) = self.owned(path.as_slice(), Rtype::CNAME.to_int()) {
+            if let Some(aliases) = places_in(kinds, Rtype::CNAME.to_int()) {
                 return self.followed(alloc, query, rtype, aliases);
             }
         }
-        match self.owned(path.as_slice(), rtype) {
+        match places_in(kinds, rtype) {
             Some(found) => self.found(alloc, query, found),
             None => self.denied(alloc, query, self.has(path)),
         }
@@ -170,7 +173,8 @@ impl Zone {
         query: &Message,
         question: &QuestionRef<'_>,
     ) -> Result<ReplyMessage, ReplyError>
-        ensures { GivesReply (zone_answer self.now query.now (header_of query.now).opcode (Some question.now)) result }
+        ensures answer { GivesReply (zone_answer self.now query.now (header_of query.now).opcode (Some question.now)) result }
+        ensures built { IfOk result (IsReplyTo self.now query.now (Some question.now)) }
     {
         if query.header().opcode != Opcode::QUERY {
             return Err(ReplyError::Service(ServiceError::NotImplemented));
@@ -179,13 +183,17 @@ impl Zone {
             return Err(ReplyError::Service(ServiceError::Refused));
         }
         let built = self.built(alloc, query, question)?;
-        let reply = ReplyMessage::from_builder(alloc, built)?;
+        let _octets = built.as_slice();
+        let _records = self.records();
+        zone_replies_are_built();
+        let reply = ReplyMessage::from_typed(alloc, built)?;
         Ok(reply)
     }
 
     /// The answer to a query, by its first question.
     pub(crate) fn answer(&self, alloc: Global, query: &Message) -> Result<ReplyMessage, ReplyError>
-        ensures { GivesReply (zone_answer self.now query.now (header_of query.now).opcode (first_of (questions_of query.now).0)) result }
+        ensures answer { GivesReply (zone_answer self.now query.now (header_of query.now).opcode (first_of (questions_of query.now).0)) result }
+        ensures built { IfOk result (IsReplyTo self.now query.now (first_of (questions_of query.now).0)) }
     {
         match query.first_question() {
             Some(question) => self.answer_to(alloc, query, &question),

@@ -1,8 +1,9 @@
 //! A zone: what a name server answers of a list of records.
 
+ghost use Rattle.std.specs.Prelude.{◌≡◌, IfOk};
 ghost use Rattle.dns_zone.specs.Owned.{AreLawful};
 ghost use Rattle.dns_zone.specs.ZoneErrors.{Makes, zone_error};
-ghost use Rattle.dns_zone.specs.ZoneTurns.{zone_turn};
+ghost use Rattle.dns_zone.specs.ZoneTurns.{TurnsTo, zone_turn};
 
 use crate::check::checked;
 use crate::error::ZoneError;
@@ -64,8 +65,11 @@ impl SingleService for Zone {
 
     /// The error is FormatError where there is no readable first question, NotImplemented for an opcode other than QUERY,
     /// Refused for a class other than IN and for a name outside the zone, and InternalError where the reply doesn't fit
-    /// 65,535 octets.
-    fn turn(&self, alloc: Global, request: &Request<()>, _k: u64) -> Result<Turned, OutOfMemory> {
+    /// 65,535 octets. What is built of a reply is the message of the zone's reply.
+    fn turn(&self, alloc: Global, request: &Request<()>, _k: u64) -> Result<Turned, OutOfMemory>
+        ensures answer { IfOk result (λ p. p ≡ zone_turn self.now request.now _k) }
+        ensures built { IfOk result (TurnsTo self.now request.now.octets) }
+    {
         match self.answer(alloc, request.message()) {
             Ok(reply) => Ok(Polled::Ready(Ok(reply))),
             Err(ReplyError::Service(error)) => Ok(Polled::Ready(Err(error))),

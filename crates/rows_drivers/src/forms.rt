@@ -5,7 +5,6 @@ pub mod counting;
 pub mod forgetful;
 pub mod halting;
 pub mod link_case;
-pub mod nobody;
 pub mod notes;
 pub mod services;
 pub mod sock_case;

@@ -194,9 +194,10 @@ fn trace_under<R: Wait, S: Service<()>, N: Notifiable>(
 
 /// The trace of a connection to what a script says.
 fn trace_of<R: Wait>(rt: &R, alloc: Global, script: Script<NoEvent>) -> Option<Vec<u8>> {
-    let (settings, service, zones, _) = script.into_parts();
+    let (settings, service, notify_rules, _) = script.into_parts();
     let service = ScriptService::new(service.into_rules(alloc));
-    trace_under(rt, alloc, &settings, service, ScriptTarget::new(zones))
+    let target = ScriptTarget::new(notify_rules);
+    trace_under(rt, alloc, &settings, service, target)
 }
 
 /// The trace of a connection to the script.

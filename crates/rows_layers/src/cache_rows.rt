@@ -14,6 +14,7 @@ use dns_route::{ReplyMessage, SingleService, Turned};
 use dns_service::{OutOfMemory, Polled, Request, ServiceError};
 use rows_table::{Row, RowError, Steps};
 use std::alloc::Global;
+use std::hash::RandomState;
 
 /// Is pending some times, and then gives the same reply.
 #[derive(Drop)]
@@ -60,10 +61,14 @@ fn reply_of(alloc: Global, message: Message) -> Result<ReplyMessage, OutOfMemory
     Ok(ReplyMessage::of(message, opt))
 }
 
-/// What a cache says at steps; the next word is its capacity.
-pub(crate) fn cache(row: &mut Row<'_>) {
+/// What a cache says at steps, which hashes from a seed, where there is one; the next word is its capacity.
+pub(crate) fn cache(row: &mut Row<'_>, seed: Option<RandomState>) {
     let capacity: usize = row.number();
-    match Cache::new(row.alloc(), capacity) {
+    let cache = match seed {
+        Some(seed) => Cache::new_with_seed(row.alloc(), capacity, seed),
+        None => Cache::new(row.alloc(), capacity),
+    };
+    match cache {
         Ok(cache) => row.take_steps(";", &mut Stepped { cache }),
         Err(_) => row.fail(RowError::OutOfMemory),
     }
@@ -76,23 +81,36 @@ struct Stepped {
 }
 
 impl Steps for Stepped {
-    /// Takes a step with the request of the next words, behind its second: it is asked over a service that gives a reply, or, to
-    /// tell what is kept, over one that refuses.
+    /// Says how many replies are kept, removes them, or takes another step.
     fn take_step(&mut self, step: &str, row: &mut Row<'_>) {
-        let second = row.number();
-        match request_from(row, IpAddr::V4([192, 0, 2, 1]), second) {
-            Ok(request) => match step {
-                "ask" => asked(row, &mut self.cache, &request),
-                "kept" => {
-                    let service = Refusing {
-                        error: ServiceError::Refused,
-                    };
-                    asked_over(row, &mut self.cache, &service, &request, 0)
-                }
-                _ => row.fail(RowError::NoSuchStep),
-            },
-            Err(fault) => row.fail(fault),
+        match step {
+            "length" => row.show(&self.cache.len()),
+            "clear" => self.cache.clear(),
+            _ => taken(row, &mut self.cache, step),
         }
+    }
+}
+
+/// Takes a step with the request of the next words, behind its second: the reply of its key is removed, or it is asked over a
+/// service that gives a reply, or, to tell what is kept, over one that refuses.
+fn taken(row: &mut Row<'_>, cache: &mut Cache, step: &str) {
+    let second = row.number();
+    match request_from(row, IpAddr::V4([192, 0, 2, 1]), second) {
+        Ok(request) => match step {
+            "ask" => asked(row, cache, &request),
+            "kept" => {
+                let service = Refusing {
+                    error: ServiceError::Refused,
+                };
+                asked_over(row, cache, &service, &request, 0)
+            }
+            "remove" => match cache.remove(row.alloc(), &request) {
+                Ok(there) => row.whether(there),
+                Err(_) => row.fail(RowError::OutOfMemory),
+            },
+            _ => row.fail(RowError::NoSuchStep),
+        },
+        Err(fault) => row.fail(fault),
     }
 }
 

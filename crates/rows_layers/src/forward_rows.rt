@@ -61,7 +61,7 @@ struct Stepped {
 }
 
 impl Steps for Stepped {
-    /// Says the octets, what is to be done at a moment, or the answer, if it arrived.
+    /// Says the octets, what is to be done at a moment, the answer, if it arrived, the deadline, or whether it has ended.
     fn take_step(&mut self, step: &str, row: &mut Row<'_>) {
         match step {
             "octets" => row.hexadecimal(self.asking.octets()),
@@ -78,6 +78,8 @@ impl Steps for Stepped {
                     Err(_) => row.fail(RowError::OutOfMemory),
                 }
             }
+            "deadline" => row.debug(&self.asking.deadline()),
+            "ended" => row.whether(self.asking.has_ended()),
             _ => row.fail(RowError::OutOfForm),
         }
     }
@@ -162,12 +164,12 @@ fn forwarded(row: &mut Row<'_>, name: Name, k: u64, conn: Box<dyn SendRequest + 
 }
 
 /// A single service over a transport.
-type Relay = ClientTransportToSingleService<Planned>;
+pub(crate) type Relay = ClientTransportToSingleService<Planned>;
 
-/// What a forwarder over transports of one type says at a turn: the next word has their count, and before each is the name that
-/// it is added under.
-pub(crate) fn forwarding(row: &mut Row<'_>) {
-    let mut forwarding = Forwarding::new(row.alloc());
+/// What an empty forwarder to which transports of one type are added says at a turn: the next word has their count, and before
+/// each is the name that it is added under.
+pub(crate) fn forwarding(row: &mut Row<'_>, empty: Forwarding<Relay>) {
+    let mut forwarding = empty;
     let count: u8 = row.number();
     for _ in 0..count {
         add_next(row, &mut forwarding);

@@ -30,14 +30,19 @@ use request_rows::RequestRows;
 use router_rows::RouterRows;
 use rows_table::run;
 use service_rows::ServiceRows;
+use std::hash::RandomState;
 use std::io;
 use std::process::ExitCode;
 
 fn main(rt: HostRuntime) -> io::Result<ExitCode> {
+    let seed = RandomState::new(&rt)?;
     run(
         &rt,
         &(
-            ((ServiceRows, ReplyRows), (RouterRows, MandatoryRows)),
+            (
+                (ServiceRows, ReplyRows),
+                (RouterRows { seed }, MandatoryRows),
+            ),
             (LayerRows, (OftenRows, RequestRows)),
         ),
     )

@@ -10,6 +10,7 @@ use crate::route_rows::composed_said;
 use crate::said::{Shown, called};
 use crate::words::service_error;
 use dns_base::Message;
+use dns_forward::Forwarding;
 use dns_name::Name;
 use dns_route::{
     BoxClientTransportToSingleService, ClientTransportToSingleService, QnameRouter, RequestMessage,
@@ -18,10 +19,13 @@ use dns_route::{
 use dns_service::{OutOfMemory, Polled, Request, ServiceError};
 use rows_table::{Calls, Row, RowError};
 use std::alloc::Global;
+use std::hash::RandomState;
 use std::sync::Arc;
 
-/// Routers, what these stand on, askings, forwarders and caches.
-pub(crate) struct RouterRows;
+/// Routers, what these stand on, askings, forwarders and caches, of which some hash from a seed.
+pub(crate) struct RouterRows {
+    pub(crate) seed: RandomState,
+}
 
 impl Calls for RouterRows {
     fn answer(&self, call: &str, row: &mut Row<'_>) -> Result<(), RowError> {
@@ -37,8 +41,12 @@ impl Calls for RouterRows {
             "asking" => asking(row),
             "ask_all" => asked_all(row),
             "forwarder" => forwarder(row),
-            "forwarding" => forwarding(row),
-            "cache" => cache(row),
+            "forwarding" => forwarding(row, Forwarding::new(row.alloc())),
+            "seeded_forwarding" => {
+                forwarding(row, Forwarding::new_with_seed(row.alloc(), self.seed))
+            }
+            "cache" => cache(row, None),
+            "seeded_cache" => cache(row, Some(self.seed)),
             _ => return Err(RowError::NoSuchCall),
         }
         Ok(())

@@ -3,7 +3,7 @@
 ghost use Rattle.std.specs.Prelude.{◌≡◌, Some, None, Ok};
 ghost use Rattle.dns_service.specs.ErrorReply.{error_reply};
 ghost use Rattle.dns_service.specs.Once.{once, now_of};
-ghost use Rattle.dns_service.specs.ServiceFn.{hint_at_entry};
+ghost use Rattle.dns_service.specs.Req.{hint_at_entry};
 
 use dns_name::{OptRcode, OutOfMemory};
 use dns_service::{

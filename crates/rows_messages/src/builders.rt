@@ -5,13 +5,13 @@ ghost use Rattle.dns_base.specs.Records.{IsLawful, record_of};
 ghost use Rattle.dns_base.specs.Standing.{GivesParsed};
 
 use crate::data::record_in_words;
-use crate::messages::{Takes, hand_on};
+use crate::messages::{Takes, hand_on, next_message};
 use crate::stages::Stage;
 use dns_base::{
-    AdditionalBuilder, AnswerBuilder, Message, MessageBuilder, PushError, Record, RecordRef,
-    data_has_names, typed_records_read_back,
+    AdditionalBuilder, AnswerBuilder, Message, MessageBuilder, MessageRef, PushError, Record,
+    RecordData, RecordFields, RecordRef, data_has_names, typed_records_read_back,
 };
-use dns_name::{ParseError, Rcode};
+use dns_name::{ParseError, Rcode, Ttl};
 use rows_table::{Calls, Row, RowError};
 use std::alloc::Global;
 
@@ -26,6 +26,7 @@ impl Calls for Builders {
             "start_answer" => started(row, false),
             "start_error" => started(row, true),
             "typed" => typed(row),
+            "own_answer" => own_answer(row),
             _ => return Err(RowError::NoSuchCall),
         }
         Ok(())
@@ -106,6 +107,40 @@ fn answer(
     } else {
         builder.start_answer(alloc, query, rcode)
     }
+}
+
+/// The answer to a query by an address of the name that it asks for, whose question and name are written where they stand.
+fn own_answer(row: &mut Row<'_>) {
+    let query = next_message(row);
+    let address = RecordData::A(row.array());
+    match address_of_asked(row.alloc(), &query, &address) {
+        Ok(builder) => row.hexadecimal(builder.as_slice()),
+        Err(error) => row.debug(&error),
+    }
+}
+
+/// A message with the first question of a query, where there is one, and a record of its name.
+fn address_of_asked(
+    alloc: Global,
+    query: &MessageRef<'_>,
+    rdata: &RecordData,
+) -> Result<AnswerBuilder, PushError>
+    requires { IsLawful rdata.now }
+{
+    let mut asked = MessageBuilder::new(alloc)?.question();
+    let Some(question) = query.first_question() else {
+        return Ok(asked.answer());
+    };
+    asked.push_composed(alloc, &question)?;
+    let mut answered = asked.answer();
+    let fields = RecordFields {
+        owner: question.qname(),
+        class: question.qclass(),
+        ttl: Ttl::from_secs(60),
+        rdata,
+    };
+    answered.push_composed(alloc, &fields)?;
+    Ok(answered)
 }
 
 /// A message whose additional section is one record.

@@ -1,9 +1,10 @@
-//! The numbers that constants of dns_name have.
+//! The numbers that constants of dns_name have, and codes by their registered names.
 
 use dns_name::{
     Class, Code, ExtendedErrorCode, HeaderCode, Opcode, OptRcode, OptionCode, Rcode, Rtype,
 };
 use rows_table::{Calls, Row, RowError};
+use std::fmt::Display;
 
 /// The registries of dns_name.
 pub struct Codes;
@@ -16,6 +17,7 @@ impl Calls for Codes {
             "more_rtypes" => more_rtypes(row),
             "opcodes" => opcodes(row),
             "option_codes" => option_codes(row),
+            "code" => named(row),
             "extended_error_codes" => error_codes(row),
             "more_extended_error_codes" => more_error_codes(row),
             "rcodes" => rcodes(row),
@@ -246,5 +248,32 @@ fn numbered<C: HasNumber>(row: &mut Row<'_>, names: &str, codes: &[C]) {
     let mut names = names.split(' ');
     for code in codes {
         row.tell(names.next().unwrap_or(""), &code.number());
+    }
+}
+
+/// The number of the code of a registry that a text names, and how that code is written.
+fn named(row: &mut Row<'_>) {
+    let registry = row.word();
+    let text = row.text();
+    match registry {
+        "class" => shown(row, Class::from_text(text)),
+        "rtype" => shown(row, Rtype::from_text(text)),
+        "option" => shown(row, OptionCode::from_text(text)),
+        "error" => shown(row, ExtendedErrorCode::from_text(text)),
+        "opcode" => shown(row, Opcode::from_text(text)),
+        "rcode" => shown(row, Rcode::from_text(text)),
+        "opt_rcode" => shown(row, OptRcode::from_text(text)),
+        _ => row.fail(RowError::OutOfForm),
+    }
+}
+
+/// The same of a code that was read.
+fn shown<C: HasNumber + Display>(row: &mut Row<'_>, read: Option<C>) {
+    match read {
+        Some(code) => {
+            row.show(&code.number());
+            row.quote(&code)
+        }
+        None => row.say("none"),
     }
 }

@@ -5,7 +5,7 @@ ghost use Rattle.dns_message.specs.Records.{IsLawful};
 use crate::messages::{
     Takes, composed, data_octets, hand_on, next_answer, next_message, record_octets,
 };
-use dns_message::{Question, Record, is_plain, number_at};
+use dns_message::{Question, Record, number_at};
 use dns_name::Name;
 use rows_table::{Calls, Row, RowError};
 
@@ -16,10 +16,6 @@ pub struct Copies;
 impl Calls for Copies {
     fn answer(&self, call: &str, row: &mut Row<'_>) -> Result<(), RowError> {
         match call {
-            "is_plain" => {
-                let octets = row.octets();
-                row.whether(is_plain(octets))
-            }
             "number_at" => number_in(row),
             "name_copy" => name_copy(row),
             "question_copy" => question_copy(row),

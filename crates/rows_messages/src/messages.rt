@@ -3,7 +3,7 @@
 ghost use Rattle.std.specs.Prelude.{IfOk};
 ghost use Rattle.dns_message.specs.Records.{IsLawful};
 
-use dns_message::{ComposeQuestion, MessageRef, QuestionIter, Record, RecordIter};
+use dns_message::{ComposeQuestion, MessageRef, QuestionIter, Record, RecordIter, plain_questions};
 use dns_name::ParseError;
 use rows_table::{Calls, Row, RowError};
 use std::alloc::Global;
@@ -18,6 +18,7 @@ impl Calls for Messages {
                 let header = next_message(row).header();
                 row.hexadecimal(&header.octets())
             }
+            "plain_questions" => plain(row),
             "first_question" => first_question(row),
             "compose_question" => compose_question(row),
             "sections" => return sections(row),
@@ -36,6 +37,23 @@ pub(crate) fn next_message<'a>(row: &mut Row<'a>) -> MessageRef<'a> {
             row.fail(RowError::OutOfForm);
             MessageRef::of(b"\0\0\0\0\0\0\0\0\0\0\0\0")
         }
+    }
+}
+
+/// The first four octets and the counts of a message's header, and how many octets stand behind its questions, where each
+/// name of them is uncompressed.
+fn plain(row: &mut Row<'_>) {
+    let message = next_message(row);
+    let octets = message.as_slice();
+    row.hexadecimal(&message.header().octets());
+    let counts = message.header_counts();
+    row.tell("qdcount", &counts.qdcount);
+    row.tell("ancount", &counts.ancount);
+    row.tell("nscount", &counts.nscount);
+    row.tell("arcount", &counts.arcount);
+    match plain_questions(octets) {
+        Some(end) => row.tell("behind", &(octets.len() - end)),
+        None => row.say("none"),
     }
 }
 

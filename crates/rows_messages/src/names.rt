@@ -1,6 +1,6 @@
 //! The calls of dns_name on uncompressed names.
 
-use dns_name::{FromTextError, Name, NameRef, Octets};
+use dns_name::{FromTextError, Name, NameRef, Octets, ParsedName};
 use rows_table::{Calls, Row, RowError};
 
 /// Calls that make names of octets and texts, and calls of names.
@@ -30,6 +30,11 @@ impl Calls for Names {
                 let name = row.name();
                 let other = row.name();
                 row.debug(&name.name_cmp(&other))
+            }
+            "name_parts" => name_parts(row),
+            "name_parsed" => {
+                let name = row.name();
+                row.show(&ParsedName::of(&name))
             }
             "names_rise" => names_rise(row),
             _ => return Err(RowError::NoSuchCall),
@@ -85,6 +90,19 @@ fn owned(row: &mut Row<'_>) {
         }
         Err(_) => row.fail(RowError::OutOfMemory),
     }
+}
+
+/// A name by Debug, whether it is the root's, its parent, and what is behind so many of its labels.
+fn name_parts(row: &mut Row<'_>) {
+    let name = row.name();
+    row.debug(&name);
+    row.tell_whether("is_root", name.is_root());
+    match name.parent() {
+        Some(parent) => row.tell("parent", &parent),
+        None => row.say("none"),
+    }
+    let skipped = row.number();
+    row.tell("behind", &name.behind(skipped))
 }
 
 /// Whether a name compares with each of these as its place does with theirs.

@@ -2,8 +2,7 @@
 
 use crate::said::{Next, order_said, shown};
 use dns_cookie::{
-    ClientCookie, Cookie, ServerCookie, StandardServerCookie, check_response, siphash24,
-    timestamp_ok,
+    ClientCookie, Cookie, ServerCookie, StandardServerCookie, siphash24, timestamp_ok,
 };
 use dns_name::{ComposeOptData, IpAddr, OptionCode, ParseOptData, Parser, Serial};
 use rows_table::{Calls, Row, RowError};
@@ -125,7 +124,8 @@ fn create_response(row: &mut Row<'_>) {
 /// Whether the cookie that a response has checks, where every timestamp is accepted.
 fn check_created(row: &mut Row<'_>) {
     let (cookie, timestamp, client_ip, secret) = client_words(row);
-    row.whether(check_response(&cookie, timestamp, client_ip, &secret, |_| true))
+    let response = cookie.create_response(timestamp, client_ip, &secret);
+    row.whether(response.check_server_hash(client_ip, &secret, |_| true))
 }
 
 /// The option that octets are under a code, and how many octets it says that it takes, or why there is none; and how many are

@@ -3,7 +3,7 @@
 use crate::said::built;
 use crate::steps::build;
 use dns_base::{AdditionalBuilder, MessageBuilder};
-use dns_opt::{BuildDataError, BuildOpt, MessageOpt, OptBuilder, OptRecord, OptRecordRef};
+use dns_opt::{BuildDataError, BuildOpt, OptBuilder, OptRecord, OptRecordRef, opt_of};
 use rows_table::{Row, RowError, Steps};
 use std::alloc::Global;
 
@@ -35,7 +35,7 @@ impl Built {
 
 /// A message with nothing but an OPT record like that of another.
 fn copied(message: &AdditionalBuilder, alloc: Global) -> Result<AdditionalBuilder, RowError> {
-    match message.as_message().opt() {
+    match opt_of(&message.as_message()) {
         Some(found) => taken_over(alloc, &found),
         None => Err(RowError::OutOfForm),
     }

@@ -3,7 +3,7 @@
 use crate::said::{code_and_data, composed};
 use crate::steps::{Target, write};
 use dns_name::{ComposeOptData, ParseError, Parser};
-use dns_options::{AllOptData, Cookie, NsidRef, Opt, OptRef, OptionHeader, PaddingRef, written_by};
+use dns_options::{AllOptData, Cookie, NsidRef, Opt, OptRef, OptionHeader, written_by};
 use rows_table::{Calls, Row, RowError};
 
 /// Calls of lists of options and of single ones.
@@ -97,7 +97,7 @@ fn first(row: &mut Row<'_>) {
     match next_list(row) {
         Ok(list) => match kind {
             "nsid" => first_said(row, list.first::<NsidRef>()),
-            "padding" => first_said(row, list.first::<PaddingRef>()),
+            "padding" => first_said(row, list.padding()),
             "cookie" => first_said(row, list.first::<Cookie>()),
             _ => owned_first_said(row, &list),
         },

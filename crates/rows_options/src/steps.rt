@@ -200,9 +200,19 @@ fn set_or_push(opt: &mut OptBuilder, step: &str, row: &mut Row<'_>) -> Stepped {
         "rcode" => opt.set_rcode(rcode(row)),
         "version" => opt.set_version(row.number()),
         "dnssec_ok" => opt.set_dnssec_ok(true),
+        "fields" => fields(opt, row),
         _ => return push_kind(opt, step, row),
     }
     Ok(())
+}
+
+/// Says the numbers of a record, and its options.
+fn fields(opt: &OptBuilder, row: &mut Row<'_>) {
+    row.tell("udp_payload_size", &opt.udp_payload_size());
+    row.tell("rcode", &opt.rcode());
+    row.tell("version", &opt.version());
+    row.tell_whether("dnssec_ok", opt.dnssec_ok());
+    row.tell_octets("options", opt.options().as_slice())
 }
 
 /// Builds a record by the steps of a row.

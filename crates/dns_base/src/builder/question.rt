@@ -5,13 +5,24 @@ ghost use Rattle.dns_base.specs.Built.{Pushes, less_questions, with_question};
 
 use crate::builder::QuestionBuilder;
 use crate::error::PushError;
-use dns_message::Question;
+use dns_message::{ComposeQuestion, Question};
 use std::alloc::Global;
 
 impl QuestionBuilder {
     /// Adds a question.
     pub fn push(&mut self, alloc: Global, question: &Question) -> Result<(), PushError>
         ensures { Pushes self.old self.new (with_question self.old question.now) result }
+    {
+        self.draft.push_question(alloc, question)
+    }
+
+    /// Adds what can be written as a question, as one that stands in a message.
+    pub fn push_composed<Q: ComposeQuestion>(
+        &mut self,
+        alloc: Global,
+        question: &Q,
+    ) -> Result<(), PushError>
+        ensures { Pushes self.old self.new (with_question self.old (Q.asked question.now)) result }
     {
         self.draft.push_question(alloc, question)
     }

@@ -7,7 +7,7 @@ ghost use Rattle.std.specs.Prelude.{◌≡◌};
 use crate::builder::Builder;
 use crate::builder::stage::RecordStage;
 use crate::error::PushError;
-use dns_message::Record;
+use dns_message::{ComposeRecord, Record};
 use std::alloc::Global;
 
 impl<S: RecordStage> Builder<S> {
@@ -15,6 +15,18 @@ impl<S: RecordStage> Builder<S> {
     pub fn push(&mut self, alloc: Global, added: &Record) -> Result<(), PushError>
         requires { IsLawful added.now.rdata }
         ensures { Pushes self.old self.new (with_record S.section self.old (record_of added.now)) result }
+    {
+        self.draft.push_record(alloc, S::section(), added)
+    }
+
+    /// Adds what can be written as a record, as one whose name and data are borrowed.
+    pub fn push_composed<R: ComposeRecord>(
+        &mut self,
+        alloc: Global,
+        added: &R,
+    ) -> Result<(), PushError>
+        requires { R.is_lawful added.now }
+        ensures { Pushes self.old self.new (with_record S.section self.old (R.resource added.now)) result }
     {
         self.draft.push_record(alloc, S::section(), added)
     }

@@ -13,7 +13,7 @@ use dns_service::{OutOfMemory, Served};
 use std::alloc::Global;
 
 impl<W: Served> OpenConnection<W> {
-    ghost use Rattle.dns_client.specs.Stands.{Leads, TakesLent};
+    ghost use Rattle.dns_client.specs.Goings.{Leads, TakesLent};
 
     /// Takes the frames of a piece, before which nothing is kept, up to a short one. What is left of it is kept.
     pub(crate) fn take_lent(

@@ -4,11 +4,10 @@ ghost use Rattle.std.specs.Prelude.{◌≡◌};
 
 use crate::forms::counting::Counting;
 use crate::forms::forgetful::Forgetful;
-use crate::forms::nobody::Nobody;
 use crate::forms::services::{Refusal, refuse};
 use crate::forms::watched::Watched;
 use dns_book::{Book, BookSeat, BookState};
-use dns_middleware::{Notifiable, Settings, wrap};
+use dns_middleware::{NoSecondaries, Notifiable, Settings, wrap};
 use dns_name::{OutOfMemory, Rcode};
 use dns_service::{DgramConfig, Plainly, Served, Service, StreamConfig, service_fn};
 use std::alloc::Global;
@@ -170,7 +169,7 @@ fn is_layered<R: Wait, K: Case>(rt: &R, alloc: Global, case: &K, is_missing: boo
         Rcode::NOERROR
     };
     let inner = service_fn::<Refusal, _, _>(refuse, rcode);
-    is_wrapped(rt, alloc, inner, Nobody {}, case)
+    is_wrapped(rt, alloc, inner, NoSecondaries {}, case)
 }
 
 /// Whether it is by a service in the layers of the first settings.

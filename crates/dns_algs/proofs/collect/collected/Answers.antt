@@ -1,4 +1,4 @@
-use Rattle.std.proofs.Common.{rules, ◌≡◌, ◌++◌, ◌∷◌, [], length, arith, ap}
+use Rattle.std.proofs.Common.{◌++◌, ◌∷◌, [], length, arith, ap}
 use Rattle.std.proofs.lemmas.List.{length-append}
 use Rattle.std.proofs.iter.Next.{Yields-more}
 use Rattle.dns_algs.proofs.collect.collected.Goals as goal

@@ -1,5 +1,4 @@
 use Rattle.dns_core.proofs.OutLemmas.{sent_front, sent_more}
-use Rattle.dns_core.proofs.Gained.{concerns_same}
 use Rattle.dns_core.proofs.Nothing.{out_front}
 use Rattle.dns_core.proofs.laws.more_events_send_more.Goals as goal
 
@@ -7,5 +6,5 @@ pub returns : goal.returns
 returns c = record {
   one = sent_front;
   all = out_front;
-  more = λ answers settings q e. sent_more answers settings e.client q e (concerns_same e);
+  more = sent_more;
 }

@@ -1,5 +1,5 @@
 use Rattle.dns_client.specs.Serving.{serving}
 use Rattle.dns_core.proofs.split.serve_each_step.Goals as goal
 
-pub returns-in-Ok : goal.returns-in-Ok
-returns-in-Ok g c = c.in-Ok.ensures c.args.settings.now (c.new-server.ensures (serving (g.W.Served.answer c.args.service.now) (g.W.Served.hint c.args.service.now)))
+pub returns : goal.returns
+returns g c = c.in_ok-each_step.ensures c.args.settings.now (c.new-server.ensures (serving (g.W.Served.answer c.args.service.now) (g.W.Served.hint c.args.service.now)))

@@ -1,4 +1,4 @@
-use Rattle.std.proofs.Common.{rules, ◌∷◌, ◌++◌, []}
+use Rattle.std.proofs.Common.{rules, ◌∷◌, ◌++◌}
 use Rattle.std.proofs.Output.{has_written_append}
 use Rattle.dns_lists.specs.Texts.{hex}
 use Rattle.dns_lists.proofs.Each.{one_more}

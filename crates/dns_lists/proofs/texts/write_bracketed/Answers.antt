@@ -1,5 +1,5 @@
 use Rattle.std.proofs.Common.{rules, ◌≡◌, true, false, sym}
-use Rattle.std.proofs.Output.{writes_in_calls_nil, has_written_of_eq}
+use Rattle.std.proofs.Output.{writes_in_calls_nil}
 use Rattle.std.proofs.lemmas.Str.{is_utf8-from_IsUtf8, IsUtf8-from_is_utf8}
 use Rattle.std.specs.Str.{is_utf8}
 use Rattle.dns_lists.proofs.Each.{not_true}

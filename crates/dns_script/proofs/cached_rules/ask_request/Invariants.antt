@@ -1,7 +1,11 @@
-use Rattle.std.proofs.Common.{◌≡◌, ◌-◌}
-use Rattle.dns_script.specs.CachedRules.{called_from, first_ready, rule_turns}
+use Rattle.std.proofs.Common.{◌≡◌, ◌-◌, ◌≤◌}
+use Rattle.dns_script.specs.CachedRules.{called_from, calls_behind, first_ready, rule_turns}
 use Rattle.dns_script.proofs.cached_rules.ask_request.Given as goal
 
--- the calls that are left give what all give
+-- the calls that are left give what all give, and the cache is behind those that were made
 abbrev pub invariant-loop-k : goal.invariant-loop-k
-invariant-loop-k l = called_from (rule_turns l.turns.rules) l.request (1000 - l.k) l.k l.cache ≡ first_ready (rule_turns l.turns.rules) l.request l.fn.cache
+invariant-loop-k l = record {
+  told : called_from (rule_turns l.turns.rules) l.request (1000 - l.k) l.k l.cache ≡ first_ready (rule_turns l.turns.rules) l.request l.fn.cache;
+  made : l.cache ≡ calls_behind (rule_turns l.turns.rules) l.request l.k 0 l.fn.cache;
+  few : l.k ≤ 1000;
+}

@@ -1,6 +1,11 @@
 use Rattle.std.proofs.Common.{take}
+use Rattle.std.specs.List.{AllByRecursion}
 use Rattle.dns_zone.specs.Kept.{KnowsPlaces}
+use Rattle.dns_zone.specs.Owned.{HasNamedData}
 use Rattle.dns_zone.proofs.listing.names_of.Given as goal
 
 abbrev pub invariant-each : goal.invariant-each
-invariant-each l = KnowsPlaces l.names (take l.place l.records)
+invariant-each l = record {
+  known : KnowsPlaces l.names (take l.place l.records);
+  named : AllByRecursion HasNamedData (take l.place l.records);
+}

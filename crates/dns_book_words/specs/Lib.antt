@@ -1,0 +1,2 @@
+pub use Rattle.dns_admission.specs.Machine
+pub mod Words

@@ -1,0 +1,44 @@
+-- What is heard of the answers to a request: how far it is, and for how long its connection may be idle.
+use Rattle.std.specs.Prelude.{ℕ, Option, Some, None, Ok, Err}
+use Rattle.dns_service.specs.Answer.{Answer, Item}
+use Rattle.dns_service.specs.declared.invoker.InvokerStatus.{InvokerStatus}
+use Rattle.dns_service.specs.declared.invoker.InvokerStatus.TheVariants.{Normal, InTransaction, Aborting}
+use Rattle.dns_service.specs.declared.service.Polled.TheVariants.{Pending, Ready}
+use Rattle.dns_service.specs.declared.service.ServiceFeedback.{ServiceFeedback}
+use Rattle.dns_service.specs.declared.service.ServiceFeedback.TheVariants.{Reconfigure, BeginTransaction, EndTransaction}
+use Rattle.dns_framing.specs.Invoker.{timeout_given}
+
+-- how far a request is after a feedback, and after an item
+abbrev pub status_after : ServiceFeedback → InvokerStatus → InvokerStatus
+status_after (Reconfigure timeout) status = status
+status_after BeginTransaction status = InTransaction
+status_after EndTransaction status = Normal
+
+abbrev pub status_told : Option ServiceFeedback → InvokerStatus → InvokerStatus
+status_told None status = status
+status_told (Some feedback) status = status_after feedback status
+
+abbrev pub item_status : Item → InvokerStatus → InvokerStatus
+item_status (Ok given) status = status_told given.feedback status
+item_status (Err error) status = Aborting
+
+abbrev pub answer_status : Answer → InvokerStatus → InvokerStatus
+answer_status Pending status = status
+answer_status (Ready None) status = status
+answer_status (Ready (Some item)) status = item_status item status
+
+-- how long a connection may be idle after a feedback, and after an answer
+abbrev pub timeout_after : ServiceFeedback → ℕ → ℕ
+timeout_after (Reconfigure timeout) now = timeout_given timeout now
+timeout_after BeginTransaction now = now
+timeout_after EndTransaction now = now
+
+abbrev pub timeout_told : Option ServiceFeedback → ℕ → ℕ
+timeout_told None now = now
+timeout_told (Some feedback) now = timeout_after feedback now
+
+abbrev pub answer_timeout : Answer → ℕ → ℕ
+answer_timeout Pending now = now
+answer_timeout (Ready None) now = now
+answer_timeout (Ready (Some (Ok given))) now = timeout_told given.feedback now
+answer_timeout (Ready (Some (Err error))) now = now

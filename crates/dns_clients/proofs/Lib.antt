@@ -1,0 +1,4 @@
+pub mod Keys
+mod Keyed
+mod Steps
+mod One

@@ -1,0 +1,6 @@
+use Rattle.dns_name.proofs.Sames.{same_by_octets}
+use Rattle.dns_name.proofs.name.NameRef.name_eq.Goals as goal
+
+pub returns : goal.returns
+returns c =
+    same_by_octets c.eq_ignore_ascii_case.result c.as_slice.result.now c.as_slice-2.result.now c.args.self.now c.args.other.now c.as_slice.ensures.value c.as_slice-2.ensures.value c.as_slice.ensures.named c.as_slice-2.ensures.named c.eq_ignore_ascii_case.ensures.test
