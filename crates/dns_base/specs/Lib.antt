@@ -17,6 +17,7 @@ pub mod Readers
 pub mod CopiedRecord
 pub mod Builds
 pub mod Replaced
+pub mod WireRecords
 pub mod Draft
 pub mod Replies
 pub mod Rows

@@ -9,6 +9,7 @@ mod error;
 mod readers;
 mod replace;
 mod stream;
+mod wire_records;
 
 pub use builder::{
     AdditionalBuilder, AnswerBuilder, AuthorityBuilder, Builder, MessageBuilder, QuestionBuilder,
@@ -32,3 +33,4 @@ pub use dns_name::{
 pub use draft::Section;
 pub use error::PushError;
 pub use stream::StreamTarget;
+pub use wire_records::WireRecords;

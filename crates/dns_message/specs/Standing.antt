@@ -1,5 +1,5 @@
 -- A record as it stands in a message (RFC 1035, section 4.1.3), and its data read by the shape of its type, pointers followed.
-use Rattle.std.specs.Prelude.{ℕ, ◌≡◌, List, take, drop, nat_lt, if◌then◌else◌, Result, Ok, Err, is_some}
+use Rattle.std.specs.Prelude.{ℕ, ◌≡◌, List, length, take, drop, nat_lt, if◌then◌else◌, Result, Ok, Err, is_some}
 use Rattle.dns_name.specs.declared.error.ParseError.{ParseError}
 use Rattle.dns_name.specs.declared.error.ParseError.TheVariants.{ShortInput, Form, OutOfMemory as NoMemory}
 use Rattle.dns_name.specs.declared.error.FormReason.TheVariants.{Shape as OtherShape}
@@ -98,6 +98,10 @@ filled limit (Err e) = Err e
 
 unfoldable pub data_at : ℕ → List ℕ → ℕ → ℕ → Result RecordData ParseError
 data_at t o limit at = filled limit (data_by (shape_of t) t o limit at)
+
+-- the data that octets are, and no more
+abbrev pub data_alone : ℕ → List ℕ → Result RecordData ParseError
+data_alone t o = data_at t o (length o) 0
 
 -- a record as it stands: its data as octets, and what they are by their type's shape
 pub record Standing : Type 0 where

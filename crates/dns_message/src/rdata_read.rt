@@ -3,7 +3,7 @@
 ghost use Rattle.std.specs.Prelude.{◌≡◌, ◌≤◌, ◌+◌, length, take, drop, IfOk, Ok};
 ghost use Rattle.dns_name.specs.Names.{name_within};
 ghost use Rattle.dns_message.specs.Records.{shape_of, IsLawful};
-ghost use Rattle.dns_message.specs.Standing.{GivesParsed, address_at, data_at, data_by, filled, long_address_at, minfo_at, mx_at, names_at, numbered_at, one_name_at, opt_read, soa_at, srv_at};
+ghost use Rattle.dns_message.specs.Standing.{GivesParsed, address_at, data_alone, data_at, data_by, filled, long_address_at, minfo_at, mx_at, names_at, numbered_at, one_name_at, opt_read, soa_at, srv_at};
 
 use crate::option_list::is_option_list;
 use crate::rdata::{RecordData, Shape, shape_of};
@@ -49,6 +49,17 @@ pub(crate) fn data_in(
     ensures lawful { IfOk result IsLawful }
 {
     filled(shaped(alloc, Window { message, limit }, rtype, at), limit)
+}
+
+impl RecordData {
+    /// The data of a type that octets are, and no more. A pointer of a name in it is one into these octets.
+    pub fn parse(alloc: Global, rtype: Rtype, octets: &[u8]) -> Result<RecordData, ParseError>
+        requires { length octets.now ≤ 65535 }
+        ensures value { GivesParsed result (data_alone rtype octets.now) }
+        ensures lawful { IfOk result IsLawful }
+    {
+        data_in(alloc, octets, rtype, octets.len(), 0)
+    }
 }
 
 /// Data that goes up to its limit.

@@ -12,3 +12,4 @@ pub mod Sames
 pub mod Parents
 mod FoundIn
 mod CodesBack
+mod Joined

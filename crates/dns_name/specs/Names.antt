@@ -1,5 +1,5 @@
 -- The name at a place of a message (RFC 1035, sections 3.1 and 4.1.4), read label by label, and the place behind it.
-use Rattle.std.specs.Prelude.{ℕ, zero, suc, ◌≡◌, ◌+◌, ◌*◌, ◌-◌, ◌≤◌, Bool, true, false, List, [], ◌∷◌, length, take, drop, nat_lt, nat_eq, if◌then◌else◌, Result, Ok, Err, Option, Some, None, IsOk}
+use Rattle.std.specs.Prelude.{ℕ, zero, suc, ◌≡◌, ◌+◌, ◌*◌, ◌-◌, ◌≤◌, Bool, true, false, List, [], ◌∷◌, ◌++◌, length, take, drop, nat_lt, nat_eq, if◌then◌else◌, Result, Ok, Err, Option, Some, None, IsOk}
 use Rattle.dns_name.specs.declared.error.ParseError.{ParseError}
 use Rattle.dns_name.specs.declared.error.ParseError.TheVariants.{ShortInput, Form}
 use Rattle.dns_name.specs.declared.error.FormReason.TheVariants.{Label, Pointer, Hops, LongName, Trailing}
@@ -100,6 +100,10 @@ read_whole o (Err e) = Err e
 -- the uncompressed name that octets are
 abbrev pub uncompressed : List ℕ → Result (List (List ℕ)) ParseError
 uncompressed o = read_whole o (uncompressed_at o 0)
+
+-- a name with the labels of another behind its own, none above 255 octets (RFC 1035, section 2.3.4)
+abbrev pub name_under : List (List ℕ) → List (List ℕ) → Option (List (List ℕ))
+name_under origin ls = if nat_lt 255 (length (spell (ls ++ origin))) then None else Some (ls ++ origin)
 
 -- the place behind a name whose rest this is, where e is the place behind its first pointer
 abbrev pub end_by : Option ℕ → Read (List (List ℕ)) → Result ℕ ParseError

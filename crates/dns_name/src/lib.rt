@@ -11,6 +11,7 @@ mod laws;
 mod name;
 mod name_cmp;
 mod name_text;
+mod name_under;
 mod octets;
 mod opt_data;
 mod opt_error;

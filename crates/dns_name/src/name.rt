@@ -205,7 +205,14 @@ impl Name {
     pub fn from_text(alloc: Global, text: &str) -> Result<Name, FromTextError>
         ensures { GivesName result (text_name text.now) }
     {
-        let octets = name_in(alloc, text.as_bytes())?;
+        Name::from_text_octets(alloc, text.as_bytes())
+    }
+
+    /// The same of a text's octets, of which those above 127 are refused as `BadCharacter`.
+    pub fn from_text_octets(alloc: Global, text: &[u8]) -> Result<Name, FromTextError>
+        ensures { GivesName result (text_name text.now) }
+    {
+        let octets = name_in(alloc, text)?;
         Ok(Name { octets })
     }
 

@@ -18,4 +18,5 @@ mod zone;
 
 pub use error::ZoneError;
 pub use laws::{missing_names_are_denied, zone_replies_are_built};
+pub use sections::begin_reply;
 pub use zone::Zone;

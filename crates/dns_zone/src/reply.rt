@@ -18,7 +18,7 @@ use crate::cuts::places_in;
 use crate::kinds::ANY;
 use crate::laws::zone_replies_are_built;
 use crate::path::path_of;
-use crate::sections::{add_places, begun};
+use crate::sections::{add_places, begin_reply};
 use crate::zone::Zone;
 use dns_base::{AdditionalBuilder, Class, Message, Opcode, PushError, QuestionRef, Rcode, Rtype};
 use dns_route::{ReplyMessage, matches_are_suffixes};
@@ -57,7 +57,7 @@ impl Zone {
     ) -> Result<AdditionalBuilder, PushError>
         ensures { Builds (unlimited (zone_message query.now (delegation (at_places self.now.records servers.now)))) result }
     {
-        let mut referred = begun(alloc, query, Rcode::NOERROR, false)?.authority();
+        let mut referred = begin_reply(alloc, query, Rcode::NOERROR, false)?.authority();
         add_places(&mut referred, alloc, self.records.as_slice(), servers)?;
         Ok(referred.additional())
     }
@@ -86,7 +86,7 @@ impl Zone {
     ) -> Result<AdditionalBuilder, PushError>
         ensures { Builds (unlimited (zone_message query.now (authoritative (at_places self.now.records found.now)))) result }
     {
-        let mut reply = begun(alloc, query, Rcode::NOERROR, true)?;
+        let mut reply = begin_reply(alloc, query, Rcode::NOERROR, true)?;
         add_places(&mut reply, alloc, self.records.as_slice(), found)?;
         Ok(reply.additional())
     }
@@ -114,7 +114,7 @@ impl Zone {
     ) -> Result<AdditionalBuilder, PushError>
         ensures { Builds (unlimited (zone_message query.now (denied self.now (if exists then 0 else 3)))) result }
     {
-        let mut reply = begun(alloc, query, negative_code(exists), true)?.authority();
+        let mut reply = begin_reply(alloc, query, negative_code(exists), true)?.authority();
         reply.push(alloc, &self.negative)?;
         Ok(reply.additional())
     }
@@ -149,8 +149,8 @@ impl Zone {
         question.qclass() == Class::IN && question.qname().ends_with(&self.apex.for_ref())
     }
 
-    /// The reply to a question that the zone is asked.
-    fn built(
+    /// The reply to a question for a name at or below the apex, as it is built.
+    pub fn reply(
         &self,
         alloc: Global,
         query: &Message,
@@ -182,7 +182,7 @@ impl Zone {
         if !self.asks_zone(question) {
             return Err(ReplyError::Service(ServiceError::Refused));
         }
-        let built = self.built(alloc, query, question)?;
+        let built = self.reply(alloc, query, question)?;
         let _octets = built.as_slice();
         let _records = self.records();
         zone_replies_are_built();

@@ -94,7 +94,7 @@ pub(crate) fn add_places<B: TakesRecords>(
 }
 
 /// Begins the reply to a query, with authority or without.
-pub(crate) fn begun(
+pub fn begin_reply(
     alloc: Global,
     query: &Message,
     rcode: Rcode,

@@ -1,12 +1,14 @@
 //! Message whose records of a section are being built.
 
 ghost use Rattle.dns_base.specs.Built.{Pushes, less_section, with_record};
+ghost use Rattle.dns_base.specs.Builds.{with_records};
 ghost use Rattle.dns_base.specs.Records.{IsLawful, record_of};
 ghost use Rattle.std.specs.Prelude.{◌≡◌};
 
 use crate::builder::Builder;
 use crate::builder::stage::RecordStage;
 use crate::error::PushError;
+use crate::wire_records::WireRecords;
 use dns_message::{ComposeRecord, Record};
 use std::alloc::Global;
 
@@ -29,6 +31,14 @@ impl<S: RecordStage> Builder<S> {
         ensures { Pushes self.old self.new (with_record S.section self.old (R.resource added.now)) result }
     {
         self.draft.push_record(alloc, S::section(), added)
+    }
+
+    /// Adds records in wire form, by one append. Refused `ShortBuf` exactly where the message would pass its limit with
+    /// all of them; a refused call leaves the message.
+    pub fn push_records(&mut self, added: &WireRecords) -> Result<(), PushError>
+        ensures { Pushes self.old self.new (with_records S.section self.old added.now) result }
+    {
+        self.draft.push_records(S::section(), added)
     }
 
     /// Drops the section's records.

@@ -1,0 +1,8 @@
+use Rattle.std.proofs.Common.{◌≡◌, ap, sym, ◌∙◌}
+use Rattle.dns_authority.proofs.authority.Authority.transferred.Goals as goal
+
+pub returns-then-allows : goal.returns-then-allows
+returns-then-allows g c = rw (sym c.allows.ensures, c.if-allows.true) c.in_ok-transfer.ensures
+
+pub returns : goal.returns
+returns g c = rw (sym c.allows.ensures, c.if-allows.false) c.coded.ensures

@@ -1,0 +1,108 @@
+-- What an authority answers to a request: of its zones the one with the longest apex that ends the question's name replies.
+use Rattle.std.specs.Prelude.{ℕ, ◌≡◌, ◌≤◌, Bool, true, false, ◌&&◌, ◌||◌, List, [], ◌∷◌, length, nat_eq, nat_lt, if◌then◌else◌, Option, Some, None}
+use Rattle.std.specs.List.{AllByRecursion}
+use Rattle.dns_name.specs.Canonical.{same_name}
+use Rattle.dns_base.specs.Header.{header_of}
+use Rattle.dns_base.specs.Sections.{counts_of, first_of, questions_of}
+use Rattle.dns_message.specs.declared.question.Question.{Question}
+use Rattle.dns_service.specs.Answer.{Answer, Item}
+use Rattle.dns_service.specs.Once.{once}
+use Rattle.dns_service.specs.Req.{Req}
+use Rattle.dns_service.specs.Transport.{is_stream}
+use Rattle.dns_route.specs.Routes.{ends_name}
+use Rattle.dns_zone.specs.Owned.{ZoneState}
+use Rattle.dns_zone.specs.ZoneReply.{zone_reply}
+use Rattle.dns_zone.specs.ZoneTurns.{zone_begun, zone_message}
+use Rattle.dns_authority.specs.Networks.{is_in_any}
+use Rattle.dns_authority.specs.declared.networks.Network.{Network}
+use Rattle.dns_transfer.specs.Transfers.{message_item, transfer}
+
+-- of two zones the one with the longer apex, of like ones the first
+abbrev pub longer : ZoneState → Option ZoneState → Option ZoneState
+longer z None = Some z
+longer z (Some y) = if nat_lt (length z.apex) (length y.apex) then Some y else Some z
+
+-- the zone with the longest apex that ends a name
+abbrev pub zone_for : List (List ℕ) → List ZoneState → Option ZoneState
+zone_for name [] = None
+zone_for name (z ∷ zs) = if ends_name name z.apex then longer z (zone_for name zs) else zone_for name zs
+
+-- where a zone's apex ends a name, it is no longer than another's
+abbrev pub IsNoLonger : List (List ℕ) → ZoneState → ZoneState → Type 0
+IsNoLonger name z y = ends_name name y.apex ≡ true → length y.apex ≤ length z.apex
+
+-- the zone that is found ends the name, and no other that does has a longer apex
+abbrev pub LongestAnswers : Type 0
+LongestAnswers = (name : List (List ℕ)) (zs : List ZoneState) (z : ZoneState) → zone_for name zs ≡ Some z → (ends_name name z.apex ≡ true) × AllByRecursion (IsNoLonger name z) zs
+
+-- ---- questions
+
+-- the one question of a message (RFC 9619, section 3), where it is readable
+abbrev pub sole_question : List ℕ → Option Question
+sole_question o = if nat_eq (counts_of o).qdcount 1 then first_of (questions_of o).0 else None
+
+-- the reply to a query's octets that has a response code and no records, as an item: an error item would have an OPT record in
+-- each case (RFC 6891, section 6.1.1)
+abbrev pub coded : List ℕ → ℕ → Item
+coded o rcode = message_item None (zone_begun o rcode false)
+
+-- a zone's reply to a query's octets
+abbrev pub zone_item : List ℕ → Question → ZoneState → Item
+zone_item o q z = message_item None (zone_message o (zone_reply z q))
+
+-- ---- transfers
+
+-- whether a request asks for a transfer (RFC 5936, section 2.1; to type IXFR the whole zone may be sent as well, RFC 1995,
+-- section 4), and may: not in a datagram, and from a network that is allowed
+abbrev pub asks_transfer : Question → Bool
+asks_transfer q = nat_eq q.qtype 252 || nat_eq q.qtype 251
+
+abbrev pub may_transfer : {Meta : Type 0} → List Network → Req Meta → Bool
+may_transfer allowed r = is_stream r.transport && is_in_any allowed r.client_addr.ip
+
+-- a transfer of a zone, where its apex is the name that is asked for
+abbrev pub transferred : {Meta : Type 0} → List Network → Req Meta → Question → ZoneState → ℕ → Answer
+transferred allowed r q z = if same_name q.qname z.apex && may_transfer allowed r then transfer z r.octets else once (coded r.octets 5)
+
+-- ---- all requests
+
+-- by the zone that is asked
+abbrev pub by_zone : {Meta : Type 0} → List Network → Req Meta → Question → Option ZoneState → ℕ → Answer
+by_zone allowed r q None = once (coded r.octets 5)
+by_zone allowed r q (Some z) = if asks_transfer q then transferred allowed r q z else once (zone_item r.octets q z)
+
+-- by the class
+abbrev pub by_class : {Meta : Type 0} → List Network → List ZoneState → Req Meta → Question → ℕ → Answer
+by_class allowed zs r q = if nat_eq q.qclass 1 then by_zone allowed r q (zone_for q.qname zs) else once (coded r.octets 5)
+
+-- by the one question
+abbrev pub by_question : {Meta : Type 0} → List Network → List ZoneState → Req Meta → Option Question → ℕ → Answer
+by_question allowed zs r None = once (coded r.octets 1)
+by_question allowed zs r (Some q) = by_class allowed zs r q
+
+-- by the opcode: another than QUERY isn't implemented
+abbrev pub by_opcode : {Meta : Type 0} → List Network → List ZoneState → Req Meta → ℕ → ℕ → Answer
+by_opcode allowed zs r opcode = if nat_eq opcode 0 then by_question allowed zs r (sole_question r.octets) else once (coded r.octets 4)
+
+-- the zones of an authority, and the networks that may transfer them
+pub record AuthorityState : Type 0 where
+  pub zones : List ZoneState
+  pub allowed : List Network
+
+abbrev pub authority_answer : {Meta : Type 0} → AuthorityState → Req Meta → ℕ → Answer
+authority_answer a r = by_opcode a.allowed a.zones r (header_of r.octets).opcode
+
+-- ---- what is answered to a transfer
+
+-- a query for a transfer at the apex of the zone that it asks
+pub record AsksTransfer {Meta : Type 0} (a : AuthorityState) (r : Req Meta) (q : Question) (z : ZoneState) : Type 0 where
+  pub query : (header_of r.octets).opcode ≡ 0
+  pub question : sole_question r.octets ≡ Some q
+  pub internet : q.qclass ≡ 1
+  pub zone : zone_for q.qname a.zones ≡ Some z
+  pub asked : asks_transfer q ≡ true
+  pub apex : same_name q.qname z.apex ≡ true
+
+-- is answered by the transfer where it is allowed, and else REFUSED
+abbrev pub TransfersAreAnswered : Type 0 → Type 0
+TransfersAreAnswered Meta = (a : AuthorityState) (r : Req Meta) (q : Question) (z : ZoneState) → AsksTransfer a r q z → authority_answer a r ≡ (if may_transfer a.allowed r then transfer z r.octets else once (coded r.octets 5))

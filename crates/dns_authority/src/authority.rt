@@ -1,0 +1,330 @@
+//! An authority over several zones.
+
+ghost use Rattle.std.specs.Prelude.{◌≡◌, ◌++◌, ◌∷◌, [], ℕ, List, IsTrue, IfOk, OnOk, OnErr, Some, None, Option, false, ◌&&◌, nat_eq, if◌then◌else◌};
+ghost use Rattle.std.specs.Arc.{arc_value};
+ghost use Rattle.std.specs.Option.{option_copied};
+ghost use Rattle.std.specs.List.{position};
+ghost use Rattle.dns_name.specs.Canonical.{same_name};
+ghost use Rattle.dns_base.specs.Builds.{Builds, unlimited};
+ghost use Rattle.dns_base.specs.Header.{header_of};
+ghost use Rattle.dns_base.specs.Sections.{counts_of};
+ghost use Rattle.dns_service.specs.Once.{once};
+ghost use Rattle.dns_service.specs.ServiceFn.{hint_at_entry};
+ghost use Rattle.dns_service.specs.Transport.{is_stream};
+ghost use Rattle.dns_route.specs.Routes.{ends_name};
+ghost use Rattle.dns_zone.specs.ZoneTurns.{zone_begun};
+ghost use Rattle.dns_authority.specs.Authorities.{asks_transfer, authority_answer, by_class, by_question, by_zone, coded, longer, may_transfer, sole_question, transferred, zone_for};
+ghost use Rattle.dns_authority.specs.Served.{AddsZone, is_long};
+
+use crate::error::AddError;
+use crate::lengths::first_long;
+use crate::networks::{Network, is_in_any};
+use crate::stream::{AuthorityFuture, AuthorityStream};
+use crate::zones::ServedZone;
+use dns_base::{AdditionalBuilder, Class, Message, Opcode, PushError, QuestionRef, Rcode};
+use dns_service::{Once, OutOfMemory, ReplyStream, Request, Service, ServiceResult};
+use dns_transfer::message_item;
+use dns_zone::{Zone, begin_reply};
+use std::alloc::Global;
+use std::marker::Model;
+
+/// Answers with the zone that has the longest apex which ends a question's name, and transfers its zones to the networks that
+/// are allowed.
+#[derive(Drop)]
+pub struct Authority {
+    zones: Vec<ServedZone>,
+    allowed: Vec<Network>,
+}
+
+impl Model for Authority {
+    ghost use Rattle.dns_authority.specs.Authorities.{AuthorityState};
+
+    ghost Value = { AuthorityState };
+
+    ghost view = { λ a. record { zones = a.zones.items; allowed = a.allowed.items } };
+}
+
+impl Authority {
+    /// An authority with no zone, whose zones may be transferred to these networks.
+    pub fn new(alloc: Global, allowed: Vec<Network>) -> Authority
+        ensures { result ≡ record { zones = []; allowed = allowed.items } }
+    {
+        Authority {
+            zones: Vec::new(alloc),
+            allowed,
+        }
+    }
+
+    /// Puts a zone behind the others. A refused call leaves the authority.
+    fn put(&mut self, alloc: Global, zone: Zone) -> Result<(), OutOfMemory>
+        ensures ok { OnOk result (self.new ≡ record self.old { zones = self.old.zones ++ zone ∷ [] }) }
+        ensures err { OnErr result (self.new ≡ self.old) }
+    {
+        let served = ServedZone::new(alloc, zone)?;
+        self.zones.push(served)?;
+        Ok(())
+    }
+
+    /// Adds a zone. Refused for its first record that takes more than 65,000 octets, so that each record has room in a reply
+    /// of a transfer. A refused call leaves the authority.
+    pub fn add(&mut self, alloc: Global, zone: Zone) -> Result<(), AddError>
+        ensures { AddsZone (position is_long zone.records) self.old (record self.old { zones = self.old.zones ++ zone ∷ [] }) self.new result }
+    {
+        match first_long(zone.records()) {
+            Some(index) => Err(AddError::LongRecord { index }),
+            None => match self.put(alloc, zone) {
+                Ok(()) => Ok(()),
+                Err(_) => Err(AddError::OutOfMemory),
+            },
+        }
+    }
+
+    /// The zone that a question asks.
+    fn zone_for(&self, question: &QuestionRef<'_>) -> Option<&ServedZone>
+        ensures { option_copied result ≡ zone_for question.now.qname self.now.zones }
+    {
+        let mut best: Option<&ServedZone> = None;
+        let mut left = self.zones.len();
+        'each: while left > 0 {
+            left -= 1;
+            best = better(&self.zones[left], best, question);
+        }
+        best
+    }
+
+    /// What is answered to a question for a zone.
+    fn asked<Meta>(
+        &self,
+        alloc: Global,
+        request: &Request<Meta>,
+        question: &QuestionRef<'_>,
+        zone: &ServedZone,
+    ) -> Result<AuthorityStream, OutOfMemory>
+        requires { IsTrue (ends_name question.now.qname zone.now.apex) }
+        ensures { IfOk result (λ s. ⟦<AuthorityStream as ReplyStream>⟧.answer s ≡ by_zone self.now.allowed request.now question.now (Some zone.now)) }
+    {
+        if asks_transfer(question) {
+            return self.transferred(alloc, request, question, zone);
+        }
+        let item = zone.reply(alloc, request, question)?;
+        Ok(single(item))
+    }
+
+    /// What is answered to a question for a transfer of a zone.
+    fn transferred<Meta>(
+        &self,
+        alloc: Global,
+        request: &Request<Meta>,
+        question: &QuestionRef<'_>,
+        zone: &ServedZone,
+    ) -> Result<AuthorityStream, OutOfMemory>
+        ensures { IfOk result (λ s. ⟦<AuthorityStream as ReplyStream>⟧.answer s ≡ transferred self.now.allowed request.now question.now zone.now) }
+    {
+        if self.allows(request, question, zone) {
+            let transfer = zone.transfer(request)?;
+            return Ok(AuthorityStream::Transferred(transfer));
+        }
+        coded(alloc, request, Rcode::REFUSED)
+    }
+
+    /// Whether a zone may be transferred for a request.
+    fn allows<Meta>(
+        &self,
+        request: &Request<Meta>,
+        question: &QuestionRef<'_>,
+        zone: &ServedZone,
+    ) -> bool
+        ensures { result ≡ (same_name question.now.qname zone.now.apex && may_transfer self.now.allowed request.now) }
+    {
+        zone.is_named(question) && self.may_transfer(request)
+    }
+
+    /// Whether a request may ask for a transfer.
+    fn may_transfer<Meta>(&self, request: &Request<Meta>) -> bool
+        ensures { result ≡ may_transfer self.now.allowed request.now }
+    {
+        request.transport_ctx().is_non_udp()
+            && is_in_any(self.allowed.as_slice(), request.client_addr().ip)
+    }
+
+    /// What is answered to a question for class IN.
+    fn found<Meta>(
+        &self,
+        alloc: Global,
+        request: &Request<Meta>,
+        question: &QuestionRef<'_>,
+    ) -> Result<AuthorityStream, OutOfMemory>
+        ensures { IfOk result (λ s. ⟦<AuthorityStream as ReplyStream>⟧.answer s ≡ by_zone self.now.allowed request.now question.now (zone_for question.now.qname self.now.zones)) }
+    {
+        match self.zone_for(question) {
+            Some(zone) => self.asked(alloc, request, question, zone),
+            None => coded(alloc, request, Rcode::REFUSED),
+        }
+    }
+
+    /// What is answered to a question.
+    fn classed<Meta>(
+        &self,
+        alloc: Global,
+        request: &Request<Meta>,
+        question: &QuestionRef<'_>,
+    ) -> Result<AuthorityStream, OutOfMemory>
+        ensures { IfOk result (λ s. ⟦<AuthorityStream as ReplyStream>⟧.answer s ≡ by_class self.now.allowed self.now.zones request.now question.now) }
+    {
+        if is_internet(question) {
+            return self.found(alloc, request, question);
+        }
+        coded(alloc, request, Rcode::REFUSED)
+    }
+
+    /// What is answered to a query.
+    fn answered<Meta>(
+        &self,
+        alloc: Global,
+        request: &Request<Meta>,
+    ) -> Result<AuthorityStream, OutOfMemory>
+        ensures { IfOk result (λ s. ⟦<AuthorityStream as ReplyStream>⟧.answer s ≡ by_question self.now.allowed self.now.zones request.now (sole_question request.now.octets)) }
+    {
+        match sole_question(request) {
+            Some(question) => self.classed(alloc, request, &question),
+            None => coded(alloc, request, Rcode::FORMERR),
+        }
+    }
+
+    /// What is answered to a request.
+    fn stream<Meta>(
+        &self,
+        alloc: Global,
+        request: &Request<Meta>,
+    ) -> Result<AuthorityStream, OutOfMemory>
+        ensures { IfOk result (λ s. ⟦<AuthorityStream as ReplyStream>⟧.answer s ≡ authority_answer self.now request.now) }
+    {
+        if is_query(request) {
+            return self.answered(alloc, request);
+        }
+        coded(alloc, request, Rcode::NOTIMP)
+    }
+}
+
+impl<Meta> Service<Meta> for Authority {
+    type Stream = AuthorityStream;
+
+    type Future = AuthorityFuture;
+
+    ghost answer = { authority_answer };
+
+    ghost hint = { λ _. hint_at_entry };
+
+    /// The response code is NOTIMP for an opcode other than QUERY, FORMERR where a query doesn't have one readable question,
+    /// and REFUSED for a class other than IN, for a name that is in no zone and for a transfer that isn't allowed. The error
+    /// is InternalError where a reply doesn't fit 65,535 octets, and there is no other.
+    fn call(
+        &self,
+        alloc: Global,
+        request: &mut Request<Meta>,
+    ) -> Result<AuthorityFuture, OutOfMemory> {
+        let stream = self.stream(alloc, request)?;
+        Ok(AuthorityFuture::new(stream))
+    }
+}
+
+/// The type of a question that asks for a transfer (RFC 1035, section 3.2.3).
+const AXFR: u16 = 252;
+
+/// The type of a question that asks for what has changed in a zone (RFC 1995, section 2).
+const IXFR: u16 = 251;
+
+/// Whether a request is a query.
+fn is_query<Meta>(request: &Request<Meta>) -> bool
+    ensures { result ≡ nat_eq (header_of request.now.octets).opcode 0 }
+{
+    request.message().header().opcode == Opcode::QUERY
+}
+
+/// Whether a request's message has one question.
+fn has_one_question<Meta>(request: &Request<Meta>) -> bool
+    ensures { result ≡ nat_eq (counts_of request.now.octets).qdcount 1 }
+{
+    request.message().header_counts().qdcount == 1
+}
+
+/// The one question of a request's message, where it is readable.
+fn sole_question<Meta>(request: &Request<Meta>) -> Option<QuestionRef<'_>>
+    ensures { result ≡ sole_question request.now.octets }
+{
+    if has_one_question(request) {
+        return request.message().first_question();
+    }
+    None
+}
+
+/// Whether a question is for class IN.
+fn is_internet(question: &QuestionRef<'_>) -> bool
+    ensures { result ≡ nat_eq question.now.qclass 1 }
+{
+    question.qclass() == Class::IN
+}
+
+/// Whether a question asks for a transfer.
+fn asks_transfer(question: &QuestionRef<'_>) -> bool
+    ensures { result ≡ asks_transfer question.now }
+{
+    let qtype = question.qtype().to_int();
+    qtype == AXFR || qtype == IXFR
+}
+
+/// A zone, where its apex ends the name of a question and is no shorter than that of the best one behind it.
+fn better<'a>(
+    zone: &'a ServedZone,
+    best: Option<&'a ServedZone>,
+    question: &QuestionRef<'_>,
+) -> Option<&'a ServedZone>
+    ensures { option_copied result ≡ (if ends_name question.now.qname zone.now.apex then longer zone.now (option_copied best.entry) else option_copied best.entry) }
+{
+    if !zone.ends(question) {
+        return best;
+    }
+    match best {
+        Some(other) if zone.labels() < other.labels() => best,
+        _ => Some(zone),
+    }
+}
+
+/// An item that is there at once.
+fn single(item: ServiceResult) -> AuthorityStream
+    ensures { ⟦<AuthorityStream as ReplyStream>⟧.answer result ≡ once item }
+{
+    AuthorityStream::Single(Once::new(item))
+}
+
+/// The reply to a query that has a response code and no records.
+fn code_reply(alloc: Global, query: &Message, rcode: Rcode) -> Result<AdditionalBuilder, PushError>
+    ensures { Builds (unlimited (zone_begun query.now rcode false)) result }
+{
+    let reply = begin_reply(alloc, query, rcode, false)?;
+    Ok(reply.additional())
+}
+
+/// The same as an item.
+fn code_item<Meta>(
+    alloc: Global,
+    request: &Request<Meta>,
+    rcode: Rcode,
+) -> Result<ServiceResult, OutOfMemory>
+    ensures { IfOk result (λ i. i ≡ coded request.now.octets rcode) }
+{
+    let built = code_reply(alloc, request.message(), rcode);
+    message_item(built, None)
+}
+
+/// A response code that is there at once.
+fn coded<Meta>(
+    alloc: Global,
+    request: &Request<Meta>,
+    rcode: Rcode,
+) -> Result<AuthorityStream, OutOfMemory>
+    ensures { IfOk result (λ s. ⟦<AuthorityStream as ReplyStream>⟧.answer s ≡ once (coded request.now.octets rcode)) }
+{
+    let item = code_item(alloc, request, rcode)?;
+    Ok(single(item))
+}

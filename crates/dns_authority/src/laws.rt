@@ -1,0 +1,57 @@
+//! Laws of authorities and wildcards.
+
+ghost use Rattle.std.specs.Prelude.{◌≡◌, ◌↔◌, ℕ, List, IsTrue};
+ghost use Rattle.dns_name.specs.Canonical.{same_name};
+ghost use Rattle.dns_name.specs.Labels.{folded};
+ghost use Rattle.dns_authority.specs.Authorities.{LongestAnswers, TransfersAreAnswered};
+ghost use Rattle.dns_authority.specs.NameServerReplies.{DirectRepliesAreTheZones, DirectRepliesAreWild};
+ghost use Rattle.dns_authority.specs.Served.{TransfersAreTheRecords};
+ghost use Rattle.dns_authority.specs.Wildcards.{ExistingNamesAreTheirOwn, WildcardsAlone, WildcardsAreStars};
+
+/// Where no wildcard exists the reply is that without wildcards.
+#[tactic(auto, using(crate::proofs::WildLaws::wildcards_alone))]
+pub fn wildcards_alone()
+    ensures { WildcardsAlone }
+{}
+
+/// No wildcard exists where no label of an owner is `*`.
+#[tactic(auto, using(crate::proofs::WildLaws::wildcards_are_stars))]
+pub fn wildcards_are_stars()
+    ensures { WildcardsAreStars }
+{}
+
+/// The reply for a name that exists and is no alias is that without wildcards.
+#[tactic(auto, using(crate::proofs::WildLaws::existing_names_are_their_own))]
+pub fn existing_names_are_their_own()
+    ensures { ExistingNamesAreTheirOwn }
+{}
+
+/// Where no alias and no DNAME is in the way and the type isn't DS, the reply of a name server is that of a zone with
+/// wildcards, and where no wildcard exists that of a zone.
+pub fn direct_replies_are_the_zones()
+    ensures wild { DirectRepliesAreWild }
+    ensures zone { DirectRepliesAreTheZones }
+{}
+
+/// The zone that answers has the longest apex that ends the name.
+pub fn the_longest_apex_answers()
+    ensures { LongestAnswers }
+{}
+
+/// A query for a transfer at the apex of the zone that it asks is answered by the transfer where it is allowed, and else
+/// REFUSED.
+pub fn transfers_are_answered<Meta>()
+    ensures { TransfersAreAnswered Meta }
+{}
+
+/// The answer records of a transfer that is allowed, joined, are those of the zone, which was added since none of its records
+/// is long.
+pub fn transfers_are_the_records<Meta>()
+    ensures { TransfersAreTheRecords Meta }
+{}
+
+/// Names are the same exactly where their labels are, in lower case.
+#[tactic(auto, using(crate::proofs::ZoneForLaws::same_names))]
+pub(crate) fn same_names_are_folded()
+    ensures { (a b : List (List ℕ)) → IsTrue (same_name a b) ↔ (folded a ≡ folded b) }
+{}

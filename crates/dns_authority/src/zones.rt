@@ -1,0 +1,95 @@
+//! A zone as it is served.
+
+ghost use Rattle.std.specs.Prelude.{◌≡◌, ◌↔◌, IsTrue, IfOk, None, length};
+ghost use Rattle.std.specs.Arc.{arc_value};
+ghost use Rattle.dns_name.specs.Canonical.{same_name};
+ghost use Rattle.dns_route.specs.Routes.{ends_name};
+ghost use Rattle.dns_authority.specs.Authorities.{zone_item};
+ghost use Rattle.dns_transfer.specs.Transfers.{transfer};
+
+use crate::laws::same_names_are_folded;
+use dns_base::QuestionRef;
+use dns_route::matches_are_suffixes;
+use dns_service::{OutOfMemory, ReplyStream, Request, ServiceResult};
+use dns_transfer::{Bunches, Transfer, message_item};
+use dns_zone::Zone;
+use std::alloc::Global;
+use std::marker::Model;
+use std::sync::Arc;
+
+/// A zone, and its records in the bunches of a transfer.
+#[derive(Drop)]
+pub(crate) struct ServedZone {
+    zone: Zone,
+    bunches: Arc<Bunches>,
+}
+
+impl Model for ServedZone {
+    ghost use Rattle.std.specs.Prelude.{◌≡◌};
+    ghost use Rattle.std.specs.Arc.{arc_value};
+    ghost use Rattle.dns_zone.specs.Owned.{ZoneState};
+    ghost use Rattle.dns_transfer.specs.Transfers.{bunched, transfer_records};
+
+    ghost Value = { ZoneState };
+
+    ghost view = { λ s. s.zone };
+
+    ghost invariant = { λ s. arc_value s.bunches ≡ bunched (transfer_records s.zone) };
+}
+
+impl ServedZone {
+    /// A zone as it is served.
+    pub(crate) fn new(alloc: Global, zone: Zone) -> Result<ServedZone, OutOfMemory>
+        ensures { IfOk result (λ s. s ≡ zone) }
+    {
+        let bunches = Bunches::of(alloc, &zone)?;
+        let bunches = Arc::new(alloc, bunches)?;
+        Ok(ServedZone { zone, bunches })
+    }
+
+    /// Whether its apex ends the name of a question.
+    pub(crate) fn ends(&self, question: &QuestionRef<'_>) -> bool
+        ensures { result ≡ ends_name question.now.qname self.now.apex }
+    {
+        matches_are_suffixes();
+        question.qname().ends_with(&self.zone.apex().for_ref())
+    }
+
+    /// Whether its apex is the name of a question.
+    pub(crate) fn is_named(&self, question: &QuestionRef<'_>) -> bool
+        ensures { result ≡ same_name question.now.qname self.now.apex }
+    {
+        same_names_are_folded();
+        question.qname().name_eq(&self.zone.apex().for_ref())
+    }
+
+    /// How many labels its apex has.
+    pub(crate) fn labels(&self) -> usize
+        ensures { result ≡ length self.now.apex }
+    {
+        self.zone.apex().label_count() - 1
+    }
+
+    /// Its reply to a question, as an item.
+    pub(crate) fn reply<Meta>(
+        &self,
+        alloc: Global,
+        request: &Request<Meta>,
+        question: &QuestionRef<'_>,
+    ) -> Result<ServiceResult, OutOfMemory>
+        requires { IsTrue (ends_name question.now.qname self.now.apex) }
+        ensures { IfOk result (λ i. i ≡ zone_item request.now.octets question.now self.now) }
+    {
+        let built = self.zone.reply(alloc, request.message(), question);
+        message_item(built, None)
+    }
+
+    /// Its transfer.
+    pub(crate) fn transfer<Meta>(&self, request: &Request<Meta>) -> Result<Transfer, OutOfMemory>
+        ensures { IfOk result (λ t. ⟦<Transfer as ReplyStream>⟧.answer t ≡ transfer self.now request.now.octets) }
+    {
+        let bunches = Arc::try_clone(&self.bunches)?;
+        let query = Arc::try_clone(request.message())?;
+        Ok(Transfer::new(bunches, query))
+    }
+}

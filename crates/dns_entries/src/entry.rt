@@ -1,0 +1,96 @@
+//! The words of an entry.
+
+ghost use Rattle.std.specs.Prelude.{◌≡◌, ◌++◌, ◌∷◌, [], OnOk, length};
+
+use std::alloc::{AllocError, Global};
+use std::marker::Model;
+
+/// What stands in a word, octet by octet.
+#[derive(Drop)]
+pub struct WordText {
+    octets: Vec<u8>,
+}
+
+impl Model for WordText {
+    ghost use Rattle.std.specs.Prelude.{List, ℕ};
+
+    ghost Value = { List ℕ };
+
+    ghost view = { λ t. t.octets.items };
+}
+
+impl WordText {
+    pub fn new(alloc: Global) -> WordText
+        ensures { result ≡ [] }
+    {
+        WordText {
+            octets: Vec::new(alloc),
+        }
+    }
+
+    pub fn as_slice(&self) -> &[u8]
+        ensures { result.now ≡ self.now }
+    {
+        self.octets.as_slice()
+    }
+
+    pub fn push(&mut self, octet: u8) -> Result<(), AllocError>
+        ensures { OnOk result (self.new ≡ self.old ++ octet ∷ []) }
+    {
+        self.octets.push(octet)?;
+        Ok(())
+    }
+}
+
+/// A word as it is written, backslashes included, and its line.
+#[derive(Drop)]
+pub struct Word {
+    pub line: u64,
+    /// Whether it stands in quotes.
+    pub quoted: bool,
+    pub octets: WordText,
+}
+
+/// Words in their order.
+#[derive(Drop)]
+pub struct WordList {
+    words: Vec<Word>,
+}
+
+impl Model for WordList {
+    ghost use Rattle.std.specs.Prelude.{List};
+    ghost use Rattle.dns_entries.specs.declared.entry.Word.{Word};
+
+    ghost Value = { List Word };
+
+    ghost view = { λ ws. ws.words.items };
+}
+
+impl WordList {
+    pub fn new(alloc: Global) -> WordList
+        ensures { result ≡ [] }
+    {
+        WordList {
+            words: Vec::new(alloc),
+        }
+    }
+
+    pub fn as_slice(&self) -> &[Word]
+        ensures { result.now ≡ self.now }
+    {
+        self.words.as_slice()
+    }
+
+    pub fn push(&mut self, word: Word) -> Result<(), AllocError>
+        ensures { OnOk result (self.new ≡ self.old ++ word ∷ []) }
+    {
+        self.words.push(word)?;
+        Ok(())
+    }
+
+    pub fn clear(&mut self)
+        ensures { self.new ≡ [] }
+    {
+        self.words.clear();
+    }
+}

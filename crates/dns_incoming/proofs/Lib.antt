@@ -1,0 +1,4 @@
+pub mod CutLaws
+pub mod ZoneLaws
+pub mod MessageLaws
+pub mod BackLaws

@@ -1,0 +1,12 @@
+pub use Rattle.dns_name.specs.Labels
+pub use Rattle.dns_name.specs.Place
+pub use Rattle.dns_entries.specs.Reading
+pub use Rattle.dns_word_values.specs.Base32
+pub use Rattle.dns_word_values.specs.Moments
+pub use Rattle.dns_word_values.specs.TypeSets
+pub use Rattle.dns_word_values.specs.Values
+pub mod Strings
+pub mod ServiceParams
+pub mod Names
+pub mod Types
+pub mod Fields

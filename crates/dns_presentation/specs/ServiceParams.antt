@@ -1,0 +1,147 @@
+-- Service parameters (RFC 9460, sections 2.1 and 2.2), which have to rise by the numbers of their keys.
+use Rattle.std.specs.Prelude.{ℕ, ◌+◌, Bool, true, false, List, [], ◌∷◌, ◌++◌, length, take, drop, nat_eq, nat_le, nat_lt, if◌then◌else◌, Option, Some, None, Result, Ok, Err, codes}
+use Rattle.std.specs.List.{position_or_len}
+use Rattle.std.specs.Str.{bytes_eq}
+use Rattle.base64.specs.GeneralPurpose.{decode_of as base64_of}
+use Rattle.base64.specs.Engines.{standard}
+use Rattle.dns_name.specs.Place.{two}
+use Rattle.dns_entries.specs.Reading.{LineRead, ◌>>=◌, some_or, unless_at}
+use Rattle.dns_presentation.specs.Strings.{ok, string_in}
+use Rattle.dns_word_values.specs.Values.{◌>>?◌, long_address, number_below, quad, string_octets}
+use Rattle.dns_entries.specs.declared.entry.Word.{Word}
+use Rattle.dns_entries.specs.declared.reason.EntryReason.TheVariants.{Escape, Length, Order, Parameter, Quoted}
+use Rattle.dns_presentation.specs.declared.service_params.Item.{Item}
+use Rattle.dns_presentation.specs.declared.service_params.Item.TheVariants.{Key, Protocol, Short, Long}
+
+-- a key by its name, or by its number behind `key` (RFC 9460, section 14.3.2)
+abbrev pub numbered_key : List ℕ → Option ℕ
+numbered_key w = if bytes_eq (take 3 w) (codes "key") then number_below 65535 (drop 3 w) else None
+
+abbrev pub param_key : List ℕ → Option ℕ
+param_key w =
+    if bytes_eq w (codes "mandatory") then Some 0
+    else if bytes_eq w (codes "alpn") then Some 1
+    else if bytes_eq w (codes "no-default-alpn") then Some 2
+    else if bytes_eq w (codes "port") then Some 3
+    else if bytes_eq w (codes "ipv4hint") then Some 4
+    else if bytes_eq w (codes "ech") then Some 5
+    else if bytes_eq w (codes "ipv6hint") then Some 6
+    else if bytes_eq w (codes "dohpath") then Some 7
+    else if bytes_eq w (codes "ohttp") then Some 8
+    else numbered_key w
+
+-- ---- values
+
+-- a protocol behind its length, which isn't zero (RFC 9460, section 7.1.1)
+abbrev pub protocol_octets : List ℕ → Option (List ℕ)
+protocol_octets w = if nat_eq (length w) 0 then None else if nat_lt 255 (length w) then None else Some (length w ∷ w)
+
+abbrev pub item_octets : Item → List ℕ → Option (List ℕ)
+item_octets Key w = param_key w >>? λ n. Some (two n)
+item_octets Protocol w = protocol_octets w
+item_octets Short w = quad w
+item_octets Long w = long_address w
+
+abbrev pub item_behind : Item → List ℕ → List ℕ → Option (List ℕ)
+item_behind kind octets w = item_octets kind w >>? λ o. Some (octets ++ o)
+
+-- Items that commas part; an octet behind a backslash is one of an item (RFC 9460, appendix A.1). The state is whether a backslash
+-- stands before, the octets of the items so far, and the item to come.
+abbrev pub item_step : Item → Bool → List ℕ → List ℕ → ℕ → Option (Bool × List ℕ × List ℕ)
+item_step kind true octets w c = Some (false, octets, w ++ c ∷ [])
+item_step kind false octets w c =
+    if nat_eq c 92 then Some (true, octets, w)
+    else if nat_eq c 44 then (item_behind kind octets w >>? λ o. Some (false, o, []))
+    else Some (false, octets, w ++ c ∷ [])
+
+abbrev pub items_end : Item → Bool → List ℕ → List ℕ → Option (List ℕ)
+items_end kind true octets w = None
+items_end kind false octets w = item_behind kind octets w
+
+abbrev pub items_after : Item → Bool → List ℕ → List ℕ → List ℕ → Option (List ℕ)
+items_after kind escaped octets w [] = items_end kind escaped octets w
+items_after kind escaped octets w (c ∷ cs) = item_step kind escaped octets w c >>? λ s. items_after kind s.0 s.1 s.2 cs
+
+abbrev pub items_of : Item → List ℕ → Option (List ℕ)
+items_of kind v = items_after kind false [] [] v
+
+abbrev pub no_octets : List ℕ → Option (List ℕ)
+no_octets v = if nat_eq (length v) 0 then Some [] else None
+
+abbrev pub port_octets : List ℕ → Option (List ℕ)
+port_octets v = number_below 65536 v >>? λ n. Some (two n)
+
+-- the value of a key
+abbrev pub param_value : ℕ → List ℕ → Option (List ℕ)
+param_value key v =
+    if nat_eq key 0 then items_of Key v
+    else if nat_eq key 1 then items_of Protocol v
+    else if nat_eq key 2 then no_octets v
+    else if nat_eq key 3 then port_octets v
+    else if nat_eq key 4 then items_of Short v
+    else if nat_eq key 5 then ok (base64_of standard v)
+    else if nat_eq key 6 then items_of Long v
+    else if nat_eq key 8 then no_octets v
+    else Some v
+
+-- ---- words
+
+-- The octets so far, the key of the last parameter, and the key of one whose word ends in `=`.
+pub record Params : Type 0 where
+  pub octets : List ℕ
+  pub last : Option ℕ
+  pub opened : Option ℕ
+
+abbrev pub no_params : Params
+no_params = record { octets = []; last = None; opened = None }
+
+abbrev pub rises : Option ℕ → ℕ → Bool
+rises None key = true
+rises (Some last) key = nat_lt last key
+
+-- one more, as its key, its length and its value
+abbrev pub param_pushed : Params → ℕ → List ℕ → Params
+param_pushed p key d = record { octets = p.octets ++ (two key ++ (two (length d) ++ d)); last = Some key; opened = None }
+
+unfoldable pub with_param : ℕ → Params → ℕ → List ℕ → LineRead Params
+with_param line p key v = do
+  _ ← unless_at line Order (rises p.last key)
+  d ← some_or line Parameter (param_value key v)
+  _ ← unless_at line Length (nat_le (length d) 65535)
+  Ok (param_pushed p key d)
+
+-- a key that no value in quotes follows has none
+abbrev pub param_ended_by : ℕ → Params → Option ℕ → LineRead Params
+param_ended_by line p None = Ok p
+param_ended_by line p (Some key) = with_param line p key []
+
+abbrev pub param_ended : ℕ → Params → LineRead Params
+param_ended line p = param_ended_by line p p.opened
+
+abbrev pub quoted_value : Params → Word → Option ℕ → LineRead Params
+quoted_value p w None = Err (w.line, Quoted)
+quoted_value p w (Some key) = string_in w >>= λ v. with_param w.line p key v
+
+-- where the first `=` is, or else the end
+abbrev pub equals_at : List ℕ → ℕ
+equals_at w = position_or_len (λ c. nat_eq c 61) w
+
+abbrev pub value_behind : ℕ → Params → ℕ → List ℕ → LineRead Params
+value_behind line p key [] = with_param line p key []
+value_behind line p key (c ∷ []) = Ok (record p { opened = Some key })
+value_behind line p key (c ∷ d ∷ v) = some_or line Escape (string_octets (d ∷ v)) >>= λ o. with_param line p key o
+
+-- KEY or KEY=VALUE
+abbrev pub bare_param : Params → Word → LineRead Params
+bare_param p w =
+    param_ended w.line p >>= λ q. some_or w.line Parameter (param_key (take (equals_at w.octets) w.octets)) >>= λ key. value_behind w.line q key (drop (equals_at w.octets) w.octets)
+
+abbrev pub one_param : Params → Word → LineRead Params
+one_param p w = if w.quoted then quoted_value p w p.opened else bare_param p w
+
+abbrev pub params_after : Params → List Word → LineRead Params
+params_after p [] = Ok p
+params_after p (w ∷ ws) = one_param p w >>= λ q. params_after q ws
+
+abbrev pub params_octets : ℕ → List Word → LineRead (List ℕ)
+params_octets line ws = params_after no_params ws >>= λ p. param_ended line p >>= λ q. Ok q.octets

@@ -1,0 +1,3 @@
+pub mod TransferLaws
+pub mod PackLaws
+pub mod TransactionLaws

@@ -1,0 +1,12 @@
+pub use Rattle.dns_name.specs.Labels
+pub use Rattle.dns_message.specs.Records
+pub use Rattle.dns_entries.specs.Entries
+pub use Rattle.dns_entries.specs.Reading
+pub use Rattle.dns_presentation.specs.Fields
+pub use Rattle.dns_presentation.specs.Names
+pub use Rattle.dns_presentation.specs.Types
+pub use Rattle.dns_presentation.specs.Values
+pub mod ZoneFile
+pub mod Written
+pub mod Lines
+pub mod Pieces

@@ -1,0 +1,72 @@
+//! Zone files that are read.
+
+ghost use Rattle.std.specs.Prelude.{◌≡◌, ◌+◌, ◌≤◌, ◌<◌, ◌^◌, IfOk, OnOk, length};
+ghost use Rattle.dns_entries.specs.Reading.{Gives};
+ghost use Rattle.dns_entries.specs.Entries.{scan_begins};
+ghost use Rattle.dns_zone_file.specs.ZoneFile.{AreShaped, draft_begun, by_entry, closed, step, steps, zone_file};
+
+use crate::draft::ZoneDraft;
+use dns_entries::{EntryReason, Scan, ZoneFileError, refused};
+use dns_message::Record;
+use dns_name::Name;
+use std::alloc::Global;
+
+/// One octet more.
+pub(crate) fn step(
+    alloc: Global,
+    scan: &mut Scan,
+    draft: &mut ZoneDraft,
+    octet: u8,
+) -> Result<(), ZoneFileError>
+    requires { scan.old.line + 1 < 2 ^ 64 }
+    ensures value { Gives (λ u. (scan.new, draft.new)) result (step scan.old draft.old octet) }
+    ensures line { OnOk result (scan.new.line ≤ scan.old.line + 1) }
+{
+    if !scan.take(alloc, octet)? {
+        return Ok(());
+    }
+    draft.take_entry(alloc, scan.line, scan.blank, scan.words.as_slice())?;
+    *scan = Scan::begin(alloc, scan.line + 1);
+    Ok(())
+}
+
+/// The octets of a text.
+pub(crate) fn steps(
+    alloc: Global,
+    scan: &mut Scan,
+    draft: &mut ZoneDraft,
+    text: &[u8],
+) -> Result<(), ZoneFileError>
+    requires { scan.old.line + length text.now < 2 ^ 64 }
+    ensures value { Gives (λ u. (scan.new, draft.new)) result (steps scan.old draft.old text.now) }
+    ensures line { OnOk result (scan.new.line ≤ scan.old.line + length text.now) }
+{
+    for octet in text {
+        step(alloc, scan, draft, *octet)?;
+    }
+    Ok(())
+}
+
+/// No parenthesis is open.
+pub(crate) fn closed(opened: Option<u64>) -> Result<(), ZoneFileError>
+    ensures { Gives (λ u. u) result (closed opened) }
+{
+    match opened {
+        None => Ok(()),
+        Some(line) => Err(refused(line, EntryReason::Parenthesis)),
+    }
+}
+
+/// The records of a zone file, in their order.
+#[tactic(auto, unfolding(crate::specs::ZoneFile::zone_file))]
+pub fn read_zone(alloc: Global, origin: &Name, text: &[u8]) -> Result<Vec<Record>, ZoneFileError>
+    ensures value { Gives (λ records. records.items) result (zone_file origin.now text.now) }
+    ensures shaped { IfOk result (λ records. AreShaped records.items) }
+{
+    let mut scan = Scan::begin(alloc, 1);
+    let mut draft = ZoneDraft::new(alloc, origin.try_clone(alloc)?);
+    steps(alloc, &mut scan, &mut draft, text)?;
+    step(alloc, &mut scan, &mut draft, b'\n')?;
+    closed(scan.opened)?;
+    Ok(draft.into_records())
+}
