@@ -9,7 +9,7 @@ ghost use Rattle.dns_base.specs.Builds.{Builds, unlimited};
 ghost use Rattle.dns_base.specs.Header.{header_of};
 ghost use Rattle.dns_base.specs.Sections.{counts_of};
 ghost use Rattle.dns_service.specs.Once.{once};
-ghost use Rattle.dns_service.specs.ServiceFn.{hint_at_entry};
+ghost use Rattle.dns_service.specs.Req.{hint_at_entry};
 ghost use Rattle.dns_service.specs.Transport.{is_stream};
 ghost use Rattle.dns_route.specs.Routes.{ends_name};
 ghost use Rattle.dns_zone.specs.ZoneTurns.{zone_begun};
