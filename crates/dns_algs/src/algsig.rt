@@ -11,7 +11,7 @@ ghost use Rattle.dns_algs.specs.Algorithms.{CollectedFrom, more_algorithms_text,
 use crate::collect::collected;
 use crate::iter::SecurityAlgorithmIter;
 use dns_name::{
-    BuildDataError, ComposeOptData, Held, HoldsOctets, LongOptData, OptData, OptionCode,
+    BuildDataError, ComposeOptData, HoldsOctets, LongOptData, OctetStore, OptData, OptionCode,
     OutOfMemory, ParseError, ParseOptData, Parser, ReadBack, SecurityAlgorithm,
 };
 use std::alloc::Global;
@@ -65,10 +65,10 @@ impl Variant for N3uVariant {
 }
 
 /// Algorithms, one octet each, owned.
-pub type Understood<K> = HeldUnderstood<Vec<u8>, K>;
+pub type Understood<K> = AlgList<Vec<u8>, K>;
 
 /// Algorithms, one octet each, borrowed.
-pub type UnderstoodRef<'a, K> = HeldUnderstood<&'a [u8], K>;
+pub type UnderstoodRef<'a, K> = AlgList<&'a [u8], K>;
 
 pub type Dau = Understood<DauVariant>;
 
@@ -86,13 +86,13 @@ pub type N3uRef<'a> = UnderstoodRef<'a, N3uVariant>;
 #[derive(Drop)]
 #[derive_where(Debug, PartialEq, Eq, Hash)]
 #[derive_where(Clone; S: Copy)]
-pub struct HeldUnderstood<S: HoldsOctets, K> {
-    octets: Held<S>,
+pub struct AlgList<S: HoldsOctets, K> {
+    octets: OctetStore<S>,
     #[derive_where(skip)]
     of: PhantomData<K>,
 }
 
-impl<S: HoldsOctets, K> Model for HeldUnderstood<S, K> {
+impl<S: HoldsOctets, K> Model for AlgList<S, K> {
     ghost use Rattle.std.specs.Prelude.{List, ℕ, length, ◌≤◌};
 
     ghost Value = { List ℕ };
@@ -104,39 +104,39 @@ impl<S: HoldsOctets, K> Model for HeldUnderstood<S, K> {
     ghost invariant = { λ k. length k.octets ≤ 65535 };
 }
 
-impl<S: HoldsOctets, K: Variant> HeldUnderstood<S, K> {
-    fn of(octets: S) -> HeldUnderstood<S, K>
+impl<S: HoldsOctets, K: Variant> AlgList<S, K> {
+    fn of(octets: S) -> AlgList<S, K>
         requires { length (S.octets octets) ≤ 65535 }
         ensures { result ≡ S.octets octets }
     {
-        HeldUnderstood {
-            octets: Held::of(octets),
+        AlgList {
+            octets: OctetStore::of(octets),
             of: PhantomData,
         }
     }
 
-    fn checked(octets: S) -> Result<HeldUnderstood<S, K>, LongOptData>
+    fn checked(octets: S) -> Result<AlgList<S, K>, LongOptData>
         ensures { MatchResult result (λ k. (length (S.octets octets) ≤ 65535) × (k ≡ S.octets octets)) (λ _. 65535 < length (S.octets octets)) }
     {
         LongOptData::check_len(octets.as_octets().len())?;
-        Ok(HeldUnderstood::of(octets))
+        Ok(AlgList::of(octets))
     }
 
     /// Gives the octets back, which are not copied.
     pub fn into_octets(self) -> S
         ensures { S.octets result ≡ self }
     {
-        let HeldUnderstood { octets, .. } = self;
+        let AlgList { octets, .. } = self;
         octets.into_inner()
     }
 }
 
-impl<'a, K: Variant> HeldUnderstood<&'a [u8], K> {
+impl<'a, K: Variant> AlgList<&'a [u8], K> {
     /// The algorithms of a slice.
     pub fn from_slice(octets: &'a [u8]) -> Result<UnderstoodRef<'a, K>, LongOptData>
         ensures { MatchResult result (λ k. (length octets.now ≤ 65535) × (k ≡ octets.now)) (λ _. 65535 < length octets.now) }
     {
-        HeldUnderstood::checked(octets)
+        AlgList::checked(octets)
     }
 
     /// The algorithms that are left in a parser: all its octets.
@@ -176,16 +176,16 @@ impl<'a, K: Variant> HeldUnderstood<&'a [u8], K> {
         ensures { IfOk result (λ k. k ≡ self.now) }
     {
         let octets = Vec::from_slice(alloc, self.octets.lent())?;
-        Ok(HeldUnderstood::of(octets))
+        Ok(AlgList::of(octets))
     }
 }
 
-impl<K: Variant> HeldUnderstood<Vec<u8>, K> {
+impl<K: Variant> AlgList<Vec<u8>, K> {
     /// The algorithms of a vector, which is not copied.
     pub fn from_octets(octets: Vec<u8>) -> Result<Understood<K>, LongOptData>
         ensures { MatchResult result (λ k. (length octets.items ≤ 65535) × (k ≡ octets.items)) (λ _. 65535 < length octets.items) }
     {
-        HeldUnderstood::checked(octets)
+        AlgList::checked(octets)
     }
 
     /// The algorithms that an iterator gives.
@@ -198,7 +198,7 @@ impl<K: Variant> HeldUnderstood<Vec<u8>, K> {
     {
         let iterator = algorithms.into_iter();
         let octets = collected(alloc, iterator)?;
-        Ok(HeldUnderstood::of(octets))
+        Ok(AlgList::of(octets))
     }
 
     /// The octets.
@@ -220,7 +220,7 @@ impl<K: Variant> HeldUnderstood<Vec<u8>, K> {
     pub fn for_slice(&self) -> UnderstoodRef<'_, K>
         ensures { result ≡ self.now }
     {
-        HeldUnderstood::of(self.octets.as_slice())
+        AlgList::of(self.octets.as_slice())
     }
 
     /// The algorithms, in order.
@@ -231,7 +231,7 @@ impl<K: Variant> HeldUnderstood<Vec<u8>, K> {
     }
 }
 
-impl<'a, K: Variant> IntoIterator for HeldUnderstood<&'a [u8], K> {
+impl<'a, K: Variant> IntoIterator for AlgList<&'a [u8], K> {
     type Item = SecurityAlgorithm;
 
     type IntoIter = SecurityAlgorithmIter<'a>;
@@ -243,7 +243,7 @@ impl<'a, K: Variant> IntoIterator for HeldUnderstood<&'a [u8], K> {
     }
 }
 
-impl<'a, K: Variant> IntoIterator for &'a HeldUnderstood<Vec<u8>, K> {
+impl<'a, K: Variant> IntoIterator for &'a AlgList<Vec<u8>, K> {
     type Item = SecurityAlgorithm;
 
     type IntoIter = SecurityAlgorithmIter<'a>;
@@ -255,7 +255,7 @@ impl<'a, K: Variant> IntoIterator for &'a HeldUnderstood<Vec<u8>, K> {
     }
 }
 
-impl<S: HoldsOctets, K: Variant> OptData for HeldUnderstood<S, K> {
+impl<S: HoldsOctets, K: Variant> OptData for AlgList<S, K> {
     ghost code_of = { λ _. K.number };
 
     fn code(&self) -> OptionCode {
@@ -263,7 +263,7 @@ impl<S: HoldsOctets, K: Variant> OptData for HeldUnderstood<S, K> {
     }
 }
 
-impl<'a, K: Variant> ParseOptData<'a> for HeldUnderstood<&'a [u8], K> {
+impl<'a, K: Variant> ParseOptData<'a> for AlgList<&'a [u8], K> {
     ghost takes = { for_code K.number list_data };
 
     fn parse_option(
@@ -278,7 +278,7 @@ impl<'a, K: Variant> ParseOptData<'a> for HeldUnderstood<&'a [u8], K> {
     }
 }
 
-impl<S: HoldsOctets, K: Variant> ComposeOptData for HeldUnderstood<S, K> {
+impl<S: HoldsOctets, K: Variant> ComposeOptData for AlgList<S, K> {
     ghost octets = { λ k. k };
 
     /// The number of octets, of which every value has at most 65,535.
@@ -295,7 +295,7 @@ impl<S: HoldsOctets, K: Variant> ComposeOptData for HeldUnderstood<S, K> {
     }
 }
 
-impl<'a, K: Variant> ReadBack<'a> for HeldUnderstood<&'a [u8], K> {
+impl<'a, K: Variant> ReadBack<'a> for AlgList<&'a [u8], K> {
     ghost is_readable = { λ k. length k ≤ 65535 };
 
     ghost comes_back = { list_again K.number };
@@ -313,7 +313,7 @@ fn write_more<W: fmt::Write>(octets: &[u8], f: &mut fmt::Formatter<W>) -> fmt::R
     Ok(())
 }
 
-impl<S: HoldsOctets, K: Variant> fmt::Display for HeldUnderstood<S, K> {
+impl<S: HoldsOctets, K: Variant> fmt::Display for AlgList<S, K> {
     ghost output = { λ k. Some (algorithms_text k) };
 
     fn fmt<W: fmt::Write>(&self, f: &mut fmt::Formatter<W>) -> fmt::Result {

@@ -6,7 +6,7 @@ mod collect;
 mod iter;
 
 pub use algsig::{
-    Dau, DauRef, DauVariant, Dhu, DhuRef, DhuVariant, HeldUnderstood, N3u, N3uRef, N3uVariant,
-    Understood, UnderstoodRef, Variant,
+    AlgList, Dau, DauRef, DauVariant, Dhu, DhuRef, DhuVariant, N3u, N3uRef, N3uVariant, Understood,
+    UnderstoodRef, Variant,
 };
 pub use iter::SecurityAlgorithmIter;

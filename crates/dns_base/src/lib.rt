@@ -24,8 +24,8 @@ pub use dns_message::{
 };
 pub use dns_name::{
     Addrs, BuildDataError, Class, Classes, Code, ComposeOptData, ExtendedErrorCode,
-    ExtendedErrorCodes, FormReason, FromTextError, HeaderCode, Held, HoldsName, HoldsOctets,
-    IpAddr, Labels, LongOptData, Name, NameRef, Octets, Opcode, Opcodes, OptData, OptRcode,
+    ExtendedErrorCodes, FormReason, FromTextError, HeaderCode, HoldsName, HoldsOctets, IpAddr,
+    Labels, LongOptData, Name, NameRef, OctetStore, Octets, Opcode, Opcodes, OptData, OptRcode,
     OptionCode, OptionCodes, OutOfMemory, ParseError, ParseOptData, ParsedName, Parser, Rcode,
     Rcodes, ReadBack, Registered, Registry, Rtype, Rtypes, SecurityAlgorithm, Serial, SocketAddr,
     Ttl, codes_read_back, names_are_ordered, names_are_the_grammar, names_read_back, push_lower,

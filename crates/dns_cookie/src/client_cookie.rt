@@ -9,8 +9,8 @@ ghost use Rattle.dns_cookie.specs.ClientCookie.{client_octets, client_cookie_of}
 ghost use Rattle.dns_cookie.specs.CookieData.{client_data};
 ghost use Rattle.dns_cookie.specs.Lending.{LendsClient};
 
-use crate::cells::Cells;
 use crate::hex_text::write_hex;
+use crate::octet_array::OctetArray;
 use dns_name::{OutOfMemory, ParseError, Parser};
 use std::alloc::Global;
 use std::convert::AsSlice;
@@ -21,7 +21,7 @@ use std::fmt;
 /// Equality and order are those of the octets.
 #[derive(Clone, Copy, Debug, PartialEq, Eq, PartialOrd, Ord, Hash)]
 pub struct ClientCookie {
-    cells: Cells<8>,
+    cells: OctetArray<8>,
 }
 
 /// A client cookie has eight octets (RFC 7873, section 4.1).
@@ -36,7 +36,7 @@ impl ClientCookie {
         ensures { result ≡ client_cookie_of octets }
     {
         ClientCookie {
-            cells: Cells { octets },
+            cells: OctetArray { octets },
         }
     }
 

@@ -2,11 +2,11 @@
 //! server cookie (RFC 7873, RFC 9018).
 #![tactic(auto)]
 
-mod cells;
 mod client_cookie;
 mod cookie;
 mod hex_text;
 mod laws;
+mod octet_array;
 mod server_cookie;
 mod siphash;
 mod standard_server_cookie;

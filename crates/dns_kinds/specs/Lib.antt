@@ -7,5 +7,5 @@ pub mod Timers
 pub mod Extended
 pub mod Subnet
 pub mod Chains
-pub mod Again
+pub mod RoundTrip
 pub mod Clears

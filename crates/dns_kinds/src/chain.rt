@@ -8,7 +8,7 @@ ghost use Rattle.dns_name.specs.Labels.{IsName, spell};
 ghost use Rattle.dns_name.specs.NameText.{name_text};
 ghost use Rattle.dns_name.specs.OptData.{ParsesData, for_code};
 ghost use Rattle.dns_name.specs.Place.{rest};
-ghost use Rattle.dns_kinds.specs.Again.{chain_again};
+ghost use Rattle.dns_kinds.specs.RoundTrip.{chain_again};
 ghost use Rattle.dns_kinds.specs.Chains.{chain_data};
 
 use dns_name::{

@@ -3,7 +3,7 @@
 ghost use Rattle.std.specs.Prelude.{◌≡◌, ◌<◌, Some, IfSome, length};
 ghost use Rattle.dns_name.specs.OptData.{ParsesData, for_code};
 ghost use Rattle.dns_name.specs.Place.{rest};
-ghost use Rattle.dns_kinds.specs.Again.{expire_again};
+ghost use Rattle.dns_kinds.specs.RoundTrip.{expire_again};
 ghost use Rattle.dns_kinds.specs.Timers.{expire_data, expire_octets, number_text};
 
 use dns_name::{

@@ -4,13 +4,13 @@ ghost use Rattle.std.specs.Prelude.{◌≡◌, ◌≢◌, [], ◌≤◌, ◌<◌
 ghost use Rattle.std.specs.Option.{option_copied};
 ghost use Rattle.dns_name.specs.OptData.{GivesWhole, ParsesData, for_code};
 ghost use Rattle.dns_name.specs.Place.{rest};
-ghost use Rattle.dns_kinds.specs.Again.{extended_again};
+ghost use Rattle.dns_kinds.specs.RoundTrip.{extended_again};
 ghost use Rattle.dns_kinds.specs.Extended.{Copied, IsExtended, TextFits, MadeExtended, ReadsText, extended, extended_data, extended_octets, extended_text, text_octets, text_shown};
 
 use bstr::BStr;
 use dns_name::{
-    BuildDataError, ComposeOptData, ExtendedErrorCode, FormReason, Held, HoldsOctets, LongOptData,
-    OptData, OptionCode, OutOfMemory, ParseError, ParseOptData, Parser, ReadBack,
+    BuildDataError, ComposeOptData, ExtendedErrorCode, FormReason, HoldsOctets, LongOptData,
+    OctetStore, OptData, OptionCode, OutOfMemory, ParseError, ParseOptData, Parser, ReadBack,
 };
 use std::alloc::Global;
 use std::fmt;
@@ -28,7 +28,7 @@ pub type ExtendedErrorRef<'a> = HeldExtendedError<&'a [u8]>;
 #[derive_where(Clone; S: Copy)]
 pub struct HeldExtendedError<S: HoldsOctets> {
     code: ExtendedErrorCode,
-    text: Option<Held<S>>,
+    text: Option<OctetStore<S>>,
 }
 
 impl<S: HoldsOctets> Model for HeldExtendedError<S> {
@@ -54,7 +54,7 @@ impl<S: HoldsOctets> HeldExtendedError<S> {
         let Some(text) = text else {
             return Ok(HeldExtendedError { code, text: None });
         };
-        let text = Held::of(text);
+        let text = OctetStore::of(text);
         if text.as_slice().len() > 65533 {
             return Err(LongOptData);
         }
@@ -121,7 +121,7 @@ impl<'a> HeldExtendedError<&'a [u8]> {
         let text = Vec::from_slice(alloc, text)?;
         Ok(HeldExtendedError {
             code,
-            text: Some(Held::of(text)),
+            text: Some(OctetStore::of(text)),
         })
     }
 }
@@ -142,7 +142,7 @@ fn of_octets(octets: &[u8]) -> Result<ExtendedErrorRef<'_>, ParseError>
     }
     Ok(HeldExtendedError {
         code,
-        text: Some(Held::of(text)),
+        text: Some(OctetStore::of(text)),
     })
 }
 
@@ -161,7 +161,7 @@ impl HeldExtendedError<Vec<u8>> {
         let octets = Vec::from_slice(alloc, text.as_bytes())?;
         Ok(HeldExtendedError {
             code,
-            text: Some(Held::of(octets)),
+            text: Some(OctetStore::of(octets)),
         })
     }
 
@@ -189,7 +189,7 @@ impl HeldExtendedError<Vec<u8>> {
         if text.len() > 65533 {
             return Err(LongOptData);
         }
-        self.text = Some(Held::of(text));
+        self.text = Some(OctetStore::of(text));
         Ok(())
     }
 
@@ -202,7 +202,7 @@ impl HeldExtendedError<Vec<u8>> {
             None => HeldExtendedError { code, text: None },
             Some(text) => HeldExtendedError {
                 code,
-                text: Some(Held::of(text)),
+                text: Some(OctetStore::of(text)),
             },
         }
     }

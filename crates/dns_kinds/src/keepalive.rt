@@ -4,7 +4,7 @@ ghost use Rattle.std.specs.Prelude.{◌≡◌, ◌*◌, ◌/◌, ◌≤◌, ◌<
 ghost use Rattle.std.specs.Fmt.{decimal};
 ghost use Rattle.dns_name.specs.OptData.{ParsesData, for_code};
 ghost use Rattle.dns_name.specs.Place.{rest};
-ghost use Rattle.dns_kinds.specs.Again.{keepalive_again};
+ghost use Rattle.dns_kinds.specs.RoundTrip.{keepalive_again};
 ghost use Rattle.dns_kinds.specs.Timers.{keepalive_data, keepalive_octets, number_text};
 
 use dns_name::{

@@ -2,7 +2,7 @@
 use Rattle.std.specs.Prelude.{ℕ, List}
 use Rattle.std.specs.Borrow.{Lends, MutBor, Fml, Array, u8}
 use Rattle.dns_name.specs.Lending.{overwritten, vector_row}
-use Rattle.dns_name.specs.contracts.held.VecU8HoldsOctets.TheImpl.{ghosts}
+use Rattle.dns_name.specs.contracts.octet_store.VecU8HoldsOctets.TheImpl.{ghosts}
 use Rattle.dns_lists.specs.Unknowns.{Unknown, unknown}
 use Rattle.dns_lists.specs.contracts.key_tag.HeldKeyTag.{the_row as tag_row}
 use Rattle.dns_lists.specs.contracts.unknown.HeldUnknown.{the_row as unknown_row}

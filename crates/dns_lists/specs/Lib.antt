@@ -4,4 +4,4 @@ pub mod Tags
 pub mod Texts
 pub mod Unknowns
 pub mod Lending
-pub mod Again
+pub mod RoundTrip

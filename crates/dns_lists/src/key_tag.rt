@@ -5,13 +5,13 @@ ghost use Rattle.std.specs.Fmt.{WritesOnOk};
 ghost use Rattle.std.specs.Iterator.{YieldsFirst, item_count};
 ghost use Rattle.dns_name.specs.OptData.{ParsesData, for_code};
 ghost use Rattle.dns_name.specs.Place.{rest};
-ghost use Rattle.dns_lists.specs.Again.{tags_again};
+ghost use Rattle.dns_lists.specs.RoundTrip.{tags_again};
 ghost use Rattle.dns_lists.specs.Tags.{AreTags, tag_data, tag_octets, tags};
 ghost use Rattle.dns_lists.specs.Texts.{more_numbers_text, numbers_text};
 
 use dns_name::{
-    ComposeOptData, FormReason, Held, HoldsOctets, OptData, OptionCode, OutOfMemory, ParseError,
-    ParseOptData, Parser, ReadBack,
+    ComposeOptData, FormReason, HoldsOctets, OctetStore, OptData, OptionCode, OutOfMemory,
+    ParseError, ParseOptData, Parser, ReadBack,
 };
 use std::alloc::Global;
 use std::fmt;
@@ -41,7 +41,7 @@ pub type KeyTagRef<'a> = HeldKeyTag<&'a [u8]>;
 #[derive_where(Debug, PartialEq, Eq, PartialOrd, Ord, Hash)]
 #[derive_where(Clone; S: Copy)]
 pub struct HeldKeyTag<S: HoldsOctets> {
-    octets: Held<S>,
+    octets: OctetStore<S>,
 }
 
 impl<S: HoldsOctets> Model for HeldKeyTag<S> {
@@ -63,7 +63,7 @@ impl<S: HoldsOctets> HeldKeyTag<S> {
         ensures { result ≡ S.octets octets }
     {
         HeldKeyTag {
-            octets: Held::of(octets),
+            octets: OctetStore::of(octets),
         }
     }
 

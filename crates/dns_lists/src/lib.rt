@@ -8,7 +8,7 @@ mod unknown;
 
 pub use key_tag::{HeldKeyTag, KeyTag, KeyTagIter, KeyTagRef};
 pub use octets_kind::{
-    HeldPlain, Nsid, NsidKind, NsidRef, OctetsKind, Padding, PaddingKind, PaddingRef, Plain,
+    Nsid, NsidKind, NsidRef, OctetsKind, OctetsOption, Padding, PaddingKind, PaddingRef, Plain,
     PlainRef,
 };
 pub use unknown::{HeldUnknown, UnknownOptData, UnknownOptDataRef};

@@ -8,8 +8,8 @@ ghost use Rattle.dns_lists.specs.Texts.{octets_text};
 
 use crate::texts::write_octets;
 use dns_name::{
-    ComposeOptData, Held, HoldsOctets, LongOptData, OptData, OptionCode, OutOfMemory, ParseError,
-    ParseOptData, Parser, ReadBack,
+    ComposeOptData, HoldsOctets, LongOptData, OctetStore, OptData, OptionCode, OutOfMemory,
+    ParseError, ParseOptData, Parser, ReadBack,
 };
 use std::alloc::Global;
 use std::fmt;
@@ -50,10 +50,10 @@ impl OctetsKind for PaddingKind {
 }
 
 /// Any octets, owned.
-pub type Plain<K> = HeldPlain<Vec<u8>, K>;
+pub type Plain<K> = OctetsOption<Vec<u8>, K>;
 
 /// Any octets, borrowed.
-pub type PlainRef<'a, K> = HeldPlain<&'a [u8], K>;
+pub type PlainRef<'a, K> = OctetsOption<&'a [u8], K>;
 
 pub type Nsid = Plain<NsidKind>;
 
@@ -67,13 +67,13 @@ pub type PaddingRef<'a> = PlainRef<'a, PaddingKind>;
 #[derive(Drop)]
 #[derive_where(Debug, PartialEq, Eq, PartialOrd, Ord, Hash)]
 #[derive_where(Clone; S: Copy)]
-pub struct HeldPlain<S: HoldsOctets, K> {
-    octets: Held<S>,
+pub struct OctetsOption<S: HoldsOctets, K> {
+    octets: OctetStore<S>,
     #[derive_where(skip)]
     of: PhantomData<K>,
 }
 
-impl<S: HoldsOctets, K> Model for HeldPlain<S, K> {
+impl<S: HoldsOctets, K> Model for OctetsOption<S, K> {
     ghost use Rattle.std.specs.Prelude.{List, ℕ, length, ◌≤◌};
 
     ghost Value = { List ℕ };
@@ -85,13 +85,13 @@ impl<S: HoldsOctets, K> Model for HeldPlain<S, K> {
     ghost invariant = { λ k. length k.octets ≤ 65535 };
 }
 
-impl<S: HoldsOctets, K: OctetsKind> HeldPlain<S, K> {
-    pub(crate) fn of(octets: S) -> HeldPlain<S, K>
+impl<S: HoldsOctets, K: OctetsKind> OctetsOption<S, K> {
+    pub(crate) fn of(octets: S) -> OctetsOption<S, K>
         requires { length (S.octets octets) ≤ 65535 }
         ensures { result ≡ S.octets octets }
     {
-        HeldPlain {
-            octets: Held::of(octets),
+        OctetsOption {
+            octets: OctetStore::of(octets),
             of: PhantomData,
         }
     }
@@ -100,18 +100,18 @@ impl<S: HoldsOctets, K: OctetsKind> HeldPlain<S, K> {
     pub fn into_octets(self) -> S
         ensures { S.octets result ≡ self }
     {
-        let HeldPlain { octets, .. } = self;
+        let OctetsOption { octets, .. } = self;
         octets.into_inner()
     }
 }
 
-impl<'a, K: OctetsKind> HeldPlain<&'a [u8], K> {
+impl<'a, K: OctetsKind> OctetsOption<&'a [u8], K> {
     /// The octets of a slice.
     pub fn from_slice(octets: &'a [u8]) -> Result<PlainRef<'a, K>, LongOptData>
         ensures { MatchResult result (λ k. (length octets.now ≤ 65535) × (k ≡ octets.now)) (λ _. 65535 < length octets.now) }
     {
         LongOptData::check_len(octets.len())?;
-        Ok(HeldPlain::of(octets))
+        Ok(OctetsOption::of(octets))
     }
 
     /// All that is left in a parser.
@@ -144,17 +144,17 @@ impl<'a, K: OctetsKind> HeldPlain<&'a [u8], K> {
         ensures { IfOk result (λ k. k ≡ self.now) }
     {
         let octets = Vec::from_slice(alloc, self.octets.lent())?;
-        Ok(HeldPlain::of(octets))
+        Ok(OctetsOption::of(octets))
     }
 }
 
-impl<K: OctetsKind> HeldPlain<Vec<u8>, K> {
+impl<K: OctetsKind> OctetsOption<Vec<u8>, K> {
     /// The octets of a vector, which is not copied.
     pub fn from_octets(octets: Vec<u8>) -> Result<Plain<K>, LongOptData>
         ensures { MatchResult result (λ k. (length octets.items ≤ 65535) × (k ≡ octets.items)) (λ _. 65535 < length octets.items) }
     {
         LongOptData::check_len(octets.len())?;
-        Ok(HeldPlain::of(octets))
+        Ok(OctetsOption::of(octets))
     }
 
     /// The octets.
@@ -176,25 +176,25 @@ impl<K: OctetsKind> HeldPlain<Vec<u8>, K> {
     pub fn for_slice(&self) -> PlainRef<'_, K>
         ensures { result ≡ self.now }
     {
-        HeldPlain::of(self.octets.as_slice())
+        OctetsOption::of(self.octets.as_slice())
     }
 }
 
-impl HeldPlain<Vec<u8>, NsidKind> {
+impl OctetsOption<Vec<u8>, NsidKind> {
     /// No octets: a client's request for the identifier.
     pub fn empty(alloc: Global) -> Nsid
         ensures { result ≡ [] }
     {
-        HeldPlain::of(Vec::new(alloc))
+        OctetsOption::of(Vec::new(alloc))
     }
 }
 
-impl HeldPlain<Vec<u8>, PaddingKind> {
+impl OctetsOption<Vec<u8>, PaddingKind> {
     /// The code of the option.
     pub const CODE: OptionCode = OptionCode::PADDING;
 }
 
-impl<S: HoldsOctets, K: OctetsKind> OptData for HeldPlain<S, K> {
+impl<S: HoldsOctets, K: OctetsKind> OptData for OctetsOption<S, K> {
     ghost code_of = { λ _. K.number };
 
     fn code(&self) -> OptionCode {
@@ -202,7 +202,7 @@ impl<S: HoldsOctets, K: OctetsKind> OptData for HeldPlain<S, K> {
     }
 }
 
-impl<'a, K: OctetsKind> ParseOptData<'a> for HeldPlain<&'a [u8], K> {
+impl<'a, K: OctetsKind> ParseOptData<'a> for OctetsOption<&'a [u8], K> {
     ghost takes = { for_code K.number list_data };
 
     fn parse_option(
@@ -217,7 +217,7 @@ impl<'a, K: OctetsKind> ParseOptData<'a> for HeldPlain<&'a [u8], K> {
     }
 }
 
-impl<S: HoldsOctets, K: OctetsKind> ComposeOptData for HeldPlain<S, K> {
+impl<S: HoldsOctets, K: OctetsKind> ComposeOptData for OctetsOption<S, K> {
     ghost octets = { λ k. k };
 
     /// The number of octets, of which every value has at most 65,535.
@@ -234,13 +234,13 @@ impl<S: HoldsOctets, K: OctetsKind> ComposeOptData for HeldPlain<S, K> {
     }
 }
 
-impl<'a, K: OctetsKind> ReadBack<'a> for HeldPlain<&'a [u8], K> {
+impl<'a, K: OctetsKind> ReadBack<'a> for OctetsOption<&'a [u8], K> {
     ghost is_readable = { λ k. length k ≤ 65535 };
 
     ghost comes_back = { list_again K.number };
 }
 
-impl<S: HoldsOctets, K: OctetsKind> fmt::Display for HeldPlain<S, K> {
+impl<S: HoldsOctets, K: OctetsKind> fmt::Display for OctetsOption<S, K> {
     ghost output = { λ k. Some (octets_text k) };
 
     fn fmt<W: fmt::Write>(&self, f: &mut fmt::Formatter<W>) -> fmt::Result {

@@ -1,14 +1,14 @@
 //! Options of any code, owned or borrowed.
 
 ghost use Rattle.std.specs.Prelude.{◌≡◌, ◌≤◌, ◌<◌, ◌++◌, ℕ, List, length, Some, Ok, IfOk, OnOk, MatchResult};
-ghost use Rattle.dns_lists.specs.Again.{unknown_again};
+ghost use Rattle.dns_lists.specs.RoundTrip.{unknown_again};
 ghost use Rattle.dns_lists.specs.Texts.{plain_text};
 ghost use Rattle.dns_lists.specs.Unknowns.{unknown, unknown_taken};
 
 use crate::texts::write_plain;
 use dns_name::{
-    ComposeOptData, Held, HoldsOctets, LongOptData, OptData, OptionCode, OutOfMemory, ParseError,
-    ParseOptData, Parser, ReadBack,
+    ComposeOptData, HoldsOctets, LongOptData, OctetStore, OptData, OptionCode, OutOfMemory,
+    ParseError, ParseOptData, Parser, ReadBack,
 };
 use std::alloc::Global;
 use std::fmt;
@@ -26,7 +26,7 @@ pub type UnknownOptDataRef<'a> = HeldUnknown<&'a [u8]>;
 #[derive_where(Clone; S: Copy)]
 pub struct HeldUnknown<S: HoldsOctets> {
     code: OptionCode,
-    octets: Held<S>,
+    octets: OctetStore<S>,
 }
 
 impl<S: HoldsOctets> Model for HeldUnknown<S> {
@@ -49,7 +49,7 @@ impl<S: HoldsOctets> HeldUnknown<S> {
     {
         HeldUnknown {
             code,
-            octets: Held::of(octets),
+            octets: OctetStore::of(octets),
         }
     }
 

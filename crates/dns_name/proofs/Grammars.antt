@@ -7,7 +7,7 @@ use Rattle.dns_name.specs.declared.error.ParseError.TheVariants.{Form}
 use Rattle.dns_name.specs.declared.error.FormReason.TheVariants.{LongName, Hops}
 use Rattle.dns_name.specs.declared.piece.Piece.{Piece}
 use Rattle.dns_name.specs.declared.piece.Piece.TheVariants.{End, Text, Jump}
-use Rattle.dns_name.specs.declared.piece.Reach.{Reach}
+use Rattle.dns_name.specs.declared.piece.NameBounds.{NameBounds}
 use Rattle.dns_name.specs.Place.{Read}
 use Rattle.dns_name.specs.Labels.{spell, AreLabels}
 use Rattle.dns_name.specs.Names.{near, name_piece, name_piece_of, jump, with_label, with_end, by_piece, name_up_to, most, rest_of, name_by, name_within, uncompressed_at}
@@ -29,7 +29,7 @@ seen_jumped limit hops o = grind (arith, nat_tests)
 at_near : (limit hops l at : ℕ) (o x : List ℕ) → l ≡ seen_to limit hops o → drop at (take l o) ≡ x → drop at (near limit hops o) ≡ x
 at_near limit hops l at o x q d = ap (drop at) (sym (to_seen limit hops o)) ∙ (ap (λ n. drop at (take n o)) (sym q) ∙ d)
 
-abbrev followed : ℕ → Reach
+abbrev followed : ℕ → NameBounds
 followed limit = record { limit = limit; pointers = true }
 
 -- ---- what is in the grammar is read
@@ -206,7 +206,7 @@ found_read o limit at ls e f = in_read o limit limit at ls f.pointers 0 0 e f.st
 
 -- ---- uncompressed names
 
-abbrev plain : List ℕ → Reach
+abbrev plain : List ℕ → NameBounds
 plain o = record { limit = length o; pointers = false }
 
 -- what is read of an uncompressed name

@@ -8,7 +8,7 @@ use Rattle.dns_name.specs.declared.error.FormReason.TheVariants.{LongName, Hops}
 use Rattle.dns_name.specs.declared.piece.Piece.{Piece}
 use Rattle.dns_name.specs.declared.piece.Piece.TheVariants.{End, Text, Jump}
 use Rattle.dns_name.specs.Place.{Read}
-use Rattle.dns_name.specs.declared.piece.Reach.{Reach}
+use Rattle.dns_name.specs.declared.piece.NameBounds.{NameBounds}
 use Rattle.dns_name.specs.Labels.{spell, AreLabels, FitBehind, IsName}
 use Rattle.dns_name.specs.Names.{near, name_piece, with_label, with_end, by_piece, name_up_to, rest_of, name_by, labels_of, most}
 use Rattle.dns_name.proofs.Walks.{text_within}
@@ -48,12 +48,12 @@ named_piece go o len at size hops (Ok (Jump t)) s q w f = named_jump size hops _
 near_short : (limit hops : ℕ) (o : List ℕ) → length (near limit hops o) ≤ length o
 near_short limit hops o = let e = length-take limit o in grind (arith, nat_tests)
 
-named_up_to : (k : ℕ) (o : List ℕ) (r : Reach) (at size hops : ℕ) → size ≤ 254 → ReadsName size (name_up_to k o r at size hops)
+named_up_to : (k : ℕ) (o : List ℕ) (r : NameBounds) (at size hops : ℕ) → size ≤ 254 → ReadsName size (name_up_to k o r at size hops)
 named_up_to zero o r at size hops s = tt
 named_up_to (suc k) o r at size hops s =
     named_piece (name_up_to k o r) o (length (near r.limit hops o)) at size hops (name_piece r hops o at) s (near_short r.limit hops o) (λ n h. text_within r hops o at n h) (λ a b c d. named_up_to k o r a b c d)
 
-rest_named : (o : List ℕ) (r : Reach) (at size hops : ℕ) → size ≤ 254 → ReadsName size (rest_of o r at size hops)
+rest_named : (o : List ℕ) (r : NameBounds) (at size hops : ℕ) → size ≤ 254 → ReadsName size (rest_of o r at size hops)
 unfolding rest_of
 rest_named o r at size hops s = named_up_to (most size hops) o r at size hops s
 
@@ -66,12 +66,12 @@ twice [] h = omega arith
 twice (l ∷ ls) h = let e = twice ls h.2 in omega (arith, length-append l (spell ls))
 
 -- a name that is read is a name
-pub name_named : (o : List ℕ) (r : Reach) (at : ℕ) → IfOk (name_by o r at) (λ x. IsName x.0)
+pub name_named : (o : List ℕ) (r : NameBounds) (at : ℕ) → IfOk (name_by o r at) (λ x. IsName x.0)
 unfolding name_by
 name_named o r at = rest_named o r at 0 0 (omega arith)
 
 -- a name has at most 127 labels
-pub name_labels : (o : List ℕ) (r : Reach) (at : ℕ) → IsOk (rest_of o r at 0 0) → IsName (labels_of (rest_of o r at 0 0)) × (length (labels_of (rest_of o r at 0 0)) ≤ 127)
+pub name_labels : (o : List ℕ) (r : NameBounds) (at : ℕ) → IsOk (rest_of o r at 0 0) → IsName (labels_of (rest_of o r at 0 0)) × (length (labels_of (rest_of o r at 0 0)) ≤ 127)
 name_labels o r at h =
     let n = labels_named 0 (rest_of o r at 0 0) h (rest_named o r at 0 0 (omega arith)) in
     (n, omega (arith, twice (labels_of (rest_of o r at 0 0)) n.labels, n.room))

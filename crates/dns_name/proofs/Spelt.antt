@@ -4,7 +4,7 @@ use Rattle.std.proofs.lemmas.List.{drop-drop}
 use Rattle.std.proofs.Math.Seq.{take-append_seam, drop-append_seam}
 use Rattle.std.proofs.lemmas.Bool.Decides.{nat_tests}
 use Rattle.dns_name.specs.declared.piece.Piece.TheVariants.{End, Text}
-use Rattle.dns_name.specs.declared.piece.Reach.{Reach}
+use Rattle.dns_name.specs.declared.piece.NameBounds.{NameBounds}
 use Rattle.dns_name.specs.Labels.{spell, AreLabels, IsName}
 use Rattle.dns_name.specs.Names.{near, name_piece, name_piece_of, rest_of, name_by, name_at, uncompressed_at, IsSpelt, labels_of}
 use Rattle.dns_name.proofs.Walks.{rest_unrolled, rest_text}
@@ -12,11 +12,11 @@ use Rattle.dns_name.proofs.Walks.{rest_unrolled, rest_text}
 text_here : (b : Bool) (at n : ℕ) (more : List ℕ) → 0 < n → n < 64 → n ≤ length more → name_piece_of b at (n ∷ more) ≡ Ok (Text n)
 text_here b at n more p q r = grind (arith, nat_tests)
 
-pub piece_end : (r : Reach) (hops : ℕ) (o : List ℕ) (at : ℕ) (more : List ℕ) → drop at (near r.limit hops o) ≡ 0 ∷ more → name_piece r hops o at ≡ Ok End
+pub piece_end : (r : NameBounds) (hops : ℕ) (o : List ℕ) (at : ℕ) (more : List ℕ) → drop at (near r.limit hops o) ≡ 0 ∷ more → name_piece r hops o at ≡ Ok End
 unfolding name_piece
 piece_end r hops o at more h = rw h refl
 
-pub piece_text : (r : Reach) (hops : ℕ) (o : List ℕ) (at n : ℕ) (more : List ℕ) → drop at (near r.limit hops o) ≡ n ∷ more → 0 < n → n < 64 → n ≤ length more → name_piece r hops o at ≡ Ok (Text n)
+pub piece_text : (r : NameBounds) (hops : ℕ) (o : List ℕ) (at n : ℕ) (more : List ℕ) → drop at (near r.limit hops o) ≡ n ∷ more → 0 < n → n < 64 → n ≤ length more → name_piece r hops o at ≡ Ok (Text n)
 unfolding name_piece
 piece_text r hops o at n more h p q s = rw h (text_here r.pointers at n more p q s)
 
@@ -63,7 +63,7 @@ pub near_prefix : (limit hops at : ℕ) (l more o : List ℕ) → drop at (near 
 near_prefix limit hops at l more o h = seen_prefix (nat_eq hops 0) limit at l more o h
 
 -- labels that are seen at a place are read there
-pub rest_spelt : (ls : List (List ℕ)) (r : Reach) (o more : List ℕ) (at size hops : ℕ) → drop at (near r.limit hops o) ≡ spell ls ++ more → AreLabels ls → size + length (spell ls) ≤ 255 →
+pub rest_spelt : (ls : List (List ℕ)) (r : NameBounds) (o more : List ℕ) (at size hops : ℕ) → drop at (near r.limit hops o) ≡ spell ls ++ more → AreLabels ls → size + length (spell ls) ≤ 255 →
     rest_of o r at size hops ≡ Ok (ls, at + length (spell ls))
 rest_spelt [] r o more at size hops h a s = rw (rest_unrolled o r at size hops, piece_end r hops o at more h) refl
 rest_spelt (l ∷ ls) r o more at size hops h a s =

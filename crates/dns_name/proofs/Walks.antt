@@ -7,7 +7,7 @@ use Rattle.dns_name.specs.declared.error.FormReason.TheVariants.{Hops, LongName}
 use Rattle.dns_name.specs.declared.piece.Piece.{Piece}
 use Rattle.dns_name.specs.declared.piece.Piece.TheVariants.{End, Text, Jump}
 use Rattle.dns_name.specs.Place.{Read}
-use Rattle.dns_name.specs.declared.piece.Reach.{Reach}
+use Rattle.dns_name.specs.declared.piece.NameBounds.{NameBounds}
 use Rattle.dns_name.specs.Names.{jump, name_piece_of, name_piece, with_label, with_end, by_piece, name_up_to, most, rest_of, near, labels_of, end_by, CanGoOn}
 
 same_text : (size n : ℕ) (l : List ℕ) (x y : Read (List (List ℕ))) → (size + n + 2 ≤ 255 → x ≡ y) → (if nat_lt 255 (size + n + 2) then Err (Form LongName) else with_label l x) ≡ (if nat_lt 255 (size + n + 2) then Err (Form LongName) else with_label l y)
@@ -26,7 +26,7 @@ same_piece go on o at size hops (Ok (Text n)) ht hj = same_text size n _ _ _ (ht
 same_piece go on o at size hops (Ok (Jump t)) ht hj = same_jump hops _ _ _ (hj t)
 
 -- a larger bound changes nothing
-enough : (k m : ℕ) (o : List ℕ) (r : Reach) (at size hops : ℕ) → most size hops ≤ k → most size hops ≤ m → name_up_to k o r at size hops ≡ name_up_to m o r at size hops
+enough : (k m : ℕ) (o : List ℕ) (r : NameBounds) (at size hops : ℕ) → most size hops ≤ k → most size hops ≤ m → name_up_to k o r at size hops ≡ name_up_to m o r at size hops
 enough zero m o r at size hops hk hm = absurd (omega arith)
 enough (suc k) zero o r at size hops hk hm = absurd (omega arith)
 enough (suc k) (suc m) o r at size hops hk hm =
@@ -35,7 +35,7 @@ enough (suc k) (suc m) o r at size hops hk hm =
     (λ t h. enough k m o r t size (hops + 1) (omega arith) (omega arith))
 
 -- the rest of a name, by its next piece
-pub rest_unrolled : (o : List ℕ) (r : Reach) (at size hops : ℕ) → rest_of o r at size hops ≡ by_piece (rest_of o r) o at size hops (name_piece r hops o at)
+pub rest_unrolled : (o : List ℕ) (r : NameBounds) (at size hops : ℕ) → rest_of o r at size hops ≡ by_piece (rest_of o r) o at size hops (name_piece r hops o at)
 unfolding rest_of
 rest_unrolled o r at size hops =
     let k = (255 - size) + (255 - hops) in
@@ -44,11 +44,11 @@ rest_unrolled o r at size hops =
     (λ t h. enough k (most size (hops + 1)) o r t size (hops + 1) (omega arith) (omega arith))
 
 -- the walk of the code, which keeps the place behind the first pointer
-pub walk_err : (o : List ℕ) (r : Reach) (at size hops : ℕ) (e : Option ℕ) (x : ParseError) → name_piece r hops o at ≡ Err x → end_by e (rest_of o r at size hops) ≡ Err x
+pub walk_err : (o : List ℕ) (r : NameBounds) (at size hops : ℕ) (e : Option ℕ) (x : ParseError) → name_piece r hops o at ≡ Err x → end_by e (rest_of o r at size hops) ≡ Err x
 walk_err o r at size hops None x h = rw (rest_unrolled o r at size hops, h) refl
 walk_err o r at size hops (Some y) x h = rw (rest_unrolled o r at size hops, h) refl
 
-pub walk_end : (o : List ℕ) (r : Reach) (at size hops : ℕ) (e : Option ℕ) → name_piece r hops o at ≡ Ok End → end_by e (rest_of o r at size hops) ≡ Ok (unwrap_or e (at + 1))
+pub walk_end : (o : List ℕ) (r : NameBounds) (at size hops : ℕ) (e : Option ℕ) → name_piece r hops o at ≡ Ok End → end_by e (rest_of o r at size hops) ≡ Ok (unwrap_or e (at + 1))
 walk_end o r at size hops None h = rw (rest_unrolled o r at size hops, h) refl
 walk_end o r at size hops (Some y) h = rw (rest_unrolled o r at size hops, h) refl
 
@@ -65,23 +65,23 @@ few : (hops e : ℕ) (x : Read (List (List ℕ))) → hops ≤ 254 → (if nat_l
 few hops e x h = grind (arith, nat_tests)
 
 -- the rest of a name, by what its next piece is
-pub rest_long : (o : List ℕ) (r : Reach) (at size hops n : ℕ) → name_piece r hops o at ≡ Ok (Text n) → 255 < size + n + 2 → rest_of o r at size hops ≡ Err (Form LongName)
+pub rest_long : (o : List ℕ) (r : NameBounds) (at size hops n : ℕ) → name_piece r hops o at ≡ Ok (Text n) → 255 < size + n + 2 → rest_of o r at size hops ≡ Err (Form LongName)
 rest_long o r at size hops n h k = rw (rest_unrolled o r at size hops, h) (long size n _ _ k)
 
-pub rest_text : (o : List ℕ) (r : Reach) (at size hops n : ℕ) → name_piece r hops o at ≡ Ok (Text n) → size + n + 2 ≤ 255 → rest_of o r at size hops ≡ with_label (take n (drop (at + 1) o)) (rest_of o r (at + n + 1) (size + n + 1) hops)
+pub rest_text : (o : List ℕ) (r : NameBounds) (at size hops n : ℕ) → name_piece r hops o at ≡ Ok (Text n) → size + n + 2 ≤ 255 → rest_of o r at size hops ≡ with_label (take n (drop (at + 1) o)) (rest_of o r (at + n + 1) (size + n + 1) hops)
 rest_text o r at size hops n h k = rw (rest_unrolled o r at size hops, h) (short size n _ _ k)
 
-pub rest_hops : (o : List ℕ) (r : Reach) (at size hops t : ℕ) → name_piece r hops o at ≡ Ok (Jump t) → 254 < hops → rest_of o r at size hops ≡ Err (Form Hops)
+pub rest_hops : (o : List ℕ) (r : NameBounds) (at size hops t : ℕ) → name_piece r hops o at ≡ Ok (Jump t) → 254 < hops → rest_of o r at size hops ≡ Err (Form Hops)
 rest_hops o r at size hops t h k = rw (rest_unrolled o r at size hops, h) (many hops _ _ k)
 
-pub rest_jump : (o : List ℕ) (r : Reach) (at size hops t : ℕ) → name_piece r hops o at ≡ Ok (Jump t) → hops ≤ 254 → rest_of o r at size hops ≡ with_end (at + 2) (rest_of o r t size (hops + 1))
+pub rest_jump : (o : List ℕ) (r : NameBounds) (at size hops t : ℕ) → name_piece r hops o at ≡ Ok (Jump t) → hops ≤ 254 → rest_of o r at size hops ≡ with_end (at + 2) (rest_of o r t size (hops + 1))
 rest_jump o r at size hops t h k = rw (rest_unrolled o r at size hops, h) (few hops _ _ k)
 
-pub walk_long : (o : List ℕ) (r : Reach) (at size hops : ℕ) (e : Option ℕ) (n : ℕ) → name_piece r hops o at ≡ Ok (Text n) → 255 < size + n + 2 → end_by e (rest_of o r at size hops) ≡ Err (Form LongName)
+pub walk_long : (o : List ℕ) (r : NameBounds) (at size hops : ℕ) (e : Option ℕ) (n : ℕ) → name_piece r hops o at ≡ Ok (Text n) → 255 < size + n + 2 → end_by e (rest_of o r at size hops) ≡ Err (Form LongName)
 walk_long o r at size hops None n h k = rw (rest_long o r at size hops n h k) refl
 walk_long o r at size hops (Some y) n h k = rw (rest_long o r at size hops n h k) refl
 
-pub walk_hops : (o : List ℕ) (r : Reach) (at size hops : ℕ) (e : Option ℕ) (t : ℕ) → name_piece r hops o at ≡ Ok (Jump t) → 254 < hops → end_by e (rest_of o r at size hops) ≡ Err (Form Hops)
+pub walk_hops : (o : List ℕ) (r : NameBounds) (at size hops : ℕ) (e : Option ℕ) (t : ℕ) → name_piece r hops o at ≡ Ok (Jump t) → 254 < hops → end_by e (rest_of o r at size hops) ≡ Err (Form Hops)
 walk_hops o r at size hops None t h k = rw (rest_hops o r at size hops t h k) refl
 walk_hops o r at size hops (Some y) t h k = rw (rest_hops o r at size hops t h k) refl
 
@@ -97,10 +97,10 @@ jump_end n None (Err x) = refl
 jump_end n (Some y) (Ok x) = refl
 jump_end n (Some y) (Err x) = refl
 
-pub walk_text : (o : List ℕ) (r : Reach) (at size hops : ℕ) (e : Option ℕ) (n : ℕ) → name_piece r hops o at ≡ Ok (Text n) → size + n + 2 ≤ 255 → end_by e (rest_of o r at size hops) ≡ end_by e (rest_of o r (at + n + 1) (size + n + 1) hops)
+pub walk_text : (o : List ℕ) (r : NameBounds) (at size hops : ℕ) (e : Option ℕ) (n : ℕ) → name_piece r hops o at ≡ Ok (Text n) → size + n + 2 ≤ 255 → end_by e (rest_of o r at size hops) ≡ end_by e (rest_of o r (at + n + 1) (size + n + 1) hops)
 walk_text o r at size hops e n h k = rw (rest_text o r at size hops n h k) (label_end _ e _)
 
-pub walk_jump : (o : List ℕ) (r : Reach) (at size hops : ℕ) (e : Option ℕ) (t : ℕ) → name_piece r hops o at ≡ Ok (Jump t) → hops ≤ 254 → end_by e (rest_of o r at size hops) ≡ end_by (Some (unwrap_or e (at + 2))) (rest_of o r t size (hops + 1))
+pub walk_jump : (o : List ℕ) (r : NameBounds) (at size hops : ℕ) (e : Option ℕ) (t : ℕ) → name_piece r hops o at ≡ Ok (Jump t) → hops ≤ 254 → end_by e (rest_of o r at size hops) ≡ end_by (Some (unwrap_or e (at + 2))) (rest_of o r t size (hops + 1))
 walk_jump o r at size hops e t h k = rw (rest_jump o r at size hops t h k) (jump_end _ e _)
 
 -- what is known of a piece
@@ -130,15 +130,15 @@ of_end : (b : Bool) (at : ℕ) (o : List ℕ) → name_piece_of b at o ≡ Ok En
 of_end b at [] h = cc
 of_end b at (head ∷ o) h = omega arith
 
-pub text_within : (r : Reach) (hops : ℕ) (o : List ℕ) (at n : ℕ) → name_piece r hops o at ≡ Ok (Text n) → (0 < n) × (n < 64) × (at + n + 1 ≤ length (near r.limit hops o))
+pub text_within : (r : NameBounds) (hops : ℕ) (o : List ℕ) (at n : ℕ) → name_piece r hops o at ≡ Ok (Text n) → (0 < n) × (n < 64) × (at + n + 1 ≤ length (near r.limit hops o))
 unfolding name_piece
 text_within r hops o at n h = let p = of_text r.pointers at n (drop at (near r.limit hops o)) h in let l = length-drop at (near r.limit hops o) in (p.0, p.1, omega arith)
 
-pub jump_back : (r : Reach) (hops : ℕ) (o : List ℕ) (at t : ℕ) → name_piece r hops o at ≡ Ok (Jump t) → (t < at) × (at + 2 ≤ length (near r.limit hops o))
+pub jump_back : (r : NameBounds) (hops : ℕ) (o : List ℕ) (at t : ℕ) → name_piece r hops o at ≡ Ok (Jump t) → (t < at) × (at + 2 ≤ length (near r.limit hops o))
 unfolding name_piece
 jump_back r hops o at t h = let p = of_jump r.pointers at t (drop at (near r.limit hops o)) h in let l = length-drop at (near r.limit hops o) in (p.0, omega arith)
 
-pub end_within : (r : Reach) (hops : ℕ) (o : List ℕ) (at : ℕ) → name_piece r hops o at ≡ Ok End → at + 1 ≤ length (near r.limit hops o)
+pub end_within : (r : NameBounds) (hops : ℕ) (o : List ℕ) (at : ℕ) → name_piece r hops o at ≡ Ok End → at + 1 ≤ length (near r.limit hops o)
 unfolding name_piece
 end_within r hops o at h = let p = of_end r.pointers at (drop at (near r.limit hops o)) h in let l = length-drop at (near r.limit hops o) in omega arith
 
@@ -164,7 +164,7 @@ behind_jump : (n : ℕ) (r : Read (List (List ℕ))) → IsOk (with_end n r) →
 behind_jump n (Ok x) h = (refl, refl)
 behind_jump n (Err e) h = cc
 
-pub next_text : (o : List ℕ) (r : Reach) (at size hops n : ℕ) → CanGoOn o r at size hops → name_piece r hops o at ≡ Ok (Text n) →
+pub next_text : (o : List ℕ) (r : NameBounds) (at size hops n : ℕ) → CanGoOn o r at size hops → name_piece r hops o at ≡ Ok (Text n) →
     CanGoOn o r (at + n + 1) (size + n + 1) hops × (labels_of (rest_of o r at size hops) ≡ take n (drop (at + 1) o) ∷ labels_of (rest_of o r (at + n + 1) (size + n + 1) hops))
 next_text o r at size hops n c h =
     let s : size + n + 2 ≤ 255 = sized size n _ _ (rw (rest_unrolled o r at size hops, h) at c.readable) in
@@ -172,7 +172,7 @@ next_text o r at size hops n c h =
     let b = behind_label _ _ (rw (rest_text o r at size hops n h s) at c.readable) in
     (record { within = t.2; limited = c.limited; sized = omega arith; jumped = c.jumped; readable = b.0 }, rw (rest_text o r at size hops n h s) b.1)
 
-pub next_jump : (o : List ℕ) (r : Reach) (at size hops t : ℕ) → CanGoOn o r at size hops → name_piece r hops o at ≡ Ok (Jump t) →
+pub next_jump : (o : List ℕ) (r : NameBounds) (at size hops t : ℕ) → CanGoOn o r at size hops → name_piece r hops o at ≡ Ok (Jump t) →
     CanGoOn o r t size (hops + 1) × (labels_of (rest_of o r at size hops) ≡ labels_of (rest_of o r t size (hops + 1)))
 next_jump o r at size hops t c h =
     let s : hops ≤ 254 = jumped hops _ _ (rw (rest_unrolled o r at size hops, h) at c.readable) in
@@ -182,10 +182,10 @@ next_jump o r at size hops t c h =
     let b = behind_jump _ _ (rw (rest_jump o r at size hops t h s) at c.readable) in
     (record { within = rw (near_jumped r.limit hops o) (omega arith); limited = c.limited; sized = c.sized; jumped = omega arith; readable = b.0 }, rw (rest_jump o r at size hops t h s) b.1)
 
-pub next_end : (o : List ℕ) (r : Reach) (at size hops : ℕ) → name_piece r hops o at ≡ Ok End → labels_of (rest_of o r at size hops) ≡ []
+pub next_end : (o : List ℕ) (r : NameBounds) (at size hops : ℕ) → name_piece r hops o at ≡ Ok End → labels_of (rest_of o r at size hops) ≡ []
 next_end o r at size hops h = rw (rest_unrolled o r at size hops, h) refl
 
-pub next_err : (o : List ℕ) (r : Reach) (at size hops : ℕ) (e : ParseError) → name_piece r hops o at ≡ Err e → labels_of (rest_of o r at size hops) ≡ []
+pub next_err : (o : List ℕ) (r : NameBounds) (at size hops : ℕ) (e : ParseError) → name_piece r hops o at ≡ Err e → labels_of (rest_of o r at size hops) ≡ []
 next_err o r at size hops e h = rw (rest_unrolled o r at size hops, h) refl
 
 pub or_limited : (e : Option ℕ) (limit hops n : ℕ) (o : List ℕ) → IfSome e (λ x. x ≤ limit) → (e ≡ None → hops ≡ 0) → n ≤ length (near limit hops o) → unwrap_or e n ≤ limit

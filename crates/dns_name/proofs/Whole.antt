@@ -6,7 +6,7 @@ use Rattle.std.proofs.lemmas.Bool.Decides.{nat_tests}
 use Rattle.dns_name.specs.declared.error.ParseError.{ParseError}
 use Rattle.dns_name.specs.declared.error.ParseError.TheVariants.{Form}
 use Rattle.dns_name.specs.declared.error.FormReason.TheVariants.{Trailing}
-use Rattle.dns_name.specs.declared.piece.Reach.{Reach}
+use Rattle.dns_name.specs.declared.piece.NameBounds.{NameBounds}
 use Rattle.dns_name.specs.Place.{Read}
 use Rattle.dns_name.specs.Labels.{spell}
 use Rattle.dns_name.specs.Names.{CanGoOn, name_by, uncompressed_at, uncompressed, read_whole, labels_of, end_of, IsSpelt}
@@ -66,7 +66,7 @@ unfolding name_by
 spelt_on o s = record { within = omega arith; limited = omega arith; sized = omega arith; jumped = omega arith; readable = s.readable }
 
 -- a name that is read is read from its start
-pub read_on : (o : List ℕ) (r : Reach) (at e : ℕ) → end_of (name_by o r at) ≡ Ok e → at ≤ r.limit → r.limit ≤ length o → CanGoOn o r at 0 0
+pub read_on : (o : List ℕ) (r : NameBounds) (at e : ℕ) → end_of (name_by o r at) ≡ Ok e → at ≤ r.limit → r.limit ≤ length o → CanGoOn o r at 0 0
 unfolding name_by
 read_on o r at e h a l = record { within = omega (arith, length-take-le r.limit o l); limited = l; sized = omega arith; jumped = omega arith; readable = rw (ended _ e h) refl }
 

@@ -6,8 +6,8 @@ use Rattle.std.specs.declared.vec.Vec.{Vec}
 use Rattle.std.specs.contracts.alloc.Global as global
 use Rattle.std.specs.contracts.vec.Vec as vec
 use Rattle.std.specs.contracts.impls.GlobalAllocator.TheImpl.{ghosts}
-use Rattle.dns_name.specs.contracts.held.Held as held
-use Rattle.dns_name.specs.contracts.held.VecU8HoldsOctets.TheImpl as holding
+use Rattle.dns_name.specs.contracts.octet_store.OctetStore as held
+use Rattle.dns_name.specs.contracts.octet_store.VecU8HoldsOctets.TheImpl as holding
 
 -- a vector of octets as the logic holds it
 abbrev pub vector_row : RattleType

@@ -5,7 +5,7 @@ use Rattle.dns_name.specs.declared.error.ParseError.TheVariants.{ShortInput, For
 use Rattle.dns_name.specs.declared.error.FormReason.TheVariants.{Label, Pointer, Hops, LongName, Trailing}
 use Rattle.dns_name.specs.declared.piece.Piece.{Piece}
 use Rattle.dns_name.specs.declared.piece.Piece.TheVariants.{End, Text, Jump}
-use Rattle.dns_name.specs.declared.piece.Reach.{Reach}
+use Rattle.dns_name.specs.declared.piece.NameBounds.{NameBounds}
 use Rattle.dns_name.specs.Place.{Read}
 use Rattle.dns_name.specs.Labels.{spell, IsName}
 
@@ -32,7 +32,7 @@ abbrev pub near : ℕ → ℕ → List ℕ → List ℕ
 near limit hops o = if nat_eq hops 0 then take limit o else o
 
 -- what stands at a place behind so many pointers
-unfoldable pub name_piece : Reach → ℕ → List ℕ → ℕ → Result Piece ParseError
+unfoldable pub name_piece : NameBounds → ℕ → List ℕ → ℕ → Result Piece ParseError
 name_piece r hops o at = name_piece_of r.pointers at (drop at (near r.limit hops o))
 
 -- a label in front of what is read behind it
@@ -54,7 +54,7 @@ by_piece go o at size hops (Ok (Text n)) = if nat_lt 255 (size + n + 2) then Err
 by_piece go o at size hops (Ok (Jump target)) = if nat_lt 254 hops then Err (Form Hops) else with_end (at + 2) (go target size (hops + 1))
 
 -- a name of at most k pieces
-abbrev pub name_up_to : ℕ → List ℕ → Reach → ℕ → ℕ → ℕ → Read (List (List ℕ))
+abbrev pub name_up_to : ℕ → List ℕ → NameBounds → ℕ → ℕ → ℕ → Read (List (List ℕ))
 name_up_to zero o r at size hops = Err (Form Hops)
 name_up_to (suc k) o r at size hops = by_piece (name_up_to k o r) o at size hops (name_piece r hops o at)
 
@@ -63,11 +63,11 @@ abbrev pub most : ℕ → ℕ → ℕ
 most size hops = suc ((255 - size) + (255 - hops))
 
 -- the rest of a name
-unfoldable pub rest_of : List ℕ → Reach → ℕ → ℕ → ℕ → Read (List (List ℕ))
+unfoldable pub rest_of : List ℕ → NameBounds → ℕ → ℕ → ℕ → Read (List (List ℕ))
 rest_of o r at size hops = name_up_to (most size hops) o r at size hops
 
 -- the name that is read so at a place
-unfoldable pub name_by : List ℕ → Reach → ℕ → Read (List (List ℕ))
+unfoldable pub name_by : List ℕ → NameBounds → ℕ → Read (List (List ℕ))
 name_by o r at = rest_of o r at 0 0
 
 -- the name at a place, pointers followed, where the octets before its first pointer lie before the limit
@@ -111,7 +111,7 @@ end_by None r = end_of r
 end_by (Some e) r = end_of (with_end e r)
 
 -- a place from which a name is read on
-pub record CanGoOn (o : List ℕ) (r : Reach) (at size hops : ℕ) : Type 0 where
+pub record CanGoOn (o : List ℕ) (r : NameBounds) (at size hops : ℕ) : Type 0 where
   pub within : at ≤ length (near r.limit hops o)
   pub limited : r.limit ≤ length o
   pub sized : size ≤ 254

@@ -8,7 +8,7 @@ ghost use Rattle.dns_name.specs.Labels.{IsName, EndsWith, folded};
 ghost use Rattle.dns_name.specs.Names.{CanGoOn, labels_of, name_by};
 
 use crate::error::OutOfMemory;
-use crate::piece::{Piece, Reach, piece_at};
+use crate::piece::{NameBounds, Piece, piece_at};
 use std::cmp::Ordering;
 use std::marker::Model;
 
@@ -16,7 +16,7 @@ use std::marker::Model;
 #[derive(Drop)]
 pub struct Labels<'a> {
     message: &'a [u8],
-    reach: Reach,
+    reach: NameBounds,
     at: usize,
     size: usize,
     hops: usize,
@@ -36,7 +36,7 @@ impl<'a> Model for Labels<'a> {
 impl<'a> Labels<'a> {
     /// The labels of the name that is read so at a place.
     #[tactic(auto, unfolding(crate::specs::Names::name_by))]
-    pub(crate) fn of(message: &'a [u8], reach: Reach, at: usize) -> Labels<'a>
+    pub(crate) fn of(message: &'a [u8], reach: NameBounds, at: usize) -> Labels<'a>
         requires { CanGoOn message.now reach at 0 0 }
         ensures value { result ≡ labels_of (name_by message.now reach at) }
         ensures named { IsName result }

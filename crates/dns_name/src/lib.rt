@@ -4,7 +4,6 @@
 mod address;
 mod error;
 mod from_text;
-mod held;
 mod iana;
 mod labels;
 mod laws;
@@ -12,6 +11,7 @@ mod name;
 mod name_cmp;
 mod name_text;
 mod name_under;
+mod octet_store;
 mod octets;
 mod opt_data;
 mod opt_error;
@@ -27,7 +27,6 @@ mod ttl;
 pub use address::{Addrs, IpAddr, SocketAddr};
 pub use error::{FormReason, OutOfMemory, ParseError};
 pub use from_text::FromTextError;
-pub use held::{Held, HoldsOctets};
 pub use iana::{
     Class, Classes, Code, ExtendedErrorCode, ExtendedErrorCodes, HeaderCode, Opcode, Opcodes,
     OptionCode, OptionCodes, Rcode, Rcodes, Rtype, Rtypes, SecurityAlgorithm,
@@ -35,6 +34,7 @@ pub use iana::{
 pub use labels::{Labels, push_lower};
 pub use laws::{codes_read_back, names_are_ordered, names_are_the_grammar, names_read_back};
 pub use name::{HoldsName, Name, NameRef};
+pub use octet_store::{HoldsOctets, OctetStore};
 pub use octets::Octets;
 pub use opt_data::{ComposeOptData, OptData, ParseOptData, ReadBack};
 pub use opt_error::{BuildDataError, LongOptData};

@@ -16,7 +16,7 @@ use crate::labels::{Labels, canonical, ends, push_spelt};
 use crate::name_text::write_name;
 use crate::parsed::end_at;
 use crate::parser::Parser;
-use crate::piece::Reach;
+use crate::piece::NameBounds;
 use std::alloc::{AllocError, Global};
 use std::cmp::Ordering;
 use std::fmt;
@@ -73,7 +73,7 @@ impl<'a> NameRef<'a> {
     pub fn from_slice(octets: &'a [u8]) -> Result<NameRef<'a>, ParseError>
         ensures { result ≡ uncompressed octets.now }
     {
-        let reach = Reach {
+        let reach = NameBounds {
             limit: octets.len(),
             pointers: false,
         };
@@ -90,7 +90,7 @@ impl<'a> NameRef<'a> {
         ensures value { result ≡ uncompressed_at octets.now at }
         ensures within { IfOk result (λ r. r.1 ≤ length octets.now) }
     {
-        let reach = Reach {
+        let reach = NameBounds {
             limit: octets.len(),
             pointers: false,
         };
@@ -138,7 +138,7 @@ impl<'a> NameRef<'a> {
         ensures named { IsName self.now }
         ensures few { length self.now ≤ 127 }
     {
-        let reach = Reach {
+        let reach = NameBounds {
             limit: self.octets.len(),
             pointers: false,
         };

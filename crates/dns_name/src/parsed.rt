@@ -13,7 +13,7 @@ use crate::labels::{Labels, ends, same};
 use crate::name::{Name, NameRef};
 use crate::name_text::write_name;
 use crate::parser::Parser;
-use crate::piece::{Piece, Reach, piece_at};
+use crate::piece::{NameBounds, Piece, piece_at};
 use std::alloc::{AllocError, Global};
 use std::fmt;
 use std::marker::Model;
@@ -22,7 +22,7 @@ use std::marker::Model;
 #[derive(Drop)]
 pub struct ParsedName<'a> {
     message: &'a [u8],
-    reach: Reach,
+    reach: NameBounds,
     at: usize,
 }
 
@@ -83,7 +83,7 @@ impl<'a> fmt::Debug for ParsedName<'a> {
 }
 
 /// The place behind the name that is read so at a place.
-pub(crate) fn end_at(message: &[u8], reach: Reach, start: usize) -> Result<usize, ParseError>
+pub(crate) fn end_at(message: &[u8], reach: NameBounds, start: usize) -> Result<usize, ParseError>
     requires first { start ≤ reach.limit }
     requires limited { reach.limit ≤ length message.now }
     ensures value { result ≡ end_of (name_by message.now reach start) }
@@ -130,7 +130,7 @@ impl<'a> ParsedName<'a> {
         ensures value { result ≡ name_within message.now limit at }
         ensures within { IfOk result (λ r. r.1 ≤ limit) }
     {
-        let reach = Reach {
+        let reach = NameBounds {
             limit,
             pointers: true,
         };
@@ -143,7 +143,7 @@ impl<'a> ParsedName<'a> {
         ensures { result ≡ name.now }
     {
         let message = name.as_slice();
-        let reach = Reach {
+        let reach = NameBounds {
             limit: message.len(),
             pointers: false,
         };

@@ -18,7 +18,7 @@ pub enum Piece {
 
 /// How a name is read.
 #[derive(Clone, Copy)]
-pub struct Reach {
+pub struct NameBounds {
     /// The place before which a name lies up to its first pointer.
     pub limit: usize,
     /// Whether pointers are followed; a name without them is uncompressed.
@@ -27,7 +27,12 @@ pub struct Reach {
 
 /// The piece at a place, behind so many pointers.
 #[tactic(auto, unfolding(crate::specs::Names::name_piece))]
-pub fn piece_at(message: &[u8], reach: Reach, hops: usize, at: usize) -> Result<Piece, ParseError>
+pub fn piece_at(
+    message: &[u8],
+    reach: NameBounds,
+    hops: usize,
+    at: usize,
+) -> Result<Piece, ParseError>
     requires limited { reach.limit ≤ length message.now }
     requires within { at ≤ length (near reach.limit hops message.now) }
     ensures { result ≡ name_piece reach hops message.now at }

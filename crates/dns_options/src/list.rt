@@ -10,7 +10,9 @@ ghost use Rattle.dns_option_list.specs.Items.{first_ok, items_of, list_taken};
 
 use crate::opt::Opt;
 use dns_message::is_option_list;
-use dns_name::{FormReason, Held, HoldsOctets, OutOfMemory, ParseError, ParseOptData, Parser};
+use dns_name::{
+    FormReason, HoldsOctets, OctetStore, OutOfMemory, ParseError, ParseOptData, Parser,
+};
 use dns_option_list::OptIter;
 use std::alloc::Global;
 use std::cmp::Ordering;
@@ -25,7 +27,7 @@ pub type OptRef<'a> = HeldOpt<&'a [u8]>;
 #[derive_where(Debug, PartialEq, Eq, PartialOrd, Ord, Hash)]
 #[derive_where(Clone; S: Copy)]
 pub struct HeldOpt<S: HoldsOctets> {
-    pub(crate) octets: Held<S>,
+    pub(crate) octets: OctetStore<S>,
 }
 
 impl<S: HoldsOctets> Model for HeldOpt<S> {
@@ -48,7 +50,7 @@ impl<S: HoldsOctets> HeldOpt<S> {
         ensures { result ≡ S.octets octets }
     {
         HeldOpt {
-            octets: Held::of(octets),
+            octets: OctetStore::of(octets),
         }
     }
 

@@ -5,11 +5,11 @@ ghost use Rattle.std.specs.Borrow.{sem};
 
 /// A number of octets, so that a contract can say what a loan of them leaves.
 #[derive(Clone, Copy, Debug, PartialEq, Eq, PartialOrd, Ord, Hash)]
-pub(crate) struct Cells<const N: usize> {
+pub(crate) struct OctetArray<const N: usize> {
     pub(crate) octets: [u8; N],
 }
 
-impl<const N: usize> Cells<N> {
+impl<const N: usize> OctetArray<N> {
     ghost use Rattle.dns_cookie.specs.Lending.{LendsCells};
 
     /// The octets as a slice that can be written.

@@ -42,11 +42,11 @@ impl<'a> HoldsOctets for &'a [u8] {
 
 /// Octets in S, which contracts see as a list and which compare as one.
 #[derive(Drop)]
-pub struct Held<S: HoldsOctets> {
+pub struct OctetStore<S: HoldsOctets> {
     octets: S,
 }
 
-impl<S: HoldsOctets> Model for Held<S> {
+impl<S: HoldsOctets> Model for OctetStore<S> {
     ghost use Rattle.std.specs.Prelude.{List, ℕ};
 
     ghost Value = { List ℕ };
@@ -54,12 +54,12 @@ impl<S: HoldsOctets> Model for Held<S> {
     ghost view = { λ h. S.octets h.octets };
 }
 
-impl<S: HoldsOctets> Held<S> {
+impl<S: HoldsOctets> OctetStore<S> {
     /// The octets of S, which are not copied.
-    pub fn of(octets: S) -> Held<S>
+    pub fn of(octets: S) -> OctetStore<S>
         ensures { result ≡ S.octets octets }
     {
-        Held { octets }
+        OctetStore { octets }
     }
 
     /// The octets as a slice.
@@ -73,12 +73,12 @@ impl<S: HoldsOctets> Held<S> {
     pub fn into_inner(self) -> S
         ensures { S.octets result ≡ self }
     {
-        let Held { octets } = self;
+        let OctetStore { octets } = self;
         octets
     }
 }
 
-impl<'a> Held<&'a [u8]> {
+impl<'a> OctetStore<&'a [u8]> {
     /// The octets, for as long as they are lent.
     pub fn lent(&self) -> &'a [u8]
         ensures { result.now ≡ self.now }
@@ -87,7 +87,7 @@ impl<'a> Held<&'a [u8]> {
     }
 }
 
-impl Held<Vec<u8>> {
+impl OctetStore<Vec<u8>> {
     ghost use Rattle.std.specs.Borrow.{sem};
     ghost use Rattle.dns_name.specs.Lending.{LendsOctets, LendsVector};
 
@@ -115,39 +115,39 @@ impl Held<Vec<u8>> {
     }
 }
 
-impl<S: HoldsOctets + Copy> Clone for Held<S> {
+impl<S: HoldsOctets + Copy> Clone for OctetStore<S> {
     ghost is_clone = { λ h copy. copy ≡ h };
 
     ghost is_infallible = { λ _. ⊤ };
 
-    fn clone(&self) -> Result<Held<S>, AllocError> {
-        Ok(Held {
+    fn clone(&self) -> Result<OctetStore<S>, AllocError> {
+        Ok(OctetStore {
             octets: self.octets,
         })
     }
 }
 
-impl<S: HoldsOctets> fmt::Debug for Held<S> {
+impl<S: HoldsOctets> fmt::Debug for OctetStore<S> {
     fn fmt<W: fmt::Write>(&self, f: &mut fmt::Formatter<W>) -> fmt::Result {
         self.as_slice().fmt(f)
     }
 }
 
-impl<S: HoldsOctets> PartialEq for Held<S> {
+impl<S: HoldsOctets> PartialEq for OctetStore<S> {
     ghost eq = { pointwise ◌==◌ };
 
     ghost laws = { Prim.search (comparing, rules) };
 
-    fn eq(&self, other: &Held<S>) -> bool {
+    fn eq(&self, other: &OctetStore<S>) -> bool {
         self.as_slice() == other.as_slice()
     }
 }
 
-impl<S: HoldsOctets> Eq for Held<S> {
+impl<S: HoldsOctets> Eq for OctetStore<S> {
     ghost laws = { Prim.search (comparing, rules) };
 }
 
-impl<S: HoldsOctets> Hash for Held<S> {
+impl<S: HoldsOctets> Hash for OctetStore<S> {
     ghost hash_input = { fed.slice fed.u8 };
 
     ghost respects_eq = { Prim.search (hashing, rules) };
@@ -157,7 +157,7 @@ impl<S: HoldsOctets> Hash for Held<S> {
     }
 }
 
-impl<S: HoldsOctets> Ord for Held<S> {
+impl<S: HoldsOctets> Ord for OctetStore<S> {
     ghost cmp = { slice_cmp nat_cmp };
 
     ghost total = { Prim.search (comparing, rules) };
@@ -166,17 +166,17 @@ impl<S: HoldsOctets> Ord for Held<S> {
 
     ghost matches_eq = { Prim.search (comparing, rules) };
 
-    fn cmp(&self, other: &Held<S>) -> Ordering {
+    fn cmp(&self, other: &OctetStore<S>) -> Ordering {
         self.as_slice().cmp(other.as_slice())
     }
 }
 
-impl<S: HoldsOctets> PartialOrd for Held<S> {
+impl<S: HoldsOctets> PartialOrd for OctetStore<S> {
     ghost partial_cmp = { as_partial_cmp (slice_cmp nat_cmp) };
 
     ghost laws = { partial_order_from_own_ties (Prim.search (comparing, rules)) (Prim.search (comparing, rules)) };
 
-    fn partial_cmp(&self, other: &Held<S>) -> Option<Ordering> {
+    fn partial_cmp(&self, other: &OctetStore<S>) -> Option<Ordering> {
         Some(self.cmp(other))
     }
 }
