@@ -23,7 +23,7 @@ pub(crate) struct Others {
 
 /// What is kept of the record at a place.
 #[derive(Clone, Copy)]
-struct Kept {
+struct KeptSpan {
     /// How many records: none or one.
     many: u16,
     /// How many octets.
@@ -34,13 +34,13 @@ struct Kept {
 
 /// What is kept of the record at a place where records of a type are dropped.
 #[tactic(auto, unfolding(dns_message::specs::Standing::record_at))]
-fn kept_at(message: &[u8], at: usize, rtype: Rtype) -> Kept
+fn kept_at(message: &[u8], at: usize, rtype: Rtype) -> KeptSpan
     requires { at ≤ length message.now }
     ensures { (result.many, result.size, result.end) ≡ kept_of rtype at (record_at message.now at) }
 {
     match record_in(message, at) {
         Ok((record, end)) => part_of(record.rtype(), at, end, rtype),
-        Err(_) => Kept {
+        Err(_) => KeptSpan {
             many: 0,
             size: 0,
             end: at,
@@ -49,17 +49,17 @@ fn kept_at(message: &[u8], at: usize, rtype: Rtype) -> Kept
 }
 
 /// What is kept of a record of a type where records of another are dropped.
-fn part_of(kind: Rtype, at: usize, end: usize, rtype: Rtype) -> Kept
+fn part_of(kind: Rtype, at: usize, end: usize, rtype: Rtype) -> KeptSpan
     ensures { (result.many, result.size, result.end) ≡ kept_part kind rtype at end }
 {
     if kind == rtype {
-        return Kept {
+        return KeptSpan {
             many: 0,
             size: 0,
             end,
         };
     }
-    Kept {
+    KeptSpan {
         many: 1,
         size: end.saturating_sub(at),
         end,
