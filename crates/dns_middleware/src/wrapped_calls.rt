@@ -176,7 +176,7 @@ fn told_or_passed<S: Service<Meta>, N: Notifiable, Meta>(
     requires { S.can_call wrapped.now.service }
     ensures answers { let w = wrapped.now in AnswersAs ⟦<ComingReplies<S, N, Meta> as ReplyFuture>⟧.answer
         (each_rewritten passage.post (λ k. notify_by (verdict_on (N.verdict w.target))
-            (λ q. S.answer w.service (passed_by passage.size q)) request.old k notice))
+        (λ q. S.answer w.service (passed_by passage.size q)) request.old k notice))
         result }
     ensures kept { LeavesHint (hint_of (transport_by passage.size request.old.transport)) request.old request.new result }
     ensures refused { OnErr result (request.new ≡ request.old) }

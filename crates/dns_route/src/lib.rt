@@ -12,7 +12,9 @@ mod send_request;
 mod single_service;
 mod to_service;
 
-pub use adapter::{BoxClientTransportToSingleService, ClientTransportToSingleService, relay_answer};
+pub use adapter::{
+    BoxClientTransportToSingleService, ClientTransportToSingleService, relay_answer,
+};
 pub use dns_routes::{Seed, matches_are_suffixes};
 pub use dns_service::CopiedMessage;
 pub use laws::{own_replies_are_error_replies, typed_messages_are_copied, typed_replies_are_built};
