@@ -23,4 +23,4 @@ pub use reply::{ComposeReply, ReplyMessage};
 pub use request::RequestMessage;
 pub use send_request::{SendError, SendRequest};
 pub use single_service::{SingleService, Turned};
-pub use to_service::{SingleServiceFuture, SingleServiceToService};
+pub use to_service::{SingleServiceFuture, SingleServiceToService, turn_item};
