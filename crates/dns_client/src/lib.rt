@@ -19,4 +19,4 @@ pub use dns_framing::{ConnectionInvoker, Framer, IdleTimer};
 pub use dns_service::PolledRequest;
 pub use exchange::{BegunExchange, begin_exchange};
 pub use kept::KeptRequest;
-pub use laws::{frames_go_on, pieces_may_be_cut, spent_clients_are_told_nothing};
+pub use laws::{frames_go_on, pieces_may_be_cut, spent_clients_are_sent_nothing};

@@ -6,7 +6,9 @@ ghost use Rattle.dns_route.specs.Routes.{Route, routed};
 ghost use Rattle.dns_forward.specs.Forwarded.{Forwards, Upstream};
 
 use dns_name::Name;
-use dns_route::{BoxClientTransportToSingleService, QnameRouter, SendRequest, SingleService, Turned};
+use dns_route::{
+    BoxClientTransportToSingleService, QnameRouter, SendRequest, SingleService, Turned,
+};
 use dns_service::{OutOfMemory, Request};
 use std::alloc::Global;
 use std::hash::RandomState;
