@@ -11,7 +11,7 @@ use crate::work::ConnectionWork;
 use dns_book::{Book, BookSeat};
 use dns_drivers::Silent;
 use dns_io::{AsyncAccept, Clock, Spawner};
-use dns_service::Served;
+use dns_service::SharedService;
 use std::alloc::Global;
 use std::sync::{Arc, Wait};
 use std::thread::Threads;
@@ -32,7 +32,7 @@ pub fn serve_accepts_with_faults<
     R: Threads + Wait + Copy + Send + 'static,
     A: AsyncAccept,
     C: Clock + Send + Drop + 'static,
-    W: Served + Send + Sync + 'static,
+    W: SharedService + Send + Sync + 'static,
     P: Spawner<ConnectionWork<A::Link, C, Silent, W>>,
     H: PreConnect<A::Link>,
 >(
@@ -75,7 +75,7 @@ pub fn serve_accepts<
     R: Threads + Wait + Copy + Send + 'static,
     A: AsyncAccept,
     C: Clock + Send + Drop + 'static,
-    W: Served + Send + Sync + 'static,
+    W: SharedService + Send + Sync + 'static,
     P: Spawner<ConnectionWork<A::Link, C, Silent, W>>,
     H: PreConnect<A::Link>,
 >(

@@ -17,7 +17,7 @@ use dns_book::{Admission, Book, BookSeat};
 use dns_drivers::{PATIENCE, Silent};
 use dns_io::{AcceptAnswer, AsyncAccept, Clock, Link, Spawner, Start};
 use dns_name::{OutOfMemory, SocketAddr};
-use dns_service::Served;
+use dns_service::SharedService;
 use std::alloc::Global;
 use std::sync::{Arc, Wait};
 use std::thread::Threads;
@@ -53,7 +53,7 @@ struct Shares<C, W> {
     clock: C,
 }
 
-impl<C, W: Served> Shares<C, W> {
+impl<C, W: SharedService> Shares<C, W> {
     /// The work of a connection that was admitted by a look that shows no shutdown.
     fn work<L>(
         self,
@@ -125,7 +125,7 @@ fn accept_or_wait<R: Wait, A: AsyncAccept>(rt: &R, accept: &mut A) -> AcceptAnsw
 impl<
     R: Threads + Wait + Copy + Send + 'static,
     C: Clock + Send + Drop + 'static,
-    W: Served + Send + Sync + 'static,
+    W: SharedService + Send + Sync + 'static,
     H,
 > Reception<'_, R, C, W, H>
 where

@@ -13,7 +13,7 @@ use dns_book::{Book, BookSeat};
 use dns_drivers::{ConnectionEnd, Recorder, serve_connection};
 use dns_io::{Clock, Link, Work};
 use dns_name::SocketAddr;
-use dns_service::Served;
+use dns_service::SharedService;
 use std::alloc::Global;
 use std::sync::{Arc, Wait};
 
@@ -31,7 +31,7 @@ pub struct ConnectionWork<L, C, J, W> {
     journal: J,
 }
 
-impl<L, C, J, W: Served> ConnectionWork<L, C, J, W> {
+impl<L, C, J, W: SharedService> ConnectionWork<L, C, J, W> {
     /// The connection of the client with this number, from this address, by a look that shows no shutdown.
     pub fn new(
         book: Arc<Book>,
@@ -67,7 +67,7 @@ impl<
     L: Link + Send + Drop + 'static,
     C: Clock + Send + Drop + 'static,
     J: Recorder + Send + Drop + 'static,
-    W: Served + Send + Sync + 'static,
+    W: SharedService + Send + Sync + 'static,
 > Work for ConnectionWork<L, C, J, W> {
     type Done = (BookSeat, ConnectionEnd, L, C, J);
 

@@ -78,7 +78,7 @@ gone_fits opening log = record {
   ready = refl;
   start = λ l. absurd (true≢false (sym l));
   seen = begins_none log;
-  told = begins_none log;
+  handed = begins_none log;
   mine = λ n o. absurd (gone_owns n o);
   map = tt;
 }
@@ -253,7 +253,7 @@ fork_order opening log views id v live at o =
       ready = f.ready;
       start = f.start;
       seen = f.seen;
-      told = f.told;
+      handed = f.handed;
       mine = λ n p. ⊎_elim
           (λ (is : n ≡ v.known.name ++ false ∷ []). subst (λ (m : SeatName). calls_by m log ≡ entries_in m v.known.mine) (sym is) (fresh_calls opening log views id v false live at o ∙ sym none_in))
           (λ (q : Owns v n). f.mine n q)
@@ -264,7 +264,7 @@ fork_order opening log views id v live at o =
       ready = f.ready;
       start = f.start;
       seen = f.seen;
-      told = f.told;
+      handed = f.handed;
       mine = λ n p. subst (λ (m : SeatName). calls_by m log ≡ []) (sym (second_owns v n p)) (fresh_calls opening log views id v true live at o);
       map = tt;
     } in
@@ -324,7 +324,7 @@ both_fits opening log v w live live' a f g = record {
   ready = f.ready;
   start = f.start;
   seen = f.seen;
-  told = g.seen;
+  handed = g.seen;
   mine = λ n o. ⊎_elim
       (λ (h : Has n v.known.mine). f.mine n (live, inr h) ∙ sym (entries_in-left n v.known.mine w.known.mine h))
       (λ (h : (¬ Has n v.known.mine) × (entries_in n v.known.mine ≡ [])).

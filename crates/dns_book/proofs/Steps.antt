@@ -19,7 +19,7 @@ look_turns id v ready x = call_at id v Look x x ready refl
 
 -- the caller has seen the whole history
 abbrev pub after_load : View → List Entry → View
-after_load v log = record v { told = []; known = record v.known { seen = log } }
+after_load v log = record v { handed = []; known = record v.known { seen = log } }
 
 narrows_load : (v : View) (log : List Entry) → Narrows v (after_load v log)
 narrows_load v log = record { live = refl; name = refl; owns = λ n o. o }
@@ -33,7 +33,7 @@ load_order opening log views id v at o =
       fits = λ j u at'. ⊎_elim
           (λ (t : (j ≡ id) × (w ≡ u)).
           subst (λ (z : View). FitsHistory opening log z) t.1
-          (let f = o.fits id v at in record { ready = f.ready; start = f.start; seen = begins_whole log; told = begins_none log; mine = λ n own. f.mine n own; map = f.map }))
+          (let f = o.fits id v at in record { ready = f.ready; start = f.start; seen = begins_whole log; handed = begins_none log; mine = λ n own. f.mine n own; map = f.map }))
           (λ (t : (j ≢ id) × (get_elem? views j ≡ some u)). o.fits j u t.1)
           (at_set views id j w u at');
       own = own_set views id v w at (narrows_load v log) o.own;
@@ -57,7 +57,7 @@ settle_turns id v ready live x views h at = go (only_kept x views id v ready at 
               same_book = refl;
               same_name = refl;
               seen = f.seen;
-              told = f.told;
+              handed = f.handed;
               mine = refl;
               sound = sound_of opening log (set views id w) id w live (set_at views id v w at) o' refl;
             },
@@ -73,7 +73,7 @@ first_order s = record {
         ready = refl;
         start = λ _. refl;
         seen = begins_none [];
-        told = begins_none [];
+        handed = begins_none [];
         mine = λ n o. refl;
         map = tt;
       });

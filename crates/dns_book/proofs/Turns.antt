@@ -97,7 +97,7 @@ known_set views id v w n at keeps (j, u, e, o) =
 
 -- the view after a call
 abbrev pub after_call : View → List Entry → Entry → View
-after_call v log e = record v { told = []; known = record v.known { seen = log ++ e ∷ []; mine = with_entry v.known.name e v.known.mine } }
+after_call v log e = record v { handed = []; known = record v.known { seen = log ++ e ∷ []; mine = with_entry v.known.name e v.known.mine } }
 
 after_owns : (v : View) (log : List Entry) (e : Entry) → v.live ≡ true → (n : SeatName) → Owns (after_call v log e) n → Owns v n
 after_owns v log e live n o =
@@ -129,7 +129,7 @@ fits_other opening log v u c r own apart f = record {
   ready = f.ready;
   start = f.start;
   seen = begins_more u.known.seen log (entry v.known.name c r ∷ []) f.seen;
-  told = begins_more u.told log (entry v.known.name c r ∷ []) f.told;
+  handed = begins_more u.handed log (entry v.known.name c r ∷ []) f.handed;
   mine = λ n o. calls_by-other n v.known.name c r log (λ (is : n ≡ v.known.name). apart.names v.known.name own (subst (λ (m : SeatName). Owns u m) is o)) ∙ f.mine n o;
   map = f.map;
 }
@@ -152,7 +152,7 @@ call_order opening log views id v c live at o =
             ready = f.ready;
             start = f.start;
             seen = begins_whole (log ++ e ∷ []);
-            told = begins_none (log ++ e ∷ []);
+            handed = begins_none (log ++ e ∷ []);
             mine = mine_after v log c r live f.mine;
             map = map-with v.known.name e v.known.mine f.map;
           }))

@@ -19,15 +19,15 @@ nothing = new_known (state_of [])
 
 -- the first pass, before its seat opened the book
 abbrev pub newcomer : View
-newcomer = record { opened = false; live = false; told = []; known = nothing }
+newcomer = record { opened = false; live = false; handed = []; known = nothing }
 
 -- the first pass, once its seat opened the book
 abbrev pub opened_as : State → View
-opened_as s = record { opened = true; live = true; told = []; known = new_known s }
+opened_as s = record { opened = true; live = true; handed = []; known = new_known s }
 
 -- a pass that another took in
 abbrev pub gone : View
-gone = record { opened = true; live = false; told = []; known = nothing }
+gone = record { opened = true; live = false; handed = []; known = nothing }
 
 -- the name is the pass's own, or one of those whose calls it keeps
 abbrev pub Owns : View → SeatName → Type 0
@@ -38,7 +38,7 @@ pub record FitsHistory (opening : State) (log : List Entry) (v : View) : Type 0 
   pub ready : v.opened ≡ true
   pub start : v.live ≡ true → v.known.opening ≡ opening
   pub seen : Begins v.known.seen log
-  pub told : Begins v.told log
+  pub handed : Begins v.handed log
   pub mine : (n : SeatName) → Owns v n → calls_by n log ≡ entries_in n v.known.mine
   pub map : IsMap v.known.mine
 
@@ -66,7 +66,7 @@ KeptInOrder words views =
 
 -- the pass of a seat that can call
 abbrev pub CanCall : View → Type 0
-CanCall v = (v.opened ≡ true) × (v.live ≡ true) × (v.told ≡ [])
+CanCall v = (v.opened ≡ true) × (v.live ≡ true) × (v.handed ≡ [])
 
 -- a read before a try
 abbrev pub ReadsWords : View → List ℕ → List ℕ → View → Type 0
@@ -104,14 +104,14 @@ whole_of v = v
 
 -- a pass that took in another's calls, and was told what the other had seen
 abbrev pub both_of : View → View → View
-both_of v w = record v { told = w.known.seen; known = record v.known { mine = v.known.mine ++ w.known.mine } }
+both_of v w = record v { handed = w.known.seen; known = record v.known { mine = v.known.mine ++ w.known.mine } }
 
 -- the load after that: the pass has seen the whole history, in which stands what it had seen and what it was told
 pub record Settled (v w : View) : Type 0 where
   pub same_book : w.known.opening ≡ v.known.opening
   pub same_name : w.known.name ≡ v.known.name
   pub seen : Begins v.known.seen w.known.seen
-  pub told : Begins v.told w.known.seen
+  pub handed : Begins v.handed w.known.seen
   pub mine : w.known.mine ≡ v.known.mine
   pub sound : IsSound w.known
 

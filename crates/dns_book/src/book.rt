@@ -309,7 +309,7 @@ impl Book {
         requires book { pass.old.table_id ≡ self.now }
         requires rule { Turns KeptInOrder pass.old.id (cell_view pass.old) (λ x. x) M.then }
         ensures pass { IsSamePass pass.old pass.new }
-        ensures told { M.then (cell_view pass.old) result result (cell_view pass.new) }
+        ensures outcome { M.then (cell_view pass.old) result result (cell_view pass.new) }
     {
         self.cell.load_as::<M, R>(rt, pass)
     }
@@ -324,7 +324,7 @@ impl Book {
         requires book { pass.old.table_id ≡ self.now }
         requires rule { Turns KeptInOrder pass.old.id (cell_view pass.old) (λ _. words) M.then }
         ensures pass { IsSamePass pass.old pass.new }
-        ensures told { M.then (cell_view pass.old) result words (cell_view pass.new) }
+        ensures outcome { M.then (cell_view pass.old) result words (cell_view pass.new) }
     {
         self.cell.swap_as::<M, R>(rt, pass, words)
     }
@@ -340,7 +340,7 @@ impl Book {
         requires book { pass.old.table_id ≡ self.now }
         requires rule { Turns KeptInOrder pass.old.id (cell_view pass.old) (λ x. if pointwise nat_eq x current then next else x) M.then }
         ensures pass { IsSamePass pass.old pass.new }
-        ensures told { MatchResult result
+        ensures outcome { MatchResult result
             (λ x. (pointwise nat_eq x current ≡ true) × M.then (cell_view pass.old) x next (cell_view pass.new))
             (λ x. (pointwise nat_eq x current ≡ false) × M.then (cell_view pass.old) x x (cell_view pass.new)) }
     {

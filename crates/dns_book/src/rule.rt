@@ -17,7 +17,7 @@ use std::marker::{Brand, PhantomData};
 pub struct View {
     pub opened: bool,
     pub live: bool,
-    pub told: LinkedList<Entry>,
+    pub handed: LinkedList<Entry>,
     pub known: Known,
 }
 

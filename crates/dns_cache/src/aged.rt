@@ -13,14 +13,14 @@ ghost use Rattle.dns_cache.specs.Steps.{GivesMessage, age_of};
 ghost use Rattle.dns_cache.specs.Keys.{AsksOnce};
 ghost use Rattle.dns_cache.specs.Marks.{IsKept, MarksFit, aged_octets, aged_ttl};
 
-use crate::kept::{Kept, own_opt};
+use crate::kept::{CachedReply, own_opt};
 use crate::marks::Mark;
 use dns_base::{ComposeQuestion, Header, Message, QuestionRef};
 use dns_route::ReplyMessage;
 use dns_service::{OutOfMemory, Request};
 use std::alloc::Global;
 
-impl Kept {
+impl CachedReply {
     /// The reply as a request gets it, where it is young.
     pub(crate) fn aged(
         &self,

@@ -8,7 +8,7 @@ ghost use Rattle.dns_cache.specs.AskedCache.{AnswersCached, asked_cache, cached_
 ghost use Rattle.dns_cache.specs.Steps.{GivesMessage, used_where};
 ghost use Rattle.dns_cache.specs.Keys.{AsksOnce, key_of, same_key};
 
-use crate::kept::{Kept, kept_reply};
+use crate::kept::{CachedReply, kept_reply};
 use crate::key::{CacheKey, key_of};
 use dns_route::{ReplyMessage, Seed, SingleService, Turned};
 use dns_service::{OutOfMemory, Polled, Request};
@@ -23,7 +23,7 @@ use std::num::NonZeroUsize;
 /// many there may be.
 #[derive(Drop)]
 pub struct Cache {
-    entries: LruCache<CacheKey, Kept, Seed>,
+    entries: LruCache<CacheKey, CachedReply, Seed>,
 }
 
 /// No entry, of so many at most. Memory is taken as they come.
@@ -31,7 +31,7 @@ fn no_entry(
     alloc: Global,
     capacity: NonZeroUsize,
     seed: Seed,
-) -> Result<LruCache<CacheKey, Kept, Seed>, OutOfMemory>
+) -> Result<LruCache<CacheKey, CachedReply, Seed>, OutOfMemory>
     ensures { IfOk result (λ c. c ≡ lru_cache [] (non_zero_usize_get capacity)) }
 {
     let mut entries = LruCache::unbounded_with_hasher(alloc, seed)?;
@@ -232,7 +232,7 @@ impl Cache {
     }
 
     /// Puts an entry first, if there is one, in place of one of its key. Past the capacity the last one goes.
-    fn keep(&mut self, key: CacheKey, kept: Option<Kept>) -> Result<(), OutOfMemory>
+    fn keep(&mut self, key: CacheKey, kept: Option<CachedReply>) -> Result<(), OutOfMemory>
         ensures ok { OnOk result (self.new ≡ with_kept key self.old kept) }
         ensures err { OnErr result (self.new ≡ self.old) }
     {
@@ -243,7 +243,7 @@ impl Cache {
     }
 
     /// The same of an entry.
-    fn put(&mut self, key: CacheKey, kept: Kept) -> Result<(), OutOfMemory>
+    fn put(&mut self, key: CacheKey, kept: CachedReply) -> Result<(), OutOfMemory>
         ensures ok { OnOk result (self.new ≡ with_kept key self.old (Some kept)) }
         ensures err { OnErr result (self.new ≡ self.old) }
     {
@@ -258,7 +258,7 @@ fn kept_turn(
     alloc: Global,
     request: &Request<()>,
     turned: &Turned,
-) -> Result<Option<Kept>, OutOfMemory>
+) -> Result<Option<CachedReply>, OutOfMemory>
     requires { AsksOnce request.now.octets }
     ensures { IfOk result (λ k. k ≡ kept_answer request.now turned.now) }
 {

@@ -29,7 +29,7 @@ use std::marker::Model;
 
 /// A reply that is kept. Its message is kept as octets, without its OPT record, which lies beside them.
 #[derive(Drop)]
-pub(crate) struct Kept {
+pub(crate) struct CachedReply {
     /// The seconds of its request.
     pub(crate) secs: u64,
     /// The least TTL in s of its records.
@@ -41,7 +41,7 @@ pub(crate) struct Kept {
     pub(crate) opt: Option<OptRecord>,
 }
 
-impl Model for Kept {
+impl Model for CachedReply {
     ghost use Rattle.std.specs.Prelude.{◌≡◌};
     ghost use Rattle.dns_base.specs.Sections.{message_of};
     ghost use Rattle.dns_service.specs.LastOpt.{and_opt};
@@ -61,7 +61,7 @@ pub(crate) fn kept_reply(
     alloc: Global,
     request: &Request<()>,
     reply: &ReplyMessage,
-) -> Result<Option<Kept>, OutOfMemory>
+) -> Result<Option<CachedReply>, OutOfMemory>
     requires { AsksOnce request.now.octets }
     ensures { IfOk result (λ k. k ≡ kept_reply request.now reply.now) }
 {
@@ -78,7 +78,7 @@ fn kept_message(
     request: &Request<()>,
     reply: &ReplyMessage,
     built: AdditionalBuilder,
-) -> Result<Option<Kept>, OutOfMemory>
+) -> Result<Option<CachedReply>, OutOfMemory>
     requires asked { AsksOnce request.now.octets }
     requires message { reply_message reply.now ≡ Ok built.message }
     ensures { IfOk result (λ k. k ≡ where_kept request.now built.message) }
@@ -97,7 +97,7 @@ fn kept_marked(
     reply: &ReplyMessage,
     built: AdditionalBuilder,
     marks: Vec<Mark>,
-) -> Result<Option<Kept>, OutOfMemory>
+) -> Result<Option<CachedReply>, OutOfMemory>
     requires asked { AsksOnce request.now.octets }
     requires message { reply_message reply.now ≡ Ok built.message }
     requires whole { IsTrue (is_whole built.message) }
@@ -113,12 +113,12 @@ fn kept_marked(
     typed_messages_are_copied();
     Ok(kept_where(
         request,
-        Kept::of(request.received_secs(), least, bare(built), marks, opt),
+        CachedReply::of(request.received_secs(), least, bare(built), marks, opt),
     ))
 }
 
 /// A kept reply, where its message comes back at age 0.
-fn kept_where(request: &Request<()>, kept: Kept) -> Option<Kept>
+fn kept_where(request: &Request<()>, kept: CachedReply) -> Option<CachedReply>
     requires asked { AsksOnce request.now.octets }
     requires secs { kept.secs ≡ request.now.received_secs }
     requires message { IsTrue (may_keep kept.message) }
@@ -131,7 +131,7 @@ fn kept_where(request: &Request<()>, kept: Kept) -> Option<Kept>
 }
 
 /// Whether the message of a kept reply comes back at age 0.
-fn fits_request(kept: &Kept, request: &Request<()>) -> bool
+fn fits_request(kept: &CachedReply, request: &Request<()>) -> bool
     requires { AsksOnce request.now.octets }
     ensures { result ≡ comes_back (aged kept.now.message request.now.octets 0) }
 {
@@ -188,15 +188,21 @@ fn has_code(built: &AdditionalBuilder) -> bool
     }
 }
 
-impl Kept {
+impl CachedReply {
     /// A reply that is kept at a moment, of a message without OPT records and its marks.
-    fn of(secs: u64, least: u32, message: Message, marks: Vec<Mark>, opt: Option<OptRecord>) -> Kept
+    fn of(
+        secs: u64,
+        least: u32,
+        message: Message,
+        marks: Vec<Mark>,
+        opt: Option<OptRecord>,
+    ) -> CachedReply
         requires kept { IsKept message (length message - marked_size marks.items) marks.items }
         requires least { least ≡ least_ttl (and_opt (message_of message) opt) }
         ensures { result ≡ record { secs = secs; message = and_opt (message_of message) opt } }
     {
         let start = start_before(marks.as_slice(), message.as_slice().len());
-        Kept {
+        CachedReply {
             secs,
             least,
             message,

@@ -18,7 +18,7 @@ use Rattle.dns_events.specs.declared.event.EventKind.TheVariants.{Datagram, Turn
 use Rattle.dns_events.specs.declared.event.Why.{Why}
 use Rattle.dns_events.specs.declared.event.Why.TheVariants.{Ended, Short, Idle, WriteTimeout, Commanded, Fault as By_fault, Shutdown as By_shutdown}
 use Rattle.dns_client.specs.Frames.{frames, framed}
-use Rattle.dns_client.specs.Slate.{Slate, SlateRequest, Told, Phase, Unused, Exchange, Open, Flushing, Closed, conf_rule, with_conf}
+use Rattle.dns_client.specs.Slate.{Slate, SlateRequest, Effect, Phase, Unused, Exchange, Open, Flushing, Closed, conf_rule, with_conf}
 use Rattle.dns_client.specs.Reasons.{ClosesFor}
 use Rattle.dns_client.specs.Requests.{unpolled, header_size, most_requests, request_of_frame}
 use Rattle.dns_client.specs.Datagrams.{datagram}
@@ -37,7 +37,7 @@ may_close _ = false
 -- the answers are those of the wrapped service; at one event
 module _ (answers : Serving) (e : Event) where
   -- what each entry of the rule's table shows of a slate and of what it becomes and is told
-  pub record Rows (P : Slate → Told → Type 0) : Type 0 where
+  pub record Rows (P : Slate → Effect → Type 0) : Type 0 where
     pub stays : (s : Slate) → P s (s, [])
     pub exchanges : (addr : SocketAddr) (o : List ℕ) (s : Slate) → e.kind ≡ Datagram addr o → s.phase ≡ Unused → s.conf.over ≡ false → P s (datagram e.client addr e.at e.secs o s)
     pub opens : (addr : SocketAddr) (s : Slate) → e.kind ≡ Offer addr → s.phase ≡ Unused → s.conf.over ≡ false → P s (opened e.client addr e.at s, [])
@@ -52,8 +52,8 @@ module _ (answers : Serving) (e : Event) where
     pub reconfigures : (dgram : Dgram) (stream : Stream) (s : Slate) → e.kind ≡ Reconfigure dgram stream → s.phase ≡ Open → P s (reconfigured stream.connection_config s, [])
     pub releases : (s : Slate) → e.kind ≡ Release → s.phase ≡ Closed → P s (released s, [])
 
-  module _ (P : Slate → Told → Type 0) (w : Rows P) where
-    unused_case : (t : Slate → Told) (s : Slate) → (s.conf.over ≡ false → P s (t s)) → (b : Bool) → s.conf.over ≡ b → P s (if b then (s, []) else t s)
+  module _ (P : Slate → Effect → Type 0) (w : Rows P) where
+    unused_case : (t : Slate → Effect) (s : Slate) → (s.conf.over ≡ false → P s (t s)) → (b : Bool) → s.conf.over ≡ b → P s (if b then (s, []) else t s)
     unused_case t s h true is = w.stays s
     unused_case t s h false is = h is
 
@@ -84,7 +84,7 @@ module _ (answers : Serving) (e : Event) where
     open_turns k (Some r) s is p at = turn_case k r s is p at r.done refl
 
     -- a write that took too long closes
-    late_case : (took : ℕ) (s : Slate) (t : Told) → e.kind ≡ Write took → may_close s.phase ≡ true → P s t → (b : Bool) → took_too_long took s ≡ b → P s (if b then close WriteTimeout s else t)
+    late_case : (took : ℕ) (s : Slate) (t : Effect) → e.kind ≡ Write took → may_close s.phase ≡ true → P s t → (b : Bool) → took_too_long took s ≡ b → P s (if b then close WriteTimeout s else t)
     late_case took s t k c h true long = w.closes WriteTimeout s c (record { took = took; kind = k; late = grind (arith, nat_tests, long) })
     late_case took s t k c h false long = h
 
@@ -134,20 +134,20 @@ module _ (answers : Serving) (e : Event) where
     on_phase Closed s p = on_closed e.kind s refl p
 
   -- of a slate with the configurations that the event leaves
-  pub rows : (P : Slate → Told → Type 0) → Rows P → (s : Slate) → P (with_conf (conf_rule e.kind s.conf) s) (rule answers e s)
+  pub rows : (P : Slate → Effect → Type 0) → Rows P → (s : Slate) → P (with_conf (conf_rule e.kind s.conf) s) (rule answers e s)
   rows P w s = on_phase P w s.phase (with_conf (conf_rule e.kind s.conf) s) refl
 
   -- what each thing that a piece does shows, one after another; the first says nothing and keeps the state
-  pub record Takes (P : Slate → Told → Type 0) : Type 0 where
+  pub record Takes (P : Slate → Effect → Type 0) : Type 0 where
     pub stays : (s : Slate) → P s (s, [])
-    pub goes : (s t : Slate) (u : Told) → t.phase ≡ s.phase → P s (t, []) → P t u → P s u
+    pub goes : (s t : Slate) (u : Effect) → t.phase ≡ s.phase → P s (t, []) → P t u → P s u
     pub receives : (o : List ℕ) (s : Slate) → s.phase ≡ Open → P s (record s { received = s.received ++ o }, [])
     pub counts : (s : Slate) → s.phase ≡ Open → P s (record s { taken = s.taken + 1; reset_at = e.at }, [])
     pub asks : (f : List ℕ) (s : Slate) → s.phase ≡ Open → P s (record s { requests = s.requests ++ unpolled (request_of_frame s.connection.idle_timeout s.addr e.at e.secs f) ∷ [] }, [])
     pub queues : (m : List ℕ) (s : Slate) → s.phase ≡ Open → room e.at s ≡ true → P s (append_frame e.at m s, [])
     pub closes : (why : Why) (s : Slate) → may_close s.phase ≡ true → P s (close why s)
 
-  module _ (P : Slate → Told → Type 0) (w : Takes P) where
+  module _ (P : Slate → Effect → Type 0) (w : Takes P) where
     -- without what was asked, and with it
     asked_case : (f : List ℕ) (s : Slate) → s.phase ≡ Open → (b : Bool) → P s ((if b then record s { requests = s.requests ++ unpolled (request_of_frame s.connection.idle_timeout s.addr e.at e.secs f) ∷ [] } else s), [])
     asked_case f s p true = w.asks f s p
@@ -176,14 +176,14 @@ module _ (answers : Serving) (e : Event) where
     piece_goes o s p = let t = record s { received = s.received ++ o } in w.goes s t (piece e.at e.secs o s) refl (w.receives o s p) (frames_go (drop s.taken (frames (s.received ++ o))) t p)
 
   -- and what each thing that a turn does shows
-  pub record Turns (P : Slate → Told → Type 0) : Type 0 where
+  pub record Turns (P : Slate → Effect → Type 0) : Type 0 where
     pub stays : (s : Slate) → P s (s, [])
-    pub goes : (s t : Slate) (u : Told) → t.phase ≡ s.phase → P s (t, []) → P t u → P s u
+    pub goes : (s t : Slate) (u : Effect) → t.phase ≡ s.phase → P s (t, []) → P t u → P s u
     pub retimes : (a : Answer) (s : Slate) → s.phase ≡ Open → P s (retimed a s, [])
     pub sets : (k : ℕ) (r : SlateRequest) (s : Slate) → s.phase ≡ Open → P s (with_request k r s, [])
     pub queues : (m : List ℕ) (s : Slate) → s.phase ≡ Open → room e.at s ≡ true → P s (append_frame e.at m s, [])
 
-  module _ (P : Slate → Told → Type 0) (w : Turns P) where
+  module _ (P : Slate → Effect → Type 0) (w : Turns P) where
     -- a request is set, and a frame of it is queued where there is room
     set_case : (k : ℕ) (m : List ℕ) (r : SlateRequest) (s u : Slate) → s.phase ≡ Open → P s (u, []) → (b : Bool) → room e.at s ≡ b → P s ((if b then append_frame e.at m (with_request k r s) else u), [])
     set_case k m r s u p h true is = w.goes s (with_request k r s) (append_frame e.at m (with_request k r s), []) refl (w.sets k r s p) (w.queues m (with_request k r s) p is)
@@ -200,9 +200,9 @@ module _ (answers : Serving) (e : Event) where
     turn_goes k (Some m) r s p = set_case k m (record r { held = None }) s s p (w.stays s) (room e.at s) refl
 
   -- and all things
-  pub record Walks (P : Slate → Told → Type 0) : Type 0 where
+  pub record Walks (P : Slate → Effect → Type 0) : Type 0 where
     pub stays : (s : Slate) → P s (s, [])
-    pub goes : (s t : Slate) (u : Told) → t.phase ≡ s.phase → P s (t, []) → P t u → P s u
+    pub goes : (s t : Slate) (u : Effect) → t.phase ≡ s.phase → P s (t, []) → P t u → P s u
     pub exchanges : (addr : SocketAddr) (o : List ℕ) (s : Slate) → e.kind ≡ Datagram addr o → s.phase ≡ Unused → s.conf.over ≡ false → P s (datagram e.client addr e.at e.secs o s)
     pub opens : (addr : SocketAddr) (s : Slate) → e.kind ≡ Offer addr → s.phase ≡ Unused → s.conf.over ≡ false → P s (opened e.client addr e.at s, [])
     pub polls : (k : ℕ) (r : SlateRequest) (s : Slate) → e.kind ≡ Turn k → s.phase ≡ Exchange → slice_get s.requests k ≡ Some r → r.done ≡ false
@@ -220,7 +220,7 @@ module _ (answers : Serving) (e : Event) where
     pub reconfigures : (dgram : Dgram) (stream : Stream) (s : Slate) → e.kind ≡ Reconfigure dgram stream → s.phase ≡ Open → P s (reconfigured stream.connection_config s, [])
     pub releases : (s : Slate) → e.kind ≡ Release → s.phase ≡ Closed → P s (released s, [])
 
-  module _ (P : Slate → Told → Type 0) (w : Walks P) where
+  module _ (P : Slate → Effect → Type 0) (w : Walks P) where
     takes_of : Takes P
     takes_of = record { stays = w.stays; goes = w.goes; receives = w.receives; counts = w.counts; asks = w.asks; queues = w.queues; closes = w.closes }
 
@@ -244,5 +244,5 @@ module _ (answers : Serving) (e : Event) where
     }
 
   -- of a slate with the configurations that the event leaves
-  pub walks : (P : Slate → Told → Type 0) → Walks P → (s : Slate) → P (with_conf (conf_rule e.kind s.conf) s) (rule answers e s)
+  pub walks : (P : Slate → Effect → Type 0) → Walks P → (s : Slate) → P (with_conf (conf_rule e.kind s.conf) s) (rule answers e s)
   walks P w s = rows P (rows_of P w) s

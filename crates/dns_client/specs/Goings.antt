@@ -16,7 +16,7 @@ use Rattle.dns_events.specs.declared.event.Output.TheVariants.{Frame, Closed as 
 use Rattle.dns_events.specs.declared.event.Why.{Why}
 use Rattle.dns_client.specs.Frames.{framed, frames}
 use Rattle.dns_client.specs.Serving.{Serving}
-use Rattle.dns_client.specs.Slate.{Slate, SlateRequest, Told, IsUnused}
+use Rattle.dns_client.specs.Slate.{Slate, SlateRequest, Effect, IsUnused}
 use Rattle.dns_client.specs.Datagrams.{at_once, datagrams_to, exchange}
 use Rattle.dns_client.specs.Rule.{rule}
 use Rattle.dns_client.specs.Spent.{is_spent}
@@ -81,7 +81,7 @@ IsLeft number c (WrittenLast m why) s = IsClosed number false s
 IsLeft number c (WindsUp why) s = IsFlushing number c s
 IsLeft number c (Ends why) s = IsClosed number false s
 
-abbrev pub LeadsOn : FlushingConnection → FlushingConnection → Outcome → (Slate → Told) → Type 0
+abbrev pub LeadsOn : FlushingConnection → FlushingConnection → Outcome → (Slate → Effect) → Type 0
 LeadsOn old new outcome after = (number : ℕ) (s : Slate) → IsFlushing number old s → (outputs_of number outcome ≡ (after s).1) × IsLeft number new outcome (after s).0
 
 -- a response is refused at a moment
@@ -90,7 +90,7 @@ refusing at c o = record c { invoker = offered (record c.invoker { at = at }) (f
 
 module _ {R F : Type 0} (answer : PolledRequest F R → ℕ → Answer) (answers : Serving) where
   -- at every slate of the exchange, the outputs are those that are told, and it is the exchange of the slate after
-  abbrev pub Exchanges : ℕ → Option (KeptRequest F R) → Option (KeptRequest F R) → List Output → (Slate → Told) → Type 0
+  abbrev pub Exchanges : ℕ → Option (KeptRequest F R) → Option (KeptRequest F R) → List Output → (Slate → Effect) → Type 0
   Exchanges number old new outs after = (s : Slate) → IsExchange answer answers number old s → (outs ≡ (after s).1) × IsExchange answer answers number new (after s).0
 
   -- whatever the number of an exchange: what is kept of it, and the octets that its client is sent, as it begins by a datagram that was
@@ -107,11 +107,11 @@ module _ {R F : Type 0} (answer : PolledRequest F R → ℕ → Answer) (answers
 
   module _ {W : Type 0} where
     -- at every slate that the old state stands for, the outputs are those that are told, and the new one stands for the slate after
-    abbrev pub StateGoes : ℕ → State W R F → State W R F → List Output → (Slate → Told) → Type 0
+    abbrev pub StateGoes : ℕ → State W R F → State W R F → List Output → (Slate → Effect) → Type 0
     StateGoes number old new outs after = (s : Slate) → StandsIn answer answers number old s → (outs ≡ (after s).1) × StandsIn answer answers number new (after s).0
 
     -- the same of a connection that was open, by the outcome
-    abbrev pub Leads : OpenConnection W R F → OpenConnection W R F → Outcome → (Slate → Told) → Type 0
+    abbrev pub Leads : OpenConnection W R F → OpenConnection W R F → Outcome → (Slate → Effect) → Type 0
     Leads old new outcome after = (number : ℕ) (s : Slate) → IsOpen answer answers number old s → (outputs_of number outcome ≡ (after s).1) × StandsIn answer answers number (state_behind (Is_open new) outcome) (after s).0
 
     -- a request is made, unless most of them were made

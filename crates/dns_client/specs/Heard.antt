@@ -14,12 +14,12 @@ status_after (Reconfigure timeout) status = status
 status_after BeginTransaction status = InTransaction
 status_after EndTransaction status = Normal
 
-abbrev pub status_told : Option ServiceFeedback → InvokerStatus → InvokerStatus
-status_told None status = status
-status_told (Some feedback) status = status_after feedback status
+abbrev pub status_after_some : Option ServiceFeedback → InvokerStatus → InvokerStatus
+status_after_some None status = status
+status_after_some (Some feedback) status = status_after feedback status
 
 abbrev pub item_status : Item → InvokerStatus → InvokerStatus
-item_status (Ok given) status = status_told given.feedback status
+item_status (Ok given) status = status_after_some given.feedback status
 item_status (Err error) status = Aborting
 
 abbrev pub answer_status : Answer → InvokerStatus → InvokerStatus
@@ -33,12 +33,12 @@ timeout_after (Reconfigure timeout) now = timeout_given timeout now
 timeout_after BeginTransaction now = now
 timeout_after EndTransaction now = now
 
-abbrev pub timeout_told : Option ServiceFeedback → ℕ → ℕ
-timeout_told None now = now
-timeout_told (Some feedback) now = timeout_after feedback now
+abbrev pub timeout_after_some : Option ServiceFeedback → ℕ → ℕ
+timeout_after_some None now = now
+timeout_after_some (Some feedback) now = timeout_after feedback now
 
 abbrev pub answer_timeout : Answer → ℕ → ℕ
 answer_timeout Pending now = now
 answer_timeout (Ready None) now = now
-answer_timeout (Ready (Some (Ok given))) now = timeout_told given.feedback now
+answer_timeout (Ready (Some (Ok given))) now = timeout_after_some given.feedback now
 answer_timeout (Ready (Some (Err error))) now = now

@@ -8,7 +8,7 @@ ghost use Rattle.dns_client.specs.Datagrams.{datagram, datagrams_to};
 ghost use Rattle.dns_client.specs.Connections.{opened};
 ghost use Rattle.dns_client.specs.Rule.{rule};
 ghost use Rattle.dns_client.specs.After.{slate_after};
-ghost use Rattle.dns_client.specs.News.{told_of, new_configurations};
+ghost use Rattle.dns_client.specs.News.{look_effect, new_configurations};
 ghost use Rattle.dns_client.specs.Spent.{is_spent};
 ghost use Rattle.dns_client.specs.Stands.{sole_number};
 ghost use Rattle.dns_client.specs.Waiting.{first_unfinished, idle_left, next_unfinished};
@@ -22,12 +22,12 @@ use crate::requests::cut_datagram;
 use crate::states::{lose, shut_down, step_state};
 use dns_admission::Look;
 use dns_base::SocketAddr;
-use dns_service::{Event, OutOfMemory, Output, Served};
+use dns_service::{Event, OutOfMemory, Output, SharedService};
 use std::alloc::Global;
 
 /// What a client is, with what is kept of it.
 #[derive(Drop)]
-pub(crate) enum State<W: Served> {
+pub(crate) enum State<W: SharedService> {
     /// One datagram, and its request until that is done.
     Exchange(Option<KeptRequest<W::Future, W::Stream>>),
     /// A connection that is open.
@@ -42,7 +42,7 @@ pub(crate) enum State<W: Served> {
 
 /// What is kept of one client of a service: its number, what it is, and the version of the configurations that it heard last.
 #[derive(Drop)]
-pub struct ClientCore<W: Served> {
+pub struct ClientCore<W: SharedService> {
     client: u64,
     state: State<W>,
     version: u64,
@@ -58,7 +58,7 @@ fn sole_number<F, R>(unfinished: &Option<KeptRequest<F, R>>) -> Option<u64>
     }
 }
 
-impl<W: Served> ClientCore<W> {
+impl<W: SharedService> ClientCore<W> {
     ghost use Rattle.dns_client.specs.Stands.{Stands, GoesAs, IsLost, state_is_spent, is_freed, is_closed, waiting, write_limit};
 
     /// An exchange by its datagram, at a moment in ms and seconds and by a look that shows no shutdown, and what the client is
@@ -135,7 +135,7 @@ impl<W: Served> ClientCore<W> {
     ) -> Result<Vec<Output>, OutOfMemory>
         requires { W.can_call service.now }
         // At each slate that the core stands for it sends what the rule says, and stands for the slate that the rule says.
-        ensures told { IfOk result (λ outs. GoesAs (request_answer W.Future.answer W.Stream.answer) (serving (W.answer service.now) (W.hint service.now)) self.old self.new outs.items
+        ensures follows { IfOk result (λ outs. GoesAs (request_answer W.Future.answer W.Stream.answer) (serving (W.answer service.now) (W.hint service.now)) self.old self.new outs.items
             (rule (serving (W.answer service.now) (W.hint service.now)) event.now)) }
         ensures client { self.new.client ≡ self.old.client }
         ensures version { self.new.version ≡ self.old.version }
@@ -153,8 +153,8 @@ impl<W: Served> ClientCore<W> {
     }
 
     /// An open connection hears configurations, where their version is new.
-    fn hear(&mut self, look: &Look)
-        ensures told { (answers : Serving)
+    fn apply_config(&mut self, look: &Look)
+        ensures follows { (answers : Serving)
             → GoesAs (request_answer W.Future.answer W.Stream.answer) answers self.old self.new [] (λ s. (slate_after answers s (new_configurations self.old.version look.now), [])) }
         ensures client { self.new.client ≡ self.old.client }
         ensures version { self.new.version ≡ look.now.version }
@@ -173,15 +173,15 @@ impl<W: Served> ClientCore<W> {
     /// memory, nothing is kept any more, and every later call gives nothing.
     pub fn saw(&mut self, alloc: Global, look: &Look) -> Result<Vec<Output>, OutOfMemory>
         // At each slate that the core stands for, the look's news do what the rules say.
-        ensures told { IfOk result (λ outs. (answers : Serving)
-            → GoesAs (request_answer W.Future.answer W.Stream.answer) answers self.old self.new outs.items (told_of answers self.old.version look.now)) }
+        ensures follows { IfOk result (λ outs. (answers : Serving)
+            → GoesAs (request_answer W.Future.answer W.Stream.answer) answers self.old self.new outs.items (look_effect answers self.old.version look.now)) }
         ensures client { self.new.client ≡ self.old.client }
         ensures version { self.new.version ≡ look.now.version }
         // Want of memory, and what comes after it.
         ensures loses { OnErr result (IsLost self.new) }
         ensures lost { IsLost self.old → IsOkAnd result (λ outs. outs.items ≡ []) × IsLost self.new }
     {
-        self.hear(look);
+        self.apply_config(look);
         if !look.closed {
             return Ok(Vec::new(alloc));
         }

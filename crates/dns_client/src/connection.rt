@@ -28,14 +28,14 @@ use dns_base::{Message, SocketAddr};
 use dns_framing::{ConnectionInvoker, Framer, IdleTimer, frame_of};
 use dns_name::OptRcode;
 use dns_service::{
-    ConnectionConfig, Event, EventKind, OutOfMemory, Request, Served, StreamConfig, Why,
+    ConnectionConfig, Event, EventKind, OutOfMemory, Request, SharedService, StreamConfig, Why,
 };
 use std::alloc::Global;
 
 /// What is kept of a connection while it is open: its address, how long a write may take in ms, its timer, the octets in no
 /// frame yet, its requests that aren't done, how many are in a transaction, and its queue.
 #[derive(Drop)]
-pub struct OpenConnection<W: Served> {
+pub struct OpenConnection<W: SharedService> {
     addr: SocketAddr,
     write_timeout: u64,
     timer: IdleTimer,
@@ -45,7 +45,7 @@ pub struct OpenConnection<W: Served> {
     invoker: ConnectionInvoker,
 }
 
-impl<W: Served> OpenConnection<W> {
+impl<W: SharedService> OpenConnection<W> {
     ghost use Rattle.dns_client.specs.Goings.{Leads, Asks, TakesFrame, TakesMessage, refusing};
     ghost use Rattle.dns_client.specs.Stands.{IsGoing, IsOpen};
 

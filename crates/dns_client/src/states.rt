@@ -13,12 +13,12 @@ ghost use Rattle.dns_service.specs.PolledRequest.{request_answer};
 use crate::client::State;
 use crate::exchange::{exchange_step, one};
 use crate::outcome::Outcome;
-use dns_service::{Event, EventKind, Octets, OutOfMemory, Output, Served, Why};
+use dns_service::{Event, EventKind, Octets, OutOfMemory, Output, SharedService, Why};
 use std::alloc::Global;
 use std::mem::replace;
 
 /// The state of a connection that only writes what waits from now on, where it is open.
-fn wound_up<W: Served>(state: State<W>, why: Why) -> State<W>
+fn wound_up<W: SharedService>(state: State<W>, why: Why) -> State<W>
     ensures { result ≡ wound_up why state }
 {
     match state {
@@ -28,14 +28,14 @@ fn wound_up<W: Served>(state: State<W>, why: Why) -> State<W>
 }
 
 /// A client's state is another from now on.
-fn set<W: Served>(state: &mut State<W>, new: State<W>)
+fn set<W: SharedService>(state: &mut State<W>, new: State<W>)
     ensures { state.new ≡ new }
 {
     drop(replace(state, new));
 }
 
 /// A connection that is open only writes what waits from now on.
-fn wind_up<W: Served>(state: &mut State<W>, why: Why)
+fn wind_up<W: SharedService>(state: &mut State<W>, why: Why)
     ensures { state.new ≡ wound_up why state.old }
 {
     let open = replace(state, State::Closed { freed: false });
@@ -43,7 +43,7 @@ fn wind_up<W: Served>(state: &mut State<W>, why: Why)
 }
 
 /// A call found no memory: nothing is kept any more.
-pub(crate) fn lose<W: Served>(state: &mut State<W>)
+pub(crate) fn lose<W: SharedService>(state: &mut State<W>)
     ensures { state.new ≡ State.Lost }
 {
     set(state, State::Lost);
@@ -70,7 +70,7 @@ fn last(alloc: Global, client: u64, octets: Octets, why: Why) -> Result<Vec<Outp
 }
 
 /// The last frame is written, and the connection closed behind it. Nothing is kept of it but its number.
-fn close_behind<W: Served>(
+fn close_behind<W: SharedService>(
     state: &mut State<W>,
     alloc: Global,
     client: u64,
@@ -85,7 +85,7 @@ fn close_behind<W: Served>(
 }
 
 /// The connection is closed. Nothing is kept of it but its number.
-fn close<W: Served>(
+fn close<W: SharedService>(
     state: &mut State<W>,
     alloc: Global,
     client: u64,
@@ -99,7 +99,7 @@ fn close<W: Served>(
 }
 
 /// What a client is sent for an outcome.
-fn carry_out<W: Served>(
+fn carry_out<W: SharedService>(
     state: &mut State<W>,
     alloc: Global,
     client: u64,
@@ -121,7 +121,7 @@ fn carry_out<W: Served>(
 }
 
 /// An event of a client of this number: what it leads to is that of the client's state.
-pub(crate) fn step_state<W: Served>(
+pub(crate) fn step_state<W: SharedService>(
     state: &mut State<W>,
     alloc: Global,
     service: &W,
@@ -129,7 +129,7 @@ pub(crate) fn step_state<W: Served>(
     event: &Event,
 ) -> Result<Vec<Output>, OutOfMemory>
     requires { W.can_call service.now }
-    ensures told { IfOk result (λ outs. StateGoes (request_answer W.Future.answer W.Stream.answer) (serving (W.answer service.now) (W.hint service.now)) client state.old state.new outs.items
+    ensures follows { IfOk result (λ outs. StateGoes (request_answer W.Future.answer W.Stream.answer) (serving (W.answer service.now) (W.hint service.now)) client state.old state.new outs.items
         (rule (serving (W.answer service.now) (W.hint service.now)) event.now)) }
     ensures lost { state.old ≡ State.Lost → IsOkAnd result (λ outs. outs.items ≡ []) × (state.new ≡ State.Lost) }
 {
@@ -143,14 +143,14 @@ pub(crate) fn step_state<W: Served>(
 }
 
 /// The same of one that is no open connection, which asks nothing of the service.
-fn step_unopened<W: Served>(
+fn step_unopened<W: SharedService>(
     state: &mut State<W>,
     alloc: Global,
     client: u64,
     event: &Event,
 ) -> Result<Vec<Output>, OutOfMemory>
     requires { state_is_open state.now ≡ false }
-    ensures told { IfOk result (λ outs. (answers : Serving) → StateGoes (request_answer W.Future.answer W.Stream.answer) answers client state.old state.new outs.items (rule answers event.now)) }
+    ensures follows { IfOk result (λ outs. (answers : Serving) → StateGoes (request_answer W.Future.answer W.Stream.answer) answers client state.old state.new outs.items (rule answers event.now)) }
     ensures lost { state.old ≡ State.Lost → IsOkAnd result (λ outs. outs.items ≡ []) × (state.new ≡ State.Lost) }
 {
     match state {
@@ -169,12 +169,12 @@ fn step_unopened<W: Served>(
 }
 
 /// An open connection is to be closed, since the server shuts down.
-pub(crate) fn shut_down<W: Served>(
+pub(crate) fn shut_down<W: SharedService>(
     state: &mut State<W>,
     alloc: Global,
     client: u64,
 ) -> Result<Vec<Output>, OutOfMemory>
-    ensures told { IfOk result (λ outs. (answers : Serving)
+    ensures follows { IfOk result (λ outs. (answers : Serving)
         → StateGoes (request_answer W.Future.answer W.Stream.answer) answers client state.old state.new outs.items (rule answers (wide EventKind.Shutdown))) }
     ensures lost { state.old ≡ State.Lost → IsOkAnd result (λ outs. outs.items ≡ []) × (state.new ≡ State.Lost) }
 {

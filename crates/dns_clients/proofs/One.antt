@@ -7,7 +7,7 @@ use Rattle.dns_service.specs.Answer.{Answer}
 use Rattle.dns_events.specs.declared.event.Event.{Event}
 use Rattle.dns_events.specs.declared.event.Output.{Output}
 use Rattle.dns_service.specs.declared.polled.PolledRequest.{PolledRequest}
-use Rattle.dns_client.specs.News.{told_of}
+use Rattle.dns_client.specs.News.{look_effect}
 use Rattle.dns_client.specs.Rule.{rule}
 use Rattle.dns_client.specs.Slate.{Slate}
 use Rattle.dns_client.specs.Stands.{Stands, GoesAs}
@@ -23,7 +23,7 @@ at_left o w true v is h = rw is tt
 at_left o w false v is h = rw is h
 
 pub looks_there : {W R F : Type 0} (answer : PolledRequest F R → ℕ → Answer) (answers : Serving) (o w : Option (ClientCore W R F)) (core new : ClientCore W R F) (look : State) (outs : List Output) → o ≡ Some core → w ≡ Some new
-    → GoesAs answer answers core new outs (told_of answers core.version look) → new.version ≡ look.version → LooksOne answer answers o look outs w
+    → GoesAs answer answers core new outs (look_effect answers core.version look) → new.version ≡ look.version → LooksOne answer answers o look outs w
 looks_there answer answers o w core new look outs is now f v = rw (is, now) (f, v)
 
 module _ {W R F : Type 0} (answer : PolledRequest F R → ℕ → Answer) (answers : Serving) where

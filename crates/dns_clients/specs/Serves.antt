@@ -9,7 +9,7 @@ use Rattle.dns_events.specs.declared.look.Look.{Look as State}
 use Rattle.dns_service.specs.Answer.{Answer}
 use Rattle.dns_events.specs.declared.event.Event.{Event}
 use Rattle.dns_events.specs.declared.event.Output.{Output}
-use Rattle.dns_client.specs.News.{told_of}
+use Rattle.dns_client.specs.News.{look_effect}
 use Rattle.dns_client.specs.Slate.{Slate}
 use Rattle.dns_client.specs.Spent.{is_spent}
 use Rattle.dns_client.specs.Rule.{rule}
@@ -53,7 +53,7 @@ module _ {W R F : Type 0} (answer : PolledRequest F R → ℕ → Answer) (answe
   abbrev pub LooksOne : Option (ClientCore W R F) → State → List Output → Option (ClientCore W R F) → Type 0
   LooksOne None look outs new = (outs ≡ []) × (new ≡ None)
   LooksOne (Some core) look outs None = ⊥
-  LooksOne (Some core) look outs (Some new) = GoesAs answer answers core new outs (told_of answers core.version look) × (new.version ≡ look.version)
+  LooksOne (Some core) look outs (Some new) = GoesAs answer answers core new outs (look_effect answers core.version look) × (new.version ≡ look.version)
 
   -- the cores stand for slates, by number, and heard these versions of the configurations
   abbrev pub StandAll : BTreeMap ℕ (ClientCore W R F) → (ℕ → Slate) → (ℕ → ℕ) → Type 0
@@ -62,7 +62,7 @@ module _ {W R F : Type 0} (answer : PolledRequest F R → ℕ → Answer) (answe
   -- all of them look, by rising number
   abbrev pub LooksAll : BTreeMap ℕ (ClientCore W R F) → BTreeMap ℕ (ClientCore W R F) → State → List Output → Type 0
   LooksAll old new look outs = (slates : ℕ → Slate) (versions : ℕ → ℕ) → StandAll old slates versions
-      → (outs ≡ flat_map (λ c. (told_of answers (versions c) look (slates c)).1) (keys old)) × StandAll new (λ c. (told_of answers (versions c) look (slates c)).0) (λ c. look.version)
+      → (outs ≡ flat_map (λ c. (look_effect answers (versions c) look (slates c)).1) (keys old)) × StandAll new (λ c. (look_effect answers (versions c) look (slates c)).0) (λ c. look.version)
 
   -- a client begins with a core: that is kept under its number, unless it is finished, the others stay, and the number is used
   pub record EntersWith (old new : BTreeMap ℕ (ClientCore W R F)) (before after : BTreeSet ℕ) (core : ClientCore W R F) (c : ℕ) : Type 0 where

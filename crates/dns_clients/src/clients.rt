@@ -14,7 +14,7 @@ ghost use Rattle.dns_clients.specs.Serves.{IsAt, IsOver, LooksOne, LooksAll, Ste
 
 use dns_admission::Look;
 use dns_client::ClientCore;
-use dns_service::{Event, OutOfMemory, Output, Served};
+use dns_service::{Event, OutOfMemory, Output, SharedService};
 use std::alloc::Global;
 use std::collections::{BTreeMap, BTreeSet};
 
@@ -27,7 +27,7 @@ pub struct Stepped {
 }
 
 /// One event of a client of which a core is kept.
-fn step_core<W: Served>(
+fn step_core<W: SharedService>(
     alloc: Global,
     service: &W,
     core: &mut ClientCore<W>,
@@ -48,7 +48,7 @@ fn step_core<W: Served>(
 }
 
 /// One event that a client hears.
-fn step_there<W: Served>(
+fn step_there<W: SharedService>(
     alloc: Global,
     service: &W,
     clients: &mut BTreeMap<u64, ClientCore<W>>,
@@ -75,7 +75,7 @@ fn step_there<W: Served>(
 }
 
 /// A look of one client at what the book shows. A client that isn't there is told nothing.
-pub fn look_at<W: Served>(
+pub fn look_at<W: SharedService>(
     alloc: Global,
     clients: &mut BTreeMap<u64, ClientCore<W>>,
     number: u64,
@@ -96,7 +96,7 @@ pub fn look_at<W: Served>(
 }
 
 /// A client that is finished leaves.
-fn leave<W: Served>(clients: &mut BTreeMap<u64, ClientCore<W>>, client: u64, finished: bool)
+fn leave<W: SharedService>(clients: &mut BTreeMap<u64, ClientCore<W>>, client: u64, finished: bool)
     ensures here { get nat_cmp clients.new client ≡ (if finished then None else get nat_cmp clients.old client) }
     ensures others { (c : ℕ) → c ≢ client → get nat_cmp clients.new c ≡ get nat_cmp clients.old c }
 {
@@ -106,7 +106,7 @@ fn leave<W: Served>(clients: &mut BTreeMap<u64, ClientCore<W>>, client: u64, fin
 }
 
 /// One client's event, by which it leaves if it is finished after it. Whether it gave its slot back is answered too.
-pub fn step_at<W: Served>(
+pub fn step_at<W: SharedService>(
     alloc: Global,
     service: &W,
     clients: &mut BTreeMap<u64, ClientCore<W>>,
@@ -136,7 +136,7 @@ fn numbers_of<V>(alloc: Global, clients: &BTreeMap<u64, V>) -> Result<Vec<u64>, 
 }
 
 /// A look of one client, of which what it is told is appended to the outputs.
-fn look_more<W: Served>(
+fn look_more<W: SharedService>(
     alloc: Global,
     clients: &mut BTreeMap<u64, ClientCore<W>>,
     number: u64,
@@ -154,7 +154,7 @@ fn look_more<W: Served>(
 }
 
 /// The clients of these numbers look at what the book shows, in their order.
-fn look_each<W: Served>(
+fn look_each<W: SharedService>(
     alloc: Global,
     clients: &mut BTreeMap<u64, ClientCore<W>>,
     numbers: &[u64],
@@ -173,7 +173,7 @@ fn look_each<W: Served>(
 }
 
 /// All clients look at what the book shows, by rising number.
-pub fn look_all<W: Served>(
+pub fn look_all<W: SharedService>(
     alloc: Global,
     clients: &mut BTreeMap<u64, ClientCore<W>>,
     look: &Look,
@@ -188,7 +188,7 @@ pub fn look_all<W: Served>(
 }
 
 /// A core is kept under the number of its client.
-fn keep<W: Served>(
+fn keep<W: SharedService>(
     clients: &mut BTreeMap<u64, ClientCore<W>>,
     client: u64,
     core: ClientCore<W>,
@@ -201,7 +201,7 @@ fn keep<W: Served>(
 }
 
 /// A client that begins enters, unless it is finished at once.
-fn enter<W: Served>(
+fn enter<W: SharedService>(
     clients: &mut BTreeMap<u64, ClientCore<W>>,
     client: u64,
     core: ClientCore<W>,
@@ -227,7 +227,7 @@ fn use_number(used: &mut BTreeSet<u64>, client: u64) -> Result<(), OutOfMemory>
 }
 
 /// A client that begins enters, and its number is used from now on. What it is sent is handed back.
-pub fn begin<W: Served>(
+pub fn begin<W: SharedService>(
     clients: &mut BTreeMap<u64, ClientCore<W>>,
     used: &mut BTreeSet<u64>,
     client: u64,

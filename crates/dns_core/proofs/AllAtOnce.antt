@@ -13,7 +13,7 @@ use Rattle.dns_events.specs.declared.event.Step.{Step}
 use Rattle.dns_events.specs.declared.event.Step.TheVariants.{Own}
 use Rattle.dns_client.specs.After.{slate_after, sent_after}
 use Rattle.dns_client.specs.Rule.{rule}
-use Rattle.dns_client.specs.Slate.{Slate, Told, Conf, conf_of, conf_rule}
+use Rattle.dns_client.specs.Slate.{Slate, Effect, Conf, conf_of, conf_rule}
 use Rattle.dns_core.specs.AtOnce.{look_by, undelayed}
 use Rattle.dns_core.specs.Own.{is_wide, concerns}
 use Rattle.dns_core.specs.Sent.{conf, slate}
@@ -29,7 +29,7 @@ use Rattle.dns_core.proofs.Gained.{concerns_all, conf_more, members_away, member
 use Rattle.dns_core.proofs.OutLemmas.{slate_some}
 use Rattle.dns_clients.proofs.Keys.{flat_among}
 use Rattle.dns_core.proofs.Late.{NotOver, not_over}
-use Rattle.dns_core.proofs.Looked.{over_idle, told}
+use Rattle.dns_core.proofs.Looked.{over_idle, effect}
 use Rattle.dns_core.proofs.Plain.{plain}
 use Rattle.dns_core.proofs.Wide.{wide_not_new, wide_use}
 use Rattle.dns_core.proofs.Placing.{knows_more}
@@ -56,8 +56,8 @@ module _ (answers : Serving) (settings : Settings) where
       ∙ ap (flat_map (λ c. gain answers settings c q e)) (filter_wide e (members answers settings (q ++ e ∷ [])) w ∙ members_kept answers settings q e n)
 
   -- the entry says what the event says, and does what it does
-  entry_told : (h : Bool) (e : Event) (b : State) (s : Slate) → is_wide e.kind ≡ true → has_version b ≡ true → s.conf ≡ conf_of b → NotOver s → is_entry b e.kind ≡ h → told answers (if h then e ∷ [] else []) s ≡ rule answers e s
-  entry_told true e b s w v c n is = ap (λ os. let r : Told = ((rule answers e s).0, os) in r) (append-nil (rule answers e s).1)
+  entry_told : (h : Bool) (e : Event) (b : State) (s : Slate) → is_wide e.kind ≡ true → has_version b ≡ true → s.conf ≡ conf_of b → NotOver s → is_entry b e.kind ≡ h → effect answers (if h then e ∷ [] else []) s ≡ rule answers e s
+  entry_told true e b s w v c n is = ap (λ os. let r : Effect = ((rule answers e s).0, os) in r) (append-nil (rule answers e s).1)
   entry_told false e b s w v c n is = sym (over_idle answers e s w n (ap (λ (k : Conf). k.over) c ∙ closed_if e.kind b w v is))
 
   -- after the event, before the looks
@@ -67,7 +67,7 @@ module _ (answers : Serving) (settings : Settings) where
     gained : step_gained answers settings p (Own e) ≡ []
     slates : (c : ℕ) → placed_slate answers settings c (p ++ Own e ∷ []) ≡ placed_slate answers settings c p
     -- of a member
-    tells : (c : ℕ) → joined answers settings c p ≡ true → told answers (knows settings c (p ++ Own e ∷ [])).unheard (placed_slate answers settings c p) ≡ rule answers e (slate answers settings c q)
+    tells : (c : ℕ) → joined answers settings c p ≡ true → effect answers (knows settings c (p ++ Own e ∷ [])).unheard (placed_slate answers settings c p) ≡ rule answers e (slate answers settings c q)
 
   wide_unheard : (p : List Step) (e : Event) (c : ℕ) → is_wide e.kind ≡ true → (knows settings c p).unheard ≡ [] → (knows settings c (p ++ Own e ∷ [])).unheard ≡ (if is_entry (membership answers settings p).book e.kind then e ∷ [] else [])
   wide_unheard p e c w h =
@@ -90,8 +90,8 @@ module _ (answers : Serving) (settings : Settings) where
         slates = λ d. quiet_slate answers settings d p (Own e) (wide_quiet d (knows settings d p) e w);
         tells = λ d m.
             let s = slate answers settings d q in
-            ap (λ es. told answers es (placed_slate answers settings d p)) (wide_unheard p e d w (h.heard_all d m))
-            ∙ ap (told answers (if is_entry b e.kind then e ∷ [] else [])) (h.slates d m)
+            ap (λ es. effect answers es (placed_slate answers settings d p)) (wide_unheard p e d w (h.heard_all d m))
+            ∙ ap (effect answers (if is_entry b e.kind then e ∷ [] else [])) (h.slates d m)
             ∙ entry_told (is_entry b e.kind) e b s w v ((plain answers settings d q).conf ∙ sym h.shown) (not_over answers settings d q) refl;
       }
 
@@ -107,7 +107,7 @@ module _ (answers : Serving) (settings : Settings) where
       let silent : (c : ℕ) → list_any (nat_eq c) cs ≡ true → list_any (nat_eq c) ks ≡ false → tells answers settings p1 c ≡ [] = λ c m n. ap (λ b. if b then sent_after answers (placed_slate answers settings c p1) (knows settings c p1).unheard else []) n in
       let one : (c : ℕ) → list_any (nat_eq c) ks ≡ true → tells answers settings p1 c ≡ (rule answers e (slate answers settings c q)).1 = λ c m.
       ap (λ b. if b then sent_after answers (placed_slate answers settings c p1) (knows settings c p1).unheard else []) m
-      ∙ ap (λ s. sent_after answers s (knows settings c p1).unheard) (g.slates c) ∙ ap (λ (t : Told). t.1) (g.tells c (was c m)) in
+      ∙ ap (λ s. sent_after answers s (knows settings c p1).unheard) (g.slates c) ∙ ap (λ (t : Effect). t.1) (g.tells c (was c m)) in
       looks_out answers settings cs p1 e so
       ∙ sym (flat_among (tells answers settings p1) cs ks (members_rise answers settings p1) so among silent)
       ∙ flat_equal (tells answers settings p1) (λ c. (rule answers e (slate answers settings c q)).1) ks one
@@ -135,7 +135,7 @@ module _ (answers : Serving) (settings : Settings) where
         shown = ap conf_of bk ∙ en.conf ∙ ap (conf_rule e.kind) h.shown ∙ sym (conf_more settings q e);
         few = rw bk fewer;
         unused = λ c. looks_unused answers settings cs p1 e c ∙ ap (λ (s : Slate). is_unused s.phase) (g.slates c) ∙ h.unused c ∙ sym (ap (λ (s : Slate). is_unused s.phase) (after c) ∙ wide_use answers e (slate answers settings c q) w);
-        slates = λ c m. (hear c m).slate ∙ ap (λ s. slate_after answers s (knows settings c p1).unheard) (g.slates c) ∙ ap (λ (t : Told). t.0) (g.tells c (was c m)) ∙ sym (after c);
+        slates = λ c m. (hear c m).slate ∙ ap (λ s. slate_after answers s (knows settings c p1).unheard) (g.slates c) ∙ ap (λ (t : Effect). t.0) (g.tells c (was c m)) ∙ sym (after c);
         heard_all = λ c m. (hear c m).unheard;
       }
 

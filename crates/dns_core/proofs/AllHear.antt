@@ -14,8 +14,8 @@ use Rattle.dns_events.specs.declared.event.EventKind.{EventKind}
 use Rattle.dns_events.specs.declared.event.EventKind.TheVariants.{Reconfigure, Shutdown}
 use Rattle.dns_events.specs.declared.event.Output.{Output}
 use Rattle.dns_service.specs.declared.polled.PolledRequest.{PolledRequest}
-use Rattle.dns_client.specs.Slate.{Slate, Told, conf_of, conf_rule}
-use Rattle.dns_client.specs.News.{told_of as heard_news}
+use Rattle.dns_client.specs.Slate.{Slate, Effect, conf_of, conf_rule}
+use Rattle.dns_client.specs.News.{look_effect as heard_news}
 use Rattle.dns_client.specs.Rule.{rule}
 use Rattle.dns_client.specs.Stands.{Stands}
 use Rattle.dns_client.specs.declared.client.ClientCore.{ClientCore}
@@ -83,7 +83,7 @@ module _ {W R F : Type 0} (answer : PolledRequest F R → ℕ → Answer) (answe
   kept_there (Some x) false s h is = absurd h
 
   silent : (o : Option (ClientCore W R F)) (b : Bool) (e : Event) (s : Slate) → Holds answer answers o b s → b ≡ true → is_some o ≡ false → (rule answers e s).1 ≡ []
-  silent None true e s h there gone = ap (λ (t : Told). t.1) (spent_idle answers e s h)
+  silent None true e s h there gone = ap (λ (t : Effect). t.1) (spent_idle answers e s h)
   silent None false e s h there gone = cc
   silent (Some x) b e s h there gone = cc
 
@@ -103,10 +103,10 @@ module _ {W R F : Type 0} (answer : PolledRequest F R → ℕ → Answer) (answe
         let g : ℕ → List Output = λ c. gain answers settings c q e in
         let nw = wide_not_new answers settings q e wide in
         let all : heard answers settings q e ≡ members answers settings q = all_pass (λ c. concerns c e) (members answers settings (q ++ e ∷ [])) (λ c. concerns_all c e wide) ∙ members_kept answers settings q e nw in
-        let told : flat_map g (keys old.clients) ≡ flat_map g (members answers settings q) = flat_among g (members answers settings q) (keys old.clients) rising (rises answers settings q)
+        let effect : flat_map g (keys old.clients) ≡ flat_map g (members answers settings q) = flat_among g (members answers settings q) (keys old.clients) rising (rises answers settings q)
         (λ c there. kept_there (get nat_cmp old.clients c) (list_any (nat_eq c) (members answers settings q)) (slate answers settings c q) (h.clients c) (has_key old.clients c ∙ there))
         (λ c there gone. silent (get nat_cmp old.clients c) (list_any (nat_eq c) (members answers settings q)) e (slate answers settings c q) (h.clients c) there (has_key old.clients c ∙ gone)) in
-        said ∙ (told ∙ (ap (flat_map g) (sym all) ∙ (sym (append-nil (flat_map g (heard answers settings q e))) ∙ ap (λ (os : List Output). flat_map g (heard answers settings q e) ++ os) (sym (none_away answers settings q e nw)))))
+        said ∙ (effect ∙ (ap (flat_map g) (sym all) ∙ (sym (append-nil (flat_map g (heard answers settings q e))) ∙ ap (λ (os : List Output). flat_map g (heard answers settings q e) ++ os) (sym (none_away answers settings q e nw)))))
 
     pub wide_goes : (old : Server W R F) (m : BTreeMap ℕ (ClientCore W R F)) (b : Look) (q : List Event) (e : Event) (outs : List Output)
         → is_wide e.kind ≡ true
@@ -128,11 +128,11 @@ module _ {W R F : Type 0} (answer : PolledRequest F R → ℕ → Answer) (answe
         let tells : (c : ℕ) → heard_news answers old.book.version b (slate answers settings c q) ≡ rule answers e (slate answers settings c q) = λ c.
         ap (λ (x : Look). heard_news answers old.book.version x (slate answers settings c q)) is ∙ heard_one answers e old.book (slate answers settings c q) wide has ((plain answers settings c q).conf ∙ sym h.shown) (not_over answers settings c q) in
         let a = all (λ c. slate answers settings c q) (λ c. old.book.version) (λ c core kept. (held_stands (get nat_cmp old.clients c) (list_any (nat_eq c) (members answers settings q)) (slate answers settings c q) core (h.clients c) kept, kept_at (get nat_cmp old.clients c) old.book.version core (h.versions c) kept)) in
-        let said : outs ≡ flat_map (λ c. (rule answers e (slate answers settings c q)).1) (keys old.clients) = a.0 ∙ flat_same (λ c. (heard_news answers old.book.version b (slate answers settings c q)).1) (λ c. (rule answers e (slate answers settings c q)).1) (keys old.clients) (λ c. ap (λ (t : Told). t.1) (tells c)) in
+        let said : outs ≡ flat_map (λ c. (rule answers e (slate answers settings c q)).1) (keys old.clients) = a.0 ∙ flat_same (λ c. (heard_news answers old.book.version b (slate answers settings c q)).1) (λ c. (rule answers e (slate answers settings c q)).1) (keys old.clients) (λ c. ap (λ (t : Effect). t.1) (tells c)) in
         let same : (c : ℕ) → is_some (get nat_cmp m c) ≡ is_some (get nat_cmp old.clients c) = λ c. has_key m c ∙ (ap (list_any (nat_eq c)) ks ∙ sym (has_key old.clients c)) in (
           wide_says old q e outs wide rising h said,
           record {
-            clients = λ c. rw (ms, after c) (wide_leaves (get nat_cmp old.clients c) (get nat_cmp m c) (list_any (nat_eq c) (members answers settings q)) e (slate answers settings c q) wide (same c) (h.clients c) (λ core kept. subst (λ (t : Told). Stands answer answers core t.0) (tells c) (a.1 c core kept).0));
+            clients = λ c. rw (ms, after c) (wide_leaves (get nat_cmp old.clients c) (get nat_cmp m c) (list_any (nat_eq c) (members answers settings q)) e (slate answers settings c q) wide (same c) (h.clients c) (λ core kept. subst (λ (t : Effect). Stands answer answers core t.0) (tells c) (a.1 c core kept).0));
             versions = λ c. all_at (get nat_cmp m c) b.version (λ core kept. (a.1 c core kept).1);
             used = λ c. h.used c ∙ ap not (sym (ap (λ (s : Slate). is_unused s.phase) (after c) ∙ wide_use answers e (slate answers settings c q) wide));
             slots = n.taken ∙ (h.slots ∙ sym (ap (taken answers settings (q ++ e ∷ [])) ms ∙ taken_still answers settings q e (members answers settings q) (λ c there. ap holds_slot (after c) ∙ wide_slot answers e (slate answers settings c q) wide)));

@@ -25,7 +25,7 @@ use Rattle.dns_client.specs.Datagrams.{cut_datagram, datagram, exchange}
 use Rattle.dns_client.specs.Frames.{frames}
 use Rattle.dns_client.specs.Rule.{closed_rule, exchange_rule, flushing_rule, in_phase, open_rule, rule, unused_rule}
 use Rattle.dns_client.specs.Serving.{Serving}
-use Rattle.dns_client.specs.Slate.{Slate, Conf, Told, Phase, Unused, Exchange, Open, Flushing, Closed, conf_rule, fresh, with_conf}
+use Rattle.dns_client.specs.Slate.{Slate, Conf, Effect, Phase, Unused, Exchange, Open, Flushing, Closed, conf_rule, fresh, with_conf}
 use Rattle.dns_client.specs.Timers.{is_expired}
 use Rattle.dns_client.specs.Turns.{exchange_turn, limit_for, reply_to, sent_for, turn}
 use Rattle.dns_core.specs.Out.{gain, gained, heard, is_new, is_turned_away, is_unused, members, out, out_after, turned_away}
@@ -102,7 +102,7 @@ module _ (answers : Serving) (settings : Settings) (c : ℕ) where
       All-cons (IsReply answers settings (q ++ r)) (Frame n m) outs (subst (λ (x : ℕ). AnswersFrame answers settings (q ++ r) x m) (sym is) (frame_answers q r m h)) rest
 
   -- where an event that the client hears leads
-  pub record Leads (q : List Event) (e : Event) (t : Told) : Type 0 where
+  pub record Leads (q : List Event) (e : Event) (t : Effect) : Type 0 where
     pub has : HasIn t.0.phase (q ++ e ∷ []) t.0
     pub sent : (r : List Event) → Replies (q ++ e ∷ r) t.1
 
@@ -137,7 +137,7 @@ module _ (answers : Serving) (settings : Settings) (c : ℕ) where
   write_leads : (q : List Event) (e : Event) (at took : ℕ) (ms : List (List ℕ)) (s : Slate) → s.phase ≡ Open → s.client ≡ c → Listens (AskedBefore q) s → All (RepliesTo (AskedBefore q)) ms → Leads q e (write at took ms s)
   write_leads q e at took [] s p is h g = open_still q e s p h
   write_leads q e at took (m ∷ ms) s p is h g =
-      (elim (took_too_long took s) as (λ b. let told : Told = (if b then close WriteTimeout s else written at m ms s) in Leads q e told) [ true ↦ closes q e WriteTimeout s | false ↦ open_gone q e at m ms s p is h g ])
+      (elim (took_too_long took s) as (λ b. let effect : Effect = (if b then close WriteTimeout s else written at m ms s) in Leads q e effect) [ true ↦ closes q e WriteTimeout s | false ↦ open_gone q e at m ms s p is h g ])
 
   flushing_gone : (q : List Event) (e : Event) (why : Why) (m : List ℕ) (ms : List (List ℕ)) (s : Slate) → s.phase ≡ Flushing why → s.client ≡ c → All (RepliesTo (AskedBefore q)) (m ∷ ms) → Leads q e (flushed why m ms s)
   flushing_gone q e why m [] s p is g = record {
@@ -154,7 +154,7 @@ module _ (answers : Serving) (settings : Settings) (c : ℕ) where
   flush_leads : (q : List Event) (e : Event) (why : Why) (took : ℕ) (ms : List (List ℕ)) (s : Slate) → s.phase ≡ Flushing why → s.client ≡ c → All (RepliesTo (AskedBefore q)) s.queue → All (RepliesTo (AskedBefore q)) ms → Leads q e (flush why took ms s)
   flush_leads q e why took [] s p is h g = still q e s (in_phase_is (Flushing why) q s p h)
   flush_leads q e why took (m ∷ ms) s p is h g =
-      (elim (took_too_long took s) as (λ b. let told : Told = (if b then close WriteTimeout s else flushed why m ms s) in Leads q e told) [ true ↦ closes q e WriteTimeout s | false ↦ flushing_gone q e why m ms s p is g ])
+      (elim (took_too_long took s) as (λ b. let effect : Effect = (if b then close WriteTimeout s else flushed why m ms s) in Leads q e effect) [ true ↦ closes q e WriteTimeout s | false ↦ flushing_gone q e why m ms s p is g ])
 
   wind_leads : (q : List Event) (e : Event) (why : Why) (ms : List (List ℕ)) (s : Slate) → All (RepliesTo (AskedBefore q)) s.queue → Leads q e (wind_up why ms s)
   wind_leads q e why [] s h = closes q e why s
@@ -162,7 +162,7 @@ module _ (answers : Serving) (settings : Settings) (c : ℕ) where
 
   tick_leads : (q : List Event) (e : Event) (at : ℕ) (s : Slate) → s.phase ≡ Open → Listens (AskedBefore q) s → Leads q e (tick at s)
   tick_leads q e at s p h =
-      (elim (is_expired s.reset_at s.connection.idle_timeout at && not (list_any in_transaction s.requests)) as (λ b. let told : Told = (if b then close Idle s else (s, [])) in Leads q e told) [ true ↦ closes q e Idle s | false ↦ open_still q e s p h ])
+      (elim (is_expired s.reset_at s.connection.idle_timeout at && not (list_any in_transaction s.requests)) as (λ b. let effect : Effect = (if b then close Idle s else (s, [])) in Leads q e effect) [ true ↦ closes q e Idle s | false ↦ open_still q e s p h ])
 
   -- what was asked before a piece, and the frames that it completes
   abbrev AskedSoFar : List Event → List ℕ → List ℕ → Type 0
@@ -171,13 +171,13 @@ module _ (answers : Serving) (settings : Settings) (c : ℕ) where
   so_far : (q : List Event) (e : Event) (received o : List ℕ) → (slate answers settings c (q ++ e ∷ [])).received ≡ received → AskedSoFar q received o → AskedBefore (q ++ e ∷ []) o
   so_far q e received o is h = elim h [ inl before ↦ later_asked q e o before | inr new ↦ asked_now (q ++ e ∷ []) received o is new ]
 
-  piece_case : (q : List Event) (e : Event) (s : Slate) (told : Told) → s.phase ≡ Open → slate answers settings c (q ++ e ∷ []) ≡ told.0 → Takes (AskedSoFar q s.received) s told → Leads q e told
-  piece_case q e s told p now h = elim h [
+  piece_case : (q : List Event) (e : Event) (s : Slate) (effect : Effect) → s.phase ≡ Open → slate answers settings c (q ++ e ∷ []) ≡ effect.0 → Takes (AskedSoFar q s.received) s effect → Leads q e effect
+  piece_case q e s effect p now h = elim h [
     | inl g ↦ (
         let received : (slate answers settings c (q ++ e ∷ [])).received ≡ s.received = ap (λ (t : Slate). t.received) now ∙ g.0.received in
-        let listens = listens_weaker (AskedSoFar q s.received) (AskedBefore (q ++ e ∷ [])) (λ o a. so_far q e s.received o received a) told.0 g.0.listens in
+        let listens = listens_weaker (AskedSoFar q s.received) (AskedBefore (q ++ e ∷ [])) (λ o a. so_far q e s.received o received a) effect.0 g.0.listens in
         record {
-          has = in_phase_is Open (q ++ e ∷ []) told.0 (g.0.phase ∙ p) listens;
+          has = in_phase_is Open (q ++ e ∷ []) effect.0 (g.0.phase ∙ p) listens;
           sent = λ r. subst (Replies (q ++ e ∷ r)) (sym g.1) (none_sent (q ++ e ∷ r));
         }
         )
@@ -273,7 +273,7 @@ module _ (answers : Serving) (settings : Settings) (c : ℕ) where
     unused_still q e s p = still q e s (in_phase_is Unused q s p tt)
 
     datagram_case : (q : List Event) (e : Event) (addr : SocketAddr) (o : List ℕ) (s : Slate) (over : Bool) → e.kind ≡ Is_datagram addr o → s.phase ≡ Unused → Known q e s
-        → let told : Told = (if over then (s, []) else datagram e.client addr e.at e.secs o s) in slate answers settings c (q ++ e ∷ []) ≡ told.0 → Leads q e told
+        → let effect : Effect = (if over then (s, []) else datagram e.client addr e.at e.secs o s) in slate answers settings c (q ++ e ∷ []) ≡ effect.0 → Leads q e effect
     datagram_case q e addr o s true kind p k now = unused_still q e s p
     datagram_case q e addr o s false kind p k now =
         datagram_leads q e addr o s kind (own_client q e s (ap is_wide kind) k) (k.was ∙ ap is_unused p) (k.conf ∙ ap (λ (x : EventKind). conf_rule x (conf settings q)) kind) now
@@ -281,7 +281,7 @@ module _ (answers : Serving) (settings : Settings) (c : ℕ) where
     unused_leads : (q : List Event) (e : Event) (k : EventKind) (s : Slate) → e.kind ≡ k → s.phase ≡ Unused → Known q e s → slate answers settings c (q ++ e ∷ []) ≡ (unused_rule e k s).0 → Leads q e (unused_rule e k s)
     unused_leads q e (Is_datagram addr o) s kind p k now = datagram_case q e addr o s s.conf.over kind p k now
     unused_leads q e (Offer addr) s kind p k now =
-        (elim s.conf.over as (λ b. let told : Told = (if b then (s, []) else (opened e.client addr e.at s, [])) in Leads q e told) [ true ↦ unused_still q e s p | false ↦ opened_leads q e addr s (k.unused (ap is_unused p)) ])
+        (elim s.conf.over as (λ b. let effect : Effect = (if b then (s, []) else (opened e.client addr e.at s, [])) in Leads q e effect) [ true ↦ unused_still q e s p | false ↦ opened_leads q e addr s (k.unused (ap is_unused p)) ])
     unused_leads q e x s kind p k now = unused_still q e s p
 
     phase_leads : (p : Phase) (q : List Event) (e : Event) (s : Slate) → s.phase ≡ p → Known q e s → slate answers settings c (q ++ e ∷ []) ≡ (in_phase answers e p s).0 → HasIn p q s → Leads q e (in_phase answers e p s)

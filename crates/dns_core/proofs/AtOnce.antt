@@ -15,7 +15,7 @@ use Rattle.dns_events.specs.declared.event.Output.{Output}
 use Rattle.dns_events.specs.declared.event.Step.{Step}
 use Rattle.dns_events.specs.declared.event.Step.TheVariants.{Own}
 use Rattle.dns_client.specs.Rule.{rule}
-use Rattle.dns_client.specs.Slate.{Slate, Conf, Told, conf_of, conf_rule, fresh}
+use Rattle.dns_client.specs.Slate.{Slate, Conf, Effect, conf_of, conf_rule, fresh}
 use Rattle.dns_core.specs.Settings.{opening}
 use Rattle.dns_core.specs.Own.{is_wide, own}
 use Rattle.dns_core.specs.Sent.{sent}
@@ -25,7 +25,7 @@ use Rattle.dns_core.specs.AtOnce.{look_by, undelayed}
 use Rattle.dns_events.specs.declared.settings.Settings.{Settings}
 use Rattle.dns_core.proofs.Plain.{narrow_conf, rule_conf}
 use Rattle.dns_core.proofs.Late.{NotOver, rule_over, never_open}
-use Rattle.dns_core.proofs.Looked.{told, over_idle}
+use Rattle.dns_core.proofs.Looked.{effect, over_idle}
 use Rattle.dns_core.proofs.Tied.{wide_no_beginning}
 
 -- what an event that all hear does to the book
@@ -111,16 +111,16 @@ looks_hear c e (d ∷ cs) ss k there =
     (cases_eq d c)
 
 module _ (answers : Serving) where
-  abbrev join : List Output → Told → Told
+  abbrev join : List Output → Effect → Effect
   join os r = (r.0, os ++ r.1)
 
   abbrev Claim : List ℕ → ℕ → List Event → Type 0
   Claim cs c es = (began : Bool) (b : State) (sl : Slate) → sl.conf ≡ conf_of b → NotOver sl → b.version + length es ≤ last_version
-      → told answers (place c (knowing began b) (undelayed cs es)) sl ≡ told answers (own c es) sl
+      → effect answers (place c (knowing began b) (undelayed cs es)) sl ≡ effect answers (own c es) sl
 
   entered : (cs : List ℕ) (c : ℕ) (es : List Event) (e : Event) (began : Bool) (b : State) (sl : Slate) → Claim cs c es → is_wide e.kind ≡ true → sl.conf ≡ conf_of b → NotOver sl → b.version + length (e ∷ es) ≤ last_version
       → (h : Bool) → is_entry b e.kind ≡ h
-      → told answers ((if h then e ∷ [] else []) ++ place c (knowing began (books b (if h then e ∷ [] else []))) (undelayed cs es)) sl ≡ told answers (e ∷ own c es) sl
+      → effect answers ((if h then e ∷ [] else []) ++ place c (knowing began (books b (if h then e ∷ [] else []))) (undelayed cs es)) sl ≡ effect answers (e ∷ own c es) sl
   entered cs c es e began b sl ih w conf n few true h =
       let room : has_version b ≡ true = lt-ltb b.version last_version (omega (arith, few)) in
       let en = enters e.kind b w room in
@@ -128,38 +128,38 @@ module _ (answers : Serving) where
   entered cs c es e began b sl ih w conf n few false h =
       let room : has_version b ≡ true = lt-ltb b.version last_version (omega (arith, few)) in
       let over : sl.conf.over ≡ true = ap (λ (k : Conf). k.over) conf ∙ closed_if e.kind b w room h in
-      ih began b sl conf n (omega (arith, few)) ∙ sym (ap (λ (r : Told). join r.1 (told answers (own c es) r.0)) (over_idle answers e sl w n over))
+      ih began b sl conf n (omega (arith, few)) ∙ sym (ap (λ (r : Effect). join r.1 (effect answers (own c es) r.0)) (over_idle answers e sl w n over))
 
   wide_case : (cs : List ℕ) (c : ℕ) (es : List Event) (e : Event) (began : Bool) (b : State) (sl : Slate) → list_any (nat_eq c) cs ≡ true → Claim cs c es → is_wide e.kind ≡ true → sl.conf ≡ conf_of b → NotOver sl → b.version + length (e ∷ es) ≤ last_version
-      → told answers (place c (knowing began b) (Own e ∷ (map (look_by e) cs ++ undelayed cs es))) sl ≡ told answers (e ∷ own c es) sl
+      → effect answers (place c (knowing began b) (Own e ∷ (map (look_by e) cs ++ undelayed cs es))) sl ≡ effect answers (e ∷ own c es) sl
   wide_case cs c es e began b sl there ih w conf n few =
       let off = wide_no_beginning e.kind w in
       let u = entries b (Own e) in
       let k1 : Knowledge = record { began = began || begins c (Own e); seen = b; unheard = u } in
       let p1 : puts c (knowing began b) (Own e) ≡ [] = rw off (rw w refl) in
       let l1 : learns c (knowing began b) (Own e) ≡ k1 = rw off refl in
-      ap (λ l. told answers (l ++ place c (learns c (knowing began b) (Own e)) (map (look_by e) cs ++ undelayed cs es)) sl) p1
-      ∙ ap (λ k. told answers (place c k (map (look_by e) cs ++ undelayed cs es)) sl) l1
-      ∙ ap (λ l. told answers l sl) (looks_hear c e cs (undelayed cs es) k1 there)
+      ap (λ l. effect answers (l ++ place c (learns c (knowing began b) (Own e)) (map (look_by e) cs ++ undelayed cs es)) sl) p1
+      ∙ ap (λ k. effect answers (place c k (map (look_by e) cs ++ undelayed cs es)) sl) l1
+      ∙ ap (λ l. effect answers l sl) (looks_hear c e cs (undelayed cs es) k1 there)
       ∙ entered cs c es e (began || begins c (Own e)) b sl ih w conf n few (is_entry b e.kind) refl
 
   own_case : (cs : List ℕ) (c : ℕ) (es : List Event) (e : Event) (began : Bool) (b : State) (sl : Slate) → Claim cs c es → is_wide e.kind ≡ false → sl.conf ≡ conf_of b → NotOver sl → b.version + length (e ∷ es) ≤ last_version
       → (q : Bool) → (e.client == c) ≡ q
-      → told answers (place c (knowing began b) (Own e ∷ undelayed cs es)) sl ≡ told answers (if q then e ∷ own c es else own c es) sl
+      → effect answers (place c (knowing began b) (Own e ∷ undelayed cs es)) sl ≡ effect answers (if q then e ∷ own c es else own c es) sl
   own_case cs c es e began b sl ih w conf n few true q =
       let p : puts c (knowing began b) (Own e) ≡ e ∷ [] = ap (λ l. l ++ own_events c (Own e)) (none_either_way (looks c began (Own e))) ∙ rw (w, q) refl in
-      ap (λ l. told answers (l ++ place c (learns c (knowing began b) (Own e)) (undelayed cs es)) sl) p
-      ∙ ap (λ k. told answers (e ∷ place c k (undelayed cs es)) sl) (own_learns c began b e w)
+      ap (λ l. effect answers (l ++ place c (learns c (knowing began b) (Own e)) (undelayed cs es)) sl) p
+      ∙ ap (λ k. effect answers (e ∷ place c k (undelayed cs es)) sl) (own_learns c began b e w)
       ∙ ap (join (rule answers e sl).1) (ih (began || begins c (Own e)) b (rule answers e sl).0 (rule_conf answers e sl ∙ narrow_conf e.kind sl.conf w ∙ conf) (rule_over answers e sl n) (omega (arith, few)))
   own_case cs c es e began b sl ih w conf n few false q =
       let p : puts c (knowing began b) (Own e) ≡ [] = ap (λ l. l ++ own_events c (Own e)) (none_either_way (looks c began (Own e))) ∙ rw (w, q) refl in
-      ap (λ l. told answers (l ++ place c (learns c (knowing began b) (Own e)) (undelayed cs es)) sl) p
-      ∙ ap (λ k. told answers (place c k (undelayed cs es)) sl) (own_learns c began b e w)
+      ap (λ l. effect answers (l ++ place c (learns c (knowing began b) (Own e)) (undelayed cs es)) sl) p
+      ∙ ap (λ k. effect answers (place c k (undelayed cs es)) sl) (own_learns c began b e w)
       ∙ ih (began || begins c (Own e)) b sl conf n (omega (arith, few))
 
   by_width : (cs : List ℕ) (c : ℕ) (es : List Event) (e : Event) (began : Bool) (b : State) (sl : Slate) → list_any (nat_eq c) cs ≡ true → Claim cs c es → sl.conf ≡ conf_of b → NotOver sl → b.version + length (e ∷ es) ≤ last_version
       → (w : Bool) → is_wide e.kind ≡ w
-      → told answers (place c (knowing began b) (Own e ∷ (if w then map (look_by e) cs ++ undelayed cs es else undelayed cs es))) sl ≡ told answers (if w || (e.client == c) then e ∷ own c es else own c es) sl
+      → effect answers (place c (knowing began b) (Own e ∷ (if w then map (look_by e) cs ++ undelayed cs es else undelayed cs es))) sl ≡ effect answers (if w || (e.client == c) then e ∷ own c es else own c es) sl
   by_width cs c es e began b sl there ih conf n few true w = wide_case cs c es e began b sl there ih w conf n few
   by_width cs c es e began b sl there ih conf n few false w = own_case cs c es e began b sl ih w conf n few (e.client == c) refl
 
@@ -169,4 +169,4 @@ module _ (answers : Serving) where
 
   pub at_once_sent : (settings : Settings) (cs : List ℕ) (c : ℕ) (es : List Event) → list_any (nat_eq c) cs ≡ true → length es ≤ last_version → sent answers settings (placed settings c (undelayed cs es)) ≡ sent answers settings (own c es)
   unfolding sent placed
-  at_once_sent settings cs c es there few = ap (λ (r : Told). r.1) (at_once cs c es there false (new_state settings.dgram settings.stream) (fresh (opening settings)) refl (never_open answers (opening settings)) (omega (arith, few)))
+  at_once_sent settings cs c es there few = ap (λ (r : Effect). r.1) (at_once cs c es there false (new_state settings.dgram settings.stream) (fresh (opening settings)) refl (never_open answers (opening settings)) (omega (arith, few)))

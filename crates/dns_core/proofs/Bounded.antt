@@ -10,7 +10,7 @@ use Rattle.dns_events.specs.declared.event.EventKind.{EventKind}
 use Rattle.dns_events.specs.declared.event.EventKind.TheVariants.{Datagram, Offer}
 use Rattle.dns_events.specs.declared.event.Why.{Why}
 use Rattle.dns_client.specs.After.{slate_after}
-use Rattle.dns_client.specs.Slate.{Slate, Told, Phase, fresh, conf_rule, with_conf}
+use Rattle.dns_client.specs.Slate.{Slate, Effect, Phase, fresh, conf_rule, with_conf}
 use Rattle.dns_client.specs.Datagrams.{datagram}
 use Rattle.dns_client.specs.Budget.{allows}
 use Rattle.dns_client.specs.Connections.{opened, close, append_frame, room, spending, written, flushed}
@@ -61,7 +61,7 @@ module _ (answers : Serving) where
   bounds : (e : Event) → Walks answers e (λ s t. is_unused s.phase ≡ false → Bounds s t.0)
   bounds e = record {
     stays = λ s u. same s;
-    goes = λ s t told p g h u. then_on s t told.0 (g u) (h (ap is_unused p ∙ u));
+    goes = λ s t effect p g h u. then_on s t effect.0 (g u) (h (ap is_unused p ∙ u));
     exchanges = λ addr o s is p over u. let x = ap is_unused p in cc;
     opens = λ addr s is p over u. let x = ap is_unused p in cc;
     polls = λ k r s is p at d u. record { bound = refl; within = λ h. h };
@@ -91,8 +91,8 @@ module _ (answers : Serving) where
     pub none : is_unused s.phase ≡ true → s.queue ≡ []
 
   unused_on : (e : Event) (k : EventKind) (s : Slate) → s.queue ≡ [] → (unused_rule e k s).0.queue ≡ []
-  unused_on e (Datagram addr o) s n = (elim s.conf.over as (λ b. (let t : Told = (if b then (s, []) else datagram e.client addr e.at e.secs o s) in t.0.queue ≡ [])) [ true ↦ n | false ↦ n ])
-  unused_on e (Offer addr) s n = (elim s.conf.over as (λ b. (let t : Told = (if b then (s, []) else (opened e.client addr e.at s, [])) in t.0.queue ≡ [])) [ true ↦ n | false ↦ n ])
+  unused_on e (Datagram addr o) s n = (elim s.conf.over as (λ b. (let t : Effect = (if b then (s, []) else datagram e.client addr e.at e.secs o s) in t.0.queue ≡ [])) [ true ↦ n | false ↦ n ])
+  unused_on e (Offer addr) s n = (elim s.conf.over as (λ b. (let t : Effect = (if b then (s, []) else (opened e.client addr e.at s, [])) in t.0.queue ≡ [])) [ true ↦ n | false ↦ n ])
   unused_on e _ s n = n
 
   empty_bounded : (s : Slate) → s.queue ≡ [] → IsBounded s
@@ -102,7 +102,7 @@ module _ (answers : Serving) where
   bounded_case true e s u h =
       let t = with_conf (conf_rule e.kind s.conf) s in
       let at : rule answers e s ≡ unused_rule e e.kind t = ap (λ (p : Phase). in_phase answers e p t) (unused_is s.phase u) in
-      empty_bounded (rule answers e s).0 (ap (λ (r : Told). r.0.queue) at ∙ unused_on e e.kind t (h.none u))
+      empty_bounded (rule answers e s).0 (ap (λ (r : Effect). r.0.queue) at ∙ unused_on e e.kind t (h.none u))
   bounded_case false e s u h = record { within = (rule_bounds e s u).within h.within; none = λ z. let used = rule_used answers e s u in cc }
 
   bounded_after : (es : List Event) (s : Slate) → IsBounded s → IsBounded (slate_after answers s es)
@@ -129,4 +129,4 @@ module _ (answers : Serving) where
   bound_taken settings es e addr is u o =
       let f = fresh (opening settings) in
       let s = slate_after answers f es in
-      ap (λ (s : Slate). s.bound) (slate_append answers es (e ∷ []) f) ∙ ap (λ (r : Told). r.0.bound) (offered answers e s addr is (unused_is s.phase u) o)
+      ap (λ (s : Slate). s.bound) (slate_append answers es (e ∷ []) f) ∙ ap (λ (r : Effect). r.0.bound) (offered answers e s addr is (unused_is s.phase u) o)

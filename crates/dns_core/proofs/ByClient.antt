@@ -204,7 +204,7 @@ module _ (answers : Serving) (settings : Settings) where
   record Away (c : ℕ) (q : List Event) (os : List Output) : Type 0 where
     used : is_unused (slate answers settings c q).phase ≡ false
     absent : list_any (nat_eq c) (members answers settings q) ≡ false
-    told : sent_to c q ≡ os
+    effect : sent_to c q ≡ os
 
   still_absent : (c : ℕ) (q : List Event) (x : Event) → is_unused (slate answers settings c q).phase ≡ false → list_any (nat_eq c) (members answers settings q) ≡ false → list_any (nat_eq c) (members answers settings (q ++ x ∷ [])) ≡ false
   still_absent c q x used absent =
@@ -224,8 +224,8 @@ module _ (answers : Serving) (settings : Settings) where
       record {
         used = used_more answers settings c q x a.used;
         absent = absent;
-        told = for_more c q x
-            ∙ (ap (λ (ps : List Output). ps ++ filter (is_for c) (gained answers settings q x)) a.told
+        effect = for_more c q x
+            ∙ (ap (λ (ps : List Output). ps ++ filter (is_for c) (gained answers settings q x)) a.effect
             ∙ (ap (λ (ps : List Output). os ++ ps) (gained_stranger c q x absent ∙ away_case c q x (is_turned_away answers settings q x) refl (used_apart c q x a.used))
             ∙ append-nil os));
       }
@@ -245,9 +245,9 @@ module _ (answers : Serving) (settings : Settings) where
       let first : Away e.client (q ++ e ∷ []) line = record {
         used = new_became answers settings q e both.0;
         absent = absent;
-        told = for_more e.client q e ∙ (ap (λ (os : List Output). os ++ filter (is_for e.client) (gained answers settings q e)) (untold q e.client was) ∙ (gained_stranger e.client q e absent ∙ says));
+        effect = for_more e.client q e ∙ (ap (λ (os : List Output). os ++ filter (is_for e.client) (gained answers settings q e)) (untold q e.client was) ∙ (gained_stranger e.client q e absent ∙ says));
       } in
-      ap (sent_to e.client) (sym (append_assoc q (e ∷ []) r)) ∙ (away_on e.client line r (q ++ e ∷ []) first).told
+      ap (sent_to e.client) (sym (append_assoc q (e ∷ []) r)) ∙ (away_on e.client line r (q ++ e ∷ []) first).effect
 
   pub strangers : (c : ℕ) (es : List Event) → is_member answers settings c es ≡ false → was_turned_away answers settings c es ≡ false → sent_to c es ≡ []
   strangers c es absent h = untold es c (didnt_begin (is_unused (slate answers settings c es).phase) (is_member answers settings c es) absent h)

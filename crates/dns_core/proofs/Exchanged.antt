@@ -20,7 +20,7 @@ use Rattle.dns_service.specs.declared.message.TransportSpecificContext.TheVarian
 use Rattle.dns_client.specs.Datagrams.{at_once, cut_datagram, exchange, refused_datagram}
 use Rattle.dns_client.specs.Requests.{unpolled, header_size, request_of_datagram}
 use Rattle.dns_client.specs.Serving.{Serving}
-use Rattle.dns_client.specs.Slate.{Slate, SlateRequest, Conf, Told}
+use Rattle.dns_client.specs.Slate.{Slate, SlateRequest, Conf, Effect}
 use Rattle.dns_client.specs.Turns.{exchange_turn, polled, sent_at_once, sent_for, with_request}
 use Rattle.dns_core.specs.Out.{is_new}
 use Rattle.dns_core.specs.ReplyTo.{Responds, datagram_limit, AnswersDatagram, IsReply}
@@ -112,7 +112,7 @@ module _ (answers : Serving) (settings : Settings) where
         (subst (λ (z : Req (Unit {0})). IfSome y (λ n. length (wire n) ≤ limit (answers.hint z))) m.0 (fit x.request k dgram.max_response_size (ap (λ (z : Req (Unit {0})). z.transport) m.0)))
 
     -- what an exchange told, and what it is then
-    pub record Polls (c : ℕ) (q : List Event) (s : Slate) (t : Told) : Type 0 where
+    pub record Polls (c : ℕ) (q : List Event) (s : Slate) (t : Effect) : Type 0 where
       pub phase : t.0.phase ≡ s.phase
       pub exchanges : Exchanges c q t.0
       pub sent : (r : List Event) → Replies (q ++ r) t.1
@@ -145,7 +145,7 @@ module _ (answers : Serving) (settings : Settings) where
     turn_case c q k None s is h m = stays c q s h
     turn_case c q k (Some x) s is h m =
         let a = answers.answer x.request x.polls in
-        (elim x.done as (λ b. let told : Told = (if b then (s, []) else (with_request k (polled a x) s, sent_at_once s.client (sent_for answers x.request a))) in Polls c q s told) [ true ↦ stays c q s h | false ↦ poll_case c q k x s is h m ])
+        (elim x.done as (λ b. let effect : Effect = (if b then (s, []) else (with_request k (polled a x) s, sent_at_once s.client (sent_for answers x.request a))) in Polls c q s effect) [ true ↦ stays c q s h | false ↦ poll_case c q k x s is h m ])
 
     pub exchange_polls : (c : ℕ) (q : List Event) (k : ℕ) (s : Slate) → s.client ≡ c → Exchanges c q s → Polls c q s (exchange_turn answers k (slice_get s.requests k) s)
     exchange_polls c q k s is h = turn_case c q k (slice_get s.requests k) s is h (all_at (Made (conf settings h.before).dgram h.addr h.event (cut_datagram h.asks)) s.requests k h.requests)

@@ -6,7 +6,7 @@ use Rattle.std.specs.List.{list_any}
 use Rattle.std.proofs.lemmas.Bool.{eq-eqb, ne_eqb, and_parts, not-true}
 use Rattle.std.proofs.Math.Bool.{and-false, and-not_self, or-true}
 use Rattle.dns_events.specs.declared.event.Event.{Event}
-use Rattle.dns_client.specs.Slate.{Slate, Told, Conf, conf_rule}
+use Rattle.dns_client.specs.Slate.{Slate, Effect, Conf, conf_rule}
 use Rattle.dns_client.specs.Rule.{rule}
 use Rattle.dns_core.specs.Own.{is_wide, concerns}
 use Rattle.dns_core.specs.Settings.{opening}
@@ -88,7 +88,7 @@ module _ (answers : Serving) (settings : Settings) where
   pub idle_not_new : (q : List Event) (e : Event) → rule answers e (slate answers settings e.client q) ≡ (slate answers settings e.client q, []) → is_new answers settings q e ≡ false
   unfolding is_new
   idle_not_new q e idle =
-      let same : slate answers settings e.client (q ++ e ∷ []) ≡ slate answers settings e.client q = slate_same q e ∙ ap (λ (t : Told). t.0) idle in
+      let same : slate answers settings e.client (q ++ e ∷ []) ≡ slate answers settings e.client q = slate_same q e ∙ ap (λ (t : Effect). t.0) idle in
       rw same (and-not_self (is_unused (slate answers settings e.client q).phase))
 
   -- with an event by which it doesn't begin, the number of its client is as used as before

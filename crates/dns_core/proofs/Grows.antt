@@ -110,7 +110,7 @@ module _ (b at : ℕ) (fits : IsBudget (Some b)) where
 pub grows : (answers : Serving) (b : ℕ) (e : Event) → IsBudget (Some b) → is_reconfigure e.kind ≡ false → Walks answers e (λ s t. is_unused s.phase ≡ false → Grows b e.at s t.0)
 grows answers b e fits n = record {
   stays = λ s u. shorter b e.at s s refl refl refl refl (omega arith) refl refl;
-  goes = λ s t told p g h u. then_on b e.at s t told.0 p (g u) (h (ap is_unused p ∙ u));
+  goes = λ s t effect p g h u. then_on b e.at s t effect.0 p (g u) (h (ap is_unused p ∙ u));
   exchanges = λ addr o s is p over u. let x = ap is_unused p in cc;
   opens = λ addr s is p over u. let x = ap is_unused p in cc;
   polls = λ k r s is p at d u. shorter b e.at s (with_request k (polled (answers.answer r.request r.polls) r) s) refl refl refl refl (omega arith) refl refl;

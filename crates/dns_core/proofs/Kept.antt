@@ -6,7 +6,7 @@ use Rattle.dns_service.specs.Answer.{Answer}
 use Rattle.dns_events.specs.declared.event.Event.{Event}
 use Rattle.dns_events.specs.declared.event.Output.{Output}
 use Rattle.dns_service.specs.declared.polled.PolledRequest.{PolledRequest}
-use Rattle.dns_client.specs.Slate.{Slate, Told}
+use Rattle.dns_client.specs.Slate.{Slate, Effect}
 use Rattle.dns_client.specs.Rule.{rule}
 use Rattle.dns_client.specs.Spent.{is_spent}
 use Rattle.dns_client.specs.Stands.{Stands, StandsIn}
@@ -37,7 +37,7 @@ entered_at o core v false is none = is
 module _ {W R F : Type 0} (answer : PolledRequest F R → ℕ → Answer) (answers : Serving) where
   -- what one client's event says
   pub says : (o w : Option (ClientCore W R F)) (b : Bool) (e : Event) (outs : List Output) (finished freed : Bool) (s : Slate) → Steps answer answers o e outs finished freed w → Holds answer answers o b s → outs ≡ (if b then (rule answers e s).1 else [])
-  says None w true e outs finished freed s k h = k.0 ∙ sym (ap (λ (t : Told). t.1) (spent_idle answers e s h))
+  says None w true e outs finished freed s k h = k.0 ∙ sym (ap (λ (t : Effect). t.1) (spent_idle answers e s h))
   says None w false e outs finished freed s k h = k.0
   says (Some core) None true e outs finished freed s k h = absurd k
   says (Some core) (Some new) true e outs finished freed s k h = (k.0 s h.0).0

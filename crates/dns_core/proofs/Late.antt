@@ -11,7 +11,7 @@ use Rattle.dns_events.specs.declared.event.EventKind.TheVariants.{Datagram, Offe
 use Rattle.dns_events.specs.declared.event.Output.{Output}
 use Rattle.dns_events.specs.declared.event.Why.{Why}
 use Rattle.dns_events.specs.declared.event.Why.TheVariants.{Shutdown as By_shutdown}
-use Rattle.dns_client.specs.Slate.{Slate, Conf, Told, Phase, Unused, Open, fresh, conf_rule, with_conf}
+use Rattle.dns_client.specs.Slate.{Slate, Conf, Effect, Phase, Unused, Open, fresh, conf_rule, with_conf}
 use Rattle.dns_client.specs.Connections.{wind_up, flushed}
 use Rattle.dns_client.specs.Rule.{rule, in_phase}
 use Rattle.dns_core.specs.Settings.{opening}
@@ -164,7 +164,7 @@ module _ (answers : Serving) where
       let same : rule answers last t ≡ rule answers last s = twice_phase s.phase x last one.0 l.0 one.1 l.1 s one.2 l.2 in
       ap (λ (os : List Output). os ++ sent_after answers t (run ++ last ∷ r)) quiet
       ∙ (run_of run r last t rest l
-      ∙ ap (λ (u : Told). u.1 ++ sent_after answers u.0 r) same)
+      ∙ ap (λ (u : Effect). u.1 ++ sent_after answers u.0 r) same)
 
   pub runs_count_as_their_last : (settings : Settings) (p run r : List Event) (last : Event) → All IsReconfigure run → IsReconfigure last → sent answers settings (p ++ (run ++ last ∷ r)) ≡ sent answers settings (p ++ last ∷ r)
   unfolding sent

@@ -13,7 +13,7 @@ use Rattle.dns_client.specs.Connections.{append_frame, close, enqueue_or_drop, r
 use Rattle.dns_client.specs.Frames.{framed}
 use Rattle.dns_client.specs.Requests.{unpolled, header_size, most_requests, request_of_frame}
 use Rattle.dns_client.specs.Serving.{Serving}
-use Rattle.dns_client.specs.Slate.{Slate, SlateRequest, Told}
+use Rattle.dns_client.specs.Slate.{Slate, SlateRequest, Effect}
 use Rattle.dns_client.specs.Turns.{answered, hold, enqueue, queue_held, queue_reply, reply_to, retimed, turn, turn_request, with_request}
 use Rattle.dns_core.specs.ReplyTo.{Responds}
 use Rattle.dns_core.proofs.Replied.{refused_responds}
@@ -54,7 +54,7 @@ module _ (Asked : List ℕ → Type 0) where
     pub listens : Listens u
 
   -- and after a piece, or is closed
-  abbrev pub Takes : Slate → Told → Type 0
+  abbrev pub Takes : Slate → Effect → Type 0
   Takes s t = (GoesOn s t.0 × (t.1 ≡ [])) ⊎ ((u : Slate) × (t ≡ close Short u))
 
   reply : (o : List ℕ) (m : Msg) → Asked o → Responds o m → RepliesTo (framed (wire m))
@@ -86,8 +86,8 @@ module _ (Asked : List ℕ → Type 0) where
         | false ↦ request_listens at secs f t c g
       ])
 
-  later_takes : (s t : Slate) (told : Told) → t.phase ≡ s.phase → t.received ≡ s.received → Takes t told → Takes s told
-  later_takes s t told p r h = elim h [ inl g ↦ inl (record { phase = g.0.phase ∙ p; received = g.0.received ∙ r; listens = g.0.listens }, g.1) | inr c ↦ inr c ]
+  later_takes : (s t : Slate) (effect : Effect) → t.phase ≡ s.phase → t.received ≡ s.received → Takes t effect → Takes s effect
+  later_takes s t effect p r h = elim h [ inl g ↦ inl (record { phase = g.0.phase ∙ p; received = g.0.received ∙ r; listens = g.0.listens }, g.1) | inr c ↦ inr c ]
 
   pub take_listens : (at secs : ℕ) (fs : List (List ℕ)) (s : Slate) → All Asked fs → Listens s → Takes s (take_frames at secs fs s)
   take_listens at secs [] s c h = inl (record { phase = refl; received = refl; listens = h }, refl)
@@ -95,7 +95,7 @@ module _ (Asked : List ℕ → Type 0) where
       let u = take_frame at secs f s in
       let k = takes at secs f s in
       let more = later_takes s u (take_frames at secs fs u) k.phase k.received (take_listens at secs fs u (All-tail Asked f fs c) (frame_listens at secs f s (All-head Asked f fs c) h)) in
-      (elim (nat_lt (length f) header_size) as (λ b. let told : Told = (if b then close Short s else take_frames at secs fs u) in Takes s told) [ true ↦ inr (s, refl) | false ↦ more ])
+      (elim (nat_lt (length f) header_size) as (λ b. let effect : Effect = (if b then close Short s else take_frames at secs fs u) in Takes s effect) [ true ↦ inr (s, refl) | false ↦ more ])
 
   -- ---- a request turns
 

@@ -12,9 +12,9 @@ use Rattle.dns_events.specs.declared.event.Event.{Event}
 use Rattle.dns_events.specs.declared.event.EventKind.{EventKind}
 use Rattle.dns_events.specs.declared.event.EventKind.TheVariants.{Reconfigure, Shutdown}
 use Rattle.dns_client.specs.After.{slate_after, sent_after}
-use Rattle.dns_client.specs.News.{wide, news, new_end, told_of}
+use Rattle.dns_client.specs.News.{wide, news, new_end, look_effect}
 use Rattle.dns_client.specs.Rule.{rule, in_phase}
-use Rattle.dns_client.specs.Slate.{Slate, Conf, Told, Phase, Unused, conf_of, conf_rule, with_conf}
+use Rattle.dns_client.specs.Slate.{Slate, Conf, Effect, Phase, Unused, conf_of, conf_rule, with_conf}
 use Rattle.dns_core.specs.Own.{is_wide}
 use Rattle.dns_core.specs.Books.{book_rule, is_entry, books}
 use Rattle.dns_core.proofs.Late.{NotOver, late_reconfigure, late_shutdown, rule_over}
@@ -67,8 +67,8 @@ entry_wide Shutdown b h = refl
 entry_wide _ b h = cc
 
 module _ (answers : Serving) where
-  abbrev pub told : List Event → Slate → Told
-  told es s = (slate_after answers s es, sent_after answers s es)
+  abbrev pub effect : List Event → Slate → Effect
+  effect es s = (slate_after answers s es, sent_after answers s es)
 
   -- after a Shutdown no event that all hear changes anything
   over_kind : (k : EventKind) (e : Event) (s : Slate) → e.kind ≡ k → is_wide k ≡ true → NotOver s → s.conf.over ≡ true → rule answers e s ≡ (s, [])
@@ -96,8 +96,8 @@ module _ (answers : Serving) where
   pub wide_alone : (e : Event) (s : Slate) → is_wide e.kind ≡ true → rule answers (wide e.kind) s ≡ rule answers e s
   wide_alone e s w = kind_alone e.kind (wide e.kind) e s.phase (with_conf (conf_rule e.kind s.conf) s) refl refl w
 
-  told_one : (e : Event) (s : Slate) → told (e ∷ []) s ≡ rule answers e s
-  told_one e s = ap (λ os. let r : Told = ((rule answers e s).0, os) in r) (append-nil (rule answers e s).1)
+  told_one : (e : Event) (s : Slate) → effect (e ∷ []) s ≡ rule answers e s
+  told_one e s = ap (λ os. let r : Effect = ((rule answers e s).0, os) in r) (append-nil (rule answers e s).1)
 
   phase_says : (d : Dgram) (t : Stream) (p : Phase) (s : Slate) → (in_phase answers (wide (Reconfigure d t)) p s).1 ≡ []
   phase_says d t Unused s = refl
@@ -115,7 +115,7 @@ module _ (answers : Serving) where
   later_counts d d' t t' s o = later_phase s.phase d d' t t' s refl o
 
   -- what follows the rule of a first event
-  abbrev after_first : List Event → Told → Told
+  abbrev after_first : List Event → Effect → Effect
   after_first es r = (slate_after answers r.0 es, r.1 ++ sent_after answers r.0 es)
 
   news_new : (v : ℕ) (over : Bool) (b : State) → (b.version ≡ v → ⊥) → news v over b ≡ wide (Reconfigure b.dgram b.stream) ∷ new_end over b
@@ -133,8 +133,8 @@ module _ (answers : Serving) where
 
   heard_config : (d : Dgram) (t : Stream) (b : State) (es : List Event) (s : Slate) → is_entry b (Reconfigure d t) ≡ true → Enter (book_rule b (Reconfigure d t)) es
       → s.conf ≡ conf_of b → NotOver s
-      → ((u : Slate) → u.conf ≡ conf_of (book_rule b (Reconfigure d t)) → NotOver u → told_of answers (book_rule b (Reconfigure d t)).version (books (book_rule b (Reconfigure d t)) es) u ≡ told es u)
-      → told_of answers b.version (books (book_rule b (Reconfigure d t)) es) s ≡ told (wide (Reconfigure d t) ∷ es) s
+      → ((u : Slate) → u.conf ≡ conf_of (book_rule b (Reconfigure d t)) → NotOver u → look_effect answers (book_rule b (Reconfigure d t)).version (books (book_rule b (Reconfigure d t)) es) u ≡ effect es u)
+      → look_effect answers b.version (books (book_rule b (Reconfigure d t)) es) s ≡ effect (wide (Reconfigure d t) ∷ es) s
   heard_config d t b es s h hs c n ih =
       let r = replaces b d t h in
       let b' = book_rule b (Reconfigure d t) in
@@ -150,43 +150,43 @@ module _ (answers : Serving) where
       let none = reconfigure_says d t s in
       let go = ih u (uc ∙ sym bc) (rule_over answers x s n) in
       let later : (last.version ≡ b.version → ⊥) = λ e. ⊎_elim (λ (m : (last.version ≡ b'.version) × (last.dgram ≡ b'.dgram) × (last.stream ≡ b'.stream)). omega (arith, m.0, v, e)) (λ (m : b'.version < last.version). omega (arith, m, v, e)) (moves b' es hs) in
-      let left : told (news b.version s.conf.over last) s ≡ told (y ∷ new_end false last) s = ap (λ l. told l s) (news_new b.version s.conf.over last later ∙ ap (λ z. y ∷ new_end z last) o) in
-      let right : told (x ∷ es) s ≡ told es u = ap (λ os. let p : Told = (slate_after answers u es, os ++ sent_after answers u es) in p) none in
+      let left : effect (news b.version s.conf.over last) s ≡ effect (y ∷ new_end false last) s = ap (λ l. effect l s) (news_new b.version s.conf.over last later ∙ ap (λ z. y ∷ new_end z last) o) in
+      let right : effect (x ∷ es) s ≡ effect es u = ap (λ os. let p : Effect = (slate_after answers u es, os ++ sent_after answers u es) in p) none in
       left
       ∙ ⊎_elim
       (λ (m : (last.version ≡ b'.version) × (last.dgram ≡ b'.dgram) × (last.stream ≡ b'.stream)).
       let same_dgram : last.dgram ≡ d = m.1 ∙ ap (λ (x : State). x.dgram) r.1 in
       let same_stream : last.stream ≡ t = m.2 ∙ ap (λ (x : State). x.stream) r.1 in
-      ap (λ (z : Dgram). told (wide (Reconfigure z last.stream) ∷ new_end false last) s) same_dgram
-      ∙ ap (λ (z : Stream). told (wide (Reconfigure d z) ∷ new_end false last) s) same_stream
-      ∙ ap (λ os. let p : Told = (slate_after answers u (new_end false last), os ++ sent_after answers u (new_end false last)) in p) none
-      ∙ sym (ap (λ l. told l u) (news_old b'.version u.conf.over last m.0 ∙ ap (λ z. new_end z last) uo)))
+      ap (λ (z : Dgram). effect (wide (Reconfigure z last.stream) ∷ new_end false last) s) same_dgram
+      ∙ ap (λ (z : Stream). effect (wide (Reconfigure d z) ∷ new_end false last) s) same_stream
+      ∙ ap (λ os. let p : Effect = (slate_after answers u (new_end false last), os ++ sent_after answers u (new_end false last)) in p) none
+      ∙ sym (ap (λ l. effect l u) (news_old b'.version u.conf.over last m.0 ∙ ap (λ z. new_end z last) uo)))
       (λ (m : b'.version < last.version).
       ap (after_first (new_end false last)) (sym (later_counts d last.dgram t last.stream s o))
-      ∙ sym (ap (λ l. told l u) (news_new b'.version u.conf.over last (λ e. omega (arith, m, e)) ∙ ap (λ z. y ∷ new_end z last) uo)))
+      ∙ sym (ap (λ l. effect l u) (news_new b'.version u.conf.over last (λ e. omega (arith, m, e)) ∙ ap (λ z. y ∷ new_end z last) uo)))
       (moves b' es hs)
       ∙ go
       ∙ sym right
 
-  heard_end : (b : State) (es : List Event) (s : Slate) → is_entry b Shutdown ≡ true → Enter (book_rule b Shutdown) es → s.conf ≡ conf_of b → told_of answers b.version (books (book_rule b Shutdown) es) s ≡ told (wide Shutdown ∷ es) s
+  heard_end : (b : State) (es : List Event) (s : Slate) → is_entry b Shutdown ≡ true → Enter (book_rule b Shutdown) es → s.conf ≡ conf_of b → look_effect answers b.version (books (book_rule b Shutdown) es) s ≡ effect (wide Shutdown ∷ es) s
   heard_end b es s h hs c =
       let o : s.conf.over ≡ false = ap (λ (k : Conf). k.over) c ∙ not-true b.closed h in
       let none = ended (book_rule b Shutdown) es refl hs in
       let b' = book_rule b Shutdown in
       let n : news b.version s.conf.over b' ≡ wide Shutdown ∷ [] = news_old b.version s.conf.over b' refl ∙ ap (λ z. new_end z b') o in
-      rw none (ap (λ l. told l s) n)
+      rw none (ap (λ l. effect l s) n)
 
   heard_kind : (k : EventKind) (b : State) (es : List Event) (s : Slate) → is_entry b k ≡ true → Enter (book_rule b k) es
       → s.conf ≡ conf_of b → NotOver s
-      → ((u : Slate) → u.conf ≡ conf_of (book_rule b k) → NotOver u → told_of answers (book_rule b k).version (books (book_rule b k) es) u ≡ told es u)
-      → told_of answers b.version (books (book_rule b k) es) s ≡ told (wide k ∷ es) s
+      → ((u : Slate) → u.conf ≡ conf_of (book_rule b k) → NotOver u → look_effect answers (book_rule b k).version (books (book_rule b k) es) u ≡ effect es u)
+      → look_effect answers b.version (books (book_rule b k) es) s ≡ effect (wide k ∷ es) s
   heard_kind (Reconfigure d t) b es s h hs c n ih = heard_config d t b es s h hs c n ih
   heard_kind Shutdown b es s h hs c n ih = heard_end b es s h hs c
   heard_kind _ b es s h hs c n ih = cc
 
   -- whoever knows the book as it was before some entries hears of all of them by one look
-  pub heard_all : (b : State) (es : List Event) (s : Slate) → Enter b es → s.conf ≡ conf_of b → NotOver s → told_of answers b.version (books b es) s ≡ told es s
-  heard_all b [] s h c n = ap (λ l. told l s) (no_news b s c)
+  pub heard_all : (b : State) (es : List Event) (s : Slate) → Enter b es → s.conf ≡ conf_of b → NotOver s → look_effect answers b.version (books b es) s ≡ effect es s
+  heard_all b [] s h c n = ap (λ l. effect l s) (no_news b s c)
   heard_all b (e ∷ es) s h c n =
       heard_kind e.kind b es s h.0 h.1 c n (λ u uc un. heard_all (book_rule b e.kind) es u h.1 uc un)
       ∙ ap (after_first es) (wide_alone e s (entry_wide e.kind b h.0))
@@ -204,12 +204,12 @@ module _ (answers : Serving) where
       closed_by false h = cc
   still _ b w v h = cc
 
-  one_case : (x : Bool) (e : Event) (b : State) (s : Slate) → is_wide e.kind ≡ true → has_version b ≡ true → s.conf ≡ conf_of b → NotOver s → is_entry b e.kind ≡ x → told_of answers b.version (book_rule b e.kind) s ≡ rule answers e s
+  one_case : (x : Bool) (e : Event) (b : State) (s : Slate) → is_wide e.kind ≡ true → has_version b ≡ true → s.conf ≡ conf_of b → NotOver s → is_entry b e.kind ≡ x → look_effect answers b.version (book_rule b e.kind) s ≡ rule answers e s
   one_case true e b s w v c n h = heard_all b (e ∷ []) s (h, tt) c n ∙ told_one e s
   one_case false e b s w v c n h =
       let z = still e.kind b w v h in
-      ap (λ (x : State). told_of answers b.version x s) z.1 ∙ ap (λ l. told l s) (no_news b s c) ∙ sym (over_idle e s w n (ap (λ (k : Conf). k.over) c ∙ z.0))
+      ap (λ (x : State). look_effect answers b.version x s) z.1 ∙ ap (λ l. effect l s) (no_news b s c) ∙ sym (over_idle e s w n (ap (λ (k : Conf). k.over) c ∙ z.0))
 
   -- one event that acts on the book, and a look after it
-  pub heard_one : (e : Event) (b : State) (s : Slate) → is_wide e.kind ≡ true → has_version b ≡ true → s.conf ≡ conf_of b → NotOver s → told_of answers b.version (book_rule b e.kind) s ≡ rule answers e s
+  pub heard_one : (e : Event) (b : State) (s : Slate) → is_wide e.kind ≡ true → has_version b ≡ true → s.conf ≡ conf_of b → NotOver s → look_effect answers b.version (book_rule b e.kind) s ≡ rule answers e s
   heard_one e b s w v c n = one_case (is_entry b e.kind) e b s w v c n refl

@@ -10,7 +10,7 @@ use Rattle.dns_events.specs.declared.event.Step.{Step}
 use Rattle.dns_events.specs.declared.event.Step.TheVariants.{Own, Look}
 use Rattle.dns_client.specs.After.{slate_after, sent_after}
 use Rattle.dns_client.specs.Rule.{rule}
-use Rattle.dns_client.specs.Slate.{Slate, Conf, Told, fresh}
+use Rattle.dns_client.specs.Slate.{Slate, Conf, Effect, fresh}
 use Rattle.dns_core.specs.Settings.{opening}
 use Rattle.dns_core.specs.Own.{is_wide}
 use Rattle.dns_core.specs.Sent.{sent}
@@ -50,7 +50,7 @@ module _ (answers : Serving) where
   idle_case false k e sl t w u h is =
       let still = unused_kept answers e sl is ∙ u in
       let left = Rattle.dns_core.proofs.Plain.still_unused answers e sl (unused_is sl.phase u) still in
-      left ∙ ap (λ (c : Conf). let r : Told = (record sl { conf = c }, []) in r) (Rattle.dns_core.proofs.Plain.narrow_conf e.kind sl.conf w)
+      left ∙ ap (λ (c : Conf). let r : Effect = (record sl { conf = c }, []) in r) (Rattle.dns_core.proofs.Plain.narrow_conf e.kind sl.conf w)
 
   -- two of the same client, which has not begun: it hears the same in the end
   record Apart (k k' : Knowledge) (sl sl' : Slate) : Type 0 where
@@ -67,7 +67,7 @@ module _ (answers : Serving) where
       → (slate_after answers sl (if not w && q then e ∷ [] else []) ≡ sl) × (sent_after answers sl (if not w && q then e ∷ [] else []) ≡ [])
   kept_case false true c k e sl t u h w q =
       let i = idle_case (is_beginning e.kind) k e sl t w u (λ b. h (rw (b, q) refl)) refl in
-      (ap (λ (r : Told). r.0) i, ap (λ (r : Told). r.1 ++ []) i)
+      (ap (λ (r : Effect). r.0) i, ap (λ (r : Effect). r.1 ++ []) i)
   kept_case false false c k e sl t u h w q = (refl, refl)
   kept_case true q c k e sl t u h w s = (refl, refl)
 

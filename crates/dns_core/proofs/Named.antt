@@ -12,7 +12,7 @@ use Rattle.dns_events.specs.declared.event.EventKind.{EventKind}
 use Rattle.dns_events.specs.declared.event.EventKind.TheVariants.{Datagram, Offer, Reconfigure, Shutdown}
 use Rattle.dns_events.specs.declared.event.Output.{Output}
 use Rattle.dns_events.specs.declared.event.Why.{Why}
-use Rattle.dns_client.specs.Slate.{Slate, Told, Phase, Unused, fresh, conf_rule, with_conf}
+use Rattle.dns_client.specs.Slate.{Slate, Effect, Phase, Unused, fresh, conf_rule, with_conf}
 use Rattle.dns_client.specs.Requests.{header_size}
 use Rattle.dns_client.specs.Datagrams.{cut_datagram, refused_datagram, datagram}
 use Rattle.dns_client.specs.Connections.{opened, written, flushed}
@@ -46,23 +46,23 @@ filter_others c d (o ∷ os) h apart =
     rw (ne_eqb (client_of o) c (λ (e : client_of o ≡ c). apart (sym e ∙ h.0)), filter_others c d os h.1 apart) refl
 
 -- the number stays, and what is told is for it
-record Names (s : Slate) (t : Told) : Type 0 where
+record Names (s : Slate) (t : Effect) : Type 0 where
   client : t.0.client ≡ s.client
-  told : AreFor s.client t.1
+  effect : AreFor s.client t.1
 
 silent : (s t : Slate) → t.client ≡ s.client → Names s (t, [])
-silent s t h = record { client = h; told = tt }
+silent s t h = record { client = h; effect = tt }
 
-names_on : (s t : Slate) (told : Told) → Names s (t, []) → Names t told → Names s told
-names_on s t told g n = record { client = n.client ∙ g.client; told = subst (λ (x : ℕ). AreFor x told.1) g.client n.told }
+names_on : (s t : Slate) (effect : Effect) → Names s (t, []) → Names t effect → Names s effect
+names_on s t effect g n = record { client = n.client ∙ g.client; effect = subst (λ (x : ℕ). AreFor x effect.1) g.client n.effect }
 
 written_names : (at : ℕ) (m : List ℕ) (ms : List (List ℕ)) (s : Slate) → Names s (written at m ms s)
-written_names at m [] s = record { client = refl; told = (refl, tt) }
-written_names at m (n ∷ ms) s = record { client = refl; told = (refl, tt) }
+written_names at m [] s = record { client = refl; effect = (refl, tt) }
+written_names at m (n ∷ ms) s = record { client = refl; effect = (refl, tt) }
 
 flushed_names : (why : Why) (m : List ℕ) (ms : List (List ℕ)) (s : Slate) → Names s (flushed why m ms s)
-flushed_names why m [] s = record { client = refl; told = (refl, (refl, tt)) }
-flushed_names why m (n ∷ ms) s = record { client = refl; told = (refl, tt) }
+flushed_names why m [] s = record { client = refl; effect = (refl, (refl, tt)) }
+flushed_names why m (n ∷ ms) s = record { client = refl; effect = (refl, tt) }
 
 at_once_for : (client : ℕ) (x : Option Msg) → AreFor client (sent_at_once client x)
 at_once_for client None = tt
@@ -81,46 +81,46 @@ abbrev pub IsOf : ℕ → Slate → Type 0
 IsOf c s = is_unused s.phase ≡ false → s.client ≡ c
 
 -- at the event by which a client begins, all is for the number of the event
-record Begins (e : Event) (s : Slate) (t : Told) : Type 0 where
+record Begins (e : Event) (s : Slate) (t : Effect) : Type 0 where
   of : IsOf e.client s → IsOf e.client t.0
-  told : AreFor e.client t.1
+  effect : AreFor e.client t.1
 
 begins_not : (e : Event) (s : Slate) → Begins e s (s, [])
-begins_not e s = record { of = λ h. h; told = tt }
+begins_not e s = record { of = λ h. h; effect = tt }
 
 unused_begins : (e : Event) (k : EventKind) (s : Slate) → Begins e s (unused_rule e k s)
-unused_begins e (Datagram addr o) s = (elim s.conf.over as (λ b. Begins e s (if b then (s, []) else datagram e.client addr e.at e.secs o s)) [ true ↦ begins_not e s | false ↦ record { of = λ h u. refl; told = datagram_for e.client addr e.at e.secs o s } ])
-unused_begins e (Offer addr) s = (elim s.conf.over as (λ b. Begins e s (if b then (s, []) else (opened e.client addr e.at s, []))) [ true ↦ begins_not e s | false ↦ record { of = λ h u. refl; told = tt } ])
+unused_begins e (Datagram addr o) s = (elim s.conf.over as (λ b. Begins e s (if b then (s, []) else datagram e.client addr e.at e.secs o s)) [ true ↦ begins_not e s | false ↦ record { of = λ h u. refl; effect = datagram_for e.client addr e.at e.secs o s } ])
+unused_begins e (Offer addr) s = (elim s.conf.over as (λ b. Begins e s (if b then (s, []) else (opened e.client addr e.at s, []))) [ true ↦ begins_not e s | false ↦ record { of = λ h u. refl; effect = tt } ])
 unused_begins e _ s = begins_not e s
 
 module _ (answers : Serving) where
   names : (e : Event) → Walks answers e (λ s t. is_unused s.phase ≡ false → Names s t)
   names e = record {
     stays = λ s u. silent s s refl;
-    goes = λ s t told p g h u. names_on s t told (g u) (h (ap is_unused p ∙ u));
+    goes = λ s t effect p g h u. names_on s t effect (g u) (h (ap is_unused p ∙ u));
     exchanges = λ addr o s is p over u. let x = ap is_unused p in cc;
     opens = λ addr s is p over u. let x = ap is_unused p in cc;
-    polls = λ k r s is p at d u. record { client = refl; told = at_once_for s.client (sent_for answers r.request (answers.answer r.request r.polls)) };
-    receives = λ o s p u. record { client = refl; told = tt };
-    counts = λ s p u. record { client = refl; told = tt };
-    asks = λ f s p u. record { client = refl; told = tt };
-    retimes = λ a s p u. record { client = refl; told = tt };
-    sets = λ k r s p u. record { client = refl; told = tt };
-    queues = λ m s p free u. record { client = refl; told = tt };
+    polls = λ k r s is p at d u. record { client = refl; effect = at_once_for s.client (sent_for answers r.request (answers.answer r.request r.polls)) };
+    receives = λ o s p u. record { client = refl; effect = tt };
+    counts = λ s p u. record { client = refl; effect = tt };
+    asks = λ f s p u. record { client = refl; effect = tt };
+    retimes = λ a s p u. record { client = refl; effect = tt };
+    sets = λ k r s p u. record { client = refl; effect = tt };
+    queues = λ m s p free u. record { client = refl; effect = tt };
     writes = λ m ms s p is u. written_names e.at m ms s;
     flushes = λ why m ms s p is u. flushed_names why m ms s;
-    closes = λ why s c u. record { client = refl; told = (refl, tt) };
-    winds = λ why m ms s p is u. record { client = refl; told = tt };
-    reconfigures = λ dgram stream s is p u. record { client = refl; told = tt };
-    releases = λ s is p u. record { client = refl; told = tt };
+    closes = λ why s c u. record { client = refl; effect = (refl, tt) };
+    winds = λ why m ms s p is u. record { client = refl; effect = tt };
+    reconfigures = λ dgram stream s is p u. record { client = refl; effect = tt };
+    releases = λ s is p u. record { client = refl; effect = tt };
   }
 
   used_names : (e : Event) (s : Slate) → is_unused s.phase ≡ false → Names s (rule answers e s)
-  used_names e s u = let n = walks answers e (λ s t. is_unused s.phase ≡ false → Names s t) (names e) s u in record { client = n.client; told = n.told }
+  used_names e s u = let n = walks answers e (λ s t. is_unused s.phase ≡ false → Names s t) (names e) s u in record { client = n.client; effect = n.effect }
 
   -- what a client that began is sent is for the number in its slate, which stays
   pub rule_for : (e : Event) (s : Slate) → is_unused s.phase ≡ false → AreFor s.client (rule answers e s).1
-  rule_for e s u = (used_names e s u).told
+  rule_for e s u = (used_names e s u).effect
 
   pub rule_client : (e : Event) (s : Slate) → is_unused s.phase ≡ false → (rule answers e s).0.client ≡ s.client
   rule_client e s u = (used_names e s u).client
@@ -132,11 +132,11 @@ module _ (answers : Serving) where
 
   -- and at the event by which it begins, for the number of the event
   pub first_for : (e : Event) (s : Slate) → s.phase ≡ Unused → AreFor e.client (rule answers e s).1
-  first_for e s p = (unused_for e s p).told
+  first_for e s p = (unused_for e s p).effect
 
   -- nothing is sent before the event by which a client begins
   pub quiet : (e : Event) (s : Slate) → s.phase ≡ Unused → is_unused (rule answers e s).0.phase ≡ true → (rule answers e s).1 ≡ []
-  quiet e s p u = ap (λ (t : Told). t.1) (still_unused answers e s p u)
+  quiet e s p u = ap (λ (t : Effect). t.1) (still_unused answers e s p u)
 
   -- an event that all hear begins nobody
   wide_kind : (e : Event) (k : EventKind) (s : Slate) → is_wide k ≡ true → unused_rule e k s ≡ (s, [])
@@ -148,7 +148,7 @@ module _ (answers : Serving) where
   wide_begins_nobody e s w u =
       let t = with_conf (conf_rule e.kind s.conf) s in
       let is = ap (λ (p : Phase). in_phase answers e p t) (unused_is s.phase u) ∙ wide_kind e e.kind t w in
-      ap (λ (x : Told). is_unused x.0.phase) is ∙ u
+      ap (λ (x : Effect). is_unused x.0.phase) is ∙ u
 
   -- the slate of a client that hears an event
   of_used : (c : ℕ) (e : Event) (s : Slate) → IsOf c s → is_unused s.phase ≡ false → IsOf c (rule answers e s).0

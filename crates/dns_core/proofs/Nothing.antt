@@ -9,7 +9,7 @@ use Rattle.std.specs.List.{list_any, flat_map}
 use Rattle.dns_events.specs.declared.event.Event.{Event}
 use Rattle.dns_events.specs.declared.event.Output.{Output}
 use Rattle.dns_events.specs.declared.event.Output.TheVariants.{TurnedAway}
-use Rattle.dns_client.specs.Slate.{Slate, Told, Conf, conf_rule, fresh}
+use Rattle.dns_client.specs.Slate.{Slate, Effect, Conf, conf_rule, fresh}
 use Rattle.dns_client.specs.Rule.{rule}
 use Rattle.dns_core.specs.Own.{is_wide, concerns}
 use Rattle.dns_core.specs.Sent.{conf, slate}
@@ -142,7 +142,7 @@ module _ (answers : Serving) (settings : Settings) where
       let quiet : (c : ℕ) → concerns c e ≡ true → list_any (nat_eq c) (members answers settings (q ++ e ∷ [])) ≡ true → gain answers settings c q e ≡ [] = λ c hears there. ⊎_elim
       (λ (same : c ≡ e.client).
       let t : list_any (nat_eq e.client) (members answers settings q) ≡ true = rw (same, ms) at there in
-      rw same (ap (λ (t : Told). t.1) (idle t)))
+      rw same (ap (λ (t : Effect). t.1) (idle t)))
       (λ (apart : c ≢ e.client). let unheard = concerns_other c e w apart in cc)
       (cases_eq c e.client) in
       let none : gained answers settings q e ≡ [] = rw (none_away answers settings q e n, flat_none (λ c. gain answers settings c q e) (λ c. concerns c e) (members answers settings (q ++ e ∷ [])) quiet) refl in
@@ -151,7 +151,7 @@ module _ (answers : Serving) (settings : Settings) where
         slates = λ c there. ⊎_elim
             (λ (same : c ≡ e.client).
             let t : list_any (nat_eq e.client) (members answers settings q) ≡ true = rw (same, ms) at there in
-            rw same (slate_same answers settings q e ∙ ap (λ (t : Told). t.0) (idle t)))
+            rw same (slate_same answers settings q e ∙ ap (λ (t : Effect). t.0) (idle t)))
             (λ (apart : c ≢ e.client). slate_other answers settings c q e w apart)
             (cases_eq c e.client);
         unused = λ c. ⊎_elim
@@ -162,7 +162,7 @@ module _ (answers : Serving) (settings : Settings) where
       })
 
   idle_case : (q : List Event) (e : Event) (c : ℕ) → rule answers e (slate answers settings c q) ≡ (slate answers settings c q, []) → (b : Bool) → concerns c e ≡ b → slate answers settings c (q ++ e ∷ []) ≡ slate answers settings c q
-  idle_case q e c idle true h = slate_some answers settings c q e h ∙ ap (λ (t : Told). t.0) idle
+  idle_case q e c idle true h = slate_some answers settings c q e h ∙ ap (λ (t : Effect). t.0) idle
   idle_case q e c idle false h = slate_none answers settings c q e h
 
   -- an event that changes nothing of anybody, nor the configurations
@@ -171,7 +171,7 @@ module _ (answers : Serving) (settings : Settings) where
       → out answers settings (q ++ e ∷ r) ≡ out answers settings (q ++ r)
   nothing_wide q r e k idle =
       let n = idle_not_new answers settings q e (idle e.client) in
-      let none : gained answers settings q e ≡ [] = rw (none_away answers settings q e n, flat_none (λ c. gain answers settings c q e) (λ c. concerns c e) (members answers settings (q ++ e ∷ [])) (λ c hears there. ap (λ (t : Told). t.1) (idle c))) refl in
+      let none : gained answers settings q e ≡ [] = rw (none_away answers settings q e n, flat_none (λ c. gain answers settings c q e) (λ c. concerns c e) (members answers settings (q ++ e ∷ [])) (λ c hears there. ap (λ (t : Effect). t.1) (idle c))) refl in
       skipped q r e none (record {
         same_members = members_kept answers settings q e n;
         slates = λ c there. idle_case q e c (idle c) (concerns c e) refl;

@@ -19,7 +19,7 @@ use Rattle.dns_events.specs.declared.event.EventKind.TheVariants.{Datagram, Offe
 use Rattle.dns_events.specs.declared.event.Output.{Output}
 use Rattle.dns_events.specs.declared.event.Output.TheVariants.{TurnedAway}
 use Rattle.dns_service.specs.declared.polled.PolledRequest.{PolledRequest}
-use Rattle.dns_client.specs.Slate.{Slate, Told, Conf, IsUnused, conf_of}
+use Rattle.dns_client.specs.Slate.{Slate, Effect, Conf, IsUnused, conf_of}
 use Rattle.dns_client.specs.Connections.{opened}
 use Rattle.dns_client.specs.Datagrams.{datagram}
 use Rattle.dns_client.specs.Rule.{rule}
@@ -92,12 +92,12 @@ module _ {W R F : Type 0} (answer : PolledRequest F R → ℕ → Answer) (answe
       let f = fresh_from answer answers settings old q e free h in
       let not_over : s.conf.over ≡ false = ap (λ (k : Conf). k.over) f.shown ∙ running in
       let is : rule answers e s ≡ datagram e.client addr e.at e.secs o s = begun answers e s addr o kind (unused_is s.phase f.unused) not_over in
-      let opens : is_unused (rule answers e s).0.phase ≡ false = ap (λ (t : Told). is_unused t.0.phase) is in
+      let opens : is_unused (rule answers e s).0.phase ≡ false = ap (λ (t : Effect). is_unused t.0.phase) is in
       let new = new_from answer answers settings old q e (ap is_wide kind) f opens h in
-      let no_slot : holds_slot (rule answers e s).0 ≡ false = ap (λ (t : Told). holds_slot t.0) is in
+      let no_slot : holds_slot (rule answers e s).0 ≡ false = ap (λ (t : Effect). holds_slot t.0) is in
       begin_goes answer answers settings old m u old.book core q e outs new (exchange_joins answer answers settings old q e new no_slot)
       (exchange_slots answer answers settings old q e new no_slot h) refl refl version
-      (subst (λ (t : Told). (outs ≡ t.1) × Stands answer answers core t.0) (sym is) (st s f.fresh f.shown)) w h
+      (subst (λ (t : Effect). (outs ≡ t.1) × Stands answer answers core t.0) (sym is) (st s f.fresh f.shown)) w h
 
   -- an offer makes a connection, where a slot is free
   pub offer_goes : (old : Server W R F) (m : BTreeMap ℕ (ClientCore W R F)) (u : BTreeSet ℕ) (b look : Look) (core : ClientCore W R F) (q : List Event) (e : Event) (addr : SocketAddr) (outs : List Output) → e.kind ≡ Offer addr
@@ -115,12 +115,12 @@ module _ {W R F : Type 0} (answer : PolledRequest F R → ℕ → Answer) (answe
       let same : b ≡ admitted old.book = after ∙ rw (running, room) refl in
       let not_over : s.conf.over ≡ false = ap (λ (k : Conf). k.over) f.shown ∙ running in
       let is : rule answers e s ≡ (opened e.client addr e.at s, []) = offered answers e s addr kind (unused_is s.phase f.unused) not_over in
-      let opens : is_unused (rule answers e s).0.phase ≡ false = ap (λ (t : Told). is_unused t.0.phase) is in
+      let opens : is_unused (rule answers e s).0.phase ≡ false = ap (λ (t : Effect). is_unused t.0.phase) is in
       let new = new_from answer answers settings old q e (ap is_wide kind) f opens h in
-      let held : holds_slot (rule answers e s).0 ≡ true = ap (λ (t : Told). holds_slot t.0) is ∙ ap (λ (x : Slate). not x.freed) f.fresh in
+      let held : holds_slot (rule answers e s).0 ≡ true = ap (λ (t : Effect). holds_slot t.0) is ∙ ap (λ (x : Slate). not x.freed) f.fresh in
       begin_goes answer answers settings old m u b core q e outs new (connection_room answer answers settings old q e new held room h)
       (ap (λ (x : Look). x.taken) same ∙ connection_slots answer answers settings old q e new held h) (ap conf_of same) (ap (λ (x : Look). x.version) same) (version ∙ ap (λ (x : Look). x.version) (admits.2 ∙ sym same))
-      (subst (λ (t : Told). (outs ≡ t.1) × Stands answer answers core t.0) (sym is) (none, st s f.fresh (f.shown ∙ sym (ap conf_of admits.2)))) w h
+      (subst (λ (t : Effect). (outs ≡ t.1) × Stands answer answers core t.0) (sym is) (none, st s f.fresh (f.shown ∙ sym (ap conf_of admits.2)))) w h
 
   -- and else it is turned away
   pub offer_away : (old : Server W R F) (u : BTreeSet ℕ) (b : Look) (taken limit : ℕ) (accepted : Bool) (q : List Event) (e : Event) (addr : SocketAddr) (outs : List Output) → e.kind ≡ Offer addr
@@ -138,7 +138,7 @@ module _ {W R F : Type 0} (answer : PolledRequest F R → ℕ → Answer) (answe
       let same : b ≡ old.book = after ∙ rw (running, full) refl in
       let not_over : s.conf.over ≡ false = ap (λ (k : Conf). k.over) f.shown ∙ running in
       let is : rule answers e s ≡ (opened e.client addr e.at s, []) = offered answers e s addr kind (unused_is s.phase f.unused) not_over in
-      let opens : is_unused (rule answers e s).0.phase ≡ false = ap (λ (t : Told). is_unused t.0.phase) is in
+      let opens : is_unused (rule answers e s).0.phase ≡ false = ap (λ (t : Effect). is_unused t.0.phase) is in
       let new = new_from answer answers settings old q e (ap is_wide kind) f opens h in
-      let held : holds_slot (rule answers e s).0 ≡ true = ap (λ (t : Told). holds_slot t.0) is ∙ ap (λ (x : Slate). not x.freed) f.fresh in
+      let held : holds_slot (rule answers e s).0 ≡ true = ap (λ (t : Effect). holds_slot t.0) is ∙ ap (λ (x : Slate). not x.freed) f.fresh in
       away_goes answer answers settings old u b q e outs new held full same hu (said ∙ ap (λ (x : Bool). TurnedAway e.client x ∷ []) admits.4) h

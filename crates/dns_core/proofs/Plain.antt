@@ -8,7 +8,7 @@ use Rattle.dns_events.specs.declared.event.Event.{Event}
 use Rattle.dns_events.specs.declared.event.EventKind.{EventKind}
 use Rattle.dns_events.specs.declared.event.EventKind.TheVariants.{Datagram, Turn, Offer, Release, Reconfigure, Shutdown}
 use Rattle.dns_events.specs.declared.event.Why.{Why}
-use Rattle.dns_client.specs.Slate.{Slate, SlateRequest, Conf, Told, Phase, Unused, Exchange, Open, Flushing, Closed, fresh, conf_rule, with_conf}
+use Rattle.dns_client.specs.Slate.{Slate, SlateRequest, Conf, Effect, Phase, Unused, Exchange, Open, Flushing, Closed, fresh, conf_rule, with_conf}
 use Rattle.dns_client.specs.Datagrams.{datagram}
 use Rattle.dns_client.specs.Connections.{opened, close, written, flushed}
 use Rattle.dns_client.specs.Turns.{exchange_turn, turn}
@@ -76,7 +76,7 @@ module _ (answers : Serving) where
   goes_on : (e : Event) → Walks answers e (λ s t. GoesOn s t.0)
   goes_on e = record {
     stays = λ s. same s s refl refl refl;
-    goes = λ s t told p g h. then_on s t told.0 p g h;
+    goes = λ s t effect p g h. then_on s t effect.0 p g h;
     exchanges = λ addr o s is p over. record { conf = refl; used = λ _. refl; slot = λ g. let x = ap is_going p in cc };
     opens = λ addr s is p over. record { conf = refl; used = λ _. refl; slot = λ g. let x = ap is_going p in cc };
     polls = λ k r s is p at d. record { conf = refl; used = λ h. h; slot = λ g. refl };
@@ -112,7 +112,7 @@ module _ (answers : Serving) where
   slot_stays e s p n =
       let t = with_conf (conf_rule e.kind s.conf) s in
       let stays : in_phase answers e Closed t ≡ (t, []) = closed_still e.kind t n in
-      ap (λ (q : Phase). holds_slot (in_phase answers e q t).0) p ∙ ap (λ (u : Told). holds_slot u.0) stays
+      ap (λ (q : Phase). holds_slot (in_phase answers e q t).0) p ∙ ap (λ (u : Effect). holds_slot u.0) stays
 
   -- an event that its client alone hears
   pub narrow : (e : Event) (s : Slate) → is_wide e.kind ≡ false → rule answers e s ≡ in_phase answers e s.phase s
@@ -165,15 +165,15 @@ module _ (answers : Serving) where
 
   -- at an unused slate an event begins a client, or says nothing and leaves all but the configurations
   still_kind : (e : Event) (k : EventKind) (s : Slate) → is_unused (unused_rule e k s).0.phase ≡ true → unused_rule e k s ≡ (s, [])
-  still_kind e (Datagram addr o) s h = (elim s.conf.over as (λ b. let t : Told = (if b then (s, []) else datagram e.client addr e.at e.secs o s) in is_unused t.0.phase ≡ true → t ≡ (s, [])) [ true ↦ λ _. refl | false ↦ λ h. cc ]) h
-  still_kind e (Offer addr) s h = (elim s.conf.over as (λ b. let t : Told = (if b then (s, []) else (opened e.client addr e.at s, [])) in is_unused t.0.phase ≡ true → t ≡ (s, [])) [ true ↦ λ _. refl | false ↦ λ h. cc ]) h
+  still_kind e (Datagram addr o) s h = (elim s.conf.over as (λ b. let t : Effect = (if b then (s, []) else datagram e.client addr e.at e.secs o s) in is_unused t.0.phase ≡ true → t ≡ (s, [])) [ true ↦ λ _. refl | false ↦ λ h. cc ]) h
+  still_kind e (Offer addr) s h = (elim s.conf.over as (λ b. let t : Effect = (if b then (s, []) else (opened e.client addr e.at s, [])) in is_unused t.0.phase ≡ true → t ≡ (s, [])) [ true ↦ λ _. refl | false ↦ λ h. cc ]) h
   still_kind e _ s h = refl
 
   pub still_unused : (e : Event) (s : Slate) → s.phase ≡ Unused → is_unused (rule answers e s).0.phase ≡ true → rule answers e s ≡ (with_conf (conf_rule e.kind s.conf) s, [])
   still_unused e s p h =
       let t = with_conf (conf_rule e.kind s.conf) s in
       let at_unused : rule answers e s ≡ unused_rule e e.kind t = ap (λ (q : Phase). in_phase answers e q t) p in
-      at_unused ∙ still_kind e e.kind t (sym (ap (λ (u : Told). is_unused u.0.phase) at_unused) ∙ h)
+      at_unused ∙ still_kind e e.kind t (sym (ap (λ (u : Effect). is_unused u.0.phase) at_unused) ∙ h)
 
   -- what a slate is by the configurations in force
   pub record Plain (k : Conf) (s : Slate) : Type 0 where
@@ -183,7 +183,7 @@ module _ (answers : Serving) where
   plain_case : (e : Event) (k : Conf) (s : Slate) → Plain k s → (b : Bool) → is_unused s.phase ≡ b → is_unused (rule answers e s).0.phase ≡ true → (rule answers e s).0 ≡ fresh (conf_rule e.kind k)
   plain_case e k s p true is h =
       let left = still_unused e s (unused_is s.phase is) h in
-      ap (λ (t : Told). t.0) left ∙ ap (λ (u : Slate). with_conf (conf_rule e.kind u.conf) u) (p.unused is)
+      ap (λ (t : Effect). t.0) left ∙ ap (λ (u : Slate). with_conf (conf_rule e.kind u.conf) u) (p.unused is)
   plain_case e k s p false is h =
       let g = rule_used e s is in cc
 

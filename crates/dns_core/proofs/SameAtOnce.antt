@@ -16,7 +16,7 @@ use Rattle.dns_events.specs.declared.event.Output.TheVariants.{TurnedAway}
 use Rattle.dns_events.specs.declared.event.Step.{Step}
 use Rattle.dns_events.specs.declared.event.Step.TheVariants.{Own}
 use Rattle.dns_client.specs.Rule.{rule}
-use Rattle.dns_client.specs.Slate.{Slate, Told, Conf, conf_of, fresh}
+use Rattle.dns_client.specs.Slate.{Slate, Effect, Conf, conf_of, fresh}
 use Rattle.dns_core.specs.Own.{is_wide}
 use Rattle.dns_core.specs.Sent.{conf, slate}
 use Rattle.dns_core.specs.Out.{gain, gained, holds_slot, is_new, is_unused, joins, has_room, members, put, taken}
@@ -133,7 +133,7 @@ module _ (answers : Serving) (settings : Settings) where
       let r = closed_refuses e.kind (placed_slate answers settings e.client p) (joined answers settings e.client p) (membership answers settings p).book k u' cl in
       let over : sl.conf.over ≡ true = ap (λ (x : Conf). x.over) ((plain answers settings e.client q).conf ∙ sym h.shown) ∙ cl in
       record {
-        new = unused_not_new answers settings q e (ap (λ (s : Slate). is_unused s.phase) (slate_same answers settings q e ∙ ap (λ (t : Told). t.0) (begin_late answers e.kind e sl refl k over)) ∙ u);
+        new = unused_not_new answers settings q e (ap (λ (s : Slate). is_unused s.phase) (slate_same answers settings q e ∙ ap (λ (t : Effect). t.0) (begin_late answers e.kind e sl refl k over)) ∙ u);
         enters = r.enters;
         says = r.says e.client;
         unused = unused_after answers settings p e u' ∙ rw (k, cl) (sym u');

@@ -16,7 +16,7 @@ use Rattle.dns_service.specs.Answer.{Answer}
 use Rattle.dns_events.specs.declared.event.Event.{Event}
 use Rattle.dns_events.specs.declared.event.Output.{Output}
 use Rattle.dns_service.specs.declared.polled.PolledRequest.{PolledRequest}
-use Rattle.dns_client.specs.Slate.{Slate, Told, conf_of}
+use Rattle.dns_client.specs.Slate.{Slate, Effect, conf_of}
 use Rattle.dns_client.specs.Rule.{rule}
 use Rattle.dns_client.specs.declared.client.ClientCore.{ClientCore}
 use Rattle.dns_core.specs.Own.{is_wide}
@@ -112,11 +112,11 @@ module _ {W R F : Type 0} (answer : PolledRequest F R → ℕ → Answer) (answe
         let nw = idle_not_new answers settings q e idle in
         let still : (c : ℕ) → slate answers settings c (q ++ e ∷ []) ≡ slate answers settings c q = λ c.
         ⊎_elim
-        (λ (same : c ≡ e.client). rw same (slate_same answers settings q e ∙ ap (λ (t : Told). t.0) idle))
+        (λ (same : c ≡ e.client). rw same (slate_same answers settings q e ∙ ap (λ (t : Effect). t.0) idle))
         (λ (apart : c ≢ e.client). slate_other answers settings c q e n apart)
         (cases_eq c e.client) in
         let ms = members_kept answers settings q e nw in (
-          none ∙ (nothing_either_way (list_any (nat_eq e.client) (members answers settings q)) (rule answers e s).1 (ap (λ (t : Told). t.1) idle) ∙ sym (gained_own answers settings q e n nw)),
+          none ∙ (nothing_either_way (list_any (nat_eq e.client) (members answers settings q)) (rule answers e s).1 (ap (λ (t : Effect). t.1) idle) ∙ sym (gained_own answers settings q e n nw)),
           record {
             clients = λ c. rw (ms, still c) (h.clients c);
             versions = λ c. rw same (h.versions c);

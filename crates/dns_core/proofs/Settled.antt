@@ -8,7 +8,7 @@ use Rattle.dns_events.specs.declared.event.EventKind.TheVariants.{Piece, Release
 use Rattle.dns_events.specs.declared.event.Why.{Why}
 use Rattle.dns_events.specs.declared.event.Why.TheVariants.{Short}
 use Rattle.dns_client.specs.Frames.{frames}
-use Rattle.dns_client.specs.Slate.{Slate, SlateRequest, Told, Phase, Open, Closed, fresh, conf_rule, with_conf}
+use Rattle.dns_client.specs.Slate.{Slate, SlateRequest, Effect, Phase, Open, Closed, fresh, conf_rule, with_conf}
 use Rattle.dns_client.specs.Requests.{header_size}
 use Rattle.dns_client.specs.Datagrams.{datagram}
 use Rattle.dns_client.specs.Connections.{opened, reconfigured, close, wind_up, take_frame, take_frames, piece, written, flushed, released}
@@ -49,7 +49,7 @@ take_settled at secs (f ∷ fs) s h =
     let less : length (frames s.received) ≤ (s.taken + 1) + length fs = omega (arith, h) in
     let t = takes at secs f s in
     let more = take_settled at secs fs (take_frame at secs f s) (rw (t.received, t.taken) less) in
-    (elim (nat_lt (length f) header_size) as (λ b. let t : Told = (if b then close Short s else take_frames at secs fs (take_frame at secs f s)) in length (frames t.0.received) ≤ t.0.taken) [ true ↦ closed_settled Short s | false ↦ more ])
+    (elim (nat_lt (length f) header_size) as (λ b. let t : Effect = (if b then close Short s else take_frames at secs fs (take_frame at secs f s)) in length (frames t.0.received) ≤ t.0.taken) [ true ↦ closed_settled Short s | false ↦ more ])
 
 piece_settled : (at secs : ℕ) (o : List ℕ) (s : Slate) → Settled (piece at secs o s).0
 piece_settled at secs o s =
@@ -81,7 +81,7 @@ module _ (answers : Serving) where
   pub exchange_turned : (k : ℕ) (x : Option SlateRequest) (s : Slate) → Turned s (exchange_turn answers k x s).0
   exchange_turned k None s = unturned s s refl refl refl refl
   exchange_turned k (Some r) s =
-      (elim r.done as (λ b. let u : Told = (if b then (s, []) else (with_request k (polled (answers.answer r.request r.polls) r) s, sent_at_once s.client (sent_for answers r.request (answers.answer r.request r.polls)))) in Turned s u.0) [ true ↦ unturned s s refl refl refl refl | false ↦ record { phase = refl; freed = refl; received = refl; taken = refl } ])
+      (elim r.done as (λ b. let u : Effect = (if b then (s, []) else (with_request k (polled (answers.answer r.request r.polls) r) s, sent_at_once s.client (sent_for answers r.request (answers.answer r.request r.polls)))) in Turned s u.0) [ true ↦ unturned s s refl refl refl refl | false ↦ record { phase = refl; freed = refl; received = refl; taken = refl } ])
 
   turned : (e : Event) → Turns answers e (λ s t. Turned s t.0)
   turned e = record {

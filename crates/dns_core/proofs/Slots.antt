@@ -11,7 +11,7 @@ use Rattle.dns_events.specs.declared.event.EventKind.{EventKind}
 use Rattle.dns_events.specs.declared.event.EventKind.TheVariants.{Turn, Release}
 use Rattle.dns_events.specs.declared.event.Output.{Output}
 use Rattle.dns_service.specs.declared.polled.PolledRequest.{PolledRequest}
-use Rattle.dns_client.specs.Slate.{Slate, Told, Phase, Closed, conf_rule, with_conf}
+use Rattle.dns_client.specs.Slate.{Slate, Effect, Phase, Closed, conf_rule, with_conf}
 use Rattle.dns_client.specs.Rule.{rule, in_phase, exchange_rule, closed_rule}
 use Rattle.dns_client.specs.Spent.{is_spent, is_spent_in}
 use Rattle.dns_client.specs.Stands.{StandsIn}
@@ -72,14 +72,14 @@ state_slot answer answers n (Is_closed gone) e s freed h u is =
     let t = with_conf (conf_rule e.kind s.conf) s in
     let free : s.freed ≡ false = ap (λ (p : Phase). is_spent_in p s) (sym h.phase) ∙ u in
     let at : rule answers e s ≡ closed_rule e.kind t = ap (λ (p : Phase). in_phase answers e p t) h.phase in
-    let sl : Slot t (closed_rule e.kind t).0 freed = closed_slot e.kind t freed h.phase free (is ∙ ap (λ (x : Told). x.0.freed) at) in
+    let sl : Slot t (closed_rule e.kind t).0 freed = closed_slot e.kind t freed h.phase free (is ∙ ap (λ (x : Effect). x.0.freed) at) in
     rw at (shown_slot s t (closed_rule e.kind t).0 freed refl sl)
 state_slot answer answers n Is_lost e s freed h u is = absurd h
 
 module _ {W R F : Type 0} (answer : PolledRequest F R → ℕ → Answer) (answers : Serving) where
   -- of a member
   member_slot : (o w : Option (ClientCore W R F)) (b : Bool) (e : Event) (outs : List Output) (finished freed : Bool) (s : Slate) → b ≡ true → Steps answer answers o e outs finished freed w → Holds answer answers o b s → Slot s (rule answers e s).0 freed
-  member_slot None w true e outs finished freed s m k h = unfreed s (rule answers e s).0 freed k.2 (ap (λ (t : Told). holds_slot t.0) (spent_idle answers e s h))
+  member_slot None w true e outs finished freed s m k h = unfreed s (rule answers e s).0 freed k.2 (ap (λ (t : Effect). holds_slot t.0) (spent_idle answers e s h))
   member_slot (Some core) None true e outs finished freed s m k h = absurd k
   member_slot (Some core) (Some new) true e outs finished freed s m k h = let f = k.0 s h.0 in state_slot answer answers core.client core.state e s freed h.0 h.1 (k.1 (rule answers e s).0 f.1).free
   member_slot o w false e outs finished freed s m k h = cc

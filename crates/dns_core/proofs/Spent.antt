@@ -11,7 +11,7 @@ use Rattle.dns_events.specs.declared.event.EventKind.TheVariants.{Turn, Release,
 use Rattle.dns_events.specs.declared.event.Why.{Why}
 use Rattle.dns_events.specs.declared.event.Why.TheVariants.{Shutdown as By_shutdown}
 use Rattle.dns_service.specs.declared.polled.PolledRequest.{PolledRequest}
-use Rattle.dns_client.specs.Slate.{Slate, SlateRequest, Conf, Told, Phase, Exchange, Open, Closed, conf_rule, with_conf}
+use Rattle.dns_client.specs.Slate.{Slate, SlateRequest, Conf, Effect, Phase, Exchange, Open, Closed, conf_rule, with_conf}
 use Rattle.dns_client.specs.Connections.{wind_up, reconfigured}
 use Rattle.dns_client.specs.Rule.{rule, in_phase, exchange_rule, open_rule, closed_rule}
 use Rattle.dns_client.specs.Spent.{is_spent, is_spent_in}
@@ -59,7 +59,7 @@ module _ (answers : Serving) where
 
   -- what is spent stays so
   pub spent_kept : (e : Event) (s : Slate) → is_spent s ≡ true → is_spent (rule answers e s).0 ≡ true
-  spent_kept e s h = ap (λ (t : Told). is_spent t.0) (spent_idle e s h) ∙ (conf_spent s.phase s (conf_rule e.kind s.conf) ∙ h)
+  spent_kept e s h = ap (λ (t : Effect). is_spent t.0) (spent_idle e s h) ∙ (conf_spent s.phase s (conf_rule e.kind s.conf) ∙ h)
 
   pub open_unspent : (e : Event) (k : EventKind) (s : Slate) → s.phase ≡ Open → s.freed ≡ false → is_wide k ≡ true → is_spent (open_rule answers e k s).0 ≡ false
   open_unspent e (Reconfigure dgram stream) s p f w = ap (λ (x : Phase). is_spent_in x (reconfigured stream.connection_config s)) p
@@ -67,7 +67,7 @@ module _ (answers : Serving) where
   open_unspent e _ s p f w = cc
 
   pub idle_unspent : (e : Event) (s : Slate) → is_wide e.kind ≡ true → is_open s.phase ≡ false → is_spent s ≡ false → is_spent (rule answers e s).0 ≡ false
-  idle_unspent e s w o h = ap (λ (t : Told). is_spent t.0) (wide_idle answers e s w o) ∙ (conf_spent s.phase s (conf_rule e.kind s.conf) ∙ h)
+  idle_unspent e s w o h = ap (λ (t : Effect). is_spent t.0) (wide_idle answers e s w o) ∙ (conf_spent s.phase s (conf_rule e.kind s.conf) ∙ h)
 
 -- an event that all hear leaves no client spent that wasn't
 pub wide_unspent : {W R F : Type 0} (answer : PolledRequest F R → ℕ → Answer) (answers : Serving) (n : ℕ) (state : State W R F) (e : Event) (s : Slate)

@@ -28,7 +28,7 @@ use Rattle.dns_client.specs.After.{slate_after, sent_after}
 use Rattle.dns_client.specs.Connections.{opened}
 use Rattle.dns_client.specs.Datagrams.{datagram}
 use Rattle.dns_client.specs.Rule.{rule}
-use Rattle.dns_client.specs.Slate.{Slate, Conf, Told, IsUnused, conf_of, fresh}
+use Rattle.dns_client.specs.Slate.{Slate, Conf, Effect, IsUnused, conf_of, fresh}
 use Rattle.dns_client.specs.Stands.{Stands, state_is_spent}
 use Rattle.dns_client.specs.declared.client.ClientCore.{ClientCore}
 use Rattle.dns_core.specs.Own.{is_wide}
@@ -133,7 +133,7 @@ module _ (answers : Serving) where
         let m = meets q e k un in
         let over : (met q e).conf.over ≡ true = ap (λ (x : Conf). x.over) m.plain.conf ∙ rw (begin_looks kn e k) (seen_closed kn.began q c refl un cl) in
         let idle = begin_late e.kind e (met q e) refl k over in
-        (ap (λ (s : Slate). is_unused s.phase) (m.slate ∙ ap (λ (r : Told). r.0) idle) ∙ m.unused, m.gain ∙ ap (λ (r : Told). r.1) idle)
+        (ap (λ (s : Slate). is_unused s.phase) (m.slate ∙ ap (λ (r : Effect). r.0) idle) ∙ m.unused, m.gain ∙ ap (λ (r : Effect). r.1) idle)
 
     pub none_before : (b : Bool) (q : List Step) (c : ℕ) → (knows settings c q).began ≡ b → is_unused (placed_slate answers settings c q).phase ≡ true → (membership answers settings q).book.closed ≡ false → b ≡ false
     none_before false q c is un cl = refl
@@ -188,14 +188,14 @@ module _ {W R F : Type 0} (answer : PolledRequest F R → ℕ → Answer) (answe
         let ms = members_same answers settings q (Own e) out in
         let idle = begin_used answers e.kind e sl refl k used in
         let still : (d : ℕ) → placed_slate answers settings d (q ++ Own e ∷ []) ≡ placed_slate answers settings d q = λ d. ⊎_elim
-        (λ (same : d ≡ c). rw same (own_slate answers settings q e wd nl ∙ ap (λ (r : Told). r.0) idle))
+        (λ (same : d ≡ c). rw same (own_slate answers settings q e wd nl ∙ ap (λ (r : Effect). r.0) idle))
         (λ (apart : d ≢ c). quiet_slate answers settings d q (Own e) (other_quiet d (knows settings d q) e apart))
         (cases_eq d c) in
         let seen : (d : ℕ) → (knows settings d (q ++ Own e ∷ [])).seen ≡ (knows settings d q).seen = λ d. ⊎_elim
         (λ (same : d ≡ c). rw same (quiet_seen answers settings c q (Own e) nl))
         (λ (apart : d ≢ c). quiet_seen answers settings d q (Own e) (other_quiet d (knows settings d q) e apart).looks)
         (cases_eq d c) in (
-          none ∙ nothing_either_way (list_any (nat_eq c) (membership answers settings (q ++ Own e ∷ [])).members) (placed_gain answers settings c q (Own e)) (own_gain answers settings q e wd nl ∙ ap (λ (r : Told). r.1) idle) ∙ sym (rw called refl),
+          none ∙ nothing_either_way (list_any (nat_eq c) (membership answers settings (q ++ Own e ∷ [])).members) (placed_gain answers settings c q (Own e)) (own_gain answers settings q e wd nl ∙ ap (λ (r : Effect). r.1) idle) ∙ sym (rw called refl),
           record {
             clients = λ d. rw (ms, still d) (h.clients d);
             versions = λ d. rw (seen d) (h.versions d);
@@ -283,7 +283,7 @@ module _ {W R F : Type 0} (answer : PolledRequest F R → ℕ → Answer) (answe
         let full' : has_slot hl.book ≡ false = ap has_slot (sym h.book) ∙ full in
         let op = met_open answers settings q e k f.unused cl' in
         let m = meets answers settings q e k f.unused in
-        let opens : (rule answers e (met answers settings q e)).0 ≡ opened c addr e.at (met answers settings q e) = ap (λ (r : Told). r.0) (offered answers e (met answers settings q e) addr kind (unused_is (met answers settings q e).phase m.unused) op.not_over) in
+        let opens : (rule answers e (met answers settings q e)).0 ≡ opened c addr e.at (met answers settings q e) = ap (λ (r : Effect). r.0) (offered answers e (met answers settings q e) addr kind (unused_is (met answers settings q e).phase m.unused) op.not_over) in
         let called : call_at answers settings q hl.members (Own e) ≡ call.Admit = rw (kind, f.unused) refl in
         let out' : enters_at answers settings q hl (Own e) ≡ false = rw (called, cl', full', kind) refl in
         let o = stays_out old q e f out' h in (
@@ -365,8 +365,8 @@ module _ {W R F : Type 0} (answer : PolledRequest F R → ℕ → Answer) (answe
         let is : rule answers e s ≡ datagram e.client addr e.at e.secs o s = begun answers e s addr o kind (unused_is s.phase me.unused) op.not_over in
         let joins : enters_at answers settings q hl (Own e) ≡ true = rw (kind, f.unused, cl') refl in
         begin_goes old m u old.book core q e outs k free joins (h.book ∙ rw kind refl)
-        (ap (λ (r : Told). is_unused r.0.phase) is)
-        (subst (λ (r : Told). (outs ≡ r.1) × Stands answer answers core r.0) (sym is) (st s op.unused (op.shown ∙ ap conf_of (sym h.book))))
+        (ap (λ (r : Effect). is_unused r.0.phase) is)
+        (subst (λ (r : Effect). (outs ≡ r.1) × Stands answer answers core r.0) (sym is) (st s op.unused (op.shown ∙ ap conf_of (sym h.book))))
         (version ∙ ap (λ (x : State). x.version) h.book ∙ sym op.version) w h
 
     pub offer_used : (old : Server W R F) (q : List Step) (e : Event) (addr : SocketAddr) (outs : List Output) → e.kind ≡ Offer addr → contains nat_cmp old.used e.client ≡ true → outs ≡ [] → ServesSteps answer answers settings q old
@@ -398,8 +398,8 @@ module _ {W R F : Type 0} (answer : PolledRequest F R → ℕ → Answer) (answe
         let called : call_at answers settings q hl.members (Own e) ≡ call.Admit = rw (kind, f.unused) refl in
         let joins : enters_at answers settings q hl (Own e) ≡ true = rw (called, cl', room, kind) refl in
         begin_goes old m u b core q e outs k free joins (after ∙ ap (λ (x : State). state_after x call.Admit) h.book ∙ ap (state_after hl.book) (sym called))
-        (ap (λ (r : Told). is_unused r.0.phase) is)
-        (subst (λ (r : Told). (outs ≡ r.1) × Stands answer answers core r.0) (sym is) (none, st s op.unused (op.shown ∙ ap conf_of (sym h.book) ∙ sym (ap conf_of admits.2))))
+        (ap (λ (r : Effect). is_unused r.0.phase) is)
+        (subst (λ (r : Effect). (outs ≡ r.1) × Stands answer answers core r.0) (sym is) (none, st s op.unused (op.shown ∙ ap conf_of (sym h.book) ∙ sym (ap conf_of admits.2))))
         (version ∙ ap (λ (x : State). x.version) admits.2 ∙ ap (λ (x : State). x.version) h.book ∙ sym op.version) w h
 
     -- and else it is turned away

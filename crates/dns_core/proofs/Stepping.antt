@@ -23,9 +23,9 @@ use Rattle.dns_events.specs.declared.event.Step.{Step}
 use Rattle.dns_events.specs.declared.event.Step.TheVariants.{Own, Look}
 use Rattle.dns_service.specs.declared.polled.PolledRequest.{PolledRequest}
 use Rattle.dns_client.specs.After.{slate_after, sent_after}
-use Rattle.dns_client.specs.News.{told_of}
+use Rattle.dns_client.specs.News.{look_effect}
 use Rattle.dns_client.specs.Rule.{rule, in_phase, closed_rule}
-use Rattle.dns_client.specs.Slate.{Slate, Told, Phase, Exchange, Open, Closed, conf_rule, with_conf, phase_is_closed}
+use Rattle.dns_client.specs.Slate.{Slate, Effect, Phase, Exchange, Open, Closed, conf_rule, with_conf, phase_is_closed}
 use Rattle.dns_client.specs.Spent.{is_spent, is_spent_in}
 use Rattle.dns_client.specs.Stands.{Stands, StandsIn}
 use Rattle.dns_client.specs.declared.client.ClientCore.{ClientCore}
@@ -45,7 +45,7 @@ use Rattle.dns_core.proofs.Plain.{is_going, slot_kept}
 use Rattle.dns_core.proofs.Slots.{exchange_freed}
 use Rattle.dns_core.proofs.Spent.{spent_idle, spent_kept, open_unspent, idle_unspent}
 use Rattle.dns_core.proofs.Wide.{wide_idle, open_is}
-use Rattle.dns_core.proofs.Looked.{Enter, told, heard_all, entry_wide}
+use Rattle.dns_core.proofs.Looked.{Enter, effect, heard_all, entry_wide}
 use Rattle.dns_core.proofs.Placing.{knows_more, slate_more, gain_more, membership_more}
 use Rattle.dns_core.proofs.Tied.{unused_kept, unused_list, wide_no_beginning, tied}
 
@@ -146,11 +146,11 @@ module _ (answers : Serving) (settings : Settings) where
   own_enters q e n = no_enter e.kind (placed_slate answers settings e.client q) (membership answers settings q).book (reply_of (membership answers settings q).book (call_at answers settings q (membership answers settings q).members (Own e))) n
 
   -- what a look tells is what its client has not heard of
-  pub look_tells : (q : List Step) (c : ℕ) → told_of answers (knows settings c q).seen.version (membership answers settings q).book (placed_slate answers settings c q) ≡ told answers (knows settings c q).unheard (placed_slate answers settings c q)
+  pub look_tells : (q : List Step) (c : ℕ) → look_effect answers (knows settings c q).seen.version (membership answers settings q).book (placed_slate answers settings c q) ≡ effect answers (knows settings c q).unheard (placed_slate answers settings c q)
   look_tells q c =
       let t = tied answers settings c q in
       let k = knows settings c q in
-      ap (λ (b : State). told_of answers k.seen.version b (placed_slate answers settings c q)) t.book ∙ heard_all answers k.seen k.unheard (placed_slate answers settings c q) t.slate.enter t.slate.plain.conf t.slate.not_over
+      ap (λ (b : State). look_effect answers k.seen.version b (placed_slate answers settings c q)) t.book ∙ heard_all answers k.seen k.unheard (placed_slate answers settings c q) t.slate.enter t.slate.plain.conf t.slate.not_over
 
 -- ---- slots: a release that finds a connection closed gives it back
 held_open : (t : Slate) → (is_connection t.phase && not t.freed) ≡ true → t.freed ≡ false
@@ -184,7 +184,7 @@ module _ (answers : Serving) where
   spent_list [] s h = (refl, h)
   spent_list (e ∷ es) s h =
       let more = spent_list es (rule answers e s).0 (spent_kept answers e s h) in
-      let one : (rule answers e s).1 ≡ [] = ap (λ (t : Told). t.1) (spent_idle answers e s h) in
+      let one : (rule answers e s).1 ≡ [] = ap (λ (t : Effect). t.1) (spent_idle answers e s h) in
       (ap (λ os. os ++ sent_after answers (rule answers e s).0 es) one ∙ more.0, more.1)
 
   wide_held : (k : EventKind) (e : Event) (s : Slate) → e.kind ≡ k → is_wide k ≡ true → s.phase ≡ Open → s.freed ≡ false → OpenHeld (rule answers e s).0
@@ -203,7 +203,7 @@ module _ (answers : Serving) where
       (ap (λ (x : Phase). is_spent (in_phase answers e x t).0) p ∙ open_unspent answers e e.kind t p (h o) w, wide_held e.kind e s refl w p (h o))
   unspent_case false e s o w h u =
       let idle = wide_idle answers e s w o in
-      (idle_unspent answers e s w o u, λ x. let z : is_open s.phase ≡ true = sym (ap (λ (r : Told). is_open r.0.phase) idle) ∙ x in cc)
+      (idle_unspent answers e s w o u, λ x. let z : is_open s.phase ≡ true = sym (ap (λ (r : Effect). is_open r.0.phase) idle) ∙ x in cc)
 
   unspent_list : (b : State) (es : List Event) (s : Slate) → Enter b es → OpenHeld s → is_spent s ≡ false → is_spent (slate_after answers s es) ≡ false
   unspent_list b [] s n h u = u
@@ -222,7 +222,7 @@ module _ {W R F : Type 0} (answer : PolledRequest F R → ℕ → Answer) (answe
       let t = with_conf (conf_rule e.kind s.conf) s in
       let free : s.freed ≡ false = ap (λ (p : Phase). is_spent_in p s) (sym h.phase) ∙ u in
       let at : rule answers e s ≡ closed_rule e.kind t = ap (λ (p : Phase). in_phase answers e p t) h.phase in
-      ap (λ (x : Told). x.0.freed) at ∙ (closed_freed answers e.kind t free ∙ rw (h.phase, free) refl)
+      ap (λ (x : Effect). x.0.freed) at ∙ (closed_freed answers e.kind t free ∙ rw (h.phase, free) refl)
   freed_by n Is_lost e s h u = absurd h
 
   freed_is : (o w : Option (ClientCore W R F)) (b : Bool) (e : Event) (outs : List Output) (finished freed : Bool) (s : Slate) → Steps answer answers o e outs finished freed w → Holds answer answers o b s
@@ -244,15 +244,15 @@ module _ {W R F : Type 0} (answer : PolledRequest F R → ℕ → Answer) (answe
 
   -- what is said and left, where the look tells what these entries tell
   look_says : (o w : Option (ClientCore W R F)) (m : Bool) (look : State) (b : State) (es : List Event) (outs : List Output) (s : Slate) (v : ℕ) → LooksOne answer answers o look outs w → Holds answer answers o m s → IsAt o v
-      → Enter b es → told_of answers v look s ≡ told answers es s
+      → Enter b es → look_effect answers v look s ≡ effect answers es s
       → (outs ≡ (if m then sent_after answers s es else [])) × Holds answer answers w m (slate_after answers s es) × IsAt w look.version
   look_says None w true look b es outs s v k h at n tells = let sp = spent_list answers es s h in (k.0 ∙ sym sp.0, none_holds answer answers w (slate_after answers s es) k.1 sp.1, none_at w look.version k.1)
   look_says None w false look b es outs s v k h at n tells = (k.0, none_stands answer answers w (slate_after answers s es) k.1, none_at w look.version k.1)
   look_says (Some core) None true look b es outs s v k h at n tells = absurd k
   look_says (Some core) (Some new) true look b es outs s v k h at n tells =
       let f = k.0 s h.0 in
-      let P : Told → Type 0 = λ r. (outs ≡ r.1) × Stands answer answers new r.0 in
-      let g = subst P (ap (λ (x : ℕ). told_of answers x look s) at ∙ tells) f in
+      let P : Effect → Type 0 = λ r. (outs ≡ r.1) × Stands answer answers new r.0 in
+      let g = subst P (ap (λ (x : ℕ). look_effect answers x look s) at ∙ tells) f in
       (g.0, (g.1, unspent_list answers b es s n (core_held core.client core.state s h.0) h.1), k.1)
   look_says (Some core) w false look b es outs s v k h at n tells = absurd h
 
@@ -335,7 +335,7 @@ module _ {W R F : Type 0} (answer : PolledRequest F R → ℕ → Answer) (answe
         let self = eq-eqb c c refl in
         let ms = members_same answers settings q st refl in
         let pt : puts c kn st ≡ kn.unheard = rw self (append-nil kn.unheard) in
-        let tells : told_of answers kn.seen.version old.book sl ≡ told answers kn.unheard sl = rw h.book (look_tells answers settings q c) in
+        let tells : look_effect answers kn.seen.version old.book sl ≡ effect answers kn.unheard sl = rw h.book (look_tells answers settings q c) in
         let go = look_says (get nat_cmp old.clients c) (get nat_cmp m c) member old.book kn.seen kn.unheard outs sl kn.seen.version k (h.clients c) (h.versions c) t.slate.enter tells in
         let here : placed_slate answers settings c (q ++ st ∷ []) ≡ slate_after answers sl kn.unheard = slate_more answers settings c q st ∙ ap (slate_after answers sl) pt in
         let seen : (knows settings c (q ++ st ∷ [])).seen.version ≡ old.book.version = ap (λ (x : Knowledge). x.seen.version) (knows_more settings c q st) ∙ rw self (ap (λ (b : State). b.version) (sym t.book) ∙ ap (λ (b : State). b.version) (sym h.book)) in

@@ -17,7 +17,7 @@ use Rattle.dns_events.specs.declared.event.Step.{Step}
 use Rattle.dns_events.specs.declared.event.Step.TheVariants.{Own, Look}
 use Rattle.dns_client.specs.After.{slate_after, sent_after}
 use Rattle.dns_client.specs.Rule.{rule}
-use Rattle.dns_client.specs.Slate.{Slate, Told, Phase, Closed, fresh, phase_is_closed}
+use Rattle.dns_client.specs.Slate.{Slate, Effect, Phase, Closed, fresh, phase_is_closed}
 use Rattle.dns_core.specs.Settings.{opening}
 use Rattle.dns_core.specs.Own.{is_wide}
 use Rattle.dns_core.specs.Out.{is_unused, put}
@@ -51,7 +51,7 @@ module _ (answers : Serving) where
   release_case true true e sl is idle h = by sl.phase refl sl.freed refl h
     where
       by : (p : Phase) → sl.phase ≡ p → (f : Bool) → sl.freed ≡ f → (phase_is_closed p && not f) ≡ true → true ≡ false
-      by Closed p false f g = let i : rule answers e sl ≡ (sl, []) = idle refl in let r : (rule answers e sl).0.freed ≡ true = rw (is, p) refl in sym r ∙ ap (λ (t : Told). t.0.freed) i ∙ f
+      by Closed p false f g = let i : rule answers e sl ≡ (sl, []) = idle refl in let r : (rule answers e sl).0.freed ≡ true = rw (is, p) refl in sym r ∙ ap (λ (t : Effect). t.0.freed) i ∙ f
       by Closed p true f g = cc
       by _ p f s g = cc
   release_case true false e sl is idle h = cc
@@ -134,7 +134,7 @@ module _ (answers : Serving) where
               (λ (apart : d ≢ c). ap (λ (x : Slate). is_unused x.phase) (quiet_slate answers settings d q s (other_quiet d (knows settings d q) e apart)))
               (cases_eq d c);
           same_slates = λ d there. ⊎_elim
-              (λ (i : d ≡ c). let m : joined answers settings c q ≡ true = rw i at (sym (now d) ∙ there) in rw i (own_slate answers settings q e w (no_look m) ∙ ap (λ (t : Told). t.0) (idle m)))
+              (λ (i : d ≡ c). let m : joined answers settings c q ≡ true = rw i at (sym (now d) ∙ there) in rw i (own_slate answers settings q e w (no_look m) ∙ ap (λ (t : Effect). t.0) (idle m)))
               (λ (apart : d ≢ c). quiet_slate answers settings d q s (other_quiet d (knows settings d q) e apart))
               (cases_eq d c);
           same_knows = λ d there. ⊎_elim
@@ -149,7 +149,7 @@ module _ (answers : Serving) where
             let b = (tied answers settings e.client q).slate.begun (member_used answers settings e.client q m) in
             let l : looks e.client (knows settings e.client q).began (Own e) ≡ false = rw b (and-false (begins e.client (Own e))) in
             let now : joined answers settings e.client (q ++ Own e ∷ []) ≡ true = ap (λ (x : Membership). list_any (nat_eq e.client) x.members) (membership_kept q (Own e) p.enters p.state) ∙ m in
-            rw now (own_gain answers settings q e w l ∙ ap (λ (t : Told). t.1) (idle m))
+            rw now (own_gain answers settings q e w l ∙ ap (λ (t : Effect). t.1) (idle m))
         by false m =
             let p = passes_case (is_beginning e.kind) q e w refl n idle in
             let now : joined answers settings e.client (q ++ Own e ∷ []) ≡ false = ap (λ (x : Membership). list_any (nat_eq e.client) x.members) (membership_kept q (Own e) p.enters p.state) ∙ m in

@@ -56,7 +56,7 @@ module _ (answers : Serving) (settings : Settings) where
   record Away (c : ℕ) (q : List Step) (os : List Output) : Type 0 where
     used : is_unused (placed_slate answers settings c q).phase ≡ false
     absent : joined answers settings c q ≡ false
-    told : sent_to c q ≡ os
+    effect : sent_to c q ≡ os
 
   away_self : (q : List Step) (s : Step) → is_unused (placed_slate answers settings (stepping s) q).phase ≡ false → joined answers settings (stepping s) q ≡ false
       → (joined answers settings (stepping s) (q ++ s ∷ []) ≡ false) × (step_gained answers settings q s ≡ [])
@@ -80,9 +80,9 @@ module _ (answers : Serving) (settings : Settings) where
       record {
         used = used_stays answers settings c q s a.used;
         absent = h.0;
-        told =
+        effect =
             ap (filter (is_for c)) (outs_more answers settings q s) ∙ filter_both answers settings c (outs answers settings q) (step_gained answers settings q s)
-            ∙ ap (λ ps. ps ++ filter (is_for c) (step_gained answers settings q s)) a.told ∙ ap (λ ps. os ++ ps) h.1 ∙ append-nil os;
+            ∙ ap (λ ps. ps ++ filter (is_for c) (step_gained answers settings q s)) a.effect ∙ ap (λ ps. os ++ ps) h.1 ∙ append-nil os;
       }
 
   away_on : (c : ℕ) (os : List Output) (r q : List Step) → Away c q os → Away c (q ++ r) os
@@ -121,11 +121,11 @@ module _ (answers : Serving) (settings : Settings) where
       let first : Away c (q ++ Own e ∷ []) line = record {
         used = opens answers settings q e k f.unused f.open_book;
         absent = out;
-        told =
+        effect =
             ap (filter (is_for c)) (outs_more answers settings q (Own e)) ∙ filter_both answers settings c (outs answers settings q) (step_gained answers settings q (Own e))
             ∙ ap (λ ps. ps ++ filter (is_for c) (step_gained answers settings q (Own e))) was.0 ∙ ap (filter (is_for c)) gained ∙ filter_for c line (refl, tt);
       } in
-      ap (sent_to c) (sym (append_assoc q (Own e ∷ []) r)) ∙ (away_on c line r (q ++ Own e ∷ []) first).told
+      ap (sent_to c) (sym (append_assoc q (Own e ∷ []) r)) ∙ (away_on c line r (q ++ Own e ∷ []) first).effect
 
   -- a client that wasn't turned away is sent what it heard
   not_away : (c : ℕ) (q : List Step) (m : Bool) → joined answers settings c q ≡ m → was_refused answers settings c q ≡ false → sent_to c q ≡ sent answers settings (placed settings c q)

@@ -15,7 +15,7 @@ use Rattle.dns_events.specs.declared.event.Step.{Step}
 use Rattle.dns_events.specs.declared.event.Step.TheVariants.{Own, Look}
 use Rattle.dns_client.specs.After.{slate_after, sent_after}
 use Rattle.dns_client.specs.Rule.{rule, in_phase, unused_rule}
-use Rattle.dns_client.specs.Slate.{Slate, Conf, Told, Phase, Unused, conf_of, conf_rule, fresh, phase_is_closed, with_conf}
+use Rattle.dns_client.specs.Slate.{Slate, Conf, Effect, Phase, Unused, conf_of, conf_rule, fresh, phase_is_closed, with_conf}
 use Rattle.dns_core.specs.Settings.{opening}
 use Rattle.dns_core.specs.Own.{is_wide}
 use Rattle.dns_core.specs.Sent.{conf_after}
@@ -172,15 +172,15 @@ module _ (answers : Serving) where
       let p = unused_is s.phase u in
       let t = with_conf (conf_rule e.kind s.conf) s in
       let at_unused : rule answers e s ≡ unused_rule e e.kind t = ap (λ (q : Phase). in_phase answers e q t) p in
-      ap (λ (r : Told). is_unused r.0.phase) (at_unused ∙ no_begin e e.kind t n) ∙ u
+      ap (λ (r : Effect). is_unused r.0.phase) (at_unused ∙ no_begin e e.kind t n) ∙ u
   unused_case e s false n u = rule_used answers e s u
 
   pub unused_kept : (e : Event) (s : Slate) → is_beginning e.kind ≡ false → is_unused (rule answers e s).0.phase ≡ is_unused s.phase
   unused_kept e s n = unused_case e s (is_unused s.phase) n refl
 
   pub opens_kind : (k : EventKind) (e : Event) (s : Slate) → e.kind ≡ k → is_beginning k ≡ true → s.phase ≡ Unused → s.conf.over ≡ false → is_unused (rule answers e s).0.phase ≡ false
-  opens_kind (Offer addr) e s is h p o = ap (λ (r : Told). is_unused r.0.phase) (offered answers e s addr is p o)
-  opens_kind (Datagram addr x) e s is h p o = ap (λ (r : Told). is_unused r.0.phase) (begun answers e s addr x is p o)
+  opens_kind (Offer addr) e s is h p o = ap (λ (r : Effect). is_unused r.0.phase) (offered answers e s addr is p o)
+  opens_kind (Datagram addr x) e s is h p o = ap (λ (r : Effect). is_unused r.0.phase) (begun answers e s addr x is p o)
   opens_kind _ e s is h p o = cc
 
   plain_list : (es : List Event) (k : Conf) (sl : Slate) → Plain answers k sl → Plain answers (conf_after k es) (slate_after answers sl es)
@@ -197,7 +197,7 @@ module _ (answers : Serving) where
   unused_says b (e ∷ es) sl h u =
       let wd = entry_wide e.kind b h.0 in
       let shut : is_open sl.phase ≡ false = ap is_open (unused_is sl.phase u) in
-      let one : (rule answers e sl).1 ≡ [] = ap (λ (r : Told). r.1) (wide_idle answers e sl wd shut) in
+      let one : (rule answers e sl).1 ≡ [] = ap (λ (r : Effect). r.1) (wide_idle answers e sl wd shut) in
       let more = unused_says (book_rule b e.kind) es (rule answers e sl).0 h.1 (unused_kept e sl (wide_no_beginning e.kind wd) ∙ u) in
       ap (λ os. os ++ sent_after answers (rule answers e sl).0 es) one ∙ more
 

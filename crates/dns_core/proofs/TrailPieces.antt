@@ -15,7 +15,7 @@ use Rattle.dns_client.specs.Connections.{append_frame, close, enqueue_or_drop, p
 use Rattle.dns_client.specs.Frames.{frames, framed}
 use Rattle.dns_client.specs.Requests.{unpolled, header_size, most_requests, request_of_frame}
 use Rattle.dns_client.specs.Serving.{Serving}
-use Rattle.dns_client.specs.Slate.{Slate, SlateRequest, Told, Phase, Open}
+use Rattle.dns_client.specs.Slate.{Slate, SlateRequest, Effect, Phase, Open}
 use Rattle.dns_core.specs.Trails.{Origin, Trail, IsRising, in_order, polls_of}
 use Rattle.dns_core.proofs.Origins.{FrameRefuses, polls_none, push_cases, queued_none}
 use Rattle.dns_core.proofs.Trailing.{Asks, AsksAll, AsksAt, Has, Keeps, Kept, asks_on, closes, joined_on, joins, polls_joined, waits_with}
@@ -97,7 +97,7 @@ module _ (answers : Serving) where
   take_keeps s t os ds h at secs [] u g = taken_keeps s u t os ds h g
   take_keeps s t os ds h at secs (f ∷ fs) u g =
       let more = take_keeps s t os ds h at secs fs (take_frame at secs f u) (frame_takes s.queue t at secs f u g) in
-      (elim (nat_lt (length f) header_size) as (λ b. let told : Told = (if b then close Short u else take_frames at secs fs (take_frame at secs f u)) in Keeps answers told None ds t os) [ true ↦ closes answers Short s u t os None ds h | false ↦ more ])
+      (elim (nat_lt (length f) header_size) as (λ b. let effect : Effect = (if b then close Short u else take_frames at secs fs (take_frame at secs f u)) in Keeps answers effect None ds t os) [ true ↦ closes answers Short s u t os None ds h | false ↦ more ])
 
   pub piece_keeps : (at secs : ℕ) (o : List ℕ) (s : Slate) (t : Trail) (os : List Output) (ds : List Origin) → s.phase ≡ Open → Kept answers s t os → Keeps answers (piece at secs o s) None ds t os
   piece_keeps at secs o s t os ds p h =

@@ -12,7 +12,7 @@ use Rattle.dns_client.specs.Connections.{opened, piece, reconfigured, released, 
 use Rattle.dns_client.specs.Datagrams.{datagram}
 use Rattle.dns_client.specs.Rule.{rule}
 use Rattle.dns_client.specs.Serving.{Serving}
-use Rattle.dns_client.specs.Slate.{Slate, SlateRequest, Conf, Told, Phase, Unused, Exchange, Open, Flushing, Closed, conf_rule, fresh, with_conf}
+use Rattle.dns_client.specs.Slate.{Slate, SlateRequest, Conf, Effect, Phase, Unused, Exchange, Open, Flushing, Closed, conf_rule, fresh, with_conf}
 use Rattle.dns_client.specs.Turns.{polled, sent_at_once, sent_for, turn_request, with_request}
 use Rattle.dns_core.specs.Own.{own}
 use Rattle.dns_core.specs.Sent.{sent, sent_after, slate, slate_after}
@@ -59,11 +59,11 @@ module _ (answers : Serving) where
   abbrev dropped_at : Event → Slate → List Origin
   dropped_at e s = dropped_by answers e.at e.kind s
 
-  abbrev Moves : Event → Slate → Told → Type 0
-  Moves e s told = (t : Trail) (os : List Output) → Kept answers s t os → Keeps answers told (origin_at e.kind s) (dropped_at e s) t os
+  abbrev Moves : Event → Slate → Effect → Type 0
+  Moves e s effect = (t : Trail) (os : List Output) → Kept answers s t os → Keeps answers effect (origin_at e.kind s) (dropped_at e s) t os
 
-  under : (e : Event) (s : Slate) (told : Told) (t : Trail) (os : List Output) (x : Option Origin) → origin_at e.kind s ≡ x → Keeps answers told x (dropped_at e s) t os → Keeps answers told (origin_at e.kind s) (dropped_at e s) t os
-  under e s told t os x is h = subst (λ (y : Option Origin). Keeps answers told y (dropped_at e s) t os) (sym is) h
+  under : (e : Event) (s : Slate) (effect : Effect) (t : Trail) (os : List Output) (x : Option Origin) → origin_at e.kind s ≡ x → Keeps answers effect x (dropped_at e s) t os → Keeps answers effect (origin_at e.kind s) (dropped_at e s) t os
+  under e s effect t os x is h = subst (λ (y : Option Origin). Keeps answers effect y (dropped_at e s) t os) (sym is) h
 
   turn_origin : (e : Event) (k : ℕ) (r : SlateRequest) (s : Slate) → e.kind ≡ Turn k → slice_get s.requests k ≡ Some r → origin_at e.kind s ≡ Some (origin k r)
   turn_origin e k r s is at = ap (λ (x : EventKind). origin_at x s) is ∙ ap (option_map (λ (q : SlateRequest). origin k q)) at
@@ -97,11 +97,11 @@ module _ (answers : Serving) where
 
   trailed_is : (e : Event) (s : Slate) (t : Trail) → trail_by (rule answers e s) (origin_at e.kind s) (dropped_by answers e.at e.kind s) t ≡ trailed answers e s t
   trailed_is e s t =
-      let told : Told = rule answers e s in
-      let gone : ℕ = length (filter is_frame told.1) in
+      let effect : Effect = rule answers e s in
+      let gone : ℕ = length (filter is_frame effect.1) in
       let x : Option Origin = origin_at e.kind s in
-      ap (λ (ws : List (Option Origin)). trail (t.went ++ (take gone t.waiting ++ replicate (length (filter is_datagram_sent told.1)) x)) ws (t.dropped ++ dropped_by answers e.at e.kind s))
-      (sym (queue_origins_are told.0.queue (length told.0.queue) (drop gone t.waiting) x (omega arith)))
+      ap (λ (ws : List (Option Origin)). trail (t.went ++ (take gone t.waiting ++ replicate (length (filter is_datagram_sent effect.1)) x)) ws (t.dropped ++ dropped_by answers e.at e.kind s))
+      (sym (queue_origins_are effect.0.queue (length effect.0.queue) (drop gone t.waiting) x (omega arith)))
 
   rule_keeps : (e : Event) (s : Slate) (t : Trail) (os : List Output) → Kept answers s t os → Kept answers (rule answers e s).0 (trailed answers e s t) (os ++ messages_sent (rule answers e s).1)
   rule_keeps e s t os h =
@@ -114,10 +114,10 @@ module _ (answers : Serving) where
   pub kept_after : (es : List Event) (s : Slate) (t : Trail) (os : List Output) → Kept answers s t os → Kept answers (slate_after answers s es) (trail_after answers s t es) (os ++ messages_sent (sent_after answers s es))
   kept_after [] s t os h = subst (Kept answers s t) (sym (append-nil os)) h
   kept_after (e ∷ es) s t os h =
-      let told : Told = rule answers e s in
-      subst (Kept answers (slate_after answers told.0 es) (trail_after answers told.0 (trailed answers e s t) es))
-      (append_assoc os (messages_sent told.1) (messages_sent (sent_after answers told.0 es)) ∙ ap (λ (ps : List Output). os ++ ps) (sym (messages_append told.1 (sent_after answers told.0 es))))
-      (kept_after es told.0 (trailed answers e s t) (os ++ messages_sent told.1) (rule_keeps e s t os h))
+      let effect : Effect = rule answers e s in
+      subst (Kept answers (slate_after answers effect.0 es) (trail_after answers effect.0 (trailed answers e s t) es))
+      (append_assoc os (messages_sent effect.1) (messages_sent (sent_after answers effect.0 es)) ∙ ap (λ (ps : List Output). os ++ ps) (sym (messages_append effect.1 (sent_after answers effect.0 es))))
+      (kept_after es effect.0 (trailed answers e s t) (os ++ messages_sent effect.1) (rule_keeps e s t os h))
 
   pub first_kept : (c : Conf) → Kept answers (fresh c) no_trail []
   first_kept c = record { went = tt; waiting = tt; order = λ k. tt; has = (refl, refl, λ k. refl) }

@@ -7,7 +7,7 @@ use Rattle.dns_events.specs.declared.event.Output.TheVariants.{Frame}
 use Rattle.dns_events.specs.declared.event.Why.{Why}
 use Rattle.dns_client.specs.Connections.{close, flushed, written}
 use Rattle.dns_client.specs.Serving.{Serving}
-use Rattle.dns_client.specs.Slate.{Slate, Told}
+use Rattle.dns_client.specs.Slate.{Slate, Effect}
 use Rattle.dns_core.specs.Trails.{Origin, Trail, AreFrom, AreQueued, IsRising, polls_of}
 use Rattle.dns_core.proofs.Origins.{from_append, from_one, queued_length}
 use Rattle.dns_core.proofs.Trailing.{Has, Keeps, Kept, ends, front_on, has_on, trail, trail_by}
@@ -43,14 +43,14 @@ module _ (answers : Serving) where
       → Has answers u.phase u.requests (trail (t.went ++ f.first ∷ []) f.others (t.dropped ++ ds)) → Keeps answers (u, Frame s.client m ∷ []) x ds t os
   gone m ms s u t os x ds q f has =
       let l : length f.others ≡ length u.queue = queued_length answers f.others ms f.waits ∙ ap length (sym q) in
-      let told : Told = (u, Frame s.client m ∷ []) in
+      let effect : Effect = (u, Frame s.client m ∷ []) in
       let kept : Kept answers u (trail (t.went ++ f.first ∷ []) f.others (t.dropped ++ ds)) (os ++ Frame s.client m ∷ []) = record {
         went = f.went;
         waiting = subst (AreQueued answers f.others) (sym q) f.waits;
         order = f.order;
         has = has;
       } in
-      subst (λ (ws : List (Option Origin)). Kept answers u (trail_by told x ds (trail t.went ws t.dropped)) (os ++ Frame s.client m ∷ [])) (sym f.waiting)
+      subst (λ (ws : List (Option Origin)). Kept answers u (trail_by effect x ds (trail t.went ws t.dropped)) (os ++ Frame s.client m ∷ [])) (sym f.waiting)
       (subst (λ (ws : List (Option Origin)). Kept answers u (trail (t.went ++ f.first ∷ []) ws (t.dropped ++ ds)) (os ++ Frame s.client m ∷ [])) (sym (take_at f.others (replicate (length u.queue) x) (length u.queue) l)) kept)
 
   has_gone : (m : List ℕ) (ms : List (List ℕ)) (s : Slate) (t : Trail) (os : List Output) (ds : List Origin) (f : Front m ms s t os) → Has answers s.phase s.requests (trail (t.went ++ f.first ∷ []) f.others (t.dropped ++ ds))
@@ -62,8 +62,8 @@ module _ (answers : Serving) where
   -- the last goes, and the connection is closed
   last_gone : (why : Why) (m : List ℕ) (ms : List (List ℕ)) (s : Slate) (t : Trail) (os : List Output) (x : Option Origin) (ds : List Origin) → Front m ms s t os → Keeps answers ((close why s).0, Frame s.client m ∷ (close why s).1) x ds t os
   last_gone why m ms s t os x ds f =
-      let told : Told = ((close why s).0, Frame s.client m ∷ (close why s).1) in
-      subst (λ (ws : List (Option Origin)). Kept answers (close why s).0 (trail_by told x ds (trail t.went ws t.dropped)) (os ++ Frame s.client m ∷ [])) (sym f.waiting)
+      let effect : Effect = ((close why s).0, Frame s.client m ∷ (close why s).1) in
+      subst (λ (ws : List (Option Origin)). Kept answers (close why s).0 (trail_by effect x ds (trail t.went ws t.dropped)) (os ++ Frame s.client m ∷ [])) (sym f.waiting)
       (ends answers why s (t.went ++ f.first ∷ []) f.others (t.dropped ++ ds) (os ++ Frame s.client m ∷ []) f.went f.order)
 
   pub written_keeps : (at : ℕ) (m : List ℕ) (ms : List (List ℕ)) (s : Slate) (t : Trail) (os : List Output) (x : Option Origin) (ds : List Origin) → Front m ms s t os → Keeps answers (written at m ms s) x ds t os

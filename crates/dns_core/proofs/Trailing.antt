@@ -10,7 +10,7 @@ use Rattle.dns_events.specs.declared.event.Output.{Output}
 use Rattle.dns_events.specs.declared.event.Why.{Why}
 use Rattle.dns_client.specs.Connections.{close}
 use Rattle.dns_client.specs.Serving.{Serving}
-use Rattle.dns_client.specs.Slate.{Slate, SlateRequest, Told, Phase, Unused, Exchange, Open, Flushing, Closed}
+use Rattle.dns_client.specs.Slate.{Slate, SlateRequest, Effect, Phase, Unused, Exchange, Open, Flushing, Closed}
 use Rattle.dns_core.specs.Trails.{Origin, Trail, AreFrom, AreQueued, IsRising, IsSomewhere, in_order, is_datagram_sent, is_frame, origin, messages_sent, poll_of, polls_of, reply_at}
 use Rattle.dns_core.proofs.Origins.{At, at_left, at_right, at_split, take_joined, rising_front, polls_append, queued_length, queued_append, from_append}
 
@@ -18,12 +18,12 @@ abbrev pub trail : List (Option Origin) → List (Option Origin) → List Origin
 trail went waiting dropped = record { went = went; waiting = waiting; dropped = dropped }
 
 -- what an event makes of a trail, by what it told, its poll and what it dropped
-abbrev pub trail_by : Told → Option Origin → List Origin → Trail → Trail
-trail_by told x ds t =
-    let gone = length (filter is_frame told.1) in
+abbrev pub trail_by : Effect → Option Origin → List Origin → Trail → Trail
+trail_by effect x ds t =
+    let gone = length (filter is_frame effect.1) in
     trail
-    (t.went ++ (take gone t.waiting ++ replicate (length (filter is_datagram_sent told.1)) x))
-    (take (length told.0.queue) (drop gone t.waiting ++ replicate (length told.0.queue) x))
+    (t.went ++ (take gone t.waiting ++ replicate (length (filter is_datagram_sent effect.1)) x))
+    (take (length effect.0.queue) (drop gone t.waiting ++ replicate (length effect.0.queue) x))
     (t.dropped ++ ds)
 
 -- others join behind what waits
@@ -99,8 +99,8 @@ module _ (answers : Serving) where
     pub has : Has s.phase s.requests t
 
   -- what is kept once an event told this
-  abbrev pub Keeps : Told → Option Origin → List Origin → Trail → List Output → Type 0
-  Keeps told x ds t os = Kept told.0 (trail_by told x ds t) (os ++ messages_sent told.1)
+  abbrev pub Keeps : Effect → Option Origin → List Origin → Trail → List Output → Type 0
+  Keeps effect x ds t os = Kept effect.0 (trail_by effect x ds t) (os ++ messages_sent effect.1)
 
   asks_case : (stream : Bool) (k : ℕ) (x : Option SlateRequest) (t u : Trail) → polls_of k (in_order u) ≡ polls_of k (in_order t) → GoesOn t u → AsksAt stream k x t → AsksAt stream k x u
   asks_case stream k None t u e g h = e ∙ h

@@ -4,7 +4,7 @@ use Rattle.std.proofs.Common.{◌≡◌, List, [], Bool, true, false, refl, ap, 
 use Rattle.dns_events.specs.declared.event.Event.{Event}
 use Rattle.dns_events.specs.declared.event.EventKind.{EventKind}
 use Rattle.dns_events.specs.declared.event.EventKind.TheVariants.{Reconfigure, Shutdown}
-use Rattle.dns_client.specs.Slate.{Slate, Told, Phase, Open, conf_rule, with_conf}
+use Rattle.dns_client.specs.Slate.{Slate, Effect, Phase, Open, conf_rule, with_conf}
 use Rattle.dns_client.specs.Rule.{rule, in_phase}
 use Rattle.dns_core.specs.Own.{is_wide}
 use Rattle.dns_core.specs.Out.{is_unused, holds_slot, is_new}
@@ -30,7 +30,7 @@ module _ (answers : Serving) where
   wide_idle e s w o = wide_phase e.kind e s.phase (with_conf (conf_rule e.kind s.conf) s) refl w o
 
   use_case : (e : Event) (s : Slate) (b : Bool) → is_wide e.kind ≡ true → is_unused s.phase ≡ b → is_unused (rule answers e s).0.phase ≡ is_unused s.phase
-  use_case e s true w u = ap (λ (t : Told). is_unused t.0.phase) (wide_idle e s w (ap is_open (unused_is s.phase u)))
+  use_case e s true w u = ap (λ (t : Effect). is_unused t.0.phase) (wide_idle e s w (ap is_open (unused_is s.phase u)))
   use_case e s false w u = rule_used answers e s u ∙ sym u
 
   -- no number is used by it
@@ -39,7 +39,7 @@ module _ (answers : Serving) where
 
   slot_case : (e : Event) (s : Slate) (b : Bool) → is_wide e.kind ≡ true → is_open s.phase ≡ b → holds_slot (rule answers e s).0 ≡ holds_slot s
   slot_case e s true w o = slot_kept answers e s (ap is_going (open_is s.phase o))
-  slot_case e s false w o = ap (λ (t : Told). holds_slot t.0) (wide_idle e s w o)
+  slot_case e s false w o = ap (λ (t : Effect). holds_slot t.0) (wide_idle e s w o)
 
   -- and no slot given back
   pub wide_slot : (e : Event) (s : Slate) → is_wide e.kind ≡ true → holds_slot (rule answers e s).0 ≡ holds_slot s

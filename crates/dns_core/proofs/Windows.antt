@@ -16,7 +16,7 @@ use Rattle.dns_events.specs.declared.event.EventKind.{EventKind}
 use Rattle.dns_events.specs.declared.event.EventKind.TheVariants.{Datagram, Offer, Reconfigure, Shutdown}
 use Rattle.dns_client.specs.After.{slate_after}
 use Rattle.dns_client.specs.Budget.{is_mark}
-use Rattle.dns_client.specs.Slate.{Slate, Told, Conf, Phase, Open, fresh, conf_rule, with_conf}
+use Rattle.dns_client.specs.Slate.{Slate, Effect, Conf, Phase, Open, fresh, conf_rule, with_conf}
 use Rattle.dns_client.specs.Datagrams.{datagram}
 use Rattle.dns_client.specs.Connections.{opened}
 use Rattle.dns_client.specs.Rule.{rule, in_phase, unused_rule}
@@ -78,11 +78,11 @@ later_windows : (w : ℕ) (e : Event) (es : List Event) → IsNonDecreasingBy (�
 later_windows w e es h = λ k d lt. windows_rise e.at (slice_index_or es k d).at w (h zero (suc k) d (omega arith) (omega (arith, lt)))
 
 module _ (answers : Serving) (b : ℕ) (fits : IsBudget (Some b)) where
-  offer_case : (over : Bool) (e : Event) (addr : SocketAddr) (s : Slate) → s.conf.over ≡ over → is_open s.phase ≡ false → let r : Told = (if over then (s, []) else (opened e.client addr e.at s, [])) in Idles b e.at s r.0
+  offer_case : (over : Bool) (e : Event) (addr : SocketAddr) (s : Slate) → s.conf.over ≡ over → is_open s.phase ≡ false → let r : Effect = (if over then (s, []) else (opened e.client addr e.at s, [])) in Idles b e.at s r.0
   offer_case true e addr s is shut = idle b e.at s shut
   offer_case false e addr s is shut = record { follows = λ o. record { over = is; budget = refl; window = refl }; gains = λ w. omega arith }
 
-  datagram_case : (over : Bool) (e : Event) (addr : SocketAddr) (o : List ℕ) (s : Slate) → is_open s.phase ≡ false → let r : Told = (if over then (s, []) else datagram e.client addr e.at e.secs o s) in Idles b e.at s r.0
+  datagram_case : (over : Bool) (e : Event) (addr : SocketAddr) (o : List ℕ) (s : Slate) → is_open s.phase ≡ false → let r : Effect = (if over then (s, []) else datagram e.client addr e.at e.secs o s) in Idles b e.at s r.0
   datagram_case true e addr o s shut = idle b e.at s shut
   datagram_case false e addr o s shut = record { follows = λ x. cc; gains = λ w. omega arith }
 

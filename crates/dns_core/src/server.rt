@@ -24,14 +24,14 @@ use dns_base::SocketAddr;
 use dns_client::ClientCore;
 use dns_clients::{append, begin, look_all, step_at, turn_away};
 use dns_middleware::{Notifiable, Settings, wrap};
-use dns_service::{Event, EventKind, OutOfMemory, Output, Plainly, Served, Service};
+use dns_service::{Event, EventKind, OutOfMemory, Output, Service, SharedService, WithoutMeta};
 use std::alloc::Global;
 use std::collections::{BTreeMap, BTreeSet};
 
 /// A server of a wrapped service, which is stepped through events: the cores of the clients that aren't finished, the numbers
 /// that were used, and the book.
 #[derive(Drop)]
-pub struct Server<W: Served> {
+pub struct Server<W: SharedService> {
     pub(crate) clients: BTreeMap<u64, ClientCore<W>>,
     used: BTreeSet<u64>,
     pub(crate) book: BookState,
@@ -46,7 +46,7 @@ pub(crate) fn give_back(book: &mut BookState, freed: bool)
     }
 }
 
-impl<W: Served> Server<W> {
+impl<W: SharedService> Server<W> {
     ghost use Rattle.dns_core.specs.Server.{Serves, Goes, AddsOutputs};
     ghost use Rattle.dns_core.specs.SplitServer.{ServesSteps, StepGoes};
 
@@ -246,7 +246,7 @@ pub(crate) fn note(book: &mut BookState, kind: &EventKind)
 }
 
 /// Serves events one by one: what is sent for them is appended to the outputs.
-fn each_event<W: Served>(
+fn each_event<W: SharedService>(
     alloc: Global,
     service: &W,
     server: &mut Server<W>,
@@ -265,7 +265,7 @@ fn each_event<W: Served>(
 }
 
 /// What all clients of a service are sent.
-pub fn serve<W: Served>(
+pub fn serve<W: SharedService>(
     alloc: Global,
     settings: &Settings,
     service: &W,
@@ -293,5 +293,5 @@ pub fn serve_events<S: Service<()>, N: Notifiable>(
     ensures { IfOk result (λ outs. outs.items ≡ out (serving (replies settings.now (S.answer service) (verdict_on (N.verdict target))) (hint_left settings.now)) settings.now events.now) }
 {
     let service = wrap(alloc, settings, service, target)?;
-    serve(alloc, settings, &Plainly { service }, events)
+    serve(alloc, settings, &WithoutMeta { service }, events)
 }

@@ -13,16 +13,18 @@ ghost use Rattle.dns_middleware.specs.Wrapped.{hint_left, replies};
 use crate::server::{Server, note};
 use dns_clients::{append, look_at};
 use dns_middleware::{Notifiable, Settings, wrap};
-use dns_service::{Event, EventKind, OutOfMemory, Output, Plainly, Served, Service, Step};
+use dns_service::{
+    Event, EventKind, OutOfMemory, Output, Service, SharedService, Step, WithoutMeta,
+};
 use std::alloc::Global;
 
 /// A server of a wrapped service whose clients look for themselves, which is stepped through events and looks.
 #[derive(Drop)]
-pub struct SplitServer<W: Served> {
+pub struct SplitServer<W: SharedService> {
     inner: Server<W>,
 }
 
-impl<W: Served> SplitServer<W> {
+impl<W: SharedService> SplitServer<W> {
     ghost use Rattle.dns_core.specs.SplitServer.{ServesSteps, StepGoes, AddsStep};
 
     /// A server that served no step.
@@ -110,7 +112,7 @@ impl<W: Served> SplitServer<W> {
 }
 
 /// Serves steps one by one: what is sent for them is appended to the outputs.
-fn each_step<W: Served>(
+fn each_step<W: SharedService>(
     alloc: Global,
     service: &W,
     server: &mut SplitServer<W>,
@@ -129,7 +131,7 @@ fn each_step<W: Served>(
 }
 
 /// What all clients of a service are sent for a list of steps.
-pub fn serve_each_step<W: Served>(
+pub fn serve_each_step<W: SharedService>(
     alloc: Global,
     settings: &Settings,
     service: &W,
@@ -157,5 +159,5 @@ pub fn serve_steps<S: Service<()>, N: Notifiable>(
     ensures { IfOk result (λ result. result.items ≡ outs (serving (replies settings.now (S.answer service) (verdict_on (N.verdict target))) (hint_left settings.now)) settings.now steps.now) }
 {
     let service = wrap(alloc, settings, service, target)?;
-    serve_each_step(alloc, settings, &Plainly { service }, steps)
+    serve_each_step(alloc, settings, &WithoutMeta { service }, steps)
 }

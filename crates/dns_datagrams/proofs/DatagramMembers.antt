@@ -7,7 +7,7 @@ use Rattle.std.proofs.lemmas.Bool.Decides.{eqb_tells}
 use Rattle.dns_events.specs.declared.event.Event.{Event}
 use Rattle.dns_events.specs.declared.event.Output.{Output}
 use Rattle.dns_client.specs.Serving.{Serving}
-use Rattle.dns_client.specs.Slate.{Slate, Conf, Told, Phase, Unused, Exchange, fresh, conf_rule}
+use Rattle.dns_client.specs.Slate.{Slate, Conf, Effect, Phase, Unused, Exchange, fresh, conf_rule}
 use Rattle.dns_client.specs.Rule.{rule}
 use Rattle.dns_events.specs.declared.settings.Settings.{Settings}
 use Rattle.dns_notes.specs.Settings.{opening}
@@ -179,7 +179,7 @@ module _ (answers : Serving) (settings : Settings) where
 
   -- the number of a client that doesn't begin is as used as before
   other_use : (c : ℕ) (q : List Event) (e : Event) (w : Bool) → is_wide e.kind ≡ w → AllDatagramKinds q → IsDatagramKind e.kind → e.client ≢ c → unused c (q ++ e ∷ []) ≡ unused c q
-  other_use c q e true w d k ne = ap (λ (s : Slate). is_unused s.phase) (slate_wide answers settings c q e w) ∙ ap (λ (t : Told). is_unused t.0.phase) ((took answers settings c q e d k (λ h. absurd cc)).wide w)
+  other_use c q e true w d k ne = ap (λ (s : Slate). is_unused s.phase) (slate_wide answers settings c q e w) ∙ ap (λ (t : Effect). is_unused t.0.phase) ((took answers settings c q e d k (λ h. absurd cc)).wide w)
   other_use c q e false w d k ne = ap (λ (s : Slate). is_unused s.phase) (slate_other answers settings c q e w ne)
 
   old_use : (q : List Event) (e : Event) → AllDatagramKinds q → IsDatagramKind e.kind → is_new answers settings q e ≡ false → unused e.client (q ++ e ∷ []) ≡ unused e.client q
@@ -248,8 +248,8 @@ module _ (answers : Serving) (settings : Settings) where
 
   gained_case : (q : List Event) (e : Event) (w : Bool) → is_wide e.kind ≡ w → AllDatagramKinds q → IsDatagramKind e.kind → flat_map (λ c. gain answers settings c q e) (heard answers settings q e) ≡ (rule answers e (slate answers settings e.client q)).1
   gained_case q e true w d k =
-      flat_none (λ c. gain answers settings c q e) (heard answers settings q e) (λ c. ap (λ (t : Told). t.1) ((took answers settings c q e d k (λ h. absurd cc)).wide w))
-      ∙ sym (ap (λ (t : Told). t.1) ((took answers settings e.client q e d k (λ h. absurd cc)).wide w))
+      flat_none (λ c. gain answers settings c q e) (heard answers settings q e) (λ c. ap (λ (t : Effect). t.1) ((took answers settings c q e d k (λ h. absurd cc)).wide w))
+      ∙ sym (ap (λ (t : Effect). t.1) ((took answers settings e.client q e d k (λ h. absurd cc)).wide w))
   gained_case q e false w d k =
       ap (flat_map (λ c. gain answers settings c q e)) (heard_those e (members answers settings (q ++ e ∷ [])) w ∙ is_once e.client (q ++ e ∷ []) (kinds_more q e d k))
       ∙ (elim (unused e.client (q ++ e ∷ [])) as (λ b. unused e.client (q ++ e ∷ []) ≡ b → flat_map (λ c. gain answers settings c q e) (if b then [] else e.client ∷ []) ≡ (rule answers e (slate answers settings e.client q)).1) [
@@ -265,7 +265,7 @@ module _ (answers : Serving) (settings : Settings) where
 
   -- an event that all clients hear sends nothing
   pub gained_wide : (q : List Event) (e : Event) → AllDatagramKinds q → IsDatagramKind e.kind → is_wide e.kind ≡ true → gained answers settings q e ≡ []
-  gained_wide q e d k w = gained_is q e d k ∙ ap (λ (t : Told). t.1) ((took answers settings e.client q e d k (λ h. absurd cc)).wide w)
+  gained_wide q e d k w = gained_is q e d k ∙ ap (λ (t : Effect). t.1) ((took answers settings e.client q e d k (λ h. absurd cc)).wide w)
 
   mine_or_wide : (e : Event) → is_wide e.kind ≡ false → e.client ≡ e.client
   mine_or_wide e h = refl

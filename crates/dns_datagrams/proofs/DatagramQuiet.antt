@@ -6,7 +6,7 @@ use Rattle.dns_events.specs.declared.event.Event.{Event}
 use Rattle.dns_events.specs.declared.event.EventKind.{EventKind}
 use Rattle.dns_events.specs.declared.event.EventKind.TheVariants.{Fault, Reconfigure, Shutdown}
 use Rattle.dns_client.specs.Serving.{Serving}
-use Rattle.dns_client.specs.Slate.{Told}
+use Rattle.dns_client.specs.Slate.{Effect}
 use Rattle.dns_events.specs.declared.settings.Settings.{Settings}
 use Rattle.dns_notes.specs.Own.{is_wide}
 use Rattle.dns_notes.specs.Sent.{conf, slate}
@@ -93,7 +93,7 @@ module _ (answers : Serving) (settings : Settings) where
   -- a Fault leaves each client as it is
   fault_slate : (c : ℕ) (p : List Event) (v : Event) → AllDatagramKinds p → v.kind ≡ Fault → slate answers settings c (p ++ v ∷ []) ≡ slate answers settings c p
   fault_slate c p v d h = elim (eqb_tells v.client c) [
-    | inl e ↦ slate_own answers settings c p v e.1 ∙ ap (λ (t : Told). t.0) (fault_idle answers settings c p v d h e.1)
+    | inl e ↦ slate_own answers settings c p v e.1 ∙ ap (λ (t : Effect). t.0) (fault_idle answers settings c p v d h e.1)
     | inr e ↦ slate_other answers settings c p v (rw h refl) e.1
   ]
 

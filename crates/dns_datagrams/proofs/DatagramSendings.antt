@@ -9,7 +9,7 @@ use Rattle.dns_events.specs.declared.event.EventKind.TheVariants.{Datagram, Faul
 use Rattle.dns_events.specs.declared.event.Output.{Output}
 use Rattle.dns_events.specs.declared.event.Output.TheVariants as output
 use Rattle.dns_client.specs.Serving.{Serving}
-use Rattle.dns_client.specs.Slate.{Slate, Told, Exchange}
+use Rattle.dns_client.specs.Slate.{Slate, Effect, Exchange}
 use Rattle.dns_client.specs.Rule.{rule}
 use Rattle.dns_events.specs.declared.settings.Settings.{Settings}
 use Rattle.dns_notes.specs.Sent.{conf, slate}
@@ -221,7 +221,7 @@ module _ (answers : Serving) (settings : Settings) where
   fault_idle c q f d h n = (took answers settings c q f d (rw h tt) (λ _. n)).idle (rw h refl)
 
   pub gained_fault : (q : List Event) (f : Event) → AllDatagramKinds q → f.kind ≡ Fault → gained answers settings q f ≡ []
-  gained_fault q f d h = gained_is answers settings q f d (rw h tt) ∙ ap (λ (t : Told). t.1) (fault_idle f.client q f d h refl)
+  gained_fault q f d h = gained_is answers settings q f d (rw h tt) ∙ ap (λ (t : Effect). t.1) (fault_idle f.client q f d h refl)
 
   -- and with it what was to be sent for the event before it isn't delivered
   pub letters_lost : (q : List Event) (e f : Event) → AllDatagramKinds q → IsDatagramKind e.kind → is_fault e.kind ≡ false → f.kind ≡ Fault → f.client ≡ e.client

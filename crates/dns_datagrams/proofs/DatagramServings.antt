@@ -13,7 +13,7 @@ use Rattle.dns_events.specs.declared.event.Output.{Output}
 use Rattle.dns_events.specs.declared.event.Output.TheVariants as output
 use Rattle.dns_service.specs.declared.polled.PolledRequest.{PolledRequest}
 use Rattle.dns_client.specs.Serving.{Serving}
-use Rattle.dns_client.specs.Slate.{Slate, Conf, Told, Phase, Unused, Exchange, Closed, IsUnused, conf_of, conf_rule, with_conf}
+use Rattle.dns_client.specs.Slate.{Slate, Conf, Effect, Phase, Unused, Exchange, Closed, IsUnused, conf_of, conf_rule, with_conf}
 use Rattle.dns_client.specs.Datagrams.{datagram}
 use Rattle.dns_client.specs.News.{news, wide}
 use Rattle.dns_client.specs.Rule.{rule, in_phase}
@@ -97,12 +97,12 @@ news_conf heard look false false false = refl
 
 module _ (answers : Serving) (settings : Settings) where
   wide_is : (c : ℕ) (q : List Event) (e : Event) → AllDatagramKinds q → IsDatagramKind e.kind → is_wide e.kind ≡ true → slate answers settings c (q ++ e ∷ []) ≡ with_conf (conf_rule e.kind (slate answers settings c q).conf) (slate answers settings c q)
-  wide_is c q e d k w = slate_wide answers settings c q e w ∙ ap (λ (t : Told). t.0) ((took answers settings c q e d k (λ h. absurd cc)).wide w)
+  wide_is c q e d k w = slate_wide answers settings c q e w ∙ ap (λ (t : Effect). t.0) ((took answers settings c q e d k (λ h. absurd cc)).wide w)
 
   narrow_heard : (q : List Event) (e : Event) (k : Conf) → conf_rule e.kind (conf settings q) ≡ conf settings q → conf settings q ≡ k → conf settings (q ++ e ∷ []) ≡ k
   narrow_heard q e k n h = conf_more settings q e ∙ n ∙ h
 
-  otherwise : (b : Bool) (x y : Told) → b ≡ false → (if b then x else y) ≡ y
+  otherwise : (b : Bool) (x y : Effect) → b ≡ false → (if b then x else y) ≡ y
   otherwise true x y h = cc
   otherwise false x y h = refl
 

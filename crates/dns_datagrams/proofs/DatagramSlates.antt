@@ -10,7 +10,7 @@ use Rattle.dns_events.specs.declared.event.EventKind.TheVariants.{Datagram, Turn
 use Rattle.dns_events.specs.declared.event.Output.{Output}
 use Rattle.dns_events.specs.declared.event.Output.TheVariants as output
 use Rattle.dns_client.specs.Serving.{Serving}
-use Rattle.dns_client.specs.Slate.{Slate, SlateRequest, Conf, Told, Phase, Unused, Exchange, fresh, conf_rule, with_conf}
+use Rattle.dns_client.specs.Slate.{Slate, SlateRequest, Conf, Effect, Phase, Unused, Exchange, fresh, conf_rule, with_conf}
 use Rattle.dns_client.specs.Datagrams.{datagram}
 use Rattle.dns_client.specs.Turns.{exchange_turn, polled, sent_at_once, sent_for, with_request}
 use Rattle.dns_client.specs.Rule.{rule, in_phase, exchange_rule}
@@ -41,7 +41,7 @@ IsPost c (output.Datagram d octets ∷ []) = d ≡ c
 IsPost c _ = ⊥
 
 -- what an event of a kind does to a client that hears it
-pub record Takes (c : ℕ) (kind : EventKind) (s : Slate) (t : Told) : Type 0 where
+pub record Takes (c : ℕ) (kind : EventKind) (s : Slate) (t : Effect) : Type 0 where
   pub plain : IsPlain c t.0
   pub conf : t.0.conf ≡ conf_rule kind s.conf
   pub posts : IsPost c t.1
@@ -93,7 +93,7 @@ module _ (answers : Serving) where
   exchange_plain c Exchange s e h = h
   exchange_plain c _ s e h = cc
 
-  goes_on : (c : ℕ) (kind : EventKind) (s : Slate) (t : Told) → s.phase ≡ Exchange → s.client ≡ c → t.0.phase ≡ s.phase → t.0.client ≡ s.client → t.0.addr ≡ s.addr → t.0.conf ≡ conf_rule kind s.conf
+  goes_on : (c : ℕ) (kind : EventKind) (s : Slate) (t : Effect) → s.phase ≡ Exchange → s.client ≡ c → t.0.phase ≡ s.phase → t.0.client ≡ s.client → t.0.addr ≡ s.addr → t.0.conf ≡ conf_rule kind s.conf
       → IsPost c t.1 → (is_wide kind ≡ true → t ≡ (with_conf (conf_rule kind s.conf) s, [])) → (is_fault kind ≡ true → t ≡ (s, [])) → Takes c kind s t
   goes_on c kind s t e mine phase client addr conf posts wide idle = record {
     plain = exchange_plain c t.0.phase t.0 (phase ∙ e) (client ∙ mine);

@@ -13,7 +13,7 @@ use Rattle.dns_events.specs.declared.event.Output.{Output}
 use Rattle.dns_events.specs.declared.event.Output.TheVariants.{Datagram}
 use Rattle.dns_service.specs.declared.polled.PolledRequest.{PolledRequest}
 use Rattle.dns_client.specs.Serving.{Serving}
-use Rattle.dns_client.specs.Slate.{Slate, Told, Exchange, IsUnused, conf_of}
+use Rattle.dns_client.specs.Slate.{Slate, Effect, Exchange, IsUnused, conf_of}
 use Rattle.dns_client.specs.Datagrams.{datagram}
 use Rattle.dns_client.specs.Stands.{IsExchange}
 use Rattle.dns_client.specs.Rule.{rule}
@@ -168,7 +168,7 @@ module _ {W R F : Type 0} (answer : PolledRequest F R → ℕ → Answer) (answe
   KeepsExchange (x ∷ y ∷ xs) s = ⊥
 
   -- at each slate of which this was kept, the letter is what is sent, and of the slate after it this is kept
-  abbrev pub ExchangeLeads : List (KeptExchange W R F) → Option Letter → List (KeptExchange W R F) → Slate → Told → Type 0
+  abbrev pub ExchangeLeads : List (KeptExchange W R F) → Option Letter → List (KeptExchange W R F) → Slate → Effect → Type 0
   ExchangeLeads old letter new s t = KeepsExchange old s → (letter ≡ letter_to (last_octets t.1) t.0.addr) × KeepsExchange new t.0
 
   -- a Turn of an exchange

@@ -12,7 +12,7 @@ use crate::running::{KeptExchange, Running};
 use dns_client::{KeptRequest, begin_exchange};
 use dns_io::Letter;
 use dns_name::SocketAddr;
-use dns_service::{Octets, OutOfMemory, Served};
+use dns_service::{Octets, OutOfMemory, SharedService};
 use std::alloc::Global;
 use std::collections::VecDeque;
 
@@ -27,7 +27,7 @@ fn letter_to(octets: Option<Octets>, addr: SocketAddr) -> Option<Letter>
 }
 
 /// Keeps an exchange under its number, behind all others, unless its request is done.
-fn keep<W: Served>(
+fn keep<W: SharedService>(
     exchanges: &mut VecDeque<KeptExchange<W>>,
     number: u64,
     request: Option<KeptRequest<W::Future, W::Stream>>,
@@ -47,7 +47,7 @@ fn keep<W: Served>(
 }
 
 /// Keeps an exchange that began, unless its request is done, and gives what is sent for it.
-fn enter<W: Served>(
+fn enter<W: SharedService>(
     exchanges: &mut VecDeque<KeptExchange<W>>,
     number: u64,
     request: Option<KeptRequest<W::Future, W::Stream>>,
@@ -64,7 +64,7 @@ fn enter<W: Served>(
 }
 
 /// Begins the exchange of a datagram, by what was heard of the book. What is sent at once is answered.
-pub(crate) fn begin<W: Served>(
+pub(crate) fn begin<W: SharedService>(
     alloc: Global,
     service: &W,
     state: &mut Running<W>,
@@ -85,7 +85,7 @@ pub(crate) fn begin<W: Served>(
 }
 
 /// A Turn of an exchange that is kept: what is sent for it, and whether its request is done.
-fn turn_kept<W: Served>(
+fn turn_kept<W: SharedService>(
     alloc: Global,
     kept: &mut KeptExchange<W>,
 ) -> Result<(Option<Letter>, bool), OutOfMemory>
@@ -99,7 +99,7 @@ fn turn_kept<W: Served>(
 }
 
 /// A Turn of the first exchange.
-fn turn_front<W: Served>(
+fn turn_front<W: SharedService>(
     alloc: Global,
     exchanges: &mut VecDeque<KeptExchange<W>>,
 ) -> Result<(Option<Letter>, bool), OutOfMemory>
@@ -111,7 +111,7 @@ fn turn_front<W: Served>(
 }
 
 /// The first exchange goes behind all others, or is kept no more where its request is done.
-fn go_behind<W: Served>(exchanges: &mut VecDeque<KeptExchange<W>>, done: bool)
+fn go_behind<W: SharedService>(exchanges: &mut VecDeque<KeptExchange<W>>, done: bool)
     requires { 0 < deque_len exchanges.old }
     ensures { exchanges.new.items ≡ gone_behind done exchanges.old.items }
 {
@@ -123,7 +123,7 @@ fn go_behind<W: Served>(exchanges: &mut VecDeque<KeptExchange<W>>, done: bool)
 }
 
 /// The number of the first exchange.
-pub(crate) fn number_first<W: Served>(exchanges: &VecDeque<KeptExchange<W>>) -> u64
+pub(crate) fn number_first<W: SharedService>(exchanges: &VecDeque<KeptExchange<W>>) -> u64
     requires { 0 < deque_len exchanges.now }
     ensures { IsFirstNumber result exchanges.now.items }
 {
@@ -131,7 +131,7 @@ pub(crate) fn number_first<W: Served>(exchanges: &VecDeque<KeptExchange<W>>) -> 
 }
 
 /// A Turn of the first exchange: what is sent for it, and whether its request is done. It goes behind all others, or is kept no more.
-pub(crate) fn turn_first<W: Served>(
+pub(crate) fn turn_first<W: SharedService>(
     alloc: Global,
     exchanges: &mut VecDeque<KeptExchange<W>>,
 ) -> Result<(Option<Letter>, bool), OutOfMemory>

@@ -13,7 +13,7 @@ use crate::office::Office;
 use dns_admission::Look;
 use dns_io::{AsyncDgramSock, Clock};
 use dns_notes::{Recorder, note_shutdown, note_version};
-use dns_service::{OutOfMemory, Served};
+use dns_service::{OutOfMemory, SharedService};
 use std::alloc::Global;
 use std::sync::Wait;
 
@@ -51,7 +51,14 @@ pub(crate) fn hear_news<C: Clock, J: Recorder>(
     Ok(())
 }
 
-impl<R: Wait, W: Served, D: AsyncDgramSock, C: Clock, J: Recorder> Office<'_, R, W, D, C, J> {
+impl<R: Wait, W: SharedService, D: AsyncDgramSock, C: Clock, J: Recorder> Office<
+    '_,
+    R,
+    W,
+    D,
+    C,
+    J,
+> {
     #[tactic(auto, using(crate::proofs::DatagramPasses::passes_news))]
     /// One look, and its news.
     pub(crate) fn look_once(&mut self) -> Result<(), OutOfMemory>

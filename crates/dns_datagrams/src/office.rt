@@ -3,13 +3,13 @@
 use crate::running::Running;
 use dns_book::Book;
 use dns_notes::Waits;
-use dns_service::Served;
+use dns_service::SharedService;
 use std::alloc::Global;
 
 /// What datagrams are served with, where what is kept of them stands, and how many waits ended in vain since a datagram came or
 /// one was sent.
 #[derive(Drop)]
-pub(crate) struct Office<'a, R, W: Served, D, C, J> {
+pub(crate) struct Office<'a, R, W: SharedService, D, C, J> {
     pub(crate) rt: &'a R,
     pub(crate) alloc: Global,
     pub(crate) book: &'a Book,

@@ -14,10 +14,17 @@ use crate::notes::{Stamp, note_turn};
 use crate::office::Office;
 use dns_io::{AsyncDgramSock, Clock};
 use dns_notes::{Recorder, pause};
-use dns_service::{OutOfMemory, Served};
+use dns_service::{OutOfMemory, SharedService};
 use std::sync::Wait;
 
-impl<R: Wait, W: Served, D: AsyncDgramSock, C: Clock, J: Recorder> Office<'_, R, W, D, C, J> {
+impl<R: Wait, W: SharedService, D: AsyncDgramSock, C: Clock, J: Recorder> Office<
+    '_,
+    R,
+    W,
+    D,
+    C,
+    J,
+> {
     #[tactic(auto, using(crate::proofs::DatagramPasses::passes_kept))]
     /// A Turn of the first exchange, after it was noted, and what is sent for it. Whether its request is done is given.
     fn turn_noted(&mut self, stamp: Stamp) -> Result<bool, OutOfMemory>

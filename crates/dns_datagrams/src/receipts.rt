@@ -17,7 +17,7 @@ use crate::serving::DgramEnd;
 use dns_io::{AsyncDgramSock, Clock, DgramRecv};
 use dns_name::SocketAddr;
 use dns_notes::{PATIENCE, Recorder, Waits};
-use dns_service::{Octets, OutOfMemory, Served};
+use dns_service::{Octets, OutOfMemory, SharedService};
 use std::sync::Wait;
 
 /// A receive was made, by which a datagram began an exchange or none was there yet; or it failed.
@@ -27,7 +27,14 @@ pub(crate) enum Receipt {
     Failed,
 }
 
-impl<R: Wait, W: Served, D: AsyncDgramSock, C: Clock, J: Recorder> Office<'_, R, W, D, C, J> {
+impl<R: Wait, W: SharedService, D: AsyncDgramSock, C: Clock, J: Recorder> Office<
+    '_,
+    R,
+    W,
+    D,
+    C,
+    J,
+> {
     #[tactic(auto, using(crate::proofs::DatagramPasses::passes_kept))]
     /// Begins the exchange of a datagram that was noted, and sends what it leads to at once.
     fn begin_noted(
@@ -154,7 +161,14 @@ fn is_full(next: u64, count: u64) -> bool
     count != 0 && next == count
 }
 
-impl<R: Wait, W: Served, D: AsyncDgramSock, C: Clock, J: Recorder> Office<'_, R, W, D, C, J> {
+impl<R: Wait, W: SharedService, D: AsyncDgramSock, C: Clock, J: Recorder> Office<
+    '_,
+    R,
+    W,
+    D,
+    C,
+    J,
+> {
     /// One look, one receive, and a poll of each unfinished exchange, unless so many datagrams came. How the loop ends by that is
     /// given, where it ends.
     fn round(&mut self, buf: &mut [u8], count: u64) -> Option<DgramEnd>

@@ -7,13 +7,13 @@ use dns_admission::Look;
 use dns_book::BookSeat;
 use dns_client::KeptRequest;
 use dns_name::SocketAddr;
-use dns_service::Served;
+use dns_service::SharedService;
 use std::alloc::Global;
 use std::collections::VecDeque;
 
 /// What is kept of an exchange whose request isn't done: its number, what is kept of the request, and where its answers go.
 #[derive(Drop)]
-pub(crate) struct KeptExchange<W: Served> {
+pub(crate) struct KeptExchange<W: SharedService> {
     pub(crate) number: u64,
     pub(crate) request: KeptRequest<W::Future, W::Stream>,
     pub(crate) addr: SocketAddr,
@@ -23,7 +23,7 @@ pub(crate) struct KeptExchange<W: Served> {
 /// of the next one, and what was heard of the book: its version, the configurations in force, and whether it was shut down. The seat
 /// that looks are made from, and whether a send failed.
 #[derive(Drop)]
-pub(crate) struct Running<W: Served> {
+pub(crate) struct Running<W: SharedService> {
     pub(crate) exchanges: VecDeque<KeptExchange<W>>,
     pub(crate) next: u64,
     pub(crate) heard: Look,
@@ -32,7 +32,7 @@ pub(crate) struct Running<W: Served> {
 }
 
 /// Nothing was received yet, and this was heard.
-pub(crate) fn begun<W: Served>(alloc: Global, heard: Look, seat: BookSeat) -> Running<W>
+pub(crate) fn begun<W: SharedService>(alloc: Global, heard: Look, seat: BookSeat) -> Running<W>
     ensures empty { (c : ℕ) → kept_at c result.exchanges.items ≡ [] }
     ensures next { result.next ≡ 0 }
     ensures heard { result.heard ≡ heard }
@@ -49,7 +49,7 @@ pub(crate) fn begun<W: Served>(alloc: Global, heard: Look, seat: BookSeat) -> Ru
 }
 
 /// What is left where the serving ends: the seat, and whether a send failed.
-pub(crate) fn left<W: Served>(state: Running<W>) -> (BookSeat, bool)
+pub(crate) fn left<W: SharedService>(state: Running<W>) -> (BookSeat, bool)
     ensures seat { result.0 ≡ state.seat }
     ensures sends { result.1 ≡ state.send_failed }
 {

@@ -9,7 +9,7 @@ use crate::notes::{Stamp, note_kind};
 use crate::office::Office;
 use dns_io::{AsyncDgramSock, Clock, DgramSend, Letter};
 use dns_notes::{PATIENCE, Recorder};
-use dns_service::{EventKind, OutOfMemory, Served};
+use dns_service::{EventKind, OutOfMemory, SharedService};
 use std::alloc::Global;
 use std::sync::Wait;
 
@@ -93,7 +93,14 @@ pub(crate) fn deliver<R: Wait, D: AsyncDgramSock, C: Clock, J: Recorder>(
     }
 }
 
-impl<R: Wait, W: Served, D: AsyncDgramSock, C: Clock, J: Recorder> Office<'_, R, W, D, C, J> {
+impl<R: Wait, W: SharedService, D: AsyncDgramSock, C: Clock, J: Recorder> Office<
+    '_,
+    R,
+    W,
+    D,
+    C,
+    J,
+> {
     #[tactic(auto, using(crate::proofs::DatagramPasses::passes_kept))]
     /// Sends what an event of an exchange led to, within the write timeout that is in force.
     #[inline(always)]

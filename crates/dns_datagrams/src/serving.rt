@@ -15,7 +15,7 @@ use dns_admission::Look;
 use dns_book::{Book, BookSeat};
 use dns_io::{AsyncDgramSock, Clock};
 use dns_notes::{Recorder, Waits};
-use dns_service::Served;
+use dns_service::SharedService;
 use std::alloc::Global;
 use std::sync::Wait;
 
@@ -35,7 +35,14 @@ pub enum DgramEnd {
 /// How many octets of a datagram are received.
 const ROOM: usize = 1024;
 
-impl<R: Wait, W: Served, D: AsyncDgramSock, C: Clock, J: Recorder> Office<'_, R, W, D, C, J> {
+impl<R: Wait, W: SharedService, D: AsyncDgramSock, C: Clock, J: Recorder> Office<
+    '_,
+    R,
+    W,
+    D,
+    C,
+    J,
+> {
     /// All that comes after the news of the first look.
     fn serve_all(&mut self, count: u64) -> DgramEnd
         requires book { self.old.state.now.seat.book ≡ self.old.book.now }
@@ -59,7 +66,7 @@ impl<R: Wait, W: Served, D: AsyncDgramSock, C: Clock, J: Recorder> Office<'_, R,
 }
 
 /// The same by what they are lent for.
-fn serve_begun<'x, R: Wait, D: AsyncDgramSock, C: Clock, J: Recorder, W: Served>(
+fn serve_begun<'x, R: Wait, D: AsyncDgramSock, C: Clock, J: Recorder, W: SharedService>(
     rt: &'x R,
     alloc: Global,
     book: &'x Book,
@@ -94,7 +101,13 @@ fn serve_begun<'x, R: Wait, D: AsyncDgramSock, C: Clock, J: Recorder, W: Served>
 }
 
 /// Serves datagrams as `serve_datagrams` does, and says whether a send failed.
-pub fn serve_datagrams_with_sends<R: Wait, D: AsyncDgramSock, C: Clock, J: Recorder, W: Served>(
+pub fn serve_datagrams_with_sends<
+    R: Wait,
+    D: AsyncDgramSock,
+    C: Clock,
+    J: Recorder,
+    W: SharedService,
+>(
     rt: &R,
     alloc: Global,
     book: &Book,
@@ -140,7 +153,7 @@ pub fn serve_datagrams_with_sends<R: Wait, D: AsyncDgramSock, C: Clock, J: Recor
 /// Serves datagrams until a look shows a shutdown, a receive fails, or so many came, where the count isn't 0. Each receive and
 /// each poll has a look before it, whose news are noted at once. Between two receives each unfinished exchange is polled once, by
 /// rising number. After a shutdown or the last datagram each is polled to its end.
-pub fn serve_datagrams<R: Wait, D: AsyncDgramSock, C: Clock, J: Recorder, W: Served>(
+pub fn serve_datagrams<R: Wait, D: AsyncDgramSock, C: Clock, J: Recorder, W: SharedService>(
     rt: &R,
     alloc: Global,
     book: &Book,

@@ -14,7 +14,7 @@ use Rattle.dns_client.specs.Frames.{frames}
 use Rattle.dns_client.specs.Requests.{header_size}
 use Rattle.dns_client.specs.Rule.{rule, in_phase, open_rule, flushing_rule}
 use Rattle.dns_client.specs.Serving.{Serving}
-use Rattle.dns_client.specs.Slate.{Slate, SlateRequest, Told, Phase, Open, Flushing, Conf, conf_rule, with_conf}
+use Rattle.dns_client.specs.Slate.{Slate, SlateRequest, Effect, Phase, Open, Flushing, Conf, conf_rule, with_conf}
 use Rattle.dns_client.specs.Timers.{is_expired}
 use Rattle.dns_client.specs.Turns.{turn, turn_request}
 use Rattle.dns_client.proofs.Taken.{takes}
@@ -61,7 +61,7 @@ module _ (answers : Serving) where
 
 -- what an own event does, as far as its kind decides: the part that was written are the frames that it sends, and perhaps a part of
 -- one more; the configurations stay; and where the connection isn't closed it is served on
-pub record Does (queue : List (List ℕ)) (part : List ℕ) (conf : Conf) (faults : ℕ) (t : Told) : Type 0 where
+pub record Does (queue : List (List ℕ)) (part : List ℕ) (conf : Conf) (faults : ℕ) (t : Effect) : Type 0 where
   pub extra : List ℕ
   pub is : part ≡ frame_octets t.1 ++ extra
   pub cut : Extra (closed_by t.1) queue extra

@@ -22,11 +22,11 @@ use Rattle.dns_events.specs.declared.event.Why.{Why}
 use Rattle.dns_events.specs.declared.event.Why.TheVariants.{Ended, Short, Idle, WriteTimeout, Fault as ByFault, Commanded, Shutdown as ByShutdown}
 use Rattle.dns_service.specs.declared.polled.PolledRequest.{PolledRequest}
 use Rattle.dns_client.specs.After.{slate_after, sent_after}
-use Rattle.dns_client.specs.News.{wide, new_end, news, told_of}
+use Rattle.dns_client.specs.News.{wide, new_end, news, look_effect}
 use Rattle.dns_client.specs.Reasons.{ClosesFor}
 use Rattle.dns_client.specs.Rule.{rule, in_phase}
 use Rattle.dns_client.specs.Serving.{Serving}
-use Rattle.dns_client.specs.Slate.{Slate, Told, Phase, Open, Flushing, conf_rule, with_conf}
+use Rattle.dns_client.specs.Slate.{Slate, Effect, Phase, Open, Flushing, conf_rule, with_conf}
 use Rattle.dns_client.specs.Stands.{Stands}
 use Rattle.dns_client.specs.declared.client.ClientCore.{ClientCore}
 use Rattle.dns_notes.specs.Own.{is_wide}
@@ -97,7 +97,7 @@ are_news version over look = with_version (look.version == version)
 
 module _ (answers : Serving) where
   -- what news do to a connection that is served
-  record DoesNews (look : Look) (s : Slate) (t : Told) : Type 0 where
+  record DoesNews (look : Look) (s : Slate) (t : Effect) : Type 0 where
     served : IsServedIn t.0.phase
     flushing : t.0.phase ≡ Flushing ByShutdown → (s.phase ≡ Flushing ByShutdown) ⊎ (look.closed ≡ true)
     closes : (why : Why) → closed_by t.1 ≡ Some why → (why ≡ ByShutdown) × ((s.phase ≡ Flushing ByShutdown) ⊎ (look.closed ≡ true))
@@ -123,7 +123,7 @@ module _ (answers : Serving) where
         ];
       }
 
-  does_told : (version : ℕ) (look : Look) (s : Slate) → IsServedIn s.phase → DoesNews look s (told_of answers version look s)
+  does_told : (version : ℕ) (look : Look) (s : Slate) → IsServedIn s.phase → DoesNews look s (look_effect answers version look s)
   does_told version look s v = does_news look (news version s.conf.over look) s (are_news version s.conf.over look) v
 
 rose_since : (f f1 f2 : ℕ) → f1 ≡ f → Rose f1 f2 → Rose f f2
@@ -197,10 +197,10 @@ module _ {W R F : Type 0} (answer : PolledRequest F R → ℕ → Answer) (answe
   goes_heard core core' k k1 k2 f f1 g h =
       let d = does_told answers core.version h.look g.slate g.served in
       let n = news_do answers core.version g.slate.conf.over h.look g.slate refl g.on in
-      let c : closed_by (told_of answers core.version h.look g.slate).1 ≡ None = ap closed_by (sym (h.sees.follows answers g.slate g.stands).0) ∙ h.sees.closed in
-      let P : Option Why → Type 0 = λ o. ServesOn o (told_of answers core.version h.look g.slate).0 in
+      let c : closed_by (look_effect answers core.version h.look g.slate).1 ≡ None = ap closed_by (sym (h.sees.follows answers g.slate g.stands).0) ∙ h.sees.closed in
+      let P : Option Why → Type 0 = λ o. ServesOn o (look_effect answers core.version h.look g.slate).0 in
       record {
-        slate = (told_of answers core.version h.look g.slate).0;
+        slate = (look_effect answers core.version h.look g.slate).0;
         stands = (h.sees.follows answers g.slate g.stands).1;
         served = d.served;
         on = subst P c n.on;

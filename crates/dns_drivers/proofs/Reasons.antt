@@ -14,7 +14,7 @@ use Rattle.dns_client.specs.Reasons.{HasShortFrame, IsShortPiece, ClosesFor}
 use Rattle.dns_client.specs.Requests.{header_size}
 use Rattle.dns_client.specs.Rule.{rule}
 use Rattle.dns_client.specs.Serving.{Serving}
-use Rattle.dns_client.specs.Slate.{Slate, Told, Phase, Unused, Exchange, Open, Flushing, Closed, Conf, conf_rule, with_conf}
+use Rattle.dns_client.specs.Slate.{Slate, Effect, Phase, Unused, Exchange, Open, Flushing, Closed, Conf, conf_rule, with_conf}
 use Rattle.dns_client.specs.Turns.{turn_request}
 use Rattle.dns_client.proofs.Walks.{Rows, rows}
 use Rattle.dns_drivers.specs.Closing.{closed_by}
@@ -54,7 +54,7 @@ pub record Reason (why : Why) (e : Event) (s : Slate) (outs : List Output) : Typ
   pub closes : ClosesFor why e s
   pub silent : why ≡ WriteTimeout → frame_octets outs ≡ []
 
-abbrev pub HasReason : Event → Slate → Told → Type 0
+abbrev pub HasReason : Event → Slate → Effect → Type 0
 HasReason e s t = (why : Why) → closed_by t.1 ≡ Some why → Reason why e s t.1
 
 silent : (e : Event) (s t : Slate) → HasReason e s (t, [])

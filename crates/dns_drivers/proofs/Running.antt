@@ -10,7 +10,7 @@ use Rattle.dns_events.specs.declared.event.Why.{Why}
 use Rattle.dns_events.specs.declared.event.Why.TheVariants.{Fault as ByFault, WriteTimeout, Shutdown as ByShutdown}
 use Rattle.dns_service.specs.declared.polled.PolledRequest.{PolledRequest}
 use Rattle.dns_client.specs.After.{slate_after, sent_after}
-use Rattle.dns_client.specs.News.{news, told_of}
+use Rattle.dns_client.specs.News.{news, look_effect}
 use Rattle.dns_client.specs.Rule.{rule}
 use Rattle.dns_client.specs.Serving.{Serving}
 use Rattle.dns_client.specs.Slate.{Slate, Conf}
@@ -47,7 +47,7 @@ last_news answers last look s hs (Some why) k e = news_last answers last look s 
 
 pub heard_at : {W R F : Type 0} (answer : PolledRequest F R → ℕ → Answer) (answers : Serving) (s : Slate) (why : Option Why) (last look : Look) (events : List Event) (core core' : ClientCore W R F) (outs : List Output) →
     Stands answer answers core s → IsServed s → core.version ≡ last.version → s.conf.over ≡ last.closed → kinds events ≡ news_kinds last look →
-    GoesAs answer answers core core' outs (told_of answers core.version look) → closed_by outs ≡ why → HeardAt answer answers s why last.closed look events core'
+    GoesAs answer answers core core' outs (look_effect answers core.version look) → closed_by outs ≡ why → HeardAt answer answers s why last.closed look events core'
 heard_at answer answers s why last look events core core' outs stands live v o k follows c =
     let wide : AllWide (kinds events) = rw k (news_wide last look) in
     let same : news core.version s.conf.over look ≡ news last.version last.closed look = rw (v, o) refl in

@@ -11,7 +11,7 @@ use Rattle.dns_client.specs.Frames.{frames}
 use Rattle.dns_client.specs.Requests.{header_size}
 use Rattle.dns_client.specs.Rule.{rule, in_phase, open_rule, flushing_rule, closed_rule}
 use Rattle.dns_client.specs.Serving.{Serving}
-use Rattle.dns_client.specs.Slate.{Slate, Told, Phase, Unused, Exchange, Open, Flushing, Closed, conf_rule, with_conf}
+use Rattle.dns_client.specs.Slate.{Slate, Effect, Phase, Unused, Exchange, Open, Flushing, Closed, conf_rule, with_conf}
 use Rattle.dns_client.specs.Timers.{is_expired}
 use Rattle.dns_client.specs.Turns.{turn}
 use Rattle.dns_client.proofs.Taken.{takes}
@@ -39,12 +39,12 @@ flushes_on e s t p q = record { served = rw (q, p) refl; received = λ h. let no
 
 frames_serve : (e : Event) (s : Slate) (at secs : ℕ) (fs : List (List ℕ)) (t : Slate) → s.phase ≡ Open → t.phase ≡ Open → t.received ≡ s.received ++ piece_octets e.kind → Serves e s (take_frames at secs fs t).0
 frames_serve e s at secs [] t p q r = goes_open e s t p q r
-frames_serve e s at secs (m ∷ fs) t p q r = in_either (λ (u : Told). Serves e s u.0) (nat_lt (length m) header_size) (close Short t) (take_frames at secs fs (take_frame at secs m t))
+frames_serve e s at secs (m ∷ fs) t p q r = in_either (λ (u : Effect). Serves e s u.0) (nat_lt (length m) header_size) (close Short t) (take_frames at secs fs (take_frame at secs m t))
     (λ h. closes e s (close Short t).0 refl)
     (λ h. let l = takes at secs m t in frames_serve e s at secs fs (take_frame at secs m t) p (l.phase ∙ q) (l.received ∙ r))
 
 tick_serves : (e : Event) (s : Slate) → e.kind ≡ Tick → s.phase ≡ Open → Serves e s (tick e.at s).0
-tick_serves e s k p = in_either (λ (u : Told). Serves e s u.0) (is_expired s.reset_at s.connection.idle_timeout e.at && not (list_any in_transaction s.requests)) (close Idle s) (s, [])
+tick_serves e s k p = in_either (λ (u : Effect). Serves e s u.0) (is_expired s.reset_at s.connection.idle_timeout e.at && not (list_any in_transaction s.requests)) (close Idle s) (s, [])
     (λ h. closes e s (close Idle s).0 refl) (λ h. stays_open e s s p refl (rw k refl) refl)
 
 written_serves : (e : Event) (s : Slate) (took : ℕ) (m : List ℕ) (ms : List (List ℕ)) → e.kind ≡ Write took → s.phase ≡ Open → Serves e s (written e.at m ms s).0
@@ -53,7 +53,7 @@ written_serves e s took m (n ∷ ms) k p = stays_open e s (written e.at m (n ∷
 
 write_serves : (e : Event) (s : Slate) (took : ℕ) (q : List (List ℕ)) → e.kind ≡ Write took → s.phase ≡ Open → Serves e s (write e.at took q s).0
 write_serves e s took [] k p = stays_open e s s p refl (rw k refl) refl
-write_serves e s took (m ∷ ms) k p = in_either (λ (u : Told). Serves e s u.0) (took_too_long took s) (close WriteTimeout s) (written e.at m ms s) (λ h. closes e s (close WriteTimeout s).0 refl) (λ h. written_serves e s took m ms k p)
+write_serves e s took (m ∷ ms) k p = in_either (λ (u : Effect). Serves e s u.0) (took_too_long took s) (close WriteTimeout s) (written e.at m ms s) (λ h. closes e s (close WriteTimeout s).0 refl) (λ h. written_serves e s took m ms k p)
 
 flushed_serves : (e : Event) (s : Slate) (m : List ℕ) (ms : List (List ℕ)) → s.phase ≡ Flushing ByShutdown → Serves e s (flushed ByShutdown m ms s).0
 flushed_serves e s m [] p = closes e s (flushed ByShutdown m [] s).0 refl
@@ -61,7 +61,7 @@ flushed_serves e s m (n ∷ ms) p = flushes_on e s (flushed ByShutdown m (n ∷ 
 
 flush_serves : (e : Event) (s : Slate) (took : ℕ) (q : List (List ℕ)) → s.phase ≡ Flushing ByShutdown → Serves e s (flush ByShutdown took q s).0
 flush_serves e s took [] p = flushes_on e s s p refl
-flush_serves e s took (m ∷ ms) p = in_either (λ (u : Told). Serves e s u.0) (took_too_long took s) (close WriteTimeout s) (flushed ByShutdown m ms s) (λ h. closes e s (close WriteTimeout s).0 refl) (λ h. flushed_serves e s m ms p)
+flush_serves e s took (m ∷ ms) p = in_either (λ (u : Effect). Serves e s u.0) (took_too_long took s) (close WriteTimeout s) (flushed ByShutdown m ms s) (λ h. closes e s (close WriteTimeout s).0 refl) (λ h. flushed_serves e s m ms p)
 
 wound_serves : (e : Event) (s : Slate) (q : List (List ℕ)) → e.kind ≡ Shutdown → Serves e s (wind_up ByShutdown q s).0
 wound_serves e s [] k = closes e s (close ByShutdown s).0 refl

@@ -14,7 +14,7 @@ use Rattle.dns_client.specs.Connections.{wind_up}
 use Rattle.dns_client.specs.News.{wide, new_end, news}
 use Rattle.dns_client.specs.Rule.{rule, in_phase, unused_rule, open_rule}
 use Rattle.dns_client.specs.Serving.{Serving}
-use Rattle.dns_client.specs.Slate.{Slate, Told, Phase, Unused, Open, Flushing, Conf, conf_rule, with_conf}
+use Rattle.dns_client.specs.Slate.{Slate, Effect, Phase, Unused, Open, Flushing, Conf, conf_rule, with_conf}
 use Rattle.dns_notes.specs.Own.{is_wide}
 use Rattle.dns_notes.specs.Clocks.{fault_count, faults_in}
 use Rattle.dns_notes.specs.Notes.{AllWide}
@@ -118,7 +118,7 @@ module _ (answers : Serving) where
   rounds_wide below s (e ∷ es) w = (may_one below e.kind s w.0, rounds_wide (turned below e.kind) (rule answers e s).0 es w.1)
 
   -- what the news of a look do to a connection that knows the looks before
-  pub record NewsDo (before now : Bool) (t : Told) : Type 0 where
+  pub record NewsDo (before now : Bool) (t : Effect) : Type 0 where
     pub frameless : frame_octets t.1 ≡ []
     pub over : t.0.conf.over ≡ (before || now)
     pub on : ServesOn (closed_by t.1) t.0
@@ -148,7 +148,7 @@ module _ (answers : Serving) where
   end_does s false false e live = same_does s false false refl e live
 
   -- new configurations
-  record Reconfigures (over : Bool) (t : Told) : Type 0 where
+  record Reconfigures (over : Bool) (t : Effect) : Type 0 where
     nothing : t.1 ≡ []
     over_is : t.0.conf.over ≡ over
     on : IsServed t.0
@@ -174,7 +174,7 @@ module _ (answers : Serving) where
   news_do version over look s e live = both_do (look.version == version) look.dgram look.stream s over look.closed (new_end over look) e live (λ t h l. end_does t over look.closed h l)
 
   -- no frame is sent for an event that all clients hear, in whatever state
-  abbrev IsFrameless : Told → Type 0
+  abbrev IsFrameless : Effect → Type 0
   IsFrameless t = frame_octets t.1 ≡ []
 
   wind_frameless : (why : Why) (q : List (List ℕ)) (s : Slate) → IsFrameless (wind_up why q s)

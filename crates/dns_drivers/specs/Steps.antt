@@ -15,7 +15,7 @@ use Rattle.dns_service.specs.declared.polled.PolledRequest.{PolledRequest}
 use Rattle.dns_client.specs.Serving.{Serving}
 use Rattle.dns_client.specs.Slate.{Slate}
 use Rattle.dns_client.specs.Rule.{rule}
-use Rattle.dns_client.specs.News.{told_of}
+use Rattle.dns_client.specs.News.{look_effect}
 use Rattle.dns_client.specs.Stands.{Stands, GoesAs, waiting, write_limit}
 use Rattle.dns_client.specs.declared.client.ClientCore.{ClientCore}
 use Rattle.dns_notes.specs.Own.{is_wide}
@@ -46,7 +46,7 @@ module _ {W R F : Type 0} (answer : PolledRequest F R → ℕ → Answer) where
   -- a core saw a look
   pub record SeesLook (core core' : ClientCore W R F) (look : Look) (why : Option Why) : Type 0 where
     pub outs : List Output
-    pub follows : (answers : Serving) → GoesAs answer answers core core' outs (told_of answers core.version look)
+    pub follows : (answers : Serving) → GoesAs answer answers core core' outs (look_effect answers core.version look)
     pub version : core'.version ≡ look.version
     pub closed : closed_by outs ≡ why
 

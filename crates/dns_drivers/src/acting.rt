@@ -18,12 +18,12 @@ use crate::writing::write_event;
 use dns_client::ClientCore;
 use dns_io::{Clock, Link};
 use dns_notes::{Recorder, now_is};
-use dns_service::{Event, EventKind, OutOfMemory, Served, Why};
+use dns_service::{Event, EventKind, OutOfMemory, SharedService, Why};
 use std::alloc::Global;
 use std::sync::Wait;
 
 /// Gives the event to the core. The answer is why the connection is closed by that, if it is.
-fn step<W: Served>(
+fn step<W: SharedService>(
     alloc: Global,
     core: &mut ClientCore<W>,
     service: &W,
@@ -38,7 +38,7 @@ fn step<W: Served>(
 }
 
 /// Notes the event, and then gives it to the core. The answer is why the connection is closed by that, if it is.
-fn take<J: Recorder, W: Served>(
+fn take<J: Recorder, W: SharedService>(
     alloc: Global,
     core: &mut ClientCore<W>,
     service: &W,
@@ -55,7 +55,7 @@ fn take<J: Recorder, W: Served>(
 }
 
 /// The same of an event of the loop's own, which may be the turn of the request that was polled last in this round.
-fn hand_over<J: Recorder, W: Served>(
+fn hand_over<J: Recorder, W: SharedService>(
     alloc: Global,
     core: &mut ClientCore<W>,
     service: &W,
@@ -76,7 +76,7 @@ fn hand_over<J: Recorder, W: Served>(
 }
 
 /// The request to be polled next, by the last one that was polled in this round.
-fn next_request<W: Served>(core: &ClientCore<W>, last: Option<u64>) -> Option<u64>
+fn next_request<W: SharedService>(core: &ClientCore<W>, last: Option<u64>) -> Option<u64>
     ensures { (answers : Serving) (s : Slate) → Stands (request_answer W.Future.answer W.Stream.answer) answers core.now s → result ≡ next_turn (below_of last) s.requests }
 {
     match last {
@@ -87,7 +87,7 @@ fn next_request<W: Served>(core: &ClientCore<W>, last: Option<u64>) -> Option<u6
 
 /// How long a read is waited for: not long where a request is to be polled again, and else not past the moment at which the
 /// connection is idle for too long, by the moment of the last event. A wait is one millisecond at least.
-fn patience<W: Served>(core: &ClientCore<W>, kept: &TurnState) -> u64 {
+fn patience<W: SharedService>(core: &ClientCore<W>, kept: &TurnState) -> u64 {
     match core.first_unfinished() {
         Some(_) => kept.waits.pause(),
         None => kept.waits.patience().min(core.idle_left(kept.at)).max(1),
@@ -95,7 +95,7 @@ fn patience<W: Served>(core: &ClientCore<W>, kept: &TurnState) -> u64 {
 }
 
 /// Polls the next request; where none is left, makes one read. The event says what was done.
-fn turn_or_read<R: Wait, L: Link, C: Clock, W: Served>(
+fn turn_or_read<R: Wait, L: Link, C: Clock, W: SharedService>(
     rt: &R,
     alloc: Global,
     link: &mut L,
@@ -117,7 +117,7 @@ fn turn_or_read<R: Wait, L: Link, C: Clock, W: Served>(
 
 /// Writes the first frame that waits; where none does, polls the next request; where none is left, makes one read. The
 /// event says what was done, and is not noted yet.
-fn own_event<R: Wait, L: Link, C: Clock, W: Served>(
+fn own_event<R: Wait, L: Link, C: Clock, W: SharedService>(
     rt: &R,
     alloc: Global,
     client: u64,
@@ -148,7 +148,7 @@ fn after_event(last: Option<u64>, kind: &EventKind) -> Option<u64>
 
 #[tactic(auto, using(crate::proofs::Choices::part_read))]
 /// Does one own event. It is noted before the core takes it.
-pub(crate) fn act<R: Wait, L: Link, C: Clock, J: Recorder, W: Served>(
+pub(crate) fn act<R: Wait, L: Link, C: Clock, J: Recorder, W: SharedService>(
     rt: &R,
     alloc: Global,
     client: u64,

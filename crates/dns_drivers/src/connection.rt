@@ -16,7 +16,7 @@ use dns_client::ClientCore;
 use dns_io::{Clock, Link};
 use dns_name::SocketAddr;
 use dns_notes::{Recorder, note_moment};
-use dns_service::{EventKind, OutOfMemory, Served, Why};
+use dns_service::{EventKind, OutOfMemory, SharedService, Why};
 use std::alloc::Global;
 use std::sync::Wait;
 
@@ -30,7 +30,7 @@ pub enum ConnectionEnd {
 }
 
 /// Admits a connection that was offered at a moment, and serves it.
-fn admit_and_serve<R: Wait, L: Link, C: Clock, J: Recorder, W: Served>(
+fn admit_and_serve<R: Wait, L: Link, C: Clock, J: Recorder, W: SharedService>(
     rt: &R,
     alloc: Global,
     client: u64,
@@ -74,7 +74,7 @@ fn admit_and_serve<R: Wait, L: Link, C: Clock, J: Recorder, W: Served>(
 
 #[tactic(auto, using(crate::proofs::Ends::unserved_early))]
 /// Notes the Offer, and serves the connection.
-fn serve_offer<R: Wait, L: Link, C: Clock, J: Recorder, W: Served>(
+fn serve_offer<R: Wait, L: Link, C: Clock, J: Recorder, W: SharedService>(
     rt: &R,
     alloc: Global,
     link: &mut L,
@@ -117,7 +117,7 @@ fn serve_offer<R: Wait, L: Link, C: Clock, J: Recorder, W: Served>(
 /// Serves one connection until it is closed, by a look that shows no shutdown. Then its slot is given back and the link
 /// closed. Each turn is one look and one own event: a frame that waits is written; where none waits, the next request of
 /// this round is polled; where none is left, one read is made, which ends the round.
-pub fn serve_connection<R: Wait, L: Link, C: Clock, J: Recorder, W: Served>(
+pub fn serve_connection<R: Wait, L: Link, C: Clock, J: Recorder, W: SharedService>(
     rt: &R,
     alloc: Global,
     book: &Book,

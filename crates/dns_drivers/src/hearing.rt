@@ -16,7 +16,7 @@ use dns_book::{Book, BookSeat};
 use dns_client::ClientCore;
 use dns_io::Clock;
 use dns_notes::{Recorder, note_shutdown, note_version};
-use dns_service::{OutOfMemory, Served, Why};
+use dns_service::{OutOfMemory, SharedService, Why};
 use std::alloc::Global;
 use std::sync::Wait;
 
@@ -51,7 +51,7 @@ fn with_look(last: &Look, look: &Look) -> Look
 }
 
 /// The look is added to what was seen, and the core sees it. The answer is why the connection is closed by that, if it is.
-fn see<W: Served>(
+fn see<W: SharedService>(
     alloc: Global,
     core: &mut ClientCore<W>,
     kept: &mut TurnState,
@@ -69,7 +69,7 @@ fn see<W: Served>(
 
 #[tactic(auto, using(crate::proofs::Hearings::looked_once))]
 /// One look. Its news are noted, and then the core sees it. The answer is why the connection is closed by that, if it is.
-pub(crate) fn hear<R: Wait, C: Clock, J: Recorder, W: Served>(
+pub(crate) fn hear<R: Wait, C: Clock, J: Recorder, W: SharedService>(
     rt: &R,
     alloc: Global,
     book: &Book,

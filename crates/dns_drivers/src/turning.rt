@@ -21,12 +21,12 @@ use dns_book::{Book, BookSeat};
 use dns_client::ClientCore;
 use dns_io::{Clock, Link};
 use dns_notes::{Recorder, Waits};
-use dns_service::{OutOfMemory, Served, Why};
+use dns_service::{OutOfMemory, SharedService, Why};
 use std::alloc::Global;
 use std::sync::Wait;
 
 /// One look, and one own event where that doesn't close the connection. The answer is why it is closed, if it is.
-fn turn_once<R: Wait, L: Link, C: Clock, J: Recorder, W: Served>(
+fn turn_once<R: Wait, L: Link, C: Clock, J: Recorder, W: SharedService>(
     rt: &R,
     alloc: Global,
     book: &Book,
@@ -65,7 +65,7 @@ fn turn_once<R: Wait, L: Link, C: Clock, J: Recorder, W: Served>(
 }
 
 /// Serves the connection of a core that saw a look, turn by turn, until it is closed.
-pub(crate) fn serve_core<R: Wait, L: Link, C: Clock, J: Recorder, W: Served>(
+pub(crate) fn serve_core<R: Wait, L: Link, C: Clock, J: Recorder, W: SharedService>(
     rt: &R,
     alloc: Global,
     core: &mut ClientCore<W>,

@@ -27,7 +27,7 @@ use dns_name::{OutOfMemory, Rcode};
 use dns_script::{
     NotifyRules, Rule, Rules, ScriptAnswer, ScriptAnswers, ScriptReply, ScriptService, ScriptTarget,
 };
-use dns_service::{ConnectionConfig, Event, Served, Service, StreamConfig};
+use dns_service::{ConnectionConfig, Event, Service, SharedService, StreamConfig};
 use std::alloc::Global;
 
 /// The configuration of the stream server: `stream 1000 1000 4 10000 yes`.
@@ -73,7 +73,7 @@ fn flood_rules(alloc: Global) -> Result<Rules, OutOfMemory>
 }
 
 /// One event more is served, and what is sent for it is counted and not kept.
-fn count_event<W: Served>(
+fn count_event<W: SharedService>(
     alloc: Global,
     server: &mut Server<W>,
     service: &W,
@@ -92,7 +92,7 @@ fn count_event<W: Served>(
 }
 
 /// The event of a place is made, served and counted, and not kept.
-fn count_next<W: Served>(
+fn count_next<W: SharedService>(
     alloc: Global,
     server: &mut Server<W>,
     service: &W,
@@ -111,7 +111,7 @@ fn count_next<W: Served>(
 }
 
 /// The events of a flood are made, served and counted one by one, by a server that served none.
-fn count_each<W: Served>(
+fn count_each<W: SharedService>(
     alloc: Global,
     server: &mut Server<W>,
     service: &W,
@@ -139,7 +139,7 @@ fn count_each<W: Served>(
 }
 
 /// How much is sent for the events of a flood.
-fn count_events<W: Served>(
+fn count_events<W: SharedService>(
     alloc: Global,
     settings: &Settings,
     service: W,

@@ -65,7 +65,7 @@ fn hear_next(
     ensures { OnOk result ((q : Inquiry) (es : List TheEvent) (before : List TheOutcome) → HasHeard q es asking.old → asked_by q es ≡ before ++ outcomes.old.items
         → HasHeard q (es ++ event.now ∷ []) asking.new × (asked_by q (es ++ event.now ∷ []) ≡ before ++ outcomes.new.items)) }
 {
-    let outcome = asking.hear(alloc, event)?;
+    let outcome = asking.apply_event(alloc, event)?;
     outcomes.push(outcome)?;
     Ok(())
 }

@@ -156,7 +156,7 @@ impl Asking {
     }
 
     /// What comes of an event. A refused call is as none.
-    pub(crate) fn hear(
+    pub(crate) fn apply_event(
         &mut self,
         alloc: Global,
         event: &AskingEvent,

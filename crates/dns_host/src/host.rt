@@ -11,7 +11,7 @@ use dns_book::{Book, BookSeat};
 use dns_datagrams::DgramEnd;
 use dns_io::{AsyncAccept, AsyncDgramSock, Clock, Spawner};
 use dns_name::OutOfMemory;
-use dns_service::Served;
+use dns_service::SharedService;
 use std::alloc::Global;
 use std::sync::{Arc, Wait};
 use std::thread::{Threads, join_mut};
@@ -71,7 +71,7 @@ where
     /// Both beside each other, datagrams in a thread of their own.
     fn both_beside<
         R: Threads + Wait + Copy + Send + Sync + 'static,
-        W: Served + Send + Sync + 'static,
+        W: SharedService + Send + Sync + 'static,
     >(
         &mut self,
         reception: &Reception<'_, R, C, W>,
@@ -112,7 +112,10 @@ where
 
     #[tactic(auto, using(crate::proofs::Hostings::host_served))]
     /// Serves both from the halves of a seat. Then `join_all` waits for the work, and the book is shut down.
-    fn serve<R: Threads + Wait + Copy + Send + Sync + 'static, W: Served + Send + Sync + 'static>(
+    fn serve<
+        R: Threads + Wait + Copy + Send + Sync + 'static,
+        W: SharedService + Send + Sync + 'static,
+    >(
         &mut self,
         reception: &Reception<'_, R, C, W>,
         seat: BookSeat,
@@ -139,7 +142,7 @@ where
     /// Serves both with a service and a clock of connections of their own.
     fn serve_shared<
         R: Threads + Wait + Copy + Send + Sync + 'static,
-        W: Served + Send + Sync + 'static,
+        W: SharedService + Send + Sync + 'static,
     >(
         &mut self,
         rt: &R,
@@ -193,7 +196,7 @@ fn close_both<R: Wait>(
 }
 
 /// The service, to be shared, and a clock.
-fn shared<C: Clock, W: Served>(
+fn shared<C: Clock, W: SharedService>(
     alloc: Global,
     service: W,
     clock: &C,
@@ -214,7 +217,7 @@ pub fn host_service<
     A: AsyncAccept,
     D: AsyncDgramSock + Send,
     C: Clock + Send + Drop + 'static,
-    W: Served + Send + Sync + 'static,
+    W: SharedService + Send + Sync + 'static,
     P: Spawner<ConnectionWork<A::Link, C, Silent, W>>,
     J: Recorder + Send,
 >(

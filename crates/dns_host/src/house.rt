@@ -9,7 +9,7 @@ use dns_accepts::{AcceptEnd, ConnectionWork, NoHook, Recorder, Silent, serve_acc
 use dns_book::{Book, BookSeat};
 use dns_datagrams::{DgramEnd, serve_datagrams_with_sends};
 use dns_io::{AsyncAccept, AsyncDgramSock, Clock, Spawner};
-use dns_service::Served;
+use dns_service::SharedService;
 use std::alloc::Global;
 use std::sync::{Arc, Wait};
 use std::thread::Threads;
@@ -59,7 +59,7 @@ fn shut_after_accepts<R: Wait>(rt: &R, book: &Book, seat: &mut BookSeat, end: Ac
     }
 }
 
-impl<R: Wait, W: Served> House<'_, R, W> {
+impl<R: Wait, W: SharedService> House<'_, R, W> {
     /// Serves datagrams from the seat that stands in its place. Where they end by a fault or for want of memory, the book is
     /// shut down. Whether a send failed is given too.
     pub(crate) fn datagrams_beside<D: AsyncDgramSock, C: Clock, J: Recorder>(
@@ -96,7 +96,7 @@ impl<R: Wait, W: Served> House<'_, R, W> {
 impl<
     R: Threads + Wait + Copy + Send + 'static,
     C: Clock + Send + Drop + 'static,
-    W: Served + Send + Sync + 'static,
+    W: SharedService + Send + Sync + 'static,
 > Reception<'_, R, C, W>
 where
     W::Future: Send,

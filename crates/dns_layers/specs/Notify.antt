@@ -47,13 +47,13 @@ abbrev pub serial_reached : Result (List (Result Standing ParseError)) ParseErro
 serial_reached (Ok records) = serial_among records
 serial_reached (Err e) = None
 
-abbrev pub told_serial : List ℕ → Option Serial
-told_serial o = serial_reached (reached (questions_of o).1 (standing_answers o))
+abbrev pub notified_serial : List ℕ → Option Serial
+notified_serial o = serial_reached (reached (questions_of o).1 (standing_answers o))
 
 -- by the first question, where that can be read and is for a zone's start
 abbrev pub notice_by : List ℕ → IpAddr → Option Question → Option Notice
 notice_by o source None = None
-notice_by o source (Some q) = if nat_eq q.qtype soa_type then Some (record { class = q.qclass; apex_name = q.qname; serial = told_serial o; source = source }) else None
+notice_by o source (Some q) = if nat_eq q.qtype soa_type then Some (record { class = q.qclass; apex_name = q.qname; serial = notified_serial o; source = source }) else None
 
 -- what the target is asked by a request of opcode NOTIFY
 abbrev pub notice_of : {Meta : Type 0} → Req Meta → Option Notice

@@ -6,7 +6,7 @@ use Rattle.dns_events.specs.declared.settings.Settings.{Settings}
 use Rattle.dns_service.specs.Asked.{client_size}
 use Rattle.dns_service.specs.Transport.{is_stream}
 use Rattle.dns_layers.specs.declared.refusal.Refusal.{Refusal}
-use Rattle.dns_layers.specs.declared.refusal.Refusal.TheVariants.{FromOutside, FromInside}
+use Rattle.dns_layers.specs.declared.refusal.Refusal.TheVariants.{ByMandatory, ByEdns}
 use Rattle.dns_layers.specs.Edns.{opt_refusal}
 use Rattle.dns_layers.specs.Mandatory.{mandatory_refusal}
 
@@ -19,8 +19,8 @@ first_some (None ∷ more) = first_some more
 -- what each server refuses comes before what EDNS refuses
 abbrev pub refusal_by : Settings → TransportSpecificContext → Asked → Option Refusal
 refusal_by s t a = first_some
-    (option_map FromOutside (mandatory_refusal s.strict a)
-    ∷ option_map FromInside (if s.edns then opt_refusal (is_stream t) a.opt else None)
+    (option_map ByMandatory (mandatory_refusal s.strict a)
+    ∷ option_map ByEdns (if s.edns then opt_refusal (is_stream t) a.opt else None)
     ∷ [])
 
 -- the client's size, where EDNS is on

@@ -4,7 +4,7 @@ ghost use Rattle.std.specs.Prelude.{◌≡◌, IfOk};
 ghost use Rattle.dns_service.specs.declared.message.Request.{Request};
 ghost use Rattle.dns_service.specs.Asked.{asked_of};
 ghost use Rattle.dns_base.specs.Sections.{first_of, questions_of};
-ghost use Rattle.dns_layers.specs.Notify.{notice_by, notice_of, serial_among, serial_read, soa_serial, told_serial};
+ghost use Rattle.dns_layers.specs.Notify.{notice_by, notice_of, serial_among, serial_read, soa_serial, notified_serial};
 
 use dns_base::{
     Class, IpAddr, Message, Name, Opcode, OutOfMemory, ParseError, QuestionRef, Record, RecordData,
@@ -67,10 +67,10 @@ fn made_notice(
     question: &QuestionRef<'_>,
     source: IpAddr,
 ) -> Result<Notice, OutOfMemory>
-    ensures { IfOk result (λ n. n ≡ record { class = question.now.qclass; apex_name = question.now.qname; serial = told_serial message.now; source = source }) }
+    ensures { IfOk result (λ n. n ≡ record { class = question.now.qclass; apex_name = question.now.qname; serial = notified_serial message.now; source = source }) }
 {
     let apex_name = question.qname().to_name(alloc)?;
-    let serial = told_serial(alloc, message)?;
+    let serial = notified_serial(alloc, message)?;
     Ok(Notice {
         class: question.qclass(),
         apex_name,
@@ -80,8 +80,8 @@ fn made_notice(
 }
 
 /// The serial in the first answer, where that is a zone's start and can be read.
-fn told_serial(alloc: Global, message: &Message) -> Result<Option<Serial>, OutOfMemory>
-    ensures { IfOk result (λ s. s ≡ told_serial message.now) }
+fn notified_serial(alloc: Global, message: &Message) -> Result<Option<Serial>, OutOfMemory>
+    ensures { IfOk result (λ s. s ≡ notified_serial message.now) }
 {
     match message.answer() {
         Ok(records) => first_serial(alloc, records),

@@ -13,9 +13,9 @@ use dns_service::{Asked, Request, Settings, TransportSpecificContext, read_asked
 #[derive(Clone, Copy, Debug, PartialEq, Eq)]
 pub enum Refusal {
     /// By what each server does: its reply goes through that rule alone.
-    FromOutside(OptRcode),
+    ByMandatory(OptRcode),
     /// By EDNS: its reply goes through the rule of EDNS too.
-    FromInside(OptRcode),
+    ByEdns(OptRcode),
 }
 
 /// What is asked with a request.
@@ -34,13 +34,13 @@ pub fn refusal_by(
     ensures { result ≡ refusal_by settings.now transport.now asked.now }
 {
     if let Some(rcode) = mandatory_refusal(settings.strict, asked) {
-        return Some(Refusal::FromOutside(rcode));
+        return Some(Refusal::ByMandatory(rcode));
     }
     if !settings.edns {
         return None;
     }
     match opt_refusal(transport.is_non_udp(), &asked.opt) {
-        Some(rcode) => Some(Refusal::FromInside(rcode)),
+        Some(rcode) => Some(Refusal::ByEdns(rcode)),
         None => None,
     }
 }

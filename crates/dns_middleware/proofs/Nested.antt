@@ -18,7 +18,7 @@ use Rattle.dns_layers.specs.Edns.{edns, edns_by_code, edns_hint, edns_passed, op
 use Rattle.dns_layers.specs.Mandatory.{mandatory, mandatory_by, mandatory_hint, mandatory_refusal}
 use Rattle.dns_layers.specs.Notify.{PolledVerdict, notice_of, notify, notify_by}
 use Rattle.dns_layers.specs.declared.refusal.Refusal.{Refusal}
-use Rattle.dns_layers.specs.declared.refusal.Refusal.TheVariants.{FromOutside, FromInside}
+use Rattle.dns_layers.specs.declared.refusal.Refusal.TheVariants.{ByMandatory, ByEdns}
 use Rattle.dns_layers.specs.Refusals.{first_some}
 use Rattle.dns_layers.specs.Rewritten.{hint_by, own_reply, rewritten}
 use Rattle.dns_middleware.specs.Wrapped.{Inner, Ask, Pass, by_gate, hint_left, left_by, passed, refused_gate, replies}
@@ -59,7 +59,7 @@ by_layers on m e c d n svc tgt r k = mandatory_by
 
 -- why a request is refused, by what the mandatory layer and EDNS decide
 abbrev refused_with : Bool → Option ℕ → Option ℕ → Option Refusal
-refused_with on m e = first_some (option_map FromOutside m ∷ option_map FromInside (if on then e else None) ∷ [])
+refused_with on m e = first_some (option_map ByMandatory m ∷ option_map ByEdns (if on then e else None) ∷ [])
 
 -- the service in its layers, by what each layer decides
 abbrev by_cases : {Meta : Type 0} → Settings → Option ℕ → Option ℕ → Option Msg → Option Notice → (Req Meta → ℕ → Answer) → (Notice → ℕ → PolledVerdict) → Req Meta → ℕ → Answer

@@ -9,7 +9,7 @@ use Rattle.dns_service.specs.Req.{Req}
 use Rattle.dns_service.specs.Transport.{hint_of, limit}
 use Rattle.dns_layers.specs.declared.notice.Notice.{Notice}
 use Rattle.dns_layers.specs.declared.refusal.Refusal.{Refusal}
-use Rattle.dns_layers.specs.declared.refusal.Refusal.TheVariants.{FromOutside, FromInside}
+use Rattle.dns_layers.specs.declared.refusal.Refusal.TheVariants.{ByMandatory, ByEdns}
 use Rattle.dns_events.specs.declared.settings.Settings.{Settings}
 use Rattle.dns_layers.specs.Cookies.{cookie_own}
 use Rattle.dns_layers.specs.Edns.{edns_post, passed_by}
@@ -32,8 +32,8 @@ refusal_of s r = refusal_by s r.transport (asked_of r.octets)
 
 -- a request that is refused is answered by an error reply
 abbrev pub refused_gate : {Meta : Type 0} → List ℕ → Refusal → Gate Meta
-refused_gate o (FromOutside code) = Outer (error_reply o code)
-refused_gate o (FromInside code) = Inner (error_reply o code)
+refused_gate o (ByMandatory code) = Outer (error_reply o code)
+refused_gate o (ByEdns code) = Inner (error_reply o code)
 
 -- the request as it is passed on
 abbrev pub passed : {Meta : Type 0} → Settings → Req Meta → Req Meta

@@ -8,7 +8,7 @@ use Rattle.dns_service.specs.Answer.{Answer, mapped}
 use Rattle.dns_service.specs.ErrorReply.{error_reply}
 use Rattle.dns_service.specs.Once.{now_of}
 use Rattle.dns_layers.specs.declared.refusal.Refusal.{Refusal}
-use Rattle.dns_layers.specs.declared.refusal.Refusal.TheVariants.{FromOutside, FromInside}
+use Rattle.dns_layers.specs.declared.refusal.Refusal.TheVariants.{ByMandatory, ByEdns}
 use Rattle.dns_middleware.specs.declared.wrap_post.WrapPost.{WrapPost}
 use Rattle.dns_middleware.specs.declared.wrapped_stream.WrappedStream.{WrappedStream}
 use Rattle.dns_middleware.specs.declared.wrapped_stream.WrappedStream.TheVariants.{Own, Asking, Passed}
@@ -29,8 +29,8 @@ wrap_rule on t n a = record { speaks_edns = on; edns = edns_rule t a; mandatory 
 
 -- the reply to what is refused
 abbrev pub refused_reply : WrapPost → List ℕ → Refusal → Msg
-refused_reply p o (FromOutside code) = mand_by p.mandatory (error_reply o code)
-refused_reply p o (FromInside code) = wrap_by p (error_reply o code)
+refused_reply p o (ByMandatory code) = mand_by p.mandatory (error_reply o code)
+refused_reply p o (ByEdns code) = wrap_by p (error_reply o code)
 
 -- a reply of its own and a target's are there at once, and the given service's as its future gives them
 abbrev pub future_answer : {F V : Type 0} → (Once → ℕ → Answer) → (F → ℕ → Answer) → (V → ℕ → PolledVerdict) → WrappedFuture F V → ℕ → Answer

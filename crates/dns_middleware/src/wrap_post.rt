@@ -44,8 +44,8 @@ impl WrapPost {
         ensures { IfOk result (λ b. b.message ≡ refused_reply self.now request.now refused) }
     {
         match refused {
-            Refusal::FromOutside(rcode) => refuse(&self.mandatory, alloc, request, rcode),
-            Refusal::FromInside(rcode) => refuse(self, alloc, request, rcode),
+            Refusal::ByMandatory(rcode) => refuse(&self.mandatory, alloc, request, rcode),
+            Refusal::ByEdns(rcode) => refuse(self, alloc, request, rcode),
         }
     }
 }

@@ -29,7 +29,7 @@ use std::alloc::Global;
 
 /// How a request is passed on: by the client's size, and by this rule for its replies.
 #[derive(Clone, Copy)]
-pub struct Passage {
+pub struct PassPlan {
     /// The client's size, where EDNS is on and the request has an OPT record.
     pub size: Option<u16>,
     /// The rule for the replies.
@@ -72,9 +72,9 @@ pub(crate) fn not_refused<S: Service<Meta>, N: Notifiable, Meta>(
     ensures refused { OnErr result (request.new ≡ request.old) }
 {
     let settings = &wrapped.settings;
-    let passage = passage_by(settings, asked, request);
-    match own_rewritten(alloc, settings, &passage.post, request, asked) {
-        Ok(found) => own_or_past(alloc, wrapped, found, passage, asked, request),
+    let plan = pass_plan(settings, asked, request);
+    match own_rewritten(alloc, settings, &plan.post, request, asked) {
+        Ok(found) => cookie_reply_or_next(alloc, wrapped, found, plan, asked, request),
         Err(error) => Err(error),
     }
 }
@@ -83,20 +83,20 @@ pub(crate) fn not_refused<S: Service<Meta>, N: Notifiable, Meta>(
 /// the request.
 #[tactic(auto, using(dns_layers::proofs::EdnsLaws::passed_hinted, dns_layers::proofs::EdnsLaws::kept_hint))]
 #[inline(always)]
-fn own_or_past<S: Service<Meta>, N: Notifiable, Meta>(
+fn cookie_reply_or_next<S: Service<Meta>, N: Notifiable, Meta>(
     alloc: Global,
     wrapped: &Wrapped<S, N>,
     found: Option<AdditionalBuilder>,
-    passage: Passage,
+    plan: PassPlan,
     asked: &Asked,
     request: &mut Request<Meta>,
 ) -> Result<ComingReplies<S, N, Meta>, OutOfMemory>
     requires can_call { S.can_call wrapped.now.service }
     requires asked { asked.now ≡ asked_of request.old.octets }
-    requires size { passage.size ≡ size_by wrapped.now.settings asked.now }
-    requires post { passage.post ≡ rule_passed wrapped.now.settings request.old.transport asked.now }
+    requires size { plan.size ≡ size_by wrapped.now.settings asked.now }
+    requires post { plan.post ≡ rule_passed wrapped.now.settings request.old.transport asked.now }
     requires found { let s = wrapped.now.settings in
-        message_in found ≡ option_map (wrap_by passage.post) (cookie_own s.cookies s.denied request.old) }
+        message_in found ≡ option_map (wrap_by plan.post) (cookie_own s.cookies s.denied request.old) }
     ensures answers { let w = wrapped.now in AnswersAs ⟦<ComingReplies<S, N, Meta> as ReplyFuture>⟧.answer
         (replies_unrefused w.settings (S.answer w.service) (verdict_on (N.verdict w.target)) request.old)
         result }
@@ -104,16 +104,16 @@ fn own_or_past<S: Service<Meta>, N: Notifiable, Meta>(
     ensures refused { OnErr result (request.new ≡ request.old) }
 {
     match found {
-        Some(reply) => own::<S, N, Meta>(reply, passage.size, request),
+        Some(reply) => own::<S, N, Meta>(reply, plan.size, request),
         None => match notice_of(alloc, request, asked) {
-            Ok(notice) => told_or_passed(alloc, wrapped, notice, passage, request),
+            Ok(notice) => notify_or_service(alloc, wrapped, notice, plan, request),
             Err(_) => Err(OutOfMemory),
         },
     }
 }
 
 /// How a request is passed on, of which this was read.
-pub fn passage_by<Meta>(settings: &Settings, asked: &Asked, request: &Request<Meta>) -> Passage
+pub fn pass_plan<Meta>(settings: &Settings, asked: &Asked, request: &Request<Meta>) -> PassPlan
     ensures size { result.size ≡ size_by settings.now asked.now }
     ensures post { result.post ≡ rule_passed settings.now request.now.transport asked.now }
 {
@@ -121,7 +121,7 @@ pub fn passage_by<Meta>(settings: &Settings, asked: &Asked, request: &Request<Me
     let transport = request.transport_ctx();
     let hint = hint_passed(size, transport);
     let post = WrapPost::new(settings.edns, asked, transport, hint);
-    Passage { size, post }
+    PassPlan { size, post }
 }
 
 /// A reply of the cookie layer's own, to a request that is left as it would be passed on.
@@ -168,60 +168,60 @@ pub fn own_rewritten<Meta>(
 
 /// The replies of the target where there is a notice, and else of the given service, rewritten.
 #[tactic(auto, using(dns_layers::proofs::EdnsLaws::passed_hinted, dns_layers::proofs::EdnsLaws::kept_hint))]
-fn told_or_passed<S: Service<Meta>, N: Notifiable, Meta>(
+fn notify_or_service<S: Service<Meta>, N: Notifiable, Meta>(
     alloc: Global,
     wrapped: &Wrapped<S, N>,
     notice: Option<Notice>,
-    passage: Passage,
+    plan: PassPlan,
     request: &mut Request<Meta>,
 ) -> Result<ComingReplies<S, N, Meta>, OutOfMemory>
     requires { S.can_call wrapped.now.service }
     ensures answers { let w = wrapped.now in AnswersAs ⟦<ComingReplies<S, N, Meta> as ReplyFuture>⟧.answer
-        (each_rewritten passage.post (λ k. notify_by (verdict_on (N.verdict w.target))
-        (λ q. S.answer w.service (passed_by passage.size q)) request.old k notice))
+        (each_rewritten plan.post (λ k. notify_by (verdict_on (N.verdict w.target))
+        (λ q. S.answer w.service (passed_by plan.size q)) request.old k notice))
         result }
-    ensures kept { LeavesHint (hint_of (transport_by passage.size request.old.transport)) request.old request.new result }
+    ensures kept { LeavesHint (hint_of (transport_by plan.size request.old.transport)) request.old request.new result }
     ensures refused { OnErr result (request.new ≡ request.old) }
 {
     match notice {
-        Some(notice) => told::<S, N, Meta>(alloc, &wrapped.target, notice, passage, request),
-        None => passed_on::<S, N, Meta>(alloc, &wrapped.service, passage, request),
+        Some(notice) => ask_target::<S, N, Meta>(alloc, &wrapped.target, notice, plan, request),
+        None => passed_on::<S, N, Meta>(alloc, &wrapped.service, plan, request),
     }
 }
 
 /// The reply by the target's verdict, rewritten, to a request that is left as it would be passed on.
-fn told<S: Service<Meta>, N: Notifiable, Meta>(
+fn ask_target<S: Service<Meta>, N: Notifiable, Meta>(
     alloc: Global,
     target: &N,
     notice: Notice,
-    passage: Passage,
+    plan: PassPlan,
     request: &mut Request<Meta>,
 ) -> Result<ComingReplies<S, N, Meta>, OutOfMemory>
     ensures answers { AnswersAs ⟦<ComingReplies<S, N, Meta> as ReplyFuture>⟧.answer
-        (each_rewritten passage.post (asking request.old.octets (verdict_on (N.verdict target.now) notice)))
+        (each_rewritten plan.post (asking request.old.octets (verdict_on (N.verdict target.now) notice)))
         result }
-    ensures passed { OnOk result (request.new ≡ passed_by passage.size request.old) }
+    ensures passed { OnOk result (request.new ≡ passed_by plan.size request.old) }
     ensures refused { OnErr result (request.new ≡ request.old) }
 {
     let stream = ask_owned(alloc, target, request.message(), notice)?;
-    pass_on(passage.size, request);
-    Ok(WrappedFuture::Asking(Some(stream), passage.post))
+    pass_on(plan.size, request);
+    Ok(WrappedFuture::Asking(Some(stream), plan.post))
 }
 
 /// The replies of the given service to the request as it is passed on, rewritten.
 fn passed_on<S: Service<Meta>, N: Notifiable, Meta>(
     alloc: Global,
     service: &S,
-    passage: Passage,
+    plan: PassPlan,
     request: &mut Request<Meta>,
 ) -> Result<ComingReplies<S, N, Meta>, OutOfMemory>
     requires { S.can_call service.now }
     ensures answers { AnswersAs ⟦<ComingReplies<S, N, Meta> as ReplyFuture>⟧.answer
-        (each_rewritten passage.post (S.answer service.now (passed_by passage.size request.old)))
+        (each_rewritten plan.post (S.answer service.now (passed_by plan.size request.old)))
         result }
-    ensures kept { LeavesHint (hint_of (transport_by passage.size request.old.transport)) request.old request.new result }
+    ensures kept { LeavesHint (hint_of (transport_by plan.size request.old.transport)) request.old request.new result }
     ensures refused { OnErr result (request.new ≡ request.old) }
 {
-    let future = call_passed(alloc, service, passage.size, request)?;
-    Ok(WrappedFuture::Passing(future, passage.post))
+    let future = call_passed(alloc, service, plan.size, request)?;
+    Ok(WrappedFuture::Passing(future, plan.post))
 }

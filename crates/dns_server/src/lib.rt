@@ -26,7 +26,7 @@ pub use dns_servers::{
     ServerCommand, ServerMetrics, Silent, StreamEnd, StreamServer, TcpServer, UdpServer,
     VecBufSource, host_service, serve_accepts, serve_connection, serve_datagrams,
 };
-pub use dns_service::Plainly;
+pub use dns_service::WithoutMeta;
 pub use host_status::status_of_host;
 pub use laws::a_connection_replays;
 pub use server_host::serve_host;

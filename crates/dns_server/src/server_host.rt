@@ -16,7 +16,7 @@ use dns_middleware::Wrapped;
 use dns_name::OutOfMemory;
 use dns_run::{Status, layered};
 use dns_servers::{ConnectionWork, Host, HostEnd, Recorder, Silent, host_service};
-use dns_service::{Plainly, Served, Service};
+use dns_service::{Service, SharedService, WithoutMeta};
 use std::alloc::Global;
 use std::sync::{Arc, Wait};
 use std::thread::Threads;
@@ -48,7 +48,7 @@ fn serve_layered<
     A: AsyncAccept,
     D: AsyncDgramSock + Send,
     C: Clock + Send + Drop + 'static,
-    T: Served + Send + Sync + 'static,
+    T: SharedService + Send + Sync + 'static,
     P: Spawner<ConnectionWork<A::Link, C, Silent, T>>,
     J: Recorder + Send,
 >(
@@ -88,7 +88,7 @@ pub fn serve_host<
     C: Clock + Send + Drop + 'static,
     S: Service<()> + Send + Sync + 'static,
     N: Notifiable + Send + Sync + 'static,
-    P: Spawner<ConnectionWork<A::Link, C, Silent, Plainly<Wrapped<S, N>>>>,
+    P: Spawner<ConnectionWork<A::Link, C, Silent, WithoutMeta<Wrapped<S, N>>>>,
     J: Recorder + Send,
 >(
     rt: &R,

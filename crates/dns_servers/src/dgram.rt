@@ -21,7 +21,7 @@ use dns_host::{DgramEnd, Recorder, serve_datagrams};
 use dns_io::{AsyncDgramSock, Clock};
 use dns_name::OutOfMemory;
 use dns_outside::MioSock;
-use dns_service::{DgramConfig, Served};
+use dns_service::{DgramConfig, SharedService};
 use std::alloc::Global;
 use std::marker::Model;
 use std::sync::{Arc, Wait};
@@ -55,7 +55,7 @@ impl<D, B, W, C> Model for DgramServer<D, B, W, C> {
     ghost invariant = { λ s. IsSeatAt (arc_value s.book) s.seat × (arc_value s.metrics ≡ false) };
 }
 
-impl<D: AsyncDgramSock + Drop, B: BufSource + Drop, W: Served, C: Clock + Drop> DgramServer<
+impl<D: AsyncDgramSock + Drop, B: BufSource + Drop, W: SharedService, C: Clock + Drop> DgramServer<
     D,
     B,
     W,
@@ -170,7 +170,7 @@ impl<D: AsyncDgramSock + Drop, B: BufSource + Drop, W: Served, C: Clock + Drop> 
 
 #[tactic(auto, using(crate::proofs::Seatings::is_there))]
 /// The same from the seat that stands in its place.
-fn serve_from<R: Wait, D: AsyncDgramSock, C: Clock, J: Recorder, W: Served>(
+fn serve_from<R: Wait, D: AsyncDgramSock, C: Clock, J: Recorder, W: SharedService>(
     rt: &R,
     alloc: Global,
     book: &Book,
@@ -211,7 +211,7 @@ fn give_back<R: Wait>(rt: &R, book: &Book, served: (BookSeat, DgramEnd)) -> (Boo
 }
 
 /// Serves datagrams without a count, in a slot where one is free.
-fn serve_in_slot<R: Wait, D: AsyncDgramSock, C: Clock, J: Recorder, W: Served>(
+fn serve_in_slot<R: Wait, D: AsyncDgramSock, C: Clock, J: Recorder, W: SharedService>(
     rt: &R,
     alloc: Global,
     book: &Book,

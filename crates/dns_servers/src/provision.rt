@@ -9,7 +9,7 @@ use crate::seating::{put_seat, take_seat};
 use dns_book::{Book, BookSeat};
 use dns_host::{AcceptEnd, ConnectionWork, PreConnect, Silent, serve_accepts};
 use dns_io::{AsyncAccept, Clock, Spawner};
-use dns_service::Served;
+use dns_service::SharedService;
 use std::alloc::Global;
 use std::sync::{Arc, Wait};
 use std::thread::Threads;
@@ -43,7 +43,11 @@ impl<W, C, K: Drop> Provision<W, C, K> {
     }
 }
 
-impl<W: Served + Send + Sync + 'static, C: Clock + Send + Drop + 'static, K> Provision<W, C, K>
+impl<W: SharedService + Send + Sync + 'static, C: Clock + Send + Drop + 'static, K> Provision<
+    W,
+    C,
+    K,
+>
 where
     W::Future: Send,
     W::Stream: Send,

@@ -21,7 +21,7 @@ use dns_host::{AcceptEnd, ConnectionWork, NoHook, PreConnect, Silent};
 use dns_io::{AsyncAccept, Clock, Spawner};
 use dns_name::OutOfMemory;
 use dns_outside::MioAccept;
-use dns_service::{Served, StreamConfig};
+use dns_service::{SharedService, StreamConfig};
 use std::alloc::Global;
 use std::marker::Model;
 use std::sync::{Arc, Wait};
@@ -76,14 +76,13 @@ impl<A, B, W, C, P, H> Model for StreamServer<A, B, W, C, P, H> {
     ghost invariant = { λ s. IsSeatAt (arc_value s.provision.book) s.seat × (arc_value s.metrics ≡ true) };
 }
 
-impl<A: AsyncAccept + Drop, B: BufSource + Drop, W: Served, C: Clock + Drop, P: Drop> StreamServer<
-    A,
-    B,
-    W,
-    C,
-    P,
-    NoHook,
-> {
+impl<
+    A: AsyncAccept + Drop,
+    B: BufSource + Drop,
+    W: SharedService,
+    C: Clock + Drop,
+    P: Drop,
+> StreamServer<A, B, W, C, P, NoHook> {
     /// A server with default configurations.
     pub fn new(
         alloc: Global,
@@ -157,7 +156,7 @@ impl<A: AsyncAccept + Drop, B: BufSource + Drop, W: Served, C: Clock + Drop, P: 
 impl<
     A: AsyncAccept + Drop,
     B: BufSource + Drop,
-    W: Served,
+    W: SharedService,
     C: Clock + Drop,
     P: Drop,
     H: Drop,
@@ -215,7 +214,7 @@ impl<
 impl<
     A: AsyncAccept,
     B,
-    W: Served + Send + Sync + 'static,
+    W: SharedService + Send + Sync + 'static,
     C: Clock + Send + Drop + 'static,
     P: Spawner<ConnectionWork<Metered<A::Link>, C, Silent, W>>,
     H: PreConnect<A::Link>,

@@ -20,9 +20,9 @@ reply_in o (Ok given) = given.response
 reply_in o (Err error) = Some (error_reply o (rcode_of error))
 
 -- what an item tells beside its reply
-abbrev pub told_by : Item → Option ServiceFeedback
-told_by (Ok given) = given.feedback
-told_by (Err error) = None
+abbrev pub feedback_in : Item → Option ServiceFeedback
+feedback_in (Ok given) = given.feedback
+feedback_in (Err error) = None
 
 -- what a poll led to
 abbrev pub dispatched_by : Answer → Dispatched
@@ -45,12 +45,12 @@ module _ {X : Type 0} (invoking : Invoking X) where
   after_feedback BeginTransaction x = invoking.with_status x InTransaction
   after_feedback EndTransaction x = invoking.with_status x Normal
 
-  abbrev pub after_told : Option ServiceFeedback → X → X
-  after_told None x = x
-  after_told (Some feedback) x = after_feedback feedback x
+  abbrev pub after_some_feedback : Option ServiceFeedback → X → X
+  after_some_feedback None x = x
+  after_some_feedback (Some feedback) x = after_feedback feedback x
 
   abbrev pub after_item : Item → X → X
-  after_item (Ok given) x = after_told given.feedback x
+  after_item (Ok given) x = after_some_feedback given.feedback x
   after_item (Err error) x = invoking.with_status x Aborting
 
   -- it queues a reply

@@ -2,7 +2,7 @@
 
 ghost use Rattle.std.specs.Prelude.{◌≡◌, ℕ, suc, IfOk, OnErr, OnOk};
 ghost use Rattle.dns_service.specs.Given.{IsEither, message_in};
-ghost use Rattle.dns_service.specs.Invokers.{Invoking, dispatched_by, after_answer, after_feedback, after_item, reply_in, told_by};
+ghost use Rattle.dns_service.specs.Invokers.{Invoking, dispatched_by, after_answer, after_feedback, after_item, reply_in, feedback_in};
 
 use crate::service::{Polled, ReplyStream, ServiceFeedback, ServiceResult};
 use dns_base::{AdditionalBuilder, Message};
@@ -92,7 +92,7 @@ pub trait ServiceInvoker {
     ) -> Result<Option<AdditionalBuilder>, OutOfMemory>
         ensures does { OnOk result (self.new ≡ after_item invoking item self.old) }
         ensures reply { IfOk result (λ reply. message_in reply ≡ reply_in message.now item) }
-        ensures alone { IfOk result (λ reply. IsEither reply (told_by item)) }
+        ensures alone { IfOk result (λ reply. IsEither reply (feedback_in item)) }
         ensures refused { OnErr result (self.new ≡ self.old) }
     {
         match item {

@@ -12,8 +12,8 @@ mod message;
 mod once;
 mod polled;
 mod reply_error;
-mod served;
 mod service;
+mod shared_service;
 
 pub use asked::{Asked, AskedCookie, AskedOpt, AskedRecord, read_asked};
 pub use copied::CopiedMessage;
@@ -34,8 +34,8 @@ pub use message::{NonUdpTransportContext, Request, TransportSpecificContext, Udp
 pub use once::{Now, Once};
 pub use polled::{PolledRequest, poll_future};
 pub use reply_error::ReplyError;
-pub use served::{Plainly, Served};
 pub use service::{
     CallResult, Polled, ReplyFuture, ReplyStream, Service, ServiceError, ServiceFeedback,
     ServiceResult,
 };
+pub use shared_service::{SharedService, WithoutMeta};

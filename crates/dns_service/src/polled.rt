@@ -28,7 +28,7 @@ pub fn poll_future<F: ReplyFuture<Stream = R>, R: ReplyStream>(
 
 /// Whether a request has come to its stream: a future that is ready gives way to it, and one that is pending takes an answer.
 #[inline(always)]
-fn come_to_stream<F: ReplyFuture<Stream = R>, R: ReplyStream>(
+fn advance_to_stream<F: ReplyFuture<Stream = R>, R: ReplyStream>(
     alloc: Global,
     request: &mut PolledRequest<F, R>,
 ) -> Result<bool, OutOfMemory>
@@ -84,7 +84,7 @@ where
     /// Takes the next answer. A future that is ready is followed by the first poll of its stream.
     #[inline(always)]
     fn poll_next(&mut self, alloc: Global) -> Result<Polled<Option<ServiceResult>>, OutOfMemory> {
-        match come_to_stream(alloc, self) {
+        match advance_to_stream(alloc, self) {
             Ok(true) => poll_stream(alloc, self),
             Ok(false) => Ok(Polled::Pending),
             Err(error) => Err(error),

@@ -6,7 +6,7 @@ use Rattle.std.proofs.lemmas.Bool.Decides.{nat_tests}
 use Rattle.dns_base.specs.Msg.{Msg, ResourceRecord}
 use Rattle.dns_base.specs.Wire.{wire}
 use Rattle.dns_service.specs.Answer.{Answer}
-use Rattle.dns_client.specs.Heard.{answer_status, status_told}
+use Rattle.dns_client.specs.Heard.{answer_status, status_after_some}
 use Rattle.dns_service.specs.declared.invoker.InvokerStatus.{InvokerStatus}
 use Rattle.dns_service.specs.declared.invoker.InvokerStatus.TheVariants.{Normal, InTransaction}
 use Rattle.dns_service.specs.declared.service.ServiceFeedback.{ServiceFeedback}
@@ -33,7 +33,7 @@ none_behind : {A : Type 0} (xs : List A) → slice_get xs (length xs) ≡ None
 none_behind [] = refl
 none_behind (x ∷ xs) = none_behind xs
 
-told_status : (f : Option ServiceFeedback) (m : Msg) (s : InvokerStatus) → length (wire m) ≤ 65535 → answer_status (Ready (Some (message_item f m))) s ≡ status_told f s
+told_status : (f : Option ServiceFeedback) (m : Msg) (s : InvokerStatus) → length (wire m) ≤ 65535 → answer_status (Ready (Some (message_item f m))) s ≡ status_after_some f s
 told_status f m s h = ap (λ (b : Bool). answer_status (Ready (Some (if b then Ok (record { response = Some m; feedback = f }) else Err InternalError))) s) (le_true (length (wire m)) 65535 h)
 
 no_message : (b : Bool) (m : Msg) → answer_message (if b then Ready (Some (Ok (record { response = None; feedback = Some EndTransaction }))) else Ready None) ≡ Some m → ⊥
@@ -53,7 +53,7 @@ module _ (bs : List (List ResourceRecord)) (o : List ℕ) where
         let y = some_before bs n b e in
         ap (λ (s : InvokerStatus). answer_status (transfer_of bs o (suc n)) s) (in_transaction n y.0 y.1)
         ∙ (ap (λ (g : Option (List ResourceRecord)). answer_status (transfer_poll o (length bs) (suc n) g) InTransaction) e ∙ (told_status (feedback_at (suc n)) (transfer_message o b) InTransaction (fits (suc n) b e)
-        ∙ ap (λ (c : Bool). status_told (if c then Some BeginTransaction else None) InTransaction) (not_first n)))
+        ∙ ap (λ (c : Bool). status_after_some (if c then Some BeginTransaction else None) InTransaction) (not_first n)))
 
     pub reply_in_transaction : (k : ℕ) (m : Msg) → answer_message (transfer_of bs o k) ≡ Some m → status_behind (transfer_of bs o) (suc k) ≡ InTransaction
     reply_in_transaction k m h =

@@ -15,4 +15,4 @@ pub mod Paths
 pub mod Places
 pub mod Kept
 pub mod Found
-pub mod Faults
+pub mod Defects

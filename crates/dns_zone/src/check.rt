@@ -4,7 +4,7 @@ ghost use Rattle.std.specs.Prelude.{◌≡◌, List, length, None, Err, IfOk, Ma
 ghost use Rattle.std.specs.List.{AllByRecursion, filter, position};
 ghost use Rattle.dns_route.specs.Routes.{ends_name};
 ghost use Rattle.dns_message.specs.declared.record.Record.{Record};
-ghost use Rattle.dns_zone.specs.Faults.{has_fault, list_error, refused, soa_error};
+ghost use Rattle.dns_zone.specs.Defects.{has_defect, list_error, refused, soa_error};
 ghost use Rattle.dns_zone.specs.Kept.{KnowsPlaces};
 ghost use Rattle.dns_zone.specs.Owned.{HasNamedData, ZoneState, is_of};
 ghost use Rattle.dns_zone.specs.ZoneErrors.{Makes, is_crowded, zone_error};
@@ -21,7 +21,7 @@ use std::alloc::Global;
 
 /// What is looked for among the records of a list.
 #[derive(Clone, Copy, Debug, PartialEq, Eq)]
-pub(crate) enum Fault {
+pub(crate) enum ZoneDefect {
     /// An owner that doesn't end with the apex.
     OutsideApex,
     /// Another class than IN.
@@ -32,16 +32,17 @@ pub(crate) enum Fault {
     Misplaced,
 }
 
-impl Fault {
+impl ZoneDefect {
     /// Whether a record has it, where the apex is this name.
     fn is_in(self, apex: &Name, resource: &Record) -> bool
-        ensures { result ≡ has_fault self apex.now resource.now }
+        ensures { result ≡ has_defect self apex.now resource.now }
     {
         match self {
-            Fault::OutsideApex => !ends(&resource.owner, apex),
-            Fault::OtherClass => resource.class != Class::IN,
-            Fault::IsOpt => resource.rdata.rtype() == Rtype::OPT,
-            Fault::Misplaced => resource.rdata.rtype() == Rtype::SOA && resource.owner != *apex,
+            ZoneDefect::OutsideApex => !ends(&resource.owner, apex),
+            ZoneDefect::OtherClass => resource.class != Class::IN,
+            ZoneDefect::IsOpt => resource.rdata.rtype() == Rtype::OPT,
+            ZoneDefect::Misplaced => resource.rdata.rtype() == Rtype::SOA
+                && resource.owner != *apex,
         }
     }
 }
@@ -55,11 +56,11 @@ pub(crate) fn ends(name: &Name, other: &Name) -> bool
 }
 
 /// The place of the first record that has a fault.
-fn first_with(fault: Fault, apex: &Name, records: &[Record]) -> Option<usize>
-    ensures { result ≡ position (has_fault fault apex.now) records.now }
+fn first_with(defect: ZoneDefect, apex: &Name, records: &[Record]) -> Option<usize>
+    ensures { result ≡ position (has_defect defect apex.now) records.now }
 {
     'each: for (index, record) in records.iter().enumerate() {
-        if fault.is_in(apex, record) {
+        if defect.is_in(apex, record) {
             return Some(index);
         }
     }
@@ -83,13 +84,13 @@ fn count_soa(records: &[Record]) -> usize
 fn check_list(apex: &Name, records: &[Record]) -> Result<(), ZoneError>
     ensures { result ≡ refused (list_error apex.now records.now) }
 {
-    if let Some(index) = first_with(Fault::OutsideApex, apex, records) {
+    if let Some(index) = first_with(ZoneDefect::OutsideApex, apex, records) {
         return Err(ZoneError::Outside { index });
     }
-    if let Some(index) = first_with(Fault::OtherClass, apex, records) {
+    if let Some(index) = first_with(ZoneDefect::OtherClass, apex, records) {
         return Err(ZoneError::Class { index });
     }
-    if let Some(index) = first_with(Fault::IsOpt, apex, records) {
+    if let Some(index) = first_with(ZoneDefect::IsOpt, apex, records) {
         return Err(ZoneError::Opt { index });
     }
     check_soa(apex, records)
@@ -103,7 +104,7 @@ fn check_soa(apex: &Name, records: &[Record]) -> Result<(), ZoneError>
     if count != 1 {
         return Err(ZoneError::Soa { count });
     }
-    if let Some(index) = first_with(Fault::Misplaced, apex, records) {
+    if let Some(index) = first_with(ZoneDefect::Misplaced, apex, records) {
         return Err(ZoneError::SoaPlace { index });
     }
     Ok(())

@@ -9,8 +9,8 @@ use dns_outside::{
     AsyncAccept, AsyncDgramSock, Clock, HostClock, MioAccept, MioSock, Spawner, ThreadSpawner,
 };
 use dns_server::{
-    Book, BookSeat, BookState, ConnectionWork, Host, Plainly, ServePlan, Settings, Silent, Status,
-    Wrapped, serve_host,
+    Book, BookSeat, BookState, ConnectionWork, Host, ServePlan, Settings, Silent, Status,
+    WithoutMeta, Wrapped, serve_host,
 };
 use dns_service::Service;
 use std::alloc::Global;
@@ -20,7 +20,9 @@ use std::thread::Threads;
 use std::{io, rt};
 
 /// What serves the connections of a service and a target in layers, each in a thread of its own.
-type Connections<L, C, S, N> = ThreadSpawner<ConnectionWork<L, C, Silent, Plainly<Wrapped<S, N>>>>;
+type Connections<L, C, S, N> = ThreadSpawner<
+    ConnectionWork<L, C, Silent, WithoutMeta<Wrapped<S, N>>>,
+>;
 
 /// What is served, in the layers of the settings: a service, and what is told of changed zones; and after how many connections and
 /// datagrams that ends.
@@ -60,7 +62,7 @@ fn serve_book<
     C: Clock + Send + Drop + 'static,
     S: Service<()> + Send + Sync + 'static,
     N: Notifiable + Send + Sync + 'static,
-    P: Spawner<ConnectionWork<A::Link, C, Silent, Plainly<Wrapped<S, N>>>> + Drop,
+    P: Spawner<ConnectionWork<A::Link, C, Silent, WithoutMeta<Wrapped<S, N>>>> + Drop,
 >(
     rt: &R,
     alloc: Global,
@@ -105,7 +107,7 @@ fn serve_machine<
     C: Clock + Send + Drop + 'static,
     S: Service<()> + Send + Sync + 'static,
     N: Notifiable + Send + Sync + 'static,
-    P: Spawner<ConnectionWork<A::Link, C, Silent, Plainly<Wrapped<S, N>>>> + Drop,
+    P: Spawner<ConnectionWork<A::Link, C, Silent, WithoutMeta<Wrapped<S, N>>>> + Drop,
 >(rt: &R, alloc: Global, planned: Planned<S, N>, machine: Host<A, D, C, P, Silent>) -> Status
 where
     A::Link: Send + Drop + 'static,

@@ -9,7 +9,7 @@ use dns_name::{OptRcode, OutOfMemory};
 use dns_outside::{AsyncAccept, Letter, MemoryClock, MemorySock, MemorySpawner, Spawner};
 use dns_server::{NotifyRules, ScriptTarget, Status, serve_host};
 use dns_servers::{ConnectionWork, Host, Silent};
-use dns_service::{Plainly, Service};
+use dns_service::{Service, WithoutMeta};
 use rows_links::{Holding, Seen, accept_of, book_of, calls, clock, letter, show};
 use std::alloc::Global;
 use std::sync::{Arc, Wait};
@@ -104,7 +104,7 @@ struct Given<S, N> {
 
 /// What serves the connections of a service and a target in layers.
 type Connections<L, S, N> = MemorySpawner<
-    ConnectionWork<L, MemoryClock, Silent, Plainly<Wrapped<S, N>>>,
+    ConnectionWork<L, MemoryClock, Silent, WithoutMeta<Wrapped<S, N>>>,
 >;
 
 impl HostCase<'_> {
@@ -153,7 +153,7 @@ fn end_in<
     A: AsyncAccept,
     S: Service<()> + Send + Sync + 'static,
     N: Notifiable + Send + Sync + 'static,
-    P: Spawner<ConnectionWork<A::Link, MemoryClock, Silent, Plainly<Wrapped<S, N>>>>,
+    P: Spawner<ConnectionWork<A::Link, MemoryClock, Silent, WithoutMeta<Wrapped<S, N>>>>,
 >(
     rt: &R,
     alloc: Global,
@@ -185,7 +185,7 @@ fn host_end<
     A: AsyncAccept,
     S: Service<()> + Send + Sync + 'static,
     N: Notifiable + Send + Sync + 'static,
-    P: Spawner<ConnectionWork<A::Link, MemoryClock, Silent, Plainly<Wrapped<S, N>>>>,
+    P: Spawner<ConnectionWork<A::Link, MemoryClock, Silent, WithoutMeta<Wrapped<S, N>>>>,
 >(
     rt: &R,
     alloc: Global,
@@ -213,7 +213,7 @@ fn host_ends<
     A: AsyncAccept + Drop,
     S: Service<()> + Send + Sync + 'static,
     N: Notifiable + Send + Sync + 'static,
-    P: Spawner<ConnectionWork<A::Link, MemoryClock, Silent, Plainly<Wrapped<S, N>>>> + Drop,
+    P: Spawner<ConnectionWork<A::Link, MemoryClock, Silent, WithoutMeta<Wrapped<S, N>>>> + Drop,
 >(
     rt: &R,
     alloc: Global,

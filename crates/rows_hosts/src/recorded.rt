@@ -9,7 +9,7 @@ use dns_outside::{MemoryClock, SteadyLink};
 use dns_server::{
     NoEvent, Script, ScriptService, ScriptTarget, TraceRecorder, read_script, serve_connection,
 };
-use dns_service::{Plainly, Served, Service};
+use dns_service::{Service, SharedService, WithoutMeta};
 use std::alloc::Global;
 use std::sync::Wait;
 
@@ -57,7 +57,7 @@ impl Outside {
     }
 
     /// Serves a connection that is admitted.
-    fn serve<R: Wait, W: Served>(
+    fn serve<R: Wait, W: SharedService>(
         &mut self,
         rt: &R,
         alloc: Global,
@@ -87,7 +87,7 @@ impl Outside {
     }
 
     /// Admits a connection, and serves it.
-    fn admit<R: Wait, W: Served>(
+    fn admit<R: Wait, W: SharedService>(
         &mut self,
         rt: &R,
         alloc: Global,
@@ -106,7 +106,7 @@ impl Outside {
     }
 
     /// Serves a connection in a book of its own, and says whether there was memory for the book.
-    fn serve_in_a_book<R: Wait, W: Served>(
+    fn serve_in_a_book<R: Wait, W: SharedService>(
         &mut self,
         rt: &R,
         alloc: Global,
@@ -145,7 +145,7 @@ fn told(recorder: TraceRecorder) -> Option<Vec<u8>> {
 }
 
 /// Serves a connection over what is outside, and gives its trace; none, here and below, where memory is short.
-fn trace_over<R: Wait, W: Served>(
+fn trace_over<R: Wait, W: SharedService>(
     rt: &R,
     alloc: Global,
     settings: &Settings,
@@ -162,7 +162,7 @@ fn trace_over<R: Wait, W: Served>(
 }
 
 /// The trace of a connection to a service.
-fn recorded<R: Wait, W: Served>(
+fn recorded<R: Wait, W: SharedService>(
     rt: &R,
     alloc: Global,
     settings: &Settings,
@@ -187,7 +187,7 @@ fn trace_under<R: Wait, S: Service<()>, N: Notifiable>(
     requires { S.can_call service }
 {
     match wrap(alloc, settings, service, target) {
-        Ok(service) => recorded(rt, alloc, settings, &Plainly { service }),
+        Ok(service) => recorded(rt, alloc, settings, &WithoutMeta { service }),
         Err(_) => None,
     }
 }

@@ -10,8 +10,8 @@ use crate::inner::{AsPlanned, planned};
 use crate::request_rows::{other_metadata, request};
 use crate::said::{next_said, ready, size_said};
 use dns_service::{
-    CallResult, Error, Now, Once, OutOfMemory, Plainly, Polled, ReplyFuture, ReplyStream, Request,
-    Served, Service, ServiceFeedback, ServiceResult, service_fn,
+    CallResult, Error, Now, Once, OutOfMemory, Polled, ReplyFuture, ReplyStream, Request, Service,
+    ServiceFeedback, ServiceResult, SharedService, WithoutMeta, service_fn,
 };
 use rows_table::{Calls, Row, RowError};
 use std::alloc::Global;
@@ -86,8 +86,8 @@ impl Calls for ServiceRows {
 
 /// What the silent service gives as a shared one.
 pub(crate) fn served(row: &mut Row<'_>, request: &mut Request<()>) {
-    match Arc::new(row.alloc(), Plainly { service: Silent {} }) {
-        Ok(shared) => match Served::call(&shared, row.alloc(), request) {
+    match Arc::new(row.alloc(), WithoutMeta { service: Silent {} }) {
+        Ok(shared) => match SharedService::call(&shared, row.alloc(), request) {
             Ok(future) => future_said(row, future),
             Err(OutOfMemory) => row.fail(RowError::OutOfMemory),
         },

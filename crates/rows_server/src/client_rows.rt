@@ -10,7 +10,7 @@ use dns_core::{
 };
 use dns_name::SocketAddr;
 use dns_run::ScriptService;
-use dns_service::{DgramConfig, OutOfMemory, Plainly, Served, StreamConfig};
+use dns_service::{DgramConfig, OutOfMemory, SharedService, StreamConfig, WithoutMeta};
 use rows_table::{Calls, Row, RowError};
 use std::alloc::Global;
 
@@ -108,12 +108,20 @@ fn client(row: &mut Row<'_>, waits: bool) -> Result<(), RowError> {
 /// The same by a service.
 fn answered_by(row: &mut Row<'_>, service: ScriptService, steps: &[Step], waits: bool) {
     match steps.split_first() {
-        Some((Step::Own(first), rest)) => { begun(row, &Plainly { service }, first, rest, waits) }
+        Some((Step::Own(first), rest)) => {
+            begun(row, &WithoutMeta { service }, first, rest, waits)
+        }
         _ => row.fail(RowError::Missing),
     }
 }
 
-fn begun<S: Served>(row: &mut Row<'_>, service: &S, first: &Event, rest: &[Step], waits: bool)
+fn begun<S: SharedService>(
+    row: &mut Row<'_>,
+    service: &S,
+    first: &Event,
+    rest: &[Step],
+    waits: bool,
+)
     requires { S.can_call service.now }
 {
     match core_of(row.alloc(), service, first) {
@@ -122,7 +130,7 @@ fn begun<S: Served>(row: &mut Row<'_>, service: &S, first: &Event, rest: &[Step]
     }
 }
 
-fn gone_through<S: Served>(
+fn gone_through<S: SharedService>(
     row: &mut Row<'_>,
     mut core: ClientCore<S>,
     service: &S,
@@ -144,7 +152,7 @@ fn gone_through<S: Served>(
 fn let_go<T: Drop>(_value: T) {}
 
 /// A core is stepped through steps, beside a book on which the events that all clients hear act. Whether memory was wanting.
-fn stepped_through<S: Served>(
+fn stepped_through<S: SharedService>(
     row: &mut Row<'_>,
     core: &mut ClientCore<S>,
     service: &S,
@@ -163,7 +171,7 @@ fn stepped_through<S: Served>(
 }
 
 /// Says what waits for the driver of a core after a step, or nothing, and whether memory was wanting till then.
-fn step_said<S: Served>(
+fn step_said<S: SharedService>(
     row: &mut Row<'_>,
     core: &ClientCore<S>,
     outputs: Result<Vec<Output>, OutOfMemory>,
@@ -182,7 +190,7 @@ fn step_said<S: Served>(
 }
 
 /// Says where a core that is lost is sent something, or goes on.
-fn stays_lost<S: Served>(
+fn stays_lost<S: SharedService>(
     row: &mut Row<'_>,
     core: &ClientCore<S>,
     lost: bool,
@@ -200,7 +208,7 @@ fn stays_lost<S: Served>(
 }
 
 /// What a core is sent for a step.
-fn stepped<S: Served>(
+fn stepped<S: SharedService>(
     alloc: Global,
     core: &mut ClientCore<S>,
     service: &S,
@@ -237,7 +245,7 @@ fn noted(book: &mut BookState, kind: &EventKind) -> bool {
 
 /// Whether a core is closed, how many frames wait, the first of them, the first request that isn't done, and the first behind
 /// number 0.
-fn say_waiting<S: Served>(row: &mut Row<'_>, core: &ClientCore<S>) {
+fn say_waiting<S: SharedService>(row: &mut Row<'_>, core: &ClientCore<S>) {
     row.show(&core.is_closed());
     say_queue(row, core.queued(), core.front_frame());
     say_number(row, core.first_unfinished());
@@ -260,7 +268,11 @@ fn say_number(row: &mut Row<'_>, number: Option<u64>) {
 }
 
 /// The core of a client by its first event.
-fn core_of<S: Served>(alloc: Global, service: &S, event: &Event) -> Result<ClientCore<S>, RowError>
+fn core_of<S: SharedService>(
+    alloc: Global,
+    service: &S,
+    event: &Event,
+) -> Result<ClientCore<S>, RowError>
     requires { S.can_call service.now }
 {
     match &event.kind {
@@ -273,7 +285,7 @@ fn core_of<S: Served>(alloc: Global, service: &S, event: &Event) -> Result<Clien
 }
 
 /// That of a connection.
-fn admitted<S: Served>(
+fn admitted<S: SharedService>(
     alloc: Global,
     event: &Event,
     addr: SocketAddr,
@@ -286,7 +298,7 @@ fn admitted<S: Served>(
 }
 
 /// That of an exchange.
-fn exchange<S: Served>(
+fn exchange<S: SharedService>(
     alloc: Global,
     service: &S,
     event: &Event,

@@ -10,7 +10,7 @@ use dns_middleware::{Notifiable, Settings, wrap};
 use dns_name::{OptRcode, OutOfMemory};
 use dns_outside::{AsyncAccept, Clock, MemoryAccept, MemorySpawner, Spawner};
 use dns_servers::{AcceptEnd, ConnectionWork, PreConnect, Silent, serve_accepts};
-use dns_service::{Plainly, Served, Service};
+use dns_service::{Service, SharedService, WithoutMeta};
 use rows_links::{Holding, Marking, Seen, SeenLink, accept_of, book_of, clock, show};
 use std::alloc::Global;
 use std::sync::atomic::{AtomicBool, Ordering};
@@ -103,7 +103,7 @@ impl<'a, R, W> Accepting<'a, R, W> {
 
 impl<
     R: Threads + Wait + Copy + Send + Sync + Drop + 'static,
-    W: Served + Send + Sync + 'static,
+    W: SharedService + Send + Sync + 'static,
 > Accepting<'_, R, W>
 where
     W::Future: Send,
@@ -219,7 +219,7 @@ where
 /// Whether a case is served as is wanted by this service.
 fn is_served<
     R: Threads + Wait + Copy + Send + Sync + Drop + 'static,
-    W: Served + Send + Sync + 'static,
+    W: SharedService + Send + Sync + 'static,
 >(rt: &R, alloc: Global, case: &AcceptCase<'_>, service: W, flag: &AtomicBool) -> bool
 where
     W::Future: Send,
@@ -252,7 +252,7 @@ fn is_held<R: Threads + Wait + Copy + Send + Sync + Drop + 'static>(
     service: Holding,
 ) -> bool {
     match Arc::try_clone(&service.flag) {
-        Ok(flag) => is_served(rt, alloc, case, Plainly { service }, &flag),
+        Ok(flag) => is_served(rt, alloc, case, WithoutMeta { service }, &flag),
         Err(_) => false,
     }
 }
@@ -340,7 +340,7 @@ where
 {
     let flag = AtomicBool::new(false);
     match wrap(alloc, &Settings::new(alloc), service, target) {
-        Ok(service) => is_served(rt, alloc, case, Plainly { service }, &flag),
+        Ok(service) => is_served(rt, alloc, case, WithoutMeta { service }, &flag),
         Err(_) => false,
     }
 }

@@ -11,7 +11,7 @@ use dns_servers::{
     ConnectionWork, Control, DgramEnd, DgramServer, Metered, Silent, StreamEnd, StreamServer,
     VecBufSource,
 };
-use dns_service::{Plainly, Served};
+use dns_service::{SharedService, WithoutMeta};
 use rows_links::{Holding, let_go};
 use std::alloc::Global;
 use std::net::Net;
@@ -31,7 +31,7 @@ fn shut<R: Wait>(rt: &R, mut control: Control) {
 }
 
 /// Whether a server that is shut down before ends, and serves nothing.
-fn ends_shut<R: Wait, D: AsyncDgramSock + Drop, C: Clock + Drop, W: Served>(
+fn ends_shut<R: Wait, D: AsyncDgramSock + Drop, C: Clock + Drop, W: SharedService>(
     rt: &R,
     alloc: Global,
     server: &mut DgramServer<D, VecBufSource, W, C>,
@@ -44,7 +44,7 @@ fn ends_shut<R: Wait, D: AsyncDgramSock + Drop, C: Clock + Drop, W: Served>(
 }
 
 /// The same of a server over this socket.
-fn udp_over<R: Wait, D: AsyncDgramSock + Drop, C: Clock + Drop, W: Served>(
+fn udp_over<R: Wait, D: AsyncDgramSock + Drop, C: Clock + Drop, W: SharedService>(
     rt: &R,
     alloc: Global,
     sock: D,
@@ -67,7 +67,7 @@ fn udp_ends<R: Wait, D: AsyncDgramSock + Drop, C: Clock + Drop>(
     clock: C,
 ) -> bool {
     match Holding::new(alloc, false, OptRcode::NOERROR) {
-        Ok(service) => udp_over(rt, alloc, sock, clock, Plainly { service }),
+        Ok(service) => udp_over(rt, alloc, sock, clock, WithoutMeta { service }),
         Err(_) => false,
     }
 }
@@ -93,7 +93,7 @@ impl<
     A: AsyncAccept + Drop,
     C: Clock + Send + Drop + 'static,
     P: Spawner<ConnectionWork<Metered<A::Link>, C, Silent, W>> + Drop,
-    W: Served + Send + Sync + 'static,
+    W: SharedService + Send + Sync + 'static,
 > Closing<'_, R, A, C, P, W>
 where
     A::Link: Send + Drop + 'static,
@@ -134,7 +134,7 @@ fn tcp_over<
     R: Threads + Wait + Copy + Send + 'static,
     A: AsyncAccept + Drop,
     C: Clock + Send + Drop + 'static,
-    W: Served + Send + Sync + 'static,
+    W: SharedService + Send + Sync + 'static,
 >(rt: &R, alloc: Global, accept: A, clock: C, service: W) -> bool
 where
     A::Link: Send + Drop + 'static,
@@ -156,7 +156,7 @@ where
     A::Link: Send + Drop + 'static,
 {
     match Holding::new(alloc, false, OptRcode::NOERROR) {
-        Ok(service) => tcp_over(rt, alloc, accept, clock, Plainly { service }),
+        Ok(service) => tcp_over(rt, alloc, accept, clock, WithoutMeta { service }),
         Err(_) => false,
     }
 }

@@ -14,7 +14,7 @@ use dns_outside::{
 };
 use dns_script::{NotifyRules, ScriptTarget};
 use dns_servers::{DgramServer, NoHook, PreConnect, StreamServer, VecBufSource};
-use dns_service::{Plainly, Served, Service};
+use dns_service::{Service, SharedService, WithoutMeta};
 use mailing::Mailing;
 use rows_links::{Holding, Marking, PEER, clock, let_go, letter, links_of, show};
 use std::alloc::Global;
@@ -39,7 +39,7 @@ pub fn target(alloc: Global) -> ScriptTarget {
 }
 
 /// A server of datagrams over this socket.
-pub fn datagrams<D: AsyncDgramSock + Drop, C: Clock + Drop, W: Served>(
+pub fn datagrams<D: AsyncDgramSock + Drop, C: Clock + Drop, W: SharedService>(
     alloc: Global,
     sock: D,
     clock: C,
@@ -52,7 +52,7 @@ pub fn datagrams<D: AsyncDgramSock + Drop, C: Clock + Drop, W: Served>(
 }
 
 /// A server of connections over this accept object.
-pub fn connections<A: AsyncAccept + Drop, C: Clock + Drop, P: Drop, W: Served>(
+pub fn connections<A: AsyncAccept + Drop, C: Clock + Drop, P: Drop, W: SharedService>(
     alloc: Global,
     accept: A,
     clock: C,
@@ -73,7 +73,7 @@ struct DgramCase {
 
 impl DgramCase {
     /// Whether the server answers one datagram, or none where it is closed before.
-    fn is_served<R: Threads + Wait + Sync, W: Served>(
+    fn is_served<R: Threads + Wait + Sync, W: SharedService>(
         &self,
         mailing: &mut Mailing<'_, R, W>,
     ) -> bool
@@ -87,7 +87,7 @@ impl DgramCase {
     }
 
     /// The same of a server over this socket, which is let go then.
-    fn is_served_over<R: Threads + Wait + Sync, W: Served>(
+    fn is_served_over<R: Threads + Wait + Sync, W: SharedService>(
         &self,
         rt: &R,
         alloc: Global,
@@ -108,7 +108,7 @@ impl DgramCase {
     }
 
     /// The same of a server over a socket with one query.
-    fn is_served_by<R: Threads + Wait + Sync, W: Served>(
+    fn is_served_by<R: Threads + Wait + Sync, W: SharedService>(
         &self,
         rt: &R,
         alloc: Global,
@@ -134,7 +134,7 @@ fn is_wrapped<R: Threads + Wait + Sync, S: Service<()>, N: Notifiable>(
     requires { S.can_call service }
 {
     match wrap(alloc, &Settings::new(alloc), service, target) {
-        Ok(service) => case.is_served_by(rt, alloc, Plainly { service }),
+        Ok(service) => case.is_served_by(rt, alloc, WithoutMeta { service }),
         Err(_) => false,
     }
 }
@@ -187,7 +187,7 @@ fn answers_links<
     R: Threads + Wait + Copy + Send + Sync + 'static,
     L: Link + Send + Drop + 'static,
     H: PreConnect<L> + Drop,
-    W: Served + Send + Sync + 'static,
+    W: SharedService + Send + Sync + 'static,
 >(rt: &R, alloc: Global, links: VecDeque<(L, SocketAddr)>, hook: H, service: W) -> bool
 where
     W::Future: Send,
@@ -225,7 +225,7 @@ where
     requires { S.can_call service }
 {
     match wrap(alloc, &Settings::new(alloc), service, target) {
-        Ok(service) => answers_links(rt, alloc, links, hook, Plainly { service }),
+        Ok(service) => answers_links(rt, alloc, links, hook, WithoutMeta { service }),
         Err(_) => false,
     }
 }

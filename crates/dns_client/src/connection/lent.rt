@@ -9,10 +9,10 @@ ghost use Rattle.dns_service.specs.PolledRequest.{request_answer};
 use crate::connection::OpenConnection;
 use crate::outcome::Outcome;
 use dns_framing::first_of;
-use dns_service::{OutOfMemory, Served};
+use dns_service::{OutOfMemory, SharedService};
 use std::alloc::Global;
 
-impl<W: Served> OpenConnection<W> {
+impl<W: SharedService> OpenConnection<W> {
     ghost use Rattle.dns_client.specs.Goings.{Leads, TakesLent};
 
     /// Takes the frames of a piece, before which nothing is kept, up to a short one. What is left of it is kept.

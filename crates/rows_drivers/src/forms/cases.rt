@@ -9,7 +9,7 @@ use crate::forms::watched::Watched;
 use dns_book::{Book, BookSeat, BookState};
 use dns_middleware::{NoSecondaries, Notifiable, Settings, wrap};
 use dns_name::{OutOfMemory, Rcode};
-use dns_service::{DgramConfig, Plainly, Served, Service, StreamConfig, service_fn};
+use dns_service::{DgramConfig, Service, SharedService, StreamConfig, WithoutMeta, service_fn};
 use std::alloc::Global;
 use std::cell::Cell;
 use std::sync::Wait;
@@ -54,7 +54,7 @@ pub(crate) trait Case {
     fn outside(&self, alloc: Global) -> Result<Self::Outside, OutOfMemory>;
 
     /// Serves it at the desk.
-    fn serve_at<R: Wait, W: Served>(
+    fn serve_at<R: Wait, W: SharedService>(
         &self,
         desk: Desk<'_, R, W>,
         outside: &mut Self::Outside,
@@ -75,7 +75,7 @@ fn is_served<R: Wait, S: Service<()> + Drop, K: Case>(
 ) -> bool
     requires { S.can_call service }
 {
-    let service = Plainly { service };
+    let service = WithoutMeta { service };
     match case.outside(alloc) {
         Ok(mut outside) => is_served_over(rt, alloc, &service, case, &mut outside),
         Err(_) => false,
@@ -83,7 +83,7 @@ fn is_served<R: Wait, S: Service<()> + Drop, K: Case>(
 }
 
 /// The same over this, in a book of its own.
-fn is_served_over<R: Wait, W: Served, K: Case>(
+fn is_served_over<R: Wait, W: SharedService, K: Case>(
     rt: &R,
     alloc: Global,
     service: &W,

@@ -9,7 +9,7 @@ use dns_book::{Admission, Book, BookSeat, Look};
 use dns_drivers::{ConnectionEnd, Recorder, serve_connection};
 use dns_memory::{Clock, Link, MemoryClock, MemoryLink};
 use dns_name::{IpAddr, OutOfMemory, SocketAddr};
-use dns_service::Served;
+use dns_service::SharedService;
 use std::alloc::Global;
 use std::sync::Wait;
 
@@ -57,7 +57,7 @@ impl LinkCase<'_> {
     }
 
     /// Serves a connection that is admitted, where no shutdown is shown. How it ends, and how many slots are taken then.
-    fn serve_admitted<R: Wait, W: Served, L: Link, C: Clock>(
+    fn serve_admitted<R: Wait, W: SharedService, L: Link, C: Clock>(
         &self,
         desk: Desk<'_, R, W>,
         look: &Look,
@@ -91,7 +91,7 @@ impl LinkCase<'_> {
     }
 
     /// Serves it over a link, by a clock, into a recorder.
-    fn serve<'a, R: Wait, W: Served, L: Link, C: Clock, J: Recorder>(
+    fn serve<'a, R: Wait, W: SharedService, L: Link, C: Clock, J: Recorder>(
         &self,
         rt: &R,
         alloc: Global,
@@ -147,7 +147,7 @@ impl Case for LinkCase<'_> {
         }
     }
 
-    fn serve_at<R: Wait, W: Served>(
+    fn serve_at<R: Wait, W: SharedService>(
         &self,
         mut desk: Desk<'_, R, W>,
         outside: &mut Outside<MemoryLink, MemoryClock>,

@@ -9,7 +9,7 @@ use dns_datagrams::{DgramEnd, serve_datagrams};
 use dns_drivers::Recorder;
 use dns_memory::{AsyncDgramSock, Clock, Letter, MemoryClock, MemorySock};
 use dns_name::{IpAddr, Octets, OutOfMemory, SocketAddr};
-use dns_service::Served;
+use dns_service::SharedService;
 use std::alloc::Global;
 use std::sync::Wait;
 
@@ -94,7 +94,7 @@ impl SockCase<'_> {
 }
 
 /// How so many datagrams are served at a desk over a socket, by a clock, into a recorder.
-fn serve<R: Wait, W: Served, D: AsyncDgramSock, C: Clock, J: Recorder>(
+fn serve<R: Wait, W: SharedService, D: AsyncDgramSock, C: Clock, J: Recorder>(
     desk: Desk<'_, R, W>,
     sock: &mut D,
     clock: &mut C,
@@ -129,7 +129,7 @@ impl Case for SockCase<'_> {
         }
     }
 
-    fn serve_at<R: Wait, W: Served>(
+    fn serve_at<R: Wait, W: SharedService>(
         &self,
         mut desk: Desk<'_, R, W>,
         outside: &mut Outside<MemorySock, Standing>,

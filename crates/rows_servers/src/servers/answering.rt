@@ -9,7 +9,7 @@ use dns_servers::{
     ConnectionWork, Control, Metered, PreConnect, ServerMetrics, Silent, StreamEnd, StreamServer,
     VecBufSource,
 };
-use dns_service::Served;
+use dns_service::SharedService;
 use rows_links::{clock, let_go};
 use std::alloc::Global;
 use std::sync::{Arc, Wait};
@@ -30,7 +30,7 @@ impl<
     A: AsyncAccept + Drop,
     P: Spawner<ConnectionWork<Metered<A::Link>, MemoryClock, Silent, W>> + Drop,
     H: PreConnect<A::Link> + Drop,
-    W: Served + Send + Sync + 'static,
+    W: SharedService + Send + Sync + 'static,
 > Answering<'_, R, A, P, H, W>
 where
     A::Link: Send + Drop + 'static,

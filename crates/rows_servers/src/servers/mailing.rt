@@ -5,7 +5,7 @@ ghost use Rattle.std.specs.Prelude.{◌≡◌};
 use crate::servers::controls::{count, shows_shutdown, shut_down_after};
 use dns_outside::{MemoryClock, SteadySock};
 use dns_servers::{Control, DgramEnd, DgramServer, Kept, ServerMetrics, Silent, VecBufSource};
-use dns_service::Served;
+use dns_service::SharedService;
 use rows_links::PEER;
 use std::alloc::Global;
 use std::sync::{Arc, Wait};
@@ -44,7 +44,7 @@ pub struct Mailing<'a, R, W> {
     pub server: DgramServer<SteadySock, VecBufSource, W, MemoryClock>,
 }
 
-impl<R: Threads + Wait + Sync, W: Served> Mailing<'_, R, W> {
+impl<R: Threads + Wait + Sync, W: SharedService> Mailing<'_, R, W> {
     /// Runs beside what shuts the server down once one response was sent. The control that did, and how the run ended.
     fn join(
         &mut self,

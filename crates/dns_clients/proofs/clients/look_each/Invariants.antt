@@ -3,7 +3,7 @@ use Rattle.std.proofs.Common.{◌≡◌, ℕ, take}
 use Rattle.std.specs.List.{flat_map}
 use Rattle.std.specs.BTreeMap.{keys}
 use Rattle.dns_service.specs.PolledRequest.{request_answer}
-use Rattle.dns_client.specs.News.{told_of}
+use Rattle.dns_client.specs.News.{look_effect}
 use Rattle.dns_client.specs.Slate.{Slate}
 use Rattle.dns_clients.specs.Serves.{StandAll}
 use Rattle.dns_clients.proofs.Steps.{mixed, mixed_versions}
@@ -16,6 +16,6 @@ invariant-loop-number g l =
     record {
       same_keys : keys l.clients ≡ keys l.fn.clients;
       looked : (answers : Serving) (slates : ℕ → Slate) (versions : ℕ → ℕ) → StandAll answer answers l.fn.clients slates versions →
-          (l.outs.items ≡ flat_map (λ c. (told_of answers (versions c) l.look (slates c)).1) (take l.number-index l.numbers))
+          (l.outs.items ≡ flat_map (λ c. (look_effect answers (versions c) l.look (slates c)).1) (take l.number-index l.numbers))
           × StandAll answer answers l.clients (mixed answers l.look (take l.number-index l.numbers) slates versions) (mixed_versions l.look (take l.number-index l.numbers) versions);
     }

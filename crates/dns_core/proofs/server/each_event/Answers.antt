@@ -26,4 +26,4 @@ loop-event-preserved g c = λ settings start.
 pub returns : goal.returns
 returns g c = λ settings start.
     (c.loop-event.invariant settings start).0
-    ∙ ap (out (serving (g.W.Served.answer c.args.service.now) (g.W.Served.hint c.args.service.now)) settings) (take_all c.loop-event.event-index c.args.events.now c.loop-event-test.false)
+    ∙ ap (out (serving (g.W.SharedService.answer c.args.service.now) (g.W.SharedService.hint c.args.service.now)) settings) (take_all c.loop-event.event-index c.args.events.now c.loop-event-test.false)

@@ -10,6 +10,6 @@ use Rattle.dns_core.proofs.server.each_event.Given as goal
 abbrev pub invariant-loop-event : goal.invariant-loop-event
 invariant-loop-event g l =
     let answer = request_answer g.W.Future.ReplyFuture.answer g.W.Stream.ReplyStream.answer in
-    let answers = serving (g.W.Served.answer l.service) (g.W.Served.hint l.service) in
+    let answers = serving (g.W.SharedService.answer l.service) (g.W.SharedService.hint l.service) in
     (settings : Settings) → Serves answer answers settings [] l.fn.server
     → (l.outs.items ≡ out answers settings (take l.event-index l.events)) × Serves answer answers settings (take l.event-index l.events) l.server

@@ -24,4 +24,4 @@ loop-step-preserved g c = λ settings start.
 pub returns : goal.returns
 returns g c = λ settings start.
     (c.loop-step.invariant settings start).0
-    ∙ ap (outs (serving (g.W.Served.answer c.args.service.now) (g.W.Served.hint c.args.service.now)) settings) (take_all c.loop-step.step-index c.args.steps.now c.loop-step-test.false)
+    ∙ ap (outs (serving (g.W.SharedService.answer c.args.service.now) (g.W.SharedService.hint c.args.service.now)) settings) (take_all c.loop-step.step-index c.args.steps.now c.loop-step-test.false)

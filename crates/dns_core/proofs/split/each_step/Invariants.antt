@@ -10,6 +10,6 @@ use Rattle.dns_core.proofs.split.each_step.Given as goal
 abbrev pub invariant-loop-step : goal.invariant-loop-step
 invariant-loop-step g l =
     let answer = request_answer g.W.Future.ReplyFuture.answer g.W.Stream.ReplyStream.answer in
-    let answers = serving (g.W.Served.answer l.service) (g.W.Served.hint l.service) in
+    let answers = serving (g.W.SharedService.answer l.service) (g.W.SharedService.hint l.service) in
     (settings : Settings) → ServesSteps answer answers settings [] l.fn.server.inner
     → (l.sent.items ≡ outs answers settings (take l.step-index l.steps)) × ServesSteps answer answers settings (take l.step-index l.steps) l.server.inner

@@ -10,7 +10,7 @@ use Rattle.dns_datagrams.proofs.exchanges.begin.Goals as goal
 pub returns-in-Ok-clause-here : goal.returns-in-Ok-clause-here
 returns-in-Ok-clause-here g c =
     let answer = request_answer g.W.Future.ReplyFuture.answer g.W.Stream.ReplyStream.answer in
-    let answers = serving (g.W.Served.answer c.args.service.now) (g.W.Served.hint c.args.service.now) in
+    let answers = serving (g.W.SharedService.answer c.args.service.now) (g.W.SharedService.hint c.args.service.now) in
     let k = c.args.stamp.client in
     if_ok_on c.enter.result _ _ c.enter.ensures.letter c.enter.ensures.kept
     (λ letter l kept. begun_one answer answers c.args.state.now.heard (stamped_event c.args.stamp (Datagram c.args.addr c.args.octets)) c.args.addr c.args.octets (kept_at k c.args.state.now.exchanges.items) (kept_at k c.enter.new.exchanges.items) c.in-Ok.request c.in-Ok.sent letter

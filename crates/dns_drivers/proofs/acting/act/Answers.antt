@@ -6,7 +6,7 @@ use Rattle.dns_drivers.proofs.acting.act.Goals as goal
 
 pub returns-in-Ok-clause-told : goal.returns-in-Ok-clause-told
 returns-in-Ok-clause-told g c =
-    acted_told (request_answer g.W.Future.ReplyFuture.answer g.W.Stream.ReplyStream.answer) (serving (g.W.Served.answer c.args.service.now) (g.W.Served.hint c.args.service.now)) c.hand_over.result c.in-Ok.event (g.L.Link.tells c.args.link.now) (g.L.Link.tells c.own_event.new.link) (g.J.Recorder.tells c.args.journal.now) (g.J.Recorder.tells c.hand_over.new.journal) c.args.client (below_of c.args.kept.now.turn) (below_of c.hand_over.new.kept.turn) c.args.core.now c.hand_over.new.core (g.J.Recorder.noted c.args.journal.now) (g.J.Recorder.noted c.hand_over.new.journal) (g.L.Link.traffic c.args.link.now) (g.L.Link.traffic c.own_event.new.link)
+    acted_told (request_answer g.W.Future.ReplyFuture.answer g.W.Stream.ReplyStream.answer) (serving (g.W.SharedService.answer c.args.service.now) (g.W.SharedService.hint c.args.service.now)) c.hand_over.result c.in-Ok.event (g.L.Link.tells c.args.link.now) (g.L.Link.tells c.own_event.new.link) (g.J.Recorder.tells c.args.journal.now) (g.J.Recorder.tells c.hand_over.new.journal) c.args.client (below_of c.args.kept.now.turn) (below_of c.hand_over.new.kept.turn) c.args.core.now c.hand_over.new.core (g.J.Recorder.noted c.args.journal.now) (g.J.Recorder.noted c.hand_over.new.journal) (g.L.Link.traffic c.args.link.now) (g.L.Link.traffic c.own_event.new.link)
     c.in-Ok.ensures.chosen c.hand_over.ensures.noted c.hand_over.ensures.taken c.hand_over.ensures.turn
 
 pub returns-in-Ok-clause-clock : goal.returns-in-Ok-clause-clock
@@ -16,7 +16,7 @@ returns-in-Ok-clause-clock g c =
 
 pub returns-in-Ok-clause-blame : goal.returns-in-Ok-clause-blame
 returns-in-Ok-clause-blame g c =
-    acted_blame (request_answer g.W.Future.ReplyFuture.answer g.W.Stream.ReplyStream.answer) (serving (g.W.Served.answer c.args.service.now) (g.W.Served.hint c.args.service.now)) c.hand_over.result c.in-Ok.event (below_of c.args.kept.now.turn) c.args.core.now c.hand_over.new.core (g.L.Link.faults c.args.link.now) (g.L.Link.faults c.own_event.new.link) c.in-Ok.ensures.blame c.hand_over.ensures.taken
+    acted_blame (request_answer g.W.Future.ReplyFuture.answer g.W.Stream.ReplyStream.answer) (serving (g.W.SharedService.answer c.args.service.now) (g.W.SharedService.hint c.args.service.now)) c.hand_over.result c.in-Ok.event (below_of c.args.kept.now.turn) c.args.core.now c.hand_over.new.core (g.L.Link.faults c.args.link.now) (g.L.Link.faults c.own_event.new.link) c.in-Ok.ensures.blame c.hand_over.ensures.taken
 
 pub returns-in-Ok-clause-again : goal.returns-in-Ok-clause-again
 returns-in-Ok-clause-again g c = acted_again (request_answer g.W.Future.ReplyFuture.answer g.W.Stream.ReplyStream.answer) c.hand_over.result c.in-Ok.event (g.L.Link.tells c.args.link.now) (g.L.Link.tells c.own_event.new.link) (g.J.Recorder.tells c.args.journal.now) (g.J.Recorder.tells c.hand_over.new.journal) c.args.core.now (g.J.Recorder.noted c.args.journal.now) (g.J.Recorder.noted c.hand_over.new.journal) (g.L.Link.traffic c.args.link.now) (g.L.Link.traffic c.own_event.new.link) c.in-Ok.ensures.again c.hand_over.ensures.noted

@@ -16,13 +16,13 @@ returns-in-Err-clause-seat g c = looks_none c.args.seat.now.known
 
 pub returns-in-Err-clause-no_memory : goal.returns-in-Err-clause-no_memory
 returns-in-Err-clause-no_memory g c =
-    let b = serving (g.W.Served.answer c.args.service.now) (g.W.Served.hint c.args.service.now) in
+    let b = serving (g.W.SharedService.answer c.args.service.now) (g.W.SharedService.hint c.args.service.now) in
     record { told = λ m. (m, broken_none b (began c.args.client c.args.addr c.args.at c.args.look.now) c.args.client (g.J.Recorder.noted c.args.journal.now) (g.L.Link.traffic c.args.link.now)) }
 
 pub returns-in-Ok-clause-told : goal.returns-in-Ok-clause-told
 returns-in-Ok-clause-told g c =
     let a = request_answer g.W.Future.ReplyFuture.answer g.W.Stream.ReplyStream.answer in
-    let b = serving (g.W.Served.answer c.args.service.now) (g.W.Served.hint c.args.service.now) in
+    let b = serving (g.W.SharedService.answer c.args.service.now) (g.W.SharedService.hint c.args.service.now) in
     let u : Slate = began c.args.client c.args.addr c.args.at c.args.look.now in
     tells_then c.serve_core-served.result (g.L.Link.tells c.serve_core-served.new.link × g.J.Recorder.tells c.serve_core-served.new.journal) (g.L.Link.tells c.args.link.now × g.J.Recorder.tells c.args.journal.now) (g.L.Link.tells c.args.link.now × g.J.Recorder.tells c.args.journal.now)
     (λ (why : Why). (s : Slate) → BeginsOpen a b c.in-Ok.core c.args.look.now s → ClosingStory b s c.args.client c.args.look.now why (g.J.Recorder.noted c.args.journal.now) (g.J.Recorder.noted c.serve_core-served.new.journal) c.args.seat.now.known c.serve_core-served.new.seat.known (g.L.Link.traffic c.args.link.now) (g.L.Link.traffic c.serve_core-served.new.link))
@@ -36,7 +36,7 @@ returns-in-Ok-clause-clock g c = c.serve_core-served.ensures.clock
 pub returns-in-Ok-clause-no_memory : goal.returns-in-Ok-clause-no_memory
 returns-in-Ok-clause-no_memory g c =
     let a = request_answer g.W.Future.ReplyFuture.answer g.W.Stream.ReplyStream.answer in
-    let b = serving (g.W.Served.answer c.args.service.now) (g.W.Served.hint c.args.service.now) in
+    let b = serving (g.W.SharedService.answer c.args.service.now) (g.W.SharedService.hint c.args.service.now) in
     let u : Slate = began c.args.client c.args.addr c.args.at c.args.look.now in
     refused_then c.serve_core-served.result (g.L.Link.tells c.serve_core-served.new.link × g.J.Recorder.tells c.serve_core-served.new.journal) (g.L.Link.tells c.args.link.now × g.J.Recorder.tells c.args.journal.now) (g.L.Link.tells c.args.link.now × g.J.Recorder.tells c.args.journal.now)
     ((s : Slate) → BeginsOpen a b c.in-Ok.core c.args.look.now s → Broken b s c.args.client (g.J.Recorder.noted c.args.journal.now) (g.J.Recorder.noted c.serve_core-served.new.journal) (g.L.Link.traffic c.args.link.now) (g.L.Link.traffic c.serve_core-served.new.link))
@@ -47,7 +47,7 @@ returns-in-Ok-clause-no_memory g c =
 pub returns-in-Ok-clause-cause : goal.returns-in-Ok-clause-cause
 returns-in-Ok-clause-cause g c =
     let a = request_answer g.W.Future.ReplyFuture.answer g.W.Stream.ReplyStream.answer in
-    let b = serving (g.W.Served.answer c.args.service.now) (g.W.Served.hint c.args.service.now) in
+    let b = serving (g.W.SharedService.answer c.args.service.now) (g.W.SharedService.hint c.args.service.now) in
     let u : Slate = began c.args.client c.args.addr c.args.at c.args.look.now in
     if_ok c.serve_core-served.result
     (λ (why : Why). (s : Slate) → BeginsOpen a b c.in-Ok.core c.args.look.now s → Causes why c.args.seat.now.known c.serve_core-served.new.seat.known (g.L.Link.faults c.args.link.now) (g.L.Link.faults c.serve_core-served.new.link))

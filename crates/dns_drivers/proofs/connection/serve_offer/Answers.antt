@@ -15,7 +15,7 @@ returns-in-Err-clause-seat g c = looks_none c.args.seat.now.known
 
 pub returns-in-Ok-clause-told : goal.returns-in-Ok-clause-told
 returns-in-Ok-clause-told g c =
-    let b = serving (g.W.Served.answer c.args.service.now) (g.W.Served.hint c.args.service.now) in
+    let b = serving (g.W.SharedService.answer c.args.service.now) (g.W.SharedService.hint c.args.service.now) in
     tells_then c.admit_and_serve.result (g.L.Link.tells c.admit_and_serve.new.link × g.J.Recorder.tells c.admit_and_serve.new.journal) (g.L.Link.tells c.args.link.now × g.J.Recorder.tells c.note_moment.new.journal) (g.L.Link.tells c.args.link.now × g.J.Recorder.tells c.args.journal.now)
     (λ (why : Why). ClosingStory b (began c.args.client c.args.addr c.in-Ok.at c.args.look.now) c.args.client c.args.look.now why (g.J.Recorder.noted c.note_moment.new.journal) (g.J.Recorder.noted c.admit_and_serve.new.journal) c.args.seat.now.known c.admit_and_serve.new.seat.known (g.L.Link.traffic c.args.link.now) (g.L.Link.traffic c.admit_and_serve.new.link))
     (λ (why : Why). WasOffered b why c.args.client c.args.addr c.args.look.now (g.J.Recorder.noted c.args.journal.now) (g.J.Recorder.noted c.admit_and_serve.new.journal) c.args.seat.now.known c.admit_and_serve.new.seat.known (g.L.Link.traffic c.args.link.now) (g.L.Link.traffic c.admit_and_serve.new.link))
@@ -24,7 +24,7 @@ returns-in-Ok-clause-told g c =
 
 pub returns-in-Ok-clause-shown : goal.returns-in-Ok-clause-shown
 returns-in-Ok-clause-shown g c =
-    let b = serving (g.W.Served.answer c.args.service.now) (g.W.Served.hint c.args.service.now) in
+    let b = serving (g.W.SharedService.answer c.args.service.now) (g.W.SharedService.hint c.args.service.now) in
     tells_then c.admit_and_serve.result (g.L.Link.tells c.admit_and_serve.new.link × g.J.Recorder.tells c.admit_and_serve.new.journal) (g.L.Link.tells c.args.link.now × g.J.Recorder.tells c.note_moment.new.journal) (g.L.Link.tells c.args.link.now × g.J.Recorder.tells c.args.journal.now)
     (λ (why : Why). ClosingStory b (began c.args.client c.args.addr c.in-Ok.at c.args.look.now) c.args.client c.args.look.now why (g.J.Recorder.noted c.note_moment.new.journal) (g.J.Recorder.noted c.admit_and_serve.new.journal) c.args.seat.now.known c.admit_and_serve.new.seat.known (g.L.Link.traffic c.args.link.now) (g.L.Link.traffic c.admit_and_serve.new.link))
     (λ (why : Why). ShownFrom b why c.args.client c.args.addr c.args.look.now (g.J.Recorder.noted c.args.journal.now) (g.J.Recorder.noted c.admit_and_serve.new.journal) (g.L.Link.traffic c.args.link.now) (g.L.Link.traffic c.admit_and_serve.new.link))
@@ -33,7 +33,7 @@ returns-in-Ok-clause-shown g c =
 
 pub returns-in-Ok-clause-no_memory : goal.returns-in-Ok-clause-no_memory
 returns-in-Ok-clause-no_memory g c =
-    let b = serving (g.W.Served.answer c.args.service.now) (g.W.Served.hint c.args.service.now) in
+    let b = serving (g.W.SharedService.answer c.args.service.now) (g.W.SharedService.hint c.args.service.now) in
     refused_then c.admit_and_serve.result (g.L.Link.tells c.admit_and_serve.new.link × g.J.Recorder.tells c.admit_and_serve.new.journal) (g.L.Link.tells c.args.link.now × g.J.Recorder.tells c.note_moment.new.journal) (g.L.Link.tells c.args.link.now × g.J.Recorder.tells c.args.journal.now)
     (Broken b (began c.args.client c.args.addr c.in-Ok.at c.args.look.now) c.args.client (g.J.Recorder.noted c.note_moment.new.journal) (g.J.Recorder.noted c.admit_and_serve.new.journal) (g.L.Link.traffic c.args.link.now) (g.L.Link.traffic c.admit_and_serve.new.link))
     (Unserved b c.args.client c.args.addr c.args.look.now (g.J.Recorder.noted c.args.journal.now) (g.J.Recorder.noted c.admit_and_serve.new.journal) (g.L.Link.traffic c.args.link.now) (g.L.Link.traffic c.admit_and_serve.new.link))

@@ -11,7 +11,7 @@ use Rattle.dns_drivers.proofs.turning.serve_core.Goals as goal
 pub loop-init : goal.loop-init
 loop-init g c =
     let a = request_answer g.W.Future.ReplyFuture.answer g.W.Stream.ReplyStream.answer in
-    let b = serving (g.W.Served.answer c.args.service.now) (g.W.Served.hint c.args.service.now) in
+    let b = serving (g.W.SharedService.answer c.args.service.now) (g.W.SharedService.hint c.args.service.now) in
     record {
       run = record { told = λ t. (t, λ s h. going_begun a b s c.args.client c.args.look.now c.args.core.now (g.J.Recorder.noted c.args.journal.now) c.args.seat.now.known (g.L.Link.traffic c.args.link.now) h) };
       clock = record { told = λ t. (t, timed_none (g.J.Recorder.noted c.args.journal.now) (g.L.Link.traffic c.args.link.now).full_writes (g.C.Clock.readings c.args.clock.now)) };
@@ -24,7 +24,7 @@ loop-init g c =
 pub loop-preserved : goal.loop-preserved
 loop-preserved g c =
     let a = request_answer g.W.Future.ReplyFuture.answer g.W.Stream.ReplyStream.answer in
-    let b = serving (g.W.Served.answer c.args.service.now) (g.W.Served.hint c.args.service.now) in
+    let b = serving (g.W.SharedService.answer c.args.service.now) (g.W.SharedService.hint c.args.service.now) in
     record {
       run = record {
         told = λ t.
@@ -47,7 +47,7 @@ loop-preserved g c =
 pub returns-in-Ok-Some-clause-told : goal.returns-in-Ok-Some-clause-told
 returns-in-Ok-Some-clause-told g c =
     let a = request_answer g.W.Future.ReplyFuture.answer g.W.Stream.ReplyStream.answer in
-    let b = serving (g.W.Served.answer c.args.service.now) (g.W.Served.hint c.args.service.now) in
+    let b = serving (g.W.SharedService.answer c.args.service.now) (g.W.SharedService.hint c.args.service.now) in
     record {
       told = λ t.
           let m = (rw c.in-Ok-Some.field-0-is at c.in-Ok-Some.ensures.told).told t in
@@ -67,7 +67,7 @@ returns-in-Ok-Some-clause-clock g c =
 pub returns-in-Ok-Some-clause-cause : goal.returns-in-Ok-Some-clause-cause
 returns-in-Ok-Some-clause-cause g c =
     let a = request_answer g.W.Future.ReplyFuture.answer g.W.Stream.ReplyStream.answer in
-    let b = serving (g.W.Served.answer c.args.service.now) (g.W.Served.hint c.args.service.now) in
+    let b = serving (g.W.SharedService.answer c.args.service.now) (g.W.SharedService.hint c.args.service.now) in
     λ s h. cause_turned a b c.in-Ok-Some.why c.loop.core c.turn_once.new.core c.args.seat.now.known c.loop.seat.known c.turn_once.new.seat.known (g.L.Link.faults c.args.link.now) (g.L.Link.faults c.loop.link) (g.L.Link.faults c.turn_once.new.link) (c.loop.invariant.goes s h) (rw c.in-Ok-Some.field-0-is at c.in-Ok-Some.ensures.cause)
 
 pub returns-in-Ok-Some-clause-later : goal.returns-in-Ok-Some-clause-later
@@ -80,7 +80,7 @@ returns-in-Ok-Some-clause-seat g c =
 pub returns-in-Err-clause-no_memory : goal.returns-in-Err-clause-no_memory
 returns-in-Err-clause-no_memory g c =
     let a = request_answer g.W.Future.ReplyFuture.answer g.W.Stream.ReplyStream.answer in
-    let b = serving (g.W.Served.answer c.args.service.now) (g.W.Served.hint c.args.service.now) in
+    let b = serving (g.W.SharedService.answer c.args.service.now) (g.W.SharedService.hint c.args.service.now) in
     record {
       told = λ t.
           let m = c.in-Err.ensures.no_memory.told t in

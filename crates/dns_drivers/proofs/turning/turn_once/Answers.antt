@@ -14,7 +14,7 @@ use Rattle.dns_drivers.proofs.turning.turn_once.Goals as goal
 pub returns-in-Ok-None-clause-told : goal.returns-in-Ok-None-clause-told
 returns-in-Ok-None-clause-told g c =
     let a = request_answer g.W.Future.ReplyFuture.answer g.W.Stream.ReplyStream.answer in
-    let b = serving (g.W.Served.answer c.args.service.now) (g.W.Served.hint c.args.service.now) in
+    let b = serving (g.W.SharedService.answer c.args.service.now) (g.W.SharedService.hint c.args.service.now) in
     rw (← c.hear.ensures.turn, c.act.ensures.last) (tells_then c.act.result (g.L.Link.tells c.act.new.link × g.J.Recorder.tells c.act.new.journal) (g.L.Link.tells c.args.link.now × g.J.Recorder.tells c.hear.new.journal) (g.L.Link.tells c.args.link.now × g.J.Recorder.tells c.args.journal.now)
     (λ (why : Option Why). (Acted a b c.args.client (below_of c.hear.new.kept.turn) (below_of c.act.new.kept.turn) why c.hear.new.core c.act.new.core (g.J.Recorder.noted c.hear.new.journal) (g.J.Recorder.noted c.act.new.journal) (g.L.Link.traffic c.args.link.now) (g.L.Link.traffic c.act.new.link)) × (NotedWrite a c.hear.new.core (g.J.Recorder.noted c.hear.new.journal) (g.J.Recorder.noted c.act.new.journal) (g.L.Link.traffic c.args.link.now) (g.L.Link.traffic c.act.new.link)))
     (λ (why : Option Why). MadeTurn a b c.args.client (below_of c.hear.new.kept.turn) (below_of c.act.new.kept.turn) why c.args.core.now c.act.new.core c.args.kept.now.last c.hear.new.kept.last (g.J.Recorder.noted c.args.journal.now) (g.J.Recorder.noted c.act.new.journal) c.args.seat.now.known c.hear.new.seat.known (g.L.Link.traffic c.args.link.now) (g.L.Link.traffic c.act.new.link))
@@ -33,7 +33,7 @@ returns-in-Ok-None-clause-clock g c =
 pub returns-in-Ok-None-clause-no_memory : goal.returns-in-Ok-None-clause-no_memory
 returns-in-Ok-None-clause-no_memory g c =
     let a = request_answer g.W.Future.ReplyFuture.answer g.W.Stream.ReplyStream.answer in
-    let b = serving (g.W.Served.answer c.args.service.now) (g.W.Served.hint c.args.service.now) in
+    let b = serving (g.W.SharedService.answer c.args.service.now) (g.W.SharedService.hint c.args.service.now) in
     rw (← c.hear.ensures.turn) (refused_then c.act.result (g.L.Link.tells c.act.new.link × g.J.Recorder.tells c.act.new.journal) (g.L.Link.tells c.args.link.now × g.J.Recorder.tells c.hear.new.journal) (g.L.Link.tells c.args.link.now × g.J.Recorder.tells c.args.journal.now)
     (ActedPart a c.args.client (below_of c.hear.new.kept.turn) c.hear.new.core (g.J.Recorder.noted c.hear.new.journal) (g.J.Recorder.noted c.act.new.journal) (g.L.Link.traffic c.args.link.now) (g.L.Link.traffic c.act.new.link))
     (TurnedPart a b c.args.client (below_of c.hear.new.kept.turn) c.args.core.now c.args.kept.now.last (g.J.Recorder.noted c.args.journal.now) (g.J.Recorder.noted c.act.new.journal) c.args.seat.now.known c.hear.new.seat.known (g.L.Link.traffic c.args.link.now) (g.L.Link.traffic c.act.new.link))
@@ -43,7 +43,7 @@ returns-in-Ok-None-clause-no_memory g c =
 pub returns-in-Ok-None-clause-cause : goal.returns-in-Ok-None-clause-cause
 returns-in-Ok-None-clause-cause g c =
     let a = request_answer g.W.Future.ReplyFuture.answer g.W.Stream.ReplyStream.answer in
-    let b = serving (g.W.Served.answer c.args.service.now) (g.W.Served.hint c.args.service.now) in
+    let b = serving (g.W.SharedService.answer c.args.service.now) (g.W.SharedService.hint c.args.service.now) in
     if_ok c.act.result
     (λ (why : Option Why). ActedFor a b why c.hear.new.core c.act.new.core (g.L.Link.faults c.args.link.now) (g.L.Link.faults c.act.new.link))
     (λ (why : Option Why). TurnedFor a b why c.args.core.now c.act.new.core c.args.seat.now.known c.hear.new.seat.known (g.L.Link.faults c.args.link.now) (g.L.Link.faults c.act.new.link))

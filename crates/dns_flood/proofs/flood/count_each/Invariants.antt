@@ -12,7 +12,7 @@ use Rattle.dns_flood.proofs.flood.count_each.Given as goal
 abbrev pub invariant-loop-made : goal.invariant-loop-made
 invariant-loop-made g l =
     let answer = request_answer g.W.Future.ReplyFuture.answer g.W.Stream.ReplyStream.answer in
-    let answers = serving (g.W.Served.answer l.service) (g.W.Served.hint l.service) in
+    let answers = serving (g.W.SharedService.answer l.service) (g.W.SharedService.hint l.service) in
     record {
       number : l.number ≡ number_at l.seed l.made;
       counted : (s : Settings) → Serves answer answers s [] l.fn.server

@@ -9,7 +9,7 @@ use Rattle.dns_flood.proofs.flood.count_event.Goals as goal
 
 pub returns-clause-counted : goal.returns-clause-counted
 returns-clause-counted g c = λ s q lt h counted.
-    let answers = serving (g.W.Served.answer c.args.service.now) (g.W.Served.hint c.args.service.now) in
+    let answers = serving (g.W.SharedService.answer c.args.service.now) (g.W.SharedService.hint c.args.service.now) in
     let f = c.in_ok-step.ensures.ok s q lt h in
     let sent = c.deref.ensures.value ∙ f.0.appended ∙ ap (λ (os : List Output). os ++ f.0.more) c.new-outputs.ensures.items in
     let before = out answers s q in (

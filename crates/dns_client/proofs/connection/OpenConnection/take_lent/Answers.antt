@@ -14,7 +14,7 @@ take_lent_frame-requires-clause-empty g c = c.taking.invariant.empty
 pub returns-in-Some : goal.returns-in-Some
 returns-in-Some g c =
     let a = request_answer g.W.Future.ReplyFuture.answer g.W.Stream.ReplyStream.answer in
-    let b = serving (g.W.Served.answer c.args.service.now) (g.W.Served.hint c.args.service.now) in
+    let b = serving (g.W.SharedService.answer c.args.service.now) (g.W.SharedService.hint c.args.service.now) in
     no_more a b c.args.at c.args.secs (record c.args.self.now { framer = c.args.piece.now }) (record c.taking.self { framer = c.taking.rest.now }) c.take_lent_frame.new.self c.in-Some.outcome c.taking.invariant.takes (rw c.in-Some.is at c.in_ok-ended.ensures)
 
 pub slice_bounds-rest-count : goal.slice_bounds-rest-count
@@ -30,7 +30,7 @@ slice_bounds-rest-start g c =
 pub taking-preserved : goal.taking-preserved
 taking-preserved g c =
     let a = request_answer g.W.Future.ReplyFuture.answer g.W.Stream.ReplyStream.answer in
-    let b = serving (g.W.Served.answer c.args.service.now) (g.W.Served.hint c.args.service.now) in
+    let b = serving (g.W.SharedService.answer c.args.service.now) (g.W.SharedService.hint c.args.service.now) in
     let t = rw c.in_default.is at c.in_ok-ended.ensures in
     record { empty = t.empty; takes = lent_more a b c.args.at c.args.secs c.args.self.now c.taking.self c.take_lent_frame.new.self c.args.piece.now c.taking.rest.now c.in_ok-ended.size c.taking.invariant.takes t }
 

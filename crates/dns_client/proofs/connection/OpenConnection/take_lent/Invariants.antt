@@ -7,7 +7,7 @@ use Rattle.dns_client.proofs.connection.OpenConnection.take_lent.Given as goal
 abbrev pub invariant-taking : goal.invariant-taking
 invariant-taking g l = record {
   empty : l.self.framer ≡ [];
-  takes : TakesOn (request_answer g.W.Future.ReplyFuture.answer g.W.Stream.ReplyStream.answer) (serving (g.W.Served.answer l.service) (g.W.Served.hint l.service)) l.at l.secs (record l.fn.self { framer = l.fn.piece }) (record l.self { framer = l.rest });
+  takes : TakesOn (request_answer g.W.Future.ReplyFuture.answer g.W.Stream.ReplyStream.answer) (serving (g.W.SharedService.answer l.service) (g.W.SharedService.hint l.service)) l.at l.secs (record l.fn.self { framer = l.fn.piece }) (record l.self { framer = l.rest });
 }
 
 abbrev pub decreases-taking : goal.decreases-taking

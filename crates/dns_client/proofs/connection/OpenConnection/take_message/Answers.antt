@@ -10,7 +10,7 @@ use Rattle.dns_client.proofs.connection.OpenConnection.take_message.Goals as goa
 pub returns-then-header-clause-ok : goal.returns-then-header-clause-ok
 returns-then-header-clause-ok g c =
     let a = request_answer g.W.Future.ReplyFuture.answer g.W.Stream.ReplyStream.answer in
-    let b = serving (g.W.Served.answer c.args.service.now) (g.W.Served.hint c.args.service.now) in
+    let b = serving (g.W.SharedService.answer c.args.service.now) (g.W.SharedService.hint c.args.service.now) in
     let response : (header_of c.args.message).qr ≡ true = rw (← c.header.ensures) c.if-header.true in
     on_ok_weaker c.refuse.result (λ is. refuses_message a b c.args.at c.args.secs c.args.self.now c.refuse.new.self c.args.message response is) c.refuse.ensures.ok
 

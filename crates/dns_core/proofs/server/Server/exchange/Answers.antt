@@ -10,7 +10,7 @@ use Rattle.dns_core.proofs.server.Server.exchange.Goals as goal
 
 pub returns-clause-goes : goal.returns-clause-goes
 returns-clause-goes g c = MatchResult-weaker c.begin.result c.begin.ensures (λ outs kept settings q lt h.
-    let b = serving (g.W.Served.answer c.args.service.now) (g.W.Served.hint c.args.service.now) in
+    let b = serving (g.W.SharedService.answer c.args.service.now) (g.W.SharedService.hint c.args.service.now) in
     rw kept.0 (datagram_goes (request_answer g.W.Future.ReplyFuture.answer g.W.Stream.ReplyStream.answer) b settings c.args.self.now c.begin.new.clients c.begin.new.used c.in_ok-core.core q c.args.event.now c.args.addr c.args.octets.now c.in_ok-core.outs.items c.requires.kind
     (ap (λ (x : Look). x.closed) (sym c.requires.shown) ∙ c.requires.running) c.requires.unused
     (λ s u k. c.in_ok-core.ensures.begun s u (k ∙ ap conf_of (sym c.requires.shown)))
@@ -18,7 +18,7 @@ returns-clause-goes g c = MatchResult-weaker c.begin.result c.begin.ensures (λ 
 
 pub returns-clause-steps : goal.returns-clause-steps
 returns-clause-steps g c = MatchResult-weaker c.begin.result c.begin.ensures (λ outs kept settings q h.
-    let b = serving (g.W.Served.answer c.args.service.now) (g.W.Served.hint c.args.service.now) in
+    let b = serving (g.W.SharedService.answer c.args.service.now) (g.W.SharedService.hint c.args.service.now) in
     rw kept.0 (step_datagram_goes (request_answer g.W.Future.ReplyFuture.answer g.W.Stream.ReplyStream.answer) b settings c.args.self.now c.begin.new.clients c.begin.new.used c.in_ok-core.core q c.args.event.now c.args.addr c.args.octets.now c.in_ok-core.outs.items c.requires.kind
     (ap (λ (x : Look). x.closed) (sym c.requires.shown) ∙ c.requires.running) c.requires.unused
     (λ s u k. c.in_ok-core.ensures.begun s u (k ∙ ap conf_of (sym c.requires.shown)))

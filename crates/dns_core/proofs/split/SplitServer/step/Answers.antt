@@ -7,7 +7,7 @@ use Rattle.dns_core.proofs.split.SplitServer.step.Goals as goal
 
 pub returns-clause-ok : goal.returns-clause-ok
 returns-clause-ok g c = λ settings q h.
-    let answers = serving (g.W.Served.answer c.args.service.now) (g.W.Served.hint c.args.service.now) in
+    let answers = serving (g.W.SharedService.answer c.args.service.now) (g.W.SharedService.hint c.args.service.now) in
     let f = c.in_ok-more.ensures settings q h in (
       record {
         more = step_gained answers settings q c.args.step.now;

@@ -8,11 +8,11 @@ use Rattle.dns_datagrams.proofs.DatagramTurns.{begins_by, begin_fails}
 use Rattle.dns_datagrams.proofs.office.Office.begin_noted.Goals as goal
 
 pub returns-in-Err-clause-told : goal.returns-in-Err-clause-told
-returns-in-Err-clause-told g c = rw c.begin.ensures.rest (record { told = tt; no_memory = tells_none (record { since = λ n r t. begin_fails (request_answer g.W.Future.ReplyFuture.answer g.W.Stream.ReplyStream.answer) (serving (g.W.Served.answer c.args.self.now.service.now) (g.W.Served.hint c.args.self.now.service.now)) c.args.self.now.state.now {e = stamped_event c.args.stamp (Datagram c.args.from c.args.octets)} c.requires.of refl t (record { noted = refl; received = refl; sent = refl }) }) })
+returns-in-Err-clause-told g c = rw c.begin.ensures.rest (record { told = tt; no_memory = tells_none (record { since = λ n r t. begin_fails (request_answer g.W.Future.ReplyFuture.answer g.W.Stream.ReplyStream.answer) (serving (g.W.SharedService.answer c.args.self.now.service.now) (g.W.SharedService.hint c.args.self.now.service.now)) c.args.self.now.state.now {e = stamped_event c.args.stamp (Datagram c.args.from c.args.octets)} c.requires.of refl t (record { noted = refl; received = refl; sent = refl }) }) })
 
 pub returns-in-Ok-clause-told : goal.returns-in-Ok-clause-told
 returns-in-Ok-clause-told g c = rw (c.send_for.ensures.rest, c.begin.ensures.rest) (record {
   told = if_ok_by c.send_for.result _ _ c.send_for.ensures.told.told
-      (λ u d. tells_one (rw c.begin.ensures.rest at d) (λ x. record { since = λ n r t. begins_by (request_answer g.W.Future.ReplyFuture.answer g.W.Stream.ReplyStream.answer) (serving (g.W.Served.answer c.args.self.now.service.now) (g.W.Served.hint c.args.self.now.service.now)) c.args.self.now.state.now {e = stamped_event c.args.stamp (Datagram c.args.from c.args.octets)} c.args.octets c.args.from c.requires.running c.requires.of refl c.in-Ok.ensures.here c.in-Ok.ensures.others t x }));
-  no_memory = on_err_by c.send_for.result c.send_for.ensures.told.no_memory (λ d. tells_one d (λ u. record { since = λ n r t. begin_fails (request_answer g.W.Future.ReplyFuture.answer g.W.Stream.ReplyStream.answer) (serving (g.W.Served.answer c.args.self.now.service.now) (g.W.Served.hint c.args.self.now.service.now)) c.args.self.now.state.now {e = stamped_event c.args.stamp (Datagram c.args.from c.args.octets)} c.requires.of refl t u }));
+      (λ u d. tells_one (rw c.begin.ensures.rest at d) (λ x. record { since = λ n r t. begins_by (request_answer g.W.Future.ReplyFuture.answer g.W.Stream.ReplyStream.answer) (serving (g.W.SharedService.answer c.args.self.now.service.now) (g.W.SharedService.hint c.args.self.now.service.now)) c.args.self.now.state.now {e = stamped_event c.args.stamp (Datagram c.args.from c.args.octets)} c.args.octets c.args.from c.requires.running c.requires.of refl c.in-Ok.ensures.here c.in-Ok.ensures.others t x }));
+  no_memory = on_err_by c.send_for.result c.send_for.ensures.told.no_memory (λ d. tells_one d (λ u. record { since = λ n r t. begin_fails (request_answer g.W.Future.ReplyFuture.answer g.W.Stream.ReplyStream.answer) (serving (g.W.SharedService.answer c.args.self.now.service.now) (g.W.SharedService.hint c.args.self.now.service.now)) c.args.self.now.state.now {e = stamped_event c.args.stamp (Datagram c.args.from c.args.octets)} c.requires.of refl t u }));
 })

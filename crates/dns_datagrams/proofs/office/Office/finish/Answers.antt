@@ -8,22 +8,22 @@ use Rattle.dns_datagrams.proofs.DatagramWent.{same_seat, polls_same, polls_then,
 use Rattle.dns_datagrams.proofs.office.Office.finish.Goals as goal
 
 pub loop-init : goal.loop-init
-loop-init g c = record { polls = polls_same; told = tells_none (goes_same (request_answer g.W.Future.ReplyFuture.answer g.W.Stream.ReplyStream.answer) (serving (g.W.Served.answer c.args.self.now.service.now) (g.W.Served.hint c.args.self.now.service.now))) }
+loop-init g c = record { polls = polls_same; told = tells_none (goes_same (request_answer g.W.Future.ReplyFuture.answer g.W.Stream.ReplyStream.answer) (serving (g.W.SharedService.answer c.args.self.now.service.now) (g.W.SharedService.hint c.args.self.now.service.now))) }
 
 pub poll_all-requires : goal.poll_all-requires
 poll_all-requires g c = record { book = same_seat c.loop.invariant.polls.went c.requires.book }
 
 pub returns-then-is_empty-clause-told : goal.returns-then-is_empty-clause-told
-returns-then-is_empty-clause-told g c = record { told = tells_one c.loop.invariant.told (finished_by (request_answer g.W.Future.ReplyFuture.answer g.W.Stream.ReplyStream.answer) (serving (g.W.Served.answer c.args.self.now.service.now) (g.W.Served.hint c.args.self.now.service.now)) (let h : deque_len c.loop.self.state.now.exchanges ≡ 0 = search (rules, c.is_empty.ensures, c.if-is_empty.true) in h)); no_memory = tt }
+returns-then-is_empty-clause-told g c = record { told = tells_one c.loop.invariant.told (finished_by (request_answer g.W.Future.ReplyFuture.answer g.W.Stream.ReplyStream.answer) (serving (g.W.SharedService.answer c.args.self.now.service.now) (g.W.SharedService.hint c.args.self.now.service.now)) (let h : deque_len c.loop.self.state.now.exchanges ≡ 0 = search (rules, c.is_empty.ensures, c.if-is_empty.true) in h)); no_memory = tt }
 
 pub loop-preserved : goal.loop-preserved
 loop-preserved g c = record {
   polls = polls_then c.loop.invariant.polls (polls_waited (record { book = refl; service = refl; sock = refl; clock = refl; journal = refl; state = refl }) refl refl refl c.poll_all.ensures.polls);
-  told = tells_two c.loop.invariant.told (tells_d_c_dcj (record { told = λ t. (t, refl) }) c.outdate.ensures (rw c.loop.invariant.polls.went.same.service at c.in-Ok.ensures.told.told) (λ w h. goes_waited (request_answer g.W.Future.ReplyFuture.answer g.W.Stream.ReplyStream.answer) (serving (g.W.Served.answer c.args.self.now.service.now) (g.W.Served.hint c.args.self.now.service.now)) refl w h)) (finish_more (request_answer g.W.Future.ReplyFuture.answer g.W.Stream.ReplyStream.answer) (serving (g.W.Served.answer c.args.self.now.service.now) (g.W.Served.hint c.args.self.now.service.now)));
+  told = tells_two c.loop.invariant.told (tells_d_c_dcj (record { told = λ t. (t, refl) }) c.outdate.ensures (rw c.loop.invariant.polls.went.same.service at c.in-Ok.ensures.told.told) (λ w h. goes_waited (request_answer g.W.Future.ReplyFuture.answer g.W.Stream.ReplyStream.answer) (serving (g.W.SharedService.answer c.args.self.now.service.now) (g.W.SharedService.hint c.args.self.now.service.now)) refl w h)) (finish_more (request_answer g.W.Future.ReplyFuture.answer g.W.Stream.ReplyStream.answer) (serving (g.W.SharedService.answer c.args.self.now.service.now) (g.W.SharedService.hint c.args.self.now.service.now)));
 }
 
 pub returns-in-Err-clause-polls : goal.returns-in-Err-clause-polls
 returns-in-Err-clause-polls g c = polls_then c.loop.invariant.polls (polls_waited (record { book = refl; service = refl; sock = refl; clock = refl; journal = refl; state = refl }) refl refl refl c.poll_all.ensures.polls)
 
 pub returns-in-Err-clause-told : goal.returns-in-Err-clause-told
-returns-in-Err-clause-told g c = record { told = tt; no_memory = tells_two c.loop.invariant.told (tells_d_c_dcj (record { told = λ t. (t, refl) }) c.outdate.ensures (rw c.loop.invariant.polls.went.same.service at c.in-Err.ensures.told.no_memory) (λ w h. breaks_waited (request_answer g.W.Future.ReplyFuture.answer g.W.Stream.ReplyStream.answer) (serving (g.W.Served.answer c.args.self.now.service.now) (g.W.Served.hint c.args.self.now.service.now)) refl w h)) (finish_fails (request_answer g.W.Future.ReplyFuture.answer g.W.Stream.ReplyStream.answer) (serving (g.W.Served.answer c.args.self.now.service.now) (g.W.Served.hint c.args.self.now.service.now)) c.loop.invariant.polls.next) }
+returns-in-Err-clause-told g c = record { told = tt; no_memory = tells_two c.loop.invariant.told (tells_d_c_dcj (record { told = λ t. (t, refl) }) c.outdate.ensures (rw c.loop.invariant.polls.went.same.service at c.in-Err.ensures.told.no_memory) (λ w h. breaks_waited (request_answer g.W.Future.ReplyFuture.answer g.W.Stream.ReplyStream.answer) (serving (g.W.SharedService.answer c.args.self.now.service.now) (g.W.SharedService.hint c.args.self.now.service.now)) refl w h)) (finish_fails (request_answer g.W.Future.ReplyFuture.answer g.W.Stream.ReplyStream.answer) (serving (g.W.SharedService.answer c.args.self.now.service.now) (g.W.SharedService.hint c.args.self.now.service.now)) c.loop.invariant.polls.next) }

@@ -13,7 +13,7 @@ pub returns-then-self-clause-laps : goal.returns-then-self-clause-laps
 returns-then-self-clause-laps g c = record { went = went_same; next = refl; later = omega arith; cause = refl; closed = λ e. c.if-self.true }
 
 pub returns-then-self-clause-told : goal.returns-then-self-clause-told
-returns-then-self-clause-told g c = tells_none (goes_same (request_answer g.W.Future.ReplyFuture.answer g.W.Stream.ReplyStream.answer) (serving (g.W.Served.answer c.args.self.now.service.now) (g.W.Served.hint c.args.self.now.service.now)), c.if-self.true)
+returns-then-self-clause-told g c = tells_none (goes_same (request_answer g.W.Future.ReplyFuture.answer g.W.Stream.ReplyStream.answer) (serving (g.W.SharedService.answer c.args.self.now.service.now) (g.W.SharedService.hint c.args.self.now.service.now)), c.if-self.true)
 
 pub returns-in-Ok-Failed-clause-laps : goal.returns-in-Ok-Failed-clause-laps
 returns-in-Ok-Failed-clause-laps g c = record { went = c.receive.ensures.went; next = rw c.in-Ok-Failed.field-0-is at c.in-Ok-Failed.ensures.next; later = c.receive.ensures.receives; cause = rw c.in-Ok-Failed.field-0-is at c.in-Ok-Failed.ensures.cause; closed = λ e. absurd (cc e) }
@@ -25,16 +25,16 @@ pub returns-in-Err-poll_all-clause-laps : goal.returns-in-Err-poll_all-clause-la
 returns-in-Err-poll_all-clause-laps g c = record { went = went_then c.receive.ensures.went c.poll_all.ensures.polls.went; next = rw c.poll_all.ensures.polls.next (rw c.in-Ok-Made.field-0-is at c.in-Ok-Made.ensures.next); later = rw c.poll_all.ensures.polls.receives c.receive.ensures.receives; cause = c.poll_all.ensures.polls.receives ∙ rw c.in-Ok-Made.field-0-is at c.in-Ok-Made.ensures.cause; closed = λ e. absurd (cc e) }
 
 pub returns-in-Err-poll_all-clause-told : goal.returns-in-Err-poll_all-clause-told
-returns-in-Err-poll_all-clause-told g c = tells_two (rw c.in-Ok-Made.field-0-is at c.in-Ok-Made.ensures.told.told) (rw c.receive.ensures.went.same.service at c.in-Err-poll_all.ensures.told.no_memory) (lap_breaks (request_answer g.W.Future.ReplyFuture.answer g.W.Stream.ReplyStream.answer) (serving (g.W.Served.answer c.args.self.now.service.now) (g.W.Served.hint c.args.self.now.service.now)) c.requires.ready.room (rw c.in-Ok-Made.field-0-is at c.in-Ok-Made.ensures.next))
+returns-in-Err-poll_all-clause-told g c = tells_two (rw c.in-Ok-Made.field-0-is at c.in-Ok-Made.ensures.told.told) (rw c.receive.ensures.went.same.service at c.in-Err-poll_all.ensures.told.no_memory) (lap_breaks (request_answer g.W.Future.ReplyFuture.answer g.W.Stream.ReplyStream.answer) (serving (g.W.SharedService.answer c.args.self.now.service.now) (g.W.SharedService.hint c.args.self.now.service.now)) c.requires.ready.room (rw c.in-Ok-Made.field-0-is at c.in-Ok-Made.ensures.next))
 
 pub returns-in-Ok-clause-laps : goal.returns-in-Ok-clause-laps
 returns-in-Ok-clause-laps g c = record { went = went_then c.receive.ensures.went c.poll_all.ensures.polls.went; next = rw c.poll_all.ensures.polls.next (rw c.in-Ok-Made.field-0-is at c.in-Ok-Made.ensures.next); later = rw c.poll_all.ensures.polls.receives c.receive.ensures.receives; cause = c.poll_all.ensures.polls.receives ∙ rw c.in-Ok-Made.field-0-is at c.in-Ok-Made.ensures.cause; closed = λ e. absurd (cc e) }
 
 pub returns-in-Ok-clause-told : goal.returns-in-Ok-clause-told
-returns-in-Ok-clause-told g c = tells_two (rw c.in-Ok-Made.field-0-is at c.in-Ok-Made.ensures.told.told) (rw c.receive.ensures.went.same.service at c.in-Ok.ensures.told.told) (goes_then (request_answer g.W.Future.ReplyFuture.answer g.W.Stream.ReplyStream.answer) (serving (g.W.Served.answer c.args.self.now.service.now) (g.W.Served.hint c.args.self.now.service.now)))
+returns-in-Ok-clause-told g c = tells_two (rw c.in-Ok-Made.field-0-is at c.in-Ok-Made.ensures.told.told) (rw c.receive.ensures.went.same.service at c.in-Ok.ensures.told.told) (goes_then (request_answer g.W.Future.ReplyFuture.answer g.W.Stream.ReplyStream.answer) (serving (g.W.SharedService.answer c.args.self.now.service.now) (g.W.SharedService.hint c.args.self.now.service.now)))
 
 pub returns-in-Err-clause-laps : goal.returns-in-Err-clause-laps
 returns-in-Err-clause-laps g c = record { went = c.receive.ensures.went; next = c.in-Err.ensures.next; later = c.receive.ensures.receives; cause = c.in-Err.ensures.cause; closed = λ e. absurd (cc e) }
 
 pub returns-in-Err-clause-told : goal.returns-in-Err-clause-told
-returns-in-Err-clause-told g c = tells_one c.in-Err.ensures.told.no_memory (lap_fails (request_answer g.W.Future.ReplyFuture.answer g.W.Stream.ReplyStream.answer) (serving (g.W.Served.answer c.args.self.now.service.now) (g.W.Served.hint c.args.self.now.service.now)) c.requires.ready.room)
+returns-in-Err-clause-told g c = tells_one c.in-Err.ensures.told.no_memory (lap_fails (request_answer g.W.Future.ReplyFuture.answer g.W.Stream.ReplyStream.answer) (serving (g.W.SharedService.answer c.args.self.now.service.now) (g.W.SharedService.hint c.args.self.now.service.now)) c.requires.ready.room)

@@ -9,7 +9,7 @@ use Rattle.dns_datagrams.proofs.DatagramWent.{same_seat, polls_same, polls_then}
 use Rattle.dns_datagrams.proofs.office.Office.poll_all.Goals as goal
 
 pub loop-polled-init : goal.loop-polled-init
-loop-polled-init g c = record { polls = polls_same; order = ([], sym (append-nil (numbers_of c.args.self.now.state.now.exchanges.items))); told = tells_none (goes_same (request_answer g.W.Future.ReplyFuture.answer g.W.Stream.ReplyStream.answer) (serving (g.W.Served.answer c.args.self.now.service.now) (g.W.Served.hint c.args.self.now.service.now))) }
+loop-polled-init g c = record { polls = polls_same; order = ([], sym (append-nil (numbers_of c.args.self.now.state.now.exchanges.items))); told = tells_none (goes_same (request_answer g.W.Future.ReplyFuture.answer g.W.Stream.ReplyStream.answer) (serving (g.W.SharedService.answer c.args.self.now.service.now) (g.W.SharedService.hint c.args.self.now.service.now))) }
 
 pub poll_first-requires-clause-book : goal.poll_first-requires-clause-book
 poll_first-requires-clause-book g c = same_seat c.loop-polled.invariant.polls.went c.requires.book
@@ -30,8 +30,8 @@ loop-polled-preserved g c =
       polls = polls_then c.loop-polled.invariant.polls c.poll_first.ensures.polls;
       order = stand_behind ns c.loop-polled._polled xs _ _ h c.loop-polled.invariant.order c.in-Ok.ensures.order;
       told = tells_two c.loop-polled.invariant.told (rw c.loop-polled.invariant.polls.went.same.service at c.in-Ok.ensures.told.told)
-          (λ before t. goes_then (request_answer g.W.Future.ReplyFuture.answer g.W.Stream.ReplyStream.answer) (serving (g.W.Served.answer c.args.self.now.service.now) (g.W.Served.hint c.args.self.now.service.now)) before
-          (goes_next (request_answer g.W.Future.ReplyFuture.answer g.W.Stream.ReplyStream.answer) (serving (g.W.Served.answer c.args.self.now.service.now) (g.W.Served.hint c.args.self.now.service.now)) (take 1 (numbers_of xs)) (next_is ns c.loop-polled._polled xs h c.loop-polled.invariant.order) t));
+          (λ before t. goes_then (request_answer g.W.Future.ReplyFuture.answer g.W.Stream.ReplyStream.answer) (serving (g.W.SharedService.answer c.args.self.now.service.now) (g.W.SharedService.hint c.args.self.now.service.now)) before
+          (goes_next (request_answer g.W.Future.ReplyFuture.answer g.W.Stream.ReplyStream.answer) (serving (g.W.SharedService.answer c.args.self.now.service.now) (g.W.SharedService.hint c.args.self.now.service.now)) (take 1 (numbers_of xs)) (next_is ns c.loop-polled._polled xs h c.loop-polled.invariant.order) t));
     }
 
 pub returns-in-Err-clause-polls : goal.returns-in-Err-clause-polls
@@ -41,13 +41,13 @@ pub returns-in-Err-clause-told : goal.returns-in-Err-clause-told
 returns-in-Err-clause-told g c = record {
   told = tt;
   no_memory = tells_two c.loop-polled.invariant.told (rw c.loop-polled.invariant.polls.went.same.service at c.in-Err.ensures.told.no_memory)
-      (λ before t. polls_fail (request_answer g.W.Future.ReplyFuture.answer g.W.Stream.ReplyStream.answer) (serving (g.W.Served.answer c.args.self.now.service.now) (g.W.Served.hint c.args.self.now.service.now)) c.loop-polled.invariant.polls.next before (t.breaks _));
+      (λ before t. polls_fail (request_answer g.W.Future.ReplyFuture.answer g.W.Stream.ReplyStream.answer) (serving (g.W.SharedService.answer c.args.self.now.service.now) (g.W.SharedService.hint c.args.self.now.service.now)) c.loop-polled.invariant.polls.next before (t.breaks _));
 }
 
 pub returns-clause-told : goal.returns-clause-told
 returns-clause-told g c =
     let ns = numbers_of c.args.self.now.state.now.exchanges.items in
     let h : length ns ≤ c.loop-polled._polled = let a = c.args.self.now.state.now.exchanges.ok.0 in let b = c.len-polled-end.ensures in let n = c.loop-polled-test.false in omega (arith, numbers_length c.args.self.now.state.now.exchanges.items) in record {
-      told = tells_one c.loop-polled.invariant.told (goes_left (request_answer g.W.Future.ReplyFuture.answer g.W.Stream.ReplyStream.answer) (serving (g.W.Served.answer c.args.self.now.service.now) (g.W.Served.hint c.args.self.now.service.now)) (none_left ns c.loop-polled._polled h));
+      told = tells_one c.loop-polled.invariant.told (goes_left (request_answer g.W.Future.ReplyFuture.answer g.W.Stream.ReplyStream.answer) (serving (g.W.SharedService.answer c.args.self.now.service.now) (g.W.SharedService.hint c.args.self.now.service.now)) (none_left ns c.loop-polled._polled h));
       no_memory = tt;
     }

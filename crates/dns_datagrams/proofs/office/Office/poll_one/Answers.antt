@@ -11,4 +11,4 @@ pub returns-in-Ok-clause-polls : goal.returns-in-Ok-clause-polls
 returns-in-Ok-clause-polls g c = polls_then c.in-Ok.ensures.polls c.turn.ensures.polls
 
 pub returns-in-Ok-clause-told : goal.returns-in-Ok-clause-told
-returns-in-Ok-clause-told g c = told_then c.in-Ok.ensures.told.told (rw c.in-Ok.ensures.polls.went.same.service at c.turn.ensures.told) (λ done. polls_one (request_answer g.W.Future.ReplyFuture.answer g.W.Stream.ReplyStream.answer) (serving (g.W.Served.answer c.args.self.now.service.now) (g.W.Served.hint c.args.self.now.service.now))) (fails_polled (request_answer g.W.Future.ReplyFuture.answer g.W.Stream.ReplyStream.answer) (serving (g.W.Served.answer c.args.self.now.service.now) (g.W.Served.hint c.args.self.now.service.now)) c.in-Ok.ensures.polls.next)
+returns-in-Ok-clause-told g c = told_then c.in-Ok.ensures.told.told (rw c.in-Ok.ensures.polls.went.same.service at c.turn.ensures.told) (λ done. polls_one (request_answer g.W.Future.ReplyFuture.answer g.W.Stream.ReplyStream.answer) (serving (g.W.SharedService.answer c.args.self.now.service.now) (g.W.SharedService.hint c.args.self.now.service.now))) (fails_polled (request_answer g.W.Future.ReplyFuture.answer g.W.Stream.ReplyStream.answer) (serving (g.W.SharedService.answer c.args.self.now.service.now) (g.W.SharedService.hint c.args.self.now.service.now)) c.in-Ok.ensures.polls.next)

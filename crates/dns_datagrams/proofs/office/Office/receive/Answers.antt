@@ -6,16 +6,16 @@ use Rattle.dns_datagrams.proofs.DatagramEndings.{received_failed, received_again
 use Rattle.dns_datagrams.proofs.office.Office.receive.Goals as goal
 
 pub returns-in-Failed-clause-told : goal.returns-in-Failed-clause-told
-returns-in-Failed-clause-told g c = record { told = tells_d c.in-Failed.ensures.moves (λ w. received_failed (request_answer g.W.Future.ReplyFuture.answer g.W.Stream.ReplyStream.answer) (serving (g.W.Served.answer c.args.self.now.service.now) (g.W.Served.hint c.args.self.now.service.now)) c.in-Failed.ensures.sends w); no_memory = tt }
+returns-in-Failed-clause-told g c = record { told = tells_d c.in-Failed.ensures.moves (λ w. received_failed (request_answer g.W.Future.ReplyFuture.answer g.W.Stream.ReplyStream.answer) (serving (g.W.SharedService.answer c.args.self.now.service.now) (g.W.SharedService.hint c.args.self.now.service.now)) c.in-Failed.ensures.sends w); no_memory = tt }
 
 pub returns-in-Again-clause-told : goal.returns-in-Again-clause-told
 returns-in-Again-clause-told g c = record {
-  told = tells_dd_c c.in-Again.ensures.moves c.readable.ensures.moves c.outdate.ensures (λ v w h. received_again (request_answer g.W.Future.ReplyFuture.answer g.W.Stream.ReplyStream.answer) (serving (g.W.Served.answer c.args.self.now.service.now) (g.W.Served.hint c.args.self.now.service.now)) (c.readable.ensures.sends ∙ c.in-Again.ensures.sends) v w h);
+  told = tells_dd_c c.in-Again.ensures.moves c.readable.ensures.moves c.outdate.ensures (λ v w h. received_again (request_answer g.W.Future.ReplyFuture.answer g.W.Stream.ReplyStream.answer) (serving (g.W.SharedService.answer c.args.self.now.service.now) (g.W.SharedService.hint c.args.self.now.service.now)) (c.readable.ensures.sends ∙ c.in-Again.ensures.sends) v w h);
   no_memory = tt;
 }
 
 pub returns-in-Err-clause-told : goal.returns-in-Err-clause-told
-returns-in-Err-clause-told g c = record { told = tt; no_memory = tells_d_dcj c.in-Got.ensures.moves c.in-Err.ensures.told.no_memory (got_fails (request_answer g.W.Future.ReplyFuture.answer g.W.Stream.ReplyStream.answer) (serving (g.W.Served.answer c.args.self.now.service.now) (g.W.Served.hint c.args.self.now.service.now)) c.in-Got.ensures.sends (let h : length c.try_recv_buf_from.new.buf ≡ 1024 = omega arith in h)) }
+returns-in-Err-clause-told g c = record { told = tt; no_memory = tells_d_dcj c.in-Got.ensures.moves c.in-Err.ensures.told.no_memory (got_fails (request_answer g.W.Future.ReplyFuture.answer g.W.Stream.ReplyStream.answer) (serving (g.W.SharedService.answer c.args.self.now.service.now) (g.W.SharedService.hint c.args.self.now.service.now)) c.in-Got.ensures.sends (let h : length c.try_recv_buf_from.new.buf ≡ 1024 = omega arith in h)) }
 
 pub returns-in-Ok-clause-told : goal.returns-in-Ok-clause-told
-returns-in-Ok-clause-told g c = record { told = tells_d_dcj c.in-Got.ensures.moves c.in-Ok.ensures.told.told (got_goes (request_answer g.W.Future.ReplyFuture.answer g.W.Stream.ReplyStream.answer) (serving (g.W.Served.answer c.args.self.now.service.now) (g.W.Served.hint c.args.self.now.service.now)) c.in-Got.ensures.sends (let h : length c.try_recv_buf_from.new.buf ≡ 1024 = omega arith in h)); no_memory = tt }
+returns-in-Ok-clause-told g c = record { told = tells_d_dcj c.in-Got.ensures.moves c.in-Ok.ensures.told.told (got_goes (request_answer g.W.Future.ReplyFuture.answer g.W.Stream.ReplyStream.answer) (serving (g.W.SharedService.answer c.args.self.now.service.now) (g.W.SharedService.hint c.args.self.now.service.now)) c.in-Got.ensures.sends (let h : length c.try_recv_buf_from.new.buf ≡ 1024 = omega arith in h)); no_memory = tt }

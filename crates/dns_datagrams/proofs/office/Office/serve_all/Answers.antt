@@ -16,7 +16,7 @@ pub returns-in-Err-clause-went : goal.returns-in-Err-clause-went
 returns-in-Err-clause-went g c = polls_break_to c.take_all-end.result c.in_default.not-Fault c.take_all-end.ensures.went c.in-Err.ensures.polls
 
 pub returns-in-Ok-clause-told : goal.returns-in-Ok-clause-told
-returns-in-Ok-clause-told g c = tells_two c.take_all-end.ensures.told (rw c.take_all-end.ensures.went.same.service at c.in-Ok.ensures.told.told) (end_by (request_answer g.W.Future.ReplyFuture.answer g.W.Stream.ReplyStream.answer) (serving (g.W.Served.answer c.args.self.now.service.now) (g.W.Served.hint c.args.self.now.service.now)) _ _ _ _ _ _ c.args.count c.take_all-end.result c.in_default.not-OutOfMemory c.in-Ok.ensures.polls.next)
+returns-in-Ok-clause-told g c = tells_two c.take_all-end.ensures.told (rw c.take_all-end.ensures.went.same.service at c.in-Ok.ensures.told.told) (end_by (request_answer g.W.Future.ReplyFuture.answer g.W.Stream.ReplyStream.answer) (serving (g.W.SharedService.answer c.args.self.now.service.now) (g.W.SharedService.hint c.args.self.now.service.now)) _ _ _ _ _ _ c.args.count c.take_all-end.result c.in_default.not-OutOfMemory c.in-Ok.ensures.polls.next)
 
 pub returns-in-Err-clause-told : goal.returns-in-Err-clause-told
-returns-in-Err-clause-told g c = tells_two c.take_all-end.ensures.told (rw c.take_all-end.ensures.went.same.service at c.in-Err.ensures.told.no_memory) (end_by_fails (request_answer g.W.Future.ReplyFuture.answer g.W.Stream.ReplyStream.answer) (serving (g.W.Served.answer c.args.self.now.service.now) (g.W.Served.hint c.args.self.now.service.now)) _ _ _ _ _ c.args.count c.take_all-end.result c.in_default.not-OutOfMemory (taken_less c.take_all-end.result c.take_all-end.ensures.went.passes.taken))
+returns-in-Err-clause-told g c = tells_two c.take_all-end.ensures.told (rw c.take_all-end.ensures.went.same.service at c.in-Err.ensures.told.no_memory) (end_by_fails (request_answer g.W.Future.ReplyFuture.answer g.W.Stream.ReplyStream.answer) (serving (g.W.SharedService.answer c.args.self.now.service.now) (g.W.SharedService.hint c.args.self.now.service.now)) _ _ _ _ _ c.args.count c.take_all-end.result c.in_default.not-OutOfMemory (taken_less c.take_all-end.result c.take_all-end.ensures.went.passes.taken))

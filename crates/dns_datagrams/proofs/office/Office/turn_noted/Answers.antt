@@ -8,14 +8,14 @@ use Rattle.dns_datagrams.proofs.DatagramTurns.{turns_by, fails_turn}
 use Rattle.dns_datagrams.proofs.office.Office.turn_noted.Goals as goal
 
 pub returns-in-Err-clause-told : goal.returns-in-Err-clause-told
-returns-in-Err-clause-told g c = record { told = tt; no_memory = tells_none (record { since = λ n r t. fails_turn (request_answer g.W.Future.ReplyFuture.answer g.W.Stream.ReplyStream.answer) (serving (g.W.Served.answer c.args.self.now.service.now) (g.W.Served.hint c.args.self.now.service.now)) c.args.self.now.state.now {e = stamped_event c.args.stamp (Turn 0)} refl t (record { noted = refl; received = refl; sent = refl }) }) }
+returns-in-Err-clause-told g c = record { told = tt; no_memory = tells_none (record { since = λ n r t. fails_turn (request_answer g.W.Future.ReplyFuture.answer g.W.Stream.ReplyStream.answer) (serving (g.W.SharedService.answer c.args.self.now.service.now) (g.W.SharedService.hint c.args.self.now.service.now)) c.args.self.now.state.now {e = stamped_event c.args.stamp (Turn 0)} refl t (record { noted = refl; received = refl; sent = refl }) }) }
 
 pub returns-in-Err-send_for-clause-told : goal.returns-in-Err-send_for-clause-told
-returns-in-Err-send_for-clause-told g c = rw c.in-Err-send_for.ensures.rest (record { told = tt; no_memory = tells_one c.in-Err-send_for.ensures.told.no_memory (λ u. record { since = λ n r t. fails_turn (request_answer g.W.Future.ReplyFuture.answer g.W.Stream.ReplyStream.answer) (serving (g.W.Served.answer c.args.self.now.service.now) (g.W.Served.hint c.args.self.now.service.now)) c.args.self.now.state.now {e = stamped_event c.args.stamp (Turn 0)} refl t u }) })
+returns-in-Err-send_for-clause-told g c = rw c.in-Err-send_for.ensures.rest (record { told = tt; no_memory = tells_one c.in-Err-send_for.ensures.told.no_memory (λ u. record { since = λ n r t. fails_turn (request_answer g.W.Future.ReplyFuture.answer g.W.Stream.ReplyStream.answer) (serving (g.W.SharedService.answer c.args.self.now.service.now) (g.W.SharedService.hint c.args.self.now.service.now)) c.args.self.now.state.now {e = stamped_event c.args.stamp (Turn 0)} refl t u }) })
 
 pub returns-in-Ok-send_for-clause-told : goal.returns-in-Ok-send_for-clause-told
 returns-in-Ok-send_for-clause-told g c =
-    let answers = (serving (g.W.Served.answer c.args.self.now.service.now) (g.W.Served.hint c.args.self.now.service.now)) in
+    let answers = (serving (g.W.SharedService.answer c.args.self.now.service.now) (g.W.SharedService.hint c.args.self.now.service.now)) in
     rw c.in-Ok-send_for.ensures.rest (record {
       told = tells_one c.in-Ok-send_for.ensures.told.told
           (λ x. record { since = λ n r t. turns_by (request_answer g.W.Future.ReplyFuture.answer g.W.Stream.ReplyStream.answer) answers c.args.self.now.state.now {e = stamped_event c.args.stamp (Turn 0)} refl refl (c.in-Ok.ensures.here c.args.stamp.client answers c.requires.number) (λ d. c.in-Ok.ensures.others c.args.stamp.client d c.requires.number) t x });

@@ -2,18 +2,18 @@
 use Rattle.std.specs.Prelude.{ℕ, ⊤, Bool, List, [], ◌∷◌, length, Option, Some, None, option_map, Result, Ok, Err}
 use Rattle.std.specs.List.{filter, position}
 use Rattle.dns_message.specs.declared.record.Record.{Record}
-use Rattle.dns_zone.specs.declared.check.Fault.{Fault}
-use Rattle.dns_zone.specs.declared.check.Fault.TheVariants.{OutsideApex, OtherClass, IsOpt, Misplaced}
+use Rattle.dns_zone.specs.declared.check.ZoneDefect.{ZoneDefect}
+use Rattle.dns_zone.specs.declared.check.ZoneDefect.TheVariants.{OutsideApex, OtherClass, IsOpt, Misplaced}
 use Rattle.dns_zone.specs.declared.error.ZoneError.{ZoneError}
 use Rattle.dns_zone.specs.declared.error.ZoneError.TheVariants.{Outside, Class, Opt, SoaPlace}
 use Rattle.dns_zone.specs.Owned.{is_of}
 use Rattle.dns_zone.specs.ZoneErrors.{first_cause, has_other_class, is_misplaced, is_outside, miscounted}
 
-abbrev pub has_fault : Fault → List (List ℕ) → Record → Bool
-has_fault OutsideApex apex r = is_outside apex r
-has_fault OtherClass apex r = has_other_class r
-has_fault IsOpt apex r = is_of 41 r
-has_fault Misplaced apex r = is_misplaced apex r
+abbrev pub has_defect : ZoneDefect → List (List ℕ) → Record → Bool
+has_defect OutsideApex apex r = is_outside apex r
+has_defect OtherClass apex r = has_other_class r
+has_defect IsOpt apex r = is_of 41 r
+has_defect Misplaced apex r = is_misplaced apex r
 
 -- the causes that are looked for last, aliases aside
 abbrev pub soa_error : List (List ℕ) → List Record → Option ZoneError

@@ -13,7 +13,7 @@ use std::alloc::Global;
 use std::sync::Arc;
 
 /// What a server calls: `Service<()>` as a trait with no parameter, so that threads may share it.
-pub trait Served: Drop {
+pub trait SharedService: Drop {
     type Stream: ReplyStream;
 
     type Future: ReplyFuture<Stream = Self::Stream>;
@@ -37,11 +37,11 @@ pub trait Served: Drop {
 
 /// A service of requests without metadata.
 #[derive(Drop)]
-pub struct Plainly<S> {
+pub struct WithoutMeta<S> {
     pub service: S,
 }
 
-impl<S: Service<()>> Served for Plainly<S> {
+impl<S: Service<()>> SharedService for WithoutMeta<S> {
     type Stream = S::Stream;
 
     type Future = S::Future;
@@ -57,7 +57,7 @@ impl<S: Service<()>> Served for Plainly<S> {
     }
 }
 
-impl<T: Served> Served for Arc<T> {
+impl<T: SharedService> SharedService for Arc<T> {
     type Stream = T::Stream;
 
     type Future = T::Future;
