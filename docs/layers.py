@@ -2,7 +2,8 @@
 """Draws docs/layers.svg: the crates in groups, and an arrow from each group to those that it stands on.
 
 The arrows are read off crates.txt; one that follows from two others isn't drawn. Run it where a crate comes or goes.
-It ends with 1 where crates.txt has a library `dns_..` that isn't drawn, or the other way round, or an arrow that leads up.
+It ends with 1 where crates.txt has a library `dns_..` that isn't drawn, or the other way round, or an arrow that leads up. With
+--look nothing is drawn, and the status is 1 too where the picture isn't that of the crates.
 """
 import os
 import re
@@ -112,7 +113,11 @@ def main():
     up = [(a, b) for a, b in arrows(crates) if GROUPS[a][1] >= GROUPS[b][1]]
     for a, b in up:
         print(f"the arrow from {GROUPS[a][0]} to {GROUPS[b][0]} leads up", file=sys.stderr)
-    with open(os.path.join(HERE, "layers.svg"), "w", encoding="utf-8") as it:
+    picture = os.path.join(HERE, "layers.svg")
+    if "--look" in sys.argv[1:]:
+        with open(picture, encoding="utf-8") as it:
+            return int(there != shown or bool(up) or it.read() != drawn(crates))
+    with open(picture, "w", encoding="utf-8") as it:
         it.write(drawn(crates))
     return int(there != shown or bool(up))
 
