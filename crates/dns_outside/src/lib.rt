@@ -9,6 +9,7 @@ mod mio_accept;
 mod mio_addr;
 mod mio_link;
 mod mio_sock;
+mod shared_udp;
 mod standard;
 mod waiting;
 
