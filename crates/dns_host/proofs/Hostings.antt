@@ -40,7 +40,8 @@ turns_joined turns more na mp np before works works' k k' a b h h' f f' t keep s
 gave_joined : (addrs g h h' : List SocketAddr) → h' ≡ h → Gave addrs g h → Gave addrs g h'
 gave_joined addrs g h h' same gave = same ∙ gave
 
-accepts_joined : (end : AcceptEnd) (count : ℕ) (na mp np before : Type 0) (k k' : Known) (a b : Door) (g h h' : List SocketAddr) (f f' : ℕ) →
+-- accepts stay what they were once their work was joined
+pub accepts_joined : (end : AcceptEnd) (count : ℕ) (na mp np before : Type 0) (k k' : Known) (a b : Door) (g h h' : List SocketAddr) (f f' : ℕ) →
     Tells np mp (h' ≡ h) → AcceptsTo end count (na × mp) before k k' a b g h f f' → AcceptsTo end count (na × np) before k k' a b g h' f f'
 accepts_joined AcceptCounted count na mp np before k k' a b g h h' f f' t s = record {
   turns = s.turns;

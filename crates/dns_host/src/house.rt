@@ -16,19 +16,19 @@ use std::thread::Threads;
 
 /// What connections and datagrams are served with. No call changes it.
 #[derive(Drop)]
-pub(crate) struct House<'a, R, W> {
-    pub(crate) rt: &'a R,
-    pub(crate) alloc: Global,
-    pub(crate) book: &'a Arc<Book>,
-    pub(crate) service: &'a Arc<W>,
+pub struct House<'a, R, W> {
+    pub rt: &'a R,
+    pub alloc: Global,
+    pub book: &'a Arc<Book>,
+    pub service: &'a Arc<W>,
 }
 
 /// What connections are received with. No call changes it.
 #[derive(Drop)]
-pub(crate) struct Reception<'a, R, C, W> {
-    pub(crate) house: House<'a, R, W>,
+pub struct Reception<'a, R, C, W> {
+    pub house: House<'a, R, W>,
     /// What the clock of each connection is made of.
-    pub(crate) clock: &'a C,
+    pub clock: &'a C,
 }
 
 /// Shuts the book down where datagrams ended by a fault or for want of memory.
@@ -62,7 +62,7 @@ fn shut_after_accepts<R: Wait>(rt: &R, book: &Book, seat: &mut BookSeat, end: Ac
 impl<R: Wait, W: SharedService> House<'_, R, W> {
     /// Serves datagrams from the seat that stands in its place. Where they end by a fault or for want of memory, the book is
     /// shut down. Whether a send failed is given too.
-    pub(crate) fn datagrams_beside<D: AsyncDgramSock, C: Clock, J: Recorder>(
+    pub fn datagrams_beside<D: AsyncDgramSock, C: Clock, J: Recorder>(
         &self,
         place: &mut Option<BookSeat>,
         sock: &mut D,
@@ -104,7 +104,7 @@ where
 {
     /// Accepts connections from the seat that stands in its place. Where that ends for want of memory, the book is shut down.
     /// Whether an accept failed or a start was refused is given too.
-    pub(crate) fn accepts_beside<A: AsyncAccept, P: Spawner<ConnectionWork<A::Link, C, Silent, W>>>(
+    pub fn accepts_beside<A: AsyncAccept, P: Spawner<ConnectionWork<A::Link, C, Silent, W>>>(
         &self,
         accept: &mut A,
         spawner: &mut P,

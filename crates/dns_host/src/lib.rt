@@ -10,3 +10,4 @@ pub use dns_accepts::{
 };
 pub use dns_datagrams::{DgramEnd, pause, serve_datagrams};
 pub use host::{Host, HostEnd, host_service};
+pub use house::{House, Reception};
