@@ -2,10 +2,10 @@
 #![tactic(auto)]
 
 mod host;
-mod house;
+mod serve_context;
 
 pub use dns_accepts::{
-    AcceptEnd, ConnectionEnd, ConnectionWork, Kept, NoHook, PreConnect, Recorder, Silent,
+    AcceptEnd, ConnectionEnd, ConnectionWork, NoHook, PreConnect, Recorder, Silent, VecRecorder,
     serve_accepts, serve_connection,
 };
 pub use dns_datagrams::{DgramEnd, pause, serve_datagrams};

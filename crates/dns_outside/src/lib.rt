@@ -3,22 +3,22 @@
 #![tactic(auto)]
 
 mod accepting;
-mod eagerness;
 mod host_clock;
 mod mio_accept;
 mod mio_addr;
 mod mio_link;
 mod mio_sock;
+mod spin_policy;
 mod standard;
 mod waiting;
 
 pub use dns_io::{
-    AcceptAnswer, AsyncAccept, AsyncDgramSock, Clock, DgramRecv, DgramSend, LIMIT, Letter, Link,
-    LinkRead, LinkWrite, ReadError, Sink, SinkWrite, Source, SourceRead, Spawner, Start, Started,
+    AcceptAnswer, AsyncAccept, AsyncDgramSock, Clock, DgramRecv, DgramSend, LIMIT, Link, LinkRead,
+    LinkWrite, Packet, ReadError, Sink, SinkWrite, Source, SourceRead, Spawner, Start, Started,
     Work, WriteFault, read_all, start_work, write_all,
 };
 pub use dns_memory::{
-    Course, ListedCalls, MemoryAccept, MemoryClock, MemoryLink, MemorySink, MemorySock,
+    CallFate, ListedCalls, MemoryAccept, MemoryClock, MemoryLink, MemorySink, MemorySock,
     MemorySource, MemorySpawner, SteadyAccept, SteadyLink, SteadySink, SteadySock, SteadySource,
     ThreadSpawner,
 };

@@ -24,7 +24,7 @@ pub answer_on : (front more : List ScriptAnswer) (ws : List (List ℕ)) (i : ℕ
     → answers_after more (drop (i + 1) ws) ≡ whole
 answer_on front more ws i a whole lt w h is =
     let on : answers_after front (drop i ws) ≡ answers_after (front ++ a ∷ []) (drop (i + 1) ws)
-        = first_left front ws i lt ∙ ap (λ (x : Result ScriptAnswer Reason). x >>= λ b. answers_after (front ++ b ∷ []) (drop (i + 1) ws)) h in
+    = first_left front ws i lt ∙ ap (λ (x : Result ScriptAnswer Reason). x >>= λ b. answers_after (front ++ b ∷ []) (drop (i + 1) ws)) h in
     ap (λ (xs : List ScriptAnswer). answers_after xs (drop (i + 1) ws)) is ∙ (sym on ∙ w)
 
 -- a word that spells none
