@@ -1,7 +1,8 @@
 #!/usr/bin/env python3
-"""Draws docs/layers.svg: the crates, each row standing on those below it. Run it where a crate comes or goes.
+"""Draws docs/layers.svg: the crates in groups, and an arrow from each group to those that it stands on.
 
-It ends with 1 where crates.txt has a library `dns_..` that isn't drawn, or the other way round.
+The arrows are read off crates.txt; one that follows from two others isn't drawn. Run it where a crate comes or goes.
+It ends with 1 where crates.txt has a library `dns_..` that isn't drawn, or the other way round, or an arrow that leads up.
 """
 import os
 import re
@@ -10,60 +11,110 @@ from xml.sax.saxutils import escape
 
 HERE = os.path.dirname(os.path.realpath(__file__))
 
-# Each row from the top: its color, and its boxes, a crate or several and what they hold.
-ROWS = [
-    ("#f6d6c4", [("nutscythe", "the program: main alone"), ("example_answer", "a small program over the libraries")]),
-    ("#f6d6c4", [("dns_server", "a server that runs, traces of connections")]),
-    ("#f6d6c4", [("dns_run", "run, plans of a server"), ("dns_servers", "servers with controls")]),
-    ("#f6d6c4", [("dns_flood", "lines in batches, floods"), ("dns_host", "accepts and datagrams at once")]),
-    ("#f6d6c4", [("dns_script", "scripts, the lines written"), ("dns_accepts", "connections are accepted")]),
-    ("#f6d6c4", [("dns_drivers", "a connection is served"), ("dns_datagrams", "datagrams are served"), ("dns_outside", "over std and sockets")]),
-    ("#f8e7b9", [("dns_core", "all clients: serve_events"), ("dns_notes", "what both loops of serving note"), ("dns_memory", "the outside in memory")]),
-    ("#f8e7b9", [("dns_sent", "what clients are sent"), ("dns_trace", "the lines of a script"), ("dns_book", "what servers share"), ("dns_io", "the outside as traits")]),
-    ("#f8e7b9", [("dns_forward", "upstreams that requests go to"), ("dns_zone", "answers from records"), ("dns_cache", "replies that are kept")]),
-    ("#f8e7b9", [("dns_client", "one client: requests, replies"), ("dns_middleware", "the four layers, as one"), ("dns_route", "routers, single services")]),
-    ("#d7e8c8", [("dns_framing", "frames, a queue, a timer"), ("dns_layers", "the four layers"), ("dns_admission", "slots, configurations")]),
-    ("#d7e8c8", [("dns_service", "requests, services"), ("dns_stream", "polled streams")]),
-    ("#d7e8c8", [("dns_replies", "error replies, options, truncation"), ("dns_events", "configurations, events, outputs")]),
-    ("#c9e2e6", [("dns_opt", "OPT records, read and built"), ("dns_options", "lists of options")]),
-    ("#c9e2e6", [("dns_lists", "NSID, PADDING, KEY-TAG"), ("dns_algs", "DAU, DHU, N3U"), ("dns_kinds", "the other kinds"), ("dns_cookie", "server cookies"), ("dns_option_list", "options as octets")]),
-    ("#d5d3ea", [("dns_base", "messages, built"), ("dns_message", "messages, read"), ("dns_routes", "names with values")]),
-    ("#d5d3ea", [("dns_name", "numbers, addresses, a parser, names, the traits of options")]),
+# Each group: its title, its row from the top, its first column and how many it has, its color, and its crates.
+GROUPS = [
+    ("The program", 0, 1, 2, "#f6d6c4", "nutscythe"),
+    ("A server that runs", 1, 1, 2, "#f6d6c4", "dns_server"),
+    ("Servers with controls and metrics", 2, 0, 1, "#f6d6c4", "dns_servers"),
+    ("Scripts, run, floods", 2, 2, 2, "#f6d6c4", "dns_trace dns_script dns_flood dns_run"),
+    ("Loops over links and sockets", 3, 0, 1, "#f6d6c4", "dns_notes dns_drivers dns_datagrams dns_accepts dns_host"),
+    ("Several zones, transfers", 3, 3, 1, "#f8e7b9", "dns_transfer dns_incoming dns_authority"),
+    ("Links, sockets, clocks, threads", 4, 0, 1, "#f6d6c4", "dns_io dns_memory dns_outside"),
+    ("What each client is sent", 4, 1, 1, "#f8e7b9", "dns_framing dns_client dns_clients dns_sent dns_core"),
+    ("Zone, router, forwarder, cache", 4, 2, 1, "#f8e7b9", "dns_routes dns_route dns_zone dns_forward dns_cache"),
+    ("Slots and configurations", 5, 1, 1, "#f8e7b9", "dns_admission dns_book_words dns_book"),
+    ("The four layers", 5, 2, 1, "#d7e8c8", "dns_layers dns_middleware"),
+    ("Requests, services, events", 6, 1, 2, "#d7e8c8", "dns_replies dns_events dns_service dns_stream"),
+    ("EDNS options", 7, 1, 2, "#c9e2e6", "dns_lists dns_algs dns_kinds dns_cookie dns_option_list dns_options dns_opt"),
+    ("Zone files", 7, 3, 1, "#c9e2e6", "dns_entries dns_word_values dns_presentation dns_zone_file"),
+    ("Messages", 8, 1, 3, "#d5d3ea", "dns_message dns_base"),
+    ("Names and numbers", 9, 0, 4, "#d5d3ea", "dns_name dns_order"),
 ]
-WIDTH, HEIGHT, GAP, EDGE = 880, 46, 8, 12
+COLUMN, GAP, HEIGHT, DOWN, EDGE = 232, 16, 62, 30, 12
 
 
-def drawn():
+def stands_on():
+    """Of each crate of crates.txt those that it names."""
+    with open(os.path.join(HERE, "..", "crates.txt"), encoding="utf-8") as it:
+        return {crate: re.findall(r"\w+", on) for crate, on in re.findall(r"^(\w+)[^\n#:]*:(.*)$", it.read(), re.M)}
+
+
+def arrows(crates):
+    """The pairs of groups of which the first stands on the second, but for those that follow from others."""
+    home = {crate: group for group, it in enumerate(GROUPS) for crate in it[5].split()}
+    pairs = {(home[a], home[b]) for a in crates for b in crates[a] if a in home and b in home and home[a] != home[b]}
+    below = {group: {b for a, b in pairs if a == group} for group in range(len(GROUPS))}
+
+    def reach(group):
+        return below[group] | {far for near in below[group] for far in reach(near)}
+
+    return sorted((a, b) for a, b in pairs if not any(b in reach(near) for near in below[a] - {b}))
+
+
+def place(group):
+    """Left, top and width of a group's box."""
+    _, row, column, wide, _, _ = GROUPS[group]
+    return EDGE + column * (COLUMN + GAP), EDGE + row * (HEIGHT + DOWN), wide * COLUMN + (wide - 1) * GAP
+
+
+def ends(upper, lower):
+    """Where an arrow begins and ends: straight down where the boxes stand above each other, else between their middles."""
+    (x, y, wide), (to_x, to_y, to_wide) = place(upper), place(lower)
+    left, right = max(x, to_x), min(x + wide, to_x + to_wide)
+    if left < right:
+        return (left + right) / 2, y + HEIGHT, (left + right) / 2, to_y
+    here = min(max(to_x + to_wide / 2, x + 30), x + wide - 30)
+    there = min(max(x + wide / 2, to_x + 30), to_x + to_wide - 30)
+    return here, y + HEIGHT, there, to_y
+
+
+def lines_of(crates, wide):
+    """The names of a group's crates, without their prefix, in lines that fit a box."""
+    lines, most = [""], int(wide / 6.2)
+    for crate in crates.split():
+        word = crate.removeprefix("dns_")
+        if lines[-1] and len(lines[-1]) + len(word) + 2 > most:
+            lines.append("")
+        lines[-1] += f", {word}" if lines[-1] else word
+    return lines
+
+
+def drawn(crates):
     """The picture."""
-    down = len(ROWS) * (HEIGHT + GAP) - GAP + 2 * EDGE
+    wide = 4 * COLUMN + 3 * GAP + 2 * EDGE
+    down = 10 * (HEIGHT + DOWN) - DOWN + 2 * EDGE
     parts = [
-        f'<svg xmlns="http://www.w3.org/2000/svg" viewBox="0 0 {WIDTH} {down}" font-family="sans-serif" role="img">',
-        "<title>The crates of Nutscythe, each row standing on those below it</title>",
-        f'<rect width="{WIDTH}" height="{down}" fill="#ffffff"/>',
+        f'<svg xmlns="http://www.w3.org/2000/svg" viewBox="0 0 {wide} {down}" font-family="sans-serif" role="img">',
+        "<title>The crates of Nutscythe in groups, each with arrows to those that it stands on</title>",
+        '<defs><marker id="tip" markerWidth="9" markerHeight="8" refX="8" refY="4" orient="auto">'
+        '<path d="M0,0 L9,4 L0,8 z" fill="#555555"/></marker></defs>',
+        f'<rect width="{wide}" height="{down}" fill="#ffffff"/>',
     ]
-    for row, (color, boxes) in enumerate(ROWS):
-        wide = (WIDTH - 2 * EDGE - GAP * (len(boxes) - 1)) / len(boxes)
-        top = EDGE + row * (HEIGHT + GAP)
-        for place, (crate, text) in enumerate(boxes):
-            left = EDGE + place * (wide + GAP)
-            middle = left + wide / 2
-            parts += [
-                f'<rect x="{left:.1f}" y="{top}" width="{wide:.1f}" height="{HEIGHT}" rx="5" fill="{color}" stroke="#555555"/>',
-                f'<text x="{middle:.1f}" y="{top + 19}" font-size="14" font-weight="bold" text-anchor="middle" fill="#111111">{escape(crate)}</text>',
-                f'<text x="{middle:.1f}" y="{top + 36}" font-size="12" text-anchor="middle" fill="#333333">{escape(text)}</text>',
-            ]
+    for upper, lower in arrows(crates):
+        x, y, to_x, to_y = ends(upper, lower)
+        parts.append(f'<line x1="{x:.0f}" y1="{y}" x2="{to_x:.0f}" y2="{to_y}" stroke="#555555" marker-end="url(#tip)"/>')
+    for group, (title, _, _, _, color, names) in enumerate(GROUPS):
+        left, top, width = place(group)
+        middle = left + width / 2
+        parts.append(f'<rect x="{left}" y="{top}" width="{width}" height="{HEIGHT}" rx="5" fill="{color}" stroke="#555555"/>')
+        parts.append(f'<text x="{middle:.0f}" y="{top + 19}" font-size="14" font-weight="bold" text-anchor="middle" fill="#111111">{escape(title)}</text>')
+        for number, line in enumerate(lines_of(names, width)):
+            parts.append(f'<text x="{middle:.0f}" y="{top + 37 + 15 * number}" font-size="12" text-anchor="middle" fill="#333333">{escape(line)}</text>')
     return "\n".join([*parts, "</svg>", ""])
 
 
 def main():
-    with open(os.path.join(HERE, "..", "crates.txt"), encoding="utf-8") as it:
-        there = set(re.findall(r"^(dns_\w+):", it.read(), re.M))
-    shown = {crate for _, boxes in ROWS for crate, _ in boxes if crate.startswith("dns_")}
+    crates = stands_on()
+    there = {crate for crate in crates if crate.startswith("dns_")}
+    shown = {crate for it in GROUPS for crate in it[5].split() if crate.startswith("dns_")}
     for crate in sorted(there ^ shown):
         print(f"{crate} is {'not drawn' if crate in there else 'drawn, and crates.txt has it not'}", file=sys.stderr)
+    up = [(a, b) for a, b in arrows(crates) if GROUPS[a][1] >= GROUPS[b][1]]
+    for a, b in up:
+        print(f"the arrow from {GROUPS[a][0]} to {GROUPS[b][0]} leads up", file=sys.stderr)
     with open(os.path.join(HERE, "layers.svg"), "w", encoding="utf-8") as it:
-        it.write(drawn())
-    return int(there != shown)
+        it.write(drawn(crates))
+    return int(there != shown or bool(up))
 
 
 sys.exit(main())

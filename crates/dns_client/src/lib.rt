@@ -18,5 +18,6 @@ pub use client::ClientCore;
 pub use dns_framing::{ConnectionInvoker, Framer, IdleTimer};
 pub use dns_service::PolledRequest;
 pub use exchange::{BegunExchange, begin_exchange};
-pub use kept::KeptRequest;
+pub use kept::{KeptRequest, answered, refused};
 pub use laws::{frames_go_on, pieces_may_be_cut, spent_clients_are_sent_nothing};
+pub use requests::{cut_given, datagram_of, datagram_request};

@@ -1,6 +1,7 @@
 //! Why a zone file is refused.
 
 ghost use Rattle.std.specs.Prelude.{◌≡◌};
+
 use dns_name::OutOfMemory;
 use std::alloc::{AllocError, AllocFailed};
 

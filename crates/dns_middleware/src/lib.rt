@@ -20,5 +20,6 @@ pub use wrapped::{
     ComingReplies, Wrapped, WrappedReplies, wrap, wrapped_is_nested, wrapped_replies_fit,
     wrapped_replies_respond,
 };
+pub use wrapped_calls::{PassPlan, own_rewritten, pass_plan};
 pub use wrapped_future::WrappedFuture;
 pub use wrapped_stream::WrappedStream;

@@ -19,7 +19,7 @@ pub struct WrapPost {
 
 impl WrapPost {
     /// The rule for what is asked over a transport, where the hint is this one after the call.
-    pub(crate) fn new(
+    pub fn new(
         speaks_edns: bool,
         asked: &Asked,
         transport: &TransportSpecificContext,
@@ -35,7 +35,7 @@ impl WrapPost {
     }
 
     /// The reply to a message that is refused.
-    pub(crate) fn refuse(
+    pub fn refuse(
         &self,
         alloc: Global,
         request: &Message,

@@ -29,9 +29,11 @@ use std::alloc::Global;
 
 /// How a request is passed on: by the client's size, and by this rule for its replies.
 #[derive(Clone, Copy)]
-struct PassPlan {
-    size: Option<u16>,
-    post: WrapPost,
+pub struct PassPlan {
+    /// The client's size, where EDNS is on and the request has an OPT record.
+    pub size: Option<u16>,
+    /// The rule for the replies.
+    pub post: WrapPost,
 }
 
 /// The reply to a request that is refused. This was read of the request.
@@ -111,7 +113,7 @@ fn cookie_reply_or_next<S: Service<Meta>, N: Notifiable, Meta>(
 }
 
 /// How a request is passed on, of which this was read.
-fn pass_plan<Meta>(settings: &Settings, asked: &Asked, request: &Request<Meta>) -> PassPlan
+pub fn pass_plan<Meta>(settings: &Settings, asked: &Asked, request: &Request<Meta>) -> PassPlan
     ensures size { result.size ≡ size_by settings.now asked.now }
     ensures post { result.post ≡ rule_passed settings.now request.now.transport asked.now }
 {
@@ -138,7 +140,7 @@ fn own<S: Service<Meta>, N: Notifiable, Meta>(
 
 /// The reply of the cookie layer's own, where it has one, rewritten. This was read of the request.
 #[inline(always)]
-fn own_rewritten<Meta>(
+pub fn own_rewritten<Meta>(
     alloc: Global,
     settings: &Settings,
     post: &WrapPost,

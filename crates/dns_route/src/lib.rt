@@ -12,7 +12,9 @@ mod send_request;
 mod single_service;
 mod to_service;
 
-pub use adapter::{BoxClientTransportToSingleService, ClientTransportToSingleService, relay_answer};
+pub use adapter::{
+    BoxClientTransportToSingleService, ClientTransportToSingleService, relay_answer,
+};
 pub use dns_routes::{Seed, matches_are_suffixes};
 pub use dns_service::CopiedMessage;
 pub use laws::{own_replies_are_error_replies, typed_messages_are_copied, typed_replies_are_built};
@@ -21,4 +23,4 @@ pub use reply::{ComposeReply, ReplyMessage};
 pub use request::RequestMessage;
 pub use send_request::{SendError, SendRequest};
 pub use single_service::{SingleService, Turned};
-pub use to_service::{SingleServiceFuture, SingleServiceToService};
+pub use to_service::{SingleServiceFuture, SingleServiceToService, turn_item};

@@ -100,12 +100,12 @@ fn failed() -> Once
 fn given(alloc: Global, turned: Result<ReplyMessage, ServiceError>) -> Result<Once, OutOfMemory>
     ensures { IfOk result (λ s. ⟦<Once as ReplyStream>⟧.answer s ≡ once (turn_item turned)) }
 {
-    let item = item(alloc, turned)?;
+    let item = turn_item(alloc, turned)?;
     Ok(Once::new(item))
 }
 
 /// The item that a turn's reply or error becomes.
-fn item(
+pub fn turn_item(
     alloc: Global,
     turned: Result<ReplyMessage, ServiceError>,
 ) -> Result<ServiceResult, OutOfMemory>

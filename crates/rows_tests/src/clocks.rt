@@ -2,6 +2,7 @@
 
 use dns_outside::{Clock, HostClock};
 use std::alloc::Global;
+use std::sync::atomic::{AtomicU64, Ordering};
 use std::time::Duration;
 use std::{io, rt};
 
@@ -30,37 +31,49 @@ fn goes_on<C: Clock>(clock: &mut C) -> bool {
     false
 }
 
-/// A clock that gives both times as they are set.
+/// A clock that gives both times as they were set last.
 #[derive(Clone, Copy)]
-struct SetClock {
-    start: Duration,
-    day: Duration,
+struct SetClock<'a> {
+    millis: &'a AtomicU64,
+    secs: &'a AtomicU64,
 }
 
-impl rt::Clock for SetClock {
+impl rt::Clock for SetClock<'_> {
     fn monotonic(&self) -> io::Result<Duration> {
-        Ok(self.start)
+        Ok(Duration::from_millis(self.millis.load(Ordering::SeqCst)))
     }
 
     fn since_1970(&self) -> io::Result<Duration> {
-        Ok(self.day)
+        Ok(Duration::from_secs(self.secs.load(Ordering::SeqCst)))
     }
 }
 
-/// The reading of the machine's clock so many milliseconds after some start, at these seconds since 1970.
-fn reading(millis: u64, secs: u64) -> (u64, u64) {
-    let mut clock = HostClock::new(SetClock {
-        start: Duration::from_millis(millis),
-        day: Duration::from_secs(secs),
-    });
-    clock.now()
+/// Whether a clock gives this moment and second, once its times are set to the moment and to this time of day.
+fn reads<'a>(
+    clock: &mut HostClock<SetClock<'a>>,
+    times: SetClock<'a>,
+    at: u64,
+    day: u64,
+    secs: u64,
+) -> bool {
+    times.millis.store(at, Ordering::SeqCst);
+    times.secs.store(day, Ordering::SeqCst);
+    clock.now() == (at, secs)
 }
 
-/// Whether a step of the time of day changes the seconds, and no moment.
+/// Whether a step of the time of day changes the seconds from the next millisecond on, and no moment.
 fn steps_alone() -> bool {
-    reading(5_007, 1_700_000_000) == (5_007, 1_700_000_000)
-        && reading(5_007, 1_700_000_030) == (5_007, 1_700_000_030)
-        && reading(5_008, 1_699_913_600) == (5_008, 1_699_913_600)
+    let millis = AtomicU64::new(0);
+    let secs = AtomicU64::new(0);
+    let times = SetClock {
+        millis: &millis,
+        secs: &secs,
+    };
+    let mut clock = HostClock::new(times);
+    reads(&mut clock, times, 5_007, 1_700_000_000, 1_700_000_000)
+        && reads(&mut clock, times, 5_007, 1_700_000_030, 1_700_000_000)
+        && reads(&mut clock, times, 5_008, 1_700_000_030, 1_700_000_030)
+        && reads(&mut clock, times, 5_009, 1_699_913_600, 1_699_913_600)
 }
 
 /// The machine's clock does as is wanted, and else what it doesn't is named.

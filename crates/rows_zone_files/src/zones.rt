@@ -37,11 +37,7 @@ fn text(row: &mut Row<'_>) -> Vec<u8> {
 }
 
 /// The records of a text below an origin.
-fn records(
-    alloc: Global,
-    origin: &NameRef<'_>,
-    text: &[u8],
-) -> Result<Vec<Record>, ZoneFileError> {
+fn records(alloc: Global, origin: &NameRef<'_>, text: &[u8]) -> Result<Vec<Record>, ZoneFileError> {
     let origin = origin.to_owned(alloc)?;
     read_zone(alloc, &origin, text)
 }

@@ -2,7 +2,7 @@ use Rattle.std.proofs.Common.{arith, sym, ◌∙◌, ap, ◌≡◌, List, ℕ, l
 use Rattle.std.proofs.lemmas.Grind.{common_steps}
 use Rattle.dns_name.specs.Names.{uncompressed}
 use Rattle.dns_name.proofs.Joined.{some_octet, under_long, under_fits, read_joined, named_ok, never_err}
-use Rattle.dns_name.proofs.name_under.Name.under.Goals as goal
+use Rattle.dns_name.proofs.name.Name.under.Goals as goal
 
 pub overflow_sub-length : goal.overflow_sub-length
 overflow_sub-length c = some_octet c.args.self.now c.as_slice-front.result.now c.as_slice-front.ensures.value
