@@ -5,8 +5,8 @@ use Rattle.dns_events.specs.declared.look.Look.{Look}
 use Rattle.dns_book.specs.Gains.{Gained}
 use Rattle.dns_book.specs.declared.history.Known.{Known}
 use Rattle.dns_io.specs.Causes.{Rose}
-use Rattle.dns_io.specs.Mail.{Mail}
-use Rattle.dns_io.specs.declared.sock.Letter.{Letter}
+use Rattle.dns_io.specs.SockTraffic.{SockTraffic}
+use Rattle.dns_io.specs.declared.sock.Packet.{Packet}
 use Rattle.dns_events.specs.declared.event.Event.{Event}
 use Rattle.dns_client.specs.Serving.{Serving}
 use Rattle.dns_events.specs.declared.settings.Settings.{Settings}
@@ -14,23 +14,23 @@ use Rattle.dns_notes.specs.Out.{out}
 use Rattle.dns_notes.specs.Clocks.{ClockReading, Dated, faults_in}
 use Rattle.dns_notes.specs.Counts.{IsWithinCount}
 use Rattle.dns_notes.specs.Woven.{look_entries}
-use Rattle.dns_datagrams.specs.DatagramEvents.{WideAreNobodys, letters_in, cut_letters, numbers_in, numbers_below, turns_in}
-use Rattle.dns_datagrams.specs.DatagramOrder.{EventsFollowLooks}
-use Rattle.dns_datagrams.specs.DatagramsPolled.{TurnsBetween, AllFinished}
-use Rattle.dns_datagrams.specs.DatagramsSent.{settings_shown, all_addressed, letters_delivered, early_faults, IsPart}
+use Rattle.dns_datagrams.specs.Events.{WideAreNobodys, packets_in, cut_packets, numbers_in, numbers_below, turns_in}
+use Rattle.dns_datagrams.specs.Order.{EventsFollowLooks}
+use Rattle.dns_datagrams.specs.Polled.{TurnsBetween, AllFinished}
+use Rattle.dns_datagrams.specs.Sent.{settings_shown, all_addressed, packets_delivered, early_faults, IsPart}
 use Rattle.dns_datagrams.specs.declared.serving.DgramEnd.{DgramEnd}
 use Rattle.dns_datagrams.specs.declared.serving.DgramEnd.TheVariants.{Shutdown, Counted, Fault, OutOfMemory}
 
 -- what recorder, socket, clock and seat tell, and the count of failed sends, which is known always
 pub record World : Type 0 where
   pub noted : List Event
-  pub mail : Mail
+  pub sock_traffic : SockTraffic
   pub failed_sends : ℕ
   pub readings : List ClockReading
   pub known : Known
 
-abbrev pub world : List Event → Mail → ℕ → List ClockReading → Known → World
-world noted mail failed_sends readings known = record { noted = noted; mail = mail; failed_sends = failed_sends; readings = readings; known = known }
+abbrev pub world : List Event → SockTraffic → ℕ → List ClockReading → Known → World
+world noted sock_traffic failed_sends readings known = record { noted = noted; sock_traffic = sock_traffic; failed_sends = failed_sends; readings = readings; known = known }
 
 -- the seat made these looks and no other calls, and keeps its name
 pub record LooksOnly (k : Known) (looks : List Look) (k' : Known) : Type 0 where
@@ -74,10 +74,10 @@ module _ (answers : Serving) (settings : Settings) where
   -- Each datagram received is recorded, in order, under a new number, with its sender's address and its first 1,024 octets. Between
   -- two of them stands a Turn of each exchange that is unfinished after the first. There are so many more looks, at most, than
   -- datagrams, receives that answered Again, and Turns.
-  pub record Input (events : List Event) (looks : List Look) (more number : ℕ) (m m' : Mail) : Type 0 where
-    pub came : List Letter
+  pub record Input (events : List Event) (looks : List Look) (more number : ℕ) (m m' : SockTraffic) : Type 0 where
+    pub came : List Packet
     pub received : m'.received ≡ m.received ++ came
-    pub recorded : letters_in events ≡ cut_letters came
+    pub recorded : packets_in events ≡ cut_packets came
     pub numbered : numbers_in events ≡ numbers_below number
     pub polled : (c : ℕ) → TurnsBetween answers settings c events
     pub looked : length looks + m.empty_receives ≤ length came + turns_in events + m'.empty_receives + more
@@ -85,8 +85,8 @@ module _ (answers : Serving) (settings : Settings) where
   -- What was sent is what the events lead to, each datagram to its exchange's address, but for those that a Fault of their exchange
   -- follows. Of the Faults some are late, each with a send that answered Again, and some are of a send that failed. One before the
   -- write timeout in force has passed is of a send that failed.
-  pub record Delivered (events : List Event) (m m' : Mail) (fails fails' : ℕ) : Type 0 where
-    pub sent : m'.sent ≡ m.sent ++ letters_delivered answers settings events
+  pub record Delivered (events : List Event) (m m' : SockTraffic) (fails fails' : ℕ) : Type 0 where
+    pub sent : m'.sent ≡ m.sent ++ packets_delivered answers settings events
     pub late : ℕ
     pub failed : ℕ
     pub faults : faults_in events ≡ late + failed
@@ -119,10 +119,10 @@ pub record ServedBy (answers : Serving) (end : DgramEnd) (count : ℕ) (start no
   pub seat : LooksOnly start.known (first ∷ looks) now.known
   pub order : EventsFollowLooks first looks events
   pub nobodys : WideAreNobodys events
-  pub input : Input answers (settings_shown first) events (first ∷ looks) 2 number start.mail now.mail
+  pub input : Input answers (settings_shown first) events (first ∷ looks) 2 number start.sock_traffic now.sock_traffic
   pub within : MayCome count (length input.came)
-  pub clock : Clocked events start.readings now.readings start.mail.full_sends now.mail.full_sends
-  pub output : Delivered answers (settings_shown first) events start.mail now.mail start.failed_sends now.failed_sends
+  pub clock : Clocked events start.readings now.readings start.sock_traffic.full_sends now.sock_traffic.full_sends
+  pub output : Delivered answers (settings_shown first) events start.sock_traffic now.sock_traffic start.failed_sends now.failed_sends
   pub ends : EndsBy answers end count number first looks events
   pub counted : IsFull count number → end ≡ Counted
 
@@ -131,19 +131,19 @@ pub record CutOff (answers : Serving) (count : ℕ) (start now : World) : Type 0
   pub first : Look
   pub looks : List Look
   pub events : List Event
-  pub came : List Letter
-  pub unrecorded : List Letter
+  pub came : List Packet
+  pub unrecorded : List Packet
   pub number : ℕ
-  pub letters : List Letter
+  pub packets : List Packet
   pub noted : now.noted ≡ start.noted ++ events
   pub seat : LooksOnly start.known (first ∷ looks) now.known
-  pub received : now.mail.received ≡ start.mail.received ++ came
+  pub received : now.sock_traffic.received ≡ start.sock_traffic.received ++ came
   pub within : MayCome count (length came)
-  pub recorded : cut_letters came ≡ letters_in events ++ unrecorded
+  pub recorded : cut_packets came ≡ packets_in events ++ unrecorded
   pub numbered : numbers_in events ≡ numbers_below number
   pub nobodys : WideAreNobodys events
-  pub sent : now.mail.sent ≡ start.mail.sent ++ letters
-  pub part : IsPart letters (all_addressed answers (settings_shown first) events (out answers (settings_shown first) events))
+  pub sent : now.sock_traffic.sent ≡ start.sock_traffic.sent ++ packets
+  pub part : IsPart packets (all_addressed answers (settings_shown first) events (out answers (settings_shown first) events))
 
 abbrev pub ServedTo : Serving → DgramEnd → ℕ → World → World → Type 0
 ServedTo answers OutOfMemory count start now = CutOff answers count start now

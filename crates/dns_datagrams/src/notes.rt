@@ -1,10 +1,10 @@
 //! Events are noted.
 
 ghost use Rattle.std.specs.Prelude.{◌≡◌, IfOk, IsSome, OnErr, Some};
-ghost use Rattle.dns_io.specs.Causes.{Tells};
+ghost use Rattle.dns_io.specs.Causes.{Observed};
 ghost use Rattle.dns_events.specs.declared.event.EventKind.TheVariants.{Datagram, Turn};
 ghost use Rattle.dns_notes.specs.Notes.{NoteMoves};
-ghost use Rattle.dns_datagrams.specs.DatagramSteps.{Stamped, stamp_of, stamped_event, noted_octets};
+ghost use Rattle.dns_datagrams.specs.Steps.{EventDated, head_of, event_with, noted_octets};
 
 use dns_io::Clock;
 use dns_name::SocketAddr;
@@ -14,7 +14,7 @@ use std::alloc::Global;
 
 /// Whose an event is, and when it was noted.
 #[derive(Clone, Copy)]
-pub(crate) struct Stamp {
+pub(crate) struct EventHead {
     pub(crate) client: u64,
     pub(crate) at: u64,
     pub(crate) secs: u64,
@@ -29,9 +29,9 @@ fn note_now<C: Clock, J: Recorder>(
     kind: EventKind,
 ) -> Result<Event, OutOfMemory>
     ensures of { IfOk result (λ event. (event.client ≡ client) × (event.kind ≡ kind)) }
-    ensures told { IfOk result (λ event. Tells (C.tells clock.new × J.tells journal.new) (C.tells clock.old × J.tells journal.old)
-        (Stamped event (J.noted journal.old) (J.noted journal.new) (C.readings clock.old) (C.readings clock.new))) }
-    ensures no_memory { OnErr result (Tells (C.tells clock.new × J.tells journal.new) (C.tells clock.old × J.tells journal.old)
+    ensures observed { IfOk result (λ event. Observed (C.tells clock.new × J.tells journal.new) (C.tells clock.old × J.tells journal.old)
+        (EventDated event (J.noted journal.old) (J.noted journal.new) (C.readings clock.old) (C.readings clock.new))) }
+    ensures no_memory { OnErr result (Observed (C.tells clock.new × J.tells journal.new) (C.tells clock.old × J.tells journal.old)
         (J.noted journal.new ≡ J.noted journal.old)) }
 {
     let event = now_is(clock, client, kind);
@@ -40,10 +40,10 @@ fn note_now<C: Clock, J: Recorder>(
 }
 
 /// The stamp of an event.
-fn stamp_of(event: &Event) -> Stamp
-    ensures { result ≡ stamp_of event.now }
+fn head_of(event: &Event) -> EventHead
+    ensures { result ≡ head_of event.now }
 {
-    Stamp {
+    EventHead {
         client: event.client,
         at: event.at,
         secs: event.secs,
@@ -59,7 +59,7 @@ pub(crate) fn note_kind<J: Recorder>(
     client: u64,
     kind: EventKind,
 ) -> Result<(), OutOfMemory>
-    ensures { Tells (J.tells journal.new) (J.tells journal.old) (NoteMoves result (record { at = at; secs = secs; client = client; kind = kind }) (J.noted journal.old) (J.noted journal.new)) }
+    ensures { Observed (J.tells journal.new) (J.tells journal.old) (NoteMoves result (record { at = at; secs = secs; client = client; kind = kind }) (J.noted journal.old) (J.noted journal.new)) }
 {
     let event = Event {
         at,
@@ -76,11 +76,11 @@ pub(crate) fn note_turn<C: Clock, J: Recorder>(
     clock: &mut C,
     journal: &mut J,
     client: u64,
-) -> Result<Stamp, OutOfMemory>
-    ensures of { IfOk result (λ stamp. stamp.client ≡ client) }
-    ensures told { IfOk result (λ stamp. Tells (C.tells clock.new × J.tells journal.new) (C.tells clock.old × J.tells journal.old)
-        (Stamped (stamped_event stamp (Turn 0)) (J.noted journal.old) (J.noted journal.new) (C.readings clock.old) (C.readings clock.new))) }
-    ensures no_memory { OnErr result (Tells (C.tells clock.new × J.tells journal.new) (C.tells clock.old × J.tells journal.old)
+) -> Result<EventHead, OutOfMemory>
+    ensures of { IfOk result (λ head. head.client ≡ client) }
+    ensures observed { IfOk result (λ head. Observed (C.tells clock.new × J.tells journal.new) (C.tells clock.old × J.tells journal.old)
+        (EventDated (event_with head (Turn 0)) (J.noted journal.old) (J.noted journal.new) (C.readings clock.old) (C.readings clock.new))) }
+    ensures no_memory { OnErr result (Observed (C.tells clock.new × J.tells journal.new) (C.tells clock.old × J.tells journal.old)
         (J.noted journal.new ≡ J.noted journal.old)) }
 {
     let (at, secs) = clock.latest();
@@ -92,7 +92,7 @@ pub(crate) fn note_turn<C: Clock, J: Recorder>(
         client,
         EventKind::Turn { request: 0 },
     ) {
-        Ok(()) => Ok(Stamp { client, at, secs }),
+        Ok(()) => Ok(EventHead { client, at, secs }),
         Err(error) => Err(error),
     }
 }
@@ -116,11 +116,11 @@ pub(crate) fn note_datagram<C: Clock, J: Recorder>(
     client: u64,
     octets: &[u8],
     from: SocketAddr,
-) -> Result<(Stamp, Octets), OutOfMemory>
+) -> Result<(EventHead, Octets), OutOfMemory>
     ensures of { IfOk result (λ p. (p.0.client ≡ client) × (p.1 ≡ octets.now)) }
-    ensures told { IfOk result (λ p. Tells (C.tells clock.new × J.tells journal.new) (C.tells clock.old × J.tells journal.old)
-        (Stamped (stamped_event p.0 (Datagram from p.1)) (J.noted journal.old) (J.noted journal.new) (C.readings clock.old) (C.readings clock.new))) }
-    ensures no_memory { OnErr result (Tells (C.tells clock.new × J.tells journal.new) (C.tells clock.old × J.tells journal.old)
+    ensures observed { IfOk result (λ p. Observed (C.tells clock.new × J.tells journal.new) (C.tells clock.old × J.tells journal.old)
+        (EventDated (event_with p.0 (Datagram from p.1)) (J.noted journal.old) (J.noted journal.new) (C.readings clock.old) (C.readings clock.new))) }
+    ensures no_memory { OnErr result (Observed (C.tells clock.new × J.tells journal.new) (C.tells clock.old × J.tells journal.old)
         (J.noted journal.new ≡ J.noted journal.old)) }
 {
     let copy = Octets::from_slice(alloc, octets)?;
@@ -129,6 +129,6 @@ pub(crate) fn note_datagram<C: Clock, J: Recorder>(
         octets: copy,
     };
     let event = note_now(alloc, clock, journal, client, kind)?;
-    let stamp = stamp_of(&event);
-    Ok((stamp, noted_octets(event.kind)))
+    let head = head_of(&event);
+    Ok((head, noted_octets(event.kind)))
 }

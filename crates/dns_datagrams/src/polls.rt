@@ -5,19 +5,19 @@ ghost use Rattle.std.specs.VecDeque.{deque_len};
 ghost use Rattle.dns_client.specs.Serving.{serving};
 ghost use Rattle.dns_service.specs.PolledRequest.{request_answer};
 ghost use Rattle.dns_events.specs.declared.event.EventKind.TheVariants.{Turn};
-ghost use Rattle.dns_datagrams.specs.DatagramSteps.{IsFirstNumber, gone_behind, stamped_event, numbers_of};
-ghost use Rattle.dns_datagrams.specs.DatagramLoop.{Turns, StepFails, LoopGoes, Breaks, Finished, SinceNoted};
-ghost use Rattle.dns_datagrams.specs.DatagramOffice.{OnlyPolls, ToldSo, office_seen, office_told};
+ghost use Rattle.dns_datagrams.specs.Steps.{IsFirstNumber, gone_behind, event_with, numbers_of};
+ghost use Rattle.dns_datagrams.specs.Rounds.{Turns, StepFails, LoopGoes, Breaks, Finished, SinceNoted};
+ghost use Rattle.dns_datagrams.specs.LoopParts.{OnlyPolls, ObservedSo, loop_seen, loop_observed};
 
+use crate::dgram_loop::DgramLoop;
 use crate::exchanges::{number_first, turn_first};
-use crate::notes::{Stamp, note_turn};
-use crate::office::Office;
+use crate::notes::{EventHead, note_turn};
 use dns_io::{AsyncDgramSock, Clock};
 use dns_notes::{Recorder, pause};
 use dns_service::{OutOfMemory, SharedService};
 use std::sync::Wait;
 
-impl<R: Wait, W: SharedService, D: AsyncDgramSock, C: Clock, J: Recorder> Office<
+impl<R: Wait, W: SharedService, D: AsyncDgramSock, C: Clock, J: Recorder> DgramLoop<
     '_,
     R,
     W,
@@ -25,19 +25,19 @@ impl<R: Wait, W: SharedService, D: AsyncDgramSock, C: Clock, J: Recorder> Office
     C,
     J,
 > {
-    #[tactic(auto, using(crate::proofs::DatagramPasses::passes_kept))]
+    #[tactic(auto, using(crate::proofs::Passes::passes_kept))]
     /// A Turn of the first exchange, after it was noted, and what is sent for it. Whether its request is done is given.
-    fn turn_noted(&mut self, stamp: Stamp) -> Result<bool, OutOfMemory>
+    fn turn_noted(&mut self, head: EventHead) -> Result<bool, OutOfMemory>
         requires there { 0 < deque_len self.old.state.now.exchanges }
-        requires number { IsFirstNumber stamp.client self.old.state.now.exchanges.items }
+        requires number { IsFirstNumber head.client self.old.state.now.exchanges.items }
         ensures order { IfOk result (λ done. numbers_of self.new.state.now.exchanges.items ≡ gone_behind done (numbers_of self.old.state.now.exchanges.items)) }
         ensures polls { OnlyPolls D.failed_receives D.failed_sends self.old self.new }
-        ensures told { ToldSo (office_told D.tells C.tells J.tells) (office_seen D.mail D.failed_sends C.readings J.noted)
-            (λ done w s w' s'. SinceNoted (stamped_event stamp (Turn 0)) (λ v. Turns (request_answer W.Future.answer W.Stream.answer) (serving (W.answer self.old.service.now) (W.hint self.old.service.now)) stamp.client true v s w' s') w)
-            (λ w s w'. SinceNoted (stamped_event stamp (Turn 0)) (λ v. StepFails (request_answer W.Future.answer W.Stream.answer) (serving (W.answer self.old.service.now) (W.hint self.old.service.now)) true v s w') w) result self.old self.new }
+        ensures observed { ObservedSo (loop_observed D.tells C.tells J.tells) (loop_seen D.sock_traffic D.failed_sends C.readings J.noted)
+            (λ done w s w' s'. SinceNoted (event_with head (Turn 0)) (λ v. Turns (request_answer W.Future.answer W.Stream.answer) (serving (W.answer self.old.service.now) (W.hint self.old.service.now)) head.client true v s w' s') w)
+            (λ w s w'. SinceNoted (event_with head (Turn 0)) (λ v. StepFails (request_answer W.Future.answer W.Stream.answer) (serving (W.answer self.old.service.now) (W.hint self.old.service.now)) true v s w') w) result self.old self.new }
     {
         match turn_first(self.alloc, &mut self.state.exchanges) {
-            Ok((letter, done)) => match self.send_for(stamp, letter) {
+            Ok((packet, done)) => match self.send_for(head, packet) {
                 Ok(()) => Ok(done),
                 Err(error) => Err(error),
             },
@@ -45,19 +45,19 @@ impl<R: Wait, W: SharedService, D: AsyncDgramSock, C: Clock, J: Recorder> Office
         }
     }
 
-    #[tactic(auto, using(crate::proofs::DatagramPasses::passes_same))]
+    #[tactic(auto, using(crate::proofs::Passes::passes_same))]
     /// Polls the first exchange, which has this number, after its look. Whether its request is done is given.
     fn turn(&mut self, number: u64) -> Result<bool, OutOfMemory>
         requires there { 0 < deque_len self.old.state.now.exchanges }
         requires number { IsFirstNumber number self.old.state.now.exchanges.items }
         ensures order { IfOk result (λ done. numbers_of self.new.state.now.exchanges.items ≡ gone_behind done (numbers_of self.old.state.now.exchanges.items)) }
         ensures polls { OnlyPolls D.failed_receives D.failed_sends self.old self.new }
-        ensures told { ToldSo (office_told D.tells C.tells J.tells) (office_seen D.mail D.failed_sends C.readings J.noted)
+        ensures observed { ObservedSo (loop_observed D.tells C.tells J.tells) (loop_seen D.sock_traffic D.failed_sends C.readings J.noted)
             (λ done. Turns (request_answer W.Future.answer W.Stream.answer) (serving (W.answer self.old.service.now) (W.hint self.old.service.now)) number true)
             (StepFails (request_answer W.Future.answer W.Stream.answer) (serving (W.answer self.old.service.now) (W.hint self.old.service.now)) true) result self.old self.new }
     {
         match note_turn(self.alloc, self.clock, self.journal, number) {
-            Ok(stamp) => self.turn_noted(stamp),
+            Ok(head) => self.turn_noted(head),
             Err(error) => Err(error),
         }
     }
@@ -69,7 +69,7 @@ impl<R: Wait, W: SharedService, D: AsyncDgramSock, C: Clock, J: Recorder> Office
         requires number { IsFirstNumber number self.old.state.now.exchanges.items }
         ensures order { IfOk result (λ done. numbers_of self.new.state.now.exchanges.items ≡ gone_behind done (numbers_of self.old.state.now.exchanges.items)) }
         ensures polls { OnlyPolls D.failed_receives D.failed_sends self.old self.new }
-        ensures told { ToldSo (office_told D.tells C.tells J.tells) (office_seen D.mail D.failed_sends C.readings J.noted)
+        ensures observed { ObservedSo (loop_observed D.tells C.tells J.tells) (loop_seen D.sock_traffic D.failed_sends C.readings J.noted)
             (λ done. Turns (request_answer W.Future.answer W.Stream.answer) (serving (W.answer self.old.service.now) (W.hint self.old.service.now)) number false)
             (StepFails (request_answer W.Future.answer W.Stream.answer) (serving (W.answer self.old.service.now) (W.hint self.old.service.now)) false) result self.old self.new }
     {
@@ -85,7 +85,7 @@ impl<R: Wait, W: SharedService, D: AsyncDgramSock, C: Clock, J: Recorder> Office
         requires there { 0 < deque_len self.old.state.now.exchanges }
         ensures order { IfOk result (λ done. numbers_of self.new.state.now.exchanges.items ≡ gone_behind done (numbers_of self.old.state.now.exchanges.items)) }
         ensures polls { OnlyPolls D.failed_receives D.failed_sends self.old self.new }
-        ensures told { ToldSo (office_told D.tells C.tells J.tells) (office_seen D.mail D.failed_sends C.readings J.noted)
+        ensures observed { ObservedSo (loop_observed D.tells C.tells J.tells) (loop_seen D.sock_traffic D.failed_sends C.readings J.noted)
             (λ done w s w' s'. (rest : List ℕ) → LoopGoes (request_answer W.Future.answer W.Stream.answer) (serving (W.answer self.old.service.now) (W.hint self.old.service.now)) w s false (take 1 (numbers_of s.exchanges.items) ++ rest) w' s' false rest)
             (StepFails (request_answer W.Future.answer W.Stream.answer) (serving (W.answer self.old.service.now) (W.hint self.old.service.now)) false) result self.old self.new }
     {
@@ -97,7 +97,7 @@ impl<R: Wait, W: SharedService, D: AsyncDgramSock, C: Clock, J: Recorder> Office
     pub(crate) fn poll_all(&mut self) -> Result<(), OutOfMemory>
         requires book { self.old.state.now.seat.book ≡ self.old.book.now }
         ensures polls { OnlyPolls D.failed_receives D.failed_sends self.old self.new }
-        ensures told { ToldSo (office_told D.tells C.tells J.tells) (office_seen D.mail D.failed_sends C.readings J.noted)
+        ensures observed { ObservedSo (loop_observed D.tells C.tells J.tells) (loop_seen D.sock_traffic D.failed_sends C.readings J.noted)
             (λ u w s w' s'. LoopGoes (request_answer W.Future.answer W.Stream.answer) (serving (W.answer self.old.service.now) (W.hint self.old.service.now)) w s false (numbers_of s.exchanges.items) w' s' false [])
             (λ w s w'. Breaks (request_answer W.Future.answer W.Stream.answer) (serving (W.answer self.old.service.now) (W.hint self.old.service.now)) s.next w s false (numbers_of s.exchanges.items) w') result self.old self.new }
     {
@@ -114,7 +114,7 @@ impl<R: Wait, W: SharedService, D: AsyncDgramSock, C: Clock, J: Recorder> Office
     pub(crate) fn finish(&mut self) -> Result<(), OutOfMemory>
         requires book { self.old.state.now.seat.book ≡ self.old.book.now }
         ensures polls { OnlyPolls D.failed_receives D.failed_sends self.old self.new }
-        ensures told { ToldSo (office_told D.tells C.tells J.tells) (office_seen D.mail D.failed_sends C.readings J.noted)
+        ensures observed { ObservedSo (loop_observed D.tells C.tells J.tells) (loop_seen D.sock_traffic D.failed_sends C.readings J.noted)
             (λ u. Finished (request_answer W.Future.answer W.Stream.answer) (serving (W.answer self.old.service.now) (W.hint self.old.service.now)))
             (λ w s w'. Breaks (request_answer W.Future.answer W.Stream.answer) (serving (W.answer self.old.service.now) (W.hint self.old.service.now)) s.next w s false [] w') result self.old self.new }
     {
@@ -122,7 +122,7 @@ impl<R: Wait, W: SharedService, D: AsyncDgramSock, C: Clock, J: Recorder> Office
             if self.state.exchanges.is_empty() {
                 return Ok(());
             }
-            pause(self.rt, self.waits.pause());
+            pause(self.rt, self.waits.repoll_wait());
             self.clock.outdate();
             self.waits = self.waits.one_more();
             match self.poll_all() {

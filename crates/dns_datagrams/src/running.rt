@@ -1,7 +1,7 @@
 //! What the loop of datagrams keeps.
 
 ghost use Rattle.std.specs.Prelude.{◌≡◌, ℕ, [], false};
-ghost use Rattle.dns_datagrams.specs.DatagramSteps.{kept_at};
+ghost use Rattle.dns_datagrams.specs.Steps.{kept_at};
 
 use dns_admission::Look;
 use dns_book::BookSeat;

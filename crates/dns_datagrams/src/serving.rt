@@ -2,14 +2,14 @@
 
 ghost use Rattle.std.specs.Prelude.{◌≡◌, ◌≤◌};
 ghost use Rattle.dns_client.specs.Serving.{serving};
-ghost use Rattle.dns_io.specs.Causes.{Tells};
+ghost use Rattle.dns_io.specs.Causes.{Observed};
 ghost use Rattle.dns_service.specs.PolledRequest.{request_answer};
-ghost use Rattle.dns_datagrams.specs.DatagramLoop.{Ended, PassesTo};
-ghost use Rattle.dns_datagrams.specs.DatagramOffice.{WentTo, office_seen, office_told};
+ghost use Rattle.dns_datagrams.specs.Rounds.{Ended, PassesTo};
+ghost use Rattle.dns_datagrams.specs.LoopParts.{WentTo, loop_seen, loop_observed};
 ghost use Rattle.dns_datagrams.specs.DatagramsServed.{LooksBy, MayCome, ReceivesBy, RoseIf, ServedTo, world};
 
-use crate::looks::hear_news;
-use crate::office::Office;
+use crate::dgram_loop::DgramLoop;
+use crate::looks::apply_news;
 use crate::running::{Running, begun, left};
 use dns_admission::Look;
 use dns_book::{Book, BookSeat};
@@ -35,7 +35,7 @@ pub enum DgramEnd {
 /// How many octets of a datagram are received.
 const ROOM: usize = 1024;
 
-impl<R: Wait, W: SharedService, D: AsyncDgramSock, C: Clock, J: Recorder> Office<
+impl<R: Wait, W: SharedService, D: AsyncDgramSock, C: Clock, J: Recorder> DgramLoop<
     '_,
     R,
     W,
@@ -49,8 +49,8 @@ impl<R: Wait, W: SharedService, D: AsyncDgramSock, C: Clock, J: Recorder> Office
         requires can_call { W.can_call self.old.service.now }
         requires within { MayCome count self.old.state.now.next }
         ensures went { WentTo D.failed_receives D.failed_sends result count self.old self.new }
-        ensures told { Tells (office_told D.tells C.tells J.tells self.new) (office_told D.tells C.tells J.tells self.old)
-            (Ended (request_answer W.Future.answer W.Stream.answer) (serving (W.answer self.old.service.now) (W.hint self.old.service.now)) result count (office_seen D.mail D.failed_sends C.readings J.noted self.old) self.old.state.now (office_seen D.mail D.failed_sends C.readings J.noted self.new) self.new.state.now) }
+        ensures observed { Observed (loop_observed D.tells C.tells J.tells self.new) (loop_observed D.tells C.tells J.tells self.old)
+            (Ended (request_answer W.Future.answer W.Stream.answer) (serving (W.answer self.old.service.now) (W.hint self.old.service.now)) result count (loop_seen D.sock_traffic D.failed_sends C.readings J.noted self.old) self.old.state.now (loop_seen D.sock_traffic D.failed_sends C.readings J.noted self.new) self.new.state.now) }
     {
         let mut buf = [0u8; ROOM];
         let end = self.take_all(&mut buf, count);
@@ -81,12 +81,12 @@ fn serve_begun<'x, R: Wait, D: AsyncDgramSock, C: Clock, J: Recorder, W: SharedS
     requires can_call { W.can_call service.now }
     requires within { MayCome count state.old.next }
     ensures passes { PassesTo result count state.old state.new (D.failed_sends sock.old) (D.failed_sends sock.new) (D.failed_receives sock.old) (D.failed_receives sock.new) }
-    ensures told { Tells (D.tells sock.new × C.tells clock.new × J.tells journal.new) (D.tells sock.old × C.tells clock.old × J.tells journal.old)
+    ensures observed { Observed (D.tells sock.new × C.tells clock.new × J.tells journal.new) (D.tells sock.old × C.tells clock.old × J.tells journal.old)
         (Ended (request_answer W.Future.answer W.Stream.answer) (serving (W.answer service.now) (W.hint service.now)) result count
-        (world (J.noted journal.old) (D.mail sock.old) (D.failed_sends sock.old) (C.readings clock.old) state.old.seat.known) state.old
-        (world (J.noted journal.new) (D.mail sock.new) (D.failed_sends sock.new) (C.readings clock.new) state.new.seat.known) state.new) }
+        (world (J.noted journal.old) (D.sock_traffic sock.old) (D.failed_sends sock.old) (C.readings clock.old) state.old.seat.known) state.old
+        (world (J.noted journal.new) (D.sock_traffic sock.new) (D.failed_sends sock.new) (C.readings clock.new) state.new.seat.known) state.new) }
 {
-    let mut office = Office {
+    let mut dgram_loop = DgramLoop {
         rt,
         alloc,
         book,
@@ -97,7 +97,7 @@ fn serve_begun<'x, R: Wait, D: AsyncDgramSock, C: Clock, J: Recorder, W: SharedS
         state,
         waits: Waits::new(),
     };
-    office.serve_all(count)
+    dgram_loop.serve_all(count)
 }
 
 /// Serves datagrams as `serve_datagrams` does, and says whether a send failed.
@@ -121,10 +121,10 @@ pub fn serve_datagrams_with_sends<
     requires book { seat.book ≡ book.now }
     requires can_call { W.can_call service.now }
     // Where socket, clock and recorder tell.
-    ensures told { Tells (D.tells sock.new × C.tells clock.new × J.tells journal.new) (D.tells sock.old × C.tells clock.old × J.tells journal.old)
+    ensures observed { Observed (D.tells sock.new × C.tells clock.new × J.tells journal.new) (D.tells sock.old × C.tells clock.old × J.tells journal.old)
         (ServedTo (serving (W.answer service.now) (W.hint service.now)) result.1 count
-        (world (J.noted journal.old) (D.mail sock.old) (D.failed_sends sock.old) (C.readings clock.old) seat.known)
-        (world (J.noted journal.new) (D.mail sock.new) (D.failed_sends sock.new) (C.readings clock.new) result.0.known)) }
+        (world (J.noted journal.old) (D.sock_traffic sock.old) (D.failed_sends sock.old) (C.readings clock.old) seat.known)
+        (world (J.noted journal.new) (D.sock_traffic sock.new) (D.failed_sends sock.new) (C.readings clock.new) result.0.known)) }
     // Always.
     ensures seat { LooksBy result.1 seat.known result.0.known }
     ensures same { result.0.book ≡ seat.book }
@@ -139,7 +139,7 @@ pub fn serve_datagrams_with_sends<
         closed: false,
         ..first
     };
-    let Ok(()) = hear_news(alloc, clock, journal, &mut heard, &first) else {
+    let Ok(()) = apply_news(alloc, clock, journal, &mut heard, &first) else {
         return (seat, DgramEnd::OutOfMemory, false);
     };
     let mut state = begun(alloc, heard, seat);
@@ -167,10 +167,10 @@ pub fn serve_datagrams<R: Wait, D: AsyncDgramSock, C: Clock, J: Recorder, W: Sha
     requires book { seat.book ≡ book.now }
     requires can_call { W.can_call service.now }
     // Where socket, clock and recorder tell.
-    ensures told { Tells (D.tells sock.new × C.tells clock.new × J.tells journal.new) (D.tells sock.old × C.tells clock.old × J.tells journal.old)
+    ensures observed { Observed (D.tells sock.new × C.tells clock.new × J.tells journal.new) (D.tells sock.old × C.tells clock.old × J.tells journal.old)
         (ServedTo (serving (W.answer service.now) (W.hint service.now)) result.1 count
-        (world (J.noted journal.old) (D.mail sock.old) (D.failed_sends sock.old) (C.readings clock.old) seat.known)
-        (world (J.noted journal.new) (D.mail sock.new) (D.failed_sends sock.new) (C.readings clock.new) result.0.known)) }
+        (world (J.noted journal.old) (D.sock_traffic sock.old) (D.failed_sends sock.old) (C.readings clock.old) seat.known)
+        (world (J.noted journal.new) (D.sock_traffic sock.new) (D.failed_sends sock.new) (C.readings clock.new) result.0.known)) }
     // Always.
     ensures seat { LooksBy result.1 seat.known result.0.known }
     ensures same { result.0.book ≡ seat.book }

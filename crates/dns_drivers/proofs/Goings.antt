@@ -268,8 +268,8 @@ module _ {W R F : Type 0} (answer : PolledRequest F R → ℕ → Answer) (answe
 
   pub acted_cause : (why : Why) (core core' : ClientCore W R F) (k k1 : Known) (f f1 f2 : ℕ) → Goes core k k1 f f1 → ActedFor answer answers (Some why) core core' f1 f2 → Causes why k k1 f f2
   acted_cause why core core' k k1 f f1 f2 g a =
-      let told = a.taken.follows g.slate g.stands in
-      caused why core core' k k1 f f1 f2 g a (reason answers a.event g.slate g.served why (ap closed_by (sym told.0) ∙ a.taken.closed)).closes
+      let observed = a.taken.follows g.slate g.stands in
+      caused why core core' k k1 f f1 f2 g a (reason answers a.event g.slate g.served why (ap closed_by (sym observed.0) ∙ a.taken.closed)).closes
 
 -- once the slot is given back
 pub cause_released : (why : Why) (k k1 k2 : Known) (f f1 f2 left : ℕ) → Causes why k k1 f f1 → k1.name ≡ k.name → Called k1 Release (Left left) k2 → f2 ≡ f1 → Causes why k k2 f f2

@@ -8,7 +8,7 @@ pub mod Closings
 pub mod Ends
 pub mod Goings
 pub mod Movings
-pub mod Hearings
+pub mod LookNewsLaws
 pub mod Reasons
 pub mod Results
 pub mod Running
@@ -16,5 +16,5 @@ pub mod Servings
 pub mod Showings
 pub mod Waits
 pub mod Writings
-pub mod Turnings
+pub mod StoryTurns
 pub mod Wide

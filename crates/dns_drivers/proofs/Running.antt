@@ -31,7 +31,7 @@ use Rattle.dns_drivers.specs.Steps.{HeardNews, Chosen, TakesEvent, Acted}
 use Rattle.dns_drivers.specs.Story.{Extra, LastOf, all_but_last}
 use Rattle.dns_drivers.proofs.Appends.{own_append, all_of_append, seen_snoc, pieces_append, full_append, ticks_append, ends_append, faults_append, turned_append, all_but_snoc, woven_look, woven_own, after_append, sent_append, rounds_append, last_own, last_later, closed_more, gained_look, gained_none}
 use Rattle.dns_drivers.proofs.ByKind.{Does, event_does, fault_most}
-use Rattle.dns_drivers.proofs.Hearings.{news_wide}
+use Rattle.dns_drivers.proofs.LookNewsLaws.{news_wide}
 use Rattle.dns_drivers.proofs.Wide.{quiet, nobodys_of, frames_append, rounds_wide, do_same, NewsDo, news_do, news_last}
 
 -- what the core does for a slate that it stands for, is what the noted events do

@@ -6,7 +6,7 @@ use Rattle.dns_admission.specs.declared.call.Call.TheVariants.{Look as ToLook}
 use Rattle.dns_admission.specs.declared.call.Reply.TheVariants.{Look as LookReply}
 use Rattle.dns_book.specs.Seats.{Called}
 use Rattle.dns_book.specs.declared.history.Known.{Known}
-use Rattle.dns_io.specs.Causes.{Rose, Tells}
+use Rattle.dns_io.specs.Causes.{Rose, Observed}
 use Rattle.dns_io.specs.Traffic.{Traffic}
 use Rattle.dns_service.specs.Answer.{Answer}
 use Rattle.dns_events.specs.declared.event.Event.{Event}
@@ -63,11 +63,11 @@ module _ {W R F : Type 0} (answer : PolledRequest F R → ℕ → Answer) where
   -- clock are read so.
   pub record OwnEvent {L C : Type 0} (tells : L → Type 0) (traffic : L → Traffic) (faults_of : L → ℕ) (ticks : C → Type 0) (readings : C → List ClockReading)
       (client below : ℕ) (core : ClientCore W R F) (result : Result Event OutOfMemory) (l l' : L) (c c' : C) : Type 0 where
-    pub chosen : IfOk result (λ event. Tells (tells l') (tells l) (Chosen answer client below core event (traffic l) (traffic l')))
-    pub clock : IfOk result (λ event. Tells (tells l' × ticks c') (tells l × ticks c) (TimedOne event (traffic l).full_writes (traffic l').full_writes (readings c) (readings c')))
+    pub chosen : IfOk result (λ event. Observed (tells l') (tells l) (Chosen answer client below core event (traffic l) (traffic l')))
+    pub clock : IfOk result (λ event. Observed (tells l' × ticks c') (tells l × ticks c) (TimedOne event (traffic l).full_writes (traffic l').full_writes (readings c) (readings c')))
     pub blame : IfOk result (λ event. ChosenFor below core event (faults_of l) (faults_of l'))
-    pub again : IfOk result (λ event. Tells (tells l') (tells l) (WroteFirst core event.kind (traffic l) (traffic l')))
-    pub no_memory : OnErr result (Tells (tells l') (tells l) (Unread (traffic l) (traffic l')))
+    pub again : IfOk result (λ event. Observed (tells l') (tells l) (WroteFirst core event.kind (traffic l) (traffic l')))
+    pub no_memory : OnErr result (Observed (tells l') (tells l) (Unread (traffic l) (traffic l')))
     pub later : faults_of l ≤ faults_of l'
 
   -- one that was noted

@@ -1,7 +1,7 @@
 //! One own event.
 
 ghost use Rattle.std.specs.Prelude.{◌≡◌, ◌≤◌, IfOk, OnErr, None, slice_get};
-ghost use Rattle.dns_io.specs.Causes.{Tells};
+ghost use Rattle.dns_io.specs.Causes.{Observed};
 ghost use Rattle.dns_client.specs.Serving.{Serving, serving};
 ghost use Rattle.dns_client.specs.Slate.{Slate};
 ghost use Rattle.dns_client.specs.Stands.{Stands, waiting};
@@ -47,7 +47,7 @@ fn take<J: Recorder, W: SharedService>(
 ) -> Result<Option<Why>, OutOfMemory>
     requires { W.can_call service.now }
     ensures taken { IfOk result (λ why. TakesEvent (request_answer W.Future.answer W.Stream.answer) (serving (W.answer service.now) (W.hint service.now)) core.old core.new event.now why) }
-    ensures noted { Tells (J.tells journal.new) (J.tells journal.old) (NotedOrNot result (J.noted journal.old) event.now (J.noted journal.new)) }
+    ensures noted { Observed (J.tells journal.new) (J.tells journal.old) (NotedOrNot result (J.noted journal.old) event.now (J.noted journal.new)) }
 {
     journal.note(alloc, event)?;
     let why = step(alloc, core, service, event)?;
@@ -65,7 +65,7 @@ fn hand_over<J: Recorder, W: SharedService>(
 ) -> Result<Option<Why>, OutOfMemory>
     requires { W.can_call service.now }
     ensures taken { IfOk result (λ why. TakesEvent (request_answer W.Future.answer W.Stream.answer) (serving (W.answer service.now) (W.hint service.now)) core.old core.new event why) }
-    ensures noted { Tells (J.tells journal.new) (J.tells journal.old) (NotedOrNot result (J.noted journal.old) event (J.noted journal.new)) }
+    ensures noted { Observed (J.tells journal.new) (J.tells journal.old) (NotedOrNot result (J.noted journal.old) event (J.noted journal.new)) }
     ensures turn { below_of kept.new.turn ≡ turned (below_of kept.old.turn) event.kind }
     ensures last { kept.new.last ≡ kept.old.last }
 {
@@ -87,10 +87,10 @@ fn next_request<W: SharedService>(core: &ClientCore<W>, last: Option<u64>) -> Op
 
 /// How long a read is waited for: not long where a request is to be polled again, and else not past the moment at which the
 /// connection is idle for too long, by the moment of the last event. A wait is one millisecond at least.
-fn patience<W: SharedService>(core: &ClientCore<W>, kept: &TurnState) -> u64 {
+fn read_wait<W: SharedService>(core: &ClientCore<W>, kept: &TurnState) -> u64 {
     match core.first_unfinished() {
-        Some(_) => kept.waits.pause(),
-        None => kept.waits.patience().min(core.idle_left(kept.at)).max(1),
+        Some(_) => kept.waits.repoll_wait(),
+        None => kept.waits.idle_wait().min(core.idle_left(kept.at)).max(1),
     }
 }
 
@@ -111,7 +111,7 @@ fn turn_or_read<R: Wait, L: Link, C: Clock, W: SharedService>(
 {
     match next_request(core, kept.turn) {
         Some(request) => Ok(now_is(clock, client, EventKind::Turn { request })),
-        None => read_event(rt, alloc, client, link, clock, buf, patience(core, kept)),
+        None => read_event(rt, alloc, client, link, clock, buf, read_wait(core, kept)),
     }
 }
 
@@ -161,15 +161,15 @@ pub(crate) fn act<R: Wait, L: Link, C: Clock, J: Recorder, W: SharedService>(
     buf: &mut [u8; ROOM],
 ) -> Result<Option<Why>, OutOfMemory>
     requires { W.can_call service.now }
-    ensures told { IfOk result (λ why. Tells (L.tells link.new × J.tells journal.new) (L.tells link.old × J.tells journal.old)
+    ensures observed { IfOk result (λ why. Observed (L.tells link.new × J.tells journal.new) (L.tells link.old × J.tells journal.old)
         (Acted (request_answer W.Future.answer W.Stream.answer) (serving (W.answer service.now) (W.hint service.now)) client (below_of kept.old.turn) (below_of kept.new.turn) why core.old core.new
         (J.noted journal.old) (J.noted journal.new) (L.traffic link.old) (L.traffic link.new))) }
-    ensures clock { IfOk result (λ why. Tells (L.tells link.new × C.tells clock.new × J.tells journal.new) (L.tells link.old × C.tells clock.old × J.tells journal.old)
+    ensures clock { IfOk result (λ why. Observed (L.tells link.new × C.tells clock.new × J.tells journal.new) (L.tells link.old × C.tells clock.old × J.tells journal.old)
         (Timed (J.noted journal.old) (J.noted journal.new) (L.traffic link.old).full_writes (L.traffic link.new).full_writes (C.readings clock.old) (C.readings clock.new))) }
     ensures blame { IfOk result (λ why. ActedFor (request_answer W.Future.answer W.Stream.answer) (serving (W.answer service.now) (W.hint service.now)) why core.old core.new (L.faults link.old) (L.faults link.new)) }
-    ensures again { IfOk result (λ why. Tells (L.tells link.new × J.tells journal.new) (L.tells link.old × J.tells journal.old)
+    ensures again { IfOk result (λ why. Observed (L.tells link.new × J.tells journal.new) (L.tells link.old × J.tells journal.old)
         (NotedWrite (request_answer W.Future.answer W.Stream.answer) core.old (J.noted journal.old) (J.noted journal.new) (L.traffic link.old) (L.traffic link.new))) }
-    ensures no_memory { OnErr result (Tells (L.tells link.new × J.tells journal.new) (L.tells link.old × J.tells journal.old)
+    ensures no_memory { OnErr result (Observed (L.tells link.new × J.tells journal.new) (L.tells link.old × J.tells journal.old)
         (ActedPart (request_answer W.Future.answer W.Stream.answer) client (below_of kept.old.turn) core.old
         (J.noted journal.old) (J.noted journal.new) (L.traffic link.old) (L.traffic link.new))) }
     ensures later { L.faults link.old ≤ L.faults link.new }

@@ -1,7 +1,7 @@
 //! One connection is served.
 
 ghost use Rattle.std.specs.Prelude.{◌≡◌, ◌≤◌, false, IfOk, OnErr};
-ghost use Rattle.dns_io.specs.Causes.{Tells};
+ghost use Rattle.dns_io.specs.Causes.{Observed};
 ghost use Rattle.dns_client.specs.Serving.{serving};
 ghost use Rattle.dns_notes.specs.Clocks.{Timed, TimedWhole};
 ghost use Rattle.dns_drivers.specs.Story.{Broken, LooksAlone, LooksAndRelease, began};
@@ -47,12 +47,12 @@ fn admit_and_serve<R: Wait, L: Link, C: Clock, J: Recorder, W: SharedService>(
     requires book { seat.old.book ≡ book.now }
     requires running { look.now.closed ≡ false }
     requires can_call { W.can_call service.now }
-    ensures told { IfOk result (λ why. Tells (L.tells link.new × J.tells journal.new) (L.tells link.old × J.tells journal.old)
+    ensures observed { IfOk result (λ why. Observed (L.tells link.new × J.tells journal.new) (L.tells link.old × J.tells journal.old)
         (ClosingStory (serving (W.answer service.now) (W.hint service.now)) (began client addr at look.now) client look.now why
         (J.noted journal.old) (J.noted journal.new) seat.old.known seat.new.known (L.traffic link.old) (L.traffic link.new))) }
-    ensures clock { IfOk result (λ why. Tells (L.tells link.new × C.tells clock.new × J.tells journal.new) (L.tells link.old × C.tells clock.old × J.tells journal.old)
+    ensures clock { IfOk result (λ why. Observed (L.tells link.new × C.tells clock.new × J.tells journal.new) (L.tells link.old × C.tells clock.old × J.tells journal.old)
         (Timed (J.noted journal.old) (J.noted journal.new) (L.traffic link.old).full_writes (L.traffic link.new).full_writes (C.readings clock.old) (C.readings clock.new))) }
-    ensures no_memory { OnErr result (Tells (L.tells link.new × J.tells journal.new) (L.tells link.old × J.tells journal.old)
+    ensures no_memory { OnErr result (Observed (L.tells link.new × J.tells journal.new) (L.tells link.old × J.tells journal.old)
         (Broken (serving (W.answer service.now) (W.hint service.now)) (began client addr at look.now) client
         (J.noted journal.old) (J.noted journal.new) (L.traffic link.old) (L.traffic link.new))) }
     ensures cause { IfOk result (λ why. Causes why seat.old.known seat.new.known (L.faults link.old) (L.faults link.new)) }
@@ -90,15 +90,15 @@ fn serve_offer<R: Wait, L: Link, C: Clock, J: Recorder, W: SharedService>(
     requires book { seat.old.book ≡ book.now }
     requires running { look.now.closed ≡ false }
     requires can_call { W.can_call service.now }
-    ensures told { IfOk result (λ why. Tells (L.tells link.new × J.tells journal.new) (L.tells link.old × J.tells journal.old)
+    ensures observed { IfOk result (λ why. Observed (L.tells link.new × J.tells journal.new) (L.tells link.old × J.tells journal.old)
         (WasOffered (serving (W.answer service.now) (W.hint service.now)) why client addr look.now
         (J.noted journal.old) (J.noted journal.new) seat.old.known seat.new.known (L.traffic link.old) (L.traffic link.new))) }
-    ensures clock { IfOk result (λ why. Tells (L.tells link.new × C.tells clock.new × J.tells journal.new) (L.tells link.old × C.tells clock.old × J.tells journal.old)
+    ensures clock { IfOk result (λ why. Observed (L.tells link.new × C.tells clock.new × J.tells journal.new) (L.tells link.old × C.tells clock.old × J.tells journal.old)
         (Timed (J.noted journal.old) (J.noted journal.new) (L.traffic link.old).full_writes (L.traffic link.new).full_writes (C.readings clock.old) (C.readings clock.new))) }
-    ensures no_memory { OnErr result (Tells (L.tells link.new × J.tells journal.new) (L.tells link.old × J.tells journal.old)
+    ensures no_memory { OnErr result (Observed (L.tells link.new × J.tells journal.new) (L.tells link.old × J.tells journal.old)
         (Unserved (serving (W.answer service.now) (W.hint service.now)) client addr look.now
         (J.noted journal.old) (J.noted journal.new) (L.traffic link.old) (L.traffic link.new))) }
-    ensures shown { IfOk result (λ why. Tells (L.tells link.new × J.tells journal.new) (L.tells link.old × J.tells journal.old)
+    ensures shown { IfOk result (λ why. Observed (L.tells link.new × J.tells journal.new) (L.tells link.old × J.tells journal.old)
         (ShownFrom (serving (W.answer service.now) (W.hint service.now)) why client addr look.now (J.noted journal.old) (J.noted journal.new) (L.traffic link.old) (L.traffic link.new))) }
     ensures cause { IfOk result (λ why. Causes why seat.old.known seat.new.known (L.faults link.old) (L.faults link.new)) }
     ensures later { L.faults link.old ≤ L.faults link.new }
@@ -134,14 +134,14 @@ pub fn serve_connection<R: Wait, L: Link, C: Clock, J: Recorder, W: SharedServic
     requires running { look.now.closed ≡ false }
     requires can_call { W.can_call service.now }
     // Where link and recorder tell.
-    ensures told { Tells (L.tells link.new × J.tells journal.new) (L.tells link.old × J.tells journal.old)
+    ensures observed { Observed (L.tells link.new × J.tells journal.new) (L.tells link.old × J.tells journal.old)
         (EndsSo (serving (W.answer service.now) (W.hint service.now)) result.1 client addr look.now
         (J.noted journal.old) (J.noted journal.new) seat.known result.0.known (L.traffic link.old) (L.traffic link.new)) }
     // And why it was closed.
-    ensures shown { Tells (L.tells link.new × J.tells journal.new) (L.tells link.old × J.tells journal.old)
+    ensures shown { Observed (L.tells link.new × J.tells journal.new) (L.tells link.old × J.tells journal.old)
         (EndShown (serving (W.answer service.now) (W.hint service.now)) result.1 client addr look.now (J.noted journal.old) (J.noted journal.new) (L.traffic link.old) (L.traffic link.new)) }
     // Where the clock tells too.
-    ensures clock { WhereClosed result.1 (Tells (L.tells link.new × C.tells clock.new × J.tells journal.new) (L.tells link.old × C.tells clock.old × J.tells journal.old)
+    ensures clock { WhereClosed result.1 (Observed (L.tells link.new × C.tells clock.new × J.tells journal.new) (L.tells link.old × C.tells clock.old × J.tells journal.old)
         (TimedWhole (J.noted journal.old) (J.noted journal.new) (L.traffic link.old).full_writes (L.traffic link.new).full_writes (C.readings clock.old) (C.readings clock.new))) }
     // Always.
     ensures cause { EndCauses result.1 seat.known result.0.known (L.faults link.old) (L.faults link.new) }

@@ -4,11 +4,11 @@
 mod acting;
 mod closing;
 mod connection;
-mod hearing;
+mod look_news;
 mod reading;
 mod turn_state;
 mod turning;
 mod writing;
 
 pub use connection::{ConnectionEnd, serve_connection};
-pub use dns_notes::{Kept, PATIENCE, Recorder, Silent};
+pub use dns_notes::{MAX_WAIT_MS, Recorder, Silent, VecRecorder};

@@ -1,7 +1,7 @@
 //! One read.
 
 ghost use Rattle.std.specs.Prelude.{◌≡◌, ◌≤◌, [], IfOk, OnErr};
-ghost use Rattle.dns_io.specs.Causes.{Tells};
+ghost use Rattle.dns_io.specs.Causes.{Observed};
 ghost use Rattle.dns_notes.specs.Clocks.{TimedOne};
 ghost use Rattle.dns_drivers.specs.Blames.{Blames, WroteWhole};
 ghost use Rattle.dns_drivers.specs.Links.{MovedBy, IsReadEvent, Unread};
@@ -23,14 +23,14 @@ fn read_kind<R: Wait, L: Link>(
     alloc: Global,
     link: &mut L,
     buf: &mut [u8; ROOM],
-    patience: u64,
+    read_wait: u64,
 ) -> Result<EventKind, OutOfMemory>
-    ensures moved { IfOk result (λ kind. Tells (L.tells link.new) (L.tells link.old) (MovedBy kind [] 0 (L.traffic link.old) (L.traffic link.new))) }
+    ensures moved { IfOk result (λ kind. Observed (L.tells link.new) (L.tells link.old) (MovedBy kind [] 0 (L.traffic link.old) (L.traffic link.new))) }
     ensures kind { IfOk result (λ kind. IsReadEvent kind) }
     ensures blame { IfOk result (λ kind. Blames kind (L.faults link.old) (L.faults link.new)) }
-    ensures again { IfOk result (λ kind. Tells (L.tells link.new) (L.tells link.old) (WroteWhole kind [] (L.traffic link.old) (L.traffic link.new))) }
-    ensures room { IfOk result (λ kind. Tells (L.tells link.new) (L.tells link.old) ((L.traffic link.new).full_writes ≡ (L.traffic link.old).full_writes)) }
-    ensures no_memory { OnErr result (Tells (L.tells link.new) (L.tells link.old) (Unread (L.traffic link.old) (L.traffic link.new))) }
+    ensures again { IfOk result (λ kind. Observed (L.tells link.new) (L.tells link.old) (WroteWhole kind [] (L.traffic link.old) (L.traffic link.new))) }
+    ensures room { IfOk result (λ kind. Observed (L.tells link.new) (L.tells link.old) ((L.traffic link.new).full_writes ≡ (L.traffic link.old).full_writes)) }
+    ensures no_memory { OnErr result (Observed (L.tells link.new) (L.tells link.old) (Unread (L.traffic link.old) (L.traffic link.new))) }
     ensures later { L.faults link.old ≤ L.faults link.new }
 {
     match link.read(buf) {
@@ -39,7 +39,7 @@ fn read_kind<R: Wait, L: Link>(
             Ok(EventKind::Piece(octets))
         }
         LinkRead::Again => {
-            link.wait(rt, patience);
+            link.wait(rt, read_wait);
             Ok(EventKind::Tick)
         }
         LinkRead::End => Ok(EventKind::End),
@@ -55,17 +55,17 @@ pub(crate) fn read_event<R: Wait, L: Link, C: Clock>(
     link: &mut L,
     clock: &mut C,
     buf: &mut [u8; ROOM],
-    patience: u64,
+    read_wait: u64,
 ) -> Result<Event, OutOfMemory>
-    ensures moved { IfOk result (λ event. Tells (L.tells link.new) (L.tells link.old) (MovedBy event.kind [] 0 (L.traffic link.old) (L.traffic link.new))) }
-    ensures clock { IfOk result (λ event. Tells (L.tells link.new × C.tells clock.new) (L.tells link.old × C.tells clock.old) (TimedOne event (L.traffic link.old).full_writes (L.traffic link.new).full_writes (C.readings clock.old) (C.readings clock.new))) }
+    ensures moved { IfOk result (λ event. Observed (L.tells link.new) (L.tells link.old) (MovedBy event.kind [] 0 (L.traffic link.old) (L.traffic link.new))) }
+    ensures clock { IfOk result (λ event. Observed (L.tells link.new × C.tells clock.new) (L.tells link.old × C.tells clock.old) (TimedOne event (L.traffic link.old).full_writes (L.traffic link.new).full_writes (C.readings clock.old) (C.readings clock.new))) }
     ensures kind { IfOk result (λ event. (event.client ≡ client) × IsReadEvent event.kind) }
     ensures blame { IfOk result (λ event. Blames event.kind (L.faults link.old) (L.faults link.new)) }
-    ensures again { IfOk result (λ event. Tells (L.tells link.new) (L.tells link.old) (WroteWhole event.kind [] (L.traffic link.old) (L.traffic link.new))) }
-    ensures no_memory { OnErr result (Tells (L.tells link.new) (L.tells link.old) (Unread (L.traffic link.old) (L.traffic link.new))) }
+    ensures again { IfOk result (λ event. Observed (L.tells link.new) (L.tells link.old) (WroteWhole event.kind [] (L.traffic link.old) (L.traffic link.new))) }
+    ensures no_memory { OnErr result (Observed (L.tells link.new) (L.tells link.old) (Unread (L.traffic link.old) (L.traffic link.new))) }
     ensures later { L.faults link.old ≤ L.faults link.new }
 {
-    match read_kind(rt, alloc, link, buf, patience) {
+    match read_kind(rt, alloc, link, buf, read_wait) {
         Ok(kind) => Ok(now_is(clock, client, kind)),
         Err(error) => Err(error),
     }

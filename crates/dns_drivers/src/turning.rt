@@ -1,7 +1,7 @@
 //! Turns: one look, and one own event.
 
 ghost use Rattle.std.specs.Prelude.{◌≡◌, ◌≤◌, IfOk, OnErr};
-ghost use Rattle.dns_io.specs.Causes.{Tells};
+ghost use Rattle.dns_io.specs.Causes.{Observed};
 ghost use Rattle.dns_client.specs.Serving.{serving};
 ghost use Rattle.dns_client.specs.Slate.{Slate};
 ghost use Rattle.dns_service.specs.PolledRequest.{request_answer};
@@ -13,7 +13,7 @@ ghost use Rattle.dns_drivers.specs.Story.{Broken, LooksAlone};
 ghost use Rattle.dns_drivers.specs.Turning.{MadeTurn, TurnedPart, TurnedFor, BeginsOpen, ClosingStory};
 
 use crate::acting::act;
-use crate::hearing::hear;
+use crate::look_news::poll_book;
 use crate::reading::ROOM;
 use crate::turn_state::TurnState;
 use dns_admission::Look;
@@ -42,12 +42,12 @@ fn turn_once<R: Wait, L: Link, C: Clock, J: Recorder, W: SharedService>(
 ) -> Result<Option<Why>, OutOfMemory>
     requires book { seat.old.book ≡ book.now }
     requires can_call { W.can_call service.now }
-    ensures told { IfOk result (λ why. Tells (L.tells link.new × J.tells journal.new) (L.tells link.old × J.tells journal.old)
+    ensures observed { IfOk result (λ why. Observed (L.tells link.new × J.tells journal.new) (L.tells link.old × J.tells journal.old)
         (MadeTurn (request_answer W.Future.answer W.Stream.answer) (serving (W.answer service.now) (W.hint service.now)) client (below_of kept.old.turn) (below_of kept.new.turn) why core.old core.new kept.old.last kept.new.last
         (J.noted journal.old) (J.noted journal.new) seat.old.known seat.new.known (L.traffic link.old) (L.traffic link.new))) }
-    ensures clock { IfOk result (λ why. Tells (L.tells link.new × C.tells clock.new × J.tells journal.new) (L.tells link.old × C.tells clock.old × J.tells journal.old)
+    ensures clock { IfOk result (λ why. Observed (L.tells link.new × C.tells clock.new × J.tells journal.new) (L.tells link.old × C.tells clock.old × J.tells journal.old)
         (Timed (J.noted journal.old) (J.noted journal.new) (L.traffic link.old).full_writes (L.traffic link.new).full_writes (C.readings clock.old) (C.readings clock.new))) }
-    ensures no_memory { OnErr result (Tells (L.tells link.new × J.tells journal.new) (L.tells link.old × J.tells journal.old)
+    ensures no_memory { OnErr result (Observed (L.tells link.new × J.tells journal.new) (L.tells link.old × J.tells journal.old)
         (TurnedPart (request_answer W.Future.answer W.Stream.answer) (serving (W.answer service.now) (W.hint service.now)) client (below_of kept.old.turn) core.old kept.old.last
         (J.noted journal.old) (J.noted journal.new) seat.old.known seat.new.known (L.traffic link.old) (L.traffic link.new))) }
     ensures cause { IfOk result (λ why. TurnedFor (request_answer W.Future.answer W.Stream.answer) (serving (W.answer service.now) (W.hint service.now)) why core.old core.new seat.old.known seat.new.known (L.faults link.old) (L.faults link.new)) }
@@ -55,7 +55,7 @@ fn turn_once<R: Wait, L: Link, C: Clock, J: Recorder, W: SharedService>(
     ensures looked { LookedOnce seat.old.known seat.new.known }
     ensures same { seat.new.book ≡ seat.old.book }
 {
-    match hear(rt, alloc, book, seat, core, kept, clock, journal) {
+    match poll_book(rt, alloc, book, seat, core, kept, clock, journal) {
         Ok(None) => act(
             rt, alloc, client, core, service, kept, link, clock, journal, buf,
         ),
@@ -80,13 +80,13 @@ pub(crate) fn serve_core<R: Wait, L: Link, C: Clock, J: Recorder, W: SharedServi
 ) -> Result<Why, OutOfMemory>
     requires book { seat.old.book ≡ book.now }
     requires can_call { W.can_call service.now }
-    ensures told { IfOk result (λ why. Tells (L.tells link.new × J.tells journal.new) (L.tells link.old × J.tells journal.old)
+    ensures observed { IfOk result (λ why. Observed (L.tells link.new × J.tells journal.new) (L.tells link.old × J.tells journal.old)
         ((s : Slate) → BeginsOpen (request_answer W.Future.answer W.Stream.answer) (serving (W.answer service.now) (W.hint service.now)) core.old look.now s
         → ClosingStory (serving (W.answer service.now) (W.hint service.now)) s client look.now why
         (J.noted journal.old) (J.noted journal.new) seat.old.known seat.new.known (L.traffic link.old) (L.traffic link.new))) }
-    ensures clock { IfOk result (λ why. Tells (L.tells link.new × C.tells clock.new × J.tells journal.new) (L.tells link.old × C.tells clock.old × J.tells journal.old)
+    ensures clock { IfOk result (λ why. Observed (L.tells link.new × C.tells clock.new × J.tells journal.new) (L.tells link.old × C.tells clock.old × J.tells journal.old)
         (Timed (J.noted journal.old) (J.noted journal.new) (L.traffic link.old).full_writes (L.traffic link.new).full_writes (C.readings clock.old) (C.readings clock.new))) }
-    ensures no_memory { OnErr result (Tells (L.tells link.new × J.tells journal.new) (L.tells link.old × J.tells journal.old)
+    ensures no_memory { OnErr result (Observed (L.tells link.new × J.tells journal.new) (L.tells link.old × J.tells journal.old)
         ((s : Slate) → BeginsOpen (request_answer W.Future.answer W.Stream.answer) (serving (W.answer service.now) (W.hint service.now)) core.old look.now s
         → Broken (serving (W.answer service.now) (W.hint service.now)) s client
         (J.noted journal.old) (J.noted journal.new) (L.traffic link.old) (L.traffic link.new))) }

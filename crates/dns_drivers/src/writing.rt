@@ -1,13 +1,13 @@
 //! A frame is written.
 
 ghost use Rattle.std.specs.Prelude.{◌≡◌, ◌≤◌, ◌+◌, ◌-◌, [], ◌∷◌, ◌++◌, drop, length, MatchResult};
-ghost use Rattle.dns_io.specs.Causes.{Tells};
+ghost use Rattle.dns_io.specs.Causes.{Observed};
 ghost use Rattle.dns_notes.specs.Clocks.{TimedOne, Waited};
 ghost use Rattle.dns_drivers.specs.Blames.{EndBlames, EndAgain, Blames, WroteWhole};
 ghost use Rattle.dns_drivers.specs.Links.{WaitedTo, MovedBy, IsWrittenEvent, WroteFront, WroteUntil, EndsWriting};
 
 use dns_io::{Clock, Link, LinkWrite};
-use dns_notes::{PATIENCE, now_is};
+use dns_notes::{MAX_WAIT_MS, now_is};
 use dns_service::{Event, EventKind};
 use std::sync::Wait;
 
@@ -26,11 +26,11 @@ fn wait_for_room<R: Wait, L: Link, C: Clock>(
     clock: &mut C,
     limit: u64,
 ) -> (u64, u64)
-    ensures moves { Tells (L.tells link.new) (L.tells link.old) (L.traffic link.new ≡ L.traffic link.old) }
+    ensures moves { Observed (L.tells link.new) (L.tells link.old) (L.traffic link.new ≡ L.traffic link.old) }
     ensures same { L.faults link.new ≡ L.faults link.old }
-    ensures clock { Tells (C.tells clock.new) (C.tells clock.old) (C.readings clock.new ≡ C.readings clock.old ++ result ∷ []) }
+    ensures clock { Observed (C.tells clock.new) (C.tells clock.old) (C.readings clock.new ≡ C.readings clock.old ++ result ∷ []) }
 {
-    link.wait(rt, PATIENCE.min(limit.saturating_add(1)));
+    link.wait(rt, MAX_WAIT_MS.min(limit.saturating_add(1)));
     clock.now()
 }
 
@@ -47,14 +47,14 @@ fn write_some<R: Wait, L: Link, C: Clock>(
     limit: u64,
 ) -> Result<usize, WriteEnd>
     requires { done ≤ length frame.now }
-    ensures moves { Tells (L.tells link.new) (L.tells link.old)
+    ensures moves { Observed (L.tells link.new) (L.tells link.old)
         (MatchResult result (λ n. WroteFront n (drop done frame.now) (L.traffic link.old) (L.traffic link.new)) (λ end. WroteFront 0 (drop done frame.now) (L.traffic link.old) (L.traffic link.new))) }
-    ensures clock { Tells (L.tells link.new × C.tells clock.new) (L.tells link.old × C.tells clock.old)
+    ensures clock { Observed (L.tells link.new × C.tells clock.new) (L.tells link.old × C.tells clock.old)
         (MatchResult result (λ n. Waited (L.traffic link.old).full_writes (L.traffic link.new).full_writes (C.readings clock.old) (C.readings clock.new))
         (λ end. WaitedTo end (L.traffic link.old).full_writes (L.traffic link.new).full_writes (C.readings clock.old) (C.readings clock.new))) }
     ensures bound { MatchResult result (λ n. done + n ≤ length frame.now) (λ end. EndsWriting end done (length frame.now) start limit) }
     ensures blame { MatchResult result (λ n. L.faults link.new ≡ L.faults link.old) (λ end. EndBlames end (L.faults link.old) (L.faults link.new)) }
-    ensures again { Tells (L.tells link.new) (L.tells link.old)
+    ensures again { Observed (L.tells link.new) (L.tells link.old)
         (MatchResult result (λ n. (L.traffic link.old).full_writes ≤ (L.traffic link.new).full_writes) (λ end. EndAgain end (L.traffic link.old).full_writes (L.traffic link.new).full_writes)) }
 {
     if done >= frame.len() {
@@ -83,10 +83,10 @@ fn write_frame<R: Wait, L: Link, C: Clock>(
     start: u64,
     limit: u64,
 ) -> WriteEnd
-    ensures moves { Tells (L.tells link.new) (L.tells link.old) (WroteUntil result frame.now start limit (L.traffic link.old) (L.traffic link.new)) }
-    ensures clock { Tells (L.tells link.new × C.tells clock.new) (L.tells link.old × C.tells clock.old) (WaitedTo result (L.traffic link.old).full_writes (L.traffic link.new).full_writes (C.readings clock.old) (C.readings clock.new)) }
+    ensures moves { Observed (L.tells link.new) (L.tells link.old) (WroteUntil result frame.now start limit (L.traffic link.old) (L.traffic link.new)) }
+    ensures clock { Observed (L.tells link.new × C.tells clock.new) (L.tells link.old × C.tells clock.old) (WaitedTo result (L.traffic link.old).full_writes (L.traffic link.new).full_writes (C.readings clock.old) (C.readings clock.new)) }
     ensures blame { EndBlames result (L.faults link.old) (L.faults link.new) }
-    ensures again { Tells (L.tells link.new) (L.tells link.old) (EndAgain result (L.traffic link.old).full_writes (L.traffic link.new).full_writes) }
+    ensures again { Observed (L.tells link.new) (L.tells link.old) (EndAgain result (L.traffic link.old).full_writes (L.traffic link.new).full_writes) }
 {
     let mut done = 0;
     for _ in rt.forever() {
@@ -122,12 +122,12 @@ pub(crate) fn write_event<R: Wait, L: Link, C: Clock>(
     frame: &[u8],
     limit: u64,
 ) -> Event
-    ensures moved { Tells (L.tells link.new) (L.tells link.old) (MovedBy result.kind (frame.now ∷ []) limit (L.traffic link.old) (L.traffic link.new)) }
-    ensures clock { Tells (L.tells link.new × C.tells clock.new) (L.tells link.old × C.tells clock.old) (TimedOne result (L.traffic link.old).full_writes (L.traffic link.new).full_writes (C.readings clock.old) (C.readings clock.new)) }
+    ensures moved { Observed (L.tells link.new) (L.tells link.old) (MovedBy result.kind (frame.now ∷ []) limit (L.traffic link.old) (L.traffic link.new)) }
+    ensures clock { Observed (L.tells link.new × C.tells clock.new) (L.tells link.old × C.tells clock.old) (TimedOne result (L.traffic link.old).full_writes (L.traffic link.new).full_writes (C.readings clock.old) (C.readings clock.new)) }
     ensures client { result.client ≡ client }
     ensures kind { IsWrittenEvent result.kind }
     ensures blame { Blames result.kind (L.faults link.old) (L.faults link.new) }
-    ensures again { Tells (L.tells link.new) (L.tells link.old) (WroteWhole result.kind frame.now (L.traffic link.old) (L.traffic link.new)) }
+    ensures again { Observed (L.tells link.new) (L.tells link.old) (WroteWhole result.kind frame.now (L.traffic link.old) (L.traffic link.new)) }
 {
     let (start, _) = clock.now();
     match write_frame(rt, link, clock, frame, start, limit) {

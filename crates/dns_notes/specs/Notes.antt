@@ -1,7 +1,7 @@
 -- What notes add to the events noted before them.
 use Rattle.std.specs.Prelude.{◌≡◌, ℕ, List, [], ◌∷◌, ◌++◌, true, Result, Ok, Err, OnOk, OnErr}
 use Rattle.dns_name.specs.declared.error.OutOfMemory.{OutOfMemory}
-use Rattle.dns_io.specs.Causes.{Tells}
+use Rattle.dns_io.specs.Causes.{Observed}
 use Rattle.dns_events.specs.declared.event.Event.{Event}
 use Rattle.dns_events.specs.declared.event.EventKind.{EventKind}
 use Rattle.dns_sent.specs.Own.{is_wide}
@@ -40,7 +40,7 @@ pub record NotedWide (n n' : List Event) : Type 0 where
 -- and recorder tell, which are read so.
 pub record NotesKinds {C J : Type 0} (ticks : C → Type 0) (readings : C → List ClockReading) (notes : J → Type 0) (noted : J → List Event)
     (ks : List EventKind) (r : Result (Unit {0}) OutOfMemory) (c c' : C) (j j' : J) : Type 0 where
-  pub told : OnOk r (Tells (notes j') (notes j) (NotedKinds ks (noted j) (noted j')))
-  pub clock : OnOk r (Tells (ticks c' × notes j') (ticks c × notes j) (Timed (noted j) (noted j') 0 0 (readings c) (readings c')))
-  pub no_memory : OnErr r (Tells (notes j') (notes j) (noted j' ≡ noted j))
-  pub clock_no_memory : OnErr r (Tells (ticks c' × notes j') (ticks c × notes j) (noted j' ≡ noted j))
+  pub observed : OnOk r (Observed (notes j') (notes j) (NotedKinds ks (noted j) (noted j')))
+  pub clock : OnOk r (Observed (ticks c' × notes j') (ticks c × notes j) (Timed (noted j) (noted j') 0 0 (readings c) (readings c')))
+  pub no_memory : OnErr r (Observed (notes j') (notes j) (noted j' ≡ noted j))
+  pub clock_no_memory : OnErr r (Observed (ticks c' × notes j') (ticks c × notes j) (noted j' ≡ noted j))

@@ -6,7 +6,7 @@ mod news;
 mod recorder;
 mod waits;
 
-pub use moments::{PATIENCE, note_moment, now_is, pause};
+pub use moments::{MAX_WAIT_MS, note_moment, now_is, pause};
 pub use news::{note_shutdown, note_version};
-pub use recorder::{Kept, Recorder, Silent};
+pub use recorder::{Recorder, Silent, VecRecorder};
 pub use waits::Waits;

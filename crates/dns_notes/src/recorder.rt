@@ -2,7 +2,7 @@
 
 ghost use Rattle.std.specs.Prelude.{◌≡◌, List, [], IfOk};
 ghost use Rattle.dns_events.specs.declared.event.Event.{Event};
-ghost use Rattle.dns_io.specs.Causes.{Tells};
+ghost use Rattle.dns_io.specs.Causes.{Observed};
 ghost use Rattle.dns_notes.specs.Notes.{NoteMoves};
 
 use dns_service::{Event, EventKind, Octets, OutOfMemory};
@@ -18,7 +18,7 @@ pub trait Recorder {
 
     /// Notes an event.
     fn note(&mut self, alloc: Global, event: &Event) -> Result<(), OutOfMemory>
-        ensures { Tells (tells self.new) (tells self.old) (NoteMoves result event.now (noted self.old) (noted self.new)) };
+        ensures { Observed (tells self.new) (tells self.old) (NoteMoves result event.now (noted self.old) (noted self.new)) };
 }
 
 /// A recorder that keeps nothing and tells nothing.
@@ -37,16 +37,16 @@ impl Recorder for Silent {
 
 /// A recorder that keeps a copy of each event.
 #[derive(Drop)]
-pub struct Kept {
+pub struct VecRecorder {
     events: Vec<Event>,
 }
 
-impl Kept {
+impl VecRecorder {
     /// Nothing is noted so far.
-    pub fn new(alloc: Global) -> Kept
+    pub fn new(alloc: Global) -> VecRecorder
         ensures { result.events.items ≡ [] }
     {
-        Kept {
+        VecRecorder {
             events: Vec::new(alloc),
         }
     }
@@ -92,7 +92,7 @@ fn copied(alloc: Global, kind: &EventKind) -> Result<EventKind, OutOfMemory>
     })
 }
 
-impl Recorder for Kept {
+impl Recorder for VecRecorder {
     ghost tells = { λ _. Unit {0} };
 
     ghost noted = { λ k. k.events.items };

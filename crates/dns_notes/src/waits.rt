@@ -1,7 +1,7 @@
 //! How long waits last, which grow while nothing comes and nothing is done.
 
 ghost use Rattle.std.specs.Prelude.{◌≡◌};
-ghost use Rattle.dns_notes.specs.Waits.{anew_where, one_more, patience_after, pause_after, vain_after};
+ghost use Rattle.dns_notes.specs.Waits.{anew_where, one_more, idle_wait_after, repoll_wait_after, vain_after};
 
 use dns_service::EventKind;
 
@@ -49,8 +49,8 @@ impl Waits {
 
     /// How long the next wait lasts at most, in ms, where a request is to be polled again: 1, and twice as long after each wait in
     /// vain, up to 16.
-    pub fn pause(self) -> u64
-        ensures { result ≡ pause_after self.vain }
+    pub fn repoll_wait(self) -> u64
+        ensures { result ≡ repoll_wait_after self.vain }
     {
         if self.vain < 1 {
             1
@@ -67,8 +67,8 @@ impl Waits {
 
     /// How long the next wait lasts at most, in ms, where nothing is to be done: 250, then 1,000 after 16 waits in vain, and 4,000
     /// after 32.
-    pub fn patience(self) -> u64
-        ensures { result ≡ patience_after self.vain }
+    pub fn idle_wait(self) -> u64
+        ensures { result ≡ idle_wait_after self.vain }
     {
         if self.vain < 16 {
             250

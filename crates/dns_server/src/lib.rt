@@ -22,9 +22,9 @@ pub use dns_run::{
 };
 pub use dns_servers::{
     AcceptEnd, BufSource, ConnectionEnd, ConnectionWork, Control, DgramEnd, DgramServer, Host,
-    HostEnd, Kept, Metered, MeteredAccept, MeteredSock, NoHook, PreConnect, Recorder,
-    ServerCommand, ServerMetrics, Silent, StreamEnd, StreamServer, TcpServer, UdpServer,
-    VecBufSource, host_service, serve_accepts, serve_connection, serve_datagrams,
+    HostEnd, Metered, MeteredAccept, MeteredSock, NoHook, PreConnect, Recorder, ServerCommand,
+    ServerMetrics, Silent, StreamEnd, StreamServer, TcpServer, UdpServer, VecBufSource,
+    VecRecorder, host_service, serve_accepts, serve_connection, serve_datagrams,
 };
 pub use dns_service::WithoutMeta;
 pub use host_status::status_of_host;

@@ -2,7 +2,7 @@
 
 ghost use Rattle.std.specs.Prelude.{◌≡◌, ◌↔◌, ◌∷◌, ◌++◌, ◌&&◌, [], true, IfOk, OnErr, OnOk};
 ghost use Rattle.dns_notes.specs.Notes.{NoteMoves};
-ghost use Rattle.dns_io.specs.Causes.{Tells};
+ghost use Rattle.dns_io.specs.Causes.{Observed};
 ghost use Rattle.dns_trace.specs.InRange.{IsSettings};
 ghost use Rattle.dns_trace.specs.Trace.{event_text, trace};
 ghost use Rattle.dns_server.specs.Recorded.{IsTrace, TraceReadsBack, settings_event, is_said, recorded};
@@ -83,7 +83,7 @@ impl Recorder for TraceRecorder {
 
     /// Notes an event, as its line behind the text.
     fn note(&mut self, alloc: Global, event: &Event) -> Result<(), OutOfMemory>
-        ensures moves { Tells (self.new.said ≡ true) (self.old.said ≡ true) (NoteMoves result event.now (recorded self.old.writer) (recorded self.new.writer)) }
+        ensures moves { Observed (self.new.said ≡ true) (self.old.said ≡ true) (NoteMoves result event.now (recorded self.old.writer) (recorded self.new.writer)) }
         ensures line { OnOk result (self.new.writer ≡ self.old.writer ++ event_text event.now) }
         ensures said { OnOk result (self.new.said ≡ (self.old.said && is_said event.now)) }
         ensures same { OnErr result ((self.new.writer ≡ self.old.writer) × (self.new.said ≡ self.old.said)) }

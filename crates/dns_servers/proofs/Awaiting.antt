@@ -10,7 +10,7 @@ use Rattle.dns_book.specs.Seats.{Called, state_met}
 use Rattle.dns_book.specs.declared.history.Entry.{Entry}
 use Rattle.dns_book.specs.declared.history.Known.{Known}
 use Rattle.dns_book.specs.declared.history.Share.{Share}
-use Rattle.dns_io.specs.Causes.{Tells}
+use Rattle.dns_io.specs.Causes.{Observed}
 use Rattle.dns_host.specs.Clocks.{ClockReading}
 use Rattle.dns_host.specs.Woven.{look_entries}
 use Rattle.dns_host.specs.DatagramsServed.{LooksOnly}
@@ -55,11 +55,11 @@ awaited down k k1 k2 a c x = record {
   exactly = x;
 }
 
-pub tells_then : {n m b F G H : Type 0} → Tells n m F → Tells m b G → (F → G → H) → Tells n b H
-tells_then x y f = record { told = λ t. let p = x.told t in let q = y.told p.0 in (q.0, f p.1 q.1) }
+pub tells_then : {n m b F G H : Type 0} → Observed n m F → Observed m b G → (F → G → H) → Observed n b H
+tells_then x y f = record { observed = λ t. let p = x.observed t in let q = y.observed p.0 in (q.0, f p.1 q.1) }
 
-pub tells_nothing : {n b F : Type 0} → Tells n b F → Tells n b (Unit {0})
-tells_nothing x = record { told = λ t. ((x.told t).0, tt) }
+pub tells_nothing : {n b F : Type 0} → Observed n b F → Observed n b (Unit {0})
+tells_nothing x = record { observed = λ t. ((x.observed t).0, tt) }
 
 pub since_first : (c c1 : List ClockReading) (r : ClockReading) → c1 ≡ c ++ r ∷ [] → Since r.0 c c1
 since_first c c1 r e = record { secs = r.1; between = []; clock = e }
@@ -85,9 +85,9 @@ time_passed true start millis c c1 c2 r s = tt
 time_passed false start millis c c1 c2 r s = apart_now millis start c c1 c2 r.reading s r.clock r.is_late
 
 pub passed_told : (now mid before : Type 0) (down : Bool) (start millis : ℕ) (c c1 c2 : List ClockReading) →
-    Tells now mid (ReadAgain (Some down) start millis c1 c2) → Tells mid before (Since start c c1) → Tells now before (TimePassed down millis c c2)
+    Observed now mid (ReadAgain (Some down) start millis c1 c2) → Observed mid before (Since start c c1) → Observed now before (TimePassed down millis c c2)
 passed_told now mid before down start millis c c1 c2 x y = tells_then x y (time_passed down start millis c c1 c2)
 
 pub read_on : (now mid before : Type 0) (start millis : ℕ) (c c1 c2 : List ClockReading) →
-    Tells now mid (ReadAgain None start millis c1 c2) → Tells mid before (Since start c c1) → Tells now before (Since start c c2)
+    Observed now mid (ReadAgain None start millis c1 c2) → Observed mid before (Since start c c1) → Observed now before (Since start c c2)
 read_on now mid before start millis c c1 c2 x y = tells_then x y (λ r s. since_more start c c1 c2 r.reading s r.clock)

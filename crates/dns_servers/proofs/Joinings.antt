@@ -3,8 +3,8 @@ use Rattle.std.proofs.Common.{◌≡◌, ◌≢◌, ◌⊎◌, ℕ, List, ◌∙
 use Rattle.dns_name.specs.declared.address.SocketAddr.{SocketAddr}
 use Rattle.dns_book.specs.declared.history.Entry.{Entry}
 use Rattle.dns_book.specs.declared.history.Known.{Known}
-use Rattle.dns_io.specs.Causes.{Tells}
-use Rattle.dns_io.specs.Doors.{Door}
+use Rattle.dns_io.specs.Causes.{Observed}
+use Rattle.dns_io.specs.AcceptTraffic.{AcceptTraffic}
 use Rattle.dns_host.specs.Accepting.{AcceptTurn, TookTurns, TookUntilShut, TookAlmost, AcceptsTo, Gave, admitted_callers_in}
 use Rattle.dns_host.specs.AcceptEnd.{AcceptEnd}
 use Rattle.dns_host.specs.AcceptEnd.TheVariants.{Shutdown as Stopped, Counted, OutOfMemory as Lacking}
@@ -12,18 +12,18 @@ use Rattle.dns_servers.specs.Runs.{EndsAs, ConnectionsRan}
 use Rattle.dns_servers.specs.declared.stream.StreamEnd.{StreamEnd}
 use Rattle.dns_servers.specs.declared.stream.StreamEnd.TheVariants.{Shutdown as ShutDown, OutOfMemory}
 
-turns_joined : (turns : List AcceptTurn) (more : List Entry) (a p p' before works works' same : Type 0) (k k' : Known) (d d' : Door) (f f' : ℕ) →
-    TookTurns turns more (a × p) before works k k' d d' f f' → Tells p' p same → (same → works → works') → TookTurns turns more (a × p') before works' k k' d d' f f'
+turns_joined : (turns : List AcceptTurn) (more : List Entry) (a p p' before works works' same : Type 0) (k k' : Known) (d d' : AcceptTraffic) (f f' : ℕ) →
+    TookTurns turns more (a × p) before works k k' d d' f f' → Observed p' p same → (same → works → works') → TookTurns turns more (a × p') before works' k k' d d' f f'
 turns_joined turns more a p p' before works works' same k k' d d' f f' t j on = record {
   calls = t.calls;
   running = t.running;
   name = t.name;
   faults = t.faults;
-  told = record { told = λ n. let s = j.told n.1 in let r = t.told.told (n.0, s.0) in (r.0, (r.1.0, on s.1 r.1.1)) };
+  observed = record { observed = λ n. let s = j.observed n.1 in let r = t.observed.observed (n.0, s.0) in (r.0, (r.1.0, on s.1 r.1.1)) };
 }
 
-shut_joined : (a p p' before : Type 0) (k k' : Known) (d d' : Door) (g m n : List SocketAddr) (f f' : ℕ) →
-    TookUntilShut 0 (a × p) before k k' d d' g m f f' → Tells p' p (n ≡ m) → TookUntilShut 0 (a × p') before k k' d d' g n f f'
+shut_joined : (a p p' before : Type 0) (k k' : Known) (d d' : AcceptTraffic) (g m n : List SocketAddr) (f f' : ℕ) →
+    TookUntilShut 0 (a × p) before k k' d d' g m f f' → Observed p' p (n ≡ m) → TookUntilShut 0 (a × p') before k k' d d' g n f f'
 shut_joined a p p' before k k' d d' g m n f f' t j = record {
   turns = t.turns;
   look = t.look;
@@ -36,8 +36,8 @@ gave_on : (xs ys g m n : List SocketAddr) → n ≡ m → Gave xs g m ⊎ Gave y
 gave_on xs ys g m n e (inl w) = inl (e ∙ w)
 gave_on xs ys g m n e (inr w) = inr (e ∙ w)
 
-almost_joined : (a p p' before : Type 0) (k k' : Known) (d d' : Door) (g m n : List SocketAddr) (f f' : ℕ) →
-    TookAlmost 0 (a × p) before k k' d d' g m f f' → Tells p' p (n ≡ m) → TookAlmost 0 (a × p') before k k' d d' g n f f'
+almost_joined : (a p p' before : Type 0) (k k' : Known) (d d' : AcceptTraffic) (g m n : List SocketAddr) (f f' : ℕ) →
+    TookAlmost 0 (a × p) before k k' d d' g m f f' → Observed p' p (n ≡ m) → TookAlmost 0 (a × p') before k k' d d' g n f f'
 almost_joined a p p' before k k' d d' g m n f f' t j = record {
   turns = t.turns;
   whole = t.whole;
@@ -47,14 +47,14 @@ almost_joined a p p' before k k' d d' g m n f f' t j = record {
 }
 
 -- a loop without a count is not counted out
-pub not_counted : (end : AcceptEnd) (now before : Type 0) (k k' : Known) (d d' : Door) (g m : List SocketAddr) (f f' : ℕ) → AcceptsTo end 0 now before k k' d d' g m f f' → end ≢ Counted
+pub not_counted : (end : AcceptEnd) (now before : Type 0) (k k' : Known) (d d' : AcceptTraffic) (g m : List SocketAddr) (f f' : ℕ) → AcceptsTo end 0 now before k k' d d' g m f f' → end ≢ Counted
 not_counted Counted now before k k' d d' g m f f' t = absurd (t.some refl)
 not_counted Stopped now before k k' d d' g m f f' t = λ same. cc
 not_counted Lacking now before k k' d d' g m f f' t = λ same. cc
 
 -- how the loop went, after all work was joined
-pub ran_joined : (end : AcceptEnd) (result : StreamEnd) (a p p' before : Type 0) (k k' : Known) (d d' : Door) (g m n : List SocketAddr) (f f' : ℕ) →
-    AcceptsTo end 0 (a × p) before k k' d d' g m f f' → Tells p' p (n ≡ m) → EndsAs end result → ConnectionsRan result (a × p') before k k' d d' g n f f'
+pub ran_joined : (end : AcceptEnd) (result : StreamEnd) (a p p' before : Type 0) (k k' : Known) (d d' : AcceptTraffic) (g m n : List SocketAddr) (f f' : ℕ) →
+    AcceptsTo end 0 (a × p) before k k' d d' g m f f' → Observed p' p (n ≡ m) → EndsAs end result → ConnectionsRan result (a × p') before k k' d d' g n f f'
 ran_joined Stopped ShutDown a p p' before k k' d d' g m n f f' t j e = shut_joined a p p' before k k' d d' g m n f f' t j
 ran_joined Lacking OutOfMemory a p p' before k k' d d' g m n f f' t j e = almost_joined a p p' before k k' d d' g m n f f' t j
 ran_joined Stopped OutOfMemory a p p' before k k' d d' g m n f f' t j e = absurd e

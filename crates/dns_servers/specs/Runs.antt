@@ -8,7 +8,7 @@ use Rattle.dns_admission.specs.declared.call.Call.TheVariants.{Admit, Release}
 use Rattle.dns_admission.specs.declared.call.Reply.TheVariants.{Admission as Answered, Left}
 use Rattle.dns_book.specs.Seats.{Called, state_met}
 use Rattle.dns_book.specs.declared.history.Known.{Known}
-use Rattle.dns_io.specs.Doors.{Door}
+use Rattle.dns_io.specs.AcceptTraffic.{AcceptTraffic}
 use Rattle.dns_client.specs.Serving.{Serving}
 use Rattle.dns_host.specs.DatagramsServed.{World, ServedTo}
 use Rattle.dns_host.specs.DgramEnd.{DgramEnd}
@@ -58,6 +58,6 @@ EndsAs Lacking OutOfMemory = Unit {0}
 EndsAs end result = ⊥
 
 -- connections were accepted without a count, until a look showed a shutdown, or memory ran out
-abbrev pub ConnectionsRan : StreamEnd → Type 0 → Type 0 → Known → Known → Door → Door → List SocketAddr → List SocketAddr → ℕ → ℕ → Type 0
+abbrev pub ConnectionsRan : StreamEnd → Type 0 → Type 0 → Known → Known → AcceptTraffic → AcceptTraffic → List SocketAddr → List SocketAddr → ℕ → ℕ → Type 0
 ConnectionsRan ShutDown now before k k' a b given given' f f' = TookUntilShut 0 now before k k' a b given given' f f'
 ConnectionsRan OutOfMemory now before k k' a b given given' f f' = TookAlmost 0 now before k k' a b given given' f f'

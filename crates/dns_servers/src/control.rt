@@ -2,7 +2,7 @@
 
 ghost use Rattle.std.specs.Prelude.{◌≡◌, ◌↔◌, Ok, IsTrue, MatchOption, true};
 ghost use Rattle.std.specs.Arc.{arc_value};
-ghost use Rattle.dns_io.specs.Causes.{Tells};
+ghost use Rattle.dns_io.specs.Causes.{Observed};
 ghost use Rattle.dns_book.specs.Seats.{Called, state_met};
 ghost use Rattle.dns_servers.specs.Controls.{IsDown, Reconfigured, Awaited, ReadAgain, TimePassed};
 
@@ -14,7 +14,7 @@ use std::marker::Model;
 use std::sync::{Arc, Wait};
 
 /// How long is waited between two looks, in milliseconds.
-const LONGEST_PAUSE: u64 = 100;
+const MAX_PAUSE_MS: u64 = 100;
 
 /// A seat at a server's book, from which the server is reconfigured, shut down and looked at. In clauses it is what the seat
 /// is.
@@ -88,7 +88,7 @@ impl Control {
     pub fn await_shutdown<R: Wait, C: Clock>(&mut self, rt: &R, clock: &mut C, millis: u64) -> bool
         ensures book { self.new.book ≡ self.old.book }
         ensures looks { Awaited result self.old.known self.new.known }
-        ensures clock { Tells (C.tells clock.new) (C.tells clock.old) (TimePassed result millis (C.readings clock.old) (C.readings clock.new)) }
+        ensures clock { Observed (C.tells clock.new) (C.tells clock.old) (TimePassed result millis (C.readings clock.old) (C.readings clock.new)) }
     {
         let first = clock.now();
         for _ in rt.forever() {
@@ -111,7 +111,7 @@ impl Control {
         ensures book { self.new.book ≡ self.old.book }
         ensures called { Called self.old.known Call.Look (Reply.Look (state_met self.new.known)) self.new.known }
         ensures exactly { MatchOption result (¬ IsDown (state_met self.new.known)) (λ down. IsTrue down ↔ IsDown (state_met self.new.known)) }
-        ensures clock { Tells (C.tells clock.new) (C.tells clock.old) (ReadAgain result start millis (C.readings clock.old) (C.readings clock.new)) }
+        ensures clock { Observed (C.tells clock.new) (C.tells clock.old) (ReadAgain result start millis (C.readings clock.old) (C.readings clock.new)) }
     {
         if self.is_shutdown(rt) {
             return Some(true);
@@ -121,7 +121,7 @@ impl Control {
         if passed >= millis {
             return Some(false);
         }
-        pause(rt, LONGEST_PAUSE.min(millis - passed));
+        pause(rt, MAX_PAUSE_MS.min(millis - passed));
         None
     }
 }

@@ -5,7 +5,7 @@ ghost use Rattle.std.specs.Arc.{arc_value};
 ghost use Rattle.dns_service.specs.Config.{default_dgram, default_stream};
 ghost use Rattle.dns_admission.specs.Machine.{new_state};
 ghost use Rattle.dns_book.specs.Seats.{Called, IsSound, new_known, first_half, second_half};
-ghost use Rattle.dns_io.specs.Causes.{Tells};
+ghost use Rattle.dns_io.specs.Causes.{Observed};
 ghost use Rattle.dns_client.specs.Serving.{serving};
 ghost use Rattle.dns_host.specs.DatagramsServed.{LooksBy, ReceivesBy, world};
 ghost use Rattle.dns_servers.specs.Parts.{IsSeatAt, known_of};
@@ -15,7 +15,7 @@ use crate::buf::{BufSource, VecBufSource};
 use crate::control::Control;
 use crate::metered_sock::MeteredSock;
 use crate::metrics::ServerMetrics;
-use crate::seating::{Ground, put_seat, split_off, take_seat};
+use crate::seating::{ServerParts, put_seat, split_off, take_seat};
 use dns_book::{Admission, Book, BookSeat, Call, Reply};
 use dns_host::{DgramEnd, Recorder, serve_datagrams};
 use dns_io::{AsyncDgramSock, Clock};
@@ -87,24 +87,24 @@ impl<D: AsyncDgramSock + Drop, B: BufSource + Drop, W: SharedService, C: Clock +
         ensures parts { IfOk result (λ s. (s.sock ≡ sock) × (s.service ≡ arc_value service) × (s.clock ≡ clock)) }
         ensures known { IfOk result (λ s. s.known ≡ new_known (new_state config default_stream)) }
     {
-        match Ground::of_datagrams(alloc, config) {
-            Ok(ground) => Ok(DgramServer::on(ground, sock, buf, service, clock)),
+        match ServerParts::of_datagrams(alloc, config) {
+            Ok(server_parts) => Ok(DgramServer::on(server_parts, sock, buf, service, clock)),
             Err(error) => Err(error),
         }
     }
 
     // A server on this ground, whose metrics count no connections.
-    fn on(ground: Ground, sock: D, buf: B, service: Arc<W>, clock: C) -> Self
-        requires seat { ground.seat.book ≡ arc_value ground.book }
-        requires metrics { arc_value ground.metrics ≡ false }
-        ensures { result ≡ record { sock = sock; service = arc_value service; clock = clock; book = arc_value ground.book; known = ground.seat.known } }
+    fn on(server_parts: ServerParts, sock: D, buf: B, service: Arc<W>, clock: C) -> Self
+        requires seat { server_parts.seat.book ≡ arc_value server_parts.book }
+        requires metrics { arc_value server_parts.metrics ≡ false }
+        ensures { result ≡ record { sock = sock; service = arc_value service; clock = clock; book = arc_value server_parts.book; known = server_parts.seat.known } }
     {
-        let Ground {
+        let ServerParts {
             book,
             seat,
             metrics,
             counting,
-        } = ground;
+        } = server_parts;
         DgramServer {
             sock: MeteredSock::new(sock, counting),
             buf,
@@ -144,10 +144,10 @@ impl<D: AsyncDgramSock + Drop, B: BufSource + Drop, W: SharedService, C: Clock +
     pub fn run<R: Wait, J: Recorder>(&mut self, rt: &R, alloc: Global, journal: &mut J) -> DgramEnd
         requires { W.can_call self.old.service }
         // Where socket, clock and recorder tell.
-        ensures told { Tells (D.tells self.new.sock × C.tells self.new.clock × J.tells journal.new) (D.tells self.old.sock × C.tells self.old.clock × J.tells journal.old)
+        ensures observed { Observed (D.tells self.new.sock × C.tells self.new.clock × J.tells journal.new) (D.tells self.old.sock × C.tells self.old.clock × J.tells journal.old)
             (DatagramsRan (serving (W.answer self.old.service) (W.hint self.old.service)) result
-            (world (J.noted journal.old) (D.mail self.old.sock) (D.failed_sends self.old.sock) (C.readings self.old.clock) self.old.known)
-            (world (J.noted journal.new) (D.mail self.new.sock) (D.failed_sends self.new.sock) (C.readings self.new.clock) self.new.known)) }
+            (world (J.noted journal.old) (D.sock_traffic self.old.sock) (D.failed_sends self.old.sock) (C.readings self.old.clock) self.old.known)
+            (world (J.noted journal.new) (D.sock_traffic self.new.sock) (D.failed_sends self.new.sock) (C.readings self.new.clock) self.new.known)) }
         // Always.
         ensures seat { InSlot (LooksBy result) (result ≡ DgramEnd.Shutdown) self.old.known self.new.known }
         ensures same { (self.new.book ≡ self.old.book) × (self.new.service ≡ self.old.service) }
@@ -168,7 +168,7 @@ impl<D: AsyncDgramSock + Drop, B: BufSource + Drop, W: SharedService, C: Clock +
     }
 }
 
-#[tactic(auto, using(crate::proofs::Seatings::is_there))]
+#[tactic(auto, using(crate::proofs::SeatLaws::is_there))]
 /// The same from the seat that stands in its place.
 fn serve_from<R: Wait, D: AsyncDgramSock, C: Clock, J: Recorder, W: SharedService>(
     rt: &R,
@@ -182,10 +182,10 @@ fn serve_from<R: Wait, D: AsyncDgramSock, C: Clock, J: Recorder, W: SharedServic
 ) -> DgramEnd
     requires place { IsSeatAt book.now place.old }
     requires can_call { W.can_call service.now }
-    ensures told { Tells (D.tells sock.new × C.tells clock.new × J.tells journal.new) (D.tells sock.old × C.tells clock.old × J.tells journal.old)
+    ensures observed { Observed (D.tells sock.new × C.tells clock.new × J.tells journal.new) (D.tells sock.old × C.tells clock.old × J.tells journal.old)
         (DatagramsRan (serving (W.answer service.now) (W.hint service.now)) result
-        (world (J.noted journal.old) (D.mail sock.old) (D.failed_sends sock.old) (C.readings clock.old) (known_of place.old))
-        (world (J.noted journal.new) (D.mail sock.new) (D.failed_sends sock.new) (C.readings clock.new) (known_of place.new))) }
+        (world (J.noted journal.old) (D.sock_traffic sock.old) (D.failed_sends sock.old) (C.readings clock.old) (known_of place.old))
+        (world (J.noted journal.new) (D.sock_traffic sock.new) (D.failed_sends sock.new) (C.readings clock.new) (known_of place.new))) }
     ensures seat { InSlot (LooksBy result) (result ≡ DgramEnd.Shutdown) (known_of place.old) (known_of place.new) }
     ensures place { IsSeatAt book.now place.new }
     ensures cause { ReceivesBy result (D.failed_receives sock.old) (D.failed_receives sock.new) }
@@ -223,10 +223,10 @@ fn serve_in_slot<R: Wait, D: AsyncDgramSock, C: Clock, J: Recorder, W: SharedSer
 ) -> (BookSeat, DgramEnd)
     requires book { seat.book ≡ book.now }
     requires can_call { W.can_call service.now }
-    ensures told { Tells (D.tells sock.new × C.tells clock.new × J.tells journal.new) (D.tells sock.old × C.tells clock.old × J.tells journal.old)
+    ensures observed { Observed (D.tells sock.new × C.tells clock.new × J.tells journal.new) (D.tells sock.old × C.tells clock.old × J.tells journal.old)
         (DatagramsRan (serving (W.answer service.now) (W.hint service.now)) result.1
-        (world (J.noted journal.old) (D.mail sock.old) (D.failed_sends sock.old) (C.readings clock.old) seat.known)
-        (world (J.noted journal.new) (D.mail sock.new) (D.failed_sends sock.new) (C.readings clock.new) result.0.known)) }
+        (world (J.noted journal.old) (D.sock_traffic sock.old) (D.failed_sends sock.old) (C.readings clock.old) seat.known)
+        (world (J.noted journal.new) (D.sock_traffic sock.new) (D.failed_sends sock.new) (C.readings clock.new) result.0.known)) }
     ensures seat { InSlot (LooksBy result.1) (result.1 ≡ DgramEnd.Shutdown) seat.known result.0.known }
     ensures same { result.0.book ≡ seat.book }
     ensures cause { ReceivesBy result.1 (D.failed_receives sock.old) (D.failed_receives sock.new) }

@@ -3,6 +3,7 @@
 
 mod buf;
 mod command;
+mod conn_context;
 mod control;
 mod dgram;
 mod frames;
@@ -11,7 +12,6 @@ mod metered;
 mod metered_accept;
 mod metered_sock;
 mod metrics;
-mod provision;
 mod seating;
 mod stream;
 
@@ -20,8 +20,8 @@ pub use command::ServerCommand;
 pub use control::Control;
 pub use dgram::{DgramServer, UdpServer};
 pub use dns_host::{
-    AcceptEnd, ConnectionEnd, ConnectionWork, DgramEnd, Host, HostEnd, Kept, NoHook, PreConnect,
-    Recorder, Silent, host_service, serve_accepts, serve_connection, serve_datagrams,
+    AcceptEnd, ConnectionEnd, ConnectionWork, DgramEnd, Host, HostEnd, NoHook, PreConnect,
+    Recorder, Silent, VecRecorder, host_service, serve_accepts, serve_connection, serve_datagrams,
 };
 pub use metered::Metered;
 pub use metered_accept::MeteredAccept;

@@ -43,7 +43,7 @@ impl<A: AsyncAccept> AsyncAccept for MeteredAccept<A> {
 
     ghost tells = { λ accept. A.tells accept };
 
-    ghost door = { λ accept. A.door accept };
+    ghost accept_traffic = { λ accept. A.accept_traffic accept };
 
     ghost faults = { λ accept. A.faults accept };
 

@@ -41,7 +41,7 @@ impl<D> MeteredSock<D> {
 impl<D: AsyncDgramSock> AsyncDgramSock for MeteredSock<D> {
     ghost tells = { λ sock. D.tells sock };
 
-    ghost mail = { λ sock. D.mail sock };
+    ghost sock_traffic = { λ sock. D.sock_traffic sock };
 
     ghost failed_receives = { λ sock. D.failed_receives sock };
 

@@ -17,7 +17,7 @@ use std::sync::{Arc, Wait};
 
 /// A book with its first seat, and metrics that are shared twice.
 #[derive(Drop)]
-pub(crate) struct Ground {
+pub(crate) struct ServerParts {
     pub(crate) book: Arc<Book>,
     pub(crate) seat: BookSeat,
     pub(crate) metrics: Arc<ServerMetrics>,
@@ -48,17 +48,17 @@ fn share(
 }
 
 /// A book in this state, and these metrics.
-fn make_ground(
+fn make_server_parts(
     alloc: Global,
     state: BookState,
     metrics: ServerMetrics,
-) -> Result<Ground, OutOfMemory>
+) -> Result<ServerParts, OutOfMemory>
     ensures seat { IfOk result (λ g. (g.seat.book ≡ arc_value g.book) × (g.seat.known ≡ new_known state)) }
     ensures metrics { IfOk result (λ g. arc_value g.metrics ≡ metrics) }
 {
     let (metrics, counting) = share(alloc, metrics)?;
     match make_book(alloc, state) {
-        Ok((book, seat)) => Ok(Ground {
+        Ok((book, seat)) => Ok(ServerParts {
             book,
             seat,
             metrics,
@@ -68,23 +68,29 @@ fn make_ground(
     }
 }
 
-impl Ground {
+impl ServerParts {
     /// For datagrams at this configuration. That of streams is the default one.
-    pub(crate) fn of_datagrams(alloc: Global, config: DgramConfig) -> Result<Ground, OutOfMemory>
+    pub(crate) fn of_datagrams(
+        alloc: Global,
+        config: DgramConfig,
+    ) -> Result<ServerParts, OutOfMemory>
         ensures seat { IfOk result (λ g. (g.seat.book ≡ arc_value g.book) × (g.seat.known ≡ new_known (new_state config default_stream))) }
         ensures metrics { IfOk result (λ g. arc_value g.metrics ≡ false) }
     {
         let state = BookState::new(config, StreamConfig::new());
-        make_ground(alloc, state, ServerMetrics::connection_less())
+        make_server_parts(alloc, state, ServerMetrics::connection_less())
     }
 
     /// For connections at this configuration. That of datagrams is the default one.
-    pub(crate) fn of_connections(alloc: Global, config: StreamConfig) -> Result<Ground, OutOfMemory>
+    pub(crate) fn of_connections(
+        alloc: Global,
+        config: StreamConfig,
+    ) -> Result<ServerParts, OutOfMemory>
         ensures seat { IfOk result (λ g. (g.seat.book ≡ arc_value g.book) × (g.seat.known ≡ new_known (new_state default_dgram config))) }
         ensures metrics { IfOk result (λ g. arc_value g.metrics ≡ true) }
     {
         let state = BookState::new(DgramConfig::new(), config);
-        make_ground(alloc, state, ServerMetrics::connection_oriented())
+        make_server_parts(alloc, state, ServerMetrics::connection_oriented())
     }
 }
 

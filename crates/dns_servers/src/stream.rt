@@ -9,13 +9,13 @@ ghost use Rattle.dns_servers.specs.Parts.{IsSeatAt, known_of};
 ghost use Rattle.dns_servers.specs.Runs.{EndsAs, ConnectionsRan};
 
 use crate::buf::{BufSource, VecBufSource};
+use crate::conn_context::ConnContext;
 use crate::control::Control;
 use crate::hook::CountingHook;
 use crate::metered::Metered;
 use crate::metered_accept::MeteredAccept;
 use crate::metrics::ServerMetrics;
-use crate::provision::Provision;
-use crate::seating::{Ground, split_off};
+use crate::seating::{ServerParts, split_off};
 use dns_book::{Book, BookSeat};
 use dns_host::{AcceptEnd, ConnectionWork, NoHook, PreConnect, Silent};
 use dns_io::{AsyncAccept, Clock, Spawner};
@@ -57,7 +57,7 @@ pub type TcpServer<W, C, P, H = NoHook> = StreamServer<MioAccept, VecBufSource, 
 pub struct StreamServer<A, B, W, C, P, H = NoHook> {
     accept: MeteredAccept<A>,
     buf: B,
-    provision: Provision<W, C, CountingHook<H>>,
+    conn_context: ConnContext<W, C, CountingHook<H>>,
     spawner: P,
     metrics: Arc<ServerMetrics>,
     // None while a call has it.
@@ -71,9 +71,9 @@ impl<A, B, W, C, P, H> Model for StreamServer<A, B, W, C, P, H> {
 
     ghost Value = { StreamParts A W C P };
 
-    ghost view = { λ s. record { accept = s.accept; service = arc_value s.provision.service; clock = s.provision.clock; spawner = s.spawner; book = arc_value s.provision.book; known = known_of s.seat } };
+    ghost view = { λ s. record { accept = s.accept; service = arc_value s.conn_context.service; clock = s.conn_context.clock; spawner = s.spawner; book = arc_value s.conn_context.book; known = known_of s.seat } };
 
-    ghost invariant = { λ s. IsSeatAt (arc_value s.provision.book) s.seat × (arc_value s.metrics ≡ true) };
+    ghost invariant = { λ s. IsSeatAt (arc_value s.conn_context.book) s.seat × (arc_value s.metrics ≡ true) };
 }
 
 impl<
@@ -119,28 +119,42 @@ impl<
         ensures parts { IfOk result (λ s. (s.accept ≡ accept) × (s.service ≡ arc_value service) × (s.clock ≡ clock) × (s.spawner ≡ spawner)) }
         ensures known { IfOk result (λ s. s.known ≡ new_known (new_state default_dgram config)) }
     {
-        match Ground::of_connections(alloc, config) {
-            Ok(ground) => Ok(StreamServer::on(ground, accept, buf, service, clock, spawner)),
+        match ServerParts::of_connections(alloc, config) {
+            Ok(server_parts) => Ok(StreamServer::on(
+                server_parts,
+                accept,
+                buf,
+                service,
+                clock,
+                spawner,
+            )),
             Err(error) => Err(error),
         }
     }
 
     // A server on this ground, whose metrics count connections.
-    fn on(ground: Ground, accept: A, buf: B, service: Arc<W>, clock: C, spawner: P) -> Self
-        requires seat { ground.seat.book ≡ arc_value ground.book }
-        requires metrics { arc_value ground.metrics ≡ true }
-        ensures { result ≡ record { accept = accept; service = arc_value service; clock = clock; spawner = spawner; book = arc_value ground.book; known = ground.seat.known } }
+    fn on(
+        server_parts: ServerParts,
+        accept: A,
+        buf: B,
+        service: Arc<W>,
+        clock: C,
+        spawner: P,
+    ) -> Self
+        requires seat { server_parts.seat.book ≡ arc_value server_parts.book }
+        requires metrics { arc_value server_parts.metrics ≡ true }
+        ensures { result ≡ record { accept = accept; service = arc_value service; clock = clock; spawner = spawner; book = arc_value server_parts.book; known = server_parts.seat.known } }
     {
-        let Ground {
+        let ServerParts {
             book,
             seat,
             metrics,
             counting,
-        } = ground;
+        } = server_parts;
         StreamServer {
             accept: MeteredAccept::new(accept, counting),
             buf,
-            provision: Provision {
+            conn_context: ConnContext {
                 book,
                 service,
                 clock,
@@ -172,7 +186,7 @@ impl<
         let StreamServer {
             accept,
             buf,
-            provision,
+            conn_context,
             spawner,
             metrics,
             seat,
@@ -180,7 +194,7 @@ impl<
         StreamServer {
             accept,
             buf,
-            provision: provision.with_hook(CountingHook { inner: hook }),
+            conn_context: conn_context.with_hook(CountingHook { inner: hook }),
             spawner,
             metrics,
             seat,
@@ -207,7 +221,7 @@ impl<
         ensures control { result ≡ record { book = self.old.book; known = second_half self.old.known } }
         ensures sound { IsSound self.new.known × IsSound result.known }
     {
-        split_off(rt, &self.provision.book, &mut self.seat)
+        split_off(rt, &self.conn_context.book, &mut self.seat)
     }
 }
 
@@ -233,14 +247,14 @@ where
         alloc: Global,
     ) -> StreamEnd
         requires { W.can_call self.old.service }
-        ensures told { ConnectionsRan result (A.tells self.new.accept × P.tells self.new.spawner) (A.tells self.old.accept × P.tells self.old.spawner)
-            self.old.known self.new.known (A.door self.old.accept) (A.door self.new.accept) (P.given self.old.spawner) (P.given self.new.spawner)
+        ensures observed { ConnectionsRan result (A.tells self.new.accept × P.tells self.new.spawner) (A.tells self.old.accept × P.tells self.old.spawner)
+            self.old.known self.new.known (A.accept_traffic self.old.accept) (A.accept_traffic self.new.accept) (P.given self.old.spawner) (P.given self.new.spawner)
             (A.faults self.old.accept) (A.faults self.new.accept) }
         ensures same { (self.new.book ≡ self.old.book) × (self.new.service ≡ self.old.service) × (self.new.clock ≡ self.old.clock) }
         ensures accepts_later { A.faults self.old.accept ≤ A.faults self.new.accept }
         ensures starts_later { P.faults self.old.spawner ≤ P.faults self.new.spawner }
     {
-        let end = self.provision.accept_all(
+        let end = self.conn_context.accept_all(
             rt,
             alloc,
             &mut self.seat,

@@ -6,11 +6,11 @@ ghost use Rattle.std.specs.Arc.{arc_value};
 use dns_book::{Book, BookSeat};
 use dns_middleware::{Notifiable, Settings, Wrapped};
 use dns_name::{OptRcode, OutOfMemory};
-use dns_outside::{AsyncAccept, Letter, MemoryClock, MemorySock, MemorySpawner, Spawner};
+use dns_outside::{AsyncAccept, MemoryClock, MemorySock, MemorySpawner, Packet, Spawner};
 use dns_server::{NotifyRules, ScriptTarget, Status, serve_host};
 use dns_servers::{ConnectionWork, Host, Silent};
 use dns_service::{Service, WithoutMeta};
-use rows_links::{Holding, Seen, accept_of, book_of, calls, clock, letter, show};
+use rows_links::{Holding, Seen, accept_of, book_of, calls, clock, packet, show};
 use std::alloc::Global;
 use std::sync::{Arc, Wait};
 use std::thread::Threads;
@@ -55,16 +55,16 @@ const NO_NAME_FRAME: &[u8] =
     b"\x00\x22\x12\x34\x81\x03\x00\x01\x00\x00\x00\x00\x00\x01\x00\x00\x01\x00\x01\x00\x00\x29\x00\x00\x00\x00\x00\x00\x00\x06\x00\x0b\x00\x02\x01\x2c";
 
 /// These datagrams.
-fn letters(alloc: Global, datagrams: &[&[u8]]) -> Result<Vec<Letter>, OutOfMemory> {
-    let mut letters = Vec::new(alloc);
+fn packets(alloc: Global, datagrams: &[&[u8]]) -> Result<Vec<Packet>, OutOfMemory> {
+    let mut packets = Vec::new(alloc);
     for octets in datagrams {
-        letters.push(letter(alloc, octets)?)?;
+        packets.push(packet(alloc, octets)?)?;
     }
-    Ok(letters)
+    Ok(packets)
 }
 
 /// Whether this datagram was sent alone, or none where none is wanted.
-fn was_sent(sent: &[Letter], wanted: Option<&[u8]>) -> bool {
+fn was_sent(sent: &[Packet], wanted: Option<&[u8]>) -> bool {
     match wanted {
         Some(octets) => sent.len() == 1 && sent[0].octets.as_slice() == octets,
         None => sent.is_empty(),
@@ -111,8 +111,8 @@ impl HostCase<'_> {
     fn sock(&self, alloc: Global) -> Result<MemorySock, OutOfMemory> {
         let receives = calls(alloc, self.failed_receives, &[])?;
         let sends = calls(alloc, self.failed_sends, &[])?;
-        match letters(alloc, self.datagrams) {
-            Ok(letters) => Ok(MemorySock::new(alloc, letters, receives, sends)),
+        match packets(alloc, self.datagrams) {
+            Ok(packets) => Ok(MemorySock::new(alloc, packets, receives, sends)),
             Err(error) => Err(error),
         }
     }
@@ -142,7 +142,7 @@ impl HostCase<'_> {
     }
 
     /// Whether the host ended so, with no slot taken and this datagram sent.
-    fn is_ended(&self, end: (Status, u64), sent: &[Letter]) -> bool {
+    fn is_ended(&self, end: (Status, u64), sent: &[Packet]) -> bool {
         end == (self.status, 0) && was_sent(sent, self.sent)
     }
 }

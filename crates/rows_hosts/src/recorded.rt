@@ -128,7 +128,7 @@ impl Outside {
     fn into_trace(self) -> Option<Vec<u8>> {
         let Outside { link, recorder, .. } = self;
         if link.written() == REPLY {
-            told(recorder)
+            recorded_text(recorder)
         } else {
             None
         }
@@ -136,7 +136,7 @@ impl Outside {
 }
 
 /// The trace, where it tells.
-fn told(recorder: TraceRecorder) -> Option<Vec<u8>> {
+fn recorded_text(recorder: TraceRecorder) -> Option<Vec<u8>> {
     if recorder.tells() {
         Some(recorder.finish())
     } else {

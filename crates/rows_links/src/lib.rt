@@ -8,4 +8,4 @@ mod places;
 
 pub use holding::{Held, Holding};
 pub use links::{Marking, Seen, SeenLink, links_of, show};
-pub use places::{PEER, accept_of, book_of, calls, clock, let_go, letter};
+pub use places::{PEER, accept_of, book_of, calls, clock, let_go, packet};

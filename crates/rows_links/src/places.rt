@@ -6,7 +6,7 @@ ghost use Rattle.std.specs.Arc.{arc_value};
 use crate::links::{Seen, SeenLink, links_of};
 use dns_book::{Book, BookSeat, BookState};
 use dns_name::{IpAddr, Octets, OutOfMemory, SocketAddr};
-use dns_outside::{Letter, ListedCalls, MemoryAccept, MemoryClock};
+use dns_outside::{ListedCalls, MemoryAccept, MemoryClock, Packet};
 use dns_service::{DgramConfig, StreamConfig};
 use std::alloc::Global;
 use std::sync::{Arc, Wait};
@@ -44,8 +44,8 @@ pub fn calls(alloc: Global, failing: &[u64], again: &[u64]) -> Result<ListedCall
 }
 
 /// A datagram of these octets.
-pub fn letter(alloc: Global, octets: &[u8]) -> Result<Letter, OutOfMemory> {
-    Ok(Letter {
+pub fn packet(alloc: Global, octets: &[u8]) -> Result<Packet, OutOfMemory> {
+    Ok(Packet {
         octets: Octets::from_slice(alloc, octets)?,
         addr: PEER,
     })

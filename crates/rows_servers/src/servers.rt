@@ -16,7 +16,7 @@ use dns_script::{NotifyRules, ScriptTarget};
 use dns_servers::{DgramServer, NoHook, PreConnect, StreamServer, VecBufSource};
 use dns_service::{Service, SharedService, WithoutMeta};
 use mailing::Mailing;
-use rows_links::{Holding, Marking, PEER, clock, let_go, letter, links_of, show};
+use rows_links::{Holding, Marking, PEER, clock, let_go, links_of, packet, show};
 use std::alloc::Global;
 use std::collections::VecDeque;
 use std::sync::{Arc, Wait};
@@ -149,10 +149,10 @@ fn is_layered<R: Threads + Wait + Sync>(rt: &R, alloc: Global, case: DgramCase) 
 
 /// A socket with one query.
 fn sock(alloc: Global) -> Result<SteadySock, OutOfMemory> {
-    let letter = letter(alloc, QUERY)?;
-    let mut letters = Vec::new(alloc);
-    match letters.push(letter) {
-        Ok(()) => Ok(SteadySock::new(alloc, letters)),
+    let packet = packet(alloc, QUERY)?;
+    let mut packets = Vec::new(alloc);
+    match packets.push(packet) {
+        Ok(()) => Ok(SteadySock::new(alloc, packets)),
         Err(_) => Err(OutOfMemory),
     }
 }

@@ -1,7 +1,7 @@
 //! An accept object that keeps which calls were made of it.
 
 ghost use Rattle.std.specs.Prelude.{◌≡◌, ◌≤◌};
-ghost use Rattle.dns_outside.specs.Causes.{Tells};
+ghost use Rattle.dns_outside.specs.Causes.{Observed};
 
 use dns_outside::{AcceptAnswer, AsyncAccept};
 use std::sync::Wait;
@@ -21,7 +21,7 @@ impl<A: AsyncAccept> AsyncAccept for WatchedAccept<A> {
 
     ghost tells = { λ w. A.tells w.inner };
 
-    ghost door = { λ w. A.door w.inner };
+    ghost accept_traffic = { λ w. A.accept_traffic w.inner };
 
     ghost faults = { λ w. A.faults w.inner };
 

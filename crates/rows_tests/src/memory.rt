@@ -2,9 +2,9 @@
 
 use dns_name::{IpAddr, Octets, OutOfMemory, SocketAddr};
 use dns_outside::{
-    AcceptAnswer, AsyncAccept, AsyncDgramSock, Clock, DgramRecv, DgramSend, Letter, Link, LinkRead,
-    LinkWrite, ListedCalls, MemoryAccept, MemoryClock, MemoryLink, MemorySock, SteadyAccept,
-    SteadyLink, SteadySock,
+    AcceptAnswer, AsyncAccept, AsyncDgramSock, Clock, DgramRecv, DgramSend, Link, LinkRead,
+    LinkWrite, ListedCalls, MemoryAccept, MemoryClock, MemoryLink, MemorySock, Packet,
+    SteadyAccept, SteadyLink, SteadySock,
 };
 use std::alloc::Global;
 use std::collections::VecDeque;
@@ -103,19 +103,19 @@ fn sends<D: AsyncDgramSock>(sock: &mut D, wanted: &[(&[u8], DgramSend)]) -> bool
 }
 
 /// One datagram.
-fn letters(alloc: Global) -> Result<Vec<Letter>, OutOfMemory> {
+fn packets(alloc: Global) -> Result<Vec<Packet>, OutOfMemory> {
     let octets = Octets::from_slice(alloc, b"xyz")?;
-    let mut letters = Vec::new(alloc);
-    letters.push(Letter { octets, addr: PEER })?;
-    Ok(letters)
+    let mut packets = Vec::new(alloc);
+    packets.push(Packet { octets, addr: PEER })?;
+    Ok(packets)
 }
 
 /// A socket with one datagram, of which the first receive and the first send fail.
 fn failing_sock(alloc: Global) -> Result<MemorySock, OutOfMemory> {
     let receives = calls(alloc, &[0], &[])?;
     let sends = calls(alloc, &[0], &[])?;
-    match letters(alloc) {
-        Ok(letters) => Ok(MemorySock::new(alloc, letters, receives, sends)),
+    match packets(alloc) {
+        Ok(packets) => Ok(MemorySock::new(alloc, packets, receives, sends)),
         Err(error) => Err(error),
     }
 }

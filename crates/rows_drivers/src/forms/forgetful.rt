@@ -2,7 +2,7 @@
 
 ghost use Rattle.std.specs.Prelude.{[]};
 
-use dns_drivers::{Kept, Recorder};
+use dns_drivers::{Recorder, VecRecorder};
 use dns_service::{Event, OutOfMemory};
 use std::alloc::Global;
 
@@ -10,7 +10,7 @@ use std::alloc::Global;
 #[derive(Drop)]
 pub struct Forgetful {
     left: u64,
-    kept: Kept,
+    kept: VecRecorder,
 }
 
 impl Forgetful {
@@ -18,7 +18,7 @@ impl Forgetful {
     pub fn new(alloc: Global, left: u64) -> Forgetful {
         Forgetful {
             left,
-            kept: Kept::new(alloc),
+            kept: VecRecorder::new(alloc),
         }
     }
 

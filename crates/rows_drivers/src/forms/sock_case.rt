@@ -7,7 +7,7 @@ use crate::forms::notes::{agree, calls};
 use crate::forms::standing::Standing;
 use dns_datagrams::{DgramEnd, serve_datagrams};
 use dns_drivers::Recorder;
-use dns_memory::{AsyncDgramSock, Clock, Letter, MemoryClock, MemorySock};
+use dns_memory::{AsyncDgramSock, Clock, MemoryClock, MemorySock, Packet};
 use dns_name::{IpAddr, Octets, OutOfMemory, SocketAddr};
 use dns_service::SharedService;
 use std::alloc::Global;
@@ -25,29 +25,29 @@ fn peer(port: u16) -> SocketAddr {
 }
 
 /// A query from each of these ports.
-fn queries(alloc: Global, ports: &[u16]) -> Result<Vec<Letter>, OutOfMemory> {
-    let mut letters = Vec::new(alloc);
+fn queries(alloc: Global, ports: &[u16]) -> Result<Vec<Packet>, OutOfMemory> {
+    let mut packets = Vec::new(alloc);
     for port in ports {
-        letters.push(Letter {
+        packets.push(Packet {
             octets: Octets::from_slice(alloc, QUERY)?,
             addr: peer(*port),
         })?;
     }
-    Ok(letters)
+    Ok(packets)
 }
 
 /// Whether this reply was sent to this port.
-fn is_reply(letter: &Letter, reply: &[u8], port: u16) -> bool {
-    letter.octets.as_slice() == reply && letter.addr == peer(port)
+fn is_reply(packet: &Packet, reply: &[u8], port: u16) -> bool {
+    packet.octets.as_slice() == reply && packet.addr == peer(port)
 }
 
 /// Whether this reply was sent to each of these ports, in order, and nothing else.
-fn is_answered(sent: &[Letter], reply: &[u8], ports: &[u16]) -> bool {
+fn is_answered(sent: &[Packet], reply: &[u8], ports: &[u16]) -> bool {
     if sent.len() != ports.len() {
         return false;
     }
-    for (letter, port) in sent.iter().zip(ports.iter()) {
-        if !is_reply(letter, reply, *port) {
+    for (packet, port) in sent.iter().zip(ports.iter()) {
+        if !is_reply(packet, reply, *port) {
             return false;
         }
     }
@@ -84,10 +84,10 @@ pub(crate) struct SockCase<'a> {
 
 impl SockCase<'_> {
     fn sock(&self, alloc: Global) -> Result<MemorySock, OutOfMemory> {
-        let letters = queries(alloc, self.ports)?;
+        let packets = queries(alloc, self.ports)?;
         let receives = calls(alloc, self.failed_receives, self.receives_again)?;
         match calls(alloc, self.failed_sends, self.sends_again) {
-            Ok(sends) => Ok(MemorySock::new(alloc, letters, receives, sends)),
+            Ok(sends) => Ok(MemorySock::new(alloc, packets, receives, sends)),
             Err(error) => Err(error),
         }
     }

@@ -1,7 +1,7 @@
 //! A link or a socket that keeps which calls were made of it.
 
 ghost use Rattle.std.specs.Prelude.{◌≡◌, ◌≤◌};
-ghost use Rattle.dns_memory.specs.Causes.{Tells};
+ghost use Rattle.dns_memory.specs.Causes.{Observed};
 
 use dns_memory::{AsyncDgramSock, DgramRecv, DgramSend, Link, LinkRead, LinkWrite};
 use dns_name::SocketAddr;
@@ -92,7 +92,7 @@ impl<L: Link> Link for Watched<L> {
 impl<D: AsyncDgramSock> AsyncDgramSock for Watched<D> {
     ghost tells = { λ w. D.tells w.inner };
 
-    ghost mail = { λ w. D.mail w.inner };
+    ghost sock_traffic = { λ w. D.sock_traffic w.inner };
 
     ghost failed_receives = { λ w. D.failed_receives w.inner };
 

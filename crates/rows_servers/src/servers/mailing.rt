@@ -4,7 +4,9 @@ ghost use Rattle.std.specs.Prelude.{◌≡◌};
 
 use crate::servers::controls::{count, shows_shutdown, shut_down_after};
 use dns_outside::{MemoryClock, SteadySock};
-use dns_servers::{Control, DgramEnd, DgramServer, Kept, ServerMetrics, Silent, VecBufSource};
+use dns_servers::{
+    Control, DgramEnd, DgramServer, ServerMetrics, Silent, VecBufSource, VecRecorder,
+};
 use dns_service::SharedService;
 use rows_links::PEER;
 use std::alloc::Global;
@@ -50,7 +52,7 @@ impl<R: Threads + Wait + Sync, W: SharedService> Mailing<'_, R, W> {
         &mut self,
         metrics: &ServerMetrics,
         control: Control,
-        journal: &mut Kept,
+        journal: &mut VecRecorder,
     ) -> (Control, DgramEnd)
         requires { W.can_call self.old.server.service }
     {
@@ -65,7 +67,7 @@ impl<R: Threads + Wait + Sync, W: SharedService> Mailing<'_, R, W> {
     }
 
     /// Whether the server was shut down then, as the control shows that shut it down.
-    fn runs_by(&mut self, metrics: &ServerMetrics, journal: &mut Kept) -> bool
+    fn runs_by(&mut self, metrics: &ServerMetrics, journal: &mut VecRecorder) -> bool
         requires { W.can_call self.old.server.service }
     {
         let control = self.server.control(self.rt);
@@ -73,7 +75,7 @@ impl<R: Threads + Wait + Sync, W: SharedService> Mailing<'_, R, W> {
         shows_shutdown(self.rt, control, end == DgramEnd::Shutdown)
     }
 
-    fn runs(&mut self, journal: &mut Kept) -> bool
+    fn runs(&mut self, journal: &mut VecRecorder) -> bool
         requires { W.can_call self.old.server.service }
     {
         match Arc::try_clone(self.server.metrics()) {
@@ -83,7 +85,7 @@ impl<R: Threads + Wait + Sync, W: SharedService> Mailing<'_, R, W> {
     }
 
     /// Whether one datagram is answered, and the server is shut down, as this control shows.
-    fn answers_under(&mut self, early: &mut Control, journal: &mut Kept) -> bool
+    fn answers_under(&mut self, early: &mut Control, journal: &mut VecRecorder) -> bool
         requires { W.can_call self.old.server.service }
     {
         !early.is_shutdown(self.rt)
@@ -110,7 +112,7 @@ impl<R: Threads + Wait + Sync, W: SharedService> Mailing<'_, R, W> {
     fn notes_under(&mut self, early: &mut Control) -> bool
         requires { W.can_call self.old.server.service }
     {
-        let mut journal = Kept::new(self.alloc);
+        let mut journal = VecRecorder::new(self.alloc);
         self.answers_under(early, &mut journal) && journal.events().len() > 2
     }
 

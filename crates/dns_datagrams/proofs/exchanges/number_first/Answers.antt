@@ -1,5 +1,5 @@
 use Rattle.std.proofs.Common.{◌<◌, length, arith}
-use Rattle.dns_datagrams.proofs.DatagramPlaces.{first_number}
+use Rattle.dns_datagrams.proofs.Places.{first_number}
 use Rattle.dns_datagrams.proofs.exchanges.number_first.Goals as goal
 
 pub returns : goal.returns

@@ -1,8 +1,8 @@
 use Rattle.std.proofs.Common.{ap, sym, ◌∙◌}
 use Rattle.dns_events.specs.declared.event.EventKind.TheVariants.{Datagram}
-use Rattle.dns_datagrams.specs.declared.notes.Stamp.{Stamp}
-use Rattle.dns_datagrams.proofs.DatagramTellings.{tells_one}
-use Rattle.dns_datagrams.proofs.DatagramStamps.{has_octets, octets_are, stamped_as}
+use Rattle.dns_datagrams.specs.declared.notes.EventHead.{EventHead}
+use Rattle.dns_datagrams.proofs.ObservedLaws.{tells_one}
+use Rattle.dns_datagrams.proofs.EventHeads.{has_octets, octets_are, event_dated_as}
 use Rattle.dns_datagrams.proofs.notes.note_datagram.Goals as goal
 
 pub noted_octets-requires : goal.noted_octets-requires
@@ -10,10 +10,10 @@ noted_octets-requires g c = has_octets c.in_ok-event.event.kind c.args.from c.in
 
 pub returns-clause-of : goal.returns-clause-of
 returns-clause-of g c = (
-  ap (λ (s : Stamp). s.client) c.stamp_of-stamp.ensures ∙ c.in_ok-event.ensures.of.0,
+  ap (λ (s : EventHead). s.client) c.head_of-head.ensures ∙ c.in_ok-event.ensures.of.0,
   octets_are c.in_ok-event.event.kind c.args.from c.in_ok-copy.copy c.noted_octets.result c.in_ok-event.ensures.of.1 c.noted_octets.ensures ∙ c.in_ok-copy.ensures,
 )
 
-pub returns-clause-told : goal.returns-clause-told
-returns-clause-told g c = tells_one c.in_ok-event.ensures.told (stamped_as c.stamp_of-stamp.result (Datagram c.args.from c.noted_octets.result) c.stamp_of-stamp.ensures
+pub returns-clause-observed : goal.returns-clause-observed
+returns-clause-observed g c = tells_one c.in_ok-event.ensures.observed (event_dated_as c.head_of-head.result (Datagram c.args.from c.noted_octets.result) c.head_of-head.ensures
     (c.in_ok-event.ensures.of.1 ∙ ap (Datagram c.args.from) (sym (octets_are c.in_ok-event.event.kind c.args.from c.in_ok-copy.copy c.noted_octets.result c.in_ok-event.ensures.of.1 c.noted_octets.ensures))))

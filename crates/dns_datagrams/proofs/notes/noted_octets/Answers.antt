@@ -1,4 +1,4 @@
-use Rattle.dns_datagrams.proofs.DatagramStamps.{no_octets}
+use Rattle.dns_datagrams.proofs.EventHeads.{no_octets}
 use Rattle.dns_datagrams.proofs.notes.noted_octets.Goals as goal
 
 pub unreachable-requires : goal.unreachable-requires

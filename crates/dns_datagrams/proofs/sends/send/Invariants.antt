@@ -1,11 +1,11 @@
 use Rattle.std.proofs.Common.{◌≡◌, []}
-use Rattle.dns_io.specs.Causes.{Tells}
-use Rattle.dns_datagrams.specs.DatagramSteps.{SentSo}
+use Rattle.dns_io.specs.Causes.{Observed}
+use Rattle.dns_datagrams.specs.Steps.{SentSo}
 use Rattle.dns_datagrams.proofs.sends.send.Given as goal
 
 abbrev pub invariant-loop : goal.invariant-loop
 invariant-loop g l = record {
   receives : g.D.AsyncDgramSock.failed_receives l.sock ≡ g.D.AsyncDgramSock.failed_receives l.fn.sock;
   sends : g.D.AsyncDgramSock.failed_sends l.sock ≡ g.D.AsyncDgramSock.failed_sends l.fn.sock;
-  told : Tells (g.D.AsyncDgramSock.tells l.sock × g.C.Clock.tells l.clock) (g.D.AsyncDgramSock.tells l.fn.sock × g.C.Clock.tells l.fn.clock) (SentSo [] (g.D.AsyncDgramSock.mail l.fn.sock) (g.D.AsyncDgramSock.mail l.sock) (g.C.Clock.readings l.fn.clock) (g.C.Clock.readings l.clock));
+  observed : Observed (g.D.AsyncDgramSock.tells l.sock × g.C.Clock.tells l.clock) (g.D.AsyncDgramSock.tells l.fn.sock × g.C.Clock.tells l.fn.clock) (SentSo [] (g.D.AsyncDgramSock.sock_traffic l.fn.sock) (g.D.AsyncDgramSock.sock_traffic l.sock) (g.C.Clock.readings l.fn.clock) (g.C.Clock.readings l.clock));
 }

@@ -4,8 +4,8 @@ use Rattle.dns_drivers.specs.Rounds.{below_of}
 use Rattle.dns_drivers.proofs.Actings.{acted_told, acted_clock, acted_blame, acted_again, acted_part}
 use Rattle.dns_drivers.proofs.acting.act.Goals as goal
 
-pub returns-in-Ok-clause-told : goal.returns-in-Ok-clause-told
-returns-in-Ok-clause-told g c =
+pub returns-in-Ok-clause-observed : goal.returns-in-Ok-clause-observed
+returns-in-Ok-clause-observed g c =
     acted_told (request_answer g.W.Future.ReplyFuture.answer g.W.Stream.ReplyStream.answer) (serving (g.W.SharedService.answer c.args.service.now) (g.W.SharedService.hint c.args.service.now)) c.hand_over.result c.in-Ok.event (g.L.Link.tells c.args.link.now) (g.L.Link.tells c.own_event.new.link) (g.J.Recorder.tells c.args.journal.now) (g.J.Recorder.tells c.hand_over.new.journal) c.args.client (below_of c.args.kept.now.turn) (below_of c.hand_over.new.kept.turn) c.args.core.now c.hand_over.new.core (g.J.Recorder.noted c.args.journal.now) (g.J.Recorder.noted c.hand_over.new.journal) (g.L.Link.traffic c.args.link.now) (g.L.Link.traffic c.own_event.new.link)
     c.in-Ok.ensures.chosen c.hand_over.ensures.noted c.hand_over.ensures.taken c.hand_over.ensures.turn
 

@@ -12,20 +12,20 @@ returns-in-Some g c =
     let a = request_answer g.W.Future.ReplyFuture.answer g.W.Stream.ReplyStream.answer in
     record {
       chosen = record {
-        told = λ t. (
+        observed = λ t. (
           t,
           chosen_turn a c.args.client (below_of c.args.kept.now.turn) c.in-Some.request c.args.core.now c.now_is.result (g.L.Link.traffic c.args.link.now)
               (λ answers s h. c.requires.queue answers s h) (λ answers s h. c.in-Some.ensures answers s h) c.now_is.ensures.kind c.now_is.ensures.client,
         );
       };
       clock = record {
-        told = λ t.
-            let r = c.now_is.ensures.dated.told t.1 in
+        observed = λ t.
+            let r = c.now_is.ensures.dated.observed t.1 in
             ((t.0, r.0), timed_turn c.now_is.result c.in-Some.request (g.L.Link.traffic c.args.link.now).full_writes (g.C.Clock.readings c.args.clock.now) (g.C.Clock.readings c.now_is.new.clock) c.now_is.ensures.kind r.1);
       };
       blame = for_turn a (below_of c.args.kept.now.turn) c.in-Some.request c.args.core.now c.now_is.result (g.L.Link.faults c.args.link.now)
           (λ answers s h. c.requires.queue answers s h) (λ answers s h. c.in-Some.ensures answers s h) c.now_is.ensures.kind;
-      again = record { told = λ t. (t, first_turn a c.args.core.now c.now_is.result.kind c.in-Some.request (g.L.Link.traffic c.args.link.now) c.now_is.ensures.kind) };
+      again = record { observed = λ t. (t, first_turn a c.args.core.now c.now_is.result.kind c.in-Some.request (g.L.Link.traffic c.args.link.now) c.now_is.ensures.kind) };
       no_memory = tt;
       later = omega arith;
     }

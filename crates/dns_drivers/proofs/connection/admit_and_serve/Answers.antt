@@ -17,10 +17,10 @@ returns-in-Err-clause-seat g c = looks_none c.args.seat.now.known
 pub returns-in-Err-clause-no_memory : goal.returns-in-Err-clause-no_memory
 returns-in-Err-clause-no_memory g c =
     let b = serving (g.W.SharedService.answer c.args.service.now) (g.W.SharedService.hint c.args.service.now) in
-    record { told = λ m. (m, broken_none b (began c.args.client c.args.addr c.args.at c.args.look.now) c.args.client (g.J.Recorder.noted c.args.journal.now) (g.L.Link.traffic c.args.link.now)) }
+    record { observed = λ m. (m, broken_none b (began c.args.client c.args.addr c.args.at c.args.look.now) c.args.client (g.J.Recorder.noted c.args.journal.now) (g.L.Link.traffic c.args.link.now)) }
 
-pub returns-in-Ok-clause-told : goal.returns-in-Ok-clause-told
-returns-in-Ok-clause-told g c =
+pub returns-in-Ok-clause-observed : goal.returns-in-Ok-clause-observed
+returns-in-Ok-clause-observed g c =
     let a = request_answer g.W.Future.ReplyFuture.answer g.W.Stream.ReplyStream.answer in
     let b = serving (g.W.SharedService.answer c.args.service.now) (g.W.SharedService.hint c.args.service.now) in
     let u : Slate = began c.args.client c.args.addr c.args.at c.args.look.now in
@@ -28,7 +28,7 @@ returns-in-Ok-clause-told g c =
     (λ (why : Why). (s : Slate) → BeginsOpen a b c.in-Ok.core c.args.look.now s → ClosingStory b s c.args.client c.args.look.now why (g.J.Recorder.noted c.args.journal.now) (g.J.Recorder.noted c.serve_core-served.new.journal) c.args.seat.now.known c.serve_core-served.new.seat.known (g.L.Link.traffic c.args.link.now) (g.L.Link.traffic c.serve_core-served.new.link))
     (λ (why : Why). ClosingStory b u c.args.client c.args.look.now why (g.J.Recorder.noted c.args.journal.now) (g.J.Recorder.noted c.serve_core-served.new.journal) c.args.seat.now.known c.serve_core-served.new.seat.known (g.L.Link.traffic c.args.link.now) (g.L.Link.traffic c.serve_core-served.new.link))
     (λ (m : g.L.Link.tells c.args.link.now × g.J.Recorder.tells c.args.journal.now). (m, λ why p. p u (begins a b c.in-Ok.core c.args.client c.args.addr c.args.at c.args.look.now c.in-Ok.ensures.begun c.in-Ok.ensures.version)))
-    c.serve_core-served.ensures.told
+    c.serve_core-served.ensures.observed
 
 pub returns-in-Ok-clause-clock : goal.returns-in-Ok-clause-clock
 returns-in-Ok-clause-clock g c = c.serve_core-served.ensures.clock

@@ -4,10 +4,10 @@ use Rattle.dns_drivers.proofs.connection.serve_connection.Goals as goal
 
 pub returns-in-Ok-clause-clock : goal.returns-in-Ok-clause-clock
 returns-in-Ok-clause-clock g c = record {
-  told = λ t.
-      let v = c.close.ensures.moves.told t.0 in
-      let a = c.in-Ok.ensures.clock.told (v.0, t.1, t.2) in
-      let o = c.in-Ok.ensures.told.told (v.0, t.2) in (
+  observed = λ t.
+      let v = c.close.ensures.moves.observed t.0 in
+      let a = c.in-Ok.ensures.clock.observed (v.0, t.1, t.2) in
+      let o = c.in-Ok.ensures.observed.observed (v.0, t.2) in (
         a.0,
         timed_whole (serving (g.W.SharedService.answer c.args.service.now) (g.W.SharedService.hint c.args.service.now)) c.in-Ok.why c.args.client c.args.addr c.args.look.now (g.J.Recorder.noted c.args.journal.now) (g.J.Recorder.noted c.serve_offer-served.new.journal)
             c.args.seat.known c.serve_offer-served.new.seat.known (g.L.Link.traffic c.args.link.now) (g.L.Link.traffic c.serve_offer-served.new.link) (g.L.Link.traffic c.close.new.self) (g.L.Link.traffic c.args.link.now).full_writes

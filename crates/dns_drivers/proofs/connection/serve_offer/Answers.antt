@@ -13,14 +13,14 @@ use Rattle.dns_drivers.proofs.connection.serve_offer.Goals as goal
 pub returns-in-Err-clause-seat : goal.returns-in-Err-clause-seat
 returns-in-Err-clause-seat g c = looks_none c.args.seat.now.known
 
-pub returns-in-Ok-clause-told : goal.returns-in-Ok-clause-told
-returns-in-Ok-clause-told g c =
+pub returns-in-Ok-clause-observed : goal.returns-in-Ok-clause-observed
+returns-in-Ok-clause-observed g c =
     let b = serving (g.W.SharedService.answer c.args.service.now) (g.W.SharedService.hint c.args.service.now) in
     tells_then c.admit_and_serve.result (g.L.Link.tells c.admit_and_serve.new.link × g.J.Recorder.tells c.admit_and_serve.new.journal) (g.L.Link.tells c.args.link.now × g.J.Recorder.tells c.note_moment.new.journal) (g.L.Link.tells c.args.link.now × g.J.Recorder.tells c.args.journal.now)
     (λ (why : Why). ClosingStory b (began c.args.client c.args.addr c.in-Ok.at c.args.look.now) c.args.client c.args.look.now why (g.J.Recorder.noted c.note_moment.new.journal) (g.J.Recorder.noted c.admit_and_serve.new.journal) c.args.seat.now.known c.admit_and_serve.new.seat.known (g.L.Link.traffic c.args.link.now) (g.L.Link.traffic c.admit_and_serve.new.link))
     (λ (why : Why). WasOffered b why c.args.client c.args.addr c.args.look.now (g.J.Recorder.noted c.args.journal.now) (g.J.Recorder.noted c.admit_and_serve.new.journal) c.args.seat.now.known c.admit_and_serve.new.seat.known (g.L.Link.traffic c.args.link.now) (g.L.Link.traffic c.admit_and_serve.new.link))
-    (λ (m : g.L.Link.tells c.args.link.now × g.J.Recorder.tells c.note_moment.new.journal). let o = c.in-Ok.ensures.told.told m.1 in ((m.0, o.0), λ why p. offered b why c.args.client c.args.addr c.in-Ok.at c.args.look.now (g.J.Recorder.noted c.args.journal.now) (g.J.Recorder.noted c.note_moment.new.journal) (g.J.Recorder.noted c.admit_and_serve.new.journal) c.args.seat.now.known c.admit_and_serve.new.seat.known (g.L.Link.traffic c.args.link.now) (g.L.Link.traffic c.admit_and_serve.new.link) o.1 p.story))
-    c.admit_and_serve.ensures.told
+    (λ (m : g.L.Link.tells c.args.link.now × g.J.Recorder.tells c.note_moment.new.journal). let o = c.in-Ok.ensures.observed.observed m.1 in ((m.0, o.0), λ why p. offered b why c.args.client c.args.addr c.in-Ok.at c.args.look.now (g.J.Recorder.noted c.args.journal.now) (g.J.Recorder.noted c.note_moment.new.journal) (g.J.Recorder.noted c.admit_and_serve.new.journal) c.args.seat.now.known c.admit_and_serve.new.seat.known (g.L.Link.traffic c.args.link.now) (g.L.Link.traffic c.admit_and_serve.new.link) o.1 p.story))
+    c.admit_and_serve.ensures.observed
 
 pub returns-in-Ok-clause-shown : goal.returns-in-Ok-clause-shown
 returns-in-Ok-clause-shown g c =
@@ -28,8 +28,8 @@ returns-in-Ok-clause-shown g c =
     tells_then c.admit_and_serve.result (g.L.Link.tells c.admit_and_serve.new.link × g.J.Recorder.tells c.admit_and_serve.new.journal) (g.L.Link.tells c.args.link.now × g.J.Recorder.tells c.note_moment.new.journal) (g.L.Link.tells c.args.link.now × g.J.Recorder.tells c.args.journal.now)
     (λ (why : Why). ClosingStory b (began c.args.client c.args.addr c.in-Ok.at c.args.look.now) c.args.client c.args.look.now why (g.J.Recorder.noted c.note_moment.new.journal) (g.J.Recorder.noted c.admit_and_serve.new.journal) c.args.seat.now.known c.admit_and_serve.new.seat.known (g.L.Link.traffic c.args.link.now) (g.L.Link.traffic c.admit_and_serve.new.link))
     (λ (why : Why). ShownFrom b why c.args.client c.args.addr c.args.look.now (g.J.Recorder.noted c.args.journal.now) (g.J.Recorder.noted c.admit_and_serve.new.journal) (g.L.Link.traffic c.args.link.now) (g.L.Link.traffic c.admit_and_serve.new.link))
-    (λ (m : g.L.Link.tells c.args.link.now × g.J.Recorder.tells c.note_moment.new.journal). let o = c.in-Ok.ensures.told.told m.1 in ((m.0, o.0), λ why p. shown_offered b why c.args.client c.args.addr c.in-Ok.at c.args.look.now (g.J.Recorder.noted c.args.journal.now) (g.J.Recorder.noted c.note_moment.new.journal) (g.J.Recorder.noted c.admit_and_serve.new.journal) (g.L.Link.traffic c.args.link.now) (g.L.Link.traffic c.admit_and_serve.new.link) o.1 p.shown))
-    c.admit_and_serve.ensures.told
+    (λ (m : g.L.Link.tells c.args.link.now × g.J.Recorder.tells c.note_moment.new.journal). let o = c.in-Ok.ensures.observed.observed m.1 in ((m.0, o.0), λ why p. shown_offered b why c.args.client c.args.addr c.in-Ok.at c.args.look.now (g.J.Recorder.noted c.args.journal.now) (g.J.Recorder.noted c.note_moment.new.journal) (g.J.Recorder.noted c.admit_and_serve.new.journal) (g.L.Link.traffic c.args.link.now) (g.L.Link.traffic c.admit_and_serve.new.link) o.1 p.shown))
+    c.admit_and_serve.ensures.observed
 
 pub returns-in-Ok-clause-no_memory : goal.returns-in-Ok-clause-no_memory
 returns-in-Ok-clause-no_memory g c =
@@ -37,7 +37,7 @@ returns-in-Ok-clause-no_memory g c =
     refused_then c.admit_and_serve.result (g.L.Link.tells c.admit_and_serve.new.link × g.J.Recorder.tells c.admit_and_serve.new.journal) (g.L.Link.tells c.args.link.now × g.J.Recorder.tells c.note_moment.new.journal) (g.L.Link.tells c.args.link.now × g.J.Recorder.tells c.args.journal.now)
     (Broken b (began c.args.client c.args.addr c.in-Ok.at c.args.look.now) c.args.client (g.J.Recorder.noted c.note_moment.new.journal) (g.J.Recorder.noted c.admit_and_serve.new.journal) (g.L.Link.traffic c.args.link.now) (g.L.Link.traffic c.admit_and_serve.new.link))
     (Unserved b c.args.client c.args.addr c.args.look.now (g.J.Recorder.noted c.args.journal.now) (g.J.Recorder.noted c.admit_and_serve.new.journal) (g.L.Link.traffic c.args.link.now) (g.L.Link.traffic c.admit_and_serve.new.link))
-    (λ (m : g.L.Link.tells c.args.link.now × g.J.Recorder.tells c.note_moment.new.journal). let o = c.in-Ok.ensures.told.told m.1 in ((m.0, o.0), λ p. unserved_late b c.args.client c.args.addr c.in-Ok.at c.args.look.now (g.J.Recorder.noted c.args.journal.now) (g.J.Recorder.noted c.note_moment.new.journal) (g.J.Recorder.noted c.admit_and_serve.new.journal) (g.L.Link.traffic c.args.link.now) (g.L.Link.traffic c.admit_and_serve.new.link) o.1 p))
+    (λ (m : g.L.Link.tells c.args.link.now × g.J.Recorder.tells c.note_moment.new.journal). let o = c.in-Ok.ensures.observed.observed m.1 in ((m.0, o.0), λ p. unserved_late b c.args.client c.args.addr c.in-Ok.at c.args.look.now (g.J.Recorder.noted c.args.journal.now) (g.J.Recorder.noted c.note_moment.new.journal) (g.J.Recorder.noted c.admit_and_serve.new.journal) (g.L.Link.traffic c.args.link.now) (g.L.Link.traffic c.admit_and_serve.new.link) o.1 p))
     c.admit_and_serve.ensures.no_memory
 
 pub returns-in-Ok-clause-cause : goal.returns-in-Ok-clause-cause
@@ -51,7 +51,7 @@ returns-in-Ok-clause-clock g c =
     tells_then c.admit_and_serve.result (g.L.Link.tells c.admit_and_serve.new.link × g.C.Clock.tells c.admit_and_serve.new.clock × g.J.Recorder.tells c.admit_and_serve.new.journal) (g.L.Link.tells c.args.link.now × g.C.Clock.tells c.note_moment.new.clock × g.J.Recorder.tells c.note_moment.new.journal) (g.L.Link.tells c.args.link.now × g.C.Clock.tells c.args.clock.now × g.J.Recorder.tells c.args.journal.now)
     (λ (why : Why). Timed (g.J.Recorder.noted c.note_moment.new.journal) (g.J.Recorder.noted c.admit_and_serve.new.journal) f (g.L.Link.traffic c.admit_and_serve.new.link).full_writes q1 (g.C.Clock.readings c.admit_and_serve.new.clock))
     (λ (why : Why). Timed (g.J.Recorder.noted c.args.journal.now) (g.J.Recorder.noted c.admit_and_serve.new.journal) f (g.L.Link.traffic c.admit_and_serve.new.link).full_writes q (g.C.Clock.readings c.admit_and_serve.new.clock))
-    (λ (m : g.L.Link.tells c.args.link.now × g.C.Clock.tells c.note_moment.new.clock × g.J.Recorder.tells c.note_moment.new.journal). let o = c.in-Ok.ensures.clock.told (m.1, m.2) in
+    (λ (m : g.L.Link.tells c.args.link.now × g.C.Clock.tells c.note_moment.new.clock × g.J.Recorder.tells c.note_moment.new.journal). let o = c.in-Ok.ensures.clock.observed (m.1, m.2) in
     ((m.0, o.0.0, o.0.1), λ why p. timed_then (g.J.Recorder.noted c.args.journal.now) (g.J.Recorder.noted c.note_moment.new.journal) (g.J.Recorder.noted c.admit_and_serve.new.journal) f f (g.L.Link.traffic c.admit_and_serve.new.link).full_writes q q1 (g.C.Clock.readings c.admit_and_serve.new.clock) (timed_shift (g.J.Recorder.noted c.args.journal.now) (g.J.Recorder.noted c.note_moment.new.journal) f q q1 o.1) p))
     c.admit_and_serve.ensures.clock
 

@@ -5,7 +5,7 @@ use Rattle.dns_notes.proofs.Timings.{timed_none, timed_then}
 use Rattle.dns_drivers.specs.Rounds.{below_of}
 use Rattle.dns_drivers.proofs.Appends.{looks_none, looks_more}
 use Rattle.dns_drivers.proofs.Goings.{goes_begun}
-use Rattle.dns_drivers.proofs.Turnings.{going_begun, going_turned, closed_turned, broken_turned, goes_turned, cause_turned}
+use Rattle.dns_drivers.proofs.StoryTurns.{going_begun, going_turned, closed_turned, broken_turned, goes_turned, cause_turned}
 use Rattle.dns_drivers.proofs.turning.serve_core.Goals as goal
 
 pub loop-init : goal.loop-init
@@ -13,8 +13,8 @@ loop-init g c =
     let a = request_answer g.W.Future.ReplyFuture.answer g.W.Stream.ReplyStream.answer in
     let b = serving (g.W.SharedService.answer c.args.service.now) (g.W.SharedService.hint c.args.service.now) in
     record {
-      run = record { told = λ t. (t, λ s h. going_begun a b s c.args.client c.args.look.now c.args.core.now (g.J.Recorder.noted c.args.journal.now) c.args.seat.now.known (g.L.Link.traffic c.args.link.now) h) };
-      clock = record { told = λ t. (t, timed_none (g.J.Recorder.noted c.args.journal.now) (g.L.Link.traffic c.args.link.now).full_writes (g.C.Clock.readings c.args.clock.now)) };
+      run = record { observed = λ t. (t, λ s h. going_begun a b s c.args.client c.args.look.now c.args.core.now (g.J.Recorder.noted c.args.journal.now) c.args.seat.now.known (g.L.Link.traffic c.args.link.now) h) };
+      clock = record { observed = λ t. (t, timed_none (g.J.Recorder.noted c.args.journal.now) (g.L.Link.traffic c.args.link.now).full_writes (g.C.Clock.readings c.args.clock.now)) };
       goes = λ s h. goes_begun a b c.args.core.now s c.args.seat.now.known (g.L.Link.faults c.args.link.now) h.stands h.opened;
       later = omega arith;
       seat = looks_none c.args.seat.now.known;
@@ -27,15 +27,15 @@ loop-preserved g c =
     let b = serving (g.W.SharedService.answer c.args.service.now) (g.W.SharedService.hint c.args.service.now) in
     record {
       run = record {
-        told = λ t.
-            let m = (rw c.in-Ok-None.field-0-is at c.in-Ok-None.ensures.told).told t in
-            let r = c.loop.invariant.run.told m.0 in
+        observed = λ t.
+            let m = (rw c.in-Ok-None.field-0-is at c.in-Ok-None.ensures.observed).observed t in
+            let r = c.loop.invariant.run.observed m.0 in
             (r.0, λ s h. going_turned a b s c.args.client (below_of c.loop.kept.turn) (below_of c.turn_once.new.kept.turn) c.args.look.now c.loop.kept.last c.turn_once.new.kept.last c.loop.core c.turn_once.new.core (g.J.Recorder.noted c.args.journal.now) (g.J.Recorder.noted c.loop.journal) (g.J.Recorder.noted c.turn_once.new.journal) c.args.seat.now.known c.loop.seat.known c.turn_once.new.seat.known (g.L.Link.traffic c.args.link.now) (g.L.Link.traffic c.loop.link) (g.L.Link.traffic c.turn_once.new.link) (r.1 s h) m.1);
       };
       clock = record {
-        told = λ t.
-            let m = c.in-Ok-None.ensures.clock.told t in
-            let r = c.loop.invariant.clock.told m.0 in
+        observed = λ t.
+            let m = c.in-Ok-None.ensures.clock.observed t in
+            let r = c.loop.invariant.clock.observed m.0 in
             (r.0, timed_then (g.J.Recorder.noted c.args.journal.now) (g.J.Recorder.noted c.loop.journal) (g.J.Recorder.noted c.turn_once.new.journal) (g.L.Link.traffic c.args.link.now).full_writes (g.L.Link.traffic c.loop.link).full_writes (g.L.Link.traffic c.turn_once.new.link).full_writes (g.C.Clock.readings c.args.clock.now) (g.C.Clock.readings c.loop.clock) (g.C.Clock.readings c.turn_once.new.clock) r.1 m.1);
       };
       goes = λ s h. goes_turned a b c.loop.core c.turn_once.new.core c.args.seat.now.known c.loop.seat.known c.turn_once.new.seat.known (g.L.Link.faults c.args.link.now) (g.L.Link.faults c.loop.link) (g.L.Link.faults c.turn_once.new.link) (c.loop.invariant.goes s h) (rw c.in-Ok-None.field-0-is at c.in-Ok-None.ensures.cause);
@@ -44,23 +44,23 @@ loop-preserved g c =
       same = c.turn_once.ensures.same ∙ c.loop.invariant.same;
     }
 
-pub returns-in-Ok-Some-clause-told : goal.returns-in-Ok-Some-clause-told
-returns-in-Ok-Some-clause-told g c =
+pub returns-in-Ok-Some-clause-observed : goal.returns-in-Ok-Some-clause-observed
+returns-in-Ok-Some-clause-observed g c =
     let a = request_answer g.W.Future.ReplyFuture.answer g.W.Stream.ReplyStream.answer in
     let b = serving (g.W.SharedService.answer c.args.service.now) (g.W.SharedService.hint c.args.service.now) in
     record {
-      told = λ t.
-          let m = (rw c.in-Ok-Some.field-0-is at c.in-Ok-Some.ensures.told).told t in
-          let r = c.loop.invariant.run.told m.0 in
+      observed = λ t.
+          let m = (rw c.in-Ok-Some.field-0-is at c.in-Ok-Some.ensures.observed).observed t in
+          let r = c.loop.invariant.run.observed m.0 in
           (r.0, λ s h. closed_turned a b s c.args.client (below_of c.loop.kept.turn) (below_of c.turn_once.new.kept.turn) c.args.look.now c.loop.kept.last c.turn_once.new.kept.last c.in-Ok-Some.why c.loop.core c.turn_once.new.core (g.J.Recorder.noted c.args.journal.now) (g.J.Recorder.noted c.loop.journal) (g.J.Recorder.noted c.turn_once.new.journal) c.args.seat.now.known c.loop.seat.known c.turn_once.new.seat.known (g.L.Link.traffic c.args.link.now) (g.L.Link.traffic c.loop.link) (g.L.Link.traffic c.turn_once.new.link) h.opened h.nothing (r.1 s h) m.1);
     }
 
 pub returns-in-Ok-Some-clause-clock : goal.returns-in-Ok-Some-clause-clock
 returns-in-Ok-Some-clause-clock g c =
     record {
-      told = λ t.
-          let m = c.in-Ok-Some.ensures.clock.told t in
-          let r = c.loop.invariant.clock.told m.0 in
+      observed = λ t.
+          let m = c.in-Ok-Some.ensures.clock.observed t in
+          let r = c.loop.invariant.clock.observed m.0 in
           (r.0, timed_then (g.J.Recorder.noted c.args.journal.now) (g.J.Recorder.noted c.loop.journal) (g.J.Recorder.noted c.turn_once.new.journal) (g.L.Link.traffic c.args.link.now).full_writes (g.L.Link.traffic c.loop.link).full_writes (g.L.Link.traffic c.turn_once.new.link).full_writes (g.C.Clock.readings c.args.clock.now) (g.C.Clock.readings c.loop.clock) (g.C.Clock.readings c.turn_once.new.clock) r.1 m.1);
     }
 
@@ -82,9 +82,9 @@ returns-in-Err-clause-no_memory g c =
     let a = request_answer g.W.Future.ReplyFuture.answer g.W.Stream.ReplyStream.answer in
     let b = serving (g.W.SharedService.answer c.args.service.now) (g.W.SharedService.hint c.args.service.now) in
     record {
-      told = λ t.
-          let m = c.in-Err.ensures.no_memory.told t in
-          let r = c.loop.invariant.run.told m.0 in
+      observed = λ t.
+          let m = c.in-Err.ensures.no_memory.observed t in
+          let r = c.loop.invariant.run.observed m.0 in
           (r.0, λ s h. broken_turned a b s c.args.client (below_of c.loop.kept.turn) c.args.look.now c.loop.kept.last c.loop.core (g.J.Recorder.noted c.args.journal.now) (g.J.Recorder.noted c.loop.journal) (g.J.Recorder.noted c.turn_once.new.journal) c.args.seat.now.known c.loop.seat.known c.turn_once.new.seat.known (g.L.Link.traffic c.args.link.now) (g.L.Link.traffic c.loop.link) (g.L.Link.traffic c.turn_once.new.link) (r.1 s h) m.1);
     }
 

@@ -1,5 +1,5 @@
 use Rattle.std.proofs.Common.{◌≡◌, ◌≤◌}
-use Rattle.dns_io.specs.Causes.{Tells}
+use Rattle.dns_io.specs.Causes.{Observed}
 use Rattle.dns_service.specs.PolledRequest.{request_answer}
 use Rattle.dns_client.specs.Serving.{serving}
 use Rattle.dns_client.specs.Slate.{Slate}
@@ -13,11 +13,11 @@ use Rattle.dns_drivers.proofs.turning.serve_core.Given as goal
 
 abbrev pub invariant-loop : goal.invariant-loop
 invariant-loop g l = record {
-  run : Tells (g.L.Link.tells l.link × g.J.Recorder.tells l.journal) (g.L.Link.tells l.fn.link × g.J.Recorder.tells l.fn.journal)
+  run : Observed (g.L.Link.tells l.link × g.J.Recorder.tells l.journal) (g.L.Link.tells l.fn.link × g.J.Recorder.tells l.fn.journal)
       ((s : Slate) → BeginsOpen (request_answer g.W.Future.ReplyFuture.answer g.W.Stream.ReplyStream.answer) (serving (g.W.SharedService.answer l.service) (g.W.SharedService.hint l.service)) l.fn.core l.look s
       → Going (request_answer g.W.Future.ReplyFuture.answer g.W.Stream.ReplyStream.answer) (serving (g.W.SharedService.answer l.service) (g.W.SharedService.hint l.service)) s l.client l.look l.kept.last (below_of l.kept.turn) l.core
       (g.J.Recorder.noted l.fn.journal) (g.J.Recorder.noted l.journal) l.fn.seat.known l.seat.known (g.L.Link.traffic l.fn.link) (g.L.Link.traffic l.link));
-  clock : Tells (g.L.Link.tells l.link × g.C.Clock.tells l.clock × g.J.Recorder.tells l.journal) (g.L.Link.tells l.fn.link × g.C.Clock.tells l.fn.clock × g.J.Recorder.tells l.fn.journal)
+  clock : Observed (g.L.Link.tells l.link × g.C.Clock.tells l.clock × g.J.Recorder.tells l.journal) (g.L.Link.tells l.fn.link × g.C.Clock.tells l.fn.clock × g.J.Recorder.tells l.fn.journal)
       (Timed (g.J.Recorder.noted l.fn.journal) (g.J.Recorder.noted l.journal) (g.L.Link.traffic l.fn.link).full_writes (g.L.Link.traffic l.link).full_writes (g.C.Clock.readings l.fn.clock) (g.C.Clock.readings l.clock));
   goes : (s : Slate) → BeginsOpen (request_answer g.W.Future.ReplyFuture.answer g.W.Stream.ReplyStream.answer) (serving (g.W.SharedService.answer l.service) (g.W.SharedService.hint l.service)) l.fn.core l.look s
       → Goes (request_answer g.W.Future.ReplyFuture.answer g.W.Stream.ReplyStream.answer) (serving (g.W.SharedService.answer l.service) (g.W.SharedService.hint l.service)) l.core l.fn.seat.known l.seat.known (g.L.Link.faults l.fn.link) (g.L.Link.faults l.link);

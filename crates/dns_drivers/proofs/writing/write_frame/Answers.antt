@@ -5,22 +5,22 @@ use Rattle.dns_drivers.proofs.writing.write_frame.Goals as goal
 pub loop-preserved : goal.loop-preserved
 loop-preserved g c = record {
   moves = record {
-    told = λ t.
-        let m = c.in-Ok.ensures.moves.told t in
-        let r = c.loop.invariant.moves.told m.0 in
+    observed = λ t.
+        let m = c.in-Ok.ensures.moves.observed t in
+        let r = c.loop.invariant.moves.observed m.0 in
         (r.0, wrote_on c.loop.done c.in-Ok.count c.args.frame.now (g.L.Link.traffic c.args.link.now) (g.L.Link.traffic c.loop.link) (g.L.Link.traffic c.write_some.new.link) r.1 m.1);
   };
   clock = record {
-    told = λ t.
-        let m = c.in-Ok.ensures.clock.told t in
-        let r = c.loop.invariant.clock.told m.0 in
+    observed = λ t.
+        let m = c.in-Ok.ensures.clock.observed t in
+        let r = c.loop.invariant.clock.observed m.0 in
         (r.0, waited_on (g.L.Link.traffic c.args.link.now).full_writes (g.L.Link.traffic c.loop.link).full_writes (g.L.Link.traffic c.write_some.new.link).full_writes (g.C.Clock.readings c.args.clock.now) (g.C.Clock.readings c.loop.clock) (g.C.Clock.readings c.write_some.new.clock) r.1 m.1);
   };
   faults = c.in-Ok.ensures.blame ∙ c.loop.invariant.faults;
   again = record {
-    told = λ t.
-        let m = c.in-Ok.ensures.again.told t in
-        let r = c.loop.invariant.again.told m.0 in
+    observed = λ t.
+        let m = c.in-Ok.ensures.again.observed t in
+        let r = c.loop.invariant.again.observed m.0 in
         (r.0, let p = r.1 in let q = m.1 in omega arith);
   };
   bound = c.in-Ok.ensures.bound;
@@ -28,9 +28,9 @@ loop-preserved g c = record {
 
 pub returns-in-Err-clause-moves : goal.returns-in-Err-clause-moves
 returns-in-Err-clause-moves g c = record {
-  told = λ t.
-      let m = c.in-Err.ensures.moves.told t in
-      let r = c.loop.invariant.moves.told m.0 in (
+  observed = λ t.
+      let m = c.in-Err.ensures.moves.observed t in
+      let r = c.loop.invariant.moves.observed m.0 in (
         r.0,
         record {
           written = c.loop.done;
@@ -42,9 +42,9 @@ returns-in-Err-clause-moves g c = record {
 
 pub returns-in-Err-clause-clock : goal.returns-in-Err-clause-clock
 returns-in-Err-clause-clock g c = record {
-  told = λ t.
-      let m = c.in-Err.ensures.clock.told t in
-      let r = c.loop.invariant.clock.told m.0 in
+  observed = λ t.
+      let m = c.in-Err.ensures.clock.observed t in
+      let r = c.loop.invariant.clock.observed m.0 in
       (r.0, waited_end c.in-Err.end (g.L.Link.traffic c.args.link.now).full_writes (g.L.Link.traffic c.loop.link).full_writes (g.L.Link.traffic c.write_some.new.link).full_writes (g.C.Clock.readings c.args.clock.now) (g.C.Clock.readings c.loop.clock) (g.C.Clock.readings c.write_some.new.clock) r.1 m.1);
 }
 
@@ -53,8 +53,8 @@ returns-in-Err-clause-blame g c = blames_on c.in-Err.end (g.L.Link.faults c.args
 
 pub returns-in-Err-clause-again : goal.returns-in-Err-clause-again
 returns-in-Err-clause-again g c = record {
-  told = λ t.
-      let m = c.in-Err.ensures.again.told t in
-      let r = c.loop.invariant.again.told m.0 in
+  observed = λ t.
+      let m = c.in-Err.ensures.again.observed t in
+      let r = c.loop.invariant.again.observed m.0 in
       (r.0, again_on c.in-Err.end (g.L.Link.traffic c.args.link.now).full_writes (g.L.Link.traffic c.loop.link).full_writes (g.L.Link.traffic c.write_some.new.link).full_writes r.1 m.1);
 }

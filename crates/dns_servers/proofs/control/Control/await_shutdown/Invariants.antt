@@ -1,5 +1,5 @@
 use Rattle.std.proofs.Common.{◌≡◌}
-use Rattle.dns_io.specs.Causes.{Tells}
+use Rattle.dns_io.specs.Causes.{Observed}
 use Rattle.dns_servers.specs.Controls.{LookedInVain, Since}
 use Rattle.dns_servers.proofs.control.Control.await_shutdown.Given as goal
 
@@ -7,5 +7,5 @@ abbrev pub invariant-loop : goal.invariant-loop
 invariant-loop g l = record {
   book : l.self.book ≡ l.fn.self.book;
   looks : LookedInVain l.fn.self.known l.self.known;
-  clock : Tells (g.C.Clock.tells l.clock) (g.C.Clock.tells l.fn.clock) (Since l.first.0 (g.C.Clock.readings l.fn.clock) (g.C.Clock.readings l.clock));
+  clock : Observed (g.C.Clock.tells l.clock) (g.C.Clock.tells l.fn.clock) (Since l.first.0 (g.C.Clock.readings l.fn.clock) (g.C.Clock.readings l.clock));
 }
