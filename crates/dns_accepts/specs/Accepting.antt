@@ -13,7 +13,7 @@ use Rattle.dns_book.specs.declared.history.Entry.{Entry}
 use Rattle.dns_book.specs.declared.history.Known.{Known}
 use Rattle.dns_io.specs.Causes.{Observed}
 use Rattle.dns_io.specs.AcceptTraffic.{AcceptTraffic}
-use Rattle.dns_drivers.specs.Counts.{IsWithinCount}
+use Rattle.dns_stream_driver.specs.Counts.{IsWithinCount}
 use Rattle.dns_accepts.specs.declared.accepts.AcceptEnd.{AcceptEnd}
 use Rattle.dns_accepts.specs.declared.accepts.AcceptEnd.TheVariants.{Shutdown, Counted, OutOfMemory}
 

@@ -8,6 +8,6 @@ mod taking;
 mod work;
 
 pub use accepts::{AcceptEnd, serve_accepts, serve_accepts_with_faults};
-pub use dns_drivers::{ConnectionEnd, Recorder, Silent, VecRecorder, serve_connection};
+pub use dns_stream_driver::{ConnectionEnd, Recorder, Silent, VecRecorder, serve_connection};
 pub use pre_connect::{NoHook, PreConnect};
 pub use work::ConnectionWork;

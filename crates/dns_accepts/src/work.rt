@@ -3,17 +3,17 @@
 ghost use Rattle.std.specs.Prelude.{◌≡◌, false};
 ghost use Rattle.std.specs.Arc.{arc_value};
 ghost use Rattle.dns_io.specs.Causes.{Observed};
-ghost use Rattle.dns_client.specs.Serving.{serving};
-ghost use Rattle.dns_drivers.specs.Clocks.{TimedWhole};
-ghost use Rattle.dns_drivers.specs.Story.{LooksAndRelease};
-ghost use Rattle.dns_drivers.specs.Endings.{EndsSo, EndShown, EndCauses, WhereClosed};
+ghost use Rattle.dns_session.specs.Serving.{serving};
+ghost use Rattle.dns_stream_driver.specs.Clocks.{TimedWhole};
+ghost use Rattle.dns_stream_driver.specs.Story.{LooksAndRelease};
+ghost use Rattle.dns_stream_driver.specs.Endings.{EndsSo, EndShown, EndCauses, WhereClosed};
 
 use dns_admission::Look;
 use dns_book::{Book, BookSeat};
-use dns_drivers::{ConnectionEnd, Recorder, serve_connection};
 use dns_io::{Clock, Link, Work};
 use dns_name::SocketAddr;
 use dns_service::SharedService;
+use dns_stream_driver::{ConnectionEnd, Recorder, serve_connection};
 use std::alloc::Global;
 use std::sync::{Arc, Wait};
 

@@ -1,7 +1,7 @@
 //! A flood: events that a generator makes are served by a rule of their own, and what is sent for them is counted.
 
 ghost use Rattle.std.specs.Prelude.{◌≡◌, ◌+◌, ◌^◌, ◌∷◌, ℕ, [], IfOk, OnOk, string_bytes};
-ghost use Rattle.dns_client.specs.Serving.{serving};
+ghost use Rattle.dns_session.specs.Serving.{serving};
 ghost use Rattle.dns_core.specs.Out.{out};
 ghost use Rattle.dns_core.specs.Server.{Serves};
 ghost use Rattle.dns_io.specs.Causes.{Observed};

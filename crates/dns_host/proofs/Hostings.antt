@@ -12,11 +12,11 @@ use Rattle.dns_io.specs.Causes.{Observed}
 use Rattle.dns_io.specs.AcceptTraffic.{AcceptTraffic}
 use Rattle.dns_io.specs.SockTraffic.{SockTraffic}
 use Rattle.dns_events.specs.declared.event.Event.{Event}
-use Rattle.dns_client.specs.Serving.{Serving}
+use Rattle.dns_session.specs.Serving.{Serving}
 use Rattle.dns_accepts.specs.Clocks.{ClockReading}
-use Rattle.dns_datagrams.specs.DatagramsServed.{world, ReceivesBy, RoseIf}
-use Rattle.dns_datagrams.specs.declared.serving.DgramEnd.{DgramEnd}
-use Rattle.dns_datagrams.specs.declared.serving.DgramEnd.TheVariants.{Shutdown as DgramShutdown, Counted as DgramCounted, Fault as DgramFault, OutOfMemory as DgramOutOfMemory}
+use Rattle.dns_dgram_driver.specs.DatagramsServed.{world, ReceivesBy, RoseIf}
+use Rattle.dns_dgram_driver.specs.declared.serving.DgramEnd.{DgramEnd}
+use Rattle.dns_dgram_driver.specs.declared.serving.DgramEnd.TheVariants.{Shutdown as DgramShutdown, Counted as DgramCounted, Fault as DgramFault, OutOfMemory as DgramOutOfMemory}
 use Rattle.dns_accepts.specs.Accepting.{AcceptTurn, Gave, TookTurns, AcceptsTo}
 use Rattle.dns_accepts.specs.Arrivals.{RoseWhere}
 use Rattle.dns_host.specs.Hosting.{HostWorld, host_end, host_world, HostRose, AcceptsBeside, DgramsBeside, AcceptsWent, DgramsWent, BothServed, NeitherBegan, host_seen, accept_observed, sock_observed, HostServed}

@@ -10,11 +10,11 @@ use Rattle.dns_io.specs.Causes.{Rose, Observed}
 use Rattle.dns_io.specs.AcceptTraffic.{AcceptTraffic}
 use Rattle.dns_io.specs.SockTraffic.{SockTraffic}
 use Rattle.dns_events.specs.declared.event.Event.{Event}
-use Rattle.dns_client.specs.Serving.{Serving}
+use Rattle.dns_session.specs.Serving.{Serving}
 use Rattle.dns_accepts.specs.Clocks.{ClockReading}
-use Rattle.dns_datagrams.specs.DatagramsServed.{World, world, LooksBy, ReceivesBy, RoseIf, ServedTo}
-use Rattle.dns_datagrams.specs.declared.serving.DgramEnd.{DgramEnd}
-use Rattle.dns_datagrams.specs.declared.serving.DgramEnd.TheVariants.{Shutdown as DgramShutdown, Counted as DgramCounted, Fault as DgramFault, OutOfMemory as DgramOutOfMemory}
+use Rattle.dns_dgram_driver.specs.DatagramsServed.{World, world, LooksBy, ReceivesBy, RoseIf, ServedTo}
+use Rattle.dns_dgram_driver.specs.declared.serving.DgramEnd.{DgramEnd}
+use Rattle.dns_dgram_driver.specs.declared.serving.DgramEnd.TheVariants.{Shutdown as DgramShutdown, Counted as DgramCounted, Fault as DgramFault, OutOfMemory as DgramOutOfMemory}
 use Rattle.dns_accepts.specs.Accepting.{AcceptsTo}
 use Rattle.dns_accepts.specs.Arrivals.{RoseWhere, AcceptsRan}
 use Rattle.dns_accepts.specs.declared.accepts.AcceptEnd.{AcceptEnd}

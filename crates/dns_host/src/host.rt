@@ -2,13 +2,13 @@
 
 ghost use Rattle.std.specs.Prelude.{◌≡◌, ◌||◌, MatchOption, IfOk};
 ghost use Rattle.std.specs.Arc.{arc_value};
-ghost use Rattle.dns_client.specs.Serving.{serving};
+ghost use Rattle.dns_session.specs.Serving.{serving};
 ghost use Rattle.dns_host.specs.Hosting.{host_end, host_seen, accept_observed, sock_observed, AcceptsWent, DgramsWent, HalvesClosed, HostServed};
 
 use crate::serve_context::{AcceptContext, ServeContext};
 use dns_accepts::{AcceptEnd, ConnectionWork, Recorder, Silent};
 use dns_book::{Book, BookSeat};
-use dns_datagrams::DgramEnd;
+use dns_dgram_driver::DgramEnd;
 use dns_io::{AsyncAccept, AsyncDgramSock, Clock, Spawner};
 use dns_name::OutOfMemory;
 use dns_service::SharedService;

@@ -8,6 +8,6 @@ pub use dns_accepts::{
     AcceptEnd, ConnectionEnd, ConnectionWork, NoHook, PreConnect, Recorder, Silent, VecRecorder,
     serve_accepts, serve_connection,
 };
-pub use dns_datagrams::{DgramEnd, pause, serve_datagrams};
+pub use dns_dgram_driver::{DgramEnd, pause, serve_datagrams};
 pub use host::{Host, HostEnd, host_service};
-pub use serve_context::{ServeContext, AcceptContext};
+pub use serve_context::{AcceptContext, ServeContext};

@@ -2,12 +2,12 @@
 
 ghost use Rattle.std.specs.Prelude.{◌≡◌, MatchOption};
 ghost use Rattle.std.specs.Arc.{arc_value};
-ghost use Rattle.dns_client.specs.Serving.{serving};
+ghost use Rattle.dns_session.specs.Serving.{serving};
 ghost use Rattle.dns_host.specs.Hosting.{AcceptsShut, AcceptsWent, DgramsShut, DgramsWent};
 
 use dns_accepts::{AcceptEnd, ConnectionWork, NoHook, Recorder, Silent, serve_accepts_with_faults};
 use dns_book::{Book, BookSeat};
-use dns_datagrams::{DgramEnd, serve_datagrams_with_sends};
+use dns_dgram_driver::{DgramEnd, serve_datagrams_with_sends};
 use dns_io::{AsyncAccept, AsyncDgramSock, Clock, Spawner};
 use dns_service::SharedService;
 use std::alloc::Global;
@@ -132,7 +132,12 @@ where
             &NoHook,
             count,
         );
-        shut_after_accepts(self.serve_context.rt, self.serve_context.book, &mut seat, end);
+        shut_after_accepts(
+            self.serve_context.rt,
+            self.serve_context.book,
+            &mut seat,
+            end,
+        );
         (seat, end, faulted)
     }
 }

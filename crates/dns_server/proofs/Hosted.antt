@@ -4,7 +4,7 @@ use Rattle.std.specs.Prelude.{Result, Ok, Err, IfOk}
 use Rattle.dns_book.specs.declared.history.Known.{Known}
 use Rattle.dns_service.specs.Answer.{Answer}
 use Rattle.dns_service.specs.Req.{Req}
-use Rattle.dns_client.specs.Serving.{Serving, serving}
+use Rattle.dns_session.specs.Serving.{Serving, serving}
 use Rattle.dns_host.specs.Hosting.{HostWorld, HostServed, ShutDown}
 use Rattle.dns_host.specs.declared.host.HostEnd.{HostEnd}
 use Rattle.dns_host.specs.declared.host.HostEnd.TheVariants.{Done, OutOfMemory, HostFault}

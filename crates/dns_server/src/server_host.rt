@@ -4,7 +4,7 @@ ghost use Rattle.std.specs.Prelude.{◌≡◌, IfOk};
 ghost use Rattle.std.specs.Arc.{arc_value};
 ghost use Rattle.dns_middleware.specs.Verdicts.{verdict_on};
 ghost use Rattle.dns_middleware.specs.Wrapped.{hint_left, replies};
-ghost use Rattle.dns_client.specs.Serving.{Serving, serving};
+ghost use Rattle.dns_session.specs.Serving.{Serving, serving};
 ghost use Rattle.dns_host.specs.Hosting.{HostServed, ShutDown, host_seen, accept_observed, sock_observed};
 ghost use Rattle.dns_server.specs.HostStatus.{OfHost, status_of_host};
 
@@ -15,8 +15,8 @@ use dns_io::{AsyncAccept, AsyncDgramSock, Clock, Spawner};
 use dns_middleware::Wrapped;
 use dns_name::OutOfMemory;
 use dns_run::{Status, layered};
-use dns_servers::{ConnectionWork, Host, HostEnd, Recorder, Silent, host_service};
 use dns_service::{Service, SharedService, WithoutMeta};
+use dns_transport::{ConnectionWork, Host, HostEnd, Recorder, Silent, host_service};
 use std::alloc::Global;
 use std::sync::{Arc, Wait};
 use std::thread::Threads;

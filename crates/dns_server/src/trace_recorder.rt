@@ -1,7 +1,7 @@
 //! A trace of the events that a driver notes.
 
 ghost use Rattle.std.specs.Prelude.{◌≡◌, ◌↔◌, ◌∷◌, ◌++◌, ◌&&◌, [], true, IfOk, OnErr, OnOk};
-ghost use Rattle.dns_notes.specs.Notes.{NoteMoves};
+ghost use Rattle.dns_recorder.specs.Notes.{NoteMoves};
 ghost use Rattle.dns_io.specs.Causes.{Observed};
 ghost use Rattle.dns_trace.specs.InRange.{IsSettings};
 ghost use Rattle.dns_trace.specs.Trace.{event_text, trace};
@@ -9,9 +9,9 @@ ghost use Rattle.dns_server.specs.Recorded.{IsTrace, TraceReadsBack, settings_ev
 
 use crate::in_range;
 use dns_name::OutOfMemory;
-use dns_servers::Recorder;
 use dns_service::{Event, EventKind};
 use dns_trace::{TraceSettings, TraceWriter, a_trace_reads_back};
+use dns_transport::Recorder;
 use std::alloc::Global;
 
 /// Writes settings and the events that a driver notes, one line each. It tells, unless an event that all clients hear named

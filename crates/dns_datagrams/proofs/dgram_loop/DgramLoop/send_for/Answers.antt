@@ -1,5 +1,0 @@
-use Rattle.dns_datagrams.proofs.ObservedLaws.{if_ok_one}
-use Rattle.dns_datagrams.proofs.dgram_loop.DgramLoop.send_for.Goals as goal
-
-pub returns-clause-observed : goal.returns-clause-observed
-returns-clause-observed g c = record { observed = if_ok_one c.deliver.result (rw c.write_timeout-limit.ensures.value at c.deliver.ensures.observed) (λ d. d); no_memory = c.deliver.ensures.no_memory }
