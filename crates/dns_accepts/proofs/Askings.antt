@@ -9,16 +9,16 @@ use Rattle.dns_admission.specs.declared.call.Reply.TheVariants.{Admission as Ans
 use Rattle.dns_book.specs.Seats.{Called, first_half}
 use Rattle.dns_book.specs.Gains.{Gained}
 use Rattle.dns_book.specs.declared.history.Known.{Known}
-use Rattle.dns_io.specs.Causes.{Tells}
+use Rattle.dns_io.specs.Causes.{Observed}
 use Rattle.dns_io.specs.Starts.{StartMoves, StartCause}
 use Rattle.dns_io.specs.declared.spawner.Start.{Start}
 use Rattle.dns_io.specs.declared.spawner.Start.TheVariants.{Started, Failed}
 use Rattle.dns_accepts.specs.Accepting.{Caller, if_admitted, halved, admit_entries}
 use Rattle.dns_accepts.specs.Arrivals.{AskedOne, GaveSo, StartFaults, arrival_of}
 use Rattle.dns_accepts.specs.declared.taking.Arrival.{Arrival}
-use Rattle.dns_accepts.specs.declared.taking.Arrival.TheVariants.{Served, Refused, TurnedAway}
-use Rattle.dns_accepts.proofs.Gainings.{gained_one, gained_half}
-use Rattle.dns_accepts.proofs.Tellings.{tells_map}
+use Rattle.dns_accepts.specs.declared.taking.Arrival.TheVariants.{WorkStarted, Refused, TurnedAway}
+use Rattle.dns_accepts.proofs.GainedLaws.{gained_one, gained_half}
+use Rattle.dns_accepts.proofs.ObservedLaws.{tells_map}
 
 -- the admitted seat keeps its first half
 half_calls : (from : SocketAddr) (look : Look) (k k1 k' : Known) → Called k Admit (Answered (Admitted look)) k1 → k' ≡ first_half k1 → Gained k (admit_entries k.name (Caller from (Admitted look))) k'
@@ -28,7 +28,7 @@ half_name : (from : SocketAddr) (look : Look) (k k1 k' : Known) → Called k Adm
 half_name from look k k1 k' c h = rw (h, c.same_name) refl
 
 asked_served : (from : SocketAddr) (now before : Type 0) (look : Look) (k k1 k' : Known) (g g' : List SocketAddr) →
-    Called k Admit (Answered (Admitted look)) k1 → k' ≡ first_half k1 → Tells now before (g' ≡ g ++ from ∷ []) → AskedOne (Ok Served) from now before k k' g g'
+    Called k Admit (Answered (Admitted look)) k1 → k' ≡ first_half k1 → Observed now before (g' ≡ g ++ from ∷ []) → AskedOne (Ok WorkStarted) from now before k k' g g'
 asked_served from now before look k k1 k' g g' c h t = record {
   answer = Admitted look;
   calls = half_calls from look k k1 k' c h;
@@ -38,7 +38,7 @@ asked_served from now before look k k1 k' g g' c h t = record {
 }
 
 asked_refused : (from : SocketAddr) (now before : Type 0) (look : Look) (k k1 k' : Known) (g g' : List SocketAddr) →
-    Called k Admit (Answered (Admitted look)) k1 → k' ≡ first_half k1 → Tells now before (g' ≡ g ++ from ∷ []) → AskedOne (Ok Refused) from now before k k' g g'
+    Called k Admit (Answered (Admitted look)) k1 → k' ≡ first_half k1 → Observed now before (g' ≡ g ++ from ∷ []) → AskedOne (Ok Refused) from now before k k' g g'
 asked_refused from now before look k k1 k' g g' c h t = record {
   answer = Admitted look;
   calls = half_calls from look k k1 k' c h;
@@ -49,7 +49,7 @@ asked_refused from now before look k k1 k' g g' c h t = record {
 
 -- memory ran out: the work may have been given
 asked_lost : (from : SocketAddr) (now before : Type 0) (look : Look) (k k1 k' : Known) (g g' : List SocketAddr) →
-    Called k Admit (Answered (Admitted look)) k1 → k' ≡ first_half k1 → Tells now before ((g' ≡ g ++ from ∷ []) ⊎ (g' ≡ g)) → AskedOne (Err (record {})) from now before k k' g g'
+    Called k Admit (Answered (Admitted look)) k1 → k' ≡ first_half k1 → Observed now before ((g' ≡ g ++ from ∷ []) ⊎ (g' ≡ g)) → AskedOne (Err (record {})) from now before k k' g g'
 asked_lost from now before look k k1 k' g g' c h t = record {
   answer = Admitted look;
   calls = half_calls from look k k1 k' c h;
@@ -60,7 +60,7 @@ asked_lost from now before look k k1 k' g g' c h t = record {
 
 -- an admitted connection, by what the start of its work answered
 pub asked_started : (arrival : Result Arrival OutOfMemory) (started : Result Start OutOfMemory) (from : SocketAddr) (now before : Type 0) (look : Look) (k k1 k' : Known) (g g' : List SocketAddr) →
-    Called k Admit (Answered (Admitted look)) k1 → k' ≡ first_half k1 → Tells now before (StartMoves started from g g') → arrival ≡ arrival_of started → AskedOne arrival from now before k k' g g'
+    Called k Admit (Answered (Admitted look)) k1 → k' ≡ first_half k1 → Observed now before (StartMoves started from g g') → arrival ≡ arrival_of started → AskedOne arrival from now before k k' g g'
 asked_started arrival (Ok Started) from now before look k k1 k' g g' c h t is = rw is (asked_served from now before look k k1 k' g g' c h t)
 asked_started arrival (Ok Failed) from now before look k k1 k' g g' c h t is = rw is (asked_refused from now before look k k1 k' g g' c h t)
 asked_started arrival (Err e) from now before look k k1 k' g g' c h t is = rw is (asked_lost from now before look k k1 k' g g' c h t)
@@ -78,7 +78,7 @@ asked_full from now taken limit accepted k k' g c = record {
   calls = gained_one k Admit (Answered (Full taken limit accepted)) k' c;
   name = c.same_name ∙ sym (append-nil k.name);
   arrival_is = refl;
-  works = record { told = λ n. (n, sym (append-nil g)) };
+  works = record { observed = λ n. (n, sym (append-nil g)) };
 }
 
 pub asked_closed : (from : SocketAddr) (now : Type 0) (k k' : Known) (g : List SocketAddr) →
@@ -88,5 +88,5 @@ asked_closed from now k k' g c = record {
   calls = gained_one k Admit (Answered Closed) k' c;
   name = c.same_name ∙ sym (append-nil k.name);
   arrival_is = refl;
-  works = record { told = λ n. (n, sym (append-nil g)) };
+  works = record { observed = λ n. (n, sym (append-nil g)) };
 }

@@ -1,6 +1,6 @@
-pub mod Gainings
-pub mod Tellings
+pub mod GainedLaws
+pub mod ObservedLaws
 pub mod Askings
-pub mod Bringings
-pub mod Turnings
+pub mod BroughtLaws
+pub mod TurnLaws
 pub mod Loops

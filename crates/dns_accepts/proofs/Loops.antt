@@ -14,18 +14,18 @@ use Rattle.dns_book.specs.Gains.{Gained}
 use Rattle.dns_book.specs.declared.history.Entry.{Entry}
 use Rattle.dns_book.specs.declared.history.Known.{Known}
 use Rattle.dns_io.specs.Causes.{Rose}
-use Rattle.dns_io.specs.Doors.{Door}
+use Rattle.dns_io.specs.AcceptTraffic.{AcceptTraffic}
 use Rattle.dns_accepts.specs.Accepting.{Came, Caller, Nobody, Fault, AcceptTurn, caller, callers_in, admitted_caller, admitted_callers_in, look_entry, turn_entries, Gave, EndsAdmitted, TookCount, TookUntilShut, TookAlmost, AcceptsTo}
 use Rattle.dns_accepts.specs.declared.accepts.AcceptEnd.{AcceptEnd}
 use Rattle.dns_accepts.specs.declared.accepts.AcceptEnd.TheVariants.{Shutdown, Counted, OutOfMemory as NoMemory}
 use Rattle.dns_accepts.specs.Arrivals.{ArrivalOf, Brought, arrival_callers, is_faulty, StartFaults, AcceptFaults, RoseWhere, TookSoFar, EndedSo}
 use Rattle.dns_accepts.specs.declared.taking.Arrival.{Arrival}
-use Rattle.dns_accepts.specs.declared.taking.Arrival.TheVariants.{Served, Refused, TurnedAway, Nobody as NobodyCame, Fault as FaultCame}
-use Rattle.dns_accepts.proofs.Gainings.{gained_none, gained_one, gained_both}
-use Rattle.dns_accepts.proofs.Bringings.{rose_none}
-use Rattle.dns_accepts.proofs.Turnings.{admitted-snoc, callers-snoc, turn_more}
+use Rattle.dns_accepts.specs.declared.taking.Arrival.TheVariants.{WorkStarted, Refused, TurnedAway, Nobody as NobodyCame, Fault as FaultCame}
+use Rattle.dns_accepts.proofs.GainedLaws.{gained_none, gained_one, gained_both}
+use Rattle.dns_accepts.proofs.BroughtLaws.{rose_none}
+use Rattle.dns_accepts.proofs.TurnLaws.{admitted-snoc, callers-snoc, turn_more}
 
-pub so_far_none : (count : ℕ) (now : Type 0) (k : Known) (a : Door) (g : List SocketAddr) (f : ℕ) → TookSoFar count 0 now now k k a a g g f f
+pub so_far_none : (count : ℕ) (now : Type 0) (k : Known) (a : AcceptTraffic) (g : List SocketAddr) (f : ℕ) → TookSoFar count 0 now now k k a a g g f f
 so_far_none count now k a g f = record {
   turns = [];
   turned = record {
@@ -33,7 +33,7 @@ so_far_none count now k a g f = record {
     running = All-nil _;
     name = sym (append-nil k.name);
     faults = rose_none f f refl;
-    told = record { told = λ n. (n, (record { callers = sym (append-nil a.callers); nobody = sym (add-zero a.empty_accepts) }, sym (append-nil g))) };
+    observed = record { observed = λ n. (n, (record { callers = sym (append-nil a.callers); nobody = sym (add-zero a.empty_accepts) }, sym (append-nil g))) };
   };
   counted = λ some. (refl, omega arith);
 }
@@ -50,7 +50,7 @@ caller_one Nobody = omega arith
 caller_one Fault = omega arith
 
 callers_few : (arrival : Arrival) → arrival_callers arrival ≤ 1
-callers_few Served = omega arith
+callers_few WorkStarted = omega arith
 callers_few Refused = omega arith
 callers_few TurnedAway = omega arith
 callers_few NobodyCame = omega arith
@@ -60,7 +60,7 @@ count_more : (count taken taken' n m : ℕ) → taken ≡ n → taken ≤ count 
 count_more count taken taken' n m is few less one fits next = (grind (arith, is, few, less, one, fits, next), grind (arith, is, few, less, one, fits, next))
 
 -- one turn more
-pub so_far_more : (arrival : Arrival) (count taken taken' : ℕ) (look : Look) (now mid before : Type 0) (k k1 k2 k3 : Known) (a b c : Door) (g h i : List SocketAddr) (f f1 f2 : ℕ) →
+pub so_far_more : (arrival : Arrival) (count taken taken' : ℕ) (look : Look) (now mid before : Type 0) (k k1 k2 k3 : Known) (a b c : AcceptTraffic) (g h i : List SocketAddr) (f f1 f2 : ℕ) →
     TookSoFar count taken mid before k k1 a b g h f f1 → Called k1 ToLook (Shown look) k2 → look.closed ≡ false → Brought (Ok arrival) now mid k2 k3 b c h i f1 f2 →
     (count ≢ 0 → taken ≢ count) → count ≤ 2 ^ 64 - 1 → taken' ≡ min (taken + arrival_callers arrival) (2 ^ 64 - 1) →
     TookSoFar count taken' now before k k3 a c g i f f2
@@ -77,7 +77,7 @@ so_far_more arrival count taken taken' look now mid before k k1 k2 k3 a b c g h 
 }
 
 -- so many were to come
-so_far_counted : (count taken : ℕ) (now before : Type 0) (k k' : Known) (a b : Door) (g h : List SocketAddr) (f f' : ℕ) →
+so_far_counted : (count taken : ℕ) (now before : Type 0) (k k' : Known) (a b : AcceptTraffic) (g h : List SocketAddr) (f f' : ℕ) →
     TookSoFar count taken now before k k' a b g h f f' → count ≢ 0 → taken ≡ count → TookCount count now before k k' a b g h f f'
 so_far_counted count taken now before k k' a b g h f f' s some all = record {
   turns = s.turns;
@@ -90,7 +90,7 @@ fewer_by : (count taken n : ℕ) → taken ≡ n → taken ≤ count → taken �
 fewer_by count taken n is few less = grind (arith, is, few, less)
 
 -- a look showed a shutdown
-so_far_shut : (count taken : ℕ) (look : Look) (now before : Type 0) (k k1 k2 : Known) (a b : Door) (g h : List SocketAddr) (f f' : ℕ) →
+so_far_shut : (count taken : ℕ) (look : Look) (now before : Type 0) (k k1 k2 : Known) (a b : AcceptTraffic) (g h : List SocketAddr) (f f' : ℕ) →
     TookSoFar count taken now before k k1 a b g h f f' → Called k1 ToLook (Shown look) k2 → look.closed ≡ true → (count ≢ 0 → taken ≢ count) →
     TookUntilShut count now before k k2 a b g h f f'
 so_far_shut count taken look now before k k1 k2 a b g h f f' s l shut less = record {
@@ -106,12 +106,12 @@ so_far_shut count taken look now before k k1 k2 a b g h f f' s l shut less = rec
     running = s.turned.running;
     name = l.same_name ∙ s.turned.name;
     faults = s.turned.faults;
-    told = s.turned.told;
+    observed = s.turned.observed;
   };
 }
 
 -- the loop ends before an accept
-pub so_far_ended : (end : AcceptEnd) (count taken : ℕ) (now before : Type 0) (k k1 k2 : Known) (a b : Door) (g h : List SocketAddr) (f f' : ℕ) →
+pub so_far_ended : (end : AcceptEnd) (count taken : ℕ) (now before : Type 0) (k k1 k2 : Known) (a b : AcceptTraffic) (g h : List SocketAddr) (f f' : ℕ) →
     TookSoFar count taken now before k k1 a b g h f f' → EndedSo (Some end) count taken k1 k2 → AcceptsTo end count now before k k2 a b g h f f'
 so_far_ended Counted count taken now before k k1 k2 a b g h f f' s e =
     subst (λ (x : Known). TookCount count now before k x a b g h f f') (sym e.2) (so_far_counted count taken now before k k1 a b g h f f' s e.0 e.1)
@@ -134,7 +134,7 @@ one_more_within turns look came count taken is few less =
     rw (callers-snoc turns (record { look = look; came = came })) (grind (arith, is, few, less, one, all))
 
 -- memory ran out
-pub so_far_lost : (e : OutOfMemory) (count taken : ℕ) (look : Look) (now mid before : Type 0) (k k1 k2 k3 : Known) (a b c : Door) (g h i : List SocketAddr) (f f1 f2 : ℕ) →
+pub so_far_lost : (e : OutOfMemory) (count taken : ℕ) (look : Look) (now mid before : Type 0) (k k1 k2 k3 : Known) (a b c : AcceptTraffic) (g h i : List SocketAddr) (f f1 f2 : ℕ) →
     TookSoFar count taken mid before k k1 a b g h f f1 → Called k1 ToLook (Shown look) k2 → look.closed ≡ false → Brought (Err e) now mid k2 k3 b c h i f1 f2 → (count ≢ 0 → taken ≢ count) →
     TookAlmost count now before k k3 a c g i f f2
 so_far_lost e count taken look now mid before k k1 k2 k3 a b c g h i f f1 f2 s l running q less = record {
@@ -156,7 +156,7 @@ rose_later a b c r l = grind (arith, r, l)
 pub rose_where_more : (risen : Bool) (arrival : Arrival) (a b c d e f : ℕ) → RoseWhere risen a b d e → AcceptFaults (Ok arrival) b c → StartFaults (Ok arrival) e f → b ≤ c → e ≤ f →
     RoseWhere (risen || is_faulty arrival) a c d f
 rose_where_more true arrival a b c d e f r x y m n = elim r [ inl z ↦ inl (rose_later a b c z m) | inr z ↦ inr (rose_later d e f z n) ]
-rose_where_more false Served a b c d e f r x y m n = (x ∙ r.0, y ∙ r.1)
+rose_where_more false WorkStarted a b c d e f r x y m n = (x ∙ r.0, y ∙ r.1)
 rose_where_more false Refused a b c d e f r x y m n = inr (subst (λ (z : ℕ). Rose z f) r.1 y)
 rose_where_more false TurnedAway a b c d e f r x y m n = (x ∙ r.0, y ∙ r.1)
 rose_where_more false NobodyCame a b c d e f r x y m n = (x ∙ r.0, y ∙ r.1)

@@ -11,9 +11,9 @@ use Rattle.dns_book.specs.Gains.{Gained}
 use Rattle.dns_book.specs.History.{SeatName, entry}
 use Rattle.dns_book.specs.declared.history.Entry.{Entry}
 use Rattle.dns_book.specs.declared.history.Known.{Known}
-use Rattle.dns_io.specs.Causes.{Tells}
-use Rattle.dns_io.specs.Doors.{Door}
-use Rattle.dns_drivers.specs.Counts.{IsWithinCount}
+use Rattle.dns_io.specs.Causes.{Observed}
+use Rattle.dns_io.specs.AcceptTraffic.{AcceptTraffic}
+use Rattle.dns_stream_driver.specs.Counts.{IsWithinCount}
 use Rattle.dns_accepts.specs.declared.accepts.AcceptEnd.{AcceptEnd}
 use Rattle.dns_accepts.specs.declared.accepts.AcceptEnd.TheVariants.{Shutdown, Counted, OutOfMemory}
 
@@ -93,7 +93,7 @@ abbrev pub RoseBy : ℕ → ℕ → ℕ → Type 0
 RoseBy n before now = min (before + n) (2 ^ 64 - 1) ≤ now
 
 -- the door let these in, one by one
-pub record LetIn (turns : List AcceptTurn) (a b : Door) : Type 0 where
+pub record LetIn (turns : List AcceptTurn) (a b : AcceptTraffic) : Type 0 where
   pub callers : b.callers ≡ a.callers ++ callers_in turns
   pub nobody : b.empty_accepts ≡ a.empty_accepts + nobody_in turns
 
@@ -110,22 +110,22 @@ pub record EndsAdmitted (turns before : List AcceptTurn) : Type 0 where
 
 -- Turns were made, and then these calls of the seat; and works were given so. There is one look for each connection that came, each
 -- accept that brought nobody and each fault, and none of these shows a shutdown.
-pub record TookTurns (turns : List AcceptTurn) (more : List Entry) (now before works : Type 0) (k k' : Known) (a b : Door) (f f' : ℕ) : Type 0 where
+pub record TookTurns (turns : List AcceptTurn) (more : List Entry) (now before works : Type 0) (k k' : Known) (a b : AcceptTraffic) (f f' : ℕ) : Type 0 where
   pub calls : Gained k (turn_entries k.name turns ++ more) k'
   pub running : All (λ t. t.look.closed ≡ false) turns
   pub name : k'.name ≡ halved k.name (admitted_callers_in turns)
   pub faults : RoseBy (failures_in turns) f f'
-  pub told : Tells now before (LetIn turns a b × works)
+  pub observed : Observed now before (LetIn turns a b × works)
 
 -- so many connections came
-pub record TookCount (count : ℕ) (now before : Type 0) (k k' : Known) (a b : Door) (given given' : List SocketAddr) (f f' : ℕ) : Type 0 where
+pub record TookCount (count : ℕ) (now before : Type 0) (k k' : Known) (a b : AcceptTraffic) (given given' : List SocketAddr) (f f' : ℕ) : Type 0 where
   pub turns : List AcceptTurn
   pub some : count ≢ 0
   pub all : length (callers_in turns) ≡ count
   pub turned : TookTurns turns [] now before (Gave (admitted_callers_in turns) given given') k k' a b f f'
 
 -- one look more showed a shutdown, where fewer connections came than were to come
-pub record TookUntilShut (count : ℕ) (now before : Type 0) (k k' : Known) (a b : Door) (given given' : List SocketAddr) (f f' : ℕ) : Type 0 where
+pub record TookUntilShut (count : ℕ) (now before : Type 0) (k k' : Known) (a b : AcceptTraffic) (given given' : List SocketAddr) (f f' : ℕ) : Type 0 where
   pub turns : List AcceptTurn
   pub look : Look
   pub shut : look.closed ≡ true
@@ -133,7 +133,7 @@ pub record TookUntilShut (count : ℕ) (now before : Type 0) (k k' : Known) (a b
   pub turned : TookTurns turns (look_entry k'.name look ∷ []) now before (Gave (admitted_callers_in turns) given given') k k' a b f f'
 
 -- memory ran out at the work of the connection that came last, which may be missing; no more came than were to come
-pub record TookAlmost (count : ℕ) (now before : Type 0) (k k' : Known) (a b : Door) (given given' : List SocketAddr) (f f' : ℕ) : Type 0 where
+pub record TookAlmost (count : ℕ) (now before : Type 0) (k k' : Known) (a b : AcceptTraffic) (given given' : List SocketAddr) (f f' : ℕ) : Type 0 where
   pub turns : List AcceptTurn
   pub whole : List AcceptTurn
   pub last : EndsAdmitted turns whole
@@ -141,7 +141,7 @@ pub record TookAlmost (count : ℕ) (now before : Type 0) (k k' : Known) (a b : 
   pub turned : TookTurns turns [] now before (Gave (admitted_callers_in turns) given given' ⊎ Gave (admitted_callers_in whole) given given') k k' a b f f'
 
 -- how a loop of accepts went, by its end
-abbrev pub AcceptsTo : AcceptEnd → ℕ → Type 0 → Type 0 → Known → Known → Door → Door → List SocketAddr → List SocketAddr → ℕ → ℕ → Type 0
+abbrev pub AcceptsTo : AcceptEnd → ℕ → Type 0 → Type 0 → Known → Known → AcceptTraffic → AcceptTraffic → List SocketAddr → List SocketAddr → ℕ → ℕ → Type 0
 AcceptsTo Counted count now before k k' a b given given' f f' = TookCount count now before k k' a b given given' f f'
 AcceptsTo Shutdown count now before k k' a b given given' f f' = TookUntilShut count now before k k' a b given given' f f'
 AcceptsTo OutOfMemory count now before k k' a b given given' f f' = TookAlmost count now before k k' a b given given' f f'

@@ -1,4 +1,4 @@
-pub use Rattle.dns_drivers.specs.Clocks
-pub use Rattle.dns_drivers.specs.Woven
+pub use Rattle.dns_stream_driver.specs.Clocks
+pub use Rattle.dns_stream_driver.specs.Woven
 pub mod Accepting
 pub mod Arrivals

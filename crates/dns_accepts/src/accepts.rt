@@ -5,13 +5,13 @@ ghost use Rattle.std.specs.Arc.{arc_value};
 ghost use Rattle.dns_accepts.specs.Accepting.{AcceptsTo};
 ghost use Rattle.dns_accepts.specs.Arrivals.{AcceptsRan};
 
+use crate::acceptor::Acceptor;
 use crate::pre_connect::PreConnect;
-use crate::reception::Reception;
 use crate::work::ConnectionWork;
 use dns_book::{Book, BookSeat};
-use dns_drivers::Silent;
 use dns_io::{AsyncAccept, Clock, Spawner};
 use dns_service::SharedService;
+use dns_stream_driver::Silent;
 use std::alloc::Global;
 use std::sync::{Arc, Wait};
 use std::thread::Threads;
@@ -53,10 +53,10 @@ where
     W::Stream: Send,
     requires book { seat.book ≡ arc_value book.now }
     requires can_call { W.can_call (arc_value service.now) }
-    ensures ran { AcceptsRan A.tells A.door A.faults P.tells P.given P.faults result.1 result.2 count seat.known result.0.known accept.old accept.new spawner.old spawner.new }
+    ensures ran { AcceptsRan A.tells A.accept_traffic A.faults P.tells P.given P.faults result.1 result.2 count seat.known result.0.known accept.old accept.new spawner.old spawner.new }
     ensures same { result.0.book ≡ seat.book }
 {
-    let reception = Reception {
+    let acceptor = Acceptor {
         rt,
         alloc,
         book,
@@ -64,7 +64,7 @@ where
         clock,
         hook,
     };
-    reception.accept_all(seat, accept, spawner, count)
+    acceptor.accept_all(seat, accept, spawner, count)
 }
 
 /// Accepts connections until `count` were accepted, `count` not 0, or a look shows a shutdown. Each turn is one look, one
@@ -96,8 +96,8 @@ where
     W::Stream: Send,
     requires book { seat.book ≡ arc_value book.now }
     requires can_call { W.can_call (arc_value service.now) }
-    ensures told { AcceptsTo result.1 count (A.tells accept.new × P.tells spawner.new) (A.tells accept.old × P.tells spawner.old) seat.known result.0.known
-        (A.door accept.old) (A.door accept.new) (P.given spawner.old) (P.given spawner.new) (A.faults accept.old) (A.faults accept.new) }
+    ensures observed { AcceptsTo result.1 count (A.tells accept.new × P.tells spawner.new) (A.tells accept.old × P.tells spawner.old) seat.known result.0.known
+        (A.accept_traffic accept.old) (A.accept_traffic accept.new) (P.given spawner.old) (P.given spawner.new) (A.faults accept.old) (A.faults accept.new) }
     ensures same { result.0.book ≡ seat.book }
     ensures accepts_later { A.faults accept.old ≤ A.faults accept.new }
     ensures starts_later { P.faults spawner.old ≤ P.faults spawner.new }

@@ -10,7 +10,7 @@ use dns_name::OutOfMemory;
 #[derive(Clone, Copy, Debug, PartialEq, Eq)]
 pub(crate) enum Arrival {
     /// A connection that was admitted, and is served.
-    Served,
+    WorkStarted,
     /// A connection that was admitted. The start of its work was refused, and it was given up.
     Refused,
     /// A connection that was not admitted, and was closed.
@@ -27,7 +27,7 @@ impl Arrival {
         ensures { result ≡ arrival_callers self }
     {
         match self {
-            Arrival::Served | Arrival::Refused | Arrival::TurnedAway => 1,
+            Arrival::WorkStarted | Arrival::Refused | Arrival::TurnedAway => 1,
             Arrival::Nobody | Arrival::Fault => 0,
         }
     }
@@ -37,7 +37,7 @@ impl Arrival {
         ensures { result ≡ arrival_admitted self }
     {
         match self {
-            Arrival::Served | Arrival::Refused => 1,
+            Arrival::WorkStarted | Arrival::Refused => 1,
             Arrival::TurnedAway | Arrival::Nobody | Arrival::Fault => 0,
         }
     }
@@ -48,7 +48,7 @@ impl Arrival {
     {
         match self {
             Arrival::Refused | Arrival::Fault => true,
-            Arrival::Served | Arrival::TurnedAway | Arrival::Nobody => false,
+            Arrival::WorkStarted | Arrival::TurnedAway | Arrival::Nobody => false,
         }
     }
 }
@@ -58,7 +58,7 @@ pub(crate) fn arrival_of(started: Result<Start, OutOfMemory>) -> Result<Arrival,
     ensures { result ≡ arrival_of started }
 {
     match started {
-        Ok(Start::Started) => Ok(Arrival::Served),
+        Ok(Start::Started) => Ok(Arrival::WorkStarted),
         Ok(Start::Failed) => Ok(Arrival::Refused),
         Err(error) => Err(error),
     }

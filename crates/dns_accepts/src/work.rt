@@ -2,18 +2,18 @@
 
 ghost use Rattle.std.specs.Prelude.{◌≡◌, false};
 ghost use Rattle.std.specs.Arc.{arc_value};
-ghost use Rattle.dns_io.specs.Causes.{Tells};
-ghost use Rattle.dns_client.specs.Serving.{serving};
-ghost use Rattle.dns_drivers.specs.Clocks.{TimedWhole};
-ghost use Rattle.dns_drivers.specs.Story.{LooksAndRelease};
-ghost use Rattle.dns_drivers.specs.Endings.{EndsSo, EndShown, EndCauses, WhereClosed};
+ghost use Rattle.dns_io.specs.Causes.{Observed};
+ghost use Rattle.dns_session.specs.Serving.{serving};
+ghost use Rattle.dns_stream_driver.specs.Clocks.{TimedWhole};
+ghost use Rattle.dns_stream_driver.specs.Story.{LooksAndRelease};
+ghost use Rattle.dns_stream_driver.specs.Endings.{EndsSo, EndShown, EndCauses, WhereClosed};
 
 use dns_admission::Look;
 use dns_book::{Book, BookSeat};
-use dns_drivers::{ConnectionEnd, Recorder, serve_connection};
 use dns_io::{Clock, Link, Work};
 use dns_name::SocketAddr;
 use dns_service::SharedService;
+use dns_stream_driver::{ConnectionEnd, Recorder, serve_connection};
 use std::alloc::Global;
 use std::sync::{Arc, Wait};
 
@@ -75,13 +75,13 @@ impl<
 
     ghost ready = { λ w. (w.seat.book ≡ arc_value w.book) × (w.look.closed ≡ false) × W.can_call (arc_value w.service) };
 
-    ghost gives = { λ w d. Tells (L.tells d.2 × J.tells d.4) (L.tells w.link × J.tells w.journal)
+    ghost gives = { λ w d. Observed (L.tells d.2 × J.tells d.4) (L.tells w.link × J.tells w.journal)
         (EndsSo (serving (W.answer (arc_value w.service)) (W.hint (arc_value w.service))) d.1 w.client w.addr w.look
         (J.noted w.journal) (J.noted d.4) w.seat.known d.0.known (L.traffic w.link) (L.traffic d.2))
-        × Tells (L.tells d.2 × J.tells d.4) (L.tells w.link × J.tells w.journal)
+        × Observed (L.tells d.2 × J.tells d.4) (L.tells w.link × J.tells w.journal)
         (EndShown (serving (W.answer (arc_value w.service)) (W.hint (arc_value w.service))) d.1 w.client w.addr w.look
         (J.noted w.journal) (J.noted d.4) (L.traffic w.link) (L.traffic d.2))
-        × WhereClosed d.1 (Tells (L.tells d.2 × C.tells d.3 × J.tells d.4) (L.tells w.link × C.tells w.clock × J.tells w.journal)
+        × WhereClosed d.1 (Observed (L.tells d.2 × C.tells d.3 × J.tells d.4) (L.tells w.link × C.tells w.clock × J.tells w.journal)
         (TimedWhole (J.noted w.journal) (J.noted d.4) (L.traffic w.link).full_writes (L.traffic d.2).full_writes (C.readings w.clock) (C.readings d.3)))
         × EndCauses d.1 w.seat.known d.0.known (L.faults w.link) (L.faults d.2)
         × LooksAndRelease w.seat.known d.0.known × (d.0.book ≡ w.seat.book) };

@@ -6,4 +6,4 @@ pub mod Placed
 pub mod Sieved
 pub mod Replacing
 pub mod ReadItems
-pub mod WireRecords
+pub mod RecordsInWireForm

@@ -1,5 +1,5 @@
 -- Where all look after each event that all hear, all are sent what they are sent where they hear of each at once.
-use Rattle.dns_client.specs.Serving.{Serving}
+use Rattle.dns_session.specs.Serving.{Serving}
 use Rattle.std.proofs.Common.{◌≡◌, ℕ, ◌+◌, ◌<◌, ◌≤◌, List, [], ◌∷◌, ◌++◌, length, length-append, Bool, true, false, refl, ap, sym, ◌∙◌, subst, arith, lt-ltb, append_assoc}
 use Rattle.std.specs.Prelude.{nat_eq, filter, map, if◌then◌else◌}
 use Rattle.std.specs.List.{list_any, flat_map}
@@ -11,9 +11,9 @@ use Rattle.dns_admission.specs.Machine.{has_version, last_version}
 use Rattle.dns_events.specs.declared.event.Event.{Event}
 use Rattle.dns_events.specs.declared.event.Step.{Step}
 use Rattle.dns_events.specs.declared.event.Step.TheVariants.{Own}
-use Rattle.dns_client.specs.After.{slate_after, sent_after}
-use Rattle.dns_client.specs.Rule.{rule}
-use Rattle.dns_client.specs.Slate.{Slate, Effect, Conf, conf_of, conf_rule}
+use Rattle.dns_session.specs.After.{slate_after, sent_after}
+use Rattle.dns_session.specs.Rule.{rule}
+use Rattle.dns_session.specs.Slate.{Slate, Effect, Conf, conf_of, conf_rule}
 use Rattle.dns_core.specs.AtOnce.{look_by, undelayed}
 use Rattle.dns_core.specs.Own.{is_wide, concerns}
 use Rattle.dns_core.specs.Sent.{conf, slate}
@@ -27,7 +27,7 @@ use Rattle.dns_core.proofs.AtOnce.{closed_if, enters}
 use Rattle.dns_core.proofs.Counted.{put_keeps}
 use Rattle.dns_core.proofs.Gained.{concerns_all, conf_more, members_away, members_joined, members_kept, none_away}
 use Rattle.dns_core.proofs.OutLemmas.{slate_some}
-use Rattle.dns_clients.proofs.Keys.{flat_among}
+use Rattle.dns_session_map.proofs.Keys.{flat_among}
 use Rattle.dns_core.proofs.Late.{NotOver, not_over}
 use Rattle.dns_core.proofs.Looked.{over_idle, effect}
 use Rattle.dns_core.proofs.Plain.{plain}

@@ -1,5 +1,5 @@
 -- A server after an event that all clients hear.
-use Rattle.dns_client.specs.Serving.{Serving}
+use Rattle.dns_session.specs.Serving.{Serving}
 use Rattle.std.proofs.Common.{◌≡◌, ℕ, ◌<◌, ◌≤◌, ◌+◌, List, [], ◌∷◌, ◌++◌, length, length-append, Option, Some, None, Bool, true, false, refl, ap, sym, ◌∙◌, subst, arith, lt-ltb}
 use Rattle.std.proofs.lemmas.List.{append-nil}
 use Rattle.std.specs.Prelude.{filter, is_some, nat_eq, not}
@@ -14,11 +14,11 @@ use Rattle.dns_events.specs.declared.event.EventKind.{EventKind}
 use Rattle.dns_events.specs.declared.event.EventKind.TheVariants.{Reconfigure, Shutdown}
 use Rattle.dns_events.specs.declared.event.Output.{Output}
 use Rattle.dns_service.specs.declared.polled.PolledRequest.{PolledRequest}
-use Rattle.dns_client.specs.Slate.{Slate, Effect, conf_of, conf_rule}
-use Rattle.dns_client.specs.News.{look_effect as heard_news}
-use Rattle.dns_client.specs.Rule.{rule}
-use Rattle.dns_client.specs.Stands.{Stands}
-use Rattle.dns_client.specs.declared.client.ClientCore.{ClientCore}
+use Rattle.dns_session.specs.Slate.{Slate, Effect, conf_of, conf_rule}
+use Rattle.dns_session.specs.News.{look_effect as heard_news}
+use Rattle.dns_session.specs.Rule.{rule}
+use Rattle.dns_session.specs.Stands.{Stands}
+use Rattle.dns_session.specs.declared.client.ClientCore.{ClientCore}
 use Rattle.dns_core.specs.Books.{book_rule}
 use Rattle.dns_core.specs.Own.{is_wide, concerns}
 use Rattle.dns_core.specs.Sent.{slate}
@@ -29,7 +29,7 @@ use Rattle.dns_events.specs.declared.settings.Settings.{Settings}
 use Rattle.dns_core.specs.declared.server.Server.{Server}
 use Rattle.dns_core.proofs.Gained.{concerns_all, conf_more, members_kept, none_away, taken_still}
 use Rattle.dns_core.proofs.OutLemmas.{slate_some}
-use Rattle.dns_clients.proofs.Keys.{flat_among, has_key}
+use Rattle.dns_session_map.proofs.Keys.{flat_among, has_key}
 use Rattle.dns_core.proofs.Late.{not_over}
 use Rattle.dns_core.proofs.Looked.{heard_one}
 use Rattle.dns_core.proofs.Plain.{plain}

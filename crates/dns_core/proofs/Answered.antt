@@ -20,14 +20,14 @@ use Rattle.dns_events.specs.declared.event.Output.TheVariants.{Frame, Closed as 
 use Rattle.dns_events.specs.declared.event.Why.{Why}
 use Rattle.dns_events.specs.declared.event.Why.TheVariants.{Ended, Short, Idle, WriteTimeout, Commanded, Fault as By_fault, Shutdown as By_shutdown}
 use Rattle.dns_service.specs.declared.message.TransportSpecificContext.TheVariants.{Udp}
-use Rattle.dns_client.specs.Connections.{close, flush, flushed, in_transaction, opened, piece, reconfigured, released, tick, took_too_long, wind_up, write, written}
-use Rattle.dns_client.specs.Datagrams.{cut_datagram, datagram, exchange}
-use Rattle.dns_client.specs.Frames.{frames}
-use Rattle.dns_client.specs.Rule.{closed_rule, exchange_rule, flushing_rule, in_phase, open_rule, rule, unused_rule}
-use Rattle.dns_client.specs.Serving.{Serving}
-use Rattle.dns_client.specs.Slate.{Slate, Conf, Effect, Phase, Unused, Exchange, Open, Flushing, Closed, conf_rule, fresh, with_conf}
-use Rattle.dns_client.specs.Timers.{is_expired}
-use Rattle.dns_client.specs.Turns.{exchange_turn, limit_for, reply_to, sent_for, turn}
+use Rattle.dns_session.specs.Connections.{close, flush, flushed, in_transaction, opened, piece, reconfigured, released, tick, took_too_long, wind_up, write, written}
+use Rattle.dns_session.specs.Datagrams.{cut_datagram, datagram, exchange}
+use Rattle.dns_session.specs.Frames.{frames}
+use Rattle.dns_session.specs.Rule.{closed_rule, exchange_rule, flushing_rule, in_phase, open_rule, rule, unused_rule}
+use Rattle.dns_session.specs.Serving.{Serving}
+use Rattle.dns_session.specs.Slate.{Slate, Conf, Effect, Phase, Unused, Exchange, Open, Flushing, Closed, conf_rule, fresh, with_conf}
+use Rattle.dns_session.specs.Timers.{is_expired}
+use Rattle.dns_session.specs.Turns.{exchange_turn, limit_for, reply_to, sent_for, turn}
 use Rattle.dns_core.specs.Out.{gain, gained, heard, is_new, is_turned_away, is_unused, members, out, out_after, turned_away}
 use Rattle.dns_core.specs.Own.{concerns, is_wide}
 use Rattle.dns_core.specs.ReplyTo.{Responds, AnswersFrame, IsReply}

@@ -1,5 +1,5 @@
 -- Whoever looks after each event that all hear is sent what it is sent where it hears of each at once, whoever else looks then.
-use Rattle.dns_client.specs.Serving.{Serving}
+use Rattle.dns_session.specs.Serving.{Serving}
 use Rattle.std.proofs.Common.{◌≡◌, ℕ, ◌+◌, ◌≤◌, List, [], ◌∷◌, ◌++◌, length, Bool, true, false, refl, ap, sym, ◌∙◌, ◌≢◌, arith, lt-ltb, ⊎_elim}
 use Rattle.std.specs.Prelude.{if◌then◌else◌, ◌==◌, map, not, ◌&&◌, ◌||◌, nat_eq}
 use Rattle.std.specs.List.{list_any}
@@ -14,8 +14,8 @@ use Rattle.dns_events.specs.declared.event.EventKind.TheVariants.{Reconfigure, S
 use Rattle.dns_events.specs.declared.event.Output.{Output}
 use Rattle.dns_events.specs.declared.event.Step.{Step}
 use Rattle.dns_events.specs.declared.event.Step.TheVariants.{Own}
-use Rattle.dns_client.specs.Rule.{rule}
-use Rattle.dns_client.specs.Slate.{Slate, Conf, Effect, conf_of, conf_rule, fresh}
+use Rattle.dns_session.specs.Rule.{rule}
+use Rattle.dns_session.specs.Slate.{Slate, Conf, Effect, conf_of, conf_rule, fresh}
 use Rattle.dns_core.specs.Settings.{opening}
 use Rattle.dns_core.specs.Own.{is_wide, own}
 use Rattle.dns_core.specs.Sent.{sent}

@@ -1,5 +1,5 @@
 -- A server after an event by which a client begins, or is turned away.
-use Rattle.dns_client.specs.Serving.{Serving}
+use Rattle.dns_session.specs.Serving.{Serving}
 use Rattle.std.proofs.Common.{◌≡◌, ◌≢◌, ℕ, ◌+◌, List, [], ◌∷◌, ◌++◌, None, Bool, true, false, refl, ap, sym, ◌∙◌, ⊎_elim}
 use Rattle.std.specs.Prelude.{nat_eq, nat_lt, if◌then◌else◌, not, ◌&&◌, ◌||◌}
 use Rattle.std.specs.List.{list_any}
@@ -17,10 +17,10 @@ use Rattle.dns_events.specs.declared.event.Event.{Event}
 use Rattle.dns_events.specs.declared.event.Output.{Output}
 use Rattle.dns_events.specs.declared.event.Output.TheVariants.{TurnedAway}
 use Rattle.dns_service.specs.declared.polled.PolledRequest.{PolledRequest}
-use Rattle.dns_client.specs.Slate.{Slate, Conf, IsUnused, fresh, conf_of}
-use Rattle.dns_client.specs.Rule.{rule}
-use Rattle.dns_client.specs.Stands.{Stands, state_is_spent}
-use Rattle.dns_client.specs.declared.client.ClientCore.{ClientCore}
+use Rattle.dns_session.specs.Slate.{Slate, Conf, IsUnused, fresh, conf_of}
+use Rattle.dns_session.specs.Rule.{rule}
+use Rattle.dns_session.specs.Stands.{Stands, state_is_spent}
+use Rattle.dns_session.specs.declared.client.ClientCore.{ClientCore}
 use Rattle.dns_core.specs.Own.{is_wide}
 use Rattle.dns_core.specs.Sent.{slate}
 use Rattle.dns_core.specs.Out.{is_unused, holds_slot, is_new, joins, has_room, taken, members, put, gained}

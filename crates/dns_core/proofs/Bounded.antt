@@ -1,6 +1,6 @@
 -- A queue keeps the bound that it had at admission, and its length stays within it. By state: an event that all hear sets the
 -- configurations first, which say nothing of either.
-use Rattle.dns_client.specs.Serving.{Serving}
+use Rattle.dns_session.specs.Serving.{Serving}
 use Rattle.std.proofs.Common.{◌≡◌, ℕ, ◌≤◌, List, [], ◌∷◌, ◌++◌, length, length-append, Bool, true, false, refl, ap, ◌∙◌, arith, ltb-true}
 use Rattle.std.specs.Prelude.{nat_lt, if◌then◌else◌}
 use Rattle.std.proofs.lemmas.Bool.{and_parts}
@@ -9,18 +9,18 @@ use Rattle.dns_events.specs.declared.event.Event.{Event}
 use Rattle.dns_events.specs.declared.event.EventKind.{EventKind}
 use Rattle.dns_events.specs.declared.event.EventKind.TheVariants.{Datagram, Offer}
 use Rattle.dns_events.specs.declared.event.Why.{Why}
-use Rattle.dns_client.specs.After.{slate_after}
-use Rattle.dns_client.specs.Slate.{Slate, Effect, Phase, fresh, conf_rule, with_conf}
-use Rattle.dns_client.specs.Datagrams.{datagram}
-use Rattle.dns_client.specs.Budget.{allows}
-use Rattle.dns_client.specs.Connections.{opened, close, append_frame, room, spending, written, flushed}
-use Rattle.dns_client.specs.Rule.{rule, in_phase, unused_rule}
+use Rattle.dns_session.specs.After.{slate_after}
+use Rattle.dns_session.specs.Slate.{Slate, Effect, Phase, fresh, conf_rule, with_conf}
+use Rattle.dns_session.specs.Datagrams.{datagram}
+use Rattle.dns_session.specs.Budget.{allows}
+use Rattle.dns_session.specs.Connections.{opened, close, append_frame, room, spending, written, flushed}
+use Rattle.dns_session.specs.Rule.{rule, in_phase, unused_rule}
 use Rattle.dns_core.specs.Settings.{opening}
 use Rattle.dns_core.specs.Out.{is_unused}
 use Rattle.dns_events.specs.declared.settings.Settings.{Settings}
 use Rattle.dns_core.proofs.Placing.{slate_append}
 use Rattle.dns_core.proofs.Plain.{offered, rule_used, unused_is}
-use Rattle.dns_client.proofs.Walks.{Walks, walks}
+use Rattle.dns_session.proofs.Walks.{Walks, walks}
 
 -- the bound stays, and what was within it stays so
 pub record Bounds (s t : Slate) : Type 0 where

@@ -1,5 +1,5 @@
 -- What one client is sent, read off what all are sent.
-use Rattle.dns_client.specs.Serving.{Serving}
+use Rattle.dns_session.specs.Serving.{Serving}
 use Rattle.std.proofs.Common.{◌≡◌, ◌≢◌, ℕ, List, [], ◌∷◌, ◌++◌, Bool, true, false, cond, refl, ap, sym, ◌∙◌, subst, append_assoc, ⊎_elim}
 use Rattle.std.proofs.lemmas.List.{append-nil}
 use Rattle.std.proofs.lemmas.Bool.{cases_eq, eq-eqb, eqb-true, ne_eqb, false_from_ne_true, not-true, and_parts}
@@ -13,13 +13,13 @@ use Rattle.std.proofs.Math.Bool.{or-true}
 use Rattle.dns_events.specs.declared.event.Event.{Event}
 use Rattle.dns_events.specs.declared.event.Output.{Output}
 use Rattle.dns_events.specs.declared.event.Output.TheVariants.{TurnedAway}
-use Rattle.dns_client.specs.Slate.{Slate}
+use Rattle.dns_session.specs.Slate.{Slate}
 use Rattle.dns_core.specs.Own.{is_wide, concerns, own}
 use Rattle.dns_core.specs.Sent.{conf, sent, slate}
 use Rattle.dns_core.specs.Out.{is_unused, is_new, is_turned_away, joins, members, gain, heard, turned_away, gained, out}
 use Rattle.dns_core.specs.ByClient.{is_for, is_member, was_turned_away}
 use Rattle.dns_events.specs.declared.settings.Settings.{Settings}
-use Rattle.dns_clients.proofs.Keys.{less_absent}
+use Rattle.dns_session_map.proofs.Keys.{less_absent}
 use Rattle.dns_core.proofs.OutLemmas.{slate_some, sent_more, sent_still, out_more}
 use Rattle.dns_core.proofs.Plain.{unused_is}
 use Rattle.dns_core.proofs.Gained.{concerns_own, used_more, new_was, new_became, used_not_new, members_kept, members_away}

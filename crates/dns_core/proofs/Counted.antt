@@ -8,7 +8,7 @@ use Rattle.std.proofs.lemmas.Bool.{eq-eqb, ne_eqb, cases_eq}
 use Rattle.std.proofs.lemmas.Map.Keys.{sorted_head, sorted_tail}
 use Rattle.std.proofs.Math.Bool.{or-true}
 use Rattle.dns_core.specs.Out.{put}
-use Rattle.dns_clients.proofs.Keys.{less_absent}
+use Rattle.dns_session_map.proofs.Keys.{less_absent}
 
 pub filter_same : (p q : ℕ → Bool) (ms : List ℕ) → ((c : ℕ) → list_any (nat_eq c) ms ≡ true → p c ≡ q c) → filter p ms ≡ filter q ms
 filter_same p q [] h = refl

@@ -1,11 +1,11 @@
 -- A piece that is cut in two changes nothing of what is sent.
-use Rattle.dns_client.specs.Serving.{Serving}
+use Rattle.dns_session.specs.Serving.{Serving}
 use Rattle.std.proofs.Common.{◌≡◌, List, [], ◌∷◌, ◌++◌, ap, ◌∙◌, append_assoc}
 use Rattle.dns_events.specs.declared.event.Event.{Event}
 use Rattle.dns_events.specs.declared.event.Output.{Output}
-use Rattle.dns_client.specs.Slate.{Slate, fresh}
-use Rattle.dns_client.specs.Pieces.{IsCut}
-use Rattle.dns_client.specs.Rule.{rule}
+use Rattle.dns_session.specs.Slate.{Slate, fresh}
+use Rattle.dns_session.specs.Pieces.{IsCut}
+use Rattle.dns_session.specs.Rule.{rule}
 use Rattle.dns_core.specs.Settings.{opening}
 use Rattle.dns_core.specs.Sent.{sent_after, sent}
 use Rattle.dns_events.specs.declared.settings.Settings.{Settings}

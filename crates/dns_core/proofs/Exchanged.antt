@@ -17,11 +17,11 @@ use Rattle.dns_events.specs.declared.event.EventKind.TheVariants.{Datagram as Is
 use Rattle.dns_events.specs.declared.event.Output.{Output}
 use Rattle.dns_events.specs.declared.event.Output.TheVariants.{Datagram}
 use Rattle.dns_service.specs.declared.message.TransportSpecificContext.TheVariants.{Udp}
-use Rattle.dns_client.specs.Datagrams.{at_once, cut_datagram, exchange, refused_datagram}
-use Rattle.dns_client.specs.Requests.{unpolled, header_size, request_of_datagram}
-use Rattle.dns_client.specs.Serving.{Serving}
-use Rattle.dns_client.specs.Slate.{Slate, SlateRequest, Conf, Effect}
-use Rattle.dns_client.specs.Turns.{exchange_turn, polled, sent_at_once, sent_for, with_request}
+use Rattle.dns_session.specs.Datagrams.{at_once, cut_datagram, exchange, refused_datagram}
+use Rattle.dns_session.specs.Requests.{unpolled, header_size, request_of_datagram}
+use Rattle.dns_session.specs.Serving.{Serving}
+use Rattle.dns_session.specs.Slate.{Slate, SlateRequest, Conf, Effect}
+use Rattle.dns_session.specs.Turns.{exchange_turn, polled, sent_at_once, sent_for, with_request}
 use Rattle.dns_core.specs.Out.{is_new}
 use Rattle.dns_core.specs.ReplyTo.{Responds, datagram_limit, AnswersDatagram, IsReply}
 use Rattle.dns_core.specs.Sent.{conf}

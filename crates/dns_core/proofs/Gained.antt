@@ -1,13 +1,13 @@
 -- Who hears an event, who begins with it, and who are members then.
-use Rattle.dns_client.specs.Serving.{Serving}
+use Rattle.dns_session.specs.Serving.{Serving}
 use Rattle.std.proofs.Common.{◌≡◌, ◌≢◌, ℕ, List, [], ◌∷◌, ◌++◌, ◌+◌, length, Bool, true, false, refl, ap, sym, ◌∙◌}
 use Rattle.std.specs.Prelude.{nat_eq, not, ◌&&◌}
 use Rattle.std.specs.List.{list_any}
 use Rattle.std.proofs.lemmas.Bool.{eq-eqb, ne_eqb, and_parts, not-true}
 use Rattle.std.proofs.Math.Bool.{and-false, and-not_self, or-true}
 use Rattle.dns_events.specs.declared.event.Event.{Event}
-use Rattle.dns_client.specs.Slate.{Slate, Effect, Conf, conf_rule}
-use Rattle.dns_client.specs.Rule.{rule}
+use Rattle.dns_session.specs.Slate.{Slate, Effect, Conf, conf_rule}
+use Rattle.dns_session.specs.Rule.{rule}
 use Rattle.dns_core.specs.Own.{is_wide, concerns}
 use Rattle.dns_core.specs.Settings.{opening}
 use Rattle.dns_core.specs.Sent.{conf, conf_after, slate}

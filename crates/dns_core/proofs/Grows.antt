@@ -1,5 +1,5 @@
 -- By how much a piece and a turn make a queue longer: within what its budget leaves in the window of that moment.
-use Rattle.dns_client.specs.Serving.{Serving}
+use Rattle.dns_session.specs.Serving.{Serving}
 use Rattle.std.proofs.Common.{◌≡◌, ℕ, ◌+◌, ◌-◌, ◌/◌, ◌≤◌, List, [], ◌∷◌, ◌++◌, length, length-append, Bool, true, false, refl, ap, sym, ◌∙◌, arith, ltb-true}
 use Rattle.std.specs.Prelude.{Option, Some, None, IsSomeAnd, nat_lt, min, ◌==◌, if◌then◌else◌, not, ◌||◌}
 use Rattle.std.proofs.lemmas.Bool.{eq-eqb, and_parts}
@@ -8,15 +8,15 @@ use Rattle.dns_events.specs.declared.event.Event.{Event}
 use Rattle.dns_events.specs.declared.event.EventKind.{EventKind}
 use Rattle.dns_events.specs.declared.event.EventKind.TheVariants.{Reconfigure}
 use Rattle.dns_events.specs.declared.event.Why.{Why}
-use Rattle.dns_client.specs.Budget.{allows, is_left, is_mark, most_spent}
-use Rattle.dns_client.specs.Slate.{Slate, Open}
-use Rattle.dns_client.specs.Requests.{unpolled, request_of_frame}
-use Rattle.dns_client.specs.Connections.{close, wind_up, released, written, flushed, append_frame, room, spending}
-use Rattle.dns_client.specs.Turns.{polled, retimed, with_request}
+use Rattle.dns_session.specs.Budget.{allows, is_left, is_mark, most_spent}
+use Rattle.dns_session.specs.Slate.{Slate, Open}
+use Rattle.dns_session.specs.Requests.{unpolled, request_of_frame}
+use Rattle.dns_session.specs.Connections.{close, wind_up, released, written, flushed, append_frame, room, spending}
+use Rattle.dns_session.specs.Turns.{polled, retimed, with_request}
 use Rattle.dns_core.specs.Budgets.{AllowsAtMost}
 use Rattle.dns_core.specs.Trails.{is_open}
 use Rattle.dns_core.specs.Out.{is_unused}
-use Rattle.dns_client.proofs.Walks.{Walks}
+use Rattle.dns_session.proofs.Walks.{Walks}
 
 -- what is left in window n of the b replies that may be queued in it
 abbrev pub left_of : ℕ → ℕ → Option ℕ → ℕ → ℕ

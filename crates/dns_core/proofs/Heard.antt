@@ -1,5 +1,5 @@
 -- What is sent for one event more: the gains of those that hear it.
-use Rattle.dns_client.specs.Serving.{Serving}
+use Rattle.dns_session.specs.Serving.{Serving}
 use Rattle.std.proofs.Common.{◌≡◌, ◌≢◌, ℕ, List, [], ◌∷◌, ◌++◌, Bool, true, false, cond, refl, ap, sym, ◌∙◌, ⊎_elim}
 use Rattle.std.proofs.lemmas.List.{append-nil}
 use Rattle.std.specs.Prelude.{filter, nat_eq, if◌then◌else◌, not, ◌&&◌, ◌||◌}
@@ -17,7 +17,7 @@ use Rattle.dns_core.specs.Sent.{conf}
 use Rattle.dns_core.specs.Out.{gain, heard, is_new, is_turned_away, joins, members, turned_away, gained}
 use Rattle.dns_events.specs.declared.settings.Settings.{Settings}
 use Rattle.dns_core.proofs.Counted.{filter_same, put_there}
-use Rattle.dns_clients.proofs.Keys.{less_absent}
+use Rattle.dns_session_map.proofs.Keys.{less_absent}
 use Rattle.dns_core.proofs.Gained.{concerns_own, members_kept, members_joined, members_away, none_away}
 use Rattle.dns_core.proofs.Rising.{rises, new_absent}
 

@@ -1,18 +1,18 @@
 -- What is kept of one client, by its slate: after an event of it, and after the event by which it begins.
-use Rattle.dns_client.specs.Serving.{Serving}
+use Rattle.dns_session.specs.Serving.{Serving}
 use Rattle.std.proofs.Common.{◌≡◌, ℕ, List, [], Option, Some, None, Bool, true, false, refl, ap, sym, ◌∙◌}
 use Rattle.std.specs.Prelude.{if◌then◌else◌}
 use Rattle.dns_service.specs.Answer.{Answer}
 use Rattle.dns_events.specs.declared.event.Event.{Event}
 use Rattle.dns_events.specs.declared.event.Output.{Output}
 use Rattle.dns_service.specs.declared.polled.PolledRequest.{PolledRequest}
-use Rattle.dns_client.specs.Slate.{Slate, Effect}
-use Rattle.dns_client.specs.Rule.{rule}
-use Rattle.dns_client.specs.Spent.{is_spent}
-use Rattle.dns_client.specs.Stands.{Stands, StandsIn}
-use Rattle.dns_client.specs.declared.client.ClientCore.{ClientCore}
-use Rattle.dns_client.specs.declared.client.State.{State}
-use Rattle.dns_client.specs.declared.client.State.TheVariants.{Exchange as Is_exchange, Open as Is_open, Flushing as Is_flushing, Closed as Is_closed, Lost as Is_lost}
+use Rattle.dns_session.specs.Slate.{Slate, Effect}
+use Rattle.dns_session.specs.Rule.{rule}
+use Rattle.dns_session.specs.Spent.{is_spent}
+use Rattle.dns_session.specs.Stands.{Stands, StandsIn}
+use Rattle.dns_session.specs.declared.client.ClientCore.{ClientCore}
+use Rattle.dns_session.specs.declared.client.State.{State}
+use Rattle.dns_session.specs.declared.client.State.TheVariants.{Exchange as Is_exchange, Open as Is_open, Flushing as Is_flushing, Closed as Is_closed, Lost as Is_lost}
 use Rattle.dns_core.specs.Out.{is_unused}
 use Rattle.dns_core.specs.Serves.{IsAt, Holds, Steps}
 use Rattle.dns_core.proofs.Spent.{spent_idle, spent_kept, unused_unspent}

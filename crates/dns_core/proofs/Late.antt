@@ -1,5 +1,5 @@
 -- Once the server shut down no connection is open, and what comes late changes nothing; of some reconfigures the last counts.
-use Rattle.dns_client.specs.Serving.{Serving}
+use Rattle.dns_session.specs.Serving.{Serving}
 use Rattle.std.proofs.Common.{◌≡◌, ◌≢◌, ℕ, List, [], ◌∷◌, ◌++◌, Bool, true, false, refl, ap, sym, ◌∙◌}
 use Rattle.std.specs.Prelude.{All}
 use Rattle.std.proofs.lemmas.List.Elements.{All-head, All-tail}
@@ -11,9 +11,9 @@ use Rattle.dns_events.specs.declared.event.EventKind.TheVariants.{Datagram, Offe
 use Rattle.dns_events.specs.declared.event.Output.{Output}
 use Rattle.dns_events.specs.declared.event.Why.{Why}
 use Rattle.dns_events.specs.declared.event.Why.TheVariants.{Shutdown as By_shutdown}
-use Rattle.dns_client.specs.Slate.{Slate, Conf, Effect, Phase, Unused, Open, fresh, conf_rule, with_conf}
-use Rattle.dns_client.specs.Connections.{wind_up, flushed}
-use Rattle.dns_client.specs.Rule.{rule, in_phase}
+use Rattle.dns_session.specs.Slate.{Slate, Conf, Effect, Phase, Unused, Open, fresh, conf_rule, with_conf}
+use Rattle.dns_session.specs.Connections.{wind_up, flushed}
+use Rattle.dns_session.specs.Rule.{rule, in_phase}
 use Rattle.dns_core.specs.Settings.{opening}
 use Rattle.dns_core.specs.Own.{is_wide, own}
 use Rattle.dns_core.specs.Runs.{IsReconfigure}
@@ -21,7 +21,7 @@ use Rattle.dns_core.specs.Sent.{slate_after, sent_after, sent, slate}
 use Rattle.dns_core.specs.Trails.{is_open}
 use Rattle.dns_events.specs.declared.settings.Settings.{Settings}
 use Rattle.dns_core.proofs.Plain.{narrow, rule_conf}
-use Rattle.dns_client.proofs.Walks.{Rows, rows}
+use Rattle.dns_session.proofs.Walks.{Rows, rows}
 use Rattle.dns_core.proofs.OutLemmas.{sent_after_append}
 
 pub NotOver : Slate → Type 0

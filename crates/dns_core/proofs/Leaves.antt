@@ -1,11 +1,11 @@
 -- Events that leave the slate of their client, and for which it is sent nothing.
-use Rattle.dns_client.specs.Serving.{Serving}
+use Rattle.dns_session.specs.Serving.{Serving}
 use Rattle.std.proofs.Common.{◌≡◌, List, [], true, false, refl, ap, ◌∙◌}
 use Rattle.dns_service.specs.Config.{Dgram, Stream}
 use Rattle.dns_events.specs.declared.event.Event.{Event}
 use Rattle.dns_events.specs.declared.event.EventKind.TheVariants.{Piece, Reconfigure, Shutdown}
-use Rattle.dns_client.specs.Rule.{rule, in_phase}
-use Rattle.dns_client.specs.Slate.{Slate, fresh}
+use Rattle.dns_session.specs.Rule.{rule, in_phase}
+use Rattle.dns_session.specs.Slate.{Slate, fresh}
 use Rattle.dns_core.specs.Out.{is_unused}
 use Rattle.dns_core.specs.Own.{is_wide}
 use Rattle.dns_core.specs.Placed.{is_beginning}

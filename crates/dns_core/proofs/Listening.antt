@@ -9,15 +9,15 @@ use Rattle.dns_base.specs.Wire.{wire}
 use Rattle.dns_service.specs.ErrorReply.{error_reply}
 use Rattle.dns_service.specs.Req.{Req}
 use Rattle.dns_events.specs.declared.event.Why.TheVariants.{Short}
-use Rattle.dns_client.specs.Connections.{append_frame, close, enqueue_or_drop, room, is_in_transaction, take_frame, take_frames, take_request}
-use Rattle.dns_client.specs.Frames.{framed}
-use Rattle.dns_client.specs.Requests.{unpolled, header_size, most_requests, request_of_frame}
-use Rattle.dns_client.specs.Serving.{Serving}
-use Rattle.dns_client.specs.Slate.{Slate, SlateRequest, Effect}
-use Rattle.dns_client.specs.Turns.{answered, hold, enqueue, queue_held, queue_reply, reply_to, retimed, turn, turn_request, with_request}
+use Rattle.dns_session.specs.Connections.{append_frame, close, enqueue_or_drop, room, is_in_transaction, take_frame, take_frames, take_request}
+use Rattle.dns_session.specs.Frames.{framed}
+use Rattle.dns_session.specs.Requests.{unpolled, header_size, most_requests, request_of_frame}
+use Rattle.dns_session.specs.Serving.{Serving}
+use Rattle.dns_session.specs.Slate.{Slate, SlateRequest, Effect}
+use Rattle.dns_session.specs.Turns.{answered, hold, enqueue, queue_held, queue_reply, reply_to, retimed, turn, turn_request, with_request}
 use Rattle.dns_core.specs.ReplyTo.{Responds}
 use Rattle.dns_core.proofs.Replied.{refused_responds}
-use Rattle.dns_client.proofs.Taken.{takes}
+use Rattle.dns_session.proofs.Taken.{takes}
 
 -- the element at a place
 pub all_at : {X : Type 0} (P : X → Type 0) (xs : List X) (k : ℕ) → All P xs → IfSome (slice_get xs k) P

@@ -1,5 +1,5 @@
 -- What the entries of the book since a look tell a client, a look tells it at once.
-use Rattle.dns_client.specs.Serving.{Serving}
+use Rattle.dns_session.specs.Serving.{Serving}
 use Rattle.std.proofs.Common.{◌≡◌, ℕ, ◌+◌, ◌<◌, List, [], ◌∷◌, ◌++◌, Bool, true, false, refl, ap, sym, ◌∙◌, arith, ⊎_elim, ◌⊎◌, inl, inr}
 use Rattle.std.specs.Prelude.{if◌then◌else◌, not, ◌&&◌}
 use Rattle.std.proofs.lemmas.Bool.{eq-eqb, ne_eqb, and_parts, not-true}
@@ -11,10 +11,10 @@ use Rattle.dns_service.specs.Config.{Dgram, Stream}
 use Rattle.dns_events.specs.declared.event.Event.{Event}
 use Rattle.dns_events.specs.declared.event.EventKind.{EventKind}
 use Rattle.dns_events.specs.declared.event.EventKind.TheVariants.{Reconfigure, Shutdown}
-use Rattle.dns_client.specs.After.{slate_after, sent_after}
-use Rattle.dns_client.specs.News.{wide, news, new_end, look_effect}
-use Rattle.dns_client.specs.Rule.{rule, in_phase}
-use Rattle.dns_client.specs.Slate.{Slate, Conf, Effect, Phase, Unused, conf_of, conf_rule, with_conf}
+use Rattle.dns_session.specs.After.{slate_after, sent_after}
+use Rattle.dns_session.specs.News.{wide, news, new_end, look_effect}
+use Rattle.dns_session.specs.Rule.{rule, in_phase}
+use Rattle.dns_session.specs.Slate.{Slate, Conf, Effect, Phase, Unused, conf_of, conf_rule, with_conf}
 use Rattle.dns_core.specs.Own.{is_wide}
 use Rattle.dns_core.specs.Books.{book_rule, is_entry, books}
 use Rattle.dns_core.proofs.Late.{NotOver, late_reconfigure, late_shutdown, rule_over}

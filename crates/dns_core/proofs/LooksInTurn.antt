@@ -1,5 +1,5 @@
 -- Some clients look, one after another.
-use Rattle.dns_client.specs.Serving.{Serving}
+use Rattle.dns_session.specs.Serving.{Serving}
 use Rattle.std.proofs.Common.{◌≡◌, ◌≢◌, ℕ, List, [], ◌∷◌, ◌++◌, Bool, true, false, refl, ap, sym, ◌∙◌, subst, ⊎_elim, append_assoc}
 use Rattle.std.specs.Prelude.{nat_eq, map, if◌then◌else◌}
 use Rattle.std.specs.List.{list_any, flat_map}
@@ -12,14 +12,14 @@ use Rattle.std.proofs.Math.Bool.{or-true}
 use Rattle.dns_events.specs.declared.event.Event.{Event}
 use Rattle.dns_events.specs.declared.event.Output.{Output}
 use Rattle.dns_events.specs.declared.event.Step.{Step}
-use Rattle.dns_client.specs.After.{slate_after, sent_after}
-use Rattle.dns_client.specs.Slate.{Slate}
+use Rattle.dns_session.specs.After.{slate_after, sent_after}
+use Rattle.dns_session.specs.Slate.{Slate}
 use Rattle.dns_core.specs.AtOnce.{look_by}
 use Rattle.dns_core.specs.Out.{is_unused}
 use Rattle.dns_core.specs.Placed.{Knowledge, knows, puts}
 use Rattle.dns_core.specs.Outs.{Membership, placed_slate, placed_gain, membership, step_gained, outs_after}
 use Rattle.dns_events.specs.declared.settings.Settings.{Settings}
-use Rattle.dns_clients.proofs.Keys.{less_absent}
+use Rattle.dns_session_map.proofs.Keys.{less_absent}
 use Rattle.dns_core.proofs.Placing.{knows_more, slate_more, gain_more}
 use Rattle.dns_core.proofs.Stepping.{look_quiet, quiet_slate}
 use Rattle.dns_core.proofs.StepsByClient.{joined}

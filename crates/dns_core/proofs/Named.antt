@@ -1,5 +1,5 @@
 -- Whom the outputs of a client's rule are for, and what a client that didn't begin is sent.
-use Rattle.dns_client.specs.Serving.{Serving}
+use Rattle.dns_session.specs.Serving.{Serving}
 use Rattle.std.proofs.Common.{◌≡◌, ◌≢◌, ℕ, List, [], ◌∷◌, ◌++◌, length, Bool, true, false, cond, refl, ap, sym, ◌∙◌, subst}
 use Rattle.std.specs.Prelude.{Option, Some, None, nat_lt, filter, if◌then◌else◌}
 use Rattle.std.proofs.lemmas.Bool.{eq-eqb, eqb-true, ne_eqb}
@@ -12,12 +12,12 @@ use Rattle.dns_events.specs.declared.event.EventKind.{EventKind}
 use Rattle.dns_events.specs.declared.event.EventKind.TheVariants.{Datagram, Offer, Reconfigure, Shutdown}
 use Rattle.dns_events.specs.declared.event.Output.{Output}
 use Rattle.dns_events.specs.declared.event.Why.{Why}
-use Rattle.dns_client.specs.Slate.{Slate, Effect, Phase, Unused, fresh, conf_rule, with_conf}
-use Rattle.dns_client.specs.Requests.{header_size}
-use Rattle.dns_client.specs.Datagrams.{cut_datagram, refused_datagram, datagram}
-use Rattle.dns_client.specs.Connections.{opened, written, flushed}
-use Rattle.dns_client.specs.Turns.{sent_at_once, sent_for}
-use Rattle.dns_client.specs.Rule.{rule, in_phase, unused_rule}
+use Rattle.dns_session.specs.Slate.{Slate, Effect, Phase, Unused, fresh, conf_rule, with_conf}
+use Rattle.dns_session.specs.Requests.{header_size}
+use Rattle.dns_session.specs.Datagrams.{cut_datagram, refused_datagram, datagram}
+use Rattle.dns_session.specs.Connections.{opened, written, flushed}
+use Rattle.dns_session.specs.Turns.{sent_at_once, sent_for}
+use Rattle.dns_session.specs.Rule.{rule, in_phase, unused_rule}
 use Rattle.dns_core.specs.Settings.{opening}
 use Rattle.dns_core.specs.Own.{is_wide, concerns, own}
 use Rattle.dns_core.specs.Sent.{slate_after, sent_after, sent, slate}
@@ -25,7 +25,7 @@ use Rattle.dns_core.specs.Out.{is_unused}
 use Rattle.dns_core.specs.ByClient.{client_of, is_for}
 use Rattle.dns_events.specs.declared.settings.Settings.{Settings}
 use Rattle.dns_core.proofs.Plain.{unused_is, rule_used, still_unused}
-use Rattle.dns_client.proofs.Walks.{Walks, walks}
+use Rattle.dns_session.proofs.Walks.{Walks, walks}
 
 -- each output is for the client
 abbrev pub AreFor : ℕ → List Output → Type 0

@@ -1,5 +1,5 @@
 -- Events that change nothing for anybody.
-use Rattle.dns_client.specs.Serving.{Serving}
+use Rattle.dns_session.specs.Serving.{Serving}
 use Rattle.std.proofs.Common.{◌≡◌, ◌≢◌, ℕ, List, [], ◌∷◌, ◌++◌, length, Bool, true, false, refl, ap, sym, ◌∙◌, append_assoc, ⊎_elim}
 use Rattle.std.proofs.lemmas.List.{append-nil}
 use Rattle.std.proofs.Math.Seq.{take-append_seam}
@@ -9,8 +9,8 @@ use Rattle.std.specs.List.{list_any, flat_map}
 use Rattle.dns_events.specs.declared.event.Event.{Event}
 use Rattle.dns_events.specs.declared.event.Output.{Output}
 use Rattle.dns_events.specs.declared.event.Output.TheVariants.{TurnedAway}
-use Rattle.dns_client.specs.Slate.{Slate, Effect, Conf, conf_rule, fresh}
-use Rattle.dns_client.specs.Rule.{rule}
+use Rattle.dns_session.specs.Slate.{Slate, Effect, Conf, conf_rule, fresh}
+use Rattle.dns_session.specs.Rule.{rule}
 use Rattle.dns_core.specs.Own.{is_wide, concerns}
 use Rattle.dns_core.specs.Sent.{conf, slate}
 use Rattle.dns_core.specs.Out.{is_unused, holds_slot, is_new, taken, has_room, joins, put, members, gain, heard, is_turned_away, turned_away, gained, out_after, out}

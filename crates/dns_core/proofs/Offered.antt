@@ -1,5 +1,5 @@
 -- A server after a datagram, and after an offer.
-use Rattle.dns_client.specs.Serving.{Serving}
+use Rattle.dns_session.specs.Serving.{Serving}
 use Rattle.std.proofs.Common.{◌≡◌, ℕ, ◌≤◌, ◌⊎◌, List, [], ◌∷◌, ◌++◌, Bool, true, false, refl, ap, sym, ◌∙◌, subst, ⊎_elim, inl, inr, lt-ltb}
 use Rattle.std.specs.Prelude.{nat_eq, if◌then◌else◌, not}
 use Rattle.std.specs.Ordering.{nat_cmp}
@@ -19,12 +19,12 @@ use Rattle.dns_events.specs.declared.event.EventKind.TheVariants.{Datagram, Offe
 use Rattle.dns_events.specs.declared.event.Output.{Output}
 use Rattle.dns_events.specs.declared.event.Output.TheVariants.{TurnedAway}
 use Rattle.dns_service.specs.declared.polled.PolledRequest.{PolledRequest}
-use Rattle.dns_client.specs.Slate.{Slate, Effect, Conf, IsUnused, conf_of}
-use Rattle.dns_client.specs.Connections.{opened}
-use Rattle.dns_client.specs.Datagrams.{datagram}
-use Rattle.dns_client.specs.Rule.{rule}
-use Rattle.dns_client.specs.Stands.{Stands}
-use Rattle.dns_client.specs.declared.client.ClientCore.{ClientCore}
+use Rattle.dns_session.specs.Slate.{Slate, Effect, Conf, IsUnused, conf_of}
+use Rattle.dns_session.specs.Connections.{opened}
+use Rattle.dns_session.specs.Datagrams.{datagram}
+use Rattle.dns_session.specs.Rule.{rule}
+use Rattle.dns_session.specs.Stands.{Stands}
+use Rattle.dns_session.specs.declared.client.ClientCore.{ClientCore}
 use Rattle.dns_core.specs.Own.{is_wide}
 use Rattle.dns_core.specs.Out.{is_unused, holds_slot, gained}
 use Rattle.dns_core.specs.Sent.{slate}

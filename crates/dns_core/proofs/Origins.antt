@@ -10,8 +10,8 @@ use Rattle.dns_base.specs.Msg.{Msg}
 use Rattle.dns_service.specs.Req.{Req}
 use Rattle.dns_events.specs.declared.event.Output.{Output}
 use Rattle.dns_events.specs.declared.event.Output.TheVariants.{Datagram, Frame, Closed, TurnedAway}
-use Rattle.dns_client.specs.Serving.{Serving}
-use Rattle.dns_client.specs.Turns.{limit_for, reply_to, sent_for}
+use Rattle.dns_session.specs.Serving.{Serving}
+use Rattle.dns_session.specs.Turns.{limit_for, reply_to, sent_for}
 use Rattle.dns_core.specs.ReplyTo.{Responds}
 use Rattle.dns_core.specs.Trails.{Origin, AnswersRequest, AreAnswers, AreFrom, AreQueued, IsAnswer, IsFrom, IsRising, Refuses, on_wire, polls_of, queue_origins, reply_at}
 

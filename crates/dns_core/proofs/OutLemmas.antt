@@ -1,12 +1,12 @@
 -- One event more.
-use Rattle.dns_client.specs.Serving.{Serving}
+use Rattle.dns_session.specs.Serving.{Serving}
 use Rattle.std.proofs.Common.{◌≡◌, ◌≤◌, ℕ, arith, length, length-append, List, [], ◌∷◌, ◌++◌, true, false, refl, ap, sym, ◌∙◌, append_assoc}
 use Rattle.std.proofs.lemmas.List.{append-nil}
 use Rattle.std.proofs.lemmas.List.Elements.{filter-append}
 use Rattle.std.proofs.Math.Seq.{take-append_seam}
 use Rattle.dns_events.specs.declared.event.Event.{Event}
-use Rattle.dns_client.specs.Slate.{Slate, fresh}
-use Rattle.dns_client.specs.Rule.{rule}
+use Rattle.dns_session.specs.Slate.{Slate, fresh}
+use Rattle.dns_session.specs.Rule.{rule}
 use Rattle.dns_core.specs.Settings.{opening}
 use Rattle.dns_core.specs.Own.{concerns, own}
 use Rattle.dns_core.specs.Sent.{slate_after, sent_after, sent, slate}

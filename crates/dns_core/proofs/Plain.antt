@@ -1,6 +1,6 @@
 -- A slate has the configurations in force, an unused one has nothing else, a number that was used stays used, and a slot is held
 -- until a Release finds the connection closed. By state: an event that all hear sets the configurations first.
-use Rattle.dns_client.specs.Serving.{Serving}
+use Rattle.dns_session.specs.Serving.{Serving}
 use Rattle.std.proofs.Common.{◌≡◌, ◌≢◌, ℕ, List, [], ◌∷◌, Bool, true, false, cond, refl, ap, sym, ◌∙◌, subst}
 use Rattle.std.specs.Prelude.{Option, Some, None, slice_get, nat_eq, if◌then◌else◌, ◌||◌}
 use Rattle.dns_name.specs.declared.address.SocketAddr.{SocketAddr}
@@ -8,18 +8,18 @@ use Rattle.dns_events.specs.declared.event.Event.{Event}
 use Rattle.dns_events.specs.declared.event.EventKind.{EventKind}
 use Rattle.dns_events.specs.declared.event.EventKind.TheVariants.{Datagram, Turn, Offer, Release, Reconfigure, Shutdown}
 use Rattle.dns_events.specs.declared.event.Why.{Why}
-use Rattle.dns_client.specs.Slate.{Slate, SlateRequest, Conf, Effect, Phase, Unused, Exchange, Open, Flushing, Closed, fresh, conf_rule, with_conf}
-use Rattle.dns_client.specs.Datagrams.{datagram}
-use Rattle.dns_client.specs.Connections.{opened, close, written, flushed}
-use Rattle.dns_client.specs.Turns.{exchange_turn, turn}
-use Rattle.dns_client.specs.Rule.{rule, in_phase, unused_rule, closed_rule}
+use Rattle.dns_session.specs.Slate.{Slate, SlateRequest, Conf, Effect, Phase, Unused, Exchange, Open, Flushing, Closed, fresh, conf_rule, with_conf}
+use Rattle.dns_session.specs.Datagrams.{datagram}
+use Rattle.dns_session.specs.Connections.{opened, close, written, flushed}
+use Rattle.dns_session.specs.Turns.{exchange_turn, turn}
+use Rattle.dns_session.specs.Rule.{rule, in_phase, unused_rule, closed_rule}
 use Rattle.dns_core.specs.Finished.{IsFinished}
 use Rattle.dns_core.specs.Settings.{opening}
 use Rattle.dns_core.specs.Own.{is_wide, own, concerns}
 use Rattle.dns_core.specs.Sent.{conf, conf_after, slate_after, slate}
 use Rattle.dns_core.specs.Out.{is_unused, is_connection, holds_slot}
 use Rattle.dns_events.specs.declared.settings.Settings.{Settings}
-use Rattle.dns_client.proofs.Walks.{Walks, walks, may_close}
+use Rattle.dns_session.proofs.Walks.{Walks, walks, may_close}
 
 -- begun, and not closed
 abbrev pub is_going : Phase → Bool

@@ -16,7 +16,7 @@ use Rattle.dns_service.specs.Transport.{limit, limit_over}
 use Rattle.dns_service.specs.declared.message.TransportSpecificContext.{TransportSpecificContext}
 use Rattle.dns_service.specs.declared.message.TransportSpecificContext.TheVariants.{Udp}
 use Rattle.dns_service.specs.declared.service.Polled.TheVariants.{Pending, Ready}
-use Rattle.dns_client.specs.Turns.{reply_to}
+use Rattle.dns_session.specs.Turns.{reply_to}
 use Rattle.dns_core.specs.ReplyTo.{Responds}
 use Rattle.dns_middleware.specs.ReplyLaws.{ReplyHas}
 

@@ -6,8 +6,8 @@ use Rattle.std.proofs.lemmas.Bool.{cases_eq}
 use Rattle.std.proofs.lemmas.List.{append-nil}
 use Rattle.std.proofs.lemmas.List.Elements.{All-nil, All-cons, All-append, All-weaker}
 use Rattle.dns_service.specs.declared.invoker.InvokerStatus.{InvokerStatus}
-use Rattle.dns_client.specs.Serving.{Serving}
-use Rattle.dns_client.specs.Slate.{SlateRequest}
+use Rattle.dns_session.specs.Serving.{Serving}
+use Rattle.dns_session.specs.Slate.{SlateRequest}
 use Rattle.dns_core.specs.Trails.{Origin, Trail, IsRising, IsSomewhere, in_order, origin, poll_of, polls_of, reply_at}
 use Rattle.dns_core.proofs.Origins.{at_right, get_set_same, get_set_other, polls_same, polls_other, rising_push}
 use Rattle.dns_core.proofs.Trailing.{Asks, AsksAll, AsksAt, GoesOn, asks_on, joined_on, polls_joined, somewhere_on, still_polls, waits_with}

@@ -1,5 +1,5 @@
 -- Steps by which all heard of the same as by some events: an event of one client more does the same.
-use Rattle.dns_client.specs.Serving.{Serving}
+use Rattle.dns_session.specs.Serving.{Serving}
 use Rattle.std.proofs.Common.{◌≡◌, ◌≢◌, ℕ, ◌≤◌, List, [], ◌∷◌, ◌++◌, length, Bool, true, false, refl, ap, sym, ◌∙◌, ⊎_elim}
 use Rattle.std.specs.Prelude.{nat_eq, nat_lt, filter, if◌then◌else◌}
 use Rattle.std.specs.List.{list_any}
@@ -15,8 +15,8 @@ use Rattle.dns_events.specs.declared.event.EventKind.TheVariants.{Datagram, Offe
 use Rattle.dns_events.specs.declared.event.Output.TheVariants.{TurnedAway}
 use Rattle.dns_events.specs.declared.event.Step.{Step}
 use Rattle.dns_events.specs.declared.event.Step.TheVariants.{Own}
-use Rattle.dns_client.specs.Rule.{rule}
-use Rattle.dns_client.specs.Slate.{Slate, Effect, Conf, conf_of, fresh}
+use Rattle.dns_session.specs.Rule.{rule}
+use Rattle.dns_session.specs.Slate.{Slate, Effect, Conf, conf_of, fresh}
 use Rattle.dns_core.specs.Own.{is_wide}
 use Rattle.dns_core.specs.Sent.{conf, slate}
 use Rattle.dns_core.specs.Out.{gain, gained, holds_slot, is_new, is_unused, joins, has_room, members, put, taken}

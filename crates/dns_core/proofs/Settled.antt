@@ -1,5 +1,5 @@
 -- All frames of the octets received are taken, so an empty piece changes nothing; nor does a second release.
-use Rattle.dns_client.specs.Serving.{Serving}
+use Rattle.dns_session.specs.Serving.{Serving}
 use Rattle.std.proofs.Common.{◌≡◌, ◌≤◌, ℕ, ◌+◌, List, [], ◌∷◌, ◌++◌, length, drop, Bool, true, false, refl, ap, sym, ◌∙◌, arith, length-drop}
 use Rattle.std.proofs.lemmas.List.{append-nil, drop_all}
 use Rattle.std.specs.Prelude.{Option, Some, None, nat_lt, if◌then◌else◌}
@@ -7,20 +7,20 @@ use Rattle.dns_events.specs.declared.event.Event.{Event}
 use Rattle.dns_events.specs.declared.event.EventKind.TheVariants.{Piece, Release}
 use Rattle.dns_events.specs.declared.event.Why.{Why}
 use Rattle.dns_events.specs.declared.event.Why.TheVariants.{Short}
-use Rattle.dns_client.specs.Frames.{frames}
-use Rattle.dns_client.specs.Slate.{Slate, SlateRequest, Effect, Phase, Open, Closed, fresh, conf_rule, with_conf}
-use Rattle.dns_client.specs.Requests.{header_size}
-use Rattle.dns_client.specs.Datagrams.{datagram}
-use Rattle.dns_client.specs.Connections.{opened, reconfigured, close, wind_up, take_frame, take_frames, piece, written, flushed, released}
-use Rattle.dns_client.specs.Turns.{exchange_turn, turn_request, polled, with_request, sent_at_once, sent_for}
-use Rattle.dns_client.specs.Rule.{rule, in_phase}
+use Rattle.dns_session.specs.Frames.{frames}
+use Rattle.dns_session.specs.Slate.{Slate, SlateRequest, Effect, Phase, Open, Closed, fresh, conf_rule, with_conf}
+use Rattle.dns_session.specs.Requests.{header_size}
+use Rattle.dns_session.specs.Datagrams.{datagram}
+use Rattle.dns_session.specs.Connections.{opened, reconfigured, close, wind_up, take_frame, take_frames, piece, written, flushed, released}
+use Rattle.dns_session.specs.Turns.{exchange_turn, turn_request, polled, with_request, sent_at_once, sent_for}
+use Rattle.dns_session.specs.Rule.{rule, in_phase}
 use Rattle.dns_core.specs.Settings.{opening}
 use Rattle.dns_core.specs.Own.{is_wide, own}
 use Rattle.dns_core.specs.Sent.{slate_after, slate}
 use Rattle.dns_events.specs.declared.settings.Settings.{Settings}
 use Rattle.dns_core.proofs.Plain.{narrow}
-use Rattle.dns_client.proofs.Taken.{takes}
-use Rattle.dns_client.proofs.Walks.{Rows, rows, Turns, turn_goes}
+use Rattle.dns_session.proofs.Taken.{takes}
+use Rattle.dns_session.proofs.Walks.{Rows, rows, Turns, turn_goes}
 
 -- each frame of the octets received is taken
 pub Settled : Slate → Type 0

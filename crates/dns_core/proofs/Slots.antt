@@ -1,5 +1,5 @@
 -- What becomes of a slot by an event of its client.
-use Rattle.dns_client.specs.Serving.{Serving}
+use Rattle.dns_session.specs.Serving.{Serving}
 use Rattle.std.proofs.Common.{◌≡◌, ℕ, ◌-◌, List, [], ◌∷◌, ◌++◌, Option, Some, None, Bool, true, false, refl, ap, sym, ◌∙◌}
 use Rattle.std.specs.Prelude.{nat_eq, slice_get, if◌then◌else◌, not, ◌&&◌}
 use Rattle.std.specs.List.{list_any}
@@ -11,13 +11,13 @@ use Rattle.dns_events.specs.declared.event.EventKind.{EventKind}
 use Rattle.dns_events.specs.declared.event.EventKind.TheVariants.{Turn, Release}
 use Rattle.dns_events.specs.declared.event.Output.{Output}
 use Rattle.dns_service.specs.declared.polled.PolledRequest.{PolledRequest}
-use Rattle.dns_client.specs.Slate.{Slate, Effect, Phase, Closed, conf_rule, with_conf}
-use Rattle.dns_client.specs.Rule.{rule, in_phase, exchange_rule, closed_rule}
-use Rattle.dns_client.specs.Spent.{is_spent, is_spent_in}
-use Rattle.dns_client.specs.Stands.{StandsIn}
-use Rattle.dns_client.specs.declared.client.ClientCore.{ClientCore}
-use Rattle.dns_client.specs.declared.client.State.{State}
-use Rattle.dns_client.specs.declared.client.State.TheVariants.{Exchange as Is_exchange, Open as Is_open, Flushing as Is_flushing, Closed as Is_closed, Lost as Is_lost}
+use Rattle.dns_session.specs.Slate.{Slate, Effect, Phase, Closed, conf_rule, with_conf}
+use Rattle.dns_session.specs.Rule.{rule, in_phase, exchange_rule, closed_rule}
+use Rattle.dns_session.specs.Spent.{is_spent, is_spent_in}
+use Rattle.dns_session.specs.Stands.{StandsIn}
+use Rattle.dns_session.specs.declared.client.ClientCore.{ClientCore}
+use Rattle.dns_session.specs.declared.client.State.{State}
+use Rattle.dns_session.specs.declared.client.State.TheVariants.{Exchange as Is_exchange, Open as Is_open, Flushing as Is_flushing, Closed as Is_closed, Lost as Is_lost}
 use Rattle.dns_core.specs.Own.{is_wide}
 use Rattle.dns_core.specs.Out.{is_connection, holds_slot, taken}
 use Rattle.dns_core.specs.Sent.{slate}

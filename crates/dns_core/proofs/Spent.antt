@@ -1,5 +1,5 @@
 -- At a spent slate an event says nothing and leaves all but the configurations, and no client is spent before it begins.
-use Rattle.dns_client.specs.Serving.{Serving}
+use Rattle.dns_session.specs.Serving.{Serving}
 use Rattle.std.proofs.Common.{◌≡◌, ℕ, zero, suc, List, [], ◌∷◌, true, false, refl, ap, ◌∙◌}
 use Rattle.std.specs.Prelude.{slice_get}
 use Rattle.std.specs.List.{list_all}
@@ -11,13 +11,13 @@ use Rattle.dns_events.specs.declared.event.EventKind.TheVariants.{Turn, Release,
 use Rattle.dns_events.specs.declared.event.Why.{Why}
 use Rattle.dns_events.specs.declared.event.Why.TheVariants.{Shutdown as By_shutdown}
 use Rattle.dns_service.specs.declared.polled.PolledRequest.{PolledRequest}
-use Rattle.dns_client.specs.Slate.{Slate, SlateRequest, Conf, Effect, Phase, Exchange, Open, Closed, conf_rule, with_conf}
-use Rattle.dns_client.specs.Connections.{wind_up, reconfigured}
-use Rattle.dns_client.specs.Rule.{rule, in_phase, exchange_rule, open_rule, closed_rule}
-use Rattle.dns_client.specs.Spent.{is_spent, is_spent_in}
-use Rattle.dns_client.specs.Stands.{StandsIn}
-use Rattle.dns_client.specs.declared.client.State.{State}
-use Rattle.dns_client.specs.declared.client.State.TheVariants.{Exchange as Is_exchange, Open as Is_open, Flushing as Is_flushing, Closed as Is_closed, Lost as Is_lost}
+use Rattle.dns_session.specs.Slate.{Slate, SlateRequest, Conf, Effect, Phase, Exchange, Open, Closed, conf_rule, with_conf}
+use Rattle.dns_session.specs.Connections.{wind_up, reconfigured}
+use Rattle.dns_session.specs.Rule.{rule, in_phase, exchange_rule, open_rule, closed_rule}
+use Rattle.dns_session.specs.Spent.{is_spent, is_spent_in}
+use Rattle.dns_session.specs.Stands.{StandsIn}
+use Rattle.dns_session.specs.declared.client.State.{State}
+use Rattle.dns_session.specs.declared.client.State.TheVariants.{Exchange as Is_exchange, Open as Is_open, Flushing as Is_flushing, Closed as Is_closed, Lost as Is_lost}
 use Rattle.dns_core.specs.Finished.{IsFinished}
 use Rattle.dns_core.specs.Out.{is_unused}
 use Rattle.dns_core.specs.Own.{is_wide}

@@ -1,5 +1,5 @@
 -- A server whose clients look for themselves, after an offer or a datagram.
-use Rattle.dns_client.specs.Serving.{Serving}
+use Rattle.dns_session.specs.Serving.{Serving}
 use Rattle.std.proofs.Common.{◌≡◌, ◌≢◌, ℕ, ◌≤◌, ◌⊎◌, List, [], ◌∷◌, ◌++◌, None, Bool, true, false, refl, ap, sym, ◌∙◌, subst, ⊎_elim, lt-ltb}
 use Rattle.std.specs.Prelude.{nat_eq, if◌then◌else◌, not}
 use Rattle.std.specs.List.{list_any}
@@ -24,13 +24,13 @@ use Rattle.dns_events.specs.declared.event.Output.TheVariants.{TurnedAway}
 use Rattle.dns_events.specs.declared.event.Step.{Step}
 use Rattle.dns_events.specs.declared.event.Step.TheVariants.{Own}
 use Rattle.dns_service.specs.declared.polled.PolledRequest.{PolledRequest}
-use Rattle.dns_client.specs.After.{slate_after, sent_after}
-use Rattle.dns_client.specs.Connections.{opened}
-use Rattle.dns_client.specs.Datagrams.{datagram}
-use Rattle.dns_client.specs.Rule.{rule}
-use Rattle.dns_client.specs.Slate.{Slate, Conf, Effect, IsUnused, conf_of, fresh}
-use Rattle.dns_client.specs.Stands.{Stands, state_is_spent}
-use Rattle.dns_client.specs.declared.client.ClientCore.{ClientCore}
+use Rattle.dns_session.specs.After.{slate_after, sent_after}
+use Rattle.dns_session.specs.Connections.{opened}
+use Rattle.dns_session.specs.Datagrams.{datagram}
+use Rattle.dns_session.specs.Rule.{rule}
+use Rattle.dns_session.specs.Slate.{Slate, Conf, Effect, IsUnused, conf_of, fresh}
+use Rattle.dns_session.specs.Stands.{Stands, state_is_spent}
+use Rattle.dns_session.specs.declared.client.ClientCore.{ClientCore}
 use Rattle.dns_core.specs.Own.{is_wide}
 use Rattle.dns_core.specs.Out.{is_unused, put}
 use Rattle.dns_core.specs.Serves.{Holds, IsAt, EntersWith}

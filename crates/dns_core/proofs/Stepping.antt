@@ -1,5 +1,5 @@
 -- A server whose clients look for themselves, after one step more that begins no client.
-use Rattle.dns_client.specs.Serving.{Serving}
+use Rattle.dns_session.specs.Serving.{Serving}
 use Rattle.std.proofs.Common.{◌≡◌, ◌≢◌, ℕ, List, [], ◌∷◌, ◌++◌, Option, Some, None, Bool, true, false, refl, ap, sym, ◌∙◌, subst, ⊎_elim}
 use Rattle.std.specs.Prelude.{nat_eq, if◌then◌else◌, not, ◌&&◌, ◌||◌, ◌==◌}
 use Rattle.std.specs.List.{list_any}
@@ -22,15 +22,15 @@ use Rattle.dns_events.specs.declared.event.Output.{Output}
 use Rattle.dns_events.specs.declared.event.Step.{Step}
 use Rattle.dns_events.specs.declared.event.Step.TheVariants.{Own, Look}
 use Rattle.dns_service.specs.declared.polled.PolledRequest.{PolledRequest}
-use Rattle.dns_client.specs.After.{slate_after, sent_after}
-use Rattle.dns_client.specs.News.{look_effect}
-use Rattle.dns_client.specs.Rule.{rule, in_phase, closed_rule}
-use Rattle.dns_client.specs.Slate.{Slate, Effect, Phase, Exchange, Open, Closed, conf_rule, with_conf, phase_is_closed}
-use Rattle.dns_client.specs.Spent.{is_spent, is_spent_in}
-use Rattle.dns_client.specs.Stands.{Stands, StandsIn}
-use Rattle.dns_client.specs.declared.client.ClientCore.{ClientCore}
-use Rattle.dns_client.specs.declared.client.State.{State as CoreState}
-use Rattle.dns_client.specs.declared.client.State.TheVariants.{Exchange as Is_exchange, Open as Is_open, Flushing as Is_flushing, Closed as Is_closed, Lost as Is_lost}
+use Rattle.dns_session.specs.After.{slate_after, sent_after}
+use Rattle.dns_session.specs.News.{look_effect}
+use Rattle.dns_session.specs.Rule.{rule, in_phase, closed_rule}
+use Rattle.dns_session.specs.Slate.{Slate, Effect, Phase, Exchange, Open, Closed, conf_rule, with_conf, phase_is_closed}
+use Rattle.dns_session.specs.Spent.{is_spent, is_spent_in}
+use Rattle.dns_session.specs.Stands.{Stands, StandsIn}
+use Rattle.dns_session.specs.declared.client.ClientCore.{ClientCore}
+use Rattle.dns_session.specs.declared.client.State.{State as CoreState}
+use Rattle.dns_session.specs.declared.client.State.TheVariants.{Exchange as Is_exchange, Open as Is_open, Flushing as Is_flushing, Closed as Is_closed, Lost as Is_lost}
 use Rattle.dns_core.specs.Own.{is_wide}
 use Rattle.dns_core.specs.Out.{is_unused, is_connection, holds_slot}
 use Rattle.dns_core.specs.Trails.{is_open}

@@ -1,5 +1,5 @@
 -- Each reply that a client is sent, which hears of the server's changes when it looks, answers what it asked.
-use Rattle.dns_client.specs.Serving.{Serving}
+use Rattle.dns_session.specs.Serving.{Serving}
 use Rattle.std.proofs.Common.{◌≡◌, ℕ, ◌≤◌, Option, List, [], ◌∷◌, ◌++◌, length, subst, append_assoc}
 use Rattle.std.specs.Prelude.{All, IfSome}
 use Rattle.std.proofs.lemmas.List.Elements.{All-append, All-nil}
@@ -11,9 +11,9 @@ use Rattle.dns_service.specs.Transport.{limit}
 use Rattle.dns_events.specs.declared.event.Event.{Event}
 use Rattle.dns_events.specs.declared.event.Step.{Step}
 use Rattle.dns_service.specs.declared.message.TransportSpecificContext.TheVariants.{Udp}
-use Rattle.dns_client.specs.After.{sent_after}
-use Rattle.dns_client.specs.Rule.{rule}
-use Rattle.dns_client.specs.Turns.{reply_to, sent_for}
+use Rattle.dns_session.specs.After.{sent_after}
+use Rattle.dns_session.specs.Rule.{rule}
+use Rattle.dns_session.specs.Turns.{reply_to, sent_for}
 use Rattle.dns_core.specs.Placed.{Knowledge, learns, knowledge_at_first, place, placed, puts}
 use Rattle.dns_core.specs.ReplyTo.{IsReply, Responds}
 use Rattle.dns_core.specs.Sent.{sent, slate}

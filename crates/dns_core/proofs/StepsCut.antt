@@ -1,5 +1,5 @@
 -- A piece cut in two changes nothing of what all are sent for some steps.
-use Rattle.dns_client.specs.Serving.{Serving}
+use Rattle.dns_session.specs.Serving.{Serving}
 use Rattle.std.proofs.Common.{◌≡◌, ◌≢◌, ℕ, List, [], ◌∷◌, ◌++◌, Bool, true, false, refl, ap, sym, ◌∙◌, ⊎_elim, append_assoc}
 use Rattle.std.specs.Prelude.{nat_eq, if◌then◌else◌}
 use Rattle.std.specs.List.{list_any}
@@ -7,9 +7,9 @@ use Rattle.std.proofs.lemmas.Bool.{cases_eq}
 use Rattle.dns_events.specs.declared.event.Output.{Output}
 use Rattle.dns_events.specs.declared.event.Step.{Step}
 use Rattle.dns_events.specs.declared.event.Step.TheVariants.{Own}
-use Rattle.dns_client.specs.Pieces.{IsCut, piece_of}
-use Rattle.dns_client.specs.Rule.{rule}
-use Rattle.dns_client.specs.Slate.{Slate}
+use Rattle.dns_session.specs.Pieces.{IsCut, piece_of}
+use Rattle.dns_session.specs.Rule.{rule}
+use Rattle.dns_session.specs.Slate.{Slate}
 use Rattle.dns_core.specs.Out.{is_unused}
 use Rattle.dns_core.specs.Outs.{Membership, placed_slate, placed_gain, membership, step_gained, outs, outs_after}
 use Rattle.dns_core.specs.Placed.{knows}

@@ -1,5 +1,5 @@
 -- Steps that change nothing for anybody.
-use Rattle.dns_client.specs.Serving.{Serving}
+use Rattle.dns_session.specs.Serving.{Serving}
 use Rattle.std.proofs.Common.{◌≡◌, ◌≢◌, ℕ, List, [], ◌∷◌, ◌++◌, Bool, true, false, refl, ap, sym, ◌∙◌, ⊎_elim}
 use Rattle.std.specs.Prelude.{nat_eq, if◌then◌else◌, not, ◌&&◌, ◌||◌, ◌==◌}
 use Rattle.std.specs.List.{list_any}
@@ -15,9 +15,9 @@ use Rattle.dns_events.specs.declared.event.EventKind.{EventKind}
 use Rattle.dns_events.specs.declared.event.EventKind.TheVariants.{Datagram, Offer, Release, Reconfigure, Shutdown}
 use Rattle.dns_events.specs.declared.event.Step.{Step}
 use Rattle.dns_events.specs.declared.event.Step.TheVariants.{Own, Look}
-use Rattle.dns_client.specs.After.{slate_after, sent_after}
-use Rattle.dns_client.specs.Rule.{rule}
-use Rattle.dns_client.specs.Slate.{Slate, Effect, Phase, Closed, fresh, phase_is_closed}
+use Rattle.dns_session.specs.After.{slate_after, sent_after}
+use Rattle.dns_session.specs.Rule.{rule}
+use Rattle.dns_session.specs.Slate.{Slate, Effect, Phase, Closed, fresh, phase_is_closed}
 use Rattle.dns_core.specs.Settings.{opening}
 use Rattle.dns_core.specs.Own.{is_wide}
 use Rattle.dns_core.specs.Out.{is_unused, put}

@@ -1,8 +1,8 @@
 -- Which replies a client was sent that hears of the server's changes when it looks.
-use Rattle.dns_client.specs.Serving.{Serving}
+use Rattle.dns_session.specs.Serving.{Serving}
 use Rattle.std.proofs.Common.{ℕ, List, []}
 use Rattle.dns_events.specs.declared.event.Step.{Step}
-use Rattle.dns_client.specs.Slate.{fresh}
+use Rattle.dns_session.specs.Slate.{fresh}
 use Rattle.dns_core.specs.Outs.{placed_slate}
 use Rattle.dns_core.specs.Placed.{placed}
 use Rattle.dns_core.specs.Sent.{sent}

@@ -1,5 +1,5 @@
 -- Who is turned away, and that the others are sent what they heard, whatever the interleaving.
-use Rattle.dns_client.specs.Serving.{Serving}
+use Rattle.dns_session.specs.Serving.{Serving}
 use Rattle.std.proofs.Common.{◌≡◌, ◌≢◌, ℕ, List, [], ◌∷◌, ◌++◌, Bool, true, false, refl, ap, sym, ◌∙◌, subst, ⊎_elim, append_assoc}
 use Rattle.std.specs.Prelude.{filter, if◌then◌else◌, not, ◌&&◌}
 use Rattle.std.proofs.lemmas.Bool.{cases_eq, and_parts, not-true}
@@ -15,7 +15,7 @@ use Rattle.dns_events.specs.declared.event.Output.TheVariants.{TurnedAway}
 use Rattle.dns_events.specs.declared.event.Step.{Step}
 use Rattle.dns_events.specs.declared.event.Step.TheVariants.{Own, Look}
 use Rattle.dns_core.specs.ByClient.{IsPrefix, is_for}
-use Rattle.dns_client.specs.Slate.{Slate}
+use Rattle.dns_session.specs.Slate.{Slate}
 use Rattle.dns_name.specs.declared.address.SocketAddr.{SocketAddr}
 use Rattle.dns_core.specs.Out.{is_unused}
 use Rattle.dns_core.specs.Outs.{placed_slate, membership, step_gained, outs, outs_after, call_at, enters_at, refused_offer, stepping}

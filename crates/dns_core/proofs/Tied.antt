@@ -1,5 +1,5 @@
 -- What ties the book, what a client knows of it, and its slate, after any steps.
-use Rattle.dns_client.specs.Serving.{Serving}
+use Rattle.dns_session.specs.Serving.{Serving}
 use Rattle.std.proofs.Common.{◌≡◌, ℕ, List, [], ◌∷◌, ◌++◌, Bool, true, false, refl, ap, sym, ◌∙◌}
 use Rattle.std.specs.Prelude.{if◌then◌else◌, ◌==◌, not, ◌&&◌, ◌||◌, nat_eq}
 use Rattle.std.specs.List.{list_any}
@@ -13,9 +13,9 @@ use Rattle.dns_events.specs.declared.event.EventKind.{EventKind}
 use Rattle.dns_events.specs.declared.event.EventKind.TheVariants.{Datagram, Offer, Release, Reconfigure, Shutdown}
 use Rattle.dns_events.specs.declared.event.Step.{Step}
 use Rattle.dns_events.specs.declared.event.Step.TheVariants.{Own, Look}
-use Rattle.dns_client.specs.After.{slate_after, sent_after}
-use Rattle.dns_client.specs.Rule.{rule, in_phase, unused_rule}
-use Rattle.dns_client.specs.Slate.{Slate, Conf, Effect, Phase, Unused, conf_of, conf_rule, fresh, phase_is_closed, with_conf}
+use Rattle.dns_session.specs.After.{slate_after, sent_after}
+use Rattle.dns_session.specs.Rule.{rule, in_phase, unused_rule}
+use Rattle.dns_session.specs.Slate.{Slate, Conf, Effect, Phase, Unused, conf_of, conf_rule, fresh, phase_is_closed, with_conf}
 use Rattle.dns_core.specs.Settings.{opening}
 use Rattle.dns_core.specs.Own.{is_wide}
 use Rattle.dns_core.specs.Sent.{conf_after}

@@ -15,11 +15,11 @@ use Rattle.dns_events.specs.declared.event.Output.{Output}
 use Rattle.dns_events.specs.declared.event.Output.TheVariants.{Datagram}
 use Rattle.dns_service.specs.declared.message.TransportSpecificContext.{TransportSpecificContext}
 use Rattle.dns_service.specs.declared.message.TransportSpecificContext.TheVariants.{Udp, NonUdp}
-use Rattle.dns_client.specs.Datagrams.{cut_datagram, datagram, exchange}
-use Rattle.dns_client.specs.Requests.{unpolled, header_size, request_of_datagram}
-use Rattle.dns_client.specs.Serving.{Serving}
-use Rattle.dns_client.specs.Slate.{Slate, SlateRequest, Phase, Unused, Exchange}
-use Rattle.dns_client.specs.Turns.{polled, sent_at_once, sent_for, with_request}
+use Rattle.dns_session.specs.Datagrams.{cut_datagram, datagram, exchange}
+use Rattle.dns_session.specs.Requests.{unpolled, header_size, request_of_datagram}
+use Rattle.dns_session.specs.Serving.{Serving}
+use Rattle.dns_session.specs.Slate.{Slate, SlateRequest, Phase, Unused, Exchange}
+use Rattle.dns_session.specs.Turns.{polled, sent_at_once, sent_for, with_request}
 use Rattle.dns_core.specs.Trails.{Origin, Trail, AreQueued, IsFrom, IsRising, Refuses, in_order, origin, on_wire, poll_of, polls_of, reply_at}
 use Rattle.dns_core.proofs.Origins.{At, at_left, at_right, from_append, from_one, polls_append, queued_length}
 use Rattle.dns_core.proofs.Trailing.{Asks, AsksAll, AsksAt, GoesOn, Has, Keeps, Kept, joined_on, stays, still_polls, trail, waits_with}

@@ -11,11 +11,11 @@ use Rattle.dns_service.specs.Req.{Req}
 use Rattle.dns_service.specs.Transport.{is_stream}
 use Rattle.dns_events.specs.declared.event.Output.{Output}
 use Rattle.dns_events.specs.declared.event.Why.TheVariants.{Short}
-use Rattle.dns_client.specs.Connections.{append_frame, close, enqueue_or_drop, piece, room, take_frame, take_frames, take_request}
-use Rattle.dns_client.specs.Frames.{frames, framed}
-use Rattle.dns_client.specs.Requests.{unpolled, header_size, most_requests, request_of_frame}
-use Rattle.dns_client.specs.Serving.{Serving}
-use Rattle.dns_client.specs.Slate.{Slate, SlateRequest, Effect, Phase, Open}
+use Rattle.dns_session.specs.Connections.{append_frame, close, enqueue_or_drop, piece, room, take_frame, take_frames, take_request}
+use Rattle.dns_session.specs.Frames.{frames, framed}
+use Rattle.dns_session.specs.Requests.{unpolled, header_size, most_requests, request_of_frame}
+use Rattle.dns_session.specs.Serving.{Serving}
+use Rattle.dns_session.specs.Slate.{Slate, SlateRequest, Effect, Phase, Open}
 use Rattle.dns_core.specs.Trails.{Origin, Trail, IsRising, in_order, polls_of}
 use Rattle.dns_core.proofs.Origins.{FrameRefuses, polls_none, push_cases, queued_none}
 use Rattle.dns_core.proofs.Trailing.{Asks, AsksAll, AsksAt, Has, Keeps, Kept, asks_on, closes, joined_on, joins, polls_joined, waits_with}

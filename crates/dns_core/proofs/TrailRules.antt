@@ -8,18 +8,18 @@ use Rattle.dns_events.specs.declared.event.EventKind.{EventKind}
 use Rattle.dns_events.specs.declared.event.EventKind.TheVariants.{Turn}
 use Rattle.dns_events.specs.declared.event.Output.{Output}
 use Rattle.dns_events.specs.declared.event.Output.TheVariants.{Datagram as Datagram_output, Frame, Closed as Closed_output, TurnedAway}
-use Rattle.dns_client.specs.Connections.{opened, piece, reconfigured, released, wind_up}
-use Rattle.dns_client.specs.Datagrams.{datagram}
-use Rattle.dns_client.specs.Rule.{rule}
-use Rattle.dns_client.specs.Serving.{Serving}
-use Rattle.dns_client.specs.Slate.{Slate, SlateRequest, Conf, Effect, Phase, Unused, Exchange, Open, Flushing, Closed, conf_rule, fresh, with_conf}
-use Rattle.dns_client.specs.Turns.{polled, sent_at_once, sent_for, turn_request, with_request}
+use Rattle.dns_session.specs.Connections.{opened, piece, reconfigured, released, wind_up}
+use Rattle.dns_session.specs.Datagrams.{datagram}
+use Rattle.dns_session.specs.Rule.{rule}
+use Rattle.dns_session.specs.Serving.{Serving}
+use Rattle.dns_session.specs.Slate.{Slate, SlateRequest, Conf, Effect, Phase, Unused, Exchange, Open, Flushing, Closed, conf_rule, fresh, with_conf}
+use Rattle.dns_session.specs.Turns.{polled, sent_at_once, sent_for, turn_request, with_request}
 use Rattle.dns_core.specs.Own.{own}
 use Rattle.dns_core.specs.Sent.{sent, sent_after, slate, slate_after}
 use Rattle.dns_core.specs.Settings.{opening}
 use Rattle.dns_core.specs.Trails.{Origin, Trail, IsSomewhere, dropped_by, dropped_of, is_datagram_sent, is_frame, is_open, origin, origin_at, messages_sent, no_trail, poll_of, reply_at, trail_after, trailed}
 use Rattle.dns_events.specs.declared.settings.Settings.{Settings}
-use Rattle.dns_client.proofs.Walks.{Rows, rows}
+use Rattle.dns_session.proofs.Walks.{Rows, rows}
 use Rattle.dns_core.proofs.Trailing.{AsksAll, AsksAt, Has, Keeps, Kept, closes, has_still, stays, still, still_polls, trail, trail_by, waits_with}
 use Rattle.dns_core.proofs.Origins.{queue_origins_are}
 use Rattle.dns_core.proofs.TrailExchanges.{datagram_keeps, exchange_keeps}

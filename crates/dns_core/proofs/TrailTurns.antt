@@ -10,11 +10,11 @@ use Rattle.dns_service.specs.Transport.{is_stream, limit, limit_over}
 use Rattle.dns_events.specs.declared.event.Output.{Output}
 use Rattle.dns_service.specs.declared.message.TransportSpecificContext.{TransportSpecificContext}
 use Rattle.dns_service.specs.declared.message.TransportSpecificContext.TheVariants.{Udp, NonUdp}
-use Rattle.dns_client.specs.Connections.{append_frame, is_in_transaction, room}
-use Rattle.dns_client.specs.Frames.{framed}
-use Rattle.dns_client.specs.Serving.{Serving}
-use Rattle.dns_client.specs.Slate.{Slate, SlateRequest, Phase, Open}
-use Rattle.dns_client.specs.Turns.{answered, hold, queue_reply, reply_to, retimed, sent_for, turn_request, with_request}
+use Rattle.dns_session.specs.Connections.{append_frame, is_in_transaction, room}
+use Rattle.dns_session.specs.Frames.{framed}
+use Rattle.dns_session.specs.Serving.{Serving}
+use Rattle.dns_session.specs.Slate.{Slate, SlateRequest, Phase, Open}
+use Rattle.dns_session.specs.Turns.{answered, hold, queue_reply, reply_to, retimed, sent_for, turn_request, with_request}
 use Rattle.dns_core.specs.Trails.{Origin, Trail, drops, in_order, origin, on_wire, poll_of, polls_of, reply_at}
 use Rattle.dns_core.proofs.Trailing.{Asks, AsksAll, AsksAt, Has, Keeps, Kept, joined_on, joins, polls_joined, stays, still, still_polls, waits_with}
 use Rattle.dns_core.proofs.Repolled.{held_queued, origin_free, others_none, polls_dropped, polls_held, polls_queued, polls_silent, rises_with, turned}

@@ -5,9 +5,9 @@ use Rattle.std.proofs.Math.Seq.{take_at}
 use Rattle.dns_events.specs.declared.event.Output.{Output}
 use Rattle.dns_events.specs.declared.event.Output.TheVariants.{Frame}
 use Rattle.dns_events.specs.declared.event.Why.{Why}
-use Rattle.dns_client.specs.Connections.{close, flushed, written}
-use Rattle.dns_client.specs.Serving.{Serving}
-use Rattle.dns_client.specs.Slate.{Slate, Effect}
+use Rattle.dns_session.specs.Connections.{close, flushed, written}
+use Rattle.dns_session.specs.Serving.{Serving}
+use Rattle.dns_session.specs.Slate.{Slate, Effect}
 use Rattle.dns_core.specs.Trails.{Origin, Trail, AreFrom, AreQueued, IsRising, polls_of}
 use Rattle.dns_core.proofs.Origins.{from_append, from_one, queued_length}
 use Rattle.dns_core.proofs.Trailing.{Has, Keeps, Kept, ends, front_on, has_on, trail, trail_by}

@@ -8,9 +8,9 @@ use Rattle.std.proofs.lemmas.List.{append-nil}
 use Rattle.dns_service.specs.Transport.{is_stream}
 use Rattle.dns_events.specs.declared.event.Output.{Output}
 use Rattle.dns_events.specs.declared.event.Why.{Why}
-use Rattle.dns_client.specs.Connections.{close}
-use Rattle.dns_client.specs.Serving.{Serving}
-use Rattle.dns_client.specs.Slate.{Slate, SlateRequest, Effect, Phase, Unused, Exchange, Open, Flushing, Closed}
+use Rattle.dns_session.specs.Connections.{close}
+use Rattle.dns_session.specs.Serving.{Serving}
+use Rattle.dns_session.specs.Slate.{Slate, SlateRequest, Effect, Phase, Unused, Exchange, Open, Flushing, Closed}
 use Rattle.dns_core.specs.Trails.{Origin, Trail, AreFrom, AreQueued, IsRising, IsSomewhere, in_order, is_datagram_sent, is_frame, origin, messages_sent, poll_of, polls_of, reply_at}
 use Rattle.dns_core.proofs.Origins.{At, at_left, at_right, at_split, take_joined, rising_front, polls_append, queued_length, queued_append, from_append}
 

@@ -1,11 +1,11 @@
 -- What an event that all clients hear does to one of them, by state.
-use Rattle.dns_client.specs.Serving.{Serving}
+use Rattle.dns_session.specs.Serving.{Serving}
 use Rattle.std.proofs.Common.{◌≡◌, List, [], Bool, true, false, refl, ap, sym, ◌∙◌}
 use Rattle.dns_events.specs.declared.event.Event.{Event}
 use Rattle.dns_events.specs.declared.event.EventKind.{EventKind}
 use Rattle.dns_events.specs.declared.event.EventKind.TheVariants.{Reconfigure, Shutdown}
-use Rattle.dns_client.specs.Slate.{Slate, Effect, Phase, Open, conf_rule, with_conf}
-use Rattle.dns_client.specs.Rule.{rule, in_phase}
+use Rattle.dns_session.specs.Slate.{Slate, Effect, Phase, Open, conf_rule, with_conf}
+use Rattle.dns_session.specs.Rule.{rule, in_phase}
 use Rattle.dns_core.specs.Own.{is_wide}
 use Rattle.dns_core.specs.Out.{is_unused, holds_slot, is_new}
 use Rattle.dns_core.specs.Sent.{slate}

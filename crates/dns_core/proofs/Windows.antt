@@ -1,6 +1,6 @@
 -- What a client's events queue in one window of time: no more than its configurations allow. By state: an event that all hear sets the
 -- configurations first.
-use Rattle.dns_client.specs.Serving.{Serving}
+use Rattle.dns_session.specs.Serving.{Serving}
 use Rattle.std.proofs.Common.{◌≡◌, ◌≢◌, ℕ, zero, suc, ◌+◌, ◌/◌, ◌<◌, ◌≤◌, List, [], ◌∷◌, Bool, true, false, refl, ap, sym, ◌∙◌, subst, arith, All, ◌-◌}
 use Rattle.std.specs.Prelude.{Some, slice_index_or, ◌==◌, if◌then◌else◌}
 use Rattle.std.specs.List.Sorted.{IsNonDecreasingBy}
@@ -14,19 +14,19 @@ use Rattle.dns_service.specs.Config.{Connection, Dgram, Stream, IsBudget}
 use Rattle.dns_events.specs.declared.event.Event.{Event}
 use Rattle.dns_events.specs.declared.event.EventKind.{EventKind}
 use Rattle.dns_events.specs.declared.event.EventKind.TheVariants.{Datagram, Offer, Reconfigure, Shutdown}
-use Rattle.dns_client.specs.After.{slate_after}
-use Rattle.dns_client.specs.Budget.{is_mark}
-use Rattle.dns_client.specs.Slate.{Slate, Effect, Conf, Phase, Open, fresh, conf_rule, with_conf}
-use Rattle.dns_client.specs.Datagrams.{datagram}
-use Rattle.dns_client.specs.Connections.{opened}
-use Rattle.dns_client.specs.Rule.{rule, in_phase, unused_rule}
+use Rattle.dns_session.specs.After.{slate_after}
+use Rattle.dns_session.specs.Budget.{is_mark}
+use Rattle.dns_session.specs.Slate.{Slate, Effect, Conf, Phase, Open, fresh, conf_rule, with_conf}
+use Rattle.dns_session.specs.Datagrams.{datagram}
+use Rattle.dns_session.specs.Connections.{opened}
+use Rattle.dns_session.specs.Rule.{rule, in_phase, unused_rule}
 use Rattle.dns_core.specs.Budgets.{AllowsAtMost, StaysAtMost, queued_in}
 use Rattle.dns_core.specs.Settings.{opening}
 use Rattle.dns_core.specs.Trails.{is_open}
 use Rattle.dns_events.specs.declared.settings.Settings.{Settings}
 use Rattle.dns_core.proofs.Grows.{Grows, carries, growth, grows, is_reconfigure, left_in}
 use Rattle.dns_core.proofs.Plain.{narrow_conf, rule_conf, unused_is}
-use Rattle.dns_client.proofs.Walks.{walks}
+use Rattle.dns_session.proofs.Walks.{walks}
 use Rattle.dns_core.specs.Own.{is_wide}
 use Rattle.dns_core.specs.Out.{is_unused}
 

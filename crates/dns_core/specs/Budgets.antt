@@ -4,9 +4,9 @@ use Rattle.dns_service.specs.Config.{Connection}
 use Rattle.dns_events.specs.declared.event.Event.{Event}
 use Rattle.dns_events.specs.declared.event.EventKind.{EventKind}
 use Rattle.dns_events.specs.declared.event.EventKind.TheVariants.{Reconfigure}
-use Rattle.dns_client.specs.Serving.{Serving}
-use Rattle.dns_client.specs.Slate.{Slate}
-use Rattle.dns_client.specs.Rule.{rule}
+use Rattle.dns_session.specs.Serving.{Serving}
+use Rattle.dns_session.specs.Slate.{Slate}
+use Rattle.dns_session.specs.Rule.{rule}
 
 -- windows are w milliseconds long, and in each at most b replies may be queued
 abbrev pub AllowsAtMost : ℕ → ℕ → Connection → Type 0

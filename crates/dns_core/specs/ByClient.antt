@@ -1,5 +1,5 @@
 -- What one client is sent, read off what all are sent.
-use Rattle.dns_client.specs.Serving.{Serving}
+use Rattle.dns_session.specs.Serving.{Serving}
 use Rattle.std.specs.Prelude.{◌≡◌, ℕ, List, length, take, nat_eq, Bool, not, ◌&&◌}
 use Rattle.std.specs.List.{list_any}
 use Rattle.dns_events.specs.declared.event.Event.{Event}

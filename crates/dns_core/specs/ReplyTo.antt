@@ -11,10 +11,10 @@ use Rattle.dns_events.specs.declared.event.Event.{Event}
 use Rattle.dns_events.specs.declared.event.EventKind.TheVariants.{Datagram as Is_datagram}
 use Rattle.dns_events.specs.declared.event.Output.{Output}
 use Rattle.dns_events.specs.declared.event.Output.TheVariants.{Datagram, Frame, Closed, TurnedAway}
-use Rattle.dns_client.specs.Datagrams.{cut_datagram}
-use Rattle.dns_client.specs.Frames.{frames, framed}
-use Rattle.dns_client.specs.Requests.{request_of_datagram}
-use Rattle.dns_client.specs.Serving.{Serving}
+use Rattle.dns_session.specs.Datagrams.{cut_datagram}
+use Rattle.dns_session.specs.Frames.{frames, framed}
+use Rattle.dns_session.specs.Requests.{request_of_datagram}
+use Rattle.dns_session.specs.Serving.{Serving}
 use Rattle.dns_core.specs.ByClient.{IsPrefix}
 use Rattle.dns_core.specs.Out.{is_new}
 use Rattle.dns_core.specs.Sent.{conf, slate}

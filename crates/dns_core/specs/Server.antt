@@ -1,5 +1,5 @@
 -- What a server keeps after some events.
-use Rattle.dns_client.specs.Serving.{Serving}
+use Rattle.dns_session.specs.Serving.{Serving}
 use Rattle.std.specs.Prelude.{◌≡◌, ◌<◌, ◌≤◌, ℕ, List, [], ◌∷◌, ◌++◌, length, not, nat_eq}
 use Rattle.std.specs.List.{list_any}
 use Rattle.std.specs.Ordering.{nat_cmp}
@@ -10,7 +10,7 @@ use Rattle.dns_service.specs.Answer.{Answer}
 use Rattle.dns_events.specs.declared.event.Event.{Event}
 use Rattle.dns_events.specs.declared.event.Output.{Output}
 use Rattle.dns_service.specs.declared.polled.PolledRequest.{PolledRequest}
-use Rattle.dns_client.specs.Slate.{conf_of}
+use Rattle.dns_session.specs.Slate.{conf_of}
 use Rattle.dns_core.specs.Sent.{conf, slate}
 use Rattle.dns_core.specs.Out.{members, taken, gained, is_unused, out}
 use Rattle.dns_core.specs.Serves.{Holds, IsAt}

@@ -8,7 +8,7 @@ use Rattle.dns_service.specs.Answer.{Answer}
 use Rattle.dns_events.specs.declared.event.Output.{Output}
 use Rattle.dns_events.specs.declared.event.Step.{Step}
 use Rattle.dns_service.specs.declared.polled.PolledRequest.{PolledRequest}
-use Rattle.dns_client.specs.Serving.{Serving}
+use Rattle.dns_session.specs.Serving.{Serving}
 use Rattle.dns_core.specs.Out.{is_unused}
 use Rattle.dns_core.specs.Outs.{placed_slate, membership, step_gained, outs}
 use Rattle.dns_core.specs.Placed.{knows}

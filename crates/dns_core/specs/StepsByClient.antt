@@ -7,7 +7,7 @@ use Rattle.dns_events.specs.declared.event.EventKind.{EventKind}
 use Rattle.dns_events.specs.declared.event.EventKind.TheVariants.{Offer}
 use Rattle.dns_events.specs.declared.event.Step.{Step}
 use Rattle.dns_events.specs.declared.event.Step.TheVariants.{Own}
-use Rattle.dns_client.specs.Serving.{Serving}
+use Rattle.dns_session.specs.Serving.{Serving}
 use Rattle.dns_core.specs.Out.{holds_slot, is_unused}
 use Rattle.dns_core.specs.Outs.{membership, placed_slate}
 use Rattle.dns_events.specs.declared.settings.Settings.{Settings}

@@ -15,12 +15,12 @@ use Rattle.dns_events.specs.declared.event.Output.{Output}
 use Rattle.dns_events.specs.declared.event.Output.TheVariants.{Datagram, Frame}
 use Rattle.dns_service.specs.declared.message.TransportSpecificContext.{TransportSpecificContext}
 use Rattle.dns_service.specs.declared.message.TransportSpecificContext.TheVariants.{Udp, NonUdp}
-use Rattle.dns_client.specs.Connections.{is_in_transaction, room}
-use Rattle.dns_client.specs.Frames.{framed}
-use Rattle.dns_client.specs.Rule.{rule}
-use Rattle.dns_client.specs.Serving.{Serving}
-use Rattle.dns_client.specs.Slate.{Slate, SlateRequest, Phase, Open, fresh}
-use Rattle.dns_client.specs.Turns.{answered, sent_for}
+use Rattle.dns_session.specs.Connections.{is_in_transaction, room}
+use Rattle.dns_session.specs.Frames.{framed}
+use Rattle.dns_session.specs.Rule.{rule}
+use Rattle.dns_session.specs.Serving.{Serving}
+use Rattle.dns_session.specs.Slate.{Slate, SlateRequest, Phase, Open, fresh}
+use Rattle.dns_session.specs.Turns.{answered, sent_for}
 use Rattle.dns_core.specs.ReplyTo.{Responds}
 use Rattle.dns_core.specs.Settings.{opening}
 use Rattle.dns_events.specs.declared.settings.Settings.{Settings}

@@ -2,7 +2,7 @@
 use Rattle.std.specs.Prelude.{ℕ}
 use Rattle.dns_service.specs.Answer.{Answer}
 use Rattle.dns_service.specs.Req.{Req}
-use Rattle.dns_client.specs.Serving.{Serving, serving}
+use Rattle.dns_session.specs.Serving.{Serving, serving}
 use Rattle.dns_middleware.specs.Verdicts.{Verdicts, verdict_on}
 use Rattle.dns_middleware.specs.Wrapped.{hint_left, replies}
 use Rattle.dns_events.specs.declared.settings.Settings.{Settings}

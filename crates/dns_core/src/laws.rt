@@ -1,6 +1,6 @@
 //! Laws of what is sent.
 
-ghost use Rattle.dns_client.specs.Serving.{Serving};
+ghost use Rattle.dns_session.specs.Serving.{Serving};
 ghost use Rattle.std.specs.Prelude.{◌≡◌, ◌≢◌, ◌<◌, ◌≤◌, ℕ, List, length, [], ◌∷◌, ◌++◌, true, false, Option, Some, None, slice_get, nat_eq, filter, All};
 ghost use Rattle.std.specs.List.{list_any};
 ghost use Rattle.std.specs.List.Sorted.{IsNonDecreasingBy};
@@ -8,9 +8,9 @@ ghost use Rattle.dns_service.specs.Answer.{Answer};
 ghost use Rattle.dns_service.specs.Req.{Req};
 ghost use Rattle.dns_events.specs.declared.event.Event.{Event};
 ghost use Rattle.dns_events.specs.declared.event.EventKind.{EventKind};
-ghost use Rattle.dns_client.specs.Pieces.{piece_of};
-ghost use Rattle.dns_client.specs.Rule.{rule};
-ghost use Rattle.dns_client.specs.Slate.{Closed};
+ghost use Rattle.dns_session.specs.Pieces.{piece_of};
+ghost use Rattle.dns_session.specs.Rule.{rule};
+ghost use Rattle.dns_session.specs.Slate.{Closed};
 ghost use Rattle.dns_events.specs.declared.event.Output.{Output};
 ghost use Rattle.dns_name.specs.declared.address.SocketAddr.{SocketAddr};
 ghost use Rattle.dns_service.specs.Config.{Dgram, Stream, IsBudget};
@@ -22,7 +22,7 @@ ghost use Rattle.dns_core.specs.Sent.{conf, sent, slate};
 ghost use Rattle.dns_core.specs.Out.{gain, is_new, is_turned_away, is_unused, members, out};
 ghost use Rattle.dns_core.specs.ByClient.{IsPrefix, is_for, is_member, was_turned_away};
 ghost use Rattle.dns_core.specs.Finished.{IsFinished};
-ghost use Rattle.dns_client.specs.Slate.{SlateRequest};
+ghost use Rattle.dns_session.specs.Slate.{SlateRequest};
 ghost use Rattle.dns_core.specs.ReplyTo.{IsReply};
 ghost use Rattle.dns_core.specs.SlateBy.{slate_by};
 ghost use Rattle.dns_core.specs.Trails.{AreAnswers, AreFrom, AreQueued, IsRising, IsSomewhere, in_order, messages_sent, poll_of, polls_of, reply_at, trail_of};
@@ -113,7 +113,7 @@ pub fn cut_pieces_change_nothing()
         → out answers settings (p ++ piece_of client at secs (a ++ b) ∷ r)
         ≡ out answers settings (p ++ piece_of client at secs a ∷ piece_of client at secs b ∷ r) }
 {
-    dns_client::pieces_may_be_cut();
+    dns_session::pieces_may_be_cut();
 }
 
 /// An event of a client that is no exchange and no connection, and doesn't begin with it, changes nothing for anybody.

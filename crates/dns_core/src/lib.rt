@@ -7,9 +7,9 @@ mod split;
 mod split_laws;
 
 pub use dns_admission::{Admission, BookState, Look};
-pub use dns_client::{ClientCore, ConnectionInvoker, Framer, IdleTimer, PolledRequest};
 pub use dns_middleware::{Notifiable, NotifyError, Settings, VerdictFuture, wrap};
 pub use dns_service::{Event, EventKind, Octets, Output, Step, Why};
+pub use dns_session::{ClientCore, ConnectionInvoker, Framer, IdleTimer, PolledRequest};
 pub use laws::{
     budgets_are_kept, clients_are_sent_their_own, closed_connections_change_nothing,
     cut_pieces_change_nothing, empty_pieces_change_nothing, finished_requests_change_nothing,

@@ -1,6 +1,6 @@
 //! The server over a list of events.
 
-ghost use Rattle.dns_client.specs.Serving.{Serving, serving};
+ghost use Rattle.dns_session.specs.Serving.{Serving, serving};
 ghost use Rattle.std.specs.Prelude.{◌≡◌, ℕ, List, [], true, false, IfOk, OnOk, OnErr, if◌then◌else◌};
 ghost use Rattle.std.specs.BTreeSet.{contains};
 ghost use Rattle.std.specs.Ordering.{nat_cmp};
@@ -21,10 +21,10 @@ ghost use Rattle.dns_middleware.specs.Wrapped.{hint_left, replies};
 
 use dns_admission::{Admission, BookState, Look};
 use dns_base::SocketAddr;
-use dns_client::ClientCore;
-use dns_clients::{append, begin, look_all, step_at, turn_away};
 use dns_middleware::{Notifiable, Settings, wrap};
 use dns_service::{Event, EventKind, OutOfMemory, Output, Service, SharedService, WithoutMeta};
+use dns_session::ClientCore;
+use dns_session_map::{append, begin, look_all, step_at, turn_away};
 use std::alloc::Global;
 use std::collections::{BTreeMap, BTreeSet};
 

@@ -1,6 +1,6 @@
 //! The server over a list of steps: a client hears of the server's changes only when it looks.
 
-ghost use Rattle.dns_client.specs.Serving.{Serving, serving};
+ghost use Rattle.dns_session.specs.Serving.{Serving, serving};
 ghost use Rattle.std.specs.Prelude.{◌≡◌, [], true, IfOk, OnOk, OnErr};
 ghost use Rattle.dns_service.specs.PolledRequest.{request_answer};
 ghost use Rattle.dns_core.specs.Own.{is_wide};
@@ -11,11 +11,11 @@ ghost use Rattle.dns_middleware.specs.Verdicts.{verdict_on};
 ghost use Rattle.dns_middleware.specs.Wrapped.{hint_left, replies};
 
 use crate::server::{Server, note};
-use dns_clients::{append, look_at};
 use dns_middleware::{Notifiable, Settings, wrap};
 use dns_service::{
     Event, EventKind, OutOfMemory, Output, Service, SharedService, Step, WithoutMeta,
 };
+use dns_session_map::{append, look_at};
 use std::alloc::Global;
 
 /// A server of a wrapped service whose clients look for themselves, which is stepped through events and looks.

@@ -1,13 +1,13 @@
 //! Laws of what is sent where clients look for themselves.
 
-ghost use Rattle.dns_client.specs.Serving.{Serving};
+ghost use Rattle.dns_session.specs.Serving.{Serving};
 ghost use Rattle.std.specs.Prelude.{◌≡◌, ◌≢◌, ◌<◌, ◌≤◌, ℕ, List, length, [], ◌∷◌, ◌++◌, true, false, Some, None, slice_get, nat_eq, filter, not, All};
 ghost use Rattle.std.specs.List.{flat_map, list_any};
 ghost use Rattle.std.specs.List.Sorted.{IsStrictlySortedBy};
 ghost use Rattle.std.specs.Ordering.{nat_cmp};
 ghost use Rattle.dns_admission.specs.Machine.{last_version};
-ghost use Rattle.dns_client.specs.Pieces.{piece_of};
-ghost use Rattle.dns_client.specs.Slate.{Closed, SlateRequest};
+ghost use Rattle.dns_session.specs.Pieces.{piece_of};
+ghost use Rattle.dns_session.specs.Slate.{Closed, SlateRequest};
 ghost use Rattle.dns_name.specs.declared.address.SocketAddr.{SocketAddr};
 ghost use Rattle.dns_service.specs.Answer.{Answer};
 ghost use Rattle.dns_service.specs.Config.{Dgram, Stream};
@@ -133,7 +133,7 @@ pub fn pieces_of_steps_may_be_cut()
         → outs answers settings (q ++ Step.Own (piece_of client at secs (a ++ b)) ∷ r)
         ≡ outs answers settings (q ++ Step.Own (piece_of client at secs a) ∷ Step.Own (piece_of client at secs b) ∷ r) }
 {
-    dns_client::pieces_may_be_cut();
+    dns_session::pieces_may_be_cut();
 }
 
 /// Whoever looks after each event that all clients hear, and whoever looks beside it, is sent by the rules for it alone what it is

@@ -5,7 +5,7 @@ use Rattle.dns_events.specs.declared.event.Event.{Event}
 use Rattle.dns_events.specs.declared.event.Output.{Output}
 use Rattle.dns_events.specs.declared.event.Output.TheVariants.{Closed, TurnedAway}
 use Rattle.dns_service.specs.declared.polled.PolledRequest.{PolledRequest}
-use Rattle.dns_client.specs.Serving.{Serving}
+use Rattle.dns_session.specs.Serving.{Serving}
 use Rattle.dns_core.specs.Machine.{last_version}
 use Rattle.dns_core.specs.Out.{out}
 use Rattle.dns_core.specs.Server.{Serves}

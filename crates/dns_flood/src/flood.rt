@@ -1,10 +1,10 @@
 //! A flood: events that a generator makes are served by a rule of their own, and what is sent for them is counted.
 
 ghost use Rattle.std.specs.Prelude.{◌≡◌, ◌+◌, ◌^◌, ◌∷◌, ℕ, [], IfOk, OnOk, string_bytes};
-ghost use Rattle.dns_client.specs.Serving.{serving};
+ghost use Rattle.dns_session.specs.Serving.{serving};
 ghost use Rattle.dns_core.specs.Out.{out};
 ghost use Rattle.dns_core.specs.Server.{Serves};
-ghost use Rattle.dns_io.specs.Causes.{Tells};
+ghost use Rattle.dns_io.specs.Causes.{Observed};
 ghost use Rattle.dns_events.specs.declared.settings.Settings.{Settings};
 ghost use Rattle.dns_middleware.specs.Verdicts.{verdict_on};
 ghost use Rattle.dns_middleware.specs.Wrapped.{hint_left, replies};
@@ -198,7 +198,7 @@ pub fn write_flood<W: Sink>(
     seed: u64,
     count: u32,
 ) -> Result<(), WriteError>
-    ensures told { Tells (W.tells sink.new) (W.tells sink.old) (Wrote result (flood_text seed count) (W.taken sink.old) (W.taken sink.new)) }
+    ensures observed { Observed (W.tells sink.new) (W.tells sink.old) (Wrote result (flood_text seed count) (W.taken sink.old) (W.taken sink.new)) }
     ensures cause { WroteFaults result (W.faults sink.old) (W.faults sink.new) }
 {
     let text = flood_line(alloc, seed, count)?;

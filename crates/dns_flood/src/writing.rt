@@ -1,7 +1,7 @@
 //! Lines are written to a sink, many at a time.
 
 ghost use Rattle.std.specs.Prelude.{◌≡◌, ◌≤◌, ◌++◌, [], OnErr, OnOk};
-ghost use Rattle.dns_io.specs.Causes.{Tells};
+ghost use Rattle.dns_io.specs.Causes.{Observed};
 ghost use Rattle.dns_io.specs.Moves.{WroteAllCause};
 ghost use Rattle.dns_script.specs.Line.{line_of, lines_of, refused_line};
 ghost use Rattle.dns_flood.specs.Writes.{Wrote, WroteFaults, Pours};
@@ -47,7 +47,7 @@ const BATCH: usize = 65_536;
 /// Writes the lines that are kept back, once they are many. After an error a front of them was written.
 #[tactic(auto, using(crate::proofs::Batches::kept, crate::proofs::Batches::poured))]
 pub fn pour<W: Sink>(sink: &mut W, text: &mut Vec<u8>) -> Result<(), WriteFault>
-    ensures told { Tells (W.tells sink.new) (W.tells sink.old) (Pours result text.old.items text.new.items (W.taken sink.old) (W.taken sink.new)) }
+    ensures observed { Observed (W.tells sink.new) (W.tells sink.old) (Pours result text.old.items text.new.items (W.taken sink.old) (W.taken sink.new)) }
     ensures later { W.faults sink.old ≤ W.faults sink.new }
     ensures cause { WroteAllCause result (W.faults sink.old) (W.faults sink.new) }
     ensures err { OnErr result (text.new.items ≡ text.old.items) }
@@ -81,7 +81,7 @@ fn write_line<W: Sink>(
     text: &mut Vec<u8>,
     output: &Output,
 ) -> Result<(), WriteError>
-    ensures told { Tells (W.tells sink.new) (W.tells sink.old) (Pours result (text.old.items ++ line_of output.now) text.new.items (W.taken sink.old) (W.taken sink.new)) }
+    ensures observed { Observed (W.tells sink.new) (W.tells sink.old) (Pours result (text.old.items ++ line_of output.now) text.new.items (W.taken sink.old) (W.taken sink.new)) }
     ensures later { W.faults sink.old ≤ W.faults sink.new }
     ensures cause { WroteFaults result (W.faults sink.old) (W.faults sink.new) }
 {
@@ -99,7 +99,7 @@ fn write_lines<W: Sink>(
     outputs: &[Output],
 ) -> Result<(), WriteError>
     requires { text.old.items ≡ [] }
-    ensures told { Tells (W.tells sink.new) (W.tells sink.old) (Pours result (lines_of outputs.now) text.new.items (W.taken sink.old) (W.taken sink.new)) }
+    ensures observed { Observed (W.tells sink.new) (W.tells sink.old) (Pours result (lines_of outputs.now) text.new.items (W.taken sink.old) (W.taken sink.new)) }
     ensures later { W.faults sink.old ≤ W.faults sink.new }
     ensures cause { WroteFaults result (W.faults sink.old) (W.faults sink.new) }
 {
@@ -116,7 +116,7 @@ pub fn write_outputs<W: Sink>(
     sink: &mut W,
     outputs: &[Output],
 ) -> Result<(), WriteError>
-    ensures told { Tells (W.tells sink.new) (W.tells sink.old) (Wrote result (lines_of outputs.now) (W.taken sink.old) (W.taken sink.new)) }
+    ensures observed { Observed (W.tells sink.new) (W.tells sink.old) (Wrote result (lines_of outputs.now) (W.taken sink.old) (W.taken sink.new)) }
     ensures later { W.faults sink.old ≤ W.faults sink.new }
     ensures cause { WroteFaults result (W.faults sink.old) (W.faults sink.new) }
 {
@@ -133,7 +133,7 @@ pub fn write_refusal<W: Sink>(
     number: u64,
     reason: Reason,
 ) -> Result<(), WriteError>
-    ensures told { Tells (W.tells sink.new) (W.tells sink.old) (Wrote result (refused_line number reason) (W.taken sink.old) (W.taken sink.new)) }
+    ensures observed { Observed (W.tells sink.new) (W.tells sink.old) (Wrote result (refused_line number reason) (W.taken sink.old) (W.taken sink.new)) }
     ensures later { W.faults sink.old ≤ W.faults sink.new }
     ensures cause { WroteFaults result (W.faults sink.old) (W.faults sink.new) }
 {

@@ -8,18 +8,18 @@ use Rattle.dns_admission.specs.declared.call.Reply.TheVariants.{Look as Shown}
 use Rattle.dns_book.specs.Seats.{Called, Joined, first_half, second_half}
 use Rattle.dns_book.specs.declared.history.Entry.{Entry}
 use Rattle.dns_book.specs.declared.history.Known.{Known}
-use Rattle.dns_io.specs.Causes.{Tells}
-use Rattle.dns_io.specs.Doors.{Door}
-use Rattle.dns_io.specs.Mail.{Mail}
+use Rattle.dns_io.specs.Causes.{Observed}
+use Rattle.dns_io.specs.AcceptTraffic.{AcceptTraffic}
+use Rattle.dns_io.specs.SockTraffic.{SockTraffic}
 use Rattle.dns_events.specs.declared.event.Event.{Event}
-use Rattle.dns_client.specs.Serving.{Serving}
+use Rattle.dns_session.specs.Serving.{Serving}
 use Rattle.dns_accepts.specs.Clocks.{ClockReading}
-use Rattle.dns_datagrams.specs.DatagramsServed.{world, ReceivesBy, RoseIf}
-use Rattle.dns_datagrams.specs.declared.serving.DgramEnd.{DgramEnd}
-use Rattle.dns_datagrams.specs.declared.serving.DgramEnd.TheVariants.{Shutdown as DgramShutdown, Counted as DgramCounted, Fault as DgramFault, OutOfMemory as DgramOutOfMemory}
+use Rattle.dns_dgram_driver.specs.DatagramsServed.{world, ReceivesBy, RoseIf}
+use Rattle.dns_dgram_driver.specs.declared.serving.DgramEnd.{DgramEnd}
+use Rattle.dns_dgram_driver.specs.declared.serving.DgramEnd.TheVariants.{Shutdown as DgramShutdown, Counted as DgramCounted, Fault as DgramFault, OutOfMemory as DgramOutOfMemory}
 use Rattle.dns_accepts.specs.Accepting.{AcceptTurn, Gave, TookTurns, AcceptsTo}
 use Rattle.dns_accepts.specs.Arrivals.{RoseWhere}
-use Rattle.dns_host.specs.Hosting.{HostWorld, host_end, host_world, HostRose, AcceptsBeside, DgramsBeside, AcceptsWent, DgramsWent, BothServed, NeitherBegan, host_seen, door_told, mail_told, HostServed}
+use Rattle.dns_host.specs.Hosting.{HostWorld, host_end, host_world, HostRose, AcceptsBeside, DgramsBeside, AcceptsWent, DgramsWent, BothServed, NeitherBegan, host_seen, accept_observed, sock_observed, HostServed}
 use Rattle.dns_host.specs.declared.host.Host.{Host}
 use Rattle.dns_accepts.specs.declared.accepts.AcceptEnd.{AcceptEnd}
 use Rattle.dns_accepts.specs.declared.accepts.AcceptEnd.TheVariants.{Shutdown as AcceptShutdown, Counted as AcceptCounted, OutOfMemory as AcceptOutOfMemory}
@@ -27,21 +27,22 @@ use Rattle.dns_host.specs.declared.host.HostEnd.{HostEnd}
 use Rattle.dns_host.specs.declared.host.HostEnd.TheVariants.{Done, OutOfMemory, HostFault}
 
 -- after the loop the works were joined, which gives none
-turns_joined : (turns : List AcceptTurn) (more : List Entry) (na mp np before works works' : Type 0) (k k' : Known) (a b : Door) (h h' : List SocketAddr) (f f' : ℕ) →
-    Tells np mp (h' ≡ h) → (h' ≡ h → works → works') → TookTurns turns more (na × mp) before works k k' a b f f' → TookTurns turns more (na × np) before works' k k' a b f f'
+turns_joined : (turns : List AcceptTurn) (more : List Entry) (na mp np before works works' : Type 0) (k k' : Known) (a b : AcceptTraffic) (h h' : List SocketAddr) (f f' : ℕ) →
+    Observed np mp (h' ≡ h) → (h' ≡ h → works → works') → TookTurns turns more (na × mp) before works k k' a b f f' → TookTurns turns more (na × np) before works' k k' a b f f'
 turns_joined turns more na mp np before works works' k k' a b h h' f f' t keep s = record {
   calls = s.calls;
   running = s.running;
   name = s.name;
   faults = s.faults;
-  told = record { told = λ n. let x = t.told n.1 in let y = s.told.told (n.0, x.0) in (y.0, (y.1.0, keep x.1 y.1.1)) };
+  observed = record { observed = λ n. let x = t.observed n.1 in let y = s.observed.observed (n.0, x.0) in (y.0, (y.1.0, keep x.1 y.1.1)) };
 }
 
 gave_joined : (addrs g h h' : List SocketAddr) → h' ≡ h → Gave addrs g h → Gave addrs g h'
 gave_joined addrs g h h' same gave = same ∙ gave
 
-accepts_joined : (end : AcceptEnd) (count : ℕ) (na mp np before : Type 0) (k k' : Known) (a b : Door) (g h h' : List SocketAddr) (f f' : ℕ) →
-    Tells np mp (h' ≡ h) → AcceptsTo end count (na × mp) before k k' a b g h f f' → AcceptsTo end count (na × np) before k k' a b g h' f f'
+-- accepts stay what they were once their work was joined
+pub accepts_joined : (end : AcceptEnd) (count : ℕ) (na mp np before : Type 0) (k k' : Known) (a b : AcceptTraffic) (g h h' : List SocketAddr) (f f' : ℕ) →
+    Observed np mp (h' ≡ h) → AcceptsTo end count (na × mp) before k k' a b g h f f' → AcceptsTo end count (na × np) before k k' a b g h' f f'
 accepts_joined AcceptCounted count na mp np before k k' a b g h h' f f' t s = record {
   turns = s.turns;
   some = s.some;
@@ -65,14 +66,14 @@ accepts_joined AcceptOutOfMemory count na mp np before k k' a b g h h' f f' t s 
 }
 
 both_served : (answers : Serving) (end : HostEnd) (count : ℕ) (accepts_end : AcceptEnd) (dgrams_end : DgramEnd) (risen send_failed : Bool) (look : Look)
-    (na mp np before mail_now mail_before other : Type 0) (k one two first second joined k' : Known)
-    (a b : Door) (g h h' : List SocketAddr) (n n' : List Event) (m m' : Mail) (c c' : List ClockReading) (f f' p p1 p' r r' s s' : ℕ) →
+    (na mp np before sock_now sock_before other : Type 0) (k one two first second joined k' : Known)
+    (a b : AcceptTraffic) (g h h' : List SocketAddr) (n n' : List Event) (m m' : SockTraffic) (c c' : List ClockReading) (f f' p p1 p' r r' s s' : ℕ) →
     one ≡ first_half k → two ≡ second_half k →
     AcceptsBeside accepts_end count (na × mp) before one first a b g h f f' → RoseWhere risen f f' p p1 →
-    DgramsBeside answers dgrams_end count mail_now mail_before two second (world n m s c) (world n' m' s' c') → ReceivesBy dgrams_end r r' → RoseIf send_failed s s' →
-    Tells np mp (h' ≡ h) → p' ≡ p1 → Joined first second joined → Called joined ToShutdown (Shown look) k' → end ≡ host_end dgrams_end accepts_end (risen || send_failed) →
-    BothServed answers end count (na × np) before mail_now mail_before k k' (host_world a g n m c f p r s) (host_world b h' n' m' c' f' p' r' s') ⊎ other
-both_served answers end count accepts_end dgrams_end risen send_failed look na mp np before mail_now mail_before other k one two first second joined k'
+    DgramsBeside answers dgrams_end count sock_now sock_before two second (world n m s c) (world n' m' s' c') → ReceivesBy dgrams_end r r' → RoseIf send_failed s s' →
+    Observed np mp (h' ≡ h) → p' ≡ p1 → Joined first second joined → Called joined ToShutdown (Shown look) k' → end ≡ host_end dgrams_end accepts_end (risen || send_failed) →
+    BothServed answers end count (na × np) before sock_now sock_before k k' (host_world a g n m c f p r s) (host_world b h' n' m' c' f' p' r' s') ⊎ other
+both_served answers end count accepts_end dgrams_end risen send_failed look na mp np before sock_now sock_before other k one two first second joined k'
     a b g h h' n n' m m' c c' f f' p p1 p' r r' s s' halves others accepted rose served receives sends given starts join shut ends = inl (record {
       accepts_end = accepts_end;
       dgrams_end = dgrams_end;
@@ -90,7 +91,7 @@ both_served answers end count accepts_end dgrams_end risen send_failed look na m
         accepts = accepts_joined accepts_end count na mp np before one accepted.between a b g h h' f f' given accepted.accepts;
         shut = accepted.shut;
       });
-      dgrams = subst (λ (x : Known). DgramsBeside answers dgrams_end count mail_now mail_before x second (world n m s c) (world n' m' s' c')) others served;
+      dgrams = subst (λ (x : Known). DgramsBeside answers dgrams_end count sock_now sock_before x second (world n m s c) (world n' m' s' c')) others served;
       join = join;
       shut = record { look = look; called = shut };
     })
@@ -121,26 +122,26 @@ rose_of_host end dgrams_end accepts_end risen send_failed f f' p p1 p' r r' s s'
     rw is (rose_end dgrams_end accepts_end risen send_failed f f' p p' r r' s s' (rw same rose) receives sends)
 
 -- both were served, and then all work was joined
-pub host_served : {A D C P J : Type 0} (tells : A → Type 0) (door : A → Door) (failed : A → ℕ) (works : P → Type 0) (given : P → List SocketAddr) (refused : P → ℕ)
-    (mails : D → Type 0) (mail : D → Mail) (failed_receives failed_sends : D → ℕ) (ticks : C → Type 0) (readings : C → List ClockReading) (notes : J → Type 0) (noted : J → List Event)
+pub host_served : {A D C P J : Type 0} (tells : A → Type 0) (accept_traffic : A → AcceptTraffic) (failed : A → ℕ) (works : P → Type 0) (given : P → List SocketAddr) (refused : P → ℕ)
+    (sock_tells : D → Type 0) (sock_traffic : D → SockTraffic) (failed_receives failed_sends : D → ℕ) (ticks : C → Type 0) (readings : C → List ClockReading) (notes : J → Type 0) (noted : J → List Event)
     (answers : Serving) (end : HostEnd) (count : ℕ) (accepts_end : AcceptEnd) (dgrams_end : DgramEnd) (risen send_failed : Bool) (look : Look)
     (k one two first second joined k' : Known) (h h' : Host A D C P J) (p : P) →
     one ≡ first_half k → two ≡ second_half k →
-    AcceptsWent tells door failed works given refused accepts_end risen count one first h.accept h'.accept h.spawner p →
-    DgramsWent mails mail failed_receives failed_sends ticks readings notes noted answers dgrams_end send_failed count two second h.sock h'.sock h.clock h'.clock h.journal h'.journal →
-    Tells (works h'.spawner) (works p) (given h'.spawner ≡ given p) → refused h'.spawner ≡ refused p →
+    AcceptsWent tells accept_traffic failed works given refused accepts_end risen count one first h.accept h'.accept h.spawner p →
+    DgramsWent sock_tells sock_traffic failed_receives failed_sends ticks readings notes noted answers dgrams_end send_failed count two second h.sock h'.sock h.clock h'.clock h.journal h'.journal →
+    Observed (works h'.spawner) (works p) (given h'.spawner ≡ given p) → refused h'.spawner ≡ refused p →
     Joined first second joined → Called joined ToShutdown (Shown look) k' → end ≡ host_end dgrams_end accepts_end (risen || send_failed) →
-    HostServed (host_seen door given noted mail readings failed refused failed_receives failed_sends) (door_told tells works) (mail_told mails ticks notes) answers end count k k' h h'
-host_served tells door failed works given refused mails mail failed_receives failed_sends ticks readings notes noted answers end count accepts_end dgrams_end risen send_failed look
+    HostServed (host_seen accept_traffic given noted sock_traffic readings failed refused failed_receives failed_sends) (accept_observed tells works) (sock_observed sock_tells ticks notes) answers end count k k' h h'
+host_served tells accept_traffic failed works given refused sock_tells sock_traffic failed_receives failed_sends ticks readings notes noted answers end count accepts_end dgrams_end risen send_failed look
     k one two first second joined k' h h' p halves others accepted served gave starts join shut ends = record {
-      told = both_served answers end count accepts_end dgrams_end risen send_failed look
+      observed = both_served answers end count accepts_end dgrams_end risen send_failed look
           (tells h'.accept) (works p) (works h'.spawner) (tells h.accept × works h.spawner)
-          (mails h'.sock × ticks h'.clock × notes h'.journal) (mails h.sock × ticks h.clock × notes h.journal) (NeitherBegan end k k' × (h' ≡ h))
-          k one two first second joined k' (door h.accept) (door h'.accept) (given h.spawner) (given p) (given h'.spawner)
-          (noted h.journal) (noted h'.journal) (mail h.sock) (mail h'.sock) (readings h.clock) (readings h'.clock)
+          (sock_tells h'.sock × ticks h'.clock × notes h'.journal) (sock_tells h.sock × ticks h.clock × notes h.journal) (NeitherBegan end k k' × (h' ≡ h))
+          k one two first second joined k' (accept_traffic h.accept) (accept_traffic h'.accept) (given h.spawner) (given p) (given h'.spawner)
+          (noted h.journal) (noted h'.journal) (sock_traffic h.sock) (sock_traffic h'.sock) (readings h.clock) (readings h'.clock)
           (failed h.accept) (failed h'.accept) (refused h.spawner) (refused p) (refused h'.spawner)
           (failed_receives h.sock) (failed_receives h'.sock) (failed_sends h.sock) (failed_sends h'.sock)
-          halves others (record { between = accepted.between; accepts = accepted.ran.told; shut = accepted.shut }) accepted.ran.rose
+          halves others (record { between = accepted.between; accepts = accepted.ran.observed; shut = accepted.shut }) accepted.ran.rose
           served.dgrams served.receives served.sends gave starts join shut ends;
       fault = rose_of_host end dgrams_end accepts_end risen send_failed (failed h.accept) (failed h'.accept) (refused h.spawner) (refused p) (refused h'.spawner)
           (failed_receives h.sock) (failed_receives h'.sock) (failed_sends h.sock) (failed_sends h'.sock)
@@ -152,10 +153,10 @@ host_served tells door failed works given refused mails mail failed_receives fai
     }
 
 -- memory ran out before either began, and the book was shut down
-pub none_served : {H : Type 0} (seen : H → HostWorld) (door mail : H → Type 0) (answers : Serving) (end : HostEnd) (count : ℕ) (look : Look) (k k' : Known) (h : H) →
-    end ≡ OutOfMemory → Called k ToShutdown (Shown look) k' → HostServed seen door mail answers end count k k' h h
-none_served seen door mail answers end count look k k' h is shut = record {
-  told = inr (record { end_is = is; shut = record { look = look; called = shut } }, refl);
+pub none_served : {H : Type 0} (seen : H → HostWorld) (accept_traffic sock_traffic : H → Type 0) (answers : Serving) (end : HostEnd) (count : ℕ) (look : Look) (k k' : Known) (h : H) →
+    end ≡ OutOfMemory → Called k ToShutdown (Shown look) k' → HostServed seen accept_traffic sock_traffic answers end count k k' h h
+none_served seen accept_traffic sock_traffic answers end count look k k' h is shut = record {
+  observed = inr (record { end_is = is; shut = record { look = look; called = shut } }, refl);
   fault = rw is tt;
   accepts_later = omega arith;
   starts_later = omega arith;
@@ -164,7 +165,7 @@ none_served seen door mail answers end count look k k' h is shut = record {
 }
 
 -- what was done to an accept object and a spawner, by what they are afterwards
-pub went_over : {S P : Type 0} (tells : S → Type 0) (door : S → Door) (failed : S → ℕ) (works : P → Type 0) (given : P → List SocketAddr) (refused : P → ℕ)
+pub went_over : {S P : Type 0} (tells : S → Type 0) (accept_traffic : S → AcceptTraffic) (failed : S → ℕ) (works : P → Type 0) (given : P → List SocketAddr) (refused : P → ℕ)
     (end : AcceptEnd) (risen : Bool) (count : ℕ) (k k' : Known) (a b c : S) (p q r : P) →
-    AcceptsWent tells door failed works given refused end risen count k k' a b p q → c ≡ b → r ≡ q → AcceptsWent tells door failed works given refused end risen count k k' a c p r
-went_over tells door failed works given refused end risen count k k' a b c p q r went same still = rw (same, still) went
+    AcceptsWent tells accept_traffic failed works given refused end risen count k k' a b p q → c ≡ b → r ≡ q → AcceptsWent tells accept_traffic failed works given refused end risen count k k' a c p r
+went_over tells accept_traffic failed works given refused end risen count k k' a b c p q r went same still = rw (same, still) went

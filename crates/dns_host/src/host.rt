@@ -2,13 +2,13 @@
 
 ghost use Rattle.std.specs.Prelude.{◌≡◌, ◌||◌, MatchOption, IfOk};
 ghost use Rattle.std.specs.Arc.{arc_value};
-ghost use Rattle.dns_client.specs.Serving.{serving};
-ghost use Rattle.dns_host.specs.Hosting.{host_end, host_seen, door_told, mail_told, AcceptsWent, DgramsWent, HalvesClosed, HostServed};
+ghost use Rattle.dns_session.specs.Serving.{serving};
+ghost use Rattle.dns_host.specs.Hosting.{host_end, host_seen, accept_observed, sock_observed, AcceptsWent, DgramsWent, HalvesClosed, HostServed};
 
-use crate::house::{House, Reception};
+use crate::serve_context::{AcceptContext, ServeContext};
 use dns_accepts::{AcceptEnd, ConnectionWork, Recorder, Silent};
 use dns_book::{Book, BookSeat};
-use dns_datagrams::DgramEnd;
+use dns_dgram_driver::DgramEnd;
 use dns_io::{AsyncAccept, AsyncDgramSock, Clock, Spawner};
 use dns_name::OutOfMemory;
 use dns_service::SharedService;
@@ -74,7 +74,7 @@ where
         W: SharedService + Send + Sync + 'static,
     >(
         &mut self,
-        reception: &Reception<'_, R, C, W>,
+        accept_context: &AcceptContext<'_, R, C, W>,
         halves: (BookSeat, BookSeat),
         count: u64,
     ) -> ((BookSeat, DgramEnd, bool), (BookSeat, AcceptEnd, bool))
@@ -82,14 +82,14 @@ where
         W::Future: Send,
         W::Stream: Send,
         P: Spawner<ConnectionWork<A::Link, C, Silent, W>>,
-        requires halves { (halves.0.book ≡ arc_value reception.now.house.book.now) × (halves.1.book ≡ arc_value reception.now.house.book.now) }
-        requires can_call { W.can_call (arc_value reception.now.house.service.now) }
-        ensures dgrams { DgramsWent D.tells D.mail D.failed_receives D.failed_sends C.tells C.readings J.tells J.noted
-            (serving (W.answer (arc_value reception.now.house.service.now)) (W.hint (arc_value reception.now.house.service.now))) result.0.1 result.0.2 count halves.1.known result.0.0.known
+        requires halves { (halves.0.book ≡ arc_value accept_context.now.serve_context.book.now) × (halves.1.book ≡ arc_value accept_context.now.serve_context.book.now) }
+        requires can_call { W.can_call (arc_value accept_context.now.serve_context.service.now) }
+        ensures dgrams { DgramsWent D.tells D.sock_traffic D.failed_receives D.failed_sends C.tells C.readings J.tells J.noted
+            (serving (W.answer (arc_value accept_context.now.serve_context.service.now)) (W.hint (arc_value accept_context.now.serve_context.service.now))) result.0.1 result.0.2 count halves.1.known result.0.0.known
             self.old.sock self.new.sock self.old.clock self.new.clock self.old.journal self.new.journal }
-        ensures accepts { AcceptsWent A.tells A.door A.faults P.tells P.given P.faults result.1.1 result.1.2 count halves.0.known result.1.0.known
+        ensures accepts { AcceptsWent A.tells A.accept_traffic A.faults P.tells P.given P.faults result.1.1 result.1.2 count halves.0.known result.1.0.known
             self.old.accept self.new.accept self.old.spawner self.new.spawner }
-        ensures seats { (result.0.0.book ≡ arc_value reception.now.house.book.now) × (result.1.0.book ≡ arc_value reception.now.house.book.now) }
+        ensures seats { (result.0.0.book ≡ arc_value accept_context.now.serve_context.book.now) × (result.1.0.book ≡ arc_value accept_context.now.serve_context.book.now) }
     {
         let Host {
             accept,
@@ -98,15 +98,15 @@ where
             spawner,
             journal,
         } = self;
-        let house = &reception.house;
+        let serve_context = &accept_context.serve_context;
         let (mut left, mut right) = (Some(halves.0), Some(halves.1));
         join_mut(
-            house.rt,
-            &mut || house.datagrams_beside(&mut right, sock, clock, journal, count),
+            serve_context.rt,
+            &mut || serve_context.datagrams_beside(&mut right, sock, clock, journal, count),
             &mut || -> (BookSeat, AcceptEnd, bool)
-                requires place { MatchOption left ⊥ (λ seat. seat.book ≡ arc_value reception.now.house.book.now) }
-                requires can_call { W.can_call (arc_value reception.now.house.service.now) }
-            { reception.accepts_beside(accept, spawner, &mut left, count) },
+                requires place { MatchOption left ⊥ (λ seat. seat.book ≡ arc_value accept_context.now.serve_context.book.now) }
+                requires can_call { W.can_call (arc_value accept_context.now.serve_context.service.now) }
+            { accept_context.accepts_beside(accept, spawner, &mut left, count) },
         )
     }
 
@@ -117,7 +117,7 @@ where
         W: SharedService + Send + Sync + 'static,
     >(
         &mut self,
-        reception: &Reception<'_, R, C, W>,
+        accept_context: &AcceptContext<'_, R, C, W>,
         seat: BookSeat,
         count: u64,
     ) -> (BookSeat, HostEnd)
@@ -125,16 +125,16 @@ where
         W::Future: Send,
         W::Stream: Send,
         P: Spawner<ConnectionWork<A::Link, C, Silent, W>>,
-        requires book { seat.book ≡ arc_value reception.now.house.book.now }
-        requires can_call { W.can_call (arc_value reception.now.house.service.now) }
-        ensures served { HostServed (host_seen A.door P.given J.noted D.mail C.readings A.faults P.faults D.failed_receives D.failed_sends)
-            (door_told A.tells P.tells) (mail_told D.tells C.tells J.tells)
-            (serving (W.answer (arc_value reception.now.house.service.now)) (W.hint (arc_value reception.now.house.service.now))) result.1 count seat.known result.0.known self.old self.new }
+        requires book { seat.book ≡ arc_value accept_context.now.serve_context.book.now }
+        requires can_call { W.can_call (arc_value accept_context.now.serve_context.service.now) }
+        ensures served { HostServed (host_seen A.accept_traffic P.given J.noted D.sock_traffic C.readings A.faults P.faults D.failed_receives D.failed_sends)
+            (accept_observed A.tells P.tells) (sock_observed D.tells C.tells J.tells)
+            (serving (W.answer (arc_value accept_context.now.serve_context.service.now)) (W.hint (arc_value accept_context.now.serve_context.service.now))) result.1 count seat.known result.0.known self.old self.new }
         ensures same { result.0.book ≡ seat.book }
     {
-        let House { rt, book, .. } = reception.house;
+        let ServeContext { rt, book, .. } = accept_context.serve_context;
         let halves = book.split(rt, seat);
-        let ends = self.both_beside(reception, halves, count);
+        let ends = self.both_beside(accept_context, halves, count);
         self.spawner.join_all(rt);
         close_both(rt, book, ends)
     }
@@ -158,14 +158,14 @@ where
         P: Spawner<ConnectionWork<A::Link, C, Silent, W>>,
         requires book { seat.book ≡ arc_value book.now }
         requires can_call { W.can_call (arc_value made.0) }
-        ensures served { HostServed (host_seen A.door P.given J.noted D.mail C.readings A.faults P.faults D.failed_receives D.failed_sends)
-            (door_told A.tells P.tells) (mail_told D.tells C.tells J.tells)
+        ensures served { HostServed (host_seen A.accept_traffic P.given J.noted D.sock_traffic C.readings A.faults P.faults D.failed_receives D.failed_sends)
+            (accept_observed A.tells P.tells) (sock_observed D.tells C.tells J.tells)
             (serving (W.answer (arc_value made.0)) (W.hint (arc_value made.0))) result.1 count seat.known result.0.known self.old self.new }
         ensures same { result.0.book ≡ seat.book }
     {
         let (service, clock) = made;
-        let reception = Reception {
-            house: House {
+        let accept_context = AcceptContext {
+            serve_context: ServeContext {
                 rt,
                 alloc,
                 book,
@@ -173,7 +173,7 @@ where
             },
             clock: &clock,
         };
-        self.serve(&reception, seat, count)
+        self.serve(&accept_context, seat, count)
     }
 }
 
@@ -235,8 +235,8 @@ where
     W::Stream: Send,
     requires book { seat.book ≡ arc_value book.now }
     requires can_call { W.can_call service }
-    ensures served { HostServed (host_seen A.door P.given J.noted D.mail C.readings A.faults P.faults D.failed_receives D.failed_sends)
-        (door_told A.tells P.tells) (mail_told D.tells C.tells J.tells)
+    ensures served { HostServed (host_seen A.accept_traffic P.given J.noted D.sock_traffic C.readings A.faults P.faults D.failed_receives D.failed_sends)
+        (accept_observed A.tells P.tells) (sock_observed D.tells C.tells J.tells)
         (serving (W.answer service) (W.hint service)) result.1 count seat.known result.0.known host.old host.new }
     ensures same { result.0.book ≡ seat.book }
 {

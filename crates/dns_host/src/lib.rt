@@ -2,11 +2,12 @@
 #![tactic(auto)]
 
 mod host;
-mod house;
+mod serve_context;
 
 pub use dns_accepts::{
-    AcceptEnd, ConnectionEnd, ConnectionWork, Kept, NoHook, PreConnect, Recorder, Silent,
+    AcceptEnd, ConnectionEnd, ConnectionWork, NoHook, PreConnect, Recorder, Silent, VecRecorder,
     serve_accepts, serve_connection,
 };
-pub use dns_datagrams::{DgramEnd, pause, serve_datagrams};
+pub use dns_dgram_driver::{DgramEnd, pause, serve_datagrams};
 pub use host::{Host, HostEnd, host_service};
+pub use serve_context::{AcceptContext, ServeContext};

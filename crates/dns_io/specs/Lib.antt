@@ -1,6 +1,6 @@
 pub mod Causes
-pub mod Doors
-pub mod Mail
+pub mod AcceptTraffic
+pub mod SockTraffic
 pub mod Moves
 pub mod Starts
 pub mod Traffic

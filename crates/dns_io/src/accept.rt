@@ -1,8 +1,8 @@
 //! What connections come from.
 
 ghost use Rattle.std.specs.Prelude.{◌≡◌, ℕ, ◌≤◌};
-ghost use Rattle.dns_io.specs.Causes.{Tells};
-ghost use Rattle.dns_io.specs.Doors.{Door, AcceptMoves, AcceptCause};
+ghost use Rattle.dns_io.specs.Causes.{Observed};
+ghost use Rattle.dns_io.specs.AcceptTraffic.{AcceptTraffic, AcceptMoves, AcceptCause};
 
 use crate::link::Link;
 use dns_name::SocketAddr;
@@ -28,19 +28,19 @@ pub trait AsyncAccept {
     ghost tells: { Self → Type 0 };
 
     /// Who came so far, where the accept object tells.
-    ghost door: { Self → Door };
+    ghost accept_traffic: { Self → AcceptTraffic };
 
     /// The number of failed accepts so far, up to 2^64 - 1.
     ghost faults: { Self → ℕ };
 
     /// Accepts one connection.
     fn poll_accept(&mut self) -> AcceptAnswer<Self::Link>
-        ensures moves { Tells (tells self.new) (tells self.old) (AcceptMoves result (door self.old) (door self.new)) }
+        ensures moves { Observed (tells self.new) (tells self.old) (AcceptMoves result (accept_traffic self.old) (accept_traffic self.new)) }
         ensures later { faults self.old ≤ faults self.new }
         ensures cause { AcceptCause result (faults self.old) (faults self.new) };
 
     /// Waits until a connection came since an `Again`, but no longer than so many milliseconds. It may return sooner.
     fn wait<R: Wait>(&mut self, rt: &R, millis: u64)
-        ensures moves { Tells (tells self.new) (tells self.old) (door self.new ≡ door self.old) }
+        ensures moves { Observed (tells self.new) (tells self.old) (accept_traffic self.new ≡ accept_traffic self.old) }
         ensures same { faults self.new ≡ faults self.old };
 }

@@ -1,7 +1,7 @@
 //! Clocks.
 
 ghost use Rattle.std.specs.Prelude.{◌≡◌, ℕ, List, [], ◌∷◌, ◌++◌, IfOk};
-ghost use Rattle.dns_io.specs.Causes.{Tells};
+ghost use Rattle.dns_io.specs.Causes.{Observed};
 
 use dns_name::OutOfMemory;
 use std::alloc::Global;
@@ -16,19 +16,19 @@ pub trait Clock: Sized {
 
     /// One reading: the time in milliseconds and in whole seconds. It may be less than an earlier one.
     fn now(&mut self) -> (u64, u64)
-        ensures { Tells (tells self.new) (tells self.old) (readings self.new ≡ readings self.old ++ result ∷ []) };
+        ensures { Observed (tells self.new) (tells self.old) (readings self.new ≡ readings self.old ++ result ∷ []) };
 
     /// The reading that was given last, where the clock keeps it and hasn't been told since that it is old; else one of now. What
     /// comes right behind an event may have its moment.
     fn latest(&mut self) -> (u64, u64)
-        ensures { Tells (tells self.new) (tells self.old) (readings self.new ≡ readings self.old ++ result ∷ []) }
+        ensures { Observed (tells self.new) (tells self.old) (readings self.new ≡ readings self.old ++ result ∷ []) }
     {
         self.now()
     }
 
     /// Time has passed, so that the reading that was given last is old.
     fn outdate(&mut self)
-        ensures { Tells (tells self.new) (tells self.old) (readings self.new ≡ readings self.old) }
+        ensures { Observed (tells self.new) (tells self.old) (readings self.new ≡ readings self.old) }
     {}
 
     /// Another clock of this kind, which has given no reading yet.

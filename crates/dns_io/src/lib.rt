@@ -15,7 +15,7 @@ pub use accept::{AcceptAnswer, AsyncAccept};
 pub use clock::Clock;
 pub use link::{Link, LinkRead, LinkWrite};
 pub use sink::{Sink, SinkWrite, WriteFault, write_all};
-pub use sock::{AsyncDgramSock, DgramRecv, DgramSend, Letter};
+pub use sock::{AsyncDgramSock, DgramRecv, DgramSend, Packet};
 pub use source::{LIMIT, ReadError, Source, SourceRead, read_all};
 pub use spawner::{Spawner, Start};
 pub use work::{Started, Work, start_work};

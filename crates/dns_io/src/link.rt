@@ -1,7 +1,7 @@
 //! Links: connections that octets go through both ways.
 
 ghost use Rattle.std.specs.Prelude.{◌≡◌, ℕ, ◌≤◌};
-ghost use Rattle.dns_io.specs.Causes.{Tells};
+ghost use Rattle.dns_io.specs.Causes.{Observed};
 ghost use Rattle.dns_io.specs.Traffic.{Traffic, LinkReadMoves, LinkReadBound, LinkReadCause, LinkWriteMoves, LinkWriteBound, LinkWriteCause};
 
 use std::sync::Wait;
@@ -44,7 +44,7 @@ pub trait Link {
     /// Reads some octets into the front of `buf`. Each call that answers `Got` gives at least one octet to a buffer
     /// that is not empty.
     fn read(&mut self, buf: &mut [u8]) -> LinkRead
-        ensures moves { Tells (tells self.new) (tells self.old) (LinkReadMoves result buf.new (traffic self.old) (traffic self.new)) }
+        ensures moves { Observed (tells self.new) (tells self.old) (LinkReadMoves result buf.new (traffic self.old) (traffic self.new)) }
         ensures bound { LinkReadBound result buf.new }
         ensures later { faults self.old ≤ faults self.new }
         ensures cause { LinkReadCause result (faults self.old) (faults self.new) };
@@ -52,7 +52,7 @@ pub trait Link {
     /// Writes some octets of the front of `piece`. Each call that answers `Took` takes at least one octet of a piece
     /// that is not empty.
     fn write(&mut self, piece: &[u8]) -> LinkWrite
-        ensures moves { Tells (tells self.new) (tells self.old) (LinkWriteMoves result piece.now (traffic self.old) (traffic self.new)) }
+        ensures moves { Observed (tells self.new) (tells self.old) (LinkWriteMoves result piece.now (traffic self.old) (traffic self.new)) }
         ensures bound { LinkWriteBound result piece.now }
         ensures later { faults self.old ≤ faults self.new }
         ensures cause { LinkWriteCause result (faults self.old) (faults self.new) };
@@ -60,11 +60,11 @@ pub trait Link {
     /// Waits until octets came, or there is room again, since an `Again`, but no longer than so many milliseconds. It
     /// may return sooner.
     fn wait<R: Wait>(&mut self, rt: &R, millis: u64)
-        ensures moves { Tells (tells self.new) (tells self.old) (traffic self.new ≡ traffic self.old) }
+        ensures moves { Observed (tells self.new) (tells self.old) (traffic self.new ≡ traffic self.old) }
         ensures same { faults self.new ≡ faults self.old };
 
     /// Ends the connection both ways.
     fn close(&mut self)
-        ensures moves { Tells (tells self.new) (tells self.old) (traffic self.new ≡ traffic self.old) }
+        ensures moves { Observed (tells self.new) (tells self.old) (traffic self.new ≡ traffic self.old) }
         ensures same { faults self.new ≡ faults self.old };
 }

@@ -1,7 +1,7 @@
 //! Sinks of octets.
 
 ghost use Rattle.std.specs.Prelude.{◌≡◌, ℕ, List, ◌≤◌};
-ghost use Rattle.dns_io.specs.Causes.{Tells};
+ghost use Rattle.dns_io.specs.Causes.{Observed};
 ghost use Rattle.dns_io.specs.Moves.{WriteMoves, WriteBound, WriteCause, WroteAll, WroteAllCause};
 
 /// The answer of one write.
@@ -27,7 +27,7 @@ pub trait Sink {
     /// Writes some octets of the front of `piece`. Each call that answers `Took` takes at least one octet of a piece
     /// that is not empty.
     fn write(&mut self, piece: &[u8]) -> SinkWrite
-        ensures moves { Tells (tells self.new) (tells self.old) (WriteMoves result piece.now (taken self.old) (taken self.new)) }
+        ensures moves { Observed (tells self.new) (tells self.old) (WriteMoves result piece.now (taken self.old) (taken self.new)) }
         ensures bound { WriteBound result piece.now }
         ensures later { faults self.old ≤ faults self.new }
         ensures cause { WriteCause result (faults self.old) (faults self.new) };
@@ -40,7 +40,7 @@ pub struct WriteFault;
 /// Writes a whole piece. After a fault a front of it was taken.
 #[tactic(auto, using(crate::proofs::Pieces::wrote_more, crate::proofs::Pieces::wrote_cut))]
 pub fn write_all<W: Sink>(sink: &mut W, piece: &[u8]) -> Result<(), WriteFault>
-    ensures told { Tells (W.tells sink.new) (W.tells sink.old) (WroteAll result piece.now (W.taken sink.old) (W.taken sink.new)) }
+    ensures observed { Observed (W.tells sink.new) (W.tells sink.old) (WroteAll result piece.now (W.taken sink.old) (W.taken sink.new)) }
     ensures later { W.faults sink.old ≤ W.faults sink.new }
     ensures cause { WroteAllCause result (W.faults sink.old) (W.faults sink.new) }
 {

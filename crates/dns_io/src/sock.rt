@@ -1,15 +1,15 @@
 //! Sockets for datagrams.
 
 ghost use Rattle.std.specs.Prelude.{◌≡◌, ℕ, ◌≤◌};
-ghost use Rattle.dns_io.specs.Causes.{Tells};
-ghost use Rattle.dns_io.specs.Mail.{Mail, RecvMoves, RecvBound, RecvCause, SendMoves, SendBound, SendCause};
+ghost use Rattle.dns_io.specs.Causes.{Observed};
+ghost use Rattle.dns_io.specs.SockTraffic.{SockTraffic, RecvMoves, RecvBound, RecvCause, SendMoves, SendBound, SendCause};
 
 use dns_name::{Octets, SocketAddr};
 use std::sync::Wait;
 
 /// A datagram, and the address that it came from or goes to.
 #[derive(Debug, Drop)]
-pub struct Letter {
+pub struct Packet {
     pub octets: Octets,
     pub addr: SocketAddr,
 }
@@ -43,7 +43,7 @@ pub trait AsyncDgramSock {
     ghost tells: { Self → Type 0 };
 
     /// What was received and sent so far, where the socket tells.
-    ghost mail: { Self → Mail };
+    ghost sock_traffic: { Self → SockTraffic };
 
     /// The number of failed receives so far, up to 2^64 - 1.
     ghost failed_receives: { Self → ℕ };
@@ -53,7 +53,7 @@ pub trait AsyncDgramSock {
 
     /// Sends one datagram.
     fn poll_send_to(&mut self, octets: &[u8], to: SocketAddr) -> DgramSend
-        ensures moves { Tells (tells self.new) (tells self.old) (SendMoves result octets.now to (mail self.old) (mail self.new)) }
+        ensures moves { Observed (tells self.new) (tells self.old) (SendMoves result octets.now to (sock_traffic self.old) (sock_traffic self.new)) }
         ensures bound { SendBound result octets.now }
         ensures receives { failed_receives self.new ≡ failed_receives self.old }
         ensures later { failed_sends self.old ≤ failed_sends self.new }
@@ -62,13 +62,13 @@ pub trait AsyncDgramSock {
     /// Waits until a datagram came, or there is room again, since an `Again`, but no longer than so many milliseconds.
     /// It may return sooner.
     fn readable<R: Wait>(&mut self, rt: &R, millis: u64)
-        ensures moves { Tells (tells self.new) (tells self.old) (mail self.new ≡ mail self.old) }
+        ensures moves { Observed (tells self.new) (tells self.old) (sock_traffic self.new ≡ sock_traffic self.old) }
         ensures receives { failed_receives self.new ≡ failed_receives self.old }
         ensures sends { failed_sends self.new ≡ failed_sends self.old };
 
     /// Receives one datagram. What the buffer has no room for is lost.
     fn try_recv_buf_from(&mut self, buf: &mut [u8]) -> DgramRecv
-        ensures moves { Tells (tells self.new) (tells self.old) (RecvMoves result buf.new (mail self.old) (mail self.new)) }
+        ensures moves { Observed (tells self.new) (tells self.old) (RecvMoves result buf.new (sock_traffic self.old) (sock_traffic self.new)) }
         ensures bound { RecvBound result buf.new }
         ensures sends { failed_sends self.new ≡ failed_sends self.old }
         ensures later { failed_receives self.old ≤ failed_receives self.new }

@@ -1,7 +1,7 @@
 //! Sources of octets.
 
 ghost use Rattle.std.specs.Prelude.{◌≡◌, ℕ, List, ◌≤◌, length, IfOk};
-ghost use Rattle.dns_io.specs.Causes.{Tells};
+ghost use Rattle.dns_io.specs.Causes.{Observed};
 ghost use Rattle.dns_io.specs.Moves.{ReadMoves, ReadBound, ReadCause, ReadTo, ReadAllCause};
 
 use std::alloc::{AllocError, Global};
@@ -31,7 +31,7 @@ pub trait Source {
     /// Reads some octets into the front of `buf`. Each call that answers `Got` gives at least one octet to a buffer
     /// that is not empty.
     fn read(&mut self, buf: &mut [u8]) -> SourceRead
-        ensures moves { Tells (tells self.new) (tells self.old) (ReadMoves result buf.new (left self.old) (left self.new)) }
+        ensures moves { Observed (tells self.new) (tells self.old) (ReadMoves result buf.new (left self.old) (left self.new)) }
         ensures bound { ReadBound result buf.new }
         ensures later { faults self.old ≤ faults self.new }
         ensures cause { ReadCause result (faults self.old) (faults self.new) };
@@ -65,7 +65,7 @@ const PIECE: usize = 65_536;
 
 /// Reads a source to its end, up to 65,536 octets by one read. At most `LIMIT + 1` octets are taken from it.
 pub fn read_all<S: Source>(alloc: Global, source: &mut S) -> Result<Vec<u8>, ReadError>
-    ensures told { Tells (S.tells source.new) (S.tells source.old) (ReadTo (λ v. v.items) result (S.left source.old) (S.left source.new)) }
+    ensures observed { Observed (S.tells source.new) (S.tells source.old) (ReadTo (λ v. v.items) result (S.left source.old) (S.left source.new)) }
     ensures few { IfOk result (λ v. length v.items ≤ LIMIT) }
     ensures later { S.faults source.old ≤ S.faults source.new }
     ensures cause { ReadAllCause result (S.faults source.old) (S.faults source.new) }

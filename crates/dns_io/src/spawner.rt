@@ -2,7 +2,7 @@
 
 ghost use Rattle.std.specs.Prelude.{◌≡◌, ℕ, List, ◌≤◌};
 ghost use Rattle.dns_name.specs.declared.address.SocketAddr.{SocketAddr};
-ghost use Rattle.dns_io.specs.Causes.{Rose, Tells};
+ghost use Rattle.dns_io.specs.Causes.{Rose, Observed};
 ghost use Rattle.dns_io.specs.Starts.{StartMoves, StartCause, PermitMoves, PermitCause};
 
 use crate::work::{Started, Work, start_work};
@@ -37,34 +37,34 @@ pub trait Spawner<W: Work> {
 
     /// For `start`: keeps the address, and says whether a thread may be started.
     fn permit(&mut self, addr: SocketAddr) -> Result<bool, OutOfMemory>
-        ensures given { Tells (tells self.new) (tells self.old) (PermitMoves result addr (given self.old) (given self.new)) }
+        ensures given { Observed (tells self.new) (tells self.old) (PermitMoves result addr (given self.old) (given self.new)) }
         ensures later { faults self.old ≤ faults self.new }
         ensures cause { PermitCause result (faults self.old) (faults self.new) };
 
     /// For `start`: counts a thread that could not be made.
     fn refuse(&mut self)
-        ensures given { Tells (tells self.new) (tells self.old) (given self.new ≡ given self.old) }
+        ensures given { Observed (tells self.new) (tells self.old) (given self.new ≡ given self.old) }
         ensures later { faults self.old ≤ faults self.new }
         ensures cause { Rose (faults self.old) (faults self.new) };
 
     /// For `start`: keeps a thread, or hands it back.
     fn keep(&mut self, thread: Started<W::Done>) -> Option<Started<W::Done>>
-        ensures given { Tells (tells self.new) (tells self.old) (given self.new ≡ given self.old) }
+        ensures given { Observed (tells self.new) (tells self.old) (given self.new ≡ given self.old) }
         ensures same { faults self.new ≡ faults self.old };
 
     /// For `start`: a kept thread whose work is done, if one is found.
     fn ended(&mut self) -> Option<Started<W::Done>>
-        ensures given { Tells (tells self.new) (tells self.old) (given self.new ≡ given self.old) }
+        ensures given { Observed (tells self.new) (tells self.old) (given self.new ≡ given self.old) }
         ensures same { faults self.new ≡ faults self.old };
 
     /// For `join_all`: a kept thread, until none is left.
     fn next(&mut self) -> Option<Started<W::Done>>
-        ensures given { Tells (tells self.new) (tells self.old) (given self.new ≡ given self.old) }
+        ensures given { Observed (tells self.new) (tells self.old) (given self.new ≡ given self.old) }
         ensures same { faults self.new ≡ faults self.old };
 
     /// Asks `ended` 32 times for a kept thread whose work is done, and joins each that it gives, which ends at once.
     final fn join_ended<R: Threads>(&mut self, rt: &R)
-        ensures given { Tells (tells self.new) (tells self.old) (given self.new ≡ given self.old) }
+        ensures given { Observed (tells self.new) (tells self.old) (given self.new ≡ given self.old) }
         ensures same { faults self.new ≡ faults self.old }
     {
         for _ in 0..BATCH {
@@ -82,7 +82,7 @@ pub trait Spawner<W: Work> {
         work: W,
     ) -> Result<Start, OutOfMemory>
         requires { W.ready work }
-        ensures given { Tells (tells self.new) (tells self.old) (StartMoves result (W.addr work) (given self.old) (given self.new)) }
+        ensures given { Observed (tells self.new) (tells self.old) (StartMoves result (W.addr work) (given self.old) (given self.new)) }
         ensures later { faults self.old ≤ faults self.new }
         ensures cause { StartCause result (faults self.old) (faults self.new) }
     {
@@ -103,7 +103,7 @@ pub trait Spawner<W: Work> {
     /// Waits for the end of each thread that `next` gives, until it gives none: by the spawners of dns_memory, of all that
     /// were started and are kept. No clause says so.
     final fn join_all<R: Threads + Wait>(&mut self, rt: &R)
-        ensures given { Tells (tells self.new) (tells self.old) (given self.new ≡ given self.old) }
+        ensures given { Observed (tells self.new) (tells self.old) (given self.new ≡ given self.old) }
         ensures same { faults self.new ≡ faults self.old }
     {
         for _ in rt.forever() {
@@ -116,7 +116,7 @@ pub trait Spawner<W: Work> {
 
 /// Waits for the end of a thread whose work is done, if one is found.
 fn join_one_ended<W: Work, S: Spawner<W>, R: Threads>(spawner: &mut S, rt: &R)
-    ensures given { Tells (S.tells spawner.new) (S.tells spawner.old) (S.given spawner.new ≡ S.given spawner.old) }
+    ensures given { Observed (S.tells spawner.new) (S.tells spawner.old) (S.given spawner.new ≡ S.given spawner.old) }
     ensures same { S.faults spawner.new ≡ S.faults spawner.old }
 {
     if let Some(thread) = spawner.ended() {
@@ -126,7 +126,7 @@ fn join_one_ended<W: Work, S: Spawner<W>, R: Threads>(spawner: &mut S, rt: &R)
 
 /// Waits for the end of a kept thread, and says whether there was one.
 fn join_next<W: Work, S: Spawner<W>, R: Threads>(spawner: &mut S, rt: &R) -> bool
-    ensures given { Tells (S.tells spawner.new) (S.tells spawner.old) (S.given spawner.new ≡ S.given spawner.old) }
+    ensures given { Observed (S.tells spawner.new) (S.tells spawner.old) (S.given spawner.new ≡ S.given spawner.old) }
     ensures same { S.faults spawner.new ≡ S.faults spawner.old }
 {
     match spawner.next() {
@@ -146,7 +146,7 @@ fn start_permitted<W: Work, S: Spawner<W>, R: Threads + Wait + Copy + Send + 'st
     work: W,
 ) -> Result<Start, OutOfMemory>
     requires { W.ready work }
-    ensures given { Tells (S.tells spawner.new) (S.tells spawner.old) (S.given spawner.new ≡ S.given spawner.old) }
+    ensures given { Observed (S.tells spawner.new) (S.tells spawner.old) (S.given spawner.new ≡ S.given spawner.old) }
     ensures later { S.faults spawner.old ≤ S.faults spawner.new }
     ensures cause { StartCause result (S.faults spawner.old) (S.faults spawner.new) }
 {
@@ -162,7 +162,7 @@ fn keep_started<W: Work, S: Spawner<W>, R: Threads>(
     rt: &R,
     started: Option<Started<W::Done>>,
 ) -> Start
-    ensures given { Tells (S.tells spawner.new) (S.tells spawner.old) (S.given spawner.new ≡ S.given spawner.old) }
+    ensures given { Observed (S.tells spawner.new) (S.tells spawner.old) (S.given spawner.new ≡ S.given spawner.old) }
     ensures later { S.faults spawner.old ≤ S.faults spawner.new }
     ensures cause { StartCause (Ok result) (S.faults spawner.old) (S.faults spawner.new) }
 {

@@ -1,7 +1,7 @@
 -- What forms in memory give in its order, octets or datagrams.
 use Rattle.std.specs.Prelude.{◌≡◌, ℕ, ◌≤◌, List, [], ◌∷◌, ◌++◌, length, take, min, Option, Some, None}
 use Rattle.dns_name.specs.declared.address.SocketAddr.{SocketAddr}
-use Rattle.dns_io.specs.declared.sock.Letter.{Letter}
+use Rattle.dns_io.specs.declared.sock.Packet.{Packet}
 
 -- what came so far, and what is left
 pub record Passing (A : Type 0) : Type 0 where
@@ -21,7 +21,7 @@ Passes (Some n) most buf a b = PartCame n most buf a b
 Passes None most buf a b = (a.left ≡ []) × (b ≡ a)
 
 -- one datagram came, and buf holds its front, as much as there is room for
-pub record LetterCame (n : ℕ) (from : SocketAddr) (buf : List ℕ) (a b : Passing Letter) : Type 0 where
+pub record PacketCame (n : ℕ) (from : SocketAddr) (buf : List ℕ) (a b : Passing Packet) : Type 0 where
   pub octets : List ℕ
   pub came : b.came ≡ a.came ++ (record { octets = octets; addr = from }) ∷ []
   pub left : a.left ≡ (record { octets = octets; addr = from }) ∷ b.left
@@ -29,6 +29,6 @@ pub record LetterCame (n : ℕ) (from : SocketAddr) (buf : List ℕ) (a b : Pass
   pub front : take n buf ≡ take n octets
 
 -- a receive of a datagram, with what is given before it and after it
-abbrev pub LetterPasses : Option (ℕ × SocketAddr) → List ℕ → Passing Letter → Passing Letter → Type 0
-LetterPasses (Some (n, from)) buf a b = LetterCame n from buf a b
-LetterPasses None buf a b = (a.left ≡ []) × (b ≡ a)
+abbrev pub PacketPasses : Option (ℕ × SocketAddr) → List ℕ → Passing Packet → Passing Packet → Type 0
+PacketPasses (Some (n, from)) buf a b = PacketCame n from buf a b
+PacketPasses None buf a b = (a.left ≡ []) × (b ≡ a)

@@ -10,20 +10,20 @@ mod memory_clock;
 mod memory_link;
 mod memory_sock;
 mod memory_spawner;
-mod pile;
+mod octet_replay;
+mod packet_replay;
 mod steady;
 mod steady_accept;
 mod steady_link;
 mod steady_sock;
-mod tape;
 mod thread_spawner;
 
 pub use dns_io::{
-    AcceptAnswer, AsyncAccept, AsyncDgramSock, Clock, DgramRecv, DgramSend, LIMIT, Letter, Link,
-    LinkRead, LinkWrite, ReadError, Sink, SinkWrite, Source, SourceRead, Spawner, Start, Started,
+    AcceptAnswer, AsyncAccept, AsyncDgramSock, Clock, DgramRecv, DgramSend, LIMIT, Link, LinkRead,
+    LinkWrite, Packet, ReadError, Sink, SinkWrite, Source, SourceRead, Spawner, Start, Started,
     Work, WriteFault, read_all, start_work, write_all,
 };
-pub use listed_calls::{Course, ListedCalls};
+pub use listed_calls::{CallFate, ListedCalls};
 pub use memory::{MemorySink, MemorySource};
 pub use memory_accept::MemoryAccept;
 pub use memory_clock::MemoryClock;

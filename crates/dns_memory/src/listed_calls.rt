@@ -2,7 +2,7 @@
 
 ghost use Rattle.std.specs.Prelude.{◌≡◌, ◌≤◌, ◌↔◌, if◌then◌else◌, Contains, IsTrue};
 ghost use Rattle.dns_memory.specs.Memory.{next};
-ghost use Rattle.dns_memory.specs.ListedCalls.{TakesCourse};
+ghost use Rattle.dns_memory.specs.ListedCalls.{TakesFate};
 
 /// Calls, of which those fail whose numbers are listed.
 #[derive(Drop)]
@@ -51,7 +51,7 @@ impl FailingCalls {
 
 /// What a call of a form in memory comes to.
 #[derive(Clone, Copy, Debug, PartialEq, Eq)]
-pub enum Course {
+pub enum CallFate {
     CarriedOut,
     Again,
     Failed,
@@ -82,21 +82,21 @@ impl ListedCalls {
     }
 
     /// One call more, and what it comes to.
-    pub(crate) fn take(&mut self) -> Course
-        ensures course { TakesCourse result self.old self.new }
+    pub(crate) fn take(&mut self) -> CallFate
+        ensures fate { TakesFate result self.old self.new }
         ensures later { self.old.faults ≤ self.new.faults }
     {
         let call = self.made;
         self.made = self.made.saturating_add(1);
         if self.failing.contains(&call) {
             self.fault();
-            return Course::Failed;
+            return CallFate::Failed;
         }
         if self.again.contains(&call) {
             self.answer_again();
-            return Course::Again;
+            return CallFate::Again;
         }
-        Course::CarriedOut
+        CallFate::CarriedOut
     }
 
     /// One fault more.

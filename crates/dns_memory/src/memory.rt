@@ -1,19 +1,19 @@
 //! Sources and sinks in memory, with calls that fail.
 
 ghost use Rattle.std.specs.Prelude.{◌≡◌, ◌≤◌, ◌↔◌, length, Contains};
-ghost use Rattle.dns_io.specs.Causes.{Tells};
+ghost use Rattle.dns_io.specs.Causes.{Observed};
 ghost use Rattle.dns_io.specs.Moves.{ReadMoves, ReadBound, ReadCause, WriteMoves, WriteBound, WriteCause};
 ghost use Rattle.dns_memory.specs.Memory.{Supplies, Stores, next};
 
 use crate::listed_calls::FailingCalls;
-use crate::tape::Tape;
+use crate::octet_replay::OctetReplay;
 use dns_io::{Sink, SinkWrite, Source, SourceRead};
 use std::marker::Model;
 
 /// A source over a vector, which tells what is left. The calls whose numbers are listed fail, and no others.
 #[derive(Drop)]
 pub struct MemorySource {
-    octets: Tape,
+    octets: OctetReplay,
     most: usize,
     calls: FailingCalls,
 }
@@ -33,7 +33,7 @@ impl MemorySource {
         ensures { result ≡ record { left = octets.items; most = most; failing = failing.items; calls = 0; faults = 0 } }
     {
         MemorySource {
-            octets: Tape::new(octets),
+            octets: OctetReplay::new(octets),
             most,
             calls: FailingCalls::of(failing),
         }
@@ -55,7 +55,7 @@ impl Source for MemorySource {
     ghost faults = { λ s. s.faults };
 
     fn read(&mut self, buf: &mut [u8]) -> SourceRead
-        ensures moves { Tells (Unit {0}) (Unit {0}) (ReadMoves result buf.new self.old.left self.new.left) }
+        ensures moves { Observed (Unit {0}) (Unit {0}) (ReadMoves result buf.new self.old.left self.new.left) }
         ensures bound { ReadBound result buf.new }
         ensures later { self.old.faults ≤ self.new.faults }
         ensures cause { ReadCause result self.old.faults self.new.faults }
@@ -120,7 +120,7 @@ impl Sink for MemorySink {
     ghost faults = { λ s. s.faults };
 
     fn write(&mut self, piece: &[u8]) -> SinkWrite
-        ensures moves { Tells (Unit {0}) (Unit {0}) (WriteMoves result piece.now self.old.taken self.new.taken) }
+        ensures moves { Observed (Unit {0}) (Unit {0}) (WriteMoves result piece.now self.old.taken self.new.taken) }
         ensures bound { WriteBound result piece.now }
         ensures later { self.old.faults ≤ self.new.faults }
         ensures cause { WriteCause result self.old.faults self.new.faults }

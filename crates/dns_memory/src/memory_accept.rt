@@ -1,11 +1,11 @@
 //! An accept object in memory, with calls that fail or answer Again.
 
 ghost use Rattle.std.specs.Prelude.{◌≡◌, ◌≤◌, [], Contains};
-ghost use Rattle.dns_io.specs.Causes.{Tells};
-ghost use Rattle.dns_io.specs.Doors.{AcceptMoves, AcceptCause};
-ghost use Rattle.dns_memory.specs.MemoryForms.{door_of, StillCounts, LobbyAccepts};
+ghost use Rattle.dns_io.specs.Causes.{Observed};
+ghost use Rattle.dns_io.specs.AcceptTraffic.{AcceptMoves, AcceptCause};
+ghost use Rattle.dns_memory.specs.MemoryForms.{accept_traffic_of, StillCounts, AcceptsNext};
 
-use crate::listed_calls::{Course, ListedCalls};
+use crate::listed_calls::{CallFate, ListedCalls};
 use dns_io::{AcceptAnswer, AsyncAccept, Link};
 use dns_name::SocketAddr;
 use std::alloc::Global;
@@ -24,9 +24,9 @@ pub struct MemoryAccept<L: Drop> {
 }
 
 impl<L: Drop> Model for MemoryAccept<L> {
-    ghost use Rattle.dns_memory.specs.MemoryForms.{Lobby};
+    ghost use Rattle.dns_memory.specs.MemoryForms.{AcceptState};
 
-    ghost Value = { Lobby L };
+    ghost Value = { AcceptState L };
 
     ghost view = { λ s. record { left = s.left.items; callers = s.callers.items; calls = s.calls } };
 }
@@ -53,21 +53,21 @@ impl<L: Link + Drop> AsyncAccept for MemoryAccept<L> {
 
     ghost tells = { λ s. StillCounts s.calls.agains };
 
-    ghost door = { λ s. door_of s };
+    ghost accept_traffic = { λ s. accept_traffic_of s };
 
     ghost faults = { λ s. s.calls.faults };
 
     fn poll_accept(&mut self) -> AcceptAnswer<L>
-        ensures moves { Tells (StillCounts self.new.calls.agains) (StillCounts self.old.calls.agains) (AcceptMoves result (door_of self.old) (door_of self.new)) }
+        ensures moves { Observed (StillCounts self.new.calls.agains) (StillCounts self.old.calls.agains) (AcceptMoves result (accept_traffic_of self.old) (accept_traffic_of self.new)) }
         ensures later { self.old.calls.faults ≤ self.new.calls.faults }
         ensures cause { AcceptCause result self.old.calls.faults self.new.calls.faults }
-        ensures gives { LobbyAccepts result self.old self.new }
+        ensures gives { AcceptsNext result self.old self.new }
         ensures listed { Contains self.old.calls.failing.items self.old.calls.made → result ≡ AcceptAnswer.Failed }
     {
         match self.calls.take() {
-            Course::Failed => return AcceptAnswer::Failed,
-            Course::Again => return AcceptAnswer::Again,
-            Course::CarriedOut => {}
+            CallFate::Failed => return AcceptAnswer::Failed,
+            CallFate::Again => return AcceptAnswer::Again,
+            CallFate::CarriedOut => {}
         }
         let Some((link, from)) = self.left.pop_front() else {
             self.calls.answer_again();
@@ -83,7 +83,7 @@ impl<L: Link + Drop> AsyncAccept for MemoryAccept<L> {
     }
 
     fn wait<R: Wait>(&mut self, _rt: &R, _millis: u64)
-        ensures moves { Tells (StillCounts self.new.calls.agains) (StillCounts self.old.calls.agains) (door_of self.new ≡ door_of self.old) }
+        ensures moves { Observed (StillCounts self.new.calls.agains) (StillCounts self.old.calls.agains) (accept_traffic_of self.new ≡ accept_traffic_of self.old) }
         ensures same { self.new.calls.faults ≡ self.old.calls.faults }
         ensures kept { self.new ≡ self.old }
     {}

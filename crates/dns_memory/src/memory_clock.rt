@@ -1,7 +1,7 @@
 //! A clock in memory.
 
 ghost use Rattle.std.specs.Prelude.{◌≡◌, [], IfOk};
-ghost use Rattle.dns_io.specs.Causes.{Tells};
+ghost use Rattle.dns_io.specs.Causes.{Observed};
 ghost use Rattle.dns_memory.specs.MemoryForms.{StillCounts, readings_of};
 
 use dns_io::Clock;
@@ -18,9 +18,9 @@ pub struct MemoryClock {
 }
 
 impl Model for MemoryClock {
-    ghost use Rattle.dns_memory.specs.MemoryForms.{Dial};
+    ghost use Rattle.dns_memory.specs.MemoryForms.{ClockState};
 
-    ghost Value = { Dial };
+    ghost Value = { ClockState };
 
     ghost view = { λ s. record { listed = s.listed.items; given = s.given } };
 }

@@ -1,12 +1,12 @@
 //! A link in memory, with calls that fail or answer Again.
 
 ghost use Rattle.std.specs.Prelude.{◌≡◌, ◌≤◌, ◌+◌, ◌++◌, [], length, Contains};
-ghost use Rattle.dns_io.specs.Causes.{Tells};
+ghost use Rattle.dns_io.specs.Causes.{Observed};
 ghost use Rattle.dns_io.specs.Traffic.{LinkReadMoves, LinkReadBound, LinkReadCause, LinkWriteMoves, LinkWriteBound, LinkWriteCause};
-ghost use Rattle.dns_memory.specs.MemoryForms.{traffic_of, CableTells, CableReads, CableWrites};
+ghost use Rattle.dns_memory.specs.MemoryForms.{traffic_of, LinkTells, LinkReads, LinkWrites};
 
-use crate::listed_calls::{Course, ListedCalls};
-use crate::tape::Tape;
+use crate::listed_calls::{CallFate, ListedCalls};
+use crate::octet_replay::OctetReplay;
 use dns_io::{Link, LinkRead, LinkWrite};
 use std::marker::Model;
 use std::sync::Wait;
@@ -15,7 +15,7 @@ use std::sync::Wait;
 /// apart, and of each the listed calls fail or answer Again; a write for which there is no memory fails too.
 #[derive(Drop)]
 pub struct MemoryLink {
-    input: Tape,
+    input: OctetReplay,
     output: Vec<u8>,
     most: usize,
     ends: u64,
@@ -24,9 +24,9 @@ pub struct MemoryLink {
 }
 
 impl Model for MemoryLink {
-    ghost use Rattle.dns_memory.specs.MemoryForms.{Cable};
+    ghost use Rattle.dns_memory.specs.MemoryForms.{LinkState};
 
-    ghost Value = { Cable };
+    ghost Value = { LinkState };
 
     ghost view = { λ s. record { left = s.input.left; came = s.input.came; went = s.output.items; most = s.most; ends = s.ends; reads = s.reads; writes = s.writes } };
 }
@@ -44,7 +44,7 @@ impl MemoryLink {
         ensures { result ≡ record { left = input.items; came = []; went = output.items; most = most; ends = 0; reads = reads; writes = writes } }
     {
         MemoryLink {
-            input: Tape::new(input),
+            input: OctetReplay::new(input),
             output,
             most,
             ends: 0,
@@ -64,25 +64,25 @@ impl MemoryLink {
 impl Link for MemoryLink {
     ghost use Rattle.std.specs.Prelude.{◌+◌};
 
-    ghost tells = { λ s. CableTells s };
+    ghost tells = { λ s. LinkTells s };
 
     ghost traffic = { λ s. traffic_of s };
 
     ghost faults = { λ s. s.reads.faults + s.writes.faults };
 
     fn read(&mut self, buf: &mut [u8]) -> LinkRead
-        ensures moves { Tells (CableTells self.new) (CableTells self.old) (LinkReadMoves result buf.new (traffic_of self.old) (traffic_of self.new)) }
+        ensures moves { Observed (LinkTells self.new) (LinkTells self.old) (LinkReadMoves result buf.new (traffic_of self.old) (traffic_of self.new)) }
         ensures bound { LinkReadBound result buf.new }
         ensures later { self.old.reads.faults + self.old.writes.faults ≤ self.new.reads.faults + self.new.writes.faults }
         ensures cause { LinkReadCause result (self.old.reads.faults + self.old.writes.faults) (self.new.reads.faults + self.new.writes.faults) }
-        ensures gives { CableReads result (length buf.old) self.old self.new }
+        ensures gives { LinkReads result (length buf.old) self.old self.new }
         ensures input { self.new.came ++ self.new.left ≡ self.old.came ++ self.old.left }
         ensures kept { (self.new.writes ≡ self.old.writes) × (self.new.most ≡ self.old.most) }
     {
         match self.reads.take() {
-            Course::Failed => return LinkRead::Failed,
-            Course::Again => return LinkRead::Again,
-            Course::CarriedOut => {}
+            CallFate::Failed => return LinkRead::Failed,
+            CallFate::Again => return LinkRead::Again,
+            CallFate::CarriedOut => {}
         }
         match self.input.read(buf, self.most.max(1)) {
             Some(count) => LinkRead::Got(count),
@@ -94,18 +94,18 @@ impl Link for MemoryLink {
     }
 
     fn write(&mut self, piece: &[u8]) -> LinkWrite
-        ensures moves { Tells (CableTells self.new) (CableTells self.old) (LinkWriteMoves result piece.now (traffic_of self.old) (traffic_of self.new)) }
+        ensures moves { Observed (LinkTells self.new) (LinkTells self.old) (LinkWriteMoves result piece.now (traffic_of self.old) (traffic_of self.new)) }
         ensures bound { LinkWriteBound result piece.now }
         ensures later { self.old.reads.faults + self.old.writes.faults ≤ self.new.reads.faults + self.new.writes.faults }
         ensures cause { LinkWriteCause result (self.old.reads.faults + self.old.writes.faults) (self.new.reads.faults + self.new.writes.faults) }
-        ensures takes { CableWrites result (length piece.now) self.old self.new }
+        ensures takes { LinkWrites result (length piece.now) self.old self.new }
         ensures listed { Contains self.old.writes.failing.items self.old.writes.made → result ≡ LinkWrite.Failed }
         ensures kept { (self.new.reads ≡ self.old.reads) × (self.new.most ≡ self.old.most) × (self.new.left ≡ self.old.left) }
     {
         match self.writes.take() {
-            Course::Failed => return LinkWrite::Failed,
-            Course::Again => return LinkWrite::Again,
-            Course::CarriedOut => {}
+            CallFate::Failed => return LinkWrite::Failed,
+            CallFate::Again => return LinkWrite::Again,
+            CallFate::CarriedOut => {}
         }
         let count = piece.len().min(self.most.max(1));
         match self.output.extend_from_slice(&piece[..count]) {
@@ -118,13 +118,13 @@ impl Link for MemoryLink {
     }
 
     fn wait<R: Wait>(&mut self, _rt: &R, _millis: u64)
-        ensures moves { Tells (CableTells self.new) (CableTells self.old) (traffic_of self.new ≡ traffic_of self.old) }
+        ensures moves { Observed (LinkTells self.new) (LinkTells self.old) (traffic_of self.new ≡ traffic_of self.old) }
         ensures same { self.new.reads.faults + self.new.writes.faults ≡ self.old.reads.faults + self.old.writes.faults }
         ensures kept { self.new ≡ self.old }
     {}
 
     fn close(&mut self)
-        ensures moves { Tells (CableTells self.new) (CableTells self.old) (traffic_of self.new ≡ traffic_of self.old) }
+        ensures moves { Observed (LinkTells self.new) (LinkTells self.old) (traffic_of self.new ≡ traffic_of self.old) }
         ensures same { self.new.reads.faults + self.new.writes.faults ≡ self.old.reads.faults + self.old.writes.faults }
         ensures kept { self.new ≡ self.old }
     {}

@@ -1,7 +1,7 @@
 //! A spawner that keeps the addresses of its works, with starts that fail.
 
 ghost use Rattle.std.specs.Prelude.{◌≡◌, ◌≤◌, ◌+◌, [], ◌∷◌, ◌++◌, OnOk, OnErr, IfOk, IfSome, IfNone, MatchOption, IsFalse, Contains, ◌↔◌, vec_len};
-ghost use Rattle.dns_io.specs.Causes.{Rose, Tells};
+ghost use Rattle.dns_io.specs.Causes.{Rose, Observed};
 ghost use Rattle.dns_io.specs.Starts.{PermitMoves, PermitCause};
 ghost use Rattle.dns_memory.specs.Memory.{next};
 
@@ -41,7 +41,7 @@ impl<W: Work> Spawner<W> for MemorySpawner<W> {
     ghost faults = { λ s. s.calls.faults };
 
     fn permit(&mut self, addr: SocketAddr) -> Result<bool, OutOfMemory>
-        ensures given { Tells (Unit {0}) (Unit {0}) (PermitMoves result addr self.old.given.items self.new.given.items) }
+        ensures given { Observed (Unit {0}) (Unit {0}) (PermitMoves result addr self.old.given.items self.new.given.items) }
         ensures later { self.old.calls.faults ≤ self.new.calls.faults }
         ensures cause { PermitCause result self.old.calls.faults self.new.calls.faults }
         ensures fails { IfOk result (λ may. IsFalse may ↔ Contains self.old.calls.listed.items self.old.calls.made) }
@@ -57,7 +57,7 @@ impl<W: Work> Spawner<W> for MemorySpawner<W> {
     }
 
     fn keep(&mut self, thread: Started<W::Done>) -> Option<Started<W::Done>>
-        ensures given { Tells (Unit {0}) (Unit {0}) (self.new.given.items ≡ self.old.given.items) }
+        ensures given { Observed (Unit {0}) (Unit {0}) (self.new.given.items ≡ self.old.given.items) }
         ensures same { self.new.calls.faults ≡ self.old.calls.faults }
         ensures kept { IfNone result (self.new.threads.threads.items ≡ self.old.threads.threads.items ++ thread ∷ []) }
     {
@@ -65,7 +65,7 @@ impl<W: Work> Spawner<W> for MemorySpawner<W> {
     }
 
     fn ended(&mut self) -> Option<Started<W::Done>>
-        ensures given { Tells (Unit {0}) (Unit {0}) (self.new.given.items ≡ self.old.given.items) }
+        ensures given { Observed (Unit {0}) (Unit {0}) (self.new.given.items ≡ self.old.given.items) }
         ensures same { self.new.calls.faults ≡ self.old.calls.faults }
         ensures all { IfNone result (self.new.threads.threads.items ≡ self.old.threads.threads.items) }
         ensures others { IfSome result (λ thread. vec_len self.new.threads.threads + 1 ≡ vec_len self.old.threads.threads) }
@@ -74,7 +74,7 @@ impl<W: Work> Spawner<W> for MemorySpawner<W> {
     }
 
     fn next(&mut self) -> Option<Started<W::Done>>
-        ensures given { Tells (Unit {0}) (Unit {0}) (self.new.given.items ≡ self.old.given.items) }
+        ensures given { Observed (Unit {0}) (Unit {0}) (self.new.given.items ≡ self.old.given.items) }
         ensures same { self.new.calls.faults ≡ self.old.calls.faults }
         ensures one { MatchOption result ((vec_len self.old.threads.threads ≡ 0) × (vec_len self.new.threads.threads ≡ 0)) (λ _. vec_len self.new.threads.threads + 1 ≡ vec_len self.old.threads.threads) }
     {

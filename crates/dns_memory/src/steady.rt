@@ -2,14 +2,14 @@
 
 ghost use Rattle.std.specs.Prelude.{◌≡◌, ◌≤◌, ◌↔◌, length, [], IsTrue, true, IfSome, IsSome};
 
-use crate::tape::Tape;
+use crate::octet_replay::OctetReplay;
 use dns_io::{Sink, SinkWrite, Source, SourceRead};
 use std::marker::Model;
 
 /// A source over a vector, which tells what is left. No call fails, so its count of faults is 0 for ever.
 #[derive(Drop)]
 pub struct SteadySource {
-    octets: Tape,
+    octets: OctetReplay,
 }
 
 impl Model for SteadySource {
@@ -25,7 +25,7 @@ impl SteadySource {
         ensures { result ≡ octets.items }
     {
         SteadySource {
-            octets: Tape::new(octets),
+            octets: OctetReplay::new(octets),
         }
     }
 

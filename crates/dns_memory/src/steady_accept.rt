@@ -1,9 +1,9 @@
 //! An accept object in memory of which no call fails.
 
 ghost use Rattle.std.specs.Prelude.{◌≡◌, ◌≤◌, ℕ, [], true};
-ghost use Rattle.dns_io.specs.Causes.{Tells};
-ghost use Rattle.dns_io.specs.Doors.{AcceptMoves, AcceptCause};
-ghost use Rattle.dns_memory.specs.SteadyForms.{SteadyLobbyTells, SteadyLobbyAccepts, steady_door};
+ghost use Rattle.dns_io.specs.Causes.{Observed};
+ghost use Rattle.dns_io.specs.AcceptTraffic.{AcceptMoves, AcceptCause};
+ghost use Rattle.dns_memory.specs.SteadyForms.{SteadyAcceptTells, SteadyAcceptsNext, steady_accept_traffic};
 
 use dns_io::{AcceptAnswer, AsyncAccept, Link};
 use dns_name::SocketAddr;
@@ -24,9 +24,9 @@ pub struct SteadyAccept<L: Drop> {
 }
 
 impl<L: Drop> Model for SteadyAccept<L> {
-    ghost use Rattle.dns_memory.specs.SteadyForms.{SteadyLobby};
+    ghost use Rattle.dns_memory.specs.SteadyForms.{SteadyAcceptState};
 
-    ghost Value = { SteadyLobby L };
+    ghost Value = { SteadyAcceptState L };
 
     ghost view = { λ s. record { left = s.left.items; callers = s.callers.items; whole = s.whole; empty_accepts = s.empty_accepts } };
 }
@@ -48,17 +48,17 @@ impl<L: Drop> SteadyAccept<L> {
 impl<L: Link + Drop> AsyncAccept for SteadyAccept<L> {
     type Link = L;
 
-    ghost tells = { λ s. SteadyLobbyTells s };
+    ghost tells = { λ s. SteadyAcceptTells s };
 
-    ghost door = { λ s. steady_door s };
+    ghost accept_traffic = { λ s. steady_accept_traffic s };
 
     ghost faults = { λ _. 0 };
 
     fn poll_accept(&mut self) -> AcceptAnswer<L>
-        ensures moves { Tells (SteadyLobbyTells self.new) (SteadyLobbyTells self.old) (AcceptMoves result (steady_door self.old) (steady_door self.new)) }
+        ensures moves { Observed (SteadyAcceptTells self.new) (SteadyAcceptTells self.old) (AcceptMoves result (steady_accept_traffic self.old) (steady_accept_traffic self.new)) }
         ensures later { 0 ≤ 0 }
         ensures cause { AcceptCause result 0 0 }
-        ensures gives { SteadyLobbyAccepts result self.old self.new }
+        ensures gives { SteadyAcceptsNext result self.old self.new }
     {
         let Some((link, from)) = self.left.pop_front() else {
             self.empty_accepts = self.empty_accepts.saturating_add(1);
@@ -71,7 +71,7 @@ impl<L: Link + Drop> AsyncAccept for SteadyAccept<L> {
     }
 
     fn wait<R: Wait>(&mut self, _rt: &R, _millis: u64)
-        ensures moves { Tells (SteadyLobbyTells self.new) (SteadyLobbyTells self.old) (steady_door self.new ≡ steady_door self.old) }
+        ensures moves { Observed (SteadyAcceptTells self.new) (SteadyAcceptTells self.old) (steady_accept_traffic self.new ≡ steady_accept_traffic self.old) }
         ensures same { ◌≡◌ {A = ℕ} 0 0 }
         ensures kept { self.new ≡ self.old }
     {}

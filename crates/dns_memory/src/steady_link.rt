@@ -1,11 +1,11 @@
 //! A link in memory of which no call fails.
 
 ghost use Rattle.std.specs.Prelude.{◌≡◌, ◌≤◌, ◌++◌, ℕ, [], true, length};
-ghost use Rattle.dns_io.specs.Causes.{Tells};
+ghost use Rattle.dns_io.specs.Causes.{Observed};
 ghost use Rattle.dns_io.specs.Traffic.{LinkReadMoves, LinkReadBound, LinkReadCause, LinkWriteMoves, LinkWriteBound, LinkWriteCause};
-ghost use Rattle.dns_memory.specs.SteadyForms.{SteadyCableTells, SteadyCableReads, steady_traffic};
+ghost use Rattle.dns_memory.specs.SteadyForms.{SteadyLinkTells, SteadyLinkReads, steady_traffic};
 
-use crate::tape::Tape;
+use crate::octet_replay::OctetReplay;
 use dns_io::{Link, LinkRead, LinkWrite};
 use std::marker::Model;
 use std::sync::Wait;
@@ -14,16 +14,16 @@ use std::sync::Wait;
 /// went as long as there is memory for it and it can count its ends: afterwards it takes octets and tells nothing.
 #[derive(Drop)]
 pub struct SteadyLink {
-    input: Tape,
+    input: OctetReplay,
     output: Vec<u8>,
     whole: bool,
     ends: u64,
 }
 
 impl Model for SteadyLink {
-    ghost use Rattle.dns_memory.specs.SteadyForms.{SteadyCable};
+    ghost use Rattle.dns_memory.specs.SteadyForms.{SteadyLinkState};
 
-    ghost Value = { SteadyCable };
+    ghost Value = { SteadyLinkState };
 
     ghost view = { λ s. record { left = s.input.left; came = s.input.came; went = s.output.items; whole = s.whole; ends = s.ends } };
 }
@@ -34,7 +34,7 @@ impl SteadyLink {
         ensures { result ≡ record { left = input.items; came = []; went = output.items; whole = true; ends = 0 } }
     {
         SteadyLink {
-            input: Tape::new(input),
+            input: OctetReplay::new(input),
             output,
             whole: true,
             ends: 0,
@@ -50,18 +50,18 @@ impl SteadyLink {
 }
 
 impl Link for SteadyLink {
-    ghost tells = { λ s. SteadyCableTells s };
+    ghost tells = { λ s. SteadyLinkTells s };
 
     ghost traffic = { λ s. steady_traffic s };
 
     ghost faults = { λ _. 0 };
 
     fn read(&mut self, buf: &mut [u8]) -> LinkRead
-        ensures moves { Tells (SteadyCableTells self.new) (SteadyCableTells self.old) (LinkReadMoves result buf.new (steady_traffic self.old) (steady_traffic self.new)) }
+        ensures moves { Observed (SteadyLinkTells self.new) (SteadyLinkTells self.old) (LinkReadMoves result buf.new (steady_traffic self.old) (steady_traffic self.new)) }
         ensures bound { LinkReadBound result buf.new }
         ensures later { 0 ≤ 0 }
         ensures cause { LinkReadCause result 0 0 }
-        ensures gives { SteadyCableReads result self.old self.new }
+        ensures gives { SteadyLinkReads result self.old self.new }
         ensures input { self.new.came ++ self.new.left ≡ self.old.came ++ self.old.left }
         ensures kept { (self.new.went ≡ self.old.went) × (self.new.whole ≡ self.old.whole) }
     {
@@ -75,7 +75,7 @@ impl Link for SteadyLink {
     }
 
     fn write(&mut self, piece: &[u8]) -> LinkWrite
-        ensures moves { Tells (SteadyCableTells self.new) (SteadyCableTells self.old) (LinkWriteMoves result piece.now (steady_traffic self.old) (steady_traffic self.new)) }
+        ensures moves { Observed (SteadyLinkTells self.new) (SteadyLinkTells self.old) (LinkWriteMoves result piece.now (steady_traffic self.old) (steady_traffic self.new)) }
         ensures bound { LinkWriteBound result piece.now }
         ensures later { 0 ≤ 0 }
         ensures cause { LinkWriteCause result 0 0 }
@@ -89,13 +89,13 @@ impl Link for SteadyLink {
     }
 
     fn wait<R: Wait>(&mut self, _rt: &R, _millis: u64)
-        ensures moves { Tells (SteadyCableTells self.new) (SteadyCableTells self.old) (steady_traffic self.new ≡ steady_traffic self.old) }
+        ensures moves { Observed (SteadyLinkTells self.new) (SteadyLinkTells self.old) (steady_traffic self.new ≡ steady_traffic self.old) }
         ensures same { ◌≡◌ {A = ℕ} 0 0 }
         ensures kept { self.new ≡ self.old }
     {}
 
     fn close(&mut self)
-        ensures moves { Tells (SteadyCableTells self.new) (SteadyCableTells self.old) (steady_traffic self.new ≡ steady_traffic self.old) }
+        ensures moves { Observed (SteadyLinkTells self.new) (SteadyLinkTells self.old) (steady_traffic self.new ≡ steady_traffic self.old) }
         ensures same { ◌≡◌ {A = ℕ} 0 0 }
         ensures kept { self.new ≡ self.old }
     {}

@@ -2,7 +2,7 @@
 
 ghost use Rattle.std.specs.Prelude.{◌≡◌, ◌+◌, List, [], ◌∷◌, ◌++◌, IfSome, IfNone, MatchOption, vec_len};
 ghost use Rattle.dns_name.specs.declared.address.SocketAddr.{SocketAddr};
-ghost use Rattle.dns_io.specs.Causes.{Tells};
+ghost use Rattle.dns_io.specs.Causes.{Observed};
 
 use crate::kept_threads::KeptThreads;
 use dns_io::{Spawner, Started, Work};
@@ -45,7 +45,7 @@ impl<W: Work> Spawner<W> for ThreadSpawner<W> {
     }
 
     fn keep(&mut self, thread: Started<W::Done>) -> Option<Started<W::Done>>
-        ensures given { Tells ⊥ ⊥ (◌≡◌ {A = List SocketAddr} [] []) }
+        ensures given { Observed ⊥ ⊥ (◌≡◌ {A = List SocketAddr} [] []) }
         ensures same { self.new.faults ≡ self.old.faults }
         ensures kept { IfNone result (self.new.threads.threads.items ≡ self.old.threads.threads.items ++ thread ∷ []) }
     {
@@ -53,7 +53,7 @@ impl<W: Work> Spawner<W> for ThreadSpawner<W> {
     }
 
     fn ended(&mut self) -> Option<Started<W::Done>>
-        ensures given { Tells ⊥ ⊥ (◌≡◌ {A = List SocketAddr} [] []) }
+        ensures given { Observed ⊥ ⊥ (◌≡◌ {A = List SocketAddr} [] []) }
         ensures same { self.new.faults ≡ self.old.faults }
         ensures all { IfNone result (self.new.threads.threads.items ≡ self.old.threads.threads.items) }
         ensures others { IfSome result (λ thread. vec_len self.new.threads.threads + 1 ≡ vec_len self.old.threads.threads) }
@@ -62,7 +62,7 @@ impl<W: Work> Spawner<W> for ThreadSpawner<W> {
     }
 
     fn next(&mut self) -> Option<Started<W::Done>>
-        ensures given { Tells ⊥ ⊥ (◌≡◌ {A = List SocketAddr} [] []) }
+        ensures given { Observed ⊥ ⊥ (◌≡◌ {A = List SocketAddr} [] []) }
         ensures same { self.new.faults ≡ self.old.faults }
         ensures one { MatchOption result ((vec_len self.old.threads.threads ≡ 0) × (vec_len self.new.threads.threads ≡ 0)) (λ _. vec_len self.new.threads.threads + 1 ≡ vec_len self.old.threads.threads) }
     {

@@ -1,6 +1,6 @@
 pub use Rattle.dns_io.specs.Causes
-pub use Rattle.dns_io.specs.Doors
-pub use Rattle.dns_io.specs.Mail
+pub use Rattle.dns_io.specs.AcceptTraffic
+pub use Rattle.dns_io.specs.SockTraffic
 pub use Rattle.dns_io.specs.Moves
 pub use Rattle.dns_io.specs.Starts
 pub use Rattle.dns_io.specs.Traffic

@@ -1,6 +1,6 @@
 //! The machine's clock.
 
-ghost use Rattle.std.specs.Prelude.{◌≡◌, [], true};
+ghost use Rattle.std.specs.Prelude.{◌≡◌, [], true, None};
 
 use dns_io::Clock;
 use dns_name::OutOfMemory;
@@ -9,24 +9,36 @@ use std::rt;
 use std::time::Duration;
 
 /// The machine's clock, which tells nothing. The moment in milliseconds is that of the monotonic clock, which no change of the
-/// time of day moves. The seconds are the time of day, since 1970. A part that can't be read is given as it was read last, 0 at
-/// first.
+/// time of day moves. The seconds are the time of day, since 1970, which is read once for each moment: a reading at the moment of
+/// the one before has its seconds. A part that can't be read is given as it was read last, 0 at first.
 #[derive(Drop)]
 pub struct HostClock<T> {
     rt: T,
     last: (u64, u64),
     is_old: bool,
+    // The moment for which the time of day was read last.
+    read_for: Option<u64>,
 }
 
 impl<T: rt::Clock> HostClock<T> {
     /// A clock that has given no reading.
     pub fn new(rt: T) -> HostClock<T>
-        ensures { result ≡ record { rt = rt; last = (0, 0); is_old = true } }
+        ensures { result ≡ record { rt = rt; last = (0, 0); is_old = true; read_for = None } }
     {
         HostClock {
             rt,
             last: (0, 0),
             is_old: true,
+            read_for: None,
+        }
+    }
+
+    /// Reads the time of day, for the last moment.
+    #[inline(never)]
+    fn read_time_of_day(&mut self) {
+        if let Ok(since) = rt::Clock::since_1970(&self.rt) {
+            self.last.1 = since.as_secs();
+            self.read_for = Some(self.last.0);
         }
     }
 }
@@ -43,13 +55,14 @@ impl<T: rt::Clock + Copy> Clock for HostClock<T> {
     ghost readings = { λ _. [] };
 
     fn now(&mut self) -> (u64, u64) {
+        self.is_old = false;
         if let Ok(since) = rt::Clock::monotonic(&self.rt) {
             self.last.0 = millis_of(since);
+            if self.read_for == Some(self.last.0) {
+                return self.last;
+            }
         }
-        if let Ok(since) = rt::Clock::since_1970(&self.rt) {
-            self.last.1 = since.as_secs();
-        }
-        self.is_old = false;
+        self.read_time_of_day();
         self.last
     }
 

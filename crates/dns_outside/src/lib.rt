@@ -3,22 +3,23 @@
 #![tactic(auto)]
 
 mod accepting;
-mod eagerness;
+mod spin_policy;
 mod host_clock;
 mod mio_accept;
 mod mio_addr;
 mod mio_link;
 mod mio_sock;
+mod shared_udp;
 mod standard;
 mod waiting;
 
 pub use dns_io::{
-    AcceptAnswer, AsyncAccept, AsyncDgramSock, Clock, DgramRecv, DgramSend, LIMIT, Letter, Link,
+    AcceptAnswer, AsyncAccept, AsyncDgramSock, Clock, DgramRecv, DgramSend, LIMIT, Packet, Link,
     LinkRead, LinkWrite, ReadError, Sink, SinkWrite, Source, SourceRead, Spawner, Start, Started,
     Work, WriteFault, read_all, start_work, write_all,
 };
 pub use dns_memory::{
-    Course, ListedCalls, MemoryAccept, MemoryClock, MemoryLink, MemorySink, MemorySock,
+    CallFate, ListedCalls, MemoryAccept, MemoryClock, MemoryLink, MemorySink, MemorySock,
     MemorySource, MemorySpawner, SteadyAccept, SteadyLink, SteadySink, SteadySock, SteadySource,
     ThreadSpawner,
 };

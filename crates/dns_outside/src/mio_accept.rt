@@ -1,7 +1,7 @@
 //! A TCP listener over `mio`.
 
 ghost use Rattle.std.specs.Prelude.{◌≡◌, ◌≤◌, [], IfOk};
-ghost use Rattle.dns_io.specs.Doors.{AcceptCause};
+ghost use Rattle.dns_io.specs.AcceptTraffic.{AcceptCause};
 
 use crate::accepting::accept_without_waiting;
 use crate::mio_addr::{from_std, to_std};
@@ -72,7 +72,7 @@ impl AsyncAccept for MioAccept {
 
     ghost tells = { λ _. ⊥ };
 
-    ghost door = { λ _. record { callers = []; empty_accepts = 0 } };
+    ghost accept_traffic = { λ _. record { callers = []; empty_accepts = 0 } };
 
     ghost faults = { λ s. s.faults };
 

@@ -2,8 +2,9 @@
 
 ghost use Rattle.std.specs.Prelude.{◌≡◌, [], IfOk};
 
-use crate::eagerness::Eagerness;
+use crate::spin_policy::SpinPolicy;
 use crate::mio_addr::{from_std, to_std, within_v6};
+use crate::shared_udp::bind_shared;
 use crate::waiting::{is_again, is_read_again, wait_for_room, wait_to_read};
 use dns_io::{AsyncDgramSock, DgramRecv, DgramSend};
 use dns_name::{IpAddr, SocketAddr};
@@ -24,7 +25,7 @@ pub struct MioSock {
     socket: UdpSocket,
     // Whether the socket is of IPv6, which has an IPv4 address within one of IPv6.
     is_v6: bool,
-    eagerness: Eagerness,
+    spin_policy: SpinPolicy,
     // Whether a send answered Again since the last wait.
     full: bool,
     failed_receives: u64,
@@ -38,16 +39,30 @@ impl MioSock {
         ensures receives { IfOk result (λ sock. ⟦<MioSock as AsyncDgramSock>⟧.failed_receives sock ≡ 0) }
         ensures sends { IfOk result (λ sock. ⟦<MioSock as AsyncDgramSock>⟧.failed_sends sock ≡ 0) }
     {
-        match UdpSocket::bind(net, to_std(addr)) {
-            Ok(socket) => Ok(MioSock {
-                socket,
-                is_v6: matches!(addr.ip, IpAddr::V6(_)),
-                eagerness: Eagerness::new(),
-                full: false,
-                failed_receives: 0,
-                failed_sends: 0,
-            }),
-            Err(error) => Err(error),
+        Ok(MioSock::over(UdpSocket::bind(net, to_std(addr))?, addr))
+    }
+
+    /// A socket at this address that other sockets made by this call may share: the system gives each datagram to one of them,
+    /// picked by the addresses and ports that it comes from and goes to. One of IPv6 takes no datagram over IPv4.
+    pub fn bind_shared<N: Net>(_net: &N, addr: SocketAddr) -> io::Result<MioSock>
+        ensures receives { IfOk result (λ sock. ⟦<MioSock as AsyncDgramSock>⟧.failed_receives sock ≡ 0) }
+        ensures sends { IfOk result (λ sock. ⟦<MioSock as AsyncDgramSock>⟧.failed_sends sock ≡ 0) }
+    {
+        Ok(MioSock::over(UdpSocket::from(bind_shared(to_std(addr))?), addr))
+    }
+
+    // A socket that was made for this address.
+    fn over(socket: UdpSocket, addr: SocketAddr) -> MioSock
+        ensures receives { result.failed_receives ≡ 0 }
+        ensures sends { result.failed_sends ≡ 0 }
+    {
+        MioSock {
+            socket,
+            is_v6: matches!(addr.ip, IpAddr::V6(_)),
+            spin_policy: SpinPolicy::new(),
+            full: false,
+            failed_receives: 0,
+            failed_sends: 0,
         }
     }
 
@@ -82,9 +97,9 @@ impl MioSock {
         ensures receives { self.new.failed_receives ≡ self.old.failed_receives }
         ensures sends { self.new.failed_sends ≡ self.old.failed_sends }
     {
-        if self.eagerness.is_worthwhile() {
+        if self.spin_policy.is_worthwhile() {
             let is_there = self.comes_soon();
-            self.eagerness.learn(is_there);
+            self.spin_policy.learn(is_there);
             if is_there {
                 return;
             }
@@ -96,7 +111,7 @@ impl MioSock {
 impl AsyncDgramSock for MioSock {
     ghost tells = { λ _. ⊥ };
 
-    ghost mail = { λ _. record { received = []; sent = []; empty_receives = 0; full_sends = 0 } };
+    ghost sock_traffic = { λ _. record { received = []; sent = []; empty_receives = 0; full_sends = 0 } };
 
     ghost failed_receives = { λ s. s.failed_receives };
 

@@ -1,7 +1,7 @@
 //! Sources and sinks over any reader and writer of std, as standard input and output. They tell no content.
 
 ghost use Rattle.std.specs.Prelude.{◌≡◌, ◌≤◌, []};
-ghost use Rattle.dns_io.specs.Causes.{Tells};
+ghost use Rattle.dns_io.specs.Causes.{Observed};
 ghost use Rattle.dns_io.specs.Moves.{ReadMoves, ReadBound, ReadCause, WriteMoves, WriteBound, WriteCause};
 ghost use Rattle.dns_outside.specs.Standard.{ReadsOf, WritesTo};
 
@@ -31,7 +31,7 @@ impl<R: Read + Drop> Source for Reading<R> {
     ghost faults = { λ s. s.faults };
 
     fn read(&mut self, buf: &mut [u8]) -> SourceRead
-        ensures moves { Tells ⊥ ⊥ (ReadMoves result buf.new [] []) }
+        ensures moves { Observed ⊥ ⊥ (ReadMoves result buf.new [] []) }
         ensures bound { ReadBound result buf.new }
         ensures later { self.old.faults ≤ self.new.faults }
         ensures cause { ReadCause result self.old.faults self.new.faults }
@@ -79,7 +79,7 @@ impl<W: Write + Drop> Sink for Writing<W> {
     ghost faults = { λ s. s.faults };
 
     fn write(&mut self, piece: &[u8]) -> SinkWrite
-        ensures moves { Tells ⊥ ⊥ (WriteMoves result piece.now [] []) }
+        ensures moves { Observed ⊥ ⊥ (WriteMoves result piece.now [] []) }
         ensures bound { WriteBound result piece.now }
         ensures later { self.old.faults ≤ self.new.faults }
         ensures cause { WriteCause result self.old.faults self.new.faults }

@@ -1,6 +1,6 @@
 -- Questions are asked one by one, and the lines of their answers are written together.
 use Rattle.std.proofs.Common.{◌≡◌, ℕ, List, [], ◌∷◌, ◌++◌, sym, ◌∙◌, ap, append_assoc, append-nil, arith, length, refl}
-use Rattle.dns_io.specs.Causes.{Tells}
+use Rattle.dns_io.specs.Causes.{Observed}
 use Rattle.dns_io.specs.Moves.{Cut}
 use Rattle.dns_script.specs.CachedRules.{CachedState}
 use Rattle.dns_script.specs.declared.ask.Ask.{Ask}
@@ -21,15 +21,15 @@ one_first s ask left = refl
 pub record Asked (whole_text : List ℕ) (s : CachedState) (left : List Ask) (text a b : List ℕ) (now before : Type 0) : Type 0 where
   pub done : List ℕ
   pub whole : done ++ asked_text s left ≡ whole_text
-  pub told : Tells now before (Pending text done a b)
+  pub observed : Observed now before (Pending text done a b)
 
 pub none_asked : (s : CachedState) (asks : List Ask) (text a : List ℕ) (now : Type 0) → text ≡ [] → Asked (asked_text s asks) s asks text a a now now
-none_asked s asks text a now e = record { done = []; whole = refl; told = rw e (none_kept a now) }
+none_asked s asks text a now e = record { done = []; whole = refl; observed = rw e (none_kept a now) }
 
 -- a line more of a text, some of which is kept back
-one_told : (old line done new a b c : List ℕ) (t0 t1 t2 : Type 0) → Tells t1 t0 (Pending old done a b) → Tells t2 t1 (Pending new (old ++ line) b c) → Tells t2 t0 (Pending new (done ++ line) a c)
+one_told : (old line done new a b c : List ℕ) (t0 t1 t2 : Type 0) → Observed t1 t0 (Pending old done a b) → Observed t2 t1 (Pending new (old ++ line) b c) → Observed t2 t0 (Pending new (done ++ line) a c)
 one_told old line done new a b c t0 t1 t2 before now = record {
-  told = λ x. let w = now.told x in let r = before.told w.0 in (
+  observed = λ x. let w = now.observed x in let r = before.observed w.0 in (
     r.0,
     record {
       written = r.1.written ++ w.1.written;
@@ -45,22 +45,22 @@ parts whole_text done s ask left whole =
     append_assoc done (asked_line s ask) (asked_text (asked_behind s ask) left) ∙ ap (λ q. done ++ q) (sym (one_first s ask left)) ∙ whole
 
 pub one_asked : (whole_text : List ℕ) (s behind : CachedState) (ask : Ask) (left : List Ask) (old new a b c : List ℕ) (t0 t1 t2 : Type 0)
-    → behind ≡ asked_behind s ask → Asked whole_text s (ask ∷ left) old a b t1 t0 → Tells t2 t1 (Pending new (old ++ asked_line s ask) b c) → Asked whole_text behind left new a c t2 t0
+    → behind ≡ asked_behind s ask → Asked whole_text s (ask ∷ left) old a b t1 t0 → Observed t2 t1 (Pending new (old ++ asked_line s ask) b c) → Asked whole_text behind left new a c t2 t0
 one_asked whole_text s behind ask left old new a b c t0 t1 t2 is before now = record {
   done = before.done ++ asked_line s ask;
   whole = ap (λ q. (before.done ++ asked_line s ask) ++ asked_text q left) is ∙ parts whole_text before.done s ask left before.whole;
-  told = one_told old (asked_line s ask) before.done new a b c t0 t1 t2 before.told now;
+  observed = one_told old (asked_line s ask) before.done new a b c t0 t1 t2 before.observed now;
 }
 
 pub cut_asked : (whole_text : List ℕ) (s : CachedState) (asks : List Ask) (ask : Ask) (left : List Ask) (old a b c : List ℕ) (t0 t1 t2 : Type 0)
-    → asks ≡ ask ∷ left → Asked whole_text s asks old a b t1 t0 → Tells t2 t1 (Cut (old ++ asked_line s ask) b c) → Tells t2 t0 (Cut whole_text a c)
+    → asks ≡ ask ∷ left → Asked whole_text s asks old a b t1 t0 → Observed t2 t1 (Cut (old ++ asked_line s ask) b c) → Observed t2 t0 (Cut whole_text a c)
 cut_asked whole_text s asks ask left old a b c t0 t1 t2 is before now =
     cut (before.done ++ asked_line s ask) (asked_text (asked_behind s ask) left) (old ++ asked_line s ask) whole_text a b c t0 t1 t2
     (parts whole_text before.done s ask left (ap (λ q. before.done ++ asked_text s q) (sym is) ∙ before.whole))
-    (pushed_line old (asked_line s ask) before.done a b t0 t1 before.told) now
+    (pushed_line old (asked_line s ask) before.done a b t0 t1 before.observed) now
 
-pub all_asked : (whole_text : List ℕ) (s : CachedState) (left : List Ask) (text a b : List ℕ) (t0 t1 : Type 0) → length left ≡ 0 → Asked whole_text s left text a b t1 t0 → Tells t1 t0 (Pending text whole_text a b)
+pub all_asked : (whole_text : List ℕ) (s : CachedState) (left : List Ask) (text a b : List ℕ) (t0 t1 : Type 0) → length left ≡ 0 → Asked whole_text s left text a b t1 t0 → Observed t1 t0 (Pending text whole_text a b)
 all_asked whole_text s [] text a b t0 t1 e h =
     let whole : h.done ≡ whole_text = sym (ap (λ q. h.done ++ q) (none_left s) ∙ append-nil h.done) ∙ h.whole in
-    rw whole at h.told
+    rw whole at h.observed
 all_asked whole_text s (ask ∷ left) text a b t0 t1 e h = let n : length (ask ∷ left) ≡ 0 = e in absurd (omega arith)

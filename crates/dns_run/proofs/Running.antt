@@ -1,6 +1,6 @@
 -- What a run has read and written, and what it answers without a fault.
 use Rattle.std.proofs.Common.{◌≡◌, ℕ, List, [], ◌≤◌, ◌+◌, length, arith, refl, length-append, ap, sym, ◌∙◌, append-nil}
-use Rattle.dns_io.specs.Causes.{Tells, Rose}
+use Rattle.dns_io.specs.Causes.{Observed, Rose}
 use Rattle.dns_io.specs.Moves.{Cut}
 use Rattle.std.specs.Prelude.{Result, Ok, Err, IsErr, ◌++◌, ◌∷◌, ◌≢◌}
 use Rattle.std.proofs.lemmas.Bool.{false≢true}
@@ -26,20 +26,20 @@ read_whole read (Err Usage) a b e le h = absurd h
 read_whole read (Err HostFault) a b e le h = absurd h
 
 -- a source that was read whole
-pub whole_read : {E : Type 0} (read : List ℕ → Result (Plan E) (ℕ × Reason)) (r : Result (Plan E) Status) (text a b : List ℕ) (r0 r1 : Type 0) → Tells r1 r0 ((a ≡ text) × (b ≡ [])) → length text ≤ 67108864 → Says r (read text) → Tells r1 r0 (ReadsSource read (status_of r) a b)
+pub whole_read : {E : Type 0} (read : List ℕ → Result (Plan E) (ℕ × Reason)) (r : Result (Plan E) Status) (text a b : List ℕ) (r0 r1 : Type 0) → Observed r1 r0 ((a ≡ text) × (b ≡ [])) → length text ≤ 67108864 → Says r (read text) → Observed r1 r0 (ReadsSource read (status_of r) a b)
 whole_read read r text a b r0 r1 was le h = record {
-  told = λ x. let t = was.told x in (t.0, read_whole read r a b t.1.1 (rw t.1.0 le) (rw t.1.0 h));
+  observed = λ x. let t = was.observed x in (t.0, read_whole read r a b t.1.1 (rw t.1.0 le) (rw t.1.0 h));
 }
 
 -- what its text says
-pub whole_said : {E : Type 0} (read : List ℕ → Result (Plan E) (ℕ × Reason)) (s : Plan E) (text a b : List ℕ) (r0 r1 : Type 0) → Tells r1 r0 ((a ≡ text) × (b ≡ [])) → read text ≡ Ok s → Tells r1 r0 (read a ≡ Ok s)
-whole_said read s text a b r0 r1 was h = record { told = λ x. let t = was.told x in (t.0, rw t.1.0 h) }
+pub whole_said : {E : Type 0} (read : List ℕ → Result (Plan E) (ℕ × Reason)) (s : Plan E) (text a b : List ℕ) (r0 r1 : Type 0) → Observed r1 r0 ((a ≡ text) × (b ≡ [])) → read text ≡ Ok s → Observed r1 r0 (read a ≡ Ok s)
+whole_said read s text a b r0 r1 was h = record { observed = λ x. let t = was.observed x in (t.0, rw t.1.0 h) }
 
 -- what was written for its text
-pub whole_written : {E : Type 0} (read : List ℕ → Result (Plan E) (ℕ × Reason)) (s : Status) (text a b c d : List ℕ) (r0 r1 w0 w1 : Type 0) → Tells r1 r0 ((a ≡ text) × (b ≡ []))
-    → Tells w1 w0 (WritesText s (refusal_text (read text)) c d) → Tells (r1 × w1) (r0 × w0) (WritesText s (refusal_text (read a)) c d)
+pub whole_written : {E : Type 0} (read : List ℕ → Result (Plan E) (ℕ × Reason)) (s : Status) (text a b c d : List ℕ) (r0 r1 w0 w1 : Type 0) → Observed r1 r0 ((a ≡ text) × (b ≡ []))
+    → Observed w1 w0 (WritesText s (refusal_text (read text)) c d) → Observed (r1 × w1) (r0 × w0) (WritesText s (refusal_text (read a)) c d)
 whole_written read s text a b c d r0 r1 w0 w1 was wrote = record {
-  told = λ x. let r = was.told x.0 in let w = wrote.told x.1 in ((r.0, w.0), rw r.1.0 w.1);
+  observed = λ x. let r = was.observed x.0 in let w = wrote.observed x.1 in ((r.0, w.0), rw r.1.0 w.1);
 }
 
 read_after : {E : Type 0} (read : List ℕ → Result (Plan E) (ℕ × Reason)) (written : Result (Unit {0}) WriteError) (a b : List ℕ) → ReadsSource read Done a b → ReadsSource read (status_once_written Done written) a b
@@ -48,8 +48,8 @@ read_after read (Err NoMemory) a b h = record { got = a; front = rw h.0.0 (sym (
 read_after read (Err Fault) a b h = h.0
 
 -- a script that was read is still read whole once it is answered
-pub answers_read : {E : Type 0} (read : List ℕ → Result (Plan E) (ℕ × Reason)) (written : Result (Unit {0}) WriteError) (a b : List ℕ) (r0 r1 : Type 0) → Tells r1 r0 (ReadsSource read Done a b) → Tells r1 r0 (ReadsSource read (status_once_written Done written) a b)
-answers_read read written a b r0 r1 was = record { told = λ x. let t = was.told x in (t.0, read_after read written a b t.1) }
+pub answers_read : {E : Type 0} (read : List ℕ → Result (Plan E) (ℕ × Reason)) (written : Result (Unit {0}) WriteError) (a b : List ℕ) (r0 r1 : Type 0) → Observed r1 r0 (ReadsSource read Done a b) → Observed r1 r0 (ReadsSource read (status_once_written Done written) a b)
+answers_read read written a b r0 r1 was = record { observed = λ x. let t = was.observed x in (t.0, read_after read written a b t.1) }
 
 wrote_after : (written : Result (Unit {0}) WriteError) (text c d : List ℕ) → Wrote written text c d → WritesText (status_once_written Done written) text c d
 wrote_after (Ok u) text c d h = h
@@ -57,10 +57,10 @@ wrote_after (Err NoMemory) text c d h = h
 wrote_after (Err Fault) text c d h = h
 
 -- what is written for a script that was read
-pub answers_written : {E : Type 0} (text : Plan E → List ℕ) (read : List ℕ → Result (Plan E) (ℕ × Reason)) (written : Result (Unit {0}) WriteError) (s : Plan E) (a c d : List ℕ) (r0 r1 w0 w1 : Type 0) → Tells r1 r0 (read a ≡ Ok s)
-    → Tells w1 w0 (Wrote written (text s) c d) → Tells (r1 × w1) (r0 × w0) (WritesText (status_once_written Done written) (text_or_refusal text (read a)) c d)
+pub answers_written : {E : Type 0} (text : Plan E → List ℕ) (read : List ℕ → Result (Plan E) (ℕ × Reason)) (written : Result (Unit {0}) WriteError) (s : Plan E) (a c d : List ℕ) (r0 r1 w0 w1 : Type 0) → Observed r1 r0 (read a ≡ Ok s)
+    → Observed w1 w0 (Wrote written (text s) c d) → Observed (r1 × w1) (r0 × w0) (WritesText (status_once_written Done written) (text_or_refusal text (read a)) c d)
 answers_written text read written s a c d r0 r1 w0 w1 said wrote = record {
-  told = λ x. let r = said.told x.0 in let w = wrote.told x.1 in ((r.0, w.0), rw r.1 (wrote_after written (text s) c d w.1));
+  observed = λ x. let r = said.observed x.0 in let w = wrote.observed x.1 in ((r.0, w.0), rw r.1 (wrote_after written (text s) c d w.1));
 }
 
 -- a front of nothing is one of each text
@@ -88,10 +88,10 @@ written_alone text read Usage a b c d n h w = w
 written_alone text read HostFault a b c d n h w = w
 
 -- what is written for a text that is none: the line of its refusal
-pub refusal_written : {E : Type 0} (text : Plan E → List ℕ) (read : List ℕ → Result (Plan E) (ℕ × Reason)) (s : Status) (a b c d : List ℕ) (r0 r1 w0 w1 : Type 0) → s ≢ Done → Tells r1 r0 (ReadsSource read s a b)
-    → Tells (r1 × w1) (r0 × w0) (WritesText s (refusal_text (read a)) c d) → Tells (r1 × w1) (r0 × w0) (WritesText s (text_or_refusal text (read a)) c d)
+pub refusal_written : {E : Type 0} (text : Plan E → List ℕ) (read : List ℕ → Result (Plan E) (ℕ × Reason)) (s : Status) (a b c d : List ℕ) (r0 r1 w0 w1 : Type 0) → s ≢ Done → Observed r1 r0 (ReadsSource read s a b)
+    → Observed (r1 × w1) (r0 × w0) (WritesText s (refusal_text (read a)) c d) → Observed (r1 × w1) (r0 × w0) (WritesText s (text_or_refusal text (read a)) c d)
 refusal_written text read s a b c d r0 r1 w0 w1 n was wrote = record {
-  told = λ x. let r = was.told x.0 in let w = wrote.told x in (w.0, written_alone text read s a b c d n r.1 w.1);
+  observed = λ x. let r = was.observed x.0 in let w = wrote.observed x in (w.0, written_alone text read s a b c d n r.1 w.1);
 }
 
 decided : {E : Type 0} (read : List ℕ → Result (Plan E) (ℕ × Reason)) (s : Status) (a b : List ℕ) (r0 r1 w0 w1 : ℕ) → ReadsSource read s a b → SourceFaults s r0 r1 → SinkFaults s w0 w1
@@ -108,10 +108,10 @@ decided read TooLong a b r0 r1 w0 w1 t r w nr nw le =
 decided read Usage a b r0 r1 w0 w1 t r w nr nw le = t
 decided read HostFault a b r0 r1 w0 w1 t r w nr nw le = t
 
-pub replay_completes : {E : Type 0} (read : List ℕ → Result (Plan E) (ℕ × Reason)) (s : Status) (a b : List ℕ) (r0 r1 w0 w1 : ℕ) (now before : Type 0) → Tells now before (ReadsSource read s a b) → SourceFaults s r0 r1 → SinkFaults s w0 w1
-    → (Rose r0 r1 → ⊥) → (Rose w0 w1 → ⊥) → Tells now before (length a ≤ 67108864 → Decides s (read a))
+pub replay_completes : {E : Type 0} (read : List ℕ → Result (Plan E) (ℕ × Reason)) (s : Status) (a b : List ℕ) (r0 r1 w0 w1 : ℕ) (now before : Type 0) → Observed now before (ReadsSource read s a b) → SourceFaults s r0 r1 → SinkFaults s w0 w1
+    → (Rose r0 r1 → ⊥) → (Rose w0 w1 → ⊥) → Observed now before (length a ≤ 67108864 → Decides s (read a))
 replay_completes read s a b r0 r1 w0 w1 now before t r w nr nw = record {
-  told = λ x. let y = t.told x in (y.0, λ le. decided read s a b r0 r1 w0 w1 y.1 r w nr nw le);
+  observed = λ x. let y = t.observed x in (y.0, λ le. decided read s a b r0 r1 w0 w1 y.1 r w nr nw le);
 }
 
 pub flood_completes : (s : Status) (w0 w1 : ℕ) → EndsFlood s → SinkFaults s w0 w1 → (Rose w0 w1 → ⊥) → FloodDecides s

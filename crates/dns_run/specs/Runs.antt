@@ -2,7 +2,7 @@
 -- and c and d what the sink has taken before and after it; where tells, left and taken stand before them, they are the source and
 -- the sink themselves.
 use Rattle.std.specs.Prelude.{◌≡◌, ℕ, ◌+◌, ◌≤◌, List, [], ◌++◌, length, Result, Ok, Err, IsOk, IsErr}
-use Rattle.dns_io.specs.Causes.{Tells}
+use Rattle.dns_io.specs.Causes.{Observed}
 use Rattle.dns_io.specs.Moves.{ReadExactly, ReadAtMost, Cut}
 use Rattle.dns_io.specs.declared.source.TheConstants.{LIMIT}
 use Rattle.dns_events.specs.declared.event.Output.{Output}
@@ -76,19 +76,19 @@ EndsFlood _ = ⊥
 
 -- for a flood the source isn't touched
 abbrev pub RunReads : {R : Type 0} → (R → Type 0) → (R → List ℕ) → Command → Status → R → R → Type 0
-RunReads tells left Replay s a b = Tells (tells b) (tells a) (ReadsSource event_script s (left a) (left b))
-RunReads tells left Steps s a b = Tells (tells b) (tells a) (ReadsSource step_script s (left a) (left b))
-RunReads tells left Trace s a b = Tells (tells b) (tells a) (ReadsSource event_script s (left a) (left b))
-RunReads tells left (Cache capacity) s a b = Tells (tells b) (tells a) (ReadsSource ask_script s (left a) (left b))
+RunReads tells left Replay s a b = Observed (tells b) (tells a) (ReadsSource event_script s (left a) (left b))
+RunReads tells left Steps s a b = Observed (tells b) (tells a) (ReadsSource step_script s (left a) (left b))
+RunReads tells left Trace s a b = Observed (tells b) (tells a) (ReadsSource event_script s (left a) (left b))
+RunReads tells left (Cache capacity) s a b = Observed (tells b) (tells a) (ReadsSource ask_script s (left a) (left b))
 RunReads tells left (Flood seed count) s a b = (b ≡ a) × EndsFlood s
 
 -- of a script the source has to tell its text
 abbrev pub RunWrites : {R : Type 0} → (R → Type 0) → (R → List ℕ) → Command → Status → R → R → Type 0 → Type 0 → List ℕ → List ℕ → Type 0
-RunWrites tells left Replay s a b told tell c d = Tells (tells b × told) (tells a × tell) (WritesText s (run_text plan_outputs (event_script (left a))) c d)
-RunWrites tells left Steps s a b told tell c d = Tells (tells b × told) (tells a × tell) (WritesText s (run_text plan_step_outputs (step_script (left a))) c d)
-RunWrites tells left Trace s a b told tell c d = Tells (tells b × told) (tells a × tell) (WritesText s (text_or_refusal script_text (event_script (left a))) c d)
-RunWrites tells left (Cache capacity) s a b told tell c d = Tells (tells b × told) (tells a × tell) (WritesText s (text_or_refusal (cache_text capacity) (ask_script (left a))) c d)
-RunWrites tells left (Flood seed count) s a b told tell c d = Tells told tell (WritesText s (flood_text seed count) c d)
+RunWrites tells left Replay s a b observed tell c d = Observed (tells b × observed) (tells a × tell) (WritesText s (run_text plan_outputs (event_script (left a))) c d)
+RunWrites tells left Steps s a b observed tell c d = Observed (tells b × observed) (tells a × tell) (WritesText s (run_text plan_step_outputs (step_script (left a))) c d)
+RunWrites tells left Trace s a b observed tell c d = Observed (tells b × observed) (tells a × tell) (WritesText s (text_or_refusal script_text (event_script (left a))) c d)
+RunWrites tells left (Cache capacity) s a b observed tell c d = Observed (tells b × observed) (tells a × tell) (WritesText s (text_or_refusal (cache_text capacity) (ask_script (left a))) c d)
+RunWrites tells left (Flood seed count) s a b observed tell c d = Observed observed tell (WritesText s (flood_text seed count) c d)
 
 -- a script gives Done, and another text Refused, save for want of memory
 abbrev pub Decides : {E : Type 0} → Status → Result (Plan E) (ℕ × Reason) → Type 0
@@ -105,8 +105,8 @@ FloodDecides _ = ⊥
 
 -- a run without a fault: octets that are not too many decide, and a flood needs none
 abbrev pub Completes : {R : Type 0} → (R → Type 0) → (R → List ℕ) → Command → Status → R → R → Type 0
-Completes tells left Replay s a b = Tells (tells b) (tells a) (length (left a) ≤ LIMIT → Decides s (event_script (left a)))
-Completes tells left Steps s a b = Tells (tells b) (tells a) (length (left a) ≤ LIMIT → Decides s (step_script (left a)))
-Completes tells left Trace s a b = Tells (tells b) (tells a) (length (left a) ≤ LIMIT → Decides s (event_script (left a)))
-Completes tells left (Cache capacity) s a b = Tells (tells b) (tells a) (length (left a) ≤ LIMIT → Decides s (ask_script (left a)))
+Completes tells left Replay s a b = Observed (tells b) (tells a) (length (left a) ≤ LIMIT → Decides s (event_script (left a)))
+Completes tells left Steps s a b = Observed (tells b) (tells a) (length (left a) ≤ LIMIT → Decides s (step_script (left a)))
+Completes tells left Trace s a b = Observed (tells b) (tells a) (length (left a) ≤ LIMIT → Decides s (event_script (left a)))
+Completes tells left (Cache capacity) s a b = Observed (tells b) (tells a) (length (left a) ≤ LIMIT → Decides s (ask_script (left a)))
 Completes tells left (Flood seed count) s a b = FloodDecides s

@@ -1,7 +1,7 @@
 //! What is written for a script that was read.
 
 ghost use Rattle.std.specs.Prelude.{◌≡◌, ℕ, List};
-ghost use Rattle.dns_io.specs.Causes.{Tells};
+ghost use Rattle.dns_io.specs.Causes.{Observed};
 ghost use Rattle.dns_script.specs.CachedRules.{cache_text};
 ghost use Rattle.dns_script.specs.Plan.{Plan};
 ghost use Rattle.dns_script.specs.PlanOutputs.{plan_sent};
@@ -26,7 +26,7 @@ pub(crate) trait AnswerScript<E: ScriptLine>: Drop {
 
     /// Writes the text. After an error a front of it was written.
     fn write<W: Sink>(&self, alloc: Global, script: Script<E>, sink: &mut W) -> Written
-        ensures told { Tells (W.tells sink.new) (W.tells sink.old) (Wrote result (text self.now script) (W.taken sink.old) (W.taken sink.new)) }
+        ensures observed { Observed (W.tells sink.new) (W.tells sink.old) (Wrote result (text self.now script) (W.taken sink.old) (W.taken sink.new)) }
         ensures cause { WroteFaults result (W.faults sink.old) (W.faults sink.new) };
 }
 
@@ -38,7 +38,7 @@ impl<E: Scripted> AnswerScript<E> for Clients {
     ghost text = { λ _. clients_text (plan_sent E.sent) };
 
     fn write<W: Sink>(&self, alloc: Global, script: Script<E>, sink: &mut W) -> Written
-        ensures told { Tells (W.tells sink.new) (W.tells sink.old) (Wrote result (clients_text (plan_sent E.sent) script) (W.taken sink.old) (W.taken sink.new)) }
+        ensures observed { Observed (W.tells sink.new) (W.tells sink.old) (Wrote result (clients_text (plan_sent E.sent) script) (W.taken sink.old) (W.taken sink.new)) }
         ensures cause { WroteFaults result (W.faults sink.old) (W.faults sink.new) }
     {
         let all = serve_script(alloc, script)?;
@@ -54,7 +54,7 @@ impl AnswerScript<Event> for Recorded {
     ghost text = { λ _. script_text };
 
     fn write<W: Sink>(&self, alloc: Global, script: Script<Event>, sink: &mut W) -> Written
-        ensures told { Tells (W.tells sink.new) (W.tells sink.old) (Wrote result (script_text script) (W.taken sink.old) (W.taken sink.new)) }
+        ensures observed { Observed (W.tells sink.new) (W.tells sink.old) (Wrote result (script_text script) (W.taken sink.old) (W.taken sink.new)) }
         ensures cause { WroteFaults result (W.faults sink.old) (W.faults sink.new) }
     {
         let text = script_text(alloc, script)?;
@@ -73,7 +73,7 @@ impl AnswerScript<Ask> for Questions {
     ghost text = { λ q. cache_text q.capacity };
 
     fn write<W: Sink>(&self, alloc: Global, script: Script<Ask>, sink: &mut W) -> Written
-        ensures told { Tells (W.tells sink.new) (W.tells sink.old) (Wrote result (cache_text self.now.capacity script) (W.taken sink.old) (W.taken sink.new)) }
+        ensures observed { Observed (W.tells sink.new) (W.tells sink.old) (Wrote result (cache_text self.now.capacity script) (W.taken sink.old) (W.taken sink.new)) }
         ensures cause { WroteFaults result (W.faults sink.old) (W.faults sink.new) }
     {
         write_answers(alloc, sink, script, self.capacity)

@@ -1,7 +1,7 @@
 //! The questions of a script are asked of a cache, and the lines of the answers are written, many at a time.
 
 ghost use Rattle.std.specs.Prelude.{◌≡◌, ◌≤◌, ◌++◌, [], IfOk, OnOk, string_bytes};
-ghost use Rattle.dns_io.specs.Causes.{Tells};
+ghost use Rattle.dns_io.specs.Causes.{Observed};
 ghost use Rattle.dns_script.specs.AskedCache.{empty_cache};
 ghost use Rattle.dns_script.specs.CachedRules.{cache_text};
 ghost use Rattle.dns_run.specs.Asking.{asked_behind, asked_line, asked_text};
@@ -45,7 +45,7 @@ fn write_answer<W: Sink>(
     rules: &mut CachedRules,
     ask: Ask,
 ) -> Result<(), WriteError>
-    ensures told { Tells (W.tells sink.new) (W.tells sink.old) (Pours result (text.old.items ++ asked_line rules.old ask) text.new.items (W.taken sink.old) (W.taken sink.new)) }
+    ensures observed { Observed (W.tells sink.new) (W.tells sink.old) (Pours result (text.old.items ++ asked_line rules.old ask) text.new.items (W.taken sink.old) (W.taken sink.new)) }
     ensures later { W.faults sink.old ≤ W.faults sink.new }
     ensures cause { WroteFaults result (W.faults sink.old) (W.faults sink.new) }
     ensures cached { OnOk result (rules.new ≡ asked_behind rules.old ask) }
@@ -65,7 +65,7 @@ fn write_each<W: Sink>(
     asks: Vec<Ask>,
 ) -> Result<(), WriteError>
     requires { text.old.items ≡ [] }
-    ensures told { Tells (W.tells sink.new) (W.tells sink.old) (Pours result (asked_text rules.old asks.items) text.new.items (W.taken sink.old) (W.taken sink.new)) }
+    ensures observed { Observed (W.tells sink.new) (W.tells sink.old) (Pours result (asked_text rules.old asks.items) text.new.items (W.taken sink.old) (W.taken sink.new)) }
     ensures later { W.faults sink.old ≤ W.faults sink.new }
     ensures cause { WroteFaults result (W.faults sink.old) (W.faults sink.new) }
 {
@@ -83,7 +83,7 @@ fn write_asks<W: Sink>(
     rules: &mut CachedRules,
     asks: Vec<Ask>,
 ) -> Result<(), WriteError>
-    ensures told { Tells (W.tells sink.new) (W.tells sink.old) (Wrote result (asked_text rules.old asks.items) (W.taken sink.old) (W.taken sink.new)) }
+    ensures observed { Observed (W.tells sink.new) (W.tells sink.old) (Wrote result (asked_text rules.old asks.items) (W.taken sink.old) (W.taken sink.new)) }
     ensures cause { WroteFaults result (W.faults sink.old) (W.faults sink.new) }
 {
     let mut text = Vec::new(alloc);
@@ -101,7 +101,7 @@ fn write_cached<W: Sink>(
     asks: Vec<Ask>,
     capacity: u32,
 ) -> Result<(), WriteError>
-    ensures told { Tells (W.tells sink.new) (W.tells sink.old) (Wrote result (asked_text (record { rules = rules; cached = empty_cache capacity }) asks.items) (W.taken sink.old) (W.taken sink.new)) }
+    ensures observed { Observed (W.tells sink.new) (W.tells sink.old) (Wrote result (asked_text (record { rules = rules; cached = empty_cache capacity }) asks.items) (W.taken sink.old) (W.taken sink.new)) }
     ensures cause { WroteFaults result (W.faults sink.old) (W.faults sink.new) }
 {
     match CachedRules::new(alloc, rules, capacity) {
@@ -118,7 +118,7 @@ pub(crate) fn write_answers<W: Sink>(
     script: Script<Ask>,
     capacity: u32,
 ) -> Result<(), WriteError>
-    ensures told { Tells (W.tells sink.new) (W.tells sink.old) (Wrote result (cache_text capacity script) (W.taken sink.old) (W.taken sink.new)) }
+    ensures observed { Observed (W.tells sink.new) (W.tells sink.old) (Wrote result (cache_text capacity script) (W.taken sink.old) (W.taken sink.new)) }
     ensures cause { WroteFaults result (W.faults sink.old) (W.faults sink.new) }
 {
     let (_settings, service, _notify_rules, asks) = script.into_parts();

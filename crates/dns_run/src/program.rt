@@ -1,7 +1,7 @@
 //! The program's top call.
 
 ghost use Rattle.std.specs.Prelude.{◌≡◌, ◌≢◌, ◌↔◌, map, string_bytes, IfSome, None};
-ghost use Rattle.dns_io.specs.Causes.{Tells, Rose};
+ghost use Rattle.dns_io.specs.Causes.{Observed, Rose};
 ghost use Rattle.dns_flood.specs.FloodText.{flood_text};
 ghost use Rattle.dns_run.specs.Command.{command_of};
 ghost use Rattle.dns_run.specs.Status.{SourceFaults, SinkFaults};
@@ -26,8 +26,8 @@ fn run_script<E: ScriptLine, A: AnswerScript<E>, R: Source, W: Sink>(
     source: &mut R,
     sink: &mut W,
 ) -> Status
-    ensures read { Tells (R.tells source.new) (R.tells source.old) (ReadsSource (script E.has E.reading) result (R.left source.old) (R.left source.new)) }
-    ensures written { Tells (R.tells source.new × W.tells sink.new) (R.tells source.old × W.tells sink.old)
+    ensures read { Observed (R.tells source.new) (R.tells source.old) (ReadsSource (script E.has E.reading) result (R.left source.old) (R.left source.new)) }
+    ensures written { Observed (R.tells source.new × W.tells sink.new) (R.tells source.old × W.tells sink.old)
         (WritesText result (text_or_refusal (A.text answering.now) (script E.has E.reading (R.left source.old))) (W.taken sink.old) (W.taken sink.new)) }
     ensures source_faults { SourceFaults result (R.faults source.old) (R.faults source.new) }
     ensures sink_faults { SinkFaults result (W.faults sink.old) (W.faults sink.new) }
@@ -44,7 +44,7 @@ fn run_script<E: ScriptLine, A: AnswerScript<E>, R: Source, W: Sink>(
 /// Serves a flood, and writes how much was sent.
 #[tactic(auto, using(dns_flood::proofs::Batches::nothing_written))]
 fn answer_flood<W: Sink>(alloc: Global, sink: &mut W, seed: u64, count: u32) -> Status
-    ensures written { Tells (W.tells sink.new) (W.tells sink.old) (WritesText result (flood_text seed count) (W.taken sink.old) (W.taken sink.new)) }
+    ensures written { Observed (W.tells sink.new) (W.tells sink.old) (WritesText result (flood_text seed count) (W.taken sink.old) (W.taken sink.new)) }
     ensures faults { SinkFaults result (W.faults sink.old) (W.faults sink.new) }
     ensures ends { EndsFlood result }
 {

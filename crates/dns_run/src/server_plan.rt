@@ -1,7 +1,7 @@
 //! What a running server is to do.
 
 ghost use Rattle.std.specs.Prelude.{◌≡◌, ◌≢◌, ◌≤◌, length, map, string_bytes, IfErr, IfOk, IfSome, IsOk};
-ghost use Rattle.dns_io.specs.Causes.{Tells, Rose};
+ghost use Rattle.dns_io.specs.Causes.{Observed, Rose};
 ghost use Rattle.dns_io.specs.declared.source.TheConstants.{LIMIT};
 ghost use Rattle.dns_script.specs.Plan.{rules_of, settings_of};
 ghost use Rattle.dns_script.specs.Played.{played};
@@ -70,17 +70,17 @@ pub fn serve_plan<R: Source, W: Sink>(
     ensures too_long { result ≡ Err Status.TooLong → sink.new ≡ sink.old }
     ensures unread { result ≡ Err Status.ReadFault → sink.new ≡ sink.old }
     // What was read of a source that tells: for a plan all of it.
-    ensures read { IfSome (serve_words (map string_bytes words.now)) (λ w. Tells (R.tells source.new) (R.tells source.old)
+    ensures read { IfSome (serve_words (map string_bytes words.now)) (λ w. Observed (R.tells source.new) (R.tells source.old)
         (ReadsSource server_script (status_of result) (R.left source.old) (R.left source.new))) }
     // Such a plan is that of the script.
-    ensures plan { IfOk result (λ p. Tells (R.tells source.new) (R.tells source.old)
+    ensures plan { IfOk result (λ p. Observed (R.tells source.new) (R.tells source.old)
         (PlaysScript (server_script (R.left source.old)) p.settings (⟦<ScriptService as Service<()>>⟧.answer p.service) (⟦<ScriptTarget as Notifiable>⟧.verdict p.target))) }
     // What was written, where the sink tells too: nothing, or the line of the refusal.
-    ensures written { IfSome (serve_words (map string_bytes words.now)) (λ w. Tells (R.tells source.new × W.tells sink.new) (R.tells source.old × W.tells sink.old)
+    ensures written { IfSome (serve_words (map string_bytes words.now)) (λ w. Observed (R.tells source.new × W.tells sink.new) (R.tells source.old × W.tells sink.old)
         (WritesText (status_of result) (refusal_text (server_script (R.left source.old))) (W.taken sink.old) (W.taken sink.new))) }
     // Without a fault the words and the script decide.
     ensures complete { (Rose (R.faults source.old) (R.faults source.new) → ⊥) → (Rose (W.faults sink.old) (W.faults sink.new) → ⊥)
-        → IfSome (serve_words (map string_bytes words.now)) (λ w. Tells (R.tells source.new) (R.tells source.old)
+        → IfSome (serve_words (map string_bytes words.now)) (λ w. Observed (R.tells source.new) (R.tells source.old)
         (length (R.left source.old) ≤ LIMIT → Decides (status_of result) (server_script (R.left source.old)))) }
     // No error says that all is done, or that a server failed.
     ensures other { IfErr result (λ s. (s ≢ Status.Done) × (s ≢ Status.HostFault)) }

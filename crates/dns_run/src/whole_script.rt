@@ -1,7 +1,7 @@
 //! The script that a source holds.
 
 ghost use Rattle.std.specs.Prelude.{◌≡◌, ◌≢◌, IfErr, IfOk, IsOk};
-ghost use Rattle.dns_io.specs.Causes.{Tells};
+ghost use Rattle.dns_io.specs.Causes.{Observed};
 ghost use Rattle.dns_script.specs.Script.{script};
 ghost use Rattle.dns_run.specs.Status.{status_of, SourceFaults, SinkFaults};
 ghost use Rattle.dns_run.specs.Runs.{refusal_text, Says, ReadsSource, WritesText};
@@ -20,7 +20,7 @@ fn script_of<E: ScriptLine, W: Sink>(
     sink: &mut W,
 ) -> Result<Script<E>, Status>
     ensures said { Says result (script E.has E.reading text.now) }
-    ensures told { Tells (W.tells sink.new) (W.tells sink.old) (WritesText (status_of result) (refusal_text (script E.has E.reading text.now)) (W.taken sink.old) (W.taken sink.new)) }
+    ensures observed { Observed (W.tells sink.new) (W.tells sink.old) (WritesText (status_of result) (refusal_text (script E.has E.reading text.now)) (W.taken sink.old) (W.taken sink.new)) }
     ensures faults { SinkFaults (status_of result) (W.faults sink.old) (W.faults sink.new) }
     ensures unwritten { IsOk result → sink.new ≡ sink.old }
 {
@@ -40,9 +40,9 @@ pub fn read_whole<E: ScriptLine, R: Source, W: Sink>(
     source: &mut R,
     sink: &mut W,
 ) -> Result<Script<E>, Status>
-    ensures read { Tells (R.tells source.new) (R.tells source.old) (ReadsSource (script E.has E.reading) (status_of result) (R.left source.old) (R.left source.new)) }
-    ensures said { IfOk result (λ s. Tells (R.tells source.new) (R.tells source.old) (script E.has E.reading (R.left source.old) ≡ Ok s)) }
-    ensures written { Tells (R.tells source.new × W.tells sink.new) (R.tells source.old × W.tells sink.old)
+    ensures read { Observed (R.tells source.new) (R.tells source.old) (ReadsSource (script E.has E.reading) (status_of result) (R.left source.old) (R.left source.new)) }
+    ensures said { IfOk result (λ s. Observed (R.tells source.new) (R.tells source.old) (script E.has E.reading (R.left source.old) ≡ Ok s)) }
+    ensures written { Observed (R.tells source.new × W.tells sink.new) (R.tells source.old × W.tells sink.old)
         (WritesText (status_of result) (refusal_text (script E.has E.reading (R.left source.old))) (W.taken sink.old) (W.taken sink.new)) }
     ensures source_faults { SourceFaults (status_of result) (R.faults source.old) (R.faults source.new) }
     ensures sink_faults { SinkFaults (status_of result) (W.faults sink.old) (W.faults sink.new) }

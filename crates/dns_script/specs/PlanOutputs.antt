@@ -5,7 +5,7 @@ use Rattle.dns_service.specs.Req.{Req}
 use Rattle.dns_events.specs.declared.event.Event.{Event}
 use Rattle.dns_events.specs.declared.event.Output.{Output}
 use Rattle.dns_events.specs.declared.event.Step.{Step}
-use Rattle.dns_client.specs.Serving.{Serving}
+use Rattle.dns_session.specs.Serving.{Serving}
 use Rattle.dns_core.specs.Out.{out}
 use Rattle.dns_core.specs.Outs.{outs}
 pub use Rattle.dns_core.specs.WrappedServing.{wrapped_serving}

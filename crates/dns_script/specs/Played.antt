@@ -87,21 +87,21 @@ reply_item o (Opt n) = opt_reply o n
 reply_item o (Live seconds) = live_reply o seconds
 
 -- a reply with a feedback; an error has none
-abbrev pub told_with : ServiceFeedback → Item → Item
-told_with feedback (Ok given) = Ok (record given { feedback = Some feedback })
-told_with feedback (Err error) = Err error
+abbrev pub item_with_feedback : ServiceFeedback → Item → Item
+item_with_feedback feedback (Ok given) = Ok (record given { feedback = Some feedback })
+item_with_feedback feedback (Err error) = Err error
 
 -- a feedback, and nothing else
-abbrev pub told : ServiceFeedback → Item
-told feedback = Ok (record { response = None; feedback = Some feedback })
+abbrev pub feedback_item : ServiceFeedback → Item
+feedback_item feedback = Ok (record { response = None; feedback = Some feedback })
 
 -- one answer to a message of these octets
 abbrev pub given : List ℕ → ScriptAnswer → Answer
 given o Pend = Pending
 given o (Error e) = Ready (Some (Err e))
-given o (Feedback feedback) = Ready (Some (told feedback))
+given o (Feedback feedback) = Ready (Some (feedback_item feedback))
 given o (Reply reply) = Ready (Some (reply_item o reply))
-given o (Both feedback reply) = Ready (Some (told_with feedback (reply_item o reply)))
+given o (Both feedback reply) = Ready (Some (item_with_feedback feedback (reply_item o reply)))
 
 -- answers one by one, and then the end
 abbrev pub played_from : List ℕ → List ScriptAnswer → ℕ → Answer

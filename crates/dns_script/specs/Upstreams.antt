@@ -6,7 +6,7 @@ use Rattle.dns_base.specs.Header.{header_of}
 use Rattle.dns_base.specs.Msg.{Msg}
 use Rattle.dns_base.specs.Replies.{answer_to, have_room}
 use Rattle.dns_base.specs.Wire.{wire}
-use Rattle.dns_client.specs.Timers.{last_moment}
+use Rattle.dns_session.specs.Timers.{last_moment}
 use Rattle.dns_forward.specs.Asked.{asked, led_to}
 use Rattle.dns_forward.specs.Forwarded.{SingleAnswers}
 use Rattle.dns_forward.specs.declared.asking_event.AskingEvent.{AskingEvent}

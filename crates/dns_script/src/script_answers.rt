@@ -5,7 +5,7 @@ ghost use Rattle.dns_base.specs.Built.{with_answer};
 ghost use Rattle.dns_base.specs.Records.{IsLawful, record_of};
 ghost use Rattle.dns_base.specs.Replies.{answer_to, have_room, within_limit};
 ghost use Rattle.dns_opt.specs.Drafts.{with_opt, with_opt_record};
-ghost use Rattle.dns_script.specs.Played.{PutsPadding, blank_reply, answered_with, given, new_builder, opt_reply, padded_draft, played_reply, private_record, replied_within, reply_item, told_with};
+ghost use Rattle.dns_script.specs.Played.{PutsPadding, blank_reply, answered_with, given, new_builder, opt_reply, padded_draft, played_reply, private_record, replied_within, reply_item, item_with_feedback};
 
 use crate::rule::{ScriptAnswer, ScriptReply};
 use dns_base::{
@@ -64,7 +64,7 @@ fn make_both(
     feedback: ServiceFeedback,
     reply: ScriptReply,
 ) -> Result<Polled<Option<ServiceResult>>, OutOfMemory>
-    ensures { IfOk result (λ p. p ≡ Polled.Ready (Some (told_with feedback (reply_item message.now reply)))) }
+    ensures { IfOk result (λ p. p ≡ Polled.Ready (Some (item_with_feedback feedback (reply_item message.now reply)))) }
 {
     match make_item(alloc, message, reply)? {
         Ok(given) => Ok(Polled::Ready(Some(Ok(given.with_feedback(feedback))))),

@@ -1,7 +1,7 @@
 //! What is sent to the clients of a script, of events or of steps.
 
 ghost use Rattle.std.specs.Prelude.{◌≡◌, IfOk, List};
-ghost use Rattle.dns_client.specs.Serving.{Serving};
+ghost use Rattle.dns_session.specs.Serving.{Serving};
 ghost use Rattle.dns_core.specs.Out.{out};
 ghost use Rattle.dns_core.specs.Outs.{outs};
 ghost use Rattle.dns_events.specs.declared.settings.Settings.{Settings as TheSettings};

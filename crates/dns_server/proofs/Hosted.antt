@@ -4,7 +4,7 @@ use Rattle.std.specs.Prelude.{Result, Ok, Err, IfOk}
 use Rattle.dns_book.specs.declared.history.Known.{Known}
 use Rattle.dns_service.specs.Answer.{Answer}
 use Rattle.dns_service.specs.Req.{Req}
-use Rattle.dns_client.specs.Serving.{Serving, serving}
+use Rattle.dns_session.specs.Serving.{Serving, serving}
 use Rattle.dns_host.specs.Hosting.{HostWorld, HostServed, ShutDown}
 use Rattle.dns_host.specs.declared.host.HostEnd.{HostEnd}
 use Rattle.dns_host.specs.declared.host.HostEnd.TheVariants.{Done, OutOfMemory, HostFault}
@@ -19,15 +19,15 @@ of_host P OutOfMemory s is h = rw is h
 of_host P HostFault s is h = rw is h
 
 -- a host that was served
-pub served_as : {H : Type 0} (seen : H → HostWorld) (door mail : H → Type 0) (answers : Serving) (end : HostEnd) (s : Status) (count : ℕ) (k k' : Known) (h h' : H) → s ≡ status_of_host end →
-    HostServed seen door mail answers end count k k' h h' → OfHost (λ e. HostServed seen door mail answers e count k k' h h') s
-served_as seen door mail answers end s count k k' h h' is served = of_host (λ e. HostServed seen door mail answers e count k k' h h') end s is served
+pub served_as : {H : Type 0} (seen : H → HostWorld) (accept_traffic sock_traffic : H → Type 0) (answers : Serving) (end : HostEnd) (s : Status) (count : ℕ) (k k' : Known) (h h' : H) → s ≡ status_of_host end →
+    HostServed seen accept_traffic sock_traffic answers end count k k' h h' → OfHost (λ e. HostServed seen accept_traffic sock_traffic answers e count k k' h h') s
+served_as seen accept_traffic sock_traffic answers end s count k k' h h' is served = of_host (λ e. HostServed seen accept_traffic sock_traffic answers e count k k' h h') end s is served
 
 -- a host that was not served, since memory ran out before
-pub unserved : {H : Type 0} (seen : H → HostWorld) (door mail : H → Type 0) (answers : Serving) (s : Status) (count : ℕ) (k k' : Known) (h : H) → s ≡ NoMemory → ShutDown k k' →
-    OfHost (λ e. HostServed seen door mail answers e count k k' h h) s
-unserved seen door mail answers s count k k' h is shut = rw is (record {
-  told = inr (record { end_is = refl; shut = shut }, refl);
+pub unserved : {H : Type 0} (seen : H → HostWorld) (accept_traffic sock_traffic : H → Type 0) (answers : Serving) (s : Status) (count : ℕ) (k k' : Known) (h : H) → s ≡ NoMemory → ShutDown k k' →
+    OfHost (λ e. HostServed seen accept_traffic sock_traffic answers e count k k' h h) s
+unserved seen accept_traffic sock_traffic answers s count k k' h is shut = rw is (record {
+  observed = inr (record { end_is = refl; shut = shut }, refl);
   fault = tt;
   accepts_later = search rules;
   starts_later = search rules;

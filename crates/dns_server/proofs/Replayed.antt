@@ -16,13 +16,13 @@ use Rattle.dns_events.specs.declared.event.EventKind.{EventKind}
 use Rattle.dns_events.specs.declared.event.EventKind.TheVariants.{Piece}
 use Rattle.dns_events.specs.declared.event.Why.{Why}
 use Rattle.dns_events.specs.declared.settings.Settings.{Settings}
-use Rattle.dns_client.specs.Serving.{Serving}
-use Rattle.dns_client.specs.Connections.{opened}
-use Rattle.dns_client.specs.Slate.{Conf, conf_of, fresh}
-use Rattle.dns_client.specs.After.{slate_after, sent_after}
-use Rattle.dns_notes.specs.Woven.{AllOf}
-use Rattle.dns_drivers.specs.Story.{all_but_last, began}
-use Rattle.dns_drivers.specs.Endings.{WasServed, offer}
+use Rattle.dns_session.specs.Serving.{Serving}
+use Rattle.dns_session.specs.Connections.{opened}
+use Rattle.dns_session.specs.Slate.{Conf, conf_of, fresh}
+use Rattle.dns_session.specs.After.{slate_after, sent_after}
+use Rattle.dns_recorder.specs.Woven.{AllOf}
+use Rattle.dns_stream_driver.specs.Story.{all_but_last, began}
+use Rattle.dns_stream_driver.specs.Endings.{WasServed, offer}
 use Rattle.dns_core.specs.ByClient.{is_for, is_member}
 use Rattle.dns_core.specs.Own.{concerns, is_wide, own}
 use Rattle.dns_core.specs.Out.{has_room, is_new, joined, joins, members, members_after, out, put, taken}

@@ -1,7 +1,7 @@
 -- What the text of a trace says was noted.
 use Rattle.std.specs.Prelude.{◌≡◌, ℕ, ◌==◌, Bool, not, ◌||◌, List, [], ◌∷◌, Result, Ok, Err}
 use Rattle.std.specs.List.{All}
-use Rattle.dns_sent.specs.Own.{is_wide}
+use Rattle.dns_model.specs.Own.{is_wide}
 use Rattle.dns_events.specs.declared.event.Event.{Event}
 use Rattle.dns_events.specs.declared.event.EventKind.TheVariants.{Piece}
 use Rattle.dns_events.specs.declared.settings.Settings.{Settings}

@@ -1,11 +1,11 @@
 -- What the events of a trace send their client when they are served, against what its link was written.
 use Rattle.std.specs.Prelude.{◌≡◌, ℕ, List, ◌++◌, filter, Ok, Some}
-use Rattle.dns_client.specs.Serving.{Serving}
+use Rattle.dns_session.specs.Serving.{Serving}
 use Rattle.dns_core.specs.ByClient.{is_for}
 use Rattle.dns_core.specs.Out.{out}
 use Rattle.dns_core.specs.Sent.{slate}
-use Rattle.dns_drivers.specs.Links.{frame_octets}
-use Rattle.dns_drivers.specs.Story.{Extra, all_but_last}
+use Rattle.dns_stream_driver.specs.Links.{frame_octets}
+use Rattle.dns_stream_driver.specs.Story.{Extra, all_but_last}
 use Rattle.dns_io.specs.Traffic.{Traffic}
 use Rattle.dns_events.specs.declared.event.Event.{Event}
 use Rattle.dns_events.specs.declared.event.Why.{Why}

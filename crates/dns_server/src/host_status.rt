@@ -4,7 +4,7 @@ ghost use Rattle.std.specs.Prelude.{◌≡◌};
 ghost use Rattle.dns_server.specs.HostStatus.{status_of_host};
 
 use dns_run::Status;
-use dns_servers::HostEnd;
+use dns_transport::HostEnd;
 
 /// The status that stands for a host's end.
 pub fn status_of_host(end: HostEnd) -> Status

@@ -3,7 +3,7 @@
 ghost use Rattle.std.specs.Prelude.{◌≡◌, ℕ, ◌<◌, ◌^◌, true, IfSome};
 ghost use Rattle.std.specs.List.{All};
 ghost use Rattle.hex.specs.Hex.{IsBytes};
-ghost use Rattle.dns_sent.specs.Own.{is_wide};
+ghost use Rattle.dns_model.specs.Own.{is_wide};
 ghost use Rattle.dns_service.specs.Config.{IsDgram, IsStream};
 ghost use Rattle.dns_server.specs.Recorded.{is_said};
 ghost use Rattle.dns_trace.specs.InRange.{IsAddress, IsEvent, IsKind, IsOctets, IsSettings, IsSocketAddr};

@@ -3,9 +3,9 @@
 ghost use Rattle.std.specs.Prelude.{◌≡◌, ◌∷◌, [], ℕ, List, false};
 ghost use Rattle.dns_events.specs.declared.look.Look.{Look};
 ghost use Rattle.dns_book.specs.declared.history.Known.{Known};
-ghost use Rattle.dns_client.specs.Serving.{Serving};
-ghost use Rattle.dns_drivers.specs.Endings.{EndsSo};
-ghost use Rattle.dns_drivers.specs.declared.connection.ConnectionEnd.TheVariants.{Closed};
+ghost use Rattle.dns_session.specs.Serving.{Serving};
+ghost use Rattle.dns_stream_driver.specs.Endings.{EndsSo};
+ghost use Rattle.dns_stream_driver.specs.declared.connection.ConnectionEnd.TheVariants.{Closed};
 ghost use Rattle.dns_name.specs.declared.address.SocketAddr.{SocketAddr};
 ghost use Rattle.dns_io.specs.Traffic.{Traffic};
 ghost use Rattle.dns_server.specs.Recorded.{TraceReadsBack, settings_event};

@@ -20,13 +20,13 @@ pub use dns_run::{
     read_whole, refusal, run, script_text, serve_plan, serve_script, summary, write_outputs,
     write_refusal,
 };
-pub use dns_servers::{
-    AcceptEnd, BufSource, ConnectionEnd, ConnectionWork, Control, DgramEnd, DgramServer, Host,
-    HostEnd, Kept, Metered, MeteredAccept, MeteredSock, NoHook, PreConnect, Recorder,
-    ServerCommand, ServerMetrics, Silent, StreamEnd, StreamServer, TcpServer, UdpServer,
-    VecBufSource, host_service, serve_accepts, serve_connection, serve_datagrams,
-};
 pub use dns_service::WithoutMeta;
+pub use dns_transport::{
+    AcceptEnd, BufSource, ConnectionEnd, ConnectionWork, Control, DgramEnd, DgramServer, Host,
+    HostEnd, Metered, MeteredAccept, MeteredSock, NoHook, PreConnect, Recorder, ServerCommand,
+    ServerMetrics, Silent, StreamEnd, StreamServer, TcpServer, UdpServer, VecBufSource,
+    VecRecorder, host_service, serve_accepts, serve_connection, serve_datagrams,
+};
 pub use host_status::status_of_host;
 pub use laws::a_connection_replays;
 pub use server_host::serve_host;

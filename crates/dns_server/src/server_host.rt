@@ -4,8 +4,8 @@ ghost use Rattle.std.specs.Prelude.{◌≡◌, IfOk};
 ghost use Rattle.std.specs.Arc.{arc_value};
 ghost use Rattle.dns_middleware.specs.Verdicts.{verdict_on};
 ghost use Rattle.dns_middleware.specs.Wrapped.{hint_left, replies};
-ghost use Rattle.dns_client.specs.Serving.{Serving, serving};
-ghost use Rattle.dns_host.specs.Hosting.{HostServed, ShutDown, host_seen, door_told, mail_told};
+ghost use Rattle.dns_session.specs.Serving.{Serving, serving};
+ghost use Rattle.dns_host.specs.Hosting.{HostServed, ShutDown, host_seen, accept_observed, sock_observed};
 ghost use Rattle.dns_server.specs.HostStatus.{OfHost, status_of_host};
 
 use crate::host_status::status_of_host;
@@ -15,8 +15,8 @@ use dns_io::{AsyncAccept, AsyncDgramSock, Clock, Spawner};
 use dns_middleware::Wrapped;
 use dns_name::OutOfMemory;
 use dns_run::{Status, layered};
-use dns_servers::{ConnectionWork, Host, HostEnd, Recorder, Silent, host_service};
 use dns_service::{Service, SharedService, WithoutMeta};
+use dns_transport::{ConnectionWork, Host, HostEnd, Recorder, Silent, host_service};
 use std::alloc::Global;
 use std::sync::{Arc, Wait};
 use std::thread::Threads;
@@ -67,8 +67,8 @@ where
     requires book { seat.book ≡ arc_value book.now }
     requires can_call { IfOk made (λ s. T.can_call s) }
     ensures served { (answers : Serving) → IfOk made (λ s. answers ≡ serving (T.answer s) (T.hint s))
-        → OfHost (λ end. HostServed (host_seen A.door P.given J.noted D.mail C.readings A.faults P.faults D.failed_receives D.failed_sends)
-        (door_told A.tells P.tells) (mail_told D.tells C.tells J.tells) answers end count seat.known result.0.known host.old host.new) result.1 }
+        → OfHost (λ end. HostServed (host_seen A.accept_traffic P.given J.noted D.sock_traffic C.readings A.faults P.faults D.failed_receives D.failed_sends)
+        (accept_observed A.tells P.tells) (sock_observed D.tells C.tells J.tells) answers end count seat.known result.0.known host.old host.new) result.1 }
     ensures same { result.0.book ≡ seat.book }
 {
     match made {
@@ -109,8 +109,8 @@ where
     requires book { seat.book ≡ arc_value book.now }
     requires can_call { S.can_call service }
     // Both were served by the wrapped service. Or memory ran out before, in `wrap` too: then the book was shut down, and nothing else was done.
-    ensures served { OfHost (λ end. HostServed (host_seen A.door P.given J.noted D.mail C.readings A.faults P.faults D.failed_receives D.failed_sends)
-        (door_told A.tells P.tells) (mail_told D.tells C.tells J.tells)
+    ensures served { OfHost (λ end. HostServed (host_seen A.accept_traffic P.given J.noted D.sock_traffic C.readings A.faults P.faults D.failed_receives D.failed_sends)
+        (accept_observed A.tells P.tells) (sock_observed D.tells C.tells J.tells)
         (serving (replies settings.now (S.answer service) (verdict_on (N.verdict target))) (hint_left settings.now))
         end count seat.known result.0.known host.old host.new) result.1 }
     ensures same { result.0.book ≡ seat.book }

@@ -1,17 +1,17 @@
 //! A trace of the events that a driver notes.
 
 ghost use Rattle.std.specs.Prelude.{◌≡◌, ◌↔◌, ◌∷◌, ◌++◌, ◌&&◌, [], true, IfOk, OnErr, OnOk};
-ghost use Rattle.dns_notes.specs.Notes.{NoteMoves};
-ghost use Rattle.dns_io.specs.Causes.{Tells};
+ghost use Rattle.dns_recorder.specs.Notes.{NoteMoves};
+ghost use Rattle.dns_io.specs.Causes.{Observed};
 ghost use Rattle.dns_trace.specs.InRange.{IsSettings};
 ghost use Rattle.dns_trace.specs.Trace.{event_text, trace};
 ghost use Rattle.dns_server.specs.Recorded.{IsTrace, TraceReadsBack, settings_event, is_said, recorded};
 
 use crate::in_range;
 use dns_name::OutOfMemory;
-use dns_servers::Recorder;
 use dns_service::{Event, EventKind};
 use dns_trace::{TraceSettings, TraceWriter, a_trace_reads_back};
+use dns_transport::Recorder;
 use std::alloc::Global;
 
 /// Writes settings and the events that a driver notes, one line each. It tells, unless an event that all clients hear named
@@ -83,7 +83,7 @@ impl Recorder for TraceRecorder {
 
     /// Notes an event, as its line behind the text.
     fn note(&mut self, alloc: Global, event: &Event) -> Result<(), OutOfMemory>
-        ensures moves { Tells (self.new.said ≡ true) (self.old.said ≡ true) (NoteMoves result event.now (recorded self.old.writer) (recorded self.new.writer)) }
+        ensures moves { Observed (self.new.said ≡ true) (self.old.said ≡ true) (NoteMoves result event.now (recorded self.old.writer) (recorded self.new.writer)) }
         ensures line { OnOk result (self.new.writer ≡ self.old.writer ++ event_text event.now) }
         ensures said { OnOk result (self.new.said ≡ (self.old.said && is_said event.now)) }
         ensures same { OnErr result ((self.new.writer ≡ self.old.writer) × (self.new.said ≡ self.old.said)) }

@@ -6,7 +6,7 @@ use Rattle.std.proofs.lemmas.Bool.Decides.{nat_tests}
 use Rattle.dns_base.specs.Msg.{Msg, ResourceRecord}
 use Rattle.dns_base.specs.Wire.{wire}
 use Rattle.dns_service.specs.Answer.{Answer}
-use Rattle.dns_client.specs.Heard.{answer_status, status_after_some}
+use Rattle.dns_session.specs.Heard.{answer_status, status_after_some}
 use Rattle.dns_service.specs.declared.invoker.InvokerStatus.{InvokerStatus}
 use Rattle.dns_service.specs.declared.invoker.InvokerStatus.TheVariants.{Normal, InTransaction}
 use Rattle.dns_service.specs.declared.service.ServiceFeedback.{ServiceFeedback}

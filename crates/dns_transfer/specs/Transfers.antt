@@ -10,7 +10,7 @@ use Rattle.dns_name.specs.Labels.{IsName}
 use Rattle.dns_message.specs.declared.question.Question.{Question}
 use Rattle.dns_message.specs.declared.record.Record.{Record}
 use Rattle.dns_service.specs.Answer.{Answer, Item}
-use Rattle.dns_client.specs.Heard.{answer_status}
+use Rattle.dns_session.specs.Heard.{answer_status}
 use Rattle.dns_service.specs.declared.invoker.InvokerStatus.{InvokerStatus}
 use Rattle.dns_service.specs.declared.invoker.InvokerStatus.TheVariants.{Normal, InTransaction}
 use Rattle.dns_service.specs.declared.service.Polled.TheVariants.{Pending, Ready}

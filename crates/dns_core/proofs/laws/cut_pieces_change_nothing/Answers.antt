@@ -1,5 +1,5 @@
 use Rattle.std.proofs.Common.{◌++◌}
-use Rattle.dns_client.specs.Pieces.{piece_of}
+use Rattle.dns_session.specs.Pieces.{piece_of}
 use Rattle.dns_core.proofs.Cut.{cut_sent}
 use Rattle.dns_core.proofs.CutForAll.{cut_out}
 use Rattle.dns_core.proofs.laws.cut_pieces_change_nothing.Goals as goal

@@ -1,5 +1,5 @@
 use Rattle.std.proofs.Common.{ap, ◌∙◌}
-use Rattle.dns_client.specs.Slate.{Conf}
+use Rattle.dns_session.specs.Slate.{Conf}
 use Rattle.dns_core.specs.Own.{is_wide}
 use Rattle.dns_core.specs.Sent.{conf, slate}
 use Rattle.dns_core.proofs.Plain.{plain}

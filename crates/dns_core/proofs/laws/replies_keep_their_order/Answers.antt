@@ -4,7 +4,7 @@ use Rattle.dns_core.specs.Own.{own}
 use Rattle.dns_core.specs.Settings.{opening}
 use Rattle.dns_core.specs.Trails.{messages_sent, no_trail, trail_after}
 use Rattle.dns_core.specs.WrappedServing.{wrapped_serving}
-use Rattle.dns_client.specs.Slate.{fresh}
+use Rattle.dns_session.specs.Slate.{fresh}
 use Rattle.dns_middleware.specs.Verdicts.{verdict_on}
 use Rattle.dns_core.proofs.Origins.{from_answers}
 use Rattle.dns_core.proofs.Replied.{refused_responds, reply_has}

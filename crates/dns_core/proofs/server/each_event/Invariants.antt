@@ -1,4 +1,4 @@
-use Rattle.dns_client.specs.Serving.{serving}
+use Rattle.dns_session.specs.Serving.{serving}
 use Rattle.std.proofs.Common.{◌≡◌, [], take}
 use Rattle.dns_service.specs.PolledRequest.{request_answer}
 use Rattle.dns_core.specs.Out.{out}

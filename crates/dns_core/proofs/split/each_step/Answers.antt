@@ -1,4 +1,4 @@
-use Rattle.dns_client.specs.Serving.{serving}
+use Rattle.dns_session.specs.Serving.{serving}
 use Rattle.std.proofs.Common.{◌≡◌, ◌+◌, ap, sym, ◌∙◌, ◌∷◌, ◌++◌, [], List, take, length, ◌<◌}
 use Rattle.std.proofs.lemmas.List.{take_more, take_all}
 use Rattle.dns_events.specs.declared.event.Step.{Step}

@@ -1,4 +1,4 @@
-use Rattle.dns_client.specs.Serving.{serving}
+use Rattle.dns_session.specs.Serving.{serving}
 use Rattle.dns_core.proofs.split.serve_each_step.Goals as goal
 
 pub returns : goal.returns

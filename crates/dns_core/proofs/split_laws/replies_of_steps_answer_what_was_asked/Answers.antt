@@ -3,8 +3,8 @@ use Rattle.dns_base.specs.Msg.{Msg}
 use Rattle.dns_base.specs.Wire.{wire}
 use Rattle.dns_service.specs.ErrorReply.{error_reply}
 use Rattle.dns_service.specs.Transport.{limit}
-use Rattle.dns_client.specs.Serving.{serving}
-use Rattle.dns_client.specs.Turns.{limit_for}
+use Rattle.dns_session.specs.Serving.{serving}
+use Rattle.dns_session.specs.Turns.{limit_for}
 use Rattle.dns_core.specs.ReplyTo.{Responds}
 use Rattle.dns_middleware.specs.Verdicts.{verdict_on}
 use Rattle.dns_middleware.specs.Wrapped.{hint_left, replies}

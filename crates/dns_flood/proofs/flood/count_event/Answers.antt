@@ -1,4 +1,4 @@
-use Rattle.dns_client.specs.Serving.{serving}
+use Rattle.dns_session.specs.Serving.{serving}
 use Rattle.std.proofs.Common.{ap, sym, ◌∙◌, ◌^◌, ◌++◌, List}
 use Rattle.dns_events.specs.declared.event.Output.{Output}
 use Rattle.dns_core.specs.Out.{out}

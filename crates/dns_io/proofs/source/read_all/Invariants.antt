@@ -1,10 +1,10 @@
 use Rattle.std.proofs.Common.{◌≡◌, ◌++◌, ◌≤◌, ◌-◌, length}
-use Rattle.dns_io.specs.Causes.{Tells}
+use Rattle.dns_io.specs.Causes.{Observed}
 use Rattle.dns_io.proofs.source.read_all.Given as goal
 
 abbrev pub invariant-pieces : goal.invariant-pieces
 invariant-pieces g l = record {
-  told : Tells (g.S.Source.tells l.source) (g.S.Source.tells l.fn.source) (g.S.Source.left l.fn.source ≡ l.out.items ++ g.S.Source.left l.source);
+  observed : Observed (g.S.Source.tells l.source) (g.S.Source.tells l.fn.source) (g.S.Source.left l.fn.source ≡ l.out.items ++ g.S.Source.left l.source);
   quiet : g.S.Source.faults l.source ≡ g.S.Source.faults l.fn.source;
   few : length l.out.items ≤ 67108865;
 }

@@ -5,7 +5,7 @@ use Rattle.dns_base.specs.Draft.{count_place, counted}
 use Rattle.dns_base.specs.Replaced.{spelling}
 use Rattle.dns_base.specs.Sections.{field}
 use Rattle.dns_base.proofs.Pushed.{viewed, no_memory}
-use Rattle.dns_base.proofs.WireRecords.{records_grow, counts_room, records_done, starts_appended}
+use Rattle.dns_base.proofs.RecordsInWireForm.{records_grow, counts_room, records_done, starts_appended}
 use Rattle.dns_base.proofs.draft.Draft.push_records.Goals as goal
 
 pub returns-then-len-as_slice : goal.returns-then-len-as_slice

@@ -1,5 +1,5 @@
 use Rattle.std.proofs.Common.{ap, sym, ◌∙◌, length}
-use Rattle.dns_base.proofs.WireRecords.{are_none}
+use Rattle.dns_base.proofs.RecordsInWireForm.{are_none}
 use Rattle.dns_base.proofs.wire_records.WireRecords.is_empty.Goals as goal
 
 pub returns : goal.returns

@@ -1,6 +1,6 @@
 use Rattle.std.proofs.Common.{◌≡◌, ◌+◌, ◌≤◌, ℕ, length, ◌∙◌, ◌++◌, ◌∷◌, [], refl, arith, ap, sym}
 use Rattle.dns_base.specs.Records.{record_of}
-use Rattle.dns_base.proofs.WireRecords.{spelt_few, spelt_more}
+use Rattle.dns_base.proofs.RecordsInWireForm.{spelt_few, spelt_more}
 use Rattle.dns_base.proofs.wire_records.WireRecords.push.Goals as goal
 
 pub overflow_add-self : goal.overflow_add-self

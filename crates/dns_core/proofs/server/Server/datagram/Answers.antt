@@ -1,5 +1,5 @@
 use Rattle.std.proofs.Common.{inl, inr, sym}
-use Rattle.dns_client.specs.Serving.{serving}
+use Rattle.dns_session.specs.Serving.{serving}
 use Rattle.dns_service.specs.PolledRequest.{request_answer}
 use Rattle.dns_core.proofs.Offered.{datagram_late, shut_as}
 use Rattle.dns_core.proofs.StepBegins.{datagram_late as step_datagram_late}

@@ -1,8 +1,8 @@
 use Rattle.std.proofs.Common.{◌∙◌, ap, sym}
 use Rattle.std.proofs.lemmas.Result.{MatchResult-weaker}
 use Rattle.dns_events.specs.declared.look.Look.{Look}
-use Rattle.dns_client.specs.Serving.{serving}
-use Rattle.dns_client.specs.Slate.{conf_of}
+use Rattle.dns_session.specs.Serving.{serving}
+use Rattle.dns_session.specs.Slate.{conf_of}
 use Rattle.dns_service.specs.PolledRequest.{request_answer}
 use Rattle.dns_core.proofs.Offered.{datagram_goes}
 use Rattle.dns_core.proofs.StepBegins.{datagram_goes as step_datagram_goes}

@@ -4,7 +4,7 @@ use Rattle.std.specs.Ordering.{nat_cmp}
 use Rattle.std.specs.BTreeMap.{get, is_at}
 use Rattle.std.specs.List.{list_any}
 use Rattle.dns_events.specs.declared.look.Look.{Look}
-use Rattle.dns_client.specs.Slate.{conf_of}
+use Rattle.dns_session.specs.Slate.{conf_of}
 use Rattle.dns_core.specs.Sent.{conf, slate}
 use Rattle.dns_core.specs.Out.{members, taken}
 use Rattle.dns_core.specs.Placed.{knows, placed}

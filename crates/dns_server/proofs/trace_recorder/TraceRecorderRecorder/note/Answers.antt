@@ -16,5 +16,5 @@ returns-in-Ok-clause-moves c =
     let e = c.args.event.now in
     let before = c.args.self.now in
     record {
-      told = λ told. noted_more c.a_trace_reads_back.ensures before.said (is_said e) before.writer c.note.new.self e before.is_trace c.in-Ok.ensures.noted c.event.ensures (rw c.still_said-said.ensures at told);
+      observed = λ observed. noted_more c.a_trace_reads_back.ensures before.said (is_said e) before.writer c.note.new.self e before.is_trace c.in-Ok.ensures.noted c.event.ensures (rw c.still_said-said.ensures at observed);
     }

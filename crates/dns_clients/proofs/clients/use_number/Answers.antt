@@ -1,5 +1,0 @@
-use Rattle.dns_clients.proofs.Keyed.{used_put}
-use Rattle.dns_clients.proofs.clients.use_number.Goals as goal
-
-pub returns : goal.returns
-returns c = used_put c.args.used.now c.insert.new.self c.args.client c.in_ok-insert.ensures.updates.0

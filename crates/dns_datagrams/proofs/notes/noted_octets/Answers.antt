@@ -1,5 +1,0 @@
-use Rattle.dns_datagrams.proofs.DatagramStamps.{no_octets}
-use Rattle.dns_datagrams.proofs.notes.noted_octets.Goals as goal
-
-pub unreachable-requires : goal.unreachable-requires
-unreachable-requires c = no_octets c.args.kind c.requires c.in_default.not-Datagram

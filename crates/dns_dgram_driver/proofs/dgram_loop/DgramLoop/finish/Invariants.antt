@@ -1,0 +1,14 @@
+use Rattle.std.proofs.Common.{[], false}
+use Rattle.dns_session.specs.Serving.{serving}
+use Rattle.dns_service.specs.PolledRequest.{request_answer}
+use Rattle.dns_io.specs.Causes.{Observed}
+use Rattle.dns_dgram_driver.specs.Rounds.{LoopGoes}
+use Rattle.dns_dgram_driver.specs.LoopParts.{OnlyPolls, loop_seen, loop_observed}
+use Rattle.dns_dgram_driver.proofs.dgram_loop.DgramLoop.finish.Given as goal
+
+abbrev pub invariant-loop : goal.invariant-loop
+invariant-loop g l = record {
+  polls : OnlyPolls g.D.AsyncDgramSock.failed_receives g.D.AsyncDgramSock.failed_sends l.fn.self l.self;
+  observed : Observed (loop_observed g.D.AsyncDgramSock.tells g.C.Clock.tells g.J.Recorder.tells l.self) (loop_observed g.D.AsyncDgramSock.tells g.C.Clock.tells g.J.Recorder.tells l.fn.self)
+      (LoopGoes (request_answer g.W.Future.ReplyFuture.answer g.W.Stream.ReplyStream.answer) (serving (g.W.SharedService.answer l.fn.self.service.now) (g.W.SharedService.hint l.fn.self.service.now)) (loop_seen g.D.AsyncDgramSock.sock_traffic g.D.AsyncDgramSock.failed_sends g.C.Clock.readings g.J.Recorder.noted l.fn.self) l.fn.self.state.now false [] (loop_seen g.D.AsyncDgramSock.sock_traffic g.D.AsyncDgramSock.failed_sends g.C.Clock.readings g.J.Recorder.noted l.self) l.self.state.now false []);
+}

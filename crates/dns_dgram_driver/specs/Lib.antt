@@ -1,0 +1,11 @@
+pub use Rattle.dns_recorder.specs.Clocks
+pub use Rattle.dns_recorder.specs.Notes
+pub use Rattle.dns_recorder.specs.Woven
+pub mod Events
+pub mod Order
+pub mod Polled
+pub mod Sent
+pub mod DatagramsServed
+pub mod Steps
+pub mod Rounds
+pub mod LoopParts

@@ -1,9 +1,0 @@
-use Rattle.dns_drivers.proofs.Writings.{took_some}
-use Rattle.dns_drivers.proofs.writing.write_some.Goals as goal
-
-pub returns-in-Took-clause-moves : goal.returns-in-Took-clause-moves
-returns-in-Took-clause-moves g c = record {
-  told = λ t.
-      let m = c.in-Took.ensures.moves.told t in
-      (m.0, took_some c.args.done c.in-Took.count c.args.frame.now (g.L.Link.traffic c.args.link.now) (g.L.Link.traffic c.write.new.self) m.1);
-}

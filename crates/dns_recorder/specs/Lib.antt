@@ -1,0 +1,9 @@
+pub use Rattle.dns_model.specs.Out
+pub use Rattle.dns_model.specs.Own
+pub use Rattle.dns_model.specs.Sent
+pub use Rattle.dns_model.specs.Settings
+pub mod Clocks
+pub mod Counts
+pub mod Notes
+pub mod Woven
+pub mod Waits

@@ -1,0 +1,110 @@
+//! What a driver notes its events in.
+
+ghost use Rattle.std.specs.Prelude.{◌≡◌, List, [], IfOk};
+ghost use Rattle.dns_events.specs.declared.event.Event.{Event};
+ghost use Rattle.dns_io.specs.Causes.{Observed};
+ghost use Rattle.dns_recorder.specs.Notes.{NoteMoves};
+
+use dns_service::{Event, EventKind, Octets, OutOfMemory};
+use std::alloc::Global;
+
+/// What a driver notes each event in, before a core takes it. A call is refused for want of memory alone.
+pub trait Recorder {
+    /// That what was noted is known.
+    ghost tells: { Self → Type 0 };
+
+    /// The events noted so far, where the recorder tells.
+    ghost noted: { Self → List Event };
+
+    /// Notes an event.
+    fn note(&mut self, alloc: Global, event: &Event) -> Result<(), OutOfMemory>
+        ensures { Observed (tells self.new) (tells self.old) (NoteMoves result event.now (noted self.old) (noted self.new)) };
+}
+
+/// A recorder that keeps nothing and tells nothing.
+#[derive(Clone, Copy, Debug)]
+pub struct Silent;
+
+impl Recorder for Silent {
+    ghost tells = { λ _. ⊥ };
+
+    ghost noted = { λ _. [] };
+
+    fn note(&mut self, _alloc: Global, _event: &Event) -> Result<(), OutOfMemory> {
+        Ok(())
+    }
+}
+
+/// A recorder that keeps a copy of each event.
+#[derive(Drop)]
+pub struct VecRecorder {
+    events: Vec<Event>,
+}
+
+impl VecRecorder {
+    /// Nothing is noted so far.
+    pub fn new(alloc: Global) -> VecRecorder
+        ensures { result.events.items ≡ [] }
+    {
+        VecRecorder {
+            events: Vec::new(alloc),
+        }
+    }
+
+    /// The events noted.
+    pub fn events(&self) -> &[Event]
+        ensures { result.now ≡ self.now.events.items }
+    {
+        self.events.as_slice()
+    }
+}
+
+/// A copy of octets.
+fn copy_of(alloc: Global, octets: &Octets) -> Result<Octets, OutOfMemory>
+    ensures { IfOk result (λ copy. copy ≡ octets.now) }
+{
+    Octets::from_slice(alloc, octets.as_slice())
+}
+
+/// A copy of what an event is of.
+fn copied(alloc: Global, kind: &EventKind) -> Result<EventKind, OutOfMemory>
+    ensures { IfOk result (λ copy. copy ≡ kind.now) }
+{
+    Ok(match kind {
+        EventKind::Datagram { addr, octets } => EventKind::Datagram {
+            addr: *addr,
+            octets: copy_of(alloc, octets)?,
+        },
+        EventKind::Turn { request } => EventKind::Turn { request: *request },
+        EventKind::Offer { addr } => EventKind::Offer { addr: *addr },
+        EventKind::Piece(octets) => EventKind::Piece(copy_of(alloc, octets)?),
+        EventKind::End => EventKind::End,
+        EventKind::Fault => EventKind::Fault,
+        EventKind::Close => EventKind::Close,
+        EventKind::Write { took } => EventKind::Write { took: *took },
+        EventKind::Tick => EventKind::Tick,
+        EventKind::Release => EventKind::Release,
+        EventKind::Reconfigure { dgram, stream } => EventKind::Reconfigure {
+            dgram: *dgram,
+            stream: *stream,
+        },
+        EventKind::Shutdown => EventKind::Shutdown,
+    })
+}
+
+impl Recorder for VecRecorder {
+    ghost tells = { λ _. Unit {0} };
+
+    ghost noted = { λ k. k.events.items };
+
+    fn note(&mut self, alloc: Global, event: &Event) -> Result<(), OutOfMemory> {
+        let kind = copied(alloc, &event.kind)?;
+        self.events.push(Event {
+            at: event.at,
+            secs: event.secs,
+            client: event.client,
+            kind,
+        })?;
+        Ok(())
+    }
+}

@@ -1,3 +1,0 @@
-mod Awaiting
-mod Joinings
-mod Seatings

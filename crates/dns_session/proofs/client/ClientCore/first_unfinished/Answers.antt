@@ -1,0 +1,10 @@
+use Rattle.std.proofs.Common.{◌∙◌}
+use Rattle.dns_service.specs.PolledRequest.{request_answer}
+use Rattle.dns_session.proofs.Waiting.{exchange_at, of_open}
+use Rattle.dns_session.proofs.client.ClientCore.first_unfinished.Goals as goal
+
+pub returns-in-Exchange-clause-requests : goal.returns-in-Exchange-clause-requests
+returns-in-Exchange-clause-requests g c = λ answers s h. c.sole_number.ensures ∙ exchange_at (request_answer g.W.Future.ReplyFuture.answer g.W.Stream.ReplyStream.answer) answers c.args.self.now.client c.args.self.now.state c.in-Exchange.unfinished s c.in-Exchange.is h
+
+pub returns-in-Open-clause-requests : goal.returns-in-Open-clause-requests
+returns-in-Open-clause-requests g c = λ answers s h. c.first_unfinished.ensures answers c.args.self.now.client s (of_open (request_answer g.W.Future.ReplyFuture.answer g.W.Stream.ReplyStream.answer) answers c.args.self.now.client c.args.self.now.state c.in-Open.connection s c.in-Open.is h)

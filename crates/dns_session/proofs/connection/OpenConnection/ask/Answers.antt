@@ -1,0 +1,12 @@
+use Rattle.std.proofs.lemmas.Result.{on_ok_weaker}
+use Rattle.dns_session.specs.Serving.{serving}
+use Rattle.dns_service.specs.PolledRequest.{request_answer}
+use Rattle.dns_session.proofs.Begun.{called_going}
+use Rattle.dns_session.proofs.connection.OpenConnection.ask.Goals as goal
+
+pub returns : goal.returns
+returns g c =
+    let a = request_answer g.W.Future.ReplyFuture.answer g.W.Stream.ReplyStream.answer in
+    let b = serving (g.W.SharedService.answer c.args.service.now) (g.W.SharedService.hint c.args.service.now) in
+    let going = called_going a b c.in_ok-kept.kept c.args.request c.in_ok-kept.ensures.answers c.in_ok-kept.ensures.message c.in_ok-kept.ensures.status c.in_ok-kept.ensures.held in
+    on_ok_weaker c.keep.result (λ f. f b c.args.request going) c.keep.ensures

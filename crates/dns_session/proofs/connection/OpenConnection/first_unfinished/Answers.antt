@@ -1,0 +1,8 @@
+use Rattle.dns_service.specs.PolledRequest.{request_answer}
+use Rattle.dns_session.specs.Unfinished.{request_at}
+use Rattle.dns_session.proofs.Waiting.{agrees, first_is}
+use Rattle.dns_session.proofs.connection.OpenConnection.first_unfinished.Goals as goal
+
+pub returns : goal.returns
+returns g c = λ answers client s h.
+    first_is (request_at c.args.self.now.unfinished) s.requests c.first.result (agrees (request_answer g.W.Future.ReplyFuture.answer g.W.Stream.ReplyStream.answer) answers client c.args.self.now s h) (c.first.ensures h.requests.in_order)

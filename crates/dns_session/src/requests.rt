@@ -1,0 +1,75 @@
+//! Requests of messages, and messages of replies.
+
+ghost use Rattle.std.specs.Prelude.{◌≡◌, IfOk};
+ghost use Rattle.dns_base.specs.Wire.{wire};
+ghost use Rattle.dns_session.specs.Datagrams.{cut_datagram};
+ghost use Rattle.dns_session.specs.Requests.{request_of_datagram, request_of_frame};
+
+use dns_base::{AdditionalBuilder, Message, SocketAddr};
+use dns_service::{
+    DgramConfig, NonUdpTransportContext, Octets, OutOfMemory, Request, TransportSpecificContext,
+    UdpTransportContext,
+};
+use std::alloc::Global;
+
+/// How many octets of a datagram are read.
+const MOST_READ: usize = 1024;
+
+/// The octets of a datagram that are read.
+#[tactic(auto, using(std::proofs::lemmas::List::take_min))]
+pub fn cut_datagram(alloc: Global, octets: &[u8]) -> Result<Vec<u8>, OutOfMemory>
+    ensures { IfOk result (λ v. v.items ≡ cut_datagram octets.now) }
+{
+    let read = Vec::from_slice(alloc, &octets[..MOST_READ.min(octets.len())])?;
+    Ok(read)
+}
+
+/// The same of octets that are given away, which are not copied.
+pub fn cut_given(octets: Octets) -> Vec<u8>
+    ensures { result.items ≡ cut_datagram octets }
+{
+    let mut octets = octets.into_vec();
+    octets.truncate(MOST_READ);
+    octets
+}
+
+/// The request of a datagram.
+pub fn datagram_request(
+    alloc: Global,
+    config: &DgramConfig,
+    addr: SocketAddr,
+    at: u64,
+    secs: u64,
+    message: Message,
+) -> Result<Request<()>, OutOfMemory>
+    ensures { IfOk result (λ r. r ≡ request_of_datagram config.now addr at secs message) }
+{
+    let hint = UdpTransportContext::new(config.max_response_size());
+    let transport = TransportSpecificContext::Udp(hint);
+    let request = Request::new(alloc, addr, at, secs, message, transport, ())?;
+    Ok(request)
+}
+
+/// The request of a frame of a connection that may be idle for so long.
+pub fn frame_request(
+    alloc: Global,
+    idle_timeout: u64,
+    addr: SocketAddr,
+    at: u64,
+    secs: u64,
+    message: Message,
+) -> Result<Request<()>, OutOfMemory>
+    ensures { IfOk result (λ r. r ≡ request_of_frame idle_timeout addr at secs message) }
+{
+    let context = NonUdpTransportContext::new(Some(idle_timeout));
+    let transport = TransportSpecificContext::NonUdp(context);
+    let request = Request::new(alloc, addr, at, secs, message, transport, ())?;
+    Ok(request)
+}
+
+/// A reply as a datagram, which is not copied.
+pub fn datagram_of(reply: AdditionalBuilder) -> Octets
+    ensures { result ≡ wire reply.message }
+{
+    Octets::from_vec(reply.into_message().into_octets())
+}

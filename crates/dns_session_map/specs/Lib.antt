@@ -1,0 +1,3 @@
+pub use Rattle.dns_session.specs.Serving
+pub use Rattle.dns_service.specs.PolledRequest
+pub mod Serves

@@ -1,0 +1,14 @@
+pub use Rattle.dns_recorder.specs.Clocks
+pub use Rattle.dns_recorder.specs.Counts
+pub use Rattle.dns_recorder.specs.Notes
+pub use Rattle.dns_recorder.specs.Woven
+pub mod Blames
+pub mod Closing
+pub mod Endings
+pub mod Links
+pub mod Rounds
+pub mod Runs
+pub mod Shown
+pub mod Steps
+pub mod Story
+pub mod Turning

@@ -1,0 +1,27 @@
+//! Whether outputs close the connection.
+
+ghost use Rattle.std.specs.Prelude.{◌≡◌};
+ghost use Rattle.dns_stream_driver.specs.Closing.{why_closed, closed_by};
+
+use dns_service::{Output, Why};
+
+/// Why an output closes the connection, where it does.
+fn why_closed(out: &Output) -> Option<Why>
+    ensures { result ≡ why_closed out.now }
+{
+    match out {
+        Output::Closed { why, .. } => Some(*why),
+        Output::Datagram { .. } | Output::Frame { .. } | Output::TurnedAway { .. } => None,
+    }
+}
+
+#[tactic(auto, using(crate::proofs::Closings::closed_last, crate::proofs::Closings::closed_none))]
+/// Why the last of some outputs closes the connection, where it does.
+pub(crate) fn closed_by(outs: &[Output]) -> Option<Why>
+    ensures { result ≡ closed_by outs.now }
+{
+    match outs.split_last() {
+        None => None,
+        Some((last, _)) => why_closed(last),
+    }
+}

@@ -1,0 +1,3 @@
+mod Awaiting
+mod Joinings
+mod SeatLaws

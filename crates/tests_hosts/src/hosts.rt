@@ -1,0 +1,418 @@
+//! Whole hosts, whose service stands in all layers.
+
+ghost use Rattle.std.specs.Prelude.{◌≡◌};
+ghost use Rattle.std.specs.Arc.{arc_value};
+
+use dns_book::{Book, BookSeat};
+use dns_middleware::{Notifiable, Settings, Wrapped};
+use dns_name::{OptRcode, OutOfMemory};
+use dns_outside::{AsyncAccept, MemoryClock, MemorySock, MemorySpawner, Packet, Spawner};
+use dns_server::{NotifyRules, ScriptTarget, Status, serve_host};
+use dns_service::{Service, WithoutMeta};
+use dns_transport::{ConnectionWork, Host, Silent};
+use std::alloc::Global;
+use std::sync::{Arc, Wait};
+use std::thread::Threads;
+use tests_links::{Holding, Seen, accept_of, book_of, calls, clock, packet, show};
+
+/// Queries for the root's address, with id 1 and 2, behind their length, and their replies.
+const FIRST: &[u8] =
+    b"\x00\x11\x00\x01\x01\x00\x00\x01\x00\x00\x00\x00\x00\x00\x00\x00\x01\x00\x01";
+
+const FIRST_REPLY: &[u8] =
+    b"\x00\x11\x00\x01\x81\x00\x00\x01\x00\x00\x00\x00\x00\x00\x00\x00\x01\x00\x01";
+
+const SECOND: &[u8] =
+    b"\x00\x11\x00\x02\x01\x00\x00\x01\x00\x00\x00\x00\x00\x00\x00\x00\x01\x00\x01";
+
+const SECOND_REPLY: &[u8] =
+    b"\x00\x11\x00\x02\x81\x00\x00\x01\x00\x00\x00\x00\x00\x00\x00\x00\x01\x00\x01";
+
+/// A datagram that gets no reply, and what is written on a link that gets none.
+const OCTET: &[u8] = b"\x00";
+
+const NOTHING: &[u8] = b"";
+
+/// The second query in a datagram.
+const LETTER: &[u8] = b"\x00\x02\x01\x00\x00\x01\x00\x00\x00\x00\x00\x00\x00\x00\x01\x00\x01";
+
+/// A query for the root's address in a datagram, and its replies that all is well and that the name isn't there.
+const QUERY: &[u8] = b"\x12\x34\x01\x00\x00\x01\x00\x00\x00\x00\x00\x00\x00\x00\x01\x00\x01";
+
+const REPLY: &[u8] = b"\x12\x34\x81\x00\x00\x01\x00\x00\x00\x00\x00\x00\x00\x00\x01\x00\x01";
+
+const NO_NAME: &[u8] = b"\x12\x34\x81\x03\x00\x01\x00\x00\x00\x00\x00\x00\x00\x00\x01\x00\x01";
+
+/// A query with an OPT record behind its length, and such replies, which say after how many units of 100 ms an idle connection is
+/// closed (RFC 7828).
+const FRAME: &[u8] =
+    b"\x00\x1c\x12\x34\x01\x00\x00\x01\x00\x00\x00\x00\x00\x01\x00\x00\x01\x00\x01\x00\x00\x29\x00\x00\x00\x00\x00\x00\x00\x00";
+
+const REPLY_FRAME: &[u8] =
+    b"\x00\x22\x12\x34\x81\x00\x00\x01\x00\x00\x00\x00\x00\x01\x00\x00\x01\x00\x01\x00\x00\x29\x00\x00\x00\x00\x00\x00\x00\x06\x00\x0b\x00\x02\x01\x2c";
+
+const NO_NAME_FRAME: &[u8] =
+    b"\x00\x22\x12\x34\x81\x03\x00\x01\x00\x00\x00\x00\x00\x01\x00\x00\x01\x00\x01\x00\x00\x29\x00\x00\x00\x00\x00\x00\x00\x06\x00\x0b\x00\x02\x01\x2c";
+
+/// These datagrams.
+fn packets(alloc: Global, datagrams: &[&[u8]]) -> Result<Vec<Packet>, OutOfMemory> {
+    let mut packets = Vec::new(alloc);
+    for octets in datagrams {
+        packets.push(packet(alloc, octets)?)?;
+    }
+    Ok(packets)
+}
+
+/// Whether this datagram was sent alone, or none where none is wanted.
+fn was_sent(sent: &[Packet], wanted: Option<&[u8]>) -> bool {
+    match wanted {
+        Some(octets) => sent.len() == 1 && sent[0].octets.as_slice() == octets,
+        None => sent.is_empty(),
+    }
+}
+
+/// What a host is given, and what is wanted of it.
+#[derive(Clone, Copy)]
+struct HostCase<'a> {
+    /// A link comes for each of these queries.
+    queries: &'a [&'a [u8]],
+    datagrams: &'a [&'a [u8]],
+    /// The calls that fail.
+    failed_accepts: &'a [u64],
+    failed_receives: &'a [u64],
+    failed_sends: &'a [u64],
+    failed_starts: &'a [u64],
+    /// Whether the service answers that the name isn't there, and whether a poll of the first query is held.
+    is_missing: bool,
+    is_held: bool,
+    count: u64,
+    status: Status,
+    /// The octets written on each link, which is handed to no hook and closed once.
+    shown: &'a [(&'a [u8], u64)],
+    /// The datagram that is sent.
+    sent: Option<&'a [u8]>,
+}
+
+/// What a host is given beside its links: a socket, the starts that fail, a service, and what is told of changed zones.
+#[derive(Drop)]
+struct Given<S, N> {
+    sock: MemorySock,
+    failed_starts: Vec<u64>,
+    service: S,
+    target: N,
+}
+
+/// What serves the connections of a service and a target in layers.
+type Connections<L, S, N> = MemorySpawner<
+    ConnectionWork<L, MemoryClock, Silent, WithoutMeta<Wrapped<S, N>>>,
+>;
+
+impl HostCase<'_> {
+    fn sock(&self, alloc: Global) -> Result<MemorySock, OutOfMemory> {
+        let receives = calls(alloc, self.failed_receives, &[])?;
+        let sends = calls(alloc, self.failed_sends, &[])?;
+        match packets(alloc, self.datagrams) {
+            Ok(packets) => Ok(MemorySock::new(alloc, packets, receives, sends)),
+            Err(error) => Err(error),
+        }
+    }
+
+    /// The service that answers as is said.
+    fn service(&self, alloc: Global) -> Result<Holding, OutOfMemory> {
+        let rcode = if self.is_missing {
+            OptRcode::NXDOMAIN
+        } else {
+            OptRcode::NOERROR
+        };
+        Holding::new(alloc, !self.is_held, rcode)
+    }
+
+    fn given(&self, alloc: Global) -> Result<Given<Holding, ScriptTarget>, OutOfMemory> {
+        let failed_starts = Vec::from_slice(alloc, self.failed_starts)?;
+        let service = self.service(alloc)?;
+        match self.sock(alloc) {
+            Ok(sock) => Ok(Given {
+                sock,
+                failed_starts,
+                service,
+                target: ScriptTarget::new(NotifyRules::new(alloc)),
+            }),
+            Err(error) => Err(error),
+        }
+    }
+
+    /// Whether the host ended so, with no slot taken and this datagram sent.
+    fn is_ended(&self, end: (Status, u64), sent: &[Packet]) -> bool {
+        end == (self.status, 0) && was_sent(sent, self.sent)
+    }
+}
+
+/// How a host ends by a service in the layers of the first settings, and how many slots of a book are taken then.
+fn end_in<
+    R: Threads + Wait + Copy + Send + Sync + 'static,
+    A: AsyncAccept,
+    S: Service<()> + Send + Sync + 'static,
+    N: Notifiable + Send + Sync + 'static,
+    P: Spawner<ConnectionWork<A::Link, MemoryClock, Silent, WithoutMeta<Wrapped<S, N>>>>,
+>(
+    rt: &R,
+    alloc: Global,
+    host: &mut Host<A, MemorySock, MemoryClock, P, Silent>,
+    service: S,
+    target: N,
+    book: &Arc<Book>,
+    seat: BookSeat,
+    count: u64,
+) -> (Status, u64)
+where
+    A::Link: Send + Drop + 'static,
+    S::Future: Send,
+    S::Stream: Send,
+    N::Future: Send,
+    requires book { seat.book ≡ arc_value book.now }
+    requires can_call { S.can_call service }
+{
+    let settings = Settings::new(alloc);
+    let (mut seat, status) = serve_host(
+        rt, alloc, &settings, service, target, book, seat, host, count,
+    );
+    (status, book.look(rt, &mut seat).taken)
+}
+
+/// The same in a book with ten slots.
+fn host_end<
+    R: Threads + Wait + Copy + Send + Sync + 'static,
+    A: AsyncAccept,
+    S: Service<()> + Send + Sync + 'static,
+    N: Notifiable + Send + Sync + 'static,
+    P: Spawner<ConnectionWork<A::Link, MemoryClock, Silent, WithoutMeta<Wrapped<S, N>>>>,
+>(
+    rt: &R,
+    alloc: Global,
+    host: &mut Host<A, MemorySock, MemoryClock, P, Silent>,
+    service: S,
+    target: N,
+    count: u64,
+) -> (Status, u64)
+where
+    A::Link: Send + Drop + 'static,
+    S::Future: Send,
+    S::Stream: Send,
+    N::Future: Send,
+    requires { S.can_call service }
+{
+    match book_of(alloc, 10) {
+        Ok((book, seat)) => end_in(rt, alloc, host, service, target, &book, seat, count),
+        Err(_) => (Status::OutOfMemory, 1),
+    }
+}
+
+/// Whether a host ends as is wanted.
+fn host_ends<
+    R: Threads + Wait + Copy + Send + Sync + 'static,
+    A: AsyncAccept + Drop,
+    S: Service<()> + Send + Sync + 'static,
+    N: Notifiable + Send + Sync + 'static,
+    P: Spawner<ConnectionWork<A::Link, MemoryClock, Silent, WithoutMeta<Wrapped<S, N>>>> + Drop,
+>(
+    rt: &R,
+    alloc: Global,
+    case: &HostCase<'_>,
+    mut host: Host<A, MemorySock, MemoryClock, P, Silent>,
+    service: S,
+    target: N,
+) -> bool
+where
+    A::Link: Send + Drop + 'static,
+    S::Future: Send,
+    S::Stream: Send,
+    N::Future: Send,
+    requires { S.can_call service }
+{
+    let end = host_end(rt, alloc, &mut host, service, target, case.count);
+    case.is_ended(end, host.sock.sent())
+}
+
+/// Whether a host with this accept object ends as is wanted.
+fn ends_over<
+    R: Threads + Wait + Copy + Send + Sync + 'static,
+    A: AsyncAccept + Drop,
+    S: Service<()> + Send + Sync + 'static,
+    N: Notifiable + Send + Sync + 'static,
+>(rt: &R, alloc: Global, case: &HostCase<'_>, accept: A, given: Given<S, N>) -> bool
+where
+    A::Link: Send + Drop + 'static,
+    S::Future: Send,
+    S::Stream: Send,
+    N::Future: Send,
+    requires { S.can_call given.service }
+{
+    let Given {
+        sock,
+        failed_starts,
+        service,
+        target,
+    } = given;
+    let spawner: Connections<A::Link, S, N> = MemorySpawner::new(alloc, failed_starts);
+    let host = Host {
+        accept,
+        sock,
+        clock: clock(alloc),
+        spawner,
+        journal: Silent,
+    };
+    host_ends(rt, alloc, case, host, service, target)
+}
+
+/// Whether a host with a link for each query ends as is wanted.
+fn ends<R: Threads + Wait + Copy + Send + Sync + Drop + 'static>(
+    rt: &R,
+    alloc: Global,
+    case: &HostCase<'_>,
+    given: Given<Holding, ScriptTarget>,
+    seen: &mut Vec<Arc<Seen>>,
+) -> bool {
+    match accept_of(*rt, alloc, case.queries, case.failed_accepts, &[], seen) {
+        Ok(accept) => ends_over(rt, alloc, case, accept, given),
+        Err(_) => false,
+    }
+}
+
+/// Whether it does, and the links show what is wanted.
+fn is_shown<R: Threads + Wait + Copy + Send + Sync + Drop + 'static>(
+    rt: &R,
+    alloc: Global,
+    case: &HostCase<'_>,
+    given: Given<Holding, ScriptTarget>,
+) -> bool {
+    let mut seen = Vec::new(alloc);
+    ends(rt, alloc, case, given, &mut seen) && show(rt, &seen, case.shown, 1)
+}
+
+/// Whether it does of what the case says.
+fn is_served<R: Threads + Wait + Copy + Send + Sync + Drop + 'static>(
+    rt: &R,
+    alloc: Global,
+    case: &HostCase<'_>,
+) -> bool {
+    match case.given(alloc) {
+        Ok(given) => is_shown(rt, alloc, case, given),
+        Err(_) => false,
+    }
+}
+
+/// One connection and one datagram that gets no reply.
+const ONE: HostCase<'static> = HostCase {
+    queries: &[SECOND],
+    datagrams: &[OCTET],
+    failed_accepts: &[],
+    failed_receives: &[],
+    failed_sends: &[],
+    failed_starts: &[],
+    is_missing: false,
+    is_held: false,
+    count: 1,
+    status: Status::HostFault,
+    shown: &[(SECOND_REPLY, 0)],
+    sent: None,
+};
+
+/// One connection and one datagram, both answered.
+const BOTH: HostCase<'static> = HostCase {
+    queries: &[FRAME],
+    datagrams: &[QUERY],
+    status: Status::Done,
+    shown: &[(REPLY_FRAME, 0)],
+    sent: Some(REPLY),
+    ..ONE
+};
+
+/// Hosts, by names.
+const CASES: &[(&'static str, HostCase<'static>)] = &[
+    // The first poll of one client is held until the other client's request is polled.
+    (
+        "held_poll",
+        HostCase {
+            queries: &[FIRST, SECOND],
+            datagrams: &[OCTET, OCTET],
+            is_held: true,
+            count: 2,
+            status: Status::Done,
+            shown: &[(FIRST_REPLY, 0), (SECOND_REPLY, 0)],
+            ..ONE
+        },
+    ),
+    // The second of three starts is refused: its slot is given back and its link closed, the others are served, and the host ends
+    // by a fault.
+    (
+        "a_refused_start_is_given_up",
+        HostCase {
+            queries: &[SECOND, SECOND, SECOND],
+            datagrams: &[OCTET, OCTET, OCTET],
+            failed_starts: &[1],
+            count: 3,
+            shown: &[(SECOND_REPLY, 0), (NOTHING, 0), (SECOND_REPLY, 0)],
+            ..ONE
+        },
+    ),
+    // After an accept that failed the loop goes on, and the host ends by a fault.
+    (
+        "a_failed_accept_is_passed_over",
+        HostCase {
+            failed_accepts: &[0, 1],
+            ..ONE
+        },
+    ),
+    // After a receive that failed the book is shut down, so that accepting ends too.
+    (
+        "a_failed_receive_ends_all",
+        HostCase {
+            queries: &[],
+            failed_receives: &[1],
+            count: 0,
+            shown: &[],
+            ..ONE
+        },
+    ),
+    // After a send that failed the loop goes on and all else is served, and the host ends by a fault.
+    (
+        "a_failed_send_is_told",
+        HostCase {
+            datagrams: &[LETTER],
+            failed_sends: &[0],
+            ..ONE
+        },
+    ),
+    // All is well.
+    ("no_error", BOTH),
+    // The name isn't there.
+    (
+        "no_such_name",
+        HostCase {
+            is_missing: true,
+            shown: &[(NO_NAME_FRAME, 0)],
+            sent: Some(NO_NAME),
+            ..BOTH
+        },
+    ),
+];
+
+/// What a test ends with, where all are served as is wanted, and else the name of the first that isn't.
+fn all_hold<R: Threads + Wait + Copy + Send + Sync + Drop + 'static>(
+    rt: &R,
+    alloc: Global,
+    cases: &[(&'static str, HostCase<'_>)],
+) -> Result<(), &'static str> {
+    for (name, case) in cases {
+        if !is_served(rt, alloc, case) {
+            return Err(name);
+        }
+    }
+    Ok(())
+}
+
+/// Each host ends as is wanted of it.
+#[test]
+fn each_case_is_served(rt: HostRuntime) -> Result<(), &'static str> {
+    all_hold(&rt, rt.alloc(), CASES)
+}
