@@ -12,7 +12,7 @@ use Rattle.std.proofs.lemmas.Str.Parse.{IsNumeralModel, numerals_by_fold}
 use Rattle.std.proofs.Math.Seq.{take-append_seam, drop-append_seam}
 use Rattle.dns_name.specs.declared.registry.Registry.{Registry}
 use Rattle.dns_name.specs.declared.registry.Registry.TheVariants.{Classes, Rtypes, OptionCodes, ErrorCodes, Opcodes, Rcodes}
-use Rattle.dns_name.specs.Registries.{Entry, code_named, code_text, entries, has_name, has_number, name_or, number_behind, number_of_digits, number_or, same_packets, with_digits, word_of}
+use Rattle.dns_name.specs.Registries.{Entry, code_named, code_text, entries, has_name, has_number, name_or, number_behind, number_of_digits, number_or, same_letters, with_digits, word_of}
 
 -- ---- decimal digits
 
@@ -58,7 +58,7 @@ names_back all (e ∷ es) = is_of e.0 (find (has_name e.1) all) && names_back al
 
 -- a name that begins with the registry's word and a digit
 abbrev is_numbered : List ℕ → List ℕ → Bool
-is_numbered word t = same_packets (take (length word) t) word && begins_with_digit (drop (length word) t)
+is_numbered word t = same_letters (take (length word) t) word && begins_with_digit (drop (length word) t)
 
 -- no name does
 abbrev none_numbered : List ℕ → List Entry → Bool
@@ -113,7 +113,7 @@ first_digit [] ds d h e = absurd (cc)
 first_digit (c ∷ t) ds d h e = let k : to_ascii_lowercase c ≡ to_ascii_lowercase d = cc in lower_digit c d h k
 
 -- a name that is read as a word and digits begins so
-numbered_so : (name word ds : List ℕ) (d : ℕ) → is_in_range 48 57 d ≡ true → same_packets name (word ++ d ∷ ds) ≡ true → is_numbered word name ≡ true
+numbered_so : (name word ds : List ℕ) (d : ℕ) → is_in_range 48 57 d ≡ true → same_letters name (word ++ d ∷ ds) ≡ true → is_numbered word name ≡ true
 numbered_so name word ds d h e =
     let lower : List ℕ → List ℕ = map to_ascii_lowercase in
     let n : ℕ = length word in
@@ -134,7 +134,7 @@ none_named word ds d (e ∷ es) h a =
     false_from_ne_true (has_name (word ++ d ∷ ds) e) (λ same. never_both (is_numbered word e.1) (numbered_so e.1 word ds d h same) parts.0) in
     rw other (none_named word ds d es h parts.1)
 
-same_word : (word : List ℕ) → same_packets word word ≡ true
+same_word : (word : List ℕ) → same_letters word word ≡ true
 same_word word = (bytes_eq-Decides (map to_ascii_lowercase word) (map to_ascii_lowercase word)).1 refl
 
 digits_behind : (word ds : List ℕ) (n : ℕ) → number_of_digits ds ≡ Some n → number_behind word (word ++ ds) ≡ Some n

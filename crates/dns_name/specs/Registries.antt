@@ -43,14 +43,14 @@ word_of Opcodes = []
 word_of Rcodes = []
 
 -- texts that are the same up to ASCII case
-abbrev pub same_packets : List ℕ → List ℕ → Bool
-same_packets a b = bytes_eq (map to_ascii_lowercase a) (map to_ascii_lowercase b)
+abbrev pub same_letters : List ℕ → List ℕ → Bool
+same_letters a b = bytes_eq (map to_ascii_lowercase a) (map to_ascii_lowercase b)
 
 abbrev pub has_number : ℕ → Entry → Bool
 has_number n e = nat_eq e.0 n
 
 abbrev pub has_name : List ℕ → Entry → Bool
-has_name t e = same_packets e.1 t
+has_name t e = same_letters e.1 t
 
 -- an entry is the one that is looked for
 abbrev pub fits : Wanted → Entry → Bool
@@ -81,7 +81,7 @@ number_of_digits t = if nat_lt 0 (length t) && nat_le (length t) 5 then if_below
 abbrev pub number_behind : List ℕ → List ℕ → Option ℕ
 number_behind word t =
     if nat_lt (length t) (length word) then None
-    else (if same_packets (take (length word) t) word then number_of_digits (drop (length word) t) else None)
+    else (if same_letters (take (length word) t) word then number_of_digits (drop (length word) t) else None)
 
 abbrev pub number_or : Option ℕ → Option Entry → Option ℕ
 number_or other (Some e) = Some e.0

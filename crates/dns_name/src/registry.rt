@@ -4,7 +4,7 @@ ghost use Rattle.std.specs.Prelude.{◌≡◌, map, option_map};
 ghost use Rattle.std.specs.Fmt.{WritesOnOk};
 ghost use Rattle.std.specs.List.{find};
 ghost use Rattle.dns_name.specs.declared.registry.Registry.{Registry};
-ghost use Rattle.dns_name.specs.Registries.{code_named, code_text, entries, entry_of, fits, number_behind, number_of_digits, same_packets, word_of};
+ghost use Rattle.dns_name.specs.Registries.{code_named, code_text, entries, entry_of, fits, number_behind, number_of_digits, same_letters, word_of};
 
 use crate::registry_names::{
     CLASSES, ERRORS, ERRORS_FROM_16, OPCODES, OPTIONS, OPTIONS_FROM_15, RCODES, RCODES_FROM_16,
@@ -69,14 +69,14 @@ impl Wanted<'_> {
     {
         match self {
             Wanted::Number(number) => named.0 == number,
-            Wanted::Name(name) => same_packets(named.1.as_bytes(), name.as_bytes()),
+            Wanted::Name(name) => same_letters(named.1.as_bytes(), name.as_bytes()),
         }
     }
 }
 
 /// Whether texts are the same up to ASCII case.
-fn same_packets(text: &[u8], other: &[u8]) -> bool
-    ensures { result ≡ same_packets text.now other.now }
+fn same_letters(text: &[u8], other: &[u8]) -> bool
+    ensures { result ≡ same_letters text.now other.now }
 {
     text.eq_ignore_ascii_case(other)
 }
@@ -158,7 +158,7 @@ fn number_behind(word: &[u8], text: &[u8]) -> Option<u16>
         return None;
     }
     let (front, behind) = text.split_at(word.len());
-    if same_packets(front, word) {
+    if same_letters(front, word) {
         number_of_digits(behind)
     } else {
         None

@@ -11,11 +11,11 @@ use dns_name::{OptRcode, OutOfMemory};
 use dns_outside::{AsyncAccept, Clock, MemoryAccept, MemorySpawner, Spawner};
 use dns_service::{Service, SharedService, WithoutMeta};
 use dns_transport::{AcceptEnd, ConnectionWork, PreConnect, Silent, serve_accepts};
+use rows_links::{Holding, Marking, Seen, SeenLink, accept_of, book_of, clock, show};
 use std::alloc::Global;
 use std::sync::atomic::{AtomicBool, Ordering};
 use std::sync::{Arc, Wait};
 use std::thread::Threads;
-use tests_links::{Holding, Marking, Seen, SeenLink, accept_of, book_of, clock, show};
 
 /// A query for the root's address, with id 1, behind its length.
 const QUERY: &[u8] =

@@ -10,11 +10,11 @@ use dns_transport::{
     ConnectionWork, Control, Metered, PreConnect, ServerMetrics, Silent, StreamEnd, StreamServer,
     VecBufSource,
 };
+use rows_links::{clock, let_go};
 use std::alloc::Global;
 use std::sync::{Arc, Wait};
 use std::thread;
 use std::thread::Threads;
-use tests_links::{clock, let_go};
 
 /// A server of connections, and how many of them it is to answer.
 #[derive(Drop)]

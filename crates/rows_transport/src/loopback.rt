@@ -12,12 +12,12 @@ use dns_transport::{
     ConnectionWork, Control, DgramEnd, DgramServer, Metered, Silent, StreamEnd, StreamServer,
     VecBufSource,
 };
+use rows_links::{Holding, let_go};
 use std::alloc::Global;
 use std::net::Net;
 use std::rt;
 use std::sync::Wait;
 use std::thread::Threads;
-use tests_links::{Holding, let_go};
 
 /// Loopback, at a port that the system picks.
 const HERE: SocketAddr = SocketAddr {

@@ -16,11 +16,11 @@ use dns_script::{NotifyRules, ScriptTarget};
 use dns_service::{Service, SharedService, WithoutMeta};
 use dns_transport::{DgramServer, NoHook, PreConnect, StreamServer, VecBufSource};
 use mailing::Mailing;
+use rows_links::{Holding, Marking, PEER, clock, let_go, links_of, packet, show};
 use std::alloc::Global;
 use std::collections::VecDeque;
 use std::sync::{Arc, Wait};
 use std::thread::Threads;
-use tests_links::{Holding, Marking, PEER, clock, let_go, links_of, packet, show};
 
 /// A query for the root's address.
 const QUERY: &[u8] = b"\x12\x34\x01\x00\x00\x01\x00\x00\x00\x00\x00\x00\x00\x00\x01\x00\x01";

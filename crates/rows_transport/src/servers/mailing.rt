@@ -8,11 +8,11 @@ use dns_service::SharedService;
 use dns_transport::{
     Control, DgramEnd, DgramServer, ServerMetrics, Silent, VecBufSource, VecRecorder,
 };
+use rows_links::PEER;
 use std::alloc::Global;
 use std::sync::{Arc, Wait};
 use std::thread;
 use std::thread::Threads;
-use tests_links::PEER;
 
 /// The reply to a query for the root's address, that the name isn't there.
 const REPLY: &[u8] = b"\x12\x34\x81\x03\x00\x01\x00\x00\x00\x00\x00\x00\x00\x00\x01\x00\x01";

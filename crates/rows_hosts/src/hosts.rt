@@ -10,10 +10,10 @@ use dns_outside::{AsyncAccept, MemoryClock, MemorySock, MemorySpawner, Packet, S
 use dns_server::{NotifyRules, ScriptTarget, Status, serve_host};
 use dns_service::{Service, WithoutMeta};
 use dns_transport::{ConnectionWork, Host, Silent};
+use rows_links::{Holding, Seen, accept_of, book_of, calls, clock, packet, show};
 use std::alloc::Global;
 use std::sync::{Arc, Wait};
 use std::thread::Threads;
-use tests_links::{Holding, Seen, accept_of, book_of, calls, clock, packet, show};
 
 /// Queries for the root's address, with id 1 and 2, behind their length, and their replies.
 const FIRST: &[u8] =
