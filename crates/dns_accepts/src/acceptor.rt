@@ -76,7 +76,15 @@ impl<C, W: SharedService> WorkerShares<C, W> {
         } = self;
         let AcceptedConn { client, from, link } = conn;
         ConnectionWork::new(
-            book, seat, client, from, *look, service, link, clock, Silent,
+            book,
+            seat,
+            client,
+            from,
+            *look,
+            service,
+            link,
+            clock,
+            Silent::new(),
         )
     }
 }

@@ -1,12 +1,14 @@
 //! What a driver notes its events in.
 
-ghost use Rattle.std.specs.Prelude.{◌≡◌, List, [], IfOk};
+ghost use Rattle.std.specs.Prelude.{◌≡◌, List, [], ◌∷◌, ◌++◌, IfOk};
+ghost use Rattle.std.specs.Borrow.{ftrue};
 ghost use Rattle.dns_events.specs.declared.event.Event.{Event};
 ghost use Rattle.dns_io.specs.Causes.{Observed};
 ghost use Rattle.dns_recorder.specs.Notes.{NoteMoves};
 
 use dns_service::{Event, EventKind, Octets, OutOfMemory};
 use std::alloc::Global;
+use std::marker::{Model, PhantomData};
 
 /// What a driver notes each event in, before a core takes it. A call is refused for want of memory alone.
 pub trait Recorder {
@@ -21,16 +23,41 @@ pub trait Recorder {
         ensures { Observed (tells self.new) (tells self.old) (NoteMoves result event.now (noted self.old) (noted self.new)) };
 }
 
-/// A recorder that keeps nothing and tells nothing.
-#[derive(Clone, Copy, Debug)]
-pub struct Silent;
+/// A recorder that keeps nothing. The events that were noted are in it for proofs alone: they take no memory, and no time.
+#[derive(Drop)]
+pub struct Silent {
+    of: PhantomData<u8>,
+    ghost events: { List Event },
+}
+
+impl Model for Silent {
+    ghost also_owns = { λ _. ftrue };
+}
+
+// SAFETY: it owns nothing.
+unsafe impl Send for Silent {}
+
+impl Silent {
+    /// Nothing is noted so far.
+    pub fn new() -> Silent
+        ensures { result.events ≡ [] }
+    {
+        Silent { of: PhantomData }
+    }
+
+    /// An event was noted.
+    fn heard(&mut self, _event: &Event)
+        ensures { self.new ≡ record self.old { events = self.old.events ++ _event.now ∷ [] } }
+    {}
+}
 
 impl Recorder for Silent {
-    ghost tells = { λ _. ⊥ };
+    ghost tells = { λ _. Unit {0} };
 
-    ghost noted = { λ _. [] };
+    ghost noted = { λ s. s.events };
 
-    fn note(&mut self, _alloc: Global, _event: &Event) -> Result<(), OutOfMemory> {
+    fn note(&mut self, _alloc: Global, event: &Event) -> Result<(), OutOfMemory> {
+        self.heard(event);
         Ok(())
     }
 }

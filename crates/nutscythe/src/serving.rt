@@ -144,7 +144,7 @@ where
         sock,
         clock,
         spawner,
-        journal: Silent,
+        journal: Silent::new(),
     };
     serve_machine(&rt, alloc, planned, machine)
 }

@@ -259,7 +259,7 @@ where
         sock,
         clock: clock(alloc),
         spawner,
-        journal: Silent,
+        journal: Silent::new(),
     };
     host_ends(rt, alloc, case, host, service, target)
 }

@@ -39,7 +39,7 @@ fn ends_shut<R: Wait, D: AsyncDgramSock + Drop, C: Clock + Drop, W: SharedServic
     requires { W.can_call server.old.service }
 {
     shut(rt, server.control(rt));
-    let end = server.run(rt, alloc, &mut Silent);
+    let end = server.run(rt, alloc, &mut Silent::new());
     end == DgramEnd::Shutdown && server.metrics().num_received_requests() == 0
 }
 

@@ -120,7 +120,7 @@ impl<R: Threads + Wait + Sync, W: SharedService> Mailing<'_, R, W> {
     fn sends_none(&mut self) -> bool
         requires { W.can_call self.old.server.service }
     {
-        let end = self.server.run(self.rt, self.alloc, &mut Silent);
+        let end = self.server.run(self.rt, self.alloc, &mut Silent::new());
         end == DgramEnd::Shutdown && self.server.source().sent().is_empty()
     }
 
