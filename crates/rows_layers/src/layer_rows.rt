@@ -14,6 +14,7 @@ use dns_service::{CallResult, Request, Service, ServiceResult, mk_error_response
 use rows_table::{Calls, Row, RowError};
 
 /// The mandatory layer, round the service or round the EDNS layer, and the cookie layer.
+#[derive(Drop)]
 pub(crate) struct MandatoryRows;
 
 impl Calls for MandatoryRows {
@@ -34,6 +35,7 @@ impl Calls for MandatoryRows {
 
 /// The EDNS layer, the NOTIFY layer, of which the next words say how often it is polled and its target, and all layers, as the
 /// next words set them.
+#[derive(Drop)]
 pub(crate) struct LayerRows;
 
 impl Calls for LayerRows {

@@ -17,6 +17,7 @@ use std::alloc::Global;
 use std::fmt::Debug;
 
 /// Replies, messages for routers, and zones.
+#[derive(Drop)]
 pub(crate) struct ReplyRows;
 
 impl Calls for ReplyRows {

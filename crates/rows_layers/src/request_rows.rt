@@ -9,6 +9,7 @@ use rows_table::{Calls, Row, RowError};
 
 /// Calls whose first words are a request: a transport and a message. They are asked last, since the request is read before
 /// its call is looked for.
+#[derive(Drop)]
 pub(crate) struct RequestRows;
 
 impl Calls for RequestRows {

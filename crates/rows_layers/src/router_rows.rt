@@ -23,6 +23,7 @@ use std::hash::RandomState;
 use std::sync::Arc;
 
 /// Routers, what these stand on, askings, forwarders and caches, of which some hash from a seed.
+#[derive(Drop)]
 pub(crate) struct RouterRows {
     pub(crate) seed: RandomState,
 }

@@ -60,6 +60,7 @@ impl Service<()> for Silent {
 }
 
 /// Services that stand by themselves, requests with other metadata, and errors.
+#[derive(Drop)]
 pub(crate) struct ServiceRows;
 
 impl Calls for ServiceRows {
