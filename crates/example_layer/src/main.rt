@@ -27,7 +27,7 @@ impl Gives<OptRcode> for Missing {
 }
 
 /// Answers a request with an error reply.
-fn missing(
+fn say_missing(
     alloc: Global,
     request: &Request<()>,
     rcode: &OptRcode,
@@ -51,7 +51,7 @@ fn answered(alloc: Global, line: &str) -> anyhow::Result<Vec<u8>> {
     let Ok(query) = hex::decode(alloc, line) else {
         bail!("the line isn't hexadecimal");
     };
-    let service = service_fn::<Missing, _, _>(missing, OptRcode::NXDOMAIN);
+    let service = service_fn::<Missing, _, _>(say_missing, OptRcode::NXDOMAIN);
     reply_in_recursion(alloc, service, query)
 }
 
