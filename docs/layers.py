@@ -2,7 +2,8 @@
 """Draws docs/layers.svg: the crates in groups, and an arrow from each group to those that it stands on.
 
 The arrows are read off crates.txt; one that follows from two others isn't drawn. Run it where a crate comes or goes.
-It ends with 1 where crates.txt has a library `dns_..` that isn't drawn, or the other way round, or an arrow that leads up.
+It ends with 1 where crates.txt has a library `dns_..` that isn't drawn, or the other way round, or an arrow that leads up. With
+--look nothing is drawn, and the status is 1 too where the picture isn't that of the crates.
 """
 import os
 import re
@@ -15,13 +16,13 @@ HERE = os.path.dirname(os.path.realpath(__file__))
 GROUPS = [
     ("The program", 0, 1, 2, "#f6d6c4", "nutscythe"),
     ("A server that runs", 1, 1, 2, "#f6d6c4", "dns_server"),
-    ("Servers with controls and metrics", 2, 0, 1, "#f6d6c4", "dns_transport"),
+    ("Servers with controls", 2, 0, 1, "#f6d6c4", "dns_transport"),
     ("Scripts, run, floods", 2, 2, 2, "#f6d6c4", "dns_trace dns_script dns_flood dns_run"),
     ("Loops over links and sockets", 3, 0, 1, "#f6d6c4", "dns_recorder dns_stream_driver dns_dgram_driver dns_accepts dns_host"),
     ("Several zones, transfers", 3, 3, 1, "#f8e7b9", "dns_transfer dns_incoming dns_authority"),
-    ("Links, sockets, clocks, threads", 4, 0, 1, "#f6d6c4", "dns_io dns_memory dns_outside"),
+    ("Links, sockets, clocks", 4, 0, 1, "#f6d6c4", "dns_io dns_memory dns_outside"),
     ("What each client is sent", 4, 1, 1, "#f8e7b9", "dns_framing dns_session dns_session_map dns_model dns_core"),
-    ("Zone, router, forwarder, cache", 4, 2, 1, "#f8e7b9", "dns_routes dns_route dns_zone dns_forward dns_cache"),
+    ("Zones, routers, caches", 4, 2, 1, "#f8e7b9", "dns_routes dns_route dns_zone dns_forward dns_cache"),
     ("Slots and configurations", 5, 1, 1, "#f8e7b9", "dns_admission dns_book_words dns_book"),
     ("The four layers", 5, 2, 1, "#d7e8c8", "dns_layers dns_middleware"),
     ("Requests, services, events", 6, 1, 2, "#d7e8c8", "dns_replies dns_events dns_service dns_stream"),
@@ -112,7 +113,11 @@ def main():
     up = [(a, b) for a, b in arrows(crates) if GROUPS[a][1] >= GROUPS[b][1]]
     for a, b in up:
         print(f"the arrow from {GROUPS[a][0]} to {GROUPS[b][0]} leads up", file=sys.stderr)
-    with open(os.path.join(HERE, "layers.svg"), "w", encoding="utf-8") as it:
+    picture = os.path.join(HERE, "layers.svg")
+    if "--look" in sys.argv[1:]:
+        with open(picture, encoding="utf-8") as it:
+            return int(there != shown or bool(up) or it.read() != drawn(crates))
+    with open(picture, "w", encoding="utf-8") as it:
         it.write(drawn(crates))
     return int(there != shown or bool(up))
 

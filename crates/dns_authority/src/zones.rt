@@ -42,7 +42,7 @@ impl ServedZone {
     pub(crate) fn new(alloc: Global, zone: Zone) -> Result<ServedZone, OutOfMemory>
         ensures { IfOk result (λ s. s ≡ zone) }
     {
-        let bunches = Bunches::of(alloc, &zone)?;
+        let bunches = Bunches::of(alloc, zone.records())?;
         let bunches = Arc::new(alloc, bunches)?;
         Ok(ServedZone { zone, bunches })
     }

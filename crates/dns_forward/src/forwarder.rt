@@ -5,18 +5,20 @@ ghost use Rattle.dns_route.specs.Relays.{relayed};
 ghost use Rattle.dns_route.specs.Routes.{Route, routed};
 ghost use Rattle.dns_forward.specs.Forwarded.{Forwards, Upstream};
 
+use crate::box_transport::BoxClientTransport;
 use dns_name::Name;
-use dns_route::{
-    BoxClientTransportToSingleService, QnameRouter, SendRequest, SingleService, Turned,
-};
+use dns_route::{ClientTransportToSingleService, QnameRouter, SendRequest, SingleService, Turned};
 use dns_service::{OutOfMemory, Request};
 use std::alloc::Global;
 use std::hash::RandomState;
 use std::marker::Model;
 
+/// A single service over a transport in a box.
+type Relay = ClientTransportToSingleService<BoxClientTransport>;
+
 /// Forwards each request to the upstream whose name ends the question's, up to ASCII case: of several the one with the most
 /// labels, and of those of one name the one that was added last.
-pub type Forwarder = Forwarding<BoxClientTransportToSingleService>;
+pub type Forwarder = Forwarding<ClientTransportToSingleService<BoxClientTransport>>;
 
 /// A forwarder to services of one type, each of which asks an upstream. Contracts see their names and the services in the order
 /// in which they were added.
@@ -45,7 +47,7 @@ impl<S: SingleService> Forwarding<S> {
         }
     }
 
-    /// The same, where names are hashed from a random state, as `RandomState::new(&rt)` gives.
+    /// A forwarder without upstreams, where names are hashed from a random state, as `RandomState::new(&rt)` gives.
     pub fn new_with_seed(alloc: Global, seed: RandomState) -> Self
         ensures empty { result ≡ [] }
         ensures forwards { Forwards S.answer [] result }
@@ -66,7 +68,7 @@ impl<S: SingleService> Forwarding<S> {
     }
 }
 
-impl Forwarding<BoxClientTransportToSingleService> {
+impl Forwarding<ClientTransportToSingleService<BoxClientTransport>> {
     /// Adds an upstream under a name, behind those that were added before. A refused call leaves the forwarder.
     pub fn add(
         &mut self,
@@ -74,11 +76,11 @@ impl Forwarding<BoxClientTransportToSingleService> {
         name: Name,
         upstream: Box<dyn SendRequest + Send + Sync>,
     ) -> Result<(), OutOfMemory>
-        ensures ok { (us : List (Route Upstream)) → Forwards ⟦<BoxClientTransportToSingleService as SingleService>⟧.answer us self.old
-            → OnOk result (Forwards ⟦<BoxClientTransportToSingleService as SingleService>⟧.answer (us ++ (name, (SendRequest-box upstream).answer upstream.value) ∷ []) self.new) }
+        ensures ok { (us : List (Route Upstream)) → Forwards ⟦<Relay as SingleService>⟧.answer us self.old
+            → OnOk result (Forwards ⟦<Relay as SingleService>⟧.answer (us ++ (name, (SendRequest-box upstream).answer upstream.value) ∷ []) self.new) }
         ensures err { OnErr result (self.new ≡ self.old) }
     {
-        let relay = BoxClientTransportToSingleService::new(upstream);
+        let relay = ClientTransportToSingleService::new(BoxClientTransport { conn: upstream });
         self.add_service(alloc, name, relay)
     }
 }

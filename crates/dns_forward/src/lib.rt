@@ -4,6 +4,7 @@
 mod all_events;
 mod asking;
 mod asking_event;
+mod box_transport;
 mod forwarder;
 mod laws;
 mod matching;
@@ -11,6 +12,7 @@ mod matching;
 pub use all_events::{ask_all, led_to};
 pub use asking::Asking;
 pub use asking_event::{AskingEvent, AskingOutcome, Ticked};
+pub use box_transport::BoxClientTransport;
 pub use dns_route::{SendError, SendRequest};
 pub use forwarder::{Forwarder, Forwarding};
 pub use laws::{forwarded_replies_respond, relaying_services_forward};

@@ -3,19 +3,19 @@
 #![tactic(auto)]
 
 mod accepting;
-mod spin_policy;
 mod host_clock;
 mod mio_accept;
 mod mio_addr;
 mod mio_link;
 mod mio_sock;
 mod shared_udp;
+mod spin_policy;
 mod standard;
 mod waiting;
 
 pub use dns_io::{
-    AcceptAnswer, AsyncAccept, AsyncDgramSock, Clock, DgramRecv, DgramSend, LIMIT, Packet, Link,
-    LinkRead, LinkWrite, ReadError, Sink, SinkWrite, Source, SourceRead, Spawner, Start, Started,
+    AcceptAnswer, AsyncAccept, AsyncDgramSock, Clock, DgramRecv, DgramSend, LIMIT, Link, LinkRead,
+    LinkWrite, Packet, ReadError, Sink, SinkWrite, Source, SourceRead, Spawner, Start, Started,
     Work, WriteFault, read_all, start_work, write_all,
 };
 pub use dns_memory::{

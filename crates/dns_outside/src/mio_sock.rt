@@ -2,9 +2,9 @@
 
 ghost use Rattle.std.specs.Prelude.{◌≡◌, [], IfOk};
 
-use crate::spin_policy::SpinPolicy;
 use crate::mio_addr::{from_std, to_std, within_v6};
 use crate::shared_udp::bind_shared;
+use crate::spin_policy::SpinPolicy;
 use crate::waiting::{is_again, is_read_again, wait_for_room, wait_to_read};
 use dns_io::{AsyncDgramSock, DgramRecv, DgramSend};
 use dns_name::{IpAddr, SocketAddr};
