@@ -61,7 +61,7 @@ impl<A: AsyncAccept> AsyncAccept for WitnessAccept<A> {
 
     ghost faults = { λ w. A.faults w.accept };
 
-    #[tactic(auto, using(crate::proofs::AcceptTies::tied_accept))]
+    #[tactic(auto, using(crate::proofs::AcceptTies::tied_caller, crate::proofs::AcceptTies::tied_nobody, crate::proofs::AcceptTies::tied_still))]
     fn poll_accept(&mut self) -> AcceptAnswer<Witness<A::Link>>
         ensures moves { Observed (Unit {0}) (Unit {0}) (AcceptMoves result self.old.seen.accept_traffic self.new.seen.accept_traffic) }
         ensures later { A.faults self.old.accept ≤ A.faults self.new.accept }

@@ -28,7 +28,6 @@ use Rattle.dns_witness.specs.contracts.starts.SeenStarts.new as it
 use Rattle.dns_witness.proofs.starts.SeenStarts.new.Statement as stated
 use Rattle.dns_witness.proofs.starts.SeenStarts.new.Code as code
 
-
 abbrev v : Val
 v = vstruct (vcons (vstruct vnil) vnil)
 
