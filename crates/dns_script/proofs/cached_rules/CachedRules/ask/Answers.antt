@@ -7,7 +7,8 @@ use Rattle.dns_script.proofs.cached_rules.CachedRules.ask.Goals as goal
 
 pub returns-in_err-request-clause-err : goal.returns-in_err-request-clause-err
 returns-in_err-request-clause-err c =
-    let behind : IsBehindCalls (rule_turns c.self.inside.turns.rules) (request_of_ask c.args.ask) c.self.inside.cache c.self.inside.cache = record { calls = 0; few = omega arith; behind = refl } in
+    let s = c.args.self.now in
+    let behind : IsBehindCalls (rule_turns s.rules) (request_of_ask c.args.ask) s.cached s.cached = record { calls = 0; few = omega arith; behind = refl } in
     on_err _ behind
 
 pub returns-clause-err : goal.returns-clause-err
