@@ -12,26 +12,25 @@ use Rattle.dns_base.specs.Msg.{ResourceRecord}
 use Rattle.dns_base.specs.Records.{record_of}
 use Rattle.dns_base.proofs.BuildLaws.{wire_size}
 use Rattle.dns_message.specs.declared.record.Record.{Record}
-use Rattle.dns_zone.specs.Owned.{ZoneState, is_of}
+use Rattle.dns_zone.specs.Owned.{is_of}
 use Rattle.dns_zone.specs.ZoneTurns.{zone_begun}
 use Rattle.dns_zone.proofs.BuildLaws.{more_refused}
 use Rattle.dns_transfer.specs.Packings.{Packing, packed}
-use Rattle.dns_transfer.specs.Transfers.{bunched, is_no_soa, transfer_message, transfer_records}
+use Rattle.dns_transfer.specs.Transfers.{bunched, is_no_soa, sent_records, transfer_message}
 
-pub packed_whole : (z : ZoneState) (rs : List Record) (p0 p1 p2 p3 : Packing) (all : List (List ResourceRecord)) → rs ≡ z.records → p0 ≡ record { done = []; current = [] } →
+pub packed_whole : (rs : List Record) (p0 p1 p2 p3 : Packing) (all : List (List ResourceRecord)) → p0 ≡ record { done = []; current = [] } →
     ((rest : List ResourceRecord) → packed p1 rest ≡ packed p0 (map record_of (filter (is_of 6) rs) ++ rest)) →
     ((rest : List ResourceRecord) → packed p2 rest ≡ packed p1 (map record_of (filter is_no_soa rs) ++ rest)) →
     ((rest : List ResourceRecord) → packed p3 rest ≡ packed p2 (map record_of (filter (is_of 6) rs) ++ rest)) →
-    all ≡ packed p3 [] → all ≡ bunched (transfer_records z)
-packed_whole z rs p0 p1 p2 p3 all e b h1 h2 h3 a =
+    all ≡ packed p3 [] → all ≡ bunched (sent_records rs)
+packed_whole rs p0 p1 p2 p3 all b h1 h2 h3 a =
     let soa = filter (is_of 6) rs in
     let others = filter is_no_soa rs in
     let s = map record_of soa in
     let t = map record_of others in
     let joined : s ++ (t ++ (s ++ [])) ≡ map record_of (soa ++ (others ++ soa)) =
     ap (λ (x : List ResourceRecord). s ++ (t ++ x)) (append-nil s) ∙ sym (map-append record_of soa (others ++ soa) ∙ ap (λ (x : List ResourceRecord). s ++ x) (map-append record_of others soa)) in
-    a ∙ (h3 [] ∙ (h2 (s ++ []) ∙ (h1 (t ++ (s ++ [])) ∙ (ap (λ (p : Packing). packed p (s ++ (t ++ (s ++ [])))) b ∙ (ap bunched joined
-    ∙ ap (λ (xs : List Record). bunched (map record_of (filter (is_of 6) xs ++ (filter is_no_soa xs ++ filter (is_of 6) xs)))) e)))))
+    a ∙ (h3 [] ∙ (h2 (s ++ []) ∙ (h1 (t ++ (s ++ [])) ∙ (ap (λ (p : Packing). packed p (s ++ (t ++ (s ++ [])))) b ∙ ap bunched joined))))
 
 pub bunch_refused : (o : List ℕ) (b : List ResourceRecord) (e : PushError) → Builds (unlimited (zone_begun o 0 true)) (Err e) → Builds (unlimited (transfer_message o b)) (Err e)
 bunch_refused o b e h = more_refused (zone_begun o 0 true) (transfer_message o b) e (omega (arith, wire_size (zone_begun o 0 true), wire_size (transfer_message o b))) h

@@ -35,6 +35,10 @@ other_records z = filter is_no_soa z.records
 abbrev pub transfer_records : ZoneState → List ResourceRecord
 transfer_records z = map record_of (soa_records z ++ (other_records z ++ soa_records z))
 
+-- those of a zone that has these records
+abbrev pub sent_records : List Record → List ResourceRecord
+sent_records rs = map record_of (filter (is_of 6) rs ++ (filter is_no_soa rs ++ filter (is_of 6) rs))
+
 -- ---- in bunches
 
 -- how many octets the records of one reply take, where they are several

@@ -3,12 +3,12 @@
 ghost use Rattle.std.specs.Prelude.{◌≡◌, ◌≤◌, IfOk, length};
 ghost use Rattle.std.specs.Option.{option_copied};
 ghost use Rattle.std.specs.List.{slice_get};
-ghost use Rattle.dns_transfer.specs.Transfers.{bunched, transfer_records};
+ghost use Rattle.dns_zone.specs.Owned.{AreLawful};
+ghost use Rattle.dns_transfer.specs.Transfers.{bunched, sent_records};
 
 use crate::packing::Packing;
-use dns_base::WireRecords;
+use dns_base::{Record, WireRecords};
 use dns_name::OutOfMemory;
-use dns_zone::Zone;
 use std::alloc::Global;
 use std::marker::Model;
 
@@ -28,11 +28,11 @@ impl Model for Bunches {
 }
 
 impl Bunches {
-    /// Those of a zone.
-    pub fn of(alloc: Global, zone: &Zone) -> Result<Bunches, OutOfMemory>
-        ensures { IfOk result (λ b. b ≡ bunched (transfer_records zone.now)) }
+    /// Those of a zone that has these records.
+    pub fn of(alloc: Global, records: &[Record]) -> Result<Bunches, OutOfMemory>
+        requires { AreLawful records.now }
+        ensures { IfOk result (λ b. b ≡ bunched (sent_records records.now)) }
     {
-        let records = zone.records();
         let mut packing = Packing::new(alloc);
         packing.pack_soa(alloc, records)?;
         packing.pack_others(alloc, records)?;
