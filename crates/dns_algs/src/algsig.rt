@@ -171,7 +171,7 @@ impl<'a, K: Variant> AlgList<&'a [u8], K> {
         SecurityAlgorithmIter::of(self.octets.lent())
     }
 
-    /// The same list, owned.
+    /// Copies the octets into an owned list.
     pub fn to_owned(&self, alloc: Global) -> Result<Understood<K>, OutOfMemory>
         ensures { IfOk result (λ k. k ≡ self.now) }
     {
@@ -216,7 +216,7 @@ impl<K: Variant> AlgList<Vec<u8>, K> {
         self.octets.as_slice()
     }
 
-    /// The same list, borrowed.
+    /// Borrows the list; nothing is copied.
     pub fn for_slice(&self) -> UnderstoodRef<'_, K>
         ensures { result ≡ self.now }
     {

@@ -57,7 +57,7 @@ pub type AuthorityBuilder = Builder<AuthorityStage>;
 pub type AdditionalBuilder = Builder<AdditionalStage>;
 
 impl<S: Before<QuestionStage>> Builder<S> {
-    /// The same message, at its questions.
+    /// Goes on to the question section. The message stays as it is.
     pub fn question(self) -> QuestionBuilder
         ensures { result ≡ self }
     {
@@ -66,7 +66,7 @@ impl<S: Before<QuestionStage>> Builder<S> {
 }
 
 impl<S: Before<AnswerStage>> Builder<S> {
-    /// The same message, at its answers.
+    /// Goes on to the answer section. The message stays as it is.
     pub fn answer(self) -> AnswerBuilder
         ensures { result ≡ self }
     {
@@ -75,7 +75,7 @@ impl<S: Before<AnswerStage>> Builder<S> {
 }
 
 impl<S: Before<AuthorityStage>> Builder<S> {
-    /// The same message, at its authority records.
+    /// Goes on to the authority section. The message stays as it is.
     pub fn authority(self) -> AuthorityBuilder
         ensures { result ≡ self }
     {
@@ -84,7 +84,7 @@ impl<S: Before<AuthorityStage>> Builder<S> {
 }
 
 impl<S: Before<AdditionalStage>> Builder<S> {
-    /// The same message, at its additional records.
+    /// Goes on to the additional section. The message stays as it is.
     pub fn additional(self) -> AdditionalBuilder
         ensures { result ≡ self }
     {
@@ -93,7 +93,7 @@ impl<S: Before<AdditionalStage>> Builder<S> {
 }
 
 impl<S: Stage> Builder<S> {
-    /// The same message, at a later stage.
+    /// Changes the stage, which is a type alone. The draft is moved, not copied.
     fn at<Later: Stage>(self) -> Builder<Later>
     where
         S: Before<Later>,

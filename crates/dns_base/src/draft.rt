@@ -73,7 +73,7 @@ impl Starts {
         }
     }
 
-    /// The same, but for the sections behind one, which begin at a place.
+    /// These starts, but every section after the given one begins at `place`.
     fn behind(self, section: Section, place: usize) -> Starts
         ensures { result ≡ moved_behind self section place }
     {

@@ -90,7 +90,7 @@ fn kept_message(
     kept_marked(alloc, request, reply, built, marks)
 }
 
-/// The same of a message whose records are marked, and that has a response code and a header to be kept.
+/// What is kept of a whole reply whose records are marked: nothing if their least TTL is 0.
 fn kept_marked(
     alloc: Global,
     request: &Request<()>,

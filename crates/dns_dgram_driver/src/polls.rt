@@ -62,7 +62,8 @@ impl<R: Wait, W: SharedService, D: AsyncDgramSock, C: Clock, J: Recorder> DgramL
         }
     }
 
-    /// The same with its look.
+    /// Looks at the book once, then polls the first exchange, which has this number. The result is true if its request
+    /// is done.
     fn poll_one(&mut self, number: u64) -> Result<bool, OutOfMemory>
         requires book { self.old.state.now.seat.book ≡ self.old.book.now }
         requires there { 0 < deque_len self.old.state.now.exchanges }

@@ -50,7 +50,7 @@ impl Asking {
         Asking::of(alloc, message, id, tries.clamp(1, 8), timeout.max(1), at)
     }
 
-    /// The same of tries and a timeout that are limited.
+    /// Begins an asking whose tries, at least one, and timeout are taken as they are.
     fn of(
         alloc: Global,
         message: Message,

@@ -85,7 +85,7 @@ impl<'a> HeldChain<NameRef<'a>> {
         Ok(HeldChain { start })
     }
 
-    /// The same name, owned.
+    /// Copies the name into an owned option.
     pub fn to_owned(&self, alloc: Global) -> Result<Chain, OutOfMemory>
         ensures { IfOk result (λ k. k ≡ self.now) }
     {
@@ -95,7 +95,7 @@ impl<'a> HeldChain<NameRef<'a>> {
 }
 
 impl HeldChain<Name> {
-    /// The same name, borrowed.
+    /// Borrows the option; the name isn't copied.
     pub fn for_slice(&self) -> ChainRef<'_>
         ensures { result ≡ self.now }
     {

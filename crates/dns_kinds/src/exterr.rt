@@ -110,7 +110,7 @@ impl<'a> HeldExtendedError<&'a [u8]> {
         Ok(found)
     }
 
-    /// The same value, owned.
+    /// Copies the code and the text into an owned option.
     pub fn to_owned(&self, alloc: Global) -> Result<ExtendedError, OutOfMemory>
         ensures { IfOk result (λ k. k ≡ self.now) }
     {
@@ -193,7 +193,7 @@ impl HeldExtendedError<Vec<u8>> {
         Ok(())
     }
 
-    /// The same value, borrowed.
+    /// Borrows the option; its text isn't copied.
     pub fn for_slice(&self) -> ExtendedErrorRef<'_>
         ensures { result ≡ self.now }
     {

@@ -153,8 +153,8 @@ fn denied_over(transport: &TransportSpecificContext, denied: &[IpAddr], address:
 }
 
 #[tactic(auto, using(crate::proofs::CookieLaws::unasked_alone, crate::proofs::CookieLaws::passes_undenied))]
-/// The same of a cookie that was sent. Without a question the addresses that are denied change nothing; with one, and from an
-/// address that isn't, neither does the cookie, so that its hash isn't made.
+/// The layer's own answer to a request with a readable cookie, if any. Without a question, denied addresses don't
+/// matter. If there is one, only a denied address may get an answer, so that for others no hash is computed.
 fn sent_answer(
     secret: &[u8; 16],
     denied: &[IpAddr],

@@ -117,7 +117,7 @@ impl<'a> HeldKeyTag<&'a [u8]> {
         KeyTagIter::of(self.octets.lent())
     }
 
-    /// The same tags, owned.
+    /// Copies the tags into an owned option.
     pub fn to_owned(&self, alloc: Global) -> Result<KeyTag, OutOfMemory>
         ensures { IfOk result (λ k. k ≡ self.now) }
     {
@@ -153,7 +153,7 @@ impl HeldKeyTag<Vec<u8>> {
         self.octets.as_slice()
     }
 
-    /// The same tags, borrowed.
+    /// Borrows the tags; nothing is copied.
     pub fn for_slice(&self) -> KeyTagRef<'_>
         ensures { result ≡ self.now }
     {

@@ -139,7 +139,7 @@ impl<'a, K: OctetsKind> OctetsOption<&'a [u8], K> {
         self.octets.lent()
     }
 
-    /// The same octets, owned.
+    /// Copies the octets into an owned option.
     pub fn to_owned(&self, alloc: Global) -> Result<Plain<K>, OutOfMemory>
         ensures { IfOk result (λ k. k ≡ self.now) }
     {
@@ -172,7 +172,7 @@ impl<K: OctetsKind> OctetsOption<Vec<u8>, K> {
         self.octets.as_slice()
     }
 
-    /// The same octets, borrowed.
+    /// Borrows the option; its octets aren't copied.
     pub fn for_slice(&self) -> PlainRef<'_, K>
         ensures { result ≡ self.now }
     {

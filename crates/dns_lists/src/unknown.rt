@@ -85,7 +85,7 @@ impl<'a> HeldUnknown<&'a [u8]> {
         self.octets.lent()
     }
 
-    /// The same data, owned.
+    /// Copies the octets into an owned option of this code.
     pub fn to_owned(&self, alloc: Global) -> Result<UnknownOptData, OutOfMemory>
         ensures { IfOk result (λ k. k ≡ self.now) }
     {
@@ -121,7 +121,7 @@ impl HeldUnknown<Vec<u8>> {
         self.octets.as_mut_slice()
     }
 
-    /// The same data, borrowed.
+    /// Borrows the option; its octets aren't copied.
     pub fn for_slice(&self) -> UnknownOptDataRef<'_>
         ensures { result ≡ self.now }
     {

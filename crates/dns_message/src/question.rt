@@ -73,7 +73,7 @@ impl Eq for Question {
 }
 
 impl Question {
-    /// The same question, in memory of its own.
+    /// A copy in memory of its own. The letters of the name keep their case.
     pub fn try_clone(&self, alloc: Global) -> Result<Question, OutOfMemory>
         ensures { IfOk result (λ q. q ≡ self.now) }
     {
@@ -148,7 +148,7 @@ impl<'a> QuestionRef<'a> {
         self.qclass
     }
 
-    /// The same question, owned.
+    /// Copies the question out of the message. The letters of its name keep their case.
     pub fn to_question(&self, alloc: Global) -> Result<Question, OutOfMemory>
         ensures { IfOk result (λ q. q ≡ self.now) }
     {

@@ -49,7 +49,7 @@ impl Eq for Record {
 }
 
 impl Record {
-    /// The same record, in memory of its own.
+    /// A copy in memory of its own, of the owner's name and the data.
     pub fn try_clone(&self, alloc: Global) -> Result<Record, OutOfMemory>
         ensures value { IfOk result (λ r. r ≡ self.now) }
         ensures lawful { IsLawful self.now.rdata → IfOk result (λ r. IsLawful r.rdata) }
@@ -189,7 +189,8 @@ impl<'a> RecordRef<'a> {
         self.rdata
     }
 
-    /// The same record, owned: its data is read by the shape of its type, and refused where it has another.
+    /// Copies the record out of the message. Its data is read in the shape of its type, and refused if it has another
+    /// shape.
     pub fn to_record(&self, alloc: Global) -> Result<Record, ParseError>
         ensures value { GivesParsed result (typed self.now) }
         ensures lawful { IfOk result (λ r. IsLawful r.rdata) }

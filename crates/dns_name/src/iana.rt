@@ -97,7 +97,7 @@ macro_rules! code {
     };
 }
 
-/// The same of four bits.
+/// A code of four bits as a constant's value, where no function may be called.
 macro_rules! header_code {
     ($number:literal) => {
         HeaderCode {

@@ -183,7 +183,7 @@ impl<'a> NameRef<'a> {
         )
     }
 
-    /// The same name, owned.
+    /// Copies the octets into an owned name.
     pub fn to_owned(&self, alloc: Global) -> Result<Name, OutOfMemory>
         ensures { IfOk result (λ n. n ≡ self.now) }
     {
@@ -208,7 +208,7 @@ impl Name {
         Name::from_text_octets(alloc, text.as_bytes())
     }
 
-    /// The same of a text's octets, of which those above 127 are refused as `BadCharacter`.
+    /// The name that a text's octets are (RFC 1035, section 5.1). Octets above 127 are refused as `BadCharacter`.
     pub fn from_text_octets(alloc: Global, text: &[u8]) -> Result<Name, FromTextError>
         ensures { GivesName result (text_name text.now) }
     {
@@ -233,7 +233,7 @@ impl Name {
         Ok(Name { octets })
     }
 
-    /// The same name, in memory of its own.
+    /// A copy in memory of its own. Letters keep their case.
     pub fn try_clone(&self, alloc: Global) -> Result<Name, OutOfMemory>
         ensures { IfOk result (λ n. n ≡ self.now) }
     {

@@ -135,7 +135,7 @@ impl OptRecord {
         self.head.set_dnssec_ok(value);
     }
 
-    /// The same record, borrowed.
+    /// Borrows the record; its options aren't copied.
     pub fn for_slice(&self) -> OptRecordRef<'_>
         ensures { result ≡ self.now }
     {
@@ -237,7 +237,7 @@ impl<'a> HeldOptRecord<&'a [u8]> {
         HeldOptRecord { head, options }
     }
 
-    /// The same record, owned.
+    /// Copies the record, with all options, into an owned one.
     pub fn to_owned(&self, alloc: Global) -> Result<OptRecord, OutOfMemory>
         ensures { IfOk result (λ r. r ≡ self.now) }
     {

@@ -34,7 +34,7 @@ impl HeldOpt<Vec<u8>> {
         Ok(HeldOpt::of(octets))
     }
 
-    /// The same list, borrowed.
+    /// Borrows the list; no option is copied.
     pub fn for_slice_ref(&self) -> OptRef<'_>
         ensures { result ≡ self.now }
     {

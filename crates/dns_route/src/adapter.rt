@@ -55,7 +55,8 @@ impl<C: SendRequest> SingleService for ClientTransportToSingleService<C> {
     }
 }
 
-/// The same over a transport in a box, so that transports of several kinds make single services of one type.
+/// A client transport in a box as a single service. Transports of several kinds become single services of one type by
+/// it.
 #[derive(Drop)]
 pub struct BoxClientTransportToSingleService {
     conn: Box<dyn SendRequest + Send + Sync>,

@@ -71,7 +71,7 @@ impl ScriptAnswers {
         ScriptAnswers::from_vec(alloc, Vec::from_slice(alloc, answers)?)
     }
 
-    /// The same answers, shared and not copied.
+    /// Another handle on these answers, which are shared and not copied.
     pub fn try_clone(&self) -> Result<ScriptAnswers, OutOfMemory>
         ensures { IfOk result (λ a. a ≡ self.now) }
     {

@@ -69,7 +69,7 @@ impl<E: Drop> Script<E> {
         &self.said
     }
 
-    /// The same, for saying more.
+    /// The settings of the script, to be changed.
     pub fn settings_mut(&mut self) -> &mut SaidSettings
         ensures* writes_back { sem 𝓛 (LendsSettings E.row self.entry result) }
         ensures value { result.now ≡ self.old.said }

@@ -292,7 +292,7 @@ impl<Meta> Request<Meta> {
         self.num_reserved_bytes
     }
 
-    /// The same request with other metadata.
+    /// The request with other metadata, all else moved and not copied.
     pub fn with_new_metadata<M>(self, metadata: M) -> Request<M>
     where
         Meta: Drop,

@@ -119,7 +119,7 @@ impl CallResult {
         }
     }
 
-    /// The same reply with this feedback.
+    /// Replaces the feedback; the response stays.
     pub fn with_feedback(self, feedback: ServiceFeedback) -> Self
         ensures { result ≡ record self { feedback = Some feedback } }
     {

@@ -169,7 +169,7 @@ impl<D: AsyncDgramSock + Drop, B: BufSource + Drop, W: SharedService, C: Clock +
 }
 
 #[tactic(auto, using(crate::proofs::SeatLaws::is_there))]
-/// The same from the seat that stands in its place.
+/// Serves datagrams from the seat in its place, which is put back at the end.
 fn serve_from<R: Wait, D: AsyncDgramSock, C: Clock, J: Recorder, W: SharedService>(
     rt: &R,
     alloc: Global,

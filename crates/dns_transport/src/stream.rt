@@ -175,8 +175,7 @@ impl<
     P: Drop,
     H: Drop,
 > StreamServer<A, B, W, C, P, H> {
-    /// The same server with this hook, which is called once on each link that is admitted. It gets the link of the accept
-    /// object.
+    /// Replaces the hook, which is called once on each link that is admitted. It gets the link of the accept object.
     pub fn with_pre_connect_hook<K: PreConnect<A::Link>>(
         self,
         hook: K,

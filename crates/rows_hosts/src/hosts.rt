@@ -179,7 +179,7 @@ where
     (status, book.look(rt, &mut seat).taken)
 }
 
-/// The same in a book with ten slots.
+/// How a host ends in a new book with ten slots, and how many of them are taken then.
 fn host_end<
     R: Threads + Wait + Copy + Send + Sync + 'static,
     A: AsyncAccept,

@@ -75,7 +75,7 @@ fn response_mut(row: &mut Row<'_>) {
     }
 }
 
-/// The same of a call's result.
+/// The octets of the response that a call's result holds, after the steps of the next words.
 fn given_said(row: &mut Row<'_>, given: CallResult) {
     let mut given = given;
     match given.response_mut() {

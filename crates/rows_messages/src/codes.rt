@@ -267,7 +267,7 @@ fn named(row: &mut Row<'_>) {
     }
 }
 
-/// The same of a code that was read.
+/// The number and the text of a code that was read, or `none`.
 fn shown<C: HasNumber + Display>(row: &mut Row<'_>, read: Option<C>) {
     match read {
         Some(code) => {

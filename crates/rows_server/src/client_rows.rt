@@ -105,7 +105,7 @@ fn client(row: &mut Row<'_>, waits: bool) -> Result<(), RowError> {
     Ok(())
 }
 
-/// The same by a service.
+/// Steps the core of a client through the steps, with this service: what waits for its driver after each, or nothing.
 fn answered_by(row: &mut Row<'_>, service: ScriptService, steps: &[Step], waits: bool) {
     match steps.split_first() {
         Some((Step::Own(first), rest)) => {
