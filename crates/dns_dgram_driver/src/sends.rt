@@ -21,8 +21,8 @@ pub(crate) enum SendEnd {
     Late(u64, u64),
 }
 
-#[tactic(auto, using(crate::proofs::Posting::sent_none, crate::proofs::Posting::sent_again, crate::proofs::Posting::sent_late, crate::proofs::Posting::sent_whole, crate::proofs::Posting::sent_failed))]
 /// Sends a letter. Where there is no room for it yet it waits, until so much time has passed since a moment.
+#[tactic(auto, using(crate::proofs::Posting::sent_none, crate::proofs::Posting::sent_again, crate::proofs::Posting::sent_late, crate::proofs::Posting::sent_whole, crate::proofs::Posting::sent_failed))]
 #[inline(always)]
 fn send<R: Wait, D: AsyncDgramSock, C: Clock>(
     rt: &R,
@@ -101,8 +101,8 @@ impl<R: Wait, W: SharedService, D: AsyncDgramSock, C: Clock, J: Recorder> DgramL
     C,
     J,
 > {
-    #[tactic(auto, using(crate::proofs::Passes::passes_kept))]
     /// Sends what an event of an exchange led to, within the write timeout that is in force.
+    #[tactic(auto, using(crate::proofs::Passes::passes_kept))]
     #[inline(always)]
     pub(crate) fn send_for(
         &mut self,

@@ -152,9 +152,9 @@ fn denied_over(transport: &TransportSpecificContext, denied: &[IpAddr], address:
     }
 }
 
-#[tactic(auto, using(crate::proofs::CookieLaws::unasked_alone, crate::proofs::CookieLaws::passes_undenied))]
 /// The layer's own answer to a request with a readable cookie, if any. Without a question, denied addresses don't
 /// matter. If there is one, only a denied address may get an answer, so that for others no hash is computed.
+#[tactic(auto, using(crate::proofs::CookieLaws::unasked_alone, crate::proofs::CookieLaws::passes_undenied))]
 fn sent_answer(
     secret: &[u8; 16],
     denied: &[IpAddr],

@@ -147,8 +147,8 @@ fn after_event(last: Option<u64>, kind: &EventKind) -> Option<u64>
     }
 }
 
-#[tactic(auto, using(crate::proofs::Choices::part_read))]
 /// Does one own event. It is noted before the core takes it.
+#[tactic(auto, using(crate::proofs::Choices::part_read))]
 pub(crate) fn act<R: Wait, L: Link, C: Clock, J: Recorder, W: SharedService>(
     rt: &R,
     alloc: Global,

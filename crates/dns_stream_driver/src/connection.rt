@@ -72,8 +72,8 @@ fn admit_and_serve<R: Wait, L: Link, C: Clock, J: Recorder, W: SharedService>(
     }
 }
 
-#[tactic(auto, using(crate::proofs::Ends::unserved_early))]
 /// Notes the Offer, and serves the connection.
+#[tactic(auto, using(crate::proofs::Ends::unserved_early))]
 fn serve_offer<R: Wait, L: Link, C: Clock, J: Recorder, W: SharedService>(
     rt: &R,
     alloc: Global,
@@ -113,10 +113,10 @@ fn serve_offer<R: Wait, L: Link, C: Clock, J: Recorder, W: SharedService>(
     }
 }
 
-#[tactic(auto, using(crate::proofs::Ends::looks_release, crate::proofs::Goings::cause_released))]
 /// Serves one connection until it is closed, by a look that shows no shutdown. Then its slot is given back and the link
 /// closed. Each turn is one look and one own event: a frame that waits is written; where none waits, the next request of
 /// this round is polled; where none is left, one read is made, which ends the round.
+#[tactic(auto, using(crate::proofs::Ends::looks_release, crate::proofs::Goings::cause_released))]
 pub fn serve_connection<R: Wait, L: Link, C: Clock, J: Recorder, W: SharedService>(
     rt: &R,
     alloc: Global,

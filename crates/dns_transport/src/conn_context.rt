@@ -52,8 +52,8 @@ where
     W::Future: Send,
     W::Stream: Send,
 {
-    #[tactic(auto, using(crate::proofs::SeatLaws::is_there))]
     /// Accepts connections without a count, from the seat that stands in its place.
+    #[tactic(auto, using(crate::proofs::SeatLaws::is_there))]
     pub(crate) fn accept_all<
         R: Threads + Wait + Copy + Send + 'static,
         A: AsyncAccept,

@@ -168,8 +168,8 @@ impl<D: AsyncDgramSock + Drop, B: BufSource + Drop, W: SharedService, C: Clock +
     }
 }
 
-#[tactic(auto, using(crate::proofs::SeatLaws::is_there))]
 /// Serves datagrams from the seat in its place, which is put back at the end.
+#[tactic(auto, using(crate::proofs::SeatLaws::is_there))]
 fn serve_from<R: Wait, D: AsyncDgramSock, C: Clock, J: Recorder, W: SharedService>(
     rt: &R,
     alloc: Global,

@@ -237,9 +237,9 @@ where
     W::Future: Send,
     W::Stream: Send,
 {
-    #[tactic(auto, using(crate::proofs::Joinings::not_counted, crate::proofs::Joinings::ran_joined))]
     /// Accepts connections until a look shows a shutdown, and then waits by `join_all` for those that are served, of which no
     /// clause says that they have ended.
+    #[tactic(auto, using(crate::proofs::Joinings::not_counted, crate::proofs::Joinings::ran_joined))]
     pub fn run<R: Threads + Wait + Copy + Send + 'static>(
         &mut self,
         rt: &R,
