@@ -1,4 +1,10 @@
-//! The loop of accepts: connections are accepted, and each that is admitted is served in a thread of its own.
+//! The loop of accepts, and the work of a connection in its thread.
+//!
+//! Each turn looks at the book, accepts one connection, asks for a slot, and starts a thread for it. Without a slot the
+//! connection is closed. After a failed accept the loop waits 10 ms and goes on.
+//!
+//! Proved: the turns are the seat's only calls, and no turn follows a look at a shutdown. A work was given for each
+//! connection that was admitted, in order (`AcceptsTo`). No more are accepted than were to be.
 #![tactic(auto)]
 
 mod acceptor;

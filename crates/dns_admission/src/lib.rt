@@ -1,5 +1,6 @@
-//! Admission: how many slots are taken, the configurations in force and whether the server was shut down, as the machine
-//! that one thread keeps.
+//! Slots, configurations and the shutdown of a server as a machine of one thread. dns_book exports it.
+//!
+//! Proved: each call of a `BookState` gives the reply of the machine (`reply_of`) and leaves its state (`state_after`).
 #![tactic(auto)]
 
 mod admission;

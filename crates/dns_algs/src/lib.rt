@@ -1,4 +1,7 @@
-//! The options DAU, DHU and N3U: the algorithms that a client understands (RFC 6975).
+//! Options that list algorithms: DAU, DHU and N3U (RFC 6975), by one body.
+//!
+//! Proved: they are read and written by one definition. `from_sec_algs` gives the algorithms of an iterator's whole
+//! run, and is refused exactly above 65,535 of them.
 #![tactic(auto)]
 
 mod algsig;

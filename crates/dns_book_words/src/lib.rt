@@ -1,4 +1,7 @@
-//! The state of a book as the words of one cell, and what these words show.
+//! A book's state as words of one atomic cell.
+//!
+//! Proved: words that were written of a look stand for it, and what words stand for is read as it is (`state_of`).
+//! `renew` reads no configuration of the version that it has.
 #![tactic(auto)]
 
 mod words;

@@ -1,5 +1,15 @@
-//! DNS cookies that interoperate: SipHash-2-4, client cookies, server cookies and the standard
-//! server cookie (RFC 7873, RFC 9018).
+//! DNS cookies that interoperate (RFC 7873, RFC 9018): SipHash-2-4, client and server cookies, and the COOKIE option.
+//!
+//! - `StandardServerCookie` is the server cookie of RFC 9018, as its 16 octets.
+//! - `Cookie::create_response` makes one for a client's address and a secret, and `Cookie::check_server_hash` checks
+//!   it.
+//! - `timestamp_ok` says whether a timestamp is at most an hour old and five minutes ahead.
+//!
+//! Proved: `siphash24` is the hash of the standard, and a check is true exactly if its closure accepts the timestamp
+//! and the hash agrees. A cookie that was made checks exactly as long as its timestamp is timely (`responses_check`,
+//! `check_at`).
+//!
+//! Rows show the vectors of RFC 9018 and of the hash's authors. How long a check takes has no clause.
 #![tactic(auto)]
 
 mod client_cookie;

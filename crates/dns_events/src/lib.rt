@@ -1,4 +1,9 @@
-//! The configurations and settings of servers, their events and steps, what clients are sent, and looks at a book.
+//! Configurations and settings, events, outputs and the reasons for a close, and what a look at the book shows.
+//!
+//! `Event` is one thing that happens to a server, with its moment. `Output` is what the server does. `Settings` are
+//! those of the layers and of both servers.
+//!
+//! Proved: each setter of a configuration limits its value to its range, so that every configuration is in range.
 #![tactic(auto)]
 
 mod config;

@@ -1,5 +1,7 @@
-//! Lines that are written many at a time, a service in the layers of settings, and floods: a generator makes events, they are served by
-//! such a service, and the outputs are counted.
+//! Lines that are written many at a time, a service in the layers of settings, and floods of events with their counts.
+//!
+//! Proved: lines that are kept back go out in order, or a front of them after an error. A flood's counts are those of
+//! `out` of the generator's events.
 #![tactic(auto)]
 
 mod counts;

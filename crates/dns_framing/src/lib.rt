@@ -1,4 +1,12 @@
-//! What a connection keeps apart from its requests: octets in no frame yet, the queue of replies with its budget, the idle timer.
+//! What a connection keeps apart from its requests: the framer, the queue of replies with its budget, and the idle
+//! timer.
+//!
+//! - `Framer` is fed octets and gives whole frames, each after its length of two octets (RFC 1035, section 4.2.2).
+//! - `ConnectionInvoker` queues a reply, holds it in a transaction, or drops it (`enqueue_response`).
+//! - `IdleTimer` is told moments.
+//!
+//! Proved: `next` gives the first of `frames` of what is kept. A reply is Held or Dropped exactly if there is no room.
+//! The deadline is the last reset and the timeout together, or now if that passes 2^64 - 1.
 #![tactic(auto)]
 
 mod budget;

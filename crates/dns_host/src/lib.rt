@@ -1,4 +1,21 @@
-//! Hosts: connections are accepted and each is served in a thread of its own, beside datagrams.
+//! Accepts and datagrams beside each other. It exports the loop of accepts (dns_accepts).
+//!
+//! `host_service` splits its seat at the book, serves datagrams in a thread of its own and accepts beside it, joins
+//! both and shuts the book down. A connection that is admitted is served in a thread of its own.
+//!
+//! # What is proved
+//!
+//! All of it is one clause, `served` (`HostServed`):
+//!
+//! - accepts went from one half of the seat as `serve_accepts` says, datagrams from the other as `serve_datagrams`
+//!   says, both up to one count; both halves were joined and the book was shut down;
+//! - HostFault comes only if an accept, a start, a receive or a send failed, Done only if none did, and OutOfMemory
+//!   exactly if a loop ended so.
+//!
+//! # What a body could still get away with
+//!
+//! Which number, look and service a connection's work has. That work which is given up gives its slot back, and that
+//! all work is joined, are tested.
 #![tactic(auto)]
 
 mod host;

@@ -1,5 +1,10 @@
-//! What the program reads from and writes to, and what a running server stands on, as traits: sources and sinks of octets,
-//! links, sockets, accept objects, clocks, and work for threads.
+//! What is read from and written to, as traits: sources and sinks, links and sockets, clocks and threads.
+//!
+//! `read_all` reads a source to its end, 67,108,864 octets at most, in pieces of 65,536. `write_all` writes a whole
+//! piece. Work of a thread is a `Work`, which a `Spawner` starts and joins.
+//!
+//! Proved: `read_all` gives all octets and leaves none, or says why not. The count of faults rises with a failed call
+//! alone.
 #![tactic(auto)]
 
 mod accept;

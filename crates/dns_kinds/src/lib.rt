@@ -1,5 +1,11 @@
-//! Options of few octets: EXPIRE (RFC 7314), TCP-KEEPALIVE (RFC 7828), CHAIN (RFC 7901), EXTENDED-ERROR (RFC 8914)
-//! and CLIENT-SUBNET (RFC 7871).
+//! The other kinds of option: EXPIRE, TCP-KEEPALIVE, CHAIN, EXTENDED-ERROR and CLIENT-SUBNET.
+//!
+//! Proved: each is read and written by one definition, with exactly the stated refusals, and a value that was written
+//! reads back. Their orders are those of their numbers, names and addresses (`order_is_that_of_values`). No
+//! `ClientSubnet` has a bit past its source prefix, whichever call made it, and masking twice is masking once
+//! (`masking_twice_is_masking_once`).
+//!
+//! Display of subnets has rows and no clause.
 #![tactic(auto)]
 
 mod chain;

@@ -1,4 +1,9 @@
-//! Options over plain octets: NSID (RFC 5001), PADDING (RFC 7830), KEY-TAG (RFC 8145) and unknown ones.
+//! Options over plain octets and lists of numbers: NSID, PADDING, KEY-TAG, and options of any other code.
+//!
+//! Each kind has an owned and a borrowed form, `parse`, the option traits of dns_name, Display, `Eq` and `Hash`.
+//!
+//! Proved: each kind is read and written by one definition, with exactly the stated refusals, and a value that was
+//! written reads back (`ReadBack`). Lists of options stand in dns_options.
 #![tactic(auto)]
 
 mod key_tag;

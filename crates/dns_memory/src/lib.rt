@@ -1,5 +1,9 @@
-//! Sources, sinks, links, sockets, accept objects and clocks in memory, and spawners, which keep the threads that they
-//! started.
+//! Links, sockets, clocks and spawners in memory, for proofs and tests. It exports dns_io.
+//!
+//! Forms named `Memory..` fail and answer Again at calls that are listed, and those named `Steady..` never fail.
+//!
+//! Proved: each call does exactly what its list says. A steady form that finds no memory goes on, and contracts no
+//! longer know what it holds.
 #![tactic(auto)]
 
 mod kept_threads;

@@ -1,4 +1,8 @@
-//! Octets of options, whatever their kinds: what is read of them, and how they are written.
+//! Options as octets, whatever their kinds: walking over them and appending them.
+//!
+//! Proved: `OptIter` gives the options that a type reads, in order, and after a refused one the end. Appending adds
+//! exactly one pair of code and data (`push_adds_one_pair`). Octets are an option list exactly if they are joined
+//! options (`lists_are_joined_options`).
 #![tactic(auto)]
 
 mod append;

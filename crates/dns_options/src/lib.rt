@@ -1,4 +1,11 @@
-//! Option lists of OPT records (RFC 6891) and every kind of option.
+//! Lists of options, each kind found in one. It exports dns_option_list.
+//!
+//! `Opt` owns a list and `OptRef` borrows one. `first::<Kind>` and a getter for each kind find an option; `push`
+//! appends one. `AllOptData` is every kind as one.
+//!
+//! Proved: a list has at most 65,535 octets and is always one. A push appends the option, or is refused exactly if
+//! list, four octets and data pass that, and then leaves the list. `push_raw_option` checks that its closure wrote as
+//! many octets as stated.
 #![tactic(auto)]
 
 mod all;

@@ -1,6 +1,8 @@
-//! The program: a script is read, its events or steps are served by its service, and the outputs are written line by line. Or the script
-//! itself is written, or questions are asked of a cache in front of its rules. Or a flood is served, and its outputs are counted. Or a
-//! script is read that says how a running server answers.
+//! `run` and its statuses, the words of the command line, and plans of a server. It exports scripts and floods.
+//!
+//! Proved: each status has its stated cause. What `run` writes of a script are the lines of `out` or `outs` of it, or
+//! the line of its refusal, and after a failure a front of the right text. `serve_plan` gives exactly what the words
+//! and the script of a server say.
 #![tactic(auto)]
 
 mod answering;

@@ -1,5 +1,7 @@
-//! The clients of a server by number: the event or the look of one, the look of all, who enters and leaves, and which numbers
-//! are used.
+//! All clients of a server by number: the event or the look of one, the look of all, who enters and who leaves.
+//!
+//! Proved: a step changes the core of its own client and leaves all others (`StepsKey`, `LooksOne`, `LooksAll`,
+//! `EntersWith`).
 #![tactic(auto)]
 
 mod clients;

@@ -1,4 +1,10 @@
-//! Streams of replies by poll, of which a service over another is made.
+//! Streams that are polled, and replies that are mapped on the way.
+//!
+//! `MiddlewareStream` is one of several streams of a layer. `PostprocessingStream` maps each item of a stream once, by
+//! a type with `Postprocess`.
+//!
+//! Proved: each answers as the stream inside, mapped once. A future that is ready is polled as its stream in the same
+//! call.
 #![tactic(auto)]
 
 mod middleware;

@@ -1,4 +1,9 @@
-//! The text of a script and of recorded events: its lines, their words, and the values, settings and events that the words spell.
+//! The text of a script and of recorded events: lines, words, values, and the lines of settings and events.
+//!
+//! `read_trace` reads such a text, and `TraceWriter` writes it event by event.
+//!
+//! Proved: every reader gives exactly its definition's value or its refusal with line and reason. What was written of
+//! settings and events in range reads back to both (`a_trace_reads_back`). Without memory the text is as before.
 #![tactic(auto)]
 
 mod budget_line;

@@ -1,4 +1,6 @@
 //! A service behind the mandatory and the EDNS layer answers one query, and the octets of its reply are printed.
+//!
+//! The README shows it. Its contract names what the service gives, and the layers' clauses speak of that.
 #![tactic(auto)]
 
 ghost use Rattle.std.specs.Prelude.{◌≡◌, Some, None, Ok};

@@ -1,5 +1,5 @@
-//! A layer of one's own round a service, and the four layers round both. Each line of standard input is a query that came in a
-//! datagram, in hex; the octets of its reply are printed, in hex too.
+//! A layer of one's own round a service, and the four layers round both. Each line of standard input is a query that
+//! came in a datagram, in hex; the octets of its reply are printed, in hex too.
 #![tactic(auto)]
 
 mod recursion;
