@@ -28,15 +28,15 @@ pub trait Variant: Copy + fmt::Debug + Drop {
         ensures { result ≡ number };
 }
 
-/// DNSSEC algorithms.
+/// The option DAU: DNSSEC algorithms that are understood (RFC 6975).
 #[derive(Clone, Copy, Debug, PartialEq, Eq)]
 pub struct DauVariant;
 
-/// DS hash algorithms.
+/// The option DHU: DS hash algorithms that are understood (RFC 6975).
 #[derive(Clone, Copy, Debug, PartialEq, Eq)]
 pub struct DhuVariant;
 
-/// NSEC3 hash algorithms.
+/// The option N3U: NSEC3 hash algorithms that are understood (RFC 6975).
 #[derive(Clone, Copy, Debug, PartialEq, Eq)]
 pub struct N3uVariant;
 
@@ -148,7 +148,7 @@ impl<'a, K: Variant> AlgList<&'a [u8], K> {
         Ok(found)
     }
 
-    /// The octets.
+    /// The octets that are borrowed, one for each algorithm.
     pub fn as_octets(&self) -> &'a [u8]
         ensures value { result.now ≡ self.now }
         ensures short { length self.now ≤ 65535 }
@@ -156,7 +156,7 @@ impl<'a, K: Variant> AlgList<&'a [u8], K> {
         self.octets.lent()
     }
 
-    /// The octets.
+    /// The octets as a slice, one for each algorithm, at most 65,535.
     pub fn as_slice(&self) -> &'a [u8]
         ensures value { result.now ≡ self.now }
         ensures short { length self.now ≤ 65535 }
@@ -164,7 +164,7 @@ impl<'a, K: Variant> AlgList<&'a [u8], K> {
         self.octets.lent()
     }
 
-    /// The algorithms, in order.
+    /// The algorithms, in the order of the octets.
     pub fn iter(&self) -> SecurityAlgorithmIter<'a>
         ensures { result ≡ self.now }
     {
@@ -201,14 +201,14 @@ impl<K: Variant> AlgList<Vec<u8>, K> {
         Ok(AlgList::of(octets))
     }
 
-    /// The octets.
+    /// The vector of the octets, one for each algorithm.
     pub fn as_octets(&self) -> &Vec<u8>
         ensures { result.now.items ≡ self.now }
     {
         self.octets.as_vec()
     }
 
-    /// The octets.
+    /// The octets as a slice, one for each algorithm, at most 65,535.
     pub fn as_slice(&self) -> &[u8]
         ensures value { result.now ≡ self.now }
         ensures short { length self.now ≤ 65535 }
@@ -223,7 +223,7 @@ impl<K: Variant> AlgList<Vec<u8>, K> {
         AlgList::of(self.octets.as_slice())
     }
 
-    /// The algorithms, in order.
+    /// The algorithms, in the order of the octets.
     pub fn iter(&self) -> SecurityAlgorithmIter<'_>
         ensures { result ≡ self.now }
     {

@@ -22,7 +22,7 @@ use dns_name::{OutOfMemory, Rtype};
 use std::alloc::Global;
 use std::marker::Model;
 
-/// A section of records.
+/// One of the three sections of records, in the order of a message (RFC 1035, section 4.1).
 #[derive(Clone, Copy, Debug)]
 pub enum Section {
     Answer,

@@ -154,7 +154,7 @@ fn bare(built: AdditionalBuilder) -> Message
     built.into_message()
 }
 
-/// An OPT record, owned.
+/// A copy of a reply's OPT record, if it has one.
 pub(crate) fn own_opt(
     alloc: Global,
     opt: Option<&OptRecord>,

@@ -175,7 +175,7 @@ module _ {W R F : Type 0} (answer : PolledRequest F R → ℕ → Answer) (answe
   pub record TurnedExchange (old : List (KeptExchange W R F)) (packet : Option Packet) (new : List (KeptExchange W R F)) : Type 0 where
     pub leads : (e : Event) (s : Slate) → e.kind ≡ Turn 0 → ExchangeLeads old packet new s (rule answers e s)
 
-  -- the same of one that is kept, and whether it is finished then
+  -- a Turn of one exchange that is kept, and whether it is finished then
   pub record TurnedOne (old : KeptExchange W R F) (packet : Option Packet) (done : Bool) (new : KeptExchange W R F) : Type 0 where
     pub packet_is : (e : Event) (s : Slate) → e.kind ≡ Turn 0 → IsKeptOf old s → packet ≡ packet_to (last_octets (rule answers e s).1) (rule answers e s).0.addr
     pub done_is : (e : Event) (s : Slate) → e.kind ≡ Turn 0 → IsKeptOf old s → done ≡ is_finished (rule answers e s).0

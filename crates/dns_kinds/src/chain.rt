@@ -59,14 +59,14 @@ impl<N: HoldsName> HeldChain<N> {
         HeldChain { start }
     }
 
-    /// The name.
+    /// The closest name that the client trusts already (RFC 7901).
     pub fn start(&self) -> &N
         ensures { N.labels result.now ≡ self.now }
     {
         &self.start
     }
 
-    /// The name.
+    /// Gives the name back, which isn't copied.
     pub fn into_start(self) -> N
         ensures { N.labels result ≡ self }
     {
@@ -76,7 +76,7 @@ impl<N: HoldsName> HeldChain<N> {
 }
 
 impl<'a> HeldChain<NameRef<'a>> {
-    /// Reads one uncompressed name.
+    /// Reads one uncompressed name; octets after it are left in the parser.
     pub fn parse(parser: &mut Parser<'a>) -> Result<ChainRef<'a>, ParseError>
         ensures { ParsesData (chain_data (rest parser.old)) parser.old parser.new result }
     {

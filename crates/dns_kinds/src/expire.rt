@@ -38,7 +38,7 @@ impl Expire {
         Expire { expire }
     }
 
-    /// The seconds.
+    /// How many seconds until the zone expires (RFC 7314), none in a client's request.
     pub fn expire(&self) -> Option<u32>
         ensures { result ≡ self.now }
     {

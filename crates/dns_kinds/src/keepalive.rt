@@ -45,7 +45,7 @@ impl IdleTimeout {
         })
     }
 
-    /// The time in ms.
+    /// The time in ms, a multiple of 100.
     pub fn to_millis(self) -> u64
         ensures { result ≡ 100 * self }
     {
@@ -117,7 +117,7 @@ impl TcpKeepalive {
         TcpKeepalive { timeout }
     }
 
-    /// The timeout.
+    /// The idle timeout that a server offers (RFC 7828), none in a client's request.
     pub fn timeout(self) -> Option<IdleTimeout>
         ensures { result ≡ self }
     {

@@ -29,7 +29,7 @@ impl SteadySource {
         }
     }
 
-    /// The octets left.
+    /// The octets that weren't read yet.
     pub fn left(&self) -> &[u8]
         ensures { result.now ≡ self.now }
     {

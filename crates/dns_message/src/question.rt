@@ -141,7 +141,7 @@ impl<'a> QuestionRef<'a> {
         self.qtype
     }
 
-    /// Their class.
+    /// The class of the question, IN in nearly all.
     pub fn qclass(&self) -> Class
         ensures { result ≡ self.now.qclass }
     {

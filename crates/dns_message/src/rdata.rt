@@ -138,7 +138,7 @@ impl RecordData {
         Some(RecordData::Opt(Octets::from_vec(octets)))
     }
 
-    /// The type.
+    /// The record type whose shape the data has.
     pub fn rtype(&self) -> Rtype
         ensures { result ≡ data_type self.now }
     {

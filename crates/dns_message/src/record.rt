@@ -161,14 +161,14 @@ impl<'a> RecordRef<'a> {
         self.owner.clone().unwrap()
     }
 
-    /// The type.
+    /// The record's type, which says what shape its data has.
     pub fn rtype(&self) -> Rtype
         ensures { result ≡ self.now.resource.rtype }
     {
         self.rtype
     }
 
-    /// The class.
+    /// The record's class; in an OPT record it is the UDP payload size.
     pub fn class(&self) -> Class
         ensures { result ≡ self.now.resource.class }
     {

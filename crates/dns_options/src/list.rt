@@ -93,7 +93,7 @@ impl<'a> HeldOpt<&'a [u8]> {
         Ok(found)
     }
 
-    /// The octets.
+    /// The octets of all options, at most 65,535.
     pub fn as_slice(&self) -> &'a [u8]
         ensures value { result.now ≡ self.now }
         ensures short { length self.now ≤ 65535 }

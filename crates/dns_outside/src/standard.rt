@@ -63,7 +63,7 @@ impl<W: Write + Drop> Writing<W> {
         Writing { inner, faults: 0 }
     }
 
-    /// Gives the writer back.
+    /// Gives the writer back, with whatever it holds.
     pub fn into_inner(self) -> W
         ensures { result ≡ self.inner }
     {

@@ -78,7 +78,7 @@ impl VecRecorder {
         }
     }
 
-    /// The events noted.
+    /// The events noted so far, in order.
     pub fn events(&self) -> &[Event]
         ensures { result.now ≡ self.now.events.items }
     {

@@ -12,7 +12,7 @@ pub struct Waits {
 }
 
 impl Waits {
-    /// None ended in vain.
+    /// A count of no waits in vain.
     pub fn new() -> Waits
         ensures { result ≡ record { vain = 0 } }
     {

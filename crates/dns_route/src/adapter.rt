@@ -26,7 +26,7 @@ pub struct ClientTransportToSingleService<C> {
 }
 
 impl<C: SendRequest> ClientTransportToSingleService<C> {
-    /// Over a transport.
+    /// A single service that relays each request over this transport.
     pub fn new(conn: C) -> Self
         ensures { ⟦<ClientTransportToSingleService<C> as SingleService>⟧.answer result ≡ relayed (C.answer conn) }
     {

@@ -9,7 +9,7 @@ use std::alloc::Global;
 use std::marker::Model;
 use std::sync::Arc;
 
-/// A reply.
+/// A reply that a rule of a script gives.
 #[derive(Clone, Copy)]
 pub enum ScriptReply {
     /// A reply with the request's questions and this response code.
@@ -86,7 +86,7 @@ impl ScriptAnswers {
     }
 }
 
-/// A service line.
+/// A service line: for which requests it is, and what is answered at each poll.
 #[derive(Drop)]
 pub struct Rule {
     /// The name that it is for, where it isn't for all.

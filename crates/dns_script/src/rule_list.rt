@@ -21,7 +21,7 @@ impl<R> Model for RuleList<R> {
 }
 
 impl<R: Drop> RuleList<R> {
-    /// None.
+    /// A list without rules.
     pub fn new(alloc: Global) -> RuleList<R>
         ensures { result ≡ [] }
     {
@@ -48,7 +48,7 @@ impl<R: Drop> RuleList<R> {
         self.rules
     }
 
-    /// One rule more.
+    /// Appends a rule to the list, as its last one.
     pub fn push(&mut self, rule: R) -> Result<(), OutOfMemory>
         ensures ok { OnOk result (self.new ≡ self.old ++ rule ∷ []) }
         ensures err { OnErr result (self.new ≡ self.old) }

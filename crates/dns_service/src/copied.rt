@@ -79,14 +79,14 @@ impl CopiedMessage {
         })
     }
 
-    /// The header.
+    /// The header that the built message will have.
     pub fn header(&self) -> Header
         ensures { result ≡ self.now.header }
     {
         self.header
     }
 
-    /// Sets the header.
+    /// Replaces the header that the built message will have.
     pub fn set_header(&mut self, header: Header)
         ensures { self.new ≡ record self.old { header = header } }
     {

@@ -39,7 +39,7 @@ impl UdpTransportContext {
         }
     }
 
-    /// The hint in octets.
+    /// How many octets a response over UDP may have, if there is such a hint.
     pub fn max_response_size_hint(&self) -> Option<u16>
         ensures { result ≡ self.now }
     {
@@ -94,7 +94,7 @@ impl NonUdpTransportContext {
     }
 }
 
-/// How a request came.
+/// How a request came: in a datagram, or over a stream.
 #[derive(Clone, Debug, Drop, PartialEq, Eq)]
 pub enum TransportSpecificContext {
     Udp(UdpTransportContext),
@@ -221,14 +221,14 @@ impl<Meta> Request<Meta> {
         })
     }
 
-    /// The moment in ms.
+    /// The moment at which the request was received, in ms.
     pub fn received_at(&self) -> u64
         ensures { result ≡ self.now.received_at }
     {
         self.received_at
     }
 
-    /// The seconds.
+    /// The time at which the request was received, in seconds.
     pub fn received_secs(&self) -> u64
         ensures { result ≡ self.now.received_secs }
     {

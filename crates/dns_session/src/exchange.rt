@@ -21,7 +21,7 @@ use dns_service::{
 };
 use std::alloc::Global;
 
-/// The one output.
+/// A vector of one output.
 pub fn one(alloc: Global, output: Output) -> Result<Vec<Output>, OutOfMemory>
     ensures { IfOk result (λ outs. outs.items ≡ output ∷ []) }
 {

@@ -116,7 +116,7 @@ impl<D: AsyncDgramSock + Drop, B: BufSource + Drop, W: SharedService, C: Clock +
         }
     }
 
-    /// The socket.
+    /// The socket that was handed in, without the counting round it.
     pub fn source(&self) -> &D
         ensures { result.now ≡ self.now.sock }
     {
