@@ -17,8 +17,8 @@
 //! # What is proved
 //!
 //! - `ask` answers and leaves the cache exactly as `asked_cache` says.
-//! - A reply out of the cache is an earlier reply of the service to that question, younger than its least TTL, with
-//!   every TTL lowered by its age (`cached_replies_are_earlier_ones`).
+//! - A reply out of the cache is an earlier reply of the service to that question. It is younger than its least TTL,
+//!   and every TTL is lowered by its age (`cached_replies_are_earlier_ones`).
 //! - A reply whose least TTL is 0 isn't kept, nor is one that can't be built.
 //! - No more replies are kept than the capacity.
 //! - Without memory the cache is as before, and `remove` says whether there was an entry.

@@ -20,8 +20,8 @@
 //! - An option is added after those that are there (`AddsOption`), and all else stays. A refused call leaves the
 //!   reply.
 //! - `remove_edns_opt_record` leaves all other records in order, and is never refused.
-//! - A reply that is cut fits, for each limit from 512 on (`cut_fits`): all of it, or TC with its questions and its
-//!   OPT record, or less of them.
+//! - A reply that is cut fits, for each limit from 512 on (`cut_fits`). It is all there, or has TC with its questions
+//!   and its OPT record, or less of them.
 //!
 //! # What a body could still get away with
 //!

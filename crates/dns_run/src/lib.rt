@@ -4,8 +4,8 @@
 //! - `read_command` reads the words into a `Command`: replay, steps and the others of `--help`.
 //! - `run` does what they ask for. It reads a script from a `Source` and writes lines to a `Sink`.
 //! - `Status` says how a run ended, and `Status::number` is the exit status of the program.
-//! - `read_serve` reads the words of `serve ADDR PORT COUNT`, and `serve_plan` makes a `ServePlan` of them and a
-//!   script: address, count, settings, service and NOTIFY target.
+//! - `read_serve` reads the words of `serve ADDR PORT COUNT`. `serve_plan` makes a `ServePlan` of them and a script:
+//!   address, count, settings, service and NOTIFY target.
 //! - `read_whole` reads the script that a source holds, or writes the line of its refusal.
 //!
 //! ```text
@@ -17,8 +17,8 @@
 //!
 //! - Each status has its stated cause: Usage exactly if the words are no command, and then nothing was read or
 //!   written. Faults of source and sink are told apart.
-//! - If source and sink tell, what `run` writes of a script are the lines of `out` or `outs` of it, or the line of
-//!   its refusal. After a failed write or without memory it is a prefix of that.
+//! - If source and sink tell, `run` writes the lines of `out` or `outs` of a script, or the line of its refusal.
+//!   After a failed write or without memory it is a prefix of that.
 //! - If the script couldn't be read whole, or was too long, nothing was written.
 //! - `serve_plan` gives exactly what words and script say; it writes nothing but the line of a refusal.
 //!

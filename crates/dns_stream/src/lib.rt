@@ -1,8 +1,8 @@
 //! Streams of replies that are polled, and replies that are mapped on the way. The layers of dns_layers are made of
 //! both.
 //!
-//! - `MiddlewareStream` is one of several streams that a layer may answer with: the inner service's, the inner one
-//!   mapped, or a reply of its own.
+//! - `MiddlewareStream` is one of the streams that a layer may answer with. It is the inner service's, the inner one
+//!   mapped, or the layer's own.
 //! - `PostprocessingStream` maps each item of a stream once, by a type that implements `Postprocess`.
 //! - `Postprocess::post` maps one item for one request; what it gives is a definition of the layer.
 //!
