@@ -287,7 +287,8 @@ impl Book {
         unreachable!()
     }
 
-    // One turn of it: none where another seat came between.
+    // One pass of the loop of a call: load, compute, exchange. There is none if another seat changed the cell between
+    // them.
     fn try_once<R: Wait>(&self, rt: &R, pass: &mut SeatPass, call: &Call) -> Option<BookState>
         requires book { pass.old.table_id ≡ self.now }
         requires open { CanCall (cell_view pass.old) }

@@ -71,11 +71,11 @@ pub enum Why {
     Fault,
     /// A frame was shorter than a header.
     Short,
-    /// Nothing came for too long.
+    /// The connection was idle for too long.
     Idle,
     /// A write took too long.
     WriteTimeout,
-    /// It was to be closed.
+    /// The connection was closed by a command.
     Commanded,
     /// The server shuts down.
     Shutdown,

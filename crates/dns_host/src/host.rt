@@ -68,7 +68,7 @@ impl<
 where
     A::Link: Send + Drop + 'static,
 {
-    /// Both beside each other, datagrams in a thread of their own.
+    /// Accepts connections and serves datagrams beside each other, the latter in a thread of their own.
     fn both_beside<
         R: Threads + Wait + Copy + Send + Sync + 'static,
         W: SharedService + Send + Sync + 'static,

@@ -13,15 +13,15 @@ use dns_service::{Asked, AskedCookie, Request, TransportSpecificContext};
 /// How a request's cookie is taken.
 #[derive(Clone, Copy, Debug)]
 pub enum CookieVerdict {
-    /// There is none.
+    /// The request has no cookie.
     Absent,
-    /// It can't be read.
+    /// The request's cookie can't be read.
     Malformed,
-    /// It has no server part.
+    /// The request has a client cookie alone.
     Bare(Cookie),
     /// The server made it for this client, and lately.
     Good(Cookie),
-    /// Its server part isn't good.
+    /// The request's server cookie isn't one that this server made for this client lately.
     Wrong(Cookie),
 }
 

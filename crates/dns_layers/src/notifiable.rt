@@ -17,7 +17,7 @@ use std::sync::Arc;
 /// Why a change isn't taken.
 #[derive(Clone, Copy, Debug, PartialEq, Eq)]
 pub enum NotifyError {
-    /// It isn't authoritative for the zone: the reply is NOTAUTH.
+    /// The target isn't authoritative for the zone: the reply is NOTAUTH.
     NotAuthForZone,
     /// Anything else: the reply is SERVFAIL.
     Other,

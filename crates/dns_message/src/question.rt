@@ -24,7 +24,7 @@ pub struct Question {
     pub qname: Name,
     /// The type of the records that are asked for.
     pub qtype: Rtype,
-    /// Their class.
+    /// The class of the records that are asked for.
     pub qclass: Class,
 }
 
@@ -240,7 +240,7 @@ impl<'a> Clone for QuestionIter<'a> {
 }
 
 impl<'a> QuestionIter<'a> {
-    /// So many questions from a place on.
+    /// The `left` questions of a message from a place on.
     pub(crate) fn of(message: &'a [u8], at: usize, left: u16) -> QuestionIter<'a>
         requires { at ≤ length message.now }
         ensures { result ≡ to_come (question_at message.now) left at }

@@ -46,7 +46,7 @@ pub enum RecordData {
     Aaaa([u8; 16]),
     /// One name: NS, MD, MF, CNAME, MB, MG, MR, PTR or DNAME.
     Named {
-        /// Which of these types it is.
+        /// The record type, one whose data is one name.
         rtype: Rtype,
         name: Name,
     },

@@ -265,7 +265,7 @@ impl<'a> Clone for RecordIter<'a> {
 }
 
 impl<'a> RecordIter<'a> {
-    /// So many records from a place of a message on, in octets from its start.
+    /// The `left` records of a message from a place on, in octets from its start.
     pub fn of(message: &'a [u8], at: usize, left: u16) -> RecordIter<'a>
         requires { at ≤ length message.now }
         ensures { result ≡ to_come (standing_at message.now) left at }

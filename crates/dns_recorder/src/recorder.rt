@@ -38,7 +38,7 @@ impl Model for Silent {
 unsafe impl Send for Silent {}
 
 impl Silent {
-    /// Nothing is noted so far.
+    /// A recorder that noted nothing so far.
     pub fn new() -> Silent
         ensures { result.events ≡ [] }
     {
@@ -69,7 +69,7 @@ pub struct VecRecorder {
 }
 
 impl VecRecorder {
-    /// Nothing is noted so far.
+    /// A recorder that noted nothing so far.
     pub fn new(alloc: Global) -> VecRecorder
         ensures { result.events.items ≡ [] }
     {

@@ -137,7 +137,7 @@ pub fn serve_connection<R: Wait, L: Link, C: Clock, J: Recorder, W: SharedServic
     ensures observed { Observed (L.tells link.new × J.tells journal.new) (L.tells link.old × J.tells journal.old)
         (EndsSo (serving (W.answer service.now) (W.hint service.now)) result.1 client addr look.now
         (J.noted journal.old) (J.noted journal.new) seat.known result.0.known (L.traffic link.old) (L.traffic link.new)) }
-    // And why it was closed.
+    // Where link and recorder tell: why the connection was closed.
     ensures shown { Observed (L.tells link.new × J.tells journal.new) (L.tells link.old × J.tells journal.old)
         (EndShown (serving (W.answer service.now) (W.hint service.now)) result.1 client addr look.now (J.noted journal.old) (J.noted journal.new) (L.traffic link.old) (L.traffic link.new)) }
     // Where the clock tells too.

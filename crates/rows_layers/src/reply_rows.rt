@@ -56,7 +56,7 @@ fn error_reply(row: &mut Row<'_>) -> Result<AdditionalBuilder, RowError> {
     }
 }
 
-/// Its push limit and its octets.
+/// The push limit of an error reply, and its octets.
 fn error_response(row: &mut Row<'_>) {
     match error_reply(row) {
         Ok(reply) => {

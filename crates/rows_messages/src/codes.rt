@@ -221,7 +221,7 @@ fn more_opt_rcodes(row: &mut Row<'_>) {
 
 /// A code that a registry numbers.
 trait HasNumber: Copy {
-    /// Its number.
+    /// The number of the code.
     fn number(self) -> u16;
 }
 

@@ -284,7 +284,7 @@ fn core_of<S: SharedService>(
     }
 }
 
-/// That of a connection.
+/// The core of a connection that a look admits.
 fn admitted<S: SharedService>(
     alloc: Global,
     event: &Event,
@@ -297,7 +297,7 @@ fn admitted<S: SharedService>(
     }
 }
 
-/// That of an exchange.
+/// The core of an exchange that a datagram begins.
 fn exchange<S: SharedService>(
     alloc: Global,
     service: &S,
