@@ -6,13 +6,13 @@
 //!   looks.
 //!
 //! ```text
-//! events -> serve_events -> out of the events = for each event, what each client that hears it is sent, by rising number
+//! events -> serve_events -> out of the events: what each client that hears an event is sent, by rising number
 //! ```
 //!
 //! # What is proved
 //!
-//! - The outputs are exactly `out` of the settings and events, for all services, settings and lists of events. Nothing
-//!   is missing, added or out of order. The one error is that memory ran out.
+//! - The outputs are exactly `out` of the settings and events, for all services, settings and lists of events.
+//!   Nothing is missing, added or out of order. The one error is that memory ran out.
 //! - What a client is sent is `sent` of the events that it hears (`clients_are_sent_their_own`). So other clients
 //!   change nothing (`others_change_nothing`).
 //! - Each reply answers a message that the client sent, with its identifier, QR and size

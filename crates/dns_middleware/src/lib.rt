@@ -1,8 +1,8 @@
 //! A service in all four layers as one. It exports the layers, so a user names this crate alone.
 //!
-//! `wrap` puts a service into the layers of its settings, over a target for NOTIFY. `Wrapped::new` does so for requests
-//! with metadata. What it gives is one service with a flat future and a flat stream, which names no layer: `gate` says,
-//! as one list of cases, how a request is taken.
+//! `wrap` puts a service into the layers of its settings, over a target for NOTIFY. `Wrapped::new` does so for
+//! requests with metadata. What it gives is one service with a flat future and a flat stream, which names no layer:
+//! `gate` says, as one list of cases, how a request is taken.
 //!
 //! ```text
 //! request -> gate: refused by the mandatory rule | refused by EDNS | a cookie's own reply | a notice | passed on
@@ -18,7 +18,7 @@
 //!
 //! # What a body could still get away with
 //!
-//! What is copied and how long it takes. By reading the code a request is read once, nothing of it is copied, and an
+//! What is copied and how long it takes. By reading the code a request is read once, and nothing of it is copied. An
 //! OPT record that is built on is put in its place. bench/calls shows figures.
 #![tactic(auto)]
 

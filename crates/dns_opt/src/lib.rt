@@ -1,4 +1,5 @@
-//! OPT records (RFC 6891), found in messages and built into them. It exports lists of options and each kind of option.
+//! OPT records (RFC 6891), found in messages and built into them. It exports lists of options and each kind of
+//! option.
 //!
 //! - `MessageOpt::opt` and `opt_of` find a message's OPT record, as an `OptRecordRef` with its options.
 //! - `OptRef` and `Opt` are lists of options: `first::<Kind>` and a getter for each kind read them, `iter` walks over
@@ -13,12 +14,12 @@
 //!
 //! # What is proved
 //!
-//! - `opt` of a message is the first OPT record of the additional section. There is none if it, or a record before it,
-//!   is unreadable (`opt_of`).
+//! - `opt` of a message is the first OPT record of the additional section. There is none if it, or a record before
+//!   it, is unreadable (`opt_of`).
 //! - An OPT record that was built is the first among the additional records (`opts_read_back`).
-//! - A push onto an `OptBuilder` is refused LongOptData if the list would pass 65,535 octets, and then ShortBuf exactly
-//!   if the message would pass its limit (`PushedIn`). If anything is refused, the message is as before, header
-//!   included.
+//! - A push onto an `OptBuilder` is refused LongOptData if the list would pass 65,535 octets. Else it is refused
+//!   ShortBuf exactly if the message would pass its limit (`PushedIn`). If anything is refused, the message is as
+//!   before, header included.
 //! - `reopen` gives the closure the draft of the record that is there, with the room of the message without it.
 //!
 //! # What a body could still get away with

@@ -1,5 +1,5 @@
-//! A server that runs, by all layers, and traces of connections. It exports scripts, runs, loops, hosts and servers, so
-//! a program names this crate alone.
+//! A server that runs, by all layers, and traces of connections. It exports scripts, runs, loops, hosts and servers,
+//! so a program names this crate alone.
 //!
 //! - `serve_host` serves datagrams and connections over any socket and listener, with a service in the layers of its
 //!   settings.
@@ -12,8 +12,8 @@
 //!   HostFault.
 //! - The text of a `TraceRecorder` is the trace of its settings and of the events that were noted, and reads back to
 //!   both.
-//! - Of a connection that was served over a link that contracts know, the text reads back to events for which the model
-//!   sends what was written (`a_connection_replays`).
+//! - A connection was served over a link that contracts know. Its text reads back to events for which the model sends
+//!   what was written (`a_connection_replays`).
 //!
 //! # What a body could still get away with
 //!

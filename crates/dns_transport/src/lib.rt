@@ -14,8 +14,8 @@
 //!
 //! # What is proved
 //!
-//! - `run` of a server of datagrams takes a slot if one is free, does what `serve_datagrams` promises without a count,
-//!   and gives the slot back. If the book is closed it does nothing.
+//! - `run` of a server of datagrams takes a slot if one is free, and gives it back at the end. Between it does what
+//!   `serve_datagrams` promises without a count. If the book is closed it does nothing.
 //! - `run` of a server of connections does what `serve_accepts` promises without a count.
 //! - Each call of a control makes exactly that call of the book. `shutdown` is never refused. `is_shutdown` is true
 //!   exactly if its look shows a shutdown and no slot taken.
