@@ -70,16 +70,22 @@ pub type Understood<K> = AlgList<Vec<u8>, K>;
 /// Algorithms, one octet each, borrowed.
 pub type UnderstoodRef<'a, K> = AlgList<&'a [u8], K>;
 
+/// The option DAU, in memory of its own (RFC 6975).
 pub type Dau = Understood<DauVariant>;
 
+/// The option DHU, in memory of its own (RFC 6975).
 pub type Dhu = Understood<DhuVariant>;
 
+/// The option N3U, in memory of its own (RFC 6975).
 pub type N3u = Understood<N3uVariant>;
 
+/// The option DAU, borrowed (RFC 6975).
 pub type DauRef<'a> = UnderstoodRef<'a, DauVariant>;
 
+/// The option DHU, borrowed (RFC 6975).
 pub type DhuRef<'a> = UnderstoodRef<'a, DhuVariant>;
 
+/// The option N3U, borrowed (RFC 6975).
 pub type N3uRef<'a> = UnderstoodRef<'a, N3uVariant>;
 
 /// Algorithms, one octet each, in S.

@@ -13,6 +13,7 @@ pub struct Event {
     pub kind: EventKind,
 }
 
+/// What happened: to a datagram, to a connection, to a request, or to the whole server.
 #[derive(Drop)]
 pub enum EventKind {
     /// A datagram came from an address.

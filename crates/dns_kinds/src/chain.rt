@@ -53,6 +53,7 @@ impl<'a> Clone for HeldChain<NameRef<'a>> {
 }
 
 impl<N: HoldsName> HeldChain<N> {
+    /// The option of a name that the client trusts already (RFC 7901).
     pub fn new(start: N) -> HeldChain<N>
         ensures { result ≡ N.labels start }
     {

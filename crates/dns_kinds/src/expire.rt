@@ -32,6 +32,7 @@ impl Model for Expire {
 }
 
 impl Expire {
+    /// The option of these seconds, or of none, as a client sends it.
     pub fn new(expire: Option<u32>) -> Expire
         ensures { result ≡ expire }
     {

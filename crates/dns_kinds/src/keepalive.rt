@@ -111,6 +111,7 @@ impl Model for TcpKeepalive {
 }
 
 impl TcpKeepalive {
+    /// The option of this timeout, or of none, as a client sends it.
     pub fn new(timeout: Option<IdleTimeout>) -> TcpKeepalive
         ensures { result ≡ timeout }
     {

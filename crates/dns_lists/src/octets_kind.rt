@@ -55,12 +55,16 @@ pub type Plain<K> = OctetsOption<Vec<u8>, K>;
 /// Any octets under the code of a kind, borrowed.
 pub type PlainRef<'a, K> = OctetsOption<&'a [u8], K>;
 
+/// The identifier of a name server, in memory of its own (RFC 5001).
 pub type Nsid = Plain<NsidKind>;
 
+/// Padding of a message, in memory of its own (RFC 7830).
 pub type Padding = Plain<PaddingKind>;
 
+/// The identifier of a name server, borrowed (RFC 5001).
 pub type NsidRef<'a> = PlainRef<'a, NsidKind>;
 
+/// Padding of a message, borrowed (RFC 7830).
 pub type PaddingRef<'a> = PlainRef<'a, PaddingKind>;
 
 /// Any octets under the code of a kind, at most 65,535, in S.

@@ -22,7 +22,7 @@ pub enum Command {
     Flood { seed: u64, count: u32 },
 }
 
-/// A flood, where both words are numbers, and the latter is at most 4,000,000.
+/// A flood, if both words are numbers, and the second is at most 4,000,000.
 fn flood(seed: &[u8], count: &[u8]) -> Option<Command>
     ensures { result ≡ flood_of (num_of seed.now) (number 20 4000001 count.now) }
 {

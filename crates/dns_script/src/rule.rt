@@ -79,6 +79,7 @@ impl ScriptAnswers {
         Ok(ScriptAnswers { answers })
     }
 
+    /// The answers, one for each poll.
     pub fn as_slice(&self) -> &[ScriptAnswer]
         ensures { result.now ≡ self.now }
     {

@@ -35,6 +35,7 @@ impl<R: Drop> RuleList<R> {
         RuleList { rules }
     }
 
+    /// The rules, in the order of their lines.
     pub fn as_slice(&self) -> &[R]
         ensures { result.now ≡ self.now }
     {

@@ -46,6 +46,7 @@ impl UdpTransportContext {
         self.max_response_size_hint
     }
 
+    /// Sets how many octets a response over UDP may have, or that there is no such hint.
     pub fn set_max_response_size_hint(&mut self, max_response_size_hint: Option<u16>)
         ensures { self.new ≡ max_response_size_hint }
     {
@@ -235,6 +236,7 @@ impl<Meta> Request<Meta> {
         self.received_secs
     }
 
+    /// How the request came, with what its transport allows.
     pub fn transport_ctx(&self) -> &TransportSpecificContext
         ensures { result.now ≡ self.now.transport }
     {
@@ -249,12 +251,14 @@ impl<Meta> Request<Meta> {
         &mut self.transport_ctx
     }
 
+    /// The address and the port that the request came from.
     pub fn client_addr(&self) -> SocketAddr
         ensures { result ≡ self.now.client_addr }
     {
         self.client_addr
     }
 
+    /// The message of the request, shared.
     pub fn message(&self) -> &Arc<Message>
         ensures { arc_value result.now ≡ self.now.octets }
     {
@@ -328,6 +332,7 @@ impl<Meta> Request<Meta> {
         })
     }
 
+    /// What the server told the service beside the request.
     pub fn metadata(&self) -> &Meta
         ensures { result.now ≡ self.now.metadata }
     {
