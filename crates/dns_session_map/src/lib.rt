@@ -24,7 +24,8 @@
 //!
 //! # What a body could still get away with
 //!
-//! What stands in the map after a call was refused for lack of memory. dns_core gives up the whole server then.
+//! What stands in the map after a call was refused for lack of memory. dns_core says nothing of such a server any
+//! more.
 #![tactic(auto)]
 
 mod clients;
