@@ -320,22 +320,22 @@ fn is_soa(added: &Record) -> bool
 fn header_fault(id: u16, header: Header) -> Option<TransferFault>
     ensures { result ≡ header_fault id header }
 {
-    if is_answer(id, header) {
-        return code_fault(header);
+    if is_answer(id, &header) {
+        return code_fault(&header);
     }
     Some(TransferFault::Identifier)
 }
 
 /// Whether a header is that of a response with an identifier.
-fn is_answer(id: u16, header: Header) -> bool
-    ensures { result ≡ (nat_eq header.id id && header.qr) }
+fn is_answer(id: u16, header: &Header) -> bool
+    ensures { result ≡ (nat_eq header.now.id id && header.now.qr) }
 {
     header.id == id && header.qr
 }
 
 /// Why the response code of a header isn't that of an answer.
-fn code_fault(header: Header) -> Option<TransferFault>
-    ensures { result ≡ code_fault header }
+fn code_fault(header: &Header) -> Option<TransferFault>
+    ensures { result ≡ code_fault header.now }
 {
     if header.rcode == Rcode::NOERROR {
         return None;

@@ -1,6 +1,6 @@
 use Rattle.std.proofs.Common.{refl, sym, ◌∙◌, arith}
 use Rattle.dns_script.proofs.Called.{behind_more, called_first, called_on, on_err, stopped}
-use Rattle.dns_script.specs.CachedRules.{rule_turns}
+use Rattle.dns_script.specs.CachedRules.{IsBehindCalls, rule_turns}
 use Rattle.dns_script.proofs.cached_rules.ask_request.Goals as goal
 
 pub loop-k-init : goal.loop-k-init
@@ -26,4 +26,6 @@ returns-in_err-line-clause-err c =
     on_err _ (stopped (rule_turns c.args.turns.now.rules) c.args.request.now c.loop-k.k c.loop-k.cache c.call.new.cache c.args.cache.now c.loop-k-test.true c.loop-k.invariant.made c.in_err-line.ensures.err)
 
 pub returns-clause-err : goal.returns-clause-err
-returns-clause-err c = on_err _ (record { calls = c.loop-k.k; few = c.loop-k.invariant.few; behind = c.loop-k.invariant.made })
+returns-clause-err c =
+    let behind : IsBehindCalls (rule_turns c.args.turns.now.rules) c.args.request.now c.args.cache.now c.loop-k.cache = record { calls = c.loop-k.k; few = c.loop-k.invariant.few; behind = c.loop-k.invariant.made } in
+    on_err _ behind

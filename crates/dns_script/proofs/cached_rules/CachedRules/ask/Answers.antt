@@ -6,7 +6,10 @@ use Rattle.dns_script.proofs.Called.{on_err}
 use Rattle.dns_script.proofs.cached_rules.CachedRules.ask.Goals as goal
 
 pub returns-in_err-request-clause-err : goal.returns-in_err-request-clause-err
-returns-in_err-request-clause-err c = on_err _ (record { calls = 0; few = omega arith; behind = refl })
+returns-in_err-request-clause-err c =
+    let s = c.args.self.now in
+    let behind : IsBehindCalls (rule_turns s.rules) (request_of_ask c.args.ask) s.cached s.cached = record { calls = 0; few = omega arith; behind = refl } in
+    on_err _ behind
 
 pub returns-clause-err : goal.returns-clause-err
 returns-clause-err c =

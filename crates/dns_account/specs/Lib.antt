@@ -1,0 +1,3 @@
+pub mod DatagramLaw
+pub mod Hosts
+pub mod Law

@@ -1,0 +1,4 @@
+pub mod Ties
+pub mod SockTies
+pub mod ClockTies
+pub mod AcceptTies
