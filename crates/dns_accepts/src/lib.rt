@@ -26,7 +26,8 @@
 //! # What a body could still get away with
 //!
 //! Which number, look and service a connection's work has, and whether a hook is called. That a wait waits, and how
-//! long. Of the machine's accept object contracts know its failed calls alone.
+//! long. Of the machine's accept object contracts know its failed calls alone, unless a witness stands over it
+//! (dns_witness).
 #![tactic(auto)]
 
 mod acceptor;

@@ -23,7 +23,8 @@
 //!
 //! # What a body could still get away with
 //!
-//! That a wait waits, and how long. Over a machine's socket only what is said as always.
+//! That a wait waits, and how long. Over a machine's socket only what is said as always, unless a witness stands over
+//! it (dns_witness).
 #![tactic(auto)]
 
 mod dgram_loop;
