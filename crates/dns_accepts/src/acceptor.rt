@@ -200,8 +200,8 @@ where
         }
     }
 
-    #[tactic(auto, using(crate::proofs::Askings::cause_of_start))]
     /// Serves an admitted connection by work of its own, with the second half of the seat.
+    #[tactic(auto, using(crate::proofs::Askings::cause_of_start))]
     fn serve_admitted<L: Link + Send + Drop + 'static, P: Spawner<ConnectionWork<L, C, Silent, W>>>(
         &self,
         seat: BookSeat,
@@ -226,9 +226,9 @@ where
         (first, arrival_of(started))
     }
 
-    #[tactic(auto, using(crate::proofs::Askings::asked_full, crate::proofs::Askings::asked_closed))]
     /// Asks the book for a slot. A connection that is admitted is served by work of its own, with the second half of the seat;
     /// every other one is closed.
+    #[tactic(auto, using(crate::proofs::Askings::asked_full, crate::proofs::Askings::asked_closed))]
     fn take_connection<
         L: Link + Send + Drop + 'static,
         P: Spawner<ConnectionWork<L, C, Silent, W>>,
@@ -308,9 +308,9 @@ where
         None
     }
 
-    #[tactic(auto, using(crate::proofs::Loops::so_far_none, crate::proofs::Loops::so_far_ended, crate::proofs::Loops::so_far_lost, crate::proofs::Loops::so_far_more, crate::proofs::Loops::rose_where_none, crate::proofs::Loops::rose_where_more, crate::proofs::Loops::rose_where_lost))]
     /// Accepts connections, and gives each that the book admits to the spawner as work. The answer's last part says whether an
     /// accept failed or a start was refused.
+    #[tactic(auto, using(crate::proofs::Loops::so_far_none, crate::proofs::Loops::so_far_ended, crate::proofs::Loops::so_far_lost, crate::proofs::Loops::so_far_more, crate::proofs::Loops::rose_where_none, crate::proofs::Loops::rose_where_more, crate::proofs::Loops::rose_where_lost))]
     pub(crate) fn accept_all<A: AsyncAccept, P: Spawner<ConnectionWork<A::Link, C, Silent, W>>>(
         &self,
         mut seat: BookSeat,

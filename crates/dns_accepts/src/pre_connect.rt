@@ -6,7 +6,7 @@ pub trait PreConnect<L> {
     fn call(&self, link: &mut L);
 }
 
-/// Nothing is done.
+/// A hook that does nothing with a link.
 #[derive(Clone, Copy, Debug)]
 pub struct NoHook;
 

@@ -107,7 +107,7 @@ impl BookState {
         self.shown
     }
 
-    /// Shows the book.
+    /// Gives what the book holds, and changes nothing.
     pub fn look(&mut self) -> Look
         ensures reply { Reply.Look result ≡ reply_of self.old Call.Look }
         ensures state { self.new ≡ state_after self.old Call.Look }
@@ -129,7 +129,7 @@ impl BookState {
         }
     }
 
-    /// What a look shows.
+    /// What a look at this state shows.
     pub fn shown(&self) -> Look
         ensures { result ≡ self.now }
     {

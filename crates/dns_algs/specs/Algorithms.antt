@@ -25,11 +25,11 @@ Collected steps s (Err NoMemory) = Unit {0}
 Collected steps s (Err (WrongLength a b)) = ⊥
 Collected steps s (Err ShortBuf) = ⊥
 
--- the same of any value that such an iterator is made of
+-- what an iterator gives is collected, if the iterator is made of this value
 abbrev pub CollectedFrom : {A S : Type 0} → (A → S → Type 0) → (S → Option ℕ → S → Type 0) → A → Result (List ℕ) BuildDataError → Type 0
 CollectedFrom {A} {S} makes steps a result = (s : S) × makes a s × Collected steps s result
 
--- the same of the numbers in a vector
+-- what an iterator gives is collected as the numbers in a vector
 abbrev pub CollectedNumbers : {S : Type 0} → (S → Option ℕ → S → Type 0) → S → Result (Vec ℕ Global) BuildDataError → Type 0
 CollectedNumbers steps s (Ok v) = Collected steps s (Ok v.items)
 CollectedNumbers steps s (Err e) = Collected steps s (Err e)

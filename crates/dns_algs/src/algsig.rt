@@ -28,15 +28,15 @@ pub trait Variant: Copy + fmt::Debug + Drop {
         ensures { result ≡ number };
 }
 
-/// DNSSEC algorithms.
+/// The option DAU: DNSSEC algorithms that are understood (RFC 6975).
 #[derive(Clone, Copy, Debug, PartialEq, Eq)]
 pub struct DauVariant;
 
-/// DS hash algorithms.
+/// The option DHU: DS hash algorithms that are understood (RFC 6975).
 #[derive(Clone, Copy, Debug, PartialEq, Eq)]
 pub struct DhuVariant;
 
-/// NSEC3 hash algorithms.
+/// The option N3U: NSEC3 hash algorithms that are understood (RFC 6975).
 #[derive(Clone, Copy, Debug, PartialEq, Eq)]
 pub struct N3uVariant;
 
@@ -70,16 +70,22 @@ pub type Understood<K> = AlgList<Vec<u8>, K>;
 /// Algorithms, one octet each, borrowed.
 pub type UnderstoodRef<'a, K> = AlgList<&'a [u8], K>;
 
+/// The option DAU, in memory of its own (RFC 6975).
 pub type Dau = Understood<DauVariant>;
 
+/// The option DHU, in memory of its own (RFC 6975).
 pub type Dhu = Understood<DhuVariant>;
 
+/// The option N3U, in memory of its own (RFC 6975).
 pub type N3u = Understood<N3uVariant>;
 
+/// The option DAU, borrowed (RFC 6975).
 pub type DauRef<'a> = UnderstoodRef<'a, DauVariant>;
 
+/// The option DHU, borrowed (RFC 6975).
 pub type DhuRef<'a> = UnderstoodRef<'a, DhuVariant>;
 
+/// The option N3U, borrowed (RFC 6975).
 pub type N3uRef<'a> = UnderstoodRef<'a, N3uVariant>;
 
 /// Algorithms, one octet each, in S.
@@ -148,7 +154,7 @@ impl<'a, K: Variant> AlgList<&'a [u8], K> {
         Ok(found)
     }
 
-    /// The octets.
+    /// The octets that are borrowed, one for each algorithm.
     pub fn as_octets(&self) -> &'a [u8]
         ensures value { result.now ≡ self.now }
         ensures short { length self.now ≤ 65535 }
@@ -156,7 +162,7 @@ impl<'a, K: Variant> AlgList<&'a [u8], K> {
         self.octets.lent()
     }
 
-    /// The octets.
+    /// The octets as a slice, one for each algorithm, at most 65,535.
     pub fn as_slice(&self) -> &'a [u8]
         ensures value { result.now ≡ self.now }
         ensures short { length self.now ≤ 65535 }
@@ -164,14 +170,14 @@ impl<'a, K: Variant> AlgList<&'a [u8], K> {
         self.octets.lent()
     }
 
-    /// The algorithms, in order.
+    /// The algorithms, in the order of the octets.
     pub fn iter(&self) -> SecurityAlgorithmIter<'a>
         ensures { result ≡ self.now }
     {
         SecurityAlgorithmIter::of(self.octets.lent())
     }
 
-    /// The same list, owned.
+    /// Copies the octets into an owned list.
     pub fn to_owned(&self, alloc: Global) -> Result<Understood<K>, OutOfMemory>
         ensures { IfOk result (λ k. k ≡ self.now) }
     {
@@ -201,14 +207,14 @@ impl<K: Variant> AlgList<Vec<u8>, K> {
         Ok(AlgList::of(octets))
     }
 
-    /// The octets.
+    /// The vector of the octets, one for each algorithm.
     pub fn as_octets(&self) -> &Vec<u8>
         ensures { result.now.items ≡ self.now }
     {
         self.octets.as_vec()
     }
 
-    /// The octets.
+    /// The octets as a slice, one for each algorithm, at most 65,535.
     pub fn as_slice(&self) -> &[u8]
         ensures value { result.now ≡ self.now }
         ensures short { length self.now ≤ 65535 }
@@ -216,14 +222,14 @@ impl<K: Variant> AlgList<Vec<u8>, K> {
         self.octets.as_slice()
     }
 
-    /// The same list, borrowed.
+    /// Borrows the list; nothing is copied.
     pub fn for_slice(&self) -> UnderstoodRef<'_, K>
         ensures { result ≡ self.now }
     {
         AlgList::of(self.octets.as_slice())
     }
 
-    /// The algorithms, in order.
+    /// The algorithms, in the order of the octets.
     pub fn iter(&self) -> SecurityAlgorithmIter<'_>
         ensures { result ≡ self.now }
     {

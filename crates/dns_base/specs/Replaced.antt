@@ -21,7 +21,7 @@ less_type t b = record b { message = record b.message { additional = other_than 
 abbrev pub kept_part : ℕ → ℕ → ℕ → ℕ → ℕ × ℕ × ℕ
 kept_part kind t at end = if nat_eq kind t then (0, 0, end) else (1, end - at, end)
 
--- the same of what is read
+-- what is kept of a record that was read at a place, if records of a type are dropped; nothing of a refused one
 abbrev pub kept_of : ℕ → ℕ → Read ResourceRecord → ℕ × ℕ × ℕ
 kept_of t at (Ok x) = kept_part x.0.rtype t at x.1
 kept_of t at (Err e) = (0, 0, at)

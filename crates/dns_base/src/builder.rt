@@ -57,7 +57,7 @@ pub type AuthorityBuilder = Builder<AuthorityStage>;
 pub type AdditionalBuilder = Builder<AdditionalStage>;
 
 impl<S: Before<QuestionStage>> Builder<S> {
-    /// The same message, at its questions.
+    /// Goes on to the question section. The message stays as it is.
     pub fn question(self) -> QuestionBuilder
         ensures { result ≡ self }
     {
@@ -66,7 +66,7 @@ impl<S: Before<QuestionStage>> Builder<S> {
 }
 
 impl<S: Before<AnswerStage>> Builder<S> {
-    /// The same message, at its answers.
+    /// Goes on to the answer section. The message stays as it is.
     pub fn answer(self) -> AnswerBuilder
         ensures { result ≡ self }
     {
@@ -75,7 +75,7 @@ impl<S: Before<AnswerStage>> Builder<S> {
 }
 
 impl<S: Before<AuthorityStage>> Builder<S> {
-    /// The same message, at its authority records.
+    /// Goes on to the authority section. The message stays as it is.
     pub fn authority(self) -> AuthorityBuilder
         ensures { result ≡ self }
     {
@@ -84,7 +84,7 @@ impl<S: Before<AuthorityStage>> Builder<S> {
 }
 
 impl<S: Before<AdditionalStage>> Builder<S> {
-    /// The same message, at its additional records.
+    /// Goes on to the additional section. The message stays as it is.
     pub fn additional(self) -> AdditionalBuilder
         ensures { result ≡ self }
     {
@@ -93,7 +93,7 @@ impl<S: Before<AdditionalStage>> Builder<S> {
 }
 
 impl<S: Stage> Builder<S> {
-    /// The same message, at a later stage.
+    /// Changes the stage, which is a type alone. The draft is moved, not copied.
     fn at<Later: Stage>(self) -> Builder<Later>
     where
         S: Before<Later>,
@@ -105,14 +105,14 @@ impl<S: Stage> Builder<S> {
         }
     }
 
-    /// The header.
+    /// The header as it is so far, with the counts left out.
     pub fn header(&self) -> Header
         ensures { result ≡ self.now.message.header }
     {
         self.draft.header()
     }
 
-    /// Sets the header.
+    /// Replaces the header; the counts stay those of what was pushed.
     pub fn set_header(&mut self, header: Header)
         ensures { self.new ≡ with_header self.old header }
     {
@@ -148,7 +148,7 @@ impl<S: Stage> Builder<S> {
         self.draft.set_push_limit(65535);
     }
 
-    /// The message's octets.
+    /// The octets of the message as it is so far, uncut.
     pub fn as_slice(&self) -> &[u8]
         ensures value { result.now ≡ wire self.now.message }
         ensures lawful { IsMessage self.now.message }
@@ -158,7 +158,7 @@ impl<S: Stage> Builder<S> {
         self.draft.as_slice()
     }
 
-    /// The message, borrowed.
+    /// The message as it is so far, to be read.
     pub fn as_message(&self) -> MessageRef<'_>
         ensures value { result ≡ wire self.now.message }
         ensures lawful { IsMessage self.now.message }
@@ -175,7 +175,7 @@ impl<S: Stage> Builder<S> {
         self.draft.questions()
     }
 
-    /// A copy.
+    /// A copy of message and limit in memory of its own.
     pub fn try_clone(&self, alloc: Global) -> Result<Builder<S>, OutOfMemory>
         ensures { IfOk result (λ b. b ≡ self.now) }
     {
@@ -194,7 +194,7 @@ impl<S: Stage> Builder<S> {
         Box::into_inner(self.draft).into_message()
     }
 
-    /// The finished message.
+    /// Ends the build: the message as a datagram, or after its length for a stream.
     pub fn finish(self) -> StreamTarget
         ensures value { result ≡ wire self.message }
         ensures lawful { IsMessage self.message }

@@ -22,7 +22,7 @@ use dns_name::{OutOfMemory, Rtype};
 use std::alloc::Global;
 use std::marker::Model;
 
-/// A section of records.
+/// One of the three sections of records, in the order of a message (RFC 1035, section 4.1).
 #[derive(Clone, Copy, Debug)]
 pub enum Section {
     Answer,
@@ -73,7 +73,7 @@ impl Starts {
         }
     }
 
-    /// The same, but for the sections behind one, which begin at a place.
+    /// These starts, but every section after the given one begins at `place`.
     fn behind(self, section: Section, place: usize) -> Starts
         ensures { result ≡ moved_behind self section place }
     {

@@ -35,7 +35,7 @@ impl StreamTarget {
         StreamTarget { octets }
     }
 
-    /// The message's octets.
+    /// The message's octets without the length before them, as a datagram holds them.
     pub fn as_dgram_slice(&self) -> &[u8]
         ensures value { result.now ≡ self.now }
         ensures short { length result.now ≤ 65535 }

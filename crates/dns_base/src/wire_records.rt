@@ -32,7 +32,7 @@ impl Model for WireRecords {
 }
 
 impl WireRecords {
-    /// No records.
+    /// No records, and no memory taken.
     pub fn new(alloc: Global) -> WireRecords
         ensures { result ≡ [] }
     {
@@ -61,14 +61,14 @@ impl WireRecords {
         self.count
     }
 
-    /// Whether there is none.
+    /// Whether there are no records.
     pub fn is_empty(&self) -> bool
         ensures { IsTrue result ↔ (self.now ≡ []) }
     {
         self.count == 0
     }
 
-    /// The records' octets.
+    /// The octets of all records, one after another.
     pub fn as_slice(&self) -> &[u8]
         ensures value { result.now ≡ spelling self.now }
         ensures named { AllByRecursion HasOwner self.now }

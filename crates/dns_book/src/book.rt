@@ -287,7 +287,8 @@ impl Book {
         unreachable!()
     }
 
-    // One turn of it: none where another seat came between.
+    // One pass of the loop of a call: load, compute, exchange. There is none if another seat changed the cell between
+    // them.
     fn try_once<R: Wait>(&self, rt: &R, pass: &mut SeatPass, call: &Call) -> Option<BookState>
         requires book { pass.old.table_id ≡ self.now }
         requires open { CanCall (cell_view pass.old) }
@@ -314,7 +315,8 @@ impl Book {
         self.cell.load_as::<M, R>(rt, pass)
     }
 
-    // The same, where the words are replaced. It answers those that stood there.
+    // One swap: the cell gets `words`, and the result is the words that stood there. The pass then has what the
+    // outcome says.
     fn swap<M: Outcome<BookWords, View>, R: Wait>(
         &self,
         rt: &R,
@@ -329,7 +331,7 @@ impl Book {
         self.cell.swap_as::<M, R>(rt, pass, words)
     }
 
-    // The same, where the words that stand there are the expected ones.
+    // One compare and exchange: `next` replaces `current`. If other words stand there, they stay, and Err holds them.
     fn exchange<M: Outcome<BookWords, View>, R: Wait>(
         &self,
         rt: &R,
@@ -368,7 +370,8 @@ impl Book {
         self.cell.join_pass::<M>(pass, other);
     }
 
-    // The same for a seat.
+    // Makes one call through a seat, which writes the book's first words if it has not yet. The result is the state
+    // that the call met.
     fn make<R: Wait>(&self, rt: &R, seat: &mut BookSeat, call: Call) -> BookState
         requires { seat.old.book ≡ self.now }
         ensures book { seat.new.book ≡ seat.old.book }

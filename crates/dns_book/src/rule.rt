@@ -80,7 +80,7 @@ impl Outcome<BookWords, View> for Settle {
     ghost then = { Settles };
 }
 
-/// Two seats of one.
+/// A split of one seat into its two halves.
 pub struct Halves;
 
 impl Split<View> for Halves {
@@ -98,7 +98,7 @@ impl Split<View> for HandOver {
     ghost right = { whole_of };
 }
 
-/// One seat of two.
+/// A join: a seat takes in the calls of another, which is spent.
 pub struct TakeIn;
 
 impl Join<View> for TakeIn {

@@ -32,7 +32,7 @@ abbrev pub AreMarked : Bool → Result (List ResourceRecord) ParseError → List
 AreMarked all (Ok rs) old new = AreTyped rs × (new ≡ old ++ map mark_of (marked_ones all rs))
 AreMarked all (Err e) old new = Unit {0}
 
--- the same of one record
+-- one record of typed data was marked after other records
 abbrev pub IsMarked : Bool → Result ResourceRecord ParseError → List Mark → List Mark → Type 0
 IsMarked all (Ok r) old new = AreTyped (r ∷ []) × (new ≡ old ++ map mark_of (marked_ones all (r ∷ [])))
 IsMarked all (Err e) old new = Unit {0}

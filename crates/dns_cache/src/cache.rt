@@ -56,8 +56,8 @@ impl Cache {
         Cache::seeded(alloc, capacity, Seed::fixed())
     }
 
-    /// The same, where keys are hashed from a random state, as `RandomState::new(&rt)` gives, so that nobody can pick names of
-    /// queries whose hashes meet.
+    /// A cache of so many replies at most, from 1 to 65,536, whose keys are hashed from a random state.
+    /// `RandomState::new(&rt)` gives one. Nobody can then pick query names whose hashes collide.
     pub fn new_with_seed(
         alloc: Global,
         capacity: usize,
@@ -68,7 +68,7 @@ impl Cache {
         Cache::seeded(alloc, capacity, Seed::random(seed))
     }
 
-    /// The same from any seed.
+    /// An empty cache whose keys are hashed from the seed. The capacity is clamped to 1 to 65,536.
     fn seeded(alloc: Global, capacity: usize, seed: Seed) -> Result<Cache, OutOfMemory>
         ensures { IfOk result (λ c. c ≡ empty_cache capacity) }
     {
@@ -129,7 +129,8 @@ impl Cache {
         }
     }
 
-    /// The same of a request that has a key.
+    /// Poll `k` of a request that has this key: a cached reply at once, or else the service's turn, whose reply may be
+    /// cached.
     fn ask_for<S: SingleService>(
         &mut self,
         alloc: Global,
@@ -213,7 +214,7 @@ impl Cache {
         }
     }
 
-    /// The same of an answer that is lent.
+    /// Caches what the service answered under the key, if it may be kept. After an error the cache is as before.
     fn keep_answer(
         &mut self,
         alloc: Global,
@@ -242,7 +243,7 @@ impl Cache {
         }
     }
 
-    /// The same of an entry.
+    /// Puts an entry first, in place of one of its key. Past the capacity the last entry is dropped.
     fn put(&mut self, key: CacheKey, kept: CachedReply) -> Result<(), OutOfMemory>
         ensures ok { OnOk result (self.new ≡ with_kept key self.old (Some kept)) }
         ensures err { OnErr result (self.new ≡ self.old) }

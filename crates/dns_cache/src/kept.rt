@@ -90,7 +90,7 @@ fn kept_message(
     kept_marked(alloc, request, reply, built, marks)
 }
 
-/// The same of a message whose records are marked, and that has a response code and a header to be kept.
+/// What is kept of a whole reply whose records are marked: nothing if their least TTL is 0.
 fn kept_marked(
     alloc: Global,
     request: &Request<()>,
@@ -154,7 +154,7 @@ fn bare(built: AdditionalBuilder) -> Message
     built.into_message()
 }
 
-/// An OPT record, owned.
+/// A copy of a reply's OPT record, if it has one.
 pub(crate) fn own_opt(
     alloc: Global,
     opt: Option<&OptRecord>,

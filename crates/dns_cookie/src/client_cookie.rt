@@ -40,7 +40,7 @@ impl ClientCookie {
         }
     }
 
-    /// The octets.
+    /// The eight octets that the client chose.
     pub const fn into_octets(self) -> [u8; 8]
         ensures { result ≡ client_octets self }
     {

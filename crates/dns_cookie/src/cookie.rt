@@ -75,7 +75,7 @@ impl Cookie {
         Ok(Cookie::new(client, server))
     }
 
-    /// The client part.
+    /// The client cookie, eight octets.
     pub fn client(&self) -> ClientCookie
         ensures { client_octets result ≡ self.now.client }
     {

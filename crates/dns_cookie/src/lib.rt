@@ -1,5 +1,31 @@
-//! DNS cookies that interoperate: SipHash-2-4, client cookies, server cookies and the standard
-//! server cookie (RFC 7873, RFC 9018).
+//! DNS cookies that interoperate (RFC 7873, RFC 9018): SipHash-2-4, client and server cookies, and the COOKIE option.
+//!
+//! - `Cookie` is the option: a client cookie, with a server cookie or without.
+//! - `ClientCookie` is eight octets that a client chose. `ServerCookie` is the 8 to 32 octets that a server made.
+//! - `StandardServerCookie` is the server cookie of RFC 9018, as its 16 octets: version, reserved octets, timestamp
+//!   in seconds and hash.
+//! - `Cookie::create_response` makes a cookie for a client's address and a secret, and `Cookie::check_server_hash`
+//!   checks it.
+//! - `timestamp_ok` says whether a timestamp is at most an hour old and five minutes ahead.
+//!
+//! ```text
+//! octets -> Cookie::parse -> check_server_hash(address, secret, timestamp_ok) -> true or false
+//! Cookie -> create_response(timestamp, address, secret) -> Cookie -> compose -> octets
+//! ```
+//!
+//! # What is proved
+//!
+//! - `siphash24` is the hash of the standard, of any octets.
+//! - A check is true exactly if the closure accepts the timestamp and the hash agrees (`check_at`).
+//! - A cookie that was made checks exactly as long as its timestamp is timely (`responses_check`).
+//! - Parsing and composing are those of one definition. A refused call leaves the parser, and the target.
+//! - Cookies are ordered by their octets (`order_is_that_of_octets`).
+//!
+//! Rows show the vectors of RFC 9018 and of the hash's authors.
+//!
+//! # What a body could still get away with
+//!
+//! How long a check takes. That a secret stays secret.
 #![tactic(auto)]
 
 mod client_cookie;

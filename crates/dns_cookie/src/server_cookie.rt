@@ -97,7 +97,7 @@ impl ServerCookie {
         Some(StandardServerCookie::from_octets(octets))
     }
 
-    /// The number of octets.
+    /// The number of octets, from 8 to 32.
     pub fn compose_len(&self) -> u16
         ensures value { result ≡ length self.now }
         ensures least { 8 ≤ result }

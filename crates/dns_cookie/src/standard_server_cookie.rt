@@ -101,7 +101,7 @@ impl StandardServerCookie {
         Serial(u32::from_be_bytes([t0, t1, t2, t3]))
     }
 
-    /// The hash.
+    /// The hash, the last eight octets (RFC 9018, section 4.4).
     pub fn hash(self) -> [u8; 8]
         ensures { result ≡ hash_of self }
     {
@@ -109,7 +109,7 @@ impl StandardServerCookie {
         [h0, h1, h2, h3, h4, h5, h6, h7]
     }
 
-    /// Replaces the hash.
+    /// Replaces the hash; version, reserved octets and timestamp stay.
     pub fn set_hash(&mut self, hash: [u8; 8])
         ensures { self.new ≡ take 8 self.old ++ hash }
     {

@@ -1,4 +1,35 @@
-//! A server over a list of events, or of steps: what its clients are sent.
+//! All clients of a server: what they are sent for a list of events. It exports dns_session.
+//!
+//! - `serve_events` serves a list of events by a service in its layers, and gives the outputs.
+//! - `Server` is the same stepped event by event.
+//! - `serve_steps` and `SplitServer` serve steps, in which each client hears of the server's changes only when it
+//!   looks.
+//!
+//! ```text
+//! events -> serve_events -> out of the events: what each client that hears an event is sent, by rising number
+//! ```
+//!
+//! # What is proved
+//!
+//! - The outputs are exactly `out` of the settings and events, for all services, settings and lists of events.
+//!   Nothing is missing, added or out of order. The one error is that memory ran out.
+//! - What a client is sent is `sent` of the events that it hears (`clients_are_sent_their_own`). So other clients
+//!   change nothing (`others_change_nothing`).
+//! - Each reply answers a message that the client sent, with its identifier, QR and size
+//!   (`replies_answer_what_was_asked`).
+//! - The replies to one request stand in the order of its polls, each at most once; each was sent, waits, is held or
+//!   was dropped (`replies_keep_their_order`).
+//! - Queues keep their bound (`queues_keep_their_bound`), and windows their budget (`budgets_are_kept`).
+//! - Pieces may be cut anywhere (`cut_pieces_change_nothing`), and more events send more (`more_events_send_more`).
+//! - Many events change nothing: those of strangers, of closed connections, of finished requests, under used numbers,
+//!   and most after a shutdown.
+//! - For steps each of these holds of a client's own events and the changes that it saw
+//!   (`interleavings_change_nothing`, `clients_hear_each_change_once`). If all look at once both models agree
+//!   (`looks_without_delay_change_nothing`).
+//!
+//! # What a body could still get away with
+//!
+//! How often a service is called is a row: once for each request, and its future is polled once for each turn.
 #![tactic(auto)]
 
 mod laws;

@@ -1,4 +1,4 @@
--- A letter is sent, or a Fault is noted in its place.
+-- A datagram is sent, or a Fault is noted in its place.
 use Rattle.std.proofs.Common.{◌≡◌, ℕ, ◌+◌, ◌≤◌, List, [], ◌∷◌, ◌++◌, Bool, true, false, refl, sym, ◌∙◌, append_assoc, append-nil, length-append, arith, Some, None}
 use Rattle.std.proofs.lemmas.Bool.{le-ltb}
 use Rattle.dns_io.specs.Causes.{Rose}

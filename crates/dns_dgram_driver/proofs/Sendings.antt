@@ -209,7 +209,7 @@ module _ (answers : Serving) (settings : Settings) where
   addressed_append : (q : List Event) (xs ys : List Output) → all_addressed answers settings q (xs ++ ys) ≡ all_addressed answers settings q xs ++ all_addressed answers settings q ys
   addressed_append q xs ys = flat_map-append (addressed answers settings q) xs ys
 
-  -- what one event more, which is no Fault, adds to the letters that are delivered
+  -- what one event more, which is no Fault, adds to the datagrams that are delivered
   pub packets_more : (q : List Event) (e : Event) → AllDatagramKinds q → IsDatagramKind e.kind → is_fault e.kind ≡ false → packets_delivered answers settings (q ++ e ∷ []) ≡ packets_delivered answers settings q ++ posted answers settings q e
   packets_more q e d k h =
       ap (all_addressed answers settings (q ++ e ∷ [])) (delivered_more q e h)
@@ -235,7 +235,7 @@ module _ (answers : Serving) (settings : Settings) where
       ∙ addressed_more (q ++ e ∷ []) f (delivered answers settings q) all (rw g tt) (part_more (delivered answers settings q) q e part)
       ∙ addressed_more q e (delivered answers settings q) d k part
 
-  -- ---- all letters
+  -- ---- all datagrams
 
   pub part_addressed : (q : List Event) (xs ys : List Output) → IsPart xs ys → IsPart (all_addressed answers settings q xs) (all_addressed answers settings q ys)
   part_addressed q xs [] p = rw p refl
@@ -244,7 +244,7 @@ module _ (answers : Serving) (settings : Settings) where
   part_addressed q xs (y ∷ ys) (inr p) =
       rw p.1 (part_append (addressed answers settings q y) (addressed answers settings q y) (all_addressed answers settings q p.0) (all_addressed answers settings q ys) (part_same (addressed answers settings q y)) (part_addressed q p.0 ys p.2))
 
-  -- all letters of some events
+  -- all datagrams of some events
   abbrev pub all_packets : List Event → List Packet
   all_packets q = all_addressed answers settings q (out answers settings q)
 
@@ -258,7 +258,7 @@ module _ (answers : Serving) (settings : Settings) where
       ∙ addressed_append (q ++ e ∷ []) (out answers settings q) (gained answers settings q e)
       ∙ ap (λ (ls : List Packet). ls ++ posted answers settings q e) (addressed_more q e (out answers settings q) d k (part_same (out answers settings q)))
 
-  -- a part of all letters is one of those of more events
+  -- a part of all datagrams is one of those of more events
   pub packets_part_more : (ls : List Packet) (q : List Event) (e : Event) → AllDatagramKinds q → IsDatagramKind e.kind → IsPart ls (all_packets q) → IsPart ls (all_packets (q ++ e ∷ []))
   packets_part_more ls q e d k p = rw (all_packets_more q e d k) (rw (append-nil ls) at (part_append ls (all_packets q) [] (posted answers settings q e) p (part_none (posted answers settings q e))))
 

@@ -33,7 +33,7 @@ use Rattle.dns_dgram_driver.specs.declared.running.Running.{Running}
 use Rattle.dns_dgram_driver.proofs.Slates.{IsPost, IsPlainIn, plain_slate}
 use Rattle.dns_dgram_driver.proofs.Members.{kinds_more, conf_more, took, slate_own, slate_wide, slate_other, gained_is, gained_posts}
 
--- ---- the letter that an event adds
+-- ---- the datagram that an event adds
 
 module _ (answers : Serving) (settings : Settings) where
   post_packet : (q : List Event) (c : ℕ) (os : List Output) (addr : SocketAddr) → IsPost c os → (slate answers settings c q).addr ≡ addr → all_addressed answers settings q os ≡ one_or_none (packet_to (last_octets os) addr)

@@ -1,4 +1,4 @@
--- How what parts of the loop of datagrams did to their office follows each other.
+-- How what parts of the loop of datagrams did to their `DgramLoop` follows each other.
 use Rattle.std.proofs.Common.{◌≡◌, ◌≢◌, ℕ, refl, ap, ◌∙◌}
 use Rattle.std.specs.Prelude.{Some, Result}
 use Rattle.dns_name.specs.declared.error.OutOfMemory.{OutOfMemory as No_memory}
@@ -45,7 +45,7 @@ module _ {T W D C J R F : Type 0} where
     pub went_by : {failed_receives : D → ℕ} {end : DgramEnd} {count : ℕ} {o o1 : DgramLoop T W D C J R F} → WentTo failed_receives failed_sends end count o o1 → Went failed_sends o o1
     went_by a = record { same = a.same; passes = a.passes.passes }
 
-    -- the seat is still of the office's book
+    -- the seat is still of the loop's book
     pub same_seat : {o o1 : DgramLoop T W D C J R F} → Went failed_sends o o1 → o.state.now.seat.book ≡ o.book.now → o1.state.now.seat.book ≡ o1.book.now
     same_seat w h = rw w.same.book (w.passes.book ∙ h)
 

@@ -1,4 +1,4 @@
--- What a part of the loop of datagrams does to the office that it works in, whose objects are read so.
+-- What a part of the loop of datagrams does to the `DgramLoop` that it works in, whose objects are read so.
 use Rattle.std.specs.Prelude.{◌≡◌, ◌≤◌, ◌<◌, ◌-◌, ◌^◌, ℕ, List, true, Option, Some, Result, IfOk, OnErr}
 use Rattle.dns_name.specs.declared.error.OutOfMemory.{OutOfMemory as No_memory}
 use Rattle.dns_io.specs.Causes.{Observed}
@@ -13,7 +13,7 @@ use Rattle.dns_dgram_driver.specs.declared.serving.DgramEnd.TheVariants.{Shutdow
 use Rattle.dns_dgram_driver.specs.declared.running.Running.{Running}
 
 module _ {T W D C J R F : Type 0} where
-  -- what is seen of an office, and that its objects tell
+  -- what is seen of a loop, and that its objects tell
   abbrev pub loop_seen : (D → SockTraffic) → (D → ℕ) → (C → List ClockReading) → (J → List Event) → DgramLoop T W D C J R F → World
   loop_seen sock_traffic failed_sends readings noted o = world (noted o.journal.now) (sock_traffic o.sock.now) (failed_sends o.sock.now) (readings o.clock.now) o.state.now.seat.known
 
@@ -29,7 +29,7 @@ module _ {T W D C J R F : Type 0} where
     pub journal : o'.journal.ghost_name ≡ o.journal.ghost_name
     pub state : o'.state.ghost_name ≡ o.state.ghost_name
 
-  -- the seat is of the office's book, its service may be called, and a number is left for an exchange
+  -- the seat is of the loop's book, its service may be called, and a number is left for an exchange
   pub record MayReceive (can_call : W → Type 0) (o : DgramLoop T W D C J R F) : Type 0 where
     pub seat : o.state.now.seat.book ≡ o.book.now
     pub callable : can_call o.service.now

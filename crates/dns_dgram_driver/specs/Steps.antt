@@ -59,13 +59,14 @@ pub record NewsNoted (heard look : Look) (n n' : List Event) (c c' : List ClockR
   pub noted : n' ≡ n ++ events
   pub clock : Clocked events c c' 0 0
 
--- of a socket letters were sent, and beside that only sends answered Again
+-- datagrams were sent by a socket, and beside that only sends answered Again
 pub record Posts (packets : List Packet) (m m' : SockTraffic) : Type 0 where
   pub received : m'.received ≡ m.received
   pub sent : m'.sent ≡ m.sent ++ packets
   pub empty : m'.empty_receives ≡ m.empty_receives
 
--- how the sending of some letters ended, which are one or none: they were sent; a send failed; or so much time has passed since a moment
+-- How the send of some datagrams ended, which are one or none. They were sent; a send failed; or so much time has
+-- passed since a moment.
 pub record SentSo (packets : List Packet) (m m' : SockTraffic) (c c' : List ClockReading) : Type 0 where
   pub posts : Posts packets m m'
   pub waited : Waited m.full_sends m'.full_sends c c'
@@ -167,7 +168,7 @@ module _ {W R F : Type 0} (answer : PolledRequest F R → ℕ → Answer) (answe
   KeepsExchange (x ∷ []) s = IsKeptOf x s
   KeepsExchange (x ∷ y ∷ xs) s = ⊥
 
-  -- at each slate of which this was kept, the letter is what is sent, and of the slate after it this is kept
+  -- at each slate of which this was kept, the datagram is what is sent, and of the slate after it this is kept
   abbrev pub ExchangeLeads : List (KeptExchange W R F) → Option Packet → List (KeptExchange W R F) → Slate → Effect → Type 0
   ExchangeLeads old packet new s t = KeepsExchange old s → (packet ≡ packet_to (last_octets t.1) t.0.addr) × KeepsExchange new t.0
 
@@ -175,7 +176,7 @@ module _ {W R F : Type 0} (answer : PolledRequest F R → ℕ → Answer) (answe
   pub record TurnedExchange (old : List (KeptExchange W R F)) (packet : Option Packet) (new : List (KeptExchange W R F)) : Type 0 where
     pub leads : (e : Event) (s : Slate) → e.kind ≡ Turn 0 → ExchangeLeads old packet new s (rule answers e s)
 
-  -- the same of one that is kept, and whether it is finished then
+  -- a Turn of one exchange that is kept, and whether it is finished then
   pub record TurnedOne (old : KeptExchange W R F) (packet : Option Packet) (done : Bool) (new : KeptExchange W R F) : Type 0 where
     pub packet_is : (e : Event) (s : Slate) → e.kind ≡ Turn 0 → IsKeptOf old s → packet ≡ packet_to (last_octets (rule answers e s).1) (rule answers e s).0.addr
     pub done_is : (e : Event) (s : Slate) → e.kind ≡ Turn 0 → IsKeptOf old s → done ≡ is_finished (rule answers e s).0

@@ -16,7 +16,7 @@ use dns_session::{KeptRequest, begin_exchange};
 use std::alloc::Global;
 use std::collections::VecDeque;
 
-/// The octets as a letter to an address, where there are some.
+/// The octets as a datagram to an address, if there are any.
 fn packet_to(octets: Option<Octets>, addr: SocketAddr) -> Option<Packet>
     ensures { result ≡ packet_to octets addr }
 {

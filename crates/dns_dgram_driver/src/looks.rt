@@ -59,8 +59,8 @@ impl<R: Wait, W: SharedService, D: AsyncDgramSock, C: Clock, J: Recorder> DgramL
     C,
     J,
 > {
-    #[tactic(auto, using(crate::proofs::Passes::passes_news))]
     /// One look, and its news.
+    #[tactic(auto, using(crate::proofs::Passes::passes_news))]
     pub(crate) fn look_once(&mut self) -> Result<(), OutOfMemory>
         requires { self.old.state.now.seat.book ≡ self.old.book.now }
         ensures polls { OnlyPolls D.failed_receives D.failed_sends self.old self.new }

@@ -25,8 +25,8 @@ impl<R: Wait, W: SharedService, D: AsyncDgramSock, C: Clock, J: Recorder> DgramL
     C,
     J,
 > {
-    #[tactic(auto, using(crate::proofs::Passes::passes_kept))]
     /// A Turn of the first exchange, after it was noted, and what is sent for it. Whether its request is done is given.
+    #[tactic(auto, using(crate::proofs::Passes::passes_kept))]
     fn turn_noted(&mut self, head: EventHead) -> Result<bool, OutOfMemory>
         requires there { 0 < deque_len self.old.state.now.exchanges }
         requires number { IsFirstNumber head.client self.old.state.now.exchanges.items }
@@ -45,8 +45,8 @@ impl<R: Wait, W: SharedService, D: AsyncDgramSock, C: Clock, J: Recorder> DgramL
         }
     }
 
-    #[tactic(auto, using(crate::proofs::Passes::passes_same))]
     /// Polls the first exchange, which has this number, after its look. Whether its request is done is given.
+    #[tactic(auto, using(crate::proofs::Passes::passes_same))]
     fn turn(&mut self, number: u64) -> Result<bool, OutOfMemory>
         requires there { 0 < deque_len self.old.state.now.exchanges }
         requires number { IsFirstNumber number self.old.state.now.exchanges.items }
@@ -62,7 +62,8 @@ impl<R: Wait, W: SharedService, D: AsyncDgramSock, C: Clock, J: Recorder> DgramL
         }
     }
 
-    /// The same with its look.
+    /// Looks at the book once, then polls the first exchange, which has this number. The result is true if its request
+    /// is done.
     fn poll_one(&mut self, number: u64) -> Result<bool, OutOfMemory>
         requires book { self.old.state.now.seat.book ≡ self.old.book.now }
         requires there { 0 < deque_len self.old.state.now.exchanges }

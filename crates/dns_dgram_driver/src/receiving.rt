@@ -35,8 +35,8 @@ impl<R: Wait, W: SharedService, D: AsyncDgramSock, C: Clock, J: Recorder> DgramL
     C,
     J,
 > {
-    #[tactic(auto, using(crate::proofs::Passes::passes_kept))]
     /// Begins the exchange of a datagram that was noted, and sends what it leads to at once.
+    #[tactic(auto, using(crate::proofs::Passes::passes_kept))]
     fn begin_noted(
         &mut self,
         head: EventHead,
@@ -63,8 +63,8 @@ impl<R: Wait, W: SharedService, D: AsyncDgramSock, C: Clock, J: Recorder> DgramL
         }
     }
 
-    #[tactic(auto, using(crate::proofs::Passes::passes_same))]
     /// Notes a datagram that was received, and begins its exchange.
+    #[tactic(auto, using(crate::proofs::Passes::passes_same))]
     fn take_datagram(&mut self, octets: &[u8], from: SocketAddr) -> Result<(), OutOfMemory>
         requires can_call { W.can_call self.old.service.now }
         requires running { self.old.state.now.heard.closed ≡ false }
@@ -92,8 +92,8 @@ impl<R: Wait, W: SharedService, D: AsyncDgramSock, C: Clock, J: Recorder> DgramL
         }
     }
 
-    #[tactic(auto, using(crate::proofs::Passes::passes_same))]
     /// One receive. Where no datagram is there it waits.
+    #[tactic(auto, using(crate::proofs::Passes::passes_same))]
     fn receive(&mut self, buf: &mut [u8]) -> Result<RecvOutcome, OutOfMemory>
         requires can_call { W.can_call self.old.service.now }
         requires running { self.old.state.now.heard.closed ≡ false }

@@ -31,7 +31,7 @@ pub(crate) struct Running<W: SharedService> {
     pub(crate) send_failed: bool,
 }
 
-/// Nothing was received yet, and this was heard.
+/// The state of a loop before its first datagram, which heard this look.
 pub(crate) fn begun<W: SharedService>(alloc: Global, heard: Look, seat: BookSeat) -> Running<W>
     ensures empty { (c : ℕ) → kept_at c result.exchanges.items ≡ [] }
     ensures next { result.next ≡ 0 }

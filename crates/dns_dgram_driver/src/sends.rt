@@ -1,4 +1,4 @@
-//! Letters are sent.
+//! Sends of datagrams.
 
 ghost use Rattle.std.specs.Prelude.{◌≡◌, ◌≤◌, [], ◌∷◌, OnOk, OnErr};
 ghost use Rattle.dns_io.specs.Causes.{Observed};
@@ -13,7 +13,7 @@ use dns_service::{EventKind, OutOfMemory, SharedService};
 use std::alloc::Global;
 use std::sync::Wait;
 
-/// How the sending of a letter ended: it was sent, a call failed, or it is late, at a reading of the clock.
+/// How the send of a datagram ended: it was sent, a call failed, or it was late, at a reading of the clock.
 #[derive(Clone, Copy)]
 pub(crate) enum SendEnd {
     Sent,
@@ -21,8 +21,8 @@ pub(crate) enum SendEnd {
     Late(u64, u64),
 }
 
+/// Sends a datagram. While there is no room for it, it waits, until so much time has passed since a moment.
 #[tactic(auto, using(crate::proofs::Posting::sent_none, crate::proofs::Posting::sent_again, crate::proofs::Posting::sent_late, crate::proofs::Posting::sent_whole, crate::proofs::Posting::sent_failed))]
-/// Sends a letter. Where there is no room for it yet it waits, until so much time has passed since a moment.
 #[inline(always)]
 fn send<R: Wait, D: AsyncDgramSock, C: Clock>(
     rt: &R,
@@ -55,7 +55,8 @@ fn send<R: Wait, D: AsyncDgramSock, C: Clock>(
     unreachable!()
 }
 
-/// Sends what an event led to, where that is a letter. Where it isn't sent a Fault is noted; whether a send failed is kept.
+/// Sends what an event led to, if that is a datagram. If it isn't sent a Fault is noted; whether a send failed is
+/// kept.
 #[inline(always)]
 pub(crate) fn deliver<R: Wait, D: AsyncDgramSock, C: Clock, J: Recorder>(
     rt: &R,
@@ -101,8 +102,8 @@ impl<R: Wait, W: SharedService, D: AsyncDgramSock, C: Clock, J: Recorder> DgramL
     C,
     J,
 > {
-    #[tactic(auto, using(crate::proofs::Passes::passes_kept))]
     /// Sends what an event of an exchange led to, within the write timeout that is in force.
+    #[tactic(auto, using(crate::proofs::Passes::passes_kept))]
     #[inline(always)]
     pub(crate) fn send_for(
         &mut self,

@@ -65,7 +65,7 @@ impl<R: Wait, W: SharedService, D: AsyncDgramSock, C: Clock, J: Recorder> DgramL
     }
 }
 
-/// The same by what they are lent for.
+/// Serves `count` datagrams at most after the news of the first look, in a loop that borrows all it works on.
 fn serve_begun<'x, R: Wait, D: AsyncDgramSock, C: Clock, J: Recorder, W: SharedService>(
     rt: &'x R,
     alloc: Global,

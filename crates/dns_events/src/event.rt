@@ -13,6 +13,7 @@ pub struct Event {
     pub kind: EventKind,
 }
 
+/// What happened: to a datagram, to a connection, to a request, or to the whole server.
 #[derive(Drop)]
 pub enum EventKind {
     /// A datagram came from an address.
@@ -71,11 +72,11 @@ pub enum Why {
     Fault,
     /// A frame was shorter than a header.
     Short,
-    /// Nothing came for too long.
+    /// The connection was idle for too long.
     Idle,
     /// A write took too long.
     WriteTimeout,
-    /// It was to be closed.
+    /// The connection was closed by a command.
     Commanded,
     /// The server shuts down.
     Shutdown,

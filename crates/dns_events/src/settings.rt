@@ -38,7 +38,7 @@ impl Settings {
         }
     }
 
-    /// A copy.
+    /// A copy in memory of its own, secret and denied addresses included.
     pub fn try_clone(&self, alloc: Global) -> Result<Settings, OutOfMemory>
         ensures { IfOk result (λ s. s ≡ self.now) }
     {

@@ -39,7 +39,7 @@ sum_of a b = record {
   turned_away = a.turned_away + b.turned_away;
 }
 
--- the same, of numbers that go no further than 128 bits do
+-- the sum of two counts, each number of which stops at 2^128 - 1
 abbrev pub saturated_sum : Counts → Counts → Counts
 saturated_sum a b = record {
   datagrams = min (a.datagrams + b.datagrams) (2 ^ 128 - 1);

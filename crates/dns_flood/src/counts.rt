@@ -68,7 +68,7 @@ fn count(outputs: &[Output]) -> Counts
 }
 
 impl Counts {
-    /// None.
+    /// Counts of no outputs: every number is 0.
     #[tactic(auto, unfolding(crate::specs::Counts::output_counts))]
     pub fn new() -> Counts
         ensures { result ≡ output_counts [] }

@@ -153,7 +153,7 @@ fn count_events<W: SharedService>(
     count_each(alloc, &mut server, &service, seed, count)
 }
 
-/// The same, by a service in the layers of the settings.
+/// Counts the outputs of a flood of `count` events that a service answers within the layers of the settings.
 fn count_served<S: Service<()>, N: Notifiable>(
     alloc: Global,
     settings: &Settings,

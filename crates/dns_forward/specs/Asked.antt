@@ -94,7 +94,7 @@ led_to (OfTick GaveUp ∷ os) = Ready (Err Timeout)
 led_to (OfTick Send ∷ os) = led_to os
 led_to (OfTick Nothing ∷ os) = led_to os
 
--- the same with one outcome more
+-- what outcomes lead to after one outcome more
 abbrev pub led_on : SentAnswer → AskingOutcome → SentAnswer
 led_on (Ready answer) o = Ready answer
 led_on Pending o = led_to (o ∷ [])

@@ -26,7 +26,7 @@ pub fn ask_all(
     all_heard(alloc, &mut asking, events)
 }
 
-/// The same of an asking that is lent.
+/// Gives the events to a borrowed asking, in order: one outcome for each.
 fn all_heard(
     alloc: Global,
     asking: &mut Asking,

@@ -50,7 +50,7 @@ impl Asking {
         Asking::of(alloc, message, id, tries.clamp(1, 8), timeout.max(1), at)
     }
 
-    /// The same of tries and a timeout that are limited.
+    /// Begins an asking whose tries, at least one, and timeout are taken as they are.
     fn of(
         alloc: Global,
         message: Message,
@@ -109,8 +109,8 @@ impl Asking {
         }
     }
 
-    /// The answer, where octets that arrive are the first that match: under the identifier of the message that was asked, and
-    /// as it is, truncated too. A refused call is as none.
+    /// The answer, if octets that arrive are the first that match. It is given under the identifier of the message
+    /// that was asked, otherwise as it came, truncated or not. A call without memory changes nothing.
     pub fn arrived(
         &mut self,
         alloc: Global,
@@ -155,7 +155,7 @@ impl Asking {
         }
     }
 
-    /// What comes of an event. A refused call is as none.
+    /// What comes of an event. A call without memory changes nothing.
     pub(crate) fn apply_event(
         &mut self,
         alloc: Global,

@@ -74,7 +74,7 @@ fn single_question<'a>(message: &MessageRef<'a>) -> Option<QuestionRef<'a>>
     None
 }
 
-/// The same, owned.
+/// A message's question, copied, if it has exactly one that can be read.
 fn asked_question(alloc: Global, message: &Message) -> Result<Option<Question>, OutOfMemory>
     ensures { IfOk result (λ q. q ≡ single_question message.now) }
 {

@@ -68,7 +68,7 @@ impl<
 where
     A::Link: Send + Drop + 'static,
 {
-    /// Both beside each other, datagrams in a thread of their own.
+    /// Accepts connections and serves datagrams beside each other, the latter in a thread of their own.
     fn both_beside<
         R: Threads + Wait + Copy + Send + Sync + 'static,
         W: SharedService + Send + Sync + 'static,
@@ -110,8 +110,8 @@ where
         )
     }
 
-    #[tactic(auto, using(crate::proofs::Hostings::host_served))]
     /// Serves both from the halves of a seat. Then `join_all` waits for the work, and the book is shut down.
+    #[tactic(auto, using(crate::proofs::Hostings::host_served))]
     fn serve<
         R: Threads + Wait + Copy + Send + Sync + 'static,
         W: SharedService + Send + Sync + 'static,
@@ -208,10 +208,10 @@ fn shared<C: Clock, W: SharedService>(
     Ok((service, clock))
 }
 
-#[tactic(auto, using(crate::proofs::Hostings::none_served))]
 /// Serves connections and datagrams beside each other, until `count` of each were taken, `count` not 0, or a look shows a
 /// shutdown. Then `join_all` of the spawner waits for the work, of which no clause says that it has ended, and the book is
 /// shut down.
+#[tactic(auto, using(crate::proofs::Hostings::none_served))]
 pub fn host_service<
     R: Threads + Wait + Copy + Send + Sync + 'static,
     A: AsyncAccept,

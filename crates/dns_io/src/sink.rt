@@ -33,7 +33,7 @@ pub trait Sink {
         ensures cause { WriteCause result (faults self.old) (faults self.new) };
 }
 
-/// A write failed.
+/// A write failed, so that the rest of a piece wasn't written.
 #[derive(Clone, Copy, Debug, PartialEq, Eq)]
 pub struct WriteFault;
 

@@ -53,20 +53,21 @@ impl<'a> Clone for HeldChain<NameRef<'a>> {
 }
 
 impl<N: HoldsName> HeldChain<N> {
+    /// The option of a name that the client trusts already (RFC 7901).
     pub fn new(start: N) -> HeldChain<N>
         ensures { result ≡ N.labels start }
     {
         HeldChain { start }
     }
 
-    /// The name.
+    /// The closest name that the client trusts already (RFC 7901).
     pub fn start(&self) -> &N
         ensures { N.labels result.now ≡ self.now }
     {
         &self.start
     }
 
-    /// The name.
+    /// Gives the name back, which isn't copied.
     pub fn into_start(self) -> N
         ensures { N.labels result ≡ self }
     {
@@ -76,7 +77,7 @@ impl<N: HoldsName> HeldChain<N> {
 }
 
 impl<'a> HeldChain<NameRef<'a>> {
-    /// Reads one uncompressed name.
+    /// Reads one uncompressed name; octets after it are left in the parser.
     pub fn parse(parser: &mut Parser<'a>) -> Result<ChainRef<'a>, ParseError>
         ensures { ParsesData (chain_data (rest parser.old)) parser.old parser.new result }
     {
@@ -85,7 +86,7 @@ impl<'a> HeldChain<NameRef<'a>> {
         Ok(HeldChain { start })
     }
 
-    /// The same name, owned.
+    /// Copies the name into an owned option.
     pub fn to_owned(&self, alloc: Global) -> Result<Chain, OutOfMemory>
         ensures { IfOk result (λ k. k ≡ self.now) }
     {
@@ -95,7 +96,7 @@ impl<'a> HeldChain<NameRef<'a>> {
 }
 
 impl HeldChain<Name> {
-    /// The same name, borrowed.
+    /// Borrows the option; the name isn't copied.
     pub fn for_slice(&self) -> ChainRef<'_>
         ensures { result ≡ self.now }
     {

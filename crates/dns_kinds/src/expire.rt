@@ -32,13 +32,14 @@ impl Model for Expire {
 }
 
 impl Expire {
+    /// The option of these seconds, or of none, as a client sends it.
     pub fn new(expire: Option<u32>) -> Expire
         ensures { result ≡ expire }
     {
         Expire { expire }
     }
 
-    /// The seconds.
+    /// How many seconds until the zone expires (RFC 7314), none in a client's request.
     pub fn expire(&self) -> Option<u32>
         ensures { result ≡ self.now }
     {

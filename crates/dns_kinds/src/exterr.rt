@@ -64,7 +64,7 @@ impl<S: HoldsOctets> HeldExtendedError<S> {
         })
     }
 
-    /// The code.
+    /// The info code (RFC 8914, section 5.2).
     pub fn code(&self) -> ExtendedErrorCode
         ensures { result ≡ self.now.code }
     {
@@ -91,7 +91,7 @@ impl<'a> HeldExtendedError<&'a [u8]> {
         }
     }
 
-    /// The text's octets.
+    /// The octets of the text, none if there is no text.
     pub fn text_slice(&self) -> Option<&'a [u8]>
         ensures { option_copied result ≡ self.now.text }
     {
@@ -110,7 +110,7 @@ impl<'a> HeldExtendedError<&'a [u8]> {
         Ok(found)
     }
 
-    /// The same value, owned.
+    /// Copies the code and the text into an owned option.
     pub fn to_owned(&self, alloc: Global) -> Result<ExtendedError, OutOfMemory>
         ensures { IfOk result (λ k. k ≡ self.now) }
     {
@@ -172,7 +172,7 @@ impl HeldExtendedError<Vec<u8>> {
         self.for_slice().text()
     }
 
-    /// The text's octets.
+    /// The octets of the text, none if there is no text.
     pub fn text_slice(&self) -> Option<&[u8]>
         ensures { option_copied result ≡ self.now.text }
     {
@@ -193,7 +193,7 @@ impl HeldExtendedError<Vec<u8>> {
         Ok(())
     }
 
-    /// The same value, borrowed.
+    /// Borrows the option; its text isn't copied.
     pub fn for_slice(&self) -> ExtendedErrorRef<'_>
         ensures { result ≡ self.now }
     {

@@ -45,7 +45,7 @@ impl IdleTimeout {
         })
     }
 
-    /// The time in ms.
+    /// The time in ms, a multiple of 100.
     pub fn to_millis(self) -> u64
         ensures { result ≡ 100 * self }
     {
@@ -111,13 +111,14 @@ impl Model for TcpKeepalive {
 }
 
 impl TcpKeepalive {
+    /// The option of this timeout, or of none, as a client sends it.
     pub fn new(timeout: Option<IdleTimeout>) -> TcpKeepalive
         ensures { result ≡ timeout }
     {
         TcpKeepalive { timeout }
     }
 
-    /// The timeout.
+    /// The idle timeout that a server offers (RFC 7828), none in a client's request.
     pub fn timeout(self) -> Option<IdleTimeout>
         ensures { result ≡ self }
     {

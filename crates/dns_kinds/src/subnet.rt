@@ -75,7 +75,7 @@ impl ClientSubnet {
         self.scope
     }
 
-    /// The address.
+    /// The address, whose bits past the source prefix are 0.
     pub fn addr(&self) -> IpAddr
         ensures { result ≡ self.now.addr }
     {

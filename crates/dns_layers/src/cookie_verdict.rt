@@ -13,15 +13,15 @@ use dns_service::{Asked, AskedCookie, Request, TransportSpecificContext};
 /// How a request's cookie is taken.
 #[derive(Clone, Copy, Debug)]
 pub enum CookieVerdict {
-    /// There is none.
+    /// The request has no cookie.
     Absent,
-    /// It can't be read.
+    /// The request's cookie can't be read.
     Malformed,
-    /// It has no server part.
+    /// The request has a client cookie alone.
     Bare(Cookie),
     /// The server made it for this client, and lately.
     Good(Cookie),
-    /// Its server part isn't good.
+    /// The request's server cookie isn't one that this server made for this client lately.
     Wrong(Cookie),
 }
 
@@ -152,9 +152,9 @@ fn denied_over(transport: &TransportSpecificContext, denied: &[IpAddr], address:
     }
 }
 
+/// The layer's own answer to a request with a readable cookie, if any. Without a question, denied addresses don't
+/// matter. If there is one, only a denied address may get an answer, so that for others no hash is computed.
 #[tactic(auto, using(crate::proofs::CookieLaws::unasked_alone, crate::proofs::CookieLaws::passes_undenied))]
-/// The same of a cookie that was sent. Without a question the addresses that are denied change nothing; with one, and from an
-/// address that isn't, neither does the cookie, so that its hash isn't made.
 fn sent_answer(
     secret: &[u8; 16],
     denied: &[IpAddr],

@@ -48,7 +48,7 @@ impl<S> CookiesMiddlewareSvc<S> {
         }
     }
 
-    /// The same layer, which denies these addresses service over UDP without a good cookie.
+    /// Sets the addresses that are refused service over UDP without a good cookie, in place of those set before.
     pub fn with_denied_ips(self, denied: Vec<IpAddr>) -> Self
         ensures { result ≡ record self { denied = denied.items } }
     {
@@ -60,7 +60,7 @@ impl<S> CookiesMiddlewareSvc<S> {
         }
     }
 
-    /// The same layer, enabled or not.
+    /// Enables or disables the layer; secret and denied addresses stay.
     pub fn enable(self, enabled: bool) -> Self
         ensures { result ≡ record self { enabled = enabled } }
     {

@@ -38,7 +38,7 @@ impl<S> EdnsMiddlewareSvc<S> {
         }
     }
 
-    /// The same layer, enabled or not.
+    /// Enables or disables the layer. The service stays.
     pub fn enable(self, enabled: bool) -> Self
         ensures { result ≡ record self { enabled = enabled } }
     {

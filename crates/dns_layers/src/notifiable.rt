@@ -17,7 +17,7 @@ use std::sync::Arc;
 /// Why a change isn't taken.
 #[derive(Clone, Copy, Debug, PartialEq, Eq)]
 pub enum NotifyError {
-    /// It isn't authoritative for the zone: the reply is NOTAUTH.
+    /// The target isn't authoritative for the zone: the reply is NOTAUTH.
     NotAuthForZone,
     /// Anything else: the reply is SERVFAIL.
     Other,
@@ -34,7 +34,7 @@ pub trait VerdictFuture: Drop {
         ensures later { IfOk result (IfPending ((k : ℕ) → verdict self.new k ≡ verdict self.old (suc k))) };
 }
 
-/// Takes changes of zones.
+/// Is told of zones that changed (NOTIFY, RFC 1996), and gives a verdict on each, by its future.
 pub trait Notifiable: Drop {
     type Future: VerdictFuture;
 

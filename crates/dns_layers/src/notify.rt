@@ -31,7 +31,7 @@ pub struct NotifyMiddlewareSvc<S, N> {
 }
 
 impl<S, N> NotifyMiddlewareSvc<S, N> {
-    /// Round a service.
+    /// A layer round a service, which tells the target of changed zones.
     pub fn new(next: S, target: N) -> Self
         ensures { result ≡ record { next = next; target = target } }
     {

@@ -29,7 +29,7 @@ pub struct Rewriting<R> {
 }
 
 impl<R: Rewrite> Rewriting<R> {
-    /// By a rule.
+    /// Maps the items of a service by this rule.
     pub fn new(rule: R) -> Self
         ensures { (r : Request (Unit {0})) (i : Item) → ⟦<Rewriting<R> as Postprocess<()>>⟧.post result r i ≡ rewritten (R.rewriting rule) i }
     {

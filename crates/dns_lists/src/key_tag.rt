@@ -94,7 +94,7 @@ impl<'a> HeldKeyTag<&'a [u8]> {
         Ok(found)
     }
 
-    /// The octets.
+    /// The octets that are borrowed, two for each tag.
     pub fn as_octets(&self) -> &'a [u8]
         ensures value { result.now ≡ self.now }
         ensures tags { AreTags self.now }
@@ -102,7 +102,7 @@ impl<'a> HeldKeyTag<&'a [u8]> {
         self.octets.lent()
     }
 
-    /// The octets.
+    /// The octets as a slice, two for each tag.
     pub fn as_slice(&self) -> &'a [u8]
         ensures value { result.now ≡ self.now }
         ensures tags { AreTags self.now }
@@ -110,14 +110,14 @@ impl<'a> HeldKeyTag<&'a [u8]> {
         self.octets.lent()
     }
 
-    /// The tags, in order.
+    /// The tags as numbers, in the order of the octets.
     pub fn iter(&self) -> KeyTagIter<'a>
         ensures { result ≡ tags self.now }
     {
         KeyTagIter::of(self.octets.lent())
     }
 
-    /// The same tags, owned.
+    /// Copies the tags into an owned option.
     pub fn to_owned(&self, alloc: Global) -> Result<KeyTag, OutOfMemory>
         ensures { IfOk result (λ k. k ≡ self.now) }
     {
@@ -138,14 +138,14 @@ impl HeldKeyTag<Vec<u8>> {
         Ok(HeldKeyTag::of(octets))
     }
 
-    /// The octets.
+    /// The vector of the octets, two for each tag.
     pub fn as_octets(&self) -> &Vec<u8>
         ensures { result.now.items ≡ self.now }
     {
         self.octets.as_vec()
     }
 
-    /// The octets.
+    /// The octets as a slice, two for each tag.
     pub fn as_slice(&self) -> &[u8]
         ensures value { result.now ≡ self.now }
         ensures tags { AreTags self.now }
@@ -153,14 +153,14 @@ impl HeldKeyTag<Vec<u8>> {
         self.octets.as_slice()
     }
 
-    /// The same tags, borrowed.
+    /// Borrows the tags; nothing is copied.
     pub fn for_slice(&self) -> KeyTagRef<'_>
         ensures { result ≡ self.now }
     {
         HeldKeyTag::of(self.octets.as_slice())
     }
 
-    /// The octets, for writing.
+    /// The octets, to be overwritten; how many there are stays.
     pub fn as_slice_mut(&mut self) -> &mut [u8]
         ensures* writes_back { sem 𝓛 (LendsTags self.entry result) }
         ensures value { result.now ≡ self.old }
@@ -168,7 +168,7 @@ impl HeldKeyTag<Vec<u8>> {
         self.octets.as_mut_slice()
     }
 
-    /// The tags, in order.
+    /// The tags as numbers, in the order of the octets.
     pub fn iter(&self) -> KeyTagIter<'_>
         ensures { result ≡ tags self.now }
     {

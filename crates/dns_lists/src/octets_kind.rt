@@ -49,21 +49,25 @@ impl OctetsKind for PaddingKind {
     }
 }
 
-/// Any octets, owned.
+/// Any octets under the code of a kind, in memory of their own.
 pub type Plain<K> = OctetsOption<Vec<u8>, K>;
 
-/// Any octets, borrowed.
+/// Any octets under the code of a kind, borrowed.
 pub type PlainRef<'a, K> = OctetsOption<&'a [u8], K>;
 
+/// The identifier of a name server, in memory of its own (RFC 5001).
 pub type Nsid = Plain<NsidKind>;
 
+/// Padding of a message, in memory of its own (RFC 7830).
 pub type Padding = Plain<PaddingKind>;
 
+/// The identifier of a name server, borrowed (RFC 5001).
 pub type NsidRef<'a> = PlainRef<'a, NsidKind>;
 
+/// Padding of a message, borrowed (RFC 7830).
 pub type PaddingRef<'a> = PlainRef<'a, PaddingKind>;
 
-/// Any octets in S.
+/// Any octets under the code of a kind, at most 65,535, in S.
 #[derive(Drop)]
 #[derive_where(Debug, PartialEq, Eq, PartialOrd, Ord, Hash)]
 #[derive_where(Clone; S: Copy)]
@@ -106,7 +110,7 @@ impl<S: HoldsOctets, K: OctetsKind> OctetsOption<S, K> {
 }
 
 impl<'a, K: OctetsKind> OctetsOption<&'a [u8], K> {
-    /// The octets of a slice.
+    /// Borrows octets as the option. Refused above 65,535 octets.
     pub fn from_slice(octets: &'a [u8]) -> Result<PlainRef<'a, K>, LongOptData>
         ensures { MatchResult result (λ k. (length octets.now ≤ 65535) × (k ≡ octets.now)) (λ _. 65535 < length octets.now) }
     {
@@ -123,7 +127,7 @@ impl<'a, K: OctetsKind> OctetsOption<&'a [u8], K> {
         Ok(found)
     }
 
-    /// The octets.
+    /// The octets that are borrowed.
     pub fn as_octets(&self) -> &'a [u8]
         ensures value { result.now ≡ self.now }
         ensures short { length self.now ≤ 65535 }
@@ -131,7 +135,7 @@ impl<'a, K: OctetsKind> OctetsOption<&'a [u8], K> {
         self.octets.lent()
     }
 
-    /// The octets.
+    /// The octets as a slice, at most 65,535.
     pub fn as_slice(&self) -> &'a [u8]
         ensures value { result.now ≡ self.now }
         ensures short { length self.now ≤ 65535 }
@@ -139,7 +143,7 @@ impl<'a, K: OctetsKind> OctetsOption<&'a [u8], K> {
         self.octets.lent()
     }
 
-    /// The same octets, owned.
+    /// Copies the octets into an owned option.
     pub fn to_owned(&self, alloc: Global) -> Result<Plain<K>, OutOfMemory>
         ensures { IfOk result (λ k. k ≡ self.now) }
     {
@@ -157,14 +161,14 @@ impl<K: OctetsKind> OctetsOption<Vec<u8>, K> {
         Ok(OctetsOption::of(octets))
     }
 
-    /// The octets.
+    /// The vector of the octets.
     pub fn as_octets(&self) -> &Vec<u8>
         ensures { result.now.items ≡ self.now }
     {
         self.octets.as_vec()
     }
 
-    /// The octets.
+    /// The octets as a slice, at most 65,535.
     pub fn as_slice(&self) -> &[u8]
         ensures value { result.now ≡ self.now }
         ensures short { length self.now ≤ 65535 }
@@ -172,7 +176,7 @@ impl<K: OctetsKind> OctetsOption<Vec<u8>, K> {
         self.octets.as_slice()
     }
 
-    /// The same octets, borrowed.
+    /// Borrows the option; its octets aren't copied.
     pub fn for_slice(&self) -> PlainRef<'_, K>
         ensures { result ≡ self.now }
     {

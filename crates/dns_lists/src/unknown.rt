@@ -61,7 +61,7 @@ impl<S: HoldsOctets> HeldUnknown<S> {
         Ok(HeldUnknown::of(code, octets))
     }
 
-    /// The code.
+    /// The code that the option stands under.
     pub fn code(&self) -> OptionCode
         ensures { result ≡ self.now.code }
     {
@@ -70,14 +70,14 @@ impl<S: HoldsOctets> HeldUnknown<S> {
 }
 
 impl<'a> HeldUnknown<&'a [u8]> {
-    /// The octets.
+    /// The octets of the data that are borrowed.
     pub fn data(&self) -> &'a [u8]
         ensures { result.now ≡ self.now.octets }
     {
         self.octets.lent()
     }
 
-    /// The octets.
+    /// The octets of the data as a slice, at most 65,535.
     pub fn as_slice(&self) -> &'a [u8]
         ensures value { result.now ≡ self.now.octets }
         ensures short { length self.now.octets ≤ 65535 }
@@ -85,7 +85,7 @@ impl<'a> HeldUnknown<&'a [u8]> {
         self.octets.lent()
     }
 
-    /// The same data, owned.
+    /// Copies the octets into an owned option of this code.
     pub fn to_owned(&self, alloc: Global) -> Result<UnknownOptData, OutOfMemory>
         ensures { IfOk result (λ k. k ≡ self.now) }
     {
@@ -98,14 +98,14 @@ impl HeldUnknown<Vec<u8>> {
     ghost use Rattle.std.specs.Borrow.{sem};
     ghost use Rattle.dns_lists.specs.Lending.{LendsData};
 
-    /// The octets.
+    /// The vector of the data's octets.
     pub fn data(&self) -> &Vec<u8>
         ensures { result.now.items ≡ self.now.octets }
     {
         self.octets.as_vec()
     }
 
-    /// The octets.
+    /// The octets of the data as a slice, at most 65,535.
     pub fn as_slice(&self) -> &[u8]
         ensures value { result.now ≡ self.now.octets }
         ensures short { length self.now.octets ≤ 65535 }
@@ -113,7 +113,7 @@ impl HeldUnknown<Vec<u8>> {
         self.octets.as_slice()
     }
 
-    /// The octets, for writing.
+    /// The octets of the data, to be overwritten; code and length stay.
     pub fn as_slice_mut(&mut self) -> &mut [u8]
         ensures* writes_back { sem 𝓛 (LendsData self.entry result) }
         ensures value { result.now ≡ self.old.octets }
@@ -121,7 +121,7 @@ impl HeldUnknown<Vec<u8>> {
         self.octets.as_mut_slice()
     }
 
-    /// The same data, borrowed.
+    /// Borrows the option; its octets aren't copied.
     pub fn for_slice(&self) -> UnknownOptDataRef<'_>
         ensures { result ≡ self.now }
     {

@@ -1,5 +1,28 @@
-//! Sources, sinks, links, sockets, accept objects and clocks in memory, and spawners, which keep the threads that they
-//! started.
+//! Sources, sinks, links, sockets, clocks and spawners in memory, for proofs and tests. It exports dns_io.
+//!
+//! - Forms named `Memory..` fail or answer Again at listed calls. `ListedCalls` counts calls from 0 and says which of
+//!   them fail or answer Again (`CallFate`).
+//! - Forms named `Steady..` never fail: `SteadySource`, `SteadySink`, `SteadyLink`, `SteadySock`, `SteadyAccept`.
+//! - `MemoryClock` gives the readings of a list, and then the last one for ever.
+//! - `MemorySpawner` starts each work in a thread, except the listed starts, and tells the addresses. `ThreadSpawner`
+//!   starts each work in a thread and tells nothing.
+//!
+//! ```text
+//! MemorySock::new(incoming, lists) -> serve_datagrams -> sock.sent()
+//! MemoryLink::new(input, output, most, lists) -> serve_connection -> link.written()
+//! ```
+//!
+//! # What is proved
+//!
+//! - Each call does exactly what its lists say: a listed call fails, and no other one does except for lack of memory.
+//! - What came in and what is left, joined, is what was handed to `new`. What was taken stands after what was there.
+//! - These forms tell: contracts know what they hold. A steady form that finds no memory goes on, and contracts no
+//!   longer know what it holds.
+//! - A wait changes nothing.
+//!
+//! # What a body could still get away with
+//!
+//! Which calls a caller makes; how much memory a form takes.
 #![tactic(auto)]
 
 mod kept_threads;

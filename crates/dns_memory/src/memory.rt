@@ -39,7 +39,7 @@ impl MemorySource {
         }
     }
 
-    /// The octets left.
+    /// The octets that weren't read yet.
     pub fn left(&self) -> &[u8]
         ensures { result.now ≡ self.now.left }
     {
@@ -104,7 +104,7 @@ impl MemorySink {
         }
     }
 
-    /// The octets taken.
+    /// All octets taken so far, after those that were handed in.
     pub fn written(&self) -> &[u8]
         ensures { result.now ≡ self.now.taken }
     {

@@ -32,7 +32,7 @@ impl<L: Drop> Model for MemoryAccept<L> {
 }
 
 impl<L: Drop> MemoryAccept<L> {
-    /// Gives these connections.
+    /// Gives these connections in order, except at listed calls.
     pub fn new(
         alloc: Global,
         connections: VecDeque<(L, SocketAddr)>,

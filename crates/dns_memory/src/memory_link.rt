@@ -53,7 +53,7 @@ impl MemoryLink {
         }
     }
 
-    /// The octets written.
+    /// All octets written so far, after those that were handed in.
     pub fn written(&self) -> &[u8]
         ensures { result.now ≡ self.now.went }
     {

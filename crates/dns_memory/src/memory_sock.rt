@@ -52,7 +52,7 @@ impl MemorySock {
         }
     }
 
-    /// The datagrams sent.
+    /// The datagrams sent so far, in order.
     pub fn sent(&self) -> &[Packet]
         ensures { result.now ≡ self.now.sent }
     {

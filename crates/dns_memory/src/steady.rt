@@ -21,6 +21,7 @@ impl Model for SteadySource {
 }
 
 impl SteadySource {
+    /// A source of these octets.
     pub fn new(octets: Vec<u8>) -> SteadySource
         ensures { result ≡ octets.items }
     {
@@ -29,7 +30,7 @@ impl SteadySource {
         }
     }
 
-    /// The octets left.
+    /// The octets that weren't read yet.
     pub fn left(&self) -> &[u8]
         ensures { result.now ≡ self.now }
     {
@@ -69,6 +70,7 @@ impl Model for SteadySink {
 }
 
 impl SteadySink {
+    /// A sink that holds these octets already, and appends what it takes.
     pub fn new(octets: Vec<u8>) -> SteadySink
         ensures { result ≡ record { taken = octets.items; whole = true } }
     {

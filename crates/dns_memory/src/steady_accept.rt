@@ -32,7 +32,7 @@ impl<L: Drop> Model for SteadyAccept<L> {
 }
 
 impl<L: Drop> SteadyAccept<L> {
-    /// Gives these connections.
+    /// Gives these connections in order, and then answers Again.
     pub fn new(alloc: Global, connections: VecDeque<(L, SocketAddr)>) -> SteadyAccept<L>
         ensures { result ≡ record { left = connections.items; callers = []; whole = true; empty_accepts = 0 } }
     {

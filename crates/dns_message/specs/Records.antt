@@ -99,6 +99,6 @@ opt_data o = if nat_lt 65535 (length o) then None else (if is_some (options o) t
 abbrev pub record_of : Record → ResourceRecord
 record_of r = record { owner = r.owner; rtype = data_type r.rdata; class = r.class; ttl = r.ttl; rdata = data_octets r.rdata }
 
--- the same of a record whose name and data are borrowed
+-- a record whose name and data are borrowed, with its data as octets
 abbrev pub record_by : RecordFields → ResourceRecord
 record_by r = record { owner = r.owner; rtype = data_type r.rdata.now; class = r.class; ttl = r.ttl; rdata = data_octets r.rdata.now }

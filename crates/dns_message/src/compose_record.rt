@@ -17,7 +17,7 @@ pub trait ComposeRecord {
     /// The record.
     ghost resource: { Self → ResourceRecord };
 
-    /// Its data can be written.
+    /// Whether the data of the record can be written.
     ghost is_lawful: { Self → Type 0 };
 
     /// How many octets the record takes.

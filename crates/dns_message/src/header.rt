@@ -67,7 +67,7 @@ impl Header {
         self.id
     }
 
-    /// Sets what `id` gives.
+    /// Replaces the identifier.
     pub fn set_id(&mut self, id: u16)
         ensures { self.new ≡ record self.old { id = id } }
     {
@@ -81,133 +81,133 @@ impl Header {
         self.qr
     }
 
-    /// Sets what `qr` gives.
+    /// Sets or clears QR: whether the message is a response.
     pub fn set_qr(&mut self, qr: bool)
         ensures { self.new ≡ record self.old { qr = qr } }
     {
         self.qr = qr;
     }
 
-    /// The kind of query.
+    /// The kind of query, four bits (RFC 1035, section 4.1.1).
     pub fn opcode(self) -> Opcode
         ensures { result ≡ self.opcode }
     {
         self.opcode
     }
 
-    /// Sets what `opcode` gives.
+    /// Replaces the kind of query.
     pub fn set_opcode(&mut self, opcode: Opcode)
         ensures { self.new ≡ record self.old { opcode = opcode } }
     {
         self.opcode = opcode;
     }
 
-    /// Authoritative answer.
+    /// Whether AA is set: the answer is authoritative.
     pub fn aa(self) -> bool
         ensures { result ≡ self.aa }
     {
         self.aa
     }
 
-    /// Sets what `aa` gives.
+    /// Sets or clears AA: whether the answer is authoritative.
     pub fn set_aa(&mut self, aa: bool)
         ensures { self.new ≡ record self.old { aa = aa } }
     {
         self.aa = aa;
     }
 
-    /// Truncation.
+    /// Whether TC is set: the message was truncated.
     pub fn tc(self) -> bool
         ensures { result ≡ self.tc }
     {
         self.tc
     }
 
-    /// Sets what `tc` gives.
+    /// Sets or clears TC: whether the message was truncated.
     pub fn set_tc(&mut self, tc: bool)
         ensures { self.new ≡ record self.old { tc = tc } }
     {
         self.tc = tc;
     }
 
-    /// Recursion desired.
+    /// Whether RD is set: recursion is desired.
     pub fn rd(self) -> bool
         ensures { result ≡ self.rd }
     {
         self.rd
     }
 
-    /// Sets what `rd` gives.
+    /// Sets or clears RD: whether recursion is desired.
     pub fn set_rd(&mut self, rd: bool)
         ensures { self.new ≡ record self.old { rd = rd } }
     {
         self.rd = rd;
     }
 
-    /// Recursion available.
+    /// Whether RA is set: recursion is available.
     pub fn ra(self) -> bool
         ensures { result ≡ self.ra }
     {
         self.ra
     }
 
-    /// Sets what `ra` gives.
+    /// Sets or clears RA: whether recursion is available.
     pub fn set_ra(&mut self, ra: bool)
         ensures { self.new ≡ record self.old { ra = ra } }
     {
         self.ra = ra;
     }
 
-    /// Reserved.
+    /// Whether the reserved bit Z is set.
     pub fn z(self) -> bool
         ensures { result ≡ self.z }
     {
         self.z
     }
 
-    /// Sets what `z` gives.
+    /// Sets or clears the reserved bit Z.
     pub fn set_z(&mut self, z: bool)
         ensures { self.new ≡ record self.old { z = z } }
     {
         self.z = z;
     }
 
-    /// Authentic data.
+    /// Whether AD is set: the data is authentic (RFC 4035, section 3.2.3).
     pub fn ad(self) -> bool
         ensures { result ≡ self.ad }
     {
         self.ad
     }
 
-    /// Sets what `ad` gives.
+    /// Sets or clears AD: whether the data is authentic.
     pub fn set_ad(&mut self, ad: bool)
         ensures { self.new ≡ record self.old { ad = ad } }
     {
         self.ad = ad;
     }
 
-    /// Checking disabled.
+    /// Whether CD is set: checking is disabled (RFC 4035, section 3.2.2).
     pub fn cd(self) -> bool
         ensures { result ≡ self.cd }
     {
         self.cd
     }
 
-    /// Sets what `cd` gives.
+    /// Sets or clears CD: whether checking is disabled.
     pub fn set_cd(&mut self, cd: bool)
         ensures { self.new ≡ record self.old { cd = cd } }
     {
         self.cd = cd;
     }
 
-    /// The response code.
+    /// The header's response code, four bits; an OPT record may add eight more.
     pub fn rcode(self) -> Rcode
         ensures { result ≡ self.rcode }
     {
         self.rcode
     }
 
-    /// Sets what `rcode` gives.
+    /// Replaces the header's response code, four bits.
     pub fn set_rcode(&mut self, rcode: Rcode)
         ensures { self.new ≡ record self.old { rcode = rcode } }
     {

@@ -79,7 +79,7 @@ impl Message {
         octets
     }
 
-    /// The message's octets.
+    /// All octets of the message, header included.
     pub fn as_slice(&self) -> &[u8]
         ensures value { result.now ≡ self.now }
         ensures header { 12 ≤ length result.now }
@@ -87,7 +87,7 @@ impl Message {
         self.octets.as_slice()
     }
 
-    /// The message, borrowed.
+    /// Borrows the message; no octet is copied.
     pub fn for_ref(&self) -> MessageRef<'_>
         ensures value { result ≡ self.now }
         ensures header { 12 ≤ length self.now }
@@ -185,7 +185,7 @@ impl<'a> MessageRef<'a> {
         MessageRef { octets }
     }
 
-    /// The message's octets.
+    /// All octets of the message, header included.
     pub fn as_slice(&self) -> &'a [u8]
         ensures value { result.now ≡ self.now }
         ensures header { 12 ≤ length result.now }

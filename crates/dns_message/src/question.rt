@@ -24,7 +24,7 @@ pub struct Question {
     pub qname: Name,
     /// The type of the records that are asked for.
     pub qtype: Rtype,
-    /// Their class.
+    /// The class of the records that are asked for.
     pub qclass: Class,
 }
 
@@ -73,7 +73,7 @@ impl Eq for Question {
 }
 
 impl Question {
-    /// The same question, in memory of its own.
+    /// A copy in memory of its own. The letters of the name keep their case.
     pub fn try_clone(&self, alloc: Global) -> Result<Question, OutOfMemory>
         ensures { IfOk result (λ q. q ≡ self.now) }
     {
@@ -141,14 +141,14 @@ impl<'a> QuestionRef<'a> {
         self.qtype
     }
 
-    /// Their class.
+    /// The class of the question, IN in nearly all.
     pub fn qclass(&self) -> Class
         ensures { result ≡ self.now.qclass }
     {
         self.qclass
     }
 
-    /// The same question, owned.
+    /// Copies the question out of the message. The letters of its name keep their case.
     pub fn to_question(&self, alloc: Global) -> Result<Question, OutOfMemory>
         ensures { IfOk result (λ q. q ≡ self.now) }
     {
@@ -240,7 +240,7 @@ impl<'a> Clone for QuestionIter<'a> {
 }
 
 impl<'a> QuestionIter<'a> {
-    /// So many questions from a place on.
+    /// The `left` questions of a message from a place on.
     pub(crate) fn of(message: &'a [u8], at: usize, left: u16) -> QuestionIter<'a>
         requires { at ≤ length message.now }
         ensures { result ≡ to_come (question_at message.now) left at }

@@ -46,7 +46,7 @@ pub enum RecordData {
     Aaaa([u8; 16]),
     /// One name: NS, MD, MF, CNAME, MB, MG, MR, PTR or DNAME.
     Named {
-        /// Which of these types it is.
+        /// The record type, one whose data is one name.
         rtype: Rtype,
         name: Name,
     },
@@ -138,7 +138,7 @@ impl RecordData {
         Some(RecordData::Opt(Octets::from_vec(octets)))
     }
 
-    /// The type.
+    /// The record type whose shape the data has.
     pub fn rtype(&self) -> Rtype
         ensures { result ≡ data_type self.now }
     {

@@ -12,7 +12,7 @@ use std::alloc::Global;
 type CopiedData = Result<RecordData, OutOfMemory>;
 
 impl RecordData {
-    /// The same data, in memory of its own.
+    /// A copy in memory of its own, with every name and string in it.
     #[tactic(auto, using(crate::proofs::Copies::lawful_copy))]
     pub fn try_clone(&self, alloc: Global) -> Result<RecordData, OutOfMemory>
         ensures value { IfOk result (λ d. d ≡ self.now) }

@@ -49,7 +49,7 @@ pub(crate) fn ttl_in(message: &[u8], at: usize) -> Result<(Ttl, usize), ParseErr
     Ok((Ttl::from_secs(seconds), at))
 }
 
-/// So many octets, and the place behind them.
+/// The next n octets of a message, and the place after them.
 #[tactic(auto, unfolding(crate::specs::Read::octets_at))]
 pub(crate) fn octets_in(message: &[u8], n: usize, at: usize) -> Result<(&[u8], usize), ParseError>
     requires { at ≤ length message.now }

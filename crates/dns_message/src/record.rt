@@ -49,7 +49,7 @@ impl Eq for Record {
 }
 
 impl Record {
-    /// The same record, in memory of its own.
+    /// A copy in memory of its own, of the owner's name and the data.
     pub fn try_clone(&self, alloc: Global) -> Result<Record, OutOfMemory>
         ensures value { IfOk result (λ r. r ≡ self.now) }
         ensures lawful { IsLawful self.now.rdata → IfOk result (λ r. IsLawful r.rdata) }
@@ -161,14 +161,14 @@ impl<'a> RecordRef<'a> {
         self.owner.clone().unwrap()
     }
 
-    /// The type.
+    /// The record's type, which says what shape its data has.
     pub fn rtype(&self) -> Rtype
         ensures { result ≡ self.now.resource.rtype }
     {
         self.rtype
     }
 
-    /// The class.
+    /// The record's class; in an OPT record it is the UDP payload size.
     pub fn class(&self) -> Class
         ensures { result ≡ self.now.resource.class }
     {
@@ -189,7 +189,8 @@ impl<'a> RecordRef<'a> {
         self.rdata
     }
 
-    /// The same record, owned: its data is read by the shape of its type, and refused where it has another.
+    /// Copies the record out of the message. Its data is read in the shape of its type, and refused if it has another
+    /// shape.
     pub fn to_record(&self, alloc: Global) -> Result<Record, ParseError>
         ensures value { GivesParsed result (typed self.now) }
         ensures lawful { IfOk result (λ r. IsLawful r.rdata) }
@@ -264,7 +265,7 @@ impl<'a> Clone for RecordIter<'a> {
 }
 
 impl<'a> RecordIter<'a> {
-    /// So many records from a place of a message on, in octets from its start.
+    /// The `left` records of a message from a place on, in octets from its start.
     pub fn of(message: &'a [u8], at: usize, left: u16) -> RecordIter<'a>
         requires { at ≤ length message.now }
         ensures { result ≡ to_come (standing_at message.now) left at }

@@ -47,7 +47,7 @@ pub type WrappedReplies<S, N, Meta> = WrappedStream<
     <N as Notifiable>::Future,
 >;
 
-/// The same, which may still have to come.
+/// A call of the wrapped service that isn't answered yet: the future of its replies.
 pub type ComingReplies<S, N, Meta> = WrappedFuture<
     <S as Service<Meta>>::Future,
     <N as Notifiable>::Future,

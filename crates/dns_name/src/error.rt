@@ -95,7 +95,7 @@ impl fmt::Display for FormReason {
     }
 }
 
-/// A refused reading.
+/// Why octets weren't read: they end too early, they are of no such form, or there was no memory.
 #[derive(Clone, Copy, Debug, PartialEq, Eq)]
 pub enum ParseError {
     ShortInput,

@@ -65,7 +65,7 @@ impl<K> Model for HeaderCode<K> {
 }
 
 impl<K> HeaderCode<K> {
-    /// None exactly from 16.
+    /// The code of a number below 16, and none from 16 on.
     pub fn checked_from_int(number: u8) -> Option<HeaderCode<K>>
         ensures { MatchOption result (16 ≤ number) (λ c. (c ≡ number) × (number < 16)) }
     {
@@ -97,7 +97,7 @@ macro_rules! code {
     };
 }
 
-/// The same of four bits.
+/// A code of four bits as a constant's value, where no function may be called.
 macro_rules! header_code {
     ($number:literal) => {
         HeaderCode {

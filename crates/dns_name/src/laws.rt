@@ -35,7 +35,7 @@ pub fn names_read_back(name: &NameRef<'_>)
     octets_read_back(name.as_slice());
 }
 
-/// The same of the name that octets are.
+/// The text written of a name reads as that name, if these octets spell it (RFC 1035, section 5.1).
 fn octets_read_back(octets: &[u8])
     ensures { (ls : List (List ℕ)) → octets.now ≡ spell ls → IsName ls → text_name (name_text ls) ≡ Ok ls }
 {}

@@ -69,7 +69,7 @@ impl<'a> Clone for NameRef<'a> {
 }
 
 impl<'a> NameRef<'a> {
-    /// The uncompressed name that octets are, and no more.
+    /// The uncompressed name that the octets spell (RFC 1035, section 3.1). Octets after its root label are refused.
     pub fn from_slice(octets: &'a [u8]) -> Result<NameRef<'a>, ParseError>
         ensures { result ≡ uncompressed octets.now }
     {
@@ -108,7 +108,7 @@ impl<'a> NameRef<'a> {
         Ok(name)
     }
 
-    /// The octets, uncompressed.
+    /// The octets of the name with the root label, at most 255.
     pub fn as_slice(&self) -> &'a [u8]
         ensures value { result.now ≡ spell self.now }
         ensures named { IsName self.now }
@@ -123,7 +123,7 @@ impl<'a> NameRef<'a> {
         self.as_slice().len() as u16
     }
 
-    /// Appends the octets, uncompressed.
+    /// Appends the uncompressed octets of the name, with the root label.
     pub fn compose(&self, alloc: Global, target: &mut Vec<u8>) -> Result<(), OutOfMemory>
         ensures ok { OnOk result (target.new.items ≡ target.old.items ++ spell self.now) }
         ensures err { OnErr result (target.new.items ≡ target.old.items) }
@@ -183,7 +183,7 @@ impl<'a> NameRef<'a> {
         )
     }
 
-    /// The same name, owned.
+    /// Copies the octets into an owned name.
     pub fn to_owned(&self, alloc: Global) -> Result<Name, OutOfMemory>
         ensures { IfOk result (λ n. n ≡ self.now) }
     {
@@ -208,7 +208,7 @@ impl Name {
         Name::from_text_octets(alloc, text.as_bytes())
     }
 
-    /// The same of a text's octets, of which those above 127 are refused as `BadCharacter`.
+    /// The name that a text's octets are (RFC 1035, section 5.1). Octets above 127 are refused as `BadCharacter`.
     pub fn from_text_octets(alloc: Global, text: &[u8]) -> Result<Name, FromTextError>
         ensures { GivesName result (text_name text.now) }
     {
@@ -233,14 +233,14 @@ impl Name {
         Ok(Name { octets })
     }
 
-    /// The same name, in memory of its own.
+    /// A copy in memory of its own. Letters keep their case.
     pub fn try_clone(&self, alloc: Global) -> Result<Name, OutOfMemory>
         ensures { IfOk result (λ n. n ≡ self.now) }
     {
         self.for_ref().to_owned(alloc)
     }
 
-    /// The name, borrowed.
+    /// Borrows the name; no octet is copied.
     pub fn for_ref(&self) -> NameRef<'_>
         ensures value { result ≡ self.now }
         ensures named { IsName self.now }
@@ -250,7 +250,7 @@ impl Name {
         }
     }
 
-    /// The octets, uncompressed.
+    /// The octets of the name with the root label, at most 255.
     pub fn as_slice(&self) -> &[u8]
         ensures value { result.now ≡ spell self.now }
         ensures named { IsName self.now }
@@ -265,7 +265,7 @@ impl Name {
         self.for_ref().compose_len()
     }
 
-    /// Appends the octets, uncompressed.
+    /// Appends the uncompressed octets of the name, with the root label.
     pub fn compose(&self, alloc: Global, target: &mut Vec<u8>) -> Result<(), OutOfMemory>
         ensures ok { OnOk result (target.new.items ≡ target.old.items ++ spell self.now) }
         ensures err { OnErr result (target.new.items ≡ target.old.items) }
@@ -311,7 +311,7 @@ impl Name {
     }
 }
 
-/// What holds a name.
+/// A name that is owned or borrowed, so that one type serves both.
 pub trait HoldsName: Drop {
     /// The name's labels.
     ghost labels: { Self → List (List ℕ) };

@@ -14,7 +14,7 @@ use std::fmt;
 use std::hash::{Hash, Hasher};
 use std::marker::Model;
 
-/// Where octets are held.
+/// Octets that are owned or borrowed, so that one type serves both.
 pub trait HoldsOctets: Drop {
     /// The octets.
     ghost octets: { Self → List ℕ };
@@ -91,14 +91,14 @@ impl OctetStore<Vec<u8>> {
     ghost use Rattle.std.specs.Borrow.{sem};
     ghost use Rattle.dns_name.specs.Lending.{LendsOctets, LendsVector};
 
-    /// The vector.
+    /// The vector that holds the octets.
     pub fn as_vec(&self) -> &Vec<u8>
         ensures { result.now.items ≡ self.now }
     {
         &self.octets
     }
 
-    /// The octets, for writing.
+    /// The octets, to be overwritten; how many there are stays.
     pub fn as_mut_slice(&mut self) -> &mut [u8]
         ensures* writes_back { sem 𝓛 (LendsOctets self.entry result) }
         ensures value { result.now ≡ self.old }
@@ -106,7 +106,7 @@ impl OctetStore<Vec<u8>> {
         self.octets.as_mut_slice()
     }
 
-    /// The vector, for writing.
+    /// The vector that holds the octets, to be changed.
     pub fn as_mut_vec(&mut self) -> &mut Vec<u8>
         ensures* writes_back { sem 𝓛 (LendsVector self.entry result) }
         ensures value { result.now.items ≡ self.old }

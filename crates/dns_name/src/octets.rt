@@ -6,7 +6,7 @@ use crate::error::OutOfMemory;
 use std::alloc::Global;
 use std::marker::Model;
 
-/// Octets, owned.
+/// Octets in memory of their own, which contracts see as a list of numbers.
 #[derive(Debug, Drop)]
 pub struct Octets {
     octets: Vec<u8>,

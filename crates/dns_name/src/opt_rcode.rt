@@ -95,7 +95,7 @@ impl OptRcode {
         }
     }
 
-    /// The header's four bits.
+    /// The lower four bits, which stand in the header (RFC 6891, section 6.1.3).
     pub fn rcode(self) -> Rcode
         ensures { result ≡ self % 16 }
     {
@@ -112,7 +112,7 @@ impl OptRcode {
         (self.number / 16) as u8
     }
 
-    /// The number.
+    /// The number, 12 bits.
     pub fn to_int(self) -> u16
         ensures value { result ≡ self }
         ensures fits { result < 4096 }

@@ -138,7 +138,7 @@ impl<'a> ParsedName<'a> {
         Ok((ParsedName { message, reach, at }, end))
     }
 
-    /// The same name as one that stands alone.
+    /// An uncompressed name, seen as one in a message that is the name alone.
     pub fn of(name: &NameRef<'a>) -> ParsedName<'a>
         ensures { result ≡ name.now }
     {
@@ -199,7 +199,7 @@ impl<'a> ParsedName<'a> {
         )
     }
 
-    /// The same name, on its own.
+    /// Copies the name out of the message, uncompressed.
     pub fn to_name(&self, alloc: Global) -> Result<Name, OutOfMemory>
         ensures { IfOk result (λ n. n ≡ self.now) }
     {

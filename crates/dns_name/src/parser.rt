@@ -46,7 +46,7 @@ impl<'a> Parser<'a> {
         Parser { octets, at: 0 }
     }
 
-    /// The whole slice.
+    /// The whole slice, octets included that were taken already.
     pub fn as_slice(&self) -> &'a [u8]
         ensures value { result.now ≡ self.now.octets }
         ensures within { self.now.at ≤ length self.now.octets }
@@ -102,7 +102,7 @@ impl<'a> Parser<'a> {
         self.at = self.octets.len();
     }
 
-    /// The next octets.
+    /// Takes the next n octets. ShortInput if fewer are left, and then none is taken.
     pub fn parse_octets(&mut self, n: usize) -> Result<&'a [u8], ParseError>
         ensures ok { IfOk result (λ part. part.now ≡ take n (rest self.old)) }
         ensures taken { TakesOctets n (is_ok result) self.old self.new }
@@ -128,7 +128,7 @@ impl<'a> Parser<'a> {
         Ok(())
     }
 
-    /// The next octet.
+    /// Takes the next octet. ShortInput if none is left.
     pub fn parse_u8(&mut self) -> Result<u8, ParseError>
         ensures ok { IfOk result (λ n. n ≡ slice_index (rest self.old) 0) }
         ensures taken { TakesOctets 1 (is_ok result) self.old self.new }

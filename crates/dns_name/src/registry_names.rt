@@ -31,7 +31,7 @@ pub(crate) const TYPES: &[(u16, &str)] = &[
     (16, "TXT"),
 ];
 
-/// Those from 17 to 32.
+/// The record types from 17 to 32.
 pub(crate) const TYPES_FROM_17: &[(u16, &str)] = &[
     (17, "RP"),
     (18, "AFSDB"),
@@ -51,7 +51,7 @@ pub(crate) const TYPES_FROM_17: &[(u16, &str)] = &[
     (32, "NIMLOC"),
 ];
 
-/// Those from 33 to 48.
+/// The record types from 33 to 48.
 pub(crate) const TYPES_FROM_33: &[(u16, &str)] = &[
     (33, "SRV"),
     (34, "ATMA"),
@@ -71,7 +71,7 @@ pub(crate) const TYPES_FROM_33: &[(u16, &str)] = &[
     (48, "DNSKEY"),
 ];
 
-/// Those from 49 to 65.
+/// The record types from 49 to 65.
 pub(crate) const TYPES_FROM_49: &[(u16, &str)] = &[
     (49, "DHCID"),
     (50, "NSEC3"),
@@ -91,7 +91,7 @@ pub(crate) const TYPES_FROM_49: &[(u16, &str)] = &[
     (65, "HTTPS"),
 ];
 
-/// Those from 66 to 109.
+/// The record types from 66 to 109.
 pub(crate) const TYPES_FROM_66: &[(u16, &str)] = &[
     (66, "DSYNC"),
     (67, "HHIT"),
@@ -109,7 +109,7 @@ pub(crate) const TYPES_FROM_66: &[(u16, &str)] = &[
     (109, "EUI64"),
 ];
 
-/// Those from 128 to 257. ANY is registered as `*`.
+/// The record types from 128 to 257. ANY is registered as `*`.
 pub(crate) const TYPES_FROM_128: &[(u16, &str)] = &[
     (128, "NXNAME"),
     (249, "TKEY"),
@@ -124,7 +124,7 @@ pub(crate) const TYPES_FROM_128: &[(u16, &str)] = &[
     (257, "CAA"),
 ];
 
-/// Those from 258 on.
+/// The record types from 258 on.
 pub(crate) const TYPES_FROM_258: &[(u16, &str)] = &[
     (258, "AVC"),
     (259, "DOA"),
@@ -154,7 +154,7 @@ pub(crate) const OPTIONS: &[(u16, &str)] = &[
     (14, "edns-key-tag"),
 ];
 
-/// Those from 15 on.
+/// The option codes from 15 on.
 pub(crate) const OPTIONS_FROM_15: &[(u16, &str)] = &[
     (15, "Extended DNS Error"),
     (16, "EDNS-Client-Tag"),
@@ -185,7 +185,7 @@ pub(crate) const ERRORS: &[(u16, &str)] = &[
     (15, "Blocked"),
 ];
 
-/// Those from 16 on.
+/// The extended error codes from 16 on.
 pub(crate) const ERRORS_FROM_16: &[(u16, &str)] = &[
     (16, "Censored"),
     (17, "Filtered"),
@@ -230,7 +230,7 @@ pub(crate) const RCODES: &[(u16, &str)] = &[
     (11, "DSOTYPENI"),
 ];
 
-/// Those of an OPT, TSIG or TKEY record. The number 16 has two names: BADSIG where a TSIG record holds it.
+/// The response codes of an OPT, TSIG or TKEY record. The number 16 has two names: BADSIG if a TSIG record holds it.
 pub(crate) const RCODES_FROM_16: &[(u16, &str)] = &[
     (16, "BADVERS"),
     (16, "BADSIG"),

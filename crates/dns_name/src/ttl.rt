@@ -21,14 +21,14 @@ impl Model for Ttl {
 }
 
 impl Ttl {
-    /// So many seconds.
+    /// A TTL of this many seconds; any number of 32 bits is one.
     pub const fn from_secs(secs: u32) -> Ttl
         ensures { result ≡ secs }
     {
         Ttl { secs }
     }
 
-    /// The seconds.
+    /// The number of seconds.
     pub const fn as_secs(self) -> u32
         ensures value { result ≡ self }
         ensures fits { result < 2 ^ 32 }

@@ -85,7 +85,8 @@ Cloned s old new (Err NoMemory) = (length s.options + 11 ≤ old.room) × (new �
 Cloned s old new (Err LongOptData) = ⊥
 Cloned s old new (Err (WrongLength a b)) = ⊥
 
--- the same of octets that a writer writes, n of them as was stated: WrongLength comes before ShortBuf
+-- An option of octets that a writer writes, n of them as was stated, is pushed to a draft, or refused. WrongLength
+-- comes before ShortBuf.
 abbrev pub PushedRawIn : (List ℕ → Type 0) → ℕ → ℕ → OptDraft → OptDraft → Result ⊤ BuildDataError → Type 0
 PushedRawIn writes code n old new (Ok _) = Fits old.options n × (length old.options + 4 + n + 11 ≤ old.room) × ((d : List ℕ) × writes d × (length d ≡ n) × (new ≡ with_options old (old.options ++ option_octets code d)))
 PushedRawIn writes code n old new (Err LongOptData) = (65535 < length old.options + 4 + n) × (new ≡ old)

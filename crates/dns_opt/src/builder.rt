@@ -44,7 +44,7 @@ impl OptBuilder {
         self.head.rcode_above(self.low)
     }
 
-    /// The version of EDNS.
+    /// The version of EDNS, 0 in RFC 6891.
     pub fn version(&self) -> u8
         ensures { result ≡ self.now.head.version }
     {
@@ -58,7 +58,7 @@ impl OptBuilder {
         self.head.dnssec_ok()
     }
 
-    /// The options so far.
+    /// The options that were pushed so far, as one list.
     pub fn options(&self) -> &Opt
         ensures { result.now ≡ self.now.options }
     {

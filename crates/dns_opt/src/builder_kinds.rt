@@ -31,7 +31,7 @@ fn numbers(alloc: Global, algorithms: &[SecurityAlgorithm]) -> Result<Vec<u8>, O
     Ok(octets)
 }
 
-/// So many zeros.
+/// A vector of `len` zeros.
 fn zeros(alloc: Global, len: u16) -> Result<Vec<u8>, OutOfMemory>
     ensures { IfOk result (λ v. v.items ≡ replicate len 0) }
 {

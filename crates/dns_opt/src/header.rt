@@ -94,7 +94,7 @@ impl OptHeader {
         self.ext = rcode.ext();
     }
 
-    /// The version of EDNS.
+    /// The version of EDNS, 0 in RFC 6891.
     pub fn version(&self) -> u8
         ensures { result ≡ self.now.version }
     {

@@ -34,10 +34,10 @@ impl<S: HoldsOctets> Model for HeldOptRecord<S> {
     ghost view = { λ r. opt_state r.head r.options };
 }
 
-/// An OPT record, owned.
+/// An OPT record with options in memory of its own (RFC 6891, section 6.1).
 pub type OptRecord = HeldOptRecord<Vec<u8>>;
 
-/// An OPT record, borrowed.
+/// An OPT record whose options are borrowed (RFC 6891, section 6.1).
 pub type OptRecordRef<'a> = HeldOptRecord<&'a [u8]>;
 
 /// The head that a record's class and TTL are.
@@ -81,7 +81,7 @@ impl<S: HoldsOctets> HeldOptRecord<S> {
         self.head.rcode(header)
     }
 
-    /// The version of EDNS.
+    /// The version of EDNS, 0 in RFC 6891.
     pub fn version(&self) -> u8
         ensures { result ≡ self.now.head.version }
     {
@@ -95,7 +95,7 @@ impl<S: HoldsOctets> HeldOptRecord<S> {
         self.head.dnssec_ok()
     }
 
-    /// The options.
+    /// The options, as one list.
     pub fn opt(&self) -> &HeldOpt<S>
         ensures { result.now ≡ self.now.options }
     {
@@ -135,7 +135,7 @@ impl OptRecord {
         self.head.set_dnssec_ok(value);
     }
 
-    /// The same record, borrowed.
+    /// Borrows the record; its options aren't copied.
     pub fn for_slice(&self) -> OptRecordRef<'_>
         ensures { result ≡ self.now }
     {
@@ -237,7 +237,7 @@ impl<'a> HeldOptRecord<&'a [u8]> {
         HeldOptRecord { head, options }
     }
 
-    /// The same record, owned.
+    /// Copies the record, with all options, into an owned one.
     pub fn to_owned(&self, alloc: Global) -> Result<OptRecord, OutOfMemory>
         ensures { IfOk result (λ r. r ≡ self.now) }
     {

@@ -47,7 +47,7 @@ impl OptionHeader {
         self.size
     }
 
-    /// Reads four octets.
+    /// Takes four octets: the code and the length of an option, without its data.
     pub fn parse(parser: &mut Parser<'_>) -> Result<OptionHeader, ParseError>
         ensures { ParsesData (option_head (rest parser.old)) parser.old parser.new result }
     {

@@ -16,7 +16,7 @@ Pushed code d old new (Err NoMemory) = Fits old (length d) × (new ≡ old)
 Pushed code d old new (Err ShortBuf) = ⊥
 Pushed code d old new (Err (WrongLength s w)) = ⊥
 
--- the same of octets that a writer writes, n of them as was stated
+-- an option of octets that a writer writes, n of them as was stated, is pushed to a list, or refused
 abbrev pub PushedRaw : (List ℕ → Type 0) → ℕ → ℕ → List ℕ → List ℕ → Result ⊤ BuildDataError → Type 0
 PushedRaw writes code n old new (Ok _) = Fits old n × ((d : List ℕ) × writes d × (length d ≡ n) × (new ≡ old ++ option_octets code d))
 PushedRaw writes code n old new (Err LongOptData) = (65535 < length old + 4 + n) × (new ≡ old)

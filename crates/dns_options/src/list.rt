@@ -93,7 +93,7 @@ impl<'a> HeldOpt<&'a [u8]> {
         Ok(found)
     }
 
-    /// The octets.
+    /// The octets of all options, at most 65,535.
     pub fn as_slice(&self) -> &'a [u8]
         ensures value { result.now ≡ self.now }
         ensures short { length self.now ≤ 65535 }
@@ -127,7 +127,7 @@ impl<'a> HeldOpt<&'a [u8]> {
         self.octets.as_slice().cmp(other.octets.as_slice())
     }
 
-    /// The same list, owned.
+    /// Copies all options into an owned list.
     pub fn to_owned(&self, alloc: Global) -> Result<Opt, OutOfMemory>
         ensures { IfOk result (λ k. k ≡ self.now) }
     {

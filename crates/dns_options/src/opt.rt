@@ -18,7 +18,7 @@ use std::cmp::Ordering;
 pub type Opt = HeldOpt<Vec<u8>>;
 
 impl HeldOpt<Vec<u8>> {
-    /// No options.
+    /// A list without options, which takes no memory.
     #[tactic(auto, using(dns_message::proofs::OptionLaws::empty_is_list))]
     pub fn empty(alloc: Global) -> Opt
         ensures { result ≡ [] }
@@ -34,14 +34,14 @@ impl HeldOpt<Vec<u8>> {
         Ok(HeldOpt::of(octets))
     }
 
-    /// The same list, borrowed.
+    /// Borrows the list; no option is copied.
     pub fn for_slice_ref(&self) -> OptRef<'_>
         ensures { result ≡ self.now }
     {
         HeldOpt::of(self.octets.as_slice())
     }
 
-    /// The octets.
+    /// The octets of all options, at most 65,535.
     pub fn as_slice(&self) -> &[u8]
         ensures value { result.now ≡ self.now }
         ensures short { length self.now ≤ 65535 }

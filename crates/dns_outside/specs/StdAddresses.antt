@@ -28,7 +28,7 @@ IsCanonical (StdV6 ip) (V4 octets) = IsIpv4Mapped (ipv6_segments ip) × (low_oct
 IsCanonical (StdV6 ip) (V6 octets) = ¬ (IsIpv4Mapped (ipv6_segments ip)) × (ipv6_octets ip ≡ octets)
 IsCanonical _ _ = ⊥
 
--- and the same port
+-- std's socket address is made of this one, with its port
 abbrev pub AddrIsMadeOf : StdSocketAddr → SocketAddr → Type 0
 AddrIsMadeOf a b = IsMadeOf (socket_ip a) b.ip × (socket_port a ≡ b.port)
 

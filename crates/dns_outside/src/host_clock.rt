@@ -43,7 +43,7 @@ impl<T: rt::Clock> HostClock<T> {
     }
 }
 
-/// So many whole milliseconds, up to 2^64 - 1.
+/// The whole milliseconds of a duration, at most 2^64 - 1.
 fn millis_of(time: Duration) -> u64 {
     let millis = u64::from(time.subsec_millis());
     time.as_secs().saturating_mul(1000).saturating_add(millis)

@@ -18,7 +18,7 @@ pub(crate) struct SpinPolicy {
 }
 
 impl SpinPolicy {
-    /// Nothing was asked yet.
+    /// A policy that was asked nothing yet.
     pub(crate) fn new() -> SpinPolicy
         ensures { result ≡ record { vain = WORTHWHILE } }
     {

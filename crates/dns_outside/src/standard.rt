@@ -16,6 +16,7 @@ pub struct Reading<R: Read + Drop> {
 }
 
 impl<R: Read + Drop> Reading<R> {
+    /// A source over this reader, which has not failed yet.
     pub fn new(inner: R) -> Reading<R>
         ensures { result ≡ record { inner = inner; faults = 0 } }
     {
@@ -57,13 +58,14 @@ pub struct Writing<W: Write + Drop> {
 }
 
 impl<W: Write + Drop> Writing<W> {
+    /// A sink over this writer, which has not failed yet.
     pub fn new(inner: W) -> Writing<W>
         ensures { result ≡ record { inner = inner; faults = 0 } }
     {
         Writing { inner, faults: 0 }
     }
 
-    /// Gives the writer back.
+    /// Gives the writer back, with whatever it holds.
     pub fn into_inner(self) -> W
         ensures { result ≡ self.inner }
     {

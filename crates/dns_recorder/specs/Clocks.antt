@@ -58,8 +58,9 @@ pub record Timed (n n' : List Event) (again again' : ℕ) (c c' : List ClockRead
   pub dated : Dated readings events
   pub count : length readings + again ≤ length events + writes_in events + faults_in events + again'
 
--- The same of a whole connection, which has one Fault at most: the clock gave at most one reading more than there are events, where
--- each Write counts twice, and writes that answered Again.
+-- Of the events of a whole connection, from n to n', each carries one of the readings from c to c'. A connection has
+-- one Fault at most. So there is at most one reading more than one an event, one more for each Write, and one for each
+-- write that answered Again.
 pub record TimedWhole (n n' : List Event) (again again' : ℕ) (c c' : List ClockReading) : Type 0 where
   pub events : List Event
   pub readings : List ClockReading

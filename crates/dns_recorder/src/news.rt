@@ -11,8 +11,8 @@ use dns_io::Clock;
 use dns_service::{EventKind, OutOfMemory};
 use std::alloc::Global;
 
-#[tactic(auto, using(crate::proofs::Notings::noted_none, crate::proofs::Notings::noted_kind, crate::proofs::Timings::timed_none))]
 /// Notes the configurations, where their version is new.
+#[tactic(auto, using(crate::proofs::Notings::noted_none, crate::proofs::Notings::noted_kind, crate::proofs::Timings::timed_none))]
 pub fn note_version<C: Clock, J: Recorder>(
     alloc: Global,
     clock: &mut C,
@@ -35,8 +35,8 @@ pub fn note_version<C: Clock, J: Recorder>(
     }
 }
 
-#[tactic(auto, using(crate::proofs::Notings::noted_none, crate::proofs::Notings::noted_kind, crate::proofs::Timings::timed_none))]
 /// Notes the shutdown, where it is new.
+#[tactic(auto, using(crate::proofs::Notings::noted_none, crate::proofs::Notings::noted_kind, crate::proofs::Timings::timed_none))]
 pub fn note_shutdown<C: Clock, J: Recorder>(
     alloc: Global,
     clock: &mut C,

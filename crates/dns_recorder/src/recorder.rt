@@ -38,7 +38,7 @@ impl Model for Silent {
 unsafe impl Send for Silent {}
 
 impl Silent {
-    /// Nothing is noted so far.
+    /// A recorder that noted nothing so far.
     pub fn new() -> Silent
         ensures { result.events ≡ [] }
     {
@@ -69,7 +69,7 @@ pub struct VecRecorder {
 }
 
 impl VecRecorder {
-    /// Nothing is noted so far.
+    /// A recorder that noted nothing so far.
     pub fn new(alloc: Global) -> VecRecorder
         ensures { result.events.items ≡ [] }
     {
@@ -78,7 +78,7 @@ impl VecRecorder {
         }
     }
 
-    /// The events noted.
+    /// The events noted so far, in order.
     pub fn events(&self) -> &[Event]
         ensures { result.now ≡ self.now.events.items }
     {

@@ -12,7 +12,7 @@ pub struct Waits {
 }
 
 impl Waits {
-    /// None ended in vain.
+    /// A count of no waits in vain.
     pub fn new() -> Waits
         ensures { result ≡ record { vain = 0 } }
     {
@@ -28,7 +28,7 @@ impl Waits {
         }
     }
 
-    /// None in vain where something came or went, and else as many.
+    /// The count starts anew if something came or went, and else stays.
     pub fn anew_where(self, moved: bool) -> Waits
         ensures { result.vain ≡ anew_where moved self.vain }
     {

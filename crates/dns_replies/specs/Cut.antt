@@ -29,7 +29,7 @@ shortened n m (Some r) = first_fitting n (truncated m m.questions (r ∷ []) ∷
 abbrev pub cut : ℕ → Msg → Msg
 cut n m = if fits n m then m else shortened n m (opt_record_in m)
 
--- the same of what is built, whose limit stays
+-- what is built, its message cut to n octets, its limit as it was
 abbrev pub cut_built : ℕ → Built → Built
 cut_built n b = record b { message = cut n b.message }
 

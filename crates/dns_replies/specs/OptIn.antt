@@ -7,6 +7,6 @@ use Rattle.dns_opt.specs.OptRecords.{head_by, opt_record, opt_record_among, opt_
 abbrev pub opt_record_in : Msg → Option ResourceRecord
 opt_record_in m = opt_record_among m.additional
 
--- the same size, extended code and version, with no flags and no options
+-- an OPT record with the size, extended code and version of this one, without flags and options
 abbrev pub minimal : ResourceRecord → ResourceRecord
 minimal r = opt_record (opt_state (record (head_by r.class r.ttl) { flags = 0 }) [])

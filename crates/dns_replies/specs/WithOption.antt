@@ -23,7 +23,7 @@ one_opt rs s = other_than 41 rs ++ opt_record s ∷ []
 abbrev pub optioned : Msg → ℕ → List ℕ → Msg
 optioned m code d = record m { additional = one_opt m.additional (and_option (old_opt m) code d) }
 
--- the same where it has at most 65,535 octets, else the message itself
+-- the message with an option more if it has at most 65,535 octets then, else the message itself
 abbrev pub with_option : Msg → ℕ → List ℕ → Msg
 with_option m code d = if nat_le (length (wire (optioned m code d))) 65535 then optioned m code d else m
 

@@ -48,7 +48,7 @@ fn shortened(
     }
 }
 
-/// The same, with the message's OPT record.
+/// The questions of a message and this OPT record, or as much of them as `limit` octets have room for.
 fn with_own_opt(
     alloc: Global,
     message: &AdditionalBuilder,

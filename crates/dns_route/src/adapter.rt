@@ -26,7 +26,7 @@ pub struct ClientTransportToSingleService<C> {
 }
 
 impl<C: SendRequest> ClientTransportToSingleService<C> {
-    /// Over a transport.
+    /// A single service that relays each request over this transport.
     pub fn new(conn: C) -> Self
         ensures { ⟦<ClientTransportToSingleService<C> as SingleService>⟧.answer result ≡ relayed (C.answer conn) }
     {
@@ -55,7 +55,8 @@ impl<C: SendRequest> SingleService for ClientTransportToSingleService<C> {
     }
 }
 
-/// The same over a transport in a box, so that transports of several kinds make single services of one type.
+/// A client transport in a box as a single service. Transports of several kinds become single services of one type by
+/// it.
 #[derive(Drop)]
 pub struct BoxClientTransportToSingleService {
     conn: Box<dyn SendRequest + Send + Sync>,

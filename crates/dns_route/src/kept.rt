@@ -83,7 +83,7 @@ fn push_option(
     }
 }
 
-/// The same options under a size and the flag DO or without.
+/// The record's options under this UDP payload size and this flag DO. Its header was zero.
 pub(crate) fn plain(record: OptRecord, size: u16, dnssec_ok: bool) -> OptRecord
     requires { «record».head ≡ zero_head }
     ensures { result ≡ opt_state (plain_head size dnssec_ok) «record».options }

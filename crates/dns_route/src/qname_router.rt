@@ -43,8 +43,8 @@ impl<S: SingleService> QnameRouter<S> {
         }
     }
 
-    /// The same, where names are hashed from a random state, as `RandomState::new(&rt)` gives, so that nobody can pick names
-    /// whose hashes meet.
+    /// A router without services whose names are hashed from a random state. `RandomState::new(&rt)` gives one. Nobody
+    /// can then pick names whose hashes collide.
     pub fn new_with_seed(alloc: Global, seed: RandomState) -> Self
         ensures { result ≡ [] }
     {

@@ -160,7 +160,8 @@ impl ReplyMessage {
         })
     }
 
-    /// The same of a message that is what is built of this reply: it is kept, and not read again.
+    /// A reply that is a message of our own, which is kept as built, so that it needn't be read and built again. It
+    /// must be what a build of the reply gives.
     pub fn from_typed(alloc: Global, built: AdditionalBuilder) -> Result<ReplyMessage, OutOfMemory>
         requires { Composes (reply_message (kept_whole built.message)) (Ok built) }
         ensures { IfOk result (λ r. r ≡ kept_whole built.message) }
@@ -231,7 +232,7 @@ pub(crate) fn owned_reply(alloc: Global, message: Message) -> Result<ReplyMessag
     Ok(ReplyMessage::of(message, opt))
 }
 
-/// The same message, owned, as a reply with an OPT record or without.
+/// A reply that is a copy of the message, with this OPT record or without one.
 fn reply_of(
     alloc: Global,
     message: &MessageRef<'_>,
@@ -243,7 +244,7 @@ fn reply_of(
     Ok(ReplyMessage::of(message, opt))
 }
 
-/// The same message, owned.
+/// A copy of a borrowed message in memory of its own.
 fn owned(alloc: Global, message: &MessageRef<'_>) -> Result<Message, OutOfMemory>
     ensures { IfOk result (λ m. m ≡ message.now) }
 {

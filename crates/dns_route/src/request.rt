@@ -98,7 +98,7 @@ impl RequestMessage {
         Ok(RequestMessage { message, opt })
     }
 
-    /// Nothing is kept of an OPT record where there is none.
+    /// The request of a message without an OPT record: no options, and DO isn't set.
     fn without_opt(alloc: Global, message: CopiedMessage) -> RequestMessage
         ensures { result ≡ record { message = message; dnssec_ok = false; options = [] } }
     {

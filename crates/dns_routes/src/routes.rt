@@ -56,7 +56,8 @@ impl<S: Drop> Routes<S> {
         self.put(key, name, service)
     }
 
-    /// The same, where these are the octets by which the name is found.
+    /// Adds a name and its service after those that are there. The name is found by `key`. After an error the routes
+    /// stay.
     fn put(&mut self, key: Key, name: Name, service: S) -> Result<(), OutOfMemory>
         requires { key.items ≡ name_key name }
         ensures ok { OnOk result (self.new ≡ self.old ++ (name, service) ∷ []) }
@@ -108,7 +109,8 @@ impl<S: Drop> Routes<S> {
         self.deepest_in(alloc, name, skipped, left, &octets)
     }
 
-    /// The same, where this is left of the name without so many first labels, and these are its octets.
+    /// The service of the deepest route for a name. The search begins at `rest`, the name without its first `skipped`
+    /// labels, whose folded octets are given.
     fn deepest_in(
         &self,
         alloc: Global,

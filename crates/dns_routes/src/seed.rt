@@ -13,7 +13,7 @@ pub struct Seed {
 }
 
 impl Seed {
-    /// The same for all maps.
+    /// A fixed seed, equal for all maps. Who knows it can pick keys whose hashes collide.
     pub fn fixed() -> Seed
         ensures { result ≡ record { first = sip.initial } }
     {

@@ -28,7 +28,7 @@ text_or_refusal text (Err e) = refused_line e.0 e.1
 abbrev pub clients_text : {E : Type 0} → (Plan E → List Output) → Plan E → List ℕ
 clients_text sent p = lines_of (sent p)
 
--- the same, or what is written for the first bad line of a text that is none
+-- what is written for a script: the lines of what clients are sent, or the line of its first bad line
 abbrev pub run_text : {E : Type 0} → (Plan E → List Output) → Result (Plan E) (ℕ × Reason) → List ℕ
 run_text sent = text_or_refusal (clients_text sent)
 

@@ -36,7 +36,7 @@ fn keep_answer(
     Ok(())
 }
 
-/// The same, and writes the lines that are kept back, once they are many.
+/// Appends the line of a question's answer to those kept back, and writes them all if they are many.
 #[tactic(auto, using(dns_flood::proofs::Batches::nothing_written, dns_flood::proofs::Batches::poured_line))]
 fn write_answer<W: Sink>(
     alloc: Global,
@@ -75,7 +75,7 @@ fn write_each<W: Sink>(
     Ok(())
 }
 
-/// The same, and writes what was kept back. After an error a front of it was written.
+/// Asks all questions and writes the lines of their answers. After an error a prefix of the text was written.
 #[tactic(auto, using(dns_flood::proofs::Batches::wrote_all, dns_flood::proofs::Batches::cut_at_end))]
 fn write_asks<W: Sink>(
     alloc: Global,

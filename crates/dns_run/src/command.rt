@@ -11,9 +11,10 @@ use dns_trace::{decimal, num};
 pub enum Command {
     /// `replay`: a script is read from the source, and its outputs are written.
     Replay,
-    /// `steps`: the same, where the script has looks too, and a client hears of the server's changes only when it looks.
+    /// `steps`: a script with looks is read, and its outputs are written. A client hears of the server's changes when
+    /// it looks.
     Steps,
-    /// `trace`: the same script as of `replay` is read, and it is written.
+    /// `trace`: a script as for `replay` is read, and written in one spelling.
     Trace,
     /// `cache CAPACITY`: rules and questions are read, and what a cache of so many replies in front of the rules answers is written.
     Cache { capacity: u32 },
@@ -21,7 +22,7 @@ pub enum Command {
     Flood { seed: u64, count: u32 },
 }
 
-/// A flood, where both words are numbers, and the latter is at most 4,000,000.
+/// A flood, if both words are numbers, and the second is at most 4,000,000.
 fn flood(seed: &[u8], count: &[u8]) -> Option<Command>
     ensures { result ≡ flood_of (num_of seed.now) (number 20 4000001 count.now) }
 {

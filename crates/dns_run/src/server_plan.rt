@@ -72,7 +72,7 @@ pub fn serve_plan<R: Source, W: Sink>(
     // What was read of a source that tells: for a plan all of it.
     ensures read { IfSome (serve_words (map string_bytes words.now)) (λ w. Observed (R.tells source.new) (R.tells source.old)
         (ReadsSource server_script (status_of result) (R.left source.old) (R.left source.new))) }
-    // Such a plan is that of the script.
+    // If the source tells: a plan is that of the script that it held.
     ensures plan { IfOk result (λ p. Observed (R.tells source.new) (R.tells source.old)
         (PlaysScript (server_script (R.left source.old)) p.settings (⟦<ScriptService as Service<()>>⟧.answer p.service) (⟦<ScriptTarget as Notifiable>⟧.verdict p.target))) }
     // What was written, where the sink tells too: nothing, or the line of the refusal.

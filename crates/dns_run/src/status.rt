@@ -42,7 +42,7 @@ impl Status {
         }
     }
 
-    /// This status where all was written, and else why it wasn't.
+    /// This status if all was written, and else why it wasn't.
     pub(crate) fn after(self, written: Result<(), WriteError>) -> Status
         ensures { result ≡ status_once_written self written }
     {

@@ -34,6 +34,6 @@ plan_sent sent p = sent (wrapped_serving (settings_of p) (service_answers p.serv
 abbrev pub plan_outputs : Plan Event → List Output
 plan_outputs = plan_sent out
 
--- the same of steps, where a client hears of the server's changes only when it looks
+-- what the clients are sent for steps, where a client hears of the server's changes only when it looks
 abbrev pub plan_step_outputs : Plan Step → List Output
 plan_step_outputs = plan_sent outs

@@ -22,7 +22,7 @@ pub struct Ask {
 }
 
 impl Ask {
-    /// Its request, which has all octets of the message.
+    /// The request of this question, which has all octets of the message.
     pub fn into_request(self, alloc: Global) -> Result<Request<()>, OutOfMemory>
         ensures { IfOk result (λ r. r ≡ request_of_ask self) }
     {

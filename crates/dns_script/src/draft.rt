@@ -85,14 +85,14 @@ impl<E: Drop> Draft<E> {
         self.upstreams.as_slice().is_empty() && self.zone.is_none()
     }
 
-    /// Whether an upstream is.
+    /// Whether an upstream line is of the kind of the service lines so far.
     pub fn may_be_upstream(&self) -> bool
         ensures { result ≡ may_be_upstream self.now }
     {
         self.rules.as_slice().is_empty() && self.zone.is_none()
     }
 
-    /// Whether a zone is.
+    /// Whether a zone line is of the kind of the service lines so far.
     pub fn may_be_zone(&self) -> bool
         ensures { result ≡ may_be_zone self.now }
     {
@@ -106,14 +106,14 @@ impl<E: Drop> Draft<E> {
         self.zone.is_some()
     }
 
-    /// One rule more.
+    /// Appends the rule of a service line.
     pub fn push_rule(&mut self, rule: Rule) -> Result<(), OutOfMemory>
         ensures { OnOk result (self.new ≡ record self.old { rules = self.old.rules ++ rule ∷ [] }) }
     {
         self.rules.push(rule)
     }
 
-    /// One upstream more.
+    /// Appends the upstream of an upstream line.
     pub fn push_upstream(&mut self, upstream: UpstreamLine) -> Result<(), OutOfMemory>
         ensures { OnOk result (self.new ≡ record self.old { upstreams = self.old.upstreams ++ upstream ∷ [] }) }
     {

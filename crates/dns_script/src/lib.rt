@@ -1,5 +1,26 @@
-//! What a script says: its settings, its service, which is rules, upstreams or a zone, the rules of its target, its events or its steps,
-//! what the clients are sent for them, and the lines of what they are sent.
+//! Scripts: what a text says, the service that plays it, and the lines of what its clients are sent.
+//!
+//! - `read_script` reads a script of settings, of rules, upstreams or a zone, of a target and of events or steps.
+//! - `serve_script` serves it, and `line` writes an output. `script_text` writes a script in one spelling.
+//! - `ScriptService` plays rules, and `ScriptTarget` the verdicts on NOTIFY.
+//! - `CachedRules` puts a cache in front of rules, for questions.
+//!
+//! ```text
+//! text -> read_script -> Script -> serve_script -> outputs -> line
+//! ```
+//!
+//! # What is proved
+//!
+//! - `read_script` gives exactly what `script` says of the text, or its first bad line and the first reason that fits.
+//! - What clients are sent is `out` of the script's events, or `outs` of its steps, served by its rules, upstreams or
+//!   zone.
+//! - A script that was written reads back to the same settings, service, target and events (`a_script_reads_back`). A
+//!   trace is a script without a service (`a_trace_is_a_script`).
+//! - A cache is asked as `asked_once` says, 1,000 polls at most.
+//!
+//! # What a body could still get away with
+//!
+//! Memory and time of reading.
 #![tactic(auto)]
 
 mod answer_words;

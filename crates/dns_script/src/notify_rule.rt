@@ -4,7 +4,7 @@ use crate::rule_list::RuleList;
 use dns_core::NotifyError;
 use dns_name::Name;
 
-/// A notify line.
+/// A line that says which verdict the NOTIFY target gives on a zone.
 #[derive(Drop)]
 pub struct NotifyRule {
     /// The name of the zone.

@@ -33,7 +33,7 @@ fn word_line(alloc: Global, first: &str, number: u64, last: &str) -> Result<Stri
     Ok(format!(in alloc; "{first} {number} {last}\n")?)
 }
 
-/// The same, where the last word is two hexadecimal digits for each octet, in lower case.
+/// A line of a word, a number and octets, which are written as two hexadecimal digits each, in lower case.
 fn octets_line(
     alloc: Global,
     first: &str,

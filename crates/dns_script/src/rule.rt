@@ -9,7 +9,7 @@ use std::alloc::Global;
 use std::marker::Model;
 use std::sync::Arc;
 
-/// A reply.
+/// A reply that a rule of a script gives.
 #[derive(Clone, Copy)]
 pub enum ScriptReply {
     /// A reply with the request's questions and this response code.
@@ -71,7 +71,7 @@ impl ScriptAnswers {
         ScriptAnswers::from_vec(alloc, Vec::from_slice(alloc, answers)?)
     }
 
-    /// The same answers, shared and not copied.
+    /// Another handle on these answers, which are shared and not copied.
     pub fn try_clone(&self) -> Result<ScriptAnswers, OutOfMemory>
         ensures { IfOk result (λ a. a ≡ self.now) }
     {
@@ -79,6 +79,7 @@ impl ScriptAnswers {
         Ok(ScriptAnswers { answers })
     }
 
+    /// The answers, one for each poll.
     pub fn as_slice(&self) -> &[ScriptAnswer]
         ensures { result.now ≡ self.now }
     {
@@ -86,7 +87,7 @@ impl ScriptAnswers {
     }
 }
 
-/// A service line.
+/// A service line: for which requests it is, and what is answered at each poll.
 #[derive(Drop)]
 pub struct Rule {
     /// The name that it is for, where it isn't for all.

@@ -21,7 +21,7 @@ impl<R> Model for RuleList<R> {
 }
 
 impl<R: Drop> RuleList<R> {
-    /// None.
+    /// A list without rules.
     pub fn new(alloc: Global) -> RuleList<R>
         ensures { result ≡ [] }
     {
@@ -35,6 +35,7 @@ impl<R: Drop> RuleList<R> {
         RuleList { rules }
     }
 
+    /// The rules, in the order of their lines.
     pub fn as_slice(&self) -> &[R]
         ensures { result.now ≡ self.now }
     {
@@ -48,7 +49,7 @@ impl<R: Drop> RuleList<R> {
         self.rules
     }
 
-    /// One rule more.
+    /// Appends a rule to the list, as its last one.
     pub fn push(&mut self, rule: R) -> Result<(), OutOfMemory>
         ensures ok { OnOk result (self.new ≡ self.old ++ rule ∷ []) }
         ensures err { OnErr result (self.new ≡ self.old) }

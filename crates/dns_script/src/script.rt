@@ -69,7 +69,7 @@ impl<E: Drop> Script<E> {
         &self.said
     }
 
-    /// The same, for saying more.
+    /// The settings of the script, to be changed.
     pub fn settings_mut(&mut self) -> &mut SaidSettings
         ensures* writes_back { sem 𝓛 (LendsSettings E.row self.entry result) }
         ensures value { result.now ≡ self.old.said }
@@ -106,7 +106,7 @@ impl<E: Drop> Script<E> {
         self.notify_rules.push(rule)
     }
 
-    /// One event more.
+    /// Appends an event to the script, as its last one.
     pub fn push_event(&mut self, event: E) -> Result<(), OutOfMemory>
         ensures ok { OnOk result (self.new ≡ record self.old { events = self.old.events ++ event ∷ [] }) }
         ensures err { OnErr result (self.new ≡ self.old) }
@@ -115,7 +115,7 @@ impl<E: Drop> Script<E> {
         Ok(())
     }
 
-    /// The events.
+    /// The events of the script, in the order of its lines.
     pub fn events(&self) -> &[E]
         ensures { result.now ≡ self.now.events }
     {

@@ -246,7 +246,7 @@ fn verdict_text(verdict: Result<(), NotifyError>) -> &'static str
     }
 }
 
-/// So often `pend`, each behind a space.
+/// Writes the word `pend` so many times, each after a space.
 fn push_pends(text: &mut TextWriter, pends: usize) -> Result<(), OutOfMemory>
     ensures { OnOk result (text.new ≡ text.old ++ spaced (replicate pends (codes "pend"))) }
 {

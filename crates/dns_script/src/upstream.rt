@@ -10,7 +10,7 @@ pub enum UpstreamWord {
     Pend,
     /// A reply to the question arrives, with this response code.
     Rcode(Rcode),
-    /// The same arrives with the identifier that follows, so that it is none to the question.
+    /// A reply with this response code arrives under the identifier after the query's, so that it isn't taken.
     Stray(Rcode),
     /// A tick comes that is due.
     Late,

@@ -32,7 +32,7 @@ fn upstream_word(word: &[u8]) -> Result<UpstreamWord, Reason>
     Err(Reason::Value)
 }
 
-/// What the words behind the name spell.
+/// What happens at each poll of an upstream, as the words from the third one on say.
 fn upstream_words(alloc: Global, words: &Words) -> Result<RuleList<UpstreamWord>, LineError>
     ensures { GivesLine (λ l. l) result (upstream_words_after [] (drop 2 words.now)) }
 {

@@ -1,5 +1,23 @@
-//! A server that runs as a whole: connections and datagrams are served by a service in the layers of settings. Traces of connections, which
-//! replay. Also the program's runs, plans of a server, floods, scripts, hosts and servers.
+//! A server that runs, by all layers, and traces of connections. It exports scripts, runs, loops, hosts and servers,
+//! so a program names this crate alone.
+//!
+//! - `serve_host` serves datagrams and connections over any socket and listener, with a service in the layers of its
+//!   settings.
+//! - `serve_plan` reads the words and the script of a server, and `run` the others (both of dns_run).
+//! - `TraceRecorder` is a recorder whose text reads back.
+//!
+//! # What is proved
+//!
+//! - `serve_host` promises what `host_service` promises of the wrapped service, and answers Done, OutOfMemory or
+//!   HostFault.
+//! - The text of a `TraceRecorder` is the trace of its settings and of the events that were noted, and reads back to
+//!   both.
+//! - A connection was served over a link that contracts know. Its text reads back to events for which the model sends
+//!   what was written (`a_connection_replays`).
+//!
+//! # What a body could still get away with
+//!
+//! What standard input and sockets really hold.
 #![tactic(auto)]
 
 mod host_status;

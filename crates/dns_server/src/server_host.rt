@@ -77,10 +77,10 @@ where
     }
 }
 
-#[tactic(auto, using(crate::proofs::Hosted::may_call))]
 /// Serves connections and datagrams beside each other, until `count` of each were taken, `count` not 0, or a look shows a
 /// shutdown. Then `join_all` of the spawner waits for the work, of which no clause says that it has ended, and the book is
 /// shut down. The wrapped service is the given one in the layers of the settings, where the target is told of changed zones.
+#[tactic(auto, using(crate::proofs::Hosted::may_call))]
 pub fn serve_host<
     R: Threads + Wait + Copy + Send + Sync + 'static,
     A: AsyncAccept,

@@ -43,7 +43,7 @@ fn still_said(said: bool, event: &Event) -> bool
 }
 
 impl TraceRecorder {
-    /// The lines of settings.
+    /// A recorder whose text begins with the lines of these settings.
     pub fn new(alloc: Global, settings: &TraceSettings) -> Result<TraceRecorder, OutOfMemory>
         ensures sound { IsSettings settings.now }
         ensures text { IfOk result (λ r. r.writer ≡ trace settings.now []) }
@@ -58,14 +58,14 @@ impl TraceRecorder {
         }
     }
 
-    /// Whether it tells.
+    /// Whether the text still says all that was noted.
     pub fn tells(&self) -> bool
         ensures { (result ≡ true) ↔ ⟦<TraceRecorder as Recorder>⟧.tells self.now }
     {
         self.said
     }
 
-    /// The text.
+    /// Ends the recording: the text of settings and events.
     pub fn finish(self) -> Vec<u8>
         ensures text { result.items ≡ self.writer }
         ensures back { ⟦<TraceRecorder as Recorder>⟧.tells self → TraceReadsBack result.items (⟦<TraceRecorder as Recorder>⟧.noted self) }

@@ -59,7 +59,7 @@ GivesAll (Err NoMemory) read = Unit {0}
 GivesAll (Err ShortInput) read = read ≡ Err ShortInput
 GivesAll (Err (Form f)) read = read ≡ Err (Form f)
 
--- the same, with the place behind what is read
+-- a vector of what is read is given, with the place after it, unless memory runs out
 abbrev pub GivesSection : {A : Type 0} → Result (Vec A Global × ℕ) ParseError → Result (List A) ParseError → Result ℕ ParseError → Type 0
 GivesSection (Ok s) read end = (read ≡ Ok s.0.items) × (end ≡ Ok s.1)
 GivesSection (Err NoMemory) read end = Unit {0}

@@ -11,11 +11,11 @@ use dns_opt::{Cookie, OptRef};
 /// The first COOKIE option of a request (RFC 7873, section 4).
 #[derive(Clone, Copy, Debug)]
 pub enum AskedCookie {
-    /// There is none.
+    /// The request has no COOKIE option.
     NoCookie,
-    /// It can't be read.
+    /// The first COOKIE option can't be read.
     Unreadable,
-    /// It is this cookie.
+    /// The first COOKIE option is this cookie.
     Sent(Cookie),
 }
 

@@ -79,14 +79,14 @@ impl CopiedMessage {
         })
     }
 
-    /// The header.
+    /// The header that the built message will have.
     pub fn header(&self) -> Header
         ensures { result ≡ self.now.header }
     {
         self.header
     }
 
-    /// Sets the header.
+    /// Replaces the header that the built message will have.
     pub fn set_header(&mut self, header: Header)
         ensures { self.new ≡ record self.old { header = header } }
     {
@@ -125,7 +125,7 @@ fn questions_in(
     questions_from(alloc, octets, 12, number_at(octets, 4))
 }
 
-/// So many questions from a place on, and the place behind them.
+/// Reads `count` questions from a place on: the questions, and the place after them.
 #[tactic(auto, using(crate::proofs::CopyLaws::question_gives))]
 fn questions_from(
     alloc: Global,
@@ -150,7 +150,7 @@ fn questions_from(
     Ok((questions, at))
 }
 
-/// So many records from a place on, copied, and the place behind them.
+/// Copies `count` records from a place on: the records, and the place after them.
 #[tactic(auto, using(crate::proofs::CopyLaws::record_gives, crate::proofs::CopyLaws::record_next, crate::proofs::CopyLaws::data_refused))]
 fn records_from(
     alloc: Global,

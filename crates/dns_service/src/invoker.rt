@@ -13,22 +13,22 @@ use std::alloc::Global;
 /// How far a request is, for the connection that it came from.
 #[derive(Clone, Copy, Debug, PartialEq, Eq)]
 pub enum InvokerStatus {
-    /// Its replies are single ones.
+    /// The request's replies are single ones.
     Normal,
-    /// Its replies are those of a transaction, of which none is dropped.
+    /// The request's replies are those of a transaction, of which none is dropped.
     InTransaction,
-    /// It ended with an error.
+    /// The answer ended with an error.
     Aborting,
 }
 
 /// What became of a reply.
 #[derive(Clone, Copy, Debug, PartialEq, Eq)]
 pub enum Enqueued {
-    /// It waits to be written.
+    /// The reply waits in the queue to be written.
     Queued,
-    /// It waits for room.
+    /// The reply waits for room in the queue.
     Held,
-    /// It is dropped.
+    /// The reply is dropped.
     Dropped,
 }
 

@@ -1,4 +1,31 @@
-//! Requests and services by poll. Also what is written into replies, and the configurations, events and outputs of a server.
+//! Requests, and services that answer them by poll. It exports error replies (dns_replies) and configurations and
+//! events (dns_events).
+//!
+//! - `Request` is a message that came, with its sender, moment, transport and metadata of the service's own.
+//! - A `Service` is called with a request and gives a `ReplyFuture`, which gives a `ReplyStream` of items. An item is a
+//!   `CallResult` (a reply, a feedback, or both) or a `ServiceError`. Both are polled; there are no wakers.
+//! - `service_fn` makes a service of a closure that answers at once. `Gives` names the item, for contracts.
+//! - `SharedService` is a service without metadata that threads share; `WithoutMeta` is a service seen so.
+//! - `ServiceInvoker` is what carries out the answers to one request: `dispatch` polls once and queues the reply.
+//! - `CopiedMessage` copies a message, and `read_asked` reads once what layers look at.
+//!
+//! ```text
+//! Request -> Service::call -> ReplyFuture::poll -> ReplyStream::poll_next -> item 0, item 1, .. the end
+//! ```
+//!
+//! # What is proved
+//!
+//! - Answer k of what a service returns is a function of the request at entry and of k (clauses `answers`, `kept`,
+//!   `refused` of `Service::call`). A call changes nothing of the request but its size hint and its reserved octets. A
+//!   refused call leaves the request, so that it may be called again.
+//! - `PolledRequest` gives the answers of a future and then of its stream, one for one.
+//! - `dispatch` takes exactly one answer, hears its feedback, and queues its reply (`dispatched_by`).
+//! - `reply_limit` is at least 512, and `fit` cuts a reply to it over UDP.
+//! - `Asked` says exactly what stands in a request (`asked_of`), and keeps its OPT record (`asked_keeps_opt`).
+//!
+//! # What a body could still get away with
+//!
+//! What `size_hint` answers is what a stream says of itself. After a lack of memory, nothing is known of a stream.
 #![tactic(auto)]
 
 mod asked;

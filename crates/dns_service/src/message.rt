@@ -39,13 +39,14 @@ impl UdpTransportContext {
         }
     }
 
-    /// The hint in octets.
+    /// How many octets a response over UDP may have, if there is such a hint.
     pub fn max_response_size_hint(&self) -> Option<u16>
         ensures { result ≡ self.now }
     {
         self.max_response_size_hint
     }
 
+    /// Sets how many octets a response over UDP may have, or that there is no such hint.
     pub fn set_max_response_size_hint(&mut self, max_response_size_hint: Option<u16>)
         ensures { self.new ≡ max_response_size_hint }
     {
@@ -94,7 +95,7 @@ impl NonUdpTransportContext {
     }
 }
 
-/// How a request came.
+/// How a request came: in a datagram, or over a stream.
 #[derive(Clone, Debug, Drop, PartialEq, Eq)]
 pub enum TransportSpecificContext {
     Udp(UdpTransportContext),
@@ -221,20 +222,21 @@ impl<Meta> Request<Meta> {
         })
     }
 
-    /// The moment in ms.
+    /// The moment at which the request was received, in ms.
     pub fn received_at(&self) -> u64
         ensures { result ≡ self.now.received_at }
     {
         self.received_at
     }
 
-    /// The seconds.
+    /// The time at which the request was received, in seconds.
     pub fn received_secs(&self) -> u64
         ensures { result ≡ self.now.received_secs }
     {
         self.received_secs
     }
 
+    /// How the request came, with what its transport allows.
     pub fn transport_ctx(&self) -> &TransportSpecificContext
         ensures { result.now ≡ self.now.transport }
     {
@@ -249,12 +251,14 @@ impl<Meta> Request<Meta> {
         &mut self.transport_ctx
     }
 
+    /// The address and the port that the request came from.
     pub fn client_addr(&self) -> SocketAddr
         ensures { result ≡ self.now.client_addr }
     {
         self.client_addr
     }
 
+    /// The message of the request, shared.
     pub fn message(&self) -> &Arc<Message>
         ensures { arc_value result.now ≡ self.now.octets }
     {
@@ -292,7 +296,7 @@ impl<Meta> Request<Meta> {
         self.num_reserved_bytes
     }
 
-    /// The same request with other metadata.
+    /// The request with other metadata, all else moved and not copied.
     pub fn with_new_metadata<M>(self, metadata: M) -> Request<M>
     where
         Meta: Drop,
@@ -328,6 +332,7 @@ impl<Meta> Request<Meta> {
         })
     }
 
+    /// What the server told the service beside the request.
     pub fn metadata(&self) -> &Meta
         ensures { result.now ≡ self.now.metadata }
     {

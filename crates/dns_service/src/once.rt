@@ -14,6 +14,7 @@ pub struct Once {
 }
 
 impl Once {
+    /// A stream of this item, and then of none.
     pub fn new(item: ServiceResult) -> Self
         ensures answers { ⟦<Once as ReplyStream>⟧.answer result ≡ once item }
         ensures size { ⟦<Once as ReplyStream>⟧.size result ≡ (1, Some 1) }
@@ -46,6 +47,7 @@ pub struct Now<S> {
 }
 
 impl<S: ReplyStream> Now<S> {
+    /// A future that is ready with this stream at its first poll.
     pub fn new(stream: S) -> Self
         ensures { ⟦<Now<S> as ReplyFuture>⟧.answer result ≡ S.answer stream }
     {

@@ -91,7 +91,7 @@ where
         }
     }
 
-    /// As the stream says, and unknown before it.
+    /// How many items are left, as the stream says. Before there is a stream that is unknown.
     fn size_hint(&self) -> (usize, Option<usize>) {
         match self {
             PolledRequest::Future(_) => (0, None),

@@ -20,7 +20,7 @@ use std::fmt;
 use std::marker::Model;
 use std::sync::Arc;
 
-/// What a poll answers.
+/// What a poll answers: it is pending, or ready with a value.
 #[derive(Debug, Drop)]
 pub enum Polled<T> {
     /// Nothing yet: poll again.
@@ -99,7 +99,7 @@ impl Model for CallResult {
 }
 
 impl CallResult {
-    /// A reply alone.
+    /// A reply without feedback.
     pub fn new(response: AdditionalBuilder) -> Self
         ensures { result ≡ record { response = Some response.message; feedback = None } }
     {
@@ -109,7 +109,7 @@ impl CallResult {
         }
     }
 
-    /// A feedback alone.
+    /// Feedback to the server without a reply.
     pub fn feedback_only(feedback: ServiceFeedback) -> Self
         ensures { result ≡ record { response = None; feedback = Some feedback } }
     {
@@ -119,7 +119,7 @@ impl CallResult {
         }
     }
 
-    /// The same reply with this feedback.
+    /// Replaces the feedback; the response stays.
     pub fn with_feedback(self, feedback: ServiceFeedback) -> Self
         ensures { result ≡ record self { feedback = Some feedback } }
     {
@@ -129,7 +129,7 @@ impl CallResult {
         }
     }
 
-    /// The reply.
+    /// The reply, if there is one.
     pub fn response(&self) -> Option<&AdditionalBuilder>
         ensures { message_in (option_copied result) ≡ self.now.response }
     {
@@ -144,7 +144,7 @@ impl CallResult {
         self.response.as_mut()
     }
 
-    /// The feedback.
+    /// What the server is told besides the reply, if anything.
     pub fn feedback(&self) -> Option<ServiceFeedback>
         ensures { result ≡ self.now.feedback }
     {
@@ -212,7 +212,7 @@ pub trait ReplyFuture: Drop {
         ensures ready { IfOk result (IfReady (λ s. (k : ℕ) → Self.Stream.answer s k ≡ answer self.old k)) };
 }
 
-/// Answers requests.
+/// Answers requests: each call gives a future, that gives a stream of replies, and both are polled.
 pub trait Service<Meta>: Drop {
     type Stream: ReplyStream;
 

@@ -27,7 +27,7 @@ pub trait SharedService: Drop {
     /// Whether the service may be called.
     ghost can_call: { Self → Type 0 };
 
-    /// As `Service::call`.
+    /// Answers a request, as `Service::call` does. A refused call leaves the request.
     fn call(&self, alloc: Global, request: &mut Request<()>) -> Result<Self::Future, OutOfMemory>
         requires { can_call self.now }
         ensures answers { IfOk result (λ f. (k : ℕ) → Self.Future.answer f k ≡ answer self.now request.old k) }

@@ -110,7 +110,8 @@ module _ {R F : Type 0} (answer : PolledRequest F R → ℕ → Answer) (answers
     abbrev pub StateGoes : ℕ → State W R F → State W R F → List Output → (Slate → Effect) → Type 0
     StateGoes number old new outs after = (s : Slate) → StandsIn answer answers number old s → (outs ≡ (after s).1) × StandsIn answer answers number new (after s).0
 
-    -- the same of a connection that was open, by the outcome
+    -- at every slate that an open connection stands for, its outcome gives the outputs that are told and the slate
+    -- after
     abbrev pub Leads : OpenConnection W R F → OpenConnection W R F → Outcome → (Slate → Effect) → Type 0
     Leads old new outcome after = (number : ℕ) (s : Slate) → IsOpen answer answers number old s → (outputs_of number outcome ≡ (after s).1) × StandsIn answer answers number (state_behind (Is_open new) outcome) (after s).0
 

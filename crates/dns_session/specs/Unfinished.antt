@@ -39,13 +39,13 @@ module _ {Q : Type 0} where
     pub count : new.count ≡ old.count + 1
     pub entered : IsInOrder old → Entered old kept new
 
-  -- the same is kept
+  -- every number has the request that it had
   pub record IsSame (old new : Unfinished Q) : Type 0 where
     pub in_order : IsInOrder new
     pub count : new.count ≡ old.count
     pub same : (q : ℕ) → request_at new q ≡ request_at old q
 
-  -- so many of the row are passed by, and the same is kept
+  -- n entries of the row are passed by, and every number has the request that it had
   pub record PassesBy (old : Unfinished Q) (n : ℕ) (new : Unfinished Q) : Type 0 where
     pub shorter : length new.row.items + n ≡ length old.row.items
     pub same : IsInOrder old → IsSame old new

@@ -72,7 +72,7 @@ impl<W: SharedService> OpenConnection<W> {
         })
     }
 
-    /// Another configuration holds from now on. The queue's bound stays, and so does what was spent of the response budget.
+    /// Takes a new configuration. The queue's bound stays, and so does what was spent of the response budget.
     pub fn reconfigure(&mut self, config: &ConnectionConfig)
         ensures { (answers : Serving) → Leads (request_answer W.Future.answer W.Stream.answer) answers self.old self.new Outcome.Nothing (λ s. (reconfigured config.now s, [])) }
     {

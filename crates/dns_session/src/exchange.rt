@@ -21,7 +21,7 @@ use dns_service::{
 };
 use std::alloc::Global;
 
-/// The one output.
+/// A vector of one output.
 pub fn one(alloc: Global, output: Output) -> Result<Vec<Output>, OutOfMemory>
     ensures { IfOk result (λ outs. outs.items ≡ output ∷ []) }
 {
@@ -69,7 +69,7 @@ pub fn begin_exchange<W: SharedService>(
     begin_cut(alloc, service, addr, at, secs, octets, config)
 }
 
-/// The same by what is read of the datagram.
+/// Begins the exchange of what was read of a datagram. Octets that are no message begin none, and have no reply.
 pub fn begin_cut<W: SharedService>(
     alloc: Global,
     service: &W,
@@ -88,7 +88,8 @@ pub fn begin_cut<W: SharedService>(
     begin_message(alloc, service, addr, at, secs, message, config)
 }
 
-/// The same by the message that the datagram is: a response is refused, and a query asked.
+/// Begins the exchange of a datagram that is a message. A response (QR set) is refused, and a query is asked of the
+/// service.
 fn begin_message<W: SharedService>(
     alloc: Global,
     service: &W,

@@ -24,7 +24,7 @@ pub fn cut_datagram(alloc: Global, octets: &[u8]) -> Result<Vec<u8>, OutOfMemory
     Ok(read)
 }
 
-/// The same of octets that are given away, which are not copied.
+/// The octets of an owned datagram that are read. It is cut in place, not copied.
 pub fn cut_given(octets: Octets) -> Vec<u8>
     ensures { result.items ≡ cut_datagram octets }
 {

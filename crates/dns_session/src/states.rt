@@ -142,7 +142,7 @@ pub(crate) fn step_state<W: SharedService>(
     }
 }
 
-/// The same of one that is no open connection, which asks nothing of the service.
+/// One event of a client that is no open connection. The service isn't asked.
 fn step_unopened<W: SharedService>(
     state: &mut State<W>,
     alloc: Global,

@@ -19,7 +19,7 @@ pub struct Unfinished<Q> {
 impl<Q> Unfinished<Q> {
     ghost use Rattle.dns_session.specs.Unfinished.{IsFirstFrom, IsInOrder, request_at, row_start};
 
-    /// Of no requests.
+    /// A row without requests.
     pub fn new(alloc: Global) -> Self
         ensures count { result.count ≡ 0 }
         ensures nothing { (k : ℕ) → request_at result k ≡ None }
@@ -127,7 +127,7 @@ impl<Q: Drop> Unfinished<Q> {
         }
     }
 
-    /// Those before a place of the row are passed by.
+    /// Takes the entries before a place out of the row. Requests stay under their numbers.
     fn pass_before(&mut self, place: usize) -> Result<(), OutOfMemory>
         requires { place ≤ length self.old.row.items }
         ensures { OnOk result (PassesBy self.old place self.new) }

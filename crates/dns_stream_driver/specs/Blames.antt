@@ -49,7 +49,7 @@ pub record WroteWhole (kind : EventKind) (frame : List ℕ) (t t' : Traffic) : T
   pub write : (took : ℕ) → kind ≡ Write took → (t'.went ≡ t.went ++ frame) ⊎ (t.full_writes < t'.full_writes)
 
 module _ {W R F : Type 0} (answer : PolledRequest F R → ℕ → Answer) where
-  -- the same of the frame that stands first
+  -- after a Write the frame that stood first in the queue was written whole, or a write answered Again
   abbrev pub WroteFirst : ClientCore W R F → EventKind → Traffic → Traffic → Type 0
   WroteFirst core kind t t' = (answers : Serving) (s : Slate) → Stands answer answers core s → WroteWhole kind (front s.queue) t t'
 

@@ -47,7 +47,7 @@ module _ {W R F : Type 0} (answer : PolledRequest F R → ℕ → Answer) (answe
   pub record TurnedPart (client below : ℕ) (core : ClientCore W R F) (last : Look) (n n' : List Event) (k k' : Known) (t t' : Traffic) : Type 0 where
     pub either : (NotedWide n n' × (t' ≡ t)) ⊎ LookedAndPart client below core last n n' k k' t t'
 
-  -- the same of why it is closed
+  -- the core was closed by a look, for this reason, and no call of the link failed
   pub record ClosedByLookFor (why : Option Why) (core core' : ClientCore W R F) (k k' : Known) (faults faults' : ℕ) : Type 0 where
     pub reason : Why
     pub why_is : why ≡ Some reason

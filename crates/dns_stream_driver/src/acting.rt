@@ -54,7 +54,8 @@ fn take<J: Recorder, W: SharedService>(
     Ok(why)
 }
 
-/// The same of an event of the loop's own, which may be the turn of the request that was polled last in this round.
+/// Notes an event of the loop's own and steps the core by it. The turns, the moment and the waits of the loop follow
+/// it.
 fn hand_over<J: Recorder, W: SharedService>(
     alloc: Global,
     core: &mut ClientCore<W>,
@@ -146,8 +147,8 @@ fn after_event(last: Option<u64>, kind: &EventKind) -> Option<u64>
     }
 }
 
-#[tactic(auto, using(crate::proofs::Choices::part_read))]
 /// Does one own event. It is noted before the core takes it.
+#[tactic(auto, using(crate::proofs::Choices::part_read))]
 pub(crate) fn act<R: Wait, L: Link, C: Clock, J: Recorder, W: SharedService>(
     rt: &R,
     alloc: Global,

@@ -15,8 +15,8 @@ fn why_closed(out: &Output) -> Option<Why>
     }
 }
 
-#[tactic(auto, using(crate::proofs::Closings::closed_last, crate::proofs::Closings::closed_none))]
 /// Why the last of some outputs closes the connection, where it does.
+#[tactic(auto, using(crate::proofs::Closings::closed_last, crate::proofs::Closings::closed_none))]
 pub(crate) fn closed_by(outs: &[Output]) -> Option<Why>
     ensures { result ≡ closed_by outs.now }
 {

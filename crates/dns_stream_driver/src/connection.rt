@@ -72,8 +72,8 @@ fn admit_and_serve<R: Wait, L: Link, C: Clock, J: Recorder, W: SharedService>(
     }
 }
 
-#[tactic(auto, using(crate::proofs::Ends::unserved_early))]
 /// Notes the Offer, and serves the connection.
+#[tactic(auto, using(crate::proofs::Ends::unserved_early))]
 fn serve_offer<R: Wait, L: Link, C: Clock, J: Recorder, W: SharedService>(
     rt: &R,
     alloc: Global,
@@ -113,10 +113,10 @@ fn serve_offer<R: Wait, L: Link, C: Clock, J: Recorder, W: SharedService>(
     }
 }
 
-#[tactic(auto, using(crate::proofs::Ends::looks_release, crate::proofs::Goings::cause_released))]
 /// Serves one connection until it is closed, by a look that shows no shutdown. Then its slot is given back and the link
 /// closed. Each turn is one look and one own event: a frame that waits is written; where none waits, the next request of
 /// this round is polled; where none is left, one read is made, which ends the round.
+#[tactic(auto, using(crate::proofs::Ends::looks_release, crate::proofs::Goings::cause_released))]
 pub fn serve_connection<R: Wait, L: Link, C: Clock, J: Recorder, W: SharedService>(
     rt: &R,
     alloc: Global,
@@ -137,7 +137,7 @@ pub fn serve_connection<R: Wait, L: Link, C: Clock, J: Recorder, W: SharedServic
     ensures observed { Observed (L.tells link.new × J.tells journal.new) (L.tells link.old × J.tells journal.old)
         (EndsSo (serving (W.answer service.now) (W.hint service.now)) result.1 client addr look.now
         (J.noted journal.old) (J.noted journal.new) seat.known result.0.known (L.traffic link.old) (L.traffic link.new)) }
-    // And why it was closed.
+    // Where link and recorder tell: why the connection was closed.
     ensures shown { Observed (L.tells link.new × J.tells journal.new) (L.tells link.old × J.tells journal.old)
         (EndShown (serving (W.answer service.now) (W.hint service.now)) result.1 client addr look.now (J.noted journal.old) (J.noted journal.new) (L.traffic link.old) (L.traffic link.new)) }
     // Where the clock tells too.

@@ -20,8 +20,8 @@ use dns_session::ClientCore;
 use std::alloc::Global;
 use std::sync::Wait;
 
-#[tactic(auto, using(crate::proofs::LookNewsLaws::wide_none, crate::proofs::LookNewsLaws::wide_version))]
 /// Notes the news of a look, by what was seen before.
+#[tactic(auto, using(crate::proofs::LookNewsLaws::wide_none, crate::proofs::LookNewsLaws::wide_version))]
 fn note_news<C: Clock, J: Recorder>(
     alloc: Global,
     kept: &TurnState,
@@ -67,8 +67,8 @@ fn apply_look<W: SharedService>(
     Ok(why)
 }
 
-#[tactic(auto, using(crate::proofs::LookNewsLaws::looked_once))]
 /// One look. Its news are noted, and then the core sees it. The answer is why the connection is closed by that, if it is.
+#[tactic(auto, using(crate::proofs::LookNewsLaws::looked_once))]
 pub(crate) fn poll_book<R: Wait, C: Clock, J: Recorder, W: SharedService>(
     rt: &R,
     alloc: Global,

@@ -15,9 +15,9 @@ use std::sync::Wait;
 /// How many octets one read takes at most.
 pub(crate) const ROOM: usize = 1024;
 
-#[tactic(auto, using(crate::proofs::Movings::moved_piece, crate::proofs::Movings::moved_again, crate::proofs::Movings::moved_end, crate::proofs::Movings::moved_none, crate::proofs::Movings::unread, crate::proofs::Blamings::blames_read, crate::proofs::Blamings::blames_tick, crate::proofs::Blamings::blames_end, crate::proofs::Blamings::blames_fault, crate::proofs::Blamings::whole_got, crate::proofs::Blamings::whole_again, crate::proofs::Blamings::whole_end, crate::proofs::Blamings::whole_fault))]
 /// Makes one read, and says of which kind its event is: of a Piece, an End or a Fault, or of a Tick after a wait of so many
 /// milliseconds at most, where nothing came yet.
+#[tactic(auto, using(crate::proofs::Movings::moved_piece, crate::proofs::Movings::moved_again, crate::proofs::Movings::moved_end, crate::proofs::Movings::moved_none, crate::proofs::Movings::unread, crate::proofs::Blamings::blames_read, crate::proofs::Blamings::blames_tick, crate::proofs::Blamings::blames_end, crate::proofs::Blamings::blames_fault, crate::proofs::Blamings::whole_got, crate::proofs::Blamings::whole_again, crate::proofs::Blamings::whole_end, crate::proofs::Blamings::whole_fault))]
 fn read_kind<R: Wait, L: Link>(
     rt: &R,
     alloc: Global,

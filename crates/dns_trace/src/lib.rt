@@ -1,4 +1,30 @@
-//! The text of a script and of recorded events: its lines, their words, and the values, settings and events that the words spell.
+//! The text of a script and of recorded events: lines, words, values, and the lines of settings and events.
+//!
+//! - `split_line`, `is_text`, `says_nothing` and `Words` take a text apart into lines and words. `read_lines` gives
+//!   each line to a `TakeLine`.
+//! - `num`, `decimal`, `port`, `octets`, `size`, `secret`, `addr`, `quad`, `yes_no` and `name` read the value of one
+//!   word.
+//! - `read_setting`, `read_dgram`, `read_stream` and `read_budget` read lines of settings into `SaidSettings`.
+//!   `read_event` and `read_step` read lines of events.
+//! - `Reason` says why a line is refused, the first that fits, and `TraceError` names the line.
+//! - `read_trace` reads a whole text of settings and events. `TraceWriter` writes one, event by event.
+//!
+//! ```text
+//! settings, events -> TraceWriter -> text -> read_trace -> settings, events
+//! ```
+//!
+//! Scripts with services, zones and upstreams stand in dns_script.
+//!
+//! # What is proved
+//!
+//! - Every reader gives exactly its definition's value, or its refusal with line and reason.
+//! - What was written of settings and events in range reads back to both (`a_trace_reads_back`).
+//! - `note` appends exactly the line of its event. Without memory the text is as before.
+//! - After a refused line of a setting what was said before is as it was.
+//!
+//! # What a body could still get away with
+//!
+//! How often a text is passed over. How much memory a line takes.
 #![tactic(auto)]
 
 mod budget_line;

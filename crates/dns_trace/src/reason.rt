@@ -14,11 +14,11 @@ pub enum Reason {
     Word,
     /// What stands before the first event stands behind one.
     Order,
-    /// It is a service line of another kind than the first one.
+    /// A service line is of another kind than the first service line.
     Mix,
-    /// It stands once, and stands again.
+    /// A line that may stand once stands again.
     Repeat,
-    /// There are too few words, or too many.
+    /// A line has too few words, or too many.
     Count,
     /// A word spells no value.
     Value,

@@ -31,7 +31,7 @@ impl Model for SaidSettings {
 }
 
 impl SaidSettings {
-    /// Nothing is said.
+    /// Settings of which no line said anything.
     pub fn new(alloc: Global) -> SaidSettings
         ensures { result ≡ nothing_said }
     {

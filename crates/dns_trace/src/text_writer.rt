@@ -28,7 +28,7 @@ impl Model for TextWriter {
 }
 
 impl TextWriter {
-    /// No text.
+    /// An empty text.
     pub fn new(alloc: Global) -> TextWriter
         ensures { result ≡ [] }
     {

@@ -33,7 +33,7 @@ impl Model for TraceReader {
 }
 
 impl TraceReader {
-    /// Nothing is said.
+    /// A trace of which no line was read.
     fn new(alloc: Global) -> TraceReader
         ensures { result ≡ nothing_traced }
     {

@@ -30,7 +30,7 @@ impl Model for TraceWriter {
 }
 
 impl TraceWriter {
-    /// The lines of settings.
+    /// A text that begins with the lines of these settings.
     #[tactic(auto, unfolding(crate::specs::Trace::trace))]
     pub fn new(alloc: Global, settings: &TraceSettings) -> Result<TraceWriter, OutOfMemory>
         ensures { IfOk result (λ w. w ≡ trace settings.now []) }
@@ -55,7 +55,7 @@ impl TraceWriter {
         Ok(())
     }
 
-    /// The text.
+    /// Ends the text: the lines of settings and events.
     pub fn finish(self) -> Vec<u8>
         ensures { result.items ≡ self }
     {

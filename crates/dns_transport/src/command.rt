@@ -3,7 +3,7 @@
 /// What a server may be told to do. No call takes one: a server is told by its `Control`.
 #[derive(Clone, Copy, Debug)]
 pub enum ServerCommand<T> {
-    /// Nothing is commanded yet.
+    /// No command was given yet.
     Init,
     /// The configuration is replaced.
     Reconfigure(T),

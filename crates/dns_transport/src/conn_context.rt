@@ -24,7 +24,7 @@ pub(crate) struct ConnContext<W, C, K> {
 }
 
 impl<W, C, K: Drop> ConnContext<W, C, K> {
-    /// The same with this hook.
+    /// Replaces the hook; book, service and clock are moved.
     pub(crate) fn with_hook<H>(self, hook: H) -> ConnContext<W, C, H>
         ensures { result ≡ record { book = self.book; service = self.service; clock = self.clock; hook = hook } }
     {
@@ -52,8 +52,8 @@ where
     W::Future: Send,
     W::Stream: Send,
 {
-    #[tactic(auto, using(crate::proofs::SeatLaws::is_there))]
     /// Accepts connections without a count, from the seat that stands in its place.
+    #[tactic(auto, using(crate::proofs::SeatLaws::is_there))]
     pub(crate) fn accept_all<
         R: Threads + Wait + Copy + Send + 'static,
         A: AsyncAccept,

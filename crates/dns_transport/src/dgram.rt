@@ -116,7 +116,7 @@ impl<D: AsyncDgramSock + Drop, B: BufSource + Drop, W: SharedService, C: Clock +
         }
     }
 
-    /// The socket.
+    /// The socket that was handed in, without the counting round it.
     pub fn source(&self) -> &D
         ensures { result.now ≡ self.now.sock }
     {
@@ -168,8 +168,8 @@ impl<D: AsyncDgramSock + Drop, B: BufSource + Drop, W: SharedService, C: Clock +
     }
 }
 
+/// Serves datagrams from the seat in its place, which is put back at the end.
 #[tactic(auto, using(crate::proofs::SeatLaws::is_there))]
-/// The same from the seat that stands in its place.
 fn serve_from<R: Wait, D: AsyncDgramSock, C: Clock, J: Recorder, W: SharedService>(
     rt: &R,
     alloc: Global,

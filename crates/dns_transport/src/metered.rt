@@ -39,14 +39,14 @@ impl<L> Metered<L> {
         }
     }
 
-    /// The other link.
+    /// The link inside, without the counting round it.
     pub fn inner(&self) -> &L
         ensures { result.now ≡ self.now }
     {
         &self.inner
     }
 
-    /// The other link, to be changed.
+    /// The link inside, to be changed.
     pub(crate) fn inner_mut(&mut self) -> &mut L {
         &mut self.inner
     }

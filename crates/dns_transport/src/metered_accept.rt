@@ -23,14 +23,14 @@ impl<A> Model for MeteredAccept<A> {
 }
 
 impl<A> MeteredAccept<A> {
-    /// Its links count for these metrics.
+    /// Gives the links of `inner`, each of which counts for these metrics.
     pub fn new(inner: A, metrics: Arc<ServerMetrics>) -> MeteredAccept<A>
         ensures { result ≡ inner }
     {
         MeteredAccept { inner, metrics }
     }
 
-    /// The other accept object.
+    /// The accept object inside.
     pub fn inner(&self) -> &A
         ensures { result.now ≡ self.now }
     {

@@ -23,14 +23,14 @@ impl<D> Model for MeteredSock<D> {
 }
 
 impl<D> MeteredSock<D> {
-    /// Counts for these metrics.
+    /// A socket over `inner` whose datagrams count for these metrics.
     pub fn new(inner: D, metrics: Arc<ServerMetrics>) -> MeteredSock<D>
         ensures { result ≡ inner }
     {
         MeteredSock { inner, metrics }
     }
 
-    /// The other socket.
+    /// The socket inside, without the counting round it.
     pub fn inner(&self) -> &D
         ensures { result.now ≡ self.now }
     {

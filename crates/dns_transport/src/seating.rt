@@ -35,7 +35,7 @@ fn make_book(alloc: Global, state: BookState) -> Result<(Arc<Book>, BookSeat), O
     }
 }
 
-/// These metrics, shared twice.
+/// Two handles on one set of metrics.
 fn share(
     alloc: Global,
     metrics: ServerMetrics,

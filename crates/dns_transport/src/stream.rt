@@ -175,8 +175,7 @@ impl<
     P: Drop,
     H: Drop,
 > StreamServer<A, B, W, C, P, H> {
-    /// The same server with this hook, which is called once on each link that is admitted. It gets the link of the accept
-    /// object.
+    /// Replaces the hook, which is called once on each link that is admitted. It gets the link of the accept object.
     pub fn with_pre_connect_hook<K: PreConnect<A::Link>>(
         self,
         hook: K,
@@ -238,9 +237,9 @@ where
     W::Future: Send,
     W::Stream: Send,
 {
-    #[tactic(auto, using(crate::proofs::Joinings::not_counted, crate::proofs::Joinings::ran_joined))]
     /// Accepts connections until a look shows a shutdown, and then waits by `join_all` for those that are served, of which no
     /// clause says that they have ended.
+    #[tactic(auto, using(crate::proofs::Joinings::not_counted, crate::proofs::Joinings::ran_joined))]
     pub fn run<R: Threads + Wait + Copy + Send + 'static>(
         &mut self,
         rt: &R,

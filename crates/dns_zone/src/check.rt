@@ -19,7 +19,7 @@ use dns_name::{Name, OutOfMemory};
 use dns_route::matches_are_suffixes;
 use std::alloc::Global;
 
-/// What is looked for among the records of a list.
+/// Why a record can't stand in the zone of an apex.
 #[derive(Clone, Copy, Debug, PartialEq, Eq)]
 pub(crate) enum ZoneDefect {
     /// An owner that doesn't end with the apex.

@@ -26,7 +26,7 @@ pub enum ZoneError {
 }
 
 impl ZoneError {
-    /// Its name.
+    /// The name of the variant.
     fn name(self) -> &'static str {
         match self {
             ZoneError::Outside { .. } => "Outside",

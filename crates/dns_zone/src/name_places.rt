@@ -22,7 +22,7 @@ impl NamePlaces {
     ghost use Rattle.std.specs.Option.{option_copied};
     ghost use Rattle.dns_zone.specs.Kept.{KnowsPlaces, Puts, begins_at, kinds_under, places_under};
 
-    /// Nothing is kept.
+    /// An index of no records.
     pub(crate) fn new(alloc: Global) -> NamePlaces
         ensures { KnowsPlaces result [] }
     {

@@ -17,7 +17,7 @@ impl Zone {
         &self.apex
     }
 
-    /// Its records, in order.
+    /// The records of the zone, in the order in which they were given.
     pub fn records(&self) -> &[Record]
         ensures value { result.now ≡ self.now.records }
         ensures lawful { AreLawful result.now }

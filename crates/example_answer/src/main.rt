@@ -1,4 +1,8 @@
-//! A service behind the mandatory and the EDNS layer answers one query, and the octets of its reply are printed.
+//! A service behind the mandatory and the EDNS layer answers one query, and the octets of its reply are printed in
+//! hex.
+//!
+//! The README shows it. The service's contract names what it gives, and the layers' clauses speak of that: the reply
+//! of the two layers to its query.
 #![tactic(auto)]
 
 ghost use Rattle.std.specs.Prelude.{◌≡◌, Some, None, Ok};

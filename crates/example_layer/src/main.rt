@@ -1,5 +1,8 @@
-//! A layer of one's own round a service, and the four layers round both. Each line of standard input is a query that came in a
-//! datagram, in hex; the octets of its reply are printed, in hex too.
+//! A layer of one's own round a service, and the four layers round both.
+//!
+//! Each line of standard input is a query that came in a datagram, in hex. The octets of its reply are printed, in
+//! hex too. recursion.rt is the layer: its definition, its contract and its code. docs/using.md tells how such a
+//! layer is written.
 #![tactic(auto)]
 
 mod recursion;

@@ -1,5 +1,7 @@
-//! Reads a zone file on standard input, below the origin that is named, and writes its records or how many there are. By the word
-//! `many` the octet 1 parts one text from the next, and each is counted.
+//! Reads a zone file on standard input, below the origin that is named, and writes its records or how many there are.
+//!
+//! By the word `many` the octet 1 separates one text from the next, and the records of each are counted.
+//! tools/zone_files runs it too. It shows `read_zone` and `write_zone` of dns_zone_file.
 #![tactic(auto)]
 
 use anyhow::bail;

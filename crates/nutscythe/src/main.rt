@@ -1,4 +1,7 @@
 //! The program: a script on standard input, its outputs or its text on standard output, or a server that runs by it.
+//!
+//! `main` looks at the first word. `serve` hands the plan of `serve_plan` to `serve_host`, over the machine's sockets,
+//! clock and threads; everything else goes to `run`. It is tested by its stored run, by tools/door and by tools/memory.
 #![tactic(auto)]
 
 mod serving;

@@ -99,7 +99,7 @@ where
     status
 }
 
-/// The same by a book of the settings.
+/// Opens a book of the settings, and serves over the accept object, the socket and the clock of `machine`.
 fn serve_machine<
     R: Threads + Wait + Copy + Send + Sync + 'static,
     A: AsyncAccept + Drop,

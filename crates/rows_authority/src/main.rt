@@ -1,4 +1,11 @@
-//! Judges the rows of authorities and of transfers on standard input: `crates/rows_table` says how a row is written.
+//! Rows of authorities and of transfers, out and in, on standard input. `crates/rows_table` says how a row is
+//! written.
+//!
+//! - authorities: which zone answers, and who may have a transfer.
+//! - transfers: how a zone is cut into replies, and what comes of messages that come in.
+//! - zones: what rows say of a zone; often: work that is done many times over, for `bench/`.
+//!
+//! The program prints each row that doesn't hold, and how many there were.
 #![tactic(auto)]
 
 mod authorities;

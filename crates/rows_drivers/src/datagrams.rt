@@ -56,7 +56,7 @@ const TWO: SockCase<'static> = SockCase {
     ..ONE
 };
 
-/// Without memory for a note of the query.
+/// A query for whose note there is no memory.
 const UNNOTED: SockCase<'static> = SockCase {
     notes: 0,
     end: DgramEnd::OutOfMemory,

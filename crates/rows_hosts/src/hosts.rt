@@ -54,7 +54,7 @@ const REPLY_FRAME: &[u8] =
 const NO_NAME_FRAME: &[u8] =
     b"\x00\x22\x12\x34\x81\x03\x00\x01\x00\x00\x00\x00\x00\x01\x00\x00\x01\x00\x01\x00\x00\x29\x00\x00\x00\x00\x00\x00\x00\x06\x00\x0b\x00\x02\x01\x2c";
 
-/// These datagrams.
+/// Datagrams of these octets.
 fn packets(alloc: Global, datagrams: &[&[u8]]) -> Result<Vec<Packet>, OutOfMemory> {
     let mut packets = Vec::new(alloc);
     for octets in datagrams {
@@ -179,7 +179,7 @@ where
     (status, book.look(rt, &mut seat).taken)
 }
 
-/// The same in a book with ten slots.
+/// How a host ends in a new book with ten slots, and how many of them are taken then.
 fn host_end<
     R: Threads + Wait + Copy + Send + Sync + 'static,
     A: AsyncAccept,

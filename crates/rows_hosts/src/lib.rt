@@ -1,5 +1,9 @@
-//! What of whole hosts and of recorders can't be a row: hosts over objects in memory, with threads and starts that are refused, and
-//! a connection whose trace is served again. It has tests alone.
+//! What of whole hosts and of recorders can't be a row. The crate has tests alone.
+//!
+//! - hosts: hosts over objects in memory, with threads and with starts that are refused.
+//! - recorded: a connection whose trace is read back and served again.
+//!
+//! docs/rows.md says what each test shows of a running server.
 #![tactic(auto)]
 
 #[cfg(test)]

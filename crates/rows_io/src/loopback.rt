@@ -128,7 +128,7 @@ fn answers_loopback<R: Wait>(rt: &R, near: &mut MioSock, far: &mut MioSock) -> b
     }
 }
 
-/// The same of a near socket that is made.
+/// Whether a datagram from a new socket on loopback reaches the far one, and its answer comes back.
 fn answers_another<R: Wait + Net>(rt: &R, far: &mut MioSock) -> bool {
     match MioSock::bind(rt, HERE) {
         Ok(mut near) => answers_loopback(rt, &mut near, far),
@@ -136,7 +136,7 @@ fn answers_another<R: Wait + Net>(rt: &R, far: &mut MioSock) -> bool {
     }
 }
 
-/// The same of a far socket at the unspecified address of IPv6.
+/// Whether a far socket at the unspecified address of IPv6 is reached over loopback. A system without IPv6 passes.
 fn answers_anywhere<R: Wait + Net>(rt: &R) -> bool {
     match MioSock::bind(rt, ANYWHERE) {
         Ok(mut far) => answers_another(rt, &mut far),

@@ -34,7 +34,7 @@ impl SingleService for Replying {
     }
 }
 
-/// The same reply.
+/// A copy of a reply, with its OPT record if it has one.
 fn same_reply(alloc: Global, reply: &ReplyMessage) -> Result<ReplyMessage, OutOfMemory>
     ensures { IfOk result (λ r. r ≡ reply.now) }
 {

@@ -17,7 +17,7 @@ pub(crate) fn next_error(row: &mut Row<'_>) -> ServiceError {
     }
 }
 
-/// Its response code, or its text.
+/// The response code of the next word's error, or its text.
 pub(crate) fn error_said(row: &mut Row<'_>, coded: bool) {
     let error = next_error(row);
     if coded {

@@ -93,7 +93,7 @@ pub(crate) fn asked_all(row: &mut Row<'_>) {
     }
 }
 
-/// The same of an asking.
+/// What the events of the next words make of an asking: the message, the error, or `pending`.
 fn all_of(row: &mut Row<'_>, asking: Asking) {
     let events = next_events(row);
     match ask_all(row.alloc(), asking, events.as_slice()) {
@@ -146,7 +146,7 @@ pub(crate) fn forwarder(row: &mut Row<'_>) {
     }
 }
 
-/// The same over a transport in a box.
+/// What a forwarder says at turn `k` over a transport in a box. The octets are those of its name's word.
 fn over_box(row: &mut Row<'_>, name: &str, k: u64, conn: Box<dyn SendRequest + Send + Sync>) {
     let octets = row.octets_of(name);
     match Name::from_octets(row.copied(octets)) {
@@ -155,7 +155,7 @@ fn over_box(row: &mut Row<'_>, name: &str, k: u64, conn: Box<dyn SendRequest + S
     }
 }
 
-/// The same under a name.
+/// What a forwarder says at turn `k`, to which the transport was added under this name.
 fn forwarded(row: &mut Row<'_>, name: Name, k: u64, conn: Box<dyn SendRequest + Send + Sync>) {
     let alloc = row.alloc();
     let mut forwarder = Forwarder::new(alloc);

@@ -70,7 +70,7 @@ fn through<L: Layers>(row: &mut Row<'_>, layers: &L) {
     through_from(row, layers, IpAddr::V4([192, 0, 2, 1]), 100)
 }
 
-/// The same of a request from an address at a second.
+/// What the layers give to a request from an address, received at this second.
 pub(crate) fn through_from<L: Layers>(row: &mut Row<'_>, layers: &L, ip: IpAddr, second: u64) {
     match request_from(row, ip, second) {
         Ok(mut request) => asked(row, layers, &mut request),
@@ -78,7 +78,7 @@ pub(crate) fn through_from<L: Layers>(row: &mut Row<'_>, layers: &L, ip: IpAddr,
     }
 }
 
-/// The same of a request.
+/// What the layers give to this request, round a service that answers with the item behind it.
 fn asked<L: Layers>(row: &mut Row<'_>, layers: &L, request: &mut Request<()>) {
     match item(row, request) {
         Ok(item) => layers.ask(row, service_fn::<AsPlanned, _, _>(planned, item), request),

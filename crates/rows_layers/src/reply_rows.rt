@@ -56,7 +56,7 @@ fn error_reply(row: &mut Row<'_>) -> Result<AdditionalBuilder, RowError> {
     }
 }
 
-/// Its push limit and its octets.
+/// The push limit of an error reply, and its octets.
 fn error_response(row: &mut Row<'_>) {
     match error_reply(row) {
         Ok(reply) => {
@@ -75,7 +75,7 @@ fn response_mut(row: &mut Row<'_>) {
     }
 }
 
-/// The same of a call's result.
+/// The octets of the response that a call's result holds, after the steps of the next words.
 fn given_said(row: &mut Row<'_>, given: CallResult) {
     let mut given = given;
     match given.response_mut() {

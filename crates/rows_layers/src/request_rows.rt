@@ -60,7 +60,7 @@ pub(crate) fn request(row: &mut Row<'_>) -> Result<Request<()>, RowError> {
     request_from(row, IpAddr::V4([192, 0, 2, 1]), 100)
 }
 
-/// The same from port 5353 of an address, at moment 5 and a second.
+/// A request from port 5353 of `ip`, at moment 5 and this second. The next words give its transport and its message.
 pub(crate) fn request_from(
     row: &mut Row<'_>,
     ip: IpAddr,

@@ -17,7 +17,7 @@ pub(crate) fn request_message(row: &mut Row<'_>, request: &Request<()>) {
     }
 }
 
-/// The same after steps, which commas part.
+/// What is sent of a request message after steps, which commas separate.
 fn sent(row: &mut Row<'_>, asked: RequestMessage, steps: &str) {
     let mut asked = asked;
     for step in steps.split(',') {
@@ -58,7 +58,7 @@ pub(crate) fn reply_message(row: &mut Row<'_>) {
     }
 }
 
-/// The same of a reply, to which an NSID is added where there are octets of one.
+/// The octets of a reply, to which an NSID is added if there are octets of one.
 fn composed(row: &mut Row<'_>, reply: ReplyMessage, added: &[u8]) {
     let mut reply = reply;
     if !added.is_empty() {

@@ -94,7 +94,7 @@ impl SendRequest for Planned {
     }
 }
 
-/// The same message.
+/// A copy of a message.
 pub(crate) fn copy(alloc: Global, message: &Message) -> Result<Message, OutOfMemory>
     ensures { IfOk result (λ m. m ≡ message.now) }
 {
@@ -196,7 +196,7 @@ fn to_service(row: &mut Row<'_>) {
     }
 }
 
-/// The same over a single service, of the request of the next words.
+/// What a service over this single service says to the request of the next words.
 fn asked_over<S: SingleService>(row: &mut Row<'_>, single: S) {
     match request(row) {
         Ok(mut request) => over_single(row, single, &mut request),
@@ -204,7 +204,7 @@ fn asked_over<S: SingleService>(row: &mut Row<'_>, single: S) {
     }
 }
 
-/// The same of a request.
+/// What a service over this single service says to this request, at the polls that are shown.
 fn over_single<S: SingleService>(row: &mut Row<'_>, single: S, request: &mut Request<()>) {
     match Arc::new(row.alloc(), single) {
         Ok(single) => called(

@@ -32,7 +32,7 @@ pub(crate) fn reply(alloc: Global, octets: &[u8]) -> Result<AdditionalBuilder, R
     }
 }
 
-/// The same of a message.
+/// A message as a reply under construction: each section as it stands, names uncompressed, the OPT record last.
 fn copied(alloc: Global, message: &MessageRef<'_>) -> Result<AdditionalBuilder, RowError> {
     match CopiedMessage::read(alloc, message) {
         Ok(copied) => built(alloc, &copied, message.opt()),

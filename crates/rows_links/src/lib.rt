@@ -1,5 +1,11 @@
-//! What tests of hosts and servers serve over: links that are read after they were handed over, a service that holds polls, and books,
-//! datagrams and accept objects in memory.
+//! What tests of hosts and servers serve over.
+//!
+//! - `SeenLink` is a link that can still be read after it was handed over; `Seen` is what went through it, and
+//!   `Marking` a hook that marks.
+//! - `Holding` is a service that holds its polls until a test lets them go.
+//! - `book_of`, `accept_of`, `packet`, `clock` make books, accept objects, datagrams and clocks in memory.
+//!
+//! rows_hosts and rows_transport stand on it.
 #![tactic(auto)]
 
 mod holding;

@@ -84,7 +84,7 @@ fn started(row: &mut Row<'_>, error: bool) {
     }
 }
 
-/// The same of a query.
+/// The answer or the error answer to this query, of at most `limit` octets, and what the steps say of it.
 fn begun(row: &mut Row<'_>, limit: usize, rcode: Rcode, query: &Message, error: bool) {
     match answer(row.alloc(), limit, rcode, query, error) {
         Ok(answer) => shown(row, Stage::Answer(answer)),
@@ -162,7 +162,7 @@ fn typed(row: &mut Row<'_>) {
     hand_on(row, &mut Pushed {}, read)
 }
 
-/// The same of a record.
+/// Says of a record that is pushed its data's octets, and whether all fields read back.
 #[derive(Drop)]
 struct Pushed {}
 
@@ -177,7 +177,7 @@ impl Takes<Record> for Pushed {
     }
 }
 
-/// The same of what was built of the record.
+/// The data's octets in a message that holds one record, and whether all its fields read back.
 fn read_again(row: &mut Row<'_>, builder: &AdditionalBuilder, item: &Record)
     requires pushed { builder.now.message.additional ≡ record_of item.now ∷ [] }
     requires lawful { IsLawful item.now.rdata }

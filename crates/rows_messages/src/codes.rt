@@ -221,7 +221,7 @@ fn more_opt_rcodes(row: &mut Row<'_>) {
 
 /// A code that a registry numbers.
 trait HasNumber: Copy {
-    /// Its number.
+    /// The number of the code.
     fn number(self) -> u16;
 }
 
@@ -267,7 +267,7 @@ fn named(row: &mut Row<'_>) {
     }
 }
 
-/// The same of a code that was read.
+/// The number and the text of a code that was read, or `none`.
 fn shown<C: HasNumber + Display>(row: &mut Row<'_>, read: Option<C>) {
     match read {
         Some(code) => {

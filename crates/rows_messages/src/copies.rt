@@ -44,7 +44,7 @@ fn name_copy(row: &mut Row<'_>) {
     }
 }
 
-/// The same of a name.
+/// The octets of a copy of this name, and whether it equals the next word's name.
 fn name_copied(row: &mut Row<'_>, name: &Name) {
     match name.try_clone(row.alloc()) {
         Ok(copy) => {
@@ -74,7 +74,7 @@ fn question_copy(row: &mut Row<'_>) {
     }
 }
 
-/// The same of a question.
+/// The octets of a copy of this question, and whether it equals the next message's first question.
 fn question_copied(row: &mut Row<'_>, question: &Question) {
     match question.try_clone(row.alloc()) {
         Ok(copy) => {

@@ -1,4 +1,10 @@
-//! Judges the rows of names, messages and builders on standard input: `crates/rows_table` says how a row is written.
+//! Rows of names, messages and builders, on standard input. `crates/rows_table` says how a row is written.
+//!
+//! - names, places, codes: names, what stands at a place of a message, and numbers of IANA's registries.
+//! - messages, data, copies: messages that are read, typed data, and copies of what was read.
+//! - builders, stages: messages that are built step by step.
+//!
+//! The program prints each row that doesn't hold, and how many there were.
 #![tactic(auto)]
 
 mod builders;

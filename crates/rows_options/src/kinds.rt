@@ -140,7 +140,7 @@ fn owned_compared(row: &mut Row<'_>, first: &ChainRef<'_>, kept: &Chain, second:
     }
 }
 
-/// The same of the chains from the names of two words, behind how they compare as they are borrowed.
+/// How the chains from the names of two words compare, borrowed and then owned.
 fn chain_cmp(row: &mut Row<'_>) {
     let first = ChainRef::new(row.name());
     let second = ChainRef::new(row.name());

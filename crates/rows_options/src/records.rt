@@ -69,7 +69,7 @@ fn record_said(row: &mut Row<'_>, given: &OptRecord) {
     }
 }
 
-/// The same of the record.
+/// The octets of a record, and the options of the OPT record that is made of it.
 fn item_said(row: &mut Row<'_>, item: Record)
     requires { IsLawful item.rdata }
 {

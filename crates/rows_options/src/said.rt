@@ -23,7 +23,7 @@ pub fn shown<D: ComposeOptData + Display>(row: &mut Row<'_>, option: &D) {
     row.quote(option)
 }
 
-/// The same of both forms of an option; the owned one is said only where it differs.
+/// An option's code, its data and its text, borrowed and owned. The owned form is said only if it differs.
 pub fn both_shown<B: ComposeOptData + Display, O: ComposeOptData + Display + Drop>(
     row: &mut Row<'_>,
     borrowed: &B,
@@ -35,7 +35,7 @@ pub fn both_shown<B: ComposeOptData + Display, O: ComposeOptData + Display + Dro
     }
 }
 
-/// The same of both forms, the owned one in memory of its own. Nothing is said in front of them.
+/// The code, data and text of both forms of an option. Nothing is said before them; the owned form only if it differs.
 pub fn both_said<B: ComposeOptData + Display, O: ComposeOptData + Display>(
     row: &mut Row<'_>,
     borrowed: &B,

@@ -141,8 +141,8 @@ fn push_kind(opt: &mut OptBuilder, step: &str, row: &mut Row<'_>) -> Stepped {
     }
 }
 
-/// The same of kinds of numbers, addresses and texts: a time, a timeout in units of 100 ms, a client's cookie, a code and a
-/// text, or two prefixes and an address; and of an option as it is.
+/// Pushes an option of numbers, addresses or texts, which the next words give. A timeout is in units of 100 ms, and a
+/// subnet is two prefixes and an address. Any other step is left to `Target::step`.
 fn push_fields(opt: &mut OptBuilder, step: &str, row: &mut Row<'_>) -> Stepped {
     match step {
         "expire" => opt.expire(row.alloc(), row.optional()),

@@ -105,7 +105,7 @@ fn client(row: &mut Row<'_>, waits: bool) -> Result<(), RowError> {
     Ok(())
 }
 
-/// The same by a service.
+/// Steps the core of a client through the steps, with this service: what waits for its driver after each, or nothing.
 fn answered_by(row: &mut Row<'_>, service: ScriptService, steps: &[Step], waits: bool) {
     match steps.split_first() {
         Some((Step::Own(first), rest)) => {
@@ -284,7 +284,7 @@ fn core_of<S: SharedService>(
     }
 }
 
-/// That of a connection.
+/// The core of a connection that a look admits.
 fn admitted<S: SharedService>(
     alloc: Global,
     event: &Event,
@@ -297,7 +297,7 @@ fn admitted<S: SharedService>(
     }
 }
 
-/// That of an exchange.
+/// The core of an exchange that a datagram begins.
 fn exchange<S: SharedService>(
     alloc: Global,
     service: &S,

@@ -1,4 +1,11 @@
-//! Rows over the book, sources and sinks, traces, floods and the program's run: the table on standard input is judged row by row.
+//! Rows over the book, sources and sinks, traces, floods and the program's run, on standard input.
+//!
+//! - book_rows, client_rows, service_rows: a book, one client's core, and a script's service.
+//! - outside_rows, trace_rows, texts: sources and sinks in memory, traces, and texts.
+//! - run_rows, serve_rows, flood_rows: how runs end, plans of a server, and floods, with each read and write failed
+//!   in turn.
+//!
+//! `crates/rows_table` says how a row is written. The program prints each row that doesn't hold.
 #![tactic(auto)]
 
 mod book_rows;

@@ -74,7 +74,7 @@ pub(crate) fn source(row: &mut Row<'_>, number: Option<u64>) -> MemorySource {
     source_of(row, text, number)
 }
 
-/// The same of a text.
+/// A text that is read 40 octets a call, and of which the read of this number fails.
 fn source_of(row: &mut Row<'_>, text: Vec<u8>, number: Option<u64>) -> MemorySource {
     let failing = failing(row, number);
     MemorySource::new(text, failing, 40)
@@ -122,7 +122,8 @@ fn with_faults(row: &mut Row<'_>) {
     run_with_fault(row, &words, &mut source, write)
 }
 
-/// The same over a source, where the write of this number fails.
+/// How the run of words ends over a source if the write of this number fails. Says too whether anything was read, and
+/// what was written.
 fn run_with_fault(
     row: &mut Row<'_>,
     words: &[String],
@@ -149,7 +150,7 @@ fn one_fails(
     one_write_fails(row, words, &mut source, write)
 }
 
-/// The same over a source.
+/// How the run of words ends over a source if the write of this number fails, and in brackets what it writes.
 fn one_write_fails(
     row: &mut Row<'_>,
     words: &[String],
@@ -170,7 +171,7 @@ fn each_fails(row: &mut Row<'_>, reads: bool) {
     each_of_text(row, &words, &text, reads)
 }
 
-/// The same of words, over a text.
+/// How the runs of words over a text end as one read after another fails, or one write, until a run is done.
 fn each_of_text(row: &mut Row<'_>, words: &[String], text: &[u8], reads: bool) {
     for number in 0..1_000u64 {
         let (read, write) = if reads {

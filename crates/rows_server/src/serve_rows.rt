@@ -17,7 +17,7 @@ pub(crate) fn planned(row: &mut Row<'_>) {
     planned_by(row, &words, &mut source, write)
 }
 
-/// The same of words and a source, where the write of this number fails.
+/// The plan of words over a source, or why there is none, and what is written. The write of this number fails.
 fn planned_by(row: &mut Row<'_>, words: &[String], source: &mut MemorySource, number: Option<u64>) {
     let mut sink = sink(row, number);
     plan_of(row, words, source, &mut sink);

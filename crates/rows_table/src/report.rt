@@ -16,7 +16,7 @@ pub(crate) struct Report<'a> {
 }
 
 impl<'a> Report<'a> {
-    /// Nothing is judged yet.
+    /// A report on no rows.
     pub(crate) fn new(alloc: Global) -> Report<'a> {
         Report {
             line: "",

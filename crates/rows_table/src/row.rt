@@ -100,13 +100,13 @@ impl<'a> Row<'a> {
         b""
     }
 
-    /// The same octets as the next word's, owned.
+    /// The octets of the next word in hexadecimal, owned; `-` stands for none.
     pub fn vector(&mut self) -> Vec<u8> {
         let octets = self.octets();
         self.copied(octets)
     }
 
-    /// The same octets, owned.
+    /// A copy of octets. If memory runs out the row fails, and there are none.
     pub fn copied(&mut self, octets: &[u8]) -> Vec<u8> {
         match Vec::from_slice(self.alloc, octets) {
             Ok(copy) => copy,

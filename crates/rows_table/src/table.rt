@@ -42,7 +42,7 @@ fn answered<C: Calls>(calls: &C, row: Row<'_>, wanted: &str, report: &mut Report
     report.compare(&row, wanted)
 }
 
-/// The same of a row whose repetitions are written out: a call with its arguments, and what is wanted.
+/// Judges one row, a call with its arguments and what is wanted, after its repetitions were written out.
 fn judged<C: Calls>(alloc: Global, calls: &C, row: &str, report: &mut Report<'_>) {
     match row.split_once(" = ") {
         Some((asked, wanted)) => match pages(alloc, asked) {
@@ -53,7 +53,7 @@ fn judged<C: Calls>(alloc: Global, calls: &C, row: &str, report: &mut Report<'_>
     }
 }
 
-/// The same of a line; one that is empty or begins with `#` is no row.
+/// Judges the row of one line. A line that is empty or begins with `#` is no row.
 fn line_judged<'a, C: Calls>(alloc: Global, calls: &C, line: &'a str, report: &mut Report<'a>) {
     if report.begin(line) {
         let mut row = String::new(alloc);

@@ -21,7 +21,7 @@ use std::thread::Threads;
 const QUERY: &[u8] =
     b"\x00\x11\x00\x01\x01\x00\x00\x01\x00\x00\x00\x00\x00\x00\x00\x00\x01\x00\x01";
 
-/// Its reply, behind its length, with the OPT record of an error reply.
+/// The frame of the reply to the query, with the OPT record of an error reply.
 const REPLY: &[u8] =
     b"\x00\x1c\x00\x01\x81\x00\x00\x01\x00\x00\x00\x00\x00\x01\x00\x00\x01\x00\x01\x00\x00\x29\x00\x00\x00\x00\x00\x00\x00\x00";
 
@@ -139,7 +139,7 @@ where
         served
     }
 
-    /// The same by a clock and a spawner in memory.
+    /// How the loop ends with a clock and a spawner in memory, and the seat that it gives back.
     fn accept_in<A: AsyncAccept, H: PreConnect<A::Link>>(
         &self,
         book: &Arc<Book>,
@@ -178,7 +178,7 @@ where
         (end, book.look(self.rt, &mut seat).taken)
     }
 
-    /// The same in a book with two slots.
+    /// How the loop ends in a new book with two slots, and how many of them are taken then.
     fn end<A: AsyncAccept, H: PreConnect<A::Link>>(
         &self,
         accept: &mut A,

@@ -1,5 +1,10 @@
-//! What of accepts and of servers can't be a row: connections over objects in memory, with threads, and servers with their buffers,
-//! metrics and controls. It has tests alone.
+//! What of accepts and of servers can't be a row. The crate has tests alone.
+//!
+//! - accepts: connections over objects in memory, with threads, and starts that are refused.
+//! - servers, parts, watched: whole servers with their buffers, metrics, hooks and controls.
+//! - loopback: servers on loopback, which end when they are shut down.
+//!
+//! docs/rows.md says what each test shows of a running server.
 #![tactic(auto)]
 
 #[cfg(test)]

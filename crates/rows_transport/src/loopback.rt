@@ -43,7 +43,7 @@ fn ends_shut<R: Wait, D: AsyncDgramSock + Drop, C: Clock + Drop, W: SharedServic
     end == DgramEnd::Shutdown && server.metrics().num_received_requests() == 0
 }
 
-/// The same of a server over this socket.
+/// Whether a datagram server over this socket ends, shut down before its run, and serves nothing.
 fn udp_over<R: Wait, D: AsyncDgramSock + Drop, C: Clock + Drop, W: SharedService>(
     rt: &R,
     alloc: Global,
@@ -59,7 +59,7 @@ fn udp_over<R: Wait, D: AsyncDgramSock + Drop, C: Clock + Drop, W: SharedService
     }
 }
 
-/// The same by a service that answers at once.
+/// Whether a datagram server with a service that answers at once ends, shut down before its run.
 fn udp_ends<R: Wait, D: AsyncDgramSock + Drop, C: Clock + Drop>(
     rt: &R,
     alloc: Global,
@@ -109,7 +109,7 @@ where
         end == StreamEnd::Shutdown && self.server.metrics().num_connections() == 0
     }
 
-    /// The same, and it is let go then.
+    /// Whether it ends, with no connection. The server is dropped then.
     fn has_ended(mut self) -> bool
         requires { W.can_call self.server.service }
     {
@@ -118,7 +118,7 @@ where
         held
     }
 
-    /// The same of a server over this accept object.
+    /// Whether a stream server over this accept object ends, shut down before its run, with no connection.
     fn ends_over(rt: &R, alloc: Global, accept: A, clock: C, spawner: P, service: W) -> bool
         requires { W.can_call service }
     {
@@ -129,7 +129,7 @@ where
     }
 }
 
-/// The same by a service, with a thread for each connection.
+/// Whether a stream server with a thread for each connection ends, shut down before its run, with no connection.
 fn tcp_over<
     R: Threads + Wait + Copy + Send + 'static,
     A: AsyncAccept + Drop,
@@ -146,7 +146,7 @@ where
     Closing::ends_over(rt, alloc, accept, clock, spawner, service)
 }
 
-/// The same by a service that answers at once.
+/// Whether a stream server with a service that answers at once ends, shut down before its run.
 fn tcp_ends<
     R: Threads + Wait + Copy + Send + 'static,
     A: AsyncAccept + Drop,

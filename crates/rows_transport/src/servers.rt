@@ -86,7 +86,7 @@ impl DgramCase {
         }
     }
 
-    /// The same of a server over this socket, which is let go then.
+    /// Whether a server over this socket does as the case wants. The server is dropped then.
     fn is_served_over<R: Threads + Wait + Sync, W: SharedService>(
         &self,
         rt: &R,
@@ -107,7 +107,7 @@ impl DgramCase {
         }
     }
 
-    /// The same of a server over a socket with one query.
+    /// Whether a server over a socket with one query does as the case wants.
     fn is_served_by<R: Threads + Wait + Sync, W: SharedService>(
         &self,
         rt: &R,
@@ -139,7 +139,7 @@ fn is_wrapped<R: Threads + Wait + Sync, S: Service<()>, N: Notifiable>(
     }
 }
 
-/// The same by one that answers that the name isn't there.
+/// Whether a case is served as it wants by a service in all layers that answers NXDOMAIN.
 fn is_layered<R: Threads + Wait + Sync>(rt: &R, alloc: Global, case: DgramCase) -> bool {
     match Holding::new(alloc, false, OptRcode::NXDOMAIN) {
         Ok(service) => is_wrapped(rt, alloc, case, service, target(alloc)),
@@ -230,7 +230,7 @@ where
     }
 }
 
-/// The same by one that answers that all is well.
+/// Whether a server of these links, with this hook, answers each by a service in all layers that answers NOERROR.
 fn answers_layered<
     R: Threads + Wait + Copy + Send + Sync + 'static,
     L: Link + Send + Drop + 'static,

@@ -1,4 +1,9 @@
-//! Judges the rows of zone files on standard input: `crates/rows_table` says how a row is written.
+//! Rows of zone files, on standard input. `crates/rows_table` says how a row is written.
+//!
+//! - `read_zone` reads a zone file below an origin; `write_zone` writes the records that were read.
+//! - In a row's text, which is all words after the origin, `|` stands for LF.
+//!
+//! The program prints each row that doesn't hold, and how many there were.
 #![tactic(auto)]
 
 mod zones;

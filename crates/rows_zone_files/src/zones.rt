@@ -20,7 +20,7 @@ impl Calls for Zones {
     }
 }
 
-/// The same octets, but for one in whose place another stands.
+/// A copy of octets in which every `from` is replaced by `to`.
 fn exchanged(row: &mut Row<'_>, octets: &[u8], from: u8, to: u8) -> Vec<u8> {
     let mut text = Vec::new(row.alloc());
     for octet in octets {

@@ -9,7 +9,7 @@ use dns_message::{ComposeQuestion, Question};
 use std::alloc::Global;
 
 impl QuestionBuilder {
-    /// Adds a question.
+    /// Adds a question. A refused call leaves the message; `ShortBuf` says that it would pass its limit.
     pub fn push(&mut self, alloc: Global, question: &Question) -> Result<(), PushError>
         ensures { Pushes self.old self.new (with_question self.old question.now) result }
     {
@@ -27,7 +27,7 @@ impl QuestionBuilder {
         self.draft.push_question(alloc, question)
     }
 
-    /// Drops the questions.
+    /// Drops all questions; the header stays.
     pub fn rewind(&mut self)
         ensures { self.new ≡ less_questions self.old }
     {

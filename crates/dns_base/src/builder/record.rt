@@ -13,7 +13,7 @@ use dns_message::{ComposeRecord, Record};
 use std::alloc::Global;
 
 impl<S: RecordStage> Builder<S> {
-    /// Adds a record.
+    /// Adds a record to the section. A refused call leaves the message; `ShortBuf` says that it would pass its limit.
     pub fn push(&mut self, alloc: Global, added: &Record) -> Result<(), PushError>
         requires { IsLawful added.now.rdata }
         ensures { Pushes self.old self.new (with_record S.section self.old (record_of added.now)) result }
@@ -41,7 +41,7 @@ impl<S: RecordStage> Builder<S> {
         self.draft.push_records(S::section(), added)
     }
 
-    /// Drops the section's records.
+    /// Drops all records of the section; earlier sections stay.
     pub fn rewind(&mut self)
         ensures { self.new ≡ less_section S.section self.old }
     {

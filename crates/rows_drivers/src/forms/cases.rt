@@ -82,7 +82,7 @@ fn is_served<R: Wait, S: Service<()> + Drop, K: Case>(
     }
 }
 
-/// The same over this, in a book of its own.
+/// Whether a case is served as it wants over `outside`, in a book of its own. It is not if memory runs out.
 fn is_served_over<R: Wait, W: SharedService, K: Case>(
     rt: &R,
     alloc: Global,

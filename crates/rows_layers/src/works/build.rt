@@ -25,7 +25,7 @@ pub(crate) fn built(alloc: Global, count: u64) -> Option<u64> {
     }
 }
 
-/// The same of these parts, each time under another identifier.
+/// Builds the response of these parts `count` times, under identifiers that count up from 0, and sums what each gives.
 fn built_of(alloc: Global, parts: &mut CopiedMessage, count: u64) -> Option<u64> {
     let mut sum = 0u64;
     for i in 0..count {

@@ -83,7 +83,7 @@ where
         self.answers_under(&mut early)
     }
 
-    /// The same, as this control shows.
+    /// Whether so many connections are answered, and the server is then shut down, as this control shows.
     fn answers_under(&mut self, early: &mut Control) -> bool
         requires { W.can_call self.old.server.service }
     {
@@ -93,7 +93,7 @@ where
             && count(self.server.metrics(), self.wanted)
     }
 
-    /// The same of this server, with this hook, and the server is let go then.
+    /// Whether this server, with this hook, answers so many connections. The server is dropped then.
     fn answers_hooked(
         rt: &R,
         alloc: Global,
@@ -115,7 +115,7 @@ where
         held
     }
 
-    /// The same of a server over this accept object.
+    /// Whether a server over this accept object, with this hook, answers so many connections.
     pub fn answers_over(
         rt: &R,
         alloc: Global,

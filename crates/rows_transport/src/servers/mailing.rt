@@ -30,7 +30,7 @@ fn shuts_down<R: Wait>(rt: &R, control: &mut Control, clock: &mut MemoryClock) -
     !early && control.await_shutdown(rt, clock, 1_000)
 }
 
-/// The same by a clock in memory.
+/// Whether a control shows its own shutdown and none before, by a clock in memory.
 fn shuts_down_by<R: Wait>(rt: &R, alloc: Global, control: &mut Control) -> bool {
     match Vec::from_slice(alloc, &[(5, 0), (9, 0), (1_005, 1)]) {
         Ok(readings) => shuts_down(rt, control, &mut MemoryClock::new(readings)),
@@ -108,7 +108,7 @@ impl<R: Threads + Wait + Sync, W: SharedService> Mailing<'_, R, W> {
         self.notes_under(&mut early)
     }
 
-    /// The same, as this control shows.
+    /// Whether one datagram is answered and noted, and the server is then shut down, as this control shows.
     fn notes_under(&mut self, early: &mut Control) -> bool
         requires { W.can_call self.old.server.service }
     {
@@ -124,7 +124,7 @@ impl<R: Threads + Wait + Sync, W: SharedService> Mailing<'_, R, W> {
         end == DgramEnd::Shutdown && self.server.source().sent().is_empty()
     }
 
-    /// The same, as this control shows.
+    /// Whether the run ends by the shutdown before, with nothing sent, as this control shows.
     fn stays_shut_by(&mut self, control: &mut Control) -> bool
         requires { W.can_call self.old.server.service }
     {
