@@ -25,7 +25,11 @@ lawful answers (Closed why) client addr look n n' k k' t t' ends =
     let o = ends.opened in
     let s = o.story in
     inl (record {
-      at = o.at; secs = o.secs; events = s.events; unheard = []; part = s.extra;
+      at = o.at;
+      secs = o.secs;
+      events = s.events;
+      unheard = [];
+      part = s.extra;
       noted = s.noted ∙ append_assoc n (offer client addr o.at o.secs ∷ []) s.events;
       mine = s.mine;
       taken = s.came ∙ ap (λ (l : List ℕ). t.came ++ l) (sym (append-nil (pieces_in s.events)));
@@ -39,7 +43,11 @@ lawful answers OutOfMemory client addr look n n' k k' t t' ends = unserved ends.
   unserved (inr b) =
       let s = b.broken in
       inl (record {
-        at = b.at; secs = b.secs; events = s.events; unheard = s.unread; part = s.extra;
+        at = b.at;
+        secs = b.secs;
+        events = s.events;
+        unheard = s.unread;
+        part = s.extra;
         noted = s.noted ∙ append_assoc n (offer client addr b.at b.secs ∷ []) s.events;
         mine = s.mine;
         taken = s.came;
@@ -50,7 +58,11 @@ lawful answers OutOfMemory client addr look n n' k k' t t' ends = unserved ends.
 
 served_lawful : (answers : Serving) (end : DgramEnd) (count : ℕ) (start now : World) → ServedBy answers end count start now → DatagramsByTheRules answers start now
 served_lawful answers end count start now s = record {
-  first = s.first; events = s.events; came = s.input.came; unheard = []; number = s.number;
+  first = s.first;
+  events = s.events;
+  came = s.input.came;
+  unheard = [];
+  number = s.number;
   packets = packets_delivered answers (settings_shown s.first) s.events;
   noted = s.noted;
   taken = s.input.received;
@@ -62,8 +74,18 @@ served_lawful answers end count start now s = record {
 
 pub datagrams_lawful : (answers : Serving) (end : DgramEnd) (count : ℕ) (start now : World) → ServedTo answers end count start now → DatagramsByTheRules answers start now
 datagrams_lawful answers NoMemory count start now s = record {
-  first = s.first; events = s.events; came = s.came; unheard = s.unrecorded; number = s.number; packets = s.packets;
-  noted = s.noted; taken = s.received; heard = s.recorded; numbered = s.numbered; handed = s.sent; part = s.part;
+  first = s.first;
+  events = s.events;
+  came = s.came;
+  unheard = s.unrecorded;
+  number = s.number;
+  packets = s.packets;
+  noted = s.noted;
+  taken = s.received;
+  heard = s.recorded;
+  numbered = s.numbered;
+  handed = s.sent;
+  part = s.part;
 }
 datagrams_lawful answers Shutdown count start now s = served_lawful answers Shutdown count start now s
 datagrams_lawful answers Counted count start now s = served_lawful answers Counted count start now s

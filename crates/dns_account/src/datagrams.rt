@@ -16,12 +16,7 @@ use std::sync::Wait;
 
 /// Serves datagrams as `serve_datagrams` does, over a witness of this socket and by one of this clock. What it promises where socket,
 /// clock and recorder tell holds of what the calls of both answered.
-pub fn serve_datagrams_over<
-    R: Wait,
-    D: AsyncDgramSock + Drop,
-    C: Clock + Drop,
-    W: SharedService,
->(
+pub fn serve_datagrams_over<R: Wait, D: AsyncDgramSock + Drop, C: Clock + Drop, W: SharedService>(
     rt: &R,
     alloc: Global,
     book: &Book,
