@@ -31,9 +31,11 @@ fn ended<
     work: ConnectionWork<Witness<L>, WitnessClock<C>, Silent, W>,
 ) -> (BookSeat, ConnectionEnd, Witness<L>, WitnessClock<C>, Silent)
     requires { (work.seat.book ≡ arc_value work.book) × (work.look.closed ≡ false) × W.can_call (arc_value work.service) }
-    ensures told { EndsSo (serving (W.answer (arc_value work.service)) (W.hint (arc_value work.service))) result.1 work.client work.addr work.look
+    ensures told { EndsSo
+        (serving (W.answer (arc_value work.service)) (W.hint (arc_value work.service))) result.1 work.client work.addr work.look
         work.journal.events result.4.events work.seat.known result.0.known work.link.seen.traffic result.2.seen.traffic }
-    ensures shown { EndShown (serving (W.answer (arc_value work.service)) (W.hint (arc_value work.service))) result.1 work.client work.addr work.look
+    ensures shown { EndShown
+        (serving (W.answer (arc_value work.service)) (W.hint (arc_value work.service))) result.1 work.client work.addr work.look
         work.journal.events result.4.events work.link.seen.traffic result.2.seen.traffic }
     ensures clock { WhereClosed result.1 (TimedWhole work.journal.events result.4.events
         work.link.seen.traffic.full_writes result.2.seen.traffic.full_writes work.clock.seen.readings result.3.seen.readings) }
@@ -58,10 +60,12 @@ pub fn every_connection_kept_to_the_rules<
     work: ConnectionWork<Witness<L>, WitnessClock<C>, Silent, W>,
 ) -> (BookSeat, ConnectionEnd, Witness<L>, WitnessClock<C>, Silent)
     requires { (work.seat.book ≡ arc_value work.book) × (work.look.closed ≡ false) × W.can_call (arc_value work.service) }
-    ensures kept { KeptToTheRules (serving (W.answer (arc_value work.service)) (W.hint (arc_value work.service))) result.1 work.client work.addr work.look
+    ensures kept { KeptToTheRules
+        (serving (W.answer (arc_value work.service)) (W.hint (arc_value work.service))) result.1 work.client work.addr work.look
         work.journal.events result.4.events work.link.seen.traffic result.2.seen.traffic }
     // Why it was closed.
-    ensures shown { EndShown (serving (W.answer (arc_value work.service)) (W.hint (arc_value work.service))) result.1 work.client work.addr work.look
+    ensures shown { EndShown
+        (serving (W.answer (arc_value work.service)) (W.hint (arc_value work.service))) result.1 work.client work.addr work.look
         work.journal.events result.4.events work.link.seen.traffic result.2.seen.traffic }
     // When each event was.
     ensures clock { WhereClosed result.1 (TimedWhole work.journal.events result.4.events

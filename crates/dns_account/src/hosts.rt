@@ -16,7 +16,6 @@ use std::alloc::Global;
 use std::sync::{Arc, Wait};
 use std::thread::Threads;
 
-#[tactic(auto, using(crate::proofs::Hostings::datagrams_kept))]
 /// `host_service` over witnesses of any accept object, socket and clock. Each connection is a work over a witness of its link, of which
 /// `every_connection_kept_to_the_rules` speaks. What it promises of datagrams holds of what the calls of socket and clock answered:
 /// nothing need tell.
@@ -43,8 +42,10 @@ where
     requires book { seat.book ≡ arc_value book.now }
     requires can_call { W.can_call service }
     ensures kept { DatagramsKept (serving (W.answer service) (W.hint service)) count seat.known
-        (λ k. world host.old.journal.events host.old.sock.seen.sock_traffic (D.failed_sends host.old.sock.sock) host.old.clock.seen.readings k)
-        (λ k. world host.new.journal.events host.new.sock.seen.sock_traffic (D.failed_sends host.new.sock.sock) host.new.clock.seen.readings k)
+        (λ k. world host.old.journal.events host.old.sock.seen.sock_traffic
+        (D.failed_sends host.old.sock.sock) host.old.clock.seen.readings k)
+        (λ k. world host.new.journal.events host.new.sock.seen.sock_traffic
+        (D.failed_sends host.new.sock.sock) host.new.clock.seen.readings k)
         ⊎ NeitherBegan result.1 seat.known result.0.known }
     ensures same { result.0.book ≡ seat.book }
 {

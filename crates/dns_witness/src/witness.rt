@@ -16,7 +16,8 @@ pub struct Witness<L: Link> {
     link: L,
     start: Snapshot<L>,
     seen: SeenTraffic,
-    ghost tied: { ∥ Observed (L.Link.tells link) (L.Link.tells start.value) (TrafficSince (L.Link.traffic start.value) (L.Link.traffic link) seen.traffic) ∥₁ },
+    ghost tied: { ∥ Observed (L.Link.tells link) (L.Link.tells start.value)
+        (TrafficSince (L.Link.traffic start.value) (L.Link.traffic link) seen.traffic) ∥₁ },
 }
 
 impl<L: Link> Witness<L> {
@@ -46,7 +47,8 @@ impl<L: Link> Witness<L> {
 
     /// True of each, after any calls: where the link tells, what its calls said is what went through it since.
     pub fn is_tied(&self)
-        ensures { ∥ Observed (L.tells self.now.link) (L.tells self.now.start.value) (TrafficSince (L.traffic self.now.start.value) (L.traffic self.now.link) self.now.seen.traffic) ∥₁ }
+        ensures { ∥ Observed (L.tells self.now.link) (L.tells self.now.start.value)
+            (TrafficSince (L.traffic self.now.start.value) (L.traffic self.now.link) self.now.seen.traffic) ∥₁ }
     {}
 }
 
@@ -64,7 +66,8 @@ impl<L: Link> Link for Witness<L> {
         ensures later { L.faults self.old.link ≤ L.faults self.new.link }
         ensures cause { LinkReadCause result (L.faults self.old.link) (L.faults self.new.link) }
         // The link itself gave this.
-        ensures inner { Observed (L.tells self.new.link) (L.tells self.old.link) (LinkReadMoves result buf.new (L.traffic self.old.link) (L.traffic self.new.link)) }
+        ensures inner { Observed (L.tells self.new.link) (L.tells self.old.link)
+            (LinkReadMoves result buf.new (L.traffic self.old.link) (L.traffic self.new.link)) }
     {
         let answer = self.link.read(buf);
         match answer {
@@ -83,7 +86,8 @@ impl<L: Link> Link for Witness<L> {
         ensures later { L.faults self.old.link ≤ L.faults self.new.link }
         ensures cause { LinkWriteCause result (L.faults self.old.link) (L.faults self.new.link) }
         // The link itself took this.
-        ensures inner { Observed (L.tells self.new.link) (L.tells self.old.link) (LinkWriteMoves result piece.now (L.traffic self.old.link) (L.traffic self.new.link)) }
+        ensures inner { Observed (L.tells self.new.link) (L.tells self.old.link)
+            (LinkWriteMoves result piece.now (L.traffic self.old.link) (L.traffic self.new.link)) }
     {
         let answer = self.link.write(piece);
         match answer {

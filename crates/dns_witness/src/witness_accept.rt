@@ -18,7 +18,8 @@ pub struct WitnessAccept<A: AsyncAccept> {
     accept: A,
     start: Snapshot<A>,
     seen: SeenAccepts,
-    ghost tied: { ∥ Observed (A.AsyncAccept.tells accept) (A.AsyncAccept.tells start.value) (AcceptSince (A.AsyncAccept.accept_traffic start.value) (A.AsyncAccept.accept_traffic accept) seen.accept_traffic) ∥₁ },
+    ghost tied: { ∥ Observed (A.AsyncAccept.tells accept) (A.AsyncAccept.tells start.value)
+        (AcceptSince (A.AsyncAccept.accept_traffic start.value) (A.AsyncAccept.accept_traffic accept) seen.accept_traffic) ∥₁ },
 }
 
 impl<A: AsyncAccept> WitnessAccept<A> {
@@ -48,7 +49,8 @@ impl<A: AsyncAccept> WitnessAccept<A> {
 
     /// True of each, after any calls: where the accept object tells, those who were seen to come are all that came since.
     pub fn is_tied(&self)
-        ensures { ∥ Observed (A.tells self.now.accept) (A.tells self.now.start.value) (AcceptSince (A.accept_traffic self.now.start.value) (A.accept_traffic self.now.accept) self.now.seen.accept_traffic) ∥₁ }
+        ensures { ∥ Observed (A.tells self.now.accept) (A.tells self.now.start.value)
+            (AcceptSince (A.accept_traffic self.now.start.value) (A.accept_traffic self.now.accept) self.now.seen.accept_traffic) ∥₁ }
     {}
 }
 
@@ -67,7 +69,8 @@ impl<A: AsyncAccept> AsyncAccept for WitnessAccept<A> {
         ensures later { A.faults self.old.accept ≤ A.faults self.new.accept }
         ensures cause { AcceptCause result (A.faults self.old.accept) (A.faults self.new.accept) }
         // The accept object itself gave this.
-        ensures inner { Observed (A.tells self.new.accept) (A.tells self.old.accept) (AcceptMoves result (A.accept_traffic self.old.accept) (A.accept_traffic self.new.accept)) }
+        ensures inner { Observed (A.tells self.new.accept) (A.tells self.old.accept)
+            (AcceptMoves result (A.accept_traffic self.old.accept) (A.accept_traffic self.new.accept)) }
     {
         match self.accept.poll_accept() {
             AcceptAnswer::Accepted(link, from) => {

@@ -16,7 +16,8 @@ pub struct WitnessClock<C: Clock> {
     clock: C,
     start: Snapshot<C>,
     seen: SeenReadings,
-    ghost tied: { ∥ Observed (C.Clock.tells clock) (C.Clock.tells start.value) (ReadingsSince (C.Clock.readings start.value) (C.Clock.readings clock) seen.readings) ∥₁ },
+    ghost tied: { ∥ Observed (C.Clock.tells clock) (C.Clock.tells start.value)
+        (ReadingsSince (C.Clock.readings start.value) (C.Clock.readings clock) seen.readings) ∥₁ },
 }
 
 impl<C: Clock> WitnessClock<C> {
@@ -44,7 +45,8 @@ impl<C: Clock> WitnessClock<C> {
 
     /// True of each, after any calls: where the clock tells, the readings seen are all that it gave since.
     pub fn is_tied(&self)
-        ensures { ∥ Observed (C.tells self.now.clock) (C.tells self.now.start.value) (ReadingsSince (C.readings self.now.start.value) (C.readings self.now.clock) self.now.seen.readings) ∥₁ }
+        ensures { ∥ Observed (C.tells self.now.clock) (C.tells self.now.start.value)
+            (ReadingsSince (C.readings self.now.start.value) (C.readings self.now.clock) self.now.seen.readings) ∥₁ }
     {}
 }
 
@@ -57,7 +59,8 @@ impl<C: Clock> Clock for WitnessClock<C> {
     fn now(&mut self) -> (u64, u64)
         ensures reads { Observed (Unit {0}) (Unit {0}) (self.new.seen.readings ≡ self.old.seen.readings ++ result ∷ []) }
         // The clock itself gave this.
-        ensures inner { Observed (C.tells self.new.clock) (C.tells self.old.clock) (C.readings self.new.clock ≡ C.readings self.old.clock ++ result ∷ []) }
+        ensures inner { Observed (C.tells self.new.clock) (C.tells self.old.clock)
+            (C.readings self.new.clock ≡ C.readings self.old.clock ++ result ∷ []) }
     {
         let (millis, secs) = self.clock.now();
         self.seen.read(&Reading { millis, secs });
@@ -68,7 +71,8 @@ impl<C: Clock> Clock for WitnessClock<C> {
     fn latest(&mut self) -> (u64, u64)
         ensures reads { Observed (Unit {0}) (Unit {0}) (self.new.seen.readings ≡ self.old.seen.readings ++ result ∷ []) }
         // The clock itself gave this.
-        ensures inner { Observed (C.tells self.new.clock) (C.tells self.old.clock) (C.readings self.new.clock ≡ C.readings self.old.clock ++ result ∷ []) }
+        ensures inner { Observed (C.tells self.new.clock) (C.tells self.old.clock)
+            (C.readings self.new.clock ≡ C.readings self.old.clock ++ result ∷ []) }
     {
         let (millis, secs) = self.clock.latest();
         self.seen.read(&Reading { millis, secs });

@@ -19,7 +19,8 @@ pub struct WitnessSock<D: AsyncDgramSock> {
     sock: D,
     start: Snapshot<D>,
     seen: SeenPackets,
-    ghost tied: { ∥ Observed (D.AsyncDgramSock.tells sock) (D.AsyncDgramSock.tells start.value) (SockSince (D.AsyncDgramSock.sock_traffic start.value) (D.AsyncDgramSock.sock_traffic sock) seen.sock_traffic) ∥₁ },
+    ghost tied: { ∥ Observed (D.AsyncDgramSock.tells sock) (D.AsyncDgramSock.tells start.value)
+        (SockSince (D.AsyncDgramSock.sock_traffic start.value) (D.AsyncDgramSock.sock_traffic sock) seen.sock_traffic) ∥₁ },
 }
 
 impl<D: AsyncDgramSock> WitnessSock<D> {
@@ -49,7 +50,8 @@ impl<D: AsyncDgramSock> WitnessSock<D> {
 
     /// True of each, after any calls: where the socket tells, what its calls said is what went through it since.
     pub fn is_tied(&self)
-        ensures { ∥ Observed (D.tells self.now.sock) (D.tells self.now.start.value) (SockSince (D.sock_traffic self.now.start.value) (D.sock_traffic self.now.sock) self.now.seen.sock_traffic) ∥₁ }
+        ensures { ∥ Observed (D.tells self.now.sock) (D.tells self.now.start.value)
+            (SockSince (D.sock_traffic self.now.start.value) (D.sock_traffic self.now.sock) self.now.seen.sock_traffic) ∥₁ }
     {}
 }
 
@@ -64,13 +66,15 @@ impl<D: AsyncDgramSock> AsyncDgramSock for WitnessSock<D> {
 
     #[tactic(auto, using(crate::proofs::SockTies::tied_send))]
     fn poll_send_to(&mut self, octets: &[u8], to: SocketAddr) -> DgramSend
-        ensures moves { Observed (Unit {0}) (Unit {0}) (SendMoves result octets.now to self.old.seen.sock_traffic self.new.seen.sock_traffic) }
+        ensures moves { Observed (Unit {0}) (Unit {0})
+            (SendMoves result octets.now to self.old.seen.sock_traffic self.new.seen.sock_traffic) }
         ensures bound { SendBound result octets.now }
         ensures receives { D.failed_receives self.new.sock ≡ D.failed_receives self.old.sock }
         ensures later { D.failed_sends self.old.sock ≤ D.failed_sends self.new.sock }
         ensures cause { SendCause result (D.failed_sends self.old.sock) (D.failed_sends self.new.sock) }
         // The socket itself sent this.
-        ensures inner { Observed (D.tells self.new.sock) (D.tells self.old.sock) (SendMoves result octets.now to (D.sock_traffic self.old.sock) (D.sock_traffic self.new.sock)) }
+        ensures inner { Observed (D.tells self.new.sock) (D.tells self.old.sock)
+            (SendMoves result octets.now to (D.sock_traffic self.old.sock) (D.sock_traffic self.new.sock)) }
     {
         let answer = self.sock.poll_send_to(octets, to);
         match answer {
@@ -96,7 +100,8 @@ impl<D: AsyncDgramSock> AsyncDgramSock for WitnessSock<D> {
         // No octet more than the call gave.
         ensures seen { self.new.seen.sock_traffic ≡ received_as result buf.new self.old.seen.sock_traffic }
         // The socket itself received this.
-        ensures inner { Observed (D.tells self.new.sock) (D.tells self.old.sock) (RecvMoves result buf.new (D.sock_traffic self.old.sock) (D.sock_traffic self.new.sock)) }
+        ensures inner { Observed (D.tells self.new.sock) (D.tells self.old.sock)
+            (RecvMoves result buf.new (D.sock_traffic self.old.sock) (D.sock_traffic self.new.sock)) }
     {
         let answer = self.sock.try_recv_buf_from(buf);
         match answer {

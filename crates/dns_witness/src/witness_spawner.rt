@@ -48,7 +48,8 @@ impl<W: Work, P: Spawner<W>> Spawner<W> for WitnessSpawner<P> {
         ensures later { P.faults self.old.spawner ≤ P.faults self.new.spawner }
         ensures cause { PermitCause result (P.faults self.old.spawner) (P.faults self.new.spawner) }
         // The spawner itself was given this.
-        ensures inner { Observed (P.tells self.new.spawner) (P.tells self.old.spawner) (PermitMoves result addr (P.given self.old.spawner) (P.given self.new.spawner)) }
+        ensures inner { Observed (P.tells self.new.spawner) (P.tells self.old.spawner)
+            (PermitMoves result addr (P.given self.old.spawner) (P.given self.new.spawner)) }
     {
         match self.spawner.permit(addr) {
             Ok(may) => {
@@ -63,7 +64,8 @@ impl<W: Work, P: Spawner<W>> Spawner<W> for WitnessSpawner<P> {
         ensures given { Observed (Unit {0}) (Unit {0}) (self.new.seen.given ≡ self.old.seen.given) }
         ensures later { P.faults self.old.spawner ≤ P.faults self.new.spawner }
         ensures cause { Rose (P.faults self.old.spawner) (P.faults self.new.spawner) }
-        ensures inner { Observed (P.tells self.new.spawner) (P.tells self.old.spawner) (P.given self.new.spawner ≡ P.given self.old.spawner) }
+        ensures inner { Observed (P.tells self.new.spawner) (P.tells self.old.spawner)
+            (P.given self.new.spawner ≡ P.given self.old.spawner) }
     {
         self.spawner.refuse();
     }
@@ -71,7 +73,8 @@ impl<W: Work, P: Spawner<W>> Spawner<W> for WitnessSpawner<P> {
     fn keep(&mut self, thread: Started<W::Done>) -> Option<Started<W::Done>>
         ensures given { Observed (Unit {0}) (Unit {0}) (self.new.seen.given ≡ self.old.seen.given) }
         ensures same { P.faults self.new.spawner ≡ P.faults self.old.spawner }
-        ensures inner { Observed (P.tells self.new.spawner) (P.tells self.old.spawner) (P.given self.new.spawner ≡ P.given self.old.spawner) }
+        ensures inner { Observed (P.tells self.new.spawner) (P.tells self.old.spawner)
+            (P.given self.new.spawner ≡ P.given self.old.spawner) }
     {
         self.spawner.keep(thread)
     }
@@ -79,7 +82,8 @@ impl<W: Work, P: Spawner<W>> Spawner<W> for WitnessSpawner<P> {
     fn ended(&mut self) -> Option<Started<W::Done>>
         ensures given { Observed (Unit {0}) (Unit {0}) (self.new.seen.given ≡ self.old.seen.given) }
         ensures same { P.faults self.new.spawner ≡ P.faults self.old.spawner }
-        ensures inner { Observed (P.tells self.new.spawner) (P.tells self.old.spawner) (P.given self.new.spawner ≡ P.given self.old.spawner) }
+        ensures inner { Observed (P.tells self.new.spawner) (P.tells self.old.spawner)
+            (P.given self.new.spawner ≡ P.given self.old.spawner) }
     {
         self.spawner.ended()
     }
@@ -87,7 +91,8 @@ impl<W: Work, P: Spawner<W>> Spawner<W> for WitnessSpawner<P> {
     fn next(&mut self) -> Option<Started<W::Done>>
         ensures given { Observed (Unit {0}) (Unit {0}) (self.new.seen.given ≡ self.old.seen.given) }
         ensures same { P.faults self.new.spawner ≡ P.faults self.old.spawner }
-        ensures inner { Observed (P.tells self.new.spawner) (P.tells self.old.spawner) (P.given self.new.spawner ≡ P.given self.old.spawner) }
+        ensures inner { Observed (P.tells self.new.spawner) (P.tells self.old.spawner)
+            (P.given self.new.spawner ≡ P.given self.old.spawner) }
     {
         self.spawner.next()
     }
