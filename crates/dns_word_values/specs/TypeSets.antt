@@ -35,9 +35,9 @@ abbrev pub window_octets : List ℕ → ℕ → List ℕ
 window_octets types window = window_of_size types window (size_after window 0 types)
 
 -- so many windows
-abbrev pub windows_to : List ℕ → ℕ → List ℕ
+unfoldable pub windows_to : List ℕ → ℕ → List ℕ
 windows_to types zero = []
 windows_to types (suc n) = windows_to types n ++ window_octets types n
 
-abbrev pub type_set : List ℕ → List ℕ
+unfoldable pub type_set : List ℕ → List ℕ
 type_set types = windows_to types 256

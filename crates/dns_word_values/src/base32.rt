@@ -39,6 +39,7 @@ fn base32_value(digit: u8) -> u8
 }
 
 /// The octets of the eight digits from a place on.
+#[tactic(auto, unfolding(crate::specs::Base32::base32_group))]
 fn base32_group(word: &[u8], at: usize) -> [u8; 5]
     requires { at + 8 ≤ length word.now }
     ensures { result ≡ base32_group word.now at }

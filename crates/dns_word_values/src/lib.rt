@@ -3,10 +3,10 @@
 
 mod base32;
 mod moments;
-mod type_set;
+mod type_sets;
 mod values;
 
 pub use base32::base32_octets;
 pub use moments::moment;
-pub use type_set::type_set;
+pub use type_sets::type_set;
 pub use values::{decimal, long_address, quad, seconds, string};

@@ -1,6 +1,6 @@
 use Rattle.std.proofs.Common.{◌≡◌, ◌≤◌, drop}
 use Rattle.dns_word_values.specs.TypeSets.{size_after}
-use Rattle.dns_word_values.proofs.type_set.window_size.Given as goal
+use Rattle.dns_word_values.proofs.type_sets.window_size.Given as goal
 
 -- the types that are left go on with the size so far
 abbrev pub invariant-loop-rtype : goal.invariant-loop-rtype

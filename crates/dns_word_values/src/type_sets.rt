@@ -96,13 +96,23 @@ fn push_window(types: &[u16], window: u16, octets: &mut Vec<u8>) -> Result<(), A
     push_bits(types, 256 * window, size, octets)
 }
 
-/// The octets of a set of types.
-pub fn type_set(alloc: Global, types: &[u16]) -> Result<Vec<u8>, AllocError>
-    ensures { IfOk result (λ v. v.items ≡ type_set types.now) }
+/// The octets of so many windows.
+#[tactic(auto, unfolding(crate::specs::TypeSets::windows_to))]
+fn windows(alloc: Global, types: &[u16], count: u16) -> Result<Vec<u8>, AllocError>
+    requires { count ≤ 256 }
+    ensures { IfOk result (λ v. v.items ≡ windows_to types.now count) }
 {
     let mut octets = Vec::new(alloc);
-    for window in 0..256u16 {
+    for window in 0..count {
         push_window(types, window, &mut octets)?;
     }
     Ok(octets)
+}
+
+/// The octets of a set of types.
+#[tactic(auto, unfolding(crate::specs::TypeSets::type_set))]
+pub fn type_set(alloc: Global, types: &[u16]) -> Result<Vec<u8>, AllocError>
+    ensures { IfOk result (λ v. v.items ≡ type_set types.now) }
+{
+    windows(alloc, types, 256)
 }
