@@ -1,6 +1,6 @@
 -- The entries of a zone file (RFC 1035, section 5.1), octet by octet. An entry is the words up to the end of a line,
 -- or of several lines within parentheses.
-use Rattle.std.specs.Prelude.{ℕ, ◌+◌, Bool, true, false, ◌||◌, List, [], ◌∷◌, ◌++◌, nat_eq, is_some, if◌then◌else◌, Some, None, Ok, Err}
+use Rattle.std.specs.Prelude.{ℕ, ◌+◌, Bool, true, false, not, ◌||◌, List, [], ◌∷◌, ◌++◌, nat_eq, is_some, if◌then◌else◌, Some, None, Ok, Err}
 use Rattle.dns_entries.specs.Reading.{LineRead}
 use Rattle.dns_entries.specs.declared.entry.Word.{Word}
 use Rattle.dns_entries.specs.declared.scan.Scan.{Scan}
@@ -93,3 +93,26 @@ in_mode Comment x c = if nat_eq c 10 then Ok (line_end x) else Ok (x, false)
 -- the entry with one octet more
 unfoldable pub after_octet : Scan → ℕ → Scanned
 after_octet x c = in_mode x.mode x c
+
+-- ---- many octets at once
+
+-- an octet that goes on with a word or a comment
+abbrev pub goes_on_in : Mode → ℕ → Bool
+goes_on_in Plain c = not (nat_eq c 92 || ends_word c)
+goes_on_in Quoted c = not (nat_eq c 34 || (nat_eq c 10 || nat_eq c 92))
+goes_on_in Comment c = not (nat_eq c 10)
+goes_on_in _ c = false
+
+-- the octets at the front that go on with it
+abbrev pub run_in : Mode → List ℕ → List ℕ
+run_in m [] = []
+run_in m (c ∷ cs) = if goes_on_in m c then c ∷ run_in m cs else []
+
+-- a word has them more, and a comment is the same
+abbrev pub word_with : Mode → List ℕ → List ℕ → List ℕ
+word_with Plain w run = w ++ run
+word_with Quoted w run = w ++ run
+word_with _ w run = w
+
+abbrev pub with_run : Scan → List ℕ → Scan
+with_run x run = record x { word = word_with x.mode x.word run }

@@ -5,6 +5,9 @@ ghost use Rattle.std.specs.Prelude.{◌≡◌, ◌++◌, ◌∷◌, [], OnOk, le
 use std::alloc::{AllocError, Global};
 use std::marker::Model;
 
+/// How many octets a word has room for when it begins.
+const FIRST_SIZE: usize = 24;
+
 /// What stands in a word, octet by octet.
 #[derive(Drop)]
 pub struct WordText {
@@ -37,8 +40,24 @@ impl WordText {
     pub fn push(&mut self, octet: u8) -> Result<(), AllocError>
         ensures { OnOk result (self.new ≡ self.old ++ octet ∷ []) }
     {
+        if self.octets.is_empty() {
+            self.octets.reserve(FIRST_SIZE)?;
+        }
         self.octets.push(octet)?;
         Ok(())
+    }
+
+    pub fn extend(&mut self, octets: &[u8]) -> Result<(), AllocError>
+        ensures { OnOk result (self.new ≡ self.old ++ octets.now) }
+    {
+        self.octets.extend_from_slice(octets)?;
+        Ok(())
+    }
+
+    pub fn clear(&mut self)
+        ensures { self.new ≡ [] }
+    {
+        self.octets.clear();
     }
 }
 

@@ -1,6 +1,7 @@
 //! Why a zone file is refused.
 
 ghost use Rattle.std.specs.Prelude.{◌≡◌};
+
 use dns_name::OutOfMemory;
 use std::alloc::{AllocError, AllocFailed};
 
@@ -51,8 +52,8 @@ pub enum EntryReason {
     Base32,
     /// A service parameter is none that is known, or its value isn't of its form.
     Parameter,
-    /// Service parameters don't rise by the numbers of their keys.
-    Order,
+    /// A service parameter stands twice.
+    Repeated,
     /// There are other octets than were said, or more than 65,535.
     Length,
     /// The octets aren't of the type's shape.

@@ -1,8 +1,8 @@
 //! A text is scanned, octet by octet.
 
-ghost use Rattle.std.specs.Prelude.{◌≡◌, ◌+◌, ◌<◌, ◌≤◌, ◌^◌, IfOk, OnOk};
+ghost use Rattle.std.specs.Prelude.{◌≡◌, ◌+◌, ◌<◌, ◌≤◌, ◌^◌, IfOk, OnOk, length};
 ghost use Rattle.dns_entries.specs.Reading.{Gives};
-ghost use Rattle.dns_entries.specs.Entries.{after_octet, scan_begins, between, closes_parenthesis, ended, ends_word, escaped_in, goes, in_plain, in_quotes, is_blank, keeps_octet, line_behind, line_end, opens_parenthesis};
+ghost use Rattle.dns_entries.specs.Entries.{after_octet, scan_begins, between, closes_parenthesis, ended, ends_word, escaped_in, goes, goes_on_in, in_plain, in_quotes, is_blank, keeps_octet, line_behind, line_end, opens_parenthesis, run_in, with_run};
 
 use crate::entry::{Word, WordList, WordText};
 use crate::reason::{EntryReason, ZoneFileError};
@@ -56,6 +56,33 @@ impl Scan {
             words: WordList::new(alloc),
             word: WordText::new(alloc),
         }
+    }
+
+    /// Before the first octet of another entry.
+    pub fn restart(&mut self, line: u64)
+        ensures { self.new ≡ scan_begins line }
+    {
+        self.words.clear();
+        self.word.clear();
+        self.mode = Mode::Start;
+        self.line = line;
+        self.opened = None;
+        self.blank = false;
+    }
+
+    /// Takes the octets at the front that go on with a word or a comment, and says how many they are.
+    pub fn take_run(&mut self, text: &[u8]) -> Result<usize, AllocError>
+        ensures count { IfOk result (λ n. n ≡ length (run_in self.old.mode text.now)) }
+        ensures within { IfOk result (λ n. n ≤ length text.now) }
+        ensures line { self.new.line ≡ self.old.line }
+        ensures value { OnOk result (self.new ≡ with_run self.old (run_in self.old.mode text.now)) }
+    {
+        let run = run_in(self.mode, text);
+        match self.mode {
+            Mode::Plain | Mode::Quoted => self.word.extend(run)?,
+            _ => {}
+        }
+        Ok(run.len())
     }
 
     /// Takes one octet more, and says whether the entry is whole.
@@ -235,6 +262,42 @@ impl Scan {
         self.keep(mode, octet)?;
         Ok(false)
     }
+}
+
+/// Whether an octet goes on with a word or a comment.
+fn goes_on_in(mode: Mode, octet: u8) -> bool
+    ensures { result ≡ goes_on_in mode octet }
+{
+    match mode {
+        Mode::Plain => !(octet == b'\\' || ends_word(octet)),
+        Mode::Quoted => !matches!(octet, b'"' | b'\n' | b'\\'),
+        Mode::Comment => octet != b'\n',
+        _ => false,
+    }
+}
+
+/// How many octets at the front go on with a word or a comment.
+fn run_length(mode: Mode, text: &[u8]) -> usize
+    ensures count { result ≡ length (run_in mode text.now) }
+    ensures within { result ≤ length text.now }
+{
+    let mut count = 0;
+    for octet in text {
+        if !goes_on_in(mode, *octet) {
+            return count;
+        }
+        count += 1;
+    }
+    count
+}
+
+/// The octets at the front that go on with a word or a comment.
+fn run_in(mode: Mode, text: &[u8]) -> &[u8]
+    ensures value { result.now ≡ run_in mode text.now }
+    ensures within { length result.now ≤ length text.now }
+{
+    let count = run_length(mode, text);
+    &text[..count]
 }
 
 /// Whether an octet is the space, the tab or the carriage return.
