@@ -1,1 +1,2 @@
+mod PlainLabels
 mod Tests

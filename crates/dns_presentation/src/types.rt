@@ -238,10 +238,7 @@ pub(crate) fn layout_of(rtype: u16) -> Option<(&'static [Field], Rest)>
         ),
         16 | 99 => (&[], Rest::Strings),
         257 => (&[Field::Octet, Field::Tag], Rest::Value),
-        43 | 59 => (
-            &[Field::Short, Field::Algorithm, Field::Octet],
-            Rest::Hex,
-        ),
+        43 | 59 => (&[Field::Short, Field::Algorithm, Field::Octet], Rest::Hex),
         44 => (&[Field::Octet, Field::Octet], Rest::Hex),
         52 | 53 => (&[Field::Octet, Field::Octet, Field::Octet], Rest::Hex),
         48 | 60 => (
