@@ -1,4 +1,5 @@
-use Rattle.std.proofs.Common.{⊤, length}
+use Rattle.std.proofs.Common.{length}
+use Rattle.std.specs.Prelude.{⊤}
 use Rattle.dns_entries.proofs.entry.WordList.clear.Given as goal
 
 abbrev pub invariant-words : goal.invariant-words
