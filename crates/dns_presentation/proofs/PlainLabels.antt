@@ -3,7 +3,7 @@ use Rattle.std.proofs.Common.{◌≡◌, ℕ, zero, suc, ◌+◌, ◌<◌, ◌�
 use Rattle.std.specs.Prelude.{◌&&◌, ◌||◌, not, nat_eq, nat_lt, if◌then◌else◌, Result}
 use Rattle.std.specs.Int.{is_in_range}
 use Rattle.std.specs.List.{list_all}
-use Rattle.std.proofs.lemmas.Bool.{and_parts, lt-ltb, le-ltb, or_parts}
+use Rattle.std.proofs.lemmas.Bool.{and_parts, le-ltb, or_parts}
 use Rattle.std.proofs.lemmas.Bool.Decides.{nat_tests}
 use Rattle.dns_name.specs.FromText.{before_octets, by_label, ends_label, first_label, first_octet, is_dot, label_octets, labels_up_to, octets_up_to, text_labels, text_name}
 use Rattle.dns_name.specs.Labels.{AreLabels, IsName, spell}
@@ -88,12 +88,26 @@ plain_name w origin h =
 label_name : (l : List ℕ) (origin : List (List ℕ)) → IsName origin → 0 < length l → length l < 64 → length l + length (spell origin) ≤ 254 → IsName (l ∷ origin)
 label_name l origin n s f h = record { labels = (s, f, n.labels); room = omega (arith, length-append l (spell origin)) }
 
-pub label_fits : (l o : List ℕ) (origin : List (List ℕ)) → IsName origin → o ≡ spell (l ∷ origin) → 0 < length l → length l < 64 → length l + length (spell origin) ≤ 254 → uncompressed o ≡ Ok (l ∷ origin)
-label_fits l o origin n e s f h =
-    rw e (ap (read_whole (spell (l ∷ origin))) (spelt_alone (l ∷ origin) (label_name l origin n s f h)) ∙ grind (arith, nat_tests))
+same_ok : (n m : List (List ℕ)) (u : Result (List (List ℕ)) ParseError) → u ≡ Ok n → u ≡ Ok m → n ≡ m
+same_ok n m u h k = cc
 
-pub under_fits : (l : List ℕ) (origin : List (List ℕ)) → length l + length (spell origin) ≤ 254 → under origin (l ∷ []) ≡ Ok (l ∷ origin)
+label_octets_are : (l o behind : List ℕ) (origin : List (List ℕ)) → behind ≡ spell origin → o ≡ length l ∷ (l ++ behind) → o ≡ spell (l ∷ origin)
+label_octets_are l o behind origin b e = e ∙ ap (λ (t : List ℕ). length l ∷ (l ++ t)) b
+
+label_fits : (l o behind : List ℕ) (origin : List (List ℕ)) → IsName origin → behind ≡ spell origin → o ≡ length l ∷ (l ++ behind) → 0 < length l → length l < 64 → length l + length behind ≤ 254 → uncompressed o ≡ Ok (l ∷ origin)
+label_fits l o behind origin n b e s f h =
+    let whole = label_octets_are l o behind origin b e in
+    let few : length l + length (spell origin) ≤ 254 = omega (arith, ap length b) in
+    rw whole (ap (read_whole (spell (l ∷ origin))) (spelt_alone (l ∷ origin) (label_name l origin n s f few)) ∙ grind (arith, nat_tests))
+
+under_fits : (l : List ℕ) (origin : List (List ℕ)) → length l + length (spell origin) ≤ 254 → under origin (l ∷ []) ≡ Ok (l ∷ origin)
 under_fits l origin h = rw (le-ltb 255 (length (spell (l ∷ origin))) (omega (arith, length-append l (spell origin)))) refl
 
-pub under_long : (l : List ℕ) (origin : List (List ℕ)) → 254 < length l + length (spell origin) → name_under origin (l ∷ []) ≡ None
-under_long l origin h = rw (lt-ltb 255 (length (spell (l ∷ origin))) (omega (arith, length-append l (spell origin)))) refl
+-- the name that its octets are stands below the origin
+pub label_named : (l o behind : List ℕ) (origin n : List (List ℕ)) → IsName origin → behind ≡ spell origin → o ≡ length l ∷ (l ++ behind) → 0 < length l → length l < 64 → length l + length behind ≤ 254 → Ok n ≡ uncompressed o
+    → under origin (l ∷ []) ≡ Ok n
+label_named l o behind origin n m b e s f h read =
+    under_fits l origin (omega (arith, ap length b)) ∙ ap (λ (x : List (List ℕ)). Ok x) (same_ok (l ∷ origin) n (uncompressed o) (label_fits l o behind origin m b e s f h) (sym read))
+
+pub label_reads : (l o behind : List ℕ) (origin : List (List ℕ)) (x : ParseError) → IsName origin → behind ≡ spell origin → o ≡ length l ∷ (l ++ behind) → 0 < length l → length l < 64 → length l + length behind ≤ 254 → Err x ≡ uncompressed o → ⊥
+label_reads l o behind origin x m b e s f h read = let bad : Err x ≡ Ok (l ∷ origin) = read ∙ label_fits l o behind origin m b e s f h in cc bad

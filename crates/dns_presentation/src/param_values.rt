@@ -188,21 +188,23 @@ fn base64_octets(alloc: Global, value: &[u8]) -> Result<Option<Vec<u8>>, AllocEr
     }
 }
 
-/// Whether keys of two octets are each above the one before it, and the first above another.
+/// Whether keys of two octets are each above the one before it, and the first above zero.
 fn keys_rise(octets: &[u8]) -> bool
     ensures { result ≡ keys_rise 0 octets.now }
 {
     let mut last = 0;
     let mut rest = octets;
-    'keys: while let [high, low, behind @ ..] = rest {
+    'keys: loop {
+        let [high, low, ..] = rest else {
+            return rest.is_empty();
+        };
         let key = 256 * *high as u32 + *low as u32;
         if key <= last {
             return false;
         }
         last = key;
-        rest = behind;
+        rest = &rest[2..];
     }
-    rest.is_empty()
 }
 
 /// The octets of the keys that a client must know.
