@@ -33,8 +33,9 @@ use Rattle.dns_presentation.specs.declared.types.Rest.TheVariants.{Nothing}
 use Rattle.dns_word_values.specs.Values.{long_address, number_below, period, quad}
 use Rattle.dns_word_values.proofs.Addresses.{dotted_found, groups_found}
 use Rattle.dns_zone_file.specs.Lines.{AreOctets, HoldOctets, IsWord, goes_on, word_on, words_on}
-use Rattle.dns_zone_file.specs.Written.{absolute_text, hex_digits, name_type, numbered_type, octet_words, type_word, value_words}
+use Rattle.dns_record_text.specs.RecordText.{absolute_text, bare_word, hex_digits, name_type, name_word, number_word, numbered_type, octet_words, type_word, value_words}
 use Rattle.dns_zone_file.proofs.NamesBack.{name_back, name_reads}
+use Rattle.dns_zone_file.proofs.StringsBack.{text_back, text_words_are}
 use Rattle.dns_zone_file.proofs.NumbersBack.{AreDigits, decimal_word, digits_inner, inner_go, is_inner, no_generic, number_back, numbered_word, own, period_back, type_back, word_of}
 
 -- ---- octets of what is put together
@@ -66,7 +67,7 @@ four_small n h = let a : n / 65536 / 256 < 256 = h 0 in omega arith
 
 -- ---- a name as a word
 
-pub name_value : (origin ls : List (List ℕ)) (line : ℕ) → IsName ls → HoldOctets ls → name_in origin (word_on line (absolute_text ls)) ≡ Ok ls
+pub name_value : (origin ls : List (List ℕ)) (line : ℕ) → IsName ls → HoldOctets ls → name_in origin (word_on line (name_word ls)) ≡ Ok ls
 unfolding name_in
 name_value origin ls line n a = rw (name_reads origin ls n a) refl
 
@@ -74,8 +75,8 @@ first_cell : (ls : List (List ℕ)) → IsName ls → 0 < length (absolute_text 
 first_cell [] n = omega arith
 first_cell (l ∷ ls) n = simp length-append (omega arith)
 
-pub name_word : (ls : List (List ℕ)) → IsName ls → HoldOctets ls → IsWord (absolute_text ls)
-name_word ls n a = word_of (absolute_text ls) (first_cell ls n) (name_back ls n a).goes
+pub is_name_word : (ls : List (List ℕ)) → IsName ls → HoldOctets ls → IsWord (name_word ls)
+is_name_word ls n a = word_of (absolute_text ls) (first_cell ls n) (name_back ls n a).goes
 
 name_no_generic : (ls : List (List ℕ)) → IsName ls → HoldOctets ls → bytes_eq (absolute_text ls) (codes "\\#") ≡ false
 name_no_generic ls n a =
@@ -98,7 +99,7 @@ decimal_no_generic n h = no_generic (decimal n) (decimal_inner n h)
 pub record Reads (d : RecordData) : Type 0 where
   pub rtype : type_of (type_word d) ≡ Some (data_type d)
   pub values : (origin : List (List ℕ)) (at line : ℕ) → data_of origin at line (data_type d) (words_on line (value_words d)) ≡ Ok (data_octets d)
-  pub word : IsWord (type_word d)
+  pub word : IsWord (bare_word (type_word d))
   pub words : AllByRecursion IsWord (value_words d)
 
 -- octets behind nothing and before nothing
@@ -120,7 +121,7 @@ quad_inner a b = list_all-from_AllPass is_inner (ipv4_text a) (All-weaker IsDigi
 longer : (x y : List ℕ) → 0 < length x → 0 < length (x ++ y)
 longer x y h = omega (arith, length-append x y)
 
-quad_word : (a : List ℕ) → IsBytes a → IsWord (ipv4_text a)
+quad_word : (a : List ℕ) → IsBytes a → IsWord (bare_word (ipv4_text a))
 quad_word a b =
     let low : get_or a 0 0 < 256 = b 0 in
     let first : 0 < length (decimal (get_or a 0 0)) = decimal_nonempty (get_or a 0 0) (omega arith) in
@@ -212,7 +213,7 @@ long_reads a l b =
 -- the type of data that is one name
 record NameType (t : ℕ) : Type 0 where
   reads : type_of (name_type t) ≡ Some t
-  word : IsWord (name_type t)
+  word : IsWord (bare_word (name_type t))
   layout : layout_of t ≡ Some (Host ∷ [], Nothing)
 
 by_number : (t : ℕ) → t < 65536 → is_meta t ≡ false → name_type t ≡ numbered_type t → layout_of t ≡ Some (Host ∷ [], Nothing) → NameType t
@@ -246,7 +247,7 @@ named_reads t n h m s k o =
       rtype = y.reads;
       values = λ origin at line. rw (name_no_generic n k o, y.layout, name_value origin n line k o) (ap (λ (x : List ℕ). Ok x) (alone (spell n)));
       word = y.word;
-      words = (name_word n k o, tt);
+      words = (is_name_word n k o, tt);
     }
 
 two_names_reads : (a b : List (List ℕ)) → IsName a → IsName b → HoldOctets a → HoldOctets b → Reads (Minfo a b)
@@ -256,7 +257,7 @@ two_names_reads a b k l o p =
       rtype = refl;
       values = λ origin at line. rw (name_no_generic a k o, name_value origin a line k o, name_value origin b line l p) (ap (λ (x : List ℕ). Ok x) (append-nil (spell a ++ spell b)));
       word = word_of (codes "MINFO") (omega arith) refl;
-      words = (name_word a k o, (name_word b l p, tt));
+      words = (is_name_word a k o, (is_name_word b l p, tt));
     }
 
 exchange_reads : (p : ℕ) (n : List (List ℕ)) → p < 65536 → IsName n → HoldOctets n → Reads (Mx p n)
@@ -266,7 +267,7 @@ exchange_reads p n h k o =
       rtype = refl;
       values = λ origin at line. rw (decimal_no_generic p (omega arith), number_back 65536 p h (omega arith), name_value origin n line k o) (ap (λ (x : List ℕ). Ok x) (append-nil (two p ++ spell n)));
       word = word_of (codes "MX") (omega arith) refl;
-      words = (decimal_word p (omega arith), (name_word n k o, tt));
+      words = (decimal_word p (omega arith), (is_name_word n k o, tt));
     }
 
 service_reads : (p w o : ℕ) (n : List (List ℕ)) → p < 65536 → w < 65536 → o < 65536 → IsName n → HoldOctets n → Reads (Srv p w o n)
@@ -278,7 +279,7 @@ service_reads p w o n h i j k q =
           rw (decimal_no_generic p (omega arith), number_back 65536 p h (omega arith), number_back 65536 w i (omega arith), number_back 65536 o j (omega arith), name_value origin n line k q)
           (ap (λ (x : List ℕ). Ok x) (simp (append_assoc, append-nil)));
       word = word_of (codes "SRV") (omega arith) refl;
-      words = (decimal_word p (omega arith), (decimal_word w (omega arith), (decimal_word o (omega arith), (name_word n k q, tt))));
+      words = (decimal_word p (omega arith), (decimal_word w (omega arith), (decimal_word o (omega arith), (is_name_word n k q, tt))));
     }
 
 -- ---- octets
@@ -301,7 +302,7 @@ digits_word (x ∷ xs) b =
 same : (n : ℕ) → nat_eq n n ≡ true
 same n = grind (arith, nat_tests)
 
-generic_back : (line : ℕ) (o : List ℕ) → IsBytes o → length o ≤ 65535 → generic line (words_on line (decimal (length o) ∷ hex_digits o)) ≡ Ok o
+generic_back : (line : ℕ) (o : List ℕ) → IsBytes o → length o ≤ 65535 → generic line (words_on line (number_word (length o) ∷ hex_digits o)) ≡ Ok o
 unfolding generic
 generic_back line [] b h = rw (number_back 65536 0 (omega arith) (omega arith)) refl
 generic_back line (x ∷ xs) b h =
@@ -314,14 +315,30 @@ octets_back origin at line t o b h = generic_back line o b h
 octet_words_are : (o : List ℕ) → IsBytes o → length o ≤ 65535 → AllByRecursion IsWord (octet_words o)
 octet_words_are o b h = (word_of (codes "\\#") (omega arith) refl, (decimal_word (length o) (omega arith), digits_word o b))
 
+by_octets : (t : ℕ) (o : List ℕ) → t < 65536 → is_meta t ≡ false → IsBytes o → length o ≤ 65535 → nat_eq t 16 ≡ false → Reads (Unknown t o)
+by_octets t o h m b few e =
+    record {
+      rtype = rw e (type_back t h m);
+      values = λ origin at line. rw e (octets_back origin at line t o b few);
+      word = rw e (numbered_word t h);
+      words = rw e (octet_words_are o b few);
+    }
+
+strings_reads : (o : List ℕ) → IsBytes o → length o ≤ 65535 → Reads (Unknown 16 o)
+strings_reads o b few =
+    record {
+      rtype = refl;
+      values = λ origin at line. text_back origin at line o b (octets_back origin at line 16 o b few);
+      word = word_of (codes "TXT") (omega arith) refl;
+      words = text_words_are o b (octet_words_are o b few);
+    }
+
 unknown_reads : (t : ℕ) (o : List ℕ) → t < 65536 → is_meta t ≡ false → IsBytes o → length o ≤ 65535 → Reads (Unknown t o)
 unknown_reads t o h m b few =
-    record {
-      rtype = type_back t h m;
-      values = λ origin at line. octets_back origin at line t o b few;
-      word = numbered_word t h;
-      words = octet_words_are o b few;
-    }
+    elim (nat_eq t 16) as (λ q. nat_eq t 16 ≡ q → Reads (Unknown t o)) [
+      | true ↦ λ e. let v : t ≡ 16 = grind (arith, nat_tests) in rw v (strings_reads o b few)
+      | false ↦ λ e. by_octets t o h m b few e
+    ] refl
 
 -- ---- the start of a zone
 
@@ -335,7 +352,7 @@ start_reads m r s f t e n k l o p hs hf ht he hn =
           rw (name_no_generic m k o, name_value origin m line k o, name_value origin r line l p, number_back 4294967296 s hs (omega arith), period_back f hf, period_back t ht, period_back e he, period_back n hn)
           (ap (λ (x : List ℕ). Ok x) (simp (append_assoc, append-nil)));
       word = word_of (codes "SOA") (omega arith) refl;
-      words = (name_word m k o, (name_word r l p, (decimal_word s (omega arith), (decimal_word f (omega arith), (decimal_word t (omega arith), (decimal_word e (omega arith), (decimal_word n (omega arith), tt)))))));
+      words = (is_name_word m k o, (is_name_word r l p, (decimal_word s (omega arith), (decimal_word f (omega arith), (decimal_word t (omega arith), (decimal_word e (omega arith), (decimal_word n (omega arith), tt)))))));
     }
 
 -- ---- all data

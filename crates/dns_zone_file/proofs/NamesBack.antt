@@ -14,7 +14,7 @@ use Rattle.dns_name.proofs.Named.{twice}
 use Rattle.dns_entries.specs.Entries.{ends_word, is_blank}
 use Rattle.dns_zone_file.specs.Lines.{AreOctets, HoldOctets, goes_on}
 use Rattle.dns_presentation.specs.Names.{absolute_after, is_absolute, name_of}
-use Rattle.dns_zone_file.specs.Written.{absolute_text, escaped_label, escaped_labels, escaped_octet, stands}
+use Rattle.dns_record_text.specs.RecordText.{absolute_text, escaped_label, escaped_labels, escaped_octet, stands}
 
 -- ---- an octet
 

@@ -1,5 +1,5 @@
 -- Numbers, types and words of digits that are written read as these.
-use Rattle.std.proofs.Common.{◌≡◌, ℕ, ◌+◌, ◌-◌, ◌*◌, ◌^◌, ◌≤◌, ◌<◌, List, [], ◌∷◌, ◌++◌, length, take, true, false, Some, None, refl, ap, ◌∙◌, arith, rules}
+use Rattle.std.proofs.Common.{◌≡◌, ℕ, ◌+◌, ◌-◌, ◌*◌, ◌^◌, ◌≤◌, ◌<◌, List, [], ◌∷◌, ◌++◌, length, take, true, false, Some, None, inl, refl, ap, ◌∙◌, arith, rules}
 use Rattle.std.specs.Prelude.{Bool, ◌&&◌, ◌||◌, not, map, codes, decimal, nat_eq, nat_lt, slice_index, if◌then◌else◌}
 use Rattle.std.specs.Char.{is_ascii_digit, to_ascii_lowercase}
 use Rattle.std.specs.Int.{is_in_range}
@@ -11,10 +11,10 @@ use Rattle.std.proofs.lemmas.Fmt.{decimal_nonempty, digits_decimal, digits_value
 use Rattle.std.proofs.lemmas.Slice.Eq.{bytes_eq-Decides}
 use Rattle.std.proofs.lemmas.Str.Parse.{IsNumeralModel, numerals_by_fold}
 use Rattle.dns_entries.specs.Entries.{ends_word}
-use Rattle.dns_zone_file.specs.Lines.{IsWord, goes_on}
+use Rattle.dns_zone_file.specs.Lines.{IsBare, IsWord, goes_on}
 use Rattle.dns_presentation.specs.Types.{class_of, is_meta, spells, type_of}
 use Rattle.dns_word_values.specs.Values.{decimal_after, number_below, period}
-use Rattle.dns_zone_file.specs.Written.{numbered_type}
+use Rattle.dns_record_text.specs.RecordText.{bare_word, number_word, numbered_type}
 use Rattle.dns_zone_file.proofs.NamesBack.{IsDigit, inner}
 
 abbrev read_on : ℕ → List ℕ → ℕ
@@ -61,22 +61,25 @@ digits_go (c ∷ cs) h =
     let d = digit c parts.0 in
     rw (d.backslash, d.word) (digits_go cs parts.1)
 
-pub word_of : (w : List ℕ) → 0 < length w → goes_on false w ≡ true → IsWord w
-word_of [] h g = absurd (omega arith)
-word_of (c ∷ cs) h g = record { first = c; others = cs; cells = refl; goes = g }
+bare_of : (w : List ℕ) → 0 < length w → goes_on false w ≡ true → IsBare (bare_word w)
+bare_of [] h g = absurd (omega arith)
+bare_of (c ∷ cs) h g = record { bare = refl; first = c; others = cs; cells = refl; goes = g }
+
+pub word_of : (w : List ℕ) → 0 < length w → goes_on false w ≡ true → IsWord (bare_word w)
+word_of w h g = inl (bare_of w h g)
 
 pub begins_so : (ds : List ℕ) → AreDigits ds → 0 < length ds → is_ascii_digit (slice_index ds 0) ≡ true
 begins_so [] h k = absurd (omega arith)
 begins_so (c ∷ cs) h k = (and_parts (is_in_range 48 57 c) (list_all (is_in_range 48 57) cs) h).0
 
-pub decimal_word : (n : ℕ) → n < 2 ^ 64 → IsWord (decimal n)
+pub decimal_word : (n : ℕ) → n < 2 ^ 64 → IsWord (number_word n)
 decimal_word n small = word_of (decimal n) (decimal_nonempty n small) (digits_go (decimal n) (digits_decimal own n small))
 
 pub type_back : (t : ℕ) → t < 65536 → is_meta t ≡ false → type_of (numbered_type t) ≡ Some t
 type_back t h m = rw (number_back 65536 t h (omega arith), m) refl
 
-pub numbered_word : (t : ℕ) → t < 65536 → IsWord (numbered_type t)
-numbered_word t h = record { first = 84; others = 89 ∷ 80 ∷ 69 ∷ decimal t; cells = refl; goes = digits_go (decimal t) (digits_decimal own t (omega arith)) }
+pub numbered_word : (t : ℕ) → t < 65536 → IsWord (bare_word (numbered_type t))
+numbered_word t h = inl (record { bare = refl; first = 84; others = 89 ∷ 80 ∷ 69 ∷ decimal t; cells = refl; goes = digits_go (decimal t) (digits_decimal own t (omega arith)) })
 
 -- a word that begins with a digit spells none that begins with a letter
 starts_other : (x c : ℕ) (xs cs : List ℕ) → is_in_range 48 57 c ≡ true → 57 < to_ascii_lowercase x → spells (x ∷ xs) (c ∷ cs) ≡ false

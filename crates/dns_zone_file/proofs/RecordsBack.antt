@@ -23,20 +23,21 @@ use Rattle.dns_message.proofs.TypedWritten.{data_written}
 use Rattle.dns_entries.specs.Reading.{LineRead, ◌>>=◌}
 use Rattle.dns_entries.specs.Entries.{after_octet, scan_begins, ends_word}
 use Rattle.dns_presentation.specs.Fields.{data_of, generic, hex_words}
-use Rattle.dns_zone_file.specs.Lines.{HoldOctets, IsWord, goes_on, words_line, read_behind, word_on, words_on}
+use Rattle.dns_zone_file.specs.Lines.{HoldOctets, IsWord, goes_on, read_behind, word_on, words_on}
 use Rattle.dns_presentation.specs.Names.{name_in, name_of}
 use Rattle.dns_presentation.specs.Types.{class_of, is_meta, spells, type_of}
 use Rattle.dns_word_values.specs.Values.{decimal_after, number_below, period}
-use Rattle.dns_zone_file.specs.Written.{IsZoneRecord, absolute_text, escaped_label, escaped_labels, escaped_octet, resource_text, resource_words, stands, type_word, value_words, zone_text}
+use Rattle.dns_record_text.specs.RecordText.{absolute_text, bare_word, class_word, escaped_label, escaped_labels, escaped_octet, name_word, number_word, resource_text, resource_words, stands, type_word, value_words, zone_text}
+use Rattle.dns_zone_file.specs.ZoneRecords.{IsZoneRecord}
 use Rattle.dns_zone_file.specs.ZoneFile.{ZoneDraft, draft_begun, head, owned, entry_record, internet_record, steps, shaped_data, after_entry, after_record, zone_file}
 use Rattle.dns_entries.specs.declared.entry.Word.{Word}
-use Rattle.dns_zone_file.proofs.DataBack.{Reads, name_value, name_word, reads}
+use Rattle.dns_zone_file.proofs.DataBack.{Reads, is_name_word, name_value, reads}
 use Rattle.dns_zone_file.proofs.NumbersBack.{begins_so, decimal_word, digits_no_class, own, period_back, word_of}
 use Rattle.dns_zone_file.proofs.Scanned.{line_is_entry}
 
 -- ---- what stands before a type
 
-head_back : (line ttl : ℕ) (ws : List Word) → ttl < 4294967296 → head (word_on line (decimal ttl) ∷ word_on line (codes "IN") ∷ ws) ≡ Ok (Some ttl, ws)
+head_back : (line ttl : ℕ) (ws : List Word) → ttl < 4294967296 → head (word_on line (number_word ttl) ∷ word_on line (bare_word (codes "IN")) ∷ ws) ≡ Ok (Some ttl, ws)
 unfolding head
 head_back line ttl ws h =
     let digits = digits_decimal own ttl (omega arith) in
@@ -67,12 +68,18 @@ shaped_back at r h =
 data_back : (r : Record) → IsZoneRecord r → Reads r.rdata
 data_back r h = reads r.rdata h.typed h.rtype h.no_meta h.few h.bytes
 
+-- the class IN by its name
+class_named : (c : ℕ) → c ≡ 1 → class_word c ≡ codes "IN"
+unfolding class_word
+class_named c h = ap class_word h
+
 record_back : (d : ZoneDraft) (line : ℕ) (r : Record) → IsZoneRecord r → entry_record d r.owner line (words_on line (resource_words r)) ≡ Ok r
 unfolding entry_record
 record_back d line r h =
     let back = data_back r h in
     rw (
-      head_back line r.ttl (words_on line (type_word r.rdata ∷ value_words r.rdata)) h.ttl,
+      class_named r.class h.class,
+      head_back line r.ttl (words_on line (bare_word (type_word r.rdata) ∷ value_words r.rdata)) h.ttl,
       back.rtype,
       back.values d.origin line line,
       le-leb (length (data_octets r.rdata)) 65535 h.few,
@@ -91,20 +98,21 @@ no_directive ([] ∷ ls) h = absurd (omega (arith, h.0))
 no_directive ((b ∷ l) ∷ ls) h =
     ap (λ u. nat_eq (slice_index u 0) 36) (append_assoc (escaped_octet b) (escaped_label l) (46 ∷ escaped_labels ls)) ∙ first_of_text b (escaped_label l ++ (46 ∷ escaped_labels ls))
 
-entry_back : (d : ZoneDraft) (line : ℕ) (r : Record) → IsZoneRecord r → after_entry d line false (words_on line (absolute_text r.owner ∷ resource_words r)) ≡ Ok (after_record d r.owner r)
+entry_back : (d : ZoneDraft) (line : ℕ) (r : Record) → IsZoneRecord r → after_entry d line false (words_on line (name_word r.owner ∷ resource_words r)) ≡ Ok (after_record d r.owner r)
 entry_back d line r h =
     rw (no_directive r.owner h.owner.labels, name_value d.origin r.owner line h.owner h.octets, record_back d line r h) refl
 
 -- ---- a line
 
-are_words : (r : Record) → IsZoneRecord r → AllByRecursion IsWord (absolute_text r.owner ∷ resource_words r)
+are_words : (r : Record) → IsZoneRecord r → AllByRecursion IsWord (name_word r.owner ∷ resource_words r)
 are_words r h =
     let back = data_back r h in
-    (name_word r.owner h.owner h.octets, (decimal_word r.ttl (omega (arith, h.ttl)), (word_of (codes "IN") (omega arith) refl, (back.word, back.words))))
+    let class : IsWord (bare_word (class_word r.class)) = rw (class_named r.class h.class) (word_of (codes "IN") (omega arith) refl) in
+    (is_name_word r.owner h.owner h.octets, (decimal_word r.ttl (omega (arith, h.ttl)), (class, (back.word, back.words))))
 
 record_line : (r : Record) (t : List ℕ) (line : ℕ) (d : ZoneDraft) → IsZoneRecord r → steps (scan_begins line) d (resource_text r ++ t) ≡ steps (scan_begins (line + 1)) (after_record d r.owner r) t
 record_line r t line d h =
-    line_is_entry (absolute_text r.owner) (resource_words r) t line d (are_words r h) ∙ ap (λ e. read_behind e line t) (entry_back d line r h)
+    line_is_entry (name_word r.owner) (resource_words r) t line d (are_words r h) ∙ ap (λ e. read_behind e line t) (entry_back d line r h)
 
 -- ---- records
 

@@ -5,8 +5,9 @@ pub use Rattle.dns_entries.specs.Reading
 pub use Rattle.dns_presentation.specs.Fields
 pub use Rattle.dns_presentation.specs.Names
 pub use Rattle.dns_presentation.specs.Types
-pub use Rattle.dns_presentation.specs.Values
+pub use Rattle.dns_word_values.specs.Values
+pub use Rattle.dns_record_text.specs.RecordText
 pub mod ZoneFile
-pub mod Written
 pub mod Lines
+pub mod ZoneRecords
 pub mod Pieces

@@ -5,10 +5,11 @@ ghost use Rattle.std.specs.List.{AllByRecursion};
 ghost use Rattle.dns_name.specs.Labels.{IsName};
 ghost use Rattle.dns_message.specs.declared.record.Record.{Record};
 ghost use Rattle.dns_entries.specs.Entries.{scan_begins};
-ghost use Rattle.dns_zone_file.specs.Lines.{HoldOctets, IsWord, words_line, read_behind, words_on};
+ghost use Rattle.dns_zone_file.specs.Lines.{HoldOctets, IsWord, read_behind, words_on};
 ghost use Rattle.dns_presentation.specs.Names.{name_of};
 ghost use Rattle.dns_zone_file.specs.Pieces.{ZoneReading, after_piece, finished_reading, reading_begun, then_piece};
-ghost use Rattle.dns_zone_file.specs.Written.{IsZoneRecord, absolute_text, zone_text};
+ghost use Rattle.dns_record_text.specs.RecordText.{TextWord, absolute_text, words_line, zone_text};
+ghost use Rattle.dns_zone_file.specs.ZoneRecords.{IsZoneRecord};
 ghost use Rattle.dns_zone_file.specs.ZoneFile.{ZoneDraft, steps, after_entry, zone_file};
 
 /// A name that is written reads as that name, wherever the origin is.
@@ -18,7 +19,7 @@ pub fn names_read_back()
 
 /// A line of words is one entry of these words, and what follows it is read behind that.
 pub fn lines_are_entries()
-    ensures { (w : List ℕ) (ws : List (List ℕ)) (t : List ℕ) (line : ℕ) (d : ZoneDraft) → AllByRecursion IsWord (w ∷ ws) → steps (scan_begins line) d (words_line w ws ++ t) ≡ read_behind (after_entry d line false (words_on line (w ∷ ws))) line t }
+    ensures { (w : TextWord) (ws : List TextWord) (t : List ℕ) (line : ℕ) (d : ZoneDraft) → AllByRecursion IsWord (w ∷ ws) → steps (scan_begins line) d (words_line w ws ++ t) ≡ read_behind (after_entry d line false (words_on line (w ∷ ws))) line t }
 {}
 
 /// What comes in pieces is read as what comes at once, and the records of all pieces are those of the whole text.

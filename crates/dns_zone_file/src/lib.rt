@@ -6,10 +6,9 @@ mod laws;
 mod read;
 mod reader;
 mod record;
-mod write;
 
 pub use dns_entries::{EntryReason, ZoneFileError};
+pub use dns_record_text::{write_record, write_zone};
 pub use laws::{a_zone_comes_in_pieces, a_zone_reads_back, lines_are_entries, names_read_back};
 pub use read::read_zone;
 pub use reader::ZoneReader;
-pub use write::{write_record, write_zone};

@@ -1,7 +1,7 @@
 //! Zone files that are read.
 
-ghost use Rattle.std.specs.Prelude.{◌≡◌, ◌+◌, ◌≤◌, ◌<◌, ◌^◌, IfOk, OnOk, length};
-ghost use Rattle.dns_entries.specs.Reading.{Gives};
+ghost use Rattle.std.specs.Prelude.{◌≡◌, ◌+◌, ◌≤◌, ◌<◌, ◌^◌, IfOk, IfSome, MatchOption, MatchResult, Ok, OnOk, length};
+ghost use Rattle.dns_entries.specs.Reading.{FailsAs, Gives};
 ghost use Rattle.dns_entries.specs.Entries.{scan_begins};
 ghost use Rattle.dns_zone_file.specs.ZoneFile.{AreShaped, draft_begun, by_entry, closed, step, steps, zone_file};
 
@@ -26,8 +26,30 @@ pub(crate) fn step(
         return Ok(());
     }
     draft.take_entry(alloc, scan.line, scan.blank, scan.words.as_slice())?;
-    *scan = Scan::begin(alloc, scan.line + 1);
+    let behind = scan.line + 1;
+    scan.restart(behind);
     Ok(())
+}
+
+/// The octets that go on with a word or a comment, and one behind them; gives those that are left, if there is one.
+#[tactic(auto, using(crate::proofs::Runs::run_ended, crate::proofs::Runs::run_behind, crate::proofs::Runs::run_refused))]
+fn run_and_step<'a>(
+    alloc: Global,
+    scan: &mut Scan,
+    draft: &mut ZoneDraft,
+    text: &'a [u8],
+) -> Result<Option<&'a [u8]>, ZoneFileError>
+    requires { scan.old.line + length text.now < 2 ^ 64 }
+    ensures value { MatchResult result (λ o. MatchOption o (steps scan.old draft.old text.now ≡ Ok (scan.new, draft.new)) (λ rest. steps scan.old draft.old text.now ≡ steps scan.new draft.new rest.now)) (λ e. FailsAs e (steps scan.old draft.old text.now)) }
+    ensures line { IfOk result (λ o. MatchOption o (scan.new.line ≤ scan.old.line + length text.now) (λ rest. scan.new.line + length rest.now ≤ scan.old.line + length text.now)) }
+    ensures fewer { IfOk result (λ o. IfSome o (λ rest. length rest.now < length text.now)) }
+{
+    let run = scan.take_run(text)?;
+    let [octet, behind @ ..] = &text[run..] else {
+        return Ok(None);
+    };
+    step(alloc, scan, draft, *octet)?;
+    Ok(Some(behind))
 }
 
 /// The octets of a text.
@@ -41,10 +63,13 @@ pub(crate) fn steps(
     ensures value { Gives (λ u. (scan.new, draft.new)) result (steps scan.old draft.old text.now) }
     ensures line { OnOk result (scan.new.line ≤ scan.old.line + length text.now) }
 {
-    for octet in text {
-        step(alloc, scan, draft, *octet)?;
+    let mut rest = text;
+    'octets: loop {
+        let Some(behind) = run_and_step(alloc, scan, draft, rest)? else {
+            return Ok(());
+        };
+        rest = behind;
     }
-    Ok(())
 }
 
 /// No parenthesis is open.

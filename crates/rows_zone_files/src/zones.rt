@@ -1,7 +1,8 @@
-//! The calls of dns_zone_file. In a text of a zone file, which is all words behind the origin, `|` stands for LF.
+//! The calls of dns_zone_file and dns_record_text. In a text of a zone file, which is all words behind the origin, `|` stands for LF.
 
-use dns_message::Record;
+use dns_message::{MessageRef, Record};
 use dns_name::NameRef;
+use dns_record_text::write_message;
 use dns_zone_file::{ZoneFileError, read_zone, write_zone};
 use rows_table::{Calls, Row, RowError};
 use std::alloc::Global;
@@ -14,6 +15,7 @@ impl Calls for Zones {
         match call {
             "read_zone" => said_records(row),
             "write_zone" => said_text(row),
+            "write_message" => said_message(row),
             _ => return Err(RowError::NoSuchCall),
         }
         Ok(())
@@ -92,14 +94,29 @@ fn said_written(row: &mut Row<'_>, records: &[Record]) {
     match write_zone(row.alloc(), records) {
         Ok(written) => {
             reads_back(row, records, written.as_slice());
-            let line = exchanged(row, written.as_slice(), b'\n', b'|');
-            match str::from_utf8(line.as_slice()) {
-                Ok(text) => row.say(text),
-                Err(_) => row.fail(RowError::OutOfForm),
-            }
+            said_lines(row, written.as_slice());
         }
         Err(_) => row.fail(RowError::OutOfMemory),
     }
+}
+
+/// Says lines, with `|` for LF.
+fn said_lines(row: &mut Row<'_>, lines: &[u8]) {
+    let line = exchanged(row, lines, b'\n', b'|');
+    match str::from_utf8(line.as_slice()) {
+        Ok(text) => row.say(text),
+        Err(_) => row.fail(RowError::OutOfForm),
+    }
+}
+
+/// The text of a message, with `|` for LF.
+fn said_message(row: &mut Row<'_>) {
+    let Ok(message) = MessageRef::from_slice(row.octets()) else {
+        return row.fail(RowError::OutOfForm);
+    };
+    let mut text = Vec::new(row.alloc());
+    row.keep(write_message(row.alloc(), &mut text, &message));
+    said_lines(row, text.as_slice());
 }
 
 /// Says whether a text reads as records below the root.

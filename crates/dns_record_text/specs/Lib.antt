@@ -1,0 +1,3 @@
+pub use Rattle.dns_message.specs.Records
+pub mod RecordText
+pub mod MessageText
