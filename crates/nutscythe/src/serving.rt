@@ -13,23 +13,16 @@ use dns_server::{
     WithoutMeta, Wrapped, serve_host,
 };
 use dns_service::Service;
-use dns_witness::{Witness, WitnessAccept, WitnessClock, WitnessSock, WitnessSpawner};
 use std::alloc::Global;
 use std::net::Net;
 use std::sync::{Arc, Wait};
 use std::thread::Threads;
 use std::{io, rt};
 
-/// The work of a connection over a witness of its link, by a service and a target in layers.
-type Connection<L, C, S, N> = ConnectionWork<
-    Witness<L>,
-    WitnessClock<C>,
-    Silent,
-    WithoutMeta<Wrapped<S, N>>,
+/// What serves the connections of a service and a target in layers, each in a thread of its own.
+type Connections<L, C, S, N> = ThreadSpawner<
+    ConnectionWork<L, C, Silent, WithoutMeta<Wrapped<S, N>>>,
 >;
-
-/// What serves these connections, each in a thread of its own.
-type Connections<L, C, S, N> = WitnessSpawner<ThreadSpawner<Connection<L, C, S, N>>>;
 
 /// What is served, in the layers of the settings: a service, and what is told of changed zones; and after how many connections and
 /// datagrams that ends.
@@ -106,7 +99,7 @@ where
     status
 }
 
-/// The same by a book of the settings.
+/// Opens a book of the settings, and serves over the accept object, the socket and the clock of `machine`.
 fn serve_machine<
     R: Threads + Wait + Copy + Send + Sync + 'static,
     A: AsyncAccept + Drop,
@@ -129,8 +122,7 @@ where
     }
 }
 
-/// Serves over sockets that are open, with a thread for each connection. Each is served over a witness, so that it is known what went
-/// through it.
+/// Serves over sockets that are open, with a thread for each connection.
 fn serve_over<
     R: Threads + Wait + Copy + Send + Sync + 'static,
     A: AsyncAccept + Drop,
@@ -146,11 +138,11 @@ where
     N::Future: Send,
     requires { S.can_call planned.service }
 {
-    let spawner: Connections<A::Link, C, S, N> = WitnessSpawner::new(ThreadSpawner::new(alloc));
+    let spawner: Connections<A::Link, C, S, N> = ThreadSpawner::new(alloc);
     let machine = Host {
-        accept: WitnessAccept::new(accept),
-        sock: WitnessSock::new(sock),
-        clock: WitnessClock::new(clock),
+        accept,
+        sock,
+        clock,
         spawner,
         journal: Silent::new(),
     };
