@@ -1,2 +1,1 @@
-pub mod Hostings
 pub mod Lawful

@@ -1,3 +1,2 @@
 pub mod DatagramLaw
-pub mod Hosts
 pub mod Law

@@ -4,8 +4,6 @@
 
 mod connections;
 mod datagrams;
-mod hosts;
 
 pub use connections::{every_connection_kept_to_the_rules, serve_connection_over};
 pub use datagrams::{every_datagram_kept_to_the_rules, serve_datagrams_over};
-pub use hosts::serve_host_over;
