@@ -70,10 +70,11 @@ pub struct Word {
     pub octets: WordText,
 }
 
-/// Words in their order.
+/// Words in their order, and texts of earlier words, whose room those to come take.
 #[derive(Drop)]
 pub struct WordList {
     words: Vec<Word>,
+    spare: Vec<WordText>,
 }
 
 impl Model for WordList {
@@ -91,6 +92,7 @@ impl WordList {
     {
         WordList {
             words: Vec::new(alloc),
+            spare: Vec::new(alloc),
         }
     }
 
@@ -107,9 +109,31 @@ impl WordList {
         Ok(())
     }
 
+    /// An empty text.
+    pub fn spare_text(&mut self, alloc: Global) -> WordText
+        ensures text { result ≡ [] }
+        ensures words { self.new ≡ self.old }
+    {
+        match self.spare.pop() {
+            Some(mut text) => {
+                text.clear();
+                text
+            }
+            None => WordText::new(alloc),
+        }
+    }
+
+    /// No word is left.
     pub fn clear(&mut self)
         ensures { self.new ≡ [] }
     {
-        self.words.clear();
+        'words: while let Some(word) = self.words.pop() {
+            let Word {
+                line: _,
+                quoted: _,
+                octets,
+            } = word;
+            let _ = self.spare.push(octets);
+        }
     }
 }

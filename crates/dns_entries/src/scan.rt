@@ -134,7 +134,8 @@ impl Scan {
         ensures line { self.new.line ≡ self.old.line }
         ensures value { OnOk result (self.new ≡ ended quoted self.old) }
     {
-        let octets = mem::replace(&mut self.word, WordText::new(alloc));
+        let fresh = self.words.spare_text(alloc);
+        let octets = mem::replace(&mut self.word, fresh);
         let line = self.line;
         self.words.push(Word {
             line,

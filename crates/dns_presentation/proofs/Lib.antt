@@ -1,1 +1,3 @@
+mod Keys
+mod PlainLabels
 mod Tests

@@ -1,5 +1,7 @@
 -- A name of a zone file (RFC 1035, section 5.1): `@` is the origin, a final dot ends an absolute name, and another stands below the origin.
-use Rattle.std.specs.Prelude.{ℕ, Bool, true, false, not, ◌&&◌, List, [], ◌∷◌, nat_eq, if◌then◌else◌, Option, Some, None, Result, Ok, Err, codes}
+use Rattle.std.specs.Prelude.{ℕ, Bool, true, false, not, ◌&&◌, ◌||◌, List, [], ◌∷◌, length, nat_eq, nat_lt, if◌then◌else◌, Option, Some, None, Result, Ok, Err, codes}
+use Rattle.std.specs.Int.{is_in_range}
+use Rattle.std.specs.List.{list_all}
 use Rattle.std.specs.Str.{bytes_eq}
 use Rattle.dns_name.specs.FromText.{text_name}
 use Rattle.dns_name.specs.Names.{name_under}
@@ -42,3 +44,12 @@ name_of origin w =
 
 unfoldable pub name_in : List (List ℕ) → Word → LineRead (List (List ℕ))
 name_in origin w = bare w >>= λ o. at_line w.line (name_of origin o)
+
+-- ---- a name of one label, as most are
+
+-- an octet that stands for itself in a label
+abbrev pub stands_alone : ℕ → Bool
+stands_alone c = is_in_range 33 126 c && not (nat_eq c 46 || nat_eq c 92)
+
+abbrev pub is_plain_label : List ℕ → Bool
+is_plain_label w = (nat_lt 0 (length w) && nat_lt (length w) 64) && list_all stands_alone w

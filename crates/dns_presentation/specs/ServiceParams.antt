@@ -1,6 +1,6 @@
--- Service parameters (RFC 9460, sections 2.1 and 2.2), which have to rise by the numbers of their keys.
-use Rattle.std.specs.Prelude.{ℕ, ◌+◌, Bool, true, false, List, [], ◌∷◌, ◌++◌, length, take, drop, nat_eq, nat_le, nat_lt, if◌then◌else◌, Option, Some, None, Result, Ok, Err, codes}
-use Rattle.std.specs.List.{position_or_len}
+-- Service parameters (RFC 9460, sections 2.1 and 2.2): in any order as they are read, by the numbers of their keys as octets.
+use Rattle.std.specs.Prelude.{ℕ, ◌+◌, ◌*◌, Bool, true, false, not, ◌&&◌, List, [], ◌∷◌, ◌++◌, length, take, drop, insert, nat_eq, nat_le, nat_lt, if◌then◌else◌, Option, Some, None, Result, Ok, Err, codes}
+use Rattle.std.specs.List.{flat_map, list_any, position_or_len}
 use Rattle.std.specs.Str.{bytes_eq}
 use Rattle.base64.specs.GeneralPurpose.{decode_of as base64_of}
 use Rattle.base64.specs.Engines.{standard}
@@ -9,9 +9,9 @@ use Rattle.dns_entries.specs.Reading.{LineRead, ◌>>=◌, some_or, unless_at}
 use Rattle.dns_presentation.specs.Strings.{ok, string_in}
 use Rattle.dns_word_values.specs.Values.{◌>>?◌, long_address, number_below, quad, string_octets}
 use Rattle.dns_entries.specs.declared.entry.Word.{Word}
-use Rattle.dns_entries.specs.declared.reason.EntryReason.TheVariants.{Escape, Length, Order, Parameter, Quoted}
-use Rattle.dns_presentation.specs.declared.service_params.Item.{Item}
-use Rattle.dns_presentation.specs.declared.service_params.Item.TheVariants.{Key, Protocol, Short, Long}
+use Rattle.dns_entries.specs.declared.reason.EntryReason.TheVariants.{Escape, Length, Parameter, Quoted, Repeated}
+use Rattle.dns_presentation.specs.declared.param_values.Item.{Item}
+use Rattle.dns_presentation.specs.declared.param_values.Item.TheVariants.{Key, Protocol, Short, Long}
 
 -- a key by its name, or by its number behind `key` (RFC 9460, section 14.3.2)
 abbrev pub numbered_key : List ℕ → Option ℕ
@@ -71,10 +71,20 @@ no_octets v = if nat_eq (length v) 0 then Some [] else None
 abbrev pub port_octets : List ℕ → Option (List ℕ)
 port_octets v = number_below 65536 v >>? λ n. Some (two n)
 
+-- keys of two octets, each above the one before it, and the first above another (RFC 9460, section 8)
+abbrev pub keys_rise : ℕ → List ℕ → Bool
+keys_rise last [] = true
+keys_rise last (a ∷ []) = false
+keys_rise last (a ∷ b ∷ os) = nat_lt last (256 * a + b) && keys_rise (256 * a + b) os
+
+-- the keys that a client must know, of which `mandatory` itself is none
+abbrev pub mandatory_octets : List ℕ → Option (List ℕ)
+mandatory_octets v = items_of Key v >>? λ o. if keys_rise 0 o then Some o else None
+
 -- the value of a key
 abbrev pub param_value : ℕ → List ℕ → Option (List ℕ)
 param_value key v =
-    if nat_eq key 0 then items_of Key v
+    if nat_eq key 0 then mandatory_octets v
     else if nat_eq key 1 then items_of Protocol v
     else if nat_eq key 2 then no_octets v
     else if nat_eq key 3 then port_octets v
@@ -86,29 +96,39 @@ param_value key v =
 
 -- ---- words
 
--- The octets so far, the key of the last parameter, and the key of one whose word ends in `=`.
-pub record Params : Type 0 where
+-- A parameter: its key, and its octets, which are the key, the length of the value and the value.
+pub record Param : Type 0 where
+  pub key : ℕ
   pub octets : List ℕ
-  pub last : Option ℕ
+
+abbrev pub param_of : ℕ → List ℕ → Param
+param_of key d = record { key = key; octets = two key ++ (two (length d) ++ d) }
+
+-- The parameters so far, by their keys, and the key of one whose word ends in `=`.
+pub record Params : Type 0 where
+  pub list : List Param
   pub opened : Option ℕ
 
 abbrev pub no_params : Params
-no_params = record { octets = []; last = None; opened = None }
+no_params = record { list = []; opened = None }
 
-abbrev pub rises : Option ℕ → ℕ → Bool
-rises None key = true
-rises (Some last) key = nat_lt last key
+abbrev pub has_key : ℕ → List Param → Bool
+has_key key ps = list_any (λ p. nat_eq p.key key) ps
 
--- one more, as its key, its length and its value
-abbrev pub param_pushed : Params → ℕ → List ℕ → Params
-param_pushed p key d = record { octets = p.octets ++ (two key ++ (two (length d) ++ d)); last = Some key; opened = None }
+-- before the first of a larger key
+abbrev pub place_of : ℕ → List Param → ℕ
+place_of key ps = position_or_len (λ p. nat_lt key p.key) ps
 
+abbrev pub with_value : Params → ℕ → List ℕ → Params
+with_value p key d = record { list = insert p.list (place_of key p.list) (param_of key d); opened = None }
+
+-- one more, whose key must be none of those so far
 unfoldable pub with_param : ℕ → Params → ℕ → List ℕ → LineRead Params
 with_param line p key v = do
-  _ ← unless_at line Order (rises p.last key)
+  _ ← unless_at line Repeated (not (has_key key p.list))
   d ← some_or line Parameter (param_value key v)
   _ ← unless_at line Length (nat_le (length d) 65535)
-  Ok (param_pushed p key d)
+  Ok (with_value p key d)
 
 -- a key that no value in quotes follows has none
 abbrev pub param_ended_by : ℕ → Params → Option ℕ → LineRead Params
@@ -144,4 +164,4 @@ params_after p [] = Ok p
 params_after p (w ∷ ws) = one_param p w >>= λ q. params_after q ws
 
 abbrev pub params_octets : ℕ → List Word → LineRead (List ℕ)
-params_octets line ws = params_after no_params ws >>= λ p. param_ended line p >>= λ q. Ok q.octets
+params_octets line ws = params_after no_params ws >>= λ p. param_ended line p >>= λ q. Ok (flat_map (λ x. x.octets) q.list)

@@ -4,6 +4,7 @@
 
 mod fields;
 mod names;
+mod param_values;
 mod rdata;
 mod service_params;
 mod types;

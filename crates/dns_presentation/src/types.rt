@@ -3,7 +3,7 @@
 ghost use Rattle.std.specs.Prelude.{◌≡◌, ◌∷◌, [], IfSome, ◌<◌, map, option_map, codes, take};
 ghost use Rattle.std.specs.Char.{to_ascii_lowercase};
 ghost use Rattle.std.specs.Str.{bytes_eq};
-ghost use Rattle.dns_presentation.specs.Types.{algorithm, algorithm_mnemonic, class_of, is_meta, layout_of, mnemonic, rare_layout, rare_mnemonic, spells, type_of, unless_meta};
+ghost use Rattle.dns_presentation.specs.Types.{algorithm, algorithm_mnemonic, class_of, holds_one_name, is_meta, layout_of, mnemonic, rare_layout, rare_mnemonic, spells, type_of, unless_meta};
 
 use dns_word_values::decimal;
 
@@ -210,14 +210,23 @@ pub fn class_of(word: &[u8]) -> Option<bool>
     None
 }
 
+/// Whether the data of a type is one name.
+fn holds_one_name(rtype: u16) -> bool
+    ensures { result ≡ holds_one_name rtype }
+{
+    matches!(rtype, 2..=5 | 7..=9 | 12 | 39)
+}
+
 /// What stands in the data of a type.
 pub(crate) fn layout_of(rtype: u16) -> Option<(&'static [Field], Rest)>
     ensures { option_map (λ l. (l.0.now, l.1)) result ≡ layout_of rtype }
 {
+    if holds_one_name(rtype) {
+        return Some((&[Field::Host], Rest::Nothing));
+    }
     let (fields, rest): (&'static [Field], Rest) = match rtype {
         1 => (&[Field::Quad], Rest::Nothing),
         28 => (&[Field::LongAddress], Rest::Nothing),
-        2..=5 | 7..=9 | 12 | 39 => (&[Field::Host], Rest::Nothing),
         6 => (
             &[
                 Field::Host,
@@ -238,10 +247,7 @@ pub(crate) fn layout_of(rtype: u16) -> Option<(&'static [Field], Rest)>
         ),
         16 | 99 => (&[], Rest::Strings),
         257 => (&[Field::Octet, Field::Tag], Rest::Value),
-        43 | 59 => (
-            &[Field::Short, Field::Algorithm, Field::Octet],
-            Rest::Hex,
-        ),
+        43 | 59 => (&[Field::Short, Field::Algorithm, Field::Octet], Rest::Hex),
         44 => (&[Field::Octet, Field::Octet], Rest::Hex),
         52 | 53 => (&[Field::Octet, Field::Octet, Field::Octet], Rest::Hex),
         48 | 60 => (
