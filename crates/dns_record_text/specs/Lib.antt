@@ -1,3 +1,2 @@
 pub use Rattle.dns_message.specs.Records
 pub mod RecordText
-pub mod MessageText

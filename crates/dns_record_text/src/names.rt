@@ -53,7 +53,7 @@ fn push_labels(target: &mut Vec<u8>, mut labels: Labels<'_>) -> Result<(), OutOf
 }
 
 /// Appends an absolute name.
-pub(crate) fn push_name(target: &mut Vec<u8>, name: &Name) -> Result<(), OutOfMemory>
+pub fn push_name(target: &mut Vec<u8>, name: &Name) -> Result<(), OutOfMemory>
     ensures { OnOk result (target.new.items ≡ target.old.items ++ absolute_text name.now) }
 {
     if name.label_count() == 1 {

@@ -7,7 +7,7 @@ use dns_name::OutOfMemory;
 use itoa::Buffer;
 
 /// Appends octets.
-pub(crate) fn push(target: &mut Vec<u8>, octets: &[u8]) -> Result<(), OutOfMemory>
+pub fn push(target: &mut Vec<u8>, octets: &[u8]) -> Result<(), OutOfMemory>
     ensures { OnOk result (target.new.items ≡ target.old.items ++ octets.now) }
 {
     target.extend_from_slice(octets)?;
@@ -15,7 +15,7 @@ pub(crate) fn push(target: &mut Vec<u8>, octets: &[u8]) -> Result<(), OutOfMemor
 }
 
 /// Appends a number in decimal.
-pub(crate) fn push_number(target: &mut Vec<u8>, number: u64) -> Result<(), OutOfMemory>
+pub fn push_number(target: &mut Vec<u8>, number: u64) -> Result<(), OutOfMemory>
     ensures { OnOk result (target.new.items ≡ target.old.items ++ decimal number) }
 {
     let mut buffer = Buffer::new();

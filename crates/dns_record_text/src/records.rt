@@ -12,11 +12,7 @@ use std::alloc::Global;
 
 /// Appends a class behind a space.
 #[tactic(auto, unfolding(crate::specs::RecordText::class_word))]
-pub(crate) fn push_class(
-    alloc: Global,
-    target: &mut Vec<u8>,
-    class: Class,
-) -> Result<(), OutOfMemory>
+pub fn push_class(alloc: Global, target: &mut Vec<u8>, class: Class) -> Result<(), OutOfMemory>
     ensures { OnOk result (target.new.items ≡ target.old.items ++ (32 ∷ class_word class)) }
 {
     if class.to_int() == 1 {

@@ -1,7 +1,7 @@
 //! Strings in quotes.
 
 ghost use Rattle.std.specs.Prelude.{◌≡◌, ◌-◌, ◌++◌, ◌∷◌, [], IfOk, OnOk, nat_eq, if◌then◌else◌};
-ghost use Rattle.dns_record_text.specs.RecordText.{behind_spaces, end_strings, quoted_octet, stands_in_quotes, string_octet_text, strings_on, text_words};
+ghost use Rattle.dns_record_text.specs.RecordText.{behind_spaces, end_strings, quoted_octet, stands_in_quotes, string_octet_text, string_words, strings_on, text_words};
 
 use crate::octets::push;
 use crate::rdata::push_octet_words;
@@ -33,17 +33,23 @@ fn push_quoted_octet(target: &mut Vec<u8>, octet: u8) -> Result<(), OutOfMemory>
     )
 }
 
+/// How many octets are left of a string behind an octet: of one with so many left, or the length of another.
+fn left_behind(left: u8, octet: u8) -> u8
+    ensures { result ≡ (if nat_eq left 0 then octet else left - 1) }
+{
+    if left == 0 {
+        return octet;
+    }
+    left - 1
+}
+
 /// Whether octets end strings, of which the first has so many octets left.
 fn end_strings(length: u8, octets: &[u8]) -> bool
     ensures { result ≡ end_strings length octets.now }
 {
     let mut left = length;
     for octet in octets {
-        if left == 0 {
-            left = *octet;
-        } else {
-            left -= 1;
-        }
+        left = left_behind(left, *octet);
     }
     left == 0
 }
@@ -72,8 +78,16 @@ fn push_strings_on(target: &mut Vec<u8>, length: u8, octets: &[u8]) -> Result<()
     push(target, b"\"")
 }
 
-/// Appends strings, each behind a space, or other octets as octets.
+/// Appends strings, each behind a space, of which the first has this length.
 #[tactic(auto, using(crate::proofs::Appended::text_spaced, crate::proofs::Appended::regrouped))]
+fn push_strings(target: &mut Vec<u8>, length: u8, octets: &[u8]) -> Result<(), OutOfMemory>
+    ensures { OnOk result (target.new.items ≡ target.old.items ++ behind_spaces (string_words length [] octets.now)) }
+{
+    push(target, b" \"")?;
+    push_strings_on(target, length, octets)
+}
+
+/// Appends strings, each behind a space, or other octets as octets.
 pub(crate) fn push_text(
     alloc: Global,
     target: &mut Vec<u8>,
@@ -81,11 +95,11 @@ pub(crate) fn push_text(
 ) -> Result<(), OutOfMemory>
     ensures { OnOk result (target.new.items ≡ target.old.items ++ behind_spaces (text_words octets.now)) }
 {
-    match octets {
-        [length, behind @ ..] if end_strings(*length, behind) => {
-            push(target, b" \"")?;
-            push_strings_on(target, *length, behind)
-        }
-        _ => push_octet_words(alloc, target, octets),
+    let [length, behind @ ..] = octets else {
+        return push_octet_words(alloc, target, octets);
+    };
+    if end_strings(*length, behind) {
+        return push_strings(target, *length, behind);
     }
+    push_octet_words(alloc, target, octets)
 }

@@ -3,15 +3,13 @@
 ghost use Rattle.std.specs.Prelude.{◌≡◌, ◌++◌, ◌∷◌, OnOk, Ok, Err};
 ghost use Rattle.std.specs.List.{flat_map};
 ghost use Rattle.dns_message.specs.Sections.{counts_of, sections_of};
-ghost use Rattle.dns_record_text.specs.MessageText.{codes_text, counts_text, flag, flags_text, four_sections, header_text, message_text, opcode_word, question_item, question_text, questions_text, rcode_word, read_text, record_item, records_text, sections_text, title_text, type_name, unreadable};
+ghost use Rattle.dns_message_text.specs.MessageText.{codes_text, counts_text, flag, flags_text, four_sections, header_text, message_text, opcode_word, question_item, question_text, questions_text, rcode_word, read_text, record_item, records_text, sections_text, title_text, type_name, unreadable};
 
-use crate::names::push_name;
-use crate::octets::{push, push_number};
-use crate::records::{push_class, write_record};
 use dns_message::{
     Header, HeaderCounts, MessageRef, QuestionIter, QuestionRef, RecordIter, RecordRef, Sections,
 };
 use dns_name::{Opcode, OutOfMemory, ParseError, Rcode, Rtype};
+use dns_record_text::{push, push_class, push_name, push_number, write_record};
 use std::alloc::Global;
 
 /// Appends an opcode.
