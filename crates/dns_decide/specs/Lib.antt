@@ -1,0 +1,2 @@
+pub use Rattle.dns_middleware.specs.Wrapped
+pub mod Decided

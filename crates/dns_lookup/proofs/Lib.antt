@@ -1,0 +1,3 @@
+mod Outcomes
+mod Stepped
+mod LawsProved

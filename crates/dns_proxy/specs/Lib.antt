@@ -1,0 +1,7 @@
+pub use Rattle.dns_session.specs.After
+pub use Rattle.dns_session.specs.Datagrams
+pub use Rattle.dns_lookup.specs.Lookups
+pub mod Fronts
+pub mod Proxied
+pub mod Queries
+pub mod Places

@@ -1,0 +1,86 @@
+-- The places of a proxy: at each a query, or none.
+use Rattle.std.specs.Prelude.{◌≡◌, ◌≢◌, ◌≤◌, ℕ, List, [], Bool, true, false, Option, Some, None, length, slice_get, option_and_then, Result, Err}
+use Rattle.dns_base.specs.Msg.{Msg}
+use Rattle.dns_events.specs.Config.{Dgram}
+use Rattle.dns_service.specs.Answer.{Item}
+use Rattle.dns_service.specs.Req.{Req}
+use Rattle.dns_service.specs.declared.service.Polled.TheVariants.{Ready}
+use Rattle.dns_session.specs.Datagrams.{cut_datagram, datagrams_to}
+use Rattle.dns_forward.specs.Matching.{with_id}
+use Rattle.dns_route.specs.declared.send_request.SendError.{SendError}
+use Rattle.dns_route.specs.declared.send_request.SendError.TheVariants.{Unreachable}
+use Rattle.dns_lookup.specs.declared.lookup_event.LookupEvent.{LookupEvent}
+use Rattle.dns_lookup.specs.declared.lookup_event.UpstreamConfig.{UpstreamConfig}
+use Rattle.dns_proxy.specs.declared.query_event.ClientDatagram.{ClientDatagram}
+use Rattle.dns_proxy.specs.declared.query_event.QueryOutcome.{QueryOutcome}
+use Rattle.dns_proxy.specs.declared.query_event.QueryOutcome.TheVariants.{Nothing, Send, Connect, Reply}
+use Rattle.dns_proxy.specs.declared.query.Query.{Query}
+use Rattle.dns_proxy.specs.declared.proxy.Started.{Started}
+use Rattle.dns_proxy.specs.declared.proxy.Started.TheVariants.{Sent, Asks}
+use Rattle.dns_proxy.specs.Fronts.{Fronting}
+use Rattle.dns_proxy.specs.Proxied.{Asked, asked_for, outcome_after, sent_for, sent_over, with_event}
+use Rattle.dns_proxy.specs.Queries.{GoesBy, Stands, front_by, front_taken}
+
+-- the query at a place
+abbrev pub kept_at : {Q : Type 0} → ℕ → List (Option Q) → Option Q
+kept_at k qs = option_and_then (λ q. q) (slice_get qs k)
+
+-- each place has the query that it had
+abbrev pub IsSame : {Q : Type 0} → List (Option Q) → List (Option Q) → Type 0
+IsSame before after = (k : ℕ) → kept_at k after ≡ kept_at k before
+
+-- as many places as there may be are there, and none is free
+abbrev pub IsFull : {Q : Type 0} → ℕ → List (Option Q) → Type 0
+IsFull bound qs = (bound ≤ length qs) × ((k : ℕ) → slice_get qs k ≡ Some None → ⊥)
+
+abbrev pub ends : QueryOutcome → Bool
+ends (Reply o) = true
+ends Nothing = false
+ends (Send o) = false
+ends (Connect o) = false
+
+-- what stood before the upstreams is, behind an event of what is asked at a place, if anything is
+abbrev pub front_at : {F : Type 0} → (F → List ℕ → ℕ → Result (List ℕ) SendError → F) → Option Asked → LookupEvent → F → F
+front_at after_give None e front = front
+front_at after_give (Some a) e front = front_by after_give a.came front (outcome_after a e)
+
+module _ {R : Type 0} (rewriting : R → Msg → Msg) where
+  -- the query at a place stands for what is asked there
+  abbrev pub StandsAt : Option (Query R) → Option Asked → Type 0
+  StandsAt None None = Unit {0}
+  StandsAt None (Some a) = ⊥
+  StandsAt (Some q) None = ⊥
+  StandsAt (Some q) (Some a) = Stands rewriting q a
+
+  module _ (given : List ℕ → Result (List ℕ) SendError → Item) where
+    -- what an event at a place leads to, and what is kept there then
+    abbrev pub GoesAt : Option Asked → LookupEvent → QueryOutcome → Option (Query R) → Type 0
+    GoesAt None e t p = StandsAt p None × (t ≡ Nothing)
+    GoesAt (Some a) e t p = GoesBy given (with_event a e) (StandsAt p (Some (with_event a e))) (StandsAt p None) (outcome_after a e) t
+
+    module _ {F : Type 0} (after_give : F → List ℕ → ℕ → Result (List ℕ) SendError → F) where
+      -- a query whose upstream is sent these octets takes a place that was free, and no other changes; or, where none is free, its
+      -- client is sent what it is where no upstream can be reached
+      abbrev pub Enters : ℕ → Asked → List ℕ → F → List (Option (Query R)) → Started → F → List (Option (Query R)) → Type 0
+      Enters bound a octets front before (Sent o) new after = IsFull bound before × IsSame before after
+          × (datagrams_to a.came.client o ≡ sent_for given a.front a.dgram a.came (Ready (Err Unreachable)))
+          × (new ≡ after_give front (cut_datagram a.came.octets) a.came.secs (Err Unreachable))
+      Enters bound a octets front before (Asks place o) new after = (o ≡ octets) × (kept_at place before ≡ None)
+          × StandsAt (kept_at place after) (Some a) × ((k : ℕ) → k ≢ place → kept_at k after ≡ kept_at k before)
+          × (new ≡ front)
+
+      -- no upstream is asked, and the client is sent what it is whatever would be given
+      abbrev pub IsAnswered : Fronting → Dgram → ClientDatagram → F → List (Option (Query R)) → Started → F → List (Option (Query R)) → Type 0
+      IsAnswered f dgram c front before (Sent o) new after = IsSame before after × ((i : Item) → datagrams_to c.client o ≡ sent_over f dgram c i)
+          × (new ≡ front)
+      IsAnswered f dgram c front before (Asks place o) new after = ⊥
+
+      -- how a datagram starts, by the message that is asked for it, if one is
+      abbrev pub StartsBy : Option (List ℕ) → ℕ → Fronting → Dgram → ClientDatagram → UpstreamConfig → ℕ → F → List (Option (Query R)) → Started → F → List (Option (Query R)) → Type 0
+      StartsBy None bound f dgram c u id front before s new after = IsAnswered f dgram c front before s new after
+      StartsBy (Some m) bound f dgram c u id front before s new after =
+          Enters bound (record { front = f; dgram = dgram; came = c; upstream = u; message = m; id = id; events = [] }) (with_id id m) front before s new after
+
+      abbrev pub Starts : (F → Req (Unit {0}) → F) → ℕ → Fronting → Dgram → ClientDatagram → UpstreamConfig → ℕ → F → List (Option (Query R)) → Started → F → List (Option (Query R)) → Type 0
+      Starts after_take bound f dgram c u id front before s new after =
+          StartsBy (asked_for f dgram c) bound f dgram c u id (front_taken after_take dgram c front) before s new after

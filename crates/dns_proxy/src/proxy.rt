@@ -1,0 +1,186 @@
+//! All queries that are asked of upstreams, each at a place of its own.
+
+ghost use Rattle.std.specs.Prelude.{◌≡◌, ◌≢◌, ℕ, [], IfOk, MatchOption, None, OnErr, OnOk, Option, Some, slice_get};
+ghost use Rattle.dns_proxy.specs.Fronts.{fronting};
+ghost use Rattle.dns_proxy.specs.Places.{Enters, GoesAt, IsFull, IsSame, StandsAt, Starts, ends, front_at, kept_at};
+ghost use Rattle.dns_proxy.specs.Proxied.{Asked};
+ghost use Rattle.dns_proxy.specs.Queries.{Stands};
+
+use crate::beginning::{BegunQuery, begin_query};
+use crate::front::Front;
+use crate::query::Query;
+use crate::query_event::{ClientDatagram, QueryOutcome};
+use dns_lookup::{LookupEvent, UpstreamConfig};
+use dns_route::SendError;
+use dns_service::{DgramConfig, Octets, OutOfMemory};
+use std::alloc::Global;
+
+/// How a client's datagram starts.
+#[derive(Drop)]
+pub enum Started {
+    /// Its client is to be sent this, where there is something, and no upstream is asked.
+    Sent(Option<Octets>),
+    /// The upstream is to be sent this from the port of a place, which is to be opened at random.
+    Asks { place: usize, octets: Octets },
+}
+
+/// Queries at places, of which there are so many at most. Each place has a port of its own, so that no query hears what comes to
+/// another.
+#[derive(Drop)]
+pub struct Proxy<F: Front> {
+    front: F,
+    config: DgramConfig,
+    bound: usize,
+    places: Vec<Option<Query<F::Rule>>>,
+}
+
+/// Whether a query has ended.
+fn ends(outcome: &QueryOutcome) -> bool
+    ensures { result ≡ ends outcome.now }
+{
+    matches!(outcome, QueryOutcome::Reply(_))
+}
+
+/// An event of what is kept at a place.
+fn step_place<F: Front>(
+    alloc: Global,
+    front: &mut F,
+    place: &mut Option<Query<F::Rule>>,
+    event: &LookupEvent,
+) -> Result<QueryOutcome, OutOfMemory>
+    ensures goes { IfOk result (λ t. (a : Option Asked) → StandsAt F.Rule.rewriting place.old a
+        → GoesAt F.Rule.rewriting F.given a event.now t place.new) }
+    ensures front { OnOk result ((a : Option Asked) → StandsAt F.Rule.rewriting place.old a
+        → front.new ≡ front_at F.after_give a event.now front.old) }
+{
+    let outcome = match place {
+        None => return Ok(QueryOutcome::Nothing),
+        Some(query) => query.step(alloc, front, event)?,
+    };
+    if ends(&outcome) {
+        *place = None;
+        return Ok(outcome);
+    }
+    Ok(outcome)
+}
+
+impl<F: Front> Proxy<F> {
+    /// Without queries, of which there may be so many.
+    pub fn new(alloc: Global, front: F, config: DgramConfig, bound: usize) -> Self
+        ensures front { result.front ≡ front }
+        ensures config { result.config ≡ config }
+        ensures bound { result.bound ≡ bound }
+        ensures empty { result.places.items ≡ [] }
+    {
+        Proxy {
+            front,
+            config,
+            bound,
+            places: Vec::new(alloc),
+        }
+    }
+
+    /// An event of the query at a place. It is nothing to the others. Where it finds no memory, nothing is kept of the query.
+    pub fn step(
+        &mut self,
+        alloc: Global,
+        place: usize,
+        event: &LookupEvent,
+    ) -> Result<QueryOutcome, OutOfMemory>
+        ensures here { IfOk result (λ t. (a : Option Asked) → StandsAt F.Rule.rewriting (kept_at place self.old.places.items) a
+            → GoesAt F.Rule.rewriting F.given a event.now t (kept_at place self.new.places.items)) }
+        ensures front { OnOk result ((a : Option Asked) → StandsAt F.Rule.rewriting (kept_at place self.old.places.items) a
+            → self.new.front ≡ front_at F.after_give a event.now self.old.front) }
+        ensures others { (k : ℕ) → k ≢ place → kept_at k self.new.places.items ≡ kept_at k self.old.places.items }
+        ensures lost { OnErr result (kept_at place self.new.places.items ≡ None) }
+        ensures rest { self.new ≡ record self.old { front = self.new.front; places = self.new.places } }
+    {
+        if place >= self.places.len() {
+            return Ok(QueryOutcome::Nothing);
+        }
+        match step_place(alloc, &mut self.front, &mut self.places[place], event) {
+            Ok(outcome) => Ok(outcome),
+            Err(error) => {
+                self.places[place] = None;
+                Err(error)
+            }
+        }
+    }
+
+    /// A place where no query is, if there is one: a new one where all are taken and there may be more.
+    fn free_place(&mut self) -> Result<Option<usize>, OutOfMemory>
+        ensures free { IfOk result (λ p. MatchOption p (IsFull self.old.bound self.old.places.items)
+            (λ k. slice_get self.new.places.items k ≡ Some None)) }
+        ensures kept { (k : ℕ) → kept_at k self.new.places.items ≡ kept_at k self.old.places.items }
+        ensures rest { self.new ≡ record self.old { places = self.new.places } }
+    {
+        if let Some(place) = self.places.iter().position(|place| place.is_none()) {
+            return Ok(Some(place));
+        }
+        if self.places.len() < self.bound {
+            self.places.push(None)?;
+            return Ok(Some(self.places.len() - 1));
+        }
+        Ok(None)
+    }
+
+    /// A query takes a place that is free.
+    fn put(&mut self, place: usize, query: Query<F::Rule>)
+        requires { slice_get self.old.places.items place ≡ Some None }
+        ensures here { kept_at place self.new.places.items ≡ Some query }
+        ensures others { (k : ℕ) → k ≢ place → kept_at k self.new.places.items ≡ kept_at k self.old.places.items }
+        ensures rest { self.new ≡ record self.old { places = self.new.places } }
+    {
+        self.places[place] = Some(query);
+    }
+
+    /// A query takes a place, where there is room, and else its client is sent why not.
+    fn enter(
+        &mut self,
+        alloc: Global,
+        query: Query<F::Rule>,
+        octets: Octets,
+    ) -> Result<Started, OutOfMemory>
+        ensures entered { IfOk result (λ s. (a : Asked) → Stands F.Rule.rewriting query a
+            → Enters F.Rule.rewriting F.given F.after_give self.old.bound a octets
+            self.old.front self.old.places.items s self.new.front self.new.places.items) }
+        ensures err { OnErr result (IsSame self.old.places.items self.new.places.items) }
+        ensures rest { self.new ≡ record self.old { front = self.new.front; places = self.new.places } }
+    {
+        match self.free_place() {
+            Ok(Some(place)) => {
+                self.put(place, query);
+                Ok(Started::Asks { place, octets })
+            }
+            Ok(None) => {
+                let octets = query.reply(alloc, &mut self.front, Err(SendError::Unreachable))?;
+                Ok(Started::Sent(octets))
+            }
+            Err(error) => Err(error),
+        }
+    }
+
+    /// Starts with a client's datagram, for which an upstream is asked under an identifier, which is to be picked at random,
+    /// where it makes a request that is passed on. Where there is no room for one query more, its client is answered as where
+    /// no upstream can be reached.
+    pub fn begin(
+        &mut self,
+        alloc: Global,
+        came: &ClientDatagram,
+        upstream: UpstreamConfig,
+        id: u16,
+    ) -> Result<Started, OutOfMemory>
+        ensures starts { let f = fronting (F.over self.old.front) (F.hint self.old.front) (F.asks self.old.front) in
+            IfOk result (λ s. Starts F.Rule.rewriting F.given F.after_give F.after_take self.old.bound f
+            self.old.config came.now upstream id
+            self.old.front self.old.places.items s self.new.front self.new.places.items) }
+        ensures err { OnErr result (IsSame self.old.places.items self.new.places.items) }
+        ensures rest { self.new ≡ record self.old { front = self.new.front; places = self.new.places } }
+    {
+        match begin_query(alloc, &mut self.front, &self.config, came, upstream, id) {
+            Ok(BegunQuery::Sent(octets)) => Ok(Started::Sent(octets)),
+            Ok(BegunQuery::Asks(query, octets)) => self.enter(alloc, query, octets),
+            Err(error) => Err(error),
+        }
+    }
+}
