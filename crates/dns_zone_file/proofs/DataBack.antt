@@ -1,5 +1,5 @@
 -- Data that is written in its own form reads as that data.
-use Rattle.std.proofs.Common.{◌≡◌, ℕ, zero, suc, ◌+◌, ◌*◌, ◌/◌, ◌%◌, ◌^◌, ◌≤◌, ◌<◌, ◌⊎◌, inl, inr, List, [], ◌∷◌, ◌++◌, get_or, length, drop, true, false, true≢false, Some, None, Ok, All, refl, ap, sym, ◌∙◌, arith, append-nil, append_assoc, length-append}
+use Rattle.std.proofs.Common.{◌≡◌, ℕ, zero, suc, ◌+◌, ◌*◌, ◌/◌, ◌%◌, ◌^◌, ◌≤◌, ◌<◌, ◌⊎◌, inl, inr, List, [], ◌∷◌, ◌++◌, get_or, length, drop, take, true, false, true≢false, Some, None, Ok, All, refl, ap, sym, ◌∙◌, arith, append-nil, append_assoc, length-append}
 use Rattle.std.specs.Prelude.{Bool, codes, decimal, nat_eq, slice_index, if◌then◌else◌}
 use Rattle.std.specs.List.{list_all, AllByRecursion}
 use Rattle.std.specs.Str.{bytes_eq}
@@ -22,14 +22,11 @@ use Rattle.dns_message.specs.Records.{IsLawful, data_octets, data_type, shape_of
 use Rattle.dns_message.specs.TypedData.{HasNames, IsTyped}
 use Rattle.dns_message.specs.declared.rdata.RecordData.{RecordData}
 use Rattle.dns_message.specs.declared.rdata.RecordData.TheVariants.{A, Aaaa, Named, Soa, Minfo, Mx, Srv, Opt, Unknown}
-use Rattle.dns_message.specs.declared.rdata.Shape.TheVariants.{OneName}
 use Rattle.dns_entries.specs.Reading.{◌>>=◌}
 use Rattle.dns_entries.specs.declared.entry.Word.{Word}
 use Rattle.dns_presentation.specs.Fields.{data_of, generic}
 use Rattle.dns_presentation.specs.Names.{is_absolute, name_in}
 use Rattle.dns_presentation.specs.Types.{is_meta, layout_of, type_of}
-use Rattle.dns_presentation.specs.declared.types.Field.TheVariants.{Host}
-use Rattle.dns_presentation.specs.declared.types.Rest.TheVariants.{Nothing}
 use Rattle.dns_word_values.specs.Values.{long_address, number_below, period, quad}
 use Rattle.dns_word_values.proofs.Addresses.{dotted_found, groups_found}
 use Rattle.dns_zone_file.specs.Lines.{AreOctets, HoldOctets, IsWord, goes_on, word_on, words_on}
@@ -121,11 +118,19 @@ quad_inner a b = list_all-from_AllPass is_inner (ipv4_text a) (All-weaker IsDigi
 longer : (x y : List ℕ) → 0 < length x → 0 < length (x ++ y)
 longer x y h = omega (arith, length-append x y)
 
+dotted_some : (a b c d : List ℕ) → 0 < length a → 0 < length ((((((a ++ (46 ∷ [])) ++ b) ++ (46 ∷ [])) ++ c) ++ (46 ∷ [])) ++ d)
+dotted_some a b c d h =
+    longer (((((a ++ (46 ∷ [])) ++ b) ++ (46 ∷ [])) ++ c) ++ (46 ∷ [])) d
+    (longer ((((a ++ (46 ∷ [])) ++ b) ++ (46 ∷ [])) ++ c) (46 ∷ [])
+    (longer (((a ++ (46 ∷ [])) ++ b) ++ (46 ∷ [])) c
+    (longer ((a ++ (46 ∷ [])) ++ b) (46 ∷ [])
+    (longer (a ++ (46 ∷ [])) b (longer a (46 ∷ []) h)))))
+
 quad_word : (a : List ℕ) → IsBytes a → IsWord (bare_word (ipv4_text a))
 quad_word a b =
     let low : get_or a 0 0 < 256 = b 0 in
     let first : 0 < length (decimal (get_or a 0 0)) = decimal_nonempty (get_or a 0 0) (omega arith) in
-    word_of (ipv4_text a) (longer (decimal (get_or a 0 0)) _ first) (inner_go (ipv4_text a) (quad_inner a b))
+    word_of (ipv4_text a) (dotted_some (decimal (get_or a 0 0)) (decimal (get_or a 1 0)) (decimal (get_or a 2 0)) (decimal (get_or a 3 0)) first) (inner_go (ipv4_text a) (quad_inner a b))
 
 quad_reads : (a : List ℕ) → length a ≡ 4 → IsBytes a → Reads (A a)
 unfolding data_of
@@ -185,7 +190,8 @@ octets_small (x ∷ s) h (suc (suc k)) = octets_small s (λ j. h (suc j)) k
 -- an address that maps an IPv4 address ends in it
 long_inner : (s : List ℕ) → AllSegments s → list_all is_inner (ipv6_text s) ≡ true
 unfolding ipv6_text
-long_inner s h = cond_both _ _ _ (λ w. list_all is_inner w ≡ true) (λ _. quad_inner (octets_of (drop 6 s)) (octets_small (drop 6 s) (AllSegments-drop 6 s h))) (λ _. groups_inner s h)
+long_inner s h =
+    cond_both (bytes_eq (take 6 s) (0 ∷ 0 ∷ 0 ∷ 0 ∷ 0 ∷ 65535 ∷ [])) (codes "::ffff:" ++ ipv4_text (octets_of (drop 6 s))) (hex_groups_text s) (λ w. list_all is_inner w ≡ true) (λ _. quad_inner (octets_of (drop 6 s)) (octets_small (drop 6 s) (AllSegments-drop 6 s h))) (λ _. groups_inner s h)
 
 some_long : (w o : List ℕ) → long_address w ≡ Some o → 0 < length w
 unfolding read_ipv6 read_segments read_segment read_number read_ipv4 read_octet
@@ -214,15 +220,15 @@ long_reads a l b =
 record NameType (t : ℕ) : Type 0 where
   reads : type_of (name_type t) ≡ Some t
   word : IsWord (bare_word (name_type t))
-  layout : layout_of t ≡ Some (Host ∷ [], Nothing)
+  layout : layout_of t ≡ layout_of 2
 
-by_number : (t : ℕ) → t < 65536 → is_meta t ≡ false → name_type t ≡ numbered_type t → layout_of t ≡ Some (Host ∷ [], Nothing) → NameType t
+by_number : (t : ℕ) → t < 65536 → is_meta t ≡ false → name_type t ≡ numbered_type t → layout_of t ≡ layout_of 2 → NameType t
 by_number t h m e l = record { reads = rw e (type_back t h m); word = rw e (numbered_word t h); layout = l }
 
-name_layout : (t : ℕ) → shape_of t ≡ OneName → layout_of t ≡ Some (Host ∷ [], Nothing)
+name_layout : (t : ℕ) → shape_of t ≡ shape_of 2 → layout_of t ≡ layout_of 2
 name_layout t h = grind (arith, nat_tests)
 
-named_type : (t : ℕ) → t < 65536 → is_meta t ≡ false → shape_of t ≡ OneName → NameType t
+named_type : (t : ℕ) → t < 65536 → is_meta t ≡ false → shape_of t ≡ shape_of 2 → NameType t
 named_type t h m s =
     let l = name_layout t s in
     elim (nat_eq t 2) as (λ q. nat_eq t 2 ≡ q → NameType t) [
@@ -239,7 +245,7 @@ named_type t h m s =
       ] refl
     ] refl
 
-named_reads : (t : ℕ) (n : List (List ℕ)) → t < 65536 → is_meta t ≡ false → shape_of t ≡ OneName → IsName n → HoldOctets n → Reads (Named t n)
+named_reads : (t : ℕ) (n : List (List ℕ)) → t < 65536 → is_meta t ≡ false → shape_of t ≡ shape_of 2 → IsName n → HoldOctets n → Reads (Named t n)
 unfolding data_of
 named_reads t n h m s k o =
     let y = named_type t h m s in
@@ -368,13 +374,13 @@ reads (Soa m r s f t e n) h low meta few b =
     let retries = bytes_behind (four f) (four t ++ (four e ++ four n)) refreshes in
     let expires = bytes_behind (four t) (four e ++ four n) retries in
     start_reads m r s.0 f t e n h.names.0 h.names.1 (names_hold m (bytes_front (spell m) _ b)) (names_hold r (bytes_front (spell r) _ one))
-    (four_small s.0 (bytes_front (four s.0) _ two_on)) (four_small f (bytes_front (four f) _ refreshes)) (four_small t (bytes_front (four t) _ retries)) (four_small e (bytes_front (four e) _ expires)) (four_small n (bytes_behind (four e) (four n) expires))
+    (four_small s.0 (bytes_front (four s.0) (four f ++ (four t ++ (four e ++ four n))) two_on)) (four_small f (bytes_front (four f) (four t ++ (four e ++ four n)) refreshes)) (four_small t (bytes_front (four t) (four e ++ four n) retries)) (four_small e (bytes_front (four e) (four n) expires)) (four_small n (bytes_behind (four e) (four n) expires))
 reads (Minfo a b) h t m few o =
     two_names_reads a b h.names.0 h.names.1 (names_hold a (bytes_front (spell a) (spell b) o)) (names_hold b (bytes_behind (spell a) (spell b) o))
 reads (Mx p n) h t m few b = exchange_reads p n (two_small p (bytes_front (two p) (spell n) b)) h.names (names_hold n (bytes_behind (two p) (spell n) b))
 reads (Srv p w o n) h t m few b =
     let first = bytes_behind (two p) (two w ++ (two o ++ spell n)) b in
     let second = bytes_behind (two w) (two o ++ spell n) first in
-    service_reads p w o n (two_small p (bytes_front (two p) _ b)) (two_small w (bytes_front (two w) _ first)) (two_small o (bytes_front (two o) (spell n) second)) h.names (names_hold n (bytes_behind (two o) (spell n) second))
+    service_reads p w o n (two_small p (bytes_front (two p) (two w ++ (two o ++ spell n)) b)) (two_small w (bytes_front (two w) (two o ++ spell n) first)) (two_small o (bytes_front (two o) (spell n) second)) h.names (names_hold n (bytes_behind (two o) (spell n) second))
 reads (Opt o) h t m few b = absurd (true≢false m)
 reads (Unknown t o) h low m few b = unknown_reads t o low m b few

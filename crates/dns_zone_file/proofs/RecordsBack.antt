@@ -16,7 +16,7 @@ use Rattle.hex.specs.Hex.{IsBytes, decode_of, encode_lower, is_hex_digit, lower_
 use Rattle.hex.proofs.HexLemmas.{decode_of-encode_lower, decode_of-ok, length-encode_with}
 use Rattle.dns_name.specs.Labels.{AreLabels, IsName}
 use Rattle.dns_message.specs.Records.{data_octets, data_type}
-use Rattle.dns_message.specs.Standing.{data_alone}
+use Rattle.dns_message.specs.Standing.{data_alone, data_at}
 use Rattle.dns_message.specs.declared.rdata.RecordData.{RecordData}
 use Rattle.dns_message.specs.declared.record.Record.{Record}
 use Rattle.dns_message.proofs.TypedWritten.{data_written}
@@ -60,7 +60,8 @@ made r h = ap (λ (c : ℕ). let x : Record = record { owner = r.owner; class = 
 shaped_back : (at : ℕ) (r : Record) → IsZoneRecord r → shaped_data at (data_type r.rdata) (data_octets r.rdata) ≡ Ok r.rdata
 shaped_back at r h =
     let o : List ℕ = data_octets r.rdata in
-    let read : data_alone (data_type r.rdata) o ≡ Ok r.rdata = data_written r.rdata o [] 0 h.typed (sym (append-nil o)) (omega arith) in
+    let n : length o ≡ 0 + length o = omega arith in
+    let read : data_alone (data_type r.rdata) o ≡ Ok r.rdata = ap (λ (k : ℕ). data_at (data_type r.rdata) o k 0) n ∙ data_written r.rdata o [] 0 h.typed (sym (append-nil o)) (omega arith) in
     rw (read, bytes_same o) refl
 
 -- ---- an entry

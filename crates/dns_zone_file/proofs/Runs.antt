@@ -1,5 +1,6 @@
 -- Octets that go on with a word or a comment, at once.
-use Rattle.std.proofs.Common.{◌≡◌, ℕ, ◌+◌, List, [], ◌∷◌, ◌++◌, Bool, true, false, Option, Ok, refl, ap, subst, sym, ◌∙◌, append-nil, append_assoc, drop, length}
+use Rattle.std.proofs.Common.{◌≡◌, ℕ, ◌+◌, List, [], ◌∷◌, ◌++◌, Bool, true, false, Option, Ok, refl, ap, subst, sym, ◌∙◌, append-nil, append_assoc, ◌-◌, ◌<◌, ◌≤◌, arith, drop, length, length-drop, slice_index_or, take}
+use Rattle.std.proofs.Math.Seq.{take-length}
 use Rattle.std.specs.Prelude.{◌||◌, not, nat_eq, if◌then◌else◌}
 use Rattle.std.proofs.lemmas.Bool.{or_parts}
 use Rattle.dns_entries.specs.Reading.{FailsAs, LineRead, ◌>>=◌}
@@ -89,3 +90,24 @@ pub run_refused : (f : ZoneFileError) (x y : Scan) (d : ZoneDraft) (text cs : Li
 run_refused f x y d text cs n c count taken left one =
     let e = run_left x y d text (c ∷ cs) n count taken left in
     subst (λ (r : LineRead (Scan × ZoneDraft)). FailsAs f r) (sym e) (refused_on f (step y d c) cs one)
+
+-- ---- what is left of a slice
+
+rest_of : (n : ℕ) (t : List ℕ) → take (length t - n) (drop n t) ≡ drop n t
+rest_of n t = ap (λ (k : ℕ). take k (drop n t)) (sym (length-drop n t)) ∙ take-length (drop n t)
+
+none_left : (x : List ℕ) → length x < 1 → x ≡ []
+none_left [] h = refl
+none_left (c ∷ x) h = absurd (omega arith)
+
+first_and_rest : (x : List ℕ) → 1 ≤ length x → x ≡ slice_index_or x 0 0 ∷ take (length x - 1) (drop 1 x)
+first_and_rest [] h = absurd (omega arith)
+first_and_rest (c ∷ x) h =
+    let n : length (c ∷ x) - 1 ≡ length x = omega arith in
+    ap (λ (t : List ℕ). c ∷ t) (sym (ap (λ (k : ℕ). take k x) n ∙ take-length x))
+
+pub nothing_left : (n : ℕ) (t : List ℕ) → length (take (length t - n) (drop n t)) < 1 → drop n t ≡ []
+nothing_left n t h = sym (rest_of n t) ∙ none_left (take (length t - n) (drop n t)) h
+
+pub octet_left : (n : ℕ) (t : List ℕ) → 1 ≤ length (take (length t - n) (drop n t)) → drop n t ≡ slice_index_or (take (length t - n) (drop n t)) 0 0 ∷ take (length (take (length t - n) (drop n t)) - 1) (drop 1 (take (length t - n) (drop n t)))
+octet_left n t h = sym (rest_of n t) ∙ first_and_rest (take (length t - n) (drop n t)) h

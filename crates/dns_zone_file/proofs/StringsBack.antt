@@ -9,17 +9,18 @@ use Rattle.hex.specs.Hex.{IsBytes}
 use Rattle.dns_entries.specs.Reading.{LineRead, ◌>>=◌, some_or}
 use Rattle.dns_entries.specs.declared.reason.EntryReason.TheVariants.{Escape as NotEscape}
 use Rattle.dns_presentation.specs.Fields.{behind_length, counted_string, data_of, more, strings_after}
-use Rattle.dns_word_values.specs.Values.{unescaped}
-use Rattle.dns_word_values.specs.declared.values.Escape.TheVariants.{Clear}
+use Rattle.dns_word_values.specs.Values.{string_octets, unescaped}
 use Rattle.dns_record_text.specs.RecordText.{TextWord, end_strings, octet_words, quoted_octet, quoted_word, stands_in_quotes, string_words, text_words}
 use Rattle.dns_zone_file.specs.Lines.{AreOctets, IsWord, goes_quoted, word_on, words_on}
 
 -- ---- an octet in quotes
 
--- what an octet's text does in front of others
-record Stands (c : ℕ) (t : List ℕ) : Type 0 where
-  reads : (octets more : List ℕ) → unescaped Clear octets (t ++ more) ≡ unescaped Clear (octets ++ c ∷ []) more
-  goes : (more : List ℕ) → goes_quoted false (t ++ more) ≡ goes_quoted false more
+-- what reads a string octet by octet, where no escape is open
+record IsReader {E : Type 0} (clear : E) (read : E → List ℕ → List ℕ → Option (List ℕ)) : Type 0 where
+  ends : (o : List ℕ) → read clear o [] ≡ Some o
+  plain : (o cs : List ℕ) (c : ℕ) → nat_eq c 92 ≡ false → read clear o (c ∷ cs) ≡ read clear (o ++ c ∷ []) cs
+  digits : (o cs : List ℕ) (x y z : ℕ) → is_ascii_digit x ≡ true → is_ascii_digit y ≡ true → is_ascii_digit z ≡ true → nat_lt (10 * (10 * (x - 48) + (y - 48)) + (z - 48)) 256 ≡ true
+      → read clear o (92 ∷ x ∷ y ∷ z ∷ cs) ≡ read clear (o ++ (10 * (10 * (x - 48) + (y - 48)) + (z - 48)) ∷ []) cs
 
 -- what a digit is, and isn't
 record IsInside (c : ℕ) : Type 0 where
@@ -31,54 +32,60 @@ record IsInside (c : ℕ) : Type 0 where
 inside : (c : ℕ) → 48 ≤ c → c ≤ 57 → IsInside c
 inside c a b = record { digit = grind (arith, nat_tests); backslash = grind (arith, nat_tests); quote = grind (arith, nat_tests); lf = grind (arith, nat_tests) }
 
-digits_read : (x y z : ℕ) (octets more : List ℕ) → is_ascii_digit x ≡ true → is_ascii_digit y ≡ true → is_ascii_digit z ≡ true → nat_lt (10 * (10 * (x - 48) + (y - 48)) + (z - 48)) 256 ≡ true
-    → unescaped Clear octets (92 ∷ x ∷ y ∷ z ∷ more) ≡ unescaped Clear (octets ++ (10 * (10 * (x - 48) + (y - 48)) + (z - 48)) ∷ []) more
-digits_read x y z octets more a b c d = rw (a, b, c, d) refl
+-- an octet that stands for itself
+record IsPlain (c : ℕ) : Type 0 where
+  backslash : nat_eq c 92 ≡ false
+  quote : nat_eq c 34 ≡ false
+  lf : nat_eq c 10 ≡ false
+
+plain_goes : (c : ℕ) (more : List ℕ) → IsPlain c → goes_quoted false (c ∷ more) ≡ goes_quoted false more
+plain_goes c more h = rw (h.backslash, h.quote, h.lf) refl
 
 digits_go : (x y z : ℕ) (more : List ℕ) → IsInside x → IsInside y → IsInside z → goes_quoted false (92 ∷ x ∷ y ∷ z ∷ more) ≡ goes_quoted false more
 digits_go x y z more a b c = rw (a.lf, b.backslash, b.quote, b.lf, c.backslash, c.quote, c.lf) refl
 
-by_digits : (c : ℕ) → c < 256 → Stands c (92 ∷ (48 + c / 100) ∷ (48 + c / 10 % 10) ∷ (48 + c % 10) ∷ [])
-by_digits c h =
+digits_octet : {E : Type 0} (clear : E) (read : E → List ℕ → List ℕ → Option (List ℕ)) → IsReader clear read → (c : ℕ) → c < 256 → (o more : List ℕ)
+    → read clear o (92 ∷ (48 + c / 100) ∷ (48 + c / 10 % 10) ∷ (48 + c % 10) ∷ more) ≡ read clear (o ++ c ∷ []) more
+digits_octet clear read is c h o more =
     let n : 10 * (10 * (48 + c / 100 - 48) + (48 + c / 10 % 10 - 48)) + (48 + c % 10 - 48) ≡ c = omega arith in
     let small : nat_lt (10 * (10 * (48 + c / 100 - 48) + (48 + c / 10 % 10 - 48)) + (48 + c % 10 - 48)) 256 ≡ true = lt-ltb (10 * (10 * (48 + c / 100 - 48) + (48 + c / 10 % 10 - 48)) + (48 + c % 10 - 48)) 256 (omega arith) in
     let x = inside (48 + c / 100) (omega arith) (omega arith) in
     let y = inside (48 + c / 10 % 10) (omega arith) (omega arith) in
     let z = inside (48 + c % 10) (omega arith) (omega arith) in
-    record {
-      reads = λ octets more. digits_read (48 + c / 100) (48 + c / 10 % 10) (48 + c % 10) octets more x.digit y.digit z.digit small ∙ ap (λ (v : ℕ). unescaped Clear (octets ++ v ∷ []) more) n;
-      goes = λ more. digits_go (48 + c / 100) (48 + c / 10 % 10) (48 + c % 10) more x y z;
-    }
+    is.digits o more (48 + c / 100) (48 + c / 10 % 10) (48 + c % 10) x.digit y.digit z.digit small ∙ ap (λ (v : ℕ). read clear (o ++ v ∷ []) more) n
 
-by_itself : (c : ℕ) → stands_in_quotes c ≡ true → Stands c (c ∷ [])
-by_itself c h =
-    let low : 32 ≤ c = grind (arith, nat_tests) in
-    let backslash : nat_eq c 92 ≡ false = grind (arith, nat_tests) in
-    let quote : nat_eq c 34 ≡ false = grind (arith, nat_tests) in
-    let lf : nat_eq c 10 ≡ false = grind (arith, nat_tests) in
-    record {
-      reads = λ octets more. rw backslash refl;
-      goes = λ more. rw (backslash, quote, lf) refl;
-    }
+plain_backslash : (c : ℕ) → stands_in_quotes c ≡ true → IsPlain c
+plain_backslash c h = record { backslash = grind (arith, nat_tests); quote = grind (arith, nat_tests); lf = grind (arith, nat_tests) }
 
-octet_back : (c : ℕ) → c < 256 → Stands c (quoted_octet c)
-octet_back c h =
-    elim (stands_in_quotes c) as (λ q. stands_in_quotes c ≡ q → Stands c (if q then c ∷ [] else 92 ∷ (48 + c / 100) ∷ (48 + c / 10 % 10) ∷ (48 + c % 10) ∷ []))
-    [ true ↦ λ q. by_itself c q | false ↦ λ q. by_digits c h ] refl
+octet_read : {E : Type 0} (clear : E) (read : E → List ℕ → List ℕ → Option (List ℕ)) → IsReader clear read → (c : ℕ) → c < 256 → (o more : List ℕ) → read clear o (quoted_octet c ++ more) ≡ read clear (o ++ c ∷ []) more
+octet_read clear read is c h o more =
+    elim (stands_in_quotes c) as (λ q. stands_in_quotes c ≡ q → read clear o ((if q then c ∷ [] else 92 ∷ (48 + c / 100) ∷ (48 + c / 10 % 10) ∷ (48 + c % 10) ∷ []) ++ more) ≡ read clear (o ++ c ∷ []) more)
+    [ true ↦ λ q. is.plain o more c (plain_backslash c q).backslash | false ↦ λ q. digits_octet clear read is c h o more ] refl
+
+octet_goes : (c : ℕ) → c < 256 → (more : List ℕ) → goes_quoted false (quoted_octet c ++ more) ≡ goes_quoted false more
+octet_goes c h more =
+    let x = inside (48 + c / 100) (omega arith) (omega arith) in
+    let y = inside (48 + c / 10 % 10) (omega arith) (omega arith) in
+    let z = inside (48 + c % 10) (omega arith) (omega arith) in
+    elim (stands_in_quotes c) as (λ q. stands_in_quotes c ≡ q → goes_quoted false ((if q then c ∷ [] else 92 ∷ (48 + c / 100) ∷ (48 + c / 10 % 10) ∷ (48 + c % 10) ∷ []) ++ more) ≡ goes_quoted false more)
+    [ true ↦ λ q. plain_goes c more (plain_backslash c q) | false ↦ λ q. digits_go (48 + c / 100) (48 + c / 10 % 10) (48 + c % 10) more x y z ] refl
 
 -- ---- a string
 
 abbrev inside_text : List ℕ → List ℕ
 inside_text s = flat_map quoted_octet s
 
-string_read : (s octets : List ℕ) → AreOctets s → unescaped Clear octets (inside_text s) ≡ Some (octets ++ s)
-string_read [] octets a = ap (λ (o : List ℕ). Some o) (sym (append-nil octets))
-string_read (c ∷ s) octets a =
-    (octet_back c a.0).reads octets (inside_text s) ∙ (string_read s (octets ++ c ∷ []) a.1 ∙ ap (λ (o : List ℕ). Some o) (append_assoc octets (c ∷ []) s))
+string_read : {E : Type 0} (clear : E) (read : E → List ℕ → List ℕ → Option (List ℕ)) → IsReader clear read → (s o : List ℕ) → AreOctets s → read clear o (inside_text s) ≡ Some (o ++ s)
+string_read clear read is [] o a = is.ends o ∙ ap (λ (x : List ℕ). Some x) (sym (append-nil o))
+string_read clear read is (c ∷ s) o a =
+    octet_read clear read is c a.0 o (inside_text s) ∙ (string_read clear read is s (o ++ c ∷ []) a.1 ∙ ap (λ (x : List ℕ). Some x) (append_assoc o (c ∷ []) s))
+
+spelt : (s : List ℕ) → AreOctets s → string_octets (inside_text s) ≡ Some s
+spelt s a = string_read _ unescaped (record { ends = λ o. refl; plain = λ o cs c h. rw h refl; digits = λ o cs x y z h k l m. rw (h, k, l, m) refl }) s [] a
 
 string_goes : (s : List ℕ) → AreOctets s → goes_quoted false (inside_text s) ≡ true
 string_goes [] a = refl
-string_goes (c ∷ s) a = (octet_back c a.0).goes (inside_text s) ∙ string_goes s a.1
+string_goes (c ∷ s) a = octet_goes c a.0 (inside_text s) ∙ string_goes s a.1
 
 string_is_word : (s : List ℕ) → AreOctets s → IsWord (quoted_word (inside_text s))
 string_is_word s a = inr (record { quoted = refl; goes = string_goes s a })
@@ -87,7 +94,7 @@ length_fits : (line : ℕ) (s : List ℕ) → length s < 256 → behind_length l
 length_fits line s h = rw (le-ltb 255 (length s) (omega arith)) refl
 
 counted_back : (line : ℕ) (s : List ℕ) → AreOctets s → length s < 256 → counted_string (word_on line (quoted_word (inside_text s))) ≡ Ok (length s ∷ s)
-counted_back line s a h = ap (λ (r : Option (List ℕ)). some_or line NotEscape r >>= behind_length line) (string_read s [] a) ∙ length_fits line s h
+counted_back line s a h = ap (λ (r : Option (List ℕ)). some_or line NotEscape r >>= behind_length line) (spelt s a) ∙ length_fits line s h
 
 -- one octet more
 text_more : (s : List ℕ) (c : ℕ) → inside_text (s ++ c ∷ []) ≡ inside_text s ++ quoted_octet c
