@@ -1,8 +1,8 @@
 //! The calls of dns_zone_file and dns_message_text. In a text of a zone file, which is all words behind the origin, `|` stands for LF.
 
 use dns_message::{MessageRef, Record};
-use dns_name::NameRef;
 use dns_message_text::write_message;
+use dns_name::NameRef;
 use dns_zone_file::{ZoneFileError, read_zone, write_zone};
 use rows_table::{Calls, Row, RowError};
 use std::alloc::Global;
