@@ -1,7 +1,6 @@
-//! The calls of dns_zone_file and dns_message_text. In a text of a zone file, which is all words behind the origin, `|` stands for LF.
+//! The calls of dns_zone_file. In a text of a zone file, which is all words behind the origin, `|` stands for LF.
 
-use dns_message::{MessageRef, Record};
-use dns_message_text::write_message;
+use dns_message::Record;
 use dns_name::NameRef;
 use dns_zone_file::{ZoneFileError, read_zone, write_zone};
 use rows_table::{Calls, Row, RowError};
@@ -15,7 +14,6 @@ impl Calls for Zones {
         match call {
             "read_zone" => said_records(row),
             "write_zone" => said_text(row),
-            "write_message" => said_message(row),
             _ => return Err(RowError::NoSuchCall),
         }
         Ok(())
@@ -107,16 +105,6 @@ fn said_lines(row: &mut Row<'_>, lines: &[u8]) {
         Ok(text) => row.say(text),
         Err(_) => row.fail(RowError::OutOfForm),
     }
-}
-
-/// The text of a message, with `|` for LF.
-fn said_message(row: &mut Row<'_>) {
-    let Ok(message) = MessageRef::from_slice(row.octets()) else {
-        return row.fail(RowError::OutOfForm);
-    };
-    let mut text = Vec::new(row.alloc());
-    row.keep(write_message(row.alloc(), &mut text, &message));
-    said_lines(row, text.as_slice());
 }
 
 /// Says whether a text reads as records below the root.
