@@ -28,7 +28,7 @@ GROUPS = [
     ("The four layers", 5, 2, 1, "#d7e8c8", "dns_layers dns_middleware"),
     ("Requests, services, events", 6, 1, 2, "#d7e8c8", "dns_replies dns_events dns_service dns_stream"),
     ("EDNS options", 7, 1, 2, "#c9e2e6", "dns_lists dns_algs dns_kinds dns_cookie dns_option_list dns_options dns_opt"),
-    ("Zone files", 7, 3, 1, "#c9e2e6", "dns_entries dns_word_values dns_presentation dns_zone_file"),
+    ("Zone files", 7, 3, 1, "#c9e2e6", "dns_entries dns_word_values dns_presentation dns_zone_file dns_record_text"),
     ("Messages", 8, 1, 3, "#d5d3ea", "dns_message dns_base"),
     ("Names and numbers", 9, 0, 4, "#d5d3ea", "dns_name dns_order"),
 ]
