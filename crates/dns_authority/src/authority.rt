@@ -305,7 +305,7 @@ fn code_reply(alloc: Global, query: &Message, rcode: Rcode) -> Result<Additional
     Ok(reply.additional())
 }
 
-/// The same as an item.
+/// The reply as an item.
 fn code_item<Meta>(
     alloc: Global,
     request: &Request<Meta>,

@@ -1,5 +1,27 @@
-//! Witnesses: a link, a socket, a clock, an accept object and a spawner over any other. Each calls the one beneath, and has what its calls
-//! answered as ghost data, which takes no memory and no time. So of each it is known what went through it, of sockets too.
+//! Witnesses: a link, a socket, a clock, an accept object and a spawner, each over any other one.
+//!
+//! - `Witness` is over a `Link`, `WitnessSock` over a socket, and `WitnessClock` over a clock. `WitnessAccept` is
+//!   over an accept object, and each link that it gives is a witness too. `WitnessSpawner` is over a spawner.
+//! - `new` takes the object beneath, and `into_inner` gives it back.
+//! - `is_tied` says for contracts how a witness stands to the object beneath.
+//!
+//! Each call calls the one beneath. What these calls answered is kept as ghost data, which takes no memory and no
+//! time. So a witness tells, of the machine's sockets too, whatever the object beneath tells.
+//!
+//! ```text
+//! MioLink -> Witness::new -> serve_connection: octets written = frames of the model
+//! ```
+//!
+//! # What is proved
+//!
+//! - A witness tells what its calls said: the octets that reads gave and writes took, and datagrams received and
+//!   sent. Readings given, callers that came, and the addresses of works are told too, all in order.
+//! - If the object beneath tells, that is what went through it since it was taken (`is_tied`).
+//! - Counts of faults are those of the object beneath.
+//!
+//! # What a body could still get away with
+//!
+//! What the operating system does with octets that a write took. That is outside of every contract here.
 #![tactic(auto)]
 
 mod arrivals;

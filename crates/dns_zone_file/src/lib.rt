@@ -1,4 +1,28 @@
-//! Zone files in presentation format (RFC 1035, section 5; RFC 2308, section 4; RFC 3597, section 5), read and written.
+//! Zone files (RFC 1035, section 5; RFC 2308, section 4; RFC 3597, section 5), read and written as records.
+//!
+//! - `read_zone` reads a whole text below an origin. `ZoneReader` reads a text that comes in pieces, which may be cut
+//!   anywhere: `take` each, then `finish`.
+//! - `write_zone` writes records, one a line with absolute names, and `write_record` one line.
+//! - `ZoneFileError` says why there are no records: a refusal with its line and its `EntryReason`, or no memory.
+//!
+//! $ORIGIN and $TTL are read, and $INCLUDE is refused. All records are of class IN.
+//!
+//! ```text
+//! text -> read_zone -> records -> Zone::new -> a service
+//! records -> write_zone -> text -> read_zone -> the records
+//! ```
+//!
+//! # What is proved
+//!
+//! - What is read are exactly the records of the definition `zone_file`, or its first refusal with line and reason.
+//! - What is written of records reads back as these records, below any origin (`a_zone_reads_back`).
+//! - A text in pieces is read as the whole text (`a_zone_comes_in_pieces`).
+//! - A line of words is one entry of these words (`lines_are_entries`).
+//! - No text crashes a call, and every loop ends. Each record is fit for `Zone::new` of dns_zone.
+//!
+//! # What a body could still get away with
+//!
+//! How much time and memory a text takes.
 #![tactic(auto)]
 
 mod draft;
