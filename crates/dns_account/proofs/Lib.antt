@@ -1,1 +1,4 @@
+pub mod Closings
+pub mod Hostings
 pub mod Lawful
+pub mod Sends

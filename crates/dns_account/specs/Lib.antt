@@ -1,2 +1,3 @@
 pub mod DatagramLaw
+pub mod Hosts
 pub mod Law

@@ -7,7 +7,7 @@ ghost use Rattle.dns_recorder.specs.Clocks.{TimedWhole};
 ghost use Rattle.dns_stream_driver.specs.Story.{LooksAndRelease};
 ghost use Rattle.dns_stream_driver.specs.Endings.{EndsSo, EndShown, EndCauses, WhereClosed};
 ghost use Rattle.dns_witness.specs.Seen.{still};
-ghost use Rattle.dns_account.specs.Law.{KeptToTheRules};
+ghost use Rattle.dns_account.specs.Law.{EndSeen, KeptToTheRules};
 
 use dns_accepts::{ConnectionEnd, ConnectionWork, Silent, serve_connection};
 use dns_admission::Look;
@@ -45,7 +45,7 @@ fn ended<
     work.run(rt, alloc)
 }
 
-#[tactic(auto, using(crate::proofs::Lawful::lawful))]
+#[tactic(auto, using(crate::proofs::Lawful::lawful, crate::proofs::Closings::end_seen))]
 /// THE LAW of connections. Each connection that a host serves over witnesses is such a work, and its thread does this: over any link,
 /// real sockets too, and by any clock, the octets handed to the link are the frames that the rules for this client alone give for
 /// the octets taken from it and the events that it heard, in order, and then perhaps a part of one more. Nothing need tell.
@@ -63,7 +63,8 @@ pub fn every_connection_kept_to_the_rules<
     ensures kept { KeptToTheRules
         (serving (W.answer (arc_value work.service)) (W.hint (arc_value work.service))) result.1 work.client work.addr work.look
         work.journal.events result.4.events work.link.seen.traffic result.2.seen.traffic }
-    // Why it was closed.
+    // Why it was closed: what the link's calls said of it, and what the events did.
+    ensures seen { EndSeen result.1 work.link.seen.traffic result.2.seen.traffic }
     ensures shown { EndShown
         (serving (W.answer (arc_value work.service)) (W.hint (arc_value work.service))) result.1 work.client work.addr work.look
         work.journal.events result.4.events work.link.seen.traffic result.2.seen.traffic }

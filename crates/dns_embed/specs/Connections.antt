@@ -1,0 +1,72 @@
+-- A connection: the frames of its octets in order, each once (RFC 1035, section 4.2.2; RFC 7766, section 8), and its queue of
+-- replies. Each is a part of what the rule of one client (dns_session) does.
+use Rattle.std.specs.Prelude.{ℕ, ◌≡◌, ◌<◌, ◌≤◌, ◌++◌, ◌==◌, [], ◌∷◌, Bool, true, false, List, length, drop, slice_get, nat_lt, if◌then◌else◌, Option, Some, None}
+use Rattle.circular_buffer.specs.Buffer.{buffer}
+use Rattle.dns_base.specs.Header.{header_of}
+use Rattle.dns_base.specs.Wire.{wire}
+use Rattle.dns_replies.specs.ErrorReply.{error_reply}
+use Rattle.dns_framing.specs.Frames.{framed, frames}
+use Rattle.dns_framing.specs.Invoker.{offered}
+use Rattle.dns_framing.specs.declared.invoker.ConnectionInvoker.{ConnectionInvoker}
+use Rattle.dns_embed.specs.declared.connection.Connection.{Connection}
+use Rattle.dns_embed.specs.declared.connection.Next.{Next}
+use Rattle.dns_embed.specs.declared.connection.Next.TheVariants.{Waits, Query, NoRoom, Response, Short}
+use Rattle.dns_embed.specs.declared.connection.Written.{Written}
+use Rattle.dns_embed.specs.declared.connection.Written.TheVariants as Write
+
+abbrev pub in_front : Option (List ℕ) → List (List ℕ) → List (List ℕ)
+in_front None fs = fs
+in_front (Some f) fs = f ∷ fs
+
+-- the frames that wait to be taken
+abbrev pub waiting : Connection → List (List ℕ)
+waiting c = in_front c.front (frames c.framer)
+
+-- it works for an event at this moment
+abbrev pub at_moment : ℕ → Connection → Connection
+at_moment at c = record c { invoker = record c.invoker { at = at } }
+
+-- a frame is queued at this moment, if there is room
+abbrev pub offering : ℕ → Connection → List ℕ → Connection
+offering at c m = record c { invoker = offered (record c.invoker { at = at }) m }
+
+-- a response is answered with FORMERR, and resets the timer
+abbrev pub refusing : ℕ → Connection → List ℕ → Connection
+refusing at c o = record (offering at c (framed (wire (error_reply o 1)))) { timer = at }
+
+-- all but the frames are as they were
+pub record SameQueue (c d : Connection) : Type 0 where
+  pub timer : d.timer ≡ c.timer
+  pub write_timeout : d.write_timeout ≡ c.write_timeout
+  pub invoker : d.invoker ≡ c.invoker
+
+-- the first that waits is taken, or none waits, or it stays if the buffer is too short
+abbrev pub NextIs : ℕ → Connection → Connection → List ℕ → List ℕ → Next → Type 0
+NextIs at c d before after Waits = (waiting c ≡ []) × (waiting d ≡ []) × SameQueue c d × (after ≡ before)
+NextIs at c d before after (Query n) = (f : List ℕ) × (waiting c ≡ f ∷ waiting d) × (12 ≤ length f) × ((header_of f).qr ≡ false) × (n ≡ length f) × (n ≤ length before)
+    × (after ≡ f ++ drop n before) × (d.timer ≡ at) × (d.write_timeout ≡ c.write_timeout) × (d.invoker ≡ c.invoker)
+NextIs at c d before after (NoRoom n) = (f : List ℕ) × (fs : List (List ℕ)) × (waiting c ≡ f ∷ fs) × (waiting d ≡ waiting c) × (12 ≤ length f) × ((header_of f).qr ≡ false)
+    × (n ≡ length f) × (length before < n) × SameQueue c d × (after ≡ before)
+NextIs at c d before after Response = (f : List ℕ) × (waiting c ≡ f ∷ waiting d) × (12 ≤ length f) × ((header_of f).qr ≡ true) × (after ≡ before) × (d.timer ≡ at)
+    × (d.write_timeout ≡ c.write_timeout) × (d.invoker ≡ (refusing at c f).invoker)
+NextIs at c d before after Short = (f : List ℕ) × (waiting c ≡ f ∷ waiting d) × (length f < 12) × SameQueue c d × (after ≡ before)
+
+-- a frame less waits to be written
+abbrev pub popped : Connection → Connection
+popped c = record c { invoker = record c.invoker { queue = buffer (drop 1 c.invoker.queue.items) c.invoker.queue.capacity } }
+
+-- an emptied queue resets the timer
+abbrev pub timer_behind : ℕ → Connection → ℕ
+timer_behind at c = if length c.invoker.queue.items == 0 then at else c.timer
+
+-- the front frame was written, unless it took too long
+abbrev pub WritesBy : Bool → ℕ → Connection → Connection → Written → Type 0
+WritesBy true at c d w = (w ≡ Write.TimedOut) × (d ≡ popped c)
+WritesBy false at c d w = (w ≡ Write.Frame) × (d ≡ record (popped c) { timer = timer_behind at (popped c) })
+
+abbrev pub WritesFront : Option (List ℕ) → ℕ → ℕ → Connection → Connection → Written → Type 0
+WritesFront None at took c d w = (w ≡ Write.Nothing) × (d ≡ popped c)
+WritesFront (Some m) at took c d w = WritesBy (nat_lt c.write_timeout took) at c d w
+
+abbrev pub WriteIs : ℕ → ℕ → Connection → Connection → Written → Type 0
+WriteIs at took c d w = WritesFront (slice_get c.invoker.queue.items 0) at took c d w

@@ -1,0 +1,255 @@
+//! One connection of a client without its requests: octets in, queries out, replies in, frames out.
+
+ghost use Rattle.std.specs.Prelude.{◌≡◌, ◌≤◌, ◌+◌, ◌++◌, [], None, Some, length, option_map, slice_get, IfOk, OnErr, OnOk};
+ghost use Rattle.circular_buffer.specs.Buffer.{buffer};
+ghost use Rattle.dns_framing.specs.Budget.{unspent};
+ghost use Rattle.dns_framing.specs.Frames.{framed};
+ghost use Rattle.dns_framing.specs.Invoker.{finds_room, offered};
+ghost use Rattle.dns_framing.specs.Timers.{deadline, is_expired};
+ghost use Rattle.dns_service.specs.declared.invoker.InvokerStatus.{InvokerStatus as TheStatus};
+ghost use Rattle.dns_embed.specs.Connections.{NextIs, WriteIs, at_moment, offering, refusing, waiting};
+
+use crate::buffer::put;
+use dns_base::Message;
+use dns_framing::{ConnectionInvoker, Framer, IdleTimer, frame_of};
+use dns_name::OptRcode;
+use dns_service::{ConnectionConfig, Octets, OutOfMemory};
+use dns_session::refused;
+use std::alloc::Global;
+
+/// What came of the next frame of a connection.
+#[derive(Clone, Copy)]
+pub enum Next {
+    /// There is none yet.
+    Waits,
+    /// It is a query. It stands at the front of the buffer, and so many octets are its.
+    Query(usize),
+    /// It is a query of so many octets, for which the buffer is too short. It stays.
+    NoRoom(usize),
+    /// It is a response, which was answered with FORMERR if there was room.
+    Response,
+    /// It is shorter than a header: the connection is to be closed.
+    Short,
+}
+
+/// What came of the frame that was to be written.
+#[derive(Clone, Copy)]
+pub enum Written {
+    /// There is none.
+    Nothing,
+    /// It is written, and is queued no more.
+    Frame,
+    /// The write took longer than it may: it is queued no more, and the connection is to be closed.
+    TimedOut,
+}
+
+/// What is kept of a connection: the next frame, if it was looked at and not taken; the octets in no frame yet; the idle
+/// timer; how long a write may take in ms; and the queue of replies with its budget.
+#[derive(Drop)]
+pub struct Connection {
+    front: Option<Octets>,
+    framer: Framer,
+    timer: IdleTimer,
+    write_timeout: u64,
+    invoker: ConnectionInvoker,
+}
+
+impl Connection {
+    /// A connection of a configuration, from a moment in ms on. The memory of its queue is taken here.
+    pub fn open(
+        alloc: Global,
+        at: u64,
+        config: &ConnectionConfig,
+    ) -> Result<Connection, OutOfMemory>
+        ensures { IfOk result (λ c. c ≡ record {
+          front = None;
+          framer = [];
+          timer = at;
+          write_timeout = config.now.response_write_timeout;
+          invoker = record {
+            at = at;
+            idle_timeout = config.now.idle_timeout;
+            budget = unspent config.now;
+            queue = buffer [] config.now.max_queued_responses;
+            status = TheStatus.Normal;
+            held = None;
+          };
+        }) }
+    {
+        let invoker = ConnectionInvoker::new(alloc, at, config)?;
+        Ok(Connection {
+            front: None,
+            framer: Framer::new(alloc),
+            timer: IdleTimer::new(at),
+            write_timeout: config.response_write_timeout(),
+            invoker,
+        })
+    }
+
+    /// Octets of its stream came. If there is no memory all stays.
+    pub fn feed(&mut self, alloc: Global, octets: &[u8]) -> Result<(), OutOfMemory>
+        ensures ok { OnOk result (self.new ≡ record self.old { framer = self.old.framer ++ octets.now }) }
+        ensures err { OnErr result (self.new ≡ self.old) }
+    {
+        self.framer.feed(alloc, octets)
+    }
+
+    /// Takes the next frame at a moment in ms, if all of it came. A query is written into the buffer, if it fits. A frame that is
+    /// taken resets the timer (RFC 7766, section 6.2.3). If there is no memory no frame is taken.
+    pub fn next(&mut self, alloc: Global, at: u64, buffer: &mut [u8]) -> Result<Next, OutOfMemory>
+        ensures next { IfOk result (NextIs at self.old self.new buffer.old buffer.new) }
+        ensures err { OnErr result ((waiting self.new ≡ waiting self.old) × (buffer.new ≡ buffer.old)) }
+    {
+        self.look(alloc)?;
+        let Some(octets) = self.front.take() else {
+            return Ok(Next::Waits);
+        };
+        let Ok(message) = Message::from_octets(octets.into_vec()) else {
+            return Ok(Next::Short);
+        };
+        if message.header().qr {
+            self.refuse(alloc, at, message)?;
+            return Ok(Next::Response);
+        }
+        let octets = message.as_slice();
+        let len = octets.len();
+        if put(octets, buffer) {
+            self.timer.reset(at);
+            return Ok(Next::Query(len));
+        }
+        self.front = Some(Octets::from_vec(message.into_octets()));
+        Ok(Next::NoRoom(len))
+    }
+
+    /// Looks at the next frame, if all of it came.
+    fn look(&mut self, alloc: Global) -> Result<(), OutOfMemory>
+        ensures same { waiting self.new ≡ waiting self.old }
+        ensures here { OnOk result (self.new.front ≡ None → waiting self.new ≡ []) }
+        ensures timer { self.new.timer ≡ self.old.timer }
+        ensures write_timeout { self.new.write_timeout ≡ self.old.write_timeout }
+        ensures invoker { self.new.invoker ≡ self.old.invoker }
+    {
+        if self.front.is_some() {
+            return Ok(());
+        }
+        match self.framer.next(alloc) {
+            Ok(Some(frame)) => {
+                self.front = Some(Octets::from_vec(frame));
+                Ok(())
+            }
+            Ok(None) => Ok(()),
+            Err(error) => Err(error),
+        }
+    }
+
+    /// Answers a response with FORMERR, if there is room. If there is no memory it is kept in front.
+    fn refuse(&mut self, alloc: Global, at: u64, message: Message) -> Result<(), OutOfMemory>
+        requires { self.old.front ≡ None }
+        ensures ok { OnOk result (self.new ≡ refusing at self.old message) }
+        ensures err { OnErr result (waiting self.new ≡ waiting (record self.old { front = Some message })) }
+    {
+        self.invoker.set_moment(at);
+        if !self.invoker.finds_room() {
+            self.timer.reset(at);
+            return Ok(());
+        }
+        match refused(alloc, &message, None, OptRcode::FORMERR) {
+            Ok(reply) => {
+                let _dropped = self.invoker.offer(frame_of(reply));
+                self.timer.reset(at);
+                Ok(())
+            }
+            Err(error) => {
+                self.front = Some(Octets::from_vec(message.into_octets()));
+                Err(error)
+            }
+        }
+    }
+
+    /// Queues the octets of a reply of at most 65,535 as a frame, at a moment in ms, if the queue and the response budget have
+    /// room. It says whether they had. If there is no memory the queue stays.
+    pub fn offer(&mut self, alloc: Global, at: u64, reply: &[u8]) -> Result<bool, OutOfMemory>
+        requires { length reply.now ≤ 65535 }
+        ensures room { IfOk result (λ queued. queued ≡ finds_room (record self.old.invoker { at = at })) }
+        ensures ok { OnOk result (self.new ≡ offering at self.old (framed reply.now)) }
+        ensures err { OnErr result (self.new ≡ at_moment at self.old) }
+    {
+        self.invoker.set_moment(at);
+        if !self.invoker.finds_room() {
+            return Ok(false);
+        }
+        let frame = frame(alloc, reply)?;
+        let _dropped = self.invoker.offer(frame);
+        Ok(true)
+    }
+
+    /// How many frames wait to be written.
+    pub fn queued(&self) -> usize
+        ensures { result ≡ length self.now.invoker.queue.items }
+    {
+        self.invoker.queue.len()
+    }
+
+    /// The frame that is to be written next.
+    pub fn front_frame(&self) -> Option<&[u8]>
+        ensures { option_map (λ m. m.now) result ≡ slice_get self.now.invoker.queue.items 0 }
+    {
+        match self.invoker.queue.front() {
+            Some(octets) => Some(octets.as_slice()),
+            None => None,
+        }
+    }
+
+    /// The front frame was written, at a moment in ms, in so many ms. An emptied queue resets the timer.
+    pub fn written(&mut self, at: u64, took: u64) -> Written
+        ensures { WriteIs at took self.old self.new result }
+    {
+        let Some(_written) = self.invoker.queue.pop_front() else {
+            return Written::Nothing;
+        };
+        if took > self.write_timeout {
+            return Written::TimedOut;
+        }
+        if self.invoker.queue.is_empty() {
+            self.timer.reset(at);
+            return Written::Frame;
+        }
+        Written::Frame
+    }
+
+    /// The moment in ms at which it was idle for too long.
+    pub fn deadline(&self, now: u64) -> u64
+        ensures { result ≡ deadline self.now.timer self.now.invoker.idle_timeout now }
+    {
+        self.timer
+            .idle_timeout_deadline(self.invoker.idle_timeout, now)
+    }
+
+    /// Whether it was idle for too long by now.
+    pub fn is_idle(&self, now: u64) -> bool
+        ensures { result ≡ is_expired self.now.timer self.now.invoker.idle_timeout now }
+    {
+        self.timer
+            .idle_timeout_expired(self.invoker.idle_timeout, now)
+    }
+
+    /// For how many ms it may be idle.
+    pub fn idle_timeout(&self) -> u64
+        ensures { result ≡ self.now.invoker.idle_timeout }
+    {
+        self.invoker.idle_timeout
+    }
+}
+
+/// A message behind its length in two octets (RFC 1035, section 4.2.2).
+fn frame(alloc: Global, message: &[u8]) -> Result<Octets, OutOfMemory>
+    requires { length message.now ≤ 65535 }
+    ensures { IfOk result (λ o. o ≡ framed message.now) }
+{
+    let len = message.len();
+    let mut octets = Vec::with_capacity(alloc, len + 2)?;
+    octets.push((len / 256) as u8)?;
+    octets.push((len % 256) as u8)?;
+    octets.extend_from_slice(message)?;
+    Ok(Octets::from_vec(octets))
+}

@@ -1,0 +1,22 @@
+//! Laws of what is decided and rewritten.
+
+ghost use Rattle.std.specs.Prelude.{◌≡◌, ℕ, Result};
+ghost use Rattle.dns_base.specs.Msg.{Msg};
+ghost use Rattle.dns_events.specs.declared.settings.Settings.{Settings};
+ghost use Rattle.dns_service.specs.Answer.{Answer};
+ghost use Rattle.dns_service.specs.Once.{once};
+ghost use Rattle.dns_service.specs.Req.{Req};
+ghost use Rattle.dns_layers.specs.declared.notifiable.NotifyError.{NotifyError};
+ghost use Rattle.dns_layers.specs.Rewritten.{own_reply, reply};
+ghost use Rattle.dns_middleware.specs.Wrapped.{passed};
+ghost use Rattle.dns_embed.specs.declared.action.Action.TheVariants.{Ask};
+ghost use Rattle.dns_embed.specs.declared.rule.ReplyRule.{ReplyRule};
+ghost use Rattle.dns_embed.specs.Embedded.{IsDecided, answers, rewrite_by};
+
+/// Whoever asks a service as was decided, and sends its reply rewritten, sends what these layers answer round a service that
+/// gives this reply to the request as they pass it on.
+pub fn asked_and_rewritten_is_answered()
+    ensures { (s : Settings) (v : Result (Unit {0}) NotifyError) (r : Req (Unit {0})) (rule : ReplyRule) (m : Msg)
+        (svc : Req (Unit {0}) → ℕ → Answer) → IsDecided s v r (Ask rule) → ((k : ℕ) → svc (passed s r) k ≡ once (reply m) k)
+        → (k : ℕ) → answers s v svc r k ≡ own_reply (rewrite_by rule m) k }
+{}

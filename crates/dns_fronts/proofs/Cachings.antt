@@ -1,0 +1,85 @@
+-- What a cache behind the layers does to how they take a request.
+use Rattle.std.proofs.Common.{◌≡◌, ◌∙◌, ◌≤◌, ℕ, Bool, true, cond, List, length, Option, Some, None, Result, Ok, Err, refl, ap, sym, subst}
+use Rattle.std.specs.Prelude.{OnOk, nat_le}
+use Rattle.std.proofs.lemmas.Bool.{le-leb}
+use Rattle.dns_name.specs.declared.error.ParseError.{ParseError}
+use Rattle.dns_base.specs.Wire.{wire}
+use Rattle.dns_base.specs.Msg.{Msg}
+use Rattle.dns_events.specs.declared.settings.Settings.{Settings}
+use Rattle.dns_service.specs.Answer.{Item}
+use Rattle.dns_service.specs.Req.{Req}
+use Rattle.dns_service.specs.declared.service.Polled.TheVariants.{Pending, Ready}
+use Rattle.dns_service.specs.declared.service.ServiceError.{ServiceError}
+use Rattle.dns_service.specs.declared.service.ServiceError.TheVariants.{InternalError}
+use Rattle.dns_route.specs.ReplyMessage.{ReplyState}
+use Rattle.dns_route.specs.Turns.{TurnAnswer, built_item, turn_item}
+use Rattle.dns_cache.specs.AskedCache.{AnswersCached, Cached, asked_cache, cached_message}
+use Rattle.dns_cache.specs.Keys.{AskedKey, key_of}
+use Rattle.dns_middleware.specs.declared.wrap_post.WrapPost.{WrapPost}
+use Rattle.dns_middleware.specs.WrappedStreams.{wrap_by}
+use Rattle.dns_proxy.specs.Fronts.{IsTaken}
+use Rattle.dns_proxy.specs.declared.front.Taken.{Taken}
+use Rattle.dns_proxy.specs.declared.front.Taken.TheVariants.{Own, Passed}
+use Rattle.dns_layers.specs.Rewritten.{rewritten}
+use Rattle.dns_fronts.specs.Caching.{cache_taken, cached_asks, cached_over, item_of, looked_up, taken_by, unless_young, young_item, young_or}
+use Rattle.dns_fronts.specs.Layered.{asked_message, layered}
+use Rattle.dns_fronts.specs.Passed.{taken_unless}
+
+none-asked : (x : Option Msg) (m : Option (List ℕ)) → m ≡ None → unless_young x m ≡ None
+none-asked None m h = h
+none-asked (Some y) m h = refl
+
+-- a request that the layers answer
+pub own-cached : (s : Settings) (c : Cached) (r : Req (Unit {0})) (own : Item) → IsTaken wrap_by (λ i. layered s i r) (asked_message s r) (Own own) → IsTaken wrap_by (λ i. cached_over s c i r) (cached_asks s c r) (Own own)
+own-cached s c r own h = (none-asked (looked_up c r).cached (asked_message s r) h.0, λ i k. h.1 (young_or (looked_up c r).cached i) k)
+
+pub own-behind : (s : Settings) (c : Cached) (r : Req (Unit {0})) (own : Item) → IsTaken wrap_by (λ i. layered s i r) (asked_message s r) (Own own) → c ≡ cache_taken s c r
+own-behind s c r own h = sym (ap (λ (m : Option (List ℕ)). taken_by m c (looked_up c r).behind) h.0)
+
+-- one that they pass on
+passed-by : (s : Settings) (r : Req (Unit {0})) (rule : WrapPost) (message : List ℕ) (x : Option Msg) → IsTaken wrap_by (λ i. layered s i r) (asked_message s r) (Passed rule message)
+    → IsTaken wrap_by (λ i. layered s (young_or x i) r) (unless_young x (asked_message s r)) (taken_unless rule message x)
+passed-by s r rule message None h = h
+passed-by s r rule message (Some m) h = (refl, λ i k. h.1 (young_or (Some m) i) k)
+
+pub passed-cached : (s : Settings) (c : Cached) (r : Req (Unit {0})) (rule : WrapPost) (message : List ℕ) → IsTaken wrap_by (λ i. layered s i r) (asked_message s r) (Passed rule message)
+    → IsTaken wrap_by (λ i. cached_over s c i r) (cached_asks s c r) (taken_unless rule message (looked_up c r).cached)
+passed-cached s c r rule message h = passed-by s r rule message (looked_up c r).cached h
+
+pub passed-behind : (s : Settings) (c : Cached) (r : Req (Unit {0})) (rule : WrapPost) (message : List ℕ) → IsTaken wrap_by (λ i. layered s i r) (asked_message s r) (Passed rule message) → (looked_up c r).behind ≡ cache_taken s c r
+passed-behind s c r rule message h = sym (ap (λ (m : Option (List ℕ)). taken_by m c (looked_up c r).behind) h.0)
+
+-- at a later turn than 0 nothing is taken out of the cache
+later-none : (c : Cached) (r : Req (Unit {0})) (key : Option AskedKey) → cached_message c r 1 key ≡ None
+later-none c r None = refl
+later-none c r (Some key) = refl
+
+pub answered-so : (c : Cached) (r : Req (Unit {0})) (a turned : TurnAnswer) → AnswersCached (asked_cache c r 1 a).cached a turned → turned ≡ a
+answered-so c r a turned h = subst (λ (x : Option Msg). AnswersCached x a turned) (later-none c r (key_of r.octets)) h
+
+-- what a request is given out of the cache
+pub young-none : (x : Option Msg) (turned : TurnAnswer) → AnswersCached x Pending turned → turned ≡ Pending → None ≡ young_item x
+young-none None turned h e = refl
+young-none (Some m) turned h e = let no : Ready (Ok h.0) ≡ Pending = sym h.1 ∙ e in absurd (cc)
+
+pub young-some : (x : Option Msg) (turned : TurnAnswer) (t : Result ReplyState ServiceError) → AnswersCached x Pending turned → turned ≡ Ready t → Some (turn_item t) ≡ young_item x
+young-some None turned t h e = let no : Ready t ≡ Pending = sym e ∙ h in absurd (cc)
+young-some (Some m) turned t h e =
+    let same : Ready t ≡ Ready (Ok h.0) = sym e ∙ h.1 in
+    let is : t ≡ Ok h.0 = cc in
+    let fits : nat_le (length (wire m)) 65535 ≡ true = le-leb (length (wire m)) 65535 h.3 in
+    ap (λ (r : Result ReplyState ServiceError). Some (turn_item r)) is
+    ∙ (ap (λ (b : Result Msg ParseError). Some (built_item b)) h.2
+    ∙ ap (λ (b : Bool). Some (cond b (item_of m) (Err InternalError))) fits)
+
+pub young-taken : (rule : WrapPost) (message : List ℕ) (x : Option Msg) (young : Option Item) (item : Item) → young ≡ young_item x → young ≡ Some item → Own (rewritten (wrap_by rule) item) ≡ taken_unless rule message x
+young-taken rule message None young item e is = let no : Some item ≡ None = sym is ∙ e in absurd (cc)
+young-taken rule message (Some m) young item e is =
+    let same : Some item ≡ Some (item_of m) = sym is ∙ e in
+    let one : item ≡ item_of m = cc in
+    ap (λ (i : Item). let t : Taken WrapPost = Own (rewritten (wrap_by rule) i) in t) one
+
+-- what holds anyway
+pub on-ok : {T E P : Type 0} (r : Result T E) → P → OnOk r P
+on-ok (Ok x) p = p
+on-ok (Err e) p = tt

@@ -1,0 +1,20 @@
+-- How a request is taken that the layers pass on.
+use Rattle.std.specs.Prelude.{ℕ, List, Option, Some, None, Err}
+use Rattle.dns_base.specs.Msg.{Msg}
+use Rattle.dns_layers.specs.Rewritten.{rewritten}
+use Rattle.dns_middleware.specs.WrappedStreams.{wrap_by}
+use Rattle.dns_service.specs.declared.service.ServiceError.TheVariants.{InternalError}
+use Rattle.dns_middleware.specs.declared.wrap_post.WrapPost.{WrapPost}
+use Rattle.dns_fronts.specs.Caching.{item_of}
+use Rattle.dns_proxy.specs.declared.front.Taken.{Taken}
+use Rattle.dns_proxy.specs.declared.front.Taken.TheVariants as How
+
+-- a message is asked for it where one can be sent, and else it is answered by InternalError
+abbrev pub passed_to : WrapPost → Option (List ℕ) → Taken WrapPost
+passed_to post None = How.Own (Err InternalError)
+passed_to post (Some message) = How.Passed post message
+
+-- the same where a cache has a message for it
+abbrev pub taken_unless : WrapPost → List ℕ → Option Msg → Taken WrapPost
+taken_unless rule message None = How.Passed rule message
+taken_unless rule message (Some m) = How.Own (rewritten (wrap_by rule) (item_of m))

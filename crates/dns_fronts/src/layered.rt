@@ -1,0 +1,141 @@
+//! The layers before upstreams.
+
+ghost use Rattle.std.specs.Prelude.{◌≡◌, IfOk};
+ghost use Rattle.dns_service.specs.Answer.{mapped};
+ghost use Rattle.dns_layers.specs.Calls.{LeavesHint};
+ghost use Rattle.dns_layers.specs.Rewritten.{rewritten};
+ghost use Rattle.dns_middleware.specs.Wrapped.{hint_left};
+ghost use Rattle.dns_middleware.specs.WrappedStreams.{wrap_by};
+ghost use Rattle.dns_proxy.specs.Fronts.{IsTaken};
+ghost use Rattle.dns_fronts.specs.Layered.{asked_message, given, given_turn, item_in, layered, sendable};
+ghost use Rattle.dns_fronts.specs.Passed.{passed_to};
+
+use crate::sendable::sendable;
+use dns_base::Message;
+use dns_decide::{Decision, decide};
+use dns_layers::{AskStream, NoSecondaries, rewrite_answer};
+use dns_middleware::WrapPost;
+use dns_proxy::{Front, Taken};
+use dns_route::{SendError, Turned, relay_answer, turn_item};
+use dns_service::{
+    CallResult, OutOfMemory, Polled, ReplyStream, Request, ServiceError, ServiceResult, Settings,
+};
+use std::alloc::Global;
+
+/// The layers of some settings. A NOTIFY is answered NOTAUTH, since a proxy is a secondary of no zone. A request that is passed on
+/// is sent on without its OPT record, or with one of our own that keeps the DO bit and client subnets. One that can't be read is
+/// answered by SERVFAIL.
+#[derive(Drop)]
+pub struct LayeredFront {
+    pub(crate) settings: Settings,
+}
+
+impl LayeredFront {
+    /// The layers of these settings.
+    pub fn new(settings: Settings) -> LayeredFront
+        ensures { result ≡ record { settings = settings } }
+    {
+        LayeredFront { settings }
+    }
+}
+
+impl Front for LayeredFront {
+    type Rule = WrapPost;
+
+    ghost over = { λ f i r k. layered f.settings i r k };
+
+    ghost hint = { λ f. hint_left f.settings };
+
+    ghost asks = { λ f. asked_message f.settings };
+
+    ghost given = { given };
+
+    ghost after_take = { λ f _. f };
+
+    ghost after_give = { λ f _ _ _. f };
+
+    fn take(
+        &mut self,
+        alloc: Global,
+        request: &mut Request<()>,
+    ) -> Result<Taken<WrapPost>, OutOfMemory> {
+        take_by(alloc, &self.settings, request)
+    }
+
+    fn give(
+        &mut self,
+        alloc: Global,
+        request: &Request<()>,
+        answer: Result<Message, SendError>,
+    ) -> Result<ServiceResult, OutOfMemory> {
+        let turned = relay_answer(alloc, request.message(), Polled::Ready(answer))?;
+        given_turn(alloc, turned)
+    }
+}
+
+/// The item that a turn gives, behind which there is none.
+pub(crate) fn given_turn(alloc: Global, turned: Turned) -> Result<ServiceResult, OutOfMemory>
+    ensures { IfOk result (λ i. i ≡ given_turn turned) }
+{
+    match turned {
+        Polled::Ready(turned) => turn_item(alloc, turned),
+        Polled::Pending => Ok(Err(ServiceError::InternalError)),
+    }
+}
+
+/// How the layers of some settings take a request.
+fn take_by(
+    alloc: Global,
+    settings: &Settings,
+    request: &mut Request<()>,
+) -> Result<Taken<WrapPost>, OutOfMemory>
+    ensures taken { IfOk result (IsTaken wrap_by (λ i. layered settings.now i request.old) (asked_message settings.now request.old)) }
+    ensures kept { LeavesHint (hint_left settings.now request.old) request.old request.new result }
+{
+    match decide(alloc, settings, &NoSecondaries {}, request) {
+        Ok(Decision::Own(reply)) => Ok(Taken::Own(Ok(CallResult::new(reply)))),
+        Ok(Decision::Asking(stream, post)) => refused_notice(alloc, stream, post),
+        Ok(Decision::Passed(post)) => pass(alloc, request, post),
+        Err(error) => Err(error),
+    }
+}
+
+/// The reply to a NOTIFY, rewritten.
+fn refused_notice(
+    alloc: Global,
+    stream: AskStream<NoSecondaries>,
+    post: WrapPost,
+) -> Result<Taken<WrapPost>, OutOfMemory>
+    ensures { let first = ⟦<AskStream<NoSecondaries> as ReplyStream>⟧.answer stream 0 in
+        IfOk result (λ t. t ≡ Taken.Own (item_in (mapped (rewritten (wrap_by post)) first))) }
+{
+    let mut stream = stream;
+    let mut answer = stream.poll_next(alloc)?;
+    rewrite_answer(&post, alloc, &mut answer)?;
+    Ok(own_of(answer))
+}
+
+/// A request is answered with an item that is there.
+pub(crate) fn own_of(answer: Polled<Option<ServiceResult>>) -> Taken<WrapPost>
+    ensures { result ≡ Taken.Own (item_in answer) }
+{
+    match answer {
+        Polled::Ready(Some(item)) => Taken::Own(item),
+        Polled::Ready(None) => Taken::Own(Err(ServiceError::InternalError)),
+        Polled::Pending => Taken::Own(Err(ServiceError::InternalError)),
+    }
+}
+
+/// A request that is passed on, by what is asked for it.
+fn pass(
+    alloc: Global,
+    request: &Request<()>,
+    post: WrapPost,
+) -> Result<Taken<WrapPost>, OutOfMemory>
+    ensures { IfOk result (λ t. t ≡ passed_to post (sendable request.now.octets)) }
+{
+    match sendable(alloc, request)? {
+        Some(message) => Ok(Taken::Passed(post, message)),
+        None => Ok(Taken::Own(Err(ServiceError::InternalError))),
+    }
+}

@@ -1,0 +1,41 @@
+//! What stands before the upstreams of a forwarding proxy: the layers, and a cache behind them. It does no input and
+//! output.
+//!
+//! - `LayeredFront` is the layers of some settings. A NOTIFY is answered NOTAUTH, since a proxy is a secondary of no
+//!   zone.
+//! - `CachedFront` is the layers with a cache behind them. What they pass on is answered out of the cache if that has a
+//!   young reply, and the replies that are made of answers are kept.
+//!
+//! Both are a `Front` of dns_proxy, whose `Taken` says how a request is taken.
+//!
+//! ```text
+//! request -> layers -> a reply of their own
+//!                   -> cache -> a young reply, rewritten by the layers
+//!                            -> the message that an upstream is asked -> its answer -> reply, kept and rewritten
+//! ```
+//!
+//! What is asked has the request's questions, and no OPT record or one of our own, which keeps the DO bit and client
+//! subnets (RFC 6891, section 6.1.1). A cookie is never sent on (RFC 7873, section 5.2).
+//!
+//! # What is proved
+//!
+//! - A request is answered, and leaves the hint, as in the layers over a service that gives what the upstream
+//!   answered, whatever that is (`layered`, `cached_over`).
+//! - No upstream is asked for what the layers answer themselves (a refused cookie, a NOTIFY), for what can't be read or
+//!   sent, nor where a young reply is in the cache (`asked_message`, `cached_asks`).
+//! - The cache is asked only for requests that the layers pass on, and keeps a reply under the seconds at which its
+//!   query came (`cache_taken`, `cache_given`).
+//!
+//! # What a body could still get away with
+//!
+//! How long a call takes, and how much memory it takes meanwhile.
+#![tactic(auto)]
+
+mod cached;
+mod layered;
+mod sendable;
+mod single;
+
+pub use cached::CachedFront;
+pub use dns_proxy::{Front, Taken};
+pub use layered::LayeredFront;

@@ -1,0 +1,186 @@
+//! Replies as they are built.
+
+ghost use Rattle.std.specs.Prelude.{◌≡◌, ◌++◌, ◌∷◌, [], true, map, if◌then◌else◌, IfOk, OnOk};
+ghost use Rattle.dns_base.specs.Builds.{Builds, unlimited};
+ghost use Rattle.dns_base.specs.Records.{record_of};
+ghost use Rattle.dns_zone.specs.Owned.{AreLawful};
+ghost use Rattle.dns_zone.specs.Places.{at_places};
+ghost use Rattle.dns_zone.specs.ZoneReply.{authoritative, denied, referral};
+ghost use Rattle.dns_name_server.specs.Steps.{behind, end_reply, wire_message, wired};
+
+use crate::step::{End, record_at};
+use dns_base::{AdditionalBuilder, Message, PushError, Rcode, Record, WireRecords};
+use dns_name::OutOfMemory;
+use dns_zone::begin_reply;
+use dns_zone_tree::ZoneTree;
+use std::alloc::Global;
+
+/// A reply to a query that has these records.
+fn built(
+    alloc: Global,
+    query: &Message,
+    code: (Rcode, bool),
+    answers: &WireRecords,
+    authority: &WireRecords,
+    additional: &WireRecords,
+) -> Result<AdditionalBuilder, PushError>
+    ensures { Builds (unlimited (wire_message query.now (record { aa = code.1; rcode = code.0; answers = answers.now; authority = authority.now; additional = additional.now }))) result }
+{
+    let mut reply = begin_reply(alloc, query, code.0, code.1)?;
+    reply.push_records(answers)?;
+    let mut behind = reply.authority();
+    behind.push_records(authority)?;
+    let mut last = behind.additional();
+    last.push_records(additional)?;
+    Ok(last)
+}
+
+/// Adds the record at a place, where there is one.
+fn add_place(
+    alloc: Global,
+    records: &[Record],
+    place: usize,
+    into: &mut WireRecords,
+) -> Result<(), OutOfMemory>
+    requires { AreLawful records.now }
+    ensures { OnOk result (into.new ≡ into.old ++ map record_of (at_places records.now (place ∷ []))) }
+{
+    match record_at(records, place) {
+        Some(record) => into.push(alloc, record),
+        None => Ok(()),
+    }
+}
+
+/// Adds the records at places, one after another.
+fn add_places(
+    alloc: Global,
+    records: &[Record],
+    places: &[usize],
+    into: &mut WireRecords,
+) -> Result<(), OutOfMemory>
+    requires { AreLawful records.now }
+    ensures { OnOk result (into.new ≡ into.old ++ map record_of (at_places records.now places.now)) }
+{
+    'each: for place in places {
+        add_place(alloc, records, *place, into)?;
+    }
+    Ok(())
+}
+
+/// The records at places.
+fn wire_places(
+    alloc: Global,
+    records: &[Record],
+    places: &[usize],
+) -> Result<WireRecords, OutOfMemory>
+    requires { AreLawful records.now }
+    ensures { IfOk result (λ w. w ≡ map record_of (at_places records.now places.now)) }
+{
+    let mut all = WireRecords::new(alloc);
+    add_places(alloc, records, places, &mut all)?;
+    Ok(all)
+}
+
+/// The answers that are given, and nothing more.
+fn alone(
+    alloc: Global,
+    query: &Message,
+    rcode: Rcode,
+    given: &WireRecords,
+) -> Result<AdditionalBuilder, PushError>
+    ensures { Builds (unlimited (wire_message query.now (record { aa = true; rcode = rcode; answers = given.now; authority = []; additional = [] }))) result }
+{
+    let none = WireRecords::new(alloc);
+    built(alloc, query, (rcode, true), given, &none, &none)
+}
+
+/// The answers that are given, and a referral to the name servers at places.
+fn referred(
+    zone: &ZoneTree,
+    alloc: Global,
+    query: &Message,
+    given: &WireRecords,
+    servers: &[usize],
+) -> Result<AdditionalBuilder, PushError>
+    ensures { Builds (unlimited (wire_message query.now (behind given.now (wired (referral zone.now (at_places zone.now.records servers.now)))))) result }
+{
+    let glue = zone.glue(alloc, servers)?;
+    let authority = wire_places(alloc, zone.records(), servers)?;
+    let additional = wire_places(alloc, zone.records(), glue.as_slice())?;
+    let aa = !given.is_empty();
+    built(
+        alloc,
+        query,
+        (Rcode::NOERROR, aa),
+        given,
+        &authority,
+        &additional,
+    )
+}
+
+/// The response code of a negative answer.
+fn negative_code(there: bool) -> Rcode
+    ensures { result ≡ (if there then 0 else 3) }
+{
+    if there {
+        return Rcode::NOERROR;
+    }
+    Rcode::NXDOMAIN
+}
+
+/// The answers that are given, and that there are no such records, of a name that exists or not.
+fn denied(
+    zone: &ZoneTree,
+    alloc: Global,
+    query: &Message,
+    given: &WireRecords,
+    there: bool,
+) -> Result<AdditionalBuilder, PushError>
+    ensures { Builds (unlimited (wire_message query.now (behind given.now (wired (denied zone.now (if there then 0 else 3)))))) result }
+{
+    let none = WireRecords::new(alloc);
+    let mut authority = WireRecords::new(alloc);
+    authority.push(alloc, zone.negative())?;
+    built(
+        alloc,
+        query,
+        (negative_code(there), true),
+        given,
+        &authority,
+        &none,
+    )
+}
+
+/// The answers that are given, and records at places.
+fn found(
+    zone: &ZoneTree,
+    alloc: Global,
+    query: &Message,
+    given: WireRecords,
+    places: &[usize],
+) -> Result<AdditionalBuilder, PushError>
+    ensures { Builds (unlimited (wire_message query.now (behind given (wired (authoritative (at_places zone.now.records places.now)))))) result }
+{
+    let mut answers = given;
+    add_places(alloc, zone.records(), places, &mut answers)?;
+    alone(alloc, query, Rcode::NOERROR, &answers)
+}
+
+/// The reply that has the aliases that are given, and their end.
+pub(crate) fn composed(
+    zone: &ZoneTree,
+    alloc: Global,
+    query: &Message,
+    given: WireRecords,
+    end: &End<'_>,
+) -> Result<AdditionalBuilder, PushError>
+    ensures { Builds (unlimited (wire_message query.now (behind given (wired (end_reply zone.now end.now))))) result }
+{
+    match end {
+        End::Own(places) => found(zone, alloc, query, given, places),
+        End::Nothing => alone(alloc, query, Rcode::NOERROR, &given),
+        End::Delegation(servers) => referred(zone, alloc, query, &given, servers),
+        End::Denied(there) => denied(zone, alloc, query, &given, *there),
+        End::TooLong => alone(alloc, query, Rcode::YXDOMAIN, &given),
+    }
+}

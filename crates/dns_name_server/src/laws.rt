@@ -1,0 +1,28 @@
+//! Laws of the replies of a name server.
+
+ghost use Rattle.dns_name_server.specs.WildReplies.{DirectRepliesAreTheZones, DirectRepliesAreWild, ExistingNamesAreTheirOwn, WildcardsAlone, WildcardsAreStars};
+
+/// Where no wildcard exists the reply is that without wildcards.
+#[tactic(auto, using(crate::proofs::WildLaws::wildcards_alone))]
+pub fn wildcards_alone()
+    ensures { WildcardsAlone }
+{}
+
+/// No wildcard exists where no label of an owner is `*`.
+#[tactic(auto, using(crate::proofs::WildLaws::wildcards_are_stars))]
+pub fn wildcards_are_stars()
+    ensures { WildcardsAreStars }
+{}
+
+/// The reply for a name that exists and is no alias is that without wildcards.
+#[tactic(auto, using(crate::proofs::WildLaws::existing_names_are_their_own))]
+pub fn existing_names_are_their_own()
+    ensures { ExistingNamesAreTheirOwn }
+{}
+
+/// Where no alias and no DNAME is in the way and the type isn't DS, the reply of a name server is that of a zone with
+/// wildcards, and where no wildcard exists that of a zone.
+pub fn direct_replies_are_the_zones()
+    ensures wild { DirectRepliesAreWild }
+    ensures zone { DirectRepliesAreTheZones }
+{}

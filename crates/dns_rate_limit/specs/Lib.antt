@@ -1,0 +1,5 @@
+pub mod Accounts
+pub mod Histories
+pub mod Networks
+pub mod Tables
+pub mod Limited

@@ -1,0 +1,15 @@
+pub mod Places
+pub mod Bare
+pub mod Feeding
+pub mod Names
+pub mod Stores
+pub mod Marks
+pub mod Written
+pub mod FoundAgain
+pub mod Verified
+pub mod Texts
+pub mod Chains
+pub mod Streams
+pub mod RecordOctets
+pub mod Refusing
+pub mod StreamsFollowed

@@ -1,0 +1,17 @@
+pub mod Codes
+pub mod Tsig
+pub mod Reading
+pub mod Found
+pub mod Places
+pub mod Keys
+pub mod Secrets
+pub mod Digested
+pub mod Verdicts
+pub mod Signed
+pub mod Refusals
+pub mod Messages
+pub mod Streams
+pub mod Streaming
+pub mod Chained
+pub mod Sending
+pub mod Verified

@@ -1,0 +1,19 @@
+use Rattle.std.proofs.Common.{◌≡◌, ap, length, map, sym, subst, ◌∙◌}
+use Rattle.std.specs.List.{filter}
+use Rattle.dns_order.specs.Keys.{canonical_key}
+use Rattle.dns_zone.specs.Owned.{is_of}
+use Rattle.dns_zone.specs.ZoneReply.{negative_soa}
+use Rattle.dns_zone_tree.proofs.zone_tree.made.Goals as goal
+
+pub negative_of-requires : goal.negative_of-requires
+negative_of-requires c = ap (λ l. length (filter (is_of 6) l)) c.as_slice.ensures.value ∙ c.requires.one
+
+pub invariant_of-result : goal.invariant_of-result
+invariant_of-result c = record {
+  lawful = c.requires.lawful;
+  within = c.requires.within;
+  short = c.requires.short;
+  known = c.requires.known;
+  dnames_ = c.in_ok-dnames.ensures ∙ c.requires.known.kept c.args.apex 39;
+  soa = sym (ap (λ l. map negative_soa (filter (is_of 6) l)) c.as_slice.ensures.value) ∙ c.in_ok-negative.ensures;
+}

@@ -1,0 +1,10 @@
+pub use Rattle.dns_zone.specs.Owned
+pub use Rattle.dns_zone.specs.ZoneReply
+pub use Rattle.dns_zone.specs.ZoneErrors
+pub mod Wildcards
+pub mod Regions
+pub mod Kinds
+pub mod Long
+pub mod Names
+pub mod TreeErrors
+pub mod Walks

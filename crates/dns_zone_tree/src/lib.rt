@@ -1,0 +1,51 @@
+//! The zones of an authority: records that are found by a tree of keys in the canonical order, with wildcards, cuts
+//! and DNAME.
+//!
+//! - `ZoneTree::new` takes an apex and a list of records, and refuses lists that are no zone (`TreeError`). RRSIG and
+//!   NSEC records may stand beside a CNAME record. NS records at a wildcard, and records above 65,000 octets, are
+//!   refused.
+//! - `walk` goes from the apex to a name, label by label, and says what it ends at (`Walk`).
+//! - `wildcard` finds the wildcard below a name, and `glue` the addresses of name servers.
+//! - `Kinds` are the places of the records of one name, by type.
+//!
+//! `Zone` of dns_zone is a single service over such a list; a `ZoneTree` is what the reply of a name server is made
+//! from, in dns_name_server. A name that exists has a node in the tree even where it owns no record.
+//!
+//! ```text
+//! apex -> label -> label -> name          Node: its records | Missing: behind its closest encloser
+//!          |        |
+//!          |        DNAME records: Dname, and nothing below is reached
+//!          NS records: Cut, and nothing below is reached
+//! ```
+//!
+//! # What is proved
+//!
+//! - A list is refused exactly as `tree_error` says, which names the first cause and the record's place.
+//! - A walk ends where the definitions over the list of records say (`region`; RFC 1034, section 4.3.2, step 3;
+//!   RFC 6672, section 2.4): at the name, at its closest encloser, at a cut or at DNAME records.
+//! - A walk for type DS passes the cut at the name itself, whose DS records are the parent's (RFC 4035, section
+//!   3.1.4.1).
+//! - What is found of a name or of a wildcard is the places of exactly its records, in the order of the list, and
+//!   whether it exists.
+//! - `glue` is the addresses of the name servers that lie in the zone, each once, in the order of the list.
+//!
+//! # What a body could still get away with
+//!
+//! How many names a walk looks up, and how much memory the tree takes. By reading the code a walk looks up one name
+//! for each label below the apex.
+#![tactic(auto)]
+
+mod check;
+mod error;
+mod glue;
+mod kinds;
+mod listing;
+mod names;
+mod walk;
+mod zone_tree;
+
+pub use error::TreeError;
+pub use glue::record_target;
+pub use kinds::{ANY, Kinds, all_in, places_in};
+pub use walk::Walk;
+pub use zone_tree::ZoneTree;

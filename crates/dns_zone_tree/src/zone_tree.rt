@@ -1,0 +1,109 @@
+//! A zone of an authority.
+
+ghost use Rattle.std.specs.Prelude.{◌≡◌, ◌∷◌, [], length, map, None, IfOk};
+ghost use Rattle.std.specs.List.{AllByRecursion, filter, position};
+ghost use Rattle.dns_base.specs.Records.{IsLawful};
+ghost use Rattle.dns_zone.specs.Kept.{IsInZone};
+ghost use Rattle.dns_zone.specs.Owned.{AreLawful, is_of};
+ghost use Rattle.dns_zone.specs.ZoneReply.{negative_soa};
+ghost use Rattle.dns_zone_tree.specs.Long.{is_long};
+ghost use Rattle.dns_zone_tree.specs.Names.{KnowsNames};
+ghost use Rattle.dns_zone_tree.specs.TreeErrors.{Makes, tree_error};
+
+use crate::check::checked;
+use crate::error::TreeError;
+use crate::listing::{dnames_at, negative_of};
+use crate::names::Names;
+use dns_base::Record;
+use dns_name::{Name, OutOfMemory};
+use std::alloc::Global;
+use std::marker::Model;
+
+/// A zone of an authority: records that are found by name and type, in a tree by keys in the canonical order. Contracts see
+/// the apex and the records in order.
+#[derive(Drop)]
+pub struct ZoneTree {
+    pub(crate) apex: Name,
+    pub(crate) records: Vec<Record>,
+    pub(crate) names: Names,
+    pub(crate) dnames: Vec<usize>,
+    pub(crate) negative: Record,
+}
+
+impl Model for ZoneTree {
+    ghost use Rattle.dns_zone.specs.Owned.{ZoneState};
+    ghost use Rattle.dns_zone_tree.specs.Names.{IsTree};
+
+    ghost Value = { ZoneState };
+
+    ghost view = { λ z. record { apex = z.apex; records = z.records.items } };
+
+    ghost invariant = { λ z. IsTree z.apex z.records.items z.names z.dnames.items z.negative };
+}
+
+/// The zone of records that were checked.
+fn made(
+    alloc: Global,
+    apex: Name,
+    records: Vec<Record>,
+    names: Names,
+) -> Result<ZoneTree, OutOfMemory>
+    requires lawful { AreLawful records.items }
+    requires within { AllByRecursion (IsInZone apex) records.items }
+    requires short { position is_long records.items ≡ None }
+    requires one { length (filter (is_of 6) records.items) ≡ 1 }
+    requires known { KnowsNames names records.items }
+    ensures { IfOk result (λ z. z ≡ record { apex = apex; records = records.items }) }
+{
+    let negative = negative_of(alloc, records.as_slice())?;
+    let dnames = dnames_at(alloc, &names, &apex)?;
+    Ok(ZoneTree {
+        apex,
+        records,
+        names,
+        dnames,
+        negative,
+    })
+}
+
+impl ZoneTree {
+    /// The zone that begins at the apex and has these records. Refused for the first of the causes in the order of
+    /// `TreeError`, whose places are those of the list.
+    pub fn new(alloc: Global, apex: Name, records: Vec<Record>) -> Result<ZoneTree, TreeError>
+        requires { AreLawful records.items }
+        ensures { Makes (tree_error apex records.items) (record { apex = apex; records = records.items }) result }
+    {
+        match checked(alloc, &apex, records.as_slice()) {
+            Ok(names) => match made(alloc, apex, records, names) {
+                Ok(zone) => Ok(zone),
+                Err(_) => Err(TreeError::OutOfMemory),
+            },
+            Err(error) => Err(error),
+        }
+    }
+
+    /// The name at which it begins.
+    pub fn apex(&self) -> &Name
+        ensures { result.now ≡ self.now.apex }
+    {
+        &self.apex
+    }
+
+    /// Its records, in order.
+    pub fn records(&self) -> &[Record]
+        ensures value { result.now ≡ self.now.records }
+        ensures lawful { AreLawful result.now }
+        ensures within { AllByRecursion (IsInZone self.now.apex) result.now }
+        ensures short { position is_long result.now ≡ None }
+    {
+        self.records.as_slice()
+    }
+
+    /// The SOA record as it is in a negative answer (RFC 2308, section 3).
+    pub fn negative(&self) -> &Record
+        ensures value { map negative_soa (filter (is_of 6) self.now.records) ≡ result.now ∷ [] }
+        ensures lawful { IsLawful result.now.rdata }
+    {
+        &self.negative
+    }
+}

@@ -1,0 +1,50 @@
+//! Proxies of rows.
+
+use dns_cache::Cache;
+use dns_fronts::{CachedFront, LayeredFront};
+use dns_name::{Addrs, IpAddr, SocketAddr};
+use dns_proxy::{Proxy, UpstreamConfig};
+use dns_service::{DgramConfig, Settings};
+use rows_table::{Row, RowError};
+
+/// The upstream that is asked: 192.0.2.53, port 53, three times, each 1,000 ms after the one before.
+pub(crate) const UPSTREAM: UpstreamConfig = UpstreamConfig {
+    addr: SocketAddr {
+        ip: IpAddr::V4([192, 0, 2, 53]),
+        port: 53,
+    },
+    tries: 3,
+    timeout: 1000,
+};
+
+/// The sender of each client's datagram.
+pub(crate) const CLIENT: SocketAddr = SocketAddr {
+    ip: IpAddr::V4([192, 0, 2, 1]),
+    port: 5353,
+};
+
+/// A proxy by some settings, of so many queries and replies in the cache as the next words say.
+pub(crate) fn next_proxy(
+    row: &mut Row<'_>,
+    settings: Settings,
+) -> Result<Proxy<CachedFront>, RowError> {
+    let bound: usize = row.number();
+    let capacity: usize = row.number();
+    match Cache::new(row.alloc(), capacity) {
+        Ok(cache) => {
+            let front = CachedFront::new(LayeredFront::new(settings), cache);
+            Ok(Proxy::new(row.alloc(), front, DgramConfig::new(), bound))
+        }
+        Err(_) => Err(RowError::OutOfMemory),
+    }
+}
+
+/// Settings with cookies of the secret of the next word, which the client's address has to have.
+pub(crate) fn next_cookies(row: &mut Row<'_>) -> Settings {
+    let mut settings = Settings::new(row.alloc());
+    settings.cookies = Some(row.array());
+    let mut denied = Vec::new(row.alloc());
+    row.keep(denied.push(CLIENT.ip));
+    settings.denied = Addrs::from_vec(denied);
+    settings
+}

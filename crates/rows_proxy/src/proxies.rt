@@ -1,0 +1,129 @@
+//! Rows of proxies that steps are taken with.
+
+use crate::made::{CLIENT, UPSTREAM, next_cookies, next_proxy};
+use dns_fronts::CachedFront;
+use dns_name::{Octets, OutOfMemory, SocketAddr};
+use dns_proxy::{ClientDatagram, LookupEvent, Proxy, QueryOutcome, Started};
+use dns_service::Settings;
+use rows_table::{Calls, Row, RowError, Steps};
+
+/// What a proxy leads to at steps.
+pub(crate) struct Proxies;
+
+impl Calls for Proxies {
+    fn answer(&self, call: &str, row: &mut Row<'_>) -> Result<(), RowError> {
+        match call {
+            "proxy" => {
+                let settings = Settings::new(row.alloc());
+                step_all(row, settings)
+            }
+            "cookie_proxy" => {
+                let settings = next_cookies(row);
+                step_all(row, settings)
+            }
+            _ => return Err(RowError::NoSuchCall),
+        }
+        Ok(())
+    }
+}
+
+/// What a proxy of some settings leads to at steps.
+fn step_all(row: &mut Row<'_>, settings: Settings) {
+    match next_proxy(row, settings) {
+        Ok(proxy) => row.take_steps(";", &mut Stepped { proxy }),
+        Err(fault) => row.fail(fault),
+    }
+}
+
+/// A proxy that steps are taken with.
+#[derive(Drop)]
+struct Stepped {
+    proxy: Proxy<CachedFront>,
+}
+
+impl Steps for Stepped {
+    /// A client's datagram, or an event of the query at a place: a datagram, a message over a connection, that it was lost, or
+    /// the time.
+    fn take_step(&mut self, step: &str, row: &mut Row<'_>) {
+        match step {
+            "datagram" => began(row, &mut self.proxy),
+            _ => {
+                let place: usize = row.number();
+                match next_event(row, step) {
+                    Some(event) => led(row, self.proxy.step(row.alloc(), place, &event)),
+                    None => row.fail(RowError::NoSuchStep),
+                }
+            }
+        }
+    }
+}
+
+/// How a datagram of a client starts, by the next words: the client's number, the moment, the seconds, the identifier for the
+/// upstream, and the octets.
+fn began(row: &mut Row<'_>, proxy: &mut Proxy<CachedFront>) {
+    let client: u64 = row.number();
+    let at: u64 = row.number();
+    let secs: u64 = row.number();
+    let id: u16 = row.number();
+    let octets = Octets::from_vec(row.vector());
+    let came = ClientDatagram {
+        client,
+        addr: CLIENT,
+        at,
+        secs,
+        octets,
+    };
+    match proxy.begin(row.alloc(), &came, UPSTREAM, id) {
+        Ok(Started::Sent(octets)) => sent(row, "sent", octets),
+        Ok(Started::Asks { place, octets }) => {
+            row.say("asks");
+            row.show(&place);
+            row.hexadecimal(octets.as_slice())
+        }
+        Err(_) => row.fail(RowError::OutOfMemory),
+    }
+}
+
+/// The event of a step's name, by the next words.
+fn next_event(row: &mut Row<'_>, step: &str) -> Option<LookupEvent> {
+    match step {
+        "arrived" => {
+            let ip = row.address();
+            let port: u16 = row.number();
+            let at: u64 = row.number();
+            let octets = Octets::from_vec(row.vector());
+            let from = SocketAddr { ip, port };
+            Some(LookupEvent::Datagram { from, at, octets })
+        }
+        "frame" => {
+            let at: u64 = row.number();
+            let octets = Octets::from_vec(row.vector());
+            Some(LookupEvent::Frame { at, octets })
+        }
+        "lost" => Some(LookupEvent::Lost),
+        "tick" => {
+            let at: u64 = row.number();
+            Some(LookupEvent::Tick { at })
+        }
+        _ => None,
+    }
+}
+
+/// What an event leads to.
+fn led(row: &mut Row<'_>, outcome: Result<QueryOutcome, OutOfMemory>) {
+    match outcome {
+        Ok(QueryOutcome::Nothing) => row.say("nothing"),
+        Ok(QueryOutcome::Send(octets)) => sent(row, "send", Some(octets)),
+        Ok(QueryOutcome::Connect(octets)) => sent(row, "connect", Some(octets)),
+        Ok(QueryOutcome::Reply(octets)) => sent(row, "reply", octets),
+        Err(_) => row.fail(RowError::OutOfMemory),
+    }
+}
+
+/// Octets that are sent, if there are some, behind a word.
+fn sent(row: &mut Row<'_>, word: &str, octets: Option<Octets>) {
+    row.say(word);
+    if let Some(octets) = octets {
+        row.hexadecimal(octets.as_slice())
+    }
+}
