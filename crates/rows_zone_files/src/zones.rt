@@ -1,6 +1,5 @@
 //! The calls of dns_zone_file. In a text of a zone file, which is all words behind the origin, `|` stands for LF.
 
-use crate::said::{said_each, said_lines, text};
 use dns_message::Record;
 use dns_name::NameRef;
 use dns_zone_file::{ZoneFileError, read_zone, write_zone};
@@ -21,6 +20,22 @@ impl Calls for Zones {
     }
 }
 
+/// A copy of octets in which every `from` is replaced by `to`.
+fn exchanged(row: &mut Row<'_>, octets: &[u8], from: u8, to: u8) -> Vec<u8> {
+    let mut text = Vec::new(row.alloc());
+    for octet in octets {
+        let kept = if *octet == from { to } else { *octet };
+        row.keep(text.push(kept));
+    }
+    text
+}
+
+/// The text of all words that are left, with LF for each `|`.
+fn text(row: &mut Row<'_>) -> Vec<u8> {
+    let words = row.all_words();
+    exchanged(row, words.as_bytes(), b'|', b'\n')
+}
+
 /// The records of a text below an origin.
 fn records(alloc: Global, origin: &NameRef<'_>, text: &[u8]) -> Result<Vec<Record>, ZoneFileError> {
     let origin = origin.to_owned(alloc)?;
@@ -38,12 +53,26 @@ fn refused(row: &mut Row<'_>, error: ZoneFileError) {
     }
 }
 
+/// Says a record: its owner's octets, its TTL, its type and its data's octets.
+fn said_record(row: &mut Row<'_>, record: &Record) {
+    row.hexadecimal(record.owner.as_slice());
+    row.show(&record.ttl.as_secs());
+    row.show(&record.rdata.rtype().to_int());
+    let mut octets = Vec::new(row.alloc());
+    row.keep(record.rdata.compose(row.alloc(), &mut octets));
+    row.hexadecimal(&octets);
+}
+
 /// The records of a text, or why it is refused.
 fn said_records(row: &mut Row<'_>) {
     let origin = row.name();
     let text = text(row);
     match records(row.alloc(), &origin, text.as_slice()) {
-        Ok(records) => said_each(row, records.as_slice()),
+        Ok(records) => {
+            for record in records.as_slice() {
+                said_record(row, record);
+            }
+        }
         Err(error) => refused(row, error),
     }
 }
@@ -66,6 +95,15 @@ fn said_written(row: &mut Row<'_>, records: &[Record]) {
             said_lines(row, written.as_slice());
         }
         Err(_) => row.fail(RowError::OutOfMemory),
+    }
+}
+
+/// Says lines, with `|` for LF.
+fn said_lines(row: &mut Row<'_>, lines: &[u8]) {
+    let line = exchanged(row, lines, b'\n', b'|');
+    match str::from_utf8(line.as_slice()) {
+        Ok(text) => row.say(text),
+        Err(_) => row.fail(RowError::OutOfForm),
     }
 }
 

@@ -1,0 +1,3 @@
+pub use Rattle.dns_host.specs.Hosting
+pub mod Workers
+pub mod Faults
