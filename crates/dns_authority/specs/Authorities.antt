@@ -1,6 +1,7 @@
 -- What an authority answers to a request: of its zones the one with the longest apex that ends the question's name replies.
-use Rattle.std.specs.Prelude.{ℕ, ◌≡◌, ◌≤◌, Bool, true, false, ◌&&◌, ◌||◌, List, [], ◌∷◌, length, nat_eq, nat_lt, if◌then◌else◌, Option, Some, None}
+use Rattle.std.specs.Prelude.{ℕ, ◌≡◌, ◌≤◌, Bool, true, false, ◌&&◌, ◌||◌, not, List, [], ◌∷◌, length, nat_eq, nat_lt, if◌then◌else◌, Option, Some, None}
 use Rattle.std.specs.List.{AllByRecursion}
+use Rattle.std.specs.Option.{option_or}
 use Rattle.dns_name.specs.Canonical.{same_name}
 use Rattle.dns_base.specs.Header.{header_of}
 use Rattle.dns_base.specs.Sections.{counts_of, first_of, questions_of}
@@ -11,7 +12,7 @@ use Rattle.dns_service.specs.Req.{Req}
 use Rattle.dns_service.specs.Transport.{is_stream}
 use Rattle.dns_route.specs.Routes.{ends_name}
 use Rattle.dns_zone.specs.Owned.{ZoneState}
-use Rattle.dns_zone.specs.ZoneReply.{zone_reply}
+use Rattle.dns_name_server.specs.NameServerReplies.{name_server_reply}
 use Rattle.dns_zone.specs.ZoneTurns.{zone_begun, zone_message}
 use Rattle.dns_authority.specs.Networks.{is_in_any}
 use Rattle.dns_authority.specs.declared.networks.Network.{Network}
@@ -26,6 +27,19 @@ longer z (Some y) = if nat_lt (length z.apex) (length y.apex) then Some y else S
 abbrev pub zone_for : List (List ℕ) → List ZoneState → Option ZoneState
 zone_for name [] = None
 zone_for name (z ∷ zs) = if ends_name name z.apex then longer z (zone_for name zs) else zone_for name zs
+
+-- the zone with the longest apex that ends a name and isn't the name
+abbrev pub zone_above : List (List ℕ) → List ZoneState → Option ZoneState
+zone_above name [] = None
+zone_above name (z ∷ zs) = if not (same_name name z.apex) && ends_name name z.apex then longer z (zone_above name zs) else zone_above name zs
+
+-- the zone for DS records of a name: where that begins a zone, the zone above it, if it is served too (RFC 4035, section 3.1.4.1)
+abbrev pub zone_for_ds : List (List ℕ) → List ZoneState → Option ZoneState
+zone_for_ds name zs = option_or (zone_above name zs) (zone_for name zs)
+
+-- the zone that a question asks
+abbrev pub asked_zone : Question → List ZoneState → Option ZoneState
+asked_zone q zs = if nat_eq q.qtype 43 then zone_for_ds q.qname zs else zone_for q.qname zs
 
 -- where a zone's apex ends a name, it is no longer than another's
 abbrev pub IsNoLonger : List (List ℕ) → ZoneState → ZoneState → Type 0
@@ -46,9 +60,9 @@ sole_question o = if nat_eq (counts_of o).qdcount 1 then first_of (questions_of 
 abbrev pub coded : List ℕ → ℕ → Item
 coded o rcode = message_item None (zone_begun o rcode false)
 
--- a zone's reply to a query's octets
+-- the reply of a name server to a query's octets, from a zone
 abbrev pub zone_item : List ℕ → Question → ZoneState → Item
-zone_item o q z = message_item None (zone_message o (zone_reply z q))
+zone_item o q z = message_item None (zone_message o (name_server_reply z q))
 
 -- ---- transfers
 
@@ -73,7 +87,7 @@ by_zone allowed r q (Some z) = if asks_transfer q then transferred allowed r q z
 
 -- by the class
 abbrev pub by_class : {Meta : Type 0} → List Network → List ZoneState → Req Meta → Question → ℕ → Answer
-by_class allowed zs r q = if nat_eq q.qclass 1 then by_zone allowed r q (zone_for q.qname zs) else once (coded r.octets 5)
+by_class allowed zs r q = if nat_eq q.qclass 1 then by_zone allowed r q (asked_zone q zs) else once (coded r.octets 5)
 
 -- by the one question
 abbrev pub by_question : {Meta : Type 0} → List Network → List ZoneState → Req Meta → Option Question → ℕ → Answer

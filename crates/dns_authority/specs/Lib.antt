@@ -1,11 +1,9 @@
 pub use Rattle.dns_zone.specs.Owned
-pub use Rattle.dns_zone.specs.ZoneReply
+pub use Rattle.dns_name_server.specs.NameServerReplies
 pub use Rattle.dns_zone.specs.ZoneTurns
 pub use Rattle.dns_transfer.specs.Transfers
 pub use Rattle.dns_kinds.specs.Subnet
 pub mod Networks
-pub mod Wildcards
-pub mod NameServerReplies
 pub mod Streams
 pub mod Authorities
 pub mod Served

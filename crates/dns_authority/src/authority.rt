@@ -1,9 +1,8 @@
 //! An authority over several zones.
 
-ghost use Rattle.std.specs.Prelude.{◌≡◌, ◌++◌, ◌∷◌, [], ℕ, List, IsTrue, IfOk, OnOk, OnErr, Some, None, Option, false, ◌&&◌, nat_eq, if◌then◌else◌};
+ghost use Rattle.std.specs.Prelude.{◌≡◌, ◌++◌, ◌∷◌, [], ℕ, List, IsTrue, IfOk, OnOk, OnErr, Some, None, Option, false, ◌&&◌, not, nat_eq, if◌then◌else◌};
 ghost use Rattle.std.specs.Arc.{arc_value};
 ghost use Rattle.std.specs.Option.{option_copied};
-ghost use Rattle.std.specs.List.{position};
 ghost use Rattle.dns_name.specs.Canonical.{same_name};
 ghost use Rattle.dns_base.specs.Builds.{Builds, unlimited};
 ghost use Rattle.dns_base.specs.Header.{header_of};
@@ -13,18 +12,16 @@ ghost use Rattle.dns_service.specs.Req.{hint_at_entry};
 ghost use Rattle.dns_service.specs.Transport.{is_stream};
 ghost use Rattle.dns_route.specs.Routes.{ends_name};
 ghost use Rattle.dns_zone.specs.ZoneTurns.{zone_begun};
-ghost use Rattle.dns_authority.specs.Authorities.{asks_transfer, authority_answer, by_class, by_question, by_zone, coded, longer, may_transfer, sole_question, transferred, zone_for};
-ghost use Rattle.dns_authority.specs.Served.{AddsZone, is_long};
+ghost use Rattle.dns_authority.specs.Authorities.{asked_zone, asks_transfer, authority_answer, by_class, by_question, by_zone, coded, longer, may_transfer, sole_question, transferred, zone_above, zone_for, zone_for_ds};
 
-use crate::error::AddError;
-use crate::lengths::first_long;
 use crate::networks::{Network, is_in_any};
 use crate::stream::{AuthorityFuture, AuthorityStream};
 use crate::zones::ServedZone;
-use dns_base::{AdditionalBuilder, Class, Message, Opcode, PushError, QuestionRef, Rcode};
+use dns_base::{AdditionalBuilder, Class, Message, Opcode, PushError, QuestionRef, Rcode, Rtype};
 use dns_service::{Once, OutOfMemory, ReplyStream, Request, Service, ServiceResult};
 use dns_transfer::message_item;
-use dns_zone::{Zone, begin_reply};
+use dns_zone::begin_reply;
+use dns_zone_tree::ZoneTree;
 use std::alloc::Global;
 use std::marker::Model;
 
@@ -55,8 +52,8 @@ impl Authority {
         }
     }
 
-    /// Puts a zone behind the others. A refused call leaves the authority.
-    fn put(&mut self, alloc: Global, zone: Zone) -> Result<(), OutOfMemory>
+    /// Adds a zone behind the others. A refused call leaves the authority.
+    pub fn add(&mut self, alloc: Global, zone: ZoneTree) -> Result<(), OutOfMemory>
         ensures ok { OnOk result (self.new ≡ record self.old { zones = self.old.zones ++ zone ∷ [] }) }
         ensures err { OnErr result (self.new ≡ self.old) }
     {
@@ -65,21 +62,7 @@ impl Authority {
         Ok(())
     }
 
-    /// Adds a zone. Refused for its first record that takes more than 65,000 octets, so that each record has room in a reply
-    /// of a transfer. A refused call leaves the authority.
-    pub fn add(&mut self, alloc: Global, zone: Zone) -> Result<(), AddError>
-        ensures { AddsZone (position is_long zone.records) self.old (record self.old { zones = self.old.zones ++ zone ∷ [] }) self.new result }
-    {
-        match first_long(zone.records()) {
-            Some(index) => Err(AddError::LongRecord { index }),
-            None => match self.put(alloc, zone) {
-                Ok(()) => Ok(()),
-                Err(_) => Err(AddError::OutOfMemory),
-            },
-        }
-    }
-
-    /// The zone that a question asks.
+    /// The zone with the longest apex that ends the name of a question.
     fn zone_for(&self, question: &QuestionRef<'_>) -> Option<&ServedZone>
         ensures { option_copied result ≡ zone_for question.now.qname self.now.zones }
     {
@@ -90,6 +73,39 @@ impl Authority {
             best = better(&self.zones[left], best, question);
         }
         best
+    }
+
+    /// The zone with the longest apex that ends the name of a question and isn't the name.
+    fn zone_above(&self, question: &QuestionRef<'_>) -> Option<&ServedZone>
+        ensures { option_copied result ≡ zone_above question.now.qname self.now.zones }
+    {
+        let mut best: Option<&ServedZone> = None;
+        let mut left = self.zones.len();
+        'each: while left > 0 {
+            left -= 1;
+            best = better_above(&self.zones[left], best, question);
+        }
+        best
+    }
+
+    /// The zone for a question for DS records.
+    fn zone_for_ds(&self, question: &QuestionRef<'_>) -> Option<&ServedZone>
+        ensures { option_copied result ≡ zone_for_ds question.now.qname self.now.zones }
+    {
+        match self.zone_above(question) {
+            Some(zone) => Some(zone),
+            None => self.zone_for(question),
+        }
+    }
+
+    /// The zone that a question asks.
+    fn asked_zone(&self, question: &QuestionRef<'_>) -> Option<&ServedZone>
+        ensures { option_copied result ≡ asked_zone question.now self.now.zones }
+    {
+        if asks_ds(question) {
+            return self.zone_for_ds(question);
+        }
+        self.zone_for(question)
     }
 
     /// What is answered to a question for a zone.
@@ -154,9 +170,9 @@ impl Authority {
         request: &Request<Meta>,
         question: &QuestionRef<'_>,
     ) -> Result<AuthorityStream, OutOfMemory>
-        ensures { IfOk result (λ s. ⟦<AuthorityStream as ReplyStream>⟧.answer s ≡ by_zone self.now.allowed request.now question.now (zone_for question.now.qname self.now.zones)) }
+        ensures { IfOk result (λ s. ⟦<AuthorityStream as ReplyStream>⟧.answer s ≡ by_zone self.now.allowed request.now question.now (asked_zone question.now self.now.zones)) }
     {
-        match self.zone_for(question) {
+        match self.asked_zone(question) {
             Some(zone) => self.asked(alloc, request, question, zone),
             None => coded(alloc, request, Rcode::REFUSED),
         }
@@ -273,6 +289,13 @@ fn asks_transfer(question: &QuestionRef<'_>) -> bool
     qtype == AXFR || qtype == IXFR
 }
 
+/// Whether a question asks for DS records.
+fn asks_ds(question: &QuestionRef<'_>) -> bool
+    ensures { result ≡ nat_eq question.now.qtype 43 }
+{
+    question.qtype() == Rtype::DS
+}
+
 /// A zone, where its apex ends the name of a question and is no shorter than that of the best one behind it.
 fn better<'a>(
     zone: &'a ServedZone,
@@ -288,6 +311,20 @@ fn better<'a>(
         Some(other) if zone.labels() < other.labels() => best,
         _ => Some(zone),
     }
+}
+
+/// That, but for a zone whose apex is the name.
+fn better_above<'a>(
+    zone: &'a ServedZone,
+    best: Option<&'a ServedZone>,
+    question: &QuestionRef<'_>,
+) -> Option<&'a ServedZone>
+    ensures { option_copied result ≡ (if not (same_name question.now.qname zone.now.apex) && ends_name question.now.qname zone.now.apex then longer zone.now (option_copied best.entry) else option_copied best.entry) }
+{
+    if zone.is_named(question) {
+        return best;
+    }
+    better(zone, best, question)
 }
 
 /// An item that is there at once.

@@ -1,37 +1,10 @@
-//! Laws of authorities and wildcards.
+//! Laws of authorities.
 
 ghost use Rattle.std.specs.Prelude.{◌≡◌, ◌↔◌, ℕ, List, IsTrue};
 ghost use Rattle.dns_name.specs.Canonical.{same_name};
 ghost use Rattle.dns_name.specs.Labels.{folded};
 ghost use Rattle.dns_authority.specs.Authorities.{LongestAnswers, TransfersAreAnswered};
-ghost use Rattle.dns_authority.specs.NameServerReplies.{DirectRepliesAreTheZones, DirectRepliesAreWild};
 ghost use Rattle.dns_authority.specs.Served.{TransfersAreTheRecords};
-ghost use Rattle.dns_authority.specs.Wildcards.{ExistingNamesAreTheirOwn, WildcardsAlone, WildcardsAreStars};
-
-/// Where no wildcard exists the reply is that without wildcards.
-#[tactic(auto, using(crate::proofs::WildLaws::wildcards_alone))]
-pub fn wildcards_alone()
-    ensures { WildcardsAlone }
-{}
-
-/// No wildcard exists where no label of an owner is `*`.
-#[tactic(auto, using(crate::proofs::WildLaws::wildcards_are_stars))]
-pub fn wildcards_are_stars()
-    ensures { WildcardsAreStars }
-{}
-
-/// The reply for a name that exists and is no alias is that without wildcards.
-#[tactic(auto, using(crate::proofs::WildLaws::existing_names_are_their_own))]
-pub fn existing_names_are_their_own()
-    ensures { ExistingNamesAreTheirOwn }
-{}
-
-/// Where no alias and no DNAME is in the way and the type isn't DS, the reply of a name server is that of a zone with
-/// wildcards, and where no wildcard exists that of a zone.
-pub fn direct_replies_are_the_zones()
-    ensures wild { DirectRepliesAreWild }
-    ensures zone { DirectRepliesAreTheZones }
-{}
 
 /// The zone that answers has the longest apex that ends the name.
 pub fn the_longest_apex_answers()

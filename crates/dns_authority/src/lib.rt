@@ -2,17 +2,17 @@
 //!
 //! - `Authority` is a service with zones by their apex. `Authority::new` takes the networks that transfers are
 //!   allowed to.
-//! - `add` adds a zone. It is refused for its first record above 65,000 octets (`AddError`), so that each record has
-//!   room in a reply of a transfer.
+//! - `add` adds a `ZoneTree` of dns_zone_tree, whose records each have room in a reply.
 //! - `Network` is the addresses whose first bits are those of an address.
 //! - `AuthorityStream` and `AuthorityFuture` are its replies: one reply, or the replies of a transfer.
 //!
-//! The replies of a transfer come from dns_transfer.
+//! The reply to a question is that of dns_name_server, and the replies of a transfer come from dns_transfer. A refusal
+//! is a reply with a response code, so that the layers give it an OPT record and a cookie as they do any other.
 //!
 //! ```text
-//! question -> no zone: REFUSED
-//!          -> AXFR: the address is allowed ? the transfer : REFUSED
-//!          -> the zone with the longest apex -> its reply
+//! question -> no zone, or another class than IN: REFUSED
+//!          -> AXFR, IXFR at the apex, over a stream: the address is allowed ? the transfer : REFUSED
+//!          -> the zone with the longest apex -> the reply of a name server
 //! ```
 //!
 //! # What is proved
@@ -20,6 +20,7 @@
 //! - The zone with the longest apex that ends the question's name answers (`the_longest_apex_answers`).
 //! - A query for a transfer gets it if it is allowed, and else REFUSED (`transfers_are_answered`). Its answer
 //!   records, joined, are those of the zone (`transfers_are_the_records`).
+//! - NOTIMP is the reply to another opcode than QUERY, and FORMERR to a query without one readable question.
 //! - A refused `add` leaves the authority.
 //!
 //! # What a body could still get away with
@@ -28,19 +29,13 @@
 #![tactic(auto)]
 
 mod authority;
-mod error;
 mod laws;
-mod lengths;
 mod networks;
 mod stream;
 mod zones;
 
 pub use authority::Authority;
 pub use dns_transfer::Transfer;
-pub use error::AddError;
-pub use laws::{
-    direct_replies_are_the_zones, existing_names_are_their_own, the_longest_apex_answers,
-    transfers_are_answered, transfers_are_the_records, wildcards_alone, wildcards_are_stars,
-};
+pub use laws::{the_longest_apex_answers, transfers_are_answered, transfers_are_the_records};
 pub use networks::Network;
 pub use stream::{AuthorityFuture, AuthorityStream};

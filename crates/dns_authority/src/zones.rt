@@ -9,10 +9,11 @@ ghost use Rattle.dns_transfer.specs.Transfers.{transfer};
 
 use crate::laws::same_names_are_folded;
 use dns_base::QuestionRef;
+use dns_name_server::name_server_reply;
 use dns_route::matches_are_suffixes;
 use dns_service::{OutOfMemory, ReplyStream, Request, ServiceResult};
 use dns_transfer::{Bunches, Transfer, message_item};
-use dns_zone::Zone;
+use dns_zone_tree::ZoneTree;
 use std::alloc::Global;
 use std::marker::Model;
 use std::sync::Arc;
@@ -20,7 +21,7 @@ use std::sync::Arc;
 /// A zone, and its records in the bunches of a transfer.
 #[derive(Drop)]
 pub(crate) struct ServedZone {
-    zone: Zone,
+    zone: ZoneTree,
     bunches: Arc<Bunches>,
 }
 
@@ -39,7 +40,7 @@ impl Model for ServedZone {
 
 impl ServedZone {
     /// A zone as it is served.
-    pub(crate) fn new(alloc: Global, zone: Zone) -> Result<ServedZone, OutOfMemory>
+    pub(crate) fn new(alloc: Global, zone: ZoneTree) -> Result<ServedZone, OutOfMemory>
         ensures { IfOk result (λ s. s ≡ zone) }
     {
         let bunches = Bunches::of(alloc, zone.records())?;
@@ -80,7 +81,7 @@ impl ServedZone {
         requires { IsTrue (ends_name question.now.qname self.now.apex) }
         ensures { IfOk result (λ i. i ≡ zone_item request.now.octets question.now self.now) }
     {
-        let built = self.zone.reply(alloc, request.message(), question);
+        let built = name_server_reply(&self.zone, alloc, request.message(), question);
         message_item(built, None)
     }
 

@@ -8,7 +8,7 @@ use dns_service::{
     CallResult, NonUdpTransportContext, Polled, ReplyFuture, ReplyStream, Request, Service,
     ServiceResult, TransportSpecificContext, UdpTransportContext,
 };
-use dns_zone::Zone;
+use dns_zone_tree::ZoneTree;
 use rows_table::{Calls, Row, RowError};
 
 /// What an authority answers.
@@ -52,20 +52,19 @@ fn add_zone(row: &mut Row<'_>, authority: &mut Authority) {
     match Name::from_octets(row.vector()) {
         Ok(apex) => {
             let records = next_records(row);
-            match Zone::new(row.alloc(), apex, records) {
+            match ZoneTree::new(row.alloc(), apex, records) {
                 Ok(zone) => added(row, authority, zone),
-                Err(error) => row.show(&error),
+                Err(error) => row.debug(&error),
             }
         }
         Err(_) => row.fail(RowError::OutOfForm),
     }
 }
 
-/// Adds a zone, or says why it is refused.
-fn added(row: &mut Row<'_>, authority: &mut Authority, zone: Zone) {
-    if let Err(error) = authority.add(row.alloc(), zone) {
-        row.debug(&error);
-    }
+/// Adds a zone.
+fn added(row: &mut Row<'_>, authority: &mut Authority, zone: ZoneTree) {
+    let done = authority.add(row.alloc(), zone);
+    row.keep(done);
 }
 
 /// A request from 192.0.2.1: its transport, `udp` or `stream`, and its message.

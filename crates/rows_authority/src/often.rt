@@ -11,7 +11,7 @@ use dns_service::{
     NonUdpTransportContext, Polled, ReplyFuture, ReplyStream, Request, Service, ServiceResult,
     TransportSpecificContext,
 };
-use dns_zone::Zone;
+use dns_zone_tree::ZoneTree;
 use rows_table::{Calls, Row, RowError};
 use std::alloc::Global;
 
@@ -117,7 +117,7 @@ fn add_zone(row: &mut Row<'_>, authority: &mut Authority, names: u64) {
     match Name::from_octets(apex) {
         Ok(apex) => {
             let records = records_of(row, names);
-            match Zone::new(row.alloc(), apex, records) {
+            match ZoneTree::new(row.alloc(), apex, records) {
                 Ok(zone) => added(row, authority, zone),
                 Err(_) => row.fail(RowError::OutOfForm),
             }
@@ -126,7 +126,7 @@ fn add_zone(row: &mut Row<'_>, authority: &mut Authority, names: u64) {
     }
 }
 
-fn added(row: &mut Row<'_>, authority: &mut Authority, zone: Zone) {
+fn added(row: &mut Row<'_>, authority: &mut Authority, zone: ZoneTree) {
     if authority.add(row.alloc(), zone).is_err() {
         row.fail(RowError::OutOfForm);
     }

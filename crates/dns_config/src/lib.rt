@@ -1,0 +1,37 @@
+//! The configuration of a name server, which is written in TOML.
+//!
+//! - `read_config` reads a text as a `Config`. A key that isn't known is refused by its name, and so is a value of
+//!   another form. `ConfigError` says why, with line and column.
+//! - `Config` says where is listened, which zones are served of which files, which have a primary, and to whom they
+//!   are transferred. `settings` gives the settings of the layers and of both transports.
+//! - `read_address`, `read_endpoint`, `read_prefix` and `read_secret` read single values.
+//!
+//! ```text
+//! text -> read_config -> Config -> settings -> wrap and the servers
+//! ```
+//!
+//! The crate reads no file.
+//!
+//! # What is proved
+//!
+//! - An address, an address with a port, a network and a secret are what their texts write; else there is none.
+//! - Each key of limits and timeouts sets its value, limited to the range of the setter. A key that isn't there leaves
+//!   the value that one starts from.
+//! - A configuration that was read names an address at which is listened.
+//!
+//! # What a body could still get away with
+//!
+//! What `toml` and `serde` read of a document is tested alone: a derived reader has no clause.
+#![tactic(auto)]
+
+mod address;
+mod config;
+mod fields;
+mod prefix;
+mod secret;
+
+pub use address::{Endpoint, PeerAddress, read_address, read_endpoint};
+pub use config::{Config, ConfigError, Cookies, Limits, Timeouts, ZoneEntry, read_config};
+pub use fields::{AddressList, ZoneName};
+pub use prefix::{Prefix, read_prefix};
+pub use secret::{Secret, read_secret};

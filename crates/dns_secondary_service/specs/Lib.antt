@@ -1,0 +1,3 @@
+pub use Rattle.dns_secondary.specs.Copies
+pub mod Withheld
+pub mod Targets
