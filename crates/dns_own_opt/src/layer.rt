@@ -1,0 +1,55 @@
+//! The layer.
+
+ghost use Rattle.std.specs.Prelude.{◌≡◌};
+ghost use Rattle.dns_own_opt.specs.OwnOpts.{with_own_opt};
+
+use crate::rule::OwnOpt;
+use dns_layers::{Layered, of_mapped};
+use dns_service::{Now, OutOfMemory, Request, Service};
+use std::alloc::Global;
+
+/// A service whose replies state the server's own size over UDP and the request's DO, if they have an OPT record.
+#[derive(Drop)]
+pub struct OwnOptSvc<S> {
+    next: S,
+    size: u16,
+}
+
+impl<S> OwnOptSvc<S> {
+    /// Round a service, for a server that takes so many octets over UDP.
+    pub fn new(next: S, size: u16) -> Self
+        ensures { result ≡ record { next = next; size = size } }
+    {
+        OwnOptSvc { next, size }
+    }
+}
+
+impl<S, Meta> Service<Meta> for OwnOptSvc<S>
+where
+    S: Service<Meta>,
+{
+    type Stream = Layered<S, Meta, OwnOpt>;
+
+    type Future = Now<Layered<S, Meta, OwnOpt>>;
+
+    ghost answer = { λ s. with_own_opt s.size (S.answer s.next) };
+
+    ghost hint = { λ s. S.hint s.next };
+
+    ghost can_call = { λ s. S.can_call s.next };
+
+    fn call(
+        &self,
+        alloc: Global,
+        request: &mut Request<Meta>,
+    ) -> Result<Now<Layered<S, Meta, OwnOpt>>, OutOfMemory> {
+        let Ok(original) = request.try_clone(alloc, ()) else {
+            return Err(OutOfMemory);
+        };
+        let rule = OwnOpt::new(self.size, request.message());
+        match self.next.call(alloc, request) {
+            Ok(future) => Ok(of_mapped::<S, Meta, _>(future, original, rule)),
+            Err(error) => Err(error),
+        }
+    }
+}
