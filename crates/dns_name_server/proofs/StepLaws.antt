@@ -220,26 +220,26 @@ given_then old mid new copy c r s e f h =
 
 -- ---- a name below a DNAME record
 
-pub sub_on : (old new : List ResourceRecord) (copy : Record) (go : List (List ℕ) → ZoneReply) (name : List (List ℕ)) (d : Record) (target to front : List (List ℕ)) → new ≡ old ++ record_of copy ∷ [] → copy ≡ made_alias name d to → Some to ≡ name_under target front →
-    front ≡ take (length name - length d.owner) name → behind new (wired (go to)) ≡ behind old (wired (by_target go name d (Some target)))
-sub_on old new copy go name d target to front e f g h =
-    ap (λ (l : List ResourceRecord). behind l (wired (go to))) e
-    ∙ (ap (λ (x : Record). behind (old ++ record_of x ∷ []) (wired (go to))) f
-    ∙ (behind_more old (made_alias name d to) (go to) ∙ ap (λ (o : Option (List (List ℕ))). behind old (wired (gone_by go name d o))) (g ∙ ap (name_under target) h)))
+pub sub_on : (old new : List ResourceRecord) (copy : Record) (r : ZoneReply) (go : List (List ℕ) → ZoneReply) (t : ℕ) (name : List (List ℕ)) (d : Record) (target to front : List (List ℕ)) → new ≡ old ++ record_of copy ∷ [] → copy ≡ made_alias name d to → r ≡ (if follows t then go to else authoritative []) →
+    Some to ≡ name_under target front → front ≡ take (length name - length d.owner) name → behind new (wired r) ≡ behind old (wired (by_target go t name d (Some target)))
+sub_on old new copy r go t name d target to front e f k g h =
+    (λ i. behind (e i) (wired (k i)))
+    ∙ (ap (λ (x : Record). behind (old ++ record_of x ∷ []) (wired (if follows t then go to else authoritative []))) f
+    ∙ (behind_more old (made_alias name d to) (if follows t then go to else authoritative []) ∙ ap (λ (o : Option (List (List ℕ))). behind old (wired (gone_by go t name d o))) (g ∙ ap (name_under target) h)))
 
-pub sub_long : (old : List ResourceRecord) (go : List (List ℕ) → ZoneReply) (name : List (List ℕ)) (d : Record) (target front : List (List ℕ)) → None ≡ name_under target front → front ≡ take (length name - length d.owner) name →
-    behind old (wired too_long) ≡ behind old (wired (by_target go name d (Some target)))
-sub_long old go name d target front g h = ap (λ (o : Option (List (List ℕ))). behind old (wired (gone_by go name d o))) (g ∙ ap (name_under target) h)
+pub sub_long : (old : List ResourceRecord) (go : List (List ℕ) → ZoneReply) (t : ℕ) (name : List (List ℕ)) (d : Record) (target front : List (List ℕ)) → None ≡ name_under target front → front ≡ take (length name - length d.owner) name →
+    behind old (wired too_long) ≡ behind old (wired (by_target go t name d (Some target)))
+sub_long old go t name d target front g h = ap (λ (o : Option (List (List ℕ))). behind old (wired (gone_by go t name d o))) (g ∙ ap (name_under target) h)
 
-pub dname_head : (go : List (List ℕ) → ZoneReply) (name : List (List ℕ)) (rs : List Record) (d : Record) → Some d ≡ head_of rs → by_dname go name rs ≡ behind_alias d (by_target go name d (target d.rdata))
-dname_head go name [] d e = absurd (cc)
-dname_head go name (r ∷ rs) d e =
+pub dname_head : (go : List (List ℕ) → ZoneReply) (t : ℕ) (name : List (List ℕ)) (rs : List Record) (d : Record) → Some d ≡ head_of rs → by_dname go t name rs ≡ behind_alias d (by_target go t name d (target d.rdata))
+dname_head go t name [] d e = absurd (cc)
+dname_head go t name (r ∷ rs) d e =
     let k : r ≡ d = cc in
-    ap (λ (x : Record). behind_alias x (by_target go name x (target x.rdata))) k
+    ap (λ (x : Record). behind_alias x (by_target go t name x (target x.rdata))) k
 
-pub dname_none : (go : List (List ℕ) → ZoneReply) (name : List (List ℕ)) (rs : List Record) → None ≡ head_of rs → by_dname go name rs ≡ authoritative []
-dname_none go name [] e = refl
-dname_none go name (r ∷ rs) e = absurd (cc)
+pub dname_none : (go : List (List ℕ) → ZoneReply) (t : ℕ) (name : List (List ℕ)) (rs : List Record) → None ≡ head_of rs → by_dname go t name rs ≡ authoritative []
+dname_none go t name [] e = refl
+dname_none go t name (r ∷ rs) e = absurd (cc)
 
 -- ---- records at places that are given
 

@@ -31,19 +31,19 @@ made_alias name d to = record d { owner = name; rdata = Named 5 to }
 abbrev pub too_long : ZoneReply
 too_long = record (authoritative []) { rcode = 6 }
 
--- the target is asked for, whatever the type (section 3.2, step 3C)
-abbrev pub gone_by : (List (List ℕ) → ZoneReply) → List (List ℕ) → Record → Option (List (List ℕ)) → ZoneReply
-gone_by go name d None = too_long
-gone_by go name d (Some to) = behind_alias (made_alias name d to) (go to)
+-- the CNAME record is followed as others are: not where CNAME itself is asked for, nor any records
+abbrev pub gone_by : (List (List ℕ) → ZoneReply) → ℕ → List (List ℕ) → Record → Option (List (List ℕ)) → ZoneReply
+gone_by go t name d None = too_long
+gone_by go t name d (Some to) = behind_alias (made_alias name d to) (if follows t then go to else authoritative [])
 
-abbrev pub by_target : (List (List ℕ) → ZoneReply) → List (List ℕ) → Record → Option (List (List ℕ)) → ZoneReply
-by_target go name d None = authoritative []
-by_target go name d (Some to) = gone_by go name d (substituted name d.owner to)
+abbrev pub by_target : (List (List ℕ) → ZoneReply) → ℕ → List (List ℕ) → Record → Option (List (List ℕ)) → ZoneReply
+by_target go t name d None = authoritative []
+by_target go t name d (Some to) = gone_by go t name d (substituted name d.owner to)
 
 -- the DNAME record and what follows from it; a name has one (section 2.4), of several the first
-abbrev pub by_dname : (List (List ℕ) → ZoneReply) → List (List ℕ) → List Record → ZoneReply
-by_dname go name [] = authoritative []
-by_dname go name (d ∷ ds) = behind_alias d (by_target go name d (target d.rdata))
+abbrev pub by_dname : (List (List ℕ) → ZoneReply) → ℕ → List (List ℕ) → List Record → ZoneReply
+by_dname go t name [] = authoritative []
+by_dname go t name (d ∷ ds) = behind_alias d (by_target go t name d (target d.rdata))
 
 -- ---- the cases
 
@@ -67,7 +67,7 @@ by_alias z go t name (c ∷ cs) = if follows t then behind_alias c (gone_to go (
 abbrev pub by_region : ZoneState → (List (List ℕ) → ZoneReply) → ℕ → List (List ℕ) → Region → ZoneReply
 by_region z go t name Within = by_alias z go t name (had_records z name 5)
 by_region z go t name (BelowCut servers) = referral z servers
-by_region z go t name (BelowDname ds) = by_dname go name ds
+by_region z go t name (BelowDname ds) = by_dname go t name ds
 
 -- nothing more is said of a name outside the zone, nor of one that led here: a loop gives each record once (RFC 2181, section 5)
 abbrev pub is_answered : ZoneState → List (List (List ℕ)) → List (List ℕ) → Bool

@@ -1,18 +1,18 @@
 //! One name of a chain of aliases: what is given of it, and what it leads to.
 
-ghost use Rattle.std.specs.Prelude.{◌≡◌, ◌++◌, ◌∷◌, [], List, ℕ, map, Some, IfOk, IfSome, OnOk, IsTrue};
+ghost use Rattle.std.specs.Prelude.{◌≡◌, ◌++◌, ◌∷◌, [], List, ℕ, map, Some, if◌then◌else◌, IfOk, IfSome, OnOk, IsTrue};
 ghost use Rattle.std.specs.List.{slice_get};
 ghost use Rattle.std.specs.Option.{option_copied};
 ghost use Rattle.dns_base.specs.Records.{IsLawful, record_of};
 ghost use Rattle.dns_route.specs.Routes.{ends_name};
 ghost use Rattle.dns_zone.specs.Owned.{AreLawful, ZoneState, target};
 ghost use Rattle.dns_zone.specs.Places.{at_places, kind_places};
-ghost use Rattle.dns_zone.specs.ZoneReply.{follows};
+ghost use Rattle.dns_zone.specs.ZoneReply.{ZoneReply, authoritative, follows};
 ghost use Rattle.dns_zone_tree.specs.Regions.{asked_region};
 ghost use Rattle.dns_zone_tree.specs.Walks.{IsNode, ReachesNode, ReachesNone};
 ghost use Rattle.dns_zone_tree.specs.Wildcards.{given_as, wildcard};
 ghost use Rattle.dns_name_server.specs.NameServerReplies.{behind_alias, by_dname, by_region, by_target, gone_to, made_alias};
-ghost use Rattle.dns_name_server.specs.Steps.{StepsTo, behind, end_reply, followed_alias, head_of, own_reply, owned_by, wired};
+ghost use Rattle.dns_name_server.specs.Steps.{StepsTo, behind, end_reply, followed_alias, head_of, own_reply, owned_by, step_reply, wired};
 
 use crate::names::front_of;
 use dns_base::{Name, NameRef, Record, RecordData, Rtype, WireRecords};
@@ -246,6 +246,16 @@ fn at_missing<'a>(
     }
 }
 
+/// The target of a CNAME record that is made of a DNAME record, where it is followed for a type.
+fn gone_to<'a>(rtype: u16, to: Name) -> Step<'a>
+    ensures { (z : ZoneState) (go : List (List ℕ) → ZoneReply) → step_reply z go result ≡ (if follows rtype then go to else authoritative []) }
+{
+    if follows(rtype) {
+        return Step::On(to);
+    }
+    Step::End(End::Nothing)
+}
+
 /// The CNAME record that is made of a DNAME record (RFC 6672, section 3.1).
 fn made_alias(
     alloc: Global,
@@ -272,12 +282,13 @@ fn made_alias(
 /// Gives the CNAME record that is made of a DNAME record, where its target isn't too long, and goes to that.
 fn substituted<'a>(
     alloc: Global,
+    rtype: u16,
     name: &NameRef<'_>,
     dname: &Record,
     target: &Name,
     given: &mut WireRecords,
 ) -> Result<Step<'a>, OutOfMemory>
-    ensures { (z : ZoneState) → IfOk result (λ s. StepsTo z given.old given.new s (λ go. by_target go name.now dname.now (Some target.now))) }
+    ensures { (z : ZoneState) → IfOk result (λ s. StepsTo z given.old given.new s (λ go. by_target go rtype name.now dname.now (Some target.now))) }
 {
     let count = name.label_count().saturating_sub(dname.owner.label_count());
     let front = front_of(alloc, name, count)?;
@@ -286,7 +297,7 @@ fn substituted<'a>(
         Some(to) => {
             let alias = made_alias(alloc, name, dname, &to)?;
             given.push(alloc, &alias)?;
-            Ok(Step::On(to))
+            Ok(gone_to(rtype, to))
         }
         None => Ok(Step::End(End::TooLong)),
     }
@@ -295,14 +306,15 @@ fn substituted<'a>(
 /// What a name below a DNAME record leads to, where that has a target.
 fn by_target<'a>(
     alloc: Global,
+    rtype: u16,
     name: &NameRef<'_>,
     dname: &Record,
     given: &mut WireRecords,
 ) -> Result<Step<'a>, OutOfMemory>
-    ensures { (z : ZoneState) → IfOk result (λ s. StepsTo z given.old given.new s (λ go. by_target go name.now dname.now (target dname.now.rdata))) }
+    ensures { (z : ZoneState) → IfOk result (λ s. StepsTo z given.old given.new s (λ go. by_target go rtype name.now dname.now (target dname.now.rdata))) }
 {
     match record_target(dname) {
-        Some(target) => substituted(alloc, name, dname, target, given),
+        Some(target) => substituted(alloc, rtype, name, dname, target, given),
         None => Ok(Step::End(End::Nothing)),
     }
 }
@@ -310,30 +322,32 @@ fn by_target<'a>(
 /// Gives a DNAME record, and what a name below it leads to.
 fn give_dname<'a>(
     alloc: Global,
+    rtype: u16,
     name: &NameRef<'_>,
     dname: &Record,
     given: &mut WireRecords,
 ) -> Result<Step<'a>, OutOfMemory>
     requires { IsLawful dname.now.rdata }
-    ensures { (z : ZoneState) → IfOk result (λ s. StepsTo z given.old given.new s (λ go. behind_alias dname.now (by_target go name.now dname.now (target dname.now.rdata)))) }
+    ensures { (z : ZoneState) → IfOk result (λ s. StepsTo z given.old given.new s (λ go. behind_alias dname.now (by_target go rtype name.now dname.now (target dname.now.rdata)))) }
 {
     let copy = copied(alloc, dname, None)?;
     given.push(alloc, &copy)?;
-    by_target(alloc, name, dname, given)
+    by_target(alloc, rtype, name, dname, given)
 }
 
 /// What a name below DNAME records leads to.
 fn at_dname<'a>(
     zone: &'a ZoneTree,
     alloc: Global,
+    rtype: u16,
     name: &NameRef<'_>,
     places: &[usize],
     given: &mut WireRecords,
 ) -> Result<Step<'a>, OutOfMemory>
-    ensures { IfOk result (λ s. StepsTo zone.now given.old given.new s (λ go. by_dname go name.now (at_places zone.now.records places.now))) }
+    ensures { IfOk result (λ s. StepsTo zone.now given.old given.new s (λ go. by_dname go rtype name.now (at_places zone.now.records places.now))) }
 {
     match first_at(zone.records(), places) {
-        Some(dname) => give_dname(alloc, name, dname, given),
+        Some(dname) => give_dname(alloc, rtype, name, dname, given),
         None => Ok(Step::End(End::Nothing)),
     }
 }
@@ -352,7 +366,7 @@ pub(crate) fn step_of<'a>(
     let found = zone.walk(alloc, name, rtype)?;
     match found {
         Walk::Cut(servers) => Ok(Step::End(End::Delegation(servers))),
-        Walk::Dname(places) => at_dname(zone, alloc, name, places, given),
+        Walk::Dname(places) => at_dname(zone, alloc, rtype, name, places, given),
         Walk::Node(kinds) => at_node(zone, alloc, rtype, kinds, given),
         Walk::Missing(skipped) => at_missing(zone, alloc, rtype, name, skipped, given),
     }

@@ -14,17 +14,18 @@ use Rattle.dns_name_server.proofs.step.at_dname.Goals as goal
 pub returns-in-Some : goal.returns-in-Some
 returns-in-Some c =
     let z = c.args.zone.now in
+    let t = c.args.rtype in
     let n = c.args.name.now in
     let d = c.in-Some.dname.now in
     let rs = at_places z.records c.args.places.now in
     let e : Some d ≡ head_of rs = c.in-Some.ensures.value ∙ ap (λ (x : List Record). head_of (at_places x c.args.places.now)) c.records.ensures.value in
-    if_ok (λ (s : Step). StepsTo z c.args.given.now c.give_dname.new.given s (λ go. behind_alias d (by_target go n d (target d.rdata))))
-    (λ (s : Step). StepsTo z c.args.given.now c.give_dname.new.given s (λ go. by_dname go n rs)) c.give_dname.result (c.give_dname.ensures z)
-    (λ s g go. g go ∙ ap (λ (r : ZoneReply). behind c.args.given.now (wired r)) (sym (dname_head go n rs d e)))
+    if_ok (λ (s : Step). StepsTo z c.args.given.now c.give_dname.new.given s (λ go. behind_alias d (by_target go t n d (target d.rdata))))
+    (λ (s : Step). StepsTo z c.args.given.now c.give_dname.new.given s (λ go. by_dname go t n rs)) c.give_dname.result (c.give_dname.ensures z)
+    (λ s g go. g go ∙ ap (λ (r : ZoneReply). behind c.args.given.now (wired r)) (sym (dname_head go t n rs d e)))
 
 pub returns-in-None : goal.returns-in-None
 returns-in-None c = λ go.
     let z = c.args.zone.now in
     let rs = at_places z.records c.args.places.now in
     let e : None ≡ head_of rs = c.in-None.ensures.value ∙ ap (λ (x : List Record). head_of (at_places x c.args.places.now)) c.records.ensures.value in
-    ap (λ (r : ZoneReply). behind c.args.given.now (wired r)) (sym (dname_none go c.args.name.now rs e))
+    ap (λ (r : ZoneReply). behind c.args.given.now (wired r)) (sym (dname_none go c.args.rtype c.args.name.now rs e))

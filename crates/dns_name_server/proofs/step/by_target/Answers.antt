@@ -7,5 +7,5 @@ use Rattle.dns_name_server.proofs.step.by_target.Goals as goal
 
 pub returns-in-Some : goal.returns-in-Some
 returns-in-Some c = λ z.
-    subst (λ (o : Option (List (List ℕ))). IfOk c.substituted.result (λ (s : Step). StepsTo z c.args.given.now c.substituted.new.given s (λ go. by_target go c.args.name.now c.args.dname.now o)))
+    subst (λ (o : Option (List (List ℕ))). IfOk c.substituted.result (λ (s : Step). StepsTo z c.args.given.now c.substituted.new.given s (λ go. by_target go c.args.rtype c.args.name.now c.args.dname.now o)))
     c.in-Some.ensures (c.substituted.ensures z)

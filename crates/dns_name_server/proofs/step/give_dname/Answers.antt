@@ -12,6 +12,6 @@ push-requires c = c.in_ok-copy.ensures.lawful c.requires
 pub returns : goal.returns
 returns c = λ z.
     let d = c.args.dname.now in
-    if_ok (λ (s : Step). StepsTo z c.push.new.self c.by_target.new.given s (λ go. by_target go c.args.name.now d (target d.rdata)))
-    (λ (s : Step). StepsTo z c.args.given.now c.by_target.new.given s (λ go. behind_alias d (by_target go c.args.name.now d (target d.rdata)))) c.by_target.result (c.by_target.ensures z)
+    if_ok (λ (s : Step). StepsTo z c.push.new.self c.by_target.new.given s (λ go. by_target go c.args.rtype c.args.name.now d (target d.rdata)))
+    (λ (s : Step). StepsTo z c.args.given.now c.by_target.new.given s (λ go. behind_alias d (by_target go c.args.rtype c.args.name.now d (target d.rdata)))) c.by_target.result (c.by_target.ensures z)
     (λ s g go. given_then c.args.given.now c.push.new.self c.by_target.new.given c.in_ok-copy.copy d _ _ c.in_ok-push.ensures.ok c.in_ok-copy.ensures.value (g go))

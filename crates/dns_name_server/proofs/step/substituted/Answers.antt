@@ -5,9 +5,9 @@ use Rattle.dns_name_server.proofs.step.substituted.Goals as goal
 pub returns-in-Some : goal.returns-in-Some
 returns-in-Some c = λ z go.
     let n : c.saturating_sub-count.result ≡ length c.args.name.now - length c.args.dname.now.owner = omega arith in
-    sub_on _ _ _ go c.args.name.now c.args.dname.now c.args.target.now c.in-Some.to _ c.in_ok-push-in-Some.ensures.ok c.in_ok-alias-in-Some.ensures.value (sym c.in-Some.is ∙ c.in_ok-found.ensures) (c.in_ok-front.ensures ∙ ap (λ (i : ℕ). take i c.args.name.now) n)
+    sub_on _ _ _ _ go c.args.rtype c.args.name.now c.args.dname.now c.args.target.now c.in-Some.to _ c.in_ok-push-in-Some.ensures.ok c.in_ok-alias-in-Some.ensures.value (c.gone_to.ensures z go) (sym c.in-Some.is ∙ c.in_ok-found.ensures) (c.in_ok-front.ensures ∙ ap (λ (i : ℕ). take i c.args.name.now) n)
 
 pub returns : goal.returns
 returns c = λ z go.
     let n : c.saturating_sub-count.result ≡ length c.args.name.now - length c.args.dname.now.owner = omega arith in
-    sub_long _ go c.args.name.now c.args.dname.now c.args.target.now _ (sym c.in-None.is ∙ c.in_ok-found.ensures) (c.in_ok-front.ensures ∙ ap (λ (i : ℕ). take i c.args.name.now) n)
+    sub_long _ go c.args.rtype c.args.name.now c.args.dname.now c.args.target.now _ (sym c.in-None.is ∙ c.in_ok-found.ensures) (c.in_ok-front.ensures ∙ ap (λ (i : ℕ). take i c.args.name.now) n)
