@@ -1,3 +1,4 @@
+pub use Rattle.dns_session.specs.News
 pub mod Settings
 pub mod Own
 pub mod Sent

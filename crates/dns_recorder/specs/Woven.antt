@@ -7,7 +7,7 @@ use Rattle.dns_book.specs.History.{SeatName, entry}
 use Rattle.dns_book.specs.declared.history.Entry.{Entry}
 use Rattle.dns_events.specs.declared.event.Event.{Event}
 use Rattle.dns_events.specs.declared.event.EventKind.{EventKind}
-use Rattle.dns_session.specs.News.{news}
+use Rattle.dns_model.specs.News.{news}
 use Rattle.dns_model.specs.Own.{is_wide}
 
 abbrev pub kinds : List Event → List EventKind

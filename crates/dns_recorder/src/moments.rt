@@ -6,8 +6,9 @@ ghost use Rattle.dns_recorder.specs.Clocks.{Timed, write_count};
 ghost use Rattle.dns_recorder.specs.Notes.{NotedMoment};
 
 use crate::recorder::Recorder;
+use dns_events::{Event, EventKind};
 use dns_io::Clock;
-use dns_service::{Event, EventKind, OutOfMemory};
+use dns_name::OutOfMemory;
 use std::alloc::Global;
 use std::sync::Wait;
 use std::thread::Parker;

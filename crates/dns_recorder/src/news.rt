@@ -1,14 +1,15 @@
 //! The news of a look, as events.
 
-ghost use Rattle.dns_session.specs.News.{new_configurations, new_end};
+ghost use Rattle.dns_model.specs.News.{new_configurations, new_end};
 ghost use Rattle.dns_recorder.specs.Woven.{kinds};
 ghost use Rattle.dns_recorder.specs.Notes.{NotesKinds};
 
 use crate::moments::note_moment;
 use crate::recorder::Recorder;
 use dns_admission::Look;
+use dns_events::EventKind;
 use dns_io::Clock;
-use dns_service::{EventKind, OutOfMemory};
+use dns_name::OutOfMemory;
 use std::alloc::Global;
 
 /// Notes the configurations, where their version is new.

@@ -6,7 +6,8 @@ ghost use Rattle.dns_events.specs.declared.event.Event.{Event};
 ghost use Rattle.dns_io.specs.Causes.{Observed};
 ghost use Rattle.dns_recorder.specs.Notes.{NoteMoves};
 
-use dns_service::{Event, EventKind, Octets, OutOfMemory};
+use dns_events::{Event, EventKind};
+use dns_name::{Octets, OutOfMemory};
 use std::alloc::Global;
 use std::marker::{Model, PhantomData};
 

@@ -3,7 +3,7 @@
 ghost use Rattle.std.specs.Prelude.{◌≡◌};
 ghost use Rattle.dns_recorder.specs.Waits.{anew_where, one_more, idle_wait_after, repoll_wait_after, vain_after};
 
-use dns_service::EventKind;
+use dns_events::EventKind;
 
 /// How many waits of a loop ended in vain, one after the other: nothing came meanwhile, and nothing was sent or written.
 #[derive(Clone, Copy, Debug)]

@@ -1,3 +1,4 @@
 mod ErrorReplies
 mod AddedOptions
 mod CutLaws
+pub mod OptSizes

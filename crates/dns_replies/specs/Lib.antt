@@ -1,3 +1,9 @@
+pub use Rattle.dns_opt.specs.Timers
+pub use Rattle.dns_opt.specs.OptRecords
+pub use Rattle.dns_opt.specs.OptData
+pub use Rattle.dns_opt.specs.Items
+pub use Rattle.dns_opt.specs.Drafts
+pub use Rattle.dns_opt.specs.CookieData
 pub use Rattle.dns_base.specs.Built
 pub use Rattle.dns_base.specs.Replaced
 pub use Rattle.dns_message.specs.Msg

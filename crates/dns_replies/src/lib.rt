@@ -34,5 +34,6 @@ mod options;
 mod reply;
 
 pub use cutting::{cut, cut_fits};
+pub use dns_opt::{Cookie, OptRecord, OptRef};
 pub use options::{add_edns_option, add_edns_options, remove_edns_opt_record};
 pub use reply::{mk_builder_for_target, mk_error_response};

@@ -2,8 +2,8 @@
 use Rattle.std.proofs.Common.{◌≡◌, ℕ, List, [], ◌∷◌, ◌++◌, sym, ◌∙◌, ap, append_assoc, append-nil, arith, length, refl}
 use Rattle.dns_io.specs.Causes.{Observed}
 use Rattle.dns_io.specs.Moves.{Cut}
-use Rattle.dns_script.specs.CachedRules.{CachedState}
-use Rattle.dns_script.specs.declared.ask.Ask.{Ask}
+use Rattle.dns_flood.specs.CachedRules.{CachedState}
+use Rattle.dns_flood.specs.Ask.{Ask}
 use Rattle.dns_flood.proofs.Batches.{cut, none_kept, pushed_line}
 use Rattle.dns_run.specs.Asking.{asked_behind, asked_line, asked_text}
 use Rattle.dns_flood.specs.Writes.{Pending}

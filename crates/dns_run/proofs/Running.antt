@@ -5,7 +5,7 @@ use Rattle.dns_io.specs.Moves.{Cut}
 use Rattle.std.specs.Prelude.{Result, Ok, Err, IsErr, ◌++◌, ◌∷◌, ◌≢◌}
 use Rattle.std.proofs.lemmas.Bool.{false≢true}
 use Rattle.dns_trace.specs.declared.reason.Reason.{Reason}
-use Rattle.dns_script.specs.Plan.{Plan}
+use Rattle.dns_flood.specs.Plan.{Plan}
 use Rattle.dns_run.specs.Status.{SourceFaults, SinkFaults, status_once_written, status_of}
 use Rattle.dns_run.specs.Runs.{text_or_refusal, refusal_text, Says, ReadsSource, WritesText, Decides, EndsFlood, FloodDecides}
 use Rattle.dns_flood.specs.Writes.{Wrote}

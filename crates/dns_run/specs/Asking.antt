@@ -1,7 +1,7 @@
 -- What a cache in front of rules is asked, question by question.
 use Rattle.std.specs.Prelude.{ℕ, List}
-use Rattle.dns_script.specs.CachedRules.{CachedState, asked_state, asks_text, rule_turns}
-use Rattle.dns_script.specs.declared.ask.Ask.{Ask}
+use Rattle.dns_flood.specs.CachedRules.{CachedState, asked_state, asks_text, rule_turns}
+use Rattle.dns_flood.specs.Ask.{Ask}
 
 -- the line of a question
 unfoldable pub asked_line : CachedState → Ask → List ℕ

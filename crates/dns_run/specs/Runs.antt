@@ -8,12 +8,12 @@ use Rattle.dns_io.specs.declared.source.TheConstants.{LIMIT}
 use Rattle.dns_events.specs.declared.event.Output.{Output}
 use Rattle.dns_trace.specs.declared.reason.Reason.{Reason}
 use Rattle.dns_flood.specs.FloodText.{flood_text}
-use Rattle.dns_script.specs.Plan.{Plan}
-use Rattle.dns_script.specs.PlanOutputs.{plan_outputs, plan_step_outputs}
-use Rattle.dns_script.specs.CachedRules.{cache_text}
-use Rattle.dns_script.specs.ScriptText.{script_text}
-use Rattle.dns_script.specs.Scripts.{ask_script, event_script, step_script}
-use Rattle.dns_script.specs.Line.{lines_of, refused_line}
+use Rattle.dns_flood.specs.Plan.{Plan}
+use Rattle.dns_flood.specs.PlanOutputs.{plan_outputs, plan_step_outputs}
+use Rattle.dns_flood.specs.CachedRules.{cache_text}
+use Rattle.dns_flood.specs.ScriptText.{script_text}
+use Rattle.dns_flood.specs.Scripts.{ask_script, event_script, step_script}
+use Rattle.dns_flood.specs.Line.{lines_of, refused_line}
 use Rattle.dns_run.specs.declared.command.Command.{Command}
 use Rattle.dns_run.specs.declared.command.Command.TheVariants.{Replay, Steps, Trace, Flood, Cache}
 use Rattle.dns_run.specs.declared.status.Status.{Status}

@@ -5,10 +5,10 @@ use Rattle.dns_events.specs.declared.settings.Settings.{Settings}
 use Rattle.dns_trace.specs.declared.reason.Reason.{Reason}
 use Rattle.dns_service.specs.Answer.{Answer}
 use Rattle.dns_service.specs.Req.{Req}
-use Rattle.dns_script.specs.Plan.{Plan, rules_of, settings_of}
-use Rattle.dns_script.specs.Played.{played}
-use Rattle.dns_script.specs.Targets.{script_verdicts}
-use Rattle.dns_script.specs.declared.script_line.NoEvent.{NoEvent}
+use Rattle.dns_flood.specs.Plan.{Plan, rules_of, settings_of}
+use Rattle.dns_flood.specs.Played.{played}
+use Rattle.dns_flood.specs.Targets.{script_verdicts}
+use Rattle.dns_flood.specs.NoEvent.{NoEvent}
 use Rattle.dns_run.specs.declared.serve_words.ServeWords.{ServeWords}
 use Rattle.dns_run.specs.declared.server_plan.ServePlan.{ServePlan}
 use Rattle.dns_run.specs.declared.status.Status.{Status}

@@ -2,17 +2,18 @@
 
 ghost use Rattle.std.specs.Prelude.{◌≡◌, ℕ, List};
 ghost use Rattle.dns_io.specs.Causes.{Observed};
-ghost use Rattle.dns_script.specs.CachedRules.{cache_text};
-ghost use Rattle.dns_script.specs.Plan.{Plan};
-ghost use Rattle.dns_script.specs.PlanOutputs.{plan_sent};
-ghost use Rattle.dns_script.specs.ScriptText.{script_text};
+ghost use Rattle.dns_flood.specs.CachedRules.{cache_text};
+ghost use Rattle.dns_flood.specs.Plan.{Plan};
+ghost use Rattle.dns_flood.specs.PlanOutputs.{plan_sent};
+ghost use Rattle.dns_flood.specs.ScriptText.{script_text};
 ghost use Rattle.dns_run.specs.Runs.{clients_text};
 ghost use Rattle.dns_flood.specs.Writes.{Wrote, WroteFaults};
 
 use crate::asking::write_answers;
-use dns_flood::{WriteError, write_outputs};
+use dns_flood::{
+    Ask, Script, ScriptLine, Scripted, WriteError, script_text, serve_script, write_outputs,
+};
 use dns_io::{Sink, write_all};
-use dns_script::{Ask, Script, ScriptLine, Scripted, script_text, serve_script};
 use dns_service::Event;
 use std::alloc::Global;
 

@@ -2,15 +2,14 @@
 
 ghost use Rattle.std.specs.Prelude.{◌≡◌, ◌≤◌, ◌++◌, [], IfOk, OnOk, string_bytes};
 ghost use Rattle.dns_io.specs.Causes.{Observed};
-ghost use Rattle.dns_script.specs.AskedCache.{empty_cache};
-ghost use Rattle.dns_script.specs.CachedRules.{cache_text};
+ghost use Rattle.dns_flood.specs.AskedCache.{empty_cache};
+ghost use Rattle.dns_flood.specs.CachedRules.{cache_text};
 ghost use Rattle.dns_run.specs.Asking.{asked_behind, asked_line, asked_text};
 ghost use Rattle.dns_flood.specs.Writes.{Pours, Wrote, WroteFaults};
 
-use dns_flood::{WriteError, pour};
+use dns_flood::{Ask, CachedRules, Rules, Script, WriteError, pour};
 use dns_io::{Sink, write_all};
 use dns_name::OutOfMemory;
-use dns_script::{Ask, CachedRules, Rules, Script};
 use std::alloc::Global;
 
 /// Asks a question, and gives its line.
@@ -111,7 +110,7 @@ fn write_cached<W: Sink>(
 }
 
 /// Writes what an empty cache of so many replies in front of a script's rules answers to its questions.
-#[tactic(auto, unfolding(dns_script::specs::CachedRules::cache_text, crate::specs::Asking::asked_text))]
+#[tactic(auto, unfolding(dns_flood::specs::CachedRules::cache_text, crate::specs::Asking::asked_text))]
 pub(crate) fn write_answers<W: Sink>(
     alloc: Global,
     sink: &mut W,

@@ -38,14 +38,12 @@ mod whole_script;
 
 pub use command::{Command, read_command};
 pub use dns_flood::{
-    Counts, WriteError, count_flood, event_at, layered, next_event, next_number, summary,
-    write_outputs, write_refusal,
-};
-pub use dns_script::{
-    Ask, CachedRules, NoEvent, NotifyRule, NotifyRules, Rule, RuleList, Rules, Script,
+    Ask, CachedRules, Counts, NoEvent, NotifyRule, NotifyRules, Rule, RuleList, Rules, Script,
     ScriptAnswer, ScriptAnswers, ScriptError, ScriptFuture, ScriptLine, ScriptReply, ScriptService,
     ScriptStream, ScriptTarget, ScriptTurns, ScriptVerdict, Scripted, ServiceLines, UpstreamLine,
-    UpstreamWord, Upstreams, line, read_script, refusal, script_text, serve_script,
+    UpstreamWord, Upstreams, WriteError, count_flood, event_at, layered, line, next_event,
+    next_number, read_script, refusal, script_text, serve_script, summary, write_outputs,
+    write_refusal,
 };
 pub use program::run;
 pub use serve_words::{ServeWords, read_serve};

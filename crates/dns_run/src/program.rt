@@ -5,16 +5,15 @@ ghost use Rattle.dns_io.specs.Causes.{Observed, Rose};
 ghost use Rattle.dns_flood.specs.FloodText.{flood_text};
 ghost use Rattle.dns_run.specs.Command.{command_of};
 ghost use Rattle.dns_run.specs.Status.{SourceFaults, SinkFaults};
-ghost use Rattle.dns_script.specs.Script.{script};
+ghost use Rattle.dns_flood.specs.Script.{script};
 ghost use Rattle.dns_run.specs.Runs.{text_or_refusal, ReadsSource, WritesText, EndsFlood, RunReads, RunWrites, Completes};
 
 use crate::answering::{AnswerScript, Clients, Questions, Recorded};
 use crate::command::{Command, read_command};
 use crate::status::Status;
 use crate::whole_script::read_whole;
-use dns_flood::write_flood;
+use dns_flood::{Ask, ScriptLine, write_flood};
 use dns_io::{Sink, Source};
-use dns_script::{Ask, ScriptLine};
 use dns_service::{Event, Step};
 use std::alloc::Global;
 

@@ -3,10 +3,10 @@
 ghost use Rattle.std.specs.Prelude.{◌≡◌, ◌≢◌, ◌≤◌, length, map, string_bytes, IfErr, IfOk, IfSome, IsOk};
 ghost use Rattle.dns_io.specs.Causes.{Observed, Rose};
 ghost use Rattle.dns_io.specs.declared.source.TheConstants.{LIMIT};
-ghost use Rattle.dns_script.specs.Plan.{rules_of, settings_of};
-ghost use Rattle.dns_script.specs.Played.{played};
-ghost use Rattle.dns_script.specs.Scripts.{server_script};
-ghost use Rattle.dns_script.specs.Targets.{script_verdicts};
+ghost use Rattle.dns_flood.specs.Plan.{rules_of, settings_of};
+ghost use Rattle.dns_flood.specs.Played.{played};
+ghost use Rattle.dns_flood.specs.Scripts.{server_script};
+ghost use Rattle.dns_flood.specs.Targets.{script_verdicts};
 ghost use Rattle.dns_run.specs.Status.{status_of, SourceFaults, SinkFaults};
 ghost use Rattle.dns_run.specs.Runs.{refusal_text, Decides, ReadsSource, WritesText};
 ghost use Rattle.dns_run.specs.ServeWords.{serve_words};
@@ -15,10 +15,10 @@ ghost use Rattle.dns_run.specs.ServePlans.{HeedsWords, PlaysScript};
 use crate::serve_words::{ServeWords, read_serve};
 use crate::status::Status;
 use crate::whole_script::read_whole;
+use dns_flood::{NoEvent, Script, ScriptService, ScriptTarget};
 use dns_io::{Sink, Source};
 use dns_middleware::{Notifiable, Settings};
 use dns_name::SocketAddr;
-use dns_script::{NoEvent, Script, ScriptService, ScriptTarget};
 use dns_service::Service;
 use std::alloc::Global;
 

@@ -2,14 +2,13 @@
 
 ghost use Rattle.std.specs.Prelude.{◌≡◌, ◌≢◌, IfErr, IfOk, IsOk};
 ghost use Rattle.dns_io.specs.Causes.{Observed};
-ghost use Rattle.dns_script.specs.Script.{script};
+ghost use Rattle.dns_flood.specs.Script.{script};
 ghost use Rattle.dns_run.specs.Status.{status_of, SourceFaults, SinkFaults};
 ghost use Rattle.dns_run.specs.Runs.{refusal_text, Says, ReadsSource, WritesText};
 
 use crate::status::Status;
-use dns_flood::write_refusal;
+use dns_flood::{Script, ScriptError, ScriptLine, read_script, write_refusal};
 use dns_io::{ReadError, Sink, Source, read_all};
-use dns_script::{Script, ScriptError, ScriptLine, read_script};
 use std::alloc::Global;
 
 /// The script that a text is; where it is none, the line of its refusal is written.

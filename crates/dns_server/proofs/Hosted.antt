@@ -5,9 +5,9 @@ use Rattle.dns_book.specs.declared.history.Known.{Known}
 use Rattle.dns_service.specs.Answer.{Answer}
 use Rattle.dns_service.specs.Req.{Req}
 use Rattle.dns_session.specs.Serving.{Serving, serving}
-use Rattle.dns_host.specs.Hosting.{HostWorld, HostServed, ShutDown}
-use Rattle.dns_host.specs.declared.host.HostEnd.{HostEnd}
-use Rattle.dns_host.specs.declared.host.HostEnd.TheVariants.{Done, OutOfMemory, HostFault}
+use Rattle.dns_transport.specs.Hosting.{HostWorld, HostServed, ShutDown}
+use Rattle.dns_transport.specs.HostEnd.{HostEnd}
+use Rattle.dns_transport.specs.HostEnd.TheVariants.{Done, OutOfMemory, HostFault}
 use Rattle.dns_server.specs.HostStatus.{status_of_host, OfHost}
 use Rattle.dns_run.specs.declared.status.Status.{Status}
 use Rattle.dns_run.specs.declared.status.Status.TheVariants.{OutOfMemory as NoMemory}

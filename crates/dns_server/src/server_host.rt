@@ -5,7 +5,7 @@ ghost use Rattle.std.specs.Arc.{arc_value};
 ghost use Rattle.dns_middleware.specs.Verdicts.{verdict_on};
 ghost use Rattle.dns_middleware.specs.Wrapped.{hint_left, replies};
 ghost use Rattle.dns_session.specs.Serving.{Serving, serving};
-ghost use Rattle.dns_host.specs.Hosting.{HostServed, ShutDown, host_seen, accept_observed, sock_observed};
+ghost use Rattle.dns_transport.specs.Hosting.{HostServed, ShutDown, host_seen, accept_observed, sock_observed};
 ghost use Rattle.dns_server.specs.HostStatus.{OfHost, status_of_host};
 
 use crate::host_status::status_of_host;

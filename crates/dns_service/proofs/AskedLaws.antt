@@ -5,7 +5,7 @@ use Rattle.dns_name.specs.declared.error.ParseError.{ParseError}
 use Rattle.dns_base.specs.Sections.{authority_of, field, items_behind, reached, standing_additional}
 use Rattle.dns_base.specs.Standing.{Standing, standing_at}
 use Rattle.dns_name.specs.Place.{Read}
-use Rattle.dns_opt.specs.OptRecords.{OptState, first_opt, opt_in, opt_of, readable_opt}
+use Rattle.dns_replies.specs.OptRecords.{OptState, first_opt, opt_in, opt_of, readable_opt}
 use Rattle.dns_service.specs.OptItems.{items_among, items_reached, opt_items, first_item}
 use Rattle.dns_service.specs.Asked.{asked_of, asked_opt, asked_record, first_asked}
 

@@ -5,8 +5,8 @@ use Rattle.dns_base.specs.declared.error.PushError.TheVariants.{ShortBuf, OutOfM
 use Rattle.dns_base.specs.Builds.{Builds, unlimited}
 use Rattle.dns_base.specs.Msg.{Msg}
 use Rattle.dns_base.specs.Wire.{wire}
-use Rattle.dns_opt.specs.OptRecords.{OptState}
-use Rattle.dns_opt.proofs.Sizes.{opt_grows}
+use Rattle.dns_replies.specs.OptRecords.{OptState}
+use Rattle.dns_replies.proofs.OptSizes.{opt_grows}
 use Rattle.dns_service.specs.LastOpt.{and_opt}
 
 and_opt_grows : (m : Msg) (opt : Option OptState) → length (wire m) ≤ length (wire (and_opt m opt))

@@ -5,11 +5,11 @@ use Rattle.dns_name.specs.declared.error.ParseError.{ParseError}
 use Rattle.dns_base.specs.Header.{header_of}
 use Rattle.dns_base.specs.Sections.{counts_of}
 use Rattle.dns_cookie.specs.Cookies.{Cookie}
-use Rattle.dns_opt.specs.OptData.{for_code}
-use Rattle.dns_opt.specs.CookieData.{cookie_data}
-use Rattle.dns_opt.specs.Items.{first_ok, items_of}
-use Rattle.dns_opt.specs.OptRecords.{OptState}
-use Rattle.dns_opt.specs.Timers.{keepalive_data}
+use Rattle.dns_replies.specs.OptData.{for_code}
+use Rattle.dns_replies.specs.CookieData.{cookie_data}
+use Rattle.dns_replies.specs.Items.{first_ok, items_of}
+use Rattle.dns_replies.specs.OptRecords.{OptState}
+use Rattle.dns_replies.specs.Timers.{keepalive_data}
 use Rattle.dns_service.specs.OptItems.{opt_items}
 use Rattle.dns_service.specs.declared.asked.Asked.{Asked}
 use Rattle.dns_service.specs.declared.asked.AskedOpt.{AskedOpt}

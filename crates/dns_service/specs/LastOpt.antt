@@ -1,7 +1,7 @@
 -- An OPT record as a message's last (RFC 6891, section 6.1.1).
 use Rattle.std.specs.Prelude.{[], ◌∷◌, ◌++◌, Option, Some, None}
 use Rattle.dns_base.specs.Msg.{Msg}
-use Rattle.dns_opt.specs.OptRecords.{OptState, opt_record}
+use Rattle.dns_replies.specs.OptRecords.{OptState, opt_record}
 
 -- the message with an OPT record last, where there is one
 abbrev pub and_opt : Msg → Option OptState → Msg

@@ -6,9 +6,9 @@ pub use Rattle.dns_message.specs.Msg
 pub use Rattle.dns_message.specs.Wire
 pub use Rattle.dns_cookie.specs.Cookies
 pub use Rattle.dns_cookie.specs.CookieData
-pub use Rattle.dns_opt.specs.Drafts
-pub use Rattle.dns_opt.specs.Reopened
-pub use Rattle.dns_opt.specs.OptRecords
+pub use Rattle.dns_replies.specs.Drafts
+pub use Rattle.dns_replies.specs.Reopened
+pub use Rattle.dns_replies.specs.OptRecords
 pub use Rattle.dns_replies.specs.ErrorReply
 pub use Rattle.dns_replies.specs.WithOption
 pub use Rattle.dns_replies.specs.OptIn

@@ -3,7 +3,7 @@ use Rattle.std.specs.Prelude.{ℕ, List, [], ◌∷◌, Option, None, Result, Ok
 use Rattle.dns_name.specs.declared.error.ParseError.{ParseError}
 use Rattle.dns_base.specs.Sections.{authority_of, reached, standing_additional}
 use Rattle.dns_base.specs.Standing.{Standing}
-use Rattle.dns_opt.specs.OptRecords.{OptState, readable_opt}
+use Rattle.dns_replies.specs.OptRecords.{OptState, readable_opt}
 
 -- A record of type OPT is an item, none where its data is no option list. An unreadable record is such an item too, and the last.
 abbrev pub items_among : List (Result Standing ParseError) → List (Option OptState)

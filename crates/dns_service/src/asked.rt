@@ -1,12 +1,12 @@
 //! What is read of a request, once, before anything is decided about it.
 
 ghost use Rattle.std.specs.Prelude.{◌≡◌, [], IfOk};
-ghost use Rattle.dns_opt.specs.OptRecords.{head_by, opt_state};
+ghost use Rattle.dns_replies.specs.OptRecords.{head_by, opt_state};
 ghost use Rattle.dns_service.specs.OptItems.{items_among, opt_items};
 ghost use Rattle.dns_service.specs.Asked.{asked_cookie, asked_of, asked_opt, asked_record, behind_record, client_size, cookie_in, has_item, sends_timeout};
 
 use dns_base::{Message, Opcode, RecordIter, RecordRef, Rtype};
-use dns_opt::{Cookie, OptRef};
+use dns_replies::{Cookie, OptRef};
 
 /// The first COOKIE option of a request (RFC 7873, section 4).
 #[derive(Clone, Copy, Debug)]

@@ -16,7 +16,7 @@ use dns_base::{
     AdditionalBuilder, CopiedRecord, Header, MessageRef, ParseError, PushError, Question, Rtype,
     assemble, number_at, question_in, record_in,
 };
-use dns_opt::OptRecord;
+use dns_replies::OptRecord;
 use std::alloc::Global;
 use std::marker::Model;
 

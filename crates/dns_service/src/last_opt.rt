@@ -4,11 +4,11 @@ ghost use Rattle.std.specs.Prelude.{◌≡◌};
 ghost use Rattle.std.specs.Option.{option_copied};
 ghost use Rattle.dns_base.specs.Built.{with_additional};
 ghost use Rattle.dns_base.specs.Builds.{Builds, KeepsLimit};
-ghost use Rattle.dns_opt.specs.OptRecords.{opt_record};
+ghost use Rattle.dns_replies.specs.OptRecords.{opt_record};
 ghost use Rattle.dns_service.specs.LastOpt.{and_opt};
 
 use dns_base::{AdditionalBuilder, PushError};
-use dns_opt::OptRecord;
+use dns_replies::OptRecord;
 use std::alloc::Global;
 
 /// The message with an OPT record as its last, where one is given.

@@ -1,7 +1,7 @@
 //! Laws of what is read of a request.
 
 ghost use Rattle.std.specs.Prelude.{◌≡◌, ℕ, List, option_map};
-ghost use Rattle.dns_opt.specs.OptRecords.{opt_of};
+ghost use Rattle.dns_replies.specs.OptRecords.{opt_of};
 ghost use Rattle.dns_service.specs.Asked.{asked_of, asked_record, first_asked};
 ghost use Rattle.dns_service.specs.OptItems.{first_item, opt_items};
 
