@@ -110,7 +110,6 @@ fn write_cached<W: Sink>(
 }
 
 /// Writes what an empty cache of so many replies in front of a script's rules answers to its questions.
-#[tactic(auto, unfolding(dns_flood::specs::CachedRules::cache_text, crate::specs::Asking::asked_text))]
 pub(crate) fn write_answers<W: Sink>(
     alloc: Global,
     sink: &mut W,
