@@ -18,6 +18,7 @@ use Rattle.dns_word_values.specs.Values.{some_or_else}
 use Rattle.dns_entries.specs.declared.entry.Word.{Word}
 use Rattle.dns_entries.specs.declared.scan.Scan.{Scan}
 use Rattle.dns_entries.specs.declared.reason.EntryReason.{EntryReason}
+use Rattle.dns_zone_file.specs.declared.draft.ZonePlace.{ZonePlace}
 use Rattle.dns_entries.specs.declared.reason.ReasonError.{ReasonError}
 use Rattle.dns_entries.specs.declared.reason.ReasonError.TheVariants.{Refused as Because, OutOfMemory as NoMemory}
 use Rattle.dns_entries.specs.declared.reason.EntryReason.TheVariants.{Parenthesis, Directive, Include, NoOwner, NoTtl, Class, Shape, Length}
@@ -36,6 +37,13 @@ AreShaped rs = AllByRecursion (λ r. IsLawful r.rdata) rs
 
 abbrev pub draft_begun : List (List ℕ) → ZoneDraft
 draft_begun origin = record { origin = origin; default_ttl = None; last_ttl = None; owner = None; records = [] }
+
+-- the place from which relative names and entries without an owner are read
+abbrev pub place_of : ZoneDraft → ZonePlace
+place_of d = record { origin = d.origin; owner = d.owner }
+
+abbrev pub moved_to : ZoneDraft → ZonePlace → ZoneDraft
+moved_to d p = record d { origin = p.origin; owner = p.owner }
 
 -- ---- TTL and class, each of which may be missing, in either order
 

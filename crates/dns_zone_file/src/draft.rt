@@ -1,9 +1,9 @@
 //! What a zone file says, entry by entry.
 
-ghost use Rattle.std.specs.Prelude.{◌≡◌, IfOk, OnOk, Some};
+ghost use Rattle.std.specs.Prelude.{◌≡◌, IfOk, OnErr, OnOk, Some};
 ghost use Rattle.dns_message.specs.Records.{IsLawful};
 ghost use Rattle.dns_entries.specs.Reading.{Gives, some_or};
-ghost use Rattle.dns_zone_file.specs.ZoneFile.{AreShaped, draft_begun, class_at, class_behind, directive, head, is_directive, is_ttl, owned, entry_record, ttl_at, ttl_of, after_entry, after_record, soa_minimum, without};
+ghost use Rattle.dns_zone_file.specs.ZoneFile.{AreShaped, draft_begun, class_at, class_behind, directive, head, is_directive, is_ttl, moved_to, owned, place_of, entry_record, ttl_at, ttl_of, after_entry, after_record, soa_minimum, without};
 
 use crate::record::{internet_record, shaped_data};
 use dns_entries::{
@@ -113,9 +113,17 @@ fn soa_minimum(rdata: &RecordData) -> Option<u32>
     }
 }
 
+/// The place from which relative names and entries without an owner are read.
+#[derive(Drop)]
+pub struct ZonePlace {
+    pub origin: Name,
+    /// The last owner.
+    pub owner: Option<Name>,
+}
+
 /// The records of a zone file so far, and what goes on for those that follow.
 #[derive(Drop)]
-pub(crate) struct ZoneDraft {
+pub struct ZoneDraft {
     origin: Name,
     default_ttl: Option<u32>,
     last_ttl: Option<u32>,
@@ -145,6 +153,34 @@ impl ZoneDraft {
             owner: None,
             records: Vec::new(alloc),
         }
+    }
+
+    /// The origin.
+    pub fn origin(&self) -> &Name
+        ensures { result.now ≡ self.now.origin }
+    {
+        &self.origin
+    }
+
+    /// The origin and the last owner.
+    pub fn place(&self, alloc: Global) -> Result<ZonePlace, OutOfMemory>
+        ensures { IfOk result (λ p. p ≡ place_of self.now) }
+    {
+        let origin = self.origin.try_clone(alloc)?;
+        let owner = match &self.owner {
+            Some(owner) => Some(owner.try_clone(alloc)?),
+            None => None,
+        };
+        Ok(ZonePlace { origin, owner })
+    }
+
+    /// Goes on from another origin and another last owner. TTLs and records stay.
+    pub fn move_to(&mut self, place: ZonePlace)
+        ensures { self.new ≡ moved_to self.old place }
+    {
+        let ZonePlace { origin, owner } = place;
+        self.origin = origin;
+        self.owner = owner;
     }
 
     /// The records.
@@ -201,7 +237,8 @@ impl ZoneDraft {
     /// One record more.
     fn push(&mut self, owner: Name, resource: Record) -> Result<(), OutOfMemory>
         requires { IsLawful resource.rdata }
-        ensures { OnOk result (self.new ≡ after_record self.old owner resource) }
+        ensures value { OnOk result (self.new ≡ after_record self.old owner resource) }
+        ensures kept { OnErr result (self.new ≡ self.old) }
     {
         let ttl = resource.ttl.as_secs();
         self.records.push(resource)?;
@@ -218,7 +255,8 @@ impl ZoneDraft {
         owner: Name,
         words: &[Word],
     ) -> Result<(), ZoneFileError>
-        ensures { Gives (λ u. self.new) result (owned self.old line owner words.now) }
+        ensures value { Gives (λ u. self.new) result (owned self.old line owner words.now) }
+        ensures kept { OnErr result (self.new ≡ self.old) }
     {
         let resource = self.entry_record(alloc, &owner, line, words)?;
         self.push(owner, resource)?;
@@ -235,7 +273,8 @@ impl ZoneDraft {
         }
     }
 
-    fn set_origin(&mut self, origin: Name)
+    /// Goes on from another origin.
+    pub fn set_origin(&mut self, origin: Name)
         ensures { self.new ≡ record self.old { origin = origin } }
     {
         self.origin = origin;
@@ -256,7 +295,8 @@ impl ZoneDraft {
         word: &Word,
         words: &[Word],
     ) -> Result<(), ZoneFileError>
-        ensures { Gives (λ u. self.new) result (directive self.old line word.now words.now) }
+        ensures value { Gives (λ u. self.new) result (directive self.old line word.now words.now) }
+        ensures kept { OnErr result (self.new ≡ self.old) }
     {
         let octets = word.octets.as_slice();
         if spells(b"$origin", octets) {
@@ -279,7 +319,8 @@ impl ZoneDraft {
         Err(refused(word.line, EntryReason::Directive))
     }
 
-    /// An entry more.
+    /// Takes an entry more: the line that it ends on, whether it begins with a blank, and its words. After an error
+    /// all is as it was.
     pub fn take_entry(
         &mut self,
         alloc: Global,
@@ -287,7 +328,8 @@ impl ZoneDraft {
         blank: bool,
         words: &[Word],
     ) -> Result<(), ZoneFileError>
-        ensures { Gives (λ u. self.new) result (after_entry self.old line blank words.now) }
+        ensures value { Gives (λ u. self.new) result (after_entry self.old line blank words.now) }
+        ensures kept { OnErr result (self.new ≡ self.old) }
     {
         let [first, rest @ ..] = words else {
             return Ok(());

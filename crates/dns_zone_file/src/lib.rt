@@ -5,7 +5,8 @@
 //! - `write_zone` writes records, one a line with absolute names, and `write_record` one line.
 //! - `ZoneFileError` says why there are no records: a refusal with its line and its `EntryReason`, or no memory.
 //!
-//! $ORIGIN and $TTL are read, and $INCLUDE is refused. All records are of class IN.
+//! $ORIGIN and $TTL are read, and $INCLUDE is refused; dns_zone_include reads it. All records are of class IN.
+//! `ZoneDraft` holds the records so far, and takes an entry at a time, for readers such as that one.
 //!
 //! ```text
 //! text -> read_zone -> records -> Zone::new -> a service
@@ -18,6 +19,7 @@
 //! - What is written of records reads back as these records, below any origin (`a_zone_reads_back`).
 //! - A text in pieces is read as the whole text (`a_zone_comes_in_pieces`).
 //! - A line of words is one entry of these words (`lines_are_entries`).
+//! - An entry that is refused leaves the records and all that is said so far as they were.
 //! - No text crashes a call, and every loop ends. Each record is fit for `Zone::new` of dns_zone.
 //!
 //! # What a body could still get away with
@@ -33,6 +35,7 @@ mod record;
 
 pub use dns_entries::{EntryReason, ZoneFileError};
 pub use dns_record_text::{write_record, write_zone};
+pub use draft::{ZoneDraft, ZonePlace};
 pub use laws::{a_zone_comes_in_pieces, a_zone_reads_back, lines_are_entries, names_read_back};
-pub use read::read_zone;
+pub use read::{closed, read_zone};
 pub use reader::ZoneReader;

@@ -72,8 +72,8 @@ pub(crate) fn steps(
     }
 }
 
-/// No parenthesis is open.
-pub(crate) fn closed(opened: Option<u64>) -> Result<(), ZoneFileError>
+/// No parenthesis is open at the end of a text; one that is is refused on the line where it was opened.
+pub fn closed(opened: Option<u64>) -> Result<(), ZoneFileError>
     ensures { Gives (λ u. u) result (closed opened) }
 {
     match opened {

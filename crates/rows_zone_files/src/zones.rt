@@ -1,8 +1,11 @@
 //! The calls of dns_zone_file. In a text of a zone file, which is all words behind the origin, `|` stands for LF.
 
+ghost use Rattle.std.specs.Prelude.{◌<◌, length};
+
+use crate::said::{said_each, said_lines, text};
 use dns_message::Record;
 use dns_name::NameRef;
-use dns_zone_file::{ZoneFileError, read_zone, write_zone};
+use dns_zone_file::{ZoneFileError, ZoneReader, read_zone, write_zone};
 use rows_table::{Calls, Row, RowError};
 use std::alloc::Global;
 
@@ -13,27 +16,12 @@ impl Calls for Zones {
     fn answer(&self, call: &str, row: &mut Row<'_>) -> Result<(), RowError> {
         match call {
             "read_zone" => said_records(row),
+            "read_zone_pieces" => said_pieces(row),
             "write_zone" => said_text(row),
             _ => return Err(RowError::NoSuchCall),
         }
         Ok(())
     }
-}
-
-/// A copy of octets in which every `from` is replaced by `to`.
-fn exchanged(row: &mut Row<'_>, octets: &[u8], from: u8, to: u8) -> Vec<u8> {
-    let mut text = Vec::new(row.alloc());
-    for octet in octets {
-        let kept = if *octet == from { to } else { *octet };
-        row.keep(text.push(kept));
-    }
-    text
-}
-
-/// The text of all words that are left, with LF for each `|`.
-fn text(row: &mut Row<'_>) -> Vec<u8> {
-    let words = row.all_words();
-    exchanged(row, words.as_bytes(), b'|', b'\n')
 }
 
 /// The records of a text below an origin.
@@ -53,26 +41,40 @@ fn refused(row: &mut Row<'_>, error: ZoneFileError) {
     }
 }
 
-/// Says a record: its owner's octets, its TTL, its type and its data's octets.
-fn said_record(row: &mut Row<'_>, record: &Record) {
-    row.hexadecimal(record.owner.as_slice());
-    row.show(&record.ttl.as_secs());
-    row.show(&record.rdata.rtype().to_int());
-    let mut octets = Vec::new(row.alloc());
-    row.keep(record.rdata.compose(row.alloc(), &mut octets));
-    row.hexadecimal(&octets);
-}
-
 /// The records of a text, or why it is refused.
 fn said_records(row: &mut Row<'_>) {
     let origin = row.name();
     let text = text(row);
     match records(row.alloc(), &origin, text.as_slice()) {
-        Ok(records) => {
-            for record in records.as_slice() {
-                said_record(row, record);
-            }
-        }
+        Ok(records) => said_each(row, records.as_slice()),
+        Err(error) => refused(row, error),
+    }
+}
+
+/// The records of a text that comes in two pieces, which are cut apart at this place.
+fn records_in_pieces(
+    alloc: Global,
+    origin: &NameRef<'_>,
+    text: &[u8],
+    at: usize,
+) -> Result<Vec<Record>, ZoneFileError>
+    requires { at < length text.now }
+{
+    let mut reader = ZoneReader::new(alloc, origin.to_owned(alloc)?);
+    reader.take(alloc, &text[..at])?;
+    reader.take(alloc, &text[at + 1..])?;
+    reader.finish(alloc)
+}
+
+/// The records of a text in which `~` parts two pieces, or why it is refused.
+fn said_pieces(row: &mut Row<'_>) {
+    let origin = row.name();
+    let text = text(row);
+    let Some(at) = text.iter().position(|octet| *octet == b'~') else {
+        return row.fail(RowError::OutOfForm);
+    };
+    match records_in_pieces(row.alloc(), &origin, text.as_slice(), at) {
+        Ok(records) => said_each(row, records.as_slice()),
         Err(error) => refused(row, error),
     }
 }
@@ -95,15 +97,6 @@ fn said_written(row: &mut Row<'_>, records: &[Record]) {
             said_lines(row, written.as_slice());
         }
         Err(_) => row.fail(RowError::OutOfMemory),
-    }
-}
-
-/// Says lines, with `|` for LF.
-fn said_lines(row: &mut Row<'_>, lines: &[u8]) {
-    let line = exchanged(row, lines, b'\n', b'|');
-    match str::from_utf8(line.as_slice()) {
-        Ok(text) => row.say(text),
-        Err(_) => row.fail(RowError::OutOfForm),
     }
 }
 

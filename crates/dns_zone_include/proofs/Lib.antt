@@ -1,0 +1,5 @@
+mod Levels
+mod Refusals
+mod Entries
+mod Same
+mod Places
