@@ -1,0 +1,43 @@
+//! The parts of a server for callers from C: settings, what is to be done about a message, how a reply is rewritten, and
+//! connections. The header `embed/nutscythe.h` says it in C; each call of the header is an inline function over one call here.
+//!
+//! - `nutscythe_raw_settings_new`, `_read`, `_cookies`, `_deny` and `_copy` make settings.
+//! - `nutscythe_raw_decide` and `nutscythe_raw_datagram` say what is to be done about a message, before any service is asked.
+//! - `nutscythe_raw_rewrite` and `nutscythe_raw_refuse` give the reply that is sent for a request that a service was asked.
+//! - `nutscythe_raw_connection_open`, `_feed`, `_next`, `_offer`, `_front`, `_written`, `_deadline` and `_tick` serve a stream.
+//! - `nutscythe_raw_free` lets go of what a handle holds.
+//!
+//! Whatever outlives a call stands in a `Handle`, one word that C moves and never copies. Every other value is a number, a
+//! struct of numbers, or octets with their number. Each object crosses as a slice of none or one, so that a null pointer
+//! gives a status (`NullPointer`) and leaves all as it was. A call takes what a handle holds out of it, works on that in safe
+//! code, and puts it back. No call waits, ends the process or keeps a pointer that it was given.
+//!
+//! # What is proved
+//!
+//! - No call has a `requires`. What a caller must keep is what the types say: pointers that lead to as many objects as are
+//!   said, nothing that a call writes overlaps what else it is given, a handle is as a call left it, or zeros.
+//! - A call gives exactly one of the statuses that it names, and each says what became of the buffer, the lengths and the
+//!   handles. A call that is refused leaves them.
+//! - What a call answers is what dns_embed says of its values.
+//!
+//! # What a body could still get away with
+//!
+//! Want of memory at any call that takes some, and a block that is never freed.
+#![tactic(auto)]
+
+mod connections;
+mod handle;
+mod kept;
+mod layers;
+mod loose;
+mod origin;
+mod rule;
+mod settings;
+mod status;
+
+pub use handle::Handle;
+pub use kept::Kept;
+pub use origin::Origin;
+pub use rule::Rule;
+pub use settings::LineRefusal;
+pub use status::Status;

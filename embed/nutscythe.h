@@ -1,0 +1,312 @@
+/* The parts of a DNS server for callers from C: the layers round a service, and the connections of a server over streams.
+ *
+ * Every call returns a status (enum nutscythe_status). A call that is refused leaves all as it was, but for what it says. No
+ * call waits, ends the process, starts a thread, looks at a clock or keeps a pointer that it was given. The page
+ * docs/embedding.md says which proved clause stands behind each call, and what is trusted.
+ *
+ * A null pointer to an object (a handle, an origin, a rule, a length) is the status NULL_POINTER, and nothing is changed. A
+ * null pointer to octets stands for none.
+ *
+ * What a caller keeps, since no call can look at it:
+ *  - a pointer that isn't null leads to as many octets or objects as are said beside it, aligned as C aligns them;
+ *  - what a call writes (a buffer, a length, a handle) overlaps nothing else that the call is given;
+ *  - a handle is all zeros at first (NUTSCYTHE_NONE), is changed by these calls alone, is moved and never copied, and is given
+ *    to one call at a time. It may go to another thread;
+ *  - malloc, realloc and free are one allocator's, aligned to 16 octets; no call is made from a signal handler;
+ *  - a bool is true or false.
+ */
+#ifndef NUTSCYTHE_H
+#define NUTSCYTHE_H
+
+#include <stdbool.h>
+#include <stddef.h>
+#include <stdint.h>
+
+#ifdef __cplusplus
+extern "C" {
+#endif
+
+enum nutscythe_status {
+    NUTSCYTHE_DONE = 0,
+    NUTSCYTHE_REPLY = 1,         /* the reply is in the buffer, and is to be sent */
+    NUTSCYTHE_NOTHING = 2,       /* nothing is to be sent, to be taken or to be written */
+    NUTSCYTHE_ASK = 3,           /* a service is to be asked, and its reply rewritten */
+    NUTSCYTHE_RESPONSE = 4,      /* a response came, and was answered with FORMERR if there was room */
+    NUTSCYTHE_DROPPED = 5,       /* the queue or the response budget had no room for a reply */
+    NUTSCYTHE_CLOSE = 6,         /* the connection is to be closed */
+    NUTSCYTHE_NO_MEMORY = 16,
+    NUTSCYTHE_NO_HANDLE = 17,    /* a handle holds nothing, or something of another kind */
+    NUTSCYTHE_OUT_OF_RANGE = 18, /* a number is out of its range */
+    NUTSCYTHE_NO_ROOM = 19,      /* the buffer is too short: the length says how long it has to be */
+    NUTSCYTHE_UNREADABLE = 20,   /* the octets are no message that can be read */
+    NUTSCYTHE_TOO_LONG = 21,     /* a message would take more than 65,535 octets */
+    NUTSCYTHE_NULL_POINTER = 22, /* a pointer to an object is null */
+    NUTSCYTHE_BAD_LINE = 23      /* a line of a text says no setting */
+};
+
+/* One word: null, or a block of memory that it owns. The kinds differ in C alone: a call looks at what a handle holds, and
+ * answers NO_HANDLE if that is nothing or something of another kind. */
+typedef struct nutscythe_handle { void *at; } nutscythe_handle;
+typedef nutscythe_handle nutscythe_settings;
+typedef nutscythe_handle nutscythe_connection;
+#define NUTSCYTHE_NONE { 0 }
+
+/* Where a message came from, when, and over what. */
+typedef struct nutscythe_origin {
+    uint64_t at;        /* ms of the caller's clock, which never goes back */
+    uint64_t secs;      /* seconds since 1970, by which cookies are checked */
+    uint64_t size;      /* over 1: the most octets of a reply, to 65,535; over 3: the idle timeout in ms */
+    uint8_t octets[16]; /* the sender's address in network order; of IPv4 the first four */
+    uint16_t port;
+    uint8_t family;     /* 4 or 6 */
+    uint8_t over;       /* 0 a datagram, 1 a datagram with a size, 2 a stream, 3 a stream with an idle timeout */
+} nutscythe_origin;
+
+/* The rule by which the reply to one request is rewritten: numbers alone, which are kept, copied and forgotten at will. Any
+ * numbers are some rule. */
+typedef struct nutscythe_rule {
+    uint16_t id;
+    uint16_t limit;
+    uint16_t keepalive;
+    uint8_t rd;
+    uint8_t is_limited;
+    uint8_t has_keepalive;
+    uint8_t speaks_edns;
+    uint8_t has_opt;
+    uint8_t spare;
+} nutscythe_rule;
+
+/* Why a text says no settings. */
+typedef struct nutscythe_line_refusal {
+    uint64_t line;   /* the first bad line, counted from 1 */
+    uint32_t reason; /* 0 an octet is not printable, 1 no setting has this name, 4 the line stands again, 5 too few words or
+                      * too many, 6 a word spells no value; 2, 3 and 7 don't occur */
+} nutscythe_line_refusal;
+
+/* ---- The raw calls, which the shared object and the archive export. Each object is a pointer and how many it leads to: 1,
+ * or 0 for null. Use the calls below, or from a language without C's inline functions these. */
+
+uint32_t nutscythe_raw_free(nutscythe_handle *handle, size_t handles);
+uint32_t nutscythe_raw_settings_new(bool strict, bool edns, nutscythe_settings *settings, size_t handles);
+uint32_t nutscythe_raw_settings_read(const uint8_t *text, size_t len, nutscythe_settings *settings, size_t handles,
+                                     nutscythe_line_refusal *refusal, size_t refusals);
+uint32_t nutscythe_raw_settings_cookies(nutscythe_settings *settings, size_t handles, const uint8_t *secret, size_t len);
+uint32_t nutscythe_raw_settings_deny(nutscythe_settings *settings, size_t handles, const uint8_t *address, size_t len);
+uint32_t nutscythe_raw_settings_copy(nutscythe_settings *settings, size_t handles, nutscythe_settings *copy, size_t copies);
+uint32_t nutscythe_raw_decide(nutscythe_settings *settings, size_t handles, const nutscythe_origin *origin, size_t origins,
+                              uint32_t verdict, const uint8_t *message, size_t len, uint8_t *reply, size_t room,
+                              size_t *reply_len, size_t lens, nutscythe_rule *rule, size_t rules);
+uint32_t nutscythe_raw_datagram(nutscythe_settings *settings, size_t handles, const nutscythe_origin *origin, size_t origins,
+                                uint32_t verdict, const uint8_t *datagram, size_t len, uint8_t *reply, size_t room,
+                                size_t *reply_len, size_t lens, nutscythe_rule *rule, size_t rules);
+uint32_t nutscythe_raw_rewrite(const nutscythe_rule *rule, size_t rules, const uint8_t *answer, size_t len, uint8_t *reply,
+                               size_t room, size_t *reply_len, size_t lens);
+uint32_t nutscythe_raw_refuse(const nutscythe_rule *rule, size_t rules, const uint8_t *message, size_t len, uint32_t rcode,
+                              uint8_t *reply, size_t room, size_t *reply_len, size_t lens);
+uint32_t nutscythe_raw_connection_open(nutscythe_settings *settings, size_t handles, uint64_t at,
+                                       nutscythe_connection *connection, size_t connections);
+uint32_t nutscythe_raw_connection_feed(nutscythe_connection *connection, size_t connections, const uint8_t *octets, size_t len);
+uint32_t nutscythe_raw_connection_next(nutscythe_connection *connection, size_t connections, uint64_t at, uint8_t *query,
+                                       size_t room, size_t *query_len, size_t lens);
+uint32_t nutscythe_raw_connection_offer(nutscythe_connection *connection, size_t connections, uint64_t at,
+                                        const uint8_t *reply, size_t len);
+uint32_t nutscythe_raw_connection_front(nutscythe_connection *connection, size_t connections, uint8_t *frame, size_t room,
+                                        size_t *frame_len, size_t lens);
+uint32_t nutscythe_raw_connection_written(nutscythe_connection *connection, size_t connections, uint64_t at, uint64_t took);
+uint32_t nutscythe_raw_connection_deadline(nutscythe_connection *connection, size_t connections, uint64_t now,
+                                           uint64_t *deadline, size_t deadlines);
+uint32_t nutscythe_raw_connection_tick(nutscythe_connection *connection, size_t connections, uint64_t now);
+
+/* As many octets as are said, and none of a null pointer. */
+static inline size_t nutscythe_len(const uint8_t *octets, size_t len) { return octets != NULL ? len : 0; }
+
+/* ---- Handles */
+
+/* Lets go of what a handle holds. It holds nothing from then on, and may be freed again.
+ * gives: DONE. refuses: NULL_POINTER. */
+static inline uint32_t nutscythe_free(nutscythe_handle *handle) { return nutscythe_raw_free(handle, handle != NULL); }
+
+/* ---- Settings */
+
+/* Makes settings: whether faulty queries are refused, and whether EDNS is on (RFC 6891). No cookies, nobody denied, the
+ * default configurations.
+ * takes: what the handle held is let go of, if the call is DONE.
+ * gives: DONE, and the handle holds the settings.
+ * refuses: NO_MEMORY, NULL_POINTER; the handle holds what it held. */
+static inline uint32_t nutscythe_settings_new(bool strict, bool edns, nutscythe_settings *settings)
+{
+    return nutscythe_raw_settings_new(strict, edns, settings, settings != NULL);
+}
+
+/* Reads settings of a text of len octets, in the lines of a script before its first event (docs/scripts.md): strict, edns,
+ * secret, deny, dgram, stream, budget. What no line says is as in new strict settings with EDNS.
+ * takes: what the handle held is let go of, if the call is DONE.
+ * gives: DONE, and the handle holds the settings.
+ * refuses: BAD_LINE, and *refusal says the first bad line and why; NO_MEMORY, NULL_POINTER; the handle holds what it held. */
+static inline uint32_t nutscythe_settings_read(const uint8_t *text, size_t len, nutscythe_settings *settings,
+                                               nutscythe_line_refusal *refusal)
+{
+    return nutscythe_raw_settings_read(text, nutscythe_len(text, len), settings, settings != NULL, refusal, refusal != NULL);
+}
+
+/* Switches server cookies on, with this secret of 16 octets (RFC 7873, RFC 9018). The secret is copied.
+ * gives: DONE.
+ * refuses: OUT_OF_RANGE if len isn't 16, NO_HANDLE, NULL_POINTER; the settings stay. */
+static inline uint32_t nutscythe_settings_cookies(nutscythe_settings *settings, const uint8_t *secret, size_t len)
+{
+    return nutscythe_raw_settings_cookies(settings, settings != NULL, secret, nutscythe_len(secret, len));
+}
+
+/* Denies service without a cookie to an address in network order: 4 octets of IPv4, or 16 of IPv6. They are copied.
+ * gives: DONE.
+ * refuses: OUT_OF_RANGE if len is neither, NO_MEMORY, NO_HANDLE, NULL_POINTER; the settings stay. */
+static inline uint32_t nutscythe_settings_deny(nutscythe_settings *settings, const uint8_t *address, size_t len)
+{
+    return nutscythe_raw_settings_deny(settings, settings != NULL, address, nutscythe_len(address, len));
+}
+
+/* Copies settings to another handle, as for another thread.
+ * takes: what that handle held is let go of, if the call is DONE.
+ * gives: DONE, and both hold the same settings.
+ * refuses: NO_MEMORY, NO_HANDLE, NULL_POINTER; both hold what they held. */
+static inline uint32_t nutscythe_settings_copy(nutscythe_settings *settings, nutscythe_settings *copy)
+{
+    return nutscythe_raw_settings_copy(settings, settings != NULL, copy, copy != NULL);
+}
+
+/* ---- The layers: mandatory rules, EDNS, cookies, NOTIFY */
+
+/* What is to be done about a message of len octets, before any service is asked.
+ * takes: verdict on a change of a zone that a NOTIFY tells of (RFC 1996): 0 it is taken, 1 it isn't this server's zone, 2 it
+ * failed. Whoever has to ask somebody first calls with any verdict, asks, and calls again.
+ * gives: REPLY, and the first *reply_len octets of reply are to be sent. ASK, and the caller asks its own service, whose reply
+ * goes through nutscythe_rewrite with *rule (or nutscythe_refuse if it fails). NOTHING: the message is shorter than a header,
+ * or a response.
+ * refuses: NO_ROOM, and *reply_len says how many octets are needed; OUT_OF_RANGE for a family, an `over`, a size or a verdict
+ * that isn't one; NO_MEMORY, NO_HANDLE, NULL_POINTER. Buffer, length and rule stay but for what is named. */
+static inline uint32_t nutscythe_decide(nutscythe_settings *settings, const nutscythe_origin *origin, uint32_t verdict,
+                                        const uint8_t *message, size_t len, uint8_t *reply, size_t room, size_t *reply_len,
+                                        nutscythe_rule *rule)
+{
+    return nutscythe_raw_decide(settings, settings != NULL, origin, origin != NULL, verdict, message,
+                                nutscythe_len(message, len), reply, nutscythe_len(reply, room), reply_len,
+                                reply_len != NULL, rule, rule != NULL);
+}
+
+/* What is to be done about a datagram of len octets, as a server over datagrams does it: all but its first 1,024 octets is
+ * cut off, and a response is answered with FORMERR. Of the origin the sender and the times are looked at; how long a reply
+ * may be the settings say (`dgram`).
+ * takes, gives, refuses: as nutscythe_decide, but NOTHING is given for what is shorter than a header alone. */
+static inline uint32_t nutscythe_datagram(nutscythe_settings *settings, const nutscythe_origin *origin, uint32_t verdict,
+                                          const uint8_t *datagram, size_t len, uint8_t *reply, size_t room,
+                                          size_t *reply_len, nutscythe_rule *rule)
+{
+    return nutscythe_raw_datagram(settings, settings != NULL, origin, origin != NULL, verdict, datagram,
+                                  nutscythe_len(datagram, len), reply, nutscythe_len(reply, room), reply_len,
+                                  reply_len != NULL, rule, rule != NULL);
+}
+
+/* Rewrites a service's reply of len octets by the rule of its request. It is read and composed anew: names uncompressed, of
+ * its OPT record the size, the DO bit, the client subnets and the extended errors.
+ * gives: REPLY, and the first *reply_len octets of reply are to be sent.
+ * refuses: NO_ROOM, and *reply_len says how many octets are needed; UNREADABLE, TOO_LONG, NO_MEMORY, NULL_POINTER. Buffer and
+ * length stay but for what is named. */
+static inline uint32_t nutscythe_rewrite(const nutscythe_rule *rule, const uint8_t *answer, size_t len, uint8_t *reply,
+                                         size_t room, size_t *reply_len)
+{
+    return nutscythe_raw_rewrite(rule, rule != NULL, answer, nutscythe_len(answer, len), reply, nutscythe_len(reply, room),
+                                 reply_len, reply_len != NULL);
+}
+
+/* Writes what is sent for a request of len octets whose service fails, by the rule of the request.
+ * takes: rcode, 1 for FORMERR, 2 for SERVFAIL, 4 for NOTIMP, 5 for REFUSED (RFC 1035, section 4.1.1).
+ * gives: REPLY, and the first *reply_len octets of reply are to be sent.
+ * refuses: NO_ROOM, and *reply_len says how many octets are needed; OUT_OF_RANGE for another rcode; UNREADABLE below 12
+ * octets; NO_MEMORY, NULL_POINTER. Buffer and length stay but for what is named. */
+static inline uint32_t nutscythe_refuse(const nutscythe_rule *rule, const uint8_t *message, size_t len, uint32_t rcode,
+                                        uint8_t *reply, size_t room, size_t *reply_len)
+{
+    return nutscythe_raw_refuse(rule, rule != NULL, message, nutscythe_len(message, len), rcode, reply,
+                                nutscythe_len(reply, room), reply_len, reply_len != NULL);
+}
+
+/* ---- Connections: octets in, queries out, replies in, frames out (RFC 1035, section 4.2.2; RFC 7766) */
+
+/* Opens a connection at a moment in ms, of the configuration in settings (`stream`, `budget`), which may go afterwards.
+ * takes: what the handle `connection` held is let go of, if the call is DONE.
+ * gives: DONE, and the handle holds the connection.
+ * refuses: NO_MEMORY, NO_HANDLE, NULL_POINTER; the handle holds what it held. */
+static inline uint32_t nutscythe_connection_open(nutscythe_settings *settings, uint64_t at, nutscythe_connection *connection)
+{
+    return nutscythe_raw_connection_open(settings, settings != NULL, at, connection, connection != NULL);
+}
+
+/* Octets of the stream came. They are copied.
+ * gives: DONE.
+ * refuses: NO_MEMORY, NO_HANDLE, NULL_POINTER; the connection stays. */
+static inline uint32_t nutscythe_connection_feed(nutscythe_connection *connection, const uint8_t *octets, size_t len)
+{
+    return nutscythe_raw_connection_feed(connection, connection != NULL, octets, nutscythe_len(octets, len));
+}
+
+/* Takes the next frame at a moment in ms. A frame that is taken resets the idle timer.
+ * gives: DONE, and the first *query_len octets of query are a query: call nutscythe_decide with `over` 3 and the connection's
+ * idle timeout. RESPONSE: it was a response; call again. NOTHING: there is no whole frame yet. CLOSE: it was shorter than a
+ * header, and the connection is to be closed.
+ * refuses: NO_ROOM, and *query_len says how many octets the query has, which stays; NO_MEMORY, NO_HANDLE, NULL_POINTER; no
+ * frame is taken. */
+static inline uint32_t nutscythe_connection_next(nutscythe_connection *connection, uint64_t at, uint8_t *query, size_t room,
+                                                 size_t *query_len)
+{
+    return nutscythe_raw_connection_next(connection, connection != NULL, at, query, nutscythe_len(query, room), query_len,
+                                         query_len != NULL);
+}
+
+/* Queues a reply of len octets behind those that wait, at a moment in ms. It is copied.
+ * gives: DONE. DROPPED: the queue is at its bound, or the response budget is spent; nothing is queued.
+ * refuses: TOO_LONG above 65,535 octets; NO_MEMORY, NO_HANDLE, NULL_POINTER; nothing is queued. */
+static inline uint32_t nutscythe_connection_offer(nutscythe_connection *connection, uint64_t at, const uint8_t *reply,
+                                                  size_t len)
+{
+    return nutscythe_raw_connection_offer(connection, connection != NULL, at, reply, nutscythe_len(reply, len));
+}
+
+/* Writes the frame that is to be sent next, its length in front. It stays queued.
+ * gives: DONE, and the first *frame_len octets of frame are to be sent. NOTHING: none waits.
+ * refuses: NO_ROOM, and *frame_len says how many octets are needed; NO_HANDLE, NULL_POINTER. */
+static inline uint32_t nutscythe_connection_front(nutscythe_connection *connection, uint8_t *frame, size_t room,
+                                                  size_t *frame_len)
+{
+    return nutscythe_raw_connection_front(connection, connection != NULL, frame, nutscythe_len(frame, room), frame_len,
+                                          frame_len != NULL);
+}
+
+/* The frame that was to be sent next was sent, at a moment in ms, in `took` ms. It is queued no more. An emptied queue resets
+ * the idle timer.
+ * gives: DONE. NOTHING: none waits. CLOSE: it took longer than the write timeout, and the connection is to be closed.
+ * refuses: NO_HANDLE, NULL_POINTER. */
+static inline uint32_t nutscythe_connection_written(nutscythe_connection *connection, uint64_t at, uint64_t took)
+{
+    return nutscythe_raw_connection_written(connection, connection != NULL, at, took);
+}
+
+/* The moment in ms at which the connection was idle for too long: call nutscythe_connection_tick then.
+ * gives: DONE, and *deadline.
+ * refuses: NO_HANDLE, NULL_POINTER. */
+static inline uint32_t nutscythe_connection_deadline(nutscythe_connection *connection, uint64_t now, uint64_t *deadline)
+{
+    return nutscythe_raw_connection_deadline(connection, connection != NULL, now, deadline, deadline != NULL);
+}
+
+/* Looks at a moment in ms whether the connection was idle for too long.
+ * gives: CLOSE if it was, and the connection is to be closed; else DONE.
+ * refuses: NO_HANDLE, NULL_POINTER. */
+static inline uint32_t nutscythe_connection_tick(nutscythe_connection *connection, uint64_t now)
+{
+    return nutscythe_raw_connection_tick(connection, connection != NULL, now);
+}
+
+#ifdef __cplusplus
+}
+#endif
+#endif

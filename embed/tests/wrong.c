@@ -1,0 +1,220 @@
+/* Wrong calls, and hostile messages in blocks of exact size: the statuses, and what stays as it was.
+ * usage: wrong CALLS [FILE] (FILE: messages, each behind its length in two octets) */
+#include <nutscythe.h>
+
+#undef NDEBUG
+#include <assert.h>
+#include <stdio.h>
+#include <stdlib.h>
+#include <string.h>
+
+static const uint8_t seed[] = "\x12\x34\x01\x00\x00\x01\x00\x00\x00\x00\x00\x01\x07" "example\x03" "com\x00\x00\x01\x00\x01"
+                              "\x00\x00\x29\x04\xd0\x00\x00\x00\x00\x00\x0c\x00\x0a\x00\x08" "abcdefgh";
+static const size_t seed_len = sizeof seed - 1;
+static uint64_t state = 88172645463325252u;
+static unsigned long seen[32];
+
+static uint64_t number(void)
+{
+    state ^= state << 13;
+    state ^= state >> 7;
+    state ^= state << 17;
+    return state;
+}
+
+static uint32_t count(uint32_t status)
+{
+    assert(status < 32);
+    seen[status]++;
+    return status;
+}
+
+static void is(uint32_t status, uint32_t wanted)
+{
+    if (count(status) != wanted) {
+        fprintf(stderr, "status %u, wanted %u\n", status, wanted);
+        abort();
+    }
+}
+
+/* Each object null in turn: a status, and nothing is written. */
+static void nulls(nutscythe_settings *s, nutscythe_connection *c)
+{
+    uint8_t reply[600];
+    size_t len = 77;
+    uint64_t deadline = 7;
+    nutscythe_rule rule = {.id = 3};
+    nutscythe_line_refusal refusal = {.line = 9};
+    nutscythe_settings other = NUTSCYTHE_NONE;
+    nutscythe_origin origin = {.octets = {127, 0, 0, 1}, .port = 53, .family = 4};
+    memset(reply, 7, sizeof reply);
+    is(nutscythe_free(NULL), NUTSCYTHE_NULL_POINTER);
+    is(nutscythe_settings_new(true, true, NULL), NUTSCYTHE_NULL_POINTER);
+    is(nutscythe_settings_read(seed, 3, NULL, &refusal), NUTSCYTHE_NULL_POINTER);
+    is(nutscythe_settings_read(seed, 3, &other, NULL), NUTSCYTHE_NULL_POINTER);
+    is(nutscythe_settings_cookies(NULL, seed, 16), NUTSCYTHE_NULL_POINTER);
+    is(nutscythe_settings_deny(NULL, seed, 4), NUTSCYTHE_NULL_POINTER);
+    is(nutscythe_settings_copy(NULL, &other), NUTSCYTHE_NULL_POINTER);
+    is(nutscythe_settings_copy(s, NULL), NUTSCYTHE_NULL_POINTER);
+    for (int k = 0; k < 4; k++) {
+        nutscythe_settings *a = k == 0 ? NULL : s;
+        nutscythe_origin *b = k == 1 ? NULL : &origin;
+        size_t *n = k == 2 ? NULL : &len;
+        nutscythe_rule *r = k == 3 ? NULL : &rule;
+        is(nutscythe_decide(a, b, 1, seed, seed_len, reply, sizeof reply, n, r), NUTSCYTHE_NULL_POINTER);
+        is(nutscythe_datagram(a, b, 1, seed, seed_len, reply, sizeof reply, n, r), NUTSCYTHE_NULL_POINTER);
+    }
+    is(nutscythe_rewrite(NULL, seed, seed_len, reply, sizeof reply, &len), NUTSCYTHE_NULL_POINTER);
+    is(nutscythe_rewrite(&rule, seed, seed_len, reply, sizeof reply, NULL), NUTSCYTHE_NULL_POINTER);
+    is(nutscythe_refuse(NULL, seed, seed_len, 2, reply, sizeof reply, &len), NUTSCYTHE_NULL_POINTER);
+    is(nutscythe_refuse(&rule, seed, seed_len, 2, reply, sizeof reply, NULL), NUTSCYTHE_NULL_POINTER);
+    is(nutscythe_connection_open(NULL, 1, &other), NUTSCYTHE_NULL_POINTER);
+    is(nutscythe_connection_open(s, 1, NULL), NUTSCYTHE_NULL_POINTER);
+    is(nutscythe_connection_feed(NULL, seed, 3), NUTSCYTHE_NULL_POINTER);
+    is(nutscythe_connection_next(NULL, 1, reply, sizeof reply, &len), NUTSCYTHE_NULL_POINTER);
+    is(nutscythe_connection_next(c, 1, reply, sizeof reply, NULL), NUTSCYTHE_NULL_POINTER);
+    is(nutscythe_connection_offer(NULL, 1, seed, 3), NUTSCYTHE_NULL_POINTER);
+    is(nutscythe_connection_front(NULL, reply, sizeof reply, &len), NUTSCYTHE_NULL_POINTER);
+    is(nutscythe_connection_front(c, reply, sizeof reply, NULL), NUTSCYTHE_NULL_POINTER);
+    is(nutscythe_connection_written(NULL, 1, 1), NUTSCYTHE_NULL_POINTER);
+    is(nutscythe_connection_deadline(NULL, 1, &deadline), NUTSCYTHE_NULL_POINTER);
+    is(nutscythe_connection_deadline(c, 1, NULL), NUTSCYTHE_NULL_POINTER);
+    is(nutscythe_connection_tick(NULL, 1), NUTSCYTHE_NULL_POINTER);
+    assert(other.at == NULL && len == 77 && deadline == 7 && rule.id == 3 && refusal.line == 9 && reply[0] == 7);
+}
+
+/* Handles of another kind, or that hold nothing, and numbers out of range. */
+static void wrong(nutscythe_settings *s, nutscythe_connection *c)
+{
+    uint8_t reply[600];
+    size_t len = 77;
+    uint64_t deadline = 7;
+    nutscythe_rule rule = {.id = 3};
+    nutscythe_line_refusal refusal = {.line = 9};
+    nutscythe_settings none = NUTSCYTHE_NONE;
+    nutscythe_settings *not_settings = number() % 2 ? &none : c;
+    nutscythe_connection *not_connection = number() % 2 ? &none : s;
+    nutscythe_origin origin = {.size = 1232, .octets = {127, 0, 0, 1}, .port = 53, .family = 4, .over = 1};
+    memset(reply, 7, sizeof reply);
+    is(nutscythe_decide(not_settings, &origin, 1, seed, 12, reply, sizeof reply, &len, &rule), NUTSCYTHE_NO_HANDLE);
+    is(nutscythe_datagram(not_settings, &origin, 1, seed, 12, reply, sizeof reply, &len, &rule), NUTSCYTHE_NO_HANDLE);
+    is(nutscythe_settings_cookies(not_settings, seed, 16), NUTSCYTHE_NO_HANDLE);
+    is(nutscythe_settings_deny(not_settings, seed, 4), NUTSCYTHE_NO_HANDLE);
+    is(nutscythe_settings_copy(not_settings, &none), NUTSCYTHE_NO_HANDLE);
+    is(nutscythe_connection_open(not_settings, 1, &none), NUTSCYTHE_NO_HANDLE);
+    is(nutscythe_connection_feed(not_connection, seed, 4), NUTSCYTHE_NO_HANDLE);
+    is(nutscythe_connection_next(not_connection, 1, reply, sizeof reply, &len), NUTSCYTHE_NO_HANDLE);
+    is(nutscythe_connection_offer(not_connection, 1, seed, 4), NUTSCYTHE_NO_HANDLE);
+    is(nutscythe_connection_front(not_connection, reply, sizeof reply, &len), NUTSCYTHE_NO_HANDLE);
+    is(nutscythe_connection_written(not_connection, 1, 1), NUTSCYTHE_NO_HANDLE);
+    is(nutscythe_connection_deadline(not_connection, 1, &deadline), NUTSCYTHE_NO_HANDLE);
+    is(nutscythe_connection_tick(not_connection, 1), NUTSCYTHE_NO_HANDLE);
+    is(nutscythe_decide(s, &origin, 3 + (uint32_t)number() % 9, seed, 12, reply, sizeof reply, &len, &rule), NUTSCYTHE_OUT_OF_RANGE);
+    origin.family = (uint8_t)(number() % 2 ? 5 : 7 + number() % 200);
+    is(nutscythe_decide(s, &origin, 0, seed, 12, reply, sizeof reply, &len, &rule), NUTSCYTHE_OUT_OF_RANGE);
+    is(nutscythe_datagram(s, &origin, 0, seed, 12, reply, sizeof reply, &len, &rule), NUTSCYTHE_OUT_OF_RANGE);
+    origin.family = 4;
+    origin.size = 65536 + number() % 9;
+    is(nutscythe_decide(s, &origin, 0, seed, 12, reply, sizeof reply, &len, &rule), NUTSCYTHE_OUT_OF_RANGE);
+    origin.over = (uint8_t)(4 + number() % 200);
+    is(nutscythe_decide(s, &origin, 0, seed, 12, reply, sizeof reply, &len, &rule), NUTSCYTHE_OUT_OF_RANGE);
+    is(nutscythe_settings_cookies(s, seed, number() % 16), NUTSCYTHE_OUT_OF_RANGE);
+    is(nutscythe_settings_deny(s, seed, 5 + number() % 11), NUTSCYTHE_OUT_OF_RANGE);
+    is(nutscythe_refuse(&rule, seed, seed_len, 3, reply, sizeof reply, &len), NUTSCYTHE_OUT_OF_RANGE);
+    is(nutscythe_rewrite(&rule, seed, number() % 12, reply, sizeof reply, &len), NUTSCYTHE_UNREADABLE);
+    is(nutscythe_refuse(&rule, seed, number() % 12, 2, reply, sizeof reply, &len), NUTSCYTHE_UNREADABLE);
+    is(nutscythe_rewrite(&rule, NULL, 99, reply, sizeof reply, &len), NUTSCYTHE_UNREADABLE);
+    assert(len == 77 && deadline == 7 && rule.id == 3 && refusal.line == 9 && reply[0] == 7 && none.at == NULL);
+    is(nutscythe_settings_read((const uint8_t *)"strict yes\n\nsort yes\n", 21, &none, &refusal), NUTSCYTHE_BAD_LINE);
+    assert(none.at == NULL && refusal.line == 3 && refusal.reason == 1);
+    is(nutscythe_free(&none), NUTSCYTHE_DONE);
+    is(nutscythe_free(&none), NUTSCYTHE_DONE);
+}
+
+/* A stream cut anywhere gives its queries in order, each once; its replies wait up to the bound of the queue. */
+static void stream(nutscythe_connection *c, uint64_t at)
+{
+    uint8_t frame[128], query[128];
+    size_t frame_len = seed_len + 2, fed = 0, len = 0, taken = 0;
+    frame[0] = (uint8_t)(seed_len / 256);
+    frame[1] = (uint8_t)(seed_len % 256);
+    memcpy(frame + 2, seed, seed_len);
+    while (fed < frame_len) {
+        size_t piece = 1 + number() % (frame_len - fed);
+        is(nutscythe_connection_feed(c, frame + fed, piece), NUTSCYTHE_DONE);
+        fed += piece;
+        is(nutscythe_connection_next(c, at, query, 10, &len), fed < frame_len ? NUTSCYTHE_NOTHING : NUTSCYTHE_NO_ROOM);
+    }
+    assert(len == seed_len);
+    while (count(nutscythe_connection_next(c, at, query, sizeof query, &len)) == NUTSCYTHE_DONE)
+        taken++;
+    assert(taken == 1 && len == seed_len && memcmp(query, seed, len) == 0);
+    for (int i = 0; i < 3; i++)
+        is(nutscythe_connection_offer(c, at, seed, seed_len), i < 2 ? NUTSCYTHE_DONE : NUTSCYTHE_DROPPED);
+    for (int i = 0; i < 3; i++) {
+        is(nutscythe_connection_front(c, query, sizeof query, &len), i < 2 ? NUTSCYTHE_DONE : NUTSCYTHE_NOTHING);
+        assert(i == 2 || (len == frame_len && memcmp(query, frame, len) == 0));
+        is(nutscythe_connection_written(c, at, 1), i < 2 ? NUTSCYTHE_DONE : NUTSCYTHE_NOTHING);
+    }
+    is(nutscythe_connection_tick(c, at + 999), NUTSCYTHE_DONE);
+    is(nutscythe_connection_tick(c, at + 1000), NUTSCYTHE_CLOSE);
+}
+
+/* A message of exact size through all that takes one, into a buffer of exact size. */
+static void hostile(nutscythe_settings *s, const uint8_t *message, size_t size)
+{
+    size_t space = number() % 1300, len = 0;
+    uint8_t *room = malloc(space + (space == 0));
+    nutscythe_rule rule = {0};
+    nutscythe_origin origin = {.at = 1, .secs = 1700000000, .size = 1232, .octets = {127, 0, 0, 1}, .port = 53, .family = 4};
+    origin.over = (uint8_t)(number() % 4);
+    uint32_t status = count(nutscythe_decide(s, &origin, (uint32_t)(number() % 3), message, size, room, space, &len, &rule));
+    assert(status != NUTSCYTHE_REPLY || (len <= space && (room[2] & 0x80)));
+    status = count(nutscythe_datagram(s, &origin, (uint32_t)(number() % 3), message, size, room, space, &len, &rule));
+    assert(status != NUTSCYTHE_REPLY || (len <= space && len <= 1232 && (room[2] & 0x80)));
+    assert((status == NUTSCYTHE_NOTHING) == (size < 12));
+    status = count(nutscythe_rewrite(&rule, message, size, room, space, &len));
+    assert(status != NUTSCYTHE_REPLY || len <= space);
+    count(nutscythe_refuse(&rule, message, size, 2, room, space, &len));
+    free(room);
+}
+
+int main(int argc, char **argv)
+{
+    static const char text[] = "secret 30313233343536373839616263646566\nstream 1000 5000 2 1 yes\n# a comment\n";
+    long calls = argc > 1 ? atol(argv[1]) : 1000, messages = 0;
+    nutscythe_settings settings = NUTSCYTHE_NONE;
+    nutscythe_connection connection = NUTSCYTHE_NONE;
+    nutscythe_line_refusal refusal;
+    is(nutscythe_settings_read((const uint8_t *)text, sizeof text - 1, &settings, &refusal), NUTSCYTHE_DONE);
+    is(nutscythe_connection_open(&settings, 1, &connection), NUTSCYTHE_DONE);
+    nulls(&settings, &connection);
+    for (long i = 0; i < calls / 30; i++)
+        wrong(&settings, &connection);
+    for (uint64_t i = 0; i < 100; i++)
+        stream(&connection, 1000 * i);
+    is(nutscythe_connection_feed(&connection, (const uint8_t *)"\0\3abc", 5), NUTSCYTHE_DONE);
+    size_t len;
+    is(nutscythe_connection_next(&connection, 1, NULL, 0, &len), NUTSCYTHE_CLOSE);
+    FILE *file = argc > 2 ? fopen(argv[2], "rb") : NULL;
+    uint8_t head[2];
+    while (file != NULL && fread(head, 1, 2, file) == 2) {
+        size_t size = (size_t)head[0] * 256 + head[1];
+        uint8_t *exact = malloc(size + (size == 0));
+        if (fread(exact, 1, size, file) != size)
+            break;
+        hostile(&settings, exact, size);
+        free(exact);
+        messages++;
+    }
+    if (file != NULL)
+        fclose(file);
+    nutscythe_free(&connection);
+    nutscythe_free(&settings);
+    printf("%ld messages; statuses", messages);
+    for (int i = 0; i < 32; i++)
+        if (seen[i])
+            printf(" %d:%lu", i, seen[i]);
+    puts("");
+    return 0;
+}
