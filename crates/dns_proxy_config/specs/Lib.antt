@@ -1,0 +1,2 @@
+pub mod Proxies
+pub mod Faults

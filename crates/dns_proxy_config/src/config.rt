@@ -1,0 +1,117 @@
+//! The configuration of a proxy.
+
+ghost use Rattle.std.specs.Prelude.{◌≡◌, ◌≢◌, [], IfOk, IsSome};
+ghost use Rattle.toml.specs.Parse.{parse_document};
+ghost use Rattle.dns_proxy_config.specs.Proxies.{no_timeouts, replies_of, response_limit};
+
+use crate::limits::Limits;
+use dns_config::{Config as ServerConfig, ConfigError, Cookies, Endpoint, Timeouts, ZoneName};
+use serde::Deserialize;
+use std::alloc::Global;
+
+/// How many replies the cache keeps, where nothing is said.
+const REPLIES: usize = 10_000;
+
+/// Where a proxy listens, which servers it asks, and within which limits.
+#[derive(Drop)]
+pub struct Config {
+    /// What a name server's configuration says too: where is listened, the limit of responses, cookies. It has no zones.
+    pub server: ServerConfig,
+    /// How many replies the cache keeps, where it is said.
+    pub cache: Option<usize>,
+    pub limits: Limits,
+    pub upstream: Vec<UpstreamEntry>,
+}
+
+/// The servers that are asked for a name and those below it.
+#[derive(Drop, Deserialize)]
+#[serde(deny_unknown_fields)]
+pub struct UpstreamEntry {
+    pub name: ZoneName,
+    pub servers: Vec<Endpoint>,
+}
+
+/// The keys of a configuration. One that isn't known is refused.
+#[derive(Drop, Deserialize)]
+#[serde(deny_unknown_fields, rename_all = "kebab-case")]
+struct Keys {
+    listen: Vec<Endpoint>,
+    cache: Option<usize>,
+    #[serde(default)]
+    limits: Limits,
+    cookies: Option<Cookies>,
+    #[serde(default)]
+    upstream: Vec<UpstreamEntry>,
+}
+
+/// What a name server's configuration says too.
+fn server_of(
+    alloc: Global,
+    listen: Vec<Endpoint>,
+    limits: &Limits,
+    cookies: Option<Cookies>,
+) -> ServerConfig
+    ensures listen { result.listen ≡ listen }
+    ensures zones { result.zone.items ≡ [] }
+    ensures limits { result.limits ≡ response_limit limits.now }
+    ensures timeouts { result.timeouts ≡ no_timeouts }
+    ensures cookies { result.cookies ≡ cookies }
+{
+    ServerConfig {
+        listen,
+        control: None,
+        allow_transfer: Vec::new(alloc),
+        limits: limits.of_responses(),
+        timeouts: Timeouts {
+            idle: None,
+            write: None,
+            window: None,
+            datagram_write: None,
+        },
+        cookies,
+        zone: Vec::new(alloc),
+    }
+}
+
+impl Config {
+    /// How many replies the cache keeps.
+    pub fn replies(&self) -> usize
+        ensures { result ≡ replies_of self.now.cache }
+    {
+        match self.cache {
+            Some(count) => count.clamp(1, 65_536),
+            None => REPLIES,
+        }
+    }
+}
+
+/// The configuration that a text is.
+pub fn read_config(alloc: Global, text: &str) -> Result<Config, ConfigError>
+    ensures ok { IfOk result (λ _. IsSome (parse_document text.now)) }
+    ensures listens { IfOk result (λ c. c.server.listen.items ≢ []) }
+    ensures zones { IfOk result (λ c. c.server.zone.items ≡ []) }
+    ensures limits { IfOk result (λ c. c.server.limits ≡ response_limit c.limits) }
+    ensures timeouts { IfOk result (λ c. c.server.timeouts ≡ no_timeouts) }
+{
+    let keys: Keys = match toml::from_str(alloc, text) {
+        Ok(keys) => keys,
+        Err(error) => return Err(ConfigError::Toml(error)),
+    };
+    let Keys {
+        listen,
+        cache,
+        limits,
+        cookies,
+        upstream,
+    } = keys;
+    if listen.is_empty() {
+        return Err(ConfigError::NoAddress);
+    }
+    let server = server_of(alloc, listen, &limits, cookies);
+    Ok(Config {
+        server,
+        cache,
+        limits,
+        upstream,
+    })
+}

@@ -1,0 +1,75 @@
+//! Limits of a proxy.
+
+ghost use Rattle.std.specs.Prelude.{◌≡◌};
+ghost use Rattle.dns_proxy_config.specs.Proxies.{queries_of, response_limit, upstream_of};
+
+use dns_config::{Endpoint, Limits as ServerLimits};
+use dns_lookup::UpstreamConfig;
+use serde::Deserialize;
+
+/// How often a server is sent a query that it doesn't answer, where nothing else is said.
+const TRIES: u8 = 3;
+
+/// After how many milliseconds it is sent again, where nothing else is said.
+const TIMEOUT: u64 = 1000;
+
+/// How many queries may be asked of upstreams at once, where nothing else is said.
+const QUERIES: usize = 1000;
+
+/// Limits, in octets, milliseconds and numbers.
+#[derive(Default, Drop, Deserialize)]
+#[serde(deny_unknown_fields, rename_all = "kebab-case")]
+pub struct Limits {
+    /// The largest response over UDP.
+    pub response_size: Option<u16>,
+    /// How many queries may be asked of upstreams at once.
+    pub queries: Option<usize>,
+    /// How often a server is sent a query, at most.
+    pub tries: Option<u8>,
+    /// After how many milliseconds without an answer it is sent again.
+    pub timeout: Option<u64>,
+}
+
+impl Limits {
+    /// Those that a name server has too.
+    pub(crate) fn of_responses(&self) -> ServerLimits
+        ensures { result ≡ response_limit self.now }
+    {
+        ServerLimits {
+            response_size: self.response_size,
+            connections: None,
+            turn_away: None,
+            queued_responses: None,
+            responses: None,
+        }
+    }
+
+    /// A server of an upstream.
+    pub(crate) fn server(&self, endpoint: &Endpoint) -> UpstreamConfig
+        ensures { result ≡ upstream_of self.now endpoint.now }
+    {
+        let tries = match self.tries {
+            Some(tries) => tries.clamp(1, 8),
+            None => TRIES,
+        };
+        let timeout = match self.timeout {
+            Some(millis) => millis.clamp(10, 60_000),
+            None => TIMEOUT,
+        };
+        UpstreamConfig {
+            addr: endpoint.address,
+            tries,
+            timeout,
+        }
+    }
+
+    /// How many queries may be asked of upstreams at once.
+    pub fn queries(&self) -> usize
+        ensures { result ≡ queries_of self.now }
+    {
+        match self.queries {
+            Some(count) => count.clamp(1, 10_000),
+            None => QUERIES,
+        }
+    }
+}

@@ -1,0 +1,2 @@
+pub use Rattle.dns_routes.specs.Routes
+pub mod Upstreams
