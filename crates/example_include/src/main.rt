@@ -27,7 +27,7 @@ fn main(rt: HostRuntime) -> anyhow::Result<()> {
 
 /// Writes the records of a file and of those that it includes, or why one is refused.
 fn zone_written(rt: &HostRuntime, origin: &Name, file: &str) -> anyhow::Result<()> {
-    let whole = fs::read_to_string(rt, file)?;
+    let whole = fs::read(rt, file)?;
     let mut texts = ZoneTextList::new(rt.alloc());
     for _ in 0..MOST_FILES {
         match read_zone_including(
@@ -35,7 +35,7 @@ fn zone_written(rt: &HostRuntime, origin: &Name, file: &str) -> anyhow::Result<(
             &texts,
             origin,
             file.as_bytes(),
-            whole.as_bytes(),
+            whole.as_slice(),
         ) {
             Ok(records) => return records_written(rt, records.as_slice()),
             Err(error) => match wanted(&error) {
@@ -63,19 +63,12 @@ fn file_added(rt: &HostRuntime, texts: &mut ZoneTextList, file: &[u8]) -> anyhow
     let Ok(path) = str::from_utf8(file) else {
         bail!("a file's name is no text");
     };
-    let whole = fs::read_to_string(rt, path)?;
-    let name = copied(rt, file)?;
-    let text = copied(rt, whole.as_bytes())?;
+    let Ok(name) = Octets::from_slice(rt.alloc(), file) else {
+        bail!("out of memory");
+    };
+    let text = Octets::from_vec(fs::read(rt, path)?);
     match texts.push(ZoneText { name, text }) {
         Ok(()) => Ok(()),
-        Err(_) => bail!("out of memory"),
-    }
-}
-
-/// A copy of octets.
-fn copied(rt: &HostRuntime, octets: &[u8]) -> anyhow::Result<Octets> {
-    match Octets::from_slice(rt.alloc(), octets) {
-        Ok(copy) => Ok(copy),
         Err(_) => bail!("out of memory"),
     }
 }
