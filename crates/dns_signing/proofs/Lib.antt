@@ -1,0 +1,5 @@
+pub mod Followed
+pub mod Hints
+pub mod Layers
+pub mod Rooms
+pub mod Verifying

@@ -1,0 +1,4 @@
+pub mod Room
+pub mod SignedReplies
+pub mod Refused
+pub mod Layer

@@ -1,0 +1,48 @@
+//! TSIG as a layer of a service: requests are verified, and replies are signed (RFC 8945, sections 5.2 and 5.3).
+//!
+//! - `TsigMiddlewareSvc` stands outermost, round a service whose requests have, as metadata, the place of the key that they
+//!   were verified under, or none. Zones, NOTIFY and transfers see the key by it.
+//! - A request with a TSIG is verified under the key of a `KeyStore` that it names, and handed on without its TSIG. One
+//!   without a TSIG is answered as before.
+//! - `Signer` signs the replies, each behind the one before, and `SignedStream` is the stream of them.
+//! - A request that doesn't verify gets NOTAUTH: unsigned for BADKEY and BADSIG, signed for BADTIME and BADTRUNC. One
+//!   whose TSIG can't be interpreted gets FORMERR.
+//!
+//! It exports `Key`, `KeyStore` and `Algorithm` of dns_tsig.
+//!
+//! ```text
+//! request -> find the TSIG -> verify -> the inner service -> cut to what leaves room -> sign -> reply
+//! ```
+//!
+//! # What is proved
+//!
+//! - A request without a TSIG is answered exactly as by the service inside (`unsigned_requests_are_as_before`).
+//! - A request that verifies is answered as the service inside answers it without its TSIG, each reply signed
+//!   (`verified_requests_are_signed_back`). The first reply is digested behind the request's MAC, each later one behind
+//!   the one before.
+//! - The first reply verifies at the client, under the key and behind the request's MAC (`signed_replies_verify`).
+//! - A request that doesn't verify never reaches the service inside (`unknown_keys_are_refused`, `verified`).
+//! - A reply is cut to what leaves room for its TSIG, behind OPT and all other records, and then it fits
+//!   (`signed_replies_fit`).
+//! - An error of the service becomes a signed error reply, and ends the replies (`signed_item`).
+//!
+//! # What a body could still get away with
+//!
+//! Each reply has the time of its request: a transfer that lasts longer than the fudge is refused by its client as late.
+//! A TSIG that doesn't fit into a reply that refuses a request is left out of it.
+#![tactic(auto)]
+
+mod laws;
+mod refusing;
+mod signed_stream;
+mod signer;
+mod tsig_layer;
+
+pub use dns_tsig::{Algorithm, Key, KeyStore};
+pub use laws::{
+    signed_replies_fit, signed_replies_verify, unknown_keys_are_refused,
+    unsigned_requests_are_as_before, verified_requests_are_signed_back,
+};
+pub use signed_stream::SignedStream;
+pub use signer::Signer;
+pub use tsig_layer::{Answered, TsigMiddlewareSvc};
